@@ -1,0 +1,58 @@
+use crate::faults::Fault;
+use crate::names::{MsgId, TokId};
+use crate::records::Call;
+
+/// What a thread's body asks for when it is polled.
+#[derive(Clone, Copy, Debug, PartialEq, Eq)]
+pub enum Ask {
+    /// An exclusive reference to the token, blocking until it is held.
+    Get(TokId),
+    /// A shared reference to the token, blocking until it is held.
+    GetShared(TokId),
+    /// An exclusive reference to the token, without blocking.
+    TryGet(TokId),
+    /// The release of the last reference, which is to this token.
+    Rel(TokId),
+    /// The exchange of the two most recent references.
+    Swap,
+    /// The value of a cell of a token that is held.
+    Read(TokId, u8),
+    /// A value for a cell of a token that is held exclusively.
+    Write(TokId, u8, u64),
+    /// An addition to the one cell of a Tally token that is held exclusively.
+    Add(TokId, u64),
+    /// The next item of the thread's port, if there is one.
+    GetPort,
+    /// The next item of the thread's port, blocking until there is one.
+    WaitPort,
+    /// To give up all tokens and be ready at once.
+    Yield,
+    /// To end.
+    Exit,
+}
+
+/// An item of a message port.
+#[derive(Clone, Copy, Debug, PartialEq, Eq)]
+pub enum Item {
+    /// A request: the message and what it asks for.
+    Request(MsgId, Call),
+    /// A reply to a message that was sent from this port: the message, its error and its result.
+    Answered(MsgId, u32, u64),
+}
+
+/// What a thread's body is given when it is polled: the answer to what it last asked.
+#[derive(Clone, Copy, Debug, PartialEq, Eq)]
+pub enum Answer {
+    /// Nothing was asked yet.
+    Begin,
+    /// The ask was done.
+    Done,
+    /// The value that was read.
+    Value(u64),
+    /// The item that the port had.
+    Got(Item),
+    /// The port has no item.
+    NoMsg,
+    /// The ask was refused, and changed nothing but what the fault says.
+    Refused(Fault),
+}

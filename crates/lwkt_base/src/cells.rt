@@ -1,0 +1,43 @@
+ghost use Rattle.std.specs.Prelude.{◌≡◌, ℕ, List, length, ◌<◌, slice_set};
+
+use std::marker::Model;
+
+/// The cells of one token, in order. Made from a vector, and given back as one, without taking memory.
+#[derive(Debug, Drop)]
+pub struct Cells {
+    items: Vec<u64>,
+}
+
+impl Model for Cells {
+    ghost Value = { List ℕ };
+
+    ghost view = { λ c. c.items.items };
+}
+
+impl Cells {
+    pub fn from_vec(items: Vec<u64>) -> Self
+        ensures { result ≡ items.items }
+    {
+        Cells { items }
+    }
+
+    pub fn into_vec(self) -> Vec<u64>
+        ensures { result.items ≡ self }
+    {
+        self.items
+    }
+
+    pub fn as_slice(&self) -> &[u64]
+        ensures { result.now ≡ self.now }
+    {
+        self.items.as_slice()
+    }
+
+    /// Puts a value into cell `i`.
+    pub fn set(&mut self, i: usize, value: u64)
+        requires { i < length self.old }
+        ensures { self.new ≡ slice_set self.old i value }
+    {
+        self.items[i] = value;
+    }
+}

@@ -1,0 +1,26 @@
+//! Names, faults, laws and lists of references: what every layer of the threading model shares.
+#![tactic(auto)]
+
+pub mod asks;
+pub mod cells;
+pub mod faults;
+pub mod holdings;
+pub mod laws;
+pub mod lists;
+pub mod names;
+pub mod openings;
+pub mod owners;
+pub mod records;
+pub mod threads;
+
+pub use asks::{Answer, Ask, Item};
+pub use cells::Cells;
+pub use faults::Fault;
+pub use holdings::Held;
+pub use laws::Law;
+pub use lists::TokList;
+pub use names::{CpuId, Mode, MsgId, Ref, ThreadId, TokId};
+pub use openings::{MsgSpec, TokSpec};
+pub use owners::{MsgEnd, Owner};
+pub use records::{Call, Flags, Rec};
+pub use threads::ThreadState;
