@@ -1,5 +1,6 @@
-ghost use Rattle.std.specs.Prelude.{◌≡◌, ℕ, List, length, ◌<◌, slice_set};
+ghost use Rattle.std.specs.Prelude.{◌≡◌, ℕ, List, length, ◌<◌, slice_set, vec_len, IfOk};
 
+use std::alloc::{AllocError, Global};
 use std::marker::Model;
 
 /// The cells of one token, in order. Made from a vector, and given back as one, without taking memory.
@@ -39,5 +40,31 @@ impl Cells {
         ensures { self.new ≡ slice_set self.old i value }
     {
         self.items[i] = value;
+    }
+
+    /// Takes over the values of as many cells.
+    pub fn copy_from(&mut self, other: &Cells)
+        requires { length self.old ≡ length other.now }
+        ensures { self.new ≡ other.now }
+    {
+        copy_into(&mut self.items, other.as_slice());
+    }
+
+    /// A copy, in memory of its own.
+    pub fn try_clone(&self, alloc: Global) -> Result<Cells, AllocError>
+        ensures { IfOk result (λ copy. copy ≡ self.now) }
+    {
+        Ok(Cells {
+            items: Vec::from_slice(alloc, self.items.as_slice())?,
+        })
+    }
+}
+
+fn copy_into(items: &mut Vec<u64>, values: &[u64])
+    requires { vec_len items.old ≡ length values.now }
+    ensures { items.new.items ≡ values.now }
+{
+    for (i, value) in values.iter().enumerate() {
+        items[i] = *value;
     }
 }

@@ -16,7 +16,7 @@ pub enum Law {
 }
 
 impl Law {
-    ghost use Rattle.lwkt_base.specs.Law.{OpensLawfully};
+    ghost use Rattle.lwkt_base.specs.Law.{OpensLawfully, MeetsLaw};
 
     /// Whether these cells obey the law as opening cells.
     pub fn holds(&self, cells: &[u64], param: u64) -> bool
@@ -29,6 +29,14 @@ impl Law {
             Law::Cap => cells.iter().all(|cell| *cell <= param),
             Law::Tally => is_only(cells, param),
         }
+    }
+
+    /// Whether these cells obey the law at the end of a section: that of the opening, but that nothing is asked of the
+    /// cells of a Tally token, whose sum holds at every moment.
+    pub fn holds_of_section(&self, cells: &[u64], param: u64) -> bool
+        ensures { IsTrue result ↔ MeetsLaw self.now param cells.now }
+    {
+        *self == Law::Tally || self.holds(cells, param)
     }
 }
 

@@ -1,0 +1,6 @@
+pub mod Events
+pub mod Tokens
+pub mod Messages
+pub mod Machine
+pub mod Opening
+pub mod Trace

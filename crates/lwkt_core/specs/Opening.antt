@@ -1,0 +1,47 @@
+use Rattle.std.specs.Prelude.{◌≡◌, ℕ, ◌<◌, ◌≤◌, false, List, length, map, All, replicate}
+use Rattle.lwkt_base.specs.declared.laws.Law.{Law}
+use Rattle.lwkt_base.specs.declared.laws.Law.TheVariants.{Tally}
+use Rattle.lwkt_base.specs.declared.holdings.Held.TheVariants.{Nothing}
+use Rattle.lwkt_base.specs.declared.owners.Owner.TheVariants.{Rest}
+use Rattle.lwkt_base.specs.declared.openings.TokSpec.{TokSpec}
+use Rattle.lwkt_base.specs.declared.openings.MsgSpec.{MsgSpec}
+use Rattle.lwkt_base.specs.Law.{OpensLawfully}
+use Rattle.lwkt_core.specs.declared.tokens.Token.{Token}
+use Rattle.lwkt_core.specs.declared.tokens.TheConstants.{LAST_GENERATION, CPU_LIMIT}
+use Rattle.lwkt_core.specs.declared.messages.Message.{Message}
+use Rattle.lwkt_core.specs.declared.messages.TheConstants.{LAST_ROUND}
+use Rattle.lwkt_core.specs.Machine.{Machine}
+
+-- a token at the opening: nobody holds it, it has no mark, and nothing is added yet
+abbrev pub opened_token : TokSpec → Token
+opened_token spec = record { law = spec.law; param = spec.param; generation = spec.generation; mark = false; row = spec.cells; first = spec.cells; holders = replicate CPU_LIMIT Nothing; tallies = replicate CPU_LIMIT 0 }
+
+-- a message at the opening: at rest, with no abort asked for
+abbrev pub opened_message : MsgSpec → Message
+opened_message spec = record { origin = spec.origin; opening = spec.round; round = spec.round; owner = Rest spec.origin.cpu; asked = false; sends = 0; takes = 0; drops = 0; replies = 0; reaps = 0 }
+
+-- the machine at the opening
+abbrev pub opening : ℕ → List TokSpec → List MsgSpec → Machine
+opening cpus tokens messages = record { cpus = cpus; tokens = map opened_token tokens; messages = map opened_message messages }
+
+-- an opening token keeps the limits: 0 to 4 cells, exactly 1 under Tally, and a generation not past the last (own)
+abbrev pub IsTokenWithin : TokSpec → Type 0
+IsTokenWithin spec = (length spec.cells ≤ 4) × (spec.law ≡ Tally → length spec.cells ≡ 1) × (spec.generation ≤ LAST_GENERATION)
+
+-- an opening message keeps the limits: its origin's processor exists, the thread's number is below 16, and its round is not
+-- past the last (own)
+abbrev pub IsMessageWithin : ℕ → MsgSpec → Type 0
+IsMessageWithin cpus spec = (spec.origin.cpu.0 < cpus) × (spec.origin.thread < 16) × (spec.round ≤ LAST_ROUND)
+
+-- an opening keeps the limits: 1 to 8 processors, at most 64 tokens and 64 messages (own)
+pub record AreWithin (cpus : ℕ) (tokens : List TokSpec) (messages : List MsgSpec) : Type 0 where
+  pub some_processor : 0 < cpus
+  pub processors : cpus ≤ CPU_LIMIT
+  pub token_limit : length tokens ≤ 64
+  pub each_token : All IsTokenWithin tokens
+  pub message_limit : length messages ≤ 64
+  pub each_message : All (IsMessageWithin cpus) messages
+
+-- each opening row obeys its law
+abbrev pub AllOpenLawfully : List TokSpec → Type 0
+AllOpenLawfully tokens = All (λ spec. OpensLawfully spec.law spec.param spec.cells) tokens

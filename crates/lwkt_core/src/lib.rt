@@ -1,0 +1,13 @@
+//! The model of the threading layer as plain data: a machine of tokens and messages, the events of its processors, what
+//! each event needs and leaves, and a checker of traces.
+#![tactic(auto)]
+
+pub mod events;
+pub mod finals;
+pub mod messages;
+pub mod tokens;
+
+pub use events::Event;
+pub use finals::Final;
+pub use messages::Message;
+pub use tokens::Token;
