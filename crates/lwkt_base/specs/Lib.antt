@@ -2,3 +2,4 @@ pub mod Fault
 pub mod Law
 pub mod Refs
 pub mod Holding
+pub mod TokenWord

@@ -12,6 +12,7 @@ pub mod openings;
 pub mod owners;
 pub mod records;
 pub mod threads;
+pub mod words;
 
 pub use asks::{Answer, Ask, Item};
 pub use cells::Cells;
@@ -24,3 +25,4 @@ pub use openings::{MsgSpec, TokSpec};
 pub use owners::{MsgEnd, Owner};
 pub use records::{Call, Flags, Rec};
 pub use threads::ThreadState;
+pub use words::{Decision, LAST_GENERATION, TokWord};

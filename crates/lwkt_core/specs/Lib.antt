@@ -4,3 +4,4 @@ pub mod Messages
 pub mod Machine
 pub mod Opening
 pub mod Trace
+pub mod Picture

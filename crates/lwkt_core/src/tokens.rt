@@ -1,14 +1,11 @@
 ghost use Rattle.std.specs.Prelude.{◌≡◌, ◌↔◌, ℕ, ◌+◌, true, ◌<◌, ◌≤◌, ◌^◌, ◌-◌, length, slice_index, slice_set, IsTrue, Some, slice_get};
 
-use lwkt_base::{Cells, CpuId, Held, Law, Mode};
+use lwkt_base::{Cells, CpuId, Held, LAST_GENERATION, Law, Mode};
 
 use crate::events::Event;
 
 /// The most processors of a machine.
 pub const CPU_LIMIT: usize = 8;
-
-/// The last generation of a token: 2 ^ 46 - 1.
-pub const LAST_GENERATION: u64 = 70368744177663;
 
 /// One token of the model: what is declared of it, and its state.
 #[derive(Debug, Drop)]
