@@ -4,4 +4,5 @@ pub mod Messages
 pub mod Machine
 pub mod Opening
 pub mod Trace
+pub mod Values
 pub mod Picture

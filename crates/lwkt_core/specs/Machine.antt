@@ -16,6 +16,10 @@ pub record Machine : Type 0 where
   pub tokens : List Token
   pub messages : List Message
 
+-- a machine by its parts
+abbrev pub machine : ℕ → List Token → List Message → Machine
+machine cpus tokens messages = record { cpus = cpus; tokens = tokens; messages = messages }
+
 -- how many references a processor has in all
 abbrev pub references_of : List Token → ℕ → ℕ
 references_of tokens cpu = sum_by (λ tok. references_in (held_by tok cpu)) tokens

@@ -5,9 +5,12 @@
 pub mod events;
 pub mod finals;
 pub mod messages;
+mod rules;
+pub mod states;
 pub mod tokens;
 
 pub use events::Event;
 pub use finals::Final;
 pub use messages::Message;
+pub use states::State;
 pub use tokens::Token;

@@ -1,4 +1,4 @@
-ghost use Rattle.std.specs.Prelude.{◌≡◌, ◌↔◌, ℕ, ◌+◌, true, ◌<◌, ◌≤◌, ◌^◌, ◌-◌, length, slice_index, slice_set, IsTrue, Some, slice_get};
+ghost use Rattle.std.specs.Prelude.{◌≡◌, ◌↔◌, ℕ, ◌+◌, true, ◌<◌, ◌≤◌, ◌^◌, ◌-◌, length, slice_index, slice_set, IsTrue, Some, slice_get, option_and_then};
 
 use lwkt_base::{Cells, CpuId, Held, LAST_GENERATION, Law, Mode};
 
@@ -32,12 +32,23 @@ impl Token {
     ghost use Rattle.lwkt_base.specs.Holding.{references_in, is_held, is_exclusive};
     ghost use Rattle.lwkt_core.specs.Tokens.{held_by, IsFree, IsOpen, IsHolder, IsExclusiveHolder, IsNotLastExclusive, MayWrite, TokenNeeds, IsSafeToken, token_after, tallies_after, with_more, with_less};
     ghost use Rattle.lwkt_core.specs.Events.{cpu_of, adds_reference};
+    ghost use Rattle.lwkt_core.specs.Values.{kept_tallies};
 
     /// What a processor holds of the token.
     pub fn held_by(&self, cpu: CpuId) -> Held
         ensures { result ≡ held_by self.now cpu.0 }
     {
         self.holders.get(cpu.0 as usize).copied().unwrap_or(Held::Nothing)
+    }
+
+    /// What a processor has added to the cell, if the token keeps tallies.
+    pub fn tally(&self, cpu: CpuId) -> Option<u64>
+        ensures { result ≡ option_and_then (λ tallies. slice_get tallies cpu.0) (kept_tallies self.now.law self.now.tallies) }
+    {
+        match self.law {
+            Law::Tally => self.tallies.get(cpu.0 as usize).copied(),
+            _ => None,
+        }
     }
 
     /// Whether nobody holds the token.

@@ -1,0 +1,3 @@
+pub mod TokenMoves
+pub mod MessageMoves
+pub mod MachineMoves
