@@ -97,14 +97,22 @@ IsBackTo cpu (Rest origin) = ⊥
 IsBackTo cpu (Out origin target) = ⊥
 IsBackTo cpu (With origin target) = ⊥
 
+-- at rest with this processor, which may send it to another of so many, in the round after its last one (msgport(9); rounds are own)
+abbrev pub MayBeSent : ℕ → Message → CpuId → CpuId → ℕ → Type 0
+MayBeSent cpus msg cpu to round = (msg.owner ≡ Rest cpu) × (to.0 < cpus) × (round ≡ msg.round + 1) × (round ≤ LAST_ROUND)
+
+-- away, and of this processor, which may ask for it to be aborted (lwkt_abortmsg of msgport(9))
+abbrev pub MayBeAborted : CpuId → Owner → Type 0
+MayBeAborted cpu owner = (origin_of owner ≡ cpu) × (is_away owner ≡ true)
+
 -- what an event of a machine of so many processors needs of its message (msgport(9); rounds, drop and abort are own)
 abbrev pub MessageNeeds : ℕ → Message → Event → Type 0
-MessageNeeds cpus msg (Send cpu m to round) = (msg.owner ≡ Rest cpu) × (to.0 < cpus) × (round ≡ msg.round + 1) × (round ≤ LAST_ROUND)
+MessageNeeds cpus msg (Send cpu m to round) = MayBeSent cpus msg cpu to round
 MessageNeeds cpus msg (TakeMsg cpu m round) = IsOutTo cpu msg.owner × (round ≡ msg.round)
 MessageNeeds cpus msg (DropMsg cpu m) = IsOutFrom cpu msg.owner
 MessageNeeds cpus msg (Reply cpu m) = IsWith cpu msg.owner
 MessageNeeds cpus msg (Reap cpu m) = IsBackTo cpu msg.owner
-MessageNeeds cpus msg (Abort cpu m) = (origin_of msg.owner ≡ cpu) × (is_away msg.owner ≡ true)
+MessageNeeds cpus msg (Abort cpu m) = MayBeAborted cpu msg.owner
 MessageNeeds cpus msg (Load cpu tok) = ⊥
 MessageNeeds cpus msg (Take cpu tok) = ⊥
 MessageNeeds cpus msg (Share cpu tok) = ⊥
@@ -119,6 +127,7 @@ MessageNeeds cpus msg (Write cpu tok cell value) = ⊥
 -- the owner after the message was taken, and after it was replied to
 abbrev pub owner_taken : Owner → Owner
 owner_taken owner = With (origin_of owner) (target_of owner)
+
 abbrev pub owner_replied : Owner → Owner
 owner_replied owner = Back (origin_of owner) (target_of owner)
 
