@@ -3,3 +3,4 @@ pub mod Law
 pub mod Refs
 pub mod Holding
 pub mod TokenWord
+pub mod MessageWord
