@@ -1,3 +1,4 @@
 pub mod TokenMoves
 pub mod MessageMoves
 pub mod MachineMoves
+pub mod OpeningLemmas

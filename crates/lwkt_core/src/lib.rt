@@ -5,6 +5,7 @@
 pub mod events;
 pub mod finals;
 pub mod messages;
+mod openings;
 mod rules;
 pub mod states;
 pub mod tokens;

@@ -1,14 +1,15 @@
 ghost use Rattle.std.specs.Prelude.{◌≡◌, ◌≢◌, ◌⊎◌, ◌↔◌, ◌<◌, ◌≤◌, ℕ, List, length, map, Option, Some, None, Ok, Err, IsTrue, OnOk, OnErr, IfOk, IfErr};
 
-use std::alloc::{AllocError, Global};
+use std::alloc::Global;
 use std::marker::Model;
 
-use lwkt_base::{CpuId, Fault, Held, Law, MsgSpec, Owner, TokId, TokSpec};
+use lwkt_base::{CpuId, Fault, MsgSpec, TokId, TokSpec};
 
 use crate::events::{Event, Place};
 use crate::messages::Message;
+use crate::openings;
 use crate::rules;
-use crate::tokens::{CPU_LIMIT, Token};
+use crate::tokens::Token;
 
 /// The state of the model: a machine of 1 to 8 processors with its tokens and messages. Every state is safe.
 #[derive(Debug, Drop)]
@@ -33,6 +34,40 @@ impl State {
     ghost use Rattle.lwkt_core.specs.Machine.{IsSafe, Needs, Happens};
     ghost use Rattle.lwkt_core.specs.Opening.{opening, AreWithin, AllOpenLawfully};
     ghost use Rattle.lwkt_core.specs.Values.{cell_at, first_at, generation_at, tally_at};
+
+    /// The opening state: nobody holds a token, and each message is at rest.
+    ///
+    /// Refused with `Memory` only if an allocation is; with `Limits` only if a limit is passed: 1 to 8 processors, at
+    /// most 64 tokens and 64 messages, at most 4 cells and exactly 1 under `Law::Tally`, a generation or round past its
+    /// last, an origin's processor that isn't there or a thread number of 16 or more; with `LawBroken` only if an
+    /// opening row breaks its law.
+    pub fn open(
+        alloc: Global,
+        tokens: &[TokSpec],
+        messages: &[MsgSpec],
+        cpus: usize,
+    ) -> Result<State, Fault>
+        ensures ok { IfOk result (λ s. s ≡ opening cpus tokens.now messages.now) }
+        ensures within { OnOk result (AreWithin cpus tokens.now messages.now) }
+        ensures lawful { OnOk result (AllOpenLawfully tokens.now) }
+        ensures limits { result ≡ Err Fault.Limits → ¬ AreWithin cpus tokens.now messages.now }
+        ensures broken { result ≡ Err Fault.LawBroken → AreWithin cpus tokens.now messages.now × ¬ AllOpenLawfully tokens.now }
+        ensures only { IfErr result (λ f. (f ≡ Fault.Memory) ⊎ ((f ≡ Fault.Limits) ⊎ (f ≡ Fault.LawBroken))) }
+    {
+        let opened_tokens = openings::opened_tokens(alloc, tokens)?;
+        let opened_messages = openings::opened_messages(alloc, messages)?;
+        if !openings::are_within(cpus, tokens, messages) {
+            return Err(Fault::Limits);
+        }
+        if !openings::all_open_lawfully(tokens) {
+            return Err(Fault::LawBroken);
+        }
+        Ok(State {
+            cpus,
+            tokens: opened_tokens,
+            messages: opened_messages,
+        })
+    }
 
     /// How many processors there are, 1 to 8.
     pub fn cpus(&self) -> usize

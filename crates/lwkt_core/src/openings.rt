@@ -1,0 +1,109 @@
+ghost use Rattle.std.specs.Prelude.{◌≡◌, ◌↔◌, ◌<◌, ◌≤◌, ℕ, map, length, All, IsTrue, IfOk, MatchResult};
+ghost use Rattle.lwkt_core.specs.Opening.{opened_token, opened_message, IsTokenWithin, IsMessageWithin, AreWithin, AllOpenLawfully};
+
+use std::alloc::{AllocError, Global};
+
+use lwkt_base::{Fault, Held, LAST_GENERATION, Law, MsgSpec, Owner, TokSpec};
+
+use crate::messages::{LAST_ROUND, Message};
+use crate::tokens::{CPU_LIMIT, Token};
+
+fn opened_token(alloc: Global, spec: &TokSpec) -> Result<Token, AllocError>
+    ensures { IfOk result (λ tok. tok ≡ opened_token spec.now) }
+{
+    Ok(Token {
+        law: spec.law,
+        param: spec.param,
+        generation: spec.generation,
+        mark: false,
+        row: spec.cells.try_clone(alloc)?,
+        first: spec.cells.try_clone(alloc)?,
+        holders: [Held::Nothing; 8],
+        tallies: [0; 8],
+    })
+}
+
+fn opened_message(spec: &MsgSpec) -> Message
+    ensures { result ≡ opened_message spec.now }
+{
+    Message {
+        origin: spec.origin,
+        opening: spec.round,
+        round: spec.round,
+        owner: Owner::Rest {
+            origin: spec.origin.cpu,
+        },
+        asked: false,
+        sends: 0,
+        takes: 0,
+        drops: 0,
+        replies: 0,
+        reaps: 0,
+    }
+}
+
+/// The tokens at the opening.
+pub fn opened_tokens(alloc: Global, specs: &[TokSpec]) -> Result<Vec<Token>, Fault>
+    ensures { MatchResult result (λ v. v.items ≡ map opened_token specs.now) (λ f. f ≡ Fault.Memory) }
+{
+    collect_tokens(alloc, specs).map_err(|_| Fault::Memory)
+}
+
+fn collect_tokens(alloc: Global, specs: &[TokSpec]) -> Result<Vec<Token>, AllocError>
+    ensures { IfOk result (λ v. v.items ≡ map opened_token specs.now) }
+{
+    let mut tokens = Vec::with_capacity(alloc, specs.len())?;
+    for spec in specs {
+        tokens.push(opened_token(alloc, spec)?)?;
+    }
+    Ok(tokens)
+}
+
+/// The messages at the opening.
+pub fn opened_messages(alloc: Global, specs: &[MsgSpec]) -> Result<Vec<Message>, Fault>
+    ensures { MatchResult result (λ v. v.items ≡ map opened_message specs.now) (λ f. f ≡ Fault.Memory) }
+{
+    collect_messages(alloc, specs).map_err(|_| Fault::Memory)
+}
+
+fn collect_messages(alloc: Global, specs: &[MsgSpec]) -> Result<Vec<Message>, AllocError>
+    ensures { IfOk result (λ v. v.items ≡ map opened_message specs.now) }
+{
+    specs.iter().map(|spec| opened_message(spec)).collect(alloc)
+}
+
+fn is_token_within(spec: &TokSpec) -> bool
+    ensures { IsTrue result ↔ IsTokenWithin spec.now }
+{
+    let cells = spec.cells.as_slice().len();
+    cells <= 4
+        && (spec.law != Law::Tally || cells == 1)
+        && spec.generation <= LAST_GENERATION
+}
+
+fn is_message_within(cpus: usize, spec: &MsgSpec) -> bool
+    ensures { IsTrue result ↔ IsMessageWithin cpus spec.now }
+{
+    (spec.origin.cpu.0 as usize) < cpus && spec.origin.thread < 16 && spec.round <= LAST_ROUND
+}
+
+/// Whether the opening keeps the limits.
+pub fn are_within(cpus: usize, tokens: &[TokSpec], messages: &[MsgSpec]) -> bool
+    ensures { IsTrue result ↔ AreWithin cpus tokens.now messages.now }
+{
+    0 < cpus
+        && cpus <= CPU_LIMIT
+        && tokens.len() <= 64
+        && tokens.iter().all(|spec| is_token_within(spec))
+        && messages.len() <= 64
+        && messages.iter().all(|spec| is_message_within(cpus, spec))
+}
+
+/// Whether each opening row obeys its law.
+pub fn all_open_lawfully(tokens: &[TokSpec]) -> bool
+    ensures { IsTrue result ↔ AllOpenLawfully tokens.now }
+{
+    tokens
+        .iter()
+        .all(|spec| spec.law.holds(spec.cells.as_slice(), spec.param))
+}
