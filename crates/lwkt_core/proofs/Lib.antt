@@ -2,3 +2,4 @@ pub mod TokenMoves
 pub mod MessageMoves
 pub mod MachineMoves
 pub mod OpeningLemmas
+pub mod TraceLemmas

@@ -1,14 +1,12 @@
-use Rattle.std.proofs.Common.{eqb, ◌&&◌, inl, inr, ◌≡◌, ◌<◌, ◌≤◌, ◌+◌, ℕ, Bool, true, false, cond, List, length, get_or, set, refl, ap, sym, ◌∙◌, subst, arith, Option, Some, None, All, length-set}
+use Rattle.std.proofs.Common.{eqb, ◌&&◌, ◌≡◌, ◌<◌, ◌≤◌, ◌+◌, ℕ, Bool, true, false, cond, List, length, get_or, set, refl, ap, sym, ◌∙◌, subst, arith, Option, Some, None, length-set}
 use Rattle.std.specs.Prelude.{slice_get, slice_set, sum_by, IsSomeAnd}
 use Rattle.std.specs.Option.{option_map_or}
-use Rattle.std.proofs.lemmas.Bool.{cases_Bool, and_parts, eqb-true}
+use Rattle.std.proofs.lemmas.Bool.{and_parts, eqb-true}
 use Rattle.std.proofs.lemmas.List.Sums.{sum_by-set, sum_by_more_le}
-use Rattle.std.proofs.lemmas.List.Elements.{All-set, All-get_or}
+use Rattle.std.proofs.lemmas.List.Elements.{All-set}
 use Rattle.std.proofs.lemmas.Option.{get_or_from_slice_get, slice_get_within, slice_get_read}
-use Rattle.lwkt_base.specs.declared.holdings.Held.TheVariants.{Nothing}
 use Rattle.lwkt_base.specs.Holding.{references_in}
 use Rattle.lwkt_core.specs.declared.tokens.Token.{Token}
-use Rattle.lwkt_core.specs.declared.tokens.TheConstants.{CPU_LIMIT}
 use Rattle.lwkt_core.specs.declared.messages.Message.{Message}
 use Rattle.lwkt_core.specs.declared.events.Event.{Event}
 use Rattle.lwkt_core.specs.declared.events.Place.{Place}
@@ -30,12 +28,16 @@ few_after tokens e i tok at here few room cpu = go (adds_reference e && eqb (cpu
   where
     refs : Token → ℕ
     refs t = references_in (held_by t cpu)
+
     grown : sum_by (λ t. references_in (held_by t cpu)) (set tokens i (token_after tok e)) + references_in (held_by (get_or tokens i tok) cpu) ≡ sum_by (λ t. references_in (held_by t cpu)) tokens + references_in (held_by (token_after tok e) cpu)
     grown = sum_by-set (λ t. references_in (held_by t cpu)) tokens i (token_after tok e) tok (slice_get_within tokens i tok at)
+
     same : references_in (held_by (get_or tokens i tok) cpu) ≡ references_in (held_by tok cpu)
     same = ap (λ t. references_in (held_by t cpu)) (get_or_from_slice_get tokens i tok tok at)
+
     most : references_in (held_by (token_after tok e) cpu) ≤ references_in (held_by tok cpu) + added_by e cpu
     most = references-after tok e cpu here
+
     go : (b : Bool) → (adds_reference e && eqb (cpu_of e) cpu) ≡ b → references_of (set tokens i (token_after tok e)) cpu ≤ 32
     go true is =
         let parts = and_parts (adds_reference e) (eqb (cpu_of e) cpu) is in
@@ -62,7 +64,8 @@ safe_at_token m e i (Some tok) at needs here room safe =
       each_token = All-set (IsSafeToken m.cpus) m.tokens i (token_after tok e) (IsSafeToken-after m.cpus tok e limit here token needs) safe.each_token;
       few = few_after m.tokens e i tok at there safe.few room;
       message_limit = safe.message_limit;
-      each_message = safe.each_message })
+      each_message = safe.each_message;
+    })
 
 -- an event at a message leaves the machine safe
 safe_at_message : (m : Machine) (e : Event) (i : ℕ) (o : Option Message) → slice_get m.messages i ≡ o → IsSomeAnd o (λ msg. MessageNeeds m.cpus msg e) → cpu_of e < m.cpus → IsSafe m → IsSafe (after_at m e (AtMessage i))
@@ -77,7 +80,8 @@ safe_at_message m e i (Some msg) at needs here safe =
       each_token = safe.each_token;
       few = safe.few;
       message_limit = (let l = length-set m.messages i (message_after msg e) in let k = safe.message_limit in omega arith);
-      each_message = All-set (IsSafeMessage m.cpus) m.messages i (message_after msg e) (IsSafeMessage-after m.cpus msg e message needs here) safe.each_message })
+      each_message = All-set (IsSafeMessage m.cpus) m.messages i (message_after msg e) (IsSafeMessage-after m.cpus msg e message needs here) safe.each_message;
+    })
 
 -- each event that can happen leaves the machine safe
 pub IsSafe-after : (m : Machine) (e : Event) → IsSafe m → Needs m e → IsSafe (after m e)

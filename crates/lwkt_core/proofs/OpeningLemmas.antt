@@ -1,12 +1,12 @@
-use Rattle.std.proofs.Common.{zero, suc, ◌≡◌, ◌<◌, ◌≤◌, ◌+◌, ℕ, Bool, true, false, List, [], ◌∷◌, length, get_or, refl, ap, sym, ◌∙◌, subst, arith, All, sum, replicate}
-use Rattle.std.specs.Prelude.{map, sum_by}
+use Rattle.std.proofs.Common.{zero, suc, ◌≡◌, ◌+◌, ℕ, true, false, List, [], ◌∷◌, get_or, refl, ap, sym, ◌∙◌, subst, arith, sum, replicate}
+use Rattle.std.specs.Prelude.{map}
 use Rattle.std.proofs.lemmas.List.{length-replicate, length-map}
 use Rattle.std.proofs.lemmas.List.Sums.{sum_by-cons}
-use Rattle.std.proofs.lemmas.List.Elements.{All-map, All-from_get_or, All-get_or}
+use Rattle.std.proofs.lemmas.List.Elements.{All-map}
 use Rattle.lwkt_base.specs.declared.laws.Law.{Law}
 use Rattle.lwkt_base.specs.declared.laws.Law.TheVariants.{Any, Sum, Order, Cap, Tally}
 use Rattle.lwkt_base.specs.declared.holdings.Held.{Held}
-use Rattle.lwkt_base.specs.declared.holdings.Held.TheVariants.{Nothing, Holds}
+use Rattle.lwkt_base.specs.declared.holdings.Held.TheVariants.{Nothing}
 use Rattle.lwkt_base.specs.declared.openings.TokSpec.{TokSpec}
 use Rattle.lwkt_base.specs.declared.openings.MsgSpec.{MsgSpec}
 use Rattle.lwkt_base.specs.Holding.{references_in, is_exclusive}
@@ -14,10 +14,10 @@ use Rattle.lwkt_base.specs.Law.{MeetsLaw, OpensLawfully, IsTallied}
 use Rattle.lwkt_core.specs.declared.tokens.Token.{Token}
 use Rattle.lwkt_core.specs.declared.tokens.TheConstants.{CPU_LIMIT}
 use Rattle.lwkt_core.specs.declared.messages.Message.{Message}
-use Rattle.lwkt_core.specs.Tokens.{held_by, tally_of, IsSafeToken, IsExclusiveHolder}
+use Rattle.lwkt_core.specs.Tokens.{held_by, IsSafeToken, IsExclusiveHolder}
 use Rattle.lwkt_core.specs.Messages.{IsSafeMessage}
-use Rattle.lwkt_core.specs.Machine.{Machine, machine, IsSafe, references_of}
-use Rattle.lwkt_core.specs.Opening.{opened_token, opened_message, opening, IsTokenWithin, IsMessageWithin, AreWithin, AllOpenLawfully}
+use Rattle.lwkt_core.specs.Machine.{machine, IsSafe, references_of}
+use Rattle.lwkt_core.specs.Opening.{opened_token, opened_message, opening, IsTokenWithin, AreWithin, AllOpenLawfully}
 use Rattle.lwkt_core.proofs.MessageMoves.{IsSafeMessage-opened}
 
 -- each element of a list of copies, and what is read past its end
@@ -47,17 +47,18 @@ held_opened spec cpu = get_or_replicated CPU_LIMIT cpu Nothing
 
 IsSafeToken-opened : (cpus : ℕ) (spec : TokSpec) → IsTokenWithin spec → OpensLawfully spec.law spec.param spec.cells → IsSafeToken cpus (opened_token spec)
 IsSafeToken-opened cpus spec within opens = record {
-    eight_holders = length-replicate {A = Held} CPU_LIMIT Nothing;
-    eight_tallies = length-replicate {A = ℕ} CPU_LIMIT 0;
-    absent = λ cpu far. (held_opened spec cpu, get_or_replicated CPU_LIMIT cpu 0);
-    few_cells = within.0;
-    same_cells = refl;
-    compatible = λ cpu other exclusive differ. held_opened spec other;
-    settled = λ opened. refl;
-    lawful = meets_from_opens spec.law spec.param spec.cells opens;
-    tallied = tallied_from_opens spec.law spec.param spec.cells (replicate CPU_LIMIT 0) refl opens;
-    in_range = within.2;
-    not_worn = λ cpu exclusive. absurd (nobody cpu exclusive) }
+  eight_holders = length-replicate {A = Held} CPU_LIMIT Nothing;
+  eight_tallies = length-replicate {A = ℕ} CPU_LIMIT 0;
+  absent = λ cpu far. (held_opened spec cpu, get_or_replicated CPU_LIMIT cpu 0);
+  few_cells = within.0;
+  same_cells = refl;
+  compatible = λ cpu other exclusive differ. held_opened spec other;
+  settled = λ opened. refl;
+  lawful = meets_from_opens spec.law spec.param spec.cells opens;
+  tallied = tallied_from_opens spec.law spec.param spec.cells (replicate CPU_LIMIT 0) refl opens;
+  in_range = within.2;
+  not_worn = λ cpu exclusive. absurd (nobody cpu exclusive);
+}
   where
     nobody : (cpu : ℕ) → IsExclusiveHolder (opened_token spec) cpu → ⊥
     nobody cpu exclusive = let e : false ≡ true = sym (ap is_exclusive (held_opened spec cpu)) ∙ exclusive in cc
@@ -74,12 +75,13 @@ references_opened (spec ∷ specs) cpu =
 -- an opening within its limits and laws is safe
 pub IsSafe-opening : (cpus : ℕ) (tokens : List TokSpec) (messages : List MsgSpec) → AreWithin cpus tokens messages → AllOpenLawfully tokens → IsSafe (opening cpus tokens messages)
 IsSafe-opening cpus tokens messages within lawful = record {
-    processors = within.processors;
-    token_limit = (let l = length-map tokens opened_token in let k = within.token_limit in omega arith);
-    each_token = All-map (IsSafeToken cpus) opened_token tokens (λ i d inside. IsSafeToken-opened cpus (get_or tokens i d) (within.each_token i d inside) (lawful i d inside));
-    few = λ cpu. (let e = references_opened tokens cpu in omega arith);
-    message_limit = (let l = length-map messages opened_message in let k = within.message_limit in omega arith);
-    each_message = All-map (IsSafeMessage cpus) opened_message messages (λ i d inside. IsSafeMessage-opened cpus (get_or messages i d) (within.each_message i d inside)) }
+  processors = within.processors;
+  token_limit = (let l = length-map tokens opened_token in let k = within.token_limit in omega arith);
+  each_token = All-map (IsSafeToken cpus) opened_token tokens (λ i d inside. IsSafeToken-opened cpus (get_or tokens i d) (within.each_token i d inside) (lawful i d inside));
+  few = λ cpu. (let e = references_opened tokens cpu in omega arith);
+  message_limit = (let l = length-map messages opened_message in let k = within.message_limit in omega arith);
+  each_message = All-map (IsSafeMessage cpus) opened_message messages (λ i d inside. IsSafeMessage-opened cpus (get_or messages i d) (within.each_message i d inside));
+}
 
 -- the same, of lists that are the opened ones
 pub IsSafe_opened : (cpus : ℕ) (tokens : List TokSpec) (messages : List MsgSpec) (ts : List Token) (ms : List Message) → ts ≡ map opened_token tokens → ms ≡ map opened_message messages → AreWithin cpus tokens messages → AllOpenLawfully tokens → IsSafe (machine cpus ts ms)

@@ -1,5 +1,5 @@
-use Rattle.std.proofs.Common.{eqb, eq-eqb, ◌&&◌, inl, inr, ◌≡◌, ◌≢◌, ◌⊎◌, ◌<◌, ◌≤◌, ◌+◌, ◌-◌, ℕ, Bool, true, false, cond, List, [], ◌∷◌, length, get_or, set, refl, ap, sym, ◌∙◌, subst, arith, rules, sum, length-set, get_or-set_same, get_or-set_other}
-use Rattle.std.specs.Prelude.{slice_index, slice_get, Some}
+use Rattle.std.proofs.Common.{eqb, eq-eqb, ◌&&◌, inl, inr, ◌≡◌, ◌≢◌, ◌<◌, ◌≤◌, ◌+◌, ◌-◌, ℕ, Bool, true, false, cond, List, [], ◌∷◌, length, get_or, set, refl, ap, sym, ◌∙◌, subst, arith, sum, length-set, get_or-set_same, get_or-set_other}
+use Rattle.std.specs.Prelude.{slice_index}
 use Rattle.std.proofs.lemmas.Bool.{eqb-true, cases_Bool, cases_eq, false≢true}
 use Rattle.std.proofs.lemmas.List.Sums.{sum_by-set}
 use Rattle.lwkt_base.specs.declared.names.Mode.{Mode}
@@ -16,7 +16,7 @@ use Rattle.lwkt_core.specs.declared.tokens.TheConstants.{CPU_LIMIT}
 use Rattle.lwkt_core.specs.declared.events.Event.{Event}
 use Rattle.lwkt_core.specs.declared.events.Event.TheVariants.{Load, Take, Share, Again, Mark, GiveOne, GiveClean, GiveWritten, Read, Write, Send, TakeMsg, DropMsg, Reply, Reap, Abort}
 use Rattle.lwkt_core.specs.Events.{cpu_of, adds_reference}
-use Rattle.lwkt_core.specs.Tokens.{held_by, tally_of, IsFree, IsOpen, IsHolder, IsExclusiveHolder, IsSafeToken, IsNotLastExclusive, MayWrite, TokenNeeds, token_after, tallies_after, with_more, with_less}
+use Rattle.lwkt_core.specs.Tokens.{held_by, IsFree, IsOpen, IsExclusiveHolder, IsSafeToken, IsNotLastExclusive, MayWrite, TokenNeeds, token_after, tallies_after, with_more}
 
 -- the token with another holding of one processor, generation and first row
 abbrev pub moved : Token → ℕ → Held → ℕ → List ℕ → Token
@@ -42,36 +42,42 @@ held_moved_other tok cpu held generation first other apart = get_or-set_other to
 -- a change of one processor's holding leaves a safe token safe
 pub IsSafeToken-moved : (cpus : ℕ) (tok : Token) (cpu : ℕ) (held : Held) (generation : ℕ) (first : List ℕ) → cpus ≤ CPU_LIMIT → cpu < cpus → IsSafeToken cpus tok → MayMove tok cpu held generation first → IsSafeToken cpus (moved tok cpu held generation first)
 IsSafeToken-moved cpus tok cpu held generation first few here safe may = record {
-    eight_holders = length-set tok.holders cpu held ∙ safe.eight_holders;
-    eight_tallies = safe.eight_tallies;
-    absent = λ other far. let differ : other ≢ cpu = (λ e. absurd (omega arith)) in ((held_moved_other tok cpu held generation first other differ ∙ (safe.absent other far).0), (safe.absent other far).1);
-    few_cells = safe.few_cells;
-    same_cells = may.same_cells;
-    compatible = compatible;
-    settled = λ opened. may.settled (sym (ap is_exclusive (held_moved_same tok cpu held generation first there)) ∙ opened cpu) (λ other differ. sym (ap is_exclusive (held_moved_other tok cpu held generation first other differ)) ∙ opened other);
-    lawful = may.lawful;
-    tallied = safe.tallied;
-    in_range = may.in_range;
-    not_worn = λ one exclusive. elim (cases_eq one cpu) [
-        inl same ↦ may.not_worn (sym (ap is_exclusive (held_moved_same tok cpu held generation first there)) ∙ subst (λ p. IsExclusiveHolder (moved tok cpu held generation first) p) same exclusive)
-      | inr differ ↦ may.others_not_worn one differ (sym (ap is_exclusive (held_moved_other tok cpu held generation first one differ)) ∙ exclusive) ] }
+  eight_holders = length-set tok.holders cpu held ∙ safe.eight_holders;
+  eight_tallies = safe.eight_tallies;
+  absent = λ other far. let differ : other ≢ cpu = (λ e. absurd (omega arith)) in ((held_moved_other tok cpu held generation first other differ ∙ (safe.absent other far).0), (safe.absent other far).1);
+  few_cells = safe.few_cells;
+  same_cells = may.same_cells;
+  compatible = compatible;
+  settled = λ opened. may.settled (sym (ap is_exclusive (held_moved_same tok cpu held generation first there)) ∙ opened cpu) (λ other differ. sym (ap is_exclusive (held_moved_other tok cpu held generation first other differ)) ∙ opened other);
+  lawful = may.lawful;
+  tallied = safe.tallied;
+  in_range = may.in_range;
+  not_worn = λ one exclusive. elim (cases_eq one cpu) [
+    | inl same ↦ may.not_worn (sym (ap is_exclusive (held_moved_same tok cpu held generation first there)) ∙ subst (λ p. IsExclusiveHolder (moved tok cpu held generation first) p) same exclusive)
+    | inr differ ↦ may.others_not_worn one differ (sym (ap is_exclusive (held_moved_other tok cpu held generation first one differ)) ∙ exclusive)
+  ];
+}
   where
     there : cpu < length tok.holders
     there = let e = safe.eight_holders in omega arith
+
     new : Token
     new = moved tok cpu held generation first
+
     compatible : (one other : ℕ) → IsExclusiveHolder (moved tok cpu held generation first) one → one ≢ other → held_by (moved tok cpu held generation first) other ≡ Nothing
     compatible one other exclusive differ =
         elim (cases_eq one cpu) [
-          inl same ↦
-            let h : is_exclusive held ≡ true = sym (ap is_exclusive (held_moved_same tok cpu held generation first there)) ∙ subst (λ p. IsExclusiveHolder (moved tok cpu held generation first) p) same exclusive in
-            let away : other ≢ cpu = (λ e. differ (same ∙ sym e)) in
-            held_moved_other tok cpu held generation first other away ∙ may.alone h other away
-        | inr apart ↦
-            let before : IsExclusiveHolder tok one = sym (ap is_exclusive (held_moved_other tok cpu held generation first one apart)) ∙ exclusive in
-            elim (cases_eq other cpu) [
-              inl same ↦ ap (λ p. held_by (moved tok cpu held generation first) p) same ∙ held_moved_same tok cpu held generation first there ∙ may.apart one apart before
-            | inr away ↦ held_moved_other tok cpu held generation first other away ∙ safe.compatible one other before differ ] ]
+          | inl same ↦
+              let h : is_exclusive held ≡ true = sym (ap is_exclusive (held_moved_same tok cpu held generation first there)) ∙ subst (λ p. IsExclusiveHolder (moved tok cpu held generation first) p) same exclusive in
+              let away : other ≢ cpu = (λ e. differ (same ∙ sym e)) in
+              held_moved_other tok cpu held generation first other away ∙ may.alone h other away
+          | inr apart ↦
+              let before : IsExclusiveHolder tok one = sym (ap is_exclusive (held_moved_other tok cpu held generation first one apart)) ∙ exclusive in
+              elim (cases_eq other cpu) [
+                | inl same ↦ ap (λ p. held_by (moved tok cpu held generation first) p) same ∙ held_moved_same tok cpu held generation first there ∙ may.apart one apart before
+                | inr away ↦ held_moved_other tok cpu held generation first other away ∙ safe.compatible one other before differ
+              ]
+        ]
 
 -- no processor but this one holds a token that this one holds exclusively
 others_nothing : (cpus : ℕ) (tok : Token) (cpu : ℕ) → IsSafeToken cpus tok → IsExclusiveHolder tok cpu → (other : ℕ) → other ≢ cpu → held_by tok other ≡ Nothing
@@ -124,57 +130,72 @@ held_if_not_last (Holds mode further) may = refl
 -- what stays as it is while a holding changes
 kept : (cpus : ℕ) (tok : Token) (cpu : ℕ) (held : Held) → IsSafeToken cpus tok → (is_exclusive held ≡ true → is_exclusive (held_by tok cpu) ≡ true) → (is_exclusive held ≡ false → is_exclusive (held_by tok cpu) ≡ false) → is_held (held_by tok cpu) ≡ true → MayMove tok cpu held tok.generation tok.first
 kept cpus tok cpu held safe was wasnt holds = record {
-    alone = λ e other differ. others_nothing cpus tok cpu safe (was e) other differ;
-    apart = λ other differ e. absurd (held_not_nothing (held_by tok cpu) holds (safe.compatible other cpu e differ));
-    same_cells = safe.same_cells;
-    settled = λ shared others. safe.settled (λ one. elim (cases_eq one cpu) [
-        inl same ↦ ap (λ p. is_exclusive (held_by tok p)) same ∙ wasnt shared
-      | inr differ ↦ others one differ ]);
-    lawful = safe.lawful;
-    in_range = safe.in_range;
-    not_worn = λ e. safe.not_worn cpu (was e);
-    others_not_worn = λ other differ e. safe.not_worn other e }
+  alone = λ e other differ. others_nothing cpus tok cpu safe (was e) other differ;
+  apart = λ other differ e. absurd (held_not_nothing (held_by tok cpu) holds (safe.compatible other cpu e differ));
+  same_cells = safe.same_cells;
+  settled = λ shared others. safe.settled (λ one. elim (cases_eq one cpu) [
+    | inl same ↦ ap (λ p. is_exclusive (held_by tok p)) same ∙ wasnt shared
+    | inr differ ↦ others one differ
+  ]);
+  lawful = safe.lawful;
+  in_range = safe.in_range;
+  not_worn = λ e. safe.not_worn cpu (was e);
+  others_not_worn = λ other differ e. safe.not_worn other e;
+}
 
 -- a first reference may be taken of a token that nobody holds in a way that excludes it
 taken : (cpus : ℕ) (tok : Token) (cpu : ℕ) → IsSafeToken cpus tok → IsFree tok → tok.generation < LAST_GENERATION → MayMove tok cpu (Holds Exclusive 0) tok.generation tok.first
 taken cpus tok cpu safe free unworn = record {
-    alone = λ e other differ. free other;
-    apart = λ other differ e. absurd (not_exclusive (held_by tok other) (free other) e);
-    same_cells = safe.same_cells;
-    settled = λ shared. absurd (false≢true (sym shared));
-    lawful = safe.lawful;
-    in_range = safe.in_range;
-    not_worn = λ e. unworn;
-    others_not_worn = λ other differ e. unworn }
+  alone = λ e other differ. free other;
+  apart = λ other differ e. absurd (not_exclusive (held_by tok other) (free other) e);
+  same_cells = safe.same_cells;
+  settled = λ shared. absurd (false≢true (sym shared));
+  lawful = safe.lawful;
+  in_range = safe.in_range;
+  not_worn = λ e. unworn;
+  others_not_worn = λ other differ e. unworn;
+}
 
 shared : (cpus : ℕ) (tok : Token) (cpu : ℕ) → IsSafeToken cpus tok → IsOpen tok → MayMove tok cpu (Holds Shared 0) tok.generation tok.first
 shared cpus tok cpu safe opened = record {
-    alone = λ e. absurd (false≢true e);
-    apart = λ other differ e. absurd (false≢true (sym (opened other) ∙ e));
-    same_cells = safe.same_cells;
-    settled = λ quiet others. safe.settled opened;
-    lawful = safe.lawful;
-    in_range = safe.in_range;
-    not_worn = λ e. absurd (false≢true e);
-    others_not_worn = λ other differ e. safe.not_worn other e }
+  alone = λ e. absurd (false≢true e);
+  apart = λ other differ e. absurd (false≢true (sym (opened other) ∙ e));
+  same_cells = safe.same_cells;
+  settled = λ quiet others. safe.settled opened;
+  lawful = safe.lawful;
+  in_range = safe.in_range;
+  not_worn = λ e. absurd (false≢true e);
+  others_not_worn = λ other differ e. safe.not_worn other e;
+}
 
 -- the last reference may be given back with this generation and first row
 ended : (cpus : ℕ) (tok : Token) (cpu : ℕ) (generation : ℕ) (first : List ℕ) → IsSafeToken cpus tok → IsExclusiveHolder tok cpu → tok.row ≡ first → MeetsLaw tok.law tok.param first → generation ≤ LAST_GENERATION → MayMove tok cpu Nothing generation first
 ended cpus tok cpu generation first safe exclusive same lawful in_range = record {
-    alone = λ e. absurd (false≢true e);
-    apart = λ other differ e. refl;
-    same_cells = ap length (sym same);
-    settled = λ quiet others. same;
-    lawful = lawful;
-    in_range = in_range;
-    not_worn = λ e. absurd (false≢true e);
-    others_not_worn = λ other differ e. absurd (not_exclusive (held_by tok other) (others_nothing cpus tok cpu safe exclusive other differ) e) }
+  alone = λ e. absurd (false≢true e);
+  apart = λ other differ e. refl;
+  same_cells = ap length (sym same);
+  settled = λ quiet others. same;
+  lawful = lawful;
+  in_range = in_range;
+  not_worn = λ e. absurd (false≢true e);
+  others_not_worn = λ other differ e. absurd (not_exclusive (held_by tok other) (others_nothing cpus tok cpu safe exclusive other differ) e);
+}
 
 -- the mark is free
 IsSafeToken-marked : (cpus : ℕ) (tok : Token) (mark : Bool) → IsSafeToken cpus tok → IsSafeToken cpus (record tok { mark = mark })
 IsSafeToken-marked cpus tok mark safe = record {
-    eight_holders = safe.eight_holders; eight_tallies = safe.eight_tallies; absent = safe.absent; few_cells = safe.few_cells; same_cells = safe.same_cells;
-    compatible = safe.compatible; settled = safe.settled; lawful = safe.lawful; tallied = safe.tallied; in_range = safe.in_range; not_worn = safe.not_worn }
+  eight_holders = safe.eight_holders;
+  eight_tallies = safe.eight_tallies;
+  absent = safe.absent;
+  few_cells = safe.few_cells;
+  same_cells = safe.same_cells;
+  compatible = safe.compatible;
+  settled = safe.settled;
+  lawful = safe.lawful;
+  tallied = safe.tallied;
+  in_range = safe.in_range;
+  not_worn = safe.not_worn;
+}
 
 -- a cell that is raised by its law's leave keeps its sum
 tallied_write : (law : Law) (param : ℕ) (row tallies : List ℕ) (cell cpu value : ℕ) → cell < length row → cpu < length tallies → MayWrite law (slice_index row cell) value → IsTallied law param row tallies → IsTallied law param (set row cell value) (tallies_after law tallies cpu (value - slice_index row cell))
@@ -222,7 +243,8 @@ IsSafeToken-written cpus tok cpu cell value few here safe exclusive inside may =
       lawful = safe.lawful;
       tallied = tallied_write tok.law tok.param tok.row tok.tallies cell cpu value inside there may safe.tallied;
       in_range = safe.in_range;
-      not_worn = safe.not_worn }
+      not_worn = safe.not_worn;
+    }
 
 -- each event that can happen to a safe token leaves it safe
 pub IsSafeToken-after : (cpus : ℕ) (tok : Token) (e : Event) → cpus ≤ CPU_LIMIT → cpu_of e < cpus → IsSafeToken cpus tok → TokenNeeds tok e → IsSafeToken cpus (token_after tok e)
@@ -231,35 +253,35 @@ IsSafeToken-after cpus tok (Read cpu t cell value) few here safe needs = safe
 IsSafeToken-after cpus tok (Mark cpu t) few here safe needs = IsSafeToken-marked cpus tok true safe
 IsSafeToken-after cpus tok (Take cpu t) few here safe needs =
     IsSafeToken-marked cpus (with_more tok cpu.0 Exclusive) false
-      (let S : Held → Type 0 = λ held. IsSafeToken cpus (record tok { holders = set tok.holders cpu.0 held }) in
-       subst S (sym (ap (λ held. one_more held Exclusive) (needs.0 cpu.0)))
-         (IsSafeToken-moved cpus tok cpu.0 (Holds Exclusive 0) tok.generation tok.first few here safe (taken cpus tok cpu.0 safe needs.0 needs.1)))
+    (let S : Held → Type 0 = λ held. IsSafeToken cpus (record tok { holders = set tok.holders cpu.0 held }) in
+    subst S (sym (ap (λ held. one_more held Exclusive) (needs.0 cpu.0)))
+    (IsSafeToken-moved cpus tok cpu.0 (Holds Exclusive 0) tok.generation tok.first few here safe (taken cpus tok cpu.0 safe needs.0 needs.1)))
 IsSafeToken-after cpus tok (Share cpu t) few here safe needs =
     let S : Held → Type 0 = λ held. IsSafeToken cpus (record tok { holders = set tok.holders cpu.0 held }) in
     subst S (sym (ap (λ held. one_more held Shared) needs.1))
-      (IsSafeToken-moved cpus tok cpu.0 (Holds Shared 0) tok.generation tok.first few here safe (shared cpus tok cpu.0 safe needs.0))
+    (IsSafeToken-moved cpus tok cpu.0 (Holds Shared 0) tok.generation tok.first few here safe (shared cpus tok cpu.0 safe needs.0))
 IsSafeToken-after cpus tok (Again cpu t) few here safe needs =
     let same = more_keeps (held_by tok cpu.0) Shared needs in
     IsSafeToken-moved cpus tok cpu.0 (one_more (held_by tok cpu.0) Shared) tok.generation tok.first few here safe
-      (kept cpus tok cpu.0 (one_more (held_by tok cpu.0) Shared) safe (λ e. sym same ∙ e) (λ e. sym same ∙ e) needs)
+    (kept cpus tok cpu.0 (one_more (held_by tok cpu.0) Shared) safe (λ e. sym same ∙ e) (λ e. sym same ∙ e) needs)
 IsSafeToken-after cpus tok (GiveOne cpu t) few here safe needs =
     let old = held_by tok cpu.0 in
     IsSafeToken-moved cpus tok cpu.0 (one_less old) tok.generation tok.first few here safe
-      (kept cpus tok cpu.0 (one_less old) safe
-        (λ e. elim (cases_Bool (is_exclusive old)) [ inl yes' ↦ yes' | inr shared' ↦ absurd (false≢true (sym (less_keeps_shared old shared') ∙ e)) ])
-        (λ e. elim (cases_Bool (is_exclusive old)) [ inl exclusive ↦ absurd (false≢true (sym e ∙ less_keeps_exclusive old needs exclusive)) | inr shared' ↦ shared' ])
-        (held_if_not_last old needs))
+    (kept cpus tok cpu.0 (one_less old) safe
+    (λ e. elim (cases_Bool (is_exclusive old)) [ inl yes' ↦ yes' | inr shared' ↦ absurd (false≢true (sym (less_keeps_shared old shared') ∙ e)) ])
+    (λ e. elim (cases_Bool (is_exclusive old)) [ inl exclusive ↦ absurd (false≢true (sym e ∙ less_keeps_exclusive old needs exclusive)) | inr shared' ↦ shared' ])
+    (held_if_not_last old needs))
 IsSafeToken-after cpus tok (GiveClean cpu t) few here safe needs =
     let S : Held → Type 0 = λ held. IsSafeToken cpus (record tok { holders = set tok.holders cpu.0 held }) in
     subst S (sym (ap one_less needs.0))
-      (IsSafeToken-moved cpus tok cpu.0 Nothing tok.generation tok.first few here safe
-        (ended cpus tok cpu.0 tok.generation tok.first safe (ap is_exclusive needs.0) needs.1 safe.lawful safe.in_range))
+    (IsSafeToken-moved cpus tok cpu.0 Nothing tok.generation tok.first few here safe
+    (ended cpus tok cpu.0 tok.generation tok.first safe (ap is_exclusive needs.0) needs.1 safe.lawful safe.in_range))
 IsSafeToken-after cpus tok (GiveWritten cpu t) few here safe needs =
     let S : Held → Type 0 = λ held. IsSafeToken cpus (record tok { holders = set tok.holders cpu.0 held; generation = tok.generation + 1; first = tok.row }) in
     let unworn = safe.not_worn cpu.0 (ap is_exclusive needs.0) in
     subst S (sym (ap one_less needs.0))
-      (IsSafeToken-moved cpus tok cpu.0 Nothing (tok.generation + 1) tok.row few here safe
-        (ended cpus tok cpu.0 (tok.generation + 1) tok.row safe (ap is_exclusive needs.0) refl needs.2 (omega arith)))
+    (IsSafeToken-moved cpus tok cpu.0 Nothing (tok.generation + 1) tok.row few here safe
+    (ended cpus tok cpu.0 (tok.generation + 1) tok.row safe (ap is_exclusive needs.0) refl needs.2 (omega arith)))
 IsSafeToken-after cpus tok (Write cpu t cell value) few here safe needs = IsSafeToken-written cpus tok cpu.0 cell value few here safe needs.0 needs.1 needs.2
 IsSafeToken-after cpus tok (Send cpu msg to round) few here safe needs = absurd needs
 IsSafeToken-after cpus tok (TakeMsg cpu msg round) few here safe needs = absurd needs
@@ -289,9 +311,10 @@ added_by e cpu = cond (adds_reference e && eqb (cpu_of e) cpu) 1 0
 references_set : (tok : Token) (cpu : ℕ) (held : Held) (one : ℕ) → cpu < length tok.holders → references_in held ≤ references_in (held_by tok cpu) + 1 → references_in (get_or (set tok.holders cpu held) one Nothing) ≤ references_in (held_by tok one) + cond (eqb cpu one) 1 0
 references_set tok cpu held one there most =
     elim (cases_eq one cpu) [
-      inl same ↦ subst (λ p. references_in (get_or (set tok.holders cpu held) p Nothing) ≤ references_in (held_by tok p) + cond (eqb cpu p) 1 0) (sym same)
-        (at_cpu (get_or (set tok.holders cpu held) cpu Nothing) (eqb cpu cpu) (get_or-set_same tok.holders cpu held Nothing there) (eq-eqb cpu cpu refl))
-    | inr differ ↦ (rw (get_or-set_other tok.holders cpu one held Nothing differ) (omega arith)) ]
+      | inl same ↦ subst (λ p. references_in (get_or (set tok.holders cpu held) p Nothing) ≤ references_in (held_by tok p) + cond (eqb cpu p) 1 0) (sym same)
+          (at_cpu (get_or (set tok.holders cpu held) cpu Nothing) (eqb cpu cpu) (get_or-set_same tok.holders cpu held Nothing there) (eq-eqb cpu cpu refl))
+      | inr differ ↦ (rw (get_or-set_other tok.holders cpu one held Nothing differ) (omega arith))
+    ]
   where
     at_cpu : (new : Held) (here : Bool) → new ≡ held → here ≡ true → references_in new ≤ references_in (held_by tok cpu) + cond here 1 0
     at_cpu new here is yes' = rw (is, yes') most
@@ -299,8 +322,9 @@ references_set tok cpu held one there most =
 references_set_less : (tok : Token) (cpu : ℕ) (held : Held) (one : ℕ) → cpu < length tok.holders → references_in held ≤ references_in (held_by tok cpu) → references_in (get_or (set tok.holders cpu held) one Nothing) ≤ references_in (held_by tok one)
 references_set_less tok cpu held one there most =
     elim (cases_eq one cpu) [
-      inl same ↦ subst (λ p. references_in (get_or (set tok.holders cpu held) p Nothing) ≤ references_in (held_by tok p)) (sym same) (rw (get_or-set_same tok.holders cpu held Nothing there) most)
-    | inr differ ↦ (rw (get_or-set_other tok.holders cpu one held Nothing differ) (omega arith)) ]
+      | inl same ↦ subst (λ p. references_in (get_or (set tok.holders cpu held) p Nothing) ≤ references_in (held_by tok p)) (sym same) (rw (get_or-set_same tok.holders cpu held Nothing there) most)
+      | inr differ ↦ (rw (get_or-set_other tok.holders cpu one held Nothing differ) (omega arith))
+    ]
 
 -- an event adds at most one reference, and only of its own processor
 pub references-after : (tok : Token) (e : Event) (one : ℕ) → cpu_of e < length tok.holders → references_in (held_by (token_after tok e) one) ≤ references_in (held_by tok one) + added_by e one

@@ -2,7 +2,6 @@ use Rattle.std.specs.Prelude.{◌≡◌, ℕ, ◌≤◌, List, [], ◌∷◌, le
 use Rattle.lwkt_base.specs.declared.laws.Law.{Law}
 use Rattle.lwkt_base.specs.declared.laws.Law.TheVariants.{Any, Sum, Order, Cap, Tally}
 use Rattle.lwkt_base.specs.declared.owners.MsgEnd.{MsgEnd}
-use Rattle.lwkt_core.specs.declared.tokens.Token.{Token}
 use Rattle.lwkt_core.specs.declared.messages.Message.{Message}
 use Rattle.lwkt_core.specs.declared.events.Event.{Event}
 use Rattle.lwkt_core.specs.declared.finals.Final.{Final}
@@ -44,3 +43,11 @@ pub record FailsAt (m : Machine) (events : List Event) (last : Final) (index : �
   pub mid : Machine
   pub before : Run m (take index events) mid
   pub fails : MatchOption (slice_get events index) (¬ Closes mid last) (λ e. ¬ Needs mid e)
+
+-- a law: an index at which a trace fails shows that it isn't lawful
+abbrev pub FailureRefutes : Type 0
+FailureRefutes = (m : Machine) (events : List Event) (last : Final) (index : ℕ) → FailsAt m events last index → ¬ IsLawfulTrace m events last
+
+-- a law: a trace fails at one index only
+abbrev pub FailureIsOnly : Type 0
+FailureIsOnly = (m : Machine) (events : List Event) (last : Final) (index other : ℕ) → FailsAt m events last index → FailsAt m events last other → index ≡ other

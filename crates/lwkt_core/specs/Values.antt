@@ -1,7 +1,6 @@
 use Rattle.std.specs.Prelude.{ℕ, Option, Some, None, option_map, option_and_then, slice_get, nat_lt, if◌then◌else◌, List}
 use Rattle.lwkt_base.specs.declared.laws.Law.{Law}
 use Rattle.lwkt_base.specs.declared.laws.Law.TheVariants.{Any, Sum, Order, Cap, Tally}
-use Rattle.lwkt_core.specs.declared.tokens.Token.{Token}
 use Rattle.lwkt_core.specs.Machine.{Machine}
 
 -- the value of a cell, if there is such a token with such a cell

@@ -4,21 +4,45 @@ use lwkt_base::{CpuId, MsgId, TokId};
 #[derive(Clone, Copy, Debug, PartialEq, Eq)]
 pub enum Event {
     /// The token's word or a cell was looked at.
-    Load { cpu: CpuId, tok: TokId },
+    Load {
+        cpu: CpuId,
+        tok: TokId,
+    },
     /// The token was taken exclusively, which clears its mark.
-    Take { cpu: CpuId, tok: TokId },
+    Take {
+        cpu: CpuId,
+        tok: TokId,
+    },
     /// The token was taken shared.
-    Share { cpu: CpuId, tok: TokId },
+    Share {
+        cpu: CpuId,
+        tok: TokId,
+    },
     /// A further reference to a token that is held.
-    Again { cpu: CpuId, tok: TokId },
+    Again {
+        cpu: CpuId,
+        tok: TokId,
+    },
     /// The token was marked for an exclusive request.
-    Mark { cpu: CpuId, tok: TokId },
+    Mark {
+        cpu: CpuId,
+        tok: TokId,
+    },
     /// A reference was given back that was not the last of an exclusive holding.
-    GiveOne { cpu: CpuId, tok: TokId },
+    GiveOne {
+        cpu: CpuId,
+        tok: TokId,
+    },
     /// The last reference of an exclusive holding was given back, and the row was as at the beginning of the section.
-    GiveClean { cpu: CpuId, tok: TokId },
+    GiveClean {
+        cpu: CpuId,
+        tok: TokId,
+    },
     /// The last reference of an exclusive holding was given back, and the row had changed.
-    GiveWritten { cpu: CpuId, tok: TokId },
+    GiveWritten {
+        cpu: CpuId,
+        tok: TokId,
+    },
     /// A cell of a token that is held was read, and had this value.
     Read {
         cpu: CpuId,
@@ -41,15 +65,31 @@ pub enum Event {
         round: u64,
     },
     /// The message of this round was taken.
-    TakeMsg { cpu: CpuId, msg: MsgId, round: u64 },
+    TakeMsg {
+        cpu: CpuId,
+        msg: MsgId,
+        round: u64,
+    },
     /// The message was taken back before it was taken.
-    DropMsg { cpu: CpuId, msg: MsgId },
+    DropMsg {
+        cpu: CpuId,
+        msg: MsgId,
+    },
     /// The message was replied to.
-    Reply { cpu: CpuId, msg: MsgId },
+    Reply {
+        cpu: CpuId,
+        msg: MsgId,
+    },
     /// The reply was taken back.
-    Reap { cpu: CpuId, msg: MsgId },
+    Reap {
+        cpu: CpuId,
+        msg: MsgId,
+    },
     /// The message's origin asked for it to be aborted.
-    Abort { cpu: CpuId, msg: MsgId },
+    Abort {
+        cpu: CpuId,
+        msg: MsgId,
+    },
 }
 
 /// What an event is at: a token or a message, by its number.
@@ -115,6 +155,9 @@ impl Event {
     pub fn adds_reference(&self) -> bool
         ensures { result ≡ adds_reference self.now }
     {
-        matches!(self, Event::Take { .. } | Event::Share { .. } | Event::Again { .. })
+        matches!(
+            self,
+            Event::Take { .. } | Event::Share { .. } | Event::Again { .. }
+        )
     }
 }

@@ -2,14 +2,16 @@
 //! each event needs and leaves, and a checker of traces.
 #![tactic(auto)]
 
+pub mod checks;
 pub mod events;
-pub mod finals;
+mod finals;
 pub mod messages;
 mod openings;
 mod rules;
 pub mod states;
 pub mod tokens;
 
+pub use checks::check;
 pub use events::Event;
 pub use finals::Final;
 pub use messages::Message;

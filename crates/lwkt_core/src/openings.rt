@@ -1,12 +1,10 @@
 ghost use Rattle.std.specs.Prelude.{◌≡◌, ◌↔◌, ◌<◌, ◌≤◌, ℕ, map, length, All, IsTrue, IfOk, MatchResult};
 ghost use Rattle.lwkt_core.specs.Opening.{opened_token, opened_message, IsTokenWithin, IsMessageWithin, AreWithin, AllOpenLawfully};
 
-use std::alloc::{AllocError, Global};
-
-use lwkt_base::{Fault, Held, LAST_GENERATION, Law, MsgSpec, Owner, TokSpec};
-
 use crate::messages::{LAST_ROUND, Message};
 use crate::tokens::{CPU_LIMIT, Token};
+use lwkt_base::{Fault, Held, LAST_GENERATION, Law, MsgSpec, Owner, TokSpec};
+use std::alloc::{AllocError, Global};
 
 fn opened_token(alloc: Global, spec: &TokSpec) -> Result<Token, AllocError>
     ensures { IfOk result (λ tok. tok ≡ opened_token spec.now) }
@@ -76,9 +74,7 @@ fn is_token_within(spec: &TokSpec) -> bool
     ensures { IsTrue result ↔ IsTokenWithin spec.now }
 {
     let cells = spec.cells.as_slice().len();
-    cells <= 4
-        && (spec.law != Law::Tally || cells == 1)
-        && spec.generation <= LAST_GENERATION
+    cells <= 4 && (spec.law != Law::Tally || cells == 1) && spec.generation <= LAST_GENERATION
 }
 
 fn is_message_within(cpus: usize, spec: &MsgSpec) -> bool

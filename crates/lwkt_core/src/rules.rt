@@ -4,21 +4,17 @@ ghost use Rattle.lwkt_core.specs.Messages.{MessageNeeds, IsSafeMessage, message_
 ghost use Rattle.lwkt_core.specs.Tokens.{TokenNeeds, IsSafeToken, token_after};
 ghost use Rattle.lwkt_core.specs.Events.{cpu_of, adds_reference};
 
-use lwkt_base::CpuId;
-
 use crate::events::{Event, Place};
 use crate::messages::Message;
 use crate::tokens::{CPU_LIMIT, Token};
+use lwkt_base::CpuId;
 
 /// How many references a processor has in all.
 pub fn references_of(tokens: &[Token], cpu: CpuId) -> usize
     requires { references_of tokens.now cpu.0 ≤ 32 }
     ensures { result ≡ references_of tokens.now cpu.0 }
 {
-    tokens
-        .iter()
-        .map(|tok| tok.held_by(cpu).references())
-        .sum()
+    tokens.iter().map(|tok| tok.held_by(cpu).references()).sum()
 }
 
 /// Whether there is such a token and the event can happen to it.

@@ -1,15 +1,13 @@
 ghost use Rattle.std.specs.Prelude.{◌≡◌, ◌≢◌, ◌⊎◌, ◌↔◌, ◌<◌, ◌≤◌, ℕ, List, length, map, Option, Some, None, Ok, Err, IsTrue, OnOk, OnErr, IfOk, IfErr};
 
+use crate::events::{Event, Place};
+use crate::finals::Final;
+use crate::messages::Message;
+use crate::tokens::Token;
+use crate::{finals, openings, rules};
+use lwkt_base::{CpuId, Fault, MsgSpec, TokId, TokSpec};
 use std::alloc::Global;
 use std::marker::Model;
-
-use lwkt_base::{CpuId, Fault, MsgSpec, TokId, TokSpec};
-
-use crate::events::{Event, Place};
-use crate::messages::Message;
-use crate::openings;
-use crate::rules;
-use crate::tokens::Token;
 
 /// The state of the model: a machine of 1 to 8 processors with its tokens and messages. Every state is safe.
 #[derive(Debug, Drop)]
@@ -33,6 +31,7 @@ impl Model for State {
 impl State {
     ghost use Rattle.lwkt_core.specs.Machine.{IsSafe, Needs, Happens};
     ghost use Rattle.lwkt_core.specs.Opening.{opening, AreWithin, AllOpenLawfully};
+    ghost use Rattle.lwkt_core.specs.Trace.{Closes};
     ghost use Rattle.lwkt_core.specs.Values.{cell_at, first_at, generation_at, tally_at};
 
     /// The opening state: nobody holds a token, and each message is at rest.
@@ -144,5 +143,24 @@ impl State {
         }
         rules::apply(self.cpus, &mut self.tokens, &mut self.messages, event);
         Ok(())
+    }
+
+    /// Whether nobody holds a token, and these are the closing values.
+    pub fn closes(&self, last: &Final) -> bool
+        ensures { IsTrue result ↔ Closes self.now last.now }
+    {
+        if !self.tokens.iter().all(|tok| tok.is_free()) {
+            return false;
+        }
+        if !finals::are_rows(&last.rows, &self.tokens) {
+            return false;
+        }
+        if !finals::are_generations(&last.gens, &self.tokens) {
+            return false;
+        }
+        if !finals::are_tallies(&last.tallies, &self.tokens, self.cpus) {
+            return false;
+        }
+        finals::are_ends(&last.messages, &self.messages)
     }
 }

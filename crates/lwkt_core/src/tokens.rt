@@ -1,8 +1,7 @@
 ghost use Rattle.std.specs.Prelude.{◌≡◌, ◌↔◌, ℕ, ◌+◌, true, ◌<◌, ◌≤◌, ◌^◌, ◌-◌, length, slice_index, slice_set, IsTrue, Some, slice_get, option_and_then};
 
-use lwkt_base::{Cells, CpuId, Held, LAST_GENERATION, Law, Mode};
-
 use crate::events::Event;
+use lwkt_base::{Cells, CpuId, Held, LAST_GENERATION, Law, Mode};
 
 /// The most processors of a machine.
 pub const CPU_LIMIT: usize = 8;
@@ -38,7 +37,10 @@ impl Token {
     pub fn held_by(&self, cpu: CpuId) -> Held
         ensures { result ≡ held_by self.now cpu.0 }
     {
-        self.holders.get(cpu.0 as usize).copied().unwrap_or(Held::Nothing)
+        self.holders
+            .get(cpu.0 as usize)
+            .copied()
+            .unwrap_or(Held::Nothing)
     }
 
     /// What a processor has added to the cell, if the token keeps tallies.
@@ -134,10 +136,16 @@ impl Token {
             Event::GiveClean { cpu, .. } => self.is_last_exclusive(cpu) && self.is_clean(),
             Event::GiveWritten { cpu, .. } => self.may_give_written(cpu),
             Event::Read {
-                cpu, cell, value, ..
+                cpu,
+                cell,
+                value,
+                ..
             } => self.held_by(cpu).is_held() && self.has_value(cell, value),
             Event::Write {
-                cpu, cell, value, ..
+                cpu,
+                cell,
+                value,
+                ..
             } => self.held_by(cpu).is_exclusive() && self.may_store(cell, value),
             _ => false,
         }
@@ -218,7 +226,10 @@ impl Token {
             Event::GiveOne { cpu, .. } | Event::GiveClean { cpu, .. } => self.give_reference(cpu),
             Event::GiveWritten { cpu, .. } => self.end_written(cpu),
             Event::Write {
-                cpu, cell, value, ..
+                cpu,
+                cell,
+                value,
+                ..
             } => self.store(cpu, cell, value),
             _ => {}
         }

@@ -1,19 +1,21 @@
-use Rattle.std.proofs.Common.{◌≡◌, arith, sym}
+use Rattle.std.proofs.Common.{arith, sym}
 use Rattle.lwkt_core.specs.Machine.{machine}
 use Rattle.lwkt_core.proofs.MachineMoves.{needs_of_token, needs_of_message, after_token, after_message, IsSafe_left}
 use Rattle.lwkt_core.proofs.rules.apply.Goals as goal
 
 pub apply_at_token-requires : goal.apply_at_token-requires
 apply_at_token-requires c = record {
-    allowed = needs_of_token (machine c.args.cpus c.args.tokens.now.items c.args.messages.now.items) c.args.event.now c.in-AtToken.place (sym c.in-AtToken.ensures) c.requires.needs;
-    exists = (let p = c.requires.needs.processor in let q = c.requires.safe.processors in omega arith);
-    safe = (c.args.cpus, c.requires.safe.each_token);
-    few = c.requires.safe.few _ }
+  allowed = needs_of_token (machine c.args.cpus c.args.tokens.now.items c.args.messages.now.items) c.args.event.now c.in-AtToken.place (sym c.in-AtToken.ensures) c.requires.needs;
+  exists = (let p = c.requires.needs.processor in let q = c.requires.safe.processors in omega arith);
+  safe = (c.args.cpus, c.requires.safe.each_token);
+  few = c.requires.safe.few _;
+}
 
 pub apply_at_message-requires : goal.apply_at_message-requires
 apply_at_message-requires c = record {
-    allowed = (c.args.cpus, needs_of_message (machine c.args.cpus c.args.tokens.now.items c.args.messages.now.items) c.args.event.now c.in-AtMessage.place (sym c.in-AtMessage.ensures) c.requires.needs);
-    safe = (c.args.cpus, c.requires.safe.each_message) }
+  allowed = (c.args.cpus, needs_of_message (machine c.args.cpus c.args.tokens.now.items c.args.messages.now.items) c.args.event.now c.in-AtMessage.place (sym c.in-AtMessage.ensures) c.requires.needs);
+  safe = (c.args.cpus, c.requires.safe.each_message);
+}
 
 pub returns-in-AtToken-clause-safe : goal.returns-in-AtToken-clause-safe
 returns-in-AtToken-clause-safe c =

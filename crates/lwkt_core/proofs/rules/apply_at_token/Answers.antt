@@ -1,4 +1,4 @@
-use Rattle.std.proofs.Common.{◌≡◌, arith, sym, ◌∙◌, ap, set}
+use Rattle.std.proofs.Common.{arith, sym, ◌∙◌, ap, set}
 use Rattle.lwkt_core.specs.Events.{cpu_of}
 use Rattle.lwkt_core.specs.Tokens.{token_after, TokenNeeds}
 use Rattle.lwkt_core.specs.declared.tokens.Token.{Token}
