@@ -3,3 +3,4 @@ pub mod MessageMoves
 pub mod MachineMoves
 pub mod OpeningLemmas
 pub mod TraceLemmas
+pub mod SeatingLemmas

@@ -6,3 +6,4 @@ pub mod Opening
 pub mod Trace
 pub mod Values
 pub mod Picture
+pub mod Seating

@@ -8,6 +8,7 @@ mod finals;
 pub mod messages;
 mod openings;
 mod rules;
+pub mod seats;
 pub mod states;
 pub mod tokens;
 
@@ -15,5 +16,6 @@ pub use checks::check;
 pub use events::Event;
 pub use finals::Final;
 pub use messages::Message;
+pub use seats::{Operation, SeatKind, WordStep};
 pub use states::State;
 pub use tokens::Token;
