@@ -1,0 +1,102 @@
+use Rattle.std.specs.Prelude.{ℕ, ◌+◌, List, [], ◌∷◌, ◌++◌, Option, None, Some, codes}
+use Rattle.std.specs.Fmt.{decimal}
+use Rattle.std.specs.List.{flat_map}
+use Rattle.lwkt_base.specs.declared.names.Mode.{Mode}
+use Rattle.lwkt_base.specs.declared.names.Mode.TheVariants.{Exclusive, Shared}
+use Rattle.lwkt_base.specs.declared.names.Ref.{Ref}
+use Rattle.lwkt_base.specs.declared.owners.Owner.{Owner}
+use Rattle.lwkt_base.specs.declared.owners.Owner.TheVariants.{Rest, Out, With, Back}
+use Rattle.lwkt_base.specs.declared.owners.MsgEnd.{MsgEnd}
+use Rattle.lwkt_base.specs.declared.threads.ThreadState.{ThreadState}
+use Rattle.lwkt_base.specs.declared.threads.ThreadState.TheVariants.{Ready, Waiting, Running, Exited, Faulted}
+use Rattle.lwkt_base.specs.Fault.{number_of}
+use Rattle.lwkt_report.specs.declared.closings.Closing.{Closing}
+use Rattle.lwkt_report.specs.declared.closings.TokenLine.{TokenLine}
+use Rattle.lwkt_report.specs.declared.closings.ThreadLine.{ThreadLine}
+use Rattle.lwkt_report.specs.declared.logs.Entry.{Entry}
+use Rattle.lwkt_report.specs.declared.logs.Entry.TheVariants.{Value, Request, Reply, NoMessage, Refused}
+use Rattle.lwkt_report.specs.declared.closings.Verdict.{Verdict}
+use Rattle.lwkt_report.specs.declared.closings.Verdict.TheVariants.{Closed, Lawful, Unlawful}
+
+-- the text of a report; each line is ended by a line feed, and numbers are plain decimal (own)
+
+-- the line feed that ends a line
+abbrev pub line_feed : List ℕ
+line_feed = 10 ∷ []
+
+-- the texts of some parts, each after a space
+abbrev pub spaced : {A : Type 0} → (A → List ℕ) → List A → List ℕ
+spaced text parts = flat_map (λ part. codes " " ++ text part) parts
+
+-- the same, or a `-` after a space where there is no part
+abbrev pub listed : {A : Type 0} → (A → List ℕ) → List A → List ℕ
+listed text [] = codes " -"
+listed text (part ∷ parts) = spaced text (part ∷ parts)
+
+-- the lines of some items, numbered from n
+abbrev pub numbered : {A : Type 0} → (ℕ → A → List ℕ) → ℕ → List A → List ℕ
+numbered line n [] = []
+numbered line n (item ∷ items) = line n item ++ numbered line (n + 1) items
+
+-- `tally T A0 A1 ..`, for a Tally token alone
+abbrev pub tally_line : ℕ → Option (List ℕ) → List ℕ
+tally_line tok None = []
+tally_line tok (Some tallies) = codes "tally " ++ decimal tok ++ spaced decimal tallies ++ line_feed
+
+-- `token T gen G cells C0 C1 ..`, and then its tally line
+abbrev pub token_line : ℕ → TokenLine → List ℕ
+token_line tok line =
+    codes "token " ++ decimal tok ++ codes " gen " ++ decimal line.generation ++ codes " cells" ++ listed decimal line.cells ++ line_feed ++ tally_line tok line.tallies
+
+-- where a message is
+abbrev pub owner_text : Owner → List ℕ
+owner_text (Rest origin) = codes "rest"
+owner_text (Out origin target) = codes "out"
+owner_text (With origin target) = codes "with"
+owner_text (Back origin target) = codes "back"
+
+-- `message M round R STATE`
+abbrev pub message_line : ℕ → MsgEnd → List ℕ
+message_line message end =
+    codes "message " ++ decimal message ++ codes " round " ++ decimal end.round ++ codes " " ++ owner_text end.state ++ line_feed
+
+-- what a thread is doing
+abbrev pub state_text : ThreadState → List ℕ
+state_text Ready = codes "ready"
+state_text Waiting = codes "waiting"
+state_text Running = codes "running"
+state_text Exited = codes "exited"
+state_text (Faulted fault) = codes "faulted " ++ decimal (number_of fault)
+
+-- the letter of a mode
+abbrev pub mode_text : Mode → List ℕ
+mode_text Exclusive = codes "x"
+mode_text Shared = codes "s"
+
+-- a reference: the token's number and the mode
+abbrev pub ref_text : Ref → List ℕ
+ref_text r = decimal r.tok.0 ++ mode_text r.mode
+
+-- an entry of a log: `v=VALUE`, `q=MSG:OP:ARG`, `r=MSG:ERROR:RESULT`, `n` or `f=NUMBER`
+abbrev pub entry_text : Entry → List ℕ
+entry_text (Value value) = codes "v=" ++ decimal value
+entry_text (Request message call) = codes "q=" ++ decimal message.0 ++ codes ":" ++ decimal call.op ++ codes ":" ++ decimal call.arg
+entry_text (Reply message error outcome) = codes "r=" ++ decimal message.0 ++ codes ":" ++ decimal error ++ codes ":" ++ decimal outcome
+entry_text NoMessage = codes "n"
+entry_text (Refused number) = codes "f=" ++ decimal number
+
+-- `thread P.T STATE list L log E`
+abbrev pub thread_line : ThreadLine → List ℕ
+thread_line line =
+    codes "thread " ++ decimal line.id.cpu.0 ++ codes "." ++ decimal line.id.thread ++ codes " " ++ state_text line.state ++ codes " list" ++ listed ref_text line.list ++ codes " log" ++ listed entry_text line.log ++ line_feed
+
+-- `closed`, `lawful` or `unlawful INDEX`
+abbrev pub verdict_line : Verdict → List ℕ
+verdict_line Closed = codes "closed" ++ line_feed
+verdict_line Lawful = codes "lawful" ++ line_feed
+verdict_line (Unlawful index) = codes "unlawful " ++ decimal index ++ line_feed
+
+-- the tokens, the messages, the threads, and what is said of the trace
+abbrev pub report_text : Closing → List ℕ
+report_text closing =
+    numbered token_line 0 closing.tokens.items ++ numbered message_line 0 closing.messages.items ++ flat_map thread_line closing.threads.items ++ verdict_line closing.verdict

@@ -1,0 +1,47 @@
+use crate::logs::Log;
+use lwkt_base::{Cells, MsgEnd, ThreadId, ThreadState, TokList};
+
+/// What a token is at the end of a run.
+#[derive(Debug, Drop)]
+pub struct TokenLine {
+    /// The generation, 0 to 70368744177663.
+    pub generation: u64,
+    /// The cells, 0 to 4 of them.
+    pub cells: Cells,
+    /// Of a Tally token what each processor has added, by the processor's number; of every other token nothing.
+    pub tallies: Option<Cells>,
+}
+
+/// What a thread is when a run stops.
+#[derive(Debug, Drop)]
+pub struct ThreadLine {
+    pub id: ThreadId,
+    pub state: ThreadState,
+    /// The references that it then has.
+    pub list: TokList,
+    /// The first 32 of the answers that it was given.
+    pub log: Log,
+}
+
+/// What a run says of its own trace.
+#[derive(Clone, Copy, Debug, PartialEq, Eq)]
+pub enum Verdict {
+    /// Nothing: the run was made by several threads, and its steps lie in no known order.
+    Closed,
+    /// The trace is a lawful one from the opening to the closing values.
+    Lawful,
+    /// It isn't; the index of the first event that isn't lawful, or the number of events.
+    Unlawful { index: usize },
+}
+
+/// All that a report shows of a run that has ended.
+#[derive(Debug, Drop)]
+pub struct Closing {
+    /// The tokens, by number.
+    pub tokens: Vec<TokenLine>,
+    /// The messages, by number.
+    pub messages: Vec<MsgEnd>,
+    /// The threads, by processor, then number.
+    pub threads: Vec<ThreadLine>,
+    pub verdict: Verdict,
+}
