@@ -1,1 +1,3 @@
+pub mod Complaint
 pub mod Report
+pub mod Stream

@@ -97,6 +97,6 @@ verdict_line Lawful = codes "lawful" ++ line_feed
 verdict_line (Unlawful index) = codes "unlawful " ++ decimal index ++ line_feed
 
 -- the tokens, the messages, the threads, and what is said of the trace
-abbrev pub report_text : Closing → List ℕ
+unfoldable pub report_text : Closing → List ℕ
 report_text closing =
     numbered token_line 0 closing.tokens.items ++ numbered message_line 0 closing.messages.items ++ flat_map thread_line closing.threads.items ++ verdict_line closing.verdict

@@ -1,12 +1,20 @@
-//! The report that a run ends with, as text.
+//! The report that a run ends with, as text, and the streams that a run reads from and writes to.
 #![tactic(auto)]
 
 pub mod closings;
+pub mod complaints;
 mod listings;
 pub mod logs;
 mod parts;
 pub mod reports;
+pub mod sinks;
+pub mod sources;
+pub mod streams;
 
 pub use closings::{Closing, ThreadLine, TokenLine, Verdict};
+pub use complaints::{Complaint, complaint_line};
 pub use logs::{Entry, Log};
 pub use reports::report;
+pub use sinks::{Page, Sink, WriterSink, write_whole};
+pub use sources::{READ_LIMIT, ReaderSource, Source, read_capped};
+pub use streams::{RunFault, StreamError};

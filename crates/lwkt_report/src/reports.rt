@@ -87,6 +87,7 @@ fn show_threads(lines: &[ThreadLine], out: &mut String) -> Result<(), AllocError
     Ok(())
 }
 
+#[tactic(auto, unfolding(crate::specs::Report::report_text))]
 fn shown(alloc: Global, closing: &Closing) -> Result<String, AllocError>
     ensures { IfOk result (λ text. string_bytes text ≡ report_text closing.now) }
 {
