@@ -15,6 +15,9 @@ pub trait Sink {
     // whether a call of it has failed
     ghost has_failed: { Self → Bool };
 
+    // whether a flush has passed on all that it has taken; only a flush tells
+    ghost is_flushed: { Self → Type 0 } = { λ _. Unit {0} };
+
     // whether it is known to take so many bytes more
     ghost has_room: { Self → ℕ → Type 0 } = { λ _ _. ⊥ };
 
@@ -35,6 +38,7 @@ pub trait Sink {
     /// An `Err` says that the sink failed.
     fn flush(&mut self) -> Result<(), StreamError>
         ensures bytes { Keeps (contents self.old) (contents self.new) }
+        ensures flushed { OnOk result (is_flushed self.new) }
         ensures ok { OnOk result (has_failed self.new ≡ has_failed self.old) }
         ensures err { OnErr result (IsTrue (has_failed self.new)) }
         ensures fits { has_room self.old 0 → IsOk result };
@@ -145,6 +149,7 @@ impl Sink for Page {
 /// them where the flush failed.
 pub fn write_whole<K: Sink>(sink: &mut K, bytes: &[u8]) -> Result<(), StreamError>
     ensures whole { OnOk result (Appends (K.contents sink.old) (K.contents sink.new) bytes.now) }
+    ensures flushed { OnOk result (K.is_flushed sink.new) }
     ensures front { AppendsFront (K.contents sink.old) (K.contents sink.new) bytes.now }
     ensures ok { OnOk result (K.has_failed sink.new ≡ K.has_failed sink.old) }
     ensures err { OnErr result (IsTrue (K.has_failed sink.new)) }
