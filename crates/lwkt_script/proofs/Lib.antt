@@ -1,0 +1,4 @@
+pub mod Counts
+pub mod EachLemmas
+pub mod ThreadCounts
+pub mod Texts

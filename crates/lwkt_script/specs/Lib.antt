@@ -1,0 +1,5 @@
+pub mod Outcome
+pub mod Field
+pub mod Member
+pub mod Step
+pub mod Format

@@ -1,0 +1,16 @@
+//! Reads a script: the tokens, messages and threads of a run, and what each thread asks for.
+#![tactic(auto)]
+
+mod fields;
+mod growth;
+mod messages;
+mod parts;
+mod readers;
+mod scripts;
+mod steps;
+mod threads;
+mod tokens;
+
+pub use parts::Parts;
+pub use readers::read_script;
+pub use scripts::{Script, ThreadSpec};

@@ -1,0 +1,35 @@
+ghost use Rattle.std.specs.Prelude.{◌≡◌, List};
+
+use std::marker::Model;
+
+/// The parts of one kind of a script, in order. Made from a vector, and given back as one, without taking memory.
+#[derive(Debug, Drop)]
+pub struct Parts<T> {
+    items: Vec<T>,
+}
+
+impl<T> Model for Parts<T> {
+    ghost Value = { List T };
+
+    ghost view = { λ p. p.items.items };
+}
+
+impl<T> Parts<T> {
+    pub fn from_vec(items: Vec<T>) -> Self
+        ensures { result ≡ items.items }
+    {
+        Parts { items }
+    }
+
+    pub fn into_vec(self) -> Vec<T>
+        ensures { result.items ≡ self }
+    {
+        self.items
+    }
+
+    pub fn as_slice(&self) -> &[T]
+        ensures { result.now ≡ self.now }
+    {
+        self.items.as_slice()
+    }
+}

@@ -1,0 +1,77 @@
+ghost use Rattle.std.specs.Prelude.{◌≡◌, ◌<◌, ◌≤◌, [], length, IfOk};
+ghost use Rattle.serde_json.specs.View.{view, items_view};
+ghost use Rattle.lwkt_script.specs.Outcome.{Gives, each};
+ghost use Rattle.lwkt_script.specs.Format.{threads_on, has_room, thread};
+
+use crate::fields::{has_members, list_at, number_at};
+use crate::growth::push;
+use crate::parts::Parts;
+use crate::scripts::ThreadSpec;
+use crate::steps::steps_of;
+use lwkt_base::{CpuId, Fault};
+use serde_json::Value;
+use std::alloc::Global;
+
+const STEP_LIMIT: usize = 256;
+
+const THREAD_LIMIT: usize = 16;
+
+const MOST_REPEATS: u64 = 1_000_000;
+
+// How many of these threads are of a processor.
+fn threads_on(cpu: u8, threads: &[ThreadSpec]) -> usize
+    ensures { result ≡ threads_on cpu threads.now }
+{
+    threads.iter().filter(|t| t.cpu.0 == cpu).count()
+}
+
+// Whether a thread of a processor may have so many steps and come after those.
+fn has_room(before: &[ThreadSpec], cpu: u8, steps: usize) -> bool
+    ensures { result ≡ has_room before.now cpu steps }
+{
+    steps <= STEP_LIMIT && threads_on(cpu, before) < THREAD_LIMIT
+}
+
+// The thread after those.
+#[tactic(auto, using(crate::proofs::Counts::items_counted), unfolding(crate::specs::Format::thread))]
+fn thread(
+    alloc: Global,
+    cpus: u8,
+    before: &[ThreadSpec],
+    value: &Value,
+) -> Result<ThreadSpec, Fault>
+    requires cpus { 0 < cpus }
+    requires few { length before.now ≤ 128 }
+    ensures exact { Gives (λ t. t) result (thread cpus before.now (view value.now)) }
+    ensures within { IfOk result (λ t. (t.cpu.0 < cpus) × (threads_on t.cpu.0 before.now < 16)) }
+{
+    let place = 3000 + before.len() as u32;
+    if !has_members(value, 3) {
+        return Err(Fault::Script { place });
+    }
+    let cpu = number_at(place, value, "cpu", 0, cpus as u64 - 1)? as u8;
+    let repeat = number_at(place, value, "repeat", 1, MOST_REPEATS)? as u32;
+    let items = list_at(place, value, "steps")?;
+    if !has_room(before, cpu, items.len()) {
+        return Err(Fault::Script { place });
+    }
+    let steps = steps_of(alloc, before.len() as u32, items.as_slice())?;
+    Ok(ThreadSpec {
+        cpu: CpuId(cpu),
+        repeat,
+        steps: Parts::from_vec(steps),
+    })
+}
+
+pub fn threads_of(alloc: Global, cpus: u8, items: &[Value]) -> Result<Vec<ThreadSpec>, Fault>
+    requires some { 0 < cpus }
+    requires few { cpus ≤ 8 }
+    ensures { Gives (λ v. v.items) result (each (thread cpus) [] (items_view items.now)) }
+{
+    let mut threads = Vec::new(alloc);
+    for item in items {
+        let next = thread(alloc, cpus, threads.as_slice(), item)?;
+        push(&mut threads, next)?;
+    }
+    Ok(threads)
+}

@@ -1,0 +1,103 @@
+ghost use Rattle.std.specs.Prelude.{◌≡◌, []};
+ghost use Rattle.serde_json.specs.View.{view, items_view};
+ghost use Rattle.lwkt_script.specs.Outcome.{Gives, each};
+ghost use Rattle.lwkt_script.specs.Member.{law_of, law_in, allows};
+ghost use Rattle.lwkt_script.specs.Format.{cell, token_at, token};
+
+use crate::fields::{has_members, list_at, number_at};
+use crate::growth::push;
+use lwkt_base::{Cells, Fault, Law, TokSpec};
+use serde_json::Value;
+use std::alloc::Global;
+
+const TOKEN_LIMIT: usize = 64;
+
+const LAST_GENERATION: u64 = 70_368_744_177_663;
+
+fn law_of(name: &str) -> Option<Law>
+    ensures { result ≡ law_of name.now }
+{
+    match name {
+        "any" => Some(Law::Any),
+        "sum" => Some(Law::Sum),
+        "order" => Some(Law::Order),
+        "cap" => Some(Law::Cap),
+        "tally" => Some(Law::Tally),
+        _ => None,
+    }
+}
+
+fn law_in(value: &Value) -> Option<Law>
+    ensures { result ≡ law_in (view value.now) }
+{
+    law_of(value.get("law")?.as_str()?)
+}
+
+// Whether a token under this law may have so many cells.
+fn allows(law: Law, count: usize) -> bool
+    ensures { result ≡ allows law count }
+{
+    match law {
+        Law::Tally => count == 1,
+        _ => count <= 4,
+    }
+}
+
+fn cells_of(alloc: Global, place: u32, items: &[Value]) -> Result<Vec<u64>, Fault>
+    ensures { Gives (λ v. v.items) result (each (cell place) [] (items_view items.now)) }
+{
+    let mut cells = Vec::new(alloc);
+    for item in items {
+        let Some(cell) = item.as_u64() else {
+            return Err(Fault::Script { place });
+        };
+        push(&mut cells, cell)?;
+    }
+    Ok(cells)
+}
+
+#[tactic(auto, using(crate::proofs::Counts::items_counted), unfolding(crate::specs::Format::token_at))]
+fn token_at(alloc: Global, place: u32, value: &Value) -> Result<TokSpec, Fault>
+    ensures { Gives (λ t. t) result (token_at place (view value.now)) }
+{
+    if !has_members(value, 4) {
+        return Err(Fault::Script { place });
+    }
+    let items = list_at(place, value, "cells")?;
+    let Some(law) = law_in(value) else {
+        return Err(Fault::Script { place });
+    };
+    if !allows(law, items.len()) {
+        return Err(Fault::Script { place });
+    }
+    let param = number_at(place, value, "param", 0, u64::MAX)?;
+    let generation = number_at(place, value, "gen", 0, LAST_GENERATION)?;
+    let cells = Cells::from_vec(cells_of(alloc, place, items.as_slice())?);
+    Ok(TokSpec {
+        cells,
+        law,
+        param,
+        generation,
+    })
+}
+
+// The token after those.
+fn token(alloc: Global, before: &[TokSpec], value: &Value) -> Result<TokSpec, Fault>
+    ensures { Gives (λ t. t) result (token before.now (view value.now)) }
+{
+    if before.len() >= TOKEN_LIMIT {
+        return Err(Fault::Script { place: 1064 });
+    }
+    token_at(alloc, 1000 + before.len() as u32, value)
+}
+
+pub fn tokens_of(alloc: Global, items: &[Value]) -> Result<Vec<TokSpec>, Fault>
+    ensures { Gives (λ v. v.items) result (each token [] (items_view items.now)) }
+{
+    let mut tokens = Vec::new(alloc);
+    for item in items {
+        let next = token(alloc, tokens.as_slice(), item)?;
+        push(&mut tokens, next)?;
+    }
+    Ok(tokens)
+}
