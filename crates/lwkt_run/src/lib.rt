@@ -1,0 +1,10 @@
+//! Runs a script: reads it, makes its turns over a plain machine, checks what was made, and writes the report.
+#![tactic(auto)]
+
+mod bodies;
+mod desks;
+mod machines;
+mod threads;
+
+pub use lwkt_report::{RunFault, Verdict};
+pub use lwkt_script::{Script, read_script};
