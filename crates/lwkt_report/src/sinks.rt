@@ -44,8 +44,7 @@ pub trait Sink {
         ensures fits { has_room self.old 0 → IsOk result };
 }
 
-/// Any writer, which is not called again once a call of it has failed. A write that was interrupted, or that takes no
-/// byte of some, has failed.
+/// Any writer. A write that was interrupted, or that takes no byte of some, has failed; it is not made again.
 #[derive(Debug, Drop)]
 pub struct WriterSink<W> {
     pub writer: W,
@@ -70,9 +69,6 @@ impl<W: Write> Sink for WriterSink<W> {
     ghost has_failed = { λ sink. sink.failed };
 
     fn put(&mut self, bytes: &[u8]) -> Result<usize, StreamError> {
-        if self.failed {
-            return Err(StreamError);
-        }
         match self.writer.write(bytes) {
             Ok(count) if count > 0 || bytes.is_empty() => Ok(count),
             _ => {
@@ -83,9 +79,6 @@ impl<W: Write> Sink for WriterSink<W> {
     }
 
     fn flush(&mut self) -> Result<(), StreamError> {
-        if self.failed {
-            return Err(StreamError);
-        }
         match self.writer.flush() {
             Ok(()) => Ok(()),
             Err(_) => {

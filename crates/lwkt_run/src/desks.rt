@@ -1,5 +1,6 @@
-use lwkt_base::{CpuId, Fault, Mode, Ref, TokId, TokList};
+use lwkt_base::{CpuId, Mode, Ref, TokId, TokList};
 use lwkt_core::{Event, State};
+use std::alloc::AllocError;
 
 /// The one processor of a plain machine.
 pub const CPU: CpuId = CpuId(0);
@@ -15,18 +16,14 @@ pub struct Desk {
 }
 
 impl Desk {
-    // Makes the event happen and says so, or says that it can't. `Memory` if the trace can't grow.
-    fn make(&mut self, event: Event) -> Result<bool, Fault> {
-        if self.trace.reserve(1).is_err() {
-            return Err(Fault::Memory);
-        }
+    // Makes the event happen and says so, or says that it can't.
+    fn make(&mut self, event: Event) -> Result<bool, AllocError> {
+        self.trace.reserve(1)?;
         if self.state.step(&event).is_err() {
             return Ok(false);
         }
-        match self.trace.push(event) {
-            Ok(()) => Ok(true),
-            Err(_) => Err(Fault::Memory),
-        }
+        self.trace.push(event)?;
+        Ok(true)
     }
 
     /// Whether there is such a token.
@@ -35,7 +32,7 @@ impl Desk {
     }
 
     /// Takes a reference; `held` says whether the processor has one to this token. False at the last generation.
-    pub fn take(&mut self, new: Ref, held: bool) -> Result<bool, Fault> {
+    pub fn take(&mut self, new: Ref, held: bool) -> Result<bool, AllocError> {
         let tok = new.tok;
         if held {
             return self.make(Event::Again { cpu: CPU, tok });
@@ -47,7 +44,7 @@ impl Desk {
     }
 
     // Stores the first value of a cell again, if the cell has another one.
-    fn restore_cell(&mut self, tok: TokId, cell: u8) -> Result<(), Fault> {
+    fn restore_cell(&mut self, tok: TokId, cell: u8) -> Result<(), AllocError> {
         let Some(value) = self.state.first(tok, cell) else {
             return Ok(());
         };
@@ -63,7 +60,7 @@ impl Desk {
     }
 
     // Ends a section whose law is broken: its first row is stored again, and the token given back clean.
-    fn restore(&mut self, tok: TokId) -> Result<(), Fault> {
+    fn restore(&mut self, tok: TokId) -> Result<(), AllocError> {
         for cell in 0..CELL_LIMIT {
             self.restore_cell(tok, cell)?;
         }
@@ -72,7 +69,7 @@ impl Desk {
     }
 
     /// Gives back a reference that the processor has, and says whether the section's law held at its end.
-    pub fn give(&mut self, tok: TokId) -> Result<bool, Fault> {
+    pub fn give(&mut self, tok: TokId) -> Result<bool, AllocError> {
         let kept = self.make(Event::GiveOne { cpu: CPU, tok })?
             || self.make(Event::GiveClean { cpu: CPU, tok })?
             || self.make(Event::GiveWritten { cpu: CPU, tok })?;
@@ -83,7 +80,7 @@ impl Desk {
     }
 
     /// Gives back the references of a list, the last first, and says whether each section's law held at its end.
-    pub fn block(&mut self, refs: &[Ref]) -> Result<bool, Fault> {
+    pub fn block(&mut self, refs: &[Ref]) -> Result<bool, AllocError> {
         let mut kept = true;
         for r in refs.iter().rev() {
             if !self.give(r.tok)? {
@@ -94,7 +91,7 @@ impl Desk {
     }
 
     /// Takes the references of a list, the first first, or none of them if one is at its last generation.
-    pub fn resume(&mut self, list: &TokList) -> Result<bool, Fault> {
+    pub fn resume(&mut self, list: &TokList) -> Result<bool, AllocError> {
         let refs = list.refs();
         for (i, r) in refs.iter().enumerate() {
             let held = refs[..i].iter().any(|earlier| earlier.tok == r.tok);
@@ -107,7 +104,7 @@ impl Desk {
     }
 
     /// The value of a cell, as an event.
-    pub fn read(&mut self, tok: TokId, cell: u8, value: u64) -> Result<bool, Fault> {
+    pub fn read(&mut self, tok: TokId, cell: u8, value: u64) -> Result<bool, AllocError> {
         self.make(Event::Read {
             cpu: CPU,
             tok,
@@ -117,7 +114,7 @@ impl Desk {
     }
 
     /// A value for a cell.
-    pub fn write(&mut self, tok: TokId, cell: u8, value: u64) -> Result<bool, Fault> {
+    pub fn write(&mut self, tok: TokId, cell: u8, value: u64) -> Result<bool, AllocError> {
         self.make(Event::Write {
             cpu: CPU,
             tok,

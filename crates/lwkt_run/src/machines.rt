@@ -1,6 +1,7 @@
 use crate::desks::Desk;
 use crate::threads::Thread;
 use lwkt_base::{Fault, ThreadState};
+use std::alloc::AllocError;
 
 /// What a turn did.
 #[derive(Clone, Copy, PartialEq, Eq)]
@@ -16,8 +17,8 @@ pub enum Turn {
 /// A plain machine of one processor, with its threads.
 #[derive(Drop)]
 pub struct Machine {
-    pub desk: Desk,
-    pub threads: Vec<Thread>,
+    desk: Desk,
+    threads: Vec<Thread>,
     running: Option<usize>,
     cursor: usize,
 }
@@ -38,7 +39,7 @@ impl Machine {
     }
 
     // Lets the thread run if it is ready and its tokens can be held.
-    fn try_thread(&mut self, place: usize) -> Result<(), Fault> {
+    fn try_thread(&mut self, place: usize) -> Result<(), AllocError> {
         let Some(thread) = self.threads.get_mut(place) else {
             return Ok(());
         };
@@ -56,7 +57,7 @@ impl Machine {
     }
 
     // Tries the ready threads from the cursor on, round once, until one runs.
-    fn choose(&mut self) -> Result<(), Fault> {
+    fn choose(&mut self) -> Result<(), AllocError> {
         let count = self.threads.len();
         let first = self.cursor;
         for step in 0..count {
@@ -70,7 +71,7 @@ impl Machine {
 
     /// One turn: if no thread is running, the first ready one from the cursor on whose tokens can be held runs; then the
     /// running thread's body is polled once, and what it asks is performed.
-    pub fn turn(&mut self) -> Result<Turn, Fault> {
+    pub fn turn(&mut self) -> Result<Turn, AllocError> {
         if self.running.is_none() {
             self.choose()?;
         }
@@ -91,7 +92,7 @@ impl Machine {
     }
 
     /// So many turns, or fewer if every thread has ended.
-    pub fn drive(&mut self, turns: u32) -> Result<(), Fault> {
+    pub fn drive(&mut self, turns: u32) -> Result<(), AllocError> {
         for _turn in 0..turns {
             if self.turn()? == Turn::AllExited {
                 break;
@@ -100,14 +101,12 @@ impl Machine {
         Ok(())
     }
 
-    /// The running thread gives up its tokens.
-    pub fn stop(&mut self) -> Result<(), Fault> {
-        if let Some(place) = self.running {
-            if let Some(thread) = self.threads.get_mut(place) {
-                thread.block(&mut self.desk, ThreadState::Exited)?;
-            }
+    /// Ends the machine: the running thread gives up its tokens. The threads are as they were before that.
+    pub fn stop(mut self) -> Result<(Desk, Vec<Thread>), AllocError> {
+        if let Some(thread) = self.running.and_then(|place| self.threads.get(place)) {
+            self.desk.block(thread.list.refs())?;
         }
-        self.running = None;
-        Ok(())
+        let Machine { desk, threads, .. } = self;
+        Ok((desk, threads))
     }
 }

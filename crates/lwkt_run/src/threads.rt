@@ -1,6 +1,7 @@
 use crate::bodies::ScriptBody;
 use crate::desks::{CPU, Desk};
 use lwkt_base::{Answer, Ask, Fault, Mode, Ref, ThreadState, TokId, TokList};
+use std::alloc::AllocError;
 
 /// A thread of a plain machine.
 #[derive(Drop)]
@@ -39,7 +40,7 @@ impl Thread {
     }
 
     /// Polls the body once, which runs, and performs what it asks.
-    pub fn run(&mut self, desk: &mut Desk) -> Result<(), Fault> {
+    pub fn run(&mut self, desk: &mut Desk) -> Result<(), AllocError> {
         let ask = self.body.poll(self.answer);
         match self.perform(desk, ask)? {
             Outcome::Runs(answer) => {
@@ -52,7 +53,7 @@ impl Thread {
 
     /// Gives up all tokens. The thread is then in this state, or faulted if a law was broken; its list stays if it goes
     /// on later.
-    pub fn block(&mut self, desk: &mut Desk, state: ThreadState) -> Result<(), Fault> {
+    pub fn block(&mut self, desk: &mut Desk, state: ThreadState) -> Result<(), AllocError> {
         let kept = desk.block(self.list.refs())?;
         self.answer = Answer::Done;
         self.state = if kept {
@@ -72,7 +73,7 @@ impl Thread {
         self.list = TokList::new();
     }
 
-    fn perform(&mut self, desk: &mut Desk, ask: Ask) -> Result<Outcome, Fault> {
+    fn perform(&mut self, desk: &mut Desk, ask: Ask) -> Result<Outcome, AllocError> {
         let answer = match ask {
             Ask::Get(tok) | Ask::TryGet(tok) => self.get(desk, tok, Mode::Exclusive)?,
             Ask::GetShared(tok) => self.get(desk, tok, Mode::Shared)?,
@@ -90,7 +91,7 @@ impl Thread {
     }
 
     // One reference more. Nobody else runs on the one processor, so it is never busy.
-    fn get(&mut self, desk: &mut Desk, tok: TokId, mode: Mode) -> Result<Answer, Fault> {
+    fn get(&mut self, desk: &mut Desk, tok: TokId, mode: Mode) -> Result<Answer, AllocError> {
         if !desk.has(tok) {
             return Ok(Answer::Refused(Fault::NoToken));
         }
@@ -106,7 +107,7 @@ impl Thread {
         Ok(Answer::Refused(Fault::Worn))
     }
 
-    fn rel(&mut self, desk: &mut Desk, tok: TokId) -> Result<Answer, Fault> {
+    fn rel(&mut self, desk: &mut Desk, tok: TokId) -> Result<Answer, AllocError> {
         if let Err(fault) = self.list.pop(tok) {
             return Ok(Answer::Refused(fault));
         }
@@ -117,7 +118,7 @@ impl Thread {
         }
     }
 
-    fn read(&mut self, desk: &mut Desk, tok: TokId, cell: u8) -> Result<Answer, Fault> {
+    fn read(&mut self, desk: &mut Desk, tok: TokId, cell: u8) -> Result<Answer, AllocError> {
         if !desk.has(tok) {
             return Ok(Answer::Refused(Fault::NoToken));
         }
@@ -146,7 +147,7 @@ impl Thread {
         tok: TokId,
         cell: u8,
         value: u64,
-    ) -> Result<Answer, Fault> {
+    ) -> Result<Answer, AllocError> {
         if !desk.has(tok) {
             return Ok(Answer::Refused(Fault::NoToken));
         }
@@ -163,7 +164,7 @@ impl Thread {
         Ok(Answer::Done)
     }
 
-    fn add(&mut self, desk: &mut Desk, tok: TokId, more: u64) -> Result<Answer, Fault> {
+    fn add(&mut self, desk: &mut Desk, tok: TokId, more: u64) -> Result<Answer, AllocError> {
         let Some(old) = desk.state.cell(tok, 0) else {
             return Ok(Answer::Refused(self.cell_refusal(desk, tok)));
         };

@@ -1,0 +1,144 @@
+use Rattle.std.specs.Global.{Global}
+use Rattle.std.specs.Prelude.{codes, length, All, string_bytes, String, ◌≡◌, ◌≢◌, ◌⊎◌, ℕ, Bool, true, false, List, [], map, take, Option, None, Some, is_some, unwrap_or, IfSome, Result, Ok, Err}
+use Rattle.std.specs.List.{list_all}
+use Rattle.std.specs.Io.KnownBytes.{Appends, Keeps}
+use Rattle.lwkt_base.specs.declared.laws.Law.{Law}
+use Rattle.lwkt_base.specs.declared.laws.Law.TheVariants.{Any, Sum, Order, Cap, Tally}
+use Rattle.lwkt_base.specs.declared.faults.Fault.{Fault as Refusal}
+use Rattle.lwkt_base.specs.declared.faults.Fault.TheVariants.{Script as ScriptFault, Memory, Limits, LawBroken}
+use Rattle.lwkt_base.specs.declared.threads.ThreadState.{ThreadState}
+use Rattle.lwkt_base.specs.declared.threads.ThreadState.TheVariants.{Ready, Waiting, Running, Exited, Faulted}
+use Rattle.lwkt_core.specs.declared.events.Event.{Event}
+use Rattle.lwkt_core.specs.declared.finals.Final.{Final}
+use Rattle.lwkt_core.specs.Machine.{Machine}
+use Rattle.lwkt_core.specs.Opening.{opening, AreWithin, AllOpenLawfully}
+use Rattle.lwkt_core.specs.Trace.{IsLawfulTrace}
+use Rattle.lwkt_report.specs.declared.closings.Closing.{Closing}
+use Rattle.lwkt_report.specs.declared.closings.Verdict.{Verdict}
+use Rattle.lwkt_report.specs.declared.closings.Verdict.TheVariants.{Closed, Lawful, Unlawful}
+use Rattle.lwkt_report.specs.declared.complaints.Complaint.{Complaint}
+use Rattle.lwkt_report.specs.declared.complaints.Complaint.TheVariants.{Usage, Fault as FaultLine, Stream as StreamLine}
+use Rattle.lwkt_report.specs.declared.streams.RunFault.{RunFault}
+use Rattle.lwkt_report.specs.declared.streams.RunFault.TheVariants.{Fault, Stream}
+use Rattle.lwkt_report.specs.declared.sources.TheConstants.{READ_LIMIT}
+use Rattle.lwkt_report.specs.Report.{report_text}
+use Rattle.lwkt_report.specs.Stream.{AppendsFront}
+use Rattle.lwkt_report.specs.Complaint.{fault_line}
+use Rattle.lwkt_script.specs.declared.scripts.Script.{Script}
+use Rattle.lwkt_script.specs.Format.{script_of}
+use Rattle.lwkt_run.specs.declared.runs.End.{End}
+use Rattle.lwkt_run.specs.declared.runs.End.TheVariants.{Ended, TurnsOut, Unlawful as UnlawfulEnd}
+
+-- whether a law keeps tallies
+abbrev pub is_tally : Law → Bool
+is_tally Tally = true
+is_tally Any = false
+is_tally Sum = false
+is_tally Order = false
+is_tally Cap = false
+
+-- the machine at the opening of a script
+abbrev pub opening_of : Script → Machine
+opening_of script = opening script.cpus script.tokens script.messages
+
+-- the token and message lines of a report show these closing values
+pub record Shows (closing : Closing) (last : Final) : Type 0 where
+  pub rows : last.rows.items ≡ map (λ line. line.cells) closing.tokens.items
+  pub gens : last.gens.items ≡ map (λ line. line.generation) closing.tokens.items
+  pub tallies : last.tallies.items ≡ map (λ line. unwrap_or line.tallies []) closing.tokens.items
+  pub messages : last.messages.items ≡ closing.messages.items
+
+-- a lawful trace leads from the opening to the values shown
+abbrev pub HasTrace : Machine → Closing → Type 0
+HasTrace m closing = (trace : List Event) × ((last : Final) × (IsLawfulTrace m trace last × Shows closing last))
+
+-- the values may be those of a run of the script: its opening was accepted, a tally line stands exactly under a Tally token,
+-- and `lawful` only where a lawful trace leads from the opening to the values shown (own)
+pub record MayClose (script : Script) (closing : Closing) : Type 0 where
+  pub within : AreWithin script.cpus script.tokens script.messages
+  pub lawful_opening : AllOpenLawfully script.tokens
+  pub kinds : map (λ line. is_some line.tallies) closing.tokens.items ≡ map (λ spec. is_tally spec.law) script.tokens
+  pub judged : closing.verdict ≢ Closed
+  pub lawful : closing.verdict ≡ Lawful → HasTrace (opening_of script) closing
+
+-- whether a thread has ended
+abbrev pub has_ended : ThreadState → Bool
+has_ended Ready = false
+has_ended Waiting = false
+has_ended Running = false
+has_ended Exited = true
+has_ended (Faulted fault) = true
+
+-- how a run ended by what its report says: unlawful, or with every thread ended, or with its turns used up
+abbrev pub end_by : Verdict → Bool → End
+end_by (Unlawful index) all = UnlawfulEnd
+end_by Closed true = Ended
+end_by Closed false = TurnsOut
+end_by Lawful true = Ended
+end_by Lawful false = TurnsOut
+
+abbrev pub end_of : Closing → End
+end_of closing = end_by closing.verdict (list_all (λ line. has_ended line.state) closing.threads.items)
+
+-- these bytes are a script, and a run of it may end so, with this report
+pub record HasRun (bytes : List ℕ) (end : End) (text : List ℕ) : Type 0 where
+  pub script : Script
+  pub read : script_of bytes ≡ Ok script
+  pub closing : Closing
+  pub closes : MayClose script closing
+  pub is_text : text ≡ report_text closing
+  pub is_end : end ≡ end_of closing
+
+-- why a run of this script is refused
+abbrev pub Declines : Script → Refusal → Type 0
+Declines script Memory = Unit {0}
+Declines script Limits = ¬ AreWithin script.cpus script.tokens script.messages
+Declines script LawBroken = AreWithin script.cpus script.tokens script.messages × ¬ AllOpenLawfully script.tokens
+Declines script _ = ⊥
+
+-- why a run of these bytes is refused
+abbrev pub Refuses : List ℕ → Refusal → Type 0
+Refuses bytes (ScriptFault place) = script_of bytes ≡ Err place
+Refuses bytes Memory = Unit {0}
+Refuses bytes Limits = (script : Script) × ((script_of bytes ≡ Ok script) × Declines script Limits)
+Refuses bytes LawBroken = (script : Script) × ((script_of bytes ≡ Ok script) × Declines script LawBroken)
+Refuses bytes _ = ⊥
+
+-- these are the bytes that are read of a source that has so many left, where that is known
+abbrev pub AreRead : Option (List ℕ) → List ℕ → Type 0
+AreRead left bytes = IfSome left (λ all. bytes ≡ take READ_LIMIT all)
+
+-- what a run says by its answer, of what was left to read and of what was written before and after it: the report of a run
+-- of the script that was read; or nothing written, and why; or, where a stream failed, a front of such a report
+abbrev pub Tells : Option (List ℕ) → Option (List ℕ) → Option (List ℕ) → Result End RunFault → Type 0
+Tells left old new (Ok end) = (bytes : List ℕ) × (AreRead left bytes × ((text : List ℕ) × (HasRun bytes end text × Appends old new text)))
+Tells left old new (Err (Fault fault)) = Keeps old new × ((bytes : List ℕ) × (AreRead left bytes × Refuses bytes fault))
+Tells left old new (Err Stream) = Keeps old new ⊎ ((bytes : List ℕ) × (AreRead left bytes × ((end : End) × ((text : List ℕ) × (HasRun bytes end text × AppendsFront old new text)))))
+
+-- the exit status of the program (own)
+abbrev pub status_of : Result End RunFault → ℕ
+status_of (Ok Ended) = 0
+status_of (Ok TurnsOut) = 2
+status_of (Ok UnlawfulEnd) = 4
+status_of (Err (Fault Memory)) = 3
+status_of (Err (Fault _)) = 1
+status_of (Err Stream) = 3
+
+-- what is said in place of a report
+abbrev pub complaint_of : RunFault → Complaint
+complaint_of (Fault fault) = FaultLine fault
+complaint_of Stream = StreamLine
+
+-- what the program writes after a run: nothing more after a whole report, else a front of the fault line, all of it unless
+-- writing it failed
+abbrev pub Closes : Option (List ℕ) → Option (List ℕ) → Result End RunFault → Type 0
+Closes old new (Ok end) = Keeps old new
+Closes old new (Err fault) = AppendsFront old new (fault_line (complaint_of fault))
+
+-- what the program does where its one argument is right: it runs, answers the status and writes the line
+abbrev pub RunsAs : Option (List ℕ) → Option (List ℕ) → Option (List ℕ) → ℕ → Type 0
+RunsAs left old new status = (outcome : Result End RunFault) × ((mid : Option (List ℕ)) × (Tells left old mid outcome × (Closes mid new outcome × (status ≡ status_of outcome))))
+
+-- the arguments are the one word `turns`
+abbrev pub AsksTurns : List (String Global) → Type 0
+AsksTurns words = (length words ≡ 1) × All (λ word. string_bytes word ≡ codes "turns") words

@@ -1,0 +1,72 @@
+ghost use Rattle.std.specs.Prelude.{◌≡◌, ◌↔◌, IsTrue};
+ghost use Rattle.lwkt_report.specs.Complaint.{fault_line};
+ghost use Rattle.lwkt_report.specs.Stream.{AppendsFront};
+ghost use Rattle.lwkt_run.specs.Run.{RunsAs, AsksTurns, status_of, Closes};
+
+use crate::runs::{End, run_turns};
+use lwkt_base::Fault;
+use lwkt_report::{Complaint, RunFault, Sink, Source, complaint_line, write_whole};
+use std::alloc::Global;
+
+// The exit status of an outcome.
+fn status_of(outcome: &Result<End, RunFault>) -> u8
+    ensures { result ≡ status_of outcome.now }
+{
+    match outcome {
+        Ok(End::Ended) => 0,
+        Ok(End::TurnsOut) => 2,
+        Ok(End::Unlawful) => 4,
+        Err(RunFault::Fault(Fault::Memory)) | Err(RunFault::Stream) => 3,
+        Err(RunFault::Fault(_)) => 1,
+    }
+}
+
+// Writes the line that stands in place of a report. If that fails, a front of it stands.
+fn complain<K: Sink>(sink: &mut K, complaint: Complaint)
+    ensures { AppendsFront (K.contents sink.old) (K.contents sink.new) (fault_line complaint) }
+{
+    let line = complaint_line(complaint);
+    let _ = write_whole(sink, line.as_bytes());
+}
+
+// Writes the line that an outcome asks for: none after a whole report.
+fn close<K: Sink>(sink: &mut K, outcome: &Result<End, RunFault>)
+    ensures { Closes (K.contents sink.old) (K.contents sink.new) outcome.now }
+{
+    match outcome {
+        Ok(_) => {}
+        Err(RunFault::Fault(fault)) => complain(sink, Complaint::Fault(*fault)),
+        Err(RunFault::Stream) => complain(sink, Complaint::Stream),
+    }
+}
+
+// Whether the arguments are the one word `turns`.
+fn asks_turns(words: &[String]) -> bool
+    ensures { IsTrue result ↔ AsksTurns words.now }
+{
+    words.len() == 1 && words.iter().all(|word| word.as_str() == "turns")
+}
+
+/// The whole program: its arguments without its own name, what it reads and what it writes. The answer is its exit status:
+/// 0 every thread ended; 1 wrong arguments, or a script or opening that was refused; 2 turns used up; 3 want of memory, or a
+/// stream that failed; 4 an unlawful trace. With 1 and 3 one line stands in place of the report, or after a front of it.
+///
+/// The arguments are checked before anything is read.
+pub fn run_program<S: Source, K: Sink>(
+    alloc: Global,
+    words: &[String],
+    source: &mut S,
+    sink: &mut K,
+) -> u8
+    ensures runs { AsksTurns words.now → RunsAs (S.left source.old) (K.contents sink.old) (K.contents sink.new) result }
+    ensures usage { ¬ AsksTurns words.now → (result ≡ 1) × AppendsFront (K.contents sink.old) (K.contents sink.new) (fault_line Complaint.Usage) }
+    ensures unread { ¬ AsksTurns words.now → source.new ≡ source.old }
+{
+    if !asks_turns(words) {
+        complain(sink, Complaint::Usage);
+        return 1;
+    }
+    let outcome = run_turns(alloc, source, sink);
+    close(sink, &outcome);
+    status_of(&outcome)
+}
