@@ -2,7 +2,7 @@ ghost use Rattle.std.specs.Prelude.{◌≡◌, List};
 
 use std::marker::Model;
 
-/// The parts of one kind of a script, in order. Made from a vector, and given back as one, without taking memory.
+/// The parts of one kind of a script, in order.
 #[derive(Debug, Drop)]
 pub struct Parts<T> {
     items: Vec<T>,
@@ -15,18 +15,21 @@ impl<T> Model for Parts<T> {
 }
 
 impl<T> Parts<T> {
+    /// The parts that are the items of a vector. Takes no memory.
     pub fn from_vec(items: Vec<T>) -> Self
         ensures { result ≡ items.items }
     {
         Parts { items }
     }
 
+    /// The parts as a vector. Takes no memory.
     pub fn into_vec(self) -> Vec<T>
         ensures { result.items ≡ self }
     {
         self.items
     }
 
+    /// The parts, the first first.
     pub fn as_slice(&self) -> &[T]
         ensures { result.now ≡ self.now }
     {
