@@ -3,3 +3,4 @@ pub mod Field
 pub mod Member
 pub mod Step
 pub mod Format
+pub mod Limits

@@ -57,7 +57,7 @@ pub fn number_in(value: &Value, name: &str, low: u64, high: u64) -> Option<u64>
 // The member of this name as a whole number within these limits, as part of what stands at a place.
 pub fn number_at(place: u32, value: &Value, name: &str, low: u64, high: u64) -> Result<u64, Fault>
     ensures exact { Gives (λ n. n) result (part place (number_in name.now low high (view value.now))) }
-    ensures within { IfOk result (λ n. n ≤ high) }
+    ensures within { IfOk result (λ n. (low ≤ n) × (n ≤ high)) }
 {
     match number_in(value, name, low, high) {
         Some(n) => Ok(n),

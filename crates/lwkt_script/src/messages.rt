@@ -1,4 +1,4 @@
-ghost use Rattle.std.specs.Prelude.{◌≡◌, ◌<◌, []};
+ghost use Rattle.std.specs.Prelude.{◌≡◌, ◌<◌, ◌≤◌, [], length, IfOk, OnOk};
 ghost use Rattle.serde_json.specs.View.{view, items_view};
 ghost use Rattle.lwkt_script.specs.Outcome.{Gives, each};
 ghost use Rattle.lwkt_script.specs.Member.{thread_of, origin_in};
@@ -57,7 +57,8 @@ fn message_at(cpus: u8, place: u32, value: &Value) -> Result<MsgSpec, Fault>
 // The message after those.
 fn message(cpus: u8, before: &[MsgSpec], value: &Value) -> Result<MsgSpec, Fault>
     requires { 0 < cpus }
-    ensures { Gives (λ m. m) result (message cpus before.now (view value.now)) }
+    ensures exact { Gives (λ m. m) result (message cpus before.now (view value.now)) }
+    ensures within { OnOk result (length before.now < 0) }
 {
     if before.len() >= MESSAGE_LIMIT {
         return Err(Fault::Script { place: 2000 });
@@ -67,7 +68,8 @@ fn message(cpus: u8, before: &[MsgSpec], value: &Value) -> Result<MsgSpec, Fault
 
 pub fn messages_of(alloc: Global, cpus: u8, items: &[Value]) -> Result<Vec<MsgSpec>, Fault>
     requires { 0 < cpus }
-    ensures { Gives (λ v. v.items) result (each (message cpus) [] (items_view items.now)) }
+    ensures exact { Gives (λ v. v.items) result (each (message cpus) [] (items_view items.now)) }
+    ensures within { IfOk result (λ v. length v.items ≤ 0) }
 {
     let mut messages = Vec::new(alloc);
     for item in items {

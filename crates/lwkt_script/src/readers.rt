@@ -1,7 +1,8 @@
-ghost use Rattle.std.specs.Prelude.{◌≡◌, ◌<◌, ◌≤◌, length, Err};
+ghost use Rattle.std.specs.Prelude.{◌≡◌, ◌<◌, ◌≤◌, length, Err, IfOk};
 ghost use Rattle.serde_json.specs.View.{view};
 ghost use Rattle.lwkt_script.specs.Outcome.{Gives};
 ghost use Rattle.lwkt_script.specs.Format.{is_whole, script, script_of};
+ghost use Rattle.lwkt_script.specs.Limits.{IsWithinLimits};
 
 use crate::fields::{has, has_members, list_at, number_at};
 use crate::messages::messages_of;
@@ -34,21 +35,22 @@ fn is_whole(value: &Value) -> bool
 
 #[tactic(auto, unfolding(crate::specs::Format::script))]
 fn script(alloc: Global, value: &Value) -> Result<Script, Fault>
-    ensures { Gives (λ s. s) result (script (view value.now)) }
+    ensures exact { Gives (λ s. s) result (script (view value.now)) }
+    ensures limits { IfOk result IsWithinLimits }
 {
     if !is_whole(value) {
         return Err(Fault::Script { place: 1 });
     }
-    let tokens = list_at(1, value, "tokens")?;
-    let messages = list_at(1, value, "messages")?;
-    let threads = list_at(1, value, "threads")?;
+    let token_items = list_at(1, value, "tokens")?;
+    let message_items = list_at(1, value, "messages")?;
+    let thread_items = list_at(1, value, "threads")?;
     number_at(2, value, "version", 1, 1)?;
     let turns = number_at(3, value, "turns", 1, MOST_TURNS)? as u32;
     let idle = number_at(4, value, "idle", 1, MOST_IDLE)? as u32;
     let cpus = number_at(5, value, "cpus", 1, CPU_LIMIT)? as u8;
-    let tokens = tokens_of(alloc, tokens.as_slice())?;
-    let messages = messages_of(alloc, cpus, messages.as_slice())?;
-    let threads = threads_of(alloc, cpus, threads.as_slice())?;
+    let tokens = tokens_of(alloc, token_items.as_slice())?;
+    let messages = messages_of(alloc, cpus, message_items.as_slice())?;
+    let threads = threads_of(alloc, cpus, thread_items.as_slice())?;
     Ok(Script {
         turns,
         idle,
@@ -62,11 +64,26 @@ fn script(alloc: Global, value: &Value) -> Result<Script, Fault>
 /// Reads a script of version 1: one JSON text of at most 1048576 bytes.
 ///
 /// Refused with `Script` and the place of the first bad part, and with `Memory` only where an allocation was refused;
-/// there is no other fault.
+/// there is no other fault. The places, in the order in which the parts are looked at, numbers counting from 0:
+///
+/// - 0: the text is too long, or no JSON text (nested at most 127 deep).
+/// - 1: it is no object with exactly `version`, `turns`, `idle`, `cpus`, `tokens`, `messages` and `threads`, or one of
+///   the last three is no list.
+/// - 2, 3, 4, 5: `version` isn't 1, `turns` isn't 1 to 1000000, `idle` isn't 1 to 100000000, `cpus` isn't 1.
+/// - 1000 + n: token n, which is 64 where there are more than 64.
+/// - 2000: there is a message.
+/// - 3000 + n: thread n: its members, more than 256 steps, or the 17th thread of its processor.
+/// - 100000 + 1000 * n + j: step j of thread n.
+///
+/// Of a member that stands twice the last one counts. A number with a fraction or an exponent, -0, and a number of
+/// more than 64 bits are no whole numbers.
 #[tactic(auto, unfolding(crate::specs::Format::script_of))]
 pub fn read_script(alloc: Global, bytes: &[u8]) -> Result<Script, Fault>
     // The script that the bytes are, or the place of their first bad part.
     ensures exact { Gives (λ s. s) result (script_of bytes.now) }
+
+    // What each script keeps.
+    ensures limits { IfOk result IsWithinLimits }
 
     // No memory is taken for no bytes or for too many.
     ensures memory { result ≡ Err Fault.Memory → (0 < length bytes.now) × (length bytes.now ≤ 1048576) }

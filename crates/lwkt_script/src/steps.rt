@@ -1,4 +1,4 @@
-ghost use Rattle.std.specs.Prelude.{◌≡◌, ◌≤◌, ◌<◌, length, []};
+ghost use Rattle.std.specs.Prelude.{◌≡◌, ◌≤◌, ◌<◌, length, [], IfOk};
 ghost use Rattle.serde_json.specs.View.{view, items_view};
 ghost use Rattle.lwkt_script.specs.Outcome.{Gives, each};
 ghost use Rattle.lwkt_script.specs.Step.{small_at, whole_at, alone, with_token, with_number, with_cell, asked, ask_of};
@@ -105,7 +105,8 @@ fn ask_of(value: &Value) -> Option<Ask>
 pub fn steps_of(alloc: Global, n: u32, items: &[Value]) -> Result<Vec<Ask>, Fault>
     requires thread { n ≤ 128 }
     requires steps { length items.now ≤ 256 }
-    ensures { Gives (λ v. v.items) result (each (step n) [] (items_view items.now)) }
+    ensures exact { Gives (λ v. v.items) result (each (step n) [] (items_view items.now)) }
+    ensures count { IfOk result (λ v. length v.items ≡ length items.now) }
 {
     let mut asks = Vec::new(alloc);
     for item in items {

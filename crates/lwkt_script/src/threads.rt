@@ -1,7 +1,8 @@
-ghost use Rattle.std.specs.Prelude.{◌≡◌, ◌<◌, ◌≤◌, [], length, IfOk};
+ghost use Rattle.std.specs.Prelude.{◌≡◌, ℕ, All, ◌<◌, ◌≤◌, [], length, IfOk};
 ghost use Rattle.serde_json.specs.View.{view, items_view};
 ghost use Rattle.lwkt_script.specs.Outcome.{Gives, each};
 ghost use Rattle.lwkt_script.specs.Format.{threads_on, has_room, thread};
+ghost use Rattle.lwkt_script.specs.Limits.{IsThread};
 
 use crate::fields::{has_members, list_at, number_at};
 use crate::growth::push;
@@ -43,7 +44,7 @@ fn thread(
     requires cpus { 0 < cpus }
     requires few { length before.now ≤ 128 }
     ensures exact { Gives (λ t. t) result (thread cpus before.now (view value.now)) }
-    ensures within { IfOk result (λ t. (t.cpu.0 < cpus) × (threads_on t.cpu.0 before.now < 16)) }
+    ensures within { IfOk result (λ t. IsThread cpus t × (threads_on t.cpu.0 before.now < 16)) }
 {
     let place = 3000 + before.len() as u32;
     if !has_members(value, 3) {
@@ -66,7 +67,8 @@ fn thread(
 pub fn threads_of(alloc: Global, cpus: u8, items: &[Value]) -> Result<Vec<ThreadSpec>, Fault>
     requires some { 0 < cpus }
     requires few { cpus ≤ 8 }
-    ensures { Gives (λ v. v.items) result (each (thread cpus) [] (items_view items.now)) }
+    ensures exact { Gives (λ v. v.items) result (each (thread cpus) [] (items_view items.now)) }
+    ensures within { IfOk result (λ v. All (IsThread cpus) v.items × ((cpu : ℕ) → threads_on cpu v.items ≤ 16)) }
 {
     let mut threads = Vec::new(alloc);
     for item in items {

@@ -1,8 +1,9 @@
-ghost use Rattle.std.specs.Prelude.{◌≡◌, []};
+ghost use Rattle.std.specs.Prelude.{◌≡◌, ◌<◌, ◌≤◌, [], length, All, IfOk};
 ghost use Rattle.serde_json.specs.View.{view, items_view};
 ghost use Rattle.lwkt_script.specs.Outcome.{Gives, each};
 ghost use Rattle.lwkt_script.specs.Member.{law_of, law_in, allows};
 ghost use Rattle.lwkt_script.specs.Format.{cell, token_at, token};
+ghost use Rattle.lwkt_script.specs.Limits.{IsToken};
 
 use crate::fields::{has_members, list_at, number_at};
 use crate::growth::push;
@@ -44,7 +45,8 @@ fn allows(law: Law, count: usize) -> bool
 }
 
 fn cells_of(alloc: Global, place: u32, items: &[Value]) -> Result<Vec<u64>, Fault>
-    ensures { Gives (λ v. v.items) result (each (cell place) [] (items_view items.now)) }
+    ensures exact { Gives (λ v. v.items) result (each (cell place) [] (items_view items.now)) }
+    ensures count { IfOk result (λ v. length v.items ≡ length items.now) }
 {
     let mut cells = Vec::new(alloc);
     for item in items {
@@ -58,7 +60,8 @@ fn cells_of(alloc: Global, place: u32, items: &[Value]) -> Result<Vec<u64>, Faul
 
 #[tactic(auto, using(crate::proofs::Counts::items_counted), unfolding(crate::specs::Format::token_at))]
 fn token_at(alloc: Global, place: u32, value: &Value) -> Result<TokSpec, Fault>
-    ensures { Gives (λ t. t) result (token_at place (view value.now)) }
+    ensures exact { Gives (λ t. t) result (token_at place (view value.now)) }
+    ensures within { IfOk result IsToken }
 {
     if !has_members(value, 4) {
         return Err(Fault::Script { place });
@@ -83,7 +86,8 @@ fn token_at(alloc: Global, place: u32, value: &Value) -> Result<TokSpec, Fault>
 
 // The token after those.
 fn token(alloc: Global, before: &[TokSpec], value: &Value) -> Result<TokSpec, Fault>
-    ensures { Gives (λ t. t) result (token before.now (view value.now)) }
+    ensures exact { Gives (λ t. t) result (token before.now (view value.now)) }
+    ensures within { IfOk result (λ t. IsToken t × (length before.now < 64)) }
 {
     if before.len() >= TOKEN_LIMIT {
         return Err(Fault::Script { place: 1064 });
@@ -92,7 +96,8 @@ fn token(alloc: Global, before: &[TokSpec], value: &Value) -> Result<TokSpec, Fa
 }
 
 pub fn tokens_of(alloc: Global, items: &[Value]) -> Result<Vec<TokSpec>, Fault>
-    ensures { Gives (λ v. v.items) result (each token [] (items_view items.now)) }
+    ensures exact { Gives (λ v. v.items) result (each token [] (items_view items.now)) }
+    ensures within { IfOk result (λ v. (length v.items ≤ 64) × All IsToken v.items) }
 {
     let mut tokens = Vec::new(alloc);
     for item in items {

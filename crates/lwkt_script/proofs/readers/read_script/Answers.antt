@@ -5,7 +5,7 @@ use Rattle.lwkt_script.proofs.readers.read_script.Goals as goal
 
 pub returns-in-Ok-clause-exact : goal.returns-in-Ok-clause-exact
 returns-in-Ok-clause-exact c =
-    rw (text_read c.args.bytes.now (view c.in-Ok.value) (omega arith) c.in-Ok.ensures.ok.0 c.in-Ok.ensures.ok.1) c.script.ensures
+    rw (text_read c.args.bytes.now (view c.in-Ok.value) (omega arith) c.in-Ok.ensures.ok.0 c.in-Ok.ensures.ok.1) c.script.ensures.exact
 
 pub returns-in-Ok-clause-memory : goal.returns-in-Ok-clause-memory
 returns-in-Ok-clause-memory c = λ _. (read_some c.args.bytes.now (view c.in-Ok.value) c.in-Ok.ensures.ok.1, omega arith)

@@ -1,0 +1,33 @@
+-- The limits that a script keeps (own).
+use Rattle.std.specs.Prelude.{◌≡◌, ℕ, ◌<◌, ◌≤◌, length, All}
+use Rattle.lwkt_base.specs.declared.laws.Law.TheVariants.{Tally}
+use Rattle.lwkt_base.specs.declared.openings.TokSpec.{TokSpec}
+use Rattle.lwkt_script.specs.declared.scripts.Script.{Script}
+use Rattle.lwkt_script.specs.declared.scripts.ThreadSpec.{ThreadSpec}
+use Rattle.lwkt_script.specs.Format.{threads_on}
+
+-- a token that a script may open
+pub record IsToken (t : TokSpec) : Type 0 where
+  pub few_cells : length t.cells ≤ 4
+  pub one_cell : t.law ≡ Tally → length t.cells ≡ 1
+  pub generation : t.generation ≤ 70368744177663
+
+-- a thread that a script of so many processors may have
+pub record IsThread (cpus : ℕ) (t : ThreadSpec) : Type 0 where
+  pub cpu : t.cpu.0 < cpus
+  pub some_repeats : 1 ≤ t.repeat
+  pub few_repeats : t.repeat ≤ 1000000
+  pub few_steps : length t.steps ≤ 256
+
+-- a script within its limits
+pub record IsWithinLimits (s : Script) : Type 0 where
+  pub some_turns : 1 ≤ s.turns
+  pub few_turns : s.turns ≤ 1000000
+  pub some_idle : 1 ≤ s.idle
+  pub few_idle : s.idle ≤ 100000000
+  pub one_cpu : s.cpus ≡ 1
+  pub few_tokens : length s.tokens ≤ 64
+  pub tokens : All IsToken s.tokens
+  pub no_messages : length s.messages ≡ 0
+  pub threads : All (IsThread s.cpus) s.threads
+  pub few_threads : (cpu : ℕ) → threads_on cpu s.threads ≤ 16
