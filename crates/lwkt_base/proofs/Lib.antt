@@ -1,1 +1,2 @@
 pub mod RefsLemmas
+pub mod HoldingLemmas

@@ -6,6 +6,7 @@ pub mod cells;
 pub mod faults;
 pub mod holdings;
 pub mod laws;
+pub mod list_laws;
 pub mod lists;
 pub mod message_words;
 pub mod names;
