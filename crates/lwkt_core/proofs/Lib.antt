@@ -4,3 +4,4 @@ pub mod MachineMoves
 pub mod OpeningLemmas
 pub mod TraceLemmas
 pub mod SeatingLemmas
+pub mod PictureLemmas

@@ -3,6 +3,7 @@
 #![tactic(auto)]
 
 pub mod checks;
+pub mod decisions;
 pub mod events;
 mod finals;
 pub mod messages;
