@@ -1,0 +1,2 @@
+pub mod Draining
+pub mod RelayMoves

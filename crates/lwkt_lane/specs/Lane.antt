@@ -1,0 +1,46 @@
+-- What a contract sees of the two ends of a lane (own).
+use Rattle.std.specs.Prelude.{◌≡◌, ℕ, ◌+◌, List, ◌∷◌, ◌++◌, Option, option_to_list}
+use Rattle.std.specs.Arc.{arc_value}
+use Rattle.crossbeam_queue.specs.Passes.{Pass, view, ruled_capacity}
+use Rattle.lwkt_lane.specs.declared.lines.Log.{Log}
+use Rattle.lwkt_lane.specs.declared.notes.Note.{Note}
+use Rattle.lwkt_lane.specs.declared.outs.LaneOut.{LaneOut}
+use Rattle.lwkt_lane.specs.declared.ins.LaneIn.{LaneIn}
+
+-- the note that waits at the sender for room in the queue, if there is one
+abbrev pub in_hand : LaneOut → Option Note
+in_hand out = out.hand
+
+-- every note pushed so far, the oldest first; a note in hand counts as sent
+abbrev pub sent : LaneOut → List Note
+sent out = (view out.pass).pushed ++ option_to_list (in_hand out)
+
+-- every note popped so far, the oldest first
+abbrev pub received : LaneIn → List Note
+received into = (view into.pass).popped
+
+-- which lane it is: how many notes its queue has room for, and the numbers that tell its queue from every other
+pub record LaneId : Type 0 where
+  pub room : ℕ
+  pub queue : List ℕ
+
+abbrev pub lane_id : ℕ → Pass Note Log → LaneId
+lane_id room pass =
+    let t = pass.table_id in
+    record { room = room; queue = t.words ∷ (t.slots ∷ (t.views_name ∷ (t.atom ∷ (t.block ∷ (t.offset ∷ t.slot_names))))) }
+
+-- the lane of a sending end
+abbrev pub out_lane : LaneOut → LaneId
+out_lane out = lane_id (ruled_capacity (arc_value out.line)) out.pass
+
+-- the lane of a receiving end
+abbrev pub in_lane : LaneIn → LaneId
+in_lane into = lane_id (ruled_capacity (arc_value into.line)) into.pass
+
+-- the two are the ends of one lane
+abbrev pub IsLane : LaneOut → LaneIn → Type 0
+IsLane out into = out_lane out ≡ in_lane into
+
+-- how many notes a lane keeps at most: those of the queue and the one in hand
+abbrev pub lane_capacity : LaneId → ℕ
+lane_capacity lane = lane.room + 1
