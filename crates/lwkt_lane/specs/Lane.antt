@@ -24,6 +24,7 @@ pub record LaneId : Type 0 where
   pub room : ℕ
   pub queue : List ℕ
 
+-- the lane whose queue has room for so many notes, by a pass of that queue
 abbrev pub lane_id : ℕ → Pass Note Log → LaneId
 lane_id room pass =
     let t = pass.table_id in

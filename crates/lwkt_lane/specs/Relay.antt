@@ -5,6 +5,7 @@ use lib.ListN.{get_elem?}
 use Rattle.lwkt_lane.specs.declared.lines.Log.{Log}
 use Rattle.lwkt_lane.specs.declared.notes.Note.{Note}
 
+-- what a pass may do, and what it pushed and popped
 abbrev pub log : Bool → Bool → List Note → List Note → Log
 log pushes pops pushed popped = record { pushes = pushes; pops = pops; pushed = pushed; popped = popped }
 

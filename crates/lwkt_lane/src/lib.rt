@@ -3,7 +3,7 @@
 
 pub mod ins;
 pub mod lanes;
-pub mod lines;
+mod lines;
 pub mod notes;
 pub mod outs;
 

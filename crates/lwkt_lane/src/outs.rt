@@ -30,18 +30,15 @@ impl LaneOut {
         ensures kept { IfSome (in_hand self.new) (λ note. in_hand self.old ≡ Some note) }
         ensures lane { out_lane self.new ≡ out_lane self.old }
     {
-        let Some(note) = self.hand else {
-            return true;
-        };
-        if self
-            .line
-            .push_as::<Pushed, R>(rt, &mut self.pass, note)
-            .is_err()
+        if let Some(note) = self.hand
+            && self
+                .line
+                .push_as::<Pushed, R>(rt, &mut self.pass, note)
+                .is_ok()
         {
-            return false;
+            self.hand = None;
         }
-        self.hand = None;
-        true
+        self.hand.is_none()
     }
 
     /// Sends a note. It goes into the queue at once if that has room, and else stays in hand.
