@@ -21,11 +21,11 @@ impl LaneIn {
 
     /// The oldest note of the queue. None if the queue was empty at one moment of the call; no clause says so, since the
     /// other end may push at any moment.
-    pub fn pop<R: Wait>(&mut self, rt: &R) -> Option<Note>
+    pub fn pop(&mut self, rt: &impl Wait) -> Option<Note>
         ensures received { MatchOption result (received self.new ≡ received self.old)
             (λ note. received self.new ≡ received self.old ++ note ∷ []) }
         ensures lane { in_lane self.new ≡ in_lane self.old }
     {
-        self.line.pop_as::<Popped, R>(rt, &mut self.pass)
+        self.line.pop_as::<Popped, _>(rt, &mut self.pass)
     }
 }

@@ -44,12 +44,7 @@ pub fn lane(alloc: Global, capacity: usize) -> Result<(LaneOut, LaneIn), Fault>
 /// ends of one lane.
 ///
 /// `Memory` if an allocation was refused; the lane is given up then too.
-pub fn settle<R: Wait>(
-    rt: &R,
-    alloc: Global,
-    out: LaneOut,
-    into: LaneIn,
-) -> Result<Vec<Note>, Fault>
+pub fn settle(rt: &impl Wait, alloc: Global, out: LaneOut, into: LaneIn) -> Result<Vec<Note>, Fault>
     requires { IsLane out into }
     ensures rest { IfOk result (λ notes. received into ++ notes.items ≡ sent out) }
     ensures within { IfOk result (λ notes. vec_len notes ≤ lane_capacity (out_lane out)) }
@@ -75,7 +70,7 @@ pub fn settle<R: Wait>(
 }
 
 // Pops every note of a line that no other pass uses.
-fn drain<R: Wait>(rt: &R, line: &Line, pass: &mut Pass<Note, Log>, notes: &mut Vec<Note>)
+fn drain(rt: &impl Wait, line: &Line, pass: &mut Pass<Note, Log>, notes: &mut Vec<Note>)
     requires of_line { IsPassOf line.now pass.old }
     requires alone { ((view pass.old).pushes ≡ true) × ((view pass.old).pops ≡ true) }
     requires empty { notes.old.items ≡ [] }
@@ -84,9 +79,9 @@ fn drain<R: Wait>(rt: &R, line: &Line, pass: &mut Pass<Note, Log>, notes: &mut V
     ensures within { vec_len notes.new ≤ ruled_capacity line.now }
     ensures capacity { vec_capacity notes.old ≤ vec_capacity notes.new }
 {
-    let count = line.len_as::<Drained, R>(rt, pass);
+    let count = line.len_as::<Drained, _>(rt, pass);
     for _turn in 0..count {
-        let Some(note) = line.pop_as::<Drained, R>(rt, pass) else {
+        let Some(note) = line.pop_as::<Drained, _>(rt, pass) else {
             unreachable!()
         };
         notes.push(note).unwrap();

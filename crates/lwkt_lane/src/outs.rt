@@ -24,7 +24,7 @@ impl LaneOut {
 
     /// Moves the note in hand into the queue if that has room, and says whether none is in hand. If so the next `push`
     /// succeeds.
-    pub fn room<R: Wait>(&mut self, rt: &R) -> bool
+    pub fn room(&mut self, rt: &impl Wait) -> bool
         ensures sent { sent self.new ≡ sent self.old }
         ensures value { IsTrue result ↔ (in_hand self.new ≡ None) }
         ensures kept { IfSome (in_hand self.new) (λ note. in_hand self.old ≡ Some note) }
@@ -33,7 +33,7 @@ impl LaneOut {
         if let Some(note) = self.hand
             && self
                 .line
-                .push_as::<Pushed, R>(rt, &mut self.pass, note)
+                .push_as::<Pushed, _>(rt, &mut self.pass, note)
                 .is_ok()
         {
             self.hand = None;
@@ -44,7 +44,7 @@ impl LaneOut {
     /// Sends a note. It goes into the queue at once if that has room, and else stays in hand.
     ///
     /// Refused with `LaneFull` exactly if a note is in hand and finds no room in the queue.
-    pub fn push<R: Wait>(&mut self, rt: &R, note: Note) -> Result<(), Fault>
+    pub fn push(&mut self, rt: &impl Wait, note: Note) -> Result<(), Fault>
         ensures ok { OnOk result (sent self.new ≡ sent self.old ++ note ∷ []) }
         ensures full { OnErr result ((sent self.new ≡ sent self.old) × IsSome (in_hand self.old)
             × (in_hand self.new ≡ in_hand self.old)) }
@@ -57,7 +57,7 @@ impl LaneOut {
         }
         if self
             .line
-            .push_as::<Pushed, R>(rt, &mut self.pass, note)
+            .push_as::<Pushed, _>(rt, &mut self.pass, note)
             .is_err()
         {
             self.hand = Some(note);
