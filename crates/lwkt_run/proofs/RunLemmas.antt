@@ -1,5 +1,4 @@
 use Rattle.std.proofs.Common.{inl, inr, ◌≡◌, ◌⊎◌, ℕ, List, [], take, refl, rules, Option, None, Some, Err, Ok, sym, subst}
-use Rattle.std.specs.Prelude.{Result}
 use Rattle.std.specs.Io.KnownBytes.{Appends, Keeps}
 use Rattle.lwkt_base.specs.declared.faults.Fault.{Fault as Refusal}
 use Rattle.lwkt_base.specs.declared.faults.Fault.TheVariants.{Memory}
@@ -24,8 +23,9 @@ pub tells_unread : (left old : Option (List ℕ)) (fault : RunFault) → (fault 
 tells_unread left old fault why =
     let T : RunFault → Type 0 = λ f. Tells left old old (Err f) in
     elim why [
-      inl is ↦ subst T (sym is) (inl (keeps_itself old))
-    | inr is ↦ subst T (sym is) (keeps_itself old, ((some_read left).0, ((some_read left).1, tt))) ]
+      | inl is ↦ subst T (sym is) (inl (keeps_itself old))
+      | inr is ↦ subst T (sym is) (keeps_itself old, ((some_read left).0, ((some_read left).1, tt)))
+    ]
 
 -- where the bytes are refused nothing is written
 pub tells_refused : (left old : Option (List ℕ)) (bytes read : List ℕ) (fault : Refusal) → read ≡ bytes → AreRead left bytes → Refuses read fault → Tells left old old (Err (Fault fault))

@@ -1,5 +1,5 @@
 use Rattle.std.specs.Global.{Global}
-use Rattle.std.specs.Prelude.{codes, length, All, string_bytes, String, ◌≡◌, ◌≢◌, ◌⊎◌, ℕ, Bool, true, false, List, [], map, take, Option, None, Some, is_some, unwrap_or, IfSome, Result, Ok, Err}
+use Rattle.std.specs.Prelude.{codes, length, All, string_bytes, String, ◌≡◌, ◌≢◌, ◌⊎◌, ℕ, Bool, true, false, List, [], map, take, Option, is_some, unwrap_or, IfSome, Result, Ok, Err}
 use Rattle.std.specs.List.{list_all}
 use Rattle.std.specs.Io.KnownBytes.{Appends, Keeps}
 use Rattle.lwkt_base.specs.declared.laws.Law.{Law}
@@ -17,7 +17,7 @@ use Rattle.lwkt_report.specs.declared.closings.Closing.{Closing}
 use Rattle.lwkt_report.specs.declared.closings.Verdict.{Verdict}
 use Rattle.lwkt_report.specs.declared.closings.Verdict.TheVariants.{Closed, Lawful, Unlawful}
 use Rattle.lwkt_report.specs.declared.complaints.Complaint.{Complaint}
-use Rattle.lwkt_report.specs.declared.complaints.Complaint.TheVariants.{Usage, Fault as FaultLine, Stream as StreamLine}
+use Rattle.lwkt_report.specs.declared.complaints.Complaint.TheVariants.{Fault as FaultLine, Stream as StreamLine}
 use Rattle.lwkt_report.specs.declared.streams.RunFault.{RunFault}
 use Rattle.lwkt_report.specs.declared.streams.RunFault.TheVariants.{Fault, Stream}
 use Rattle.lwkt_report.specs.declared.sources.TheConstants.{READ_LIMIT}

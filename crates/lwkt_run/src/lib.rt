@@ -8,8 +8,7 @@ mod programs;
 mod runs;
 mod threads;
 
-pub use programs::run_program;
-pub use runs::{End, run_turns};
-
 pub use lwkt_report::{RunFault, Verdict};
 pub use lwkt_script::{Script, read_script};
+pub use programs::run_program;
+pub use runs::{End, run_turns};

@@ -150,7 +150,10 @@ fn thread_lines(alloc: Global, threads: Vec<Thread>) -> Result<Vec<ThreadLine>, 
     let mut number = 0u8;
     for thread in threads {
         let Thread {
-            body, list, state, ..
+            body,
+            list,
+            state,
+            ..
         } = thread;
         lines.push(ThreadLine {
             id: ThreadId {
@@ -265,13 +268,7 @@ fn end_of(closing: &Closing) -> End
     let all = all_ended(&closing.threads);
     match closing.verdict {
         Verdict::Unlawful { .. } => End::Unlawful,
-        Verdict::Closed | Verdict::Lawful => {
-            if all {
-                End::Ended
-            } else {
-                End::TurnsOut
-            }
-        }
+        Verdict::Closed | Verdict::Lawful => { if all { End::Ended } else { End::TurnsOut } }
     }
 }
 

@@ -33,10 +33,7 @@ impl Thread {
 
     /// Whether the thread has ended.
     pub fn has_ended(&self) -> bool {
-        matches!(
-            self.state,
-            ThreadState::Exited | ThreadState::Faulted(_)
-        )
+        matches!(self.state, ThreadState::Exited | ThreadState::Faulted(_))
     }
 
     /// Polls the body once, which runs, and performs what it asks.

@@ -1,6 +1,5 @@
 use Rattle.std.proofs.Common.{◌≡◌, [], take, map}
-use Rattle.std.specs.Prelude.{is_some, unwrap_or}
-use Rattle.lwkt_run.specs.Run.{is_tally}
+use Rattle.std.specs.Prelude.{unwrap_or}
 use Rattle.lwkt_run.proofs.runs.all_tallies.Given as goal
 
 abbrev pub invariant-loop-line : goal.invariant-loop-line

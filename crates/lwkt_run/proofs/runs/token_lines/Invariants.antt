@@ -1,5 +1,5 @@
-use Rattle.std.proofs.Common.{◌≡◌, [], take, map}
-use Rattle.std.specs.Prelude.{is_some, unwrap_or}
+use Rattle.std.proofs.Common.{◌≡◌, take, map}
+use Rattle.std.specs.Prelude.{is_some}
 use Rattle.lwkt_run.specs.Run.{is_tally}
 use Rattle.lwkt_run.proofs.runs.token_lines.Given as goal
 
