@@ -1,0 +1,9 @@
+//! The worked rows of the model, and other examples that no contract can say, as tests over the crates below.
+#![tactic(auto)]
+
+#[cfg(test)]
+mod lane_rows;
+#[cfg(test)]
+mod report_rows;
+#[cfg(test)]
+mod script_rows;
