@@ -129,15 +129,18 @@ abbrev pub complaint_of : RunFault → Complaint
 complaint_of (Fault fault) = FaultLine fault
 complaint_of Stream = StreamLine
 
--- what the program writes after a run: nothing more after a whole report, else a front of the fault line, all of it unless
--- writing it failed
-abbrev pub Closes : Option (List ℕ) → Option (List ℕ) → Result End RunFault → Type 0
-Closes old new (Ok end) = Keeps old new
-Closes old new (Err fault) = AppendsFront old new (fault_line (complaint_of fault))
+-- some bytes are written: a front of them, and all of them where the sink has not failed
+abbrev pub IsSaid : Bool → Option (List ℕ) → Option (List ℕ) → List ℕ → Type 0
+IsSaid failed old new bytes = AppendsFront old new bytes × (failed ≡ false → Appends old new bytes)
+
+-- what the program writes after a run: nothing more after a whole report, else the fault line
+abbrev pub Closes : Bool → Option (List ℕ) → Option (List ℕ) → Result End RunFault → Type 0
+Closes failed old new (Ok end) = Keeps old new
+Closes failed old new (Err fault) = IsSaid failed old new (fault_line (complaint_of fault))
 
 -- what the program does where its one argument is right: it runs, answers the status and writes the line
-abbrev pub RunsAs : Option (List ℕ) → Option (List ℕ) → Option (List ℕ) → ℕ → Type 0
-RunsAs left old new status = (outcome : Result End RunFault) × ((mid : Option (List ℕ)) × (Tells left old mid outcome × (Closes mid new outcome × (status ≡ status_of outcome))))
+abbrev pub RunsAs : Bool → Option (List ℕ) → Option (List ℕ) → Option (List ℕ) → ℕ → Type 0
+RunsAs failed left old new status = (outcome : Result End RunFault) × ((mid : Option (List ℕ)) × (Tells left old mid outcome × (Closes failed mid new outcome × (status ≡ status_of outcome))))
 
 -- the arguments are the one word `turns`
 abbrev pub AsksTurns : List (String Global) → Type 0
