@@ -5,3 +5,4 @@ pub mod OpeningLemmas
 pub mod TraceLemmas
 pub mod SeatingLemmas
 pub mod PictureLemmas
+pub mod SafetyLemmas

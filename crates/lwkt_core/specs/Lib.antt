@@ -7,3 +7,4 @@ pub mod Trace
 pub mod Values
 pub mod Picture
 pub mod Seating
+pub mod Safety

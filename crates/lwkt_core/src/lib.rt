@@ -9,6 +9,7 @@ mod finals;
 pub mod messages;
 mod openings;
 mod rules;
+pub mod safety;
 pub mod seats;
 pub mod states;
 pub mod tokens;

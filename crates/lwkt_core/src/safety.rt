@@ -1,0 +1,26 @@
+ghost use Rattle.lwkt_core.specs.Safety.{OpeningsAreSafe, RunsStaySafe, HoldersAreCompatible, UnwrittenRowsAreLawful, SendsAreAnsweredOnce};
+
+/// The law that a machine that was opened within the limits and lawfully is safe.
+pub fn openings_are_safe()
+    ensures { OpeningsAreSafe }
+{}
+
+/// The law that a safe machine stays safe, whatever events happen, in whatever order.
+pub fn runs_stay_safe()
+    ensures { RunsStaySafe }
+{}
+
+/// The law that a safe token has one exclusive holder or only shared ones.
+pub fn holders_are_compatible()
+    ensures { HoldersAreCompatible }
+{}
+
+/// The law that the row of a safe token obeys the token's law where no processor is writing it.
+pub fn unwritten_rows_are_lawful()
+    ensures { UnwrittenRowsAreLawful }
+{}
+
+/// The law that each send of a safe message is taken or dropped at most once, and replied to at most once.
+pub fn sends_are_answered_once()
+    ensures { SendsAreAnsweredOnce }
+{}
