@@ -2,6 +2,10 @@
 #![tactic(auto)]
 
 #[cfg(test)]
+mod base_rows;
+#[cfg(test)]
+mod core_rows;
+#[cfg(test)]
 mod lane_rows;
 #[cfg(test)]
 mod report_rows;

@@ -1,0 +1,602 @@
+//! The core against rows: openings at their limits, verdicts on traces, and events that name what is not there.
+
+use lwkt_base::{
+    Cells, CpuId, Fault, Held, LAST_GENERATION, Law, Mode, MsgEnd, MsgId, MsgSpec, Owner, ThreadId,
+    TokId, TokSpec,
+};
+use lwkt_core::checks::{failure_is_only, failure_refutes};
+use lwkt_core::decisions::{decisions_are_events, pictures_fit};
+use lwkt_core::events::Place;
+use lwkt_core::messages::LAST_ROUND;
+use lwkt_core::{Event, Final, Message, State, Token, check};
+use std::alloc::{AllocError, Global};
+use std::test::Fail;
+
+const P0: CpuId = CpuId(0);
+
+const P1: CpuId = CpuId(1);
+
+const T0: TokId = TokId(0);
+
+const M0: MsgId = MsgId(0);
+
+fn cells(alloc: Global, items: &[u64]) -> Result<Cells, AllocError> {
+    Ok(Cells::from_vec(Vec::from_slice(alloc, items)?))
+}
+
+fn token(
+    alloc: Global,
+    law: Law,
+    param: u64,
+    generation: u64,
+    items: &[u64],
+) -> Result<TokSpec, AllocError> {
+    Ok(TokSpec {
+        cells: cells(alloc, items)?,
+        law,
+        param,
+        generation,
+    })
+}
+
+fn message(cpu: u8, thread: u8, round: u64) -> MsgSpec {
+    MsgSpec {
+        round,
+        origin: ThreadId {
+            cpu: CpuId(cpu),
+            thread,
+        },
+    }
+}
+
+// So many tokens without cells.
+fn bare_tokens(alloc: Global, count: usize) -> Result<Vec<TokSpec>, AllocError> {
+    let mut tokens = Vec::new(alloc);
+    for _i in 0..count {
+        tokens.push(token(alloc, Law::Any, 0, 0, &[])?)?;
+    }
+    Ok(tokens)
+}
+
+// Why an opening is refused, if it is.
+fn refusal(alloc: Global, tokens: &[TokSpec], messages: &[MsgSpec], cpus: usize) -> Option<Fault> {
+    State::open(alloc, tokens, messages, cpus).err()
+}
+
+// Row Opening-Law, and laws at their bounds.
+#[test]
+fn opening_law(rt: HostRuntime) -> Result<(), Fail> {
+    let alloc = rt.alloc();
+    let rows: [(Law, u64, u64, &[u64], Option<Fault>); 15] = [
+        (Law::Sum, 10, 0, &[5, 6], Some(Fault::LawBroken)),
+        (Law::Sum, 11, 0, &[5, 6], None),
+        (Law::Cap, 1, 0, &[2], Some(Fault::LawBroken)),
+        (Law::Order, 0, 0, &[2, 1], Some(Fault::LawBroken)),
+        (Law::Tally, 10, 0, &[9], Some(Fault::LawBroken)),
+        (Law::Tally, 10, 0, &[10], None),
+        (Law::Tally, 10, 0, &[], Some(Fault::Limits)),
+        (Law::Tally, 10, 0, &[10, 10], Some(Fault::Limits)),
+        (Law::Any, 0, 0, &[1, 2, 3, 4], None),
+        (Law::Any, 0, 0, &[1, 2, 3, 4, 5], Some(Fault::Limits)),
+        (Law::Any, 0, LAST_GENERATION, &[], None),
+        (Law::Any, 0, 70_368_744_177_663, &[], None),
+        (Law::Any, 0, 70_368_744_177_664, &[], Some(Fault::Limits)),
+        // A limit is told before a law.
+        (
+            Law::Sum,
+            10,
+            70_368_744_177_664,
+            &[5, 6],
+            Some(Fault::Limits),
+        ),
+        (Law::Sum, 0, 0, &[], None),
+    ];
+    for (law, param, generation, items, want) in rows {
+        let tokens = vec![in alloc; token(alloc, law, param, generation, items)?]?;
+        assert_eq!(rt;
+            refusal(alloc, &tokens, &[], 1),
+            want,
+            "{law:?} {param} {items:?}"
+        );
+    }
+    Ok(())
+}
+
+// Row Book-Basics-6 among them: an origin on processor 2 of 2.
+#[test]
+fn opening_limits(rt: HostRuntime) -> Result<(), Fail> {
+    let alloc = rt.alloc();
+    for (count, cpus, want) in [
+        (0, 0, Some(Fault::Limits)),
+        (0, 1, None),
+        (0, 8, None),
+        (0, 9, Some(Fault::Limits)),
+        (64, 8, None),
+        (65, 8, Some(Fault::Limits)),
+    ] {
+        let tokens = bare_tokens(alloc, count)?;
+        assert_eq!(rt;
+            refusal(alloc, &tokens, &[], cpus),
+            want,
+            "{count} tokens, {cpus} processors"
+        );
+    }
+    for (spec, count, want) in [
+        (message(1, 15, 0), 64, None),
+        (message(1, 15, 0), 65, Some(Fault::Limits)),
+        (message(2, 0, 0), 1, Some(Fault::Limits)),
+        (message(0, 16, 0), 1, Some(Fault::Limits)),
+        (message(0, 0, LAST_ROUND), 1, None),
+        (message(0, 0, 2_251_799_813_685_247), 1, None),
+        (message(0, 0, 2_251_799_813_685_248), 1, Some(Fault::Limits)),
+    ] {
+        let mut messages = Vec::new(alloc);
+        for _i in 0..count {
+            messages.push(spec)?;
+        }
+        assert_eq!(rt;
+            refusal(alloc, &[], &messages, 2),
+            want,
+            "{count} times {spec:?}"
+        );
+    }
+    Ok(())
+}
+
+// What the checker says of a trace of two processors on one token.
+fn token_verdict(
+    alloc: Global,
+    spec: TokSpec,
+    events: &[Event],
+    row: &[u64],
+    generation: u64,
+    tallies: &[u64],
+) -> Result<Result<(), Fault>, Fault> {
+    let specs = vec![in alloc; spec].map_err(|_| Fault::Memory)?;
+    let opening = State::open(alloc, &specs, &[], 2)?;
+    let last = token_final(alloc, row, generation, tallies).map_err(|_| Fault::Memory)?;
+    Ok(check(opening, events, &last))
+}
+
+// The closing values of one token.
+fn token_final(
+    alloc: Global,
+    row: &[u64],
+    generation: u64,
+    tallies: &[u64],
+) -> Result<Final, AllocError> {
+    Ok(Final {
+        rows: vec![in alloc; cells(alloc, row)?]?,
+        gens: vec![in alloc; generation]?,
+        tallies: vec![in alloc; cells(alloc, tallies)?]?,
+        messages: Vec::new(alloc),
+    })
+}
+
+fn take(cpu: CpuId) -> Event {
+    Event::Take { cpu, tok: T0 }
+}
+
+fn share(cpu: CpuId) -> Event {
+    Event::Share { cpu, tok: T0 }
+}
+
+fn again(cpu: CpuId) -> Event {
+    Event::Again { cpu, tok: T0 }
+}
+
+fn give_one(cpu: CpuId) -> Event {
+    Event::GiveOne { cpu, tok: T0 }
+}
+
+fn give_clean(cpu: CpuId) -> Event {
+    Event::GiveClean { cpu, tok: T0 }
+}
+
+fn give_written(cpu: CpuId) -> Event {
+    Event::GiveWritten { cpu, tok: T0 }
+}
+
+fn read(cpu: CpuId, cell: u8, value: u64) -> Event {
+    Event::Read {
+        cpu,
+        tok: T0,
+        cell,
+        value,
+    }
+}
+
+fn write(cpu: CpuId, cell: u8, value: u64) -> Event {
+    Event::Write {
+        cpu,
+        tok: T0,
+        cell,
+        value,
+    }
+}
+
+#[test]
+fn checker_verdicts(rt: HostRuntime) -> Result<(), Fail> {
+    let alloc = rt.alloc();
+    let section = [take(P0), write(P0, 0, 7), give_written(P0)];
+    let open = [take(P0), write(P0, 0, 7)];
+    let crowded = [take(P0), share(P1), write(P0, 0, 7), give_written(P0)];
+    let rows: [(&[Event], u64, Result<(), Fault>); 4] = [
+        (&section, 1, Ok(())),
+        (&section, 0, Err(Fault::Unlawful { index: 3 })),
+        (&open, 0, Err(Fault::Unlawful { index: 2 })),
+        (&crowded, 1, Err(Fault::Unlawful { index: 1 })),
+    ];
+    for (events, generation, want) in rows {
+        let spec = token(alloc, Law::Any, 0, 0, &[0])?;
+        assert_eq!(rt;
+            token_verdict(alloc, spec, events, &[7], generation, &[])?,
+            want,
+            "{events:?}"
+        );
+    }
+    Ok(())
+}
+
+// Each event of a token once where it can happen, and where it can't.
+#[test]
+fn token_events(rt: HostRuntime) -> Result<(), Fail> {
+    let alloc = rt.alloc();
+    let load = Event::Load { cpu: P1, tok: T0 };
+    let mark = Event::Mark { cpu: P1, tok: T0 };
+    let unlawful = |index| Err(Fault::Unlawful { index });
+    let rows: [(&[Event], Result<(), Fault>); 21] = [
+        (&[], Ok(())),
+        (&[load, mark, load], Ok(())),
+        (&[share(P0), share(P1), give_one(P0), give_one(P1)], Ok(())),
+        (&[take(P0), again(P0), give_one(P0), give_clean(P0)], Ok(())),
+        (&[mark, share(P0), read(P0, 0, 5), give_one(P0)], Ok(())),
+        (&[take(P0), read(P0, 1, 6), mark, give_clean(P0)], Ok(())),
+        (
+            &[
+                take(P0),
+                write(P0, 0, 9),
+                read(P0, 0, 9),
+                write(P0, 0, 5),
+                give_clean(P0),
+            ],
+            Ok(()),
+        ),
+        (&[take(P0)], unlawful(1)),
+        (&[share(P0)], unlawful(1)),
+        (&[take(P0), take(P1)], unlawful(1)),
+        (&[take(P0), take(P0)], unlawful(1)),
+        (&[share(P0), take(P0)], unlawful(1)),
+        (&[share(P0), share(P0)], unlawful(1)),
+        (&[share(P0), write(P0, 0, 9)], unlawful(1)),
+        (&[again(P0)], unlawful(0)),
+        (&[take(P0), again(P1)], unlawful(1)),
+        (&[read(P0, 0, 5)], unlawful(0)),
+        (&[take(P0), read(P0, 0, 6)], unlawful(1)),
+        (&[take(P0), give_one(P0)], unlawful(1)),
+        (&[take(P0), give_written(P0)], unlawful(1)),
+        (&[take(P0), write(P0, 0, 9), give_clean(P0)], unlawful(2)),
+    ];
+    for (events, want) in rows {
+        let spec = token(alloc, Law::Any, 0, 3, &[5, 6])?;
+        assert_eq!(rt;
+            token_verdict(alloc, spec, events, &[5, 6], 3, &[])?,
+            want,
+            "{events:?}"
+        );
+    }
+    Ok(())
+}
+
+// Laws and tallies at the end of a section and at the close.
+#[test]
+fn sections_and_tallies(rt: HostRuntime) -> Result<(), Fail> {
+    let alloc = rt.alloc();
+    let added = [take(P1), write(P1, 0, 15), give_written(P1)];
+    let rows: [(&[Event], &[u64], Result<(), Fault>); 4] = [
+        (&added, &[0, 5], Ok(())),
+        (&added, &[5, 0], Err(Fault::Unlawful { index: 3 })),
+        (&added, &[0, 5, 0], Err(Fault::Unlawful { index: 3 })),
+        (
+            &[take(P1), write(P1, 0, 9)],
+            &[0, 0],
+            Err(Fault::Unlawful { index: 1 }),
+        ),
+    ];
+    for (events, tallies, want) in rows {
+        let spec = token(alloc, Law::Tally, 10, 0, &[10])?;
+        assert_eq!(rt;
+            token_verdict(alloc, spec, events, &[15], 1, tallies)?,
+            want,
+            "{events:?}"
+        );
+    }
+    let moved = [take(P0), write(P0, 0, 4), write(P0, 1, 6), give_written(P0)];
+    let spec = token(alloc, Law::Sum, 10, 0, &[5, 5])?;
+    assert_eq!(rt;
+        token_verdict(alloc, spec, &moved, &[4, 6], 1, &[])?,
+        Ok(())
+    );
+    let broken = [take(P0), write(P0, 0, 9), give_written(P0)];
+    let spec = token(alloc, Law::Sum, 10, 0, &[5, 5])?;
+    assert_eq!(rt;
+        token_verdict(alloc, spec, &broken, &[9, 5], 1, &[])?,
+        Err(Fault::Unlawful { index: 2 })
+    );
+    // No section begins at the last generation, and a shared reference is still there.
+    let spec = token(alloc, Law::Any, 0, LAST_GENERATION, &[3])?;
+    assert_eq!(rt;
+        token_verdict(alloc, spec, &[take(P0)], &[3], LAST_GENERATION, &[])?,
+        Err(Fault::Unlawful { index: 0 })
+    );
+    let spec = token(alloc, Law::Any, 0, LAST_GENERATION, &[3])?;
+    assert_eq!(rt;
+        token_verdict(
+            alloc,
+            spec,
+            &[share(P0), give_one(P0)],
+            &[3],
+            LAST_GENERATION,
+            &[]
+        )?,
+        Ok(())
+    );
+    Ok(())
+}
+
+fn send(to: CpuId, round: u64) -> Event {
+    Event::Send {
+        cpu: P0,
+        msg: M0,
+        to,
+        round,
+    }
+}
+
+fn take_message(cpu: CpuId, round: u64) -> Event {
+    Event::TakeMsg {
+        cpu,
+        msg: M0,
+        round,
+    }
+}
+
+// What the checker says of a trace of two processors on one message of 0.0 that ends so.
+fn message_verdict(
+    alloc: Global,
+    events: &[Event],
+    state: Owner,
+    round: u64,
+) -> Result<Result<(), Fault>, Fault> {
+    let opening = State::open(alloc, &[], &[message(0, 0, 0)], 2)?;
+    let messages = vec![in alloc; MsgEnd { round, state }].map_err(|_| Fault::Memory)?;
+    let last = Final {
+        rows: Vec::new(alloc),
+        gens: Vec::new(alloc),
+        tallies: Vec::new(alloc),
+        messages,
+    };
+    Ok(check(opening, events, &last))
+}
+
+// Rows Book-Basics-7 and Book-Basics-8, and each event of a message where it can happen, and where it can't.
+#[test]
+fn book_basics_7_and_8(rt: HostRuntime) -> Result<(), Fail> {
+    let (origin, target) = (P0, P1);
+    let rest = Owner::Rest { origin };
+    let reply = Event::Reply { cpu: P1, msg: M0 };
+    let reap = Event::Reap { cpu: P0, msg: M0 };
+    let drop_it = Event::DropMsg { cpu: P0, msg: M0 };
+    let abort = Event::Abort { cpu: P0, msg: M0 };
+    let (sent, taken) = (send(P1, 1), take_message(P1, 1));
+    let unlawful = |index| Err(Fault::Unlawful { index });
+    let rows: [(&[Event], Owner, u64, Result<(), Fault>); 19] = [
+        (&[sent, taken, reply, reply], rest, 1, unlawful(3)),
+        (&[sent, take_message(P1, 2)], rest, 1, unlawful(1)),
+        (&[sent, taken, drop_it], rest, 1, unlawful(2)),
+        (&[], rest, 0, Ok(())),
+        (&[], rest, 1, unlawful(0)),
+        (&[sent], Owner::Out { origin, target }, 1, Ok(())),
+        (&[sent], rest, 1, unlawful(1)),
+        (&[sent, taken], Owner::With { origin, target }, 1, Ok(())),
+        (
+            &[sent, abort, taken, reply],
+            Owner::Back { origin, target },
+            1,
+            Ok(()),
+        ),
+        (&[sent, taken, reply, reap], rest, 1, Ok(())),
+        (&[sent, drop_it, send(P1, 2), drop_it], rest, 2, Ok(())),
+        (
+            &[send(P0, 1), take_message(P0, 1)],
+            Owner::With {
+                origin,
+                target: origin,
+            },
+            1,
+            Ok(()),
+        ),
+        (&[send(P1, 2)], rest, 0, unlawful(0)),
+        (&[sent, send(P1, 2)], rest, 1, unlawful(1)),
+        (&[sent, take_message(P0, 1)], rest, 1, unlawful(1)),
+        (&[sent, taken, taken], rest, 1, unlawful(2)),
+        (&[sent, reply], rest, 1, unlawful(1)),
+        (&[sent, taken, reap], rest, 1, unlawful(2)),
+        (&[abort], rest, 0, unlawful(0)),
+    ];
+    for (events, state, round, want) in rows {
+        assert_eq!(rt;
+            message_verdict(rt.alloc(), events, state, round)?,
+            want,
+            "{events:?}"
+        );
+    }
+    Ok(())
+}
+
+// Two processors, of which the first holds token 0, and its message 0 at rest.
+fn held(alloc: Global) -> Result<State, Fault> {
+    let specs = vec![in alloc;
+        token(alloc, Law::Tally, 5, 3, &[5]).map_err(|_| Fault::Memory)?,
+    ].map_err(|_| Fault::Memory)?;
+    let mut state = State::open(alloc, &specs, &[message(0, 0, 7)], 2)?;
+    state.step(&take(P0))?;
+    state.step(&write(P0, 0, 6))?;
+    Ok(state)
+}
+
+// Events that name a processor, token, cell or message that is not there.
+#[test]
+fn events_without_a_place(rt: HostRuntime) -> Result<(), Fail> {
+    let alloc = rt.alloc();
+    let (far, far_tok, far_msg) = (CpuId(8), TokId(64), MsgId(64));
+    for event in [
+        Event::Load { cpu: far, tok: T0 },
+        take(far),
+        share(far),
+        again(far),
+        Event::Mark { cpu: far, tok: T0 },
+        give_one(far),
+        give_clean(far),
+        give_written(far),
+        read(far, 0, 6),
+        write(far, 0, 7),
+        Event::Load {
+            cpu: P0,
+            tok: far_tok,
+        },
+        Event::Take {
+            cpu: P0,
+            tok: far_tok,
+        },
+        Event::Mark {
+            cpu: P0,
+            tok: far_tok,
+        },
+        Event::GiveWritten {
+            cpu: P0,
+            tok: far_tok,
+        },
+        read(P0, 4, 0),
+        write(P0, 4, 0),
+        send(far, 8),
+        Event::Send {
+            cpu: far,
+            msg: M0,
+            to: P1,
+            round: 8,
+        },
+        Event::Send {
+            cpu: P0,
+            msg: far_msg,
+            to: P1,
+            round: 8,
+        },
+        take_message(far, 7),
+        Event::Reap {
+            cpu: P0,
+            msg: far_msg,
+        },
+        Event::Abort { cpu: far, msg: M0 },
+    ] {
+        let mut state = held(alloc)?;
+        assert!(rt; !state.allows(&event), "{event:?}");
+        assert_eq!(rt;
+            state.step(&event),
+            Err(Fault::Unlawful { index: 0 }),
+            "{event:?}"
+        );
+        assert_eq!(rt; (state.cell(T0, 0), state.first(T0, 0)), (Some(6), Some(5)));
+        assert_eq!(rt;
+            (state.tally(P0, T0), state.tally(P1, T0)),
+            (Some(1), Some(0))
+        );
+        assert_eq!(rt; (state.generation(T0), state.cpus()), (Some(3), 2));
+        let last = token_final(alloc, &[6], 4, &[1, 0])?;
+        let found = check(held(alloc)?, &[read(P0, 0, 6), event], &last);
+        assert_eq!(rt; found, Err(Fault::Unlawful { index: 1 }), "{event:?}");
+    }
+    Ok(())
+}
+
+#[test]
+fn readers_of_a_state(rt: HostRuntime) -> Result<(), Fail> {
+    let alloc = rt.alloc();
+    let mut state = held(alloc)?;
+    let (far, far_tok) = (CpuId(2), TokId(1));
+    assert_eq!(rt; (state.cell(T0, 1), state.cell(far_tok, 0)), (None, None));
+    assert_eq!(rt; (state.first(T0, 1), state.first(far_tok, 0)), (None, None));
+    assert_eq!(rt;
+        (state.tally(far, T0), state.tally(P0, far_tok)),
+        (None, None)
+    );
+    assert_eq!(rt; state.generation(far_tok), None);
+    let mut last = token_final(alloc, &[6], 4, &[1, 0])?;
+    last.messages.push(MsgEnd {
+        round: 7,
+        state: Owner::Rest { origin: P0 },
+    })?;
+    assert!(rt; !state.closes(&last));
+    assert!(rt; state.allows(&give_written(P0)));
+    assert_eq!(rt; state.step(&give_written(P0)), Ok(()));
+    assert_eq!(rt; (state.cell(T0, 0), state.first(T0, 0)), (Some(6), Some(6)));
+    assert_eq!(rt; state.generation(T0), Some(4));
+    assert!(rt; state.closes(&last));
+    // A token under another law has no tallies.
+    let specs = vec![in alloc; token(alloc, Law::Any, 0, 0, &[0])?]?;
+    let plain = State::open(alloc, &specs, &[], 1)?;
+    assert_eq!(rt; (plain.tally(P0, T0), plain.cell(T0, 0)), (None, Some(0)));
+    Ok(())
+}
+
+// What events, tokens and messages tell of themselves.
+#[test]
+fn parts_of_the_model(rt: HostRuntime) -> Result<(), Fail> {
+    let alloc = rt.alloc();
+    for (event, cpu, place, adds) in [
+        (take(P1), P1, Place::AtToken(0), true),
+        (share(P0), P0, Place::AtToken(0), true),
+        (again(P1), P1, Place::AtToken(0), true),
+        (write(P0, 1, 2), P0, Place::AtToken(0), false),
+        (send(P1, 1), P0, Place::AtMessage(0), false),
+    ] {
+        assert_eq!(rt; (event.cpu(), event.place()), (cpu, place), "{event:?}");
+        assert_eq!(rt; event.adds_reference(), adds, "{event:?}");
+    }
+    let mut token = Token {
+        law: Law::Tally,
+        param: 10,
+        generation: 0,
+        mark: false,
+        row: cells(alloc, &[15])?,
+        first: cells(alloc, &[10])?,
+        holders: [Held::Nothing; 8],
+        tallies: [0, 5, 0, 0, 0, 0, 0, 0],
+    };
+    assert!(rt; token.is_free() && token.is_open());
+    assert!(rt; token.allows(&take(P1)));
+    token.holders[1] = Held::Holds(Mode::Exclusive, 0);
+    assert!(rt; !token.is_free() && !token.is_open());
+    assert_eq!(rt; token.held_by(P1), Held::Holds(Mode::Exclusive, 0));
+    assert_eq!(rt; token.held_by(CpuId(8)), Held::Nothing);
+    assert_eq!(rt; (token.tally(P1), token.tally(CpuId(8))), (Some(5), None));
+    assert!(rt; token.allows(&give_written(P1)) && !token.allows(&take(P0)));
+    let message = Message {
+        origin: ThreadId { cpu: P0, thread: 0 },
+        opening: 0,
+        round: 0,
+        owner: Owner::Rest { origin: P0 },
+        asked: false,
+        sends: 0,
+        takes: 0,
+        drops: 0,
+        replies: 0,
+        reaps: 0,
+    };
+    assert!(rt; message.allows(2, &send(P1, 1)) && !message.allows(1, &send(P1, 1)));
+    failure_refutes();
+    failure_is_only();
+    decisions_are_events();
+    pictures_fit();
+    Ok(())
+}
