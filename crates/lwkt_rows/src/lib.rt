@@ -6,8 +6,12 @@ mod base_rows;
 #[cfg(test)]
 mod core_rows;
 #[cfg(test)]
+mod fixtures;
+#[cfg(test)]
 mod lane_rows;
 #[cfg(test)]
 mod report_rows;
+#[cfg(test)]
+mod run_rows;
 #[cfg(test)]
 mod script_rows;

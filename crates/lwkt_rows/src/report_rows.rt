@@ -1,5 +1,6 @@
 //! Reports against rows, and streams that fail at each call in turn.
 
+use crate::fixtures::{Frail, OneByte};
 use lwkt_base::{
     Call, Cells, CpuId, Fault, Mode, MsgEnd, MsgId, Owner, Ref, ThreadId, ThreadState, TokId,
     TokList,
@@ -10,7 +11,7 @@ use lwkt_report::{
 };
 use std::alloc::{AllocError, Global};
 use std::io;
-use std::io::{Read, Write};
+use std::io::Read;
 use std::test::Fail;
 
 fn cells(alloc: Global, items: &[u64]) -> Result<Cells, AllocError> {
@@ -167,33 +168,6 @@ fn complains(rt: HostRuntime) {
     }
 }
 
-// Gives one byte a call, and fails at the call `bad`, the first being call 1.
-#[derive(Drop)]
-struct OneByte<'a> {
-    text: &'a [u8],
-    at: usize,
-    calls: usize,
-    bad: usize,
-    kind: io::ErrorKind,
-}
-
-impl<'a> Read for OneByte<'a> {
-    fn read(&mut self, buf: &mut [u8]) -> io::Result<usize> {
-        self.calls = self.calls.saturating_add(1);
-        if self.calls == self.bad {
-            return Err(io::Error::from(self.kind));
-        }
-        match (self.text.get(self.at), buf.first_mut()) {
-            (Some(byte), Some(place)) => {
-                *place = *byte;
-                self.at = self.at.saturating_add(1);
-                Ok(1)
-            }
-            _ => Ok(0),
-        }
-    }
-}
-
 #[test]
 fn a_reader_that_fails_is_a_failed_stream(rt: HostRuntime) -> Result<(), Fail> {
     let text = b"{\"version\":1,\"turns\":5}";
@@ -249,38 +223,6 @@ fn reading_stops_at_the_limit(rt: HostRuntime) -> Result<(), Fail> {
     Ok(())
 }
 
-// Takes one byte a call, and fails at the call `bad`, the first being call 1; `takes` is what a call takes at most.
-#[derive(Drop)]
-struct Frail {
-    got: Vec<u8>,
-    calls: usize,
-    bad: usize,
-    takes: usize,
-}
-
-impl Frail {
-    fn call(&mut self) -> io::Result<()> {
-        self.calls = self.calls.saturating_add(1);
-        if self.calls == self.bad {
-            return Err(io::Error::from(io::ErrorKind::Interrupted));
-        }
-        Ok(())
-    }
-}
-
-impl Write for Frail {
-    fn write(&mut self, buf: &[u8]) -> io::Result<usize> {
-        self.call()?;
-        let most = buf.len().min(self.takes);
-        self.got.extend_from_slice(&buf[..most])?;
-        Ok(most)
-    }
-
-    fn flush(&mut self) -> io::Result<()> {
-        self.call()
-    }
-}
-
 #[test]
 fn a_front_stands_after_a_failed_write(rt: HostRuntime) -> Result<(), Fail> {
     let text = "token 0 gen 1 cells 15\nlawful\n";
@@ -290,6 +232,7 @@ fn a_front_stands_after_a_failed_write(rt: HostRuntime) -> Result<(), Fail> {
             got: Vec::new(rt.alloc()),
             calls: 0,
             bad,
+            last_bad: bad,
             takes: 1,
         };
         let mut sink = WriterSink::new(&mut writer);
@@ -317,6 +260,7 @@ fn a_write_of_no_byte_is_a_failed_stream(rt: HostRuntime) {
         got: Vec::new(rt.alloc()),
         calls: 0,
         bad: 0,
+        last_bad: 0,
         takes: 0,
     };
     assert!(rt; write_whole(&mut WriterSink::new(&mut writer), b"lawful\n").is_err());

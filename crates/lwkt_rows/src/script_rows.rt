@@ -1,38 +1,12 @@
+//! Scripts against the page of formats: the place of each bad part, and what each step reads as.
+
+use crate::fixtures::{TALLY_ADD, THREAD, TOKEN, changed, listed};
 use lwkt_base::{Ask, Fault, Law, TokId};
 use lwkt_script::{Script, read_script};
 use std::alloc::Global;
 use std::test::Fail;
 
-const TOKEN: &str = "{\"cells\":[10],\"law\":\"tally\",\"param\":10,\"gen\":0}";
-
-const THREAD: &str = "{\"cpu\":0,\"repeat\":1,\"steps\":[[\"get\",0],[\"add\",0,5],[\"rel\",0]]}";
-
 const STEPS: &str = "[\"get\",0],[\"add\",0,5],[\"rel\",0]";
-
-// One token of 10 under Tally, to which one thread adds 5.
-const TALLY_ADD: &str =
-    "{\"version\":1,\"turns\":50,\"idle\":5,\"cpus\":1,\"tokens\":[{\"cells\":[10],\"law\":\"tally\",\"param\":10,\"gen\":0}],\"messages\":[],\"threads\":[{\"cpu\":0,\"repeat\":1,\"steps\":[[\"get\",0],[\"add\",0,5],[\"rel\",0]]}]}";
-
-// TALLY_ADD with `new` where `old` stands first.
-fn changed(alloc: Global, old: &str, new: &str) -> Result<String, Fail> {
-    let (front, back) = TALLY_ADD.split_once(old).ok_or("the script has this text")?;
-    let mut text = String::from_str(alloc, front)?;
-    text.push_str(new)?;
-    text.push_str(back)?;
-    Ok(text)
-}
-
-// So many times the item, with commas between.
-fn listed(alloc: Global, item: &str, count: u32) -> Result<String, Fail> {
-    let mut text = String::new(alloc);
-    for i in 0..count {
-        if i > 0 {
-            text.push_str(",")?;
-        }
-        text.push_str(item)?;
-    }
-    Ok(text)
-}
 
 // The place where the text is refused as a script.
 fn place_of(alloc: Global, text: &[u8]) -> Option<u32> {
