@@ -49,27 +49,47 @@ fn full_lane(rt: HostRuntime) -> Result<(), Fail> {
 #[test]
 fn lists_of_references(rt: HostRuntime) -> Result<(), Fail> {
     let mut list = TokList::new();
-    assert!(rt; list.is_empty());
-    assert_eq!(rt; list.pop(TokId(0)), Err(Fault::NotHeld));
-    assert_eq!(rt; list.swap(), Err(Fault::SwapShort));
-    list.push(exclusive(0))?;
-    assert_eq!(rt; list.swap(), Err(Fault::SwapShort));
-    list.push(shared(0))?;
-    assert_eq!(rt; list.swap(), Err(Fault::SwapSame));
-    assert_eq!(rt; list.mode(TokId(0)), Some(Mode::Exclusive));
-    list.push(shared(1))?;
-    assert_eq!(rt; list.push(exclusive(1)), Err(Fault::Upgrade));
-    assert_eq!(rt; list.mode(TokId(1)), Some(Mode::Shared));
-    assert_eq!(rt; list.mode(TokId(2)), None);
-    assert_eq!(rt; list.swap(), Ok(()));
+    let empty = (list.is_empty(), list.len());
+    let refusals = [
+        list.pop(TokId(0)).err(),
+        list.swap().err(),
+        list.push(exclusive(0)).err(),
+        list.swap().err(),
+        list.push(shared(0)).err(),
+        list.swap().err(),
+        list.push(shared(1)).err(),
+        list.push(exclusive(1)).err(),
+        list.swap().err(),
+    ];
+    let want = [
+        Some(Fault::NotHeld),
+        Some(Fault::SwapShort),
+        None,
+        Some(Fault::SwapShort),
+        None,
+        Some(Fault::SwapSame),
+        None,
+        Some(Fault::Upgrade),
+        None,
+    ];
+    assert_eq!(rt; refusals.as_slice(), want.as_slice());
+    let swapped = [exclusive(0), shared(1), shared(0)];
+    assert_eq!(rt; list.refs(), swapped.as_slice());
+    let modes = [
+        list.mode(TokId(0)),
+        list.mode(TokId(1)),
+        list.mode(TokId(2)),
+    ];
     assert_eq!(rt;
-        list.refs(),
-        [exclusive(0), shared(1), shared(0)].as_slice()
+        modes.as_slice(),
+        [Some(Mode::Exclusive), Some(Mode::Shared), None].as_slice()
     );
-    assert_eq!(rt; (list.get(1), list.get(3)), (Some(shared(1)), None));
-    assert_eq!(rt; list.pop(TokId(0)), Ok(shared(0)));
-    assert_eq!(rt; list.len(), 2);
-    assert!(rt; !list.is_empty());
+    let places = [list.get(1), list.get(3), list.pop(TokId(0)).ok()];
+    assert_eq!(rt;
+        places.as_slice(),
+        [Some(shared(1)), None, Some(shared(0))].as_slice()
+    );
+    assert!(rt; empty == (true, 0) && !list.is_empty() && list.len() == 2);
     Ok(())
 }
 

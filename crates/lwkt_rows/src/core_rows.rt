@@ -312,35 +312,32 @@ fn sections_and_tallies(rt: HostRuntime) -> Result<(), Fail> {
         );
     }
     let moved = [take(P0), write(P0, 0, 4), write(P0, 1, 6), give_written(P0)];
-    let spec = token(alloc, Law::Sum, 10, 0, &[5, 5])?;
-    assert_eq!(rt;
-        token_verdict(alloc, spec, &moved, &[4, 6], 1, &[])?,
-        Ok(())
-    );
-    let broken = [take(P0), write(P0, 0, 9), give_written(P0)];
-    let spec = token(alloc, Law::Sum, 10, 0, &[5, 5])?;
-    assert_eq!(rt;
-        token_verdict(alloc, spec, &broken, &[9, 5], 1, &[])?,
-        Err(Fault::Unlawful { index: 2 })
-    );
-    // No section begins at the last generation, and a shared reference is still there.
-    let spec = token(alloc, Law::Any, 0, LAST_GENERATION, &[3])?;
-    assert_eq!(rt;
-        token_verdict(alloc, spec, &[take(P0)], &[3], LAST_GENERATION, &[])?,
-        Err(Fault::Unlawful { index: 0 })
-    );
-    let spec = token(alloc, Law::Any, 0, LAST_GENERATION, &[3])?;
-    assert_eq!(rt;
-        token_verdict(
-            alloc,
-            spec,
+    let worn = LAST_GENERATION;
+    // At the last generation no section begins, and a token can still be shared.
+    let rows: [(u64, &[Event], u64, Result<(), Fault>); 4] = [
+        (0, &moved, 1, Ok(())),
+        (
+            0,
+            &[take(P0), write(P0, 0, 4), give_written(P0)],
+            1,
+            Err(Fault::Unlawful { index: 2 }),
+        ),
+        (worn, &moved, worn, Err(Fault::Unlawful { index: 0 })),
+        (
+            worn,
             &[share(P0), give_one(P0)],
-            &[3],
-            LAST_GENERATION,
-            &[]
-        )?,
-        Ok(())
-    );
+            worn,
+            Err(Fault::Unlawful { index: 2 }),
+        ),
+    ];
+    for (generation, events, last, want) in rows {
+        let spec = token(alloc, Law::Sum, 10, generation, &[5, 5])?;
+        assert_eq!(rt;
+            token_verdict(alloc, spec, events, &[4, 6], last, &[])?,
+            want,
+            "{events:?}"
+        );
+    }
     Ok(())
 }
 
@@ -445,6 +442,19 @@ fn held(alloc: Global) -> Result<State, Fault> {
     Ok(state)
 }
 
+// What a state shows of token 0: its cell, the cell of its first row, its generation, two tallies.
+fn shown(state: &State) -> [Option<u64>; 5] {
+    [
+        state.cell(T0, 0),
+        state.first(T0, 0),
+        state.generation(T0),
+        state.tally(P0, T0),
+        state.tally(P1, T0),
+    ]
+}
+
+const HELD: [Option<u64>; 5] = [Some(6), Some(5), Some(3), Some(1), Some(0)];
+
 // Events that name a processor, token, cell or message that is not there.
 #[test]
 fn events_without_a_place(rt: HostRuntime) -> Result<(), Fail> {
@@ -500,18 +510,13 @@ fn events_without_a_place(rt: HostRuntime) -> Result<(), Fail> {
         Event::Abort { cpu: far, msg: M0 },
     ] {
         let mut state = held(alloc)?;
-        assert!(rt; !state.allows(&event), "{event:?}");
+        let allowed = state.allows(&event);
         assert_eq!(rt;
-            state.step(&event),
-            Err(Fault::Unlawful { index: 0 }),
+            (allowed, state.step(&event)),
+            (false, Err(Fault::Unlawful { index: 0 })),
             "{event:?}"
         );
-        assert_eq!(rt; (state.cell(T0, 0), state.first(T0, 0)), (Some(6), Some(5)));
-        assert_eq!(rt;
-            (state.tally(P0, T0), state.tally(P1, T0)),
-            (Some(1), Some(0))
-        );
-        assert_eq!(rt; (state.generation(T0), state.cpus()), (Some(3), 2));
+        assert_eq!(rt; shown(&state).as_slice(), HELD.as_slice(), "{event:?}");
         let last = token_final(alloc, &[6], 4, &[1, 0])?;
         let found = check(held(alloc)?, &[read(P0, 0, 6), event], &last);
         assert_eq!(rt; found, Err(Fault::Unlawful { index: 1 }), "{event:?}");
@@ -524,28 +529,38 @@ fn readers_of_a_state(rt: HostRuntime) -> Result<(), Fail> {
     let alloc = rt.alloc();
     let mut state = held(alloc)?;
     let (far, far_tok) = (CpuId(2), TokId(1));
-    assert_eq!(rt; (state.cell(T0, 1), state.cell(far_tok, 0)), (None, None));
-    assert_eq!(rt; (state.first(T0, 1), state.first(far_tok, 0)), (None, None));
-    assert_eq!(rt;
-        (state.tally(far, T0), state.tally(P0, far_tok)),
-        (None, None)
-    );
-    assert_eq!(rt; state.generation(far_tok), None);
+    let absent = [
+        state.cell(T0, 1),
+        state.cell(far_tok, 0),
+        state.first(T0, 1),
+        state.first(far_tok, 0),
+        state.tally(far, T0),
+        state.tally(P0, far_tok),
+        state.generation(far_tok),
+    ];
+    assert_eq!(rt; absent.as_slice(), [None; 7].as_slice());
     let mut last = token_final(alloc, &[6], 4, &[1, 0])?;
     last.messages.push(MsgEnd {
         round: 7,
         state: Owner::Rest { origin: P0 },
     })?;
-    assert!(rt; !state.closes(&last));
-    assert!(rt; state.allows(&give_written(P0)));
-    assert_eq!(rt; state.step(&give_written(P0)), Ok(()));
-    assert_eq!(rt; (state.cell(T0, 0), state.first(T0, 0)), (Some(6), Some(6)));
-    assert_eq!(rt; state.generation(T0), Some(4));
-    assert!(rt; state.closes(&last));
+    let give = give_written(P0);
+    let before = (state.closes(&last), state.allows(&give));
+    assert_eq!(rt; before, (false, true));
+    let after = (state.step(&give), state.closes(&last));
+    assert_eq!(rt; after, (Ok(()), true));
+    assert_eq!(rt;
+        shown(&state).as_slice(),
+        [Some(6), Some(6), Some(4), Some(1), Some(0)].as_slice()
+    );
     // A token under another law has no tallies.
     let specs = vec![in alloc; token(alloc, Law::Any, 0, 0, &[0])?]?;
     let plain = State::open(alloc, &specs, &[], 1)?;
-    assert_eq!(rt; (plain.tally(P0, T0), plain.cell(T0, 0)), (None, Some(0)));
+    assert_eq!(rt; plain.cpus(), 1);
+    assert_eq!(rt;
+        shown(&plain).as_slice(),
+        [Some(0), Some(0), Some(0), None, None].as_slice()
+    );
     Ok(())
 }
 
@@ -560,8 +575,8 @@ fn parts_of_the_model(rt: HostRuntime) -> Result<(), Fail> {
         (write(P0, 1, 2), P0, Place::AtToken(0), false),
         (send(P1, 1), P0, Place::AtMessage(0), false),
     ] {
-        assert_eq!(rt; (event.cpu(), event.place()), (cpu, place), "{event:?}");
-        assert_eq!(rt; event.adds_reference(), adds, "{event:?}");
+        let found = (event.cpu(), event.place(), event.adds_reference());
+        assert_eq!(rt; found, (cpu, place, adds), "{event:?}");
     }
     let mut token = Token {
         law: Law::Tally,
@@ -573,14 +588,15 @@ fn parts_of_the_model(rt: HostRuntime) -> Result<(), Fail> {
         holders: [Held::Nothing; 8],
         tallies: [0, 5, 0, 0, 0, 0, 0, 0],
     };
-    assert!(rt; token.is_free() && token.is_open());
-    assert!(rt; token.allows(&take(P1)));
+    let free = token.is_free() && token.is_open() && token.allows(&take(P1));
     token.holders[1] = Held::Holds(Mode::Exclusive, 0);
-    assert!(rt; !token.is_free() && !token.is_open());
-    assert_eq!(rt; token.held_by(P1), Held::Holds(Mode::Exclusive, 0));
-    assert_eq!(rt; token.held_by(CpuId(8)), Held::Nothing);
+    let open = token.is_free() || token.is_open() || token.allows(&take(P0));
+    assert!(rt; free && !open && token.allows(&give_written(P1)));
+    assert_eq!(rt;
+        (token.held_by(P1), token.held_by(CpuId(8))),
+        (Held::Holds(Mode::Exclusive, 0), Held::Nothing)
+    );
     assert_eq!(rt; (token.tally(P1), token.tally(CpuId(8))), (Some(5), None));
-    assert!(rt; token.allows(&give_written(P1)) && !token.allows(&take(P0)));
     let message = Message {
         origin: ThreadId { cpu: P0, thread: 0 },
         opening: 0,

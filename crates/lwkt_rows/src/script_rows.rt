@@ -16,41 +16,32 @@ fn place_of(alloc: Global, text: &[u8]) -> Option<u32> {
     }
 }
 
+// Beside those that the rows of whole runs have.
 #[test]
 fn bad_scripts(rt: HostRuntime) -> Result<(), Fail> {
     let alloc = rt.alloc();
     let places = [
-        ("}]}", "}]}}", Some(0)),
         (":5,", ":1e400,", Some(0)),
-        ("\"cpus\":1", "\"cpus\":1,\"more\":1", Some(1)),
         ("\"idle\":5,", "", Some(1)),
         ("\"idle\"", "\"lazy\"", Some(1)),
-        ("\"tokens\":[{", "\"tokens\":{},\"more\":[{", Some(1)),
         ("\"messages\":[]", "\"messages\":{}", Some(1)),
-        ("\"version\":1", "\"version\":2", Some(2)),
         ("\"version\":1", "\"version\":\"1\"", Some(2)),
         (
             "\"version\":1,\"turns\":50",
             "\"version\":2,\"turns\":0",
             Some(2),
         ),
-        ("\"turns\":50", "\"turns\":0", Some(3)),
         ("\"turns\":50", "\"turns\":1000001", Some(3)),
         ("\"turns\":50", "\"turns\":1000000", None),
-        ("\"idle\":5", "\"idle\":0", Some(4)),
         ("\"idle\":5", "\"idle\":-0", Some(4)),
         ("\"idle\":5", "\"idle\":100000001", Some(4)),
         ("\"idle\":5", "\"idle\":100000000", None),
-        ("\"cpus\":1", "\"cpus\":9", Some(5)),
         ("\"cpus\":1", "\"cpus\":0", Some(5)),
-        ("\"cpus\":1", "\"cpus\":1.0", Some(5)),
-        ("\"gen\":0", "\"gen\":70368744177664", Some(1000)),
         ("\"gen\":0", "\"gen\":70368744177663", None),
         ("\"gen\":0", "\"gen\":0,\"more\":0", Some(1000)),
         ("\"param\":10", "\"param\":18446744073709551616", Some(1000)),
         ("\"param\":10", "\"param\":18446744073709551615", None),
         ("\"tally\"", "\"len\"", Some(1000)),
-        ("[10]", "[10,10]", Some(1000)),
         ("[10],\"law\":\"tally\"", "[1,2,3,4],\"law\":\"any\"", None),
         (
             "[10],\"law\":\"tally\"",
@@ -63,25 +54,20 @@ fn bad_scripts(rt: HostRuntime) -> Result<(), Fail> {
             "\"messages\":[{\"of\":[0,0],\"round\":0}]",
             Some(2000),
         ),
-        ("\"repeat\":1", "\"repeat\":0", Some(3000)),
         ("\"repeat\":1", "\"repeat\":1000001", Some(3000)),
         ("\"repeat\":1", "\"repeat\":1000000", None),
         ("\"cpu\":0", "\"cpu\":1", Some(3000)),
         (THREAD, "{\"cpu\":0,\"repeat\":1,\"steps\":0}", Some(3000)),
-        ("\"get\",0", "\"get\",256", Some(100_000)),
         ("\"get\",0", "\"get\",255", None),
         ("\"get\",0", "\"get\",0,0", Some(100_000)),
         ("\"get\",0", "\"get\"", Some(100_000)),
         ("\"get\",0", "", Some(100_000)),
-        ("\"get\",0", "\"send\",0,0,0,1,1,4", Some(100_000)),
-        ("\"add\",0,5", "\"add\",0", Some(100_001)),
         ("\"add\",0,5", "\"read\",0,256", Some(100_001)),
         (
             "\"add\",0,5",
             "\"write\",0,0,18446744073709551616",
             Some(100_001),
         ),
-        ("\"rel\",0", "\"lock\",0", Some(100_002)),
         // Of a member that stands twice the last one counts, and names count after unescaping.
         ("\"turns\":50", "\"turns\":0,\"turns\":50", None),
         ("\"turns\":50", "\"turns\":50,\"turns\":0", Some(3)),
@@ -97,10 +83,6 @@ fn bad_scripts(rt: HostRuntime) -> Result<(), Fail> {
 #[test]
 fn bad_lengths(rt: HostRuntime) -> Result<(), Fail> {
     let alloc = rt.alloc();
-    let script = TALLY_ADD.as_bytes();
-    for (i, _) in script.iter().enumerate() {
-        assert_eq!(rt; place_of(alloc, &script[..i]), Some(0), "{i}");
-    }
     for (part, count, place) in [
         (TOKEN, 64, None),
         (TOKEN, 65, Some(1064)),
@@ -141,21 +123,21 @@ fn reads_tally_add(rt: HostRuntime) -> Result<(), Fail> {
     assert_eq!(rt; tokens.as_slice().len(), 1);
     for token in tokens.into_vec() {
         assert_eq!(rt; token.cells.as_slice(), [10].as_slice());
-        assert_eq!(rt; token.law, Law::Tally);
-        assert_eq!(rt; (token.param, token.generation), (10, 0));
+        assert_eq!(rt;
+            (token.law, token.param, token.generation),
+            (Law::Tally, 10, 0)
+        );
     }
     assert_eq!(rt; messages.into_vec().len(), 0);
     assert_eq!(rt; threads.as_slice().len(), 1);
+    let want = [
+        Ask::Get(TokId(0)),
+        Ask::Add(TokId(0), 5),
+        Ask::Rel(TokId(0)),
+    ];
     for thread in threads.into_vec() {
         assert_eq!(rt; (thread.cpu.0, thread.repeat), (0, 1));
-        assert_eq!(rt; thread.steps.as_slice().len(), 3);
-        for (ask, want) in thread.steps.into_vec().into_iter().zip([
-            Ask::Get(TokId(0)),
-            Ask::Add(TokId(0), 5),
-            Ask::Rel(TokId(0)),
-        ]) {
-            assert_eq!(rt; ask, want);
-        }
+        assert_eq!(rt; thread.steps.as_slice(), want.as_slice());
     }
     Ok(())
 }
@@ -184,10 +166,7 @@ fn reads_each_step(rt: HostRuntime) -> Result<(), Fail> {
         let script = read_script(alloc, text.as_bytes())?;
         assert_eq!(rt; script.threads.as_slice().len(), 1, "{step}");
         for thread in script.threads.into_vec() {
-            assert_eq!(rt; thread.steps.as_slice().len(), 1, "{step}");
-            for ask in thread.steps.into_vec() {
-                assert_eq!(rt; ask, want, "{step}");
-            }
+            assert_eq!(rt; thread.steps.as_slice(), [want].as_slice(), "{step}");
         }
     }
     Ok(())
