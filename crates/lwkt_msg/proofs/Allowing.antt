@@ -1,0 +1,295 @@
+use Rattle.std.proofs.Common.{◌≡◌, ◌≢◌, ◌⊎◌, inl, inr, ⊎_elim, ℕ, ◌+◌, ◌-◌, ◌*◌, ◌%◌, ◌<◌, ◌≤◌, ◌^◌, ◌==◌, eqb, ◌||◌, ◌&&◌, Bool, true, false, List, [], ◌∷◌, length, set, get_or, refl, ap, sym, ◌∙◌, subst, arith}
+use mathlib.Core.Option.{Option, some, none, some-injective}
+use lib.ListN.{get_elem?}
+use lib.Seq.{set-get_or}
+use prog.Atomic.{either}
+use Rattle.atomic_table.specs.Table.{State, Me, Step, step, Act, keeps, takes, gives, stepped, carried_after, homes_after, Valid, Allows}
+use Rattle.atomic_table.proofs.Lists.{exchanged}
+use Rattle.lwkt_base.specs.declared.names.CpuId.{CpuId}
+use Rattle.lwkt_base.specs.declared.names.ThreadId.{ThreadId}
+use Rattle.lwkt_base.specs.declared.openings.MsgSpec.{MsgSpec}
+use Rattle.lwkt_base.specs.declared.owners.Owner.{Owner}
+use Rattle.lwkt_base.specs.declared.owners.Owner.TheVariants.{Rest, Out, With, Back}
+use Rattle.lwkt_base.specs.declared.records.Rec.{Rec}
+use Rattle.lwkt_base.specs.declared.records.Flags.{Flags}
+use Rattle.lwkt_base.specs.declared.message_words.MsgWord.{MsgWord}
+use Rattle.lwkt_base.specs.declared.message_words.MsgState.TheVariants as state
+use Rattle.lwkt_base.specs.MessageWord.{message_word, MessageFits}
+use Rattle.lwkt_core.specs.declared.messages.TheConstants.{LAST_ROUND}
+use Rattle.lwkt_core.specs.declared.seats.Operation.{Operation}
+use Rattle.lwkt_core.specs.declared.seats.Operation.TheVariants as operation
+use Rattle.lwkt_core.specs.declared.seats.SeatKind.{SeatKind}
+use Rattle.lwkt_core.specs.declared.seats.SeatKind.TheVariants.{Of}
+use Rattle.lwkt_core.specs.Messages.{is_away}
+use Rattle.lwkt_msg.specs.declared.views.Entry.{Entry}
+use Rattle.lwkt_msg.specs.declared.views.Layout.{Layout}
+use Rattle.lwkt_msg.specs.declared.views.View.{View}
+use Rattle.lwkt_msg.specs.Views.{word_at, slot_at, spec_at, call_of, flags_of, at, after_step, looked, handed, sent, took, replied, reaped, shows_away, shows_back, shows_with, Sees, SeesOwn, Stands}
+use Rattle.lwkt_msg.specs.Book.{Mail, parts_of, state_of, shown_target, in_slot, is_taken, is_back, KnowsOwn, KnowsTaken, Knows, IsKept, mail_at, IsBook, Rule}
+use Rattle.lwkt_msg.specs.Hands.{Has, AreSame, IsOwn, IsInHand, AreHands}
+use Rattle.lwkt_msg.specs.Steps.{sent_word, rest_word}
+use Rattle.lwkt_msg.specs.Plays.{Looked, looks, sends, Took, takes_it, replies, reaps, hands_out}
+use Rattle.lwkt_msg.proofs.WordFacts.{message_word-injective, message_word-below}
+use Rattle.lwkt_msg.proofs.Bringing.{AreSame-refl, find_slot, Brought, bring}
+use Rattle.lwkt_msg.proofs.Moves.{never, look_mine}
+use Rattle.lwkt_msg.proofs.Frames.{seat_plan}
+use Rattle.lwkt_msg.proofs.Leading as lead
+
+-- a play tells of the one message whose word the step is on
+at_word : (m : ℕ) (P : ℕ → Type 0) → P m → (k : ℕ) → word_at m ≡ word_at k → P k
+at_word m P here k same = let is : m ≡ k = omega arith in subst P is here
+
+-- what the word of a message shows of its owner
+away_shown : (o : Owner) → is_away o ≡ shows_away (state_of o)
+away_shown (Rest o) = refl
+away_shown (Out o t) = refl
+away_shown (With o t) = refl
+away_shown (Back o t) = refl
+
+back_shown : (o : Owner) → is_back o ≡ true → shows_back (state_of o) ≡ true
+back_shown (Rest o) e = never e
+back_shown (Out o t) e = never e
+back_shown (With o t) e = never e
+back_shown (Back o t) e = refl
+
+with_shown : (cpu : ℕ) (o : Owner) → is_taken cpu o ≡ shows_with cpu (state_of o) (shown_target o)
+with_shown cpu (Rest o) = refl
+with_shown cpu (Out o t) = refl
+with_shown cpu (With o t) = refl
+with_shown cpu (Back o t) = refl
+
+flag_shown : (away flag : Bool) → away ≡ true → (away && flag) ≡ flag
+flag_shown true flag e = refl
+flag_shown false flag e = never e
+
+in_slot_rest : (o : Owner) (had : Bool) (rec : Rec) → is_away o ≡ false → had ≡ true → in_slot o had rec ≡ none
+in_slot_rest (Rest o) had rec home is = ap (λ (b : Bool). in_slot (Rest o) b rec) is
+in_slot_rest (Out o t) had rec home is = never (sym home)
+in_slot_rest (With o t) had rec home is = never (sym home)
+in_slot_rest (Back o t) had rec home is = never (sym home)
+
+in_slot_taken : (cpu : ℕ) (o : Owner) (had : Bool) (rec : Rec) → is_taken cpu o ≡ true → in_slot o had rec ≡ none
+in_slot_taken cpu (Rest o) had rec is = never is
+in_slot_taken cpu (Out o t) had rec is = never is
+in_slot_taken cpu (With o t) had rec is = refl
+in_slot_taken cpu (Back o t) had rec is = never is
+
+-- two records at one place are one
+one_record : (hands : List (ℕ × Rec)) (slot : ℕ) (y z : Rec) (i j : ℕ) → get_elem? hands i ≡ some (slot, y) → get_elem? hands j ≡ some (slot, z) → i ≡ j → y ≡ z
+one_record hands slot y z i j a b same =
+    let F : ℕ → Type 0 = λ k. get_elem? hands k ≡ some (slot, y) in
+    let h : some (slot, y) ≡ some (slot, z) = sym (subst F same a) ∙ b in
+    ap (λ (x : ℕ × Rec). x.1) (some-injective (slot, y) (slot, z) h)
+
+module _ (key : Layout) (s : State Rec View) (id : ℕ) (v : View) (cpu : CpuId) (m : ℕ) (rule : Rule key s) (e : get_elem? s.views id ≡ some v) (is_seat : v.kind ≡ Of cpu) (within : m < length v.specs) where
+  there : m < length key.specs.items
+  there = subst (λ (xs : List MsgSpec). m < length xs) (seat_plan key rule.mails s id v cpu rule.book e is_seat).1 within
+
+  abbrev mail : Mail
+  mail = mail_at rule.mails m
+
+  kept : IsKept key.cpus (spec_at key.specs.items m) mail (get_or s.words (word_at m) 0) (get_elem? s.homes (slot_at m)) m s.views
+  kept = lead.kept key rule.mails s id v cpu m rule.book e is_seat there
+
+  knows : Knows mail (Of cpu) (at v m)
+  knows = lead.knows key rule.mails s id v cpu m rule.book e is_seat there
+
+  -- what a word shows is what the view knows
+  pub sees : Sees v m (parts_of mail)
+  sees = record {
+    origin_is = kept.safe.home ∙ (ap (λ (t : ThreadId). t.cpu) kept.origin_is ∙ ap (λ (xs : List MsgSpec). (spec_at xs m).origin.cpu) (sym (seat_plan key rule.mails s id v cpu rule.book e is_seat).1));
+    as_origin = λ stands. sees_own (knows.as_origin (subst (λ (c : CpuId). Stands (Of cpu) c.0) kept.safe.home (subst (λ (k : SeatKind). Stands k (parts_of mail).origin.0) is_seat stands)));
+    as_target = λ q stands. (knows.as_target q (subst (λ (k : SeatKind). Stands k q) is_seat stands)).taken_is ∙ with_shown q mail.msg.owner
+  }
+    where
+      sees_own : KnowsOwn mail (at v m) → SeesOwn (at v m) (parts_of mail)
+      sees_own k = record {
+        round_is = k.round_is;
+        away_is = k.away_is ∙ away_shown mail.msg.owner;
+        asked_is = k.asked_is;
+        back_is = λ seen. back_shown mail.msg.owner (k.back_is seen);
+        flags_is = λ away.
+            let gone : is_away mail.msg.owner ≡ true = away_shown mail.msg.owner ∙ away in
+            (flag_shown (is_away mail.msg.owner) mail.sync gone ∙ sym k.sync_is,
+            (λ i. record { dropable = flag_shown (is_away mail.msg.owner) mail.flags.dropable gone i; abortable = flag_shown (is_away mail.msg.owner) mail.flags.abortable gone i }) ∙ sym k.flags_is)
+      }
+
+  pub parts_fit : MessageFits (parts_of mail)
+  parts_fit = lead.parts_fit key rule.mails s id v cpu m rule.book e is_seat there
+
+  -- a record that the seat has in hand isn't at home
+  pub not_home : IsInHand v cpu.0 m → get_elem? s.homes (slot_at m) ≡ some none
+  not_home (inl h) =
+      let k = lead.knows_own key rule.mails s id v cpu m rule.book e is_seat there h.0 in
+      kept.slot ∙ ap (λ (o : Option Rec). some o) (in_slot_rest mail.msg.owner mail.had mail.rec (sym k.away_is ∙ h.2) (sym k.had_is ∙ h.1))
+  not_home (inr h) =
+      let k = lead.knows_taken key rule.mails s id v cpu m rule.book e is_seat there in
+      kept.slot ∙ ap (λ (o : Option Rec). some o) (in_slot_taken cpu.0 mail.msg.owner mail.had mail.rec (sym k.taken_is ∙ h))
+
+  -- a step that leaves the message, and everything at home, as it is
+  pub stays : (e' : Entry) (o : Operation) (found : ℕ) (homes' : List (Option Rec)) → homes' ≡ s.homes → e'.sends ≡ (at v m).sends → e'.takes ≡ (at v m).takes → e'.drops ≡ (at v m).drops → e'.replies ≡ (at v m).replies → e'.reaps ≡ (at v m).reaps
+      → (Knows mail (Of cpu) (at v m) → Knows mail (Of cpu) e')
+      → Rule key record { words = set s.words (word_at m) (get_or s.words (word_at m) 0); homes = homes'; views = set s.views id (after_step v m e' o found) }
+  stays e' o found homes' same a b c d f mine = record {
+    mails = set rule.mails m mail;
+    book =
+        let F : List (Option Rec) → Type 0 = λ hs. IsBook key (set rule.mails m mail) record { words = set s.words (word_at m) (get_or s.words (word_at m) 0); homes = hs; views = set s.views id (after_step v m e' o found) } in
+        subst F (sym same) (lead.stays key rule.mails s id v cpu m rule.book e is_seat there e' o found a b c d f mine)
+  }
+
+-- a load of a message's word
+pub look_allowed : (key : Layout) (slots id : ℕ) (me : Me Rec View) (cpu : CpuId) (m : ℕ) → me.0.kind ≡ Of cpu → m < length me.0.specs → AreHands me.0 cpu.0 me.1
+    → Allows (Rule key) slots id me (word_at m) (λ n. n) (looks (step slots (word_at m) 0 0 none) me)
+look_allowed key slots id me cpu m is_seat within hands s rule deep at_id small =
+    ⊎_elim
+    (λ (found : (rec : Rec) × Has me.1 (slot_at m) rec). with_front found.0 found.1)
+    (λ (not_there : (rec : Rec) → Has me.1 (slot_at m) rec → ⊥). (after_view, keeps, tt, kept_rule s.homes refl, tells me.1 (AreSame-refl me.1) (λ rec has. absurd (not_there rec has))))
+    (find_slot me.1 (slot_at m))
+  where
+    n : ℕ
+    n = get_or s.words (word_at m) 0
+
+    mail : Mail
+    mail = mail_at rule.mails m
+
+    after_view : View
+    after_view = after_step me.0 m (looked (parts_of mail) (at me.0 m)) operation.Load n
+
+    kept_rule : (homes' : List (Option Rec)) → homes' ≡ s.homes → Rule key record { words = set s.words (word_at m) n; homes = homes'; views = set s.views id after_view }
+    kept_rule homes' same = stays key s id me.0 cpu m rule at_id is_seat within (looked (parts_of mail) (at me.0 m)) operation.Load n homes' same refl refl refl refl refl (look_mine mail cpu (at me.0 m))
+
+    tells : (hands' : List (ℕ × Rec)) → AreSame me.1 hands' → ((rec : Rec) → Has me.1 (slot_at m) rec → (others : List (ℕ × Rec)) × (hands' ≡ (slot_at m, rec) ∷ others)) → looks (step slots (word_at m) 0 0 none) me n (after_view, hands')
+    tells hands' same front = at_word m (λ k. Looked k me n (after_view, hands')) record {
+      parts = parts_of mail;
+      fits = parts_fit key s id me.0 cpu m rule at_id is_seat within;
+      is_word = (kept key s id me.0 cpu m rule at_id is_seat within).is_word;
+      sees = sees key s id me.0 cpu m rule at_id is_seat within;
+      view_is = refl;
+      same = same;
+      front = front
+    }
+
+    out : (k : ℕ) (y : Rec) → Has me.1 k y → get_elem? s.homes k ≡ some none
+    out k y has =
+        let h = hands.all k y has in
+        let F : ℕ → Type 0 = λ i. get_elem? s.homes i ≡ some none in
+        subst F (sym h.2) (not_home key s id me.0 cpu h.0 rule at_id is_seat h.1 h.3)
+
+    with_front : (rec : Rec) → Has me.1 (slot_at m) rec → (w : View) × (a : Act Rec) × Valid s.homes me.1 a × Rule key (stepped s (word_at m) n id me.1 w a) × looks (step slots (word_at m) 0 0 none) me n (w, carried_after me.1 a)
+    with_front rec has =
+        let b = bring me.1 has.0 s.homes (slot_at m) rec hands.apart out has.1 in
+        let F : List (ℕ × Rec) → Type 0 = λ c. AreSame me.1 c in
+        let front : (y : Rec) → Has me.1 (slot_at m) y → (others : List (ℕ × Rec)) × (carried_after me.1 b.act ≡ (slot_at m, y) ∷ others)
+        = λ y has'.
+            let is : y ≡ rec = one_record me.1 (slot_at m) y rec has'.0 has.0 has'.1 has.1 (hands.apart.one has'.0 has.0 (slot_at m) y rec has'.1 has.1) in
+            (b.others, b.carried ∙ ap (λ (z : Rec). (slot_at m, z) ∷ b.others) (sym is)) in
+        (after_view, b.act, b.valid, kept_rule (homes_after s.homes me.1 b.act) b.homes_same, tells (carried_after me.1 b.act) (subst F (sym b.carried) b.same) front)
+
+-- the first of a list, and what is behind it
+pub first_same : (x y : ℕ × Rec) (xs ys : List (ℕ × Rec)) → x ∷ xs ≡ y ∷ ys → x ≡ y
+first_same x y xs ys e = some-injective x y (ap (λ (l : List (ℕ × Rec)). get_elem? l 0) e)
+
+-- a place at a step: the message's number is that of the table's
+module _ (key : Layout) (id : ℕ) (me : Me Rec View) (cpu : CpuId) (m : ℕ) (is_seat : me.0.kind ≡ Of cpu) (within : m < length me.0.specs) where
+  -- the store of a send
+  pub send_allowed : (slots : ℕ) (to : CpuId) (sync : Bool) (flags : Flags) (rec : Rec) (others : List (ℕ × Rec)) → me.1 ≡ (slot_at m, rec) ∷ others → IsOwn me.0 cpu.0 m → (at me.0 m).away ≡ false
+      → cpu.0 < 8 → to.0 < 8 → to.0 < me.0.cpus → (at me.0 m).round < LAST_ROUND → rec.error ≡ 0 → rec.result ≡ 0
+      → Allows (Rule key) slots id me (word_at m) (λ _. message_word (sent_word cpu to ((at me.0 m).round + 1) sync flags))
+          (λ _. sends (step slots (word_at m) (message_word (sent_word cpu to ((at me.0 m).round + 1) sync flags)) 0 none) me (message_word (sent_word cpu to ((at me.0 m).round + 1) sync flags)))
+  send_allowed slots to sync flags rec others front own home few_cpu few_to to_there room no_error no_result s rule deep at_id small =
+      let w : MsgWord = sent_word cpu to ((at me.0 m).round + 1) sync flags in
+      let n : ℕ = message_word w in
+      let there : m < length key.specs.items = subst (λ (xs : List MsgSpec). m < length xs) (seat_plan key rule.mails s id me.0 cpu rule.book at_id is_seat).1 within in
+      let to_here : to.0 < key.cpus = subst (λ (k : ℕ). to.0 < k) (seat_plan key rule.mails s id me.0 cpu rule.book at_id is_seat).0 to_there in
+      let l = lead.send_leads key rule.mails s id me.0 cpu m rule.book at_id is_seat there to sync flags rec own home to_here room no_error no_result in
+      let v' : View = after_step me.0 m (sent w (call_of rec) (at me.0 m)) (operation.Store n) n in
+      let now : Rule key record { words = set s.words (word_at m) n; homes = set s.homes (slot_at m) (some rec); views = set s.views id v' } = record { mails = l.after_mails; book = l.book } in
+      let F : List (ℕ × Rec) → Type 0 = λ c. Rule key record { words = set s.words (word_at m) n; homes = homes_after s.homes c gives; views = set s.views id v' } in
+      let fits : MessageFits w = (few_cpu, few_to, omega arith) in
+      let tells : (k : ℕ) → word_at m ≡ word_at k → (x : MsgWord) → MessageFits x → n ≡ message_word x → (y : Rec) (others' : List (ℕ × Rec)) → me.1 ≡ (slot_at k, y) ∷ others'
+          → (v' ≡ after_step me.0 k (sent x (call_of y) (at me.0 k)) (operation.Store n) n) × (carried_after me.1 gives ≡ others')
+      = at_word m (λ k. (x : MsgWord) → MessageFits x → n ≡ message_word x → (y : Rec) (others' : List (ℕ × Rec)) → me.1 ≡ (slot_at k, y) ∷ others' → (v' ≡ after_step me.0 k (sent x (call_of y) (at me.0 k)) (operation.Store n) n) × (carried_after me.1 gives ≡ others'))
+      (λ x x_fits is y others' front'.
+      let w_is : w ≡ x = message_word-injective w x fits x_fits is in
+      let rec_is : rec ≡ y = ap (λ (h : ℕ × Rec). h.1) (first_same (slot_at m, rec) (slot_at m, y) others others' (sym front ∙ front')) in
+      ((λ i. after_step me.0 m (sent (w_is i) (call_of (rec_is i)) (at me.0 m)) (operation.Store n) n), ap (λ (c : List (ℕ × Rec)). carried_after c gives) front')) in
+      (v', gives, tt, subst F (sym front) now, tells)
+
+  -- the exchange of a take
+  pub take_allowed : (slots old new : ℕ) (w : MsgWord) → old ≡ message_word w → new ≡ message_word w + 1 → MessageFits w → w.state ≡ state.Out → w.target ≡ cpu
+      → Allows (Rule key) slots id me (word_at m) (λ n. either (eqb n old) new n) (takes_it (step slots (word_at m) old new none) me)
+  take_allowed slots old new w old_is new_is fits out to s rule deep at_id small =
+      exchanged n old new
+      (λ x. (v' : View) × (a : Act Rec) × Valid s.homes me.1 a × Rule key (stepped s (word_at m) x id me.1 v' a) × takes_it (step slots (word_at m) old new none) me n (v', carried_after me.1 a))
+      hit miss
+    where
+      n : ℕ
+      n = get_or s.words (word_at m) 0
+
+      there : m < length key.specs.items
+      there = subst (λ (xs : List MsgSpec). m < length xs) (seat_plan key rule.mails s id me.0 cpu rule.book at_id is_seat).1 within
+
+      rec : Rec
+      rec = (mail_at rule.mails m).rec
+
+      hit : n ≡ old → (v' : View) × (a : Act Rec) × Valid s.homes me.1 a × Rule key (stepped s (word_at m) new id me.1 v' a) × takes_it (step slots (word_at m) old new none) me n (v', carried_after me.1 a)
+      hit found =
+          let l = lead.take_leads key rule.mails s id me.0 cpu m rule.book at_id is_seat there w (operation.Exchange old new) n (found ∙ old_is) fits out to in
+          let slot = lead.out_slot key rule.mails s id me.0 cpu m rule.book at_id is_seat there w (found ∙ old_is) fits out in
+          let v' : View = after_step me.0 m (took rec (at me.0 m)) (operation.Exchange old new) n in
+          let now : Rule key record { words = set s.words (word_at m) (message_word w + 1); homes = set s.homes (slot_at m) none; views = set s.views id v' } = record { mails = l.after_mails; book = l.book } in
+          let F : ℕ → Type 0 = λ x. Rule key record { words = set s.words (word_at m) x; homes = set s.homes (slot_at m) none; views = set s.views id v' } in
+          (v', takes (slot_at m) rec, slot.0, subst F (sym new_is) now,
+          at_word m (λ k. Took k old new me n (v', (slot_at m, rec) ∷ me.1)) record { won = λ _. (rec, slot.1, slot.2, refl, refl); lost = λ other. absurd (other found) })
+
+      miss : n ≢ old → (v' : View) × (a : Act Rec) × Valid s.homes me.1 a × Rule key (stepped s (word_at m) n id me.1 v' a) × takes_it (step slots (word_at m) old new none) me n (v', carried_after me.1 a)
+      miss other =
+          let v' : View = after_step me.0 m (at me.0 m) (operation.Exchange old new) n in
+          (v', keeps, tt, stays key s id me.0 cpu m rule at_id is_seat within (at me.0 m) (operation.Exchange old new) n s.homes refl refl refl refl refl refl (λ known. known),
+          at_word m (λ k. Took k old new me n (v', me.1)) record { won = λ found. absurd (other found); lost = λ _. (refl, refl) })
+
+  -- the addition of a reply
+  pub reply_allowed : (slots : ℕ) (rec : Rec) (others : List (ℕ × Rec)) → me.1 ≡ (slot_at m, rec) ∷ others → (at me.0 m).taken ≡ true → call_of rec ≡ (at me.0 m).got
+      → Allows (Rule key) slots id me (word_at m) (λ n. (n + 1) % 2 ^ 64) (replies (step slots (word_at m) 1 0 none) me)
+  reply_allowed slots rec others front taken same_call s rule deep at_id small =
+      let n : ℕ = get_or s.words (word_at m) 0 in
+      let there : m < length key.specs.items = subst (λ (xs : List MsgSpec). m < length xs) (seat_plan key rule.mails s id me.0 cpu rule.book at_id is_seat).1 within in
+      let l = lead.reply_leads key rule.mails s id me.0 cpu m rule.book at_id is_seat there rec (operation.Add 1) n taken same_call in
+      let v' : View = after_step me.0 m (replied rec (at me.0 m)) (operation.Add 1) n in
+      let is_word : n ≡ message_word (parts_of (mail_at rule.mails m)) = (kept key s id me.0 cpu m rule at_id is_seat within).is_word in
+      let below : message_word (parts_of (mail_at rule.mails m)) + 4 < 2 ^ 64 = message_word-below (parts_of (mail_at rule.mails m)) (parts_fit key s id me.0 cpu m rule at_id is_seat within) in
+      let next : (n + 1) % 2 ^ 64 ≡ n + 1 = omega arith in
+      let now : Rule key record { words = set s.words (word_at m) (n + 1); homes = set s.homes (slot_at m) (some rec); views = set s.views id v' } = record { mails = l.after_mails; book = l.book } in
+      let F : ℕ → Type 0 = λ x. Rule key record { words = set s.words (word_at m) x; homes = set s.homes (slot_at m) (some rec); views = set s.views id v' } in
+      let G : List (ℕ × Rec) → Type 0 = λ c. Rule key record { words = set s.words (word_at m) ((n + 1) % 2 ^ 64); homes = homes_after s.homes c gives; views = set s.views id v' } in
+      let tells : (k : ℕ) → word_at m ≡ word_at k → (y : Rec) (others' : List (ℕ × Rec)) → me.1 ≡ (slot_at k, y) ∷ others' → (v' ≡ after_step me.0 k (replied y (at me.0 k)) (operation.Add 1) n) × (carried_after me.1 gives ≡ others')
+      = at_word m (λ k. (y : Rec) (others' : List (ℕ × Rec)) → me.1 ≡ (slot_at k, y) ∷ others' → (v' ≡ after_step me.0 k (replied y (at me.0 k)) (operation.Add 1) n) × (carried_after me.1 gives ≡ others'))
+      (λ y others' front'.
+      let rec_is : rec ≡ y = ap (λ (h : ℕ × Rec). h.1) (first_same (slot_at m, rec) (slot_at m, y) others others' (sym front ∙ front')) in
+      ((λ i. after_step me.0 m (replied (rec_is i) (at me.0 m)) (operation.Add 1) n), ap (λ (c : List (ℕ × Rec)). carried_after c gives) front')) in
+      (v', gives, tt, subst G (sym front) (subst F (sym next) now), tells)
+
+  -- the store of a reap
+  pub reap_allowed : (slots : ℕ) → IsOwn me.0 cpu.0 m → (at me.0 m).had ≡ true → (at me.0 m).back ≡ true
+      → Allows (Rule key) slots id me (word_at m) (λ _. message_word (rest_word cpu (at me.0 m).round)) (λ _. reaps (step slots (word_at m) (message_word (rest_word cpu (at me.0 m).round)) 0 none) me (message_word (rest_word cpu (at me.0 m).round)))
+  reap_allowed slots own had seen s rule deep at_id small =
+      let n : ℕ = message_word (rest_word cpu (at me.0 m).round) in
+      let rec : Rec = (mail_at rule.mails m).rec in
+      let there : m < length key.specs.items = subst (λ (xs : List MsgSpec). m < length xs) (seat_plan key rule.mails s id me.0 cpu rule.book at_id is_seat).1 within in
+      let l = lead.reap_leads key rule.mails s id me.0 cpu m rule.book at_id is_seat there (operation.Store n) n own had seen in
+      let slot = lead.back_slot key rule.mails s id me.0 cpu m rule.book at_id is_seat there own seen in
+      let v' : View = after_step me.0 m (reaped (at me.0 m)) (operation.Store n) n in
+      (v', takes (slot_at m) rec, slot.0, record { mails = l.after_mails; book = l.book },
+      at_word m (λ k. (y : Rec) × (call_of y ≡ (at me.0 k).call) × (v' ≡ after_step me.0 k (reaped (at me.0 k)) (operation.Store n) n) × ((slot_at m, rec) ∷ me.1 ≡ (slot_at k, y) ∷ me.1)) (rec, slot.1, refl, refl))
+
+  -- the load at the opening that hands a record out
+  pub hand_allowed : (slots : ℕ) → IsOwn me.0 cpu.0 m → (at me.0 m).had ≡ false → (at me.0 m).away ≡ false
+      → Allows (Rule key) slots id me (word_at m) (λ n. n) (hands_out (step slots (word_at m) 0 0 none) me)
+  hand_allowed slots own had home s rule deep at_id small =
+      let n : ℕ = get_or s.words (word_at m) 0 in
+      let rec : Rec = (mail_at rule.mails m).rec in
+      let there : m < length key.specs.items = subst (λ (xs : List MsgSpec). m < length xs) (seat_plan key rule.mails s id me.0 cpu rule.book at_id is_seat).1 within in
+      let l = lead.hands_out key rule.mails s id me.0 cpu m rule.book at_id is_seat there operation.Load n own had home in
+      let v' : View = after_step me.0 m (handed (at me.0 m)) operation.Load n in
+      (v', takes (slot_at m) rec, l.0, record { mails = set rule.mails m (record (mail_at rule.mails m) { had = true }); book = l.1 },
+      at_word m (λ k. (y : Rec) × (v' ≡ after_step me.0 k (handed (at me.0 k)) operation.Load n) × ((slot_at m, rec) ∷ me.1 ≡ (slot_at k, y) ∷ me.1)) (rec, refl, refl))

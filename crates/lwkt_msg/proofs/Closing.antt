@@ -1,0 +1,95 @@
+use Rattle.std.proofs.Common.{◌≡◌, ◌⊎◌, inl, inr, ⊎_elim, Option, Some, None, ℕ, zero, suc, ◌+◌, ◌*◌, ◌<◌, ◌≤◌, List, [], ◌∷◌, ◌++◌, length, refl, ap, sym, ◌∙◌, subst, arith, length-append}
+use Rattle.std.specs.Prelude.{slice_get}
+use mathlib.Core.Option.{some, some-injective}
+use lib.ListN.{get_elem?}
+use Rattle.lwkt_base.specs.declared.openings.MsgSpec.{MsgSpec}
+use Rattle.lwkt_base.specs.declared.owners.MsgEnd.{MsgEnd}
+use Rattle.lwkt_base.specs.declared.message_words.MsgWord.{MsgWord}
+use Rattle.lwkt_base.specs.MessageWord.{message_word, MessageFits}
+use Rattle.lwkt_core.specs.declared.seats.SeatKind.TheVariants.{Clerk}
+use Rattle.lwkt_core.specs.Seating.{total}
+use Rattle.lwkt_core.proofs.SeatingLemmas.{total-snoc}
+use Rattle.lwkt_msg.specs.declared.views.Entry.{Entry}
+use Rattle.lwkt_msg.specs.declared.views.View.{View}
+use Rattle.lwkt_msg.specs.Views.{word_at, taken_back, added, at, clerk_both}
+use Rattle.lwkt_msg.specs.Desks.{Desk, IsTaking, HasTakenBack, AreShown, shown_end}
+use Rattle.lwkt_msg.proofs.Splitting.{at-none, at-both}
+
+-- no seat is taken back yet
+pub taking_none : (cpus : ℕ) (v : View) (seats : List Desk) → v.kind ≡ Clerk cpus 0 → v.entries ≡ [] → IsTaking cpus v seats seats v
+taking_none cpus v seats kind none = record {
+  back = 0;
+  kind = kind;
+  as_many = omega arith;
+  cpus_is = refl;
+  specs_is = refl;
+  sends = λ m _. nothing (at v m).sends (total (λ (d : Desk). (at d.view m).sends) seats) (ap (λ (x : Entry). x.sends) (at-none v m none));
+  takes = λ m _. nothing (at v m).takes (total (λ (d : Desk). (at d.view m).takes) seats) (ap (λ (x : Entry). x.takes) (at-none v m none));
+  drops = λ m _. nothing (at v m).drops (total (λ (d : Desk). (at d.view m).drops) seats) (ap (λ (x : Entry). x.drops) (at-none v m none));
+  replies = λ m _. nothing (at v m).replies (total (λ (d : Desk). (at d.view m).replies) seats) (ap (λ (x : Entry). x.replies) (at-none v m none));
+  reaps = λ m _. nothing (at v m).reaps (total (λ (d : Desk). (at d.view m).reaps) seats) (ap (λ (x : Entry). x.reaps) (at-none v m none))
+}
+  where
+    nothing : (n all : ℕ) → n ≡ 0 → n + all ≡ all
+    nothing n all is = omega arith
+
+-- one seat more is taken back
+pub taking_more : (cpus : ℕ) (v : View) (seats left : List Desk) (seat : Desk) (w : View) → IsTaking cpus v seats (left ++ seat ∷ []) w → IsTaking cpus v seats left (clerk_both w seat.view)
+taking_more cpus v seats left seat w t = record {
+  back = t.back + 1;
+  kind = ap taken_back t.kind;
+  as_many = let a = t.as_many in let b = length-append left (seat ∷ []) in omega arith;
+  cpus_is = t.cpus_is;
+  specs_is = t.specs_is;
+  sends = λ m within. moved (λ e. e.sends) m within (λ a b. refl) (t.sends m within);
+  takes = λ m within. moved (λ e. e.takes) m within (λ a b. refl) (t.takes m within);
+  drops = λ m within. moved (λ e. e.drops) m within (λ a b. refl) (t.drops m within);
+  replies = λ m within. moved (λ e. e.replies) m within (λ a b. refl) (t.replies m within);
+  reaps = λ m within. moved (λ e. e.reaps) m within (λ a b. refl) (t.reaps m within)
+}
+  where
+    moved : (f : Entry → ℕ) (m : ℕ) → m < length v.specs → ((a b : Entry) → f (added a b) ≡ f a + f b) → f (at w m) + total (λ (d : Desk). f (at d.view m)) (left ++ seat ∷ []) ≡ total (λ (d : Desk). f (at d.view m)) seats
+        → f (at (clerk_both w seat.view) m) + total (λ (d : Desk). f (at d.view m)) left ≡ total (λ (d : Desk). f (at d.view m)) seats
+    moved f m within adds before =
+        let long = ap (λ (xs : List MsgSpec). length xs) t.specs_is in
+        let within' : m < length w.specs = omega arith in
+        let a = total-snoc (λ (d : Desk). f (at d.view m)) left seat in
+        let b : f (at (clerk_both w seat.view) m) ≡ f (at w m) + f (at seat.view m) = ap f (at-both w seat.view m within') ∙ adds (at w m) (at seat.view m) in
+        omega arith
+
+-- all seats are taken back
+pub taking_all : (cpus : ℕ) (v : View) (seats : List Desk) (w : View) → IsTaking cpus v seats [] w → HasTakenBack cpus v seats w
+taking_all cpus v seats w t = record {
+  kind = t.kind ∙ ap (λ (n : ℕ). Clerk cpus n) (let a = t.as_many in omega arith);
+  cpus_is = t.cpus_is;
+  specs_is = t.specs_is;
+  sends = λ m within. whole (at w m).sends (total (λ (d : Desk). (at d.view m).sends) seats) (t.sends m within);
+  takes = λ m within. whole (at w m).takes (total (λ (d : Desk). (at d.view m).takes) seats) (t.takes m within);
+  drops = λ m within. whole (at w m).drops (total (λ (d : Desk). (at d.view m).drops) seats) (t.drops m within);
+  replies = λ m within. whole (at w m).replies (total (λ (d : Desk). (at d.view m).replies) seats) (t.replies m within);
+  reaps = λ m within. whole (at w m).reaps (total (λ (d : Desk). (at d.view m).reaps) seats) (t.reaps m within)
+}
+  where
+    whole : (n all : ℕ) → n + 0 ≡ all → n ≡ all
+    whole n all is = omega arith
+
+-- what stands in a list with one element more at the end
+get_snoc : (xs : List MsgEnd) (x y : MsgEnd) (k : ℕ) → slice_get (xs ++ x ∷ []) k ≡ Some y → (slice_get xs k ≡ Some y) ⊎ ((k ≡ length xs) × (x ≡ y))
+get_snoc [] x y zero e = inr (refl, let h : Some x ≡ Some y = e in cc)
+get_snoc [] x y (suc k) e = absurd (let h : None ≡ Some y = e in cc)
+get_snoc (z ∷ zs) x y zero e = inl e
+get_snoc (z ∷ zs) x y (suc k) e = ⊎_elim (λ old. inl old) (λ new. inr (ap suc new.0, new.1)) (get_snoc zs x y k e)
+
+-- one closing value more is that which its word shows
+pub shown_more : (m : ℕ) (words : List ℕ) (ends : List MsgEnd) (word : ℕ) (end : MsgEnd) → AreShown m words ends → get_elem? words (word_at m) ≡ some word → ((w : MsgWord) → MessageFits w → message_word w ≡ word → end ≡ shown_end w) → AreShown (m + 1) words (ends ++ end ∷ [])
+shown_more m words ends word end shown at_m shows = record {
+  as_many = let a = shown.as_many in let b = length-append ends (end ∷ []) in omega arith;
+  each = λ k other e n at_k w fits is. ⊎_elim
+      (λ (old : slice_get ends k ≡ Some other). shown.each k other old n at_k w fits is)
+      (λ (new : (k ≡ length ends) × (end ≡ other)).
+      let k_is : k ≡ m = new.0 ∙ shown.as_many in
+      let F : ℕ → Type 0 = λ i. get_elem? words (word_at i) ≡ some n in
+      let n_is : n ≡ word = some-injective n word (sym (subst F k_is at_k) ∙ at_m) in
+      sym new.1 ∙ shows w fits (is ∙ n_is))
+      (get_snoc ends end other k e)
+}

@@ -1,0 +1,95 @@
+use Rattle.std.proofs.Common.{◌≡◌, ◌≢◌, Option, Some, None, ℕ, zero, suc, ◌+◌, ◌*◌, ◌<◌, ◌≤◌, List, [], ◌∷◌, length, map, get_or, refl, ap, sym, ◌∙◌, subst, arith}
+use Rattle.std.specs.Prelude.{slice_get}
+use mathlib.Core.Option.{some}
+use lib.ListN.{get_elem?}
+use Rattle.atomic_table.specs.Seated.{TableId}
+use Rattle.atomic_table.specs.Table.{State}
+use Rattle.lwkt_base.specs.declared.names.CpuId.{CpuId}
+use Rattle.lwkt_base.specs.declared.owners.MsgEnd.{MsgEnd}
+use Rattle.lwkt_base.specs.declared.owners.Owner.{Owner}
+use Rattle.lwkt_base.specs.declared.owners.Owner.TheVariants.{Rest, Out, With, Back}
+use Rattle.lwkt_base.specs.declared.openings.MsgSpec.{MsgSpec}
+use Rattle.lwkt_base.specs.declared.records.Rec.{Rec}
+use Rattle.lwkt_base.specs.MessageWord.{message_word}
+use Rattle.lwkt_core.specs.declared.seats.SeatKind.{SeatKind}
+use Rattle.lwkt_core.specs.declared.seats.SeatKind.TheVariants.{Clerk, Spent}
+use Rattle.lwkt_core.specs.Messages.{IsSafeMessage, origin_of}
+use Rattle.lwkt_core.specs.Seating.{total}
+use Rattle.lwkt_core.specs.Trace.{end_of}
+use Rattle.lwkt_core.proofs.SeatingLemmas.{at_map, total-only, AreSeated-closed}
+use Rattle.lwkt_msg.specs.declared.views.Entry.{Entry}
+use Rattle.lwkt_msg.specs.declared.views.Layout.{Layout}
+use Rattle.lwkt_msg.specs.declared.views.View.{View}
+use Rattle.lwkt_msg.specs.Views.{word_at, slot_at, spec_at, at}
+use Rattle.lwkt_msg.specs.Book.{Mail, parts_of, state_of, shown_target, Knows, HasNoCounts, IsKept, mail_at, Rule}
+use Rattle.lwkt_msg.specs.Desks.{Desk, Shelf, AreGathered, IsClosed, AreClosed, AreShown, HasTakenBack, shown_by, shown_end}
+use Rattle.lwkt_msg.proofs.Leading.{fits_of}
+
+-- an owner is whom its word shows
+owner_shown : (o : Owner) → shown_by (state_of o) (origin_of o) (shown_target o) ≡ o
+owner_shown (Rest o) = refl
+owner_shown (Out o t) = refl
+owner_shown (With o t) = refl
+owner_shown (Back o t) = refl
+
+-- what stands in a list stands within its length
+get_inside : (xs : List MsgEnd) (i : ℕ) (x : MsgEnd) → slice_get xs i ≡ Some x → i < length xs
+get_inside [] i x e = absurd (let h : None ≡ Some x = e in cc)
+get_inside (y ∷ ys) zero x e = omega arith
+get_inside (y ∷ ys) (suc i) x e = let h = get_inside ys i x e in omega arith
+
+-- a word of a table is there
+word_there : (xs : List ℕ) (i : ℕ) → i < length xs → get_elem? xs i ≡ some (get_or xs i 0)
+word_there [] i h = absurd (omega arith)
+word_there (x ∷ xs) zero h = refl
+word_there (x ∷ xs) (suc i) h = word_there xs i (omega arith)
+
+-- what the closing words show is what the book's messages are, once all seats are taken back
+pub closes : (book : Shelf) (key : Layout) (seats : List Desk) (v w : View) (id : ℕ) (words : List ℕ) (ends : List MsgEnd) (s : State Rec View) → book.cpus ≡ key.cpus → book.specs ≡ key.specs.items → v.specs ≡ key.specs.items
+    → length seats ≡ book.cpus → HasTakenBack book.cpus v seats w → Rule key s → get_elem? s.views id ≡ some w → s.words ≡ words → AreShown (length key.specs.items) words ends → AreClosed book seats ends
+closes book key seats v w id words ends s cpus_is specs_is v_specs all taken rule at_id words_are shown = record {
+  as_many = shown.as_many ∙ ap (λ (xs : List MsgSpec). length xs) (sym specs_is);
+  each = each
+}
+  where
+    within_of : (m : ℕ) (end : MsgEnd) → slice_get ends m ≡ Some end → m < length key.specs.items
+    within_of m end e = let a = get_inside ends m end e in let b = shown.as_many in omega arith
+
+    spent : (j : ℕ) (x : View) → get_elem? s.views j ≡ some x → j ≢ id → x.kind ≡ Spent
+    spent j x d apart =
+        let kinds : List SeatKind = map (λ (y : View). y.kind) s.views in
+        let desk : get_elem? kinds id ≡ some (Clerk book.cpus (length seats)) = at_map (λ (y : View). y.kind) s.views id w at_id ∙ ap (λ (k : SeatKind). some k) taken.kind in
+        let enough : key.cpus ≤ length seats = omega arith in
+        (AreSeated-closed key.cpus kinds id book.cpus (length seats) rule.book.seated desk enough).2 j x.kind apart (at_map (λ (y : View). y.kind) s.views j x d)
+
+    counted : (m : ℕ) → m < length key.specs.items → (f : Entry → ℕ) (n all : ℕ) → ((x : Entry) → HasNoCounts x → f x ≡ 0) → total (λ (x : View). f (at x m)) s.views ≡ n → f (at w m) ≡ all → n ≡ all
+    counted m within f n all none is here =
+        let only = total-only (λ (x : View). f (at x m)) s.views id w at_id (λ j x d apart. none (at x m) (((rule.book.each m within).each_view j x d).spent (spent j x d apart))) in
+        sym is ∙ (only ∙ here)
+
+    each : (m : ℕ) (end : MsgEnd) → slice_get ends m ≡ Some end → IsClosed book seats m end
+    each m end e =
+        let within = within_of m end e in
+        let mail : Mail = mail_at rule.mails m in
+        let kept = rule.book.each m within in
+        let wide = rule.book.wide in
+        let in_words : word_at m < length s.words = omega arith in
+        let there : get_elem? s.words (word_at m) ≡ some (get_or s.words (word_at m) 0) = word_there s.words (word_at m) in_words in
+        let F : List ℕ → Type 0 = λ xs. get_elem? xs (word_at m) ≡ some (get_or s.words (word_at m) 0) in
+        let fits = fits_of key.cpus mail kept.safe rule.book.within.processors in
+        let in_v : m < length v.specs = subst (λ (xs : List MsgSpec). m < length xs) (sym v_specs) within in
+        let end_shown : end ≡ shown_end (parts_of mail) = shown.each m end e (get_or s.words (word_at m) 0) (subst F words_are there) (parts_of mail) fits (sym kept.is_word) in
+        record {
+          msg = mail.msg;
+          safe = subst (λ (n : ℕ). IsSafeMessage n mail.msg) (sym cpus_is) kept.safe;
+          origin_is = kept.origin_is ∙ ap (λ (xs : List MsgSpec). (spec_at xs m).origin) (sym specs_is);
+          opening_is = kept.opening_is ∙ ap (λ (xs : List MsgSpec). (spec_at xs m).round) (sym specs_is);
+          end_is = end_shown ∙ ap (λ (o : Owner). let z : MsgEnd = record { round = mail.msg.round; state = o } in z) (owner_shown mail.msg.owner);
+          gathered = record {
+            sends = counted m within (λ x. x.sends) mail.msg.sends (total (λ (d : Desk). (at d.view m).sends) seats) (λ x none. none.sends) kept.counted.sends (taken.sends m in_v);
+            takes = counted m within (λ x. x.takes) mail.msg.takes (total (λ (d : Desk). (at d.view m).takes) seats) (λ x none. none.takes) kept.counted.takes (taken.takes m in_v);
+            drops = counted m within (λ x. x.drops) mail.msg.drops (total (λ (d : Desk). (at d.view m).drops) seats) (λ x none. none.drops) kept.counted.drops (taken.drops m in_v);
+            replies = counted m within (λ x. x.replies) mail.msg.replies (total (λ (d : Desk). (at d.view m).replies) seats) (λ x none. none.replies) kept.counted.replies (taken.replies m in_v);
+            reaps = counted m within (λ x. x.reaps) mail.msg.reaps (total (λ (d : Desk). (at d.view m).reaps) seats) (λ x none. none.reaps) kept.counted.reaps (taken.reaps m in_v)
+          }
+        }

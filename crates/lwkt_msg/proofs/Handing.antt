@@ -1,0 +1,134 @@
+use Rattle.std.proofs.Common.{◌≡◌, ◌≢◌, ◌⊎◌, inl, inr, ⊎_elim, ℕ, ◌+◌, ◌*◌, ◌<◌, ◌≤◌, Bool, true, false, List, [], ◌∷◌, length, refl, ap, sym, ◌∙◌, subst, arith, eq-eqb, ne_eqb}
+use mathlib.Core.Logic.{dite}
+use mathlib.Core.Option.{some-ne-none}
+use native.Mathlib.Decide.{ℕ_discrete}
+use Rattle.atomic_table.specs.Seated.{TableId}
+use Rattle.atomic_table.specs.Table.{Me}
+use Rattle.atomic_table.specs.declared.shared.Seat.{Seat}
+use Rattle.lwkt_base.specs.declared.names.CpuId.{CpuId}
+use Rattle.lwkt_base.specs.declared.openings.MsgSpec.{MsgSpec}
+use Rattle.lwkt_base.specs.declared.records.Rec.{Rec}
+use Rattle.lwkt_core.specs.declared.seats.Operation.TheVariants.{Load}
+use Rattle.lwkt_core.specs.declared.seats.SeatKind.TheVariants.{Of}
+use Rattle.lwkt_msg.specs.declared.views.Entry.{Entry}
+use Rattle.lwkt_msg.specs.declared.views.View.{View}
+use Rattle.lwkt_msg.specs.Views.{next_seat, seat_right, slot_at, spec_at, first_entry, call_of, at, after_step, handed}
+use Rattle.lwkt_msg.specs.Hands.{IsOwn, IsInHand, AreHands}
+use Rattle.lwkt_msg.specs.Plays.{IsSat}
+use Rattle.lwkt_msg.specs.Desks.{opened_entry, IsHanding, IsClerk}
+use Rattle.lwkt_msg.proofs.Knowing.{at-here, at-else}
+use Rattle.lwkt_msg.proofs.Carrying.{hands_taken}
+use Rattle.lwkt_msg.proofs.Splitting.{at-none}
+
+-- the next message is the seat's own, and its record is handed out
+pub handing_own : (place place' : Seat Rec View) (cpu : CpuId) (m found : ℕ) (rec : Rec) → IsHanding cpu m place → m < length place.me.0.specs → IsOwn place.me.0 cpu.0 m → place'.table_id ≡ place.table_id
+    → place'.me.0 ≡ after_step place.me.0 m (handed (at place.me.0 m)) Load found → place'.me.1 ≡ (slot_at m, rec) ∷ place.me.1 → IsHanding cpu (m + 1) place'
+handing_own place place' cpu m found rec h within own same view_is hands_are =
+    let v : View = place.me.0 in
+    let e : Entry = at v m in
+    let first : e ≡ first_entry (spec_at v.specs m) = h.todo m (omega arith) in
+    let words_same = ap (λ (z : TableId). z.words) same in
+    let slots_same = ap (λ (z : TableId). z.slots) same in
+    let specs_same = ap (λ (w : View). length w.specs) view_is in
+    let cpus_same = ap (λ (w : View). w.cpus) view_is in
+    let a = h.words in
+    let b = h.slots in
+    let c = h.few in
+    let d = h.cpus in
+    let t = h.there in
+    let not_taken : e.taken ≡ false = ap (λ (x : Entry). x.taken) first in
+    let not_had : e.had ≡ false = ap (λ (x : Entry). x.had) first in
+    let home : e.away ≡ false = ap (λ (x : Entry). x.away) first in
+    let not_yet : IsInHand v cpu.0 m → ⊥
+    = λ hand. ⊎_elim (λ (is : IsOwn v cpu.0 m × (e.had ≡ true) × (e.away ≡ false)). let f : false ≡ true = sym not_had ∙ is.1 in cc) (λ (is : e.taken ≡ true). let f : false ≡ true = sym not_taken ∙ is in cc) hand in
+    let now = hands_taken v m (handed e) Load found cpu.0 rec place.me.1 within h.hands not_yet (inl (own, refl, home)) (λ is. let f : false ≡ true = sym not_taken ∙ is in absurd cc) in
+    let w : View = after_step v m (handed e) Load found in
+    let F : Me Rec View → Type 0 = λ x. AreHands x.0 cpu.0 x.1 in
+    let D : View → Type 0 = λ x. (k : ℕ) → k < m + 1 → at x k ≡ opened_entry cpu.0 (spec_at x.specs k) in
+    let T : View → Type 0 = λ x. (k : ℕ) → m + 1 ≤ k → at x k ≡ first_entry (spec_at x.specs k) in
+    record {
+      kind = ap (λ (x : View). x.kind) view_is ∙ h.kind;
+      words = omega arith;
+      slots = omega arith;
+      few = omega arith;
+      cpus = omega arith;
+      there = omega arith;
+      hands = subst F (λ i. (sym view_is i, sym hands_are i)) now;
+      done = subst D (sym view_is) (λ k below. dite (ℕ_discrete k m)
+          (λ is. let G : ℕ → Type 0 = λ n. at w n ≡ opened_entry cpu.0 (spec_at v.specs n) in
+          subst G (sym is) (at-here v m (handed e) Load found ∙ (ap handed first ∙ opened (spec_at v.specs m) own)))
+          (λ apart. at-else v m (handed e) Load found k apart ∙ h.done k (omega arith)));
+      todo = subst T (sym view_is) (λ k above. at-else v m (handed e) Load found k (λ is. absurd (omega arith)) ∙ h.todo k (omega arith))
+    }
+  where
+    opened : (spec : MsgSpec) → spec.origin.cpu.0 ≡ cpu.0 → handed (first_entry spec) ≡ opened_entry cpu.0 spec
+    opened spec is = rw (eq-eqb spec.origin.cpu.0 cpu.0 is) refl
+
+-- the next message is another processor's
+pub handing_other : (place : Seat Rec View) (cpu : CpuId) (m : ℕ) → IsHanding cpu m place → (IsOwn place.me.0 cpu.0 m → ⊥) → IsHanding cpu (m + 1) place
+handing_other place cpu m h other = record {
+  kind = h.kind;
+  words = h.words;
+  slots = h.slots;
+  few = h.few;
+  cpus = h.cpus;
+  there = h.there;
+  hands = h.hands;
+  done = λ k below. dite (ℕ_discrete k m)
+      (λ is. let G : ℕ → Type 0 = λ n. at place.me.0 n ≡ opened_entry cpu.0 (spec_at place.me.0.specs n) in subst G (sym is) (h.todo m (omega arith) ∙ blank (spec_at place.me.0.specs m) other))
+      (λ apart. h.done k (omega arith));
+  todo = λ k above. h.todo k (omega arith)
+}
+  where
+    blank : (spec : MsgSpec) → (spec.origin.cpu.0 ≡ cpu.0 → ⊥) → first_entry spec ≡ opened_entry cpu.0 spec
+    blank spec apart = rw (ne_eqb spec.origin.cpu.0 cpu.0 apart) refl
+
+-- once all records are handed out, the seat is that of its processor
+pub handing_done : (place : Seat Rec View) (cpu : CpuId) → IsHanding cpu (length place.me.0.specs) place → IsSat cpu place
+handing_done place cpu h = record {
+  kind = h.kind;
+  words = h.words;
+  slots = h.slots;
+  few = h.few;
+  cpus = h.cpus;
+  there = h.there;
+  had = λ m within own. ap (λ (x : Entry). x.had) (h.done m within) ∙ has (spec_at place.me.0.specs m) own;
+  hands = h.hands
+}
+  where
+    has : (spec : MsgSpec) → spec.origin.cpu.0 ≡ cpu.0 → (opened_entry cpu.0 spec).had ≡ true
+    has spec is = rw (eq-eqb spec.origin.cpu.0 cpu.0 is) refl
+
+-- a seat that was just made has no record in hand
+pub handing_fresh : (clerk place : Seat Rec View) (cpu : CpuId) (cpus : ℕ) (specs : List MsgSpec) → IsClerk cpu.0 cpus specs clerk → cpu.0 < cpus → place.table_id ≡ clerk.table_id → place.me ≡ (seat_right clerk.me.0, []) → IsHanding cpu 0 place
+handing_fresh clerk place cpu cpus specs k room same me_is =
+    let words_same = ap (λ (z : TableId). z.words) same in
+    let slots_same = ap (λ (z : TableId). z.slots) same in
+    let specs_is = ap (λ (x : Me Rec View). length x.0.specs) me_is in
+    let long = ap (λ (xs : List MsgSpec). length xs) k.specs_is in
+    let cpus_is = ap (λ (x : Me Rec View). x.0.cpus) me_is in
+    let a = k.words in
+    let b = k.slots in
+    let c = k.few in
+    let d = k.few_cpus in
+    let f = k.cpus_is in
+    let v : View = seat_right clerk.me.0 in
+    let F : Me Rec View → Type 0 = λ x. AreHands x.0 cpu.0 x.1 in
+    let T : View → Type 0 = λ x. (m : ℕ) → 0 ≤ m → at x m ≡ first_entry (spec_at x.specs m) in
+    let blank : (m : ℕ) → at v m ≡ first_entry (spec_at v.specs m) = λ m. at-none v m k.none_noted in
+    record {
+      kind = ap (λ (x : Me Rec View). x.0.kind) me_is ∙ ap next_seat k.kind;
+      words = omega arith;
+      slots = omega arith;
+      few = omega arith;
+      cpus = omega arith;
+      there = omega arith;
+      hands = subst F (sym me_is) record {
+        apart = record { one = λ i j slot rec other x y. absurd (some-ne-none (slot, rec) (sym x)) };
+        all = λ slot rec has. absurd (some-ne-none (slot, rec) (sym has.1));
+        own = λ m within own had home. absurd (let e : false ≡ true = ap (λ (x : Entry). x.had) (sym (blank m)) ∙ had in cc);
+        taken = λ m within taken. absurd (let e : false ≡ true = ap (λ (x : Entry). x.taken) (sym (blank m)) ∙ taken in cc)
+      };
+      done = λ m below. absurd (omega arith);
+      todo = subst T (ap (λ (x : Me Rec View). x.0) (sym me_is)) (λ m _. blank m)
+    }

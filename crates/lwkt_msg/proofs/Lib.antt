@@ -1,0 +1,14 @@
+pub mod WordFacts
+pub mod Knowing
+pub mod Frames
+pub mod Bringing
+pub mod Moves
+pub mod Leading
+pub mod Carrying
+pub mod Allowing
+pub mod Splitting
+pub mod Sitting
+pub mod Calling
+pub mod Handing
+pub mod Closing
+pub mod Ending

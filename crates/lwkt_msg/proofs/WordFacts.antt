@@ -1,0 +1,95 @@
+use Rattle.std.proofs.Common.{◌≡◌, ℕ, ◌+◌, ◌*◌, ◌<◌, ◌≤◌, ◌^◌, Bool, true, false, refl, ap, sym, ◌∙◌, arith}
+use Rattle.lwkt_base.specs.declared.names.CpuId.{CpuId}
+use Rattle.lwkt_base.specs.declared.message_words.MsgWord.{MsgWord}
+use Rattle.lwkt_base.specs.declared.message_words.MsgState.{MsgState}
+use Rattle.lwkt_base.specs.declared.message_words.MsgState.TheVariants.{Rest, Out, With, Back}
+use Rattle.lwkt_base.specs.TokenWord.{bit}
+use Rattle.lwkt_base.specs.MessageWord.{state_number, message_word, MessageFits}
+
+state_below : (s : MsgState) → state_number s < 4
+state_below Rest = omega arith
+state_below Out = omega arith
+state_below With = omega arith
+state_below Back = omega arith
+
+bit_below : (b : Bool) → bit b < 2
+bit_below true = omega arith
+bit_below false = omega arith
+
+state_same : (s t : MsgState) → state_number s ≡ state_number t → s ≡ t
+state_same Rest Rest e = refl
+state_same Rest Out e = absurd (omega arith)
+state_same Rest With e = absurd (omega arith)
+state_same Rest Back e = absurd (omega arith)
+state_same Out Rest e = absurd (omega arith)
+state_same Out Out e = refl
+state_same Out With e = absurd (omega arith)
+state_same Out Back e = absurd (omega arith)
+state_same With Rest e = absurd (omega arith)
+state_same With Out e = absurd (omega arith)
+state_same With With e = refl
+state_same With Back e = absurd (omega arith)
+state_same Back Rest e = absurd (omega arith)
+state_same Back Out e = absurd (omega arith)
+state_same Back With e = absurd (omega arith)
+state_same Back Back e = refl
+
+bit_same : (a b : Bool) → bit a ≡ bit b → a ≡ b
+bit_same true true e = refl
+bit_same true false e = absurd (omega arith)
+bit_same false true e = absurd (omega arith)
+bit_same false false e = refl
+
+-- eight digits, each within its place, are told by their sum
+record Digits (s a y d b o t r s' a' y' d' b' o' t' r' : ℕ) : Type 0 where
+  s_is : s ≡ s'
+  a_is : a ≡ a'
+  y_is : y ≡ y'
+  d_is : d ≡ d'
+  b_is : b ≡ b'
+  o_is : o ≡ o'
+  t_is : t ≡ t'
+  r_is : r ≡ r'
+
+digits : (s a y d b o t r s' a' y' d' b' o' t' r' : ℕ) → s < 4 → a < 2 → y < 2 → d < 2 → b < 2 → o < 8 → t < 8 → s' < 4 → a' < 2 → y' < 2 → d' < 2 → b' < 2 → o' < 8 → t' < 8
+    → s + 4 * a + 8 * y + 16 * d + 32 * b + 128 * o + 1024 * t + 8192 * r ≡ s' + 4 * a' + 8 * y' + 16 * d' + 32 * b' + 128 * o' + 1024 * t' + 8192 * r' → Digits s a y d b o t r s' a' y' d' b' o' t' r'
+digits s a y d b o t r s' a' y' d' b' o' t' r' h1 h2 h3 h4 h5 h6 h7 k1 k2 k3 k4 k5 k6 k7 e =
+    let r_is : r ≡ r' = omega arith in
+    let t_is : t ≡ t' = omega arith in
+    let o_is : o ≡ o' = omega arith in
+    let b_is : b ≡ b' = omega arith in
+    let d_is : d ≡ d' = omega arith in
+    let y_is : y ≡ y' = omega arith in
+    let a_is : a ≡ a' = omega arith in
+    record { s_is = omega arith; a_is = a_is; y_is = y_is; d_is = d_is; b_is = b_is; o_is = o_is; t_is = t_is; r_is = r_is }
+
+-- two words of parts that fit are equal only if the parts are
+pub message_word-injective : (v w : MsgWord) → MessageFits v → MessageFits w → message_word v ≡ message_word w → v ≡ w
+message_word-injective v w fv fw e =
+    let g = digits (state_number v.state) (bit v.aborted) (bit v.sync) (bit v.dropable) (bit v.abortable) v.origin.0 v.target.0 v.round
+    (state_number w.state) (bit w.aborted) (bit w.sync) (bit w.dropable) (bit w.abortable) w.origin.0 w.target.0 w.round
+    (state_below v.state) (bit_below v.aborted) (bit_below v.sync) (bit_below v.dropable) (bit_below v.abortable) fv.0 fv.1
+    (state_below w.state) (bit_below w.aborted) (bit_below w.sync) (bit_below w.dropable) (bit_below w.abortable) fw.0 fw.1 e in
+    λ i. record {
+      round = g.r_is i;
+      state = state_same v.state w.state g.s_is i;
+      origin = record { 0 = g.o_is i };
+      target = record { 0 = g.t_is i };
+      aborted = bit_same v.aborted w.aborted g.a_is i;
+      sync = bit_same v.sync w.sync g.y_is i;
+      dropable = bit_same v.dropable w.dropable g.d_is i;
+      abortable = bit_same v.abortable w.abortable g.b_is i
+    }
+
+-- a word of parts that fit is below 2 ^ 64, and so is the next one
+pub message_word-below : (w : MsgWord) → MessageFits w → message_word w + 4 < 2 ^ 64
+message_word-below w fits =
+    let a = state_below w.state in
+    let b = bit_below w.aborted in
+    let c = bit_below w.sync in
+    let d = bit_below w.dropable in
+    let e = bit_below w.abortable in
+    let f = fits.0 in
+    let g = fits.1 in
+    let h = fits.2 in
+    omega arith

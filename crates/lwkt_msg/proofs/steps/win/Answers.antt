@@ -1,0 +1,50 @@
+use Rattle.std.proofs.Common.{◌≡◌, ◌⊎◌, inl, inr, ℕ, ◌+◌, ◌*◌, ◌<◌, List, ◌∷◌, refl, ap, sym, ◌∙◌, subst, arith, eqb}
+use Rattle.atomic_table.specs.Table.{Me}
+use Rattle.lwkt_base.specs.declared.records.Rec.{Rec}
+use Rattle.lwkt_core.specs.declared.seats.Operation.TheVariants.{Exchange}
+use Rattle.lwkt_msg.specs.declared.views.View.{View}
+use Rattle.lwkt_msg.specs.Views.{word_at, slot_at, call_of, at, after_step, took}
+use Rattle.lwkt_msg.proofs.Allowing.{take_allowed, first_same}
+use Rattle.lwkt_msg.proofs.Sitting.{sat_taken, sat_same, word_inside}
+use Rattle.lwkt_msg.proofs.steps.win.Goals as goal
+
+pub compare_exchange-seen-requires : goal.compare_exchange-seen-requires
+compare_exchange-seen-requires c =
+    let sat = c.requires.sat in
+    let z = c.args.top.now.table_id in
+    let w = c.requires.word in
+    (c.requires.table, word_inside c.args.place.now z c.args.word.target c.args.m sat c.requires.table c.requires.exists,
+    take_allowed c.args.top.now.key c.args.place.now.id c.args.place.now.me c.args.word.target c.args.m sat.kind c.requires.exists z.slots c.args.found (c.args.found + 1) c.args.word w.0 (ap (λ (n : ℕ). n + 1) w.0) w.1 w.2 refl)
+
+pub front-requires-clause-held : goal.front-requires-clause-held
+front-requires-clause-held c =
+    let won = (c.compare_exchange-seen.ensures.2 c.args.m refl).won c.if-seen-found.true in (won.0, (c.args.place.now.me.1, won.4))
+
+pub returns-then-seen-found-clause-sat : goal.returns-then-seen-found-clause-sat
+returns-then-seen-found-clause-sat c =
+    let m : ℕ = c.args.m in
+    let won = (c.compare_exchange-seen.ensures.2 m refl).won c.if-seen-found.true in
+    let same = c.front.ensures.seat in
+    sat_taken c.args.place.now c.front.new.place c.args.word.target m (took won.0 (at c.args.place.now.me.0 m)) (Exchange c.args.found (c.args.found + 1)) c.compare_exchange-seen.result won.0 c.requires.sat
+    (same.0.0 ∙ c.compare_exchange-seen.ensures.0) (ap (λ (x : Me Rec View). x.0) same.1 ∙ won.3) c.requires.exists c.requires.new (inr refl) (λ _. refl)
+    (ap (λ (x : Me Rec View). x.1) same.1 ∙ won.4) refl
+
+pub returns-then-seen-found-clause-view : goal.returns-then-seen-found-clause-view
+returns-then-seen-found-clause-view c =
+    let m : ℕ = c.args.m in
+    let won = (c.compare_exchange-seen.ensures.2 m refl).won c.if-seen-found.true in
+    let same = c.front.ensures.seat in
+    let value = c.front.ensures.value in
+    let is : won.0 ≡ c.front.result = ap (λ (h : ℕ × Rec). h.1) (first_same (slot_at m, won.0) (slot_at m, c.front.result) c.args.place.now.me.1 value.0 (sym won.4 ∙ value.1)) in
+    (ap (λ (r : Rec). r.error) (sym is) ∙ won.1, ap (λ (r : Rec). r.result) (sym is) ∙ won.2,
+    ap (λ (x : Me Rec View). x.0) same.1 ∙ (won.3 ∙ (λ i. after_step c.args.place.now.me.0 m (took (is i) (at c.args.place.now.me.0 m)) (Exchange c.args.found (c.args.found + 1)) (c.if-seen-found.true i))))
+
+pub returns-else-seen-found-clause-sat : goal.returns-else-seen-found-clause-sat
+returns-else-seen-found-clause-sat c =
+    let lost = (c.compare_exchange-seen.ensures.2 c.args.m refl).lost c.if-seen-found.false in
+    sat_same c.args.place.now c.compare_exchange-seen.new.seat c.args.word.target c.args.m (Exchange c.args.found (c.args.found + 1)) c.compare_exchange-seen.result c.requires.sat c.compare_exchange-seen.ensures.0 lost.0 lost.1
+
+pub returns-else-seen-found-clause-view : goal.returns-else-seen-found-clause-view
+returns-else-seen-found-clause-view c =
+    let lost = (c.compare_exchange-seen.ensures.2 c.args.m refl).lost c.if-seen-found.false in
+    (c.compare_exchange-seen.result, c.if-seen-found.false, lost.0)

@@ -1,0 +1,206 @@
+use Rattle.std.specs.Prelude.{◌≡◌, ◌⊎◌, ℕ, ◌+◌, ◌*◌, ◌<◌, ◌≤◌, ◌==◌, Bool, true, false, List, [], length, slice_get, slice_index, Some, if◌then◌else◌}
+use mathlib.Core.Option.{some}
+use lib.ListN.{get_elem?}
+use Rattle.atomic_table.specs.Seated.{TableId}
+use Rattle.atomic_table.specs.declared.shared.Seat.{Seat}
+use Rattle.lwkt_base.specs.declared.names.CpuId.{CpuId}
+use Rattle.lwkt_base.specs.declared.faults.Fault.{Fault}
+use Rattle.lwkt_base.specs.declared.faults.Fault.TheVariants.{NotOwner, NotTaken}
+use Rattle.lwkt_base.specs.declared.openings.MsgSpec.{MsgSpec}
+use Rattle.lwkt_base.specs.declared.owners.MsgEnd.{MsgEnd}
+use Rattle.lwkt_base.specs.declared.records.Rec.{Rec}
+use Rattle.lwkt_core.specs.declared.messages.Message.{Message}
+use Rattle.lwkt_core.specs.declared.seats.SeatKind.{SeatKind}
+use Rattle.lwkt_core.specs.declared.seats.SeatKind.TheVariants.{Clerk, Of, Spent}
+use Rattle.lwkt_core.specs.Messages.{IsSafeMessage}
+use Rattle.lwkt_core.specs.Seating.{total}
+use Rattle.lwkt_core.specs.Trace.{end_of}
+use Rattle.lwkt_msg.specs.declared.views.Entry.{Entry}
+use Rattle.lwkt_msg.specs.declared.views.Layout.{Layout}
+use Rattle.lwkt_msg.specs.declared.views.View.{View}
+use Rattle.lwkt_msg.specs.Views.{word_at, spec_at, first_entry, handed, at}
+use Rattle.lwkt_base.specs.declared.owners.Owner.{Owner}
+use Rattle.lwkt_base.specs.declared.owners.Owner.TheVariants.{Rest, Out, With, Back}
+use Rattle.lwkt_base.specs.declared.message_words.MsgWord.{MsgWord}
+use Rattle.lwkt_base.specs.declared.message_words.MsgState.{MsgState}
+use Rattle.lwkt_base.specs.declared.message_words.MsgState.TheVariants as state
+use Rattle.lwkt_base.specs.MessageWord.{message_word, MessageFits}
+use Rattle.lwkt_msg.specs.Hands.{AreHands}
+use Rattle.lwkt_msg.specs.Steps.{rest_word}
+use Rattle.lwkt_msg.specs.Plays.{IsSat}
+
+-- what callers see of a seat: the table that it sits at, and what it knows
+pub record Desk : Type 0 where
+  pub table : TableId
+  pub view : View
+
+abbrev pub desk : Seat Rec View → Desk
+desk place = record { table = place.table_id; view = place.me.0 }
+
+-- what callers see of a book: its table, and what it was opened with
+pub record Shelf : Type 0 where
+  pub table : TableId
+  pub cpus : ℕ
+  pub specs : List MsgSpec
+
+-- the fields of a seat are those of a processor's seat at a table of so many processors and messages
+pub record IsMsgSeat (cpu : CpuId) (cpus messages : ℕ) (place : Seat Rec View) : Type 0 where
+  pub sat : IsSat cpu place
+  pub cpus_is : cpus ≡ place.me.0.cpus
+  pub messages_is : messages ≡ length place.me.0.specs
+
+-- the fields of a book are those of a table of so many processors and messages, with the clerk who has made all seats
+pub record IsMsgBook (cpus messages : ℕ) (table : TableId) (key : Layout) (clerk : Seat Rec View) : Type 0 where
+  pub words : table.words ≡ 16 * messages + 1
+  pub slots : table.slots ≡ 4 * messages
+  pub few : messages ≤ 64
+  pub cpus_is : cpus ≡ key.cpus
+  pub messages_is : messages ≡ length key.specs.items
+  pub clerk_table : clerk.table_id ≡ table
+  pub clerk_kind : clerk.me.0.kind ≡ Clerk cpus 0
+  pub clerk_cpus : clerk.me.0.cpus ≡ cpus
+  pub clerk_specs : clerk.me.0.specs ≡ key.specs.items
+  pub none_noted : clerk.me.0.entries ≡ []
+
+-- the processor of a seat
+abbrev pub seat_cpu : SeatKind → CpuId
+seat_cpu (Clerk made back) = record { 0 = 0 }
+seat_cpu (Of cpu) = cpu
+seat_cpu Spent = record { 0 = 0 }
+
+abbrev pub cpu_of : Desk → CpuId
+cpu_of d = seat_cpu d.view.kind
+
+-- what a seat knows of a message, how many messages and processors there are
+abbrev pub entry : Desk → ℕ → Entry
+entry d m = at d.view m
+
+abbrev pub messages_of : Desk → ℕ
+messages_of d = length d.view.specs
+
+abbrev pub cpus_of : Desk → ℕ
+cpus_of d = d.view.cpus
+
+-- the seat is still the one that it was: of the same processor, at the same table
+pub record IsSameDesk (d d' : Desk) : Type 0 where
+  pub table : d'.table ≡ d.table
+  pub kind : d'.view.kind ≡ d.view.kind
+  pub cpus : d'.view.cpus ≡ d.view.cpus
+  pub specs : d'.view.specs ≡ d.view.specs
+
+-- what the seat of a processor knows of a message at the opening: the origin has its record
+abbrev pub opened_entry : ℕ → MsgSpec → Entry
+opened_entry cpu spec = if spec.origin.cpu.0 == cpu then handed (first_entry spec) else first_entry spec
+
+-- the seat of a processor as it is opened
+pub record IsOpened (cpu : ℕ) (book : Shelf) (d : Desk) : Type 0 where
+  pub table : d.table ≡ book.table
+  pub kind : d.view.kind ≡ Of (record { 0 = cpu })
+  pub cpus : d.view.cpus ≡ book.cpus
+  pub specs : d.view.specs ≡ book.specs
+  pub entries : (m : ℕ) → m < length book.specs → at d.view m ≡ opened_entry cpu (spec_at book.specs m)
+
+-- the seats of so many processors as they are opened
+pub record AreSeats (made : ℕ) (book : Shelf) (seats : List Desk) : Type 0 where
+  pub as_many : length seats ≡ made
+  pub each : (cpu : ℕ) (d : Desk) → slice_get seats cpu ≡ Some d → IsOpened cpu book d
+
+-- a book that was just opened, with one seat for each processor
+pub record AreOpened (cpus : ℕ) (specs : List MsgSpec) (book : Shelf) (seats : List Desk) : Type 0 where
+  pub cpus_is : book.cpus ≡ cpus
+  pub specs_is : book.specs ≡ specs
+  pub seats_are : AreSeats cpus book seats
+
+-- how often each thing was done with a message, by all seats
+pub record AreGathered (msg : Message) (m : ℕ) (seats : List Desk) : Type 0 where
+  pub sends : msg.sends ≡ total (λ d. (at d.view m).sends) seats
+  pub takes : msg.takes ≡ total (λ d. (at d.view m).takes) seats
+  pub drops : msg.drops ≡ total (λ d. (at d.view m).drops) seats
+  pub replies : msg.replies ≡ total (λ d. (at d.view m).replies) seats
+  pub reaps : msg.reaps ≡ total (λ d. (at d.view m).reaps) seats
+
+-- what is known of a message at the close: it is a safe message with this owner and round, which was opened so, and with which all
+-- seats together did so much
+pub record IsClosed (book : Shelf) (seats : List Desk) (m : ℕ) (end : MsgEnd) : Type 0 where
+  pub msg : Message
+  pub safe : IsSafeMessage book.cpus msg
+  pub origin_is : msg.origin ≡ (spec_at book.specs m).origin
+  pub opening_is : msg.opening ≡ (spec_at book.specs m).round
+  pub end_is : end ≡ end_of msg
+  pub gathered : AreGathered msg m seats
+
+-- the closing values are those of the book's messages
+pub record AreClosed (book : Shelf) (seats : List Desk) (ends : List MsgEnd) : Type 0 where
+  pub as_many : length ends ≡ length book.specs
+  pub each : (m : ℕ) (end : MsgEnd) → slice_get ends m ≡ Some end → IsClosed book seats m end
+
+-- a seat that is being opened, and has the records of its own messages up to this one
+pub record IsHanding (cpu : CpuId) (upto : ℕ) (place : Seat Rec View) : Type 0 where
+  pub kind : place.me.0.kind ≡ Of cpu
+  pub words : place.table_id.words ≡ 16 * length place.me.0.specs + 1
+  pub slots : place.table_id.slots ≡ 4 * length place.me.0.specs
+  pub few : length place.me.0.specs ≤ 64
+  pub cpus : place.me.0.cpus ≤ 8
+  pub there : cpu.0 < place.me.0.cpus
+  pub hands : AreHands place.me.0 cpu.0 place.me.1
+  pub done : (m : ℕ) → m < upto → at place.me.0 m ≡ opened_entry cpu.0 (spec_at place.me.0.specs m)
+  pub todo : (m : ℕ) → upto ≤ m → at place.me.0 m ≡ first_entry (spec_at place.me.0.specs m)
+
+-- the clerk, who has made so many seats
+pub record IsClerk (made cpus : ℕ) (specs : List MsgSpec) (place : Seat Rec View) : Type 0 where
+  pub kind : place.me.0.kind ≡ Clerk made 0
+  pub cpus_is : place.me.0.cpus ≡ cpus
+  pub specs_is : place.me.0.specs ≡ specs
+  pub none_noted : place.me.0.entries ≡ []
+  pub words : place.table_id.words ≡ 16 * length specs + 1
+  pub slots : place.table_id.slots ≡ 4 * length specs
+  pub few : length specs ≤ 64
+  pub few_cpus : cpus ≤ 8
+
+-- the words of a table that is opened with these messages
+pub record AreOpeningWords (upto : ℕ) (specs : List MsgSpec) (words : List ℕ) : Type 0 where
+  pub wide : length words ≡ 16 * length specs + 1
+  pub zero_word : slice_index words 0 ≡ 0
+  pub each : (m : ℕ) → m < upto → slice_index words (word_at m) ≡ message_word (rest_word (spec_at specs m).origin.cpu (spec_at specs m).round)
+
+-- whom a word shows the message with, and the closing values that it shows
+abbrev pub shown_by : MsgState → CpuId → CpuId → Owner
+shown_by state.Rest origin target = Rest origin
+shown_by state.Out origin target = Out origin target
+shown_by state.With origin target = With origin target
+shown_by state.Back origin target = Back origin target
+
+abbrev pub shown_owner : MsgWord → Owner
+shown_owner w = shown_by w.state w.origin w.target
+
+abbrev pub shown_end : MsgWord → MsgEnd
+shown_end w = record { round = w.round; state = shown_owner w }
+
+-- the closing values are those that the words show
+pub record AreShown (upto : ℕ) (words : List ℕ) (ends : List MsgEnd) : Type 0 where
+  pub as_many : length ends ≡ upto
+  pub each : (m : ℕ) (end : MsgEnd) → slice_get ends m ≡ Some end → (word : ℕ) → get_elem? words (word_at m) ≡ some word → (w : MsgWord) → MessageFits w → message_word w ≡ word → end ≡ shown_end w
+
+-- the clerk's view while seats are taken back, of which these are left
+pub record IsTaking (cpus : ℕ) (v : View) (seats left : List Desk) (w : View) : Type 0 where
+  pub back : ℕ
+  pub kind : w.kind ≡ Clerk cpus back
+  pub as_many : back + length left ≡ length seats
+  pub cpus_is : w.cpus ≡ v.cpus
+  pub specs_is : w.specs ≡ v.specs
+  pub sends : (m : ℕ) → m < length v.specs → (at w m).sends + total (λ d. (at d.view m).sends) left ≡ total (λ d. (at d.view m).sends) seats
+  pub takes : (m : ℕ) → m < length v.specs → (at w m).takes + total (λ d. (at d.view m).takes) left ≡ total (λ d. (at d.view m).takes) seats
+  pub drops : (m : ℕ) → m < length v.specs → (at w m).drops + total (λ d. (at d.view m).drops) left ≡ total (λ d. (at d.view m).drops) seats
+  pub replies : (m : ℕ) → m < length v.specs → (at w m).replies + total (λ d. (at d.view m).replies) left ≡ total (λ d. (at d.view m).replies) seats
+  pub reaps : (m : ℕ) → m < length v.specs → (at w m).reaps + total (λ d. (at d.view m).reaps) left ≡ total (λ d. (at d.view m).reaps) seats
+
+-- the clerk's view after these seats were taken back
+pub record HasTakenBack (cpus : ℕ) (v : View) (seats : List Desk) (w : View) : Type 0 where
+  pub kind : w.kind ≡ Clerk cpus (length seats)
+  pub cpus_is : w.cpus ≡ v.cpus
+  pub specs_is : w.specs ≡ v.specs
+  pub sends : (m : ℕ) → m < length v.specs → (at w m).sends ≡ total (λ d. (at d.view m).sends) seats
+  pub takes : (m : ℕ) → m < length v.specs → (at w m).takes ≡ total (λ d. (at d.view m).takes) seats
+  pub drops : (m : ℕ) → m < length v.specs → (at w m).drops ≡ total (λ d. (at d.view m).drops) seats
+  pub replies : (m : ℕ) → m < length v.specs → (at w m).replies ≡ total (λ d. (at d.view m).replies) seats
+  pub reaps : (m : ℕ) → m < length v.specs → (at w m).reaps ≡ total (λ d. (at d.view m).reaps) seats

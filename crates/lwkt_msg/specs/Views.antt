@@ -1,0 +1,182 @@
+use Rattle.std.specs.Prelude.{◌≡◌, ℕ, ◌+◌, ◌*◌, ◌<◌, ◌≤◌, ◌==◌, ◌||◌, Bool, true, false, List, [], ◌∷◌, ◌++◌, length, slice_index_or, if◌then◌else◌}
+use Rattle.std.proofs.Common.{zero, suc}
+use Rattle.lwkt_base.specs.declared.names.CpuId.{CpuId}
+use Rattle.lwkt_base.specs.declared.records.Call.{Call}
+use Rattle.lwkt_base.specs.declared.records.Rec.{Rec}
+use Rattle.lwkt_base.specs.declared.records.Flags.{Flags}
+use Rattle.lwkt_base.specs.declared.openings.MsgSpec.{MsgSpec}
+use Rattle.lwkt_base.specs.declared.message_words.MsgWord.{MsgWord}
+use Rattle.lwkt_base.specs.declared.message_words.MsgState.{MsgState}
+use Rattle.lwkt_base.specs.declared.message_words.MsgState.TheVariants.{Rest, Out, With, Back}
+use Rattle.lwkt_core.specs.declared.seats.Operation.{Operation}
+use Rattle.lwkt_core.specs.declared.seats.SeatKind.{SeatKind}
+use Rattle.lwkt_core.specs.declared.seats.SeatKind.TheVariants.{Clerk, Of, Spent}
+use Rattle.lwkt_msg.specs.declared.views.Entry.{Entry}
+use Rattle.lwkt_msg.specs.declared.views.Noted.{Noted}
+use Rattle.lwkt_msg.specs.declared.views.Returned.{Returned}
+use Rattle.lwkt_msg.specs.declared.views.View.{View}
+
+-- the word and the record of a message (own: no two words, nor two records, lie on one line of a cache)
+abbrev pub word_at : ℕ → ℕ
+word_at m = 16 * m + 1
+
+abbrev pub slot_at : ℕ → ℕ
+slot_at m = 4 * m
+
+-- no call, no leave to do anything, no message
+abbrev pub no_call : Call
+no_call = record { arg = 0; op = 0 }
+
+abbrev pub no_flags : Flags
+no_flags = record { dropable = false; abortable = false }
+
+abbrev pub no_spec : MsgSpec
+no_spec = record { origin = record { cpu = record { 0 = 0 }; thread = 0 }; round = 0 }
+
+-- the message of a number, as it was opened
+abbrev pub spec_at : List MsgSpec → ℕ → MsgSpec
+spec_at specs m = slice_index_or specs m no_spec
+
+-- the call of a record, and its error and result
+abbrev pub call_of : Rec → Call
+call_of rec = record { arg = rec.arg; op = rec.op }
+
+abbrev pub answer_of : Rec → Returned
+answer_of rec = record { result = rec.result; error = rec.error }
+
+-- what is known of a message at the opening
+abbrev pub first_entry : MsgSpec → Entry
+first_entry spec = record { round = spec.round; call = no_call; flags = no_flags; sync = false; had = false; away = false; back = false; asked = false; taken = false; got = no_call; answer = record { result = 0; error = 0 }; sends = 0; takes = 0; drops = 0; replies = 0; reaps = 0 }
+
+-- the first entry of a message among several, or else this one
+unfoldable pub entry_in : List Noted → ℕ → Entry → Entry
+entry_in [] m other = other
+entry_in (x ∷ xs) m other = if x.msg == m then x.entry else entry_in xs m other
+
+-- what a seat knows of a message
+unfoldable pub at : View → ℕ → Entry
+at v m = entry_in v.entries m (first_entry (spec_at v.specs m))
+
+-- what a seat knows after a step on a message
+abbrev pub after_step : View → ℕ → Entry → Operation → ℕ → View
+after_step v m e operation found = record v { entries = record { msg = m; entry = e } ∷ v.entries; steps = v.steps ++ record { at = m; operation = operation; found = found } ∷ [] }
+
+-- whether a state is that of a message which was replied to
+abbrev pub shows_back : MsgState → Bool
+shows_back Rest = false
+shows_back Out = false
+shows_back With = false
+shows_back Back = true
+
+-- whether a state is not that of a message at rest
+abbrev pub shows_away : MsgState → Bool
+shows_away Rest = false
+shows_away Out = true
+shows_away With = true
+shows_away Back = true
+
+-- whether a word shows a message that this processor has taken
+abbrev pub shows_with : ℕ → MsgState → CpuId → Bool
+shows_with cpu Rest target = false
+shows_with cpu Out target = false
+shows_with cpu With target = target.0 == cpu
+shows_with cpu Back target = false
+
+-- what the flags of a word allow
+abbrev pub flags_of : MsgWord → Flags
+flags_of w = record { dropable = w.dropable; abortable = w.abortable }
+
+-- what is known of a message after each step on it: a load that found a word, the record handed out, a send, a take, a reply,
+-- a reap, a drop, a request to abort
+abbrev pub looked : MsgWord → Entry → Entry
+looked w e = record e { back = e.back || shows_back w.state }
+
+abbrev pub handed : Entry → Entry
+handed e = record e { had = true }
+
+abbrev pub sent : MsgWord → Call → Entry → Entry
+sent w call e = record e { round = w.round; call = call; flags = flags_of w; sync = w.sync; away = true; back = false; asked = false; sends = e.sends + 1 }
+
+abbrev pub took : Rec → Entry → Entry
+took rec e = record e { taken = true; got = call_of rec; takes = e.takes + 1 }
+
+abbrev pub replied : Rec → Entry → Entry
+replied rec e = record e { taken = false; answer = answer_of rec; replies = e.replies + 1 }
+
+abbrev pub answered : ℕ → ℕ → Entry → Entry
+answered error outcome e = record e { taken = false; answer = record { result = outcome; error = error }; replies = e.replies + 1 }
+
+abbrev pub reaped : Entry → Entry
+reaped e = record e { away = false; back = false; asked = false; reaps = e.reaps + 1 }
+
+abbrev pub dropped : Entry → Entry
+dropped e = record e { away = false; back = false; asked = false; drops = e.drops + 1 }
+
+abbrev pub requested : Entry → Entry
+requested e = record e { asked = true }
+
+-- the processors that a view stands for: a seat for its own, the clerk for those whose seat is not made yet
+abbrev pub Stands : SeatKind → ℕ → Type 0
+Stands (Clerk made back) cpu = made ≤ cpu
+Stands (Of c) cpu = c.0 ≡ cpu
+Stands Spent cpu = ⊥
+
+-- what a word shows of a message is what its origin's view knows of it
+pub record SeesOwn (e : Entry) (w : MsgWord) : Type 0 where
+  pub round_is : e.round ≡ w.round
+  pub away_is : e.away ≡ shows_away w.state
+  pub asked_is : e.asked ≡ w.aborted
+  pub back_is : e.back ≡ true → shows_back w.state ≡ true
+  pub flags_is : shows_away w.state ≡ true → (w.sync ≡ e.sync) × (flags_of w ≡ e.flags)
+
+-- what a word shows of a message is what a view knows of it: as origin its round, whether it is away and how it was sent, and as
+-- target whether it was taken
+pub record Sees (v : View) (m : ℕ) (w : MsgWord) : Type 0 where
+  pub origin_is : w.origin ≡ (spec_at v.specs m).origin.cpu
+  pub as_origin : Stands v.kind w.origin.0 → SeesOwn (at v m) w
+  pub as_target : (cpu : ℕ) → Stands v.kind cpu → (at v m).taken ≡ shows_with cpu w.state w.target
+
+-- the clerk's view after a seat was made, and the view of that seat
+abbrev pub made_one : SeatKind → SeatKind
+made_one (Clerk made back) = Clerk (made + 1) back
+made_one (Of cpu) = Of cpu
+made_one Spent = Spent
+
+abbrev pub next_seat : SeatKind → SeatKind
+next_seat (Clerk made back) = Of (record { 0 = made })
+next_seat (Of cpu) = Of cpu
+next_seat Spent = Spent
+
+abbrev pub clerk_left : View → View
+clerk_left v = record v { kind = made_one v.kind }
+
+abbrev pub seat_right : View → View
+seat_right v = record v { kind = next_seat v.kind; steps = [] }
+
+-- a view that was taken back, and one cut off whole
+abbrev pub spent_view : View
+spent_view = record { kind = Spent; cpus = 0; specs = []; entries = []; steps = [] }
+
+abbrev pub spent_left : View → View
+spent_left v = spent_view
+
+abbrev pub whole_right : View → View
+whole_right v = v
+
+-- an entry with the counts of another added
+abbrev pub added : Entry → Entry → Entry
+added e other = record e { sends = e.sends + other.sends; takes = e.takes + other.takes; drops = e.drops + other.drops; replies = e.replies + other.replies; reaps = e.reaps + other.reaps }
+
+-- of so many messages what a view knows, with the counts of another added
+unfoldable pub gathered : ℕ → View → View → List Noted
+gathered zero v other = []
+gathered (suc k) v other = record { msg = k; entry = added (at v k) (at other k) } ∷ gathered k v other
+
+-- the clerk's view after a seat was taken back
+abbrev pub taken_back : SeatKind → SeatKind
+taken_back (Clerk made back) = Clerk made (back + 1)
+taken_back (Of cpu) = Of cpu
+taken_back Spent = Spent
+
+abbrev pub clerk_both : View → View → View
+clerk_both v other = record v { kind = taken_back v.kind; entries = gathered (length v.specs) v other }

@@ -1,0 +1,110 @@
+ghost use Rattle.std.specs.Prelude.{◌≡◌, ◌⊎◌, ℕ, ◌<◌, [], length, All, MatchResult, IfOk};
+
+use std::alloc::{AllocError, Global};
+use std::marker::Model;
+
+use crate::closings::{read_and_free, take_all};
+use crate::openings::{are_within, blank_records, opening_words, seat_all};
+use crate::rules::{BookTable, Place, Top};
+use crate::seats::MsgSeat;
+use crate::views::Layout;
+use lwkt_base::{Fault, MsgEnd, MsgSpec};
+
+/// A message book: the words of its messages, and the records that no seat has in hand.
+#[derive(Drop)]
+pub struct MsgBook {
+    table: BookTable,
+    clerk: Place,
+    cpus: usize,
+    messages: usize,
+}
+
+impl Model for MsgBook {
+    ghost use Rattle.lwkt_msg.specs.Desks.{Shelf, IsMsgBook};
+
+    ghost Value = { Shelf };
+
+    ghost view = { λ b. let z : Shelf = record { table = b.table.shared.table_id; cpus = b.cpus; specs = b.table.shared.key.specs.items } in z };
+
+    ghost invariant = { λ b. IsMsgBook b.cpus b.messages b.table.shared.table_id b.table.shared.key b.clerk };
+}
+
+impl MsgBook {
+    ghost use Rattle.lwkt_base.specs.declared.faults.Fault.TheVariants.{Memory, Limits};
+    ghost use Rattle.lwkt_core.specs.Opening.{AreWithin};
+    ghost use Rattle.lwkt_msg.specs.Desks.{AreOpened, AreClosed};
+
+    /// Opens a book of at most 64 messages, with a seat for each of 1 to 8 processors. Each message is at rest, and its
+    /// origin has its record. 32: an allocation was refused. 39: a limit is passed, a round is past the last, or the
+    /// processor of an origin isn't there.
+    pub fn open(alloc: Global, specs: &[MsgSpec], cpus: usize) -> Result<(MsgBook, Vec<MsgSeat>), Fault>
+        ensures { MatchResult result
+            (λ r. AreWithin cpus [] specs.now × AreOpened cpus specs.now r.0 r.1.items)
+            (λ fault. (fault ≡ Memory) ⊎ ((fault ≡ Limits) × (AreWithin cpus [] specs.now → ⊥))) }
+    {
+        if !are_within(specs, cpus) {
+            return Err(Fault::Limits);
+        }
+        MsgBook::open_within(alloc, specs, cpus).map_err(|_| Fault::Memory)
+    }
+
+    // Opens a book that keeps the limits.
+    fn open_within(
+        alloc: Global,
+        specs: &[MsgSpec],
+        cpus: usize,
+    ) -> Result<(MsgBook, Vec<MsgSeat>), AllocError>
+        requires { AreWithin cpus [] specs.now }
+        ensures { IfOk result (λ r. AreOpened cpus specs.now r.0 r.1.items) }
+    {
+        let words = opening_words(alloc, specs, cpus)?;
+        let records = blank_records(alloc, specs.len())?;
+        let layout = Layout {
+            specs: specs.iter().copied().collect(alloc)?,
+            cpus,
+        };
+        let mut seats = Vec::with_capacity(alloc, cpus)?;
+        let Ok((table, mut clerk)) = BookTable::new(alloc, &words, records, &layout) else {
+            return Err(AllocError);
+        };
+        seat_all(&table.shared, &mut clerk, cpus, specs, &mut seats)?;
+        let book = MsgBook {
+            table,
+            clerk,
+            cpus,
+            messages: specs.len(),
+        };
+        Ok((book, seats))
+    }
+
+    /// Closes the book, and answers each message's owner state and round. That the seats are as many as the processors,
+    /// and all of this book, is the caller's condition. 32: an allocation was refused, and the book is given up.
+    pub fn close(self, alloc: Global, seats: Vec<MsgSeat>) -> Result<Vec<MsgEnd>, Fault>
+        requires as_many { length seats.items ≡ self.cpus }
+        requires of_book { All (λ d. d.table ≡ self.table) seats.items }
+        ensures { MatchResult result (λ v. AreClosed self seats.items v.items) (λ fault. fault ≡ Memory) }
+    {
+        let MsgBook {
+            table,
+            mut clerk,
+            cpus,
+            messages,
+        } = self;
+        let Ok(ends) = Vec::with_capacity(alloc, messages) else {
+            return Err(Fault::Memory);
+        };
+        take_all(&table.shared, &mut clerk, cpus, seats);
+        let closed = table.close_with(clerk);
+        let Ok(shown) = read_and_free(closed, messages, ends) else {
+            return Err(Fault::Memory);
+        };
+        Ok(shown)
+    }
+
+    // The part of the table that seats step on.
+    pub(crate) fn top(&self) -> &Top
+        ensures { result.now.table_id ≡ self.now.table }
+    {
+        &self.table.shared
+    }
+}

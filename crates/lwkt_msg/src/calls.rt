@@ -1,0 +1,197 @@
+//! The calls of a seat, over the bare seat of a processor and a message that exists.
+ghost use Rattle.std.specs.Prelude.{◌≡◌, ◌↔◌, ℕ, ◌<◌, length, true, IsTrue, MatchResult};
+ghost use Rattle.lwkt_base.specs.declared.message_words.MsgState.TheVariants as state;
+ghost use Rattle.lwkt_base.specs.MessageWord.{message_word};
+ghost use Rattle.lwkt_base.specs.declared.names.CpuId.{CpuId};
+ghost use Rattle.lwkt_msg.specs.Views.{call_of};
+ghost use Rattle.lwkt_msg.specs.Steps.{sent_word, rest_word};
+ghost use Rattle.lwkt_msg.specs.Calls.{IsForTaking, IsForReaping, HasSent, IsUnsent, TakeMeans, HasReplied, IsUnreplied, ReapMeans};
+ghost use Rattle.lwkt_msg.specs.Plays.{IsLooked, IsSat, IsSameSeat};
+
+use crate::answers::{Reaped, Taken};
+use crate::rules::{Place, Top};
+use crate::steps::{answer, fetch, look, put, win};
+use lwkt_base::{Call, CpuId, Fault, Flags, MsgState, MsgWord, Rec};
+use lwkt_core::messages::LAST_ROUND;
+
+// Whether a word shows a message at rest with this processor.
+fn is_home(word: &MsgWord, cpu: CpuId) -> bool
+    ensures { IsTrue result ↔ ((word.now.state ≡ state.Rest) × (word.now.origin ≡ cpu)) }
+{
+    word.state == MsgState::Rest && word.origin == cpu
+}
+
+// Whether a word shows a message of this round on its way to this processor.
+fn is_for_taking(word: &MsgWord, cpu: CpuId, round: u64) -> bool
+    ensures { IsTrue result ↔ IsForTaking cpu round word.now }
+{
+    word.state == MsgState::Out && word.target == cpu && word.round == round
+}
+
+// Whether a word shows a message that this processor has taken.
+fn is_taken(word: &MsgWord, cpu: CpuId) -> bool
+    ensures { IsTrue result ↔ ((word.now.state ≡ state.With) × (word.now.target ≡ cpu)) }
+{
+    word.state == MsgState::With && word.target == cpu
+}
+
+// Whether a word shows a message of this round that came back to this processor.
+fn is_for_reaping(word: &MsgWord, cpu: CpuId, round: u64) -> bool
+    ensures { IsTrue result ↔ IsForReaping cpu round word.now }
+{
+    word.state == MsgState::Back && word.origin == cpu && word.round == round
+}
+
+// The word of a message at rest.
+pub(crate) fn rest(cpu: CpuId, round: u64) -> MsgWord
+    ensures { result ≡ rest_word cpu round }
+{
+    MsgWord {
+        round,
+        state: MsgState::Rest,
+        origin: cpu,
+        target: CpuId(0),
+        aborted: false,
+        sync: false,
+        dropable: false,
+        abortable: false,
+    }
+}
+
+// The word of a message that is sent.
+fn outgoing(cpu: CpuId, target: CpuId, round: u64, flags: Flags, sync: bool) -> MsgWord
+    ensures { result ≡ sent_word cpu target round sync flags }
+{
+    MsgWord {
+        round,
+        state: MsgState::Out,
+        origin: cpu,
+        target,
+        aborted: false,
+        sync,
+        dropable: flags.dropable,
+        abortable: flags.abortable,
+    }
+}
+
+// The record of a message that is sent.
+fn written(call: Call) -> Rec
+    ensures clean { (result.error ≡ 0) × (result.result ≡ 0) }
+    ensures call { call_of result ≡ call }
+{
+    Rec {
+        arg: call.arg,
+        result: 0,
+        op: call.op,
+        error: 0,
+    }
+}
+
+// Loads a message's word, and gives its parts.
+fn parts(top: &Top, place: &mut Place, m: usize) -> (u64, MsgWord)
+    requires table { place.old.table_id ≡ top.now.table_id }
+    requires sat { (cpu : CpuId) × IsSat cpu place.old }
+    requires exists { m < length place.old.me.0.specs }
+    ensures seat { IsSameSeat place.old place.new }
+    ensures sat { (cpu : CpuId) → IsSat cpu place.old → IsSat cpu place.new }
+    ensures word { result.0 ≡ message_word result.1 }
+    ensures looked { IsLooked m place.old.me result.1 place.new.me }
+{
+    let word = look(top, place, m);
+    (word, MsgWord::parts(word))
+}
+
+// Sends a message.
+pub(crate) fn send(
+    top: &Top,
+    place: &mut Place,
+    cpu: CpuId,
+    m: usize,
+    target: CpuId,
+    call: Call,
+    flags: Flags,
+    sync: bool,
+) -> Result<u64, Fault>
+    requires table { place.old.table_id ≡ top.now.table_id }
+    requires sat { IsSat cpu place.old }
+    requires exists { m < length place.old.me.0.specs }
+    requires target { target.0 < place.old.me.0.cpus }
+    ensures seat { IsSameSeat place.old place.new }
+    ensures sat { IsSat cpu place.new }
+    ensures answer { MatchResult result (λ round. HasSent cpu place.old.me.0 place.new.me.0 m target call flags sync round) (λ fault. IsUnsent cpu place.old.me.0 place.new.me.0 m fault) }
+{
+    let (_, word) = parts(top, place, m);
+    if !is_home(&word, cpu) {
+        return Err(Fault::NotOwner);
+    }
+    if word.round == LAST_ROUND {
+        return Err(Fault::RoundsOut);
+    }
+    let round = word.round + 1;
+    put(top, place, m, written(call), outgoing(cpu, target, round, flags, sync));
+    Ok(round)
+}
+
+// Takes a message of a round.
+pub(crate) fn take(top: &Top, place: &mut Place, cpu: CpuId, m: usize, round: u64) -> Taken
+    requires table { place.old.table_id ≡ top.now.table_id }
+    requires sat { IsSat cpu place.old }
+    requires exists { m < length place.old.me.0.specs }
+    ensures seat { IsSameSeat place.old place.new }
+    ensures sat { IsSat cpu place.new }
+    ensures answer { TakeMeans cpu place.old.me.0 place.new.me.0 m round result }
+{
+    let (found, word) = parts(top, place, m);
+    if !is_for_taking(&word, cpu, round) {
+        return Taken::Stale;
+    }
+    match win(top, place, m, found, word) {
+        Some(rec) => Taken::Took {
+            rec,
+            aborted: word.aborted,
+        },
+        None => Taken::Again,
+    }
+}
+
+// Replies to a message.
+pub(crate) fn reply(
+    top: &Top,
+    place: &mut Place,
+    cpu: CpuId,
+    m: usize,
+    error: u32,
+    outcome: u64,
+) -> Result<(), Fault>
+    requires table { place.old.table_id ≡ top.now.table_id }
+    requires sat { IsSat cpu place.old }
+    requires exists { m < length place.old.me.0.specs }
+    ensures seat { IsSameSeat place.old place.new }
+    ensures sat { IsSat cpu place.new }
+    ensures answer { MatchResult result (λ _. HasReplied place.old.me.0 place.new.me.0 m error outcome) (λ fault. IsUnreplied place.old.me.0 place.new.me.0 m fault) }
+{
+    let (_, word) = parts(top, place, m);
+    if !is_taken(&word, cpu) {
+        return Err(Fault::NotTaken);
+    }
+    answer(top, place, m, cpu, error, outcome);
+    Ok(())
+}
+
+// Takes the reply to a message of a round back.
+pub(crate) fn reap(top: &Top, place: &mut Place, cpu: CpuId, m: usize, round: u64) -> Reaped
+    requires table { place.old.table_id ≡ top.now.table_id }
+    requires sat { IsSat cpu place.old }
+    requires exists { m < length place.old.me.0.specs }
+    ensures seat { IsSameSeat place.old place.new }
+    ensures sat { IsSat cpu place.new }
+    ensures answer { ReapMeans cpu place.old.me.0 place.new.me.0 m round result }
+{
+    let (_, word) = parts(top, place, m);
+    if !is_for_reaping(&word, cpu, round) {
+        return Reaped::Stale;
+    }
+    Reaped::Done {
+        rec: fetch(top, place, m, rest(cpu, round)),
+    }
+}

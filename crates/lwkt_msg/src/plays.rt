@@ -1,0 +1,72 @@
+//! What each step on the book's table tells, and how views are cut and put together.
+ghost use Rattle.lwkt_msg.specs.Plays.{looks, sends, takes_it, replies, reaps, hands_out};
+ghost use Rattle.lwkt_msg.specs.Views.{clerk_left, seat_right, spent_left, whole_right, clerk_both, spent_view};
+
+use crate::views::View;
+use atomic_table::{Join, Play, Split};
+use lwkt_base::Rec;
+
+/// A load of a message's word.
+pub(crate) struct Look;
+
+impl Play<Rec, View> for Look {
+    ghost then = { looks };
+}
+
+/// The load at the opening by which an origin gets a record.
+pub(crate) struct HandOut;
+
+impl Play<Rec, View> for HandOut {
+    ghost then = { hands_out };
+}
+
+pub(crate) struct Send;
+
+impl Play<Rec, View> for Send {
+    ghost then = { sends };
+}
+
+pub(crate) struct Take;
+
+impl Play<Rec, View> for Take {
+    ghost then = { takes_it };
+}
+
+pub(crate) struct Reply;
+
+impl Play<Rec, View> for Reply {
+    ghost then = { replies };
+}
+
+pub(crate) struct Reap;
+
+impl Play<Rec, View> for Reap {
+    ghost then = { reaps };
+}
+
+/// The clerk makes the seat of the next processor.
+pub(crate) struct MakeSeat;
+
+impl Split<View> for MakeSeat {
+    ghost left = { clerk_left };
+
+    ghost right = { seat_right };
+}
+
+/// A seat's view is cut off from the records that it has in hand.
+pub(crate) struct CutOff;
+
+impl Split<View> for CutOff {
+    ghost left = { spent_left };
+
+    ghost right = { whole_right };
+}
+
+/// The clerk takes a seat back.
+pub(crate) struct TakeBack;
+
+impl Join<View> for TakeBack {
+    ghost both = { clerk_both };
+
+    ghost spent = { spent_view };
+}

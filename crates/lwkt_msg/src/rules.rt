@@ -1,0 +1,24 @@
+use crate::views::{Layout, View};
+use atomic_table::{Seat, Shared, Table, TableRule};
+use lwkt_base::Rec;
+use std::alloc::Global;
+
+/// The rule of the book: each message has one owner, with its record where the owner is.
+pub struct BookRule;
+
+impl TableRule<Rec, View, Layout> for BookRule {
+    ghost use Rattle.lwkt_msg.specs.Book.{Rule, first_view};
+
+    ghost holds = { Rule };
+
+    ghost first = { first_view };
+}
+
+/// The words and records of a book.
+pub type BookTable = Table<Rec, View, Layout, BookRule, Global>;
+
+/// The part of a book's table that seats step on.
+pub type Top = Shared<Rec, View, Layout, BookRule>;
+
+/// A seat at a book's table.
+pub type Place = Seat<Rec, View>;

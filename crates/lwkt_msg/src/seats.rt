@@ -1,0 +1,144 @@
+ghost use Rattle.std.specs.Prelude.{◌≡◌, ◌⊎◌, ◌<◌, ◌≤◌, MatchResult};
+
+use std::marker::Model;
+
+use crate::answers::{Reaped, Taken};
+use crate::books::MsgBook;
+use crate::calls;
+use crate::rules::Place;
+use lwkt_base::{Call, CpuId, Fault, Flags, MsgId};
+
+/// A processor's seat at a message book, with the records of its own messages at rest and of those that it has taken.
+#[derive(Drop)]
+pub struct MsgSeat {
+    place: Place,
+    cpus: usize,
+    messages: usize,
+    cpu: CpuId,
+}
+
+impl Model for MsgSeat {
+    ghost use Rattle.lwkt_msg.specs.Desks.{Desk, desk, IsMsgSeat};
+
+    ghost Value = { Desk };
+
+    ghost view = { λ s. desk s.place };
+
+    ghost invariant = { λ s. IsMsgSeat s.cpu s.cpus s.messages s.place };
+}
+
+impl MsgSeat {
+    ghost use Rattle.lwkt_base.specs.declared.faults.Fault.TheVariants.{NotOwner, NotTaken};
+    ghost use Rattle.lwkt_base.specs.declared.names.CpuId.{CpuId};
+    ghost use Rattle.lwkt_msg.specs.Desks.{desk, cpu_of, cpus_of, messages_of, IsMsgSeat, IsSameDesk};
+    ghost use Rattle.lwkt_msg.specs.Plays.{IsSat};
+    ghost use Rattle.lwkt_msg.specs.Calls.{HasSent, IsUnsent, TakeMeans, HasReplied, IsUnreplied, ReapMeans};
+
+    // The seat of a processor, from its place at the table.
+    pub(crate) fn new(place: Place, cpu: CpuId, cpus: usize, messages: usize) -> MsgSeat
+        requires { IsMsgSeat cpu cpus messages place }
+        ensures { result ≡ desk place }
+    {
+        MsgSeat {
+            place,
+            cpus,
+            messages,
+            cpu,
+        }
+    }
+
+    // The place at the table.
+    pub(crate) fn into_place(self) -> Place
+        ensures place { desk result ≡ self }
+        ensures sat { (cpu : CpuId) × IsSat cpu result }
+    {
+        let MsgSeat {
+            place,
+            cpus: _,
+            messages: _,
+            cpu: _,
+        } = self;
+        place
+    }
+
+    /// How many messages the book has, 0 to 64.
+    pub fn messages(&self) -> usize
+        ensures count { result ≡ messages_of self.now }
+        ensures few { result ≤ 64 }
+    {
+        self.messages
+    }
+
+    /// How many processors the book has seats for, 1 to 8.
+    pub fn cpus(&self) -> usize
+        ensures count { result ≡ cpus_of self.now }
+        ensures few { result ≤ 8 }
+    {
+        self.cpus
+    }
+
+    /// Sends an own message that is at rest to a processor, and answers its round. `sync` says that the sender waits for
+    /// the reply. 25: there is no such message, it belongs to another processor, or it is away. 36: it is at its last
+    /// round.
+    pub fn send(
+        &mut self,
+        book: &MsgBook,
+        msg: MsgId,
+        target: CpuId,
+        call: Call,
+        flags: Flags,
+        sync: bool,
+    ) -> Result<u64, Fault>
+        requires table { self.old.table ≡ book.now.table }
+        requires target { target.0 < cpus_of self.old }
+        ensures seat { IsSameDesk self.old self.new }
+        ensures answer { MatchResult result
+            (λ round. (msg.0 < messages_of self.old) × HasSent (cpu_of self.old) self.old.view self.new.view msg.0 target call flags sync round)
+            (λ fault. ((messages_of self.old ≤ msg.0) × (fault ≡ NotOwner) × (self.new ≡ self.old)) ⊎ ((msg.0 < messages_of self.old) × IsUnsent (cpu_of self.old) self.old.view self.new.view msg.0 fault)) }
+    {
+        let m = usize::from(msg.0);
+        if m >= self.messages {
+            return Err(Fault::NotOwner);
+        }
+        let top = book.top();
+        calls::send(top, &mut self.place, self.cpu, m, target, call, flags, sync)
+    }
+
+    /// Takes a message that was sent to this processor in this round. That the message exists is the caller's condition.
+    pub fn take(&mut self, book: &MsgBook, msg: MsgId, round: u64) -> Taken
+        requires table { self.old.table ≡ book.now.table }
+        requires exists { msg.0 < messages_of self.old }
+        ensures seat { IsSameDesk self.old self.new }
+        ensures answer { TakeMeans (cpu_of self.old) self.old.view self.new.view msg.0 round result }
+    {
+        let top = book.top();
+        calls::take(top, &mut self.place, self.cpu, usize::from(msg.0), round)
+    }
+
+    /// Replies to a message that this processor has taken. 31: it has not, or there is no such message.
+    pub fn reply(&mut self, book: &MsgBook, msg: MsgId, error: u32, outcome: u64) -> Result<(), Fault>
+        requires { self.old.table ≡ book.now.table }
+        ensures seat { IsSameDesk self.old self.new }
+        ensures answer { MatchResult result
+            (λ _. (msg.0 < messages_of self.old) × HasReplied self.old.view self.new.view msg.0 error outcome)
+            (λ fault. ((messages_of self.old ≤ msg.0) × (fault ≡ NotTaken) × (self.new ≡ self.old)) ⊎ ((msg.0 < messages_of self.old) × IsUnreplied self.old.view self.new.view msg.0 fault)) }
+    {
+        let m = usize::from(msg.0);
+        if m >= self.messages {
+            return Err(Fault::NotTaken);
+        }
+        let top = book.top();
+        calls::reply(top, &mut self.place, self.cpu, m, error, outcome)
+    }
+
+    /// Takes an own message back that was replied to in this round. That the message exists is the caller's condition.
+    pub fn reap(&mut self, book: &MsgBook, msg: MsgId, round: u64) -> Reaped
+        requires table { self.old.table ≡ book.now.table }
+        requires exists { msg.0 < messages_of self.old }
+        ensures seat { IsSameDesk self.old self.new }
+        ensures answer { ReapMeans (cpu_of self.old) self.old.view self.new.view msg.0 round result }
+    {
+        let top = book.top();
+        calls::reap(top, &mut self.place, self.cpu, usize::from(msg.0), round)
+    }
+}

@@ -1,0 +1,118 @@
+//! The steps of a seat at the book's table, over the bare seat.
+ghost use Rattle.std.specs.Prelude.{◌≡◌, ℕ, ◌+◌, ◌<◌, ◌≤◌, true, false, length, MatchOption};
+ghost use Rattle.lwkt_base.specs.declared.names.CpuId.{CpuId};
+ghost use Rattle.lwkt_base.specs.declared.records.Rec.{Rec};
+ghost use Rattle.lwkt_base.specs.declared.message_words.MsgState.TheVariants as state;
+ghost use Rattle.lwkt_base.specs.MessageWord.{message_word, MessageFits};
+ghost use Rattle.lwkt_core.specs.declared.seats.Operation.TheVariants.{Store, Exchange, Add};
+ghost use Rattle.lwkt_msg.specs.Views.{call_of, at, after_step, flags_of, sent, took, answered, reaped};
+ghost use Rattle.lwkt_msg.specs.Hands.{IsOwn, IsInHand};
+ghost use Rattle.lwkt_core.specs.declared.messages.TheConstants.{LAST_ROUND};
+ghost use Rattle.lwkt_msg.specs.Steps.{sent_word, rest_word};
+ghost use Rattle.lwkt_msg.specs.Plays.{Looked, HasLost, IsSat, IsSameSeat, IsInFront};
+
+use crate::plays::{Look, Reap, Reply, Send, Take};
+use crate::rules::{Place, Top};
+use lwkt_base::{CpuId, MsgWord, Rec};
+
+// Loads the word of a message. If the seat has its record in hand, that lies in front then.
+pub(crate) fn look(top: &Top, place: &mut Place, m: usize) -> u64
+    requires table { place.old.table_id ≡ top.now.table_id }
+    requires sat { (cpu : CpuId) × IsSat cpu place.old }
+    requires exists { m < length place.old.me.0.specs }
+    ensures seat { IsSameSeat place.old place.new }
+    ensures looked { Looked m place.old.me result place.new.me }
+    ensures sat { (cpu : CpuId) → IsSat cpu place.old → IsSat cpu place.new }
+{
+    top.load::<Look>(place, 16 * m + 1)
+}
+
+// The record of a message, which lies in front.
+fn front(top: &Top, place: &mut Place, m: usize) -> Rec
+    requires table { place.old.table_id ≡ top.now.table_id }
+    requires few { m < 64 }
+    requires held { (rec : Rec) × IsInFront place.old m rec }
+    ensures seat { IsSameSeat place.old place.new × (place.new.me ≡ place.old.me) }
+    ensures value { IsInFront place.old m result }
+{
+    *place.slot_mut(top, 4 * m)
+}
+
+// Gives the record of a message away, by the store of a send. The word is that of the message after the send.
+pub(crate) fn put(top: &Top, place: &mut Place, m: usize, rec: Rec, word: MsgWord)
+    requires table { place.old.table_id ≡ top.now.table_id }
+    requires sat { IsSat word.origin place.old }
+    requires exists { m < length place.old.me.0.specs }
+    requires home { IsOwn place.old.me.0 word.origin.0 m × ((at place.old.me.0 m).had ≡ true) × ((at place.old.me.0 m).away ≡ false) × ((at place.old.me.0 m).taken ≡ false) }
+    requires word { word ≡ sent_word word.origin word.target ((at place.old.me.0 m).round + 1) word.sync (flags_of word) }
+    requires fits { (word.target.0 < place.old.me.0.cpus) × ((at place.old.me.0 m).round < LAST_ROUND) }
+    requires clean { (rec.error ≡ 0) × (rec.result ≡ 0) }
+    requires held { (old : Rec) × IsInFront place.old m old }
+    ensures seat { IsSameSeat place.old place.new }
+    ensures view { place.new.me.0 ≡ after_step place.old.me.0 m (sent word (call_of rec) (at place.old.me.0 m)) (Store (message_word word)) (message_word word) }
+    ensures sat { IsSat word.origin place.new }
+{
+    top.exchange(place, 4 * m, rec);
+    top.store::<Send>(place, 16 * m + 1, word.make());
+}
+
+// Takes a message, by an exchange of its word. The word found before is that of a message on its way to this processor.
+pub(crate) fn win(top: &Top, place: &mut Place, m: usize, found: u64, word: MsgWord) -> Option<Rec>
+    requires table { place.old.table_id ≡ top.now.table_id }
+    requires sat { IsSat word.target place.old }
+    requires exists { m < length place.old.me.0.specs }
+    requires word { (found ≡ message_word word) × MessageFits word × (word.state ≡ state.Out) }
+    requires new { IsInHand place.old.me.0 word.target.0 m → ⊥ }
+    ensures seat { IsSameSeat place.old place.new }
+    ensures sat { IsSat word.target place.new }
+    ensures view { MatchOption result (HasLost m found place.old.me.0 place.new.me.0) (λ rec. (rec.error ≡ 0) × (rec.result ≡ 0) × (place.new.me.0 ≡ after_step place.old.me.0 m (took rec (at place.old.me.0 m)) (Exchange found (found + 1)) found)) }
+{
+    let seen = top.compare_exchange::<Take>(place, 16 * m + 1, found, found + 1);
+    if seen == found {
+        Some(front(top, place, m))
+    } else {
+        None
+    }
+}
+
+// Gives the record of a message back, with the error and result of the reply, by the addition of a reply.
+pub(crate) fn answer(
+    top: &Top,
+    place: &mut Place,
+    m: usize,
+    cpu: CpuId,
+    error: u32,
+    outcome: u64,
+)
+    requires table { place.old.table_id ≡ top.now.table_id }
+    requires sat { IsSat cpu place.old }
+    requires exists { m < length place.old.me.0.specs }
+    requires taken { ((at place.old.me.0 m).taken ≡ true) × (IsOwn place.old.me.0 cpu.0 m → (at place.old.me.0 m).away ≡ true) }
+    requires held { (rec : Rec) × IsInFront place.old m rec × (call_of rec ≡ (at place.old.me.0 m).got) }
+    ensures seat { IsSameSeat place.old place.new }
+    ensures sat { IsSat cpu place.new }
+    ensures view { (found : ℕ) × (place.new.me.0 ≡ after_step place.old.me.0 m (answered error outcome (at place.old.me.0 m)) (Add 1) found) }
+{
+    let mut rec = front(top, place, m);
+    rec.error = error;
+    rec.result = outcome;
+    top.exchange(place, 4 * m, rec);
+    top.fetch_add::<Reply>(place, 16 * m + 1, 1);
+}
+
+// Takes the record of a message back that came back, by the store of a reap. The word is that of the message at rest.
+pub(crate) fn fetch(top: &Top, place: &mut Place, m: usize, word: MsgWord) -> Rec
+    requires table { place.old.table_id ≡ top.now.table_id }
+    requires sat { IsSat word.origin place.old }
+    requires exists { m < length place.old.me.0.specs }
+    requires back { IsOwn place.old.me.0 word.origin.0 m × ((at place.old.me.0 m).had ≡ true) × ((at place.old.me.0 m).back ≡ true) × ((at place.old.me.0 m).away ≡ true) × ((at place.old.me.0 m).taken ≡ false) }
+    requires word { word ≡ rest_word word.origin (at place.old.me.0 m).round }
+    requires fits { (at place.old.me.0 m).round ≤ LAST_ROUND }
+    ensures seat { IsSameSeat place.old place.new }
+    ensures sat { IsSat word.origin place.new }
+    ensures call { call_of result ≡ (at place.old.me.0 m).call }
+    ensures view { place.new.me.0 ≡ after_step place.old.me.0 m (reaped (at place.old.me.0 m)) (Store (message_word word)) (message_word word) }
+{
+    top.store::<Reap>(place, 16 * m + 1, word.make());
+    front(top, place, m)
+}

@@ -1,0 +1,63 @@
+//! What the book's table is made from, and what its seats know. Only proofs have values of the types but `Layout`.
+use lwkt_base::{Call, Flags, MsgSpec};
+use lwkt_core::{SeatKind, WordStep};
+
+/// What the table is told when it is made.
+#[derive(Drop)]
+pub struct Layout {
+    pub specs: Vec<MsgSpec>,
+    pub cpus: usize,
+}
+
+/// The error and result of a reply.
+pub struct Returned {
+    pub result: u64,
+    pub error: u32,
+}
+
+/// What a seat knows of one message, and how often it did each thing with it.
+pub struct Entry {
+    /// As origin: the message's round.
+    pub round: u64,
+    /// As origin: the call that was sent last.
+    pub call: Call,
+    /// As origin: what the last send allowed.
+    pub flags: Flags,
+    /// As origin: whether the last send was synchronous.
+    pub sync: bool,
+    /// As origin: whether the record was handed out, at the opening.
+    pub had: bool,
+    /// As origin: whether the message is away.
+    pub away: bool,
+    /// As origin: whether the message was seen to be back.
+    pub back: bool,
+    /// As origin: whether it has asked for the message to be aborted, in this round.
+    pub asked: bool,
+    /// As target: whether it has taken the message, and not replied yet.
+    pub taken: bool,
+    /// As target: the call of the message that it took last.
+    pub got: Call,
+    /// As target: what it replied last.
+    pub answer: Returned,
+    pub sends: u64,
+    pub takes: u64,
+    pub drops: u64,
+    pub replies: u64,
+    pub reaps: u64,
+}
+
+/// What is known of the message of this number.
+pub struct Noted {
+    pub msg: u64,
+    pub entry: Entry,
+}
+
+/// What a seat at the book's table knows. A clause reads an array as a list, of any length.
+pub struct View {
+    pub kind: SeatKind,
+    pub cpus: u64,
+    pub specs: [MsgSpec; 0],
+    /// The first entry of a message counts; without one it is as at the opening.
+    pub entries: [Noted; 0],
+    pub steps: [WordStep; 0],
+}
