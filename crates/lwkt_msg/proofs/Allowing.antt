@@ -1,9 +1,8 @@
-use Rattle.std.proofs.Common.{◌≡◌, ◌≢◌, ◌⊎◌, inl, inr, ⊎_elim, ℕ, ◌+◌, ◌-◌, ◌*◌, ◌%◌, ◌<◌, ◌≤◌, ◌^◌, ◌==◌, eqb, ◌||◌, ◌&&◌, Bool, true, false, List, [], ◌∷◌, length, set, get_or, refl, ap, sym, ◌∙◌, subst, arith}
+use Rattle.std.proofs.Common.{◌≡◌, ◌≢◌, inl, inr, ⊎_elim, ℕ, ◌+◌, ◌%◌, ◌<◌, ◌^◌, eqb, ◌&&◌, Bool, true, false, List, ◌∷◌, length, set, get_or, refl, ap, sym, ◌∙◌, subst, arith}
 use mathlib.Core.Option.{Option, some, none, some-injective}
 use lib.ListN.{get_elem?}
-use lib.Seq.{set-get_or}
 use prog.Atomic.{either}
-use Rattle.atomic_table.specs.Table.{State, Me, Step, step, Act, keeps, takes, gives, stepped, carried_after, homes_after, Valid, Allows}
+use Rattle.atomic_table.specs.Table.{State, Me, step, Act, keeps, takes, gives, stepped, carried_after, homes_after, Valid, Allows}
 use Rattle.atomic_table.proofs.Lists.{exchanged}
 use Rattle.lwkt_base.specs.declared.names.CpuId.{CpuId}
 use Rattle.lwkt_base.specs.declared.names.ThreadId.{ThreadId}
@@ -24,13 +23,13 @@ use Rattle.lwkt_core.specs.Messages.{is_away}
 use Rattle.lwkt_msg.specs.declared.views.Entry.{Entry}
 use Rattle.lwkt_msg.specs.declared.views.Layout.{Layout}
 use Rattle.lwkt_msg.specs.declared.views.View.{View}
-use Rattle.lwkt_msg.specs.Views.{word_at, slot_at, spec_at, call_of, flags_of, at, after_step, looked, handed, sent, took, replied, reaped, shows_away, shows_back, shows_with, Sees, SeesOwn, Stands}
-use Rattle.lwkt_msg.specs.Book.{Mail, parts_of, state_of, shown_target, in_slot, is_taken, is_back, KnowsOwn, KnowsTaken, Knows, IsKept, mail_at, IsBook, Rule}
+use Rattle.lwkt_msg.specs.Views.{word_at, slot_at, spec_at, call_of, at, after_step, looked, handed, sent, took, replied, reaped, shows_away, shows_back, shows_with, Sees, SeesOwn, Stands}
+use Rattle.lwkt_msg.specs.Book.{Mail, parts_of, state_of, shown_target, in_slot, is_taken, is_back, KnowsOwn, Knows, IsKept, mail_at, IsBook, Rule}
 use Rattle.lwkt_msg.specs.Hands.{Has, AreSame, IsOwn, IsInHand, AreHands}
 use Rattle.lwkt_msg.specs.Steps.{sent_word, rest_word}
 use Rattle.lwkt_msg.specs.Plays.{Looked, looks, sends, Took, takes_it, replies, reaps, hands_out}
 use Rattle.lwkt_msg.proofs.WordFacts.{message_word-injective, message_word-below}
-use Rattle.lwkt_msg.proofs.Bringing.{AreSame-refl, find_slot, Brought, bring}
+use Rattle.lwkt_msg.proofs.Bringing.{AreSame-refl, find_slot, bring}
 use Rattle.lwkt_msg.proofs.Moves.{never, look_mine}
 use Rattle.lwkt_msg.proofs.Frames.{seat_plan}
 use Rattle.lwkt_msg.proofs.Leading as lead
@@ -99,7 +98,7 @@ module _ (key : Layout) (s : State Rec View) (id : ℕ) (v : View) (cpu : CpuId)
   sees = record {
     origin_is = kept.safe.home ∙ (ap (λ (t : ThreadId). t.cpu) kept.origin_is ∙ ap (λ (xs : List MsgSpec). (spec_at xs m).origin.cpu) (sym (seat_plan key rule.mails s id v cpu rule.book e is_seat).1));
     as_origin = λ stands. sees_own (knows.as_origin (subst (λ (c : CpuId). Stands (Of cpu) c.0) kept.safe.home (subst (λ (k : SeatKind). Stands k (parts_of mail).origin.0) is_seat stands)));
-    as_target = λ q stands. (knows.as_target q (subst (λ (k : SeatKind). Stands k q) is_seat stands)).taken_is ∙ with_shown q mail.msg.owner
+    as_target = λ q stands. (knows.as_target q (subst (λ (k : SeatKind). Stands k q) is_seat stands)).taken_is ∙ with_shown q mail.msg.owner;
   }
     where
       sees_own : KnowsOwn mail (at v m) → SeesOwn (at v m) (parts_of mail)
@@ -109,9 +108,10 @@ module _ (key : Layout) (s : State Rec View) (id : ℕ) (v : View) (cpu : CpuId)
         asked_is = k.asked_is;
         back_is = λ seen. back_shown mail.msg.owner (k.back_is seen);
         flags_is = λ away.
-            let gone : is_away mail.msg.owner ≡ true = away_shown mail.msg.owner ∙ away in
-            (flag_shown (is_away mail.msg.owner) mail.sync gone ∙ sym k.sync_is,
-            (λ i. record { dropable = flag_shown (is_away mail.msg.owner) mail.flags.dropable gone i; abortable = flag_shown (is_away mail.msg.owner) mail.flags.abortable gone i }) ∙ sym k.flags_is)
+            let gone : is_away mail.msg.owner ≡ true = away_shown mail.msg.owner ∙ away in (
+              flag_shown (is_away mail.msg.owner) mail.sync gone ∙ sym k.sync_is,
+              (λ i. record { dropable = flag_shown (is_away mail.msg.owner) mail.flags.dropable gone i; abortable = flag_shown (is_away mail.msg.owner) mail.flags.abortable gone i }) ∙ sym k.flags_is,
+            );
       }
 
   pub parts_fit : MessageFits (parts_of mail)
@@ -134,7 +134,7 @@ module _ (key : Layout) (s : State Rec View) (id : ℕ) (v : View) (cpu : CpuId)
     mails = set rule.mails m mail;
     book =
         let F : List (Option Rec) → Type 0 = λ hs. IsBook key (set rule.mails m mail) record { words = set s.words (word_at m) (get_or s.words (word_at m) 0); homes = hs; views = set s.views id (after_step v m e' o found) } in
-        subst F (sym same) (lead.stays key rule.mails s id v cpu m rule.book e is_seat there e' o found a b c d f mine)
+        subst F (sym same) (lead.stays key rule.mails s id v cpu m rule.book e is_seat there e' o found a b c d f mine);
   }
 
 -- a load of a message's word
@@ -166,7 +166,7 @@ look_allowed key slots id me cpu m is_seat within hands s rule deep at_id small 
       sees = sees key s id me.0 cpu m rule at_id is_seat within;
       view_is = refl;
       same = same;
-      front = front
+      front = front;
     }
 
     out : (k : ℕ) (y : Rec) → Has me.1 k y → get_elem? s.homes k ≡ some none
@@ -181,8 +181,8 @@ look_allowed key slots id me cpu m is_seat within hands s rule deep at_id small 
         let F : List (ℕ × Rec) → Type 0 = λ c. AreSame me.1 c in
         let front : (y : Rec) → Has me.1 (slot_at m) y → (others : List (ℕ × Rec)) × (carried_after me.1 b.act ≡ (slot_at m, y) ∷ others)
         = λ y has'.
-            let is : y ≡ rec = one_record me.1 (slot_at m) y rec has'.0 has.0 has'.1 has.1 (hands.apart.one has'.0 has.0 (slot_at m) y rec has'.1 has.1) in
-            (b.others, b.carried ∙ ap (λ (z : Rec). (slot_at m, z) ∷ b.others) (sym is)) in
+        let is : y ≡ rec = one_record me.1 (slot_at m) y rec has'.0 has.0 has'.1 has.1 (hands.apart.one has'.0 has.0 (slot_at m) y rec has'.1 has.1) in
+        (b.others, b.carried ∙ ap (λ (z : Rec). (slot_at m, z) ∷ b.others) (sym is)) in
         (after_view, b.act, b.valid, kept_rule (homes_after s.homes me.1 b.act) b.homes_same, tells (carried_after me.1 b.act) (subst F (sym b.carried) b.same) front)
 
 -- the first of a list, and what is behind it
@@ -195,7 +195,7 @@ module _ (key : Layout) (id : ℕ) (me : Me Rec View) (cpu : CpuId) (m : ℕ) (i
   pub send_allowed : (slots : ℕ) (to : CpuId) (sync : Bool) (flags : Flags) (rec : Rec) (others : List (ℕ × Rec)) → me.1 ≡ (slot_at m, rec) ∷ others → IsOwn me.0 cpu.0 m → (at me.0 m).away ≡ false
       → cpu.0 < 8 → to.0 < 8 → to.0 < me.0.cpus → (at me.0 m).round < LAST_ROUND → rec.error ≡ 0 → rec.result ≡ 0
       → Allows (Rule key) slots id me (word_at m) (λ _. message_word (sent_word cpu to ((at me.0 m).round + 1) sync flags))
-          (λ _. sends (step slots (word_at m) (message_word (sent_word cpu to ((at me.0 m).round + 1) sync flags)) 0 none) me (message_word (sent_word cpu to ((at me.0 m).round + 1) sync flags)))
+      (λ _. sends (step slots (word_at m) (message_word (sent_word cpu to ((at me.0 m).round + 1) sync flags)) 0 none) me (message_word (sent_word cpu to ((at me.0 m).round + 1) sync flags)))
   send_allowed slots to sync flags rec others front own home few_cpu few_to to_there room no_error no_result s rule deep at_id small =
       let w : MsgWord = sent_word cpu to ((at me.0 m).round + 1) sync flags in
       let n : ℕ = message_word w in
@@ -207,7 +207,7 @@ module _ (key : Layout) (id : ℕ) (me : Me Rec View) (cpu : CpuId) (m : ℕ) (i
       let F : List (ℕ × Rec) → Type 0 = λ c. Rule key record { words = set s.words (word_at m) n; homes = homes_after s.homes c gives; views = set s.views id v' } in
       let fits : MessageFits w = (few_cpu, few_to, omega arith) in
       let tells : (k : ℕ) → word_at m ≡ word_at k → (x : MsgWord) → MessageFits x → n ≡ message_word x → (y : Rec) (others' : List (ℕ × Rec)) → me.1 ≡ (slot_at k, y) ∷ others'
-          → (v' ≡ after_step me.0 k (sent x (call_of y) (at me.0 k)) (operation.Store n) n) × (carried_after me.1 gives ≡ others')
+      → (v' ≡ after_step me.0 k (sent x (call_of y) (at me.0 k)) (operation.Store n) n) × (carried_after me.1 gives ≡ others')
       = at_word m (λ k. (x : MsgWord) → MessageFits x → n ≡ message_word x → (y : Rec) (others' : List (ℕ × Rec)) → me.1 ≡ (slot_at k, y) ∷ others' → (v' ≡ after_step me.0 k (sent x (call_of y) (at me.0 k)) (operation.Store n) n) × (carried_after me.1 gives ≡ others'))
       (λ x x_fits is y others' front'.
       let w_is : w ≡ x = message_word-injective w x fits x_fits is in
@@ -238,15 +238,23 @@ module _ (key : Layout) (id : ℕ) (me : Me Rec View) (cpu : CpuId) (m : ℕ) (i
           let slot = lead.out_slot key rule.mails s id me.0 cpu m rule.book at_id is_seat there w (found ∙ old_is) fits out in
           let v' : View = after_step me.0 m (took rec (at me.0 m)) (operation.Exchange old new) n in
           let now : Rule key record { words = set s.words (word_at m) (message_word w + 1); homes = set s.homes (slot_at m) none; views = set s.views id v' } = record { mails = l.after_mails; book = l.book } in
-          let F : ℕ → Type 0 = λ x. Rule key record { words = set s.words (word_at m) x; homes = set s.homes (slot_at m) none; views = set s.views id v' } in
-          (v', takes (slot_at m) rec, slot.0, subst F (sym new_is) now,
-          at_word m (λ k. Took k old new me n (v', (slot_at m, rec) ∷ me.1)) record { won = λ _. (rec, slot.1, slot.2, refl, refl); lost = λ other. absurd (other found) })
+          let F : ℕ → Type 0 = λ x. Rule key record { words = set s.words (word_at m) x; homes = set s.homes (slot_at m) none; views = set s.views id v' } in (
+            v',
+            takes (slot_at m) rec,
+            slot.0,
+            subst F (sym new_is) now,
+            at_word m (λ k. Took k old new me n (v', (slot_at m, rec) ∷ me.1)) record { won = λ _. (rec, slot.1, slot.2, refl, refl); lost = λ other. absurd (other found) },
+          )
 
       miss : n ≢ old → (v' : View) × (a : Act Rec) × Valid s.homes me.1 a × Rule key (stepped s (word_at m) n id me.1 v' a) × takes_it (step slots (word_at m) old new none) me n (v', carried_after me.1 a)
       miss other =
-          let v' : View = after_step me.0 m (at me.0 m) (operation.Exchange old new) n in
-          (v', keeps, tt, stays key s id me.0 cpu m rule at_id is_seat within (at me.0 m) (operation.Exchange old new) n s.homes refl refl refl refl refl refl (λ known. known),
-          at_word m (λ k. Took k old new me n (v', me.1)) record { won = λ found. absurd (other found); lost = λ _. (refl, refl) })
+          let v' : View = after_step me.0 m (at me.0 m) (operation.Exchange old new) n in (
+            v',
+            keeps,
+            tt,
+            stays key s id me.0 cpu m rule at_id is_seat within (at me.0 m) (operation.Exchange old new) n s.homes refl refl refl refl refl refl (λ known. known),
+            at_word m (λ k. Took k old new me n (v', me.1)) record { won = λ found. absurd (other found); lost = λ _. (refl, refl) },
+          )
 
   -- the addition of a reply
   pub reply_allowed : (slots : ℕ) (rec : Rec) (others : List (ℕ × Rec)) → me.1 ≡ (slot_at m, rec) ∷ others → (at me.0 m).taken ≡ true → call_of rec ≡ (at me.0 m).got
@@ -278,9 +286,13 @@ module _ (key : Layout) (id : ℕ) (me : Me Rec View) (cpu : CpuId) (m : ℕ) (i
       let there : m < length key.specs.items = subst (λ (xs : List MsgSpec). m < length xs) (seat_plan key rule.mails s id me.0 cpu rule.book at_id is_seat).1 within in
       let l = lead.reap_leads key rule.mails s id me.0 cpu m rule.book at_id is_seat there (operation.Store n) n own had seen in
       let slot = lead.back_slot key rule.mails s id me.0 cpu m rule.book at_id is_seat there own seen in
-      let v' : View = after_step me.0 m (reaped (at me.0 m)) (operation.Store n) n in
-      (v', takes (slot_at m) rec, slot.0, record { mails = l.after_mails; book = l.book },
-      at_word m (λ k. (y : Rec) × (call_of y ≡ (at me.0 k).call) × (v' ≡ after_step me.0 k (reaped (at me.0 k)) (operation.Store n) n) × ((slot_at m, rec) ∷ me.1 ≡ (slot_at k, y) ∷ me.1)) (rec, slot.1, refl, refl))
+      let v' : View = after_step me.0 m (reaped (at me.0 m)) (operation.Store n) n in (
+        v',
+        takes (slot_at m) rec,
+        slot.0,
+        record { mails = l.after_mails; book = l.book },
+        at_word m (λ k. (y : Rec) × (call_of y ≡ (at me.0 k).call) × (v' ≡ after_step me.0 k (reaped (at me.0 k)) (operation.Store n) n) × ((slot_at m, rec) ∷ me.1 ≡ (slot_at k, y) ∷ me.1)) (rec, slot.1, refl, refl),
+      )
 
   -- the load at the opening that hands a record out
   pub hand_allowed : (slots : ℕ) → IsOwn me.0 cpu.0 m → (at me.0 m).had ≡ false → (at me.0 m).away ≡ false
@@ -290,6 +302,10 @@ module _ (key : Layout) (id : ℕ) (me : Me Rec View) (cpu : CpuId) (m : ℕ) (i
       let rec : Rec = (mail_at rule.mails m).rec in
       let there : m < length key.specs.items = subst (λ (xs : List MsgSpec). m < length xs) (seat_plan key rule.mails s id me.0 cpu rule.book at_id is_seat).1 within in
       let l = lead.hands_out key rule.mails s id me.0 cpu m rule.book at_id is_seat there operation.Load n own had home in
-      let v' : View = after_step me.0 m (handed (at me.0 m)) operation.Load n in
-      (v', takes (slot_at m) rec, l.0, record { mails = set rule.mails m (record (mail_at rule.mails m) { had = true }); book = l.1 },
-      at_word m (λ k. (y : Rec) × (v' ≡ after_step me.0 k (handed (at me.0 k)) operation.Load n) × ((slot_at m, rec) ∷ me.1 ≡ (slot_at k, y) ∷ me.1)) (rec, refl, refl))
+      let v' : View = after_step me.0 m (handed (at me.0 m)) operation.Load n in (
+        v',
+        takes (slot_at m) rec,
+        l.0,
+        record { mails = set rule.mails m (record (mail_at rule.mails m) { had = true }); book = l.1 },
+        at_word m (λ k. (y : Rec) × (v' ≡ after_step me.0 k (handed (at me.0 k)) operation.Load n) × ((slot_at m, rec) ∷ me.1 ≡ (slot_at k, y) ∷ me.1)) (rec, refl, refl),
+      )

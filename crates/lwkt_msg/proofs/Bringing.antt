@@ -1,10 +1,10 @@
-use Rattle.std.proofs.Common.{◌≡◌, ◌≢◌, ◌⊎◌, inl, inr, ⊎_elim, ℕ, zero, suc, ◌+◌, ◌<◌, ◌≤◌, List, [], ◌∷◌, length, set, refl, ap, sym, ◌∙◌, subst, arith, length-set}
+use Rattle.std.proofs.Common.{◌≡◌, ◌≢◌, ◌⊎◌, inl, inr, ⊎_elim, ℕ, zero, suc, ◌<◌, List, [], ◌∷◌, length, set, refl, ap, sym, ◌∙◌, subst, arith, length-set}
 use Rattle.std.proofs.lemmas.List.{set-set}
 use mathlib.Core.Logic.{dite}
 use mathlib.Core.Option.{Option, some, none, some-injective, some-ne-none}
 use native.Mathlib.Decide.{ℕ_discrete}
 use lib.ListN.{get_elem?}
-use Rattle.atomic_table.specs.Table.{Act, keeps, takes, gives, chain, put_back, rest, carried_after, homes_after, Valid}
+use Rattle.atomic_table.specs.Table.{Act, keeps, takes, gives, chain, carried_after, homes_after, Valid}
 use Rattle.lwkt_base.specs.declared.records.Rec.{Rec}
 use Rattle.lwkt_core.proofs.SeatingLemmas.{set_here, set_else, set_again, inside}
 use Rattle.lwkt_msg.specs.Hands.{Has, AreApart, AreSame}
@@ -83,7 +83,7 @@ brought_first x xs homes slot rec e = record {
   valid = tt;
   carried = λ k. e k ∷ xs;
   homes_same = refl;
-  same = let F : Hand → Type 0 = λ h. AreSame (x ∷ xs) (h ∷ xs) in subst F e (AreSame-refl (x ∷ xs))
+  same = let F : Hand → Type 0 = λ h. AreSame (x ∷ xs) (h ∷ xs) in subst F e (AreSame-refl (x ∷ xs));
 }
 
 brought_next : (x : Hand) (xs : List Hand) (homes : List (Option Rec)) (slot : ℕ) (rec : Rec) → AreApart (x ∷ xs) → get_elem? homes x.0 ≡ some none → get_elem? homes slot ≡ some none → x.0 ≢ slot
@@ -94,7 +94,7 @@ brought_next x xs homes slot rec apart x_out slot_out other b = record {
   valid = (tt, (b.valid, subst V (sym b.homes_same) (subst W (sym b.carried) tail_valid)));
   carried = ap (λ (c : List Hand). carried_after c tail) b.carried;
   homes_same = ap (λ (h : List (Option Rec)). homes_after h (carried_after xs b.act) tail) b.homes_same ∙ (ap (λ (c : List Hand). homes_after given c tail) b.carried ∙ tail_homes);
-  same = record { there = there; back = back; apart = λ a. behind (slot, rec) x b.others (b.same.apart (AreApart-rest x xs a)) (λ k y has. not_again x xs k y a (b.same.back k y has)) }
+  same = record { there = there; back = back; apart = λ a. behind (slot, rec) x b.others (b.same.apart (AreApart-rest x xs a)) (λ k y has. not_again x xs k y a (b.same.back k y has)) };
 }
   where
     given : List (Option Rec)
@@ -119,8 +119,13 @@ brought_next x xs homes slot rec apart x_out slot_out other b = record {
     slot_in = let h = inside homes slot none slot_out in let l = length-set homes x.0 (some x.1) in omega arith
 
     tail_valid : Valid given ((slot, rec) ∷ b.others) tail
-    tail_valid = (tt, (set_else given slot x.0 (some rec) other ∙ set_here homes x.0 (some x.1) x_in,
-      set_else (set given slot (some rec)) x.0 slot none apart_back ∙ set_here given slot (some rec) slot_in))
+    tail_valid = (
+      tt,
+      (
+        set_else given slot x.0 (some rec) other ∙ set_here homes x.0 (some x.1) x_in,
+        set_else (set given slot (some rec)) x.0 slot none apart_back ∙ set_here given slot (some rec) slot_in,
+      ),
+    )
 
     slot_given : get_elem? given slot ≡ some none
     slot_given = set_else homes x.0 slot (some x.1) apart_back ∙ slot_out

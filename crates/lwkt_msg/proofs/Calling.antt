@@ -1,8 +1,6 @@
-use Rattle.std.proofs.Common.{◌≡◌, ◌≢◌, ◌⊎◌, inl, inr, ⊎_elim, ℕ, ◌+◌, ◌*◌, ◌<◌, ◌≤◌, ◌^◌, eqb, Bool, true, false, List, [], ◌∷◌, ◌++◌, length, refl, ap, sym, ◌∙◌, subst, arith, append_assoc, eq-eqb, ◌||◌}
+use Rattle.std.proofs.Common.{◌≡◌, inl, inr, ℕ, ◌+◌, ◌<◌, Bool, true, false, [], ◌∷◌, length, refl, ap, sym, ◌∙◌, subst, arith, append_assoc, eq-eqb, ◌||◌}
 use Rattle.std.proofs.lemmas.Bool.{eqb-true}
-use Rattle.atomic_table.specs.Table.{Me}
 use Rattle.atomic_table.specs.declared.shared.Seat.{Seat}
-use Rattle.lwkt_base.specs.declared.faults.Fault.{Fault}
 use Rattle.lwkt_base.specs.declared.faults.Fault.TheVariants.{NotOwner, NotTaken, RoundsOut}
 use Rattle.lwkt_base.specs.declared.names.CpuId.{CpuId}
 use Rattle.lwkt_base.specs.declared.records.Call.{Call}
@@ -11,20 +9,18 @@ use Rattle.lwkt_base.specs.declared.records.Flags.{Flags}
 use Rattle.lwkt_base.specs.declared.message_words.MsgWord.{MsgWord}
 use Rattle.lwkt_base.specs.declared.message_words.MsgState.{MsgState}
 use Rattle.lwkt_base.specs.declared.message_words.MsgState.TheVariants.{Rest, Out, With, Back}
-use Rattle.lwkt_base.specs.MessageWord.{message_word, MessageFits}
+use Rattle.lwkt_base.specs.MessageWord.{message_word}
 use Rattle.lwkt_core.specs.declared.messages.TheConstants.{LAST_ROUND}
 use Rattle.lwkt_core.specs.declared.seats.Operation.{Operation}
 use Rattle.lwkt_core.specs.declared.seats.Operation.TheVariants.{Load, Store, Exchange, Add}
 use Rattle.lwkt_core.specs.declared.seats.SeatKind.{SeatKind}
-use Rattle.lwkt_core.specs.declared.seats.SeatKind.TheVariants.{Of}
-use Rattle.lwkt_core.specs.declared.seats.WordStep.{WordStep}
 use Rattle.lwkt_msg.specs.declared.views.Entry.{Entry}
 use Rattle.lwkt_msg.specs.declared.views.View.{View}
-use Rattle.lwkt_msg.specs.Views.{slot_at, spec_at, call_of, flags_of, at, after_step, looked, sent, took, answered, reaped, shows_away, shows_back, shows_with, Sees, SeesOwn, Stands}
-use Rattle.lwkt_msg.specs.Hands.{Has, IsOwn, IsInHand}
+use Rattle.lwkt_msg.specs.Views.{spec_at, call_of, at, after_step, looked, sent, took, answered, reaped, shows_away, shows_back, shows_with, SeesOwn, Stands}
+use Rattle.lwkt_msg.specs.Hands.{IsOwn, IsInHand}
 use Rattle.lwkt_msg.specs.Steps.{sent_word, rest_word}
 use Rattle.lwkt_msg.specs.Plays.{IsLooked, HasLost, IsSat, IsInFront}
-use Rattle.lwkt_msg.specs.Calls.{word_step, Does, IsLoaded, OnlyLooked, IsHome, HasSent, IsUnsent, IsForTaking, IsForReaping, HasTaken, IsStaleToTake, HasLostTake, HasReplied, IsUnreplied, HasReaped, IsStaleToReap}
+use Rattle.lwkt_msg.specs.Calls.{word_step, Does, IsLoaded, OnlyLooked, IsHome, HasSent, IsUnsent, IsForTaking, IsForReaping, HasTaken, HasLostTake, HasReplied, IsUnreplied, HasReaped}
 use Rattle.lwkt_msg.proofs.Knowing.{at-here, at-else}
 
 -- what one step does, and what two do
@@ -43,7 +39,7 @@ Does-two v v1 v2 m e1 e2 op1 op2 n1 n2 is1 is2 =
       specs = refl;
       here = at-here w m e2 op2 n2;
       else_same = λ k apart. at-else w m e2 op2 n2 k apart ∙ at-else v m e1 op1 n1 k apart;
-      noted = append_assoc v.steps (word_step m op1 n1 ∷ []) (word_step m op2 n2 ∷ [])
+      noted = append_assoc v.steps (word_step m op1 n1 ∷ []) (word_step m op2 n2 ∷ []);
     }
 
 rest_of : (s : MsgState) → shows_away s ≡ false → s ≡ Rest
@@ -139,7 +135,7 @@ module _ (place place1 : Seat Rec View) (cpu : CpuId) (m : ℕ) (w : MsgWord) (s
         within = omega arith;
         found = w;
         loaded = loaded;
-        does = Does-two v place1.me.0 w2 m (looked w e) (sent new call e) Load (Store (message_word new)) (message_word w) (message_word new) l.view_is did
+        does = Does-two v place1.me.0 w2 m (looked w e) (sent new call e) Load (Store (message_word new)) (message_word w) (message_word new) l.view_is did;
       }
 
   -- a take
@@ -155,8 +151,12 @@ module _ (place place1 : Seat Rec View) (cpu : CpuId) (m : ℕ) (w : MsgWord) (s
       let did : w2 ≡ after_step place1.me.0 m (took rec (looked w e)) (Exchange (message_word w) (message_word w + 1)) (message_word w)
       = won.2 ∙ (λ i. after_step place1.me.0 m (took rec (entry_is i)) (Exchange (found_is i) (found_is i + 1)) (found_is i)) in
       record {
-        found = w; loaded = loaded; allowed = is; aborted_is = refl; clean = (won.0, won.1);
-        does = Does-two v place1.me.0 w2 m (looked w e) (took rec (looked w e)) Load (Exchange (message_word w) (message_word w + 1)) (message_word w) (message_word w) l.view_is did
+        found = w;
+        loaded = loaded;
+        allowed = is;
+        aborted_is = refl;
+        clean = (won.0, won.1);
+        does = Does-two v place1.me.0 w2 m (looked w e) (took rec (looked w e)) Load (Exchange (message_word w) (message_word w + 1)) (message_word w) (message_word w) l.view_is did;
       }
 
   pub take_lost : (round : ℕ) (found : ℕ) (w2 : View) → IsForTaking cpu round w → found ≡ message_word w → HasLost m found place1.me.0 w2 → HasLostTake cpu v w2 m round
@@ -164,8 +164,12 @@ module _ (place place1 : Seat Rec View) (cpu : CpuId) (m : ℕ) (w : MsgWord) (s
       let did : w2 ≡ after_step place1.me.0 m (looked w e) (Exchange (message_word w) (message_word w + 1)) lost.0
       = lost.2 ∙ (λ i. after_step place1.me.0 m (entry_is i) (Exchange (found_is i) (found_is i + 1)) lost.0) in
       record {
-        found = w; loaded = loaded; allowed = is; other = lost.0; differs = λ h. lost.1 (h ∙ sym found_is);
-        does = Does-two v place1.me.0 w2 m (looked w e) (looked w e) Load (Exchange (message_word w) (message_word w + 1)) (message_word w) lost.0 l.view_is did
+        found = w;
+        loaded = loaded;
+        allowed = is;
+        other = lost.0;
+        differs = λ h. lost.1 (h ∙ sym found_is);
+        does = Does-two v place1.me.0 w2 m (looked w e) (looked w e) Load (Exchange (message_word w) (message_word w + 1)) (message_word w) lost.0 l.view_is did;
       }
 
   -- a reply
@@ -180,8 +184,10 @@ module _ (place place1 : Seat Rec View) (cpu : CpuId) (m : ℕ) (w : MsgWord) (s
   reply_taken is = taken_is ∙ ((λ i. shows_with cpu.0 (is.0 i) (is.1 i)) ∙ eq-eqb cpu.0 cpu.0 refl)
 
   pub reply_ready : (w.state ≡ With) × (w.target ≡ cpu) → ((at place1.me.0 m).taken ≡ true) × (IsOwn place1.me.0 cpu.0 m → (at place1.me.0 m).away ≡ true)
-  reply_ready is = (ap (λ (x : Entry). x.taken) entry_is ∙ reply_taken is,
-    λ own. ap (λ (x : Entry). x.away) entry_is ∙ away_at With is.0 (ap (λ (x : View). (spec_at x.specs m).origin.cpu.0) (sym l.view_is) ∙ own))
+  reply_ready is = (
+    ap (λ (x : Entry). x.taken) entry_is ∙ reply_taken is,
+    λ own. ap (λ (x : Entry). x.away) entry_is ∙ away_at With is.0 (ap (λ (x : View). (spec_at x.specs m).origin.cpu.0) (sym l.view_is) ∙ own),
+  )
 
   pub reply_held : m < length v.specs → (w.state ≡ With) × (w.target ≡ cpu) → (rec : Rec) × IsInFront place1 m rec × (call_of rec ≡ (at place1.me.0 m).got)
   reply_held within is =
@@ -192,8 +198,11 @@ module _ (place place1 : Seat Rec View) (cpu : CpuId) (m : ℕ) (w : MsgWord) (s
   reply_done error outcome found w2 is w2_is =
       let did : w2 ≡ after_step place1.me.0 m (answered error outcome (looked w e)) (Add 1) found = w2_is ∙ (λ i. after_step place1.me.0 m (answered error outcome (entry_is i)) (Add 1) found) in
       record {
-        taken_by_it = reply_taken is; found = w; loaded = loaded; other = found;
-        does = Does-two v place1.me.0 w2 m (looked w e) (answered error outcome (looked w e)) Load (Add 1) (message_word w) found l.view_is did
+        taken_by_it = reply_taken is;
+        found = w;
+        loaded = loaded;
+        other = found;
+        does = Does-two v place1.me.0 w2 m (looked w e) (answered error outcome (looked w e)) Load (Add 1) (message_word w) found l.view_is did;
       }
 
   -- a reap
@@ -217,8 +226,12 @@ module _ (place place1 : Seat Rec View) (cpu : CpuId) (m : ℕ) (w : MsgWord) (s
       let did : w2 ≡ after_step place1.me.0 m (reaped e) (Store (message_word new)) (message_word new)
       = w2_is ∙ (λ i. after_step place1.me.0 m (reaped (entry_is i)) (Store (message_word (word_is i))) (message_word (word_is i))) in
       record {
-        found = w; loaded = loaded; allowed = is; own = own; was_away = away_at Back is.0 own;
+        found = w;
+        loaded = loaded;
+        allowed = is;
+        own = own;
+        was_away = away_at Back is.0 own;
         round_is = sym is.2 ∙ sym (sees_own own).round_is;
         call_is = call_is ∙ ap (λ (x : Entry). x.call) entry_is;
-        does = Does-two v place1.me.0 w2 m (looked w e) (reaped e) Load (Store (message_word new)) (message_word w) (message_word new) l.view_is did
+        does = Does-two v place1.me.0 w2 m (looked w e) (reaped e) Load (Store (message_word new)) (message_word w) (message_word new) l.view_is did;
       }

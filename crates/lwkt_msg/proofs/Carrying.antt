@@ -1,16 +1,15 @@
-use Rattle.std.proofs.Common.{◌≡◌, ◌≢◌, ◌⊎◌, inl, inr, ⊎_elim, ℕ, zero, suc, ◌+◌, ◌*◌, ◌<◌, ◌≤◌, Bool, true, false, List, [], ◌∷◌, length, refl, ap, sym, ◌∙◌, subst, arith}
+use Rattle.std.proofs.Common.{◌≡◌, ◌≢◌, ◌⊎◌, inl, inr, ℕ, zero, suc, ◌<◌, true, false, List, ◌∷◌, length, ap, sym, ◌∙◌, subst, arith}
 use mathlib.Core.Logic.{dite}
-use mathlib.Core.Option.{Option, some, none, some-injective, some-ne-none}
+use mathlib.Core.Option.{some, some-injective}
 use native.Mathlib.Decide.{ℕ_discrete}
-use lib.ListN.{get_elem?}
 use Rattle.lwkt_base.specs.declared.records.Rec.{Rec}
 use Rattle.lwkt_core.specs.declared.seats.Operation.{Operation}
 use Rattle.lwkt_msg.specs.declared.views.Entry.{Entry}
 use Rattle.lwkt_msg.specs.declared.views.View.{View}
-use Rattle.lwkt_msg.specs.Views.{slot_at, spec_at, call_of, at, after_step}
-use Rattle.lwkt_msg.specs.Hands.{Has, AreApart, AreSame, IsOwn, IsInHand, AreHands}
+use Rattle.lwkt_msg.specs.Views.{slot_at, call_of, at, after_step}
+use Rattle.lwkt_msg.specs.Hands.{Has, AreSame, IsOwn, IsInHand, AreHands}
 use Rattle.lwkt_msg.proofs.Knowing.{at-here, at-else}
-use Rattle.lwkt_msg.proofs.Bringing.{AreSame-refl, AreApart-rest, AreApart-more, not_again}
+use Rattle.lwkt_msg.proofs.Bringing.{AreApart-rest, AreApart-more, not_again}
 
 -- what a seat has in hand is the same by both entries
 pub record IsAlike (e e' : Entry) : Type 0 where
@@ -25,7 +24,7 @@ IsAlike-else v m e' op found k apart =
       had = ap (λ (x : Entry). x.had) same;
       away = ap (λ (x : Entry). x.away) same;
       taken = ap (λ (x : Entry). x.taken) same;
-      got = ap (λ (x : Entry). x.got) same
+      got = ap (λ (x : Entry). x.got) same;
     }
 
 module _ (v : View) (m : ℕ) (e' : Entry) (op : Operation) (found cpu : ℕ) where
@@ -38,7 +37,7 @@ module _ (v : View) (m : ℕ) (e' : Entry) (op : Operation) (found cpu : ℕ) wh
     apart = same.apart known.apart;
     all = λ slot rec has. let h = known.all slot rec (same.back slot rec has) in (h.0, h.1, h.2, in_hand h.0 h.3);
     own = λ k within own had away. let h = known.own k within own (sym (each k).had ∙ had) (sym (each k).away ∙ away) in (h.0, same.there (slot_at k) h.0 h.1);
-    taken = λ k within taken. let h = known.taken k within (sym (each k).taken ∙ taken) in (h.0, (same.there (slot_at k) h.0 h.1.0, h.1.1 ∙ sym (each k).got))
+    taken = λ k within taken. let h = known.taken k within (sym (each k).taken ∙ taken) in (h.0, (same.there (slot_at k) h.0 h.1.0, h.1.1 ∙ sym (each k).got));
   }
     where
       each : (k : ℕ) → IsAlike (at v k) (at w k)
@@ -73,7 +72,7 @@ module _ (v : View) (m : ℕ) (e' : Entry) (op : Operation) (found cpu : ℕ) wh
     taken = λ k within taken.
         let apart : k ≢ m = λ is. taken_gone k is taken in
         let a = IsAlike-else v m e' op found k apart in
-        let h = known.taken k within (sym a.taken ∙ taken) in (h.0, (behind k h.0 apart h.1.0, h.1.1 ∙ sym a.got))
+        let h = known.taken k within (sym a.taken ∙ taken) in (h.0, (behind k h.0 apart h.1.0, h.1.1 ∙ sym a.got));
   }
     where
       own_gone : (k : ℕ) → k ≡ m → IsOwn w cpu k → (at w k).had ≡ true → (at w k).away ≡ false → ⊥
@@ -104,7 +103,7 @@ module _ (v : View) (m : ℕ) (e' : Entry) (op : Operation) (found cpu : ℕ) wh
         (λ apart. let a = IsAlike-else v m e' op found k apart in let h = known.own k k_within own (sym a.had ∙ had) (sym a.away ∙ home) in (h.0, (suc h.1.0, h.1.1)));
     taken = λ k k_within taken. dite (ℕ_discrete k m)
         (λ is. (rec, ((zero, ap (λ (n : ℕ). some (slot_at n, rec)) (sym is)), call_here k is taken)))
-        (λ apart. let a = IsAlike-else v m e' op found k apart in let h = known.taken k k_within (sym a.taken ∙ taken) in (h.0, ((suc h.1.0.0, h.1.0.1), h.1.1 ∙ sym a.got)))
+        (λ apart. let a = IsAlike-else v m e' op found k apart in let h = known.taken k k_within (sym a.taken ∙ taken) in (h.0, ((suc h.1.0.0, h.1.0.1), h.1.1 ∙ sym a.got)));
   }
     where
       here : at w m ≡ e'

@@ -1,4 +1,4 @@
-use Rattle.std.proofs.Common.{◌≡◌, ◌⊎◌, inl, inr, ⊎_elim, Option, Some, None, ℕ, zero, suc, ◌+◌, ◌*◌, ◌<◌, ◌≤◌, List, [], ◌∷◌, ◌++◌, length, refl, ap, sym, ◌∙◌, subst, arith, length-append}
+use Rattle.std.proofs.Common.{◌≡◌, ◌⊎◌, inl, inr, ⊎_elim, Some, None, ℕ, zero, suc, ◌+◌, ◌<◌, List, [], ◌∷◌, ◌++◌, length, refl, ap, sym, ◌∙◌, subst, arith, length-append}
 use Rattle.std.specs.Prelude.{slice_get}
 use mathlib.Core.Option.{some, some-injective}
 use lib.ListN.{get_elem?}
@@ -27,7 +27,7 @@ taking_none cpus v seats kind none = record {
   takes = λ m _. nothing (at v m).takes (total (λ (d : Desk). (at d.view m).takes) seats) (ap (λ (x : Entry). x.takes) (at-none v m none));
   drops = λ m _. nothing (at v m).drops (total (λ (d : Desk). (at d.view m).drops) seats) (ap (λ (x : Entry). x.drops) (at-none v m none));
   replies = λ m _. nothing (at v m).replies (total (λ (d : Desk). (at d.view m).replies) seats) (ap (λ (x : Entry). x.replies) (at-none v m none));
-  reaps = λ m _. nothing (at v m).reaps (total (λ (d : Desk). (at d.view m).reaps) seats) (ap (λ (x : Entry). x.reaps) (at-none v m none))
+  reaps = λ m _. nothing (at v m).reaps (total (λ (d : Desk). (at d.view m).reaps) seats) (ap (λ (x : Entry). x.reaps) (at-none v m none));
 }
   where
     nothing : (n all : ℕ) → n ≡ 0 → n + all ≡ all
@@ -45,7 +45,7 @@ taking_more cpus v seats left seat w t = record {
   takes = λ m within. moved (λ e. e.takes) m within (λ a b. refl) (t.takes m within);
   drops = λ m within. moved (λ e. e.drops) m within (λ a b. refl) (t.drops m within);
   replies = λ m within. moved (λ e. e.replies) m within (λ a b. refl) (t.replies m within);
-  reaps = λ m within. moved (λ e. e.reaps) m within (λ a b. refl) (t.reaps m within)
+  reaps = λ m within. moved (λ e. e.reaps) m within (λ a b. refl) (t.reaps m within);
 }
   where
     moved : (f : Entry → ℕ) (m : ℕ) → m < length v.specs → ((a b : Entry) → f (added a b) ≡ f a + f b) → f (at w m) + total (λ (d : Desk). f (at d.view m)) (left ++ seat ∷ []) ≡ total (λ (d : Desk). f (at d.view m)) seats
@@ -67,7 +67,7 @@ taking_all cpus v seats w t = record {
   takes = λ m within. whole (at w m).takes (total (λ (d : Desk). (at d.view m).takes) seats) (t.takes m within);
   drops = λ m within. whole (at w m).drops (total (λ (d : Desk). (at d.view m).drops) seats) (t.drops m within);
   replies = λ m within. whole (at w m).replies (total (λ (d : Desk). (at d.view m).replies) seats) (t.replies m within);
-  reaps = λ m within. whole (at w m).reaps (total (λ (d : Desk). (at d.view m).reaps) seats) (t.reaps m within)
+  reaps = λ m within. whole (at w m).reaps (total (λ (d : Desk). (at d.view m).reaps) seats) (t.reaps m within);
 }
   where
     whole : (n all : ℕ) → n + 0 ≡ all → n ≡ all
@@ -91,5 +91,5 @@ shown_more m words ends word end shown at_m shows = record {
       let F : ℕ → Type 0 = λ i. get_elem? words (word_at i) ≡ some n in
       let n_is : n ≡ word = some-injective n word (sym (subst F k_is at_k) ∙ at_m) in
       sym new.1 ∙ shows w fits (is ∙ n_is))
-      (get_snoc ends end other k e)
+      (get_snoc ends end other k e);
 }

@@ -1,28 +1,24 @@
-use Rattle.std.proofs.Common.{◌≡◌, ◌≢◌, Option, Some, None, ℕ, zero, suc, ◌+◌, ◌*◌, ◌<◌, ◌≤◌, List, [], ◌∷◌, length, map, get_or, refl, ap, sym, ◌∙◌, subst, arith}
+use Rattle.std.proofs.Common.{◌≡◌, ◌≢◌, Some, None, ℕ, zero, suc, ◌<◌, ◌≤◌, List, [], ◌∷◌, length, map, get_or, refl, ap, sym, ◌∙◌, subst, arith}
 use Rattle.std.specs.Prelude.{slice_get}
 use mathlib.Core.Option.{some}
 use lib.ListN.{get_elem?}
-use Rattle.atomic_table.specs.Seated.{TableId}
 use Rattle.atomic_table.specs.Table.{State}
-use Rattle.lwkt_base.specs.declared.names.CpuId.{CpuId}
 use Rattle.lwkt_base.specs.declared.owners.MsgEnd.{MsgEnd}
 use Rattle.lwkt_base.specs.declared.owners.Owner.{Owner}
 use Rattle.lwkt_base.specs.declared.owners.Owner.TheVariants.{Rest, Out, With, Back}
 use Rattle.lwkt_base.specs.declared.openings.MsgSpec.{MsgSpec}
 use Rattle.lwkt_base.specs.declared.records.Rec.{Rec}
-use Rattle.lwkt_base.specs.MessageWord.{message_word}
 use Rattle.lwkt_core.specs.declared.seats.SeatKind.{SeatKind}
 use Rattle.lwkt_core.specs.declared.seats.SeatKind.TheVariants.{Clerk, Spent}
 use Rattle.lwkt_core.specs.Messages.{IsSafeMessage, origin_of}
 use Rattle.lwkt_core.specs.Seating.{total}
-use Rattle.lwkt_core.specs.Trace.{end_of}
 use Rattle.lwkt_core.proofs.SeatingLemmas.{at_map, total-only, AreSeated-closed}
 use Rattle.lwkt_msg.specs.declared.views.Entry.{Entry}
 use Rattle.lwkt_msg.specs.declared.views.Layout.{Layout}
 use Rattle.lwkt_msg.specs.declared.views.View.{View}
-use Rattle.lwkt_msg.specs.Views.{word_at, slot_at, spec_at, at}
-use Rattle.lwkt_msg.specs.Book.{Mail, parts_of, state_of, shown_target, Knows, HasNoCounts, IsKept, mail_at, Rule}
-use Rattle.lwkt_msg.specs.Desks.{Desk, Shelf, AreGathered, IsClosed, AreClosed, AreShown, HasTakenBack, shown_by, shown_end}
+use Rattle.lwkt_msg.specs.Views.{word_at, spec_at, at}
+use Rattle.lwkt_msg.specs.Book.{Mail, parts_of, state_of, shown_target, HasNoCounts, mail_at, Rule}
+use Rattle.lwkt_msg.specs.Desks.{Desk, Shelf, IsClosed, AreClosed, AreShown, HasTakenBack, shown_by, shown_end}
 use Rattle.lwkt_msg.proofs.Leading.{fits_of}
 
 -- an owner is whom its word shows
@@ -49,7 +45,7 @@ pub closes : (book : Shelf) (key : Layout) (seats : List Desk) (v w : View) (id 
     → length seats ≡ book.cpus → HasTakenBack book.cpus v seats w → Rule key s → get_elem? s.views id ≡ some w → s.words ≡ words → AreShown (length key.specs.items) words ends → AreClosed book seats ends
 closes book key seats v w id words ends s cpus_is specs_is v_specs all taken rule at_id words_are shown = record {
   as_many = shown.as_many ∙ ap (λ (xs : List MsgSpec). length xs) (sym specs_is);
-  each = each
+  each = each;
 }
   where
     within_of : (m : ℕ) (end : MsgEnd) → slice_get ends m ≡ Some end → m < length key.specs.items
@@ -90,6 +86,6 @@ closes book key seats v w id words ends s cpus_is specs_is v_specs all taken rul
             takes = counted m within (λ x. x.takes) mail.msg.takes (total (λ (d : Desk). (at d.view m).takes) seats) (λ x none. none.takes) kept.counted.takes (taken.takes m in_v);
             drops = counted m within (λ x. x.drops) mail.msg.drops (total (λ (d : Desk). (at d.view m).drops) seats) (λ x none. none.drops) kept.counted.drops (taken.drops m in_v);
             replies = counted m within (λ x. x.replies) mail.msg.replies (total (λ (d : Desk). (at d.view m).replies) seats) (λ x none. none.replies) kept.counted.replies (taken.replies m in_v);
-            reaps = counted m within (λ x. x.reaps) mail.msg.reaps (total (λ (d : Desk). (at d.view m).reaps) seats) (λ x none. none.reaps) kept.counted.reaps (taken.reaps m in_v)
-          }
+            reaps = counted m within (λ x. x.reaps) mail.msg.reaps (total (λ (d : Desk). (at d.view m).reaps) seats) (λ x none. none.reaps) kept.counted.reaps (taken.reaps m in_v);
+          };
         }

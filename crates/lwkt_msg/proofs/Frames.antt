@@ -1,11 +1,10 @@
-use Rattle.std.proofs.Common.{◌≡◌, ◌≢◌, ◌⊎◌, inl, inr, ⊎_elim, ℕ, ◌+◌, ◌*◌, ◌<◌, ◌≤◌, Bool, true, false, List, [], ◌∷◌, ◌++◌, map, length, set, get_or, refl, ap, sym, ◌∙◌, subst, arith, length-set, get_or-set_other, get_or-set_same}
+use Rattle.std.proofs.Common.{◌≡◌, ◌≢◌, ⊎_elim, ℕ, ◌+◌, ◌<◌, List, map, length, set, get_or, refl, ap, sym, ◌∙◌, subst, arith, length-set, get_or-set_other, get_or-set_same}
 use mathlib.Core.Logic.{dite}
-use mathlib.Core.Option.{Option, some, none}
+use mathlib.Core.Option.{Option, some}
 use native.Mathlib.Decide.{ℕ_discrete}
 use lib.ListN.{get_elem?}
 use Rattle.atomic_table.specs.Table.{State}
 use Rattle.lwkt_base.specs.declared.names.CpuId.{CpuId}
-use Rattle.lwkt_base.specs.declared.owners.Owner.{Owner}
 use Rattle.lwkt_base.specs.declared.records.Rec.{Rec}
 use Rattle.lwkt_base.specs.declared.openings.MsgSpec.{MsgSpec}
 use Rattle.lwkt_base.specs.MessageWord.{message_word}
@@ -15,12 +14,12 @@ use Rattle.lwkt_core.specs.declared.seats.SeatKind.{SeatKind}
 use Rattle.lwkt_core.specs.declared.seats.SeatKind.TheVariants.{Clerk, Of, Spent}
 use Rattle.lwkt_core.specs.Messages.{IsSafeMessage, in_out}
 use Rattle.lwkt_core.specs.Seating.{AreSeated, total}
-use Rattle.lwkt_core.proofs.SeatingLemmas.{at_set, set_again, inside, at_map, map-set, total-set, AreSeated-kept, AreSeated-below}
+use Rattle.lwkt_core.proofs.SeatingLemmas.{at_set, at_map, map-set, total-set, AreSeated-kept, AreSeated-below}
 use Rattle.lwkt_msg.specs.declared.views.Entry.{Entry}
 use Rattle.lwkt_msg.specs.declared.views.Layout.{Layout}
 use Rattle.lwkt_msg.specs.declared.views.View.{View}
 use Rattle.lwkt_msg.specs.Views.{word_at, slot_at, spec_at, at, after_step, Stands}
-use Rattle.lwkt_msg.specs.Book.{Mail, parts_of, in_slot, KnowsOwn, KnowsTaken, Knows, HasNoCounts, AreCounted, IsKept, no_mail, mail_at, IsBook}
+use Rattle.lwkt_msg.specs.Book.{Mail, parts_of, in_slot, Knows, AreCounted, IsKept, no_mail, mail_at, IsBook}
 use Rattle.lwkt_msg.proofs.Knowing.{Changes, at-here}
 
 -- a total to which one view gives the same as before
@@ -46,7 +45,7 @@ counted_else msg k m views id v w e changes apart counted =
       takes = total_same (λ x. (at x k).takes) views id v w e (ap (λ (y : Entry). y.takes) same) ∙ counted.takes;
       drops = total_same (λ x. (at x k).drops) views id v w e (ap (λ (y : Entry). y.drops) same) ∙ counted.drops;
       replies = total_same (λ x. (at x k).replies) views id v w e (ap (λ (y : Entry). y.replies) same) ∙ counted.replies;
-      reaps = total_same (λ x. (at x k).reaps) views id v w e (ap (λ (y : Entry). y.reaps) same) ∙ counted.reaps
+      reaps = total_same (λ x. (at x k).reaps) views id v w e (ap (λ (y : Entry). y.reaps) same) ∙ counted.reaps;
     }
 
 counted_here : (msg after : Message) (m : ℕ) (views : List View) (id : ℕ) (v w : View) → get_elem? views id ≡ some v → CountsWith msg after (at v m) (at w m) → AreCounted msg m views → AreCounted after m (set views id w)
@@ -55,7 +54,7 @@ counted_here msg after m views id v w e moves counted = record {
   takes = total_moved (λ x. (at x m).takes) views id msg.takes after.takes v w e moves.takes counted.takes;
   drops = total_moved (λ x. (at x m).drops) views id msg.drops after.drops v w e moves.drops counted.drops;
   replies = total_moved (λ x. (at x m).replies) views id msg.replies after.replies v w e moves.replies counted.replies;
-  reaps = total_moved (λ x. (at x m).reaps) views id msg.reaps after.reaps v w e moves.reaps counted.reaps
+  reaps = total_moved (λ x. (at x m).reaps) views id msg.reaps after.reaps v w e moves.reaps counted.reaps;
 }
 
 -- a step on another message keeps this one
@@ -76,7 +75,7 @@ kept_else cpus spec mail word home k m views id v w e changes apart kept = recor
       let H : Entry → Type 0 = λ y. Knows mail w.kind y in
       subst F here.1 (subst H (sym (changes.else_same k apart)) (subst G (sym changes.kind) (kept.each_view id v e))))
       (λ (other : (j ≢ id) × (get_elem? views j ≡ some x)). kept.each_view j x other.1)
-      (at_set views id j w x d)
+      (at_set views id j w x d);
 }
 
 -- a step on this message, by the seat of a processor, keeps it
@@ -104,7 +103,7 @@ kept_here cpus spec mail mail' word word' home home' m views id v w cpu kept e i
       let H : SeatKind → Type 0 = λ y. Knows mail y (at v m) in
       subst F here.1 (subst G (sym (same_kind ∙ is_seat)) (mine (subst H is_seat (kept.each_view id v e)))))
       (λ (other : (j ≢ id) × (get_elem? views j ≡ some x)). others x.kind (at x m) (alone j x other.0 other.1) (kept.each_view j x other.1))
-      (at_set views id j w x d)
+      (at_set views id j w x d);
 }
 
 -- the same, where the view is that after a step
@@ -171,7 +170,7 @@ IsBook-moved key mails s m id v w mail' word' homes' book e changes there as_dee
       subst F here.1 (λ lives. let p = book.plans id v e (λ gone. lives (changes.kind ∙ gone)) in (changes.cpus ∙ p.0, changes.specs ∙ p.1)))
       (λ (other : (j ≢ id) × (get_elem? s.views j ≡ some x)). book.plans j x other.1)
       (at_set s.views id j w x d);
-  each = λ k within. dite (ℕ_discrete k m) (λ same. here k same) (λ apart. else_kept k within apart)
+  each = λ k within. dite (ℕ_discrete k m) (λ same. here k same) (λ apart. else_kept k within apart);
 }
   where
     in_mails : m < length mails

@@ -1,4 +1,4 @@
-use Rattle.std.proofs.Common.{◌≡◌, ◌≢◌, ◌⊎◌, inl, inr, ⊎_elim, ℕ, ◌+◌, ◌*◌, ◌<◌, ◌≤◌, Bool, true, false, List, [], ◌∷◌, length, refl, ap, sym, ◌∙◌, subst, arith, eq-eqb, ne_eqb}
+use Rattle.std.proofs.Common.{◌≡◌, inl, ⊎_elim, ℕ, ◌+◌, ◌<◌, ◌≤◌, true, false, List, [], ◌∷◌, length, refl, ap, sym, ◌∙◌, subst, arith, eq-eqb, ne_eqb}
 use mathlib.Core.Logic.{dite}
 use mathlib.Core.Option.{some-ne-none}
 use native.Mathlib.Decide.{ℕ_discrete}
@@ -9,10 +9,9 @@ use Rattle.lwkt_base.specs.declared.names.CpuId.{CpuId}
 use Rattle.lwkt_base.specs.declared.openings.MsgSpec.{MsgSpec}
 use Rattle.lwkt_base.specs.declared.records.Rec.{Rec}
 use Rattle.lwkt_core.specs.declared.seats.Operation.TheVariants.{Load}
-use Rattle.lwkt_core.specs.declared.seats.SeatKind.TheVariants.{Of}
 use Rattle.lwkt_msg.specs.declared.views.Entry.{Entry}
 use Rattle.lwkt_msg.specs.declared.views.View.{View}
-use Rattle.lwkt_msg.specs.Views.{next_seat, seat_right, slot_at, spec_at, first_entry, call_of, at, after_step, handed}
+use Rattle.lwkt_msg.specs.Views.{next_seat, seat_right, slot_at, spec_at, first_entry, at, after_step, handed}
 use Rattle.lwkt_msg.specs.Hands.{IsOwn, IsInHand, AreHands}
 use Rattle.lwkt_msg.specs.Plays.{IsSat}
 use Rattle.lwkt_msg.specs.Desks.{opened_entry, IsHanding, IsClerk}
@@ -58,7 +57,7 @@ handing_own place place' cpu m found rec h within own same view_is hands_are =
           (λ is. let G : ℕ → Type 0 = λ n. at w n ≡ opened_entry cpu.0 (spec_at v.specs n) in
           subst G (sym is) (at-here v m (handed e) Load found ∙ (ap handed first ∙ opened (spec_at v.specs m) own)))
           (λ apart. at-else v m (handed e) Load found k apart ∙ h.done k (omega arith)));
-      todo = subst T (sym view_is) (λ k above. at-else v m (handed e) Load found k (λ is. absurd (omega arith)) ∙ h.todo k (omega arith))
+      todo = subst T (sym view_is) (λ k above. at-else v m (handed e) Load found k (λ is. absurd (omega arith)) ∙ h.todo k (omega arith));
     }
   where
     opened : (spec : MsgSpec) → spec.origin.cpu.0 ≡ cpu.0 → handed (first_entry spec) ≡ opened_entry cpu.0 spec
@@ -77,7 +76,7 @@ handing_other place cpu m h other = record {
   done = λ k below. dite (ℕ_discrete k m)
       (λ is. let G : ℕ → Type 0 = λ n. at place.me.0 n ≡ opened_entry cpu.0 (spec_at place.me.0.specs n) in subst G (sym is) (h.todo m (omega arith) ∙ blank (spec_at place.me.0.specs m) other))
       (λ apart. h.done k (omega arith));
-  todo = λ k above. h.todo k (omega arith)
+  todo = λ k above. h.todo k (omega arith);
 }
   where
     blank : (spec : MsgSpec) → (spec.origin.cpu.0 ≡ cpu.0 → ⊥) → first_entry spec ≡ opened_entry cpu.0 spec
@@ -93,7 +92,7 @@ handing_done place cpu h = record {
   cpus = h.cpus;
   there = h.there;
   had = λ m within own. ap (λ (x : Entry). x.had) (h.done m within) ∙ has (spec_at place.me.0.specs m) own;
-  hands = h.hands
+  hands = h.hands;
 }
   where
     has : (spec : MsgSpec) → spec.origin.cpu.0 ≡ cpu.0 → (opened_entry cpu.0 spec).had ≡ true
@@ -127,8 +126,8 @@ handing_fresh clerk place cpu cpus specs k room same me_is =
         apart = record { one = λ i j slot rec other x y. absurd (some-ne-none (slot, rec) (sym x)) };
         all = λ slot rec has. absurd (some-ne-none (slot, rec) (sym has.1));
         own = λ m within own had home. absurd (let e : false ≡ true = ap (λ (x : Entry). x.had) (sym (blank m)) ∙ had in cc);
-        taken = λ m within taken. absurd (let e : false ≡ true = ap (λ (x : Entry). x.taken) (sym (blank m)) ∙ taken in cc)
+        taken = λ m within taken. absurd (let e : false ≡ true = ap (λ (x : Entry). x.taken) (sym (blank m)) ∙ taken in cc);
       };
       done = λ m below. absurd (omega arith);
-      todo = subst T (ap (λ (x : Me Rec View). x.0) (sym me_is)) (λ m _. blank m)
+      todo = subst T (ap (λ (x : Me Rec View). x.0) (sym me_is)) (λ m _. blank m);
     }

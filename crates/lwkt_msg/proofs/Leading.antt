@@ -1,4 +1,4 @@
-use Rattle.std.proofs.Common.{◌≡◌, ◌≢◌, ◌⊎◌, inl, inr, ⊎_elim, ℕ, zero, suc, ◌+◌, ◌*◌, ◌<◌, ◌≤◌, ◌^◌, ◌&&◌, Bool, true, false, List, [], ◌∷◌, length, map, set, get_or, Option, Some, None, refl, ap, sym, ◌∙◌, subst, arith, length-set}
+use Rattle.std.proofs.Common.{◌≡◌, ◌≢◌, ℕ, zero, suc, ◌+◌, ◌<◌, ◌≤◌, Bool, true, false, List, [], ◌∷◌, length, map, set, get_or, Option, Some, refl, ap, sym, ◌∙◌, subst, arith, length-set}
 use Rattle.std.specs.Prelude.{slice_get, slice_set, IsSomeAnd}
 use Rattle.std.specs.Option.{option_map_or}
 use Rattle.std.proofs.lemmas.Bool.{eqb-true}
@@ -24,26 +24,25 @@ use Rattle.lwkt_core.specs.declared.messages.Message.{Message}
 use Rattle.lwkt_core.specs.declared.messages.TheConstants.{LAST_ROUND}
 use Rattle.lwkt_core.specs.declared.tokens.TheConstants.{CPU_LIMIT}
 use Rattle.lwkt_core.specs.declared.seats.Operation.{Operation}
-use Rattle.lwkt_core.specs.declared.seats.Operation.TheVariants.{Load, Store, Exchange, Add}
-use Rattle.lwkt_core.specs.declared.seats.Operation.TheVariants as operation
+use Rattle.lwkt_core.specs.declared.seats.Operation.TheVariants.{Store}
 use Rattle.lwkt_core.specs.declared.seats.SeatKind.{SeatKind}
 use Rattle.lwkt_core.specs.declared.seats.SeatKind.TheVariants.{Of}
 use Rattle.lwkt_core.specs.Events.{cpu_of, place_of, adds_reference}
-use Rattle.lwkt_core.specs.Machine.{Machine, Needs, Happens, PlaceNeeds, after_at, changed}
+use Rattle.lwkt_core.specs.Machine.{Machine, Happens, PlaceNeeds, after_at, changed}
 use Rattle.lwkt_core.specs.Messages.{IsSafeMessage, MessageNeeds, message_after, origin_of, target_of, is_away, in_out, TargetIsThere, IsOutTo, IsOutFrom, IsWith, IsBackTo}
 use Rattle.lwkt_core.proofs.MessageMoves.{IsSafeMessage-after}
 use Rattle.lwkt_core.proofs.SeatingLemmas.{set_here, set_else, at_map, map-set, AreSeated-there}
 use Rattle.lwkt_msg.specs.declared.views.Entry.{Entry}
 use Rattle.lwkt_msg.specs.declared.views.Layout.{Layout}
 use Rattle.lwkt_msg.specs.declared.views.View.{View}
-use Rattle.lwkt_msg.specs.Views.{word_at, slot_at, spec_at, call_of, at, after_step, looked, handed, sent, took, replied, reaped, dropped, requested, Stands}
-use Rattle.lwkt_msg.specs.Book.{Mail, parts_of, state_of, shown_target, in_slot, is_taken, is_back, KnowsOwn, KnowsTaken, Knows, IsKept, mail_at, no_mail, IsBook}
+use Rattle.lwkt_msg.specs.Views.{word_at, slot_at, spec_at, call_of, at, after_step, handed, sent, took, replied, reaped, dropped, requested, Stands}
+use Rattle.lwkt_msg.specs.Book.{Mail, parts_of, state_of, shown_target, in_slot, is_taken, is_back, KnowsOwn, KnowsTaken, Knows, IsKept, mail_at, IsBook}
 use Rattle.lwkt_msg.specs.Hands.{IsOwn}
 use Rattle.lwkt_msg.specs.Steps.{sent_word, rest_word, machine_of, LeadsTo}
 use Rattle.lwkt_msg.proofs.WordFacts.{message_word-injective}
 use Rattle.lwkt_msg.proofs.Knowing.{Changes-after_step}
 use Rattle.lwkt_msg.proofs.Frames.{CountsWith, kept_step, stands_alone, seat_plan, IsBook-moved}
-use Rattle.lwkt_msg.proofs.Moves.{owned, mail_after, mail_sent, never, send_others, send_mine, take_others, take_mine, reply_others, reply_mine, reap_others, reap_mine, drop_others, drop_mine, abort_others, abort_mine, hand_others, hand_mine, look_mine}
+use Rattle.lwkt_msg.proofs.Moves.{owned, mail_after, mail_sent, never, send_others, send_mine, take_others, take_mine, reply_others, reply_mine, reap_others, reap_mine, drop_others, drop_mine, abort_others, abort_mine, hand_others, hand_mine}
 
 -- the message of a number in the machine that a book shows
 shown_at : (mails : List Mail) (m : ℕ) → m < length mails → slice_get (map (λ (mail : Mail). mail.msg) mails) m ≡ Some ((mail_at mails m).msg)
@@ -62,12 +61,14 @@ happens_at key mails m mail' event within place adds there needs leaves =
     let left : map (λ (mail : Mail). mail.msg) (set mails m mail') ≡ changed (λ msg. message_after msg event) M.messages m
     = map-set (λ (mail : Mail). mail.msg) mails m mail' ∙ (ap (λ (x : Message). set M.messages m x) leaves ∙ sym (ap H (shown_at mails m within))) in
     let after_is : machine_of key (set mails m mail') ≡ after_at M event (place_of event)
-    = ap (λ (x : List Message). let z : Machine = record M { messages = x } in z) left ∙ ap (λ (p : Place). after_at M event p) (sym place) in
-    (record {
-      processor = there;
-      place = subst G (sym place) (subst F (sym (shown_at mails m within)) needs);
-      room = λ more. never (sym adds ∙ more)
-    }, after_is)
+    = ap (λ (x : List Message). let z : Machine = record M { messages = x } in z) left ∙ ap (λ (p : Place). after_at M event p) (sym place) in (
+      record {
+        processor = there;
+        place = subst G (sym place) (subst F (sym (shown_at mails m within)) needs);
+        room = λ more. never (sym adds ∙ more);
+      },
+      after_is,
+    )
 
 -- an owner of which its message shows that it is at rest
 at_rest : (o : Owner) → is_away o ≡ false → o ≡ Rest (origin_of o)
@@ -160,7 +161,7 @@ module _ (key : Layout) (mails : List Mail) (s : State Rec View) (id : ℕ) (v :
   leads mail' event word' homes' e' o found as_deep slots now place adds by needs is = record {
     after_mails = set mails m mail';
     book = IsBook-moved key mails s m id v (after_step v m e' o found) mail' word' homes' book e (Changes-after_step v m e' o found) there as_deep slots now;
-    happens = happens_at key mails m mail' event in_mails place adds by needs is
+    happens = happens_at key mails m mail' event in_mails place adds by needs is;
   }
 
   set_slots : (x : maybe.Option Rec) (k : ℕ) → k ≢ m → get_elem? (set s.homes (slot_at m) x) (slot_at k) ≡ get_elem? s.homes (slot_at k)
@@ -171,7 +172,7 @@ module _ (key : Layout) (mails : List Mail) (s : State Rec View) (id : ℕ) (v :
       → LeadsTo key mails (Send cpu msg to ((at v m).round + 1)) record {
         words = set s.words (word_at m) (message_word (sent_word cpu to ((at v m).round + 1) sync flags));
         homes = set s.homes (slot_at m) (some rec);
-        views = set s.views id (after_step v m (sent (sent_word cpu to ((at v m).round + 1) sync flags) (call_of rec) (at v m)) (Store (message_word (sent_word cpu to ((at v m).round + 1) sync flags))) (message_word (sent_word cpu to ((at v m).round + 1) sync flags)))
+        views = set s.views id (after_step v m (sent (sent_word cpu to ((at v m).round + 1) sync flags) (call_of rec) (at v m)) (Store (message_word (sent_word cpu to ((at v m).round + 1) sync flags))) (message_word (sent_word cpu to ((at v m).round + 1) sync flags)));
       }
   send_leads to sync flags rec own home to_there room no_error no_result =
       let w : MsgWord = sent_word cpu to ((at v m).round + 1) sync flags in
@@ -205,7 +206,7 @@ module _ (key : Layout) (mails : List Mail) (s : State Rec View) (id : ℕ) (v :
         takes = ap (λ (n : ℕ). n + mail.msg.takes) b;
         drops = ap (λ (n : ℕ). n + mail.msg.drops) c;
         replies = ap (λ (n : ℕ). n + mail.msg.replies) d;
-        reaps = ap (λ (n : ℕ). n + mail.msg.reaps) f
+        reaps = ap (λ (n : ℕ). n + mail.msg.reaps) f;
       } in
       let now = kept_step key.cpus (spec_at key.specs.items m) mail mail (get_or s.words (word_at m) 0) (get_or s.words (word_at m) 0) (get_elem? s.homes (slot_at m)) (get_elem? s.homes (slot_at m)) m s.views id v cpu
       e' o found kept e is_seat alone kept.safe refl refl kept.is_word kept.slot kept.unanswered counts mine (λ kind x _ known. known) in
@@ -242,7 +243,7 @@ module _ (key : Layout) (mails : List Mail) (s : State Rec View) (id : ℕ) (v :
       let event : Event = TakeMsg cpu msg w.round in
       let round_is : w.round ≡ mail.msg.round = sym (ap (λ (x : MsgWord). x.round) same) in
       let F : Owner → Type 0 = λ x. IsKept key.cpus (spec_at key.specs.items m) (owned mail x) (get_or s.words (word_at m) 0) (get_elem? s.homes (slot_at m)) m s.views
-          → IsKept key.cpus (spec_at key.specs.items m) (mail_after (owned mail x) event mail.rec) (message_word w + 1) (get_elem? (set s.homes (slot_at m) none) (slot_at m)) m (set s.views id (after_step v m (took mail.rec (at v m)) op found)) in
+      → IsKept key.cpus (spec_at key.specs.items m) (mail_after (owned mail x) event mail.rec) (message_word w + 1) (get_elem? (set s.homes (slot_at m) none) (slot_at m)) m (set s.views id (after_step v m (took mail.rec (at v m)) op found)) in
       let now = subst F (sym owner_is) (taken_kept (origin_of mail.msg.owner) w op found is round_is) kept in
       let G : Owner → Type 0 = λ x. IsOutTo cpu x in
       leads (mail_after mail event mail.rec) event (message_word w + 1) (set s.homes (slot_at m) none) (took mail.rec (at v m)) op found (length-set s.homes (slot_at m) none) (set_slots none) now refl refl cpu_there (subst G (sym owner_is) refl, round_is) refl
@@ -279,7 +280,7 @@ module _ (key : Layout) (mails : List Mail) (s : State Rec View) (id : ℕ) (v :
       let owner_is : mail.msg.owner ≡ With (origin_of mail.msg.owner) cpu = taken_by mail.msg.owner cpu is in
       let event : Event = Reply cpu msg in
       let F : Owner → Type 0 = λ x. IsKept key.cpus (spec_at key.specs.items m) (owned mail x) (get_or s.words (word_at m) 0) (get_elem? s.homes (slot_at m)) m s.views
-          → IsKept key.cpus (spec_at key.specs.items m) (mail_after (owned mail x) event rec) (get_or s.words (word_at m) 0 + 1) (get_elem? (set s.homes (slot_at m) (some rec)) (slot_at m)) m (set s.views id (after_step v m (replied rec (at v m)) op found)) in
+      → IsKept key.cpus (spec_at key.specs.items m) (mail_after (owned mail x) event rec) (get_or s.words (word_at m) 0 + 1) (get_elem? (set s.homes (slot_at m) (some rec)) (slot_at m)) m (set s.views id (after_step v m (replied rec (at v m)) op found)) in
       let now = subst F (sym owner_is) (replied_kept (origin_of mail.msg.owner) rec op found (same_call ∙ k.got_is is)) kept in
       let G : Owner → Type 0 = λ x. IsWith cpu x in
       leads (mail_after mail event rec) event (get_or s.words (word_at m) 0 + 1) (set s.homes (slot_at m) (some rec)) (replied rec (at v m)) op found (length-set s.homes (slot_at m) (some rec)) (set_slots (some rec)) now refl refl cpu_there (subst G (sym owner_is) refl) refl
@@ -309,7 +310,7 @@ module _ (key : Layout) (mails : List Mail) (s : State Rec View) (id : ℕ) (v :
       let owner_is : mail.msg.owner ≡ Back cpu (target_of mail.msg.owner) = come_back mail.msg.owner (k.back_is seen) ∙ ap (λ (x : CpuId). Back x (target_of mail.msg.owner)) origin_same in
       let event : Event = Reap cpu msg in
       let F : Owner → Type 0 = λ x. IsKept key.cpus (spec_at key.specs.items m) (owned mail x) (get_or s.words (word_at m) 0) (get_elem? s.homes (slot_at m)) m s.views → mail.had ≡ true
-          → IsKept key.cpus (spec_at key.specs.items m) (mail_after (owned mail x) event mail.rec) (message_word (rest_word cpu (at v m).round)) (get_elem? (set s.homes (slot_at m) none) (slot_at m)) m (set s.views id (after_step v m (reaped (at v m)) op found)) in
+      → IsKept key.cpus (spec_at key.specs.items m) (mail_after (owned mail x) event mail.rec) (message_word (rest_word cpu (at v m).round)) (get_elem? (set s.homes (slot_at m) none) (slot_at m)) m (set s.views id (after_step v m (reaped (at v m)) op found)) in
       let now = subst F (sym owner_is) (reaped_kept (target_of mail.msg.owner) op found own k.round_is) kept (sym k.had_is ∙ had) in
       let G : Owner → Type 0 = λ x. IsBackTo cpu x in
       leads (mail_after mail event mail.rec) event (message_word (rest_word cpu (at v m).round)) (set s.homes (slot_at m) none) (reaped (at v m)) op found (length-set s.homes (slot_at m) none) (set_slots none) now refl refl cpu_there (subst G (sym owner_is) refl) refl
@@ -348,7 +349,7 @@ module _ (key : Layout) (mails : List Mail) (s : State Rec View) (id : ℕ) (v :
       let owner_is : mail.msg.owner ≡ Out cpu (target_of mail.msg.owner) = sent_out mail.msg.owner (ap (λ (x : MsgWord). x.state) same ∙ out) ∙ ap (λ (x : CpuId). Out x (target_of mail.msg.owner)) origin_same in
       let event : Event = DropMsg cpu msg in
       let F : Owner → Type 0 = λ x. IsKept key.cpus (spec_at key.specs.items m) (owned mail x) (get_or s.words (word_at m) 0) (get_elem? s.homes (slot_at m)) m s.views → mail.had ≡ true
-          → IsKept key.cpus (spec_at key.specs.items m) (mail_after (owned mail x) event mail.rec) (message_word (rest_word cpu (at v m).round)) (get_elem? (set s.homes (slot_at m) none) (slot_at m)) m (set s.views id (after_step v m (dropped (at v m)) op found)) in
+      → IsKept key.cpus (spec_at key.specs.items m) (mail_after (owned mail x) event mail.rec) (message_word (rest_word cpu (at v m).round)) (get_elem? (set s.homes (slot_at m) none) (slot_at m)) m (set s.views id (after_step v m (dropped (at v m)) op found)) in
       let now = subst F (sym owner_is) (dropped_kept (target_of mail.msg.owner) op found own k.round_is) kept (sym k.had_is ∙ had) in
       let G : Owner → Type 0 = λ x. IsOutFrom cpu x in
       leads (mail_after mail event mail.rec) event (message_word (rest_word cpu (at v m).round)) (set s.homes (slot_at m) none) (dropped (at v m)) op found (length-set s.homes (slot_at m) none) (set_slots none) now refl refl cpu_there (subst G (sym owner_is) refl) refl
@@ -383,6 +384,7 @@ module _ (key : Layout) (mails : List Mail) (s : State Rec View) (id : ℕ) (v :
       let slot : get_elem? (set s.homes (slot_at m) none) (slot_at m) ≡ some (in_slot mail.msg.owner true mail.rec) = subst G (sym owner_is) (set_here s.homes (slot_at m) none in_homes) in
       let counts : CountsWith mail.msg mail.msg (at v m) (handed (at v m)) = record { sends = refl; takes = refl; drops = refl; replies = refl; reaps = refl } in
       let now = kept_step key.cpus (spec_at key.specs.items m) mail mail' (get_or s.words (word_at m) 0) (get_or s.words (word_at m) 0) (get_elem? s.homes (slot_at m)) (get_elem? (set s.homes (slot_at m) none) (slot_at m)) m s.views id v cpu
-      (handed (at v m)) op found kept e is_seat alone kept.safe refl refl kept.is_word slot kept.unanswered counts (hand_mine mail cpu cpu cpu m (at v m)) (hand_others mail cpu cpu cpu m (own_origin own)) in
-      (subst F (sym owner_is) go kept.slot (sym k.had_is ∙ had),
-      IsBook-moved key mails s m id v (after_step v m (handed (at v m)) op found) mail' (get_or s.words (word_at m) 0) (set s.homes (slot_at m) none) book e (Changes-after_step v m (handed (at v m)) op found) there (length-set s.homes (slot_at m) none) (set_slots none) now)
+      (handed (at v m)) op found kept e is_seat alone kept.safe refl refl kept.is_word slot kept.unanswered counts (hand_mine mail cpu cpu cpu m (at v m)) (hand_others mail cpu cpu cpu m (own_origin own)) in (
+        subst F (sym owner_is) go kept.slot (sym k.had_is ∙ had),
+        IsBook-moved key mails s m id v (after_step v m (handed (at v m)) op found) mail' (get_or s.words (word_at m) 0) (set s.homes (slot_at m) none) book e (Changes-after_step v m (handed (at v m)) op found) there (length-set s.homes (slot_at m) none) (set_slots none) now,
+      )

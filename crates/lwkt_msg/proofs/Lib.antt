@@ -12,3 +12,4 @@ pub mod Calling
 pub mod Handing
 pub mod Closing
 pub mod Ending
+pub mod Picturing

@@ -1,22 +1,18 @@
-use Rattle.std.proofs.Common.{◌≡◌, ◌≢◌, ◌⊎◌, inl, inr, ⊎_elim, ℕ, ◌+◌, ◌*◌, ◌<◌, ◌≤◌, ◌==◌, ◌||◌, ◌&&◌, ◌^◌, eqb, Bool, true, false, refl, ap, sym, ◌∙◌, subst, eq-eqb, ne_eqb, arith}
+use Rattle.std.proofs.Common.{◌≡◌, ◌≢◌, ℕ, ◌||◌, Bool, true, false, refl, sym, ◌∙◌, subst, eq-eqb, ne_eqb}
 use Rattle.lwkt_base.specs.declared.names.CpuId.{CpuId}
 use Rattle.lwkt_base.specs.declared.names.MsgId.{MsgId}
 use Rattle.lwkt_base.specs.declared.owners.Owner.{Owner}
 use Rattle.lwkt_base.specs.declared.owners.Owner.TheVariants.{Rest, Out, With, Back}
 use Rattle.lwkt_base.specs.declared.records.Rec.{Rec}
 use Rattle.lwkt_base.specs.declared.message_words.MsgWord.{MsgWord}
-use Rattle.lwkt_base.specs.declared.message_words.MsgState.{MsgState}
-use Rattle.lwkt_base.specs.declared.message_words.MsgState.TheVariants as state
-use Rattle.lwkt_base.specs.MessageWord.{message_word, MessageFits}
 use Rattle.lwkt_core.specs.declared.events.Event.{Event}
 use Rattle.lwkt_core.specs.declared.events.Event.TheVariants.{Send, TakeMsg, DropMsg, Reply, Reap, Abort}
-use Rattle.lwkt_core.specs.declared.messages.Message.{Message}
 use Rattle.lwkt_core.specs.declared.seats.SeatKind.{SeatKind}
-use Rattle.lwkt_core.specs.declared.seats.SeatKind.TheVariants.{Clerk, Of, Spent}
-use Rattle.lwkt_core.specs.Messages.{IsSafeMessage, message_after, origin_of, is_away, TargetIsThere}
+use Rattle.lwkt_core.specs.declared.seats.SeatKind.TheVariants.{Of, Spent}
+use Rattle.lwkt_core.specs.Messages.{message_after}
 use Rattle.lwkt_msg.specs.declared.views.Entry.{Entry}
-use Rattle.lwkt_msg.specs.Views.{call_of, answer_of, flags_of, looked, handed, sent, took, replied, reaped, dropped, requested, shows_back, shows_away, shows_with, Stands}
-use Rattle.lwkt_msg.specs.Book.{Mail, parts_of, state_of, shown_target, is_back, is_answered, is_taken, KnowsOwn, KnowsTaken, Knows}
+use Rattle.lwkt_msg.specs.Views.{call_of, flags_of, looked, handed, sent, took, replied, reaped, dropped, requested, shows_back, Stands}
+use Rattle.lwkt_msg.specs.Book.{Mail, parts_of, state_of, is_back, KnowsOwn, KnowsTaken, Knows}
 
 -- a message with another owner
 abbrev pub owned : Mail → Owner → Mail
@@ -42,7 +38,7 @@ others_keep mail mail' cpu kind e not_its same own taken knows = record {
       let stands' : Stands kind mail.msg.origin.cpu.0 = subst (λ (t : _). Stands kind t.cpu.0) same stands in
       own (λ h. not_its (subst (Stands kind) h stands')) (knows.as_origin stands');
   as_target = λ q stands. taken q (λ h. not_its (subst (Stands kind) (sym h) stands)) (knows.as_target q stands);
-  spent = knows.spent
+  spent = knows.spent;
 }
 
 -- what the seat of the processor knows whose step it is
@@ -54,7 +50,7 @@ seat_keeps mail mail' cpu e e' same own taken knows = record {
       let stands' : cpu.0 ≡ mail.msg.origin.cpu.0 = subst (λ (t : _). cpu.0 ≡ t.cpu.0) same stands in
       own (sym stands') (knows.as_origin stands');
   as_target = λ q stands. subst (λ (n : ℕ). KnowsTaken n mail' e') stands (taken (knows.as_target cpu.0 refl));
-  spent = λ h. absurd (let g : Of cpu ≡ Spent = h in cc)
+  spent = λ h. absurd (let g : Of cpu ≡ Spent = h in cc);
 }
 
 module _ (mail : Mail) (o t cpu : CpuId) (m : ℕ) where
@@ -87,8 +83,14 @@ module _ (mail : Mail) (o t cpu : CpuId) (m : ℕ) where
   take_own : (e e' : Entry) (round : ℕ) → e'.round ≡ e.round → e'.away ≡ e.away → e'.asked ≡ e.asked → e'.had ≡ e.had → e'.sync ≡ e.sync → e'.flags ≡ e.flags → e'.call ≡ e.call → e'.back ≡ e.back
       → KnowsOwn out e → KnowsOwn (mail_after out (TakeMsg t msg round) mail.rec) e'
   take_own e e' round a b c d f g h i k = record {
-    round_is = a ∙ k.round_is; away_is = b ∙ k.away_is; asked_is = c ∙ k.asked_is; had_is = d ∙ k.had_is; sync_is = f ∙ k.sync_is; flags_is = g ∙ k.flags_is; call_is = h ∙ k.call_is;
-    back_is = λ seen. never (k.back_is (sym i ∙ seen))
+    round_is = a ∙ k.round_is;
+    away_is = b ∙ k.away_is;
+    asked_is = c ∙ k.asked_is;
+    had_is = d ∙ k.had_is;
+    sync_is = f ∙ k.sync_is;
+    flags_is = g ∙ k.flags_is;
+    call_is = h ∙ k.call_is;
+    back_is = λ seen. never (k.back_is (sym i ∙ seen));
   }
 
   pub take_others : (round : ℕ) (kind : SeatKind) (e : Entry) → (Stands kind t.0 → ⊥) → Knows out kind e → Knows (mail_after out (TakeMsg t msg round) mail.rec) kind e
@@ -105,8 +107,14 @@ module _ (mail : Mail) (o t cpu : CpuId) (m : ℕ) where
   reply_own : (e e' : Entry) (rec : Rec) → call_of rec ≡ call_of mail.rec → e'.round ≡ e.round → e'.away ≡ e.away → e'.asked ≡ e.asked → e'.had ≡ e.had → e'.sync ≡ e.sync → e'.flags ≡ e.flags → e'.call ≡ e.call
       → KnowsOwn with_ e → KnowsOwn (mail_after with_ (Reply t msg) rec) e'
   reply_own e e' rec same a b c d f g h k = record {
-    round_is = a ∙ k.round_is; away_is = b ∙ k.away_is; asked_is = c ∙ k.asked_is; had_is = d ∙ k.had_is; sync_is = f ∙ k.sync_is; flags_is = g ∙ k.flags_is; call_is = h ∙ (k.call_is ∙ sym same);
-    back_is = λ seen. refl
+    round_is = a ∙ k.round_is;
+    away_is = b ∙ k.away_is;
+    asked_is = c ∙ k.asked_is;
+    had_is = d ∙ k.had_is;
+    sync_is = f ∙ k.sync_is;
+    flags_is = g ∙ k.flags_is;
+    call_is = h ∙ (k.call_is ∙ sym same);
+    back_is = λ seen. refl;
   }
 
   pub reply_others : (rec : Rec) → call_of rec ≡ call_of mail.rec → (kind : SeatKind) (e : Entry) → (Stands kind t.0 → ⊥) → Knows with_ kind e → Knows (mail_after with_ (Reply t msg) rec) kind e

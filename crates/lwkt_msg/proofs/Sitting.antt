@@ -1,4 +1,4 @@
-use Rattle.std.proofs.Common.{◌≡◌, ◌≢◌, ◌⊎◌, inl, inr, ⊎_elim, ℕ, ◌+◌, ◌*◌, ◌<◌, ◌≤◌, Bool, true, false, List, [], ◌∷◌, length, refl, ap, sym, ◌∙◌, subst, arith}
+use Rattle.std.proofs.Common.{◌≡◌, ◌⊎◌, ℕ, ◌+◌, ◌*◌, ◌<◌, true, false, List, ◌∷◌, length, refl, ap, sym, ◌∙◌, subst, arith}
 use Rattle.atomic_table.specs.Table.{Me, rest}
 use Rattle.atomic_table.specs.Seated.{TableId}
 use Rattle.atomic_table.specs.declared.shared.Seat.{Seat}
@@ -6,8 +6,6 @@ use Rattle.lwkt_base.specs.declared.names.CpuId.{CpuId}
 use Rattle.lwkt_base.specs.declared.records.Rec.{Rec}
 use Rattle.lwkt_core.specs.declared.seats.Operation.{Operation}
 use Rattle.lwkt_core.specs.declared.seats.Operation.TheVariants as operation
-use Rattle.lwkt_core.specs.declared.seats.SeatKind.{SeatKind}
-use Rattle.lwkt_core.specs.declared.seats.SeatKind.TheVariants.{Of}
 use Rattle.lwkt_msg.specs.declared.views.Entry.{Entry}
 use Rattle.lwkt_msg.specs.declared.views.View.{View}
 use Rattle.lwkt_msg.specs.Views.{slot_at, call_of, at, after_step, looked}
@@ -41,7 +39,7 @@ sat_after place place' cpu m e' op found sat same view_is had hands =
       cpus = omega arith;
       there = omega arith;
       had = subst H (sym view_is) (λ k within own. still k within own);
-      hands = subst F (sym view_is) hands
+      hands = subst F (sym view_is) hands;
     }
   where
     w : View
@@ -104,7 +102,7 @@ sat_moved place place' cpu sat same me =
       cpus = omega arith;
       there = omega arith;
       had = let H : Me Rec View → Type 0 = λ x. (k : ℕ) → k < length x.0.specs → IsOwn x.0 cpu.0 k → (at x.0 k).had ≡ true in subst H (sym me) sat.had;
-      hands = subst F (sym me) sat.hands
+      hands = subst F (sym me) sat.hands;
     }
 
 -- the front after a record was written there

@@ -1,6 +1,6 @@
-use Rattle.std.proofs.Common.{◌≡◌, ◌≢◌, ◌⊎◌, inl, inr, ⊎_elim, ℕ, zero, suc, ◌+◌, ◌*◌, ◌<◌, ◌≤◌, eqb, Bool, true, false, List, [], ◌∷◌, ◌++◌, map, length, replicate, set, get_or, refl, ap, sym, ◌∙◌, subst, arith, length-set, eq-eqb, ne_eqb}
+use Rattle.std.proofs.Common.{◌≡◌, ◌≢◌, ⊎_elim, ℕ, zero, suc, ◌+◌, ◌*◌, ◌<◌, List, [], ◌∷◌, ◌++◌, map, length, replicate, set, get_or, refl, ap, sym, ◌∙◌, subst, arith, eq-eqb, ne_eqb}
 use mathlib.Core.Logic.{dite}
-use mathlib.Core.Option.{Option, some, none, some-injective, some-ne-none}
+use mathlib.Core.Option.{Option, some, some-injective, some-ne-none}
 use native.Mathlib.Decide.{ℕ_discrete}
 use lib.ListN.{get_elem?, length-map, length-replicate}
 use Rattle.atomic_table.specs.Table.{State, Splits, Joins, opening}
@@ -8,19 +8,18 @@ use Rattle.lwkt_base.specs.declared.names.CpuId.{CpuId}
 use Rattle.lwkt_base.specs.declared.records.Rec.{Rec}
 use Rattle.lwkt_base.specs.declared.openings.MsgSpec.{MsgSpec}
 use Rattle.lwkt_base.specs.MessageWord.{message_word}
-use Rattle.lwkt_core.specs.declared.messages.Message.{Message}
 use Rattle.lwkt_core.specs.declared.seats.SeatKind.{SeatKind}
 use Rattle.lwkt_core.specs.declared.seats.SeatKind.TheVariants.{Clerk, Of, Spent}
 use Rattle.lwkt_core.specs.Opening.{AreWithin, IsMessageWithin}
 use Rattle.lwkt_core.specs.Seating.{AreSeated, total, weight}
 use Rattle.lwkt_core.proofs.MessageMoves.{IsSafeMessage-opened}
-use Rattle.lwkt_core.proofs.SeatingLemmas.{at_set, set_here, set_else, at_longer, at_last, at_snoc, inside, at_map, map-set, map-snoc, total-set, total-snoc, total-cons, total-only, AreSeated-opening, AreSeated-split, AreSeated-join, AreSeated-closed}
+use Rattle.lwkt_core.proofs.SeatingLemmas.{at_set, set_else, at_longer, at_snoc, at_map, map-set, map-snoc, total-set, total-snoc, total-cons, AreSeated-opening, AreSeated-split, AreSeated-join}
 use Rattle.lwkt_msg.specs.declared.views.Entry.{Entry}
 use Rattle.lwkt_msg.specs.declared.views.Layout.{Layout}
 use Rattle.lwkt_msg.specs.declared.views.Noted.{Noted}
 use Rattle.lwkt_msg.specs.declared.views.View.{View}
-use Rattle.lwkt_msg.specs.Views.{word_at, slot_at, spec_at, at, entry_in, first_entry, no_flags, Stands, made_one, next_seat, taken_back, no_spec, clerk_left, seat_right, spent_view, spent_left, whole_right, added, gathered, clerk_both}
-use Rattle.lwkt_msg.specs.Book.{Mail, parts_of, KnowsOwn, KnowsTaken, Knows, HasNoCounts, AreCounted, IsKept, mail_at, no_mail, IsBook, Rule, first_view, no_rec, opened_mail}
+use Rattle.lwkt_msg.specs.Views.{word_at, slot_at, spec_at, at, entry_in, first_entry, made_one, next_seat, taken_back, no_spec, clerk_left, seat_right, spent_view, spent_left, whole_right, added, gathered, clerk_both}
+use Rattle.lwkt_msg.specs.Book.{Mail, Knows, IsKept, mail_at, IsBook, Rule, first_view, no_rec, opened_mail}
 use Rattle.lwkt_msg.specs.Steps.{rest_word}
 use Rattle.std.proofs.lemmas.List.Elements.{All-get_or}
 use Rattle.lwkt_msg.proofs.Moves.{never}
@@ -49,36 +48,31 @@ kept_over cpus spec mail word home m views views' kept same each = record {
     takes = same (λ e. e.takes) (λ e other. refl) (λ x. refl) ∙ kept.counted.takes;
     drops = same (λ e. e.drops) (λ e other. refl) (λ x. refl) ∙ kept.counted.drops;
     replies = same (λ e. e.replies) (λ e other. refl) (λ x. refl) ∙ kept.counted.replies;
-    reaps = same (λ e. e.reaps) (λ e other. refl) (λ x. refl) ∙ kept.counted.reaps
+    reaps = same (λ e. e.reaps) (λ e other. refl) (λ x. refl) ∙ kept.counted.reaps;
   };
-  each_view = each
+  each_view = each;
 }
 
 -- the clerk makes the seat of the next processor
-pub seat_splits : (key : Layout) (id : ℕ) (v : View) (made back : ℕ) → v.kind ≡ Clerk made back → v.entries ≡ [] → made < v.cpus → Splits (Rule key) id v (clerk_left v) (seat_right v)
-seat_splits key id v made back is_clerk no_entries room s rule e = record {
-  mails = rule.mails;
-  book = record {
-    within = book.within;
-    as_many = book.as_many;
-    wide = book.wide;
-    deep = book.deep;
-    zero_word = book.zero_word;
-    seated = seated;
-    plans = λ j x d. ⊎_elim
-        (λ (old : get_elem? (set s.views id left) j ≡ some x). ⊎_elim
-        (λ (here : (j ≡ id) × (left ≡ x)). let F : View → Type 0 = λ y. (y.kind ≡ Spent → ⊥) → (y.cpus ≡ key.cpus) × (y.specs ≡ key.specs.items) in subst F here.1 (λ _. plan))
-        (λ (other : (j ≢ id) × (get_elem? s.views j ≡ some x)). book.plans j x other.1)
-        (at_set s.views id j left x old))
-        (λ (new : (j ≡ length (set s.views id left)) × (right ≡ x)). let F : View → Type 0 = λ y. (y.kind ≡ Spent → ⊥) → (y.cpus ≡ key.cpus) × (y.specs ≡ key.specs.items) in subst F new.1 (λ _. plan))
-        (at_snoc (set s.views id left) right x j d);
-    each = λ m within. kept_over key.cpus (spec_at key.specs.items m) (mail_at rule.mails m) (get_or s.words (word_at m) 0) (get_elem? s.homes (slot_at m)) m s.views (set s.views id left ++ right ∷ []) (book.each m within) (same_total m) (knows m within)
-  }
+pub seat_book : (key : Layout) (mails : List Mail) (s : State Rec View) (id : ℕ) (v : View) (made back : ℕ) → IsBook key mails s → get_elem? s.views id ≡ some v → v.kind ≡ Clerk made back → v.entries ≡ [] → made < v.cpus
+    → IsBook key mails record { words = s.words; homes = s.homes; views = set s.views id (clerk_left v) ++ seat_right v ∷ [] }
+seat_book key mails s id v made back book e is_clerk no_entries room = record {
+  within = book.within;
+  as_many = book.as_many;
+  wide = book.wide;
+  deep = book.deep;
+  zero_word = book.zero_word;
+  seated = seated;
+  plans = λ j x d. ⊎_elim
+      (λ (old : get_elem? (set s.views id left) j ≡ some x). ⊎_elim
+      (λ (here : (j ≡ id) × (left ≡ x)). let F : View → Type 0 = λ y. (y.kind ≡ Spent → ⊥) → (y.cpus ≡ key.cpus) × (y.specs ≡ key.specs.items) in subst F here.1 (λ _. plan))
+      (λ (other : (j ≢ id) × (get_elem? s.views j ≡ some x)). book.plans j x other.1)
+      (at_set s.views id j left x old))
+      (λ (new : (j ≡ length (set s.views id left)) × (right ≡ x)). let F : View → Type 0 = λ y. (y.kind ≡ Spent → ⊥) → (y.cpus ≡ key.cpus) × (y.specs ≡ key.specs.items) in subst F new.1 (λ _. plan))
+      (at_snoc (set s.views id left) right x j d);
+  each = λ m within. kept_over key.cpus (spec_at key.specs.items m) (mail_at mails m) (get_or s.words (word_at m) 0) (get_elem? s.homes (slot_at m)) m s.views (set s.views id left ++ right ∷ []) (book.each m within) (same_total m) (knows m within);
 }
   where
-    book : IsBook key rule.mails s
-    book = rule.book
-
     left : View
     left = clerk_left v
 
@@ -121,39 +115,42 @@ seat_splits key id v made back is_clerk no_entries room s rule e = record {
         let d : f (at right m) ≡ 0 = ap f (right_same m ∙ blank m) ∙ none_first (spec_at v.specs m) in
         omega arith
 
-    of_clerk : (m : ℕ) → m < length key.specs.items → Knows (mail_at rule.mails m) (Clerk made back) (at v m)
-    of_clerk m within = let F : SeatKind → Type 0 = λ k. Knows (mail_at rule.mails m) k (at v m) in subst F is_clerk ((book.each m within).each_view id v e)
+    of_clerk : (m : ℕ) → m < length key.specs.items → Knows (mail_at mails m) (Clerk made back) (at v m)
+    of_clerk m within = let F : SeatKind → Type 0 = λ k. Knows (mail_at mails m) k (at v m) in subst F is_clerk ((book.each m within).each_view id v e)
 
-    knows_left : (m : ℕ) → m < length key.specs.items → Knows (mail_at rule.mails m) left.kind (at left m)
+    knows_left : (m : ℕ) → m < length key.specs.items → Knows (mail_at mails m) left.kind (at left m)
     knows_left m within =
         let k = of_clerk m within in
-        let F : SeatKind → Type 0 = λ x. Knows (mail_at rule.mails m) x (at left m) in
-        let G : Entry → Type 0 = λ x. Knows (mail_at rule.mails m) (Clerk (made + 1) back) x in
+        let F : SeatKind → Type 0 = λ x. Knows (mail_at mails m) x (at left m) in
+        let G : Entry → Type 0 = λ x. Knows (mail_at mails m) (Clerk (made + 1) back) x in
         subst F (sym left_kind) (subst G (sym (left_same m)) record {
           as_origin = λ stands. k.as_origin (omega arith);
           as_target = λ cpu stands. k.as_target cpu (omega arith);
-          spent = λ gone. let h : Clerk (made + 1) back ≡ Spent = gone in absurd cc
+          spent = λ gone. let h : Clerk (made + 1) back ≡ Spent = gone in absurd cc;
         })
 
-    knows_right : (m : ℕ) → m < length key.specs.items → Knows (mail_at rule.mails m) right.kind (at right m)
+    knows_right : (m : ℕ) → m < length key.specs.items → Knows (mail_at mails m) right.kind (at right m)
     knows_right m within =
         let k = of_clerk m within in
-        let F : SeatKind → Type 0 = λ x. Knows (mail_at rule.mails m) x (at right m) in
-        let G : Entry → Type 0 = λ x. Knows (mail_at rule.mails m) (Of (record { 0 = made })) x in
+        let F : SeatKind → Type 0 = λ x. Knows (mail_at mails m) x (at right m) in
+        let G : Entry → Type 0 = λ x. Knows (mail_at mails m) (Of (record { 0 = made })) x in
         subst F (sym right_kind) (subst G (sym (right_same m)) record {
-          as_origin = λ stands. k.as_origin (let h : made ≡ (mail_at rule.mails m).msg.origin.cpu.0 = stands in omega arith);
+          as_origin = λ stands. k.as_origin (let h : made ≡ (mail_at mails m).msg.origin.cpu.0 = stands in omega arith);
           as_target = λ cpu stands. k.as_target cpu (let h : made ≡ cpu = stands in omega arith);
-          spent = λ gone. let h : Of (record { 0 = made }) ≡ Spent = gone in absurd cc
+          spent = λ gone. let h : Of (record { 0 = made }) ≡ Spent = gone in absurd cc;
         })
 
-    knows : (m : ℕ) → m < length key.specs.items → (j : ℕ) (x : View) → get_elem? (set s.views id left ++ right ∷ []) j ≡ some x → Knows (mail_at rule.mails m) x.kind (at x m)
+    knows : (m : ℕ) → m < length key.specs.items → (j : ℕ) (x : View) → get_elem? (set s.views id left ++ right ∷ []) j ≡ some x → Knows (mail_at mails m) x.kind (at x m)
     knows m within j x d = ⊎_elim
         (λ (old : get_elem? (set s.views id left) j ≡ some x). ⊎_elim
-        (λ (here : (j ≡ id) × (left ≡ x)). let F : View → Type 0 = λ y. Knows (mail_at rule.mails m) y.kind (at y m) in subst F here.1 (knows_left m within))
+        (λ (here : (j ≡ id) × (left ≡ x)). let F : View → Type 0 = λ y. Knows (mail_at mails m) y.kind (at y m) in subst F here.1 (knows_left m within))
         (λ (other : (j ≢ id) × (get_elem? s.views j ≡ some x)). (book.each m within).each_view j x other.1)
         (at_set s.views id j left x old))
-        (λ (new : (j ≡ length (set s.views id left)) × (right ≡ x)). let F : View → Type 0 = λ y. Knows (mail_at rule.mails m) y.kind (at y m) in subst F new.1 (knows_right m within))
+        (λ (new : (j ≡ length (set s.views id left)) × (right ≡ x)). let F : View → Type 0 = λ y. Knows (mail_at mails m) y.kind (at y m) in subst F new.1 (knows_right m within))
         (at_snoc (set s.views id left) right x j d)
+
+pub seat_splits : (key : Layout) (id : ℕ) (v : View) (made back : ℕ) → v.kind ≡ Clerk made back → v.entries ≡ [] → made < v.cpus → Splits (Rule key) id v (clerk_left v) (seat_right v)
+seat_splits key id v made back is_clerk no_entries room s rule e = record { mails = rule.mails; book = seat_book key rule.mails s id v made back rule.book e is_clerk no_entries room }
 
 -- a seat's view is cut off whole, and leaves a spent one
 AreSeated-moved : (cpus : ℕ) (ks : List SeatKind) (i : ℕ) (cpu : CpuId) → AreSeated cpus ks → get_elem? ks i ≡ some (Of cpu) → AreSeated cpus (set ks i Spent ++ Of cpu ∷ [])
@@ -185,7 +182,7 @@ AreSeated-moved cpus ks i cpu seated e = record {
       let a = total-snoc (weight cpus) (set ks i Spent) (Of cpu) in
       let b = total-set (weight cpus) ks i (Of cpu) Spent e in
       let c = seated.all_seats in
-      omega arith
+      omega arith;
 }
   where
     cpu_in : SeatKind → ℕ
@@ -213,38 +210,33 @@ knows_spent mail m =
     subst F (sym (at-none spent_view m refl)) record {
       as_origin = λ stands. absurd stands;
       as_target = λ cpu stands. absurd stands;
-      spent = λ _. record { sends = refl; takes = refl; drops = refl; replies = refl; reaps = refl }
+      spent = λ _. record { sends = refl; takes = refl; drops = refl; replies = refl; reaps = refl };
     }
 
-pub whole_splits : (key : Layout) (id : ℕ) (v : View) (cpu : CpuId) → v.kind ≡ Of cpu → Splits (Rule key) id v (spent_left v) (whole_right v)
-whole_splits key id v cpu is_seat s rule e = record {
-  mails = rule.mails;
-  book = record {
-    within = book.within;
-    as_many = book.as_many;
-    wide = book.wide;
-    deep = book.deep;
-    zero_word = book.zero_word;
-    seated =
-        let old : get_elem? (kinds s.views) id ≡ some (Of cpu) = at_map (λ (x : View). x.kind) s.views id v e ∙ ap (λ (k : SeatKind). some k) is_seat in
-        let F : List SeatKind → Type 0 = λ ks. AreSeated key.cpus ks in
-        let shape : kinds (set s.views id spent_view ++ v ∷ []) ≡ set (kinds s.views) id Spent ++ Of cpu ∷ []
-        = map-snoc (λ (x : View). x.kind) (set s.views id spent_view) v ∙ (λ i. map-set (λ (x : View). x.kind) s.views id spent_view i ++ is_seat i ∷ []) in
-        subst F (sym shape) (AreSeated-moved key.cpus (kinds s.views) id cpu book.seated old);
-    plans = λ j x d. ⊎_elim
-        (λ (old : get_elem? (set s.views id spent_view) j ≡ some x). ⊎_elim
-        (λ (here : (j ≡ id) × (spent_view ≡ x)). λ lives. absurd (lives (ap (λ (y : View). y.kind) (sym here.1))))
-        (λ (other : (j ≢ id) × (get_elem? s.views j ≡ some x)). book.plans j x other.1)
-        (at_set s.views id j spent_view x old))
-        (λ (new : (j ≡ length (set s.views id spent_view)) × (v ≡ x)). let F : View → Type 0 = λ y. (y.kind ≡ Spent → ⊥) → (y.cpus ≡ key.cpus) × (y.specs ≡ key.specs.items) in subst F new.1 (book.plans id v e))
-        (at_snoc (set s.views id spent_view) v x j d);
-    each = λ m within. kept_over key.cpus (spec_at key.specs.items m) (mail_at rule.mails m) (get_or s.words (word_at m) 0) (get_elem? s.homes (slot_at m)) m s.views (set s.views id spent_view ++ v ∷ []) (book.each m within) (same_total m) (knows m within)
-  }
+pub whole_book : (key : Layout) (mails : List Mail) (s : State Rec View) (id : ℕ) (v : View) (cpu : CpuId) → IsBook key mails s → get_elem? s.views id ≡ some v → v.kind ≡ Of cpu
+    → IsBook key mails record { words = s.words; homes = s.homes; views = set s.views id (spent_left v) ++ whole_right v ∷ [] }
+whole_book key mails s id v cpu book e is_seat = record {
+  within = book.within;
+  as_many = book.as_many;
+  wide = book.wide;
+  deep = book.deep;
+  zero_word = book.zero_word;
+  seated =
+      let old : get_elem? (kinds s.views) id ≡ some (Of cpu) = at_map (λ (x : View). x.kind) s.views id v e ∙ ap (λ (k : SeatKind). some k) is_seat in
+      let F : List SeatKind → Type 0 = λ ks. AreSeated key.cpus ks in
+      let shape : kinds (set s.views id spent_view ++ v ∷ []) ≡ set (kinds s.views) id Spent ++ Of cpu ∷ []
+      = map-snoc (λ (x : View). x.kind) (set s.views id spent_view) v ∙ (λ i. map-set (λ (x : View). x.kind) s.views id spent_view i ++ is_seat i ∷ []) in
+      subst F (sym shape) (AreSeated-moved key.cpus (kinds s.views) id cpu book.seated old);
+  plans = λ j x d. ⊎_elim
+      (λ (old : get_elem? (set s.views id spent_view) j ≡ some x). ⊎_elim
+      (λ (here : (j ≡ id) × (spent_view ≡ x)). λ lives. absurd (lives (ap (λ (y : View). y.kind) (sym here.1))))
+      (λ (other : (j ≢ id) × (get_elem? s.views j ≡ some x)). book.plans j x other.1)
+      (at_set s.views id j spent_view x old))
+      (λ (new : (j ≡ length (set s.views id spent_view)) × (v ≡ x)). let F : View → Type 0 = λ y. (y.kind ≡ Spent → ⊥) → (y.cpus ≡ key.cpus) × (y.specs ≡ key.specs.items) in subst F new.1 (book.plans id v e))
+      (at_snoc (set s.views id spent_view) v x j d);
+  each = λ m within. kept_over key.cpus (spec_at key.specs.items m) (mail_at mails m) (get_or s.words (word_at m) 0) (get_elem? s.homes (slot_at m)) m s.views (set s.views id spent_view ++ v ∷ []) (book.each m within) (same_total m) (knows m within);
 }
   where
-    book : IsBook key rule.mails s
-    book = rule.book
-
     same_total : (m : ℕ) (f : Entry → ℕ) → ((x other : Entry) → f (added x other) ≡ f x + f other) → ((x : MsgSpec) → f (first_entry x) ≡ 0) → total (λ x. f (at x m)) (set s.views id spent_view ++ v ∷ []) ≡ total (λ x. f (at x m)) s.views
     same_total m f adds none_first =
         let a = total-snoc (λ (x : View). f (at x m)) (set s.views id spent_view) v in
@@ -252,15 +244,18 @@ whole_splits key id v cpu is_seat s rule e = record {
         let c : f (at spent_view m) ≡ 0 = ap f (at-none spent_view m refl) ∙ none_first (spec_at [] m) in
         omega arith
 
-    knows : (m : ℕ) → m < length key.specs.items → (j : ℕ) (x : View) → get_elem? (set s.views id spent_view ++ v ∷ []) j ≡ some x → Knows (mail_at rule.mails m) x.kind (at x m)
+    knows : (m : ℕ) → m < length key.specs.items → (j : ℕ) (x : View) → get_elem? (set s.views id spent_view ++ v ∷ []) j ≡ some x → Knows (mail_at mails m) x.kind (at x m)
     knows m within j x d =
-        let F : View → Type 0 = λ y. Knows (mail_at rule.mails m) y.kind (at y m) in ⊎_elim
+        let F : View → Type 0 = λ y. Knows (mail_at mails m) y.kind (at y m) in ⊎_elim
         (λ (old : get_elem? (set s.views id spent_view) j ≡ some x). ⊎_elim
-        (λ (here : (j ≡ id) × (spent_view ≡ x)). subst F here.1 (knows_spent (mail_at rule.mails m) m))
+        (λ (here : (j ≡ id) × (spent_view ≡ x)). subst F here.1 (knows_spent (mail_at mails m) m))
         (λ (other : (j ≢ id) × (get_elem? s.views j ≡ some x)). (book.each m within).each_view j x other.1)
         (at_set s.views id j spent_view x old))
         (λ (new : (j ≡ length (set s.views id spent_view)) × (v ≡ x)). subst F new.1 ((book.each m within).each_view id v e))
         (at_snoc (set s.views id spent_view) v x j d)
+
+pub whole_splits : (key : Layout) (id : ℕ) (v : View) (cpu : CpuId) → v.kind ≡ Of cpu → Splits (Rule key) id v (spent_left v) (whole_right v)
+whole_splits key id v cpu is_seat s rule e = record { mails = rule.mails; book = whole_book key rule.mails s id v cpu rule.book e is_seat }
 
 -- what is gathered of each message
 in_gathered : (n : ℕ) (v other : View) (m : ℕ) (d : Entry) → m < n → entry_in (gathered n v other) m d ≡ added (at v m) (at other m)
@@ -275,37 +270,32 @@ unfolding at
 at-both v other m within = in_gathered (length v.specs) v other m (first_entry (spec_at v.specs m)) within
 
 -- the clerk takes a seat back
-pub seat_joins : (key : Layout) (id : ℕ) (v : View) (other : ℕ) (w : View) (made back : ℕ) (cpu : CpuId) → v.kind ≡ Clerk made back → w.kind ≡ Of cpu → Joins (Rule key) id v other w (clerk_both v w) spent_view
-seat_joins key id v other w made back cpu is_clerk is_seat s rule e apart d = record {
-  mails = rule.mails;
-  book = record {
-    within = book.within;
-    as_many = book.as_many;
-    wide = book.wide;
-    deep = book.deep;
-    zero_word = book.zero_word;
-    seated =
-        let desk : get_elem? (kinds s.views) id ≡ some (Clerk made back) = at_map (λ (x : View). x.kind) s.views id v e ∙ ap (λ (k : SeatKind). some k) is_clerk in
-        let chair : get_elem? (kinds s.views) other ≡ some (Of cpu) = at_map (λ (x : View). x.kind) s.views other w w_there ∙ ap (λ (k : SeatKind). some k) is_seat in
-        let F : List SeatKind → Type 0 = λ ks. AreSeated key.cpus ks in
-        let shape : kinds (set (set s.views id both) other spent_view) ≡ set (set (kinds s.views) id (Clerk made (back + 1))) other Spent
-        = map-set (λ (x : View). x.kind) (set s.views id both) other spent_view ∙ ((λ i. set (map-set (λ (x : View). x.kind) s.views id both i) other Spent) ∙ (λ i. set (set (kinds s.views) id (both_kind i)) other Spent)) in
-        subst F (sym shape) (AreSeated-join key.cpus (kinds s.views) id made back other cpu book.seated desk apart chair);
-    plans = λ j x f.
-        let F : View → Type 0 = λ y. (y.kind ≡ Spent → ⊥) → (y.cpus ≡ key.cpus) × (y.specs ≡ key.specs.items) in ⊎_elim
-        (λ (here : (j ≡ other) × (spent_view ≡ x)). λ lives. absurd (lives (ap (λ (y : View). y.kind) (sym here.1))))
-        (λ (old : (j ≢ other) × (get_elem? (set s.views id both) j ≡ some x)). ⊎_elim
-        (λ (there : (j ≡ id) × (both ≡ x)). subst F there.1 (λ _. plan))
-        (λ (older : (j ≢ id) × (get_elem? s.views j ≡ some x)). book.plans j x older.1)
-        (at_set s.views id j both x old.1))
-        (at_set (set s.views id both) other j spent_view x f);
-    each = λ m within. kept_over key.cpus (spec_at key.specs.items m) (mail_at rule.mails m) (get_or s.words (word_at m) 0) (get_elem? s.homes (slot_at m)) m s.views (set (set s.views id both) other spent_view) (book.each m within) (same_total m within) (knows m within)
-  }
+pub joined_book : (key : Layout) (mails : List Mail) (s : State Rec View) (id : ℕ) (v : View) (other : ℕ) (w : View) (made back : ℕ) (cpu : CpuId) → IsBook key mails s → get_elem? s.views id ≡ some v → v.kind ≡ Clerk made back → w.kind ≡ Of cpu → other ≢ id → get_elem? (set s.views id (clerk_both v w)) other ≡ some w
+    → IsBook key mails record { words = s.words; homes = s.homes; views = set (set s.views id (clerk_both v w)) other spent_view }
+joined_book key mails s id v other w made back cpu book e is_clerk is_seat apart d = record {
+  within = book.within;
+  as_many = book.as_many;
+  wide = book.wide;
+  deep = book.deep;
+  zero_word = book.zero_word;
+  seated =
+      let desk : get_elem? (kinds s.views) id ≡ some (Clerk made back) = at_map (λ (x : View). x.kind) s.views id v e ∙ ap (λ (k : SeatKind). some k) is_clerk in
+      let chair : get_elem? (kinds s.views) other ≡ some (Of cpu) = at_map (λ (x : View). x.kind) s.views other w w_there ∙ ap (λ (k : SeatKind). some k) is_seat in
+      let F : List SeatKind → Type 0 = λ ks. AreSeated key.cpus ks in
+      let shape : kinds (set (set s.views id both) other spent_view) ≡ set (set (kinds s.views) id (Clerk made (back + 1))) other Spent
+      = map-set (λ (x : View). x.kind) (set s.views id both) other spent_view ∙ ((λ i. set (map-set (λ (x : View). x.kind) s.views id both i) other Spent) ∙ (λ i. set (set (kinds s.views) id (both_kind i)) other Spent)) in
+      subst F (sym shape) (AreSeated-join key.cpus (kinds s.views) id made back other cpu book.seated desk apart chair);
+  plans = λ j x f.
+      let F : View → Type 0 = λ y. (y.kind ≡ Spent → ⊥) → (y.cpus ≡ key.cpus) × (y.specs ≡ key.specs.items) in ⊎_elim
+      (λ (here : (j ≡ other) × (spent_view ≡ x)). λ lives. absurd (lives (ap (λ (y : View). y.kind) (sym here.1))))
+      (λ (old : (j ≢ other) × (get_elem? (set s.views id both) j ≡ some x)). ⊎_elim
+      (λ (there : (j ≡ id) × (both ≡ x)). subst F there.1 (λ _. plan))
+      (λ (older : (j ≢ id) × (get_elem? s.views j ≡ some x)). book.plans j x older.1)
+      (at_set s.views id j both x old.1))
+      (at_set (set s.views id both) other j spent_view x f);
+  each = λ m within. kept_over key.cpus (spec_at key.specs.items m) (mail_at mails m) (get_or s.words (word_at m) 0) (get_elem? s.homes (slot_at m)) m s.views (set (set s.views id both) other spent_view) (book.each m within) (same_total m within) (knows m within);
 }
   where
-    book : IsBook key rule.mails s
-    book = rule.book
-
     both : View
     both = clerk_both v w
 
@@ -329,9 +319,9 @@ seat_joins key id v other w made back cpu is_clerk is_seat s rule e apart d = re
         let g : f (at both m) ≡ f (at v m) + f (at w m) = ap f (at-both v w m (in_v m within)) ∙ adds (at v m) (at w m) in
         omega arith
 
-    knows_both : (m : ℕ) → m < length key.specs.items → Knows (mail_at rule.mails m) both.kind (at both m)
+    knows_both : (m : ℕ) → m < length key.specs.items → Knows (mail_at mails m) both.kind (at both m)
     knows_both m within =
-        let mail : Mail = mail_at rule.mails m in
+        let mail : Mail = mail_at mails m in
         let F : SeatKind → Type 0 = λ k. Knows mail k (at v m) in
         let k : Knows mail (Clerk made back) (at v m) = subst F is_clerk ((book.each m within).each_view id v e) in
         let G : SeatKind → Type 0 = λ x. Knows mail x (at both m) in
@@ -339,18 +329,21 @@ seat_joins key id v other w made back cpu is_clerk is_seat s rule e apart d = re
         subst G (sym both_kind) (subst H (sym (at-both v w m (in_v m within))) record {
           as_origin = λ stands. let o = k.as_origin stands in record { round_is = o.round_is; away_is = o.away_is; asked_is = o.asked_is; had_is = o.had_is; sync_is = o.sync_is; flags_is = o.flags_is; call_is = o.call_is; back_is = o.back_is };
           as_target = λ c stands. let t = k.as_target c stands in record { taken_is = t.taken_is; got_is = t.got_is; answer_is = t.answer_is };
-          spent = λ gone. let h : Clerk made (back + 1) ≡ Spent = gone in absurd cc
+          spent = λ gone. let h : Clerk made (back + 1) ≡ Spent = gone in absurd cc;
         })
 
-    knows : (m : ℕ) → m < length key.specs.items → (j : ℕ) (x : View) → get_elem? (set (set s.views id both) other spent_view) j ≡ some x → Knows (mail_at rule.mails m) x.kind (at x m)
+    knows : (m : ℕ) → m < length key.specs.items → (j : ℕ) (x : View) → get_elem? (set (set s.views id both) other spent_view) j ≡ some x → Knows (mail_at mails m) x.kind (at x m)
     knows m within j x f =
-        let F : View → Type 0 = λ y. Knows (mail_at rule.mails m) y.kind (at y m) in ⊎_elim
-        (λ (here : (j ≡ other) × (spent_view ≡ x)). subst F here.1 (knows_spent (mail_at rule.mails m) m))
+        let F : View → Type 0 = λ y. Knows (mail_at mails m) y.kind (at y m) in ⊎_elim
+        (λ (here : (j ≡ other) × (spent_view ≡ x)). subst F here.1 (knows_spent (mail_at mails m) m))
         (λ (old : (j ≢ other) × (get_elem? (set s.views id both) j ≡ some x)). ⊎_elim
         (λ (there : (j ≡ id) × (both ≡ x)). subst F there.1 (knows_both m within))
         (λ (older : (j ≢ id) × (get_elem? s.views j ≡ some x)). (book.each m within).each_view j x older.1)
         (at_set s.views id j both x old.1))
         (at_set (set s.views id both) other j spent_view x f)
+
+pub seat_joins : (key : Layout) (id : ℕ) (v : View) (other : ℕ) (w : View) (made back : ℕ) (cpu : CpuId) → v.kind ≡ Clerk made back → w.kind ≡ Of cpu → Joins (Rule key) id v other w (clerk_both v w) spent_view
+seat_joins key id v other w made back cpu is_clerk is_seat s rule e apart d = record { mails = rule.mails; book = joined_book key rule.mails s id v other w made back cpu rule.book e is_clerk is_seat apart d }
 
 -- the opened messages, by their numbers
 opened_at : (specs : List MsgSpec) (m : ℕ) → m < length specs → mail_at (map opened_mail specs) m ≡ opened_mail (spec_at specs m)
@@ -382,8 +375,8 @@ rule_opens key words slots within wide zero_word words_are slots_are = record {
     seated = AreSeated-opening key.cpus;
     plans = λ j v e. only j v e;
     each = λ m there. let F : Mail → Type 0 = λ x. IsKept key.cpus (spec_at key.specs.items m) x (get_or words (word_at m) 0) (get_elem? (map some slots) (slot_at m)) m (first_view key ∷ []) in
-        subst F (sym (opened_at key.specs.items m there)) (kept m there)
-  }
+        subst F (sym (opened_at key.specs.items m there)) (kept m there);
+  };
 }
   where
     only : (j : ℕ) (v : View) → get_elem? (first_view key ∷ []) j ≡ some v → (v.kind ≡ Spent → ⊥) → (v.cpus ≡ key.cpus) × (v.specs ≡ key.specs.items)
@@ -396,7 +389,7 @@ rule_opens key words slots within wide zero_word words_are slots_are = record {
         subst F (sym (at-none (first_view key) m refl)) record {
           as_origin = λ stands. record { round_is = refl; away_is = refl; asked_is = refl; had_is = refl; sync_is = refl; flags_is = refl; call_is = refl; back_is = λ h. never h };
           as_target = λ cpu stands. record { taken_is = refl; got_is = λ h. never h; answer_is = λ h. never h };
-          spent = λ gone. let h : Clerk 0 0 ≡ Spent = gone in absurd cc
+          spent = λ gone. let h : Clerk 0 0 ≡ Spent = gone in absurd cc;
         }
 
     knows : (m j : ℕ) (v : View) → get_elem? (first_view key ∷ []) j ≡ some v → Knows (opened_mail (spec_at key.specs.items m)) v.kind (at v m)
@@ -423,7 +416,7 @@ rule_opens key words slots within wide zero_word words_are slots_are = record {
         takes = none_yet m (λ e. e.takes) refl;
         drops = none_yet m (λ e. e.drops) refl;
         replies = none_yet m (λ e. e.replies) refl;
-        reaps = none_yet m (λ e. e.reaps) refl
+        reaps = none_yet m (λ e. e.reaps) refl;
       };
-      each_view = knows m
+      each_view = knows m;
     }

@@ -1,5 +1,4 @@
-use Rattle.std.proofs.Common.{◌≡◌, ℕ, ◌+◌, ◌*◌, ◌<◌, ◌≤◌, ◌^◌, Bool, true, false, refl, ap, sym, ◌∙◌, arith}
-use Rattle.lwkt_base.specs.declared.names.CpuId.{CpuId}
+use Rattle.std.proofs.Common.{◌≡◌, ℕ, ◌+◌, ◌*◌, ◌<◌, ◌^◌, Bool, true, false, refl, arith}
 use Rattle.lwkt_base.specs.declared.message_words.MsgWord.{MsgWord}
 use Rattle.lwkt_base.specs.declared.message_words.MsgState.{MsgState}
 use Rattle.lwkt_base.specs.declared.message_words.MsgState.TheVariants.{Rest, Out, With, Back}
@@ -78,7 +77,7 @@ message_word-injective v w fv fw e =
       aborted = bit_same v.aborted w.aborted g.a_is i;
       sync = bit_same v.sync w.sync g.y_is i;
       dropable = bit_same v.dropable w.dropable g.d_is i;
-      abortable = bit_same v.abortable w.abortable g.b_is i
+      abortable = bit_same v.abortable w.abortable g.b_is i;
     }
 
 -- a word of parts that fit is below 2 ^ 64, and so is the next one

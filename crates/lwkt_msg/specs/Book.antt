@@ -1,4 +1,4 @@
-use Rattle.std.specs.Prelude.{◌≡◌, ◌≢◌, ℕ, ◌+◌, ◌*◌, ◌<◌, ◌==◌, ◌&&◌, Bool, true, false, List, [], ◌∷◌, length, map, slice_index, slice_index_or, sum_by}
+use Rattle.std.specs.Prelude.{◌≡◌, ℕ, ◌+◌, ◌*◌, ◌<◌, ◌==◌, ◌&&◌, Bool, true, false, List, [], length, map, slice_index, slice_index_or}
 use mathlib.Core.Option.{Option, some, none}
 use lib.ListN.{get_elem?}
 use Rattle.atomic_table.specs.Table.{State}
@@ -14,7 +14,7 @@ use Rattle.lwkt_base.specs.declared.message_words.MsgState.TheVariants as state
 use Rattle.lwkt_base.specs.MessageWord.{message_word}
 use Rattle.lwkt_core.specs.declared.messages.Message.{Message}
 use Rattle.lwkt_core.specs.declared.seats.SeatKind.{SeatKind}
-use Rattle.lwkt_core.specs.declared.seats.SeatKind.TheVariants.{Clerk, Of, Spent}
+use Rattle.lwkt_core.specs.declared.seats.SeatKind.TheVariants.{Clerk, Spent}
 use Rattle.lwkt_core.specs.Messages.{IsSafeMessage, origin_of, is_away, in_out}
 use Rattle.lwkt_core.specs.Opening.{AreWithin, opened_message}
 use Rattle.lwkt_core.specs.Seating.{AreSeated, total}

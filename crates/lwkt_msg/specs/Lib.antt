@@ -5,3 +5,4 @@ pub mod Steps
 pub mod Plays
 pub mod Calls
 pub mod Desks
+pub mod Laws

@@ -1,14 +1,13 @@
 ghost use Rattle.std.specs.Prelude.{◌≡◌, ◌⊎◌, ℕ, ◌<◌, [], length, All, MatchResult, IfOk};
 
-use std::alloc::{AllocError, Global};
-use std::marker::Model;
-
 use crate::closings::{read_and_free, take_all};
 use crate::openings::{are_within, blank_records, opening_words, seat_all};
 use crate::rules::{BookTable, Place, Top};
 use crate::seats::MsgSeat;
 use crate::views::Layout;
 use lwkt_base::{Fault, MsgEnd, MsgSpec};
+use std::alloc::{AllocError, Global};
+use std::marker::Model;
 
 /// A message book: the words of its messages, and the records that no seat has in hand.
 #[derive(Drop)]
@@ -37,7 +36,11 @@ impl MsgBook {
     /// Opens a book of at most 64 messages, with a seat for each of 1 to 8 processors. Each message is at rest, and its
     /// origin has its record. 32: an allocation was refused. 39: a limit is passed, a round is past the last, or the
     /// processor of an origin isn't there.
-    pub fn open(alloc: Global, specs: &[MsgSpec], cpus: usize) -> Result<(MsgBook, Vec<MsgSeat>), Fault>
+    pub fn open(
+        alloc: Global,
+        specs: &[MsgSpec],
+        cpus: usize,
+    ) -> Result<(MsgBook, Vec<MsgSeat>), Fault>
         ensures { MatchResult result
             (λ r. AreWithin cpus [] specs.now × AreOpened cpus specs.now r.0 r.1.items)
             (λ fault. (fault ≡ Memory) ⊎ ((fault ≡ Limits) × (AreWithin cpus [] specs.now → ⊥))) }

@@ -128,7 +128,13 @@ pub(crate) fn send(
         return Err(Fault::RoundsOut);
     }
     let round = word.round + 1;
-    put(top, place, m, written(call), outgoing(cpu, target, round, flags, sync));
+    put(
+        top,
+        place,
+        m,
+        written(call),
+        outgoing(cpu, target, round, flags, sync),
+    );
     Ok(round)
 }
 

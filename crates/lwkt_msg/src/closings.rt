@@ -66,7 +66,11 @@ pub(crate) fn take_all(top: &Top, clerk: &mut Place, cpus: usize, seats: Vec<Msg
 }
 
 // What the closing words show.
-fn read_ends(closed: &Closed<Rec, Global>, messages: usize, ends: Vec<MsgEnd>) -> Result<Vec<MsgEnd>, AllocError>
+fn read_ends(
+    closed: &Closed<Rec, Global>,
+    messages: usize,
+    ends: Vec<MsgEnd>,
+) -> Result<Vec<MsgEnd>, AllocError>
     requires words { IsFull closed.now.words × (slots_len closed.now.words ≡ 16 * messages + 1) }
     requires few { messages ≤ 64 }
     requires none { ends.items ≡ [] }
@@ -91,7 +95,11 @@ fn free(closed: Closed<Rec, Global>)
 }
 
 // The closing values of a table.
-pub(crate) fn read_and_free(closed: Closed<Rec, Global>, messages: usize, ends: Vec<MsgEnd>) -> Result<Vec<MsgEnd>, AllocError>
+pub(crate) fn read_and_free(
+    closed: Closed<Rec, Global>,
+    messages: usize,
+    ends: Vec<MsgEnd>,
+) -> Result<Vec<MsgEnd>, AllocError>
     requires words { IsFull closed.words × (slots_len closed.words ≡ 16 * messages + 1) }
     requires slots { IsFull closed.slots }
     requires few { messages ≤ 64 }

@@ -5,6 +5,7 @@ pub mod answers;
 pub mod books;
 mod calls;
 mod closings;
+pub mod laws;
 mod openings;
 mod plays;
 pub mod rules;

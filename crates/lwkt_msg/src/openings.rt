@@ -35,7 +35,11 @@ pub(crate) fn are_within(specs: &[MsgSpec], cpus: usize) -> bool
 }
 
 // The words of a table that is opened with these messages.
-pub(crate) fn opening_words(alloc: Global, specs: &[MsgSpec], cpus: usize) -> Result<Vec<u64>, AllocError>
+pub(crate) fn opening_words(
+    alloc: Global,
+    specs: &[MsgSpec],
+    cpus: usize,
+) -> Result<Vec<u64>, AllocError>
     requires { AreWithin cpus [] specs.now }
     ensures { IfOk result (λ v. AreOpeningWords (length specs.now) specs.now v.items) }
 {

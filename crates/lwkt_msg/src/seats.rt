@@ -1,12 +1,11 @@
 ghost use Rattle.std.specs.Prelude.{◌≡◌, ◌⊎◌, ◌<◌, ◌≤◌, MatchResult};
 
-use std::marker::Model;
-
 use crate::answers::{Reaped, Taken};
 use crate::books::MsgBook;
 use crate::calls;
 use crate::rules::Place;
 use lwkt_base::{Call, CpuId, Fault, Flags, MsgId};
+use std::marker::Model;
 
 /// A processor's seat at a message book, with the records of its own messages at rest and of those that it has taken.
 #[derive(Drop)]
@@ -116,7 +115,13 @@ impl MsgSeat {
     }
 
     /// Replies to a message that this processor has taken. 31: it has not, or there is no such message.
-    pub fn reply(&mut self, book: &MsgBook, msg: MsgId, error: u32, outcome: u64) -> Result<(), Fault>
+    pub fn reply(
+        &mut self,
+        book: &MsgBook,
+        msg: MsgId,
+        error: u32,
+        outcome: u64,
+    ) -> Result<(), Fault>
         requires { self.old.table ≡ book.now.table }
         ensures seat { IsSameDesk self.old self.new }
         ensures answer { MatchResult result

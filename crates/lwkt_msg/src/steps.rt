@@ -76,14 +76,7 @@ pub(crate) fn win(top: &Top, place: &mut Place, m: usize, found: u64, word: MsgW
 }
 
 // Gives the record of a message back, with the error and result of the reply, by the addition of a reply.
-pub(crate) fn answer(
-    top: &Top,
-    place: &mut Place,
-    m: usize,
-    cpu: CpuId,
-    error: u32,
-    outcome: u64,
-)
+pub(crate) fn answer(top: &Top, place: &mut Place, m: usize, cpu: CpuId, error: u32, outcome: u64)
     requires table { place.old.table_id ≡ top.now.table_id }
     requires sat { IsSat cpu place.old }
     requires exists { m < length place.old.me.0.specs }

@@ -1,4 +1,4 @@
-use Rattle.std.proofs.Common.{◌≡◌, ◌+◌, ◌<◌, ◌≤◌, false, true, ℕ, refl, ap, sym, ◌∙◌, subst, arith}
+use Rattle.std.proofs.Common.{◌≡◌, ℕ, refl, ap, sym, ◌∙◌, subst, arith}
 use Rattle.lwkt_base.specs.declared.names.CpuId.{CpuId}
 use Rattle.lwkt_base.specs.declared.message_words.MsgWord.{MsgWord}
 use Rattle.lwkt_msg.specs.Views.{at}
@@ -16,7 +16,7 @@ pub returns-then-not-is_for_reaping-clause-answer : goal.returns-then-not-is_for
 returns-then-not-is_for_reaping-clause-answer c = record {
   found = c.parts.result.1;
   looked_at = only c.args.place.now c.parts.new.place c.args.cpu c.args.m c.parts.result.1 c.requires.sat c.parts.ensures.looked;
-  why = λ h. never (c.if-not-is_for_reaping.ensures.1 h)
+  why = λ h. never (c.if-not-is_for_reaping.ensures.1 h);
 }
 
 pub fetch-requires-clause-sat : goal.fetch-requires-clause-sat

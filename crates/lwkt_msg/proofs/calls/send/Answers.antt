@@ -1,14 +1,13 @@
-use Rattle.std.proofs.Common.{◌≡◌, ◌+◌, ◌<◌, ◌≤◌, false, true, ℕ, refl, ap, sym, ◌∙◌, subst, arith}
+use Rattle.std.proofs.Common.{◌≡◌, ◌+◌, ℕ, refl, ap, sym, subst, arith}
 use Rattle.lwkt_base.specs.declared.names.CpuId.{CpuId}
 use Rattle.lwkt_base.specs.declared.message_words.MsgWord.{MsgWord}
-use Rattle.lwkt_core.specs.declared.messages.TheConstants.{LAST_ROUND}
 use Rattle.lwkt_msg.specs.declared.views.View.{View}
 use Rattle.lwkt_msg.specs.Views.{at, flags_of}
 use Rattle.lwkt_msg.specs.Hands.{IsOwn}
 use Rattle.lwkt_msg.specs.Steps.{sent_word}
 use Rattle.lwkt_msg.specs.Plays.{IsSat}
 use Rattle.lwkt_msg.proofs.Moves.{never}
-use Rattle.lwkt_msg.proofs.Calling.{unsent_not_home, unsent_last, send_home, round1, own_is, sees_own, home_held, send_done}
+use Rattle.lwkt_msg.proofs.Calling.{unsent_not_home, unsent_last, send_home, round1, own_is, home_held, send_done}
 use Rattle.lwkt_msg.proofs.calls.send.Goals as goal
 
 pub returns-then-not-is_home-clause-sat : goal.returns-then-not-is_home-clause-sat

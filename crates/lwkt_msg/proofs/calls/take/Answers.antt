@@ -1,4 +1,4 @@
-use Rattle.std.proofs.Common.{◌≡◌, ◌+◌, ◌<◌, ◌≤◌, false, true, ℕ, refl, ap, sym, ◌∙◌, subst, arith}
+use Rattle.std.proofs.Common.{refl, sym, subst}
 use Rattle.lwkt_base.specs.declared.names.CpuId.{CpuId}
 use Rattle.lwkt_msg.specs.Hands.{IsInHand}
 use Rattle.lwkt_msg.specs.Plays.{IsSat}
@@ -13,7 +13,7 @@ pub returns-then-not-is_for_taking-clause-answer : goal.returns-then-not-is_for_
 returns-then-not-is_for_taking-clause-answer c = record {
   found = c.parts-found.result.1;
   looked_at = only c.args.place.now c.parts-found.new.place c.args.cpu c.args.m c.parts-found.result.1 c.requires.sat c.parts-found.ensures.looked;
-  why = λ h. never (c.if-not-is_for_taking.ensures.1 h)
+  why = λ h. never (c.if-not-is_for_taking.ensures.1 h);
 }
 
 pub win-requires-clause-sat : goal.win-requires-clause-sat

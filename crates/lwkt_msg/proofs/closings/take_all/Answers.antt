@@ -1,4 +1,4 @@
-use Rattle.std.proofs.Common.{◌≡◌, List, [], ◌∷◌, ◌++◌, Some, refl, sym, ◌∙◌, subst, All}
+use Rattle.std.proofs.Common.{◌≡◌, List, [], ◌∷◌, ◌++◌, Some, refl, sym, ◌∙◌, subst}
 use Rattle.std.proofs.lemmas.List.Elements.{All-pop}
 use Rattle.lwkt_msg.specs.declared.views.View.{View}
 use Rattle.lwkt_msg.specs.Desks.{Desk, IsTaking}
@@ -15,7 +15,9 @@ loop-seat-preserved c =
     let seat : Desk = c.in-Some.seat in
     let items : c.loop-seat.seats.items ≡ left ++ seat ∷ [] = c.in-Some.ensures.items in
     let F : List Desk → Type 0 = λ xs. IsTaking c.args.cpus c.args.clerk.now.me.0 c.args.seats.items xs c.loop-seat.clerk.me.0 in
-    let G : View → Type 0 = λ w. IsTaking c.args.cpus c.args.clerk.now.me.0 c.args.seats.items left w in
-    (c.take_back.ensures.seat.0 ∙ inv.0, c.take_back.ensures.seat.1 ∙ inv.1,
-    (All-pop (λ (d : Desk). d.table ≡ c.args.top.now.table_id) c.loop-seat.seats.items left (Some seat) items inv.2).0,
-    subst G (sym c.take_back.ensures.view) (taking_more c.args.cpus c.args.clerk.now.me.0 c.args.seats.items left seat c.loop-seat.clerk.me.0 (subst F items inv.3)))
+    let G : View → Type 0 = λ w. IsTaking c.args.cpus c.args.clerk.now.me.0 c.args.seats.items left w in (
+      c.take_back.ensures.seat.0 ∙ inv.0,
+      c.take_back.ensures.seat.1 ∙ inv.1,
+      (All-pop (λ (d : Desk). d.table ≡ c.args.top.now.table_id) c.loop-seat.seats.items left (Some seat) items inv.2).0,
+      subst G (sym c.take_back.ensures.view) (taking_more c.args.cpus c.args.clerk.now.me.0 c.args.seats.items left seat c.loop-seat.clerk.me.0 (subst F items inv.3)),
+    )

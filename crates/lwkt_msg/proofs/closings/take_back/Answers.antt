@@ -1,4 +1,4 @@
-use Rattle.std.proofs.Common.{◌≡◌, [], refl, ap, sym, ◌∙◌}
+use Rattle.std.proofs.Common.{ap, ◌∙◌}
 use Rattle.atomic_table.specs.Table.{Me}
 use Rattle.lwkt_base.specs.declared.records.Rec.{Rec}
 use Rattle.lwkt_msg.specs.declared.views.View.{View}
@@ -18,6 +18,10 @@ join_seat-requires c =
     let sat = c.into_place-place.ensures.sat in
     let whole = c.split_seat-whole.result in
     let split = c.split_seat-whole.ensures in
-    let clerk = c.requires.clerk in
-    (c.requires.table.0, split.3 ∙ (ap (λ (d : Desk). d.table) c.into_place-place.ensures.place ∙ c.requires.table.1), ap (λ (x : Me Rec View). x.1) split.4, c.requires.table.2,
-    seat_joins c.args.top.now.key c.args.clerk.now.id c.args.clerk.now.me.0 whole.id whole.me.0 clerk.0 clerk.1 sat.0 clerk.2 (ap (λ (x : Me Rec View). x.0.kind) split.4 ∙ sat.1.kind))
+    let clerk = c.requires.clerk in (
+      c.requires.table.0,
+      split.3 ∙ (ap (λ (d : Desk). d.table) c.into_place-place.ensures.place ∙ c.requires.table.1),
+      ap (λ (x : Me Rec View). x.1) split.4,
+      c.requires.table.2,
+      seat_joins c.args.top.now.key c.args.clerk.now.id c.args.clerk.now.me.0 whole.id whole.me.0 clerk.0 clerk.1 sat.0 clerk.2 (ap (λ (x : Me Rec View). x.0.kind) split.4 ∙ sat.1.kind),
+    )

@@ -1,4 +1,4 @@
-use Rattle.std.proofs.Common.{◌≡◌, ℕ, ◌+◌, ◌*◌, ◌<◌, true, false, List, length, refl, ap, sym, ◌∙◌, subst, arith}
+use Rattle.std.proofs.Common.{◌≡◌, ℕ, ◌+◌, ◌*◌, ◌<◌, List, length, refl, ap, sym, ◌∙◌, subst, arith}
 use Rattle.std.proofs.lemmas.Bool.{eqb-true, eqb-false}
 use Rattle.atomic_table.specs.Seated.{TableId}
 use Rattle.atomic_table.specs.declared.shared.Seat.{Seat}
@@ -6,7 +6,7 @@ use Rattle.lwkt_base.specs.declared.openings.MsgSpec.{MsgSpec}
 use Rattle.lwkt_base.specs.declared.records.Rec.{Rec}
 use Rattle.lwkt_msg.specs.declared.views.Entry.{Entry}
 use Rattle.lwkt_msg.specs.declared.views.View.{View}
-use Rattle.lwkt_msg.specs.Views.{spec_at, at}
+use Rattle.lwkt_msg.specs.Views.{spec_at}
 use Rattle.lwkt_msg.specs.Hands.{IsOwn}
 use Rattle.lwkt_msg.specs.Desks.{IsHanding}
 use Rattle.lwkt_msg.specs.Plays.{IsSameSeat}
@@ -45,12 +45,16 @@ loop-m-preserved c =
     let G : Seat Rec View → Type 0 = λ p. IsSameSeat c.args.place.now p × (p.me.0.cpus ≡ c.args.place.now.me.0.cpus) × (p.me.0.specs ≡ c.args.place.now.me.0.specs) × IsHanding c.args.cpu (m + 1) p in
     elim c.if-eq.branch [
       | then-eq w ↦
-        let own : IsOwn c.loop-m.place.me.0 c.args.cpu.0 m = subst F (sym specs_is) (eqb-true (spec_at c.args.specs.now m).origin.cpu.0 c.args.cpu.0 (sym c.eq.ensures ∙ w.if-eq.true)) in
-        let did = w.load.ensures.2 m refl in
-        subst G (sym w.place-is) ((w.load.ensures.0 ∙ inv.0.0, w.load.ensures.1 ∙ inv.0.1), ap (λ (v : View). v.cpus) did.1 ∙ inv.1, ap (λ (v : View). v.specs) did.1 ∙ inv.2,
-        handing_own c.loop-m.place w.load.new.seat c.args.cpu m w.load.result did.0 inv.3 within own w.load.ensures.0 did.1 did.2)
+          let own : IsOwn c.loop-m.place.me.0 c.args.cpu.0 m = subst F (sym specs_is) (eqb-true (spec_at c.args.specs.now m).origin.cpu.0 c.args.cpu.0 (sym c.eq.ensures ∙ w.if-eq.true)) in
+          let did = w.load.ensures.2 m refl in
+          subst G (sym w.place-is) (
+            (w.load.ensures.0 ∙ inv.0.0, w.load.ensures.1 ∙ inv.0.1),
+            ap (λ (v : View). v.cpus) did.1 ∙ inv.1,
+            ap (λ (v : View). v.specs) did.1 ∙ inv.2,
+            handing_own c.loop-m.place w.load.new.seat c.args.cpu m w.load.result did.0 inv.3 within own w.load.ensures.0 did.1 did.2,
+          )
       | else-eq w ↦
-        let other : IsOwn c.loop-m.place.me.0 c.args.cpu.0 m → ⊥
-        = λ own. eqb-false (spec_at c.args.specs.now m).origin.cpu.0 c.args.cpu.0 (sym c.eq.ensures ∙ w.if-eq.false) (subst F specs_is own) in
-        subst G (sym w.place-is) (inv.0, inv.1, inv.2, handing_other c.loop-m.place c.args.cpu m inv.3 other)
+          let other : IsOwn c.loop-m.place.me.0 c.args.cpu.0 m → ⊥
+          = λ own. eqb-false (spec_at c.args.specs.now m).origin.cpu.0 c.args.cpu.0 (sym c.eq.ensures ∙ w.if-eq.false) (subst F specs_is own) in
+          subst G (sym w.place-is) (inv.0, inv.1, inv.2, handing_other c.loop-m.place c.args.cpu m inv.3 other)
     ]

@@ -1,5 +1,5 @@
-use Rattle.std.proofs.Common.{◌≡◌, ◌≤◌}
-use Rattle.lwkt_msg.specs.Desks.{Shelf, IsClerk, AreSeats}
+use Rattle.std.proofs.Common.{◌≡◌}
+use Rattle.lwkt_msg.specs.Desks.{IsClerk, AreSeats}
 use Rattle.lwkt_msg.proofs.openings.seat_all.Given as goal
 
 abbrev pub invariant-loop-cpu : goal.invariant-loop-cpu

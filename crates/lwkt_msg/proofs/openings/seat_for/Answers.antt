@@ -1,6 +1,5 @@
-use Rattle.std.proofs.Common.{◌≡◌, ℕ, ◌+◌, ◌*◌, ◌<◌, ◌≤◌, [], List, length, refl, ap, sym, ◌∙◌, subst, arith}
+use Rattle.std.proofs.Common.{◌<◌, ap, arith}
 use Rattle.atomic_table.specs.Seated.{TableId}
-use Rattle.lwkt_base.specs.declared.openings.MsgSpec.{MsgSpec}
 use Rattle.lwkt_msg.proofs.Handing.{handing_fresh}
 use Rattle.lwkt_msg.proofs.Splitting.{seat_splits}
 use Rattle.lwkt_msg.proofs.openings.seat_for.Goals as goal

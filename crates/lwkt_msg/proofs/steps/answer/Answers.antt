@@ -1,4 +1,4 @@
-use Rattle.std.proofs.Common.{◌≡◌, ℕ, ◌+◌, ◌*◌, ◌<◌, ◌%◌, ◌^◌, true, false, List, ◌∷◌, refl, ap, sym, ◌∙◌, subst, arith}
+use Rattle.std.proofs.Common.{◌≡◌, ℕ, ◌+◌, ◌%◌, ◌^◌, ◌∷◌, refl, ap, sym, ◌∙◌, subst}
 use mathlib.Core.Option.{none}
 use Rattle.atomic_table.specs.Table.{Me, step, Allows}
 use Rattle.lwkt_base.specs.declared.records.Rec.{Rec}
@@ -32,9 +32,11 @@ fetch_add-requires c =
     let me_is : c.exchange.new.seat.me ≡ front = wrote c.front-rec.new.place.me c.exchange.new.seat.me (slot_at m) c.front-rec.result rec value.0 (ap (λ (x : Me Rec View). x.1) before ∙ value.1) c.exchange.ensures.3
     ∙ ap (λ (x : Me Rec View). let y : Me Rec View = (x.0, (slot_at m, rec) ∷ value.0) in y) before in
     let F : Me Rec View → Type 0 = λ x. Allows (Rule c.args.top.now.key) z.slots i x (word_at m) (λ n. (n + 1) % 2 ^ 64) (replies (step z.slots (word_at m) 1 0 none) x) in
-    let call : call_of rec ≡ (at me.0 m).got = ap call_of (sym is) ∙ held.2 in
-    (c.exchange.ensures.0 ∙ (c.front-rec.ensures.seat.0.0 ∙ c.requires.table), word_inside c.args.place.now z c.args.cpu m sat c.requires.table c.requires.exists,
-    subst F (sym me_is) (reply_allowed c.args.top.now.key i front c.args.cpu m sat.kind c.requires.exists z.slots rec value.0 refl c.requires.taken.0 call))
+    let call : call_of rec ≡ (at me.0 m).got = ap call_of (sym is) ∙ held.2 in (
+      c.exchange.ensures.0 ∙ (c.front-rec.ensures.seat.0.0 ∙ c.requires.table),
+      word_inside c.args.place.now z c.args.cpu m sat c.requires.table c.requires.exists,
+      subst F (sym me_is) (reply_allowed c.args.top.now.key i front c.args.cpu m sat.kind c.requires.exists z.slots rec value.0 refl c.requires.taken.0 call),
+    )
 
 -- what the addition did
 did : (c : After-fetch_add) → (c.fetch_add.new.seat.me.0 ≡ after_step c.args.place.now.me.0 c.args.m (replied (given c.front-rec.result c.args.error c.args.outcome) (at c.args.place.now.me.0 c.args.m)) (Add 1) c.fetch_add.result) × (c.fetch_add.new.seat.me.1 ≡ c.front-rec.ensures.value.0)

@@ -1,4 +1,4 @@
-use Rattle.std.proofs.Common.{◌≡◌, ◌⊎◌, inl, inr, ⊎_elim, ℕ, ◌+◌, ◌*◌, ◌<◌, ◌≤◌, true, false, List, ◌∷◌, refl, ap, sym, ◌∙◌, subst, arith}
+use Rattle.std.proofs.Common.{◌≡◌, inl, ⊎_elim, ℕ, true, false, refl, ap, sym, ◌∙◌, subst}
 use mathlib.Core.Option.{none}
 use Rattle.atomic_table.specs.Table.{Me, step, Allows}
 use Rattle.lwkt_base.specs.declared.records.Rec.{Rec}
@@ -23,9 +23,11 @@ store-requires c =
     let i = c.args.place.now.id in
     let n_is : c.make.result ≡ message_word (rest_word c.args.word.origin (at me.0 m).round) = c.make.ensures ∙ ap message_word c.requires.word in
     let G : ℕ → Type 0 = λ n. Allows (Rule c.args.top.now.key) z.slots i me (word_at m) (λ _. n) (λ _. reaps (step z.slots (word_at m) n 0 none) me n) in
-    let back = c.requires.back in
-    (c.requires.table, word_inside c.args.place.now z c.args.word.origin m sat c.requires.table c.requires.exists,
-    subst G (sym n_is) (reap_allowed c.args.top.now.key i me c.args.word.origin m sat.kind c.requires.exists z.slots back.0 back.1 back.2))
+    let back = c.requires.back in (
+      c.requires.table,
+      word_inside c.args.place.now z c.args.word.origin m sat c.requires.table c.requires.exists,
+      subst G (sym n_is) (reap_allowed c.args.top.now.key i me c.args.word.origin m sat.kind c.requires.exists z.slots back.0 back.1 back.2),
+    )
 
 pub front-requires-clause-held : goal.front-requires-clause-held
 front-requires-clause-held c = let got = c.store.ensures.2 c.args.m refl in (got.0, (c.args.place.now.me.1, got.3))

@@ -1,4 +1,4 @@
-use Rattle.std.proofs.Common.{◌≡◌, ◌+◌, ◌*◌, ◌<◌, refl, ap, arith}
+use Rattle.std.proofs.Common.{◌+◌, ◌*◌, ◌<◌, refl, ap, arith}
 use Rattle.atomic_table.specs.Seated.{TableId}
 use Rattle.lwkt_msg.proofs.Allowing.{look_allowed}
 use Rattle.lwkt_msg.proofs.Sitting.{sat_looked}

@@ -1,9 +1,9 @@
-use Rattle.std.proofs.Common.{◌≡◌, ◌⊎◌, inl, inr, ℕ, ◌+◌, ◌*◌, ◌<◌, List, ◌∷◌, refl, ap, sym, ◌∙◌, subst, arith, eqb}
+use Rattle.std.proofs.Common.{◌≡◌, inr, ℕ, ◌+◌, refl, ap, sym, ◌∙◌}
 use Rattle.atomic_table.specs.Table.{Me}
 use Rattle.lwkt_base.specs.declared.records.Rec.{Rec}
 use Rattle.lwkt_core.specs.declared.seats.Operation.TheVariants.{Exchange}
 use Rattle.lwkt_msg.specs.declared.views.View.{View}
-use Rattle.lwkt_msg.specs.Views.{word_at, slot_at, call_of, at, after_step, took}
+use Rattle.lwkt_msg.specs.Views.{slot_at, at, after_step, took}
 use Rattle.lwkt_msg.proofs.Allowing.{take_allowed, first_same}
 use Rattle.lwkt_msg.proofs.Sitting.{sat_taken, sat_same, word_inside}
 use Rattle.lwkt_msg.proofs.steps.win.Goals as goal
@@ -12,9 +12,11 @@ pub compare_exchange-seen-requires : goal.compare_exchange-seen-requires
 compare_exchange-seen-requires c =
     let sat = c.requires.sat in
     let z = c.args.top.now.table_id in
-    let w = c.requires.word in
-    (c.requires.table, word_inside c.args.place.now z c.args.word.target c.args.m sat c.requires.table c.requires.exists,
-    take_allowed c.args.top.now.key c.args.place.now.id c.args.place.now.me c.args.word.target c.args.m sat.kind c.requires.exists z.slots c.args.found (c.args.found + 1) c.args.word w.0 (ap (λ (n : ℕ). n + 1) w.0) w.1 w.2 refl)
+    let w = c.requires.word in (
+      c.requires.table,
+      word_inside c.args.place.now z c.args.word.target c.args.m sat c.requires.table c.requires.exists,
+      take_allowed c.args.top.now.key c.args.place.now.id c.args.place.now.me c.args.word.target c.args.m sat.kind c.requires.exists z.slots c.args.found (c.args.found + 1) c.args.word w.0 (ap (λ (n : ℕ). n + 1) w.0) w.1 w.2 refl,
+    )
 
 pub front-requires-clause-held : goal.front-requires-clause-held
 front-requires-clause-held c =
@@ -35,9 +37,11 @@ returns-then-seen-found-clause-view c =
     let won = (c.compare_exchange-seen.ensures.2 m refl).won c.if-seen-found.true in
     let same = c.front.ensures.seat in
     let value = c.front.ensures.value in
-    let is : won.0 ≡ c.front.result = ap (λ (h : ℕ × Rec). h.1) (first_same (slot_at m, won.0) (slot_at m, c.front.result) c.args.place.now.me.1 value.0 (sym won.4 ∙ value.1)) in
-    (ap (λ (r : Rec). r.error) (sym is) ∙ won.1, ap (λ (r : Rec). r.result) (sym is) ∙ won.2,
-    ap (λ (x : Me Rec View). x.0) same.1 ∙ (won.3 ∙ (λ i. after_step c.args.place.now.me.0 m (took (is i) (at c.args.place.now.me.0 m)) (Exchange c.args.found (c.args.found + 1)) (c.if-seen-found.true i))))
+    let is : won.0 ≡ c.front.result = ap (λ (h : ℕ × Rec). h.1) (first_same (slot_at m, won.0) (slot_at m, c.front.result) c.args.place.now.me.1 value.0 (sym won.4 ∙ value.1)) in (
+      ap (λ (r : Rec). r.error) (sym is) ∙ won.1,
+      ap (λ (r : Rec). r.result) (sym is) ∙ won.2,
+      ap (λ (x : Me Rec View). x.0) same.1 ∙ (won.3 ∙ (λ i. after_step c.args.place.now.me.0 m (took (is i) (at c.args.place.now.me.0 m)) (Exchange c.args.found (c.args.found + 1)) (c.if-seen-found.true i))),
+    )
 
 pub returns-else-seen-found-clause-sat : goal.returns-else-seen-found-clause-sat
 returns-else-seen-found-clause-sat c =

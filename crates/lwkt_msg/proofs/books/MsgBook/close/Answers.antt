@@ -1,4 +1,4 @@
-use Rattle.std.proofs.Common.{◌≡◌, ℕ, List, length, refl, ap, sym, ◌∙◌, subst}
+use Rattle.std.proofs.Common.{◌≡◌, ℕ, refl, ap, sym, ◌∙◌, subst}
 use Rattle.std.specs.Slots.{slots_items}
 use Rattle.lwkt_msg.specs.Desks.{Shelf, AreClosed, AreShown}
 use Rattle.lwkt_msg.proofs.Ending.{closes}

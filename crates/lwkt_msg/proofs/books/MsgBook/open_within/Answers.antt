@@ -1,4 +1,4 @@
-use Rattle.std.proofs.Common.{rules, ◌≡◌, ℕ, ◌*◌, [], List, length, replicate, refl, ap, sym, ◌∙◌, subst}
+use Rattle.std.proofs.Common.{rules, ◌≡◌, ℕ, ◌*◌, [], List, length, replicate, ap, sym, ◌∙◌, subst}
 use Rattle.lwkt_base.specs.declared.openings.MsgSpec.{MsgSpec}
 use Rattle.lwkt_core.specs.Opening.{AreWithin}
 use Rattle.lwkt_msg.specs.declared.views.Layout.{Layout}
