@@ -59,7 +59,6 @@ safe_at_token m e i (Some tok) at needs here room safe =
     let limit = safe.processors in
     let there : cpu_of e < length tok.holders = (let eight = token.eight_holders in omega arith) in
     subst S (sym (changed_at (λ t. token_after t e) m.tokens i tok at)) (record {
-      some_processor = safe.some_processor;
       processors = safe.processors;
       token_limit = (let l = length-set m.tokens i (token_after tok e) in let k = safe.token_limit in omega arith);
       each_token = All-set (IsSafeToken m.cpus) m.tokens i (token_after tok e) (IsSafeToken-after m.cpus tok e limit here token needs) safe.each_token;
@@ -76,7 +75,6 @@ safe_at_message m e i (Some msg) at needs here safe =
     let inside = slice_get_within m.messages i msg at in
     let message : IsSafeMessage m.cpus msg = subst (IsSafeMessage m.cpus) (get_or_from_slice_get m.messages i msg msg at) (safe.each_message i msg inside) in
     subst S (sym (changed_at (λ t. message_after t e) m.messages i msg at)) (record {
-      some_processor = safe.some_processor;
       processors = safe.processors;
       token_limit = safe.token_limit;
       each_token = safe.each_token;

@@ -75,7 +75,6 @@ references_opened (spec ∷ specs) cpu =
 -- an opening within its limits and laws is safe
 pub IsSafe-opening : (cpus : ℕ) (tokens : List TokSpec) (messages : List MsgSpec) → AreWithin cpus tokens messages → AllOpenLawfully tokens → IsSafe (opening cpus tokens messages)
 IsSafe-opening cpus tokens messages within lawful = record {
-  some_processor = within.some_processor;
   processors = within.processors;
   token_limit = (let l = length-map tokens opened_token in let k = within.token_limit in omega arith);
   each_token = All-map (IsSafeToken cpus) opened_token tokens (λ i d inside. IsSafeToken-opened cpus (get_or tokens i d) (within.each_token i d inside) (lawful i d inside));

@@ -24,10 +24,8 @@ machine cpus tokens messages = record { cpus = cpus; tokens = tokens; messages =
 abbrev pub references_of : List Token → ℕ → ℕ
 references_of tokens cpu = sum_by (λ tok. references_in (held_by tok cpu)) tokens
 
--- the machine is safe: it has 1 to 8 processors, each token and message is safe, and no processor has more than 32
--- references
+-- the machine is safe: each token and message is, and no processor has more than 32 references
 pub record IsSafe (m : Machine) : Type 0 where
-  pub some_processor : 0 < m.cpus
   pub processors : m.cpus ≤ 8
   pub token_limit : length m.tokens ≤ 64
   pub each_token : All (IsSafeToken m.cpus) m.tokens
