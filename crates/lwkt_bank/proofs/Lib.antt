@@ -1,0 +1,5 @@
+pub mod WordMoves
+pub mod ViewMoves
+pub mod ShowMoves
+pub mod RuleMoves
+pub mod TurnMoves

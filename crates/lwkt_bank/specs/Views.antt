@@ -1,0 +1,142 @@
+use Rattle.std.specs.Prelude.{◌≡◌, ℕ, ◌+◌, ◌/◌, ◌==◌, zero, suc, Bool, true, false, if◌then◌else◌, List, [], ◌∷◌, ◌++◌, length, slice_set, slice_index, sum_by, map}
+use Rattle.lwkt_base.specs.declared.names.CpuId.{CpuId}
+use Rattle.lwkt_base.specs.declared.names.Mode.{Mode}
+use Rattle.lwkt_base.specs.declared.names.Mode.TheVariants.{Exclusive, Shared}
+use Rattle.lwkt_base.specs.declared.laws.Law.{Law}
+use Rattle.lwkt_base.specs.declared.laws.Law.TheVariants.{Any, Sum, Order, Cap, Tally}
+use Rattle.lwkt_base.specs.declared.holdings.Held.{Held}
+use Rattle.lwkt_base.specs.declared.holdings.Held.TheVariants.{Nothing, Holds}
+use Rattle.lwkt_base.specs.Holding.{Holding, references_in, one_more, one_less}
+use Rattle.lwkt_core.specs.declared.seats.SeatKind.{SeatKind}
+use Rattle.lwkt_core.specs.declared.seats.SeatKind.TheVariants.{Clerk, Of, Spent}
+use Rattle.lwkt_core.specs.declared.seats.WordStep.{WordStep}
+use Rattle.lwkt_core.specs.declared.seats.Operation.TheVariants.{Load, Exchange, Add, Sub, Or}
+use Rattle.lwkt_bank.specs.declared.views.Plan.{Plan}
+use Rattle.lwkt_bank.specs.declared.views.KnownCell.{KnownCell}
+use Rattle.lwkt_bank.specs.declared.views.Added.{Added}
+use Rattle.lwkt_bank.specs.declared.views.Entry.{Entry}
+use Rattle.lwkt_bank.specs.declared.views.View.{View}
+
+-- what a seat knows of a token that it never looked at
+abbrev pub blank : ℕ → Entry
+blank tok = record { tok = tok; held = Nothing; generation = 0; known = []; first = []; row = []; written = 0; added = [] }
+
+-- what a list of entries says of a token: its first entry counts
+abbrev pub at : List Entry → ℕ → Entry
+at [] tok = blank tok
+at (e ∷ es) tok = if e.tok == tok then e else at es tok
+
+-- how many references are held of so many tokens from a number on
+abbrev pub count_from : ℕ → ℕ → Holding → ℕ
+count_from tok zero holding = 0
+count_from tok (suc n) holding = references_in (holding tok) + count_from (suc tok) n holding
+
+-- what a list of entries holds
+abbrev pub held_of : List Entry → Holding
+held_of entries tok = (at entries tok).held
+
+-- how much of what was added is a processor's
+abbrev pub amount : ℕ → List Added → ℕ
+amount cpu added = sum_by (λ a. if a.cpu.0 == cpu then a.amount else 0) added
+
+-- the generation in a token word
+abbrev pub generation_in : ℕ → ℕ
+generation_in word = word / 262144
+
+-- the entry after the seat has seen this generation: a new one empties the known cells
+abbrev pub seen : Entry → ℕ → Entry
+seen e generation = if e.generation == generation then e else record e { generation = generation; known = [] }
+
+-- the entry after a look at this word
+abbrev pub looked : Entry → ℕ → Entry
+looked e word = seen e (generation_in word)
+
+-- the entry of a token that was taken at this word, with this row
+abbrev pub taken : Entry → ℕ → Mode → List ℕ → Entry
+taken e word mode row = record (looked e word) { held = Holds mode 0; first = row; row = row }
+
+-- the entry with one reference more, and with one less
+abbrev pub more : Entry → Entry
+more e = record e { held = one_more e.held Shared }
+abbrev pub less : Entry → Entry
+less e = record e { held = one_less e.held }
+
+-- the cells of a row with their numbers, from a number on
+abbrev pub numbered : ℕ → List ℕ → List KnownCell
+numbered i [] = []
+numbered i (x ∷ xs) = record { at = i; value = x } ∷ numbered (suc i) xs
+
+-- the entry after a written section has ended
+abbrev pub ended : Entry → Entry
+ended e = record e { held = Nothing; generation = e.generation + 1; known = numbered 0 e.row; first = e.row; written = e.written + 1 }
+
+-- the entry after a cell was read: one cell more of the first row is known
+abbrev pub read : Entry → ℕ → Entry
+read e cell = record e { known = record { at = cell; value = slice_index e.first cell } ∷ e.known }
+
+-- the entry after a value was stored in a cell
+abbrev pub stored : Entry → ℕ → ℕ → Entry
+stored e cell value = record e { row = slice_set e.row cell value }
+
+-- the entry after a processor has added to the cell of a Tally token
+abbrev pub raised : Entry → CpuId → ℕ → Entry
+raised e cpu k = record e { row = slice_set e.row 0 (slice_index e.row 0 + k); added = record { cpu = cpu; amount = k } ∷ e.added }
+
+-- the view with another entry for a token, and steps more
+abbrev pub noted : View → Entry → List WordStep → View
+noted v e steps = record v { tokens = e ∷ v.tokens; steps = v.steps ++ steps }
+
+-- the view of the clerk at the opening
+abbrev pub first_view : List Plan → View
+first_view plans = record { kind = Clerk 0 0; plans = plans; tokens = []; steps = [] }
+
+-- the clerk has made one seat more, or taken one more back
+abbrev pub after_made : SeatKind → SeatKind
+after_made (Clerk made back) = Clerk (made + 1) back
+after_made (Of cpu) = Of cpu
+after_made Spent = Spent
+abbrev pub after_back : SeatKind → SeatKind
+after_back (Clerk made back) = Clerk made (back + 1)
+after_back (Of cpu) = Of cpu
+after_back Spent = Spent
+
+-- the next seat that the clerk makes
+abbrev pub next_seat : SeatKind → SeatKind
+next_seat (Clerk made back) = Of (record { 0 = made })
+next_seat (Of cpu) = Spent
+next_seat Spent = Spent
+
+-- the clerk's view after a seat was split off, and the view of that seat
+abbrev pub clerk_after : View → View
+clerk_after v = record v { kind = after_made v.kind }
+abbrev pub new_seat : View → View
+new_seat v = record { kind = next_seat v.kind; plans = v.plans; tokens = []; steps = [] }
+
+-- what two views together say of a token that neither holds
+abbrev pub both_of : ℕ → Entry → Entry → Entry
+both_of tok d e = record (blank tok) { written = d.written + e.written; added = d.added ++ e.added }
+
+-- what two views together say of the tokens below a number
+abbrev pub merged : ℕ → List Entry → List Entry → List Entry
+merged zero ds es = []
+merged (suc n) ds es = both_of n (at ds n) (at es n) ∷ merged n ds es
+
+-- the clerk's view after a seat was taken back, and what stays of that seat's view
+abbrev pub joined : View → View → View
+joined v w = record v { kind = after_back v.kind; tokens = merged (length v.plans) v.tokens w.tokens }
+abbrev pub spent : View
+spent = record { kind = Spent; plans = []; tokens = []; steps = [] }
+
+-- a load of the word of a token, and an exchange of it, that found this word
+abbrev pub load : ℕ → ℕ → WordStep
+load tok found = record { at = tok; operation = Load; found = found }
+abbrev pub exchange : ℕ → ℕ → ℕ → ℕ → WordStep
+exchange tok old new found = record { at = tok; operation = Exchange old new; found = found }
+
+-- an addition to the word of a token, a subtraction from it, and bits set in it, that found this word
+abbrev pub add : ℕ → ℕ → ℕ → WordStep
+add tok k found = record { at = tok; operation = Add k; found = found }
+abbrev pub sub : ℕ → ℕ → ℕ → WordStep
+sub tok k found = record { at = tok; operation = Sub k; found = found }
+abbrev pub or : ℕ → ℕ → ℕ → WordStep
+or tok bits found = record { at = tok; operation = Or bits; found = found }

@@ -1,0 +1,5 @@
+//! The token words and cells of the threading layer: a bank of them, and for each processor a seat that steps on them.
+#![tactic(auto)]
+
+pub mod rules;
+pub mod views;

@@ -1,0 +1,24 @@
+use atomic_table::TableRule;
+
+use crate::views::{Plan, View};
+
+/// What the bank's table is told once, when it is made.
+#[derive(Debug, Drop)]
+pub struct Key {
+    /// The tokens, by their numbers.
+    pub plans: Vec<Plan>,
+    /// The number of processors.
+    pub cpus: usize,
+}
+
+/// The rule between any two steps of any number of seats.
+pub struct BankRule;
+
+impl TableRule<(), View, Key> for BankRule {
+    ghost use Rattle.lwkt_bank.specs.Rule.{Rule};
+    ghost use Rattle.lwkt_bank.specs.Views.{first_view};
+
+    ghost holds = { λ key. Rule key.plans.items key.cpus };
+
+    ghost first = { λ key. first_view key.plans.items };
+}

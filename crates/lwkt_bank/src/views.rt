@@ -1,0 +1,55 @@
+use lwkt_base::{CpuId, Held, Law};
+use lwkt_core::{SeatKind, WordStep};
+
+/// What is declared of a token at the opening.
+#[derive(Clone, Copy, Debug, PartialEq, Eq)]
+pub struct Plan {
+    /// The opening generation.
+    pub generation: u64,
+    /// The law's parameter.
+    pub param: u64,
+    /// How many cells it has, 0 to 4.
+    pub cells: usize,
+    pub law: Law,
+}
+
+/// A cell of a token's first row that a seat knows. Only proofs have values of it.
+pub struct KnownCell {
+    pub at: u64,
+    pub value: u64,
+}
+
+/// What a processor has added to the cell of a Tally token. Only proofs have values of it.
+pub struct Added {
+    pub cpu: CpuId,
+    pub amount: u64,
+}
+
+/// What a seat knows of one token. Only proofs have values of it. A clause reads an array as a list, of any length.
+pub struct Entry {
+    pub tok: u64,
+    /// What the seat holds of it.
+    pub held: Held,
+    /// The generation that the seat last saw.
+    pub generation: u64,
+    /// The cells of that generation's first row that the seat knows.
+    pub known: [KnownCell; 0],
+    /// While the seat holds the token, the first row of the section.
+    pub first: [u64; 0],
+    /// While the seat holds the token, its row.
+    pub row: [u64; 0],
+    /// How many written sections the seat has ended.
+    pub written: u64,
+    /// What was added to the cell of a Tally token.
+    pub added: [Added; 0],
+}
+
+/// What a seat at the bank knows. Only proofs have values of it.
+pub struct View {
+    pub kind: SeatKind,
+    pub plans: [Plan; 0],
+    /// Of each token the first entry counts.
+    pub tokens: [Entry; 0],
+    /// The seat's steps on token words, in order.
+    pub steps: [WordStep; 0],
+}
