@@ -3,3 +3,4 @@ pub mod ViewMoves
 pub mod ShowMoves
 pub mod RuleMoves
 pub mod TurnMoves
+pub mod SeatMoves

@@ -1,10 +1,10 @@
 use Rattle.std.proofs.Common.{eqb, eq-eqb, ne_eqb, inl, inr, ◌≡◌, ◌≢◌, ◌⊎◌, ⊎_elim, ℕ, zero, suc, ◌+◌, ◌-◌, ◌*◌, ◌/◌, ◌<◌, ◌≤◌, Bool, true, false, cond, List, [], ◌∷◌, ◌++◌, length, get_or, set, refl, ap, sym, ◌∙◌, subst, arith, All, Some, length-set, get_or-set_same, get_or-set_other}
-use Rattle.std.specs.Prelude.{slice_index, slice_set, slice_get, sum_by}
+use Rattle.std.specs.Prelude.{slice_index, slice_set, slice_get, sum_by, bit_or}
 use Rattle.std.proofs.lemmas.Bool.{eqb-true, eqb-false, cases_Bool, cases_eq, false≢true}
 use Rattle.std.proofs.lemmas.Option.{slice_get-get_or}
 use Rattle.std.proofs.lemmas.List.Elements.{All-nil, All-cons, All-from_recursion}
 use Rattle.std.specs.List.{AllByRecursion}
-use Rattle.std.proofs.lemmas.List.Sums.{sum_by-cons}
+use Rattle.std.proofs.lemmas.List.Sums.{sum_by-cons, get_or-le-sum_by}
 use Rattle.std.proofs.lemmas.List.Folds.{list_any_at}
 use Rattle.lwkt_base.specs.declared.names.CpuId.{CpuId}
 use Rattle.lwkt_base.specs.declared.names.TokId.{TokId}
@@ -169,7 +169,7 @@ module _ (cpus : ℕ) (plan : Plan) (tok : Token) (cpu : CpuId) (e : Entry) (n :
       let apart = d.0 in
       (IsFree-from_picture tok d.1 d.2, omega arith)
 
-  settled_free : IsFree tok → tok.row ≡ tok.first
+  pub settled_free : IsFree tok → tok.row ≡ tok.first
   settled_free free = sight.safe.settled (λ c. ap is_exclusive (free c))
 
   pub turns_take : (alone : Bool) (next : ℕ) → decision (picture_of tok) Exclusive alone ≡ Takes next → (t : TokId) → Turns plan tok (token_after tok (Take cpu t)) cpu.0 e (taken e n Exclusive tok.row) next cells
@@ -187,7 +187,7 @@ module _ (cpus : ℕ) (plan : Plan) (tok : Token) (cpu : CpuId) (e : Entry) (n :
       turns_moved (one_more (held_by tok cpu.0) Exclusive) false (taken e n Exclusive tok.row) next word (sym more_is) kept.5 kept.4 (Knows-taken Exclusive (settled_free free))
 
   -- a share
-  open_at : (alone : Bool) (next : ℕ) → decision (picture_of tok) Shared alone ≡ Takes next → IsOpen tok
+  pub open_at : (alone : Bool) (next : ℕ) → decision (picture_of tok) Shared alone ≡ Takes next → IsOpen tok
   open_at alone next takes = IsOpen-from_picture tok (decided-shared (picture_of tok) alone next takes).0
 
   pub turns_share : (alone : Bool) (next : ℕ) → decision (picture_of tok) Shared alone ≡ Takes next → e.held ≡ Nothing → (t : TokId) → Turns plan tok (token_after tok (Share cpu t)) cpu.0 e (taken e n Shared tok.row) next cells
@@ -233,6 +233,21 @@ module _ (cpus : ℕ) (plan : Plan) (tok : Token) (cpu : CpuId) (e : Entry) (n :
       turns_moved h tok.mark (less e) word shown (ap one_less sight.held) refl refl
       (record { not_above = sight.knows.not_above; cells = sight.knows.cells; holder = λ held. sight.knows.holder is })
 
+  -- a word that counts a reference that can be given back has room to go down
+  pub room_less : IsNotLastExclusive e.held → 4 ≤ n
+  room_less may =
+      let may' : IsNotLastExclusive (held_by tok cpu.0) = subst IsNotLastExclusive sight.held may in
+      let one = counted-less (held_by tok cpu.0) may' in
+      let most = get_or-le-sum_by counted tok.holders cpu.0 Nothing inside in
+      let whole = sight.count_word in omega arith
+
+  pub room_more : n + 4 < 18446744073709551616
+  room_more = let h = word-room tok cpus sight.safe sight.few in let whole = sight.count_word in omega arith
+
+  -- a word that was marked
+  pub marked_is : bit_or n 2 ≡ word_of (record (picture_of tok) { mark = true })
+  marked_is = ap (λ x. bit_or x 2) sight.count_word ∙ or-marked (picture_of tok) count_fits
+
   -- the last reference of an exclusive holding: what its word was
   module _ (last : e.held ≡ Holds Exclusive 0) where
     held_last : held_by tok cpu.0 ≡ Holds Exclusive 0
@@ -263,6 +278,12 @@ module _ (cpus : ℕ) (plan : Plan) (tok : Token) (cpu : CpuId) (e : Entry) (n :
         let off = ap bit (picture-open (record tok { holders = set tok.holders cpu.0 h }) nobody) in
         let on = ap bit (list_any_at is_exclusive tok.holders cpu.0 Nothing inside (ap is_exclusive held_last)) in
         let whole = sight.count_word in omega arith
+
+    pub room_clean : 1 ≤ n
+    room_clean = let f = word_freed in omega arith
+
+    pub room_written : n + 262144 < 18446744073709551616
+    room_written = let h = word-room-written tok cpus sight.safe sight.few (sight.safe.not_worn cpu.0 (ap is_exclusive held_last)) in let whole = sight.count_word in omega arith
 
     pub turns_give_clean : (t : TokId) (word : ℕ) → word + 1 ≡ n → Turns plan tok (token_after tok (GiveClean cpu t)) cpu.0 e (less e) word cells
     turns_give_clean t word less_is =

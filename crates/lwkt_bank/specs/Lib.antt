@@ -1,2 +1,3 @@
 pub mod Views
 pub mod Rule
+pub mod Plays
