@@ -4,3 +4,5 @@ pub mod ShowMoves
 pub mod RuleMoves
 pub mod TurnMoves
 pub mod SeatMoves
+pub mod AllowMoves
+pub mod CallMoves

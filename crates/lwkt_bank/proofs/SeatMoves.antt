@@ -119,6 +119,9 @@ module _ (plans : List Plan) (cpus id : ℕ) (v : View) (cpu : CpuId) (tok : ℕ
     rises_here : e.generation ≤ generation_in n
     rises_here = let k = sight.knows.not_above in let g = generation_is r.model.cpus (plan_at plans tok) (token_at r.model tok) cpu e n cells sight in omega arith
 
+    room_here : n + 4 < 18446744073709551616
+    room_here = room_more r.model.cpus (plan_at plans tok) (token_at r.model tok) cpu e n cells sight
+
     looked_tok : (looked e n).tok ≡ tok
     looked_tok = (seen-keeps e (generation_in n)).0 ∙ at-tok v.tokens tok
 
@@ -127,7 +130,7 @@ module _ (plans : List Plan) (cpus id : ℕ) (v : View) (cpu : CpuId) (tok : ℕ
 
   -- a look at the word
   pub look_steps : Steps plans cpus id v (token_word tok) (λ n. n) (λ _. Load cpu t) (λ n w. Looks tok v n w)
-  look_steps s r here fits = let a = look_step s r here (load tok (n s r here) ∷ []) in (noted v (looked e (n s r here)) (load tok (n s r here) ∷ []), (a.0, (a.1, (rises_here s r here, refl))))
+  look_steps s r here fits = let a = look_step s r here (load tok (n s r here) ∷ []) in (noted v (looked e (n s r here)) (load tok (n s r here) ∷ []), (a.0, (a.1, (room_here s r here, rises_here s r here, refl))))
 
   -- what the row is that a take finds
   module _ (s : Bench) (r : Rule plans cpus s) (here : get_elem? s.views id ≡ some v) where

@@ -28,9 +28,9 @@ at_word R st m n m' = (m'.1 ≡ m.1) × ((tok : ℕ) → st.word ≡ token_word 
 abbrev pub at_cell : (ℕ → ℕ → View → ℕ → View → Type 0) → Step (Unit {0}) → Me (Unit {0}) View → ℕ → Me (Unit {0}) View → Type 0
 at_cell R st m n m' = (m'.1 ≡ m.1) × ((tok cell : ℕ) → cell < 4 → st.word ≡ cell_word tok cell → R tok cell m.0 n m'.0)
 
--- a look at the word: the generation doesn't fall
+-- a look at the word: the generation doesn't fall, and there is room for a reference more
 abbrev pub Looks : ℕ → View → ℕ → View → Type 0
-Looks tok v n w = ((at v.tokens tok).generation ≤ generation_in n) × (w ≡ noted v (looked (at v.tokens tok) n) (load tok n ∷ []))
+Looks tok v n w = (n + 4 < 18446744073709551616) × ((at v.tokens tok).generation ≤ generation_in n) × (w ≡ noted v (looked (at v.tokens tok) n) (load tok n ∷ []))
 
 -- the row that a take at this word finds: it obeys the law, the generation doesn't fall, and at an equal generation the row
 -- is the one that the seat knew

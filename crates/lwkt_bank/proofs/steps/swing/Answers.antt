@@ -1,0 +1,16 @@
+use Rattle.std.proofs.Common.{Bool, subst}
+use Rattle.lwkt_base.specs.declared.names.Mode.{Mode}
+use Rattle.lwkt_base.specs.declared.words.Decision.TheVariants.{Take}
+use Rattle.lwkt_bank.specs.Seats.{Decides}
+use Rattle.lwkt_bank.proofs.CallMoves.{take_asks, share_asks}
+use Rattle.lwkt_bank.proofs.steps.swing.Goals as goal
+
+pub compare_exchange-requires : goal.compare_exchange-requires
+compare_exchange-requires c =
+    let F : Mode → Type 0 = λ m. (alone : Bool) × Decides c.args.old m alone (Take c.args.new) in
+    take_asks c.args.bank.now c.args.seat.now c.args.tok.0 c.requires.of c.requires.there c.word_of_token-word.result c.word_of_token-word.ensures c.args.old c.args.new (subst F c.in-Exclusive.is c.requires.decided) c.requires.few
+
+pub compare_exchange-requires-in-Shared : goal.compare_exchange-requires-in-Shared
+compare_exchange-requires-in-Shared c =
+    let F : Mode → Type 0 = λ m. (alone : Bool) × Decides c.args.old m alone (Take c.args.new) in
+    share_asks c.args.bank.now c.args.seat.now c.args.tok.0 c.requires.of c.requires.there c.word_of_token-word.result c.word_of_token-word.ensures c.args.old c.args.new (subst F c.in-Shared.is c.requires.decided) c.requires.free c.requires.few

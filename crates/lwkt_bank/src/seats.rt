@@ -1,0 +1,18 @@
+ghost use Rattle.std.specs.Prelude.{◌≡◌, length};
+ghost use Rattle.lwkt_bank.specs.Notes.{Keeps};
+
+use atomic_table::Seat;
+use lwkt_base::CpuId;
+
+use crate::notes::Note;
+use crate::views::View;
+
+/// One processor's seat at a bank.
+#[derive(Drop)]
+pub struct CpuSeat {
+    pub(crate) notes: [Note; 64],
+    pub(crate) seat: Seat<(), View>,
+    pub(crate) cpu: CpuId,
+    ghost kept: { Keeps notes cpu seat.me.0 },
+    ghost quiet: { length seat.me.1 ≡ 0 },
+}

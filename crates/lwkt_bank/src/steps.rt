@@ -1,0 +1,179 @@
+//! The steps of a seat on the words and cells of one token.
+ghost use Rattle.std.specs.Prelude.{◌≡◌, ◌≢◌, ◌⊎◌, ℕ, ◌+◌, ◌*◌, ◌<◌, ◌≤◌, Bool, true, length, slice_index};
+ghost use Rattle.lwkt_base.specs.Holding.{is_held, is_exclusive};
+ghost use Rattle.lwkt_base.specs.Law.{MeetsLaw};
+ghost use Rattle.lwkt_base.specs.declared.holdings.Held.{Held};
+ghost use Rattle.lwkt_base.specs.declared.laws.Law.TheVariants.{Tally};
+ghost use Rattle.lwkt_core.specs.Tokens.{IsNotLastExclusive};
+ghost use Rattle.lwkt_bank.specs.Views.{at, count_from, held_of};
+ghost use Rattle.lwkt_bank.specs.Rule.{token_word, cell_word, plan_at};
+ghost use Rattle.lwkt_bank.specs.Plays.{Looks, Exchanges, AddsOne, Marks, GivesOne, GivesClean, GivesWritten, ReadsCell, StoresCell, RaisesCell};
+ghost use Rattle.lwkt_bank.specs.Seats.{IsOf, IsSame, Decides};
+
+use atomic_table::Seat;
+use lwkt_base::{Decision, Mode, TokId};
+
+use crate::banks::Bank;
+use crate::plays::{
+    AddOne, GiveClean, GiveOne, GiveWritten, Look, RaiseCell, ReadCell, SetMark, Share, StoreCell,
+    Take,
+};
+use crate::views::View;
+
+fn word_of_token(tok: TokId) -> usize
+    ensures { result ≡ token_word tok.0 }
+{
+    16 * tok.0 as usize + 1
+}
+
+fn word_of_cell(tok: TokId, cell: u8) -> usize
+    ensures { result ≡ cell_word tok.0 cell }
+{
+    16 * tok.0 as usize + 2 + cell as usize
+}
+
+pub(crate) fn look(bank: &Bank, seat: &mut Seat<(), View>, tok: TokId) -> u64
+    requires of { IsOf bank.now seat.old }
+    requires there { tok.0 < length bank.now.key.plans.items }
+    ensures same { IsSame seat.old seat.new }
+    ensures looks { Looks tok.0 seat.old.me.0 result seat.new.me.0 }
+{
+    let word = word_of_token(tok);
+    bank.table.shared.load::<Look>(seat, word)
+}
+
+/// Exchanges the word for the one that takes the token in this mode, and answers the word found.
+pub(crate) fn swing(
+    bank: &Bank,
+    seat: &mut Seat<(), View>,
+    tok: TokId,
+    mode: Mode,
+    old: u64,
+    new: u64,
+) -> u64
+    requires of { IsOf bank.now seat.old }
+    requires there { tok.0 < length bank.now.key.plans.items }
+    requires decided { (alone : Bool) × Decides old mode alone (Decision.Take new) }
+    requires free { (at seat.old.me.0.tokens tok.0).held ≡ Held.Nothing }
+    requires few { count_from 0 (length bank.now.key.plans.items) (held_of seat.old.me.0.tokens) < 32 }
+    ensures same { IsSame seat.old seat.new }
+    ensures exchanges { Exchanges mode old new tok.0 seat.old.me.0 result seat.new.me.0 }
+{
+    let word = word_of_token(tok);
+    match mode {
+        Mode::Exclusive => bank
+            .table
+            .shared
+            .compare_exchange::<Take>(seat, word, old, new),
+        Mode::Shared => bank
+            .table
+            .shared
+            .compare_exchange::<Share>(seat, word, old, new),
+    }
+}
+
+pub(crate) fn add_one(bank: &Bank, seat: &mut Seat<(), View>, tok: TokId) -> u64
+    requires of { IsOf bank.now seat.old }
+    requires there { tok.0 < length bank.now.key.plans.items }
+    requires held { is_held (at seat.old.me.0.tokens tok.0).held ≡ true }
+    requires few { count_from 0 (length bank.now.key.plans.items) (held_of seat.old.me.0.tokens) < 32 }
+    ensures same { IsSame seat.old seat.new }
+    ensures adds { AddsOne tok.0 seat.old.me.0 result seat.new.me.0 }
+{
+    let word = word_of_token(tok);
+    bank.table.shared.fetch_add::<AddOne>(seat, word, 4)
+}
+
+pub(crate) fn set_mark(bank: &Bank, seat: &mut Seat<(), View>, tok: TokId) -> u64
+    requires of { IsOf bank.now seat.old }
+    requires there { tok.0 < length bank.now.key.plans.items }
+    ensures same { IsSame seat.old seat.new }
+    ensures marks { Marks tok.0 seat.old.me.0 result seat.new.me.0 }
+{
+    let word = word_of_token(tok);
+    bank.table.shared.fetch_or::<SetMark>(seat, word, 2)
+}
+
+pub(crate) fn give_one(bank: &Bank, seat: &mut Seat<(), View>, tok: TokId) -> u64
+    requires of { IsOf bank.now seat.old }
+    requires there { tok.0 < length bank.now.key.plans.items }
+    requires held { is_held (at seat.old.me.0.tokens tok.0).held ≡ true }
+    requires not_last { IsNotLastExclusive (at seat.old.me.0.tokens tok.0).held }
+    ensures same { IsSame seat.old seat.new }
+    ensures gives { GivesOne tok.0 seat.old.me.0 result seat.new.me.0 }
+{
+    let word = word_of_token(tok);
+    bank.table.shared.fetch_sub::<GiveOne>(seat, word, 4)
+}
+
+pub(crate) fn give_clean(bank: &Bank, seat: &mut Seat<(), View>, tok: TokId) -> u64
+    requires of { IsOf bank.now seat.old }
+    requires there { tok.0 < length bank.now.key.plans.items }
+    requires last { (at seat.old.me.0.tokens tok.0).held ≡ Held.Holds Mode.Exclusive 0 }
+    requires clean { (at seat.old.me.0.tokens tok.0).row ≡ (at seat.old.me.0.tokens tok.0).first }
+    ensures same { IsSame seat.old seat.new }
+    ensures gives { GivesClean tok.0 seat.old.me.0 result seat.new.me.0 }
+{
+    let word = word_of_token(tok);
+    bank.table.shared.fetch_sub::<GiveClean>(seat, word, 1)
+}
+
+pub(crate) fn give_written(bank: &Bank, seat: &mut Seat<(), View>, tok: TokId) -> u64
+    requires of { IsOf bank.now seat.old }
+    requires there { tok.0 < length bank.now.key.plans.items }
+    requires last { (at seat.old.me.0.tokens tok.0).held ≡ Held.Holds Mode.Exclusive 0 }
+    requires written { (at seat.old.me.0.tokens tok.0).row ≢ (at seat.old.me.0.tokens tok.0).first }
+    requires lawful { MeetsLaw (plan_at bank.now.key.plans.items tok.0).law (plan_at bank.now.key.plans.items tok.0).param (at seat.old.me.0.tokens tok.0).row }
+    ensures same { IsSame seat.old seat.new }
+    ensures gives { GivesWritten tok.0 seat.old.me.0 result seat.new.me.0 }
+{
+    let word = word_of_token(tok);
+    bank.table
+        .shared
+        .fetch_add::<GiveWritten>(seat, word, 262143)
+}
+
+pub(crate) fn read_cell(bank: &Bank, seat: &mut Seat<(), View>, tok: TokId, cell: u8) -> u64
+    requires of { IsOf bank.now seat.old }
+    requires there { tok.0 < length bank.now.key.plans.items }
+    requires held { is_held (at seat.old.me.0.tokens tok.0).held ≡ true }
+    requires inside { cell < (plan_at bank.now.key.plans.items tok.0).cells }
+    ensures same { IsSame seat.old seat.new }
+    ensures reads { ReadsCell tok.0 cell seat.old.me.0 result seat.new.me.0 }
+{
+    let word = word_of_cell(tok, cell);
+    bank.table.shared.load::<ReadCell>(seat, word)
+}
+
+pub(crate) fn store_cell(
+    bank: &Bank,
+    seat: &mut Seat<(), View>,
+    tok: TokId,
+    cell: u8,
+    value: u64,
+)
+    requires of { IsOf bank.now seat.old }
+    requires there { tok.0 < length bank.now.key.plans.items }
+    requires held { is_exclusive (at seat.old.me.0.tokens tok.0).held ≡ true }
+    requires untallied { (plan_at bank.now.key.plans.items tok.0).law ≢ Tally }
+    requires inside { cell < (plan_at bank.now.key.plans.items tok.0).cells }
+    ensures same { IsSame seat.old seat.new }
+    ensures stores { StoresCell tok.0 cell seat.old.me.0 value seat.new.me.0 }
+{
+    let word = word_of_cell(tok, cell);
+    bank.table.shared.store::<StoreCell>(seat, word, value)
+}
+
+/// Raises the cell of a Tally token to this value.
+pub(crate) fn raise_cell(bank: &Bank, seat: &mut Seat<(), View>, tok: TokId, value: u64)
+    requires of { IsOf bank.now seat.old }
+    requires there { tok.0 < length bank.now.key.plans.items }
+    requires held { is_exclusive (at seat.old.me.0.tokens tok.0).held ≡ true }
+    requires tally { (plan_at bank.now.key.plans.items tok.0).law ≡ Tally }
+    requires raised { slice_index (at seat.old.me.0.tokens tok.0).row 0 ≤ value }
+    ensures same { IsSame seat.old seat.new }
+    ensures raises { RaisesCell tok.0 0 seat.old.me.0 value seat.new.me.0 }
+{
+    let word = word_of_cell(tok, 0);
+    bank.table.shared.store::<RaiseCell>(seat, word, value)
+}
