@@ -2,7 +2,10 @@ use Rattle.std.proofs.Common.{eqb, eq-eqb, ne_eqb, inl, inr, ◌≡◌, ◌≢�
 use Rattle.std.specs.Prelude.{slice_index, slice_set, slice_get, bit_or}
 use Rattle.std.proofs.lemmas.List.{set-get_or}
 use Rattle.std.proofs.lemmas.Option.{slice_get-get_or}
-use Rattle.std.proofs.lemmas.Bool.{eqb-true, eqb-false, cases_eq, false≢true}
+use Rattle.std.proofs.lemmas.Bool.{eqb-true, eqb-false, cases_eq, cases_lt, false≢true}
+use Rattle.std.proofs.lemmas.List.Sums.{get_or-le-sum_by}
+use Rattle.std.proofs.Math.ListN.{get_or-eq_default}
+use Rattle.lwkt_core.proofs.SeatingLemmas.{total-at, at_map}
 use mathlib.Core.Option.{some}
 use lib.ListN.{get_elem?}
 use prog.Atomic.{either}
@@ -27,7 +30,7 @@ use Rattle.lwkt_core.specs.declared.events.Event.{Event}
 use Rattle.lwkt_core.specs.declared.events.Event.TheVariants.{Load, Take, Share, Again, Mark, GiveOne, GiveClean, GiveWritten, Read, Write}
 use Rattle.lwkt_core.specs.declared.events.Place.TheVariants.{AtToken}
 use Rattle.lwkt_core.specs.Events.{cpu_of, place_of, adds_reference}
-use Rattle.lwkt_core.specs.Tokens.{held_by, IsNotLastExclusive, MayWrite, TokenNeeds, token_after}
+use Rattle.lwkt_core.specs.Tokens.{held_by, tally_of, IsNotLastExclusive, MayWrite, TokenNeeds, token_after}
 use Rattle.lwkt_core.specs.Picture.{picture_of}
 use Rattle.lwkt_core.specs.Machine.{Happens}
 use Rattle.lwkt_core.proofs.MachineMoves.{references_le}
@@ -35,13 +38,20 @@ use Rattle.lwkt_bank.specs.declared.views.Plan.{Plan}
 use Rattle.lwkt_bank.specs.declared.views.Entry.{Entry}
 use Rattle.lwkt_bank.specs.declared.views.View.{View}
 use Rattle.lwkt_bank.specs.Views.{at, amount, generation_in, count_from, held_of, looked, taken, more, less, ended, read, stored, raised, noted, load, exchange, add, sub, or}
-use Rattle.lwkt_bank.specs.Rule.{Bench, Rule, Knows, token_word, cell_word, plan_at, token_at}
+use Rattle.lwkt_bank.specs.Rule.{Bench, Rule, Seen, seen_by, column, Knows, token_word, cell_word, plan_at, token_at}
 use Rattle.lwkt_bank.specs.Plays.{Steps, at_word, at_cell, Looks, IsTakenRow, Exchanges, AddsOne, Marks, GivesOne, GivesClean, GivesWritten, ReadsCell, StoresCell, RaisesCell}
 use Rattle.lwkt_bank.proofs.WordMoves.{Fits-safe}
 use Rattle.lwkt_bank.proofs.ViewMoves.{at-here, at-else, at-tok, count-at}
 use Rattle.lwkt_bank.proofs.ShowMoves.{Turns}
 use Rattle.lwkt_bank.proofs.RuleMoves.{there, token_is, safe_token, few_cells, seat_there, held_there, knows_there, plans_there, lift}
 use Rattle.lwkt_bank.proofs.TurnMoves.{Sight, seen-keeps, generation_is, first_lawful, fresh, free_at, settled_free, open_at, turns_load, turns_take, turns_share, turns_again, turns_give_one, turns_give_clean, turns_give_written, turns_mark, turns_read, turns_write, turns_raise, room_less, room_more, room_clean, room_written, marked_is, exclusive_held}
+
+-- one number of a list is at most their sum
+tally-le : (tallies : List ℕ) (a : ℕ) → slice_index tallies a ≤ sum tallies
+tally-le tallies a = ⊎_elim
+    (λ (inside : a < length tallies). get_or-le-sum_by (λ x. x) tallies a 0 inside)
+    (λ (beyond : length tallies ≤ a). let z = get_or-eq_default tallies 0 beyond in omega arith)
+    (cases_lt a (length tallies))
 
 -- equal entries, words and cells take the same turn
 Turns-move : (plan : Plan) (tok tok' : Token) (cpu : ℕ) (e e' d : Entry) (word word' : ℕ) (cells cells' : ℕ → ℕ) → d ≡ e' → word' ≡ word → ((c : ℕ) → c < plan.cells → cells' c ≡ cells c) → Turns plan tok tok' cpu e e' word cells → Turns plan tok tok' cpu e d word' cells'
@@ -293,7 +303,22 @@ module _ (plans : List Plan) (cpus id : ℕ) (v : View) (cpu : CpuId) (tok : ℕ
       let F : List ℕ → Type 0 = λ ws. Turns (plan_at plans tok) tk tk cpu.0 e (read e cell) (found s r here) (λ c. slice_index ws (cell_word tok c)) in
       let a = cell_step s r here (read e cell) cell x (Read cpu t cell x) within (at-tok v.tokens tok) refl refl (ap is_held (sym m.held) ∙ is, needs) refl
       (subst F (sym same) (turns_read r.model.cpus (plan_at plans tok) tk cpu e (found s r here) (cells s r here) m is cell within)) in
-      (noted v (read e cell) [], (a.0, (a.1, (value ∙ ap (λ (row : List ℕ). slice_index row cell) (sym own.2), refl))))
+      (noted v (read e cell) [], (a.0, (a.1, (value ∙ ap (λ (row : List ℕ). slice_index row cell) (sym own.2), refl, covered))))
+    where
+      covered : (plan_at v.plans tok).law ≡ Tally → (a : ℕ) → amount a e.added ≤ slice_index e.row 0
+      covered tally a =
+          let m = sight s r here in
+          let tk = token_at r.model tok in
+          let own = m.knows.holder is in
+          let shows = r.pictures.each_token tok exists' in
+          let law_is : (plan_at plans tok).law ≡ Tally = ap (λ (ps : List Plan). (plan_at ps tok).law) (sym (plans_there plans cpus s r id v cpu here kind)) ∙ tally in
+          let F : Law → Type 0 = λ l. IsTallied l tk.param tk.row tk.tallies in
+          let tallied : tk.row ≡ (tk.param + sum tk.tallies) ∷ [] = subst F (m.law ∙ law_is) m.safe.tallied in
+          let first_cell : slice_index tk.row 0 ≡ tk.param + sum tk.tallies = ap (λ (row : List ℕ). slice_index row 0) tallied in
+          let seen_row : slice_index e.row 0 ≡ slice_index tk.row 0 = ap (λ (row : List ℕ). slice_index row 0) own.2 in
+          let part : amount a e.added ≤ tally_of tk a = (let h = total-at (λ (x : Seen). amount a x.entry.added) (column tok s.views) id (seen_by tok v) (at_map (seen_by tok) s.views id v here) in let k = shows.tallies a in omega arith) in
+          let most : tally_of tk a ≤ sum tk.tallies = tally-le tk.tallies a in
+          omega arith
 
   -- a store changes its cell in the row as in the words
   row_stored : (s : Bench) (r : Rule plans cpus s) (here : get_elem? s.views id ≡ some v) (cell value : ℕ) → cell < (plan_at plans tok).cells → (c : ℕ) → c < (plan_at plans tok).cells

@@ -4,6 +4,7 @@ use lib.ListN.{get_elem?}
 use Rattle.atomic_table.specs.Table.{Me, Step, keeps, stepped}
 use Rattle.lwkt_base.specs.declared.names.CpuId.{CpuId}
 use Rattle.lwkt_base.specs.declared.names.Mode.{Mode}
+use Rattle.lwkt_base.specs.declared.laws.Law.TheVariants.{Tally}
 use Rattle.lwkt_base.specs.Law.{MeetsLaw}
 use Rattle.lwkt_core.specs.declared.seats.SeatKind.TheVariants.{Of}
 use Rattle.lwkt_core.specs.declared.events.Event.{Event}
@@ -11,7 +12,7 @@ use Rattle.lwkt_core.specs.Machine.{Happens}
 use Rattle.lwkt_bank.specs.declared.views.Plan.{Plan}
 use Rattle.lwkt_bank.specs.declared.views.Entry.{Entry}
 use Rattle.lwkt_bank.specs.declared.views.View.{View}
-use Rattle.lwkt_bank.specs.Views.{at, generation_in, looked, taken, more, less, ended, read, stored, raised, noted, load, exchange, add, sub, or}
+use Rattle.lwkt_bank.specs.Views.{at, amount, generation_in, looked, taken, more, less, ended, read, stored, raised, noted, load, exchange, add, sub, or}
 use Rattle.lwkt_bank.specs.Rule.{Bench, Rule, token_word, cell_word, plan_at}
 
 -- whatever state of the rule the table is in when a word becomes f of what it was, the seat has a view after it with which
@@ -60,9 +61,10 @@ GivesClean tok v n w = w ≡ noted v (less (at v.tokens tok)) (sub tok 1 n ∷ [
 abbrev pub GivesWritten : ℕ → View → ℕ → View → Type 0
 GivesWritten tok v n w = w ≡ noted v (ended (at v.tokens tok)) (add tok 262143 n ∷ [])
 
--- a cell that is read, one that is stored to, and the cell of a Tally token that is raised
+-- a cell that is read, which is at least what any processor has added if the token keeps tallies; one that is stored to, and the cell of a Tally token that is raised
 abbrev pub ReadsCell : ℕ → ℕ → View → ℕ → View → Type 0
 ReadsCell tok cell v n w = (n ≡ slice_index (at v.tokens tok).row cell) × (w ≡ noted v (read (at v.tokens tok) cell) [])
+    × ((plan_at v.plans tok).law ≡ Tally → (cpu : ℕ) → amount cpu (at v.tokens tok).added ≤ slice_index (at v.tokens tok).row 0)
 abbrev pub StoresCell : ℕ → ℕ → View → ℕ → View → Type 0
 StoresCell tok cell v n w = w ≡ noted v (stored (at v.tokens tok) cell n) []
 abbrev pub RaisesCell : ℕ → ℕ → View → ℕ → View → Type 0

@@ -1,5 +1,6 @@
 ghost use Rattle.std.specs.Prelude.{◌≡◌, ℕ, ◌+◌, ◌*◌, ◌≤◌, length};
 ghost use Rattle.std.specs.Coded.{Coded-set};
+ghost use Rattle.lwkt_base.specs.declared.laws.Law.TheVariants.{Tally};
 ghost use Rattle.lwkt_bank.specs.Views.{at, amount};
 ghost use Rattle.lwkt_bank.specs.Rule.{plan_at};
 ghost use Rattle.lwkt_bank.specs.Notes.{clerk_number};
@@ -20,6 +21,7 @@ pub struct Bank {
     ghost wide: { table.shared.table_id.words ≡ 16 * length key.plans.items + 1 },
     ghost few: { length key.plans.items ≤ 64 },
     ghost short: { (tok : ℕ) → (plan_at key.plans.items tok).cells ≤ 4 },
+    ghost single: { (tok : ℕ) → (plan_at key.plans.items tok).law ≡ Tally → (plan_at key.plans.items tok).cells ≡ 1 },
     ghost seated: { clerk.table_id ≡ table.shared.table_id },
     ghost quiet: { length clerk.me.1 ≡ 0 },
     ghost counts: { clerk_number clerk.me.0.kind ≡ 1 },

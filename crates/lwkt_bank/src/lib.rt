@@ -3,6 +3,7 @@
 
 pub mod banks;
 pub mod notes;
+mod plans;
 mod plays;
 pub mod rules;
 pub mod seats;

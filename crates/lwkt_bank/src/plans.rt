@@ -1,0 +1,33 @@
+ghost use Rattle.std.specs.Prelude.{◌≡◌, ◌+◌, ◌<◌, length};
+ghost use Rattle.lwkt_bank.specs.Rule.{plan_at};
+
+use lwkt_base::TokId;
+
+use crate::banks::Bank;
+use crate::views::Plan;
+
+impl Bank {
+    ghost use Rattle.lwkt_bank.specs.Seats.{id_of, tokens_of, plan_of};
+
+    /// How many tokens there are, 0 to 64.
+    pub fn tokens(&self) -> usize
+        ensures { result ≡ tokens_of (id_of self.now) }
+    {
+        self.key.plans.len()
+    }
+
+    /// How many cells a token has, 0 to 4.
+    pub fn cells(&self, tok: TokId) -> usize
+        requires { tok.0 < tokens_of (id_of self.now) }
+        ensures { result ≡ (plan_of (id_of self.now) tok.0).cells }
+    {
+        self.plan(tok).cells
+    }
+
+    pub(crate) fn plan(&self, tok: TokId) -> Plan
+        requires { tok.0 < tokens_of (id_of self.now) }
+        ensures { result ≡ plan_of (id_of self.now) tok.0 }
+    {
+        self.key.plans[tok.0 as usize]
+    }
+}
