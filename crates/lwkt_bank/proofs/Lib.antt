@@ -6,3 +6,5 @@ pub mod TurnMoves
 pub mod SeatMoves
 pub mod AllowMoves
 pub mod CallMoves
+pub mod NoteMoves
+pub mod ChangeMoves

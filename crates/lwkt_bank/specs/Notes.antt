@@ -1,4 +1,4 @@
-use Rattle.std.specs.Prelude.{◌≡◌, ◌≢◌, ℕ, ◌+◌, ◌*◌, ◌<◌, true, List, [], ◌∷◌, length, Option, None, slice_index, slice_index_or}
+use Rattle.std.specs.Prelude.{◌≡◌, ◌≢◌, ℕ, ◌+◌, ◌*◌, ◌<◌, ◌==◌, Bool, true, false, not, List, [], ◌∷◌, length, Option, None, Some, slice_index, slice_index_or}
 use Rattle.std.specs.Option.{ForSome, ForNone}
 use Rattle.lwkt_base.specs.declared.names.CpuId.{CpuId}
 use Rattle.lwkt_base.specs.declared.names.Mode.TheVariants.{Exclusive, Shared}
@@ -39,6 +39,7 @@ change_at note cell = slice_index_or note.cells cell None
 
 -- what a seat keeps at run time of a token is what its view says
 pub record IsNoted (plan : Plan) (cpu : ℕ) (e : Entry) (note : Note) : Type 0 where
+  pub four : length note.cells ≡ 4
   pub held : held_number note.held ≡ held_number e.held
   pub tally : note.tally ≡ amount cpu e.added
   pub own : (other : ℕ) → other ≢ cpu → amount other e.added ≡ 0
@@ -50,3 +51,8 @@ pub record IsNoted (plan : Plan) (cpu : ℕ) (e : Entry) (note : Note) : Type 0 
 pub record Keeps (notes : List Note) (cpu : CpuId) (v : View) : Type 0 where
   pub seat : seat_number v.kind ≡ cpu.0 + 1
   pub each : (tok : ℕ) → tok < length v.plans → IsNoted (plan_at v.plans tok) cpu.0 (at v.tokens tok) (note_at notes tok)
+
+-- whether a cell was stored to, and its last value isn't its first
+abbrev pub has_changed : Option Change → Bool
+has_changed None = false
+has_changed (Some change) = not (change.first == change.last)

@@ -3,9 +3,13 @@ use Rattle.atomic_table.specs.Seated.{TableId}
 use Rattle.atomic_table.specs.declared.shared.Seat.{Seat}
 use Rattle.lwkt_base.specs.declared.names.CpuId.{CpuId}
 use Rattle.lwkt_base.specs.declared.names.Mode.{Mode}
+use Rattle.lwkt_base.specs.declared.names.Mode.TheVariants.{Exclusive, Shared}
+use Rattle.lwkt_base.specs.declared.holdings.Held.TheVariants.{Nothing, Holds}
+use Rattle.lwkt_core.specs.Tokens.{IsNotLastExclusive}
 use Rattle.lwkt_base.specs.declared.laws.Law.TheVariants.{Tally}
 use Rattle.lwkt_base.specs.declared.words.TokWord.{TokWord}
 use Rattle.lwkt_base.specs.declared.words.Decision.{Decision}
+use Rattle.lwkt_base.specs.declared.words.Decision.TheVariants.{Take, Held, Marked, Worn as IsWorn}
 use Rattle.lwkt_base.specs.Holding.{Holding}
 use Rattle.lwkt_base.specs.Law.{MeetsLaw}
 use Rattle.lwkt_base.specs.TokenWord.{word_of, Fits, decision}
@@ -17,7 +21,12 @@ use Rattle.lwkt_bank.specs.declared.views.Entry.{Entry}
 use Rattle.lwkt_bank.specs.declared.views.View.{View}
 use Rattle.lwkt_bank.specs.declared.banks.Bank.{Bank}
 use Rattle.lwkt_bank.specs.declared.seats.CpuSeat.{CpuSeat}
-use Rattle.lwkt_bank.specs.Views.{at, count_from, held_of}
+use Rattle.lwkt_bank.specs.declared.tries.Try.{Try}
+use Rattle.lwkt_bank.specs.declared.tries.Try.TheVariants.{Got, Busy, Again, Worn}
+use Rattle.lwkt_bank.specs.declared.tries.Given.{Given}
+use Rattle.lwkt_bank.specs.declared.tries.Given.TheVariants.{One, Clean, Written}
+use Rattle.lwkt_bank.specs.Views.{at, count_from, held_of, generation_in, looked, taken, less, ended, load, exchange, add, sub}
+use Rattle.lwkt_bank.specs.Plays.{IsTakenRow}
 use Rattle.lwkt_bank.specs.Rule.{plan_at}
 
 -- which bank it is, and what was declared of its tokens
@@ -57,3 +66,82 @@ pub record IsSame (old new : Seat (Unit {0}) View) : Type 0 where
 -- the word of every parts that fit it answers a request so
 abbrev pub Decides : ℕ → Mode → Bool → Decision → Type 0
 Decides word mode alone answer = (w : TokWord) → Fits w → word_of w ≡ word → decision w mode alone ≡ answer
+
+-- after a call on a token the seat knows this of it, and as before of every other; it is the same seat of the same bank; and
+-- its step list has these steps more
+pub record Changes (s s' : CpuSeat) (tok : ℕ) (e : Entry) (made : List WordStep) : Type 0 where
+  pub bank : bank_of s' ≡ bank_of s
+  pub cpu : s'.cpu ≡ s.cpu
+  pub here : entry s' tok ≡ e
+  pub else_ : (other : ℕ) → other ≢ tok → entry s' other ≡ entry s other
+  pub steps : steps_of s' ≡ steps_of s ++ made
+
+-- a look at a token word that found this: the generation doesn't fall, and there is room for a reference more
+pub record Looked (s s' : CpuSeat) (tok found : ℕ) : Type 0 where
+  pub room : found + 4 < 18446744073709551616
+  pub rises : (entry s tok).generation ≤ generation_in found
+  pub changes : Changes s s' tok (looked (entry s tok) found) (load tok found ∷ [])
+
+-- a try that took the token at this generation: the word that `decide` takes was found twice; the row obeys the law, the
+-- generation doesn't fall, and at an equal one the row is the one that the seat knew
+pub record Took (s s' : CpuSeat) (tok : ℕ) (mode : Mode) (alone : Bool) (generation : ℕ) : Type 0 where
+  pub word : ℕ
+  pub next : ℕ
+  pub row : List ℕ
+  pub decided : Decides word mode alone (Take next)
+  pub generation_is : generation ≡ generation_in word
+  pub found : IsTakenRow (plan_of (bank_of s) tok) (entry s tok) word row
+  pub changes : Changes s s' tok (taken (entry s tok) word mode row) (load tok word ∷ exchange tok word next word ∷ [])
+
+-- a try that lost: `decide` takes the word that the load found, and the exchange found another
+pub record Lost (s s' : CpuSeat) (tok : ℕ) (mode : Mode) (alone : Bool) : Type 0 where
+  pub word : ℕ
+  pub next : ℕ
+  pub found : ℕ
+  pub decided : Decides word mode alone (Take next)
+  pub other : found ≢ word
+  pub rises : ((entry s tok).generation ≤ generation_in word) × (generation_in word ≤ generation_in found)
+  pub changes : Changes s s' tok (looked (looked (entry s tok) word) found) (load tok word ∷ exchange tok word next found ∷ [])
+
+-- what a try tells, by its answer
+abbrev pub Tried : CpuSeat → CpuSeat → ℕ → Mode → Bool → Try → Type 0
+Tried s s' tok mode alone (Got generation) = Took s s' tok mode alone generation
+Tried s s' tok mode alone (Busy word) = (Decides word mode alone Held ⊎ Decides word mode alone Marked) × Looked s s' tok word
+Tried s s' tok mode alone Again = Lost s s' tok mode alone
+Tried s s' tok mode alone Worn = (word : ℕ) × (Decides word mode alone IsWorn × Looked s s' tok word)
+
+-- an exchange that took the token at this word
+pub record Hit (s s' : CpuSeat) (tok : ℕ) (mode : Mode) (word next : ℕ) : Type 0 where
+  pub row : List ℕ
+  pub found : IsTakenRow (plan_of (bank_of s) tok) (entry s tok) word row
+  pub changes : Changes s s' tok (taken (entry s tok) word mode row) (exchange tok word next word ∷ [])
+
+-- an exchange that found another word
+pub record Miss (s s' : CpuSeat) (tok word next : ℕ) : Type 0 where
+  pub found : ℕ
+  pub other : found ≢ word
+  pub rises : (entry s tok).generation ≤ generation_in found
+  pub changes : Changes s s' tok (looked (entry s tok) found) (exchange tok word next found ∷ [])
+
+-- a step that is an operation with a number on the word of the token, and found some word
+pub record Stepped (s s' : CpuSeat) (tok : ℕ) (e : Entry) (made : ℕ → WordStep) : Type 0 where
+  pub found : ℕ
+  pub changes : Changes s s' tok e (made found ∷ [])
+
+-- what giving a reference back tells, by its answer: Written exactly if row and first row differ
+abbrev pub Gave : CpuSeat → CpuSeat → ℕ → Given → Type 0
+Gave s s' tok One = IsNotLastExclusive (holding s tok) × Stepped s s' tok (less (entry s tok)) (sub tok 4)
+Gave s s' tok Clean = (holding s tok ≡ Holds Exclusive 0) × ((entry s tok).row ≡ (entry s tok).first) × Stepped s s' tok (less (entry s tok)) (sub tok 1)
+Gave s s' tok Written = (holding s tok ≡ Holds Exclusive 0) × ((entry s tok).row ≢ (entry s tok).first) × Stepped s s' tok (ended (entry s tok)) (add tok 262143)
+
+-- a call that leaves this entry, apart from the known cells, of which there may be more; no step on a token word
+pub record Knowing (s s' : CpuSeat) (tok : ℕ) (e : Entry) : Type 0 where
+  pub known : List KnownCell
+  pub changes : Changes s s' tok (record e { known = known }) []
+
+-- a call that leaves the seat as it was
+pub record IsUnchanged (s s' : CpuSeat) : Type 0 where
+  pub bank : bank_of s' ≡ bank_of s
+  pub cpu : s'.cpu ≡ s.cpu
+  pub entries : (tok : ℕ) → entry s' tok ≡ entry s tok
+  pub steps : steps_of s' ≡ steps_of s

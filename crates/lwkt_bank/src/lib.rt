@@ -2,10 +2,14 @@
 #![tactic(auto)]
 
 pub mod banks;
+mod cells;
+mod gives;
 pub mod notes;
 mod plans;
 mod plays;
 pub mod rules;
 pub mod seats;
 mod steps;
+mod takes;
+pub mod tries;
 pub mod views;

@@ -1,4 +1,6 @@
-use lwkt_base::Held;
+ghost use Rattle.std.specs.Prelude.{◌≡◌, ◌<◌, length, None, Some, [], ◌∷◌, slice_set};
+
+use lwkt_base::{Held, Mode};
 
 /// A cell that was stored to in the present section.
 #[derive(Clone, Copy, Debug, PartialEq, Eq)]
@@ -18,4 +20,36 @@ pub struct Note {
     pub tally: u64,
     /// What the seat holds.
     pub held: Held,
+}
+
+impl Note {
+    /// The note of a token that was taken in this mode.
+    pub(crate) fn taken(self, mode: Mode) -> Note
+        ensures { result ≡ record { cells = None ∷ None ∷ None ∷ None ∷ []; tally = self.tally; held = Held.Holds mode 0 } }
+    {
+        Note {
+            cells: [None; 4],
+            tally: self.tally,
+            held: Held::Holds(mode, 0),
+        }
+    }
+
+    /// The note with another holding.
+    pub(crate) fn held_as(self, held: Held) -> Note
+        ensures { result ≡ record self { held = held } }
+    {
+        let mut note = self;
+        note.held = held;
+        note
+    }
+
+    /// The note with this change of a cell.
+    pub(crate) fn changed(self, cell: usize, change: Change) -> Note
+        requires { cell < length self.cells }
+        ensures { result ≡ record self { cells = slice_set self.cells cell (Some change) } }
+    {
+        let mut note = self;
+        note.cells[cell] = Some(change);
+        note
+    }
 }

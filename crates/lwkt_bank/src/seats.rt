@@ -15,4 +15,5 @@ pub struct CpuSeat {
     pub(crate) cpu: CpuId,
     ghost kept: { Keeps notes cpu seat.me.0 },
     ghost quiet: { length seat.me.1 ≡ 0 },
+    ghost sized: { length notes ≡ 64 },
 }

@@ -1,0 +1,168 @@
+use Rattle.std.proofs.Common.{eq-eqb, ⊎_elim, Bool, cond, ◌≡◌, ◌≢◌, ℕ, ◌+◌, ◌<◌, ◌≤◌, List, [], ◌∷◌, ◌++◌, length, refl, ap, sym, ◌∙◌, subst, arith, append_assoc, set}
+use Rattle.std.specs.Prelude.{slice_get, All, Some}
+use Rattle.atomic_table.specs.declared.shared.Seat.{Seat}
+use Rattle.lwkt_core.specs.declared.seats.WordStep.{WordStep}
+use Rattle.lwkt_bank.specs.declared.views.Plan.{Plan}
+use Rattle.lwkt_bank.specs.declared.views.Entry.{Entry}
+use Rattle.lwkt_bank.specs.declared.views.View.{View}
+use Rattle.lwkt_bank.specs.declared.banks.Bank.{Bank}
+use Rattle.lwkt_bank.specs.declared.seats.CpuSeat.{CpuSeat}
+use Rattle.std.proofs.lemmas.Bool.{cases_eq}
+use Rattle.std.proofs.Math.Path.{fun_ext}
+use Rattle.lwkt_base.specs.declared.names.Mode.{Mode}
+use Rattle.lwkt_base.specs.declared.holdings.Held.TheVariants.{Nothing, Holds}
+use Rattle.lwkt_base.specs.declared.words.TokWord.{TokWord}
+use Rattle.lwkt_base.specs.declared.words.Decision.{Decision}
+use Rattle.lwkt_base.specs.declared.words.Decision.TheVariants.{Take}
+use Rattle.lwkt_base.specs.TokenWord.{word_of, Fits, decision}
+use Rattle.lwkt_base.specs.Holding.{Holding}
+use Rattle.lwkt_bank.specs.Plays.{IsTakenRow}
+use Rattle.lwkt_bank.specs.Views.{at, noted, seen, looked, taken, generation_in, count_from, load, exchange}
+use Rattle.lwkt_bank.specs.Rule.{plan_at}
+use Rattle.lwkt_bank.specs.Notes.{Keeps, IsNoted, note_at}
+use Rattle.lwkt_bank.specs.declared.notes.Note.{Note}
+use Rattle.lwkt_bank.specs.Seats.{BankId, id_of, bank_of, tokens_of, plan_of, entry, holding, references, IsOf, IsSame, Changes, Looked, Took, Lost, Hit, Miss, Decides}
+use Rattle.lwkt_bank.proofs.ViewMoves.{at-here, at-else, at-tok}
+use Rattle.lwkt_bank.proofs.NoteMoves.{seat_told, IsNoted-seen, Keeps-kept, Keeps-set}
+use Rattle.lwkt_bank.proofs.TurnMoves.{seen-keeps}
+
+-- a seat is at the bank that it names
+pub is_of : (bank : Bank) (s : CpuSeat) → bank_of s ≡ id_of bank → IsOf bank s.seat
+is_of bank s of = record {
+  table = ap (λ (b : BankId). b.table) of;
+  plans = ap (λ (b : BankId). b.plans) of;
+  named = (s.cpu, seat_told s.seat.me.0.kind s.cpu s.kept.seat);
+}
+
+-- a number of tokens, told by the seat or by the bank
+pub there_of : (bank : Bank) (s : CpuSeat) (tok : ℕ) → bank_of s ≡ id_of bank → tok < length s.seat.me.0.plans → tok < length bank.key.plans.items
+there_of bank s tok of there = let e = ap (λ (b : BankId). length b.plans) of in omega arith
+
+-- what a step on the seat's view changes
+pub changed : (s s' : CpuSeat) (tok : ℕ) (e : Entry) (made : List WordStep) → IsSame s.seat s'.seat → s'.cpu ≡ s.cpu → s'.seat.me.0 ≡ noted s.seat.me.0 e made → e.tok ≡ tok → Changes s s' tok e made
+changed s s' tok e made same cpu is is_tok = record {
+  bank = λ i. record { table = same.table i; plans = (is i).plans };
+  cpu = cpu;
+  here = ap (λ (v : View). at v.tokens tok) is ∙ at-here e s.seat.me.0.tokens tok is_tok;
+  else_ = λ other away. ap (λ (v : View). at v.tokens other) is ∙ at-else e s.seat.me.0.tokens tok other is_tok away;
+  steps = ap (λ (v : View). v.steps) is;
+}
+
+-- two changes of one token in a row
+pub changed_twice : (s mid s' : CpuSeat) (tok : ℕ) (d e : Entry) (made more : List WordStep) → Changes s mid tok d made → Changes mid s' tok e more → Changes s s' tok e (made ++ more)
+changed_twice s mid s' tok d e made more first second = record {
+  bank = second.bank ∙ first.bank;
+  cpu = second.cpu ∙ first.cpu;
+  here = second.here;
+  else_ = λ other away. second.else_ other away ∙ first.else_ other away;
+  steps = second.steps ∙ ap (λ (xs : List WordStep). xs ++ more) first.steps ∙ append_assoc s.seat.me.0.steps made more;
+}
+
+-- what a seat keeps after a look
+pub keeps_seen : (s : CpuSeat) (w : View) (tok g : ℕ) (made : List WordStep) → tok < length s.seat.me.0.plans → w ≡ noted s.seat.me.0 (seen (entry s tok) g) made → Keeps s.notes s.cpu w
+keeps_seen s w tok g made there is =
+    Keeps-kept s.notes s.cpu s.seat.me.0 w (seen (entry s tok) g) made tok s.kept is ((seen-keeps (entry s tok) g).0 ∙ at-tok s.seat.me.0.tokens tok)
+    (IsNoted-seen (plan_at s.seat.me.0.plans tok) s.cpu.0 (entry s tok) g (note_at s.notes tok) (s.kept.each tok there))
+
+-- a seat holds no slot after a step
+pub still_quiet : (old new : Seat (Unit {0}) View) → IsSame old new → length old.me.1 ≡ 0 → length new.me.1 ≡ 0
+still_quiet old new same quiet = ap length same.slots ∙ quiet
+
+-- a second look at one word shows nothing more
+pub seen_twice : (e : Entry) (g : ℕ) → seen (seen e g) g ≡ seen e g
+seen_twice e g = ap (λ (b : Bool). cond b (seen e g) (record (seen e g) { generation = g; known = [] })) (eq-eqb (seen e g).generation g (seen-keeps e g).6)
+
+-- a look at the generation that is known changes nothing
+seen_known : (e : Entry) (g : ℕ) → e.generation ≡ g → seen e g ≡ e
+seen_known e g is = ap (λ (b : Bool). cond b e (record e { generation = g; known = [] })) (eq-eqb e.generation g is)
+
+-- the row of a take after a look at its word
+pub taken_after_look : (plan : Plan) (e : Entry) (word : ℕ) (row : List ℕ) → e.generation ≤ generation_in word → IsTakenRow plan (looked e word) word row → IsTakenRow plan e word row
+taken_after_look plan e word row rises took = record {
+  long = took.long;
+  lawful = took.lawful;
+  rises = rises;
+  fresh = λ same.
+    let F : Entry → Type 0 = λ d. d.generation ≡ generation_in word → All (λ c. slice_get row c.at ≡ Some c.value) d.known in
+    subst F (seen_known e (generation_in word) same) took.fresh same;
+}
+
+-- a call that keeps what is held of its token keeps what is held
+pub same_holding : (s s' : CpuSeat) (tok : ℕ) (e : Entry) (made : List WordStep) → Changes s s' tok e made → e.held ≡ (entry s tok).held → holding s' ≡ holding s
+same_holding s s' tok e made changes held = fun_ext (λ k. ⊎_elim
+    (λ (same : k ≡ tok). let F : ℕ → Type 0 = λ j. holding s' j ≡ holding s j in subst F (sym same) (ap (λ (d : Entry). d.held) changes.here ∙ held))
+    (λ away. ap (λ (d : Entry). d.held) (changes.else_ k away))
+    (cases_eq k tok))
+
+pub same_references : (s s' : CpuSeat) (tok : ℕ) (e : Entry) (made : List WordStep) → Changes s s' tok e made → e.held ≡ (entry s tok).held → references s' ≡ references s
+same_references s s' tok e made changes held =
+    ap (λ (h : Holding). count_from 0 (tokens_of (bank_of s')) h) (same_holding s s' tok e made changes held)
+    ∙ ap (λ (b : BankId). count_from 0 (tokens_of b) (holding s)) changes.bank
+
+-- a try that took: the look, and then the exchange that hit
+pub took : (s mid s' : CpuSeat) (tok : ℕ) (mode : Mode) (alone : Bool) (word next : ℕ) → Looked s mid tok word → Decides word mode alone (Take next) → Hit mid s' tok mode word next → Took s s' tok mode alone (generation_in word)
+took s mid s' tok mode alone word next looked' decides hit =
+    let e = entry s tok in
+    let g = generation_in word in
+    let F : Entry → Type 0 = λ d. IsTakenRow (plan_of (bank_of mid) tok) d word hit.row in
+    let G : BankId → Type 0 = λ b. IsTakenRow (plan_of b tok) (looked e word) word hit.row in
+    let row_is = subst G looked'.changes.bank (subst F looked'.changes.here hit.found) in
+    let again : taken (entry mid tok) word mode hit.row ≡ taken e word mode hit.row =
+    ap (λ (d : Entry). taken d word mode hit.row) looked'.changes.here ∙ ap (λ (d : Entry). record d { held = Holds mode 0; first = hit.row; row = hit.row }) (seen_twice e g) in
+    let H : Entry → Type 0 = λ d. Changes mid s' tok d (exchange tok word next word ∷ []) in
+    record {
+      word = word;
+      next = next;
+      row = hit.row;
+      decided = decides;
+      generation_is = refl;
+      found = taken_after_look (plan_of (bank_of s) tok) e word hit.row looked'.rises row_is;
+      changes = changed_twice s mid s' tok (looked e word) (taken e word mode hit.row) (load tok word ∷ []) (exchange tok word next word ∷ []) looked'.changes (subst H again hit.changes);
+    }
+
+-- a try that lost: the look, and then the exchange that missed
+pub lost : (s mid s' : CpuSeat) (tok : ℕ) (mode : Mode) (alone : Bool) (word next : ℕ) → Looked s mid tok word → Decides word mode alone (Take next) → Miss mid s' tok word next → Lost s s' tok mode alone
+lost s mid s' tok mode alone word next looked' decides miss =
+    let e = entry s tok in
+    let g = generation_in word in
+    let known : (entry mid tok).generation ≡ g = ap (λ (d : Entry). d.generation) looked'.changes.here ∙ (seen-keeps e g).6 in
+    let H : Entry → Type 0 = λ d. Changes mid s' tok d (exchange tok word next miss.found ∷ []) in
+    record {
+      word = word;
+      next = next;
+      found = miss.found;
+      decided = decides;
+      other = miss.other;
+      rises = (looked'.rises, (let r = miss.rises in omega arith));
+      changes = changed_twice s mid s' tok (looked e word) (looked (looked e word) miss.found) (load tok word ∷ []) (exchange tok word next miss.found ∷ []) looked'.changes
+        (subst H (ap (λ (d : Entry). looked d miss.found) looked'.changes.here) miss.changes);
+    }
+
+-- what `decide` answers, in the order of a try's contract
+pub decides_so : (word : ℕ) (mode : Mode) (alone : Bool) (answer given : Decision) → ((w : TokWord) → word_of w ≡ word → Fits w → given ≡ decision w mode alone) → given ≡ answer → Decides word mode alone answer
+decides_so word mode alone answer given says is = λ w fits its. sym (says w its fits) ∙ is
+
+-- what a seat keeps after the note of a token was written anew
+pub keeps_set : (s : CpuSeat) (w : View) (tok : ℕ) (e : Entry) (made : List WordStep) (note : Note) → tok < 64 → w ≡ noted s.seat.me.0 e made → e.tok ≡ tok → IsNoted (plan_at s.seat.me.0.plans tok) s.cpu.0 e note → Keeps (set s.notes tok note) s.cpu w
+keeps_set s w tok e made note room is is_tok here =
+    let sized = s.sized in
+    Keeps-set s.notes s.cpu s.seat.me.0 w e made tok note s.kept is is_tok (omega arith) here
+
+-- and where it stays
+pub keeps_kept : (s : CpuSeat) (w : View) (tok : ℕ) (e : Entry) (made : List WordStep) → w ≡ noted s.seat.me.0 e made → e.tok ≡ tok → IsNoted (plan_at s.seat.me.0.plans tok) s.cpu.0 e (note_at s.notes tok) → Keeps s.notes s.cpu w
+keeps_kept s w tok e made is is_tok here = Keeps-kept s.notes s.cpu s.seat.me.0 w e made tok s.kept is is_tok here
+
+-- the entry of a token says which it is
+pub entry_tok : (s : CpuSeat) (tok : ℕ) → (entry s tok).tok ≡ tok
+entry_tok s tok = at-tok s.seat.me.0.tokens tok
+
+-- the note that was read
+pub noted_as : (s : CpuSeat) (tok : ℕ) (note : Note) → tok < length s.seat.me.0.plans → note ≡ note_at s.notes tok → IsNoted (plan_at s.seat.me.0.plans tok) s.cpu.0 (entry s tok) note
+noted_as s tok note there is = let F : Note → Type 0 = λ m. IsNoted (plan_at s.seat.me.0.plans tok) s.cpu.0 (entry s tok) m in subst F (sym is) (s.kept.each tok there)
+
+-- what is declared of a token, told by the seat or by the bank
+pub plan_is : (bank : Bank) (s : CpuSeat) (tok : ℕ) → bank_of s ≡ id_of bank → plan_at s.seat.me.0.plans tok ≡ plan_at bank.key.plans.items tok
+plan_is bank s tok of = ap (λ (b : BankId). plan_at b.plans tok) of
+
+pub short_row : (bank : Bank) (s : CpuSeat) (tok : ℕ) → bank_of s ≡ id_of bank → (plan_at s.seat.me.0.plans tok).cells ≤ 4
+short_row bank s tok of = let e = ap (λ (p : Plan). p.cells) (plan_is bank s tok of) in let h = bank.short tok in omega arith

@@ -1,0 +1,110 @@
+//! Taking tokens.
+ghost use Rattle.std.specs.Prelude.{◌≡◌, ℕ, ◌+◌, ◌<◌, length, Bool, true, false, [], ◌∷◌};
+ghost use Rattle.lwkt_base.specs.Holding.{is_held};
+ghost use Rattle.lwkt_bank.specs.Views.{more, looked, add, or};
+ghost use Rattle.lwkt_bank.specs.Notes.{note_at};
+ghost use Rattle.lwkt_bank.specs.Seats.{id_of, bank_of, tokens_of, entry, holding, references, Changes, Looked, Took, Lost, Tried, Decides, Hit, Miss, Stepped};
+
+use lwkt_base::{CpuId, Decision, Held, Mode, TokId, TokWord};
+
+use crate::banks::Bank;
+use crate::notes::Note;
+use crate::seats::CpuSeat;
+use crate::steps;
+use crate::tries::Try;
+
+impl CpuSeat {
+    /// The processor whose seat this is.
+    pub fn cpu(&self) -> CpuId
+        ensures { result ≡ self.now.cpu }
+    {
+        self.cpu
+    }
+
+    // What the seat keeps of a token.
+    pub(crate) fn note(&self, bank: &Bank, tok: TokId) -> Note
+        requires of { bank_of self.now ≡ id_of bank.now }
+        requires there { tok.0 < tokens_of (bank_of self.now) }
+        ensures is { result ≡ note_at self.now.notes tok.0 }
+        ensures held { result.held ≡ holding self.now tok.0 }
+        ensures four { length result.cells ≡ 4 }
+        ensures room { tok.0 < 64 }
+    {
+        self.notes[tok.0 as usize]
+    }
+
+    /// Loads the word of a token.
+    pub fn word(&mut self, bank: &Bank, tok: TokId) -> u64
+        requires of { bank_of self.old ≡ id_of bank.now }
+        requires there { tok.0 < tokens_of (bank_of self.old) }
+        ensures { Looked self.old self.new tok.0 result }
+    {
+        steps::look(bank, &mut self.seat, tok)
+    }
+
+    fn take_at(&mut self, bank: &Bank, tok: TokId, mode: Mode, word: u64, next: u64) -> bool
+        requires of { bank_of self.old ≡ id_of bank.now }
+        requires there { tok.0 < tokens_of (bank_of self.old) }
+        requires decided { (alone : Bool) × Decides word mode alone (Decision.Take next) }
+        requires free { holding self.old tok.0 ≡ Held.Nothing }
+        requires few { references self.old < 32 }
+        ensures hit { result ≡ true → Hit self.old self.new tok.0 mode word next }
+        ensures miss { result ≡ false → Miss self.old self.new tok.0 word next }
+    {
+        let note = self.note(bank, tok);
+        let found = steps::swing(bank, &mut self.seat, tok, mode, word, next);
+        if found != word {
+            return false;
+        }
+        self.notes[tok.0 as usize] = note.taken(mode);
+        true
+    }
+
+    /// Tries to take the token in this mode. `alone` says that the asking list has no reference to another token. One load,
+    /// and at most one compare-exchange. That the seat doesn't hold the token and has fewer than 32 references is the
+    /// caller's condition.
+    pub fn try_take(&mut self, bank: &Bank, tok: TokId, mode: Mode, alone: bool) -> Try
+        requires of { bank_of self.old ≡ id_of bank.now }
+        requires there { tok.0 < tokens_of (bank_of self.old) }
+        requires free { holding self.old tok.0 ≡ Held.Nothing }
+        requires few { references self.old < 32 }
+        ensures { Tried self.old self.new tok.0 mode alone result }
+    {
+        let word = self.word(bank, tok);
+        match TokWord::decide(word, mode, alone) {
+            Decision::Held | Decision::Marked => Try::Busy { word },
+            Decision::Worn => Try::Worn,
+            Decision::Take(next) => {
+                if self.take_at(bank, tok, mode, word, next) {
+                    Try::Got {
+                        generation: word / 262144,
+                    }
+                } else {
+                    Try::Again
+                }
+            }
+        }
+    }
+
+    /// One reference more. That the seat holds the token and has fewer than 32 references is the caller's condition.
+    pub fn again(&mut self, bank: &Bank, tok: TokId)
+        requires of { bank_of self.old ≡ id_of bank.now }
+        requires there { tok.0 < tokens_of (bank_of self.old) }
+        requires held { is_held (holding self.old tok.0) ≡ true }
+        requires few { references self.old < 32 }
+        ensures { Stepped self.old self.new tok.0 (more (entry self.old tok.0)) (add tok.0 4) }
+    {
+        let note = self.note(bank, tok);
+        steps::add_one(bank, &mut self.seat, tok);
+        self.notes[tok.0 as usize] = note.held_as(note.held.one_more(Mode::Shared));
+    }
+
+    /// Marks the token for an exclusive request.
+    pub fn mark(&mut self, bank: &Bank, tok: TokId)
+        requires of { bank_of self.old ≡ id_of bank.now }
+        requires there { tok.0 < tokens_of (bank_of self.old) }
+        ensures { Stepped self.old self.new tok.0 (entry self.old tok.0) (or tok.0 2) }
+    {
+        steps::set_mark(bank, &mut self.seat, tok);
+    }
+}
