@@ -1,10 +1,12 @@
-use Rattle.std.proofs.Common.{eqb, eq-eqb, not, take, inl, inr, ◌≡◌, ◌≢◌, ◌⊎◌, ⊎_elim, ℕ, zero, suc, ◌+◌, ◌*◌, ◌<◌, ◌≤◌, Bool, true, false, cond, List, [], ◌∷◌, ◌++◌, length, get_or, set, refl, ap, sym, ◌∙◌, subst, arith, All, Option, Some, None, length-set, length-take, get_or-set_same, get_or-set_other}
+use Rattle.std.proofs.Common.{eqb, eq-eqb, ne_eqb, not, take, inl, inr, ◌≡◌, ◌≢◌, ◌⊎◌, ⊎_elim, ℕ, zero, suc, ◌+◌, ◌*◌, ◌<◌, ◌≤◌, Bool, true, false, cond, List, [], ◌∷◌, ◌++◌, length, get_or, set, refl, ap, sym, ◌∙◌, subst, arith, All, Option, Some, None, length-set, length-take, get_or-set_same, get_or-set_other}
 use Rattle.std.specs.Prelude.{slice_index, slice_set}
 use Rattle.std.specs.Option.{ForSome, ForNone}
 use Rattle.std.proofs.lemmas.Bool.{eqb-true, eqb-false, cases_eq, cases_Bool, false≢true}
 use Rattle.std.proofs.lemmas.List.{set-get_or, get_or-take, get_or_default, ext_get_or}
 use Rattle.std.proofs.lemmas.List.Folds.{Any-from_list_any, list_any_at}
 use Rattle.std.specs.List.{list_any}
+use Rattle.std.proofs.lemmas.List.Sums.{sum_by-cons}
+use Rattle.lwkt_bank.specs.declared.views.Added.{Added}
 use Rattle.lwkt_base.specs.declared.names.CpuId.{CpuId}
 use Rattle.lwkt_base.specs.declared.names.Mode.{Mode}
 use Rattle.lwkt_base.specs.declared.names.Mode.TheVariants.{Exclusive, Shared}
@@ -184,3 +186,70 @@ module _ (plan : Plan) (cpu : ℕ) (e : Entry) (note : Note) (noted' : IsNoted p
             false≢true (sym none ∙ list_any_at has_changed (take plan.cells note.cells) cell None short (ap has_changed (cell_is cell inside) ∙ yes'))))
           (λ no'. no')
           (cases_Bool (has_changed (change_at note cell)))
+
+-- a cell that was stored to, and the others
+module _ (plan : Plan) (cpu : ℕ) (e : Entry) (note : Note) (noted' : IsNoted plan cpu e note) (is : is_held e.held ≡ true) (within : plan.cells ≤ 4) (cell first value : ℕ) (inside : cell < plan.cells) (first_is : first ≡ slice_index e.first cell) where
+  abbrev change : Change
+  change = record { first = first; last = value }
+
+  abbrev cells : List (Option Change)
+  cells = set note.cells cell (Some change)
+
+  abbrev row : List ℕ
+  row = slice_set e.row cell value
+
+  cell_here : get_or cells cell None ≡ Some change
+  cell_here = let f = noted'.four in get_or-set_same note.cells cell (Some change) None (omega arith)
+
+  row_here : slice_index row cell ≡ value
+  row_here = let l = (noted'.long is).1 in get_or-set_same e.row cell value 0 (omega arith)
+
+  pub stored_there : (k : ℕ) → k < plan.cells → ForSome (get_or cells k None) (λ c. (c.first ≡ slice_index e.first k) × (c.last ≡ slice_index row k))
+  stored_there k low c found = ⊎_elim
+      (λ (same : k ≡ cell).
+        let one : change ≡ c = (let h : Some change ≡ Some c = sym cell_here ∙ ap (λ (j : ℕ). get_or cells j None) (sym same) ∙ found in cc) in
+        let F : ℕ → Type 0 = λ j. (change.first ≡ slice_index e.first j) × (change.last ≡ slice_index row j) in
+        subst (λ (d : Change). (d.first ≡ slice_index e.first k) × (d.last ≡ slice_index row k)) one (subst F (sym same) (first_is, sym row_here)))
+      (λ away.
+        let s = noted'.stored k is low c (sym (get_or-set_other note.cells cell k (Some change) None away) ∙ found) in
+        (s.0, s.1 ∙ sym (get_or-set_other e.row cell k value 0 away)))
+      (cases_eq k cell)
+
+  pub untouched_there : (k : ℕ) → k < plan.cells → ForNone (get_or cells k None) (slice_index row k ≡ slice_index e.first k)
+  untouched_there k low none = ⊎_elim
+      (λ (same : k ≡ cell). absurd (let h : Some change ≡ None = sym cell_here ∙ ap (λ (j : ℕ). get_or cells j None) (sym same) ∙ none in cc))
+      (λ away. get_or-set_other e.row cell k value 0 away ∙ noted'.untouched k is low (sym (get_or-set_other note.cells cell k (Some change) None away) ∙ none))
+      (cases_eq k cell)
+
+  pub IsNoted-stored : IsNoted plan cpu (stored e cell value) (record note { cells = cells })
+  IsNoted-stored = record {
+    four = length-set note.cells cell (Some change) ∙ noted'.four;
+    held = noted'.held;
+    tally = noted'.tally;
+    own = noted'.own;
+    long = λ h. let l = noted'.long is in (l.0, length-set e.row cell value ∙ l.1);
+    stored = λ k h low. stored_there k low;
+    untouched = λ k h low. untouched_there k low;
+  }
+
+-- a Tally token's cell that was raised
+pub IsNoted-raised : (plan : Plan) (cpu : CpuId) (e : Entry) (note : Note) (noted' : IsNoted plan cpu.0 e note) → is_held e.held ≡ true → plan.cells ≤ 4 → (first k : ℕ) → 0 < plan.cells → first ≡ slice_index e.first 0
+    → IsNoted plan cpu.0 (raised e cpu k) (record note { cells = set note.cells 0 (Some (record { first = first; last = slice_index e.row 0 + k })); tally = note.tally + k })
+IsNoted-raised plan cpu e note noted' is within first k inside first_is =
+    let value = slice_index e.row 0 + k in
+    let own_sum = sum_by-cons (λ (x : Added). cond (eqb x.cpu.0 cpu.0) x.amount 0) (record { cpu = cpu; amount = k }) e.added in
+    let test = ap (λ b. cond b k 0) (eq-eqb cpu.0 cpu.0 refl) in
+    let before = noted'.tally in
+    record {
+      four = length-set note.cells 0 (Some (record { first = first; last = value })) ∙ noted'.four;
+      held = noted'.held;
+      tally = omega arith;
+      own = λ other away.
+        let sum = sum_by-cons (λ (x : Added). cond (eqb x.cpu.0 other) x.amount 0) (record { cpu = cpu; amount = k }) e.added in
+        let none = ap (λ b. cond b k 0) (ne_eqb cpu.0 other (λ same. away (sym same))) in
+        let rest = noted'.own other away in
+        omega arith;
+      long = λ h. let l = noted'.long is in (l.0, length-set e.row 0 value ∙ l.1);
+      stored = λ j h low. stored_there plan cpu.0 e note noted' is within 0 first value inside first_is j low;
+      untouched = λ j h low. untouched_there plan cpu.0 e note noted' is within 0 first value inside first_is j low;
+    }

@@ -1,8 +1,8 @@
 //! The cells of a token that is held.
-ghost use Rattle.std.specs.Prelude.{◌≡◌, ◌≢◌, ◌↔◌, ◌+◌, ◌^◌, ◌<◌, ◌≤◌, ℕ, List, [], ◌∷◌, length, true, false, None, Some, Ok, Err, OnOk, OnErr, slice_index, slice_set};
+ghost use Rattle.std.specs.Prelude.{◌≡◌, ◌≢◌, ◌↔◌, ◌⊎◌, ◌+◌, ◌^◌, ◌<◌, ◌≤◌, ℕ, List, [], ◌∷◌, length, true, false, None, Some, Ok, Err, OnOk, OnErr, slice_index, slice_set};
 ghost use Rattle.lwkt_base.specs.Holding.{is_held, is_exclusive};
 ghost use Rattle.lwkt_base.specs.Law.{MeetsLaw};
-ghost use Rattle.lwkt_bank.specs.Views.{read, stored, raised};
+ghost use Rattle.lwkt_bank.specs.Views.{amount, read, stored, raised};
 ghost use Rattle.lwkt_bank.specs.Seats.{id_of, bank_of, tokens_of, plan_of, entry, holding, Changes, Knowing, IsUnchanged};
 
 use lwkt_base::{Fault, Law, TokId};
@@ -25,6 +25,21 @@ impl CpuSeat {
         steps::read_cell(bank, &mut self.seat, tok, cell)
     }
 
+    // Stores a value in a cell, whose value in the first row is known, of a token that keeps no tallies.
+    fn store_over(&mut self, bank: &Bank, tok: TokId, cell: u8, change: Change)
+        requires of { bank_of self.old ≡ id_of bank.now }
+        requires there { tok.0 < tokens_of (bank_of self.old) }
+        requires held { is_exclusive (holding self.old tok.0) ≡ true }
+        requires untallied { (plan_of (bank_of self.old) tok.0).law ≢ Law.Tally }
+        requires inside { cell < (plan_of (bank_of self.old) tok.0).cells }
+        requires first { change.first ≡ slice_index (entry self.old tok.0).first cell }
+        ensures { Changes self.old self.new tok.0 (stored (entry self.old tok.0) cell change.last) [] }
+    {
+        let note = self.note(bank, tok);
+        steps::store_cell(bank, &mut self.seat, tok, cell, change.last);
+        self.notes[tok.0 as usize] = note.changed(cell as usize, change);
+    }
+
     // Stores a value in a cell of a token that keeps no tallies.
     fn put(&mut self, bank: &Bank, tok: TokId, cell: u8, value: u64)
         requires of { bank_of self.old ≡ id_of bank.now }
@@ -35,9 +50,7 @@ impl CpuSeat {
         ensures { Knowing self.old self.new tok.0 (stored (entry self.old tok.0) cell value) }
     {
         let first = self.first_value(bank, tok, cell);
-        let note = self.note(bank, tok);
-        steps::store_cell(bank, &mut self.seat, tok, cell, value);
-        self.notes[tok.0 as usize] = note.changed(cell as usize, Change { first, last: value });
+        self.store_over(bank, tok, cell, Change { first, last: value });
     }
 
     // The value of a cell in the section's first row: kept, if the cell was stored to, else loaded.
@@ -71,6 +84,58 @@ impl CpuSeat {
             return Err(Fault::TallyOnly);
         }
         self.put(bank, tok, cell, value);
+        Ok(())
+    }
+
+    // Raises the cell of a Tally token by this much.
+    fn raise(&mut self, bank: &Bank, tok: TokId, k: u64, change: Change)
+        requires of { bank_of self.old ≡ id_of bank.now }
+        requires there { tok.0 < tokens_of (bank_of self.old) }
+        requires held { is_exclusive (holding self.old tok.0) ≡ true }
+        requires tally { (plan_of (bank_of self.old) tok.0).law ≡ Law.Tally }
+        requires first { change.first ≡ slice_index (entry self.old tok.0).first 0 }
+        requires last { change.last ≡ slice_index (entry self.old tok.0).row 0 + k }
+        requires covered { amount self.old.cpu.0 (entry self.old tok.0).added + k < 2 ^ 64 }
+        ensures { Changes self.old self.new tok.0 (raised (entry self.old tok.0) self.old.cpu k) [] }
+    {
+        let note = self.note(bank, tok);
+        steps::raise_cell(bank, &mut self.seat, tok, change.last);
+        self.notes[tok.0 as usize] = note.changed(0, change).raised(k);
+    }
+
+    // The value of the cell of a Tally token, which is at least what this processor has added.
+    fn tally_cell(&mut self, bank: &Bank, tok: TokId) -> u64
+        requires of { bank_of self.old ≡ id_of bank.now }
+        requires there { tok.0 < tokens_of (bank_of self.old) }
+        requires held { is_exclusive (holding self.old tok.0) ≡ true }
+        requires tally { (plan_of (bank_of self.old) tok.0).law ≡ Law.Tally }
+        ensures value { result ≡ slice_index (entry self.old tok.0).row 0 }
+        ensures changes { Changes self.old self.new tok.0 (read (entry self.old tok.0) 0) [] }
+        ensures covers { amount self.old.cpu.0 (entry self.old tok.0).added ≤ result }
+    {
+        steps::read_cell(bank, &mut self.seat, tok, 0)
+    }
+
+    /// Adds to the cell of a Tally token. That the seat holds the token exclusively is the caller's condition. 22 for any
+    /// other token, 21 exactly if the sum passes 18446744073709551615.
+    pub fn add(&mut self, bank: &Bank, tok: TokId, k: u64) -> Result<(), Fault>
+        requires of { bank_of self.old ≡ id_of bank.now }
+        requires there { tok.0 < tokens_of (bank_of self.old) }
+        requires held { is_exclusive (holding self.old tok.0) ≡ true }
+        ensures ok { OnOk result (Knowing self.old self.new tok.0 (raised (entry self.old tok.0) self.old.cpu k)) }
+        ensures tally { (result ≡ Err Fault.TallyOnly) ↔ ((plan_of (bank_of self.old) tok.0).law ≢ Law.Tally) }
+        ensures overflow { (result ≡ Err Fault.Overflow) ↔ (((plan_of (bank_of self.old) tok.0).law ≡ Law.Tally) × (2 ^ 64 ≤ slice_index (entry self.old tok.0).row 0 + k)) }
+        ensures only { OnErr result (((result ≡ Err Fault.TallyOnly) ⊎ (result ≡ Err Fault.Overflow)) × Knowing self.old self.new tok.0 (entry self.old tok.0)) }
+    {
+        if bank.plan(tok).law != Law::Tally {
+            return Err(Fault::TallyOnly);
+        }
+        let old = self.tally_cell(bank, tok);
+        let Some(sum) = old.checked_add(k) else {
+            return Err(Fault::Overflow);
+        };
+        let first = self.first_value(bank, tok, 0);
+        self.raise(bank, tok, k, Change { first, last: sum });
         Ok(())
     }
 }

@@ -1,4 +1,4 @@
-ghost use Rattle.std.specs.Prelude.{◌≡◌, ◌<◌, length, None, Some, [], ◌∷◌, slice_set};
+ghost use Rattle.std.specs.Prelude.{◌≡◌, ◌+◌, ◌^◌, ◌<◌, length, None, Some, [], ◌∷◌, slice_set};
 
 use lwkt_base::{Held, Mode};
 
@@ -50,6 +50,16 @@ impl Note {
     {
         let mut note = self;
         note.cells[cell] = Some(change);
+        note
+    }
+
+    /// The note with this much more added.
+    pub(crate) fn raised(self, k: u64) -> Note
+        requires { self.tally + k < 2 ^ 64 }
+        ensures { result ≡ record self { tally = self.tally + k } }
+    {
+        let mut note = self;
+        note.tally += k;
         note
     }
 }
