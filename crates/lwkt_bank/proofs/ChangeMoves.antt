@@ -1,5 +1,5 @@
-use Rattle.std.proofs.Common.{eq-eqb, ⊎_elim, Bool, cond, ◌≡◌, ◌≢◌, ℕ, ◌+◌, ◌<◌, ◌≤◌, List, [], ◌∷◌, ◌++◌, length, refl, ap, sym, ◌∙◌, subst, arith, append_assoc, set}
-use Rattle.std.specs.Prelude.{slice_get, All, Some}
+use Rattle.std.proofs.Common.{eq-eqb, ⊎_elim, Bool, true, cond, ◌≡◌, ◌≢◌, ℕ, ◌+◌, ◌<◌, ◌≤◌, List, [], ◌∷◌, ◌++◌, length, refl, ap, sym, ◌∙◌, subst, arith, append_assoc, set, zero, suc, take, get_or, Option, None, length-take}
+use Rattle.std.specs.Prelude.{slice_get, slice_index, All, Some}
 use Rattle.atomic_table.specs.declared.shared.Seat.{Seat}
 use Rattle.lwkt_core.specs.declared.seats.WordStep.{WordStep}
 use Rattle.lwkt_bank.specs.declared.views.Plan.{Plan}
@@ -9,6 +9,8 @@ use Rattle.lwkt_bank.specs.declared.banks.Bank.{Bank}
 use Rattle.lwkt_bank.specs.declared.seats.CpuSeat.{CpuSeat}
 use Rattle.std.proofs.lemmas.Bool.{cases_eq}
 use Rattle.std.proofs.Math.Path.{fun_ext}
+use Rattle.std.proofs.lemmas.List.{get_or-take, ext_get_or}
+use Rattle.lwkt_base.specs.Holding.{is_held}
 use Rattle.lwkt_base.specs.declared.names.Mode.{Mode}
 use Rattle.lwkt_base.specs.declared.holdings.Held.TheVariants.{Nothing, Holds}
 use Rattle.lwkt_base.specs.declared.words.TokWord.{TokWord}
@@ -21,7 +23,7 @@ use Rattle.lwkt_bank.specs.Views.{at, noted, seen, looked, taken, generation_in,
 use Rattle.lwkt_bank.specs.Rule.{plan_at}
 use Rattle.lwkt_bank.specs.Notes.{Keeps, IsNoted, note_at}
 use Rattle.lwkt_bank.specs.declared.notes.Note.{Note}
-use Rattle.lwkt_bank.specs.Seats.{BankId, id_of, bank_of, tokens_of, plan_of, entry, holding, references, IsOf, IsSame, Changes, Looked, Took, Lost, Hit, Miss, Decides}
+use Rattle.lwkt_bank.specs.Seats.{BankId, id_of, bank_of, tokens_of, plan_of, entry, holding, references, IsOf, IsSame, Changes, written_over, Looked, Took, Lost, Hit, Miss, Decides}
 use Rattle.lwkt_bank.proofs.ViewMoves.{at-here, at-else, at-tok}
 use Rattle.lwkt_bank.proofs.NoteMoves.{seat_told, IsNoted-seen, Keeps-kept, Keeps-set}
 use Rattle.lwkt_bank.proofs.TurnMoves.{seen-keeps}
@@ -166,3 +168,31 @@ plan_is bank s tok of = ap (λ (b : BankId). plan_at b.plans tok) of
 
 pub short_row : (bank : Bank) (s : CpuSeat) (tok : ℕ) → bank_of s ≡ id_of bank → (plan_at s.seat.me.0.plans tok).cells ≤ 4
 short_row bank s tok of = let e = ap (λ (p : Plan). p.cells) (plan_is bank s tok of) in let h = bank.short tok in omega arith
+
+-- the row that was loaded cell by cell
+pub row_read : (s : CpuSeat) (tok : ℕ) (values : List ℕ) (cells : ℕ) → tok < length s.seat.me.0.plans → is_held (holding s tok) ≡ true → cells ≡ (plan_at s.seat.me.0.plans tok).cells → cells ≤ 4 → length values ≡ 4 → ((cell : ℕ) → cell < cells → slice_index values cell ≡ slice_index (entry s tok).row cell) → take cells values ≡ (entry s tok).row
+row_read s tok values cells there held are short four same =
+    let long = ((s.kept.each tok there).long held).1 in
+    let few = length-take cells values in
+    ext_get_or 0 (take cells values) (entry s tok).row (omega arith) (λ cell inside. let low : cell < cells = omega arith in get_or-take cells values cell 0 low ∙ same cell low)
+
+-- an empty list of values stores nothing
+written_none : (made : List (Option ℕ)) (i : ℕ) (row : List ℕ) → ((k : ℕ) → get_or made k None ≡ None) → written_over i made row ≡ row
+written_none [] i row none = refl
+written_none (None ∷ made) i row none = written_none made (suc i) row (λ k. none (suc k))
+written_none (Some x ∷ made) i row none = absurd (let h : Some x ≡ None = none 0 in cc)
+
+-- one value more behind the others
+pub written_more : (made : List (Option ℕ)) (i c x : ℕ) (row : List ℕ) → c < length made → ((k : ℕ) → c ≤ k → get_or made k None ≡ None) → written_over i (set made c (Some x)) row ≡ set (written_over i made row) (i + c) x
+written_more [] i c x row room none = absurd (omega arith)
+written_more (None ∷ made) i zero x row room none =
+    let rest : (k : ℕ) → get_or made k None ≡ None = (λ k. none (suc k) (omega arith)) in
+    let at_i : i ≡ i + 0 = omega arith in
+    written_none made (suc i) (set row i x) rest ∙ ap (λ (r : List ℕ). set r i x) (sym (written_none made (suc i) row rest)) ∙ ap (λ (j : ℕ). set (written_over (suc i) made row) j x) at_i
+written_more (Some y ∷ made) i zero x row room none = absurd (let h : Some y ≡ None = none 0 (omega arith) in cc)
+written_more (None ∷ made) i (suc c) x row room none =
+    let at_c : suc i + c ≡ i + suc c = omega arith in
+    written_more made (suc i) c x row (omega arith) (λ k low. none (suc k) (omega arith)) ∙ ap (λ (j : ℕ). set (written_over (suc i) made row) j x) at_c
+written_more (Some y ∷ made) i (suc c) x row room none =
+    let at_c : suc i + c ≡ i + suc c = omega arith in
+    written_more made (suc i) c x (set row i y) (omega arith) (λ k low. none (suc k) (omega arith)) ∙ ap (λ (j : ℕ). set (written_over (suc i) made (set row i y)) j x) at_c

@@ -8,3 +8,4 @@ pub mod AllowMoves
 pub mod CallMoves
 pub mod NoteMoves
 pub mod ChangeMoves
+pub mod RowMoves

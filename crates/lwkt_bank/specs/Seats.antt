@@ -145,3 +145,15 @@ pub record IsUnchanged (s s' : CpuSeat) : Type 0 where
   pub cpu : s'.cpu ≡ s.cpu
   pub entries : (tok : ℕ) → entry s' tok ≡ entry s tok
   pub steps : steps_of s' ≡ steps_of s
+
+-- a row after these values were stored in its cells, from a cell on
+abbrev pub written_over : ℕ → List (Option ℕ) → List ℕ → List ℕ
+written_over cell [] row = row
+written_over cell (None ∷ made) row = written_over (suc cell) made row
+written_over cell (Some value ∷ made) row = written_over (suc cell) made (slice_set row cell value)
+
+-- a restore: it stored these values, each in a cell that exists, and the row is the section's first row
+pub record Restored (s s' : CpuSeat) (tok : ℕ) (made : List (Option ℕ)) : Type 0 where
+  pub changes : Changes s s' tok (record (entry s tok) { row = (entry s tok).first }) []
+  pub writes : written_over 0 made (entry s tok).row ≡ (entry s tok).first
+  pub inside : (cell value : ℕ) → slice_get made cell ≡ Some (Some value) → cell < (plan_of (bank_of s) tok).cells

@@ -26,7 +26,7 @@ impl CpuSeat {
     }
 
     // Stores a value in a cell, whose value in the first row is known, of a token that keeps no tallies.
-    fn store_over(&mut self, bank: &Bank, tok: TokId, cell: u8, change: Change)
+    pub(crate) fn store_over(&mut self, bank: &Bank, tok: TokId, cell: u8, change: Change)
         requires of { bank_of self.old ≡ id_of bank.now }
         requires there { tok.0 < tokens_of (bank_of self.old) }
         requires held { is_exclusive (holding self.old tok.0) ≡ true }

@@ -7,6 +7,7 @@ mod gives;
 pub mod notes;
 mod plans;
 mod plays;
+mod rows;
 pub mod rules;
 pub mod seats;
 mod steps;

@@ -1,0 +1,93 @@
+//! The row of a token that is held exclusively, as a whole.
+ghost use Rattle.std.specs.Prelude.{◌≡◌, ◌≢◌, ◌↔◌, ℕ, ◌<◌, [], ◌∷◌, length, true, None, Some, IsTrue, MatchOption, slice_index};
+ghost use Rattle.lwkt_base.specs.Holding.{is_held, is_exclusive};
+ghost use Rattle.lwkt_base.specs.Law.{MeetsLaw};
+ghost use Rattle.lwkt_bank.specs.Views.{stored};
+ghost use Rattle.lwkt_bank.specs.Seats.{id_of, bank_of, tokens_of, plan_of, entry, holding, Changes, Knowing, IsUnchanged, Restored};
+
+use lwkt_base::{Law, TokId};
+
+use crate::banks::Bank;
+use crate::notes::Change;
+use crate::seats::CpuSeat;
+
+impl CpuSeat {
+    // The row, each cell loaded; past its end zeros.
+    fn row(&mut self, bank: &Bank, tok: TokId) -> [u64; 4]
+        requires of { bank_of self.old ≡ id_of bank.now }
+        requires there { tok.0 < tokens_of (bank_of self.old) }
+        requires held { is_held (holding self.old tok.0) ≡ true }
+        ensures four { length result ≡ 4 }
+        ensures row { (cell : ℕ) → cell < (plan_of (bank_of self.old) tok.0).cells → slice_index result cell ≡ slice_index (entry self.old tok.0).row cell }
+        ensures knowing { Knowing self.old self.new tok.0 (entry self.old tok.0) }
+    {
+        let mut values = [0u64; 4];
+        for cell in 0..bank.cells(tok) {
+            values[cell] = self.load(bank, tok, cell as u8);
+        }
+        values
+    }
+
+    /// Whether the row obeys the law; under Tally always. That the seat holds the token exclusively is the caller's condition.
+    pub fn lawful(&mut self, bank: &Bank, tok: TokId) -> bool
+        requires of { bank_of self.old ≡ id_of bank.now }
+        requires there { tok.0 < tokens_of (bank_of self.old) }
+        requires held { is_exclusive (holding self.old tok.0) ≡ true }
+        ensures lawful { IsTrue result ↔ MeetsLaw (plan_of (bank_of self.old) tok.0).law (plan_of (bank_of self.old) tok.0).param (entry self.old tok.0).row }
+        ensures knowing { Knowing self.old self.new tok.0 (entry self.old tok.0) }
+    {
+        let plan = bank.plan(tok);
+        let values = self.row(bank, tok);
+        plan.law
+            .holds_of_section(&values[..plan.cells], plan.param)
+    }
+
+    // Stores the first value of a cell again, if it was stored to in the section, and answers it.
+    fn restore_cell(&mut self, bank: &Bank, tok: TokId, cell: u8) -> Option<u64>
+        requires of { bank_of self.old ≡ id_of bank.now }
+        requires there { tok.0 < tokens_of (bank_of self.old) }
+        requires held { is_exclusive (holding self.old tok.0) ≡ true }
+        requires untallied { (plan_of (bank_of self.old) tok.0).law ≢ Law.Tally }
+        requires inside { cell < (plan_of (bank_of self.old) tok.0).cells }
+        ensures { MatchOption result (IsUnchanged self.old self.new × (slice_index (entry self.old tok.0).row cell ≡ slice_index (entry self.old tok.0).first cell)) (λ value. (value ≡ slice_index (entry self.old tok.0).first cell) × Changes self.old self.new tok.0 (stored (entry self.old tok.0) cell value) []) }
+    {
+        let note = self.note(bank, tok);
+        let Some(change) = note.cells[cell as usize] else {
+            return None;
+        };
+        let first = change.first;
+        self.store_over(bank, tok, cell, Change { first, last: first });
+        Some(first)
+    }
+
+    // The same for each cell of a token that keeps no tallies, rising.
+    fn restore_cells(&mut self, bank: &Bank, tok: TokId) -> [Option<u64>; 4]
+        requires of { bank_of self.old ≡ id_of bank.now }
+        requires there { tok.0 < tokens_of (bank_of self.old) }
+        requires held { is_exclusive (holding self.old tok.0) ≡ true }
+        requires untallied { (plan_of (bank_of self.old) tok.0).law ≢ Law.Tally }
+        ensures { Restored self.old self.new tok.0 result }
+    {
+        let mut made = [None; 4];
+        for cell in 0..bank.cells(tok) {
+            made[cell] = self.restore_cell(bank, tok, cell as u8);
+        }
+        made
+    }
+
+    /// Stores the section's first row again: each cell that was stored to in it, rising, gets its first value. The answer has
+    /// the values stored. On a Tally token nothing is stored. That the seat holds the token exclusively is the caller's
+    /// condition.
+    pub fn restore(&mut self, bank: &Bank, tok: TokId) -> [Option<u64>; 4]
+        requires of { bank_of self.old ≡ id_of bank.now }
+        requires there { tok.0 < tokens_of (bank_of self.old) }
+        requires held { is_exclusive (holding self.old tok.0) ≡ true }
+        ensures restored { (plan_of (bank_of self.old) tok.0).law ≢ Law.Tally → Restored self.old self.new tok.0 result }
+        ensures tally { (plan_of (bank_of self.old) tok.0).law ≡ Law.Tally → (result ≡ None ∷ None ∷ None ∷ None ∷ []) × IsUnchanged self.old self.new }
+    {
+        if bank.plan(tok).law == Law::Tally {
+            return [None; 4];
+        }
+        self.restore_cells(bank, tok)
+    }
+}
