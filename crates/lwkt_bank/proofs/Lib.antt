@@ -9,3 +9,4 @@ pub mod CallMoves
 pub mod NoteMoves
 pub mod ChangeMoves
 pub mod RowMoves
+pub mod GatherMoves

@@ -1,0 +1,236 @@
+use Rattle.std.proofs.Common.{eqb, inl, inr, ◌≡◌, ◌≢◌, ◌⊎◌, ⊎_elim, ℕ, zero, suc, ◌+◌, ◌-◌, ◌*◌, ◌<◌, ◌≤◌, Bool, true, false, cond, List, [], ◌∷◌, ◌++◌, length, map, get_or, set, refl, ap, sym, ◌∙◌, subst, arith, All, Some}
+use Rattle.std.specs.Prelude.{slice_index, slice_get}
+use Rattle.std.proofs.lemmas.Bool.{cases_eq, false≢true}
+use Rattle.std.proofs.lemmas.List.Elements.{All-nil}
+use Rattle.std.proofs.lemmas.List.Sums.{sum_by-append}
+use mathlib.Core.Option.{Option, some, some-injective, some-ne-none}
+use lib.ListN.{get_elem?}
+use Rattle.atomic_table.specs.Table.{State}
+use Rattle.lwkt_base.specs.declared.names.CpuId.{CpuId}
+use Rattle.lwkt_base.specs.declared.holdings.Held.{Held}
+use Rattle.lwkt_base.specs.declared.holdings.Held.TheVariants.{Nothing, Holds}
+use Rattle.lwkt_base.specs.Holding.{is_held}
+use Rattle.lwkt_core.specs.declared.seats.SeatKind.{SeatKind}
+use Rattle.lwkt_core.specs.declared.seats.SeatKind.TheVariants.{Clerk, Of, Spent}
+use Rattle.lwkt_core.specs.declared.tokens.Token.{Token}
+use Rattle.lwkt_core.specs.Tokens.{held_by, tally_of}
+use Rattle.lwkt_core.specs.Seating.{total, AreSeated}
+use Rattle.lwkt_core.proofs.SeatingLemmas.{at_set, at_snoc, at_last, at_longer, set_here, set_else, set_again, inside, at_map, of_map, map-set, map-snoc, total-set, total-snoc, AreSeated-split, AreSeated-join, AreSeated-below}
+use Rattle.lwkt_bank.specs.declared.views.Plan.{Plan}
+use Rattle.lwkt_bank.specs.declared.views.Added.{Added}
+use Rattle.lwkt_bank.specs.declared.views.Entry.{Entry}
+use Rattle.lwkt_bank.specs.declared.views.View.{View}
+use Rattle.lwkt_bank.specs.Views.{blank, at, amount, both_of, merged, after_made, after_back, next_seat, clerk_after, new_seat, joined, spent}
+use Rattle.lwkt_bank.specs.Rule.{Bench, token_word, cell_word, Seen, seen_by, column, held_in, Knows, Shows, Pictures, Rule, plan_at, token_at}
+use Rattle.lwkt_bank.proofs.ViewMoves.{column-set, at-merged}
+use Rattle.lwkt_bank.proofs.ShowMoves.{cpu_in, numbered_seat}
+
+-- who holds nothing and knows no cell knows nothing wrong
+Knows-blank : (tok : Token) (e : Entry) → e.held ≡ Nothing → e.generation ≡ 0 → e.known ≡ [] → Knows tok e
+Knows-blank tok e held zero_generation none = record {
+  not_above = omega arith;
+  cells = λ same. subst (λ xs. All (λ c. slice_get tok.first c.at ≡ Some c.value) xs) (sym none) (All-nil (λ c. slice_get tok.first c.at ≡ Some c.value));
+  holder = λ is. absurd (false≢true (sym (ap is_held held) ∙ is));
+}
+
+-- a token seen by one seat more
+Shows-split : (plan : Plan) (home : Option (Option (Unit {0}))) (word : ℕ) (cells : ℕ → ℕ) (views : List Seen) (tok : Token) (id made back t : ℕ) (x : Seen) → Shows plan home word cells views tok → get_elem? views id ≡ some x → x.kind ≡ Clerk made back
+    → ((k : ℕ) (z : Seen) → get_elem? views k ≡ some z → z.kind ≡ numbered_seat made → ⊥)
+    → Shows plan home word cells (set views id (record { kind = Clerk (made + 1) back; entry = x.entry }) ++ record { kind = numbered_seat made; entry = blank t } ∷ []) tok
+Shows-split plan home word cells views tok id made back t x shows here kind absent =
+    let y : Seen = record { kind = Clerk (made + 1) back; entry = x.entry } in
+    let z : Seen = record { kind = numbered_seat made; entry = blank t } in
+    let front : List Seen = set views id y in
+    let free : held_by tok made ≡ Nothing = ⊎_elim (λ nothing. nothing) (λ there. absurd (absent there.0 there.1.0 there.1.1.0 there.1.1.1)) (shows.seated made) in
+    let own : x.entry.held ≡ Nothing = shows.held id x here ∙ ap (held_in tok) kind in
+    record {
+      no_slot = shows.no_slot;
+      law = shows.law;
+      param = shows.param;
+      long = shows.long;
+      count_word = shows.count_word;
+      row = shows.row;
+      held = λ k u e. ⊎_elim
+        (λ old. ⊎_elim (λ it. subst (λ (w : Seen). w.entry.held ≡ held_in tok w.kind) it.1 own) (λ other. shows.held k u other.1) (at_set views id k y u old))
+        (λ new. subst (λ (w : Seen). w.entry.held ≡ held_in tok w.kind) new.1 (sym free))
+        (at_snoc front z u k e);
+      seated = λ a. ⊎_elim
+        (λ nothing. inl nothing)
+        (λ there. inr (there.0, (there.1.0, (at_longer front (z ∷ []) there.0 there.1.0 (set_else views id there.0 y (apart there.0 there.1.0 there.1.1.0 a there.1.1.1) ∙ there.1.1.0), there.1.1.1))))
+        (shows.seated a);
+      tallies = λ a.
+        let f : Seen → ℕ = λ w. amount a w.entry.added in
+        let one = total-snoc f front z in
+        let two = total-set f views id x y here in
+        let old = shows.tallies a in
+        omega arith;
+      sections =
+        let f : Seen → ℕ = λ w. w.entry.written in
+        let one = total-snoc f front z in
+        let two = total-set f views id x y here in
+        let old = shows.sections in
+        omega arith;
+      known = λ k u e. ⊎_elim
+        (λ old. ⊎_elim (λ it. subst (λ (w : Seen). Knows tok w.entry) it.1 (shows.known id x here)) (λ other. shows.known k u other.1) (at_set views id k y u old))
+        (λ new. subst (λ (w : Seen). Knows tok w.entry) new.1 (Knows-blank tok (blank t) refl refl refl))
+        (at_snoc front z u k e);
+    }
+  where
+    apart : (k : ℕ) (u : Seen) → get_elem? views k ≡ some u → (a : ℕ) → u.kind ≡ numbered_seat a → k ≢ id
+    apart k u e a is same =
+        let F : ℕ → Type 0 = λ n. get_elem? views n ≡ some u in
+        let one : x ≡ u = some-injective x u (sym here ∙ subst F same e) in
+        let h : Clerk made back ≡ numbered_seat a = sym kind ∙ ap (λ (w : Seen). w.kind) one ∙ is in cc
+
+-- the clerk makes a seat
+pub Rule-split : (plans : List Plan) (cpus : ℕ) (s : Bench) (id : ℕ) (v : View) (made back : ℕ) → Rule plans cpus s → get_elem? s.views id ≡ some v → v.kind ≡ Clerk made back → made < cpus
+    → Rule plans cpus (record { words = s.words; homes = s.homes; views = set s.views id (clerk_after v) ++ new_seat v ∷ [] })
+Rule-split plans cpus s id v made back r here kind room = record {
+  model = r.model;
+  safe = r.safe;
+  pictures = record {
+    processors = r.pictures.processors;
+    as_many = r.pictures.as_many;
+    no_messages = r.pictures.no_messages;
+    each_token = λ tok h.
+      let F : List Seen → Type 0 = λ vs. Shows (plan_at plans tok) (get_elem? s.homes tok) (slice_index s.words (token_word tok)) (λ i. slice_index s.words (cell_word tok i)) vs (token_at r.model tok) in
+      subst F (sym (columns tok)) (Shows-split (plan_at plans tok) (get_elem? s.homes tok) (slice_index s.words (token_word tok)) (λ i. slice_index s.words (cell_word tok i)) (column tok s.views) (token_at r.model tok) id made back tok (seen_by tok v)
+        (r.pictures.each_token tok h) (at_map (seen_by tok) s.views id v here) kind (absent tok));
+  };
+  wide = r.wide;
+  zero_word = r.zero_word;
+  laws = r.laws;
+  seats = subst (λ ks. AreSeated cpus ks) (sym all_kinds) (AreSeated-split cpus (map (λ (u : View). u.kind) s.views) id made back r.seats clerk_there room);
+  informed = λ j w e. ⊎_elim
+    (λ old. ⊎_elim (λ it. inl (ap (λ (u : View). u.plans) (sym it.1) ∙ own_plans)) (λ other. r.informed j w other.1) (at_set s.views id j (clerk_after v) w old))
+    (λ new. inl (ap (λ (u : View). u.plans) (sym new.1) ∙ own_plans))
+    (at_snoc (set s.views id (clerk_after v)) (new_seat v) w j e);
+}
+  where
+    own_plans : v.plans ≡ plans
+    own_plans = ⊎_elim (λ is. is) (λ gone. absurd (let h : Spent ≡ Clerk made back = sym (ap (λ (x : View). x.kind) gone) ∙ kind in cc)) (r.informed id v here)
+
+    clerk_there : get_elem? (map (λ (u : View). u.kind) s.views) id ≡ some (Clerk made back)
+    clerk_there = at_map (λ (u : View). u.kind) s.views id v here ∙ ap (λ (x : SeatKind). some x) kind
+
+    all_kinds : map (λ (u : View). u.kind) (set s.views id (clerk_after v) ++ new_seat v ∷ []) ≡ set (map (λ (u : View). u.kind) s.views) id (Clerk (made + 1) back) ++ numbered_seat made ∷ []
+    all_kinds =
+        map-snoc (λ (u : View). u.kind) (set s.views id (clerk_after v)) (new_seat v)
+        ∙ ap (λ (ks : List SeatKind). ks ++ next_seat v.kind ∷ []) (map-set (λ (u : View). u.kind) s.views id (clerk_after v))
+        ∙ ap (λ (k : SeatKind). set (map (λ (u : View). u.kind) s.views) id (after_made k) ++ next_seat k ∷ []) kind
+
+    columns : (tok : ℕ) → column tok (set s.views id (clerk_after v) ++ new_seat v ∷ []) ≡ set (column tok s.views) id (record { kind = Clerk (made + 1) back; entry = at v.tokens tok }) ++ record { kind = numbered_seat made; entry = blank tok } ∷ []
+    columns tok =
+        map-snoc (seen_by tok) (set s.views id (clerk_after v)) (new_seat v)
+        ∙ ap (λ (vs : List Seen). vs ++ seen_by tok (new_seat v) ∷ []) (map-set (seen_by tok) s.views id (clerk_after v))
+        ∙ ap (λ (k : SeatKind). set (column tok s.views) id (record { kind = after_made k; entry = at v.tokens tok }) ++ record { kind = next_seat k; entry = blank tok } ∷ []) kind
+
+    absent : (tok k : ℕ) (z : Seen) → get_elem? (column tok s.views) k ≡ some z → z.kind ≡ numbered_seat made → ⊥
+    absent tok k z e is =
+        let it = of_map (seen_by tok) s.views k z e in
+        let its : it.0.kind ≡ numbered_seat made = ap (λ (x : Seen). x.kind) it.2 ∙ is in
+        let there : get_elem? (map (λ (u : View). u.kind) s.views) k ≡ some (numbered_seat made) = at_map (λ (u : View). u.kind) s.views k it.0 it.1 ∙ ap (λ (x : SeatKind). some x) its in
+        let clerk : get_elem? (map (λ (u : View). u.kind) s.views) id ≡ some (Clerk made back) = at_map (λ (u : View). u.kind) s.views id v here ∙ ap (λ (x : SeatKind). some x) kind in
+        let low = AreSeated-below cpus (map (λ (u : View). u.kind) s.views) id made back k (record { 0 = made }) r.seats clerk there in absurd (omega arith)
+
+-- a token seen after a seat that holds nothing of it was taken back
+Shows-join : (plan : Plan) (home : Option (Option (Unit {0}))) (word : ℕ) (cells : ℕ → ℕ) (views : List Seen) (tok : Token) (id made back other t : ℕ) (cpu : CpuId) (x w : Seen) → Shows plan home word cells views tok
+    → get_elem? views id ≡ some x → x.kind ≡ Clerk made back → other ≢ id → get_elem? views other ≡ some w → w.kind ≡ Of cpu → w.entry.held ≡ Nothing
+    → Shows plan home word cells (set (set views id (record { kind = Clerk made (back + 1); entry = both_of t x.entry w.entry })) other (record { kind = Spent; entry = blank t })) tok
+Shows-join plan home word cells views tok id made back other t cpu x w shows here kind apart there its_kind quiet =
+    let y : Seen = record { kind = Clerk made (back + 1); entry = both_of t x.entry w.entry } in
+    let z : Seen = record { kind = Spent; entry = blank t } in
+    let mid : List Seen = set views id y in
+    let still : get_elem? mid other ≡ some w = set_else views id other y apart ∙ there in
+    let free : held_by tok cpu.0 ≡ Nothing = sym (shows.held other w there ∙ ap (held_in tok) its_kind) ∙ quiet in
+    record {
+      no_slot = shows.no_slot;
+      law = shows.law;
+      param = shows.param;
+      long = shows.long;
+      count_word = shows.count_word;
+      row = shows.row;
+      held = λ k u e. ⊎_elim
+        (λ it. subst (λ (q : Seen). q.entry.held ≡ held_in tok q.kind) it.1 refl)
+        (λ else_. ⊎_elim (λ it. subst (λ (q : Seen). q.entry.held ≡ held_in tok q.kind) it.1 refl) (λ old. shows.held k u old.1) (at_set views id k y u else_.1))
+        (at_set mid other k z u e);
+      seated = λ a. ⊎_elim (λ nothing. inl nothing) (λ seat. ⊎_elim
+          (λ (same : seat.0 ≡ other).
+            let F : ℕ → Type 0 = λ n. get_elem? views n ≡ some seat.1.0 in
+            let one : w ≡ seat.1.0 = some-injective w seat.1.0 (sym there ∙ subst F same seat.1.1.0) in
+            let named : Of cpu ≡ numbered_seat a = sym its_kind ∙ ap (λ (q : Seen). q.kind) one ∙ seat.1.1.1 in
+            let number : cpu.0 ≡ a = ap cpu_in named in
+            inl (ap (held_by tok) (sym number) ∙ free))
+          (λ away.
+            let not_desk : seat.0 ≢ id = (λ same.
+              let F : ℕ → Type 0 = λ n. get_elem? views n ≡ some seat.1.0 in
+              let one : x ≡ seat.1.0 = some-injective x seat.1.0 (sym here ∙ subst F same seat.1.1.0) in
+              let h : Clerk made back ≡ numbered_seat a = sym kind ∙ ap (λ (q : Seen). q.kind) one ∙ seat.1.1.1 in absurd (no_clerk made back a h)) in
+            inr (seat.0, (seat.1.0, (set_else mid other seat.0 z away ∙ set_else views id seat.0 y not_desk ∙ seat.1.1.0, seat.1.1.1))))
+          (cases_eq seat.0 other))
+        (shows.seated a);
+      tallies = λ a.
+        let f : Seen → ℕ = λ q. amount a q.entry.added in
+        let one = total-set f mid other w z still in
+        let two = total-set f views id x y here in
+        let both = sum_by-append (λ (q : Added). cond (eqb q.cpu.0 a) q.amount 0) x.entry.added w.entry.added in
+        let old = shows.tallies a in
+        omega arith;
+      sections =
+        let f : Seen → ℕ = λ q. q.entry.written in
+        let one = total-set f mid other w z still in
+        let two = total-set f views id x y here in
+        let old = shows.sections in
+        omega arith;
+      known = λ k u e. ⊎_elim
+        (λ it. subst (λ (q : Seen). Knows tok q.entry) it.1 (Knows-blank tok (blank t) refl refl refl))
+        (λ else_. ⊎_elim (λ it. subst (λ (q : Seen). Knows tok q.entry) it.1 (Knows-blank tok (both_of t x.entry w.entry) refl refl refl)) (λ old. shows.known k u old.1) (at_set views id k y u else_.1))
+        (at_set mid other k z u e);
+    }
+  where
+    no_clerk : (m b a : ℕ) → Clerk m b ≡ numbered_seat a → ⊥
+    no_clerk m b a e = cc
+
+-- the clerk takes back a seat that holds nothing
+pub Rule-join : (plans : List Plan) (cpus : ℕ) (s : Bench) (id : ℕ) (v : View) (made back other : ℕ) (cpu : CpuId) (w : View) → Rule plans cpus s → get_elem? s.views id ≡ some v → v.kind ≡ Clerk made back
+    → other ≢ id → get_elem? s.views other ≡ some w → w.kind ≡ Of cpu → ((tok : ℕ) → tok < length plans → (at w.tokens tok).held ≡ Nothing)
+    → Rule plans cpus (record { words = s.words; homes = s.homes; views = set (set s.views id (joined v w)) other spent })
+Rule-join plans cpus s id v made back other cpu w r here kind apart there its_kind quiet = record {
+  model = r.model;
+  safe = r.safe;
+  pictures = record {
+    processors = r.pictures.processors;
+    as_many = r.pictures.as_many;
+    no_messages = r.pictures.no_messages;
+    each_token = λ tok h.
+      let F : List Seen → Type 0 = λ vs. Shows (plan_at plans tok) (get_elem? s.homes tok) (slice_index s.words (token_word tok)) (λ i. slice_index s.words (cell_word tok i)) vs (token_at r.model tok) in
+      subst F (sym (columns tok h)) (Shows-join (plan_at plans tok) (get_elem? s.homes tok) (slice_index s.words (token_word tok)) (λ i. slice_index s.words (cell_word tok i)) (column tok s.views) (token_at r.model tok) id made back other tok cpu (seen_by tok v) (seen_by tok w)
+        (r.pictures.each_token tok h) (at_map (seen_by tok) s.views id v here) kind apart (at_map (seen_by tok) s.views other w there) its_kind (quiet tok h));
+  };
+  wide = r.wide;
+  zero_word = r.zero_word;
+  laws = r.laws;
+  seats = subst (λ ks. AreSeated cpus ks) (sym all_kinds)
+    (AreSeated-join cpus (map (λ (u : View). u.kind) s.views) id made back other cpu r.seats (at_map (λ (u : View). u.kind) s.views id v here ∙ ap (λ (x : SeatKind). some x) kind) apart (at_map (λ (u : View). u.kind) s.views other w there ∙ ap (λ (x : SeatKind). some x) its_kind));
+  informed = λ j u e. ⊎_elim
+    (λ it. inr (sym it.1))
+    (λ else_. ⊎_elim (λ it. inl (ap (λ (q : View). q.plans) (sym it.1) ∙ own_plans)) (λ old. r.informed j u old.1) (at_set s.views id j (joined v w) u else_.1))
+    (at_set (set s.views id (joined v w)) other j spent u e);
+}
+  where
+    own_plans : v.plans ≡ plans
+    own_plans = ⊎_elim (λ is. is) (λ gone. absurd (let h : Spent ≡ Clerk made back = sym (ap (λ (x : View). x.kind) gone) ∙ kind in cc)) (r.informed id v here)
+
+    all_kinds : map (λ (u : View). u.kind) (set (set s.views id (joined v w)) other spent) ≡ set (set (map (λ (u : View). u.kind) s.views) id (Clerk made (back + 1))) other Spent
+    all_kinds =
+        map-set (λ (u : View). u.kind) (set s.views id (joined v w)) other spent
+        ∙ ap (λ (ks : List SeatKind). set ks other Spent) (map-set (λ (u : View). u.kind) s.views id (joined v w))
+        ∙ ap (λ (k : SeatKind). set (set (map (λ (u : View). u.kind) s.views) id (after_back k)) other Spent) kind
+
+    columns : (tok : ℕ) → tok < length plans → column tok (set (set s.views id (joined v w)) other spent) ≡ set (set (column tok s.views) id (record { kind = Clerk made (back + 1); entry = both_of tok (at v.tokens tok) (at w.tokens tok) })) other (record { kind = Spent; entry = blank tok })
+    columns tok h =
+        let many : length v.plans ≡ length plans = ap length own_plans in
+        map-set (seen_by tok) (set s.views id (joined v w)) other spent
+        ∙ ap (λ (vs : List Seen). set vs other (seen_by tok spent)) (map-set (seen_by tok) s.views id (joined v w))
+        ∙ ap (λ (k : SeatKind). set (set (column tok s.views) id (record { kind = after_back k; entry = at (merged (length v.plans) v.tokens w.tokens) tok })) other (seen_by tok spent)) kind
+        ∙ ap (λ (e : Entry). set (set (column tok s.views) id (record { kind = Clerk made (back + 1); entry = e })) other (seen_by tok spent)) (at-merged (length v.plans) v.tokens w.tokens tok (omega arith))
