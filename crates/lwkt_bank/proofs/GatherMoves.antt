@@ -26,7 +26,7 @@ use Rattle.lwkt_bank.proofs.ViewMoves.{column-set, at-merged}
 use Rattle.lwkt_bank.proofs.ShowMoves.{cpu_in, numbered_seat}
 
 -- who holds nothing and knows no cell knows nothing wrong
-Knows-blank : (tok : Token) (e : Entry) → e.held ≡ Nothing → e.generation ≡ 0 → e.known ≡ [] → Knows tok e
+pub Knows-blank : (tok : Token) (e : Entry) → e.held ≡ Nothing → e.generation ≡ 0 → e.known ≡ [] → Knows tok e
 Knows-blank tok e held zero_generation none = record {
   not_above = omega arith;
   cells = λ same. subst (λ xs. All (λ c. slice_get tok.first c.at ≡ Some c.value) xs) (sym none) (All-nil (λ c. slice_get tok.first c.at ≡ Some c.value));

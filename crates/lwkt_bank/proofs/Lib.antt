@@ -10,3 +10,4 @@ pub mod NoteMoves
 pub mod ChangeMoves
 pub mod RowMoves
 pub mod GatherMoves
+pub mod OpenMoves

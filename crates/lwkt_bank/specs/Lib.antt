@@ -3,3 +3,5 @@ pub mod Rule
 pub mod Plays
 pub mod Notes
 pub mod Seats
+pub mod Opened
+pub mod Gathered

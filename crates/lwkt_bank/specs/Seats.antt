@@ -38,6 +38,10 @@ id_of bank = record { table = bank.table.shared.table_id; plans = bank.key.plans
 abbrev pub bank_of : CpuSeat → BankId
 bank_of s = record { table = s.seat.table_id; plans = s.seat.me.0.plans }
 
+-- how many processors a bank has, and so how many seats
+abbrev pub cpus_of : Bank → ℕ
+cpus_of bank = bank.key.cpus
+
 -- how many tokens a bank has, and what was declared of one
 abbrev pub tokens_of : BankId → ℕ
 tokens_of bank = length bank.plans

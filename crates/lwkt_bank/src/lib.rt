@@ -3,8 +3,10 @@
 
 pub mod banks;
 mod cells;
+mod desks;
 mod gives;
 pub mod notes;
+mod opens;
 mod plans;
 mod plays;
 mod rows;

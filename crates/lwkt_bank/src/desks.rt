@@ -1,0 +1,146 @@
+//! The clerk of a bank: it makes the seats.
+ghost use Rattle.std.specs.Prelude.{◌≡◌, ◌⊎◌, ◌↔◌, ℕ, ◌+◌, ◌<◌, ◌≤◌, [], ◌∷◌, length, All, IfOk, IfErr, OnOk, Err, slice_get, EachIndex, Some, replicate};
+ghost use Rattle.lwkt_core.specs.Opening.{IsTokenWithin, AreWithin, AllOpenLawfully};
+ghost use Rattle.lwkt_bank.specs.Notes.{no_note};
+ghost use Rattle.lwkt_bank.specs.Views.{blank, clerk_after, new_seat};
+ghost use Rattle.lwkt_bank.specs.Opened.{plans_of, opening_words};
+ghost use Rattle.lwkt_bank.specs.Seats.{id_of, bank_of, entry, steps_of};
+ghost use Rattle.lwkt_bank.specs.Gathered.{HasMade, IsNew, AreHandedOut, IsOpened};
+
+use atomic_table::{Seat, Table};
+use lwkt_base::{CpuId, Fault, Held, TokSpec};
+use lwkt_core::SeatKind;
+use std::alloc::{AllocError, Global};
+
+use crate::banks::Bank;
+use crate::notes::Note;
+use crate::opens;
+use crate::plays::HandOut;
+use crate::rules::{BankRule, Key};
+use crate::seats::CpuSeat;
+use crate::views::View;
+
+// What a seat keeps at the opening.
+fn blank_notes() -> [Note; 64]
+    ensures { result ≡ replicate 64 no_note }
+{
+    let note = Note {
+        cells: [None; 4],
+        tally: 0,
+        held: Held::Nothing,
+    };
+    [note; 64]
+}
+
+// The clerk makes a seat.
+fn split(
+    table: &Table<(), View, Key, BankRule, Global>,
+    clerk: &mut Seat<(), View>,
+    cpu: CpuId,
+) -> Seat<(), View>
+    requires same { clerk.old.table_id ≡ table.now.shared.table_id }
+    requires words { 0 < table.now.shared.table_id.words }
+    requires next { clerk.old.me.0.kind ≡ SeatKind.Clerk cpu.0 0 }
+    requires room { cpu.0 < table.now.shared.key.cpus }
+    ensures clerk { (clerk.new.table_id ≡ clerk.old.table_id) × (clerk.new.me ≡ (clerk_after clerk.old.me.0, clerk.old.me.1)) }
+    ensures seat { (result.table_id ≡ clerk.old.table_id) × (result.me ≡ (new_seat clerk.old.me.0, [])) }
+{
+    table.shared.split_seat::<HandOut>(clerk)
+}
+
+impl Bank {
+    // A bank of these tokens whose clerk hasn't made a seat yet.
+    fn with_key(
+        alloc: Global,
+        specs: &[TokSpec],
+        words: &[u64],
+        key: Key,
+    ) -> Result<Bank, AllocError>
+        requires within { AreWithin key.cpus specs.now [] }
+        requires lawful { AllOpenLawfully specs.now }
+        requires plans { key.plans.items ≡ plans_of specs.now }
+        requires words { words.now ≡ opening_words specs.now }
+        ensures { IfOk result (λ bank. (bank.key ≡ key) × HasMade bank 0) }
+    {
+        let (table, clerk) = Table::of_words(alloc, words, &key)?;
+        Ok(Bank { table, clerk, key })
+    }
+
+    // The seat of the next processor.
+    fn hand_out(&mut self, cpu: CpuId) -> CpuSeat
+        requires next { HasMade self.old cpu.0 }
+        requires room { cpu.0 < self.old.key.cpus }
+        ensures made { HasMade self.new (cpu.0 + 1) }
+        ensures same { id_of self.new ≡ id_of self.old }
+        ensures key { self.new.key ≡ self.old.key }
+        ensures seat { (bank_of result ≡ id_of self.old) × IsNew result × (result.cpu ≡ cpu) }
+    {
+        let seat = split(&self.table, &mut self.clerk, cpu);
+        let notes = blank_notes();
+        CpuSeat { notes, seat, cpu }
+    }
+
+    // Makes the seats of all processors.
+    fn hand_out_all(&mut self, seats: &mut Vec<CpuSeat>) -> Result<(), AllocError>
+        requires next { HasMade self.old 0 }
+        requires limit { self.old.key.cpus ≤ 8 }
+        requires none { seats.old.items ≡ [] }
+        ensures out { OnOk result ((length seats.new.items ≡ self.old.key.cpus) × AreHandedOut (id_of self.old) seats.new.items) }
+        ensures same { id_of self.new ≡ id_of self.old }
+        ensures key { self.new.key ≡ self.old.key }
+    {
+        for cpu in 0..self.key.cpus {
+            let seat = self.hand_out(CpuId(cpu as u8));
+            seats.push(seat)?;
+        }
+        Ok(())
+    }
+
+    fn open_within(
+        alloc: Global,
+        specs: &[TokSpec],
+        words: &[u64],
+        key: Key,
+        mut seats: Vec<CpuSeat>,
+    ) -> Result<(Bank, Vec<CpuSeat>), AllocError>
+        requires within { AreWithin key.cpus specs.now [] }
+        requires lawful { AllOpenLawfully specs.now }
+        requires plans { key.plans.items ≡ plans_of specs.now }
+        requires words { words.now ≡ opening_words specs.now }
+        requires none { seats.items ≡ [] }
+        ensures { IfOk result (λ opened. IsOpened key.cpus specs.now opened.0 opened.1.items) }
+    {
+        let mut bank = Bank::with_key(alloc, specs, words, key)?;
+        bank.hand_out_all(&mut seats)?;
+        Ok((bank, seats))
+    }
+
+    /// Opens a bank of these tokens, with a seat for each processor.
+    ///
+    /// Refused with `Memory` only if an allocation is; with `Limits` only if a limit is passed: 1 to 8 processors, at most
+    /// 64 tokens, at most 4 cells and exactly 1 under `Law::Tally`, a generation past the last; with `LawBroken` only if an
+    /// opening row breaks its law.
+    pub fn open(
+        alloc: Global,
+        specs: &[TokSpec],
+        cpus: usize,
+    ) -> Result<(Bank, Vec<CpuSeat>), Fault>
+        ensures ok { IfOk result (λ opened. IsOpened cpus specs.now opened.0 opened.1.items) }
+        ensures within { OnOk result (AreWithin cpus specs.now [] × AllOpenLawfully specs.now) }
+        ensures limits { result ≡ Err Fault.Limits → ¬ AreWithin cpus specs.now [] }
+        ensures broken { result ≡ Err Fault.LawBroken → AreWithin cpus specs.now [] × ¬ AllOpenLawfully specs.now }
+        ensures only { IfErr result (λ f. (f ≡ Fault.Memory) ⊎ ((f ≡ Fault.Limits) ⊎ (f ≡ Fault.LawBroken))) }
+    {
+        let seats = Vec::with_capacity(alloc, 8).map_err(|_| Fault::Memory)?;
+        let plans = opens::plans_of(alloc, specs).map_err(|_| Fault::Memory)?;
+        if !opens::are_within(cpus, specs) {
+            return Err(Fault::Limits);
+        }
+        if !opens::all_open_lawfully(specs) {
+            return Err(Fault::LawBroken);
+        }
+        let words = opens::words_of(alloc, specs).map_err(|_| Fault::Memory)?;
+        let key = Key { plans, cpus };
+        Bank::open_within(alloc, specs, words.as_slice(), key, seats).map_err(|_| Fault::Memory)
+    }
+}

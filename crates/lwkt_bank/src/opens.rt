@@ -1,0 +1,112 @@
+//! The opening of a bank.
+ghost use Rattle.std.specs.Prelude.{◌≡◌, ◌⊎◌, ◌↔◌, ℕ, ◌+◌, ◌*◌, ◌<◌, ◌≤◌, [], ◌∷◌, length, All, IsTrue, IfOk, IfErr, OnOk, slice_index};
+ghost use Rattle.std.specs.List.{flat_map};
+ghost use Rattle.lwkt_core.specs.Opening.{IsTokenWithin, AreWithin, AllOpenLawfully};
+ghost use Rattle.lwkt_bank.specs.Rule.{law_number};
+ghost use Rattle.lwkt_bank.specs.Opened.{plan_of_spec, plans_of, block, opening_words};
+
+use lwkt_base::{LAST_GENERATION, Law, TokSpec};
+use lwkt_core::tokens::CPU_LIMIT;
+use std::alloc::{AllocError, Global};
+
+use crate::views::Plan;
+
+fn is_token_within(spec: &TokSpec) -> bool
+    ensures { IsTrue result ↔ IsTokenWithin spec.now }
+{
+    let cells = spec.cells.as_slice().len();
+    cells <= 4 && (spec.law != Law::Tally || cells == 1) && spec.generation <= LAST_GENERATION
+}
+
+/// Whether the opening keeps the limits.
+pub(crate) fn are_within(cpus: usize, specs: &[TokSpec]) -> bool
+    ensures { IsTrue result ↔ AreWithin cpus specs.now [] }
+{
+    0 < cpus
+        && cpus <= CPU_LIMIT
+        && specs.len() <= 64
+        && specs.iter().all(|spec| is_token_within(spec))
+}
+
+/// Whether each opening row obeys its law.
+pub(crate) fn all_open_lawfully(specs: &[TokSpec]) -> bool
+    ensures { IsTrue result ↔ AllOpenLawfully specs.now }
+{
+    specs
+        .iter()
+        .all(|spec| spec.law.holds(spec.cells.as_slice(), spec.param))
+}
+
+fn plan_of(spec: &TokSpec) -> Plan
+    ensures { result ≡ plan_of_spec spec.now }
+{
+    Plan {
+        generation: spec.generation,
+        param: spec.param,
+        cells: spec.cells.as_slice().len(),
+        law: spec.law,
+    }
+}
+
+/// What is declared of each token.
+pub(crate) fn plans_of(alloc: Global, specs: &[TokSpec]) -> Result<Vec<Plan>, AllocError>
+    ensures { IfOk result (λ v. v.items ≡ plans_of specs.now) }
+{
+    specs.iter().map(|spec| plan_of(spec)).collect(alloc)
+}
+
+fn law_number(law: Law) -> u64
+    ensures { result ≡ law_number law }
+{
+    match law {
+        Law::Any => 0,
+        Law::Sum => 1,
+        Law::Order => 2,
+        Law::Cap => 3,
+        Law::Tally => 4,
+    }
+}
+
+fn cell_or_zero(cells: &[u64], cell: usize) -> u64
+    ensures { result ≡ slice_index cells.now cell }
+{
+    cells.get(cell).copied().unwrap_or(0)
+}
+
+fn block_of(spec: &TokSpec) -> [u64; 16]
+    requires { spec.now.generation ≤ LAST_GENERATION }
+    ensures { result ≡ block spec.now }
+{
+    let cells = spec.cells.as_slice();
+    [
+        262144 * spec.generation,
+        cell_or_zero(cells, 0),
+        cell_or_zero(cells, 1),
+        cell_or_zero(cells, 2),
+        cell_or_zero(cells, 3),
+        law_number(spec.law),
+        spec.param,
+        0,
+        0,
+        0,
+        0,
+        0,
+        0,
+        0,
+        0,
+        0,
+    ]
+}
+
+/// The words at the opening.
+pub(crate) fn words_of(alloc: Global, specs: &[TokSpec]) -> Result<Vec<u64>, AllocError>
+    requires { All IsTokenWithin specs.now }
+    ensures { IfOk result (λ v. v.items ≡ opening_words specs.now) }
+{
+    let mut words = Vec::new(alloc);
+    words.push(0)?;
+    for spec in specs {
+        words.extend_from_slice(&block_of(spec))?;
+    }
+    Ok(words)
+}
