@@ -105,8 +105,18 @@ Rule-split plans cpus s id v made back r here kind room = record {
     (λ old. ⊎_elim (λ it. inl (ap (λ (u : View). u.plans) (sym it.1) ∙ own_plans)) (λ other. r.informed j w other.1) (at_set s.views id j (clerk_after v) w old))
     (λ new. inl (ap (λ (u : View). u.plans) (sym new.1) ∙ own_plans))
     (at_snoc (set s.views id (clerk_after v)) (new_seat v) w j e);
+  gone = λ j w e was. ⊎_elim
+    (λ old. ⊎_elim
+      (λ it. absurd (let h : Clerk (made + 1) back ≡ Spent = sym (ap after_made kind) ∙ ap (λ (u : View). u.kind) it.1 ∙ was in cc))
+      (λ other. r.gone j w other.1 was)
+      (at_set s.views id j (clerk_after v) w old))
+    (λ new. absurd (let h : numbered_seat made ≡ Spent = sym (ap next_seat kind) ∙ ap (λ (u : View). u.kind) new.1 ∙ was in no_seat made h))
+    (at_snoc (set s.views id (clerk_after v)) (new_seat v) w j e);
 }
   where
+    no_seat : (m : ℕ) → numbered_seat m ≡ Spent → ⊥
+    no_seat m e = cc
+
     own_plans : v.plans ≡ plans
     own_plans = ⊎_elim (λ is. is) (λ gone. absurd (let h : Spent ≡ Clerk made back = sym (ap (λ (x : View). x.kind) gone) ∙ kind in cc)) (r.informed id v here)
 
@@ -215,6 +225,13 @@ Rule-join plans cpus s id v made back other cpu w r here kind apart there its_ki
   informed = λ j u e. ⊎_elim
     (λ it. inr (sym it.1))
     (λ else_. ⊎_elim (λ it. inl (ap (λ (q : View). q.plans) (sym it.1) ∙ own_plans)) (λ old. r.informed j u old.1) (at_set s.views id j (joined v w) u else_.1))
+    (at_set (set s.views id (joined v w)) other j spent u e);
+  gone = λ j u e was. ⊎_elim
+    (λ it. ap (λ (q : View). q.tokens) (sym it.1))
+    (λ else_. ⊎_elim
+      (λ it. absurd (let h : Clerk made (back + 1) ≡ Spent = sym (ap after_back kind) ∙ ap (λ (q : View). q.kind) it.1 ∙ was in cc))
+      (λ old. r.gone j u old.1 was)
+      (at_set s.views id j (joined v w) u else_.1))
     (at_set (set s.views id (joined v w)) other j spent u e);
 }
   where

@@ -11,3 +11,4 @@ pub mod ChangeMoves
 pub mod RowMoves
 pub mod GatherMoves
 pub mod OpenMoves
+pub mod CloseMoves

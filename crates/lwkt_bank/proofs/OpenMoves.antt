@@ -105,8 +105,13 @@ Rule-opening cpus specs within lawful = record {
     (word_at specs t 5 (law_word t) there (omega arith) (omega arith) ∙ ap (λ (p : Plan). law_number p.law) (sym same), word_at specs t 6 (param_word t) there (omega arith) (omega arith) ∙ ap (λ (p : Plan). p.param) (sym same));
   seats = AreSeated-opening cpus;
   informed = λ j v e. inl (only j v e);
+  gone = λ j v e was. absurd (let h : Clerk 0 0 ≡ Spent = sym (is_clerk j v e) ∙ was in cc);
 }
   where
+    is_clerk : (j : ℕ) (v : View) → get_elem? (first_view (plans_of specs) ∷ []) j ≡ some v → v.kind ≡ Clerk 0 0
+    is_clerk zero v e = ap (λ (w : View). w.kind) (sym (some-injective (first_view (plans_of specs)) v e))
+    is_clerk (suc j) v e = absurd (some-ne-none v (sym e))
+
     only : (j : ℕ) (v : View) → get_elem? (first_view (plans_of specs) ∷ []) j ≡ some v → v.plans ≡ plans_of specs
     only zero v e = ap (λ (w : View). w.plans) (sym (some-injective (first_view (plans_of specs)) v e))
     only (suc j) v e = absurd (some-ne-none v (sym e))

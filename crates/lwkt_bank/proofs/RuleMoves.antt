@@ -168,4 +168,8 @@ module _ (plans : List Plan) (cpus : ℕ) (s : Bench) (r : Rule plans cpus s) wh
         (λ new. inl (ap (λ (y : View). y.plans) (sym new.1) ∙ same_plans ∙ plans_there id v cpu here kind))
         (λ old. r.informed j x old.1)
         (at_set s.views id j w x d);
+      gone = λ j x d was. ⊎_elim
+        (λ new. absurd (let h : Of cpu ≡ Spent = sym (same_kind ∙ kind) ∙ ap (λ (y : View). y.kind) new.1 ∙ was in cc))
+        (λ old. r.gone j x old.1 was)
+        (at_set s.views id j w x d);
     }, (all_needs, is_after))

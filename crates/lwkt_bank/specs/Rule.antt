@@ -112,3 +112,4 @@ pub record Rule (plans : List Plan) (cpus : ℕ) (s : Bench) : Type 0 where
   pub laws : (tok : ℕ) → tok < length plans → (slice_index s.words (law_word tok) ≡ law_number (plan_at plans tok).law) × (slice_index s.words (param_word tok) ≡ (plan_at plans tok).param)
   pub seats : AreSeated cpus (map (λ v. v.kind) s.views)
   pub informed : (j : ℕ) (v : View) → get_elem? s.views j ≡ some v → (v.plans ≡ plans) ⊎ (v ≡ spent)
+  pub gone : (j : ℕ) (v : View) → get_elem? s.views j ≡ some v → v.kind ≡ Spent → v.tokens ≡ []

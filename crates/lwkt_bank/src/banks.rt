@@ -19,6 +19,7 @@ pub struct Bank {
     pub(crate) key: Key,
     ghost told: { table.shared.key ≡ key } by { Coded-set key-code table.shared.key key },
     ghost wide: { table.shared.table_id.words ≡ 16 * length key.plans.items + 1 },
+    ghost slotless: { table.shared.table_id.slots ≡ 0 },
     ghost few: { length key.plans.items ≤ 64 },
     ghost short: { (tok : ℕ) → (plan_at key.plans.items tok).cells ≤ 4 },
     ghost single: { (tok : ℕ) → (plan_at key.plans.items tok).law ≡ Tally → (plan_at key.plans.items tok).cells ≡ 1 },

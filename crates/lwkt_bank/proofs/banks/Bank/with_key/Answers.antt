@@ -33,6 +33,7 @@ invariant_of-result c =
     record {
       told = t.5;
       wide = let w = t.0 in omega arith;
+      slotless = t.1;
       few = omega arith;
       short = subst F (sym c.requires.plans) (short_plans specs c.requires.within.each_token);
       single = subst G (sym c.requires.plans) (single_plans specs c.requires.within.each_token);

@@ -1,0 +1,102 @@
+use Rattle.std.proofs.Common.{eqb, inl, inr, ◌≡◌, ◌≢◌, ◌⊎◌, ⊎_elim, ℕ, zero, suc, ◌+◌, ◌-◌, ◌*◌, ◌<◌, ◌≤◌, Bool, true, false, cond, List, [], ◌∷◌, ◌++◌, length, map, get_or, set, refl, ap, sym, ◌∙◌, subst, arith, All, Some, sum}
+use Rattle.std.specs.Prelude.{slice_index}
+use Rattle.std.proofs.lemmas.Bool.{cases_eq, false≢true}
+use mathlib.Core.Option.{Option, some, some-injective, some-ne-none}
+use lib.ListN.{get_elem?}
+use Rattle.lwkt_base.specs.declared.names.CpuId.{CpuId}
+use Rattle.lwkt_base.specs.declared.laws.Law.{Law}
+use Rattle.lwkt_base.specs.declared.laws.Law.TheVariants.{Any, Sum, Order, Cap, Tally}
+use Rattle.lwkt_base.specs.declared.holdings.Held.TheVariants.{Nothing}
+use Rattle.lwkt_base.specs.Holding.{is_exclusive, references_in}
+use Rattle.lwkt_base.specs.Law.{MeetsLaw, IsTallied}
+use Rattle.lwkt_base.specs.TokenWord.{word_of}
+use Rattle.lwkt_core.specs.declared.seats.SeatKind.{SeatKind}
+use Rattle.lwkt_core.specs.declared.seats.SeatKind.TheVariants.{Clerk, Of, Spent}
+use Rattle.lwkt_core.specs.declared.tokens.Token.{Token}
+use Rattle.lwkt_core.specs.Tokens.{held_by, tally_of, IsFree, IsSafeToken}
+use Rattle.lwkt_core.specs.Picture.{picture_of}
+use Rattle.lwkt_core.specs.Seating.{total, AreSeated}
+use Rattle.lwkt_core.proofs.SeatingLemmas.{at_map, of_map, total-only, AreSeated-closed}
+use Rattle.lwkt_core.proofs.MachineMoves.{references_le}
+use Rattle.lwkt_bank.specs.declared.views.Plan.{Plan}
+use Rattle.lwkt_bank.specs.declared.views.Entry.{Entry}
+use Rattle.lwkt_bank.specs.declared.views.View.{View}
+use Rattle.lwkt_bank.specs.Views.{at, amount, generation_in}
+use Rattle.lwkt_bank.specs.Rule.{Bench, token_word, cell_word, Seen, seen_by, column, Knows, Shows, Pictures, Rule, plan_at, token_at, no_token}
+use Rattle.lwkt_bank.proofs.WordMoves.{count-le, generation-word}
+use Rattle.lwkt_bank.proofs.RuleMoves.{safe_token, token_is, few_cells}
+use Rattle.lwkt_bank.proofs.ShowMoves.{numbered_seat}
+
+-- a token of a bank whose seats were all taken back
+pub record Settled (plan : Plan) (cpus : ℕ) (words : List ℕ) (tok written : ℕ) (added : ℕ → ℕ) : Type 0 where
+  pub row : List ℕ
+  pub tallies : List ℕ
+  pub long : length row ≡ plan.cells
+  pub cells : (i : ℕ) → i < plan.cells → slice_index words (cell_word tok i) ≡ slice_index row i
+  pub generation : generation_in (slice_index words (token_word tok)) ≡ plan.generation + written
+  pub lawful : MeetsLaw plan.law plan.param row
+  pub tallied : IsTallied plan.law plan.param row tallies
+  pub eight : length tallies ≡ 8
+  pub tally : (a : ℕ) → slice_index tallies a ≡ added a
+  pub absent : (a : ℕ) → cpus ≤ a → slice_index tallies a ≡ 0
+
+-- once the clerk has taken back as many seats as there are processors
+pub settled : (plans : List Plan) (cpus : ℕ) (s : Bench) (id : ℕ) (v : View) (made back tok : ℕ) → Rule plans cpus s → get_elem? s.views id ≡ some v → v.kind ≡ Clerk made back → cpus ≤ back → tok < length plans
+    → Settled (plan_at plans tok) cpus s.words tok (at v.tokens tok).written (λ a. amount a (at v.tokens tok).added)
+settled plans cpus s id v made back tok r here kind all there =
+    let shows = r.pictures.each_token tok there in
+    let tk = token_at r.model tok in
+    let safe = safe_token plans cpus s r tok there in
+    let processors = r.pictures.processors in
+    let F : Law → Type 0 = λ l. MeetsLaw l (plan_at plans tok).param tk.row in
+    let G : ℕ → Type 0 = λ p. MeetsLaw tk.law p tk.row in
+    let H : List ℕ → Type 0 = λ row. MeetsLaw tk.law tk.param row in
+    let row_first : tk.row ≡ tk.first = safe.settled (λ c. ap is_exclusive (free c)) in
+    let P : Law → Type 0 = λ l. IsTallied l (plan_at plans tok).param tk.row tk.tallies in
+    let Q : ℕ → Type 0 = λ p. IsTallied tk.law p tk.row tk.tallies in
+    let word = shows.count_word in
+    let few : (other : ℕ) → references_in (held_by tk other) ≤ 32 = λ other. (let h = references_le r.model.tokens other tok tk (token_is plans cpus s r tok there) in let f = r.safe.few other in omega arith) in
+    let count = count-le tk r.model.cpus safe few in
+    let gen : generation_in (slice_index s.words (token_word tok)) ≡ tk.generation = ap generation_in word ∙ generation-word (picture_of tk) (omega arith) in
+    let sections = shows.sections in
+    let written = total-only (λ (x : Seen). x.entry.written) (column tok s.views) id (seen_by tok v) (at_map (seen_by tok) s.views id v here) (λ j x e apart. ap (λ (d : Entry). d.written) (spent_entry j x e apart)) in
+    record {
+      row = tk.row;
+      tallies = tk.tallies;
+      long = shows.long;
+      cells = shows.row;
+      generation = omega arith;
+      lawful = subst F shows.law (subst G shows.param (subst H (sym row_first) safe.lawful));
+      tallied = subst P shows.law (subst Q shows.param safe.tallied);
+      eight = safe.eight_tallies;
+      tally = λ a. shows.tallies a ∙ total-only (λ (x : Seen). amount a x.entry.added) (column tok s.views) id (seen_by tok v) (at_map (seen_by tok) s.views id v here) (λ j x e apart. ap (λ (d : Entry). amount a d.added) (spent_entry j x e apart));
+      absent = λ a far. (safe.absent a (omega arith)).1;
+    }
+  where
+    closed : (j : ℕ) (k : SeatKind) → j ≢ id → get_elem? (map (λ (u : View). u.kind) s.views) j ≡ some k → k ≡ Spent
+    closed = (AreSeated-closed cpus (map (λ (u : View). u.kind) s.views) id made back r.seats (at_map (λ (u : View). u.kind) s.views id v here ∙ ap (λ (x : SeatKind). some x) kind) all).2
+
+    spent_entry : (j : ℕ) (x : Seen) → get_elem? (column tok s.views) j ≡ some x → j ≢ id → x.entry ≡ at [] tok
+    spent_entry j x e apart =
+        let it = of_map (seen_by tok) s.views j x e in
+        let gone : it.0.kind ≡ Spent = closed j it.0.kind apart (at_map (λ (u : View). u.kind) s.views j it.0 it.1) in
+        ap (λ (y : Seen). y.entry) (sym it.2) ∙ ap (λ es. at es tok) (r.gone j it.0 it.1 gone)
+
+    free : (a : ℕ) → held_by (token_at r.model tok) a ≡ Nothing
+    free a = ⊎_elim (λ nothing. nothing) (λ seat. absurd (
+        let it = of_map (seen_by tok) s.views seat.0 seat.1.0 seat.1.1.0 in
+        let its : it.0.kind ≡ numbered_seat a = ap (λ (y : Seen). y.kind) it.2 ∙ seat.1.1.1 in
+        ⊎_elim
+          (λ (same : seat.0 ≡ id).
+            let F : ℕ → Type 0 = λ n. get_elem? s.views n ≡ some it.0 in
+            let one : v ≡ it.0 = some-injective v it.0 (sym here ∙ subst F same it.1) in
+            not_clerk made back a (sym kind ∙ ap (λ (u : View). u.kind) one ∙ its))
+          (λ away. not_spent a (sym its ∙ closed seat.0 it.0.kind away (at_map (λ (u : View). u.kind) s.views seat.0 it.0 it.1)))
+          (cases_eq seat.0 id)))
+      ((r.pictures.each_token tok there).seated a)
+      where
+        not_clerk : (m b n : ℕ) → Clerk m b ≡ numbered_seat n → ⊥
+        not_clerk m b n e = cc
+
+        not_spent : (n : ℕ) → numbered_seat n ≡ Spent → ⊥
+        not_spent n e = cc
