@@ -1,10 +1,15 @@
-use Rattle.std.specs.Prelude.{◌≡◌, ℕ, ◌+◌, ◌<◌, List, [], length, slice_index_or}
+use Rattle.std.specs.Prelude.{◌≡◌, ◌≢◌, ℕ, ◌+◌, ◌<◌, List, [], ◌∷◌, length, slice_index, slice_index_or, sum}
 use Rattle.lwkt_core.specs.declared.seats.SeatKind.{SeatKind}
 use Rattle.lwkt_core.specs.declared.seats.SeatKind.TheVariants.{Clerk, Of, Spent}
 use Rattle.lwkt_bank.specs.declared.banks.Bank.{Bank}
 use Rattle.lwkt_bank.specs.declared.seats.CpuSeat.{CpuSeat}
-use Rattle.lwkt_bank.specs.Views.{blank}
-use Rattle.lwkt_bank.specs.Seats.{BankId, id_of, bank_of, cpus_of, entry, steps_of}
+use Rattle.lwkt_base.specs.declared.laws.Law.TheVariants.{Tally}
+use Rattle.lwkt_base.specs.Law.{MeetsLaw}
+use Rattle.lwkt_core.specs.Seating.{total}
+use Rattle.lwkt_bank.specs.declared.views.Plan.{Plan}
+use Rattle.lwkt_bank.specs.declared.closed.Closed.{Closed}
+use Rattle.lwkt_bank.specs.Views.{blank, amount}
+use Rattle.lwkt_bank.specs.Seats.{BankId, id_of, bank_of, cpus_of, tokens_of, plan_of, entry, steps_of}
 use Rattle.lwkt_bank.specs.Opened.{plans_of}
 use Rattle.lwkt_base.specs.declared.openings.TokSpec.{TokSpec}
 
@@ -28,3 +33,27 @@ pub record IsOpened (cpus : ℕ) (specs : List TokSpec) (bank : Bank) (seats : L
   pub processors : cpus_of bank ≡ cpus
   pub as_many : length seats ≡ cpus
   pub seats_out : AreHandedOut (id_of bank) seats
+
+-- what a list of seats has written of a token, and what a processor has added to it
+abbrev pub written_by : List CpuSeat → ℕ → ℕ
+written_by seats tok = total (λ s. (entry s tok).written) seats
+abbrev pub added_by : List CpuSeat → ℕ → ℕ → ℕ
+added_by seats tok cpu = total (λ s. amount cpu (entry s tok).added) seats
+
+-- a token at the close: its row obeys its law, its generation is the opening one plus the written sections of all seats, and a
+-- Tally token shows for each processor what it has added, and its cell is the parameter plus all of it
+pub record IsClosedToken (plan : Plan) (cpus : ℕ) (seats : List CpuSeat) (tok : ℕ) (row : List ℕ) (generation : ℕ) (tallies : List ℕ) : Type 0 where
+  pub long : length row ≡ plan.cells
+  pub lawful : MeetsLaw plan.law plan.param row
+  pub generation_is : generation ≡ plan.generation + written_by seats tok
+  pub none : plan.law ≢ Tally → tallies ≡ []
+  pub as_many : plan.law ≡ Tally → length tallies ≡ cpus
+  pub each : plan.law ≡ Tally → (cpu : ℕ) → cpu < cpus → slice_index tallies cpu ≡ added_by seats tok cpu
+  pub all_added : plan.law ≡ Tally → row ≡ (plan.param + sum tallies) ∷ []
+
+-- the closing values of a bank that took back these seats
+pub record IsClosed (bank : Bank) (seats : List CpuSeat) (closed : Closed) : Type 0 where
+  pub rows : length closed.rows.items ≡ tokens_of (id_of bank)
+  pub gens : length closed.gens.items ≡ tokens_of (id_of bank)
+  pub tallies : length closed.tallies.items ≡ tokens_of (id_of bank)
+  pub each : (tok : ℕ) → tok < tokens_of (id_of bank) → IsClosedToken (plan_of (id_of bank) tok) (cpus_of bank) seats tok (slice_index_or closed.rows.items tok []) (slice_index closed.gens.items tok) (slice_index_or closed.tallies.items tok [])

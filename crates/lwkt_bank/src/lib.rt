@@ -3,7 +3,9 @@
 
 pub mod banks;
 mod cells;
+pub mod closed;
 mod desks;
+mod gathers;
 mod gives;
 pub mod notes;
 mod opens;

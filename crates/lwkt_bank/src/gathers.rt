@@ -1,0 +1,44 @@
+//! The close: the clerk takes back all seats.
+ghost use Rattle.std.specs.Prelude.{◌≡◌, ℕ, ◌+◌, ◌<◌, ◌≤◌, [], ◌∷◌, length, All, vec_len, IfOk, OnOk};
+ghost use Rattle.lwkt_base.specs.declared.holdings.Held.TheVariants.{Nothing};
+ghost use Rattle.lwkt_core.specs.Seating.{total};
+ghost use Rattle.lwkt_bank.specs.Views.{at, amount, joined, after_back};
+ghost use Rattle.lwkt_bank.specs.Notes.{clerk_number, note_at};
+ghost use Rattle.lwkt_bank.specs.Seats.{id_of, bank_of, cpus_of, tokens_of, entry, holding};
+
+use atomic_table::{Seat, Table};
+use lwkt_base::CpuId;
+use lwkt_core::SeatKind;
+use std::alloc::{AllocError, Global};
+
+use crate::banks::Bank;
+use crate::notes::Note;
+use crate::plays::TakeBack;
+use crate::rules::{BankRule, Key};
+use crate::seats::CpuSeat;
+use crate::views::View;
+
+/// What a seat that was taken back had kept.
+#[derive(Drop)]
+pub(crate) struct Kept {
+    pub(crate) notes: [Note; 64],
+    pub(crate) cpu: CpuId,
+}
+
+// The clerk takes back a seat that holds nothing.
+fn join(
+    table: &Table<(), View, Key, BankRule, Global>,
+    clerk: &mut Seat<(), View>,
+    other: Seat<(), View>,
+    cpu: CpuId,
+)
+    requires same { (clerk.old.table_id ≡ table.now.shared.table_id) × (other.table_id ≡ table.now.shared.table_id) }
+    requires slots { other.me.1 ≡ [] }
+    requires words { 0 < table.now.shared.table_id.words }
+    requires desk { (made : ℕ) × (back : ℕ) × (clerk.old.me.0.kind ≡ SeatKind.Clerk made back) }
+    requires named { other.me.0.kind ≡ SeatKind.Of cpu }
+    requires quiet { (tok : ℕ) → tok < length table.now.shared.key.plans.items → (at other.me.0.tokens tok).held ≡ Nothing }
+    ensures { (clerk.new.table_id ≡ clerk.old.table_id) × (clerk.new.id ≡ clerk.old.id) × (clerk.new.me ≡ (joined clerk.old.me.0 other.me.0, clerk.old.me.1)) }
+{
+    table.shared.join_seat::<TakeBack>(clerk, other)
+}
