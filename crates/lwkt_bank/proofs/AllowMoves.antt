@@ -20,18 +20,34 @@ module _ (plans : List Plan) (cpus slots id : ℕ) (me : Me (Unit {0}) View) (st
 
   pub allow_cell : (tok cell : ℕ) (f : ℕ → ℕ) (event : ℕ → Event) (R : ℕ → ℕ → View → ℕ → View → Type 0) → cell < 4 → st.word ≡ cell_word tok cell → Steps plans cpus id me.0 (cell_word tok cell) f event (R tok cell me.0) → Allows (Rule plans cpus) slots id me (cell_word tok cell) f (at_cell R st me)
   allow_cell tok cell f event R few at_cell' steps s r homes here fits =
-      let x = steps s r here fits in
-      (x.0, keeps, tt, x.1.0, (refl, λ other c low at_other.
-        let h : cell_word tok cell ≡ cell_word other c = sym at_cell' ∙ at_other in
-        let same_tok : tok ≡ other = omega arith in
-        let same_cell : cell ≡ c = omega arith in
-        subst (λ k. R other k me.0 (slice_index s.words (cell_word tok cell)) x.0) same_cell (subst (λ k. R k cell me.0 (slice_index s.words (cell_word tok cell)) x.0) same_tok x.1.1.1)))
+      let x = steps s r here fits in (
+        x.0,
+        keeps,
+        tt,
+        x.1.0,
+        (
+          refl,
+          λ other c low at_other.
+              let h : cell_word tok cell ≡ cell_word other c = sym at_cell' ∙ at_other in
+              let same_tok : tok ≡ other = omega arith in
+              let same_cell : cell ≡ c = omega arith in
+              subst (λ k. R other k me.0 (slice_index s.words (cell_word tok cell)) x.0) same_cell (subst (λ k. R k cell me.0 (slice_index s.words (cell_word tok cell)) x.0) same_tok x.1.1.1),
+        ),
+      )
 
   pub allow_store : (tok cell new : ℕ) (event : Event) (R : ℕ → ℕ → View → ℕ → View → Type 0) → cell < 4 → st.word ≡ cell_word tok cell → Steps plans cpus id me.0 (cell_word tok cell) (λ _. new) (λ _. event) (λ _. R tok cell me.0 new) → Allows (Rule plans cpus) slots id me (cell_word tok cell) (λ _. new) (λ _. at_cell R st me new)
   allow_store tok cell new event R few at_cell' steps s r homes here fits =
-      let x = steps s r here fits in
-      (x.0, keeps, tt, x.1.0, (refl, λ other c low at_other.
-        let h : cell_word tok cell ≡ cell_word other c = sym at_cell' ∙ at_other in
-        let same_tok : tok ≡ other = omega arith in
-        let same_cell : cell ≡ c = omega arith in
-        subst (λ k. R other k me.0 new x.0) same_cell (subst (λ k. R k cell me.0 new x.0) same_tok x.1.1.1)))
+      let x = steps s r here fits in (
+        x.0,
+        keeps,
+        tt,
+        x.1.0,
+        (
+          refl,
+          λ other c low at_other.
+              let h : cell_word tok cell ≡ cell_word other c = sym at_cell' ∙ at_other in
+              let same_tok : tok ≡ other = omega arith in
+              let same_cell : cell ≡ c = omega arith in
+              subst (λ k. R other k me.0 new x.0) same_cell (subst (λ k. R k cell me.0 new x.0) same_tok x.1.1.1),
+        ),
+      )

@@ -127,4 +127,4 @@ module _ (bank : Bank) (seat : Seat (Unit {0}) View) (tok : ℕ) (of : IsOf bank
       let sum_is : slice_index (at v.tokens tok).row 0 + k ≡ value = omega arith in
       let F : ℕ → Type 0 = λ x. Asks word (λ _. x) (λ _. at_cell RaisesCell (step slots word x 0 none) seat.me x) in
       subst F sum_is (asks_store word 0 (omega arith) is (slice_index (at v.tokens tok).row 0 + k) (Write cpu t 0 (slice_index (at v.tokens tok).row 0 + k)) RaisesCell
-        (raise_steps key.plans.items key.cpus seat.id v cpu tok of.named.1 there' held (ap (λ (p : Plan). p.law) plan_there ∙ tally) k))
+      (raise_steps key.plans.items key.cpus seat.id v cpu tok of.named.1 there' held (ap (λ (p : Plan). p.law) plan_there ∙ tally) k))

@@ -85,8 +85,8 @@ taken_after_look plan e word row rises took = record {
   lawful = took.lawful;
   rises = rises;
   fresh = λ same.
-    let F : Entry → Type 0 = λ d. d.generation ≡ generation_in word → All (λ c. slice_get row c.at ≡ Some c.value) d.known in
-    subst F (seen_known e (generation_in word) same) took.fresh same;
+      let F : Entry → Type 0 = λ d. d.generation ≡ generation_in word → All (λ c. slice_get row c.at ≡ Some c.value) d.known in
+      subst F (seen_known e (generation_in word) same) took.fresh same;
 }
 
 -- a call that keeps what is held of its token keeps what is held
@@ -137,7 +137,7 @@ lost s mid s' tok mode alone word next looked' decides miss =
       other = miss.other;
       rises = (looked'.rises, (let r = miss.rises in omega arith));
       changes = changed_twice s mid s' tok (looked e word) (looked (looked e word) miss.found) (load tok word ∷ []) (exchange tok word next miss.found ∷ []) looked'.changes
-        (subst H (ap (λ (d : Entry). looked d miss.found) looked'.changes.here) miss.changes);
+          (subst H (ap (λ (d : Entry). looked d miss.found) looked'.changes.here) miss.changes);
     }
 
 -- what `decide` answers, in the order of a try's contract

@@ -87,13 +87,13 @@ settled plans cpus s id v made back tok r here kind all there =
         let it = of_map (seen_by tok) s.views seat.0 seat.1.0 seat.1.1.0 in
         let its : it.0.kind ≡ numbered_seat a = ap (λ (y : Seen). y.kind) it.2 ∙ seat.1.1.1 in
         ⊎_elim
-          (λ (same : seat.0 ≡ id).
-            let F : ℕ → Type 0 = λ n. get_elem? s.views n ≡ some it.0 in
-            let one : v ≡ it.0 = some-injective v it.0 (sym here ∙ subst F same it.1) in
-            not_clerk made back a (sym kind ∙ ap (λ (u : View). u.kind) one ∙ its))
-          (λ away. not_spent a (sym its ∙ closed seat.0 it.0.kind away (at_map (λ (u : View). u.kind) s.views seat.0 it.0 it.1)))
-          (cases_eq seat.0 id)))
-      ((r.pictures.each_token tok there).seated a)
+        (λ (same : seat.0 ≡ id).
+        let F : ℕ → Type 0 = λ n. get_elem? s.views n ≡ some it.0 in
+        let one : v ≡ it.0 = some-injective v it.0 (sym here ∙ subst F same it.1) in
+        not_clerk made back a (sym kind ∙ ap (λ (u : View). u.kind) one ∙ its))
+        (λ away. not_spent a (sym its ∙ closed seat.0 it.0.kind away (at_map (λ (u : View). u.kind) s.views seat.0 it.0 it.1)))
+        (cases_eq seat.0 id)))
+        ((r.pictures.each_token tok there).seated a)
       where
         not_clerk : (m b n : ℕ) → Clerk m b ≡ numbered_seat n → ⊥
         not_clerk m b n e = cc

@@ -51,29 +51,29 @@ Shows-split plan home word cells views tok id made back t x shows here kind abse
       count_word = shows.count_word;
       row = shows.row;
       held = λ k u e. ⊎_elim
-        (λ old. ⊎_elim (λ it. subst (λ (w : Seen). w.entry.held ≡ held_in tok w.kind) it.1 own) (λ other. shows.held k u other.1) (at_set views id k y u old))
-        (λ new. subst (λ (w : Seen). w.entry.held ≡ held_in tok w.kind) new.1 (sym free))
-        (at_snoc front z u k e);
+          (λ old. ⊎_elim (λ it. subst (λ (w : Seen). w.entry.held ≡ held_in tok w.kind) it.1 own) (λ other. shows.held k u other.1) (at_set views id k y u old))
+          (λ new. subst (λ (w : Seen). w.entry.held ≡ held_in tok w.kind) new.1 (sym free))
+          (at_snoc front z u k e);
       seated = λ a. ⊎_elim
-        (λ nothing. inl nothing)
-        (λ there. inr (there.0, (there.1.0, (at_longer front (z ∷ []) there.0 there.1.0 (set_else views id there.0 y (apart there.0 there.1.0 there.1.1.0 a there.1.1.1) ∙ there.1.1.0), there.1.1.1))))
-        (shows.seated a);
+          (λ nothing. inl nothing)
+          (λ there. inr (there.0, (there.1.0, (at_longer front (z ∷ []) there.0 there.1.0 (set_else views id there.0 y (apart there.0 there.1.0 there.1.1.0 a there.1.1.1) ∙ there.1.1.0), there.1.1.1))))
+          (shows.seated a);
       tallies = λ a.
-        let f : Seen → ℕ = λ w. amount a w.entry.added in
-        let one = total-snoc f front z in
-        let two = total-set f views id x y here in
-        let old = shows.tallies a in
-        omega arith;
+          let f : Seen → ℕ = λ w. amount a w.entry.added in
+          let one = total-snoc f front z in
+          let two = total-set f views id x y here in
+          let old = shows.tallies a in
+          omega arith;
       sections =
-        let f : Seen → ℕ = λ w. w.entry.written in
-        let one = total-snoc f front z in
-        let two = total-set f views id x y here in
-        let old = shows.sections in
-        omega arith;
+          let f : Seen → ℕ = λ w. w.entry.written in
+          let one = total-snoc f front z in
+          let two = total-set f views id x y here in
+          let old = shows.sections in
+          omega arith;
       known = λ k u e. ⊎_elim
-        (λ old. ⊎_elim (λ it. subst (λ (w : Seen). Knows tok w.entry) it.1 (shows.known id x here)) (λ other. shows.known k u other.1) (at_set views id k y u old))
-        (λ new. subst (λ (w : Seen). Knows tok w.entry) new.1 (Knows-blank tok (blank t) refl refl refl))
-        (at_snoc front z u k e);
+          (λ old. ⊎_elim (λ it. subst (λ (w : Seen). Knows tok w.entry) it.1 (shows.known id x here)) (λ other. shows.known k u other.1) (at_set views id k y u old))
+          (λ new. subst (λ (w : Seen). Knows tok w.entry) new.1 (Knows-blank tok (blank t) refl refl refl))
+          (at_snoc front z u k e);
     }
   where
     apart : (k : ℕ) (u : Seen) → get_elem? views k ≡ some u → (a : ℕ) → u.kind ≡ numbered_seat a → k ≢ id
@@ -93,8 +93,8 @@ Rule-split plans cpus s id v made back r here kind room = record {
     as_many = r.pictures.as_many;
     no_messages = r.pictures.no_messages;
     each_token = λ tok h.
-      let F : List Seen → Type 0 = λ vs. Shows (plan_at plans tok) (get_elem? s.homes tok) (slice_index s.words (token_word tok)) (λ i. slice_index s.words (cell_word tok i)) vs (token_at r.model tok) in
-      subst F (sym (columns tok)) (Shows-split (plan_at plans tok) (get_elem? s.homes tok) (slice_index s.words (token_word tok)) (λ i. slice_index s.words (cell_word tok i)) (column tok s.views) (token_at r.model tok) id made back tok (seen_by tok v)
+        let F : List Seen → Type 0 = λ vs. Shows (plan_at plans tok) (get_elem? s.homes tok) (slice_index s.words (token_word tok)) (λ i. slice_index s.words (cell_word tok i)) vs (token_at r.model tok) in
+        subst F (sym (columns tok)) (Shows-split (plan_at plans tok) (get_elem? s.homes tok) (slice_index s.words (token_word tok)) (λ i. slice_index s.words (cell_word tok i)) (column tok s.views) (token_at r.model tok) id made back tok (seen_by tok v)
         (r.pictures.each_token tok h) (at_map (seen_by tok) s.views id v here) kind (absent tok));
   };
   wide = r.wide;
@@ -102,16 +102,16 @@ Rule-split plans cpus s id v made back r here kind room = record {
   laws = r.laws;
   seats = subst (λ ks. AreSeated cpus ks) (sym all_kinds) (AreSeated-split cpus (map (λ (u : View). u.kind) s.views) id made back r.seats clerk_there room);
   informed = λ j w e. ⊎_elim
-    (λ old. ⊎_elim (λ it. inl (ap (λ (u : View). u.plans) (sym it.1) ∙ own_plans)) (λ other. r.informed j w other.1) (at_set s.views id j (clerk_after v) w old))
-    (λ new. inl (ap (λ (u : View). u.plans) (sym new.1) ∙ own_plans))
-    (at_snoc (set s.views id (clerk_after v)) (new_seat v) w j e);
+      (λ old. ⊎_elim (λ it. inl (ap (λ (u : View). u.plans) (sym it.1) ∙ own_plans)) (λ other. r.informed j w other.1) (at_set s.views id j (clerk_after v) w old))
+      (λ new. inl (ap (λ (u : View). u.plans) (sym new.1) ∙ own_plans))
+      (at_snoc (set s.views id (clerk_after v)) (new_seat v) w j e);
   gone = λ j w e was. ⊎_elim
-    (λ old. ⊎_elim
+      (λ old. ⊎_elim
       (λ it. absurd (let h : Clerk (made + 1) back ≡ Spent = sym (ap after_made kind) ∙ ap (λ (u : View). u.kind) it.1 ∙ was in cc))
       (λ other. r.gone j w other.1 was)
       (at_set s.views id j (clerk_after v) w old))
-    (λ new. absurd (let h : numbered_seat made ≡ Spent = sym (ap next_seat kind) ∙ ap (λ (u : View). u.kind) new.1 ∙ was in no_seat made h))
-    (at_snoc (set s.views id (clerk_after v)) (new_seat v) w j e);
+      (λ new. absurd (let h : numbered_seat made ≡ Spent = sym (ap next_seat kind) ∙ ap (λ (u : View). u.kind) new.1 ∙ was in no_seat made h))
+      (at_snoc (set s.views id (clerk_after v)) (new_seat v) w j e);
 }
   where
     no_seat : (m : ℕ) → numbered_seat m ≡ Spent → ⊥
@@ -161,41 +161,41 @@ Shows-join plan home word cells views tok id made back other t cpu x w shows her
       count_word = shows.count_word;
       row = shows.row;
       held = λ k u e. ⊎_elim
-        (λ it. subst (λ (q : Seen). q.entry.held ≡ held_in tok q.kind) it.1 refl)
-        (λ else_. ⊎_elim (λ it. subst (λ (q : Seen). q.entry.held ≡ held_in tok q.kind) it.1 refl) (λ old. shows.held k u old.1) (at_set views id k y u else_.1))
-        (at_set mid other k z u e);
+          (λ it. subst (λ (q : Seen). q.entry.held ≡ held_in tok q.kind) it.1 refl)
+          (λ else_. ⊎_elim (λ it. subst (λ (q : Seen). q.entry.held ≡ held_in tok q.kind) it.1 refl) (λ old. shows.held k u old.1) (at_set views id k y u else_.1))
+          (at_set mid other k z u e);
       seated = λ a. ⊎_elim (λ nothing. inl nothing) (λ seat. ⊎_elim
           (λ (same : seat.0 ≡ other).
-            let F : ℕ → Type 0 = λ n. get_elem? views n ≡ some seat.1.0 in
-            let one : w ≡ seat.1.0 = some-injective w seat.1.0 (sym there ∙ subst F same seat.1.1.0) in
-            let named : Of cpu ≡ numbered_seat a = sym its_kind ∙ ap (λ (q : Seen). q.kind) one ∙ seat.1.1.1 in
-            let number : cpu.0 ≡ a = ap cpu_in named in
-            inl (ap (held_by tok) (sym number) ∙ free))
+          let F : ℕ → Type 0 = λ n. get_elem? views n ≡ some seat.1.0 in
+          let one : w ≡ seat.1.0 = some-injective w seat.1.0 (sym there ∙ subst F same seat.1.1.0) in
+          let named : Of cpu ≡ numbered_seat a = sym its_kind ∙ ap (λ (q : Seen). q.kind) one ∙ seat.1.1.1 in
+          let number : cpu.0 ≡ a = ap cpu_in named in
+          inl (ap (held_by tok) (sym number) ∙ free))
           (λ away.
-            let not_desk : seat.0 ≢ id = (λ same.
-              let F : ℕ → Type 0 = λ n. get_elem? views n ≡ some seat.1.0 in
-              let one : x ≡ seat.1.0 = some-injective x seat.1.0 (sym here ∙ subst F same seat.1.1.0) in
-              let h : Clerk made back ≡ numbered_seat a = sym kind ∙ ap (λ (q : Seen). q.kind) one ∙ seat.1.1.1 in absurd (no_clerk made back a h)) in
-            inr (seat.0, (seat.1.0, (set_else mid other seat.0 z away ∙ set_else views id seat.0 y not_desk ∙ seat.1.1.0, seat.1.1.1))))
+          let not_desk : seat.0 ≢ id = (λ same.
+          let F : ℕ → Type 0 = λ n. get_elem? views n ≡ some seat.1.0 in
+          let one : x ≡ seat.1.0 = some-injective x seat.1.0 (sym here ∙ subst F same seat.1.1.0) in
+          let h : Clerk made back ≡ numbered_seat a = sym kind ∙ ap (λ (q : Seen). q.kind) one ∙ seat.1.1.1 in absurd (no_clerk made back a h)) in
+          inr (seat.0, (seat.1.0, (set_else mid other seat.0 z away ∙ set_else views id seat.0 y not_desk ∙ seat.1.1.0, seat.1.1.1))))
           (cases_eq seat.0 other))
-        (shows.seated a);
+          (shows.seated a);
       tallies = λ a.
-        let f : Seen → ℕ = λ q. amount a q.entry.added in
-        let one = total-set f mid other w z still in
-        let two = total-set f views id x y here in
-        let both = sum_by-append (λ (q : Added). cond (eqb q.cpu.0 a) q.amount 0) x.entry.added w.entry.added in
-        let old = shows.tallies a in
-        omega arith;
+          let f : Seen → ℕ = λ q. amount a q.entry.added in
+          let one = total-set f mid other w z still in
+          let two = total-set f views id x y here in
+          let both = sum_by-append (λ (q : Added). cond (eqb q.cpu.0 a) q.amount 0) x.entry.added w.entry.added in
+          let old = shows.tallies a in
+          omega arith;
       sections =
-        let f : Seen → ℕ = λ q. q.entry.written in
-        let one = total-set f mid other w z still in
-        let two = total-set f views id x y here in
-        let old = shows.sections in
-        omega arith;
+          let f : Seen → ℕ = λ q. q.entry.written in
+          let one = total-set f mid other w z still in
+          let two = total-set f views id x y here in
+          let old = shows.sections in
+          omega arith;
       known = λ k u e. ⊎_elim
-        (λ it. subst (λ (q : Seen). Knows tok q.entry) it.1 (Knows-blank tok (blank t) refl refl refl))
-        (λ else_. ⊎_elim (λ it. subst (λ (q : Seen). Knows tok q.entry) it.1 (Knows-blank tok (both_of t x.entry w.entry) refl refl refl)) (λ old. shows.known k u old.1) (at_set views id k y u else_.1))
-        (at_set mid other k z u e);
+          (λ it. subst (λ (q : Seen). Knows tok q.entry) it.1 (Knows-blank tok (blank t) refl refl refl))
+          (λ else_. ⊎_elim (λ it. subst (λ (q : Seen). Knows tok q.entry) it.1 (Knows-blank tok (both_of t x.entry w.entry) refl refl refl)) (λ old. shows.known k u old.1) (at_set views id k y u else_.1))
+          (at_set mid other k z u e);
     }
   where
     no_clerk : (m b a : ℕ) → Clerk m b ≡ numbered_seat a → ⊥
@@ -213,26 +213,26 @@ Rule-join plans cpus s id v made back other cpu w r here kind apart there its_ki
     as_many = r.pictures.as_many;
     no_messages = r.pictures.no_messages;
     each_token = λ tok h.
-      let F : List Seen → Type 0 = λ vs. Shows (plan_at plans tok) (get_elem? s.homes tok) (slice_index s.words (token_word tok)) (λ i. slice_index s.words (cell_word tok i)) vs (token_at r.model tok) in
-      subst F (sym (columns tok h)) (Shows-join (plan_at plans tok) (get_elem? s.homes tok) (slice_index s.words (token_word tok)) (λ i. slice_index s.words (cell_word tok i)) (column tok s.views) (token_at r.model tok) id made back other tok cpu (seen_by tok v) (seen_by tok w)
+        let F : List Seen → Type 0 = λ vs. Shows (plan_at plans tok) (get_elem? s.homes tok) (slice_index s.words (token_word tok)) (λ i. slice_index s.words (cell_word tok i)) vs (token_at r.model tok) in
+        subst F (sym (columns tok h)) (Shows-join (plan_at plans tok) (get_elem? s.homes tok) (slice_index s.words (token_word tok)) (λ i. slice_index s.words (cell_word tok i)) (column tok s.views) (token_at r.model tok) id made back other tok cpu (seen_by tok v) (seen_by tok w)
         (r.pictures.each_token tok h) (at_map (seen_by tok) s.views id v here) kind apart (at_map (seen_by tok) s.views other w there) its_kind (quiet tok h));
   };
   wide = r.wide;
   zero_word = r.zero_word;
   laws = r.laws;
   seats = subst (λ ks. AreSeated cpus ks) (sym all_kinds)
-    (AreSeated-join cpus (map (λ (u : View). u.kind) s.views) id made back other cpu r.seats (at_map (λ (u : View). u.kind) s.views id v here ∙ ap (λ (x : SeatKind). some x) kind) apart (at_map (λ (u : View). u.kind) s.views other w there ∙ ap (λ (x : SeatKind). some x) its_kind));
+      (AreSeated-join cpus (map (λ (u : View). u.kind) s.views) id made back other cpu r.seats (at_map (λ (u : View). u.kind) s.views id v here ∙ ap (λ (x : SeatKind). some x) kind) apart (at_map (λ (u : View). u.kind) s.views other w there ∙ ap (λ (x : SeatKind). some x) its_kind));
   informed = λ j u e. ⊎_elim
-    (λ it. inr (sym it.1))
-    (λ else_. ⊎_elim (λ it. inl (ap (λ (q : View). q.plans) (sym it.1) ∙ own_plans)) (λ old. r.informed j u old.1) (at_set s.views id j (joined v w) u else_.1))
-    (at_set (set s.views id (joined v w)) other j spent u e);
+      (λ it. inr (sym it.1))
+      (λ else_. ⊎_elim (λ it. inl (ap (λ (q : View). q.plans) (sym it.1) ∙ own_plans)) (λ old. r.informed j u old.1) (at_set s.views id j (joined v w) u else_.1))
+      (at_set (set s.views id (joined v w)) other j spent u e);
   gone = λ j u e was. ⊎_elim
-    (λ it. ap (λ (q : View). q.tokens) (sym it.1))
-    (λ else_. ⊎_elim
+      (λ it. ap (λ (q : View). q.tokens) (sym it.1))
+      (λ else_. ⊎_elim
       (λ it. absurd (let h : Clerk made (back + 1) ≡ Spent = sym (ap after_back kind) ∙ ap (λ (q : View). q.kind) it.1 ∙ was in cc))
       (λ old. r.gone j u old.1 was)
       (at_set s.views id j (joined v w) u else_.1))
-    (at_set (set s.views id (joined v w)) other j spent u e);
+      (at_set (set s.views id (joined v w)) other j spent u e);
 }
   where
     own_plans : v.plans ≡ plans

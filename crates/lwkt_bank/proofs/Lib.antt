@@ -12,3 +12,4 @@ pub mod RowMoves
 pub mod GatherMoves
 pub mod OpenMoves
 pub mod CloseMoves
+pub mod KeptMoves

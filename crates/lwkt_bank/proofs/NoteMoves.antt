@@ -119,10 +119,10 @@ Keeps-set notes cpu v w e made tok note keeps is is_tok room here =
     each k h =
         let G : ℕ → Entry → Note → Type 0 = λ j d m. IsNoted (plan_at v.plans j) cpu.0 d m in
         ⊎_elim
-          (λ (same : k ≡ tok). subst (λ (j : ℕ). G j (at (e ∷ v.tokens) j) (note_at (set notes tok note) j)) (sym same)
-            (subst (λ (d : Entry). G tok d (note_at (set notes tok note) tok)) (sym (at-here e v.tokens tok is_tok)) (subst (λ (m : Note). G tok e m) (sym (get_or-set_same notes tok note no_note room)) here)))
-          (λ away. subst (λ (d : Entry). G k d (note_at (set notes tok note) k)) (sym (at-else e v.tokens tok k is_tok away)) (subst (λ (m : Note). G k (at v.tokens k) m) (sym (get_or-set_other notes tok k note no_note away)) (keeps.each k h)))
-          (cases_eq k tok)
+        (λ (same : k ≡ tok). subst (λ (j : ℕ). G j (at (e ∷ v.tokens) j) (note_at (set notes tok note) j)) (sym same)
+        (subst (λ (d : Entry). G tok d (note_at (set notes tok note) tok)) (sym (at-here e v.tokens tok is_tok)) (subst (λ (m : Note). G tok e m) (sym (get_or-set_same notes tok note no_note room)) here)))
+        (λ away. subst (λ (d : Entry). G k d (note_at (set notes tok note) k)) (sym (at-else e v.tokens tok k is_tok away)) (subst (λ (m : Note). G k (at v.tokens k) m) (sym (get_or-set_other notes tok k note no_note away)) (keeps.each k h)))
+        (cases_eq k tok)
 
 -- and where its note stays
 pub Keeps-kept : (notes : List Note) (cpu : CpuId) (v w : View) (e : Entry) (made : List WordStep) (tok : ℕ) → Keeps notes cpu v → w ≡ noted v e made → e.tok ≡ tok → IsNoted (plan_at v.plans tok) cpu.0 e (note_at notes tok) → Keeps notes cpu w
@@ -134,9 +134,9 @@ Keeps-kept notes cpu v w e made tok keeps is is_tok here =
     each k h =
         let G : ℕ → Entry → Type 0 = λ j d. IsNoted (plan_at v.plans j) cpu.0 d (note_at notes j) in
         ⊎_elim
-          (λ (same : k ≡ tok). subst (λ (j : ℕ). G j (at (e ∷ v.tokens) j)) (sym same) (subst (λ (d : Entry). G tok d) (sym (at-here e v.tokens tok is_tok)) here))
-          (λ away. subst (λ (d : Entry). G k d) (sym (at-else e v.tokens tok k is_tok away)) (keeps.each k h))
-          (cases_eq k tok)
+        (λ (same : k ≡ tok). subst (λ (j : ℕ). G j (at (e ∷ v.tokens) j)) (sym same) (subst (λ (d : Entry). G tok d) (sym (at-here e v.tokens tok is_tok)) here))
+        (λ away. subst (λ (d : Entry). G k d) (sym (at-else e v.tokens tok k is_tok away)) (keeps.each k h))
+        (cases_eq k tok)
 
 -- where a cell was changed, and where none was
 module _ (plan : Plan) (cpu : ℕ) (e : Entry) (note : Note) (noted' : IsNoted plan cpu e note) (held : is_held e.held ≡ true) (within : plan.cells ≤ 4) where
@@ -179,11 +179,11 @@ module _ (plan : Plan) (cpu : ℕ) (e : Entry) (note : Note) (noted' : IsNoted p
       unchanged : (cell : ℕ) → cell < plan.cells → has_changed (change_at note cell) ≡ false
       unchanged cell inside = ⊎_elim
           (λ yes'. absurd (
-            let l = length-take plan.cells note.cells in
-            let f = noted'.four in
-            let w = within in
-            let short : cell < length (take plan.cells note.cells) = omega arith in
-            false≢true (sym none ∙ list_any_at has_changed (take plan.cells note.cells) cell None short (ap has_changed (cell_is cell inside) ∙ yes'))))
+          let l = length-take plan.cells note.cells in
+          let f = noted'.four in
+          let w = within in
+          let short : cell < length (take plan.cells note.cells) = omega arith in
+          false≢true (sym none ∙ list_any_at has_changed (take plan.cells note.cells) cell None short (ap has_changed (cell_is cell inside) ∙ yes'))))
           (λ no'. no')
           (cases_Bool (has_changed (change_at note cell)))
 
@@ -207,12 +207,12 @@ module _ (plan : Plan) (cpu : ℕ) (e : Entry) (note : Note) (noted' : IsNoted p
   pub stored_there : (k : ℕ) → k < plan.cells → ForSome (get_or cells k None) (λ c. (c.first ≡ slice_index e.first k) × (c.last ≡ slice_index row k))
   stored_there k low c found = ⊎_elim
       (λ (same : k ≡ cell).
-        let one : change ≡ c = (let h : Some change ≡ Some c = sym cell_here ∙ ap (λ (j : ℕ). get_or cells j None) (sym same) ∙ found in cc) in
-        let F : ℕ → Type 0 = λ j. (change.first ≡ slice_index e.first j) × (change.last ≡ slice_index row j) in
-        subst (λ (d : Change). (d.first ≡ slice_index e.first k) × (d.last ≡ slice_index row k)) one (subst F (sym same) (first_is, sym row_here)))
+      let one : change ≡ c = (let h : Some change ≡ Some c = sym cell_here ∙ ap (λ (j : ℕ). get_or cells j None) (sym same) ∙ found in cc) in
+      let F : ℕ → Type 0 = λ j. (change.first ≡ slice_index e.first j) × (change.last ≡ slice_index row j) in
+      subst (λ (d : Change). (d.first ≡ slice_index e.first k) × (d.last ≡ slice_index row k)) one (subst F (sym same) (first_is, sym row_here)))
       (λ away.
-        let s = noted'.stored k is low c (sym (get_or-set_other note.cells cell k (Some change) None away) ∙ found) in
-        (s.0, s.1 ∙ sym (get_or-set_other e.row cell k value 0 away)))
+      let s = noted'.stored k is low c (sym (get_or-set_other note.cells cell k (Some change) None away) ∙ found) in
+      (s.0, s.1 ∙ sym (get_or-set_other e.row cell k value 0 away)))
       (cases_eq k cell)
 
   pub untouched_there : (k : ℕ) → k < plan.cells → ForNone (get_or cells k None) (slice_index row k ≡ slice_index e.first k)
@@ -245,10 +245,10 @@ IsNoted-raised plan cpu e note noted' is within first k inside first_is =
       held = noted'.held;
       tally = omega arith;
       own = λ other away.
-        let sum = sum_by-cons (λ (x : Added). cond (eqb x.cpu.0 other) x.amount 0) (record { cpu = cpu; amount = k }) e.added in
-        let none = ap (λ b. cond b k 0) (ne_eqb cpu.0 other (λ same. away (sym same))) in
-        let rest = noted'.own other away in
-        omega arith;
+          let sum = sum_by-cons (λ (x : Added). cond (eqb x.cpu.0 other) x.amount 0) (record { cpu = cpu; amount = k }) e.added in
+          let none = ap (λ b. cond b k 0) (ne_eqb cpu.0 other (λ same. away (sym same))) in
+          let rest = noted'.own other away in
+          omega arith;
       long = λ h. let l = noted'.long is in (l.0, length-set e.row 0 value ∙ l.1);
       stored = λ j h low. stored_there plan cpu.0 e note noted' is within 0 first value inside first_is j low;
       untouched = λ j h low. untouched_there plan cpu.0 e note noted' is within 0 first value inside first_is j low;

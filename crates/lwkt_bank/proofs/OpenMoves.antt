@@ -87,22 +87,22 @@ Rule-opening cpus specs within lawful = record {
     as_many = length-map specs opened_token ∙ sym (length-map specs plan_of_spec);
     no_messages = refl;
     each_token = λ t h.
-      let there : t < length specs = (let l = length-map specs plan_of_spec in omega arith) in
-      let spec = get_or specs t no_spec in
-      let short : length spec.cells ≤ 4 = (within.each_token t no_spec there).0 in
-      let F : Plan → Type 0 = λ p. Shows p (get_elem? [] t) (slice_index (opening_words specs) (token_word t)) (λ i. slice_index (opening_words specs) (cell_word t i)) (column t (first_view (plans_of specs) ∷ [])) (token_at (opening cpus specs []) t) in
-      let G : Token → Type 0 = λ k. Shows (plan_of_spec spec) (get_elem? [] t) (slice_index (opening_words specs) (token_word t)) (λ i. slice_index (opening_words specs) (cell_word t i)) (column t (first_view (plans_of specs) ∷ [])) k in
-      subst F (sym (get_or-map plan_of_spec specs t no_spec no_plan there)) (subst G (sym (get_or-map opened_token specs t no_spec no_token there))
+        let there : t < length specs = (let l = length-map specs plan_of_spec in omega arith) in
+        let spec = get_or specs t no_spec in
+        let short : length spec.cells ≤ 4 = (within.each_token t no_spec there).0 in
+        let F : Plan → Type 0 = λ p. Shows p (get_elem? [] t) (slice_index (opening_words specs) (token_word t)) (λ i. slice_index (opening_words specs) (cell_word t i)) (column t (first_view (plans_of specs) ∷ [])) (token_at (opening cpus specs []) t) in
+        let G : Token → Type 0 = λ k. Shows (plan_of_spec spec) (get_elem? [] t) (slice_index (opening_words specs) (token_word t)) (λ i. slice_index (opening_words specs) (cell_word t i)) (column t (first_view (plans_of specs) ∷ [])) k in
+        subst F (sym (get_or-map plan_of_spec specs t no_spec no_plan there)) (subst G (sym (get_or-map opened_token specs t no_spec no_token there))
         (Shows-opening (plans_of specs) spec t (slice_index (opening_words specs) (token_word t)) (λ i. slice_index (opening_words specs) (cell_word t i))
-          (word_at specs t 0 (token_word t) there (omega arith) (omega arith))
-          (λ i low. word_at specs t (1 + i) (cell_word t i) there (omega arith) (omega arith) ∙ cell_in spec i (omega arith))));
+        (word_at specs t 0 (token_word t) there (omega arith) (omega arith))
+        (λ i low. word_at specs t (1 + i) (cell_word t i) there (omega arith) (omega arith) ∙ cell_in spec i (omega arith))));
   };
   wide = let b = length-blocks specs in let l = length-map specs plan_of_spec in omega arith;
   zero_word = refl;
   laws = λ t h.
-    let there : t < length specs = (let l = length-map specs plan_of_spec in omega arith) in
-    let same = get_or-map plan_of_spec specs t no_spec no_plan there in
-    (word_at specs t 5 (law_word t) there (omega arith) (omega arith) ∙ ap (λ (p : Plan). law_number p.law) (sym same), word_at specs t 6 (param_word t) there (omega arith) (omega arith) ∙ ap (λ (p : Plan). p.param) (sym same));
+      let there : t < length specs = (let l = length-map specs plan_of_spec in omega arith) in
+      let same = get_or-map plan_of_spec specs t no_spec no_plan there in
+      (word_at specs t 5 (law_word t) there (omega arith) (omega arith) ∙ ap (λ (p : Plan). law_number p.law) (sym same), word_at specs t 6 (param_word t) there (omega arith) (omega arith) ∙ ap (λ (p : Plan). p.param) (sym same));
   seats = AreSeated-opening cpus;
   informed = λ j v e. inl (only j v e);
   gone = λ j v e was. absurd (let h : Clerk 0 0 ≡ Spent = sym (is_clerk j v e) ∙ was in cc);
@@ -139,8 +139,8 @@ short_plans specs within tok = ⊎_elim
 pub single_plans : (specs : List TokSpec) → All IsTokenWithin specs → (tok : ℕ) → (plan_at (plans_of specs) tok).law ≡ Tally → (plan_at (plans_of specs) tok).cells ≡ 1
 single_plans specs within tok tally = ⊎_elim
     (λ (there : tok < length specs).
-      let e = plan_read specs tok there in
-      ap (λ (p : Plan). p.cells) e ∙ (within tok no_spec there).1 (sym (ap (λ (p : Plan). p.law) e) ∙ tally))
+    let e = plan_read specs tok there in
+    ap (λ (p : Plan). p.cells) e ∙ (within tok no_spec there).1 (sym (ap (λ (p : Plan). p.law) e) ∙ tally))
     (λ (beyond : length specs ≤ tok). absurd (let h : Any ≡ Tally = sym (ap (λ (p : Plan). p.law) (no_plan_there specs tok beyond)) ∙ tally in cc))
     (cases_lt tok (length specs))
 
@@ -154,14 +154,14 @@ Keeps-new cpu v w kind is =
     subst F (sym is) (record {
       seat = ap (λ k. seat_number (next_seat k)) kind;
       each = λ tok h.
-        let G : Note → Type 0 = λ n. IsNoted (plan_at v.plans tok) cpu.0 (blank tok) n in
-        subst G (sym (replicated 64 tok no_note)) (record {
-          four = refl;
-          held = refl;
-          tally = refl;
-          own = λ other away. refl;
-          long = λ held. absurd (false≢true held);
-          stored = λ cell held. absurd (false≢true held);
-          untouched = λ cell held. absurd (false≢true held);
-        });
+          let G : Note → Type 0 = λ n. IsNoted (plan_at v.plans tok) cpu.0 (blank tok) n in
+          subst G (sym (replicated 64 tok no_note)) (record {
+            four = refl;
+            held = refl;
+            tally = refl;
+            own = λ other away. refl;
+            long = λ held. absurd (false≢true held);
+            stored = λ cell held. absurd (false≢true held);
+            untouched = λ cell held. absurd (false≢true held);
+          });
     })

@@ -43,12 +43,12 @@ restoring_more s mid s' tok made cell None so_far low inside told =
         steps = told.0.steps ∙ so_far.changes.steps;
       };
       done = λ k h. ⊎_elim
-        (λ (now : k ≡ cell).
+          (λ (now : k ≡ cell).
           let R = written_over 0 made e.row in
           let P : ℕ → Type 0 = λ j. slice_index R j ≡ slice_index e.first j in
           subst P (sym now) (sym (ap (λ (d : Entry). slice_index d.row cell) so_far.changes.here) ∙ told.1 ∙ ap (λ (d : Entry). slice_index d.first cell) so_far.changes.here))
-        (λ before. so_far.done k (omega arith))
-        (cases_eq k cell);
+          (λ before. so_far.done k (omega arith))
+          (cases_eq k cell);
     })
 restoring_more s mid s' tok made cell (Some value) so_far low inside told =
     let e = entry s tok in
@@ -62,14 +62,14 @@ restoring_more s mid s' tok made cell (Some value) so_far low inside told =
       four = length-set made cell (Some value) ∙ so_far.four;
       later = λ k h. get_or-set_other made cell k (Some value) None (λ same. absurd (omega arith)) ∙ so_far.later k (omega arith);
       changes = subst G
-        (ap (λ (d : Entry). stored d cell value) so_far.changes.here ∙ ap (λ (r : List ℕ). record e { row = r }) (sym grown))
-        (changed_twice s mid s' tok (record e { row = R }) (stored (entry mid tok) cell value) [] [] so_far.changes told.1);
+          (ap (λ (d : Entry). stored d cell value) so_far.changes.here ∙ ap (λ (r : List ℕ). record e { row = r }) (sym grown))
+          (changed_twice s mid s' tok (record e { row = R }) (stored (entry mid tok) cell value) [] [] so_far.changes told.1);
       done = λ k h. ap (λ (r : List ℕ). slice_index r k) grown ∙ ⊎_elim
-        (λ (now : k ≡ cell).
+          (λ (now : k ≡ cell).
           let P : ℕ → Type 0 = λ j. slice_index (set R cell value) j ≡ slice_index e.first j in
           subst P (sym now) (get_or-set_same R cell value 0 room ∙ first_is))
-        (λ before. get_or-set_other R cell k value 0 before ∙ so_far.done k (omega arith))
-        (cases_eq k cell);
+          (λ before. get_or-set_other R cell k value 0 before ∙ so_far.done k (omega arith))
+          (cases_eq k cell);
     }
 
 -- the whole row is restored once each cell is

@@ -126,50 +126,53 @@ module _ (plans : List Plan) (cpus : ℕ) (s : Bench) (r : Rule plans cpus s) wh
     seen_next : Shows (plan_at plans tok) (get_elem? s.homes tok) (slice_index words (token_word tok)) (λ c. slice_index words (cell_word tok c)) (column tok (set s.views id w)) (token_at next tok)
     seen_next =
         let stepped_on = Shows-step (plan_at plans tok) (get_elem? s.homes tok) (slice_index s.words (token_word tok)) (λ c. slice_index s.words (cell_word tok c)) (column tok s.views) (token_at r.model tok) id (seen_by tok v) (seen_by tok w) cpu
-          (slice_index (slice_set s.words i n) (token_word tok)) (λ c. slice_index (slice_set s.words i n) (cell_word tok c)) (token_after (token_at r.model tok) e)
-          (r.pictures.each_token tok exists') (at_map (seen_by tok) s.views id v here) kind same_kind (apart id v cpu tok here kind) turns in
+        (slice_index (slice_set s.words i n) (token_word tok)) (λ c. slice_index (slice_set s.words i n) (cell_word tok c)) (token_after (token_at r.model tok) e)
+        (r.pictures.each_token tok exists') (at_map (seen_by tok) s.views id v here) kind same_kind (apart id v cpu tok here kind) turns in
         Shows-move (plan_at plans tok) (get_elem? s.homes tok) (slice_index (slice_set s.words i n) (token_word tok)) (slice_index (slice_set s.words i n) (token_word tok)) (λ c. slice_index (slice_set s.words i n) (cell_word tok c)) (λ c. slice_index (slice_set s.words i n) (cell_word tok c))
-          (set (column tok s.views) id (seen_by tok w)) (column tok (set s.views id w)) (token_after (token_at r.model tok) e) (get_or (set r.model.tokens tok (token_after (token_at r.model tok) e)) tok no_token)
-          refl (λ c h. refl) (column-set tok s.views id w) (get_or-set_same r.model.tokens tok (token_after (token_at r.model tok) e) no_token (there tok exists')) stepped_on
+        (set (column tok s.views) id (seen_by tok w)) (column tok (set s.views id w)) (token_after (token_at r.model tok) e) (get_or (set r.model.tokens tok (token_after (token_at r.model tok) e)) tok no_token)
+        refl (λ c h. refl) (column-set tok s.views id w) (get_or-set_same r.model.tokens tok (token_after (token_at r.model tok) e) no_token (there tok exists')) stepped_on
 
     seen_else : (k : ℕ) → k < length plans → k ≢ tok → Shows (plan_at plans k) (get_elem? s.homes k) (slice_index words (token_word k)) (λ c. slice_index words (cell_word k c)) (column k (set s.views id w)) (token_at next k)
     seen_else k h away =
         let few = few_cells k h in
         Shows-move (plan_at plans k) (get_elem? s.homes k) (slice_index s.words (token_word k)) (slice_index (slice_set s.words i n) (token_word k)) (λ c. slice_index s.words (cell_word k c)) (λ c. slice_index (slice_set s.words i n) (cell_word k c))
-          (column k s.views) (column k (set s.views id w)) (token_at r.model k) (get_or (set r.model.tokens tok (token_after (token_at r.model tok) e)) k no_token)
-          (get_or-set_other s.words i (token_word k) n 0 (λ same. absurd (omega arith)))
-          (λ c inside_row. get_or-set_other s.words i (cell_word k c) n 0 (λ same. absurd (omega arith)))
-          (column-same k s.views id v w here (seen-same k v w same_kind (else_ k away)))
-          (get_or-set_other r.model.tokens tok k (token_after (token_at r.model tok) e) no_token away)
-          (r.pictures.each_token k h)
+        (column k s.views) (column k (set s.views id w)) (token_at r.model k) (get_or (set r.model.tokens tok (token_after (token_at r.model tok) e)) k no_token)
+        (get_or-set_other s.words i (token_word k) n 0 (λ same. absurd (omega arith)))
+        (λ c inside_row. get_or-set_other s.words i (cell_word k c) n 0 (λ same. absurd (omega arith)))
+        (column-same k s.views id v w here (seen-same k v w same_kind (else_ k away)))
+        (get_or-set_other r.model.tokens tok k (token_after (token_at r.model tok) e) no_token away)
+        (r.pictures.each_token k h)
 
     -- the rule stays, and the machine after the step is what the event leaves
     pub lift : (q : Rule plans cpus (stepped s i n id [] w keeps)) × Happens r.model e q.model
-    lift = (record {
-      model = next;
-      safe = IsSafe_left r.model next e r.safe all_needs is_after;
-      pictures = record {
-        processors = r.pictures.processors;
-        as_many = length-set r.model.tokens tok (token_after (token_at r.model tok) e) ∙ r.pictures.as_many;
-        no_messages = r.pictures.no_messages;
-        each_token = λ k h. ⊎_elim
-          (λ same. let F : ℕ → Type 0 = λ q. Shows (plan_at plans q) (get_elem? s.homes q) (slice_index words (token_word q)) (λ c. slice_index words (cell_word q c)) (column q (set s.views id w)) (token_at next q) in subst F (sym same) seen_next)
-          (λ away. seen_else k h away)
-          (cases_eq k tok);
-      };
-      wide = length-set s.words i n ∙ r.wide;
-      zero_word = get_or-set_other s.words i 0 n 0 (λ same. absurd (omega arith)) ∙ r.zero_word;
-      laws = λ k h. (get_or-set_other s.words i (law_word k) n 0 (λ same. absurd (omega arith)) ∙ (r.laws k h).0, get_or-set_other s.words i (param_word k) n 0 (λ same. absurd (omega arith)) ∙ (r.laws k h).1);
-      seats =
-        let kinds : map (λ (x : View). x.kind) (set s.views id w) ≡ map (λ (x : View). x.kind) s.views =
-        map-set (λ (x : View). x.kind) s.views id w ∙ ap (set (map (λ (x : View). x.kind) s.views) id) same_kind ∙ set_again (map (λ (x : View). x.kind) s.views) id v.kind (at_map (λ (x : View). x.kind) s.views id v here) in
-        let F : List SeatKind → Type 0 = λ ks. AreSeated cpus ks in subst F (sym kinds) r.seats;
-      informed = λ j x d. ⊎_elim
-        (λ new. inl (ap (λ (y : View). y.plans) (sym new.1) ∙ same_plans ∙ plans_there id v cpu here kind))
-        (λ old. r.informed j x old.1)
-        (at_set s.views id j w x d);
-      gone = λ j x d was. ⊎_elim
-        (λ new. absurd (let h : Of cpu ≡ Spent = sym (same_kind ∙ kind) ∙ ap (λ (y : View). y.kind) new.1 ∙ was in cc))
-        (λ old. r.gone j x old.1 was)
-        (at_set s.views id j w x d);
-    }, (all_needs, is_after))
+    lift = (
+      record {
+        model = next;
+        safe = IsSafe_left r.model next e r.safe all_needs is_after;
+        pictures = record {
+          processors = r.pictures.processors;
+          as_many = length-set r.model.tokens tok (token_after (token_at r.model tok) e) ∙ r.pictures.as_many;
+          no_messages = r.pictures.no_messages;
+          each_token = λ k h. ⊎_elim
+              (λ same. let F : ℕ → Type 0 = λ q. Shows (plan_at plans q) (get_elem? s.homes q) (slice_index words (token_word q)) (λ c. slice_index words (cell_word q c)) (column q (set s.views id w)) (token_at next q) in subst F (sym same) seen_next)
+              (λ away. seen_else k h away)
+              (cases_eq k tok);
+        };
+        wide = length-set s.words i n ∙ r.wide;
+        zero_word = get_or-set_other s.words i 0 n 0 (λ same. absurd (omega arith)) ∙ r.zero_word;
+        laws = λ k h. (get_or-set_other s.words i (law_word k) n 0 (λ same. absurd (omega arith)) ∙ (r.laws k h).0, get_or-set_other s.words i (param_word k) n 0 (λ same. absurd (omega arith)) ∙ (r.laws k h).1);
+        seats =
+            let kinds : map (λ (x : View). x.kind) (set s.views id w) ≡ map (λ (x : View). x.kind) s.views =
+            map-set (λ (x : View). x.kind) s.views id w ∙ ap (set (map (λ (x : View). x.kind) s.views) id) same_kind ∙ set_again (map (λ (x : View). x.kind) s.views) id v.kind (at_map (λ (x : View). x.kind) s.views id v here) in
+            let F : List SeatKind → Type 0 = λ ks. AreSeated cpus ks in subst F (sym kinds) r.seats;
+        informed = λ j x d. ⊎_elim
+            (λ new. inl (ap (λ (y : View). y.plans) (sym new.1) ∙ same_plans ∙ plans_there id v cpu here kind))
+            (λ old. r.informed j x old.1)
+            (at_set s.views id j w x d);
+        gone = λ j x d was. ⊎_elim
+            (λ new. absurd (let h : Of cpu ≡ Spent = sym (same_kind ∙ kind) ∙ ap (λ (y : View). y.kind) new.1 ∙ was in cc))
+            (λ old. r.gone j x old.1 was)
+            (at_set s.views id j w x d);
+      },
+      (all_needs, is_after),
+    )

@@ -47,7 +47,7 @@ use Rattle.lwkt_bank.proofs.RuleMoves.{there, token_is, safe_token, few_cells, s
 use Rattle.lwkt_bank.proofs.TurnMoves.{Sight, seen-keeps, generation_is, first_lawful, fresh, free_at, settled_free, open_at, turns_load, turns_take, turns_share, turns_again, turns_give_one, turns_give_clean, turns_give_written, turns_mark, turns_read, turns_write, turns_raise, room_less, room_more, room_clean, room_written, marked_is, exclusive_held}
 
 -- one number of a list is at most their sum
-tally-le : (tallies : List ℕ) (a : ℕ) → slice_index tallies a ≤ sum tallies
+pub tally-le : (tallies : List ℕ) (a : ℕ) → slice_index tallies a ≤ sum tallies
 tally-le tallies a = ⊎_elim
     (λ (inside : a < length tallies). get_or-le-sum_by (λ x. x) tallies a 0 inside)
     (λ (beyond : length tallies ≤ a). let z = get_or-eq_default tallies 0 beyond in omega arith)
@@ -111,7 +111,7 @@ module _ (plans : List Plan) (cpus id : ℕ) (v : View) (cpu : CpuId) (tok : ℕ
         let few = few_cells plans cpus s r tok exists' in
         lift plans cpus s r id v (noted v e' steps) cpu tok (token_word tok) n' ev here kind refl refl (λ k away. at-else e' v.tokens tok k is_tok away) exists' (omega arith) (omega arith) at_tok by_cpu needs room
         (Turns-move (plan_at plans tok) (token_at r.model tok) (token_after (token_at r.model tok) ev) cpu.0 e e' (at (e' ∷ v.tokens) tok) n' (slice_index (slice_set s.words (token_word tok) n') (token_word tok)) cells (λ c. slice_index (slice_set s.words (token_word tok) n') (cell_word tok c))
-          (at-here e' v.tokens tok is_tok) (get_or-set_same s.words (token_word tok) n' 0 (omega arith)) (λ c h. get_or-set_other s.words (token_word tok) (cell_word tok c) n' 0 (λ same. absurd (omega arith))) turns)
+        (at-here e' v.tokens tok is_tok) (get_or-set_same s.words (token_word tok) n' 0 (omega arith)) (λ c h. get_or-set_other s.words (token_word tok) (cell_word tok c) n' 0 (λ same. absurd (omega arith))) turns)
 
     -- a step on a cell
     cell_step : (e' : Entry) (cell value : ℕ) (ev : Event) → cell < (plan_at plans tok).cells → e'.tok ≡ tok → place_of ev ≡ AtToken tok → cpu_of ev ≡ cpu.0 → TokenNeeds (token_at r.model tok) ev → adds_reference ev ≡ false
@@ -121,7 +121,7 @@ module _ (plans : List Plan) (cpus id : ℕ) (v : View) (cpu : CpuId) (tok : ℕ
         let few = few_cells plans cpus s r tok exists' in
         lift plans cpus s r id v (noted v e' []) cpu tok (cell_word tok cell) value ev here kind refl refl (λ k away. at-else e' v.tokens tok k is_tok away) exists' (omega arith) (omega arith) at_tok by_cpu needs (λ adds. absurd (false≢true (sym quiet ∙ adds)))
         (Turns-move (plan_at plans tok) (token_at r.model tok) (token_after (token_at r.model tok) ev) cpu.0 e e' (at (e' ∷ v.tokens) tok) n (slice_index (slice_set s.words (cell_word tok cell) value) (token_word tok)) (λ c. slice_index (slice_set s.words (cell_word tok cell) value) (cell_word tok c)) (λ c. slice_index (slice_set s.words (cell_word tok cell) value) (cell_word tok c))
-          (at-here e' v.tokens tok is_tok) (get_or-set_other s.words (cell_word tok cell) (token_word tok) value 0 (λ same. absurd (omega arith))) (λ c h. refl) turns)
+        (at-here e' v.tokens tok is_tok) (get_or-set_other s.words (cell_word tok cell) (token_word tok) value 0 (λ same. absurd (omega arith))) (λ c h. refl) turns)
 
     abbrev After : ℕ → View → Event → ℕ → Type 0
     After i w ev x = (q : Rule plans cpus (stepped s i x id [] w keeps)) × Happens r.model ev q.model
@@ -331,12 +331,12 @@ module _ (plans : List Plan) (cpus id : ℕ) (v : View) (cpu : CpuId) (tok : ℕ
       let W = slice_set s.words (cell_word tok cell) value in
       let R = slice_set (token_at r.model tok).row cell value in
       ⊎_elim
-        (λ (same : c ≡ cell).
-          let P : ℕ → Type 0 = λ k. slice_index W (cell_word tok k) ≡ slice_index R k in
-          subst P (sym same) (get_or-set_same s.words (cell_word tok cell) value 0 (omega arith) ∙ sym (get_or-set_same (token_at r.model tok).row cell value 0 (omega arith))))
-        (λ away.
-          get_or-set_other s.words (cell_word tok cell) (cell_word tok c) value 0 (λ same. away (omega arith)) ∙ m.row c inside_row ∙ sym (get_or-set_other (token_at r.model tok).row cell c value 0 away))
-        (cases_eq c cell)
+      (λ (same : c ≡ cell).
+      let P : ℕ → Type 0 = λ k. slice_index W (cell_word tok k) ≡ slice_index R k in
+      subst P (sym same) (get_or-set_same s.words (cell_word tok cell) value 0 (omega arith) ∙ sym (get_or-set_same (token_at r.model tok).row cell value 0 (omega arith))))
+      (λ away.
+      get_or-set_other s.words (cell_word tok cell) (cell_word tok c) value 0 (λ same. away (omega arith)) ∙ m.row c inside_row ∙ sym (get_or-set_other (token_at r.model tok).row cell c value 0 away))
+      (cases_eq c cell)
 
   -- a value stored in a cell, under any law but Tally
   pub store_steps : is_exclusive e.held ≡ true → (plan_at plans tok).law ≢ Tally → (cell value : ℕ) → cell < (plan_at plans tok).cells → Steps plans cpus id v (cell_word tok cell) (λ _. value) (λ _. Write cpu t cell value) (λ _ w. StoresCell tok cell v value w)

@@ -62,38 +62,38 @@ Shows-step plan home word cells views tok j x y cpu word' cells' tok' shows here
   count_word = turns.count_word;
   row = turns.row;
   held = λ k z e. ⊎_elim
-    (λ new. own_held z new.1)
-    (λ old. other_held k z old.0 old.1 z.kind refl)
-    (at_set views j k y z e);
+      (λ new. own_held z new.1)
+      (λ old. other_held k z old.0 old.1 z.kind refl)
+      (at_set views j k y z e);
   seated = λ a. ⊎_elim
-    (λ mine. inr (j, (y, (set_here views j y (inside views j x here), same ∙ kind ∙ ap numbered_seat (sym mine)))))
-    (λ away. ⊎_elim
+      (λ mine. inr (j, (y, (set_here views j y (inside views j x here), same ∙ kind ∙ ap numbered_seat (sym mine)))))
+      (λ away. ⊎_elim
       (λ nothing. inl (turns.others a away ∙ nothing))
       (λ there. inr (still a away there.0 there.1.0 there.1.1.0 there.1.1.1))
       (shows.seated a))
-    (cases_eq a cpu.0);
+      (cases_eq a cpu.0);
   tallies = λ a.
-    let t = total-set (λ (z : Seen). amount a z.entry.added) views j x y here in
-    let s = shows.tallies a in
-    let u = turns.tallies a in
-    omega arith;
+      let t = total-set (λ (z : Seen). amount a z.entry.added) views j x y here in
+      let s = shows.tallies a in
+      let u = turns.tallies a in
+      omega arith;
   sections =
-    let t = total-set (λ (z : Seen). z.entry.written) views j x y here in
-    let s = shows.sections in
-    let u = turns.sections in
-    omega arith;
+      let t = total-set (λ (z : Seen). z.entry.written) views j x y here in
+      let s = shows.sections in
+      let u = turns.sections in
+      omega arith;
   known = λ k z e. ⊎_elim
-    (λ new. subst (λ (w : Seen). Knows tok' w.entry) new.1 turns.known)
-    (λ old. turns.others_known z.entry (is_others k z old.0 old.1 z.kind refl) (shows.known k z old.1))
-    (at_set views j k y z e);
+      (λ new. subst (λ (w : Seen). Knows tok' w.entry) new.1 turns.known)
+      (λ old. turns.others_known z.entry (is_others k z old.0 old.1 z.kind refl) (shows.known k z old.1))
+      (at_set views j k y z e);
 }
   where
     still : (a : ℕ) → a ≢ cpu.0 → (k : ℕ) (z : Seen) → get_elem? views k ≡ some z → z.kind ≡ numbered_seat a → (i : ℕ) × ((w : Seen) × ((get_elem? (set views j y) i ≡ some w) × (w.kind ≡ numbered_seat a)))
     still a away k z e is = ⊎_elim
         (λ it. absurd (
-          let F : ℕ → Type 0 = λ n. get_elem? views n ≡ some z in
-          let one : x ≡ z = some-injective x z (sym here ∙ subst F it e) in
-          away (ap cpu_in (sym is ∙ ap (λ (w : Seen). w.kind) (sym one) ∙ kind))))
+        let F : ℕ → Type 0 = λ n. get_elem? views n ≡ some z in
+        let one : x ≡ z = some-injective x z (sym here ∙ subst F it e) in
+        away (ap cpu_in (sym is ∙ ap (λ (w : Seen). w.kind) (sym one) ∙ kind))))
         (λ other. (k, (z, (set_else views j k y other ∙ e, is))))
         (cases_eq k j)
 

@@ -89,16 +89,16 @@ raise_adds : (tallies : List ℕ) (cpu : CpuId) (k a : ℕ) (added : List Added)
 raise_adds tallies cpu k a added room =
     let whole = sum_by-cons (λ (x : Added). cond (eqb x.cpu.0 a) x.amount 0) (record { cpu = cpu; amount = k }) added in
     ⊎_elim
-      (λ (same : cpu.0 ≡ a).
-        let test = ap (λ b. cond b k 0) (eq-eqb cpu.0 a same) in
-        let F : ℕ → Type 0 = λ x. slice_index (set tallies cpu.0 (slice_index tallies cpu.0 + k)) x ≡ slice_index tallies x + k in
-        let grown = subst F same (get_or-set_same tallies cpu.0 (slice_index tallies cpu.0 + k) 0 room) in
-        omega arith)
-      (λ away.
-        let test = ap (λ b. cond b k 0) (ne_eqb cpu.0 a away) in
-        let kept = get_or-set_other tallies cpu.0 a (slice_index tallies cpu.0 + k) 0 (λ e. away (sym e)) in
-        omega arith)
-      (cases_eq cpu.0 a)
+    (λ (same : cpu.0 ≡ a).
+    let test = ap (λ b. cond b k 0) (eq-eqb cpu.0 a same) in
+    let F : ℕ → Type 0 = λ x. slice_index (set tallies cpu.0 (slice_index tallies cpu.0 + k)) x ≡ slice_index tallies x + k in
+    let grown = subst F same (get_or-set_same tallies cpu.0 (slice_index tallies cpu.0 + k) 0 room) in
+    omega arith)
+    (λ away.
+    let test = ap (λ b. cond b k 0) (ne_eqb cpu.0 a away) in
+    let kept = get_or-set_other tallies cpu.0 a (slice_index tallies cpu.0 + k) 0 (λ e. away (sym e)) in
+    omega arith)
+    (cases_eq cpu.0 a)
 
 module _ (cpus : ℕ) (plan : Plan) (tok : Token) (cpu : CpuId) (e : Entry) (n : ℕ) (cells : ℕ → ℕ) (sight : Sight cpus plan tok cpu.0 e n cells) where
   inside : cpu.0 < length tok.holders
@@ -413,15 +413,15 @@ module _ (cpus : ℕ) (plan : Plan) (tok : Token) (cpu : CpuId) (e : Entry) (n :
         others = λ other away. refl;
         held = sight.held;
         tallies = λ a.
-          let F : Law → ℕ = λ l. slice_index (tallies_after l tok.tallies cpu.0 (slice_index e.row 0 + k - slice_index tok.row 0)) a in
-          let by_law : F tok.law ≡ F Tally = ap F (sight.law ∙ tally) in
-          let eight = sight.safe.eight_tallies in
-          let l = sight.limit in
-          let h = sight.here in
-          let difference : slice_index e.row 0 + k - slice_index tok.row 0 ≡ k = omega arith in
-          let G : ℕ → ℕ = λ d. slice_index (set tok.tallies cpu.0 (slice_index tok.tallies cpu.0 + d)) a in
-          let sum_is = raise_adds tok.tallies cpu k a e.added (omega arith) in
-          ap (λ x. x + amount a e.added) (by_law ∙ ap G difference) ∙ sum_is;
+            let F : Law → ℕ = λ l. slice_index (tallies_after l tok.tallies cpu.0 (slice_index e.row 0 + k - slice_index tok.row 0)) a in
+            let by_law : F tok.law ≡ F Tally = ap F (sight.law ∙ tally) in
+            let eight = sight.safe.eight_tallies in
+            let l = sight.limit in
+            let h = sight.here in
+            let difference : slice_index e.row 0 + k - slice_index tok.row 0 ≡ k = omega arith in
+            let G : ℕ → ℕ = λ d. slice_index (set tok.tallies cpu.0 (slice_index tok.tallies cpu.0 + d)) a in
+            let sum_is = raise_adds tok.tallies cpu k a e.added (omega arith) in
+            ap (λ x. x + amount a e.added) (by_law ∙ ap G difference) ∙ sum_is;
         sections = refl;
         known = record { not_above = sight.knows.not_above; cells = sight.knows.cells; holder = λ held. (own.0, own.1, ap (λ (r : List ℕ). slice_set r 0 (slice_index e.row 0 + k)) own.2) };
         others_known = λ d away theirs. record { not_above = theirs.not_above; cells = theirs.cells; holder = λ held. absurd (not_theirs is d away held) };

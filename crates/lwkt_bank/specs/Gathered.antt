@@ -37,6 +37,7 @@ pub record IsOpened (cpus : ℕ) (specs : List TokSpec) (bank : Bank) (seats : L
 -- what a list of seats has written of a token, and what a processor has added to it
 abbrev pub written_by : List CpuSeat → ℕ → ℕ
 written_by seats tok = total (λ s. (entry s tok).written) seats
+
 abbrev pub added_by : List CpuSeat → ℕ → ℕ → ℕ
 added_by seats tok cpu = total (λ s. amount cpu (entry s tok).added) seats
 

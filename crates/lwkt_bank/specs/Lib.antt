@@ -5,3 +5,5 @@ pub mod Notes
 pub mod Seats
 pub mod Opened
 pub mod Gathered
+pub mod Closing
+pub mod Laws

@@ -20,10 +20,12 @@ abbrev pub held_number : Held → ℕ
 held_number Nothing = 0
 held_number (Holds Exclusive further) = 2 * further + 1
 held_number (Holds Shared further) = 2 * further + 2
+
 abbrev pub seat_number : SeatKind → ℕ
 seat_number (Of cpu) = cpu.0 + 1
 seat_number (Clerk made back) = 0
 seat_number Spent = 0
+
 abbrev pub clerk_number : SeatKind → ℕ
 clerk_number (Clerk made back) = back + 1
 clerk_number (Of cpu) = 0
@@ -32,8 +34,10 @@ clerk_number Spent = 0
 -- what stands for a note past the last
 abbrev pub no_note : Note
 no_note = record { cells = None ∷ None ∷ None ∷ None ∷ []; tally = 0; held = Nothing }
+
 abbrev pub note_at : List Note → ℕ → Note
 note_at notes tok = slice_index_or notes tok no_note
+
 abbrev pub change_at : Note → ℕ → Option Change
 change_at note cell = slice_index_or note.cells cell None
 

@@ -46,18 +46,23 @@ abbrev pub Exchanges : Mode → ℕ → ℕ → ℕ → View → ℕ → View �
 Exchanges mode old new tok v n w =
     (n ≡ old → (row : List ℕ) × (IsTakenRow (plan_at v.plans tok) (at v.tokens tok) n row × (w ≡ noted v (taken (at v.tokens tok) n mode row) (exchange tok old new n ∷ []))))
     × (n ≢ old → ((at v.tokens tok).generation ≤ generation_in n) × (w ≡ noted v (looked (at v.tokens tok) n) (exchange tok old new n ∷ [])))
+
 abbrev pub exchanges : Mode → Step (Unit {0}) → Me (Unit {0}) View → ℕ → Me (Unit {0}) View → Type 0
 exchanges mode st = at_word (Exchanges mode st.first st.second) st
 
 -- a further reference, a mark, and the three ways of giving a reference back
 abbrev pub AddsOne : ℕ → View → ℕ → View → Type 0
 AddsOne tok v n w = w ≡ noted v (more (at v.tokens tok)) (add tok 4 n ∷ [])
+
 abbrev pub Marks : ℕ → View → ℕ → View → Type 0
 Marks tok v n w = w ≡ noted v (at v.tokens tok) (or tok 2 n ∷ [])
+
 abbrev pub GivesOne : ℕ → View → ℕ → View → Type 0
 GivesOne tok v n w = w ≡ noted v (less (at v.tokens tok)) (sub tok 4 n ∷ [])
+
 abbrev pub GivesClean : ℕ → View → ℕ → View → Type 0
 GivesClean tok v n w = w ≡ noted v (less (at v.tokens tok)) (sub tok 1 n ∷ [])
+
 abbrev pub GivesWritten : ℕ → View → ℕ → View → Type 0
 GivesWritten tok v n w = w ≡ noted v (ended (at v.tokens tok)) (add tok 262143 n ∷ [])
 
@@ -65,7 +70,9 @@ GivesWritten tok v n w = w ≡ noted v (ended (at v.tokens tok)) (add tok 262143
 abbrev pub ReadsCell : ℕ → ℕ → View → ℕ → View → Type 0
 ReadsCell tok cell v n w = (n ≡ slice_index (at v.tokens tok).row cell) × (w ≡ noted v (read (at v.tokens tok) cell) [])
     × ((plan_at v.plans tok).law ≡ Tally → (cpu : ℕ) → amount cpu (at v.tokens tok).added ≤ slice_index (at v.tokens tok).row 0)
+
 abbrev pub StoresCell : ℕ → ℕ → View → ℕ → View → Type 0
 StoresCell tok cell v n w = w ≡ noted v (stored (at v.tokens tok) cell n) []
+
 abbrev pub RaisesCell : ℕ → ℕ → View → ℕ → View → Type 0
 RaisesCell tok cell v n w = (cpu : CpuId) (k : ℕ) → v.kind ≡ Of cpu → n ≡ slice_index (at v.tokens tok).row 0 + k → w ≡ noted v (raised (at v.tokens tok) cpu k) []

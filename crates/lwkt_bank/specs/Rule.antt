@@ -28,10 +28,13 @@ Bench = State (Unit {0}) View
 -- where a token's words lie: 16 words for each, so that no two tokens share a cache line
 abbrev pub token_word : ℕ → ℕ
 token_word tok = 16 * tok + 1
+
 abbrev pub cell_word : ℕ → ℕ → ℕ
 cell_word tok cell = 16 * tok + 2 + cell
+
 abbrev pub law_word : ℕ → ℕ
 law_word tok = 16 * tok + 6
+
 abbrev pub param_word : ℕ → ℕ
 param_word tok = 16 * tok + 7
 
@@ -87,10 +90,13 @@ pub record Shows (plan : Plan) (home : Option (Option (Unit {0}))) (word : ℕ) 
 -- what stands for a token or a plan past the last
 abbrev pub no_plan : Plan
 no_plan = record { generation = 0; param = 0; cells = 0; law = Any }
+
 abbrev pub no_token : Token
 no_token = record { law = Any; param = 0; generation = 0; mark = false; row = []; first = []; holders = []; tallies = [] }
+
 abbrev pub plan_at : List Plan → ℕ → Plan
 plan_at plans tok = slice_index_or plans tok no_plan
+
 abbrev pub token_at : Machine → ℕ → Token
 token_at m tok = slice_index_or m.tokens tok no_token
 

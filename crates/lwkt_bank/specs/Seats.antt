@@ -33,8 +33,10 @@ use Rattle.lwkt_bank.specs.Rule.{plan_at}
 pub record BankId : Type 0 where
   pub table : TableId
   pub plans : List Plan
+
 abbrev pub id_of : Bank → BankId
 id_of bank = record { table = bank.table.shared.table_id; plans = bank.key.plans.items }
+
 abbrev pub bank_of : CpuSeat → BankId
 bank_of s = record { table = s.seat.table_id; plans = s.seat.me.0.plans }
 
@@ -45,16 +47,20 @@ cpus_of bank = bank.key.cpus
 -- how many tokens a bank has, and what was declared of one
 abbrev pub tokens_of : BankId → ℕ
 tokens_of bank = length bank.plans
+
 abbrev pub plan_of : BankId → ℕ → Plan
 plan_of bank tok = plan_at bank.plans tok
 
 -- what a seat knows of a token, what it holds, how many references it has, and its steps on token words
 abbrev pub entry : CpuSeat → ℕ → Entry
 entry s tok = at s.seat.me.0.tokens tok
+
 abbrev pub holding : CpuSeat → Holding
 holding s = held_of s.seat.me.0.tokens
+
 abbrev pub references : CpuSeat → ℕ
 references s = count_from 0 (tokens_of (bank_of s)) (holding s)
+
 abbrev pub steps_of : CpuSeat → List WordStep
 steps_of s = s.seat.me.0.steps
 
@@ -63,6 +69,7 @@ pub record IsOf (bank : Bank) (seat : Seat (Unit {0}) View) : Type 0 where
   pub table : seat.table_id ≡ bank.table.shared.table_id
   pub plans : seat.me.0.plans ≡ bank.key.plans.items
   pub named : (cpu : CpuId) × (seat.me.0.kind ≡ Of cpu)
+
 pub record IsSame (old new : Seat (Unit {0}) View) : Type 0 where
   pub table : new.table_id ≡ old.table_id
   pub slots : new.me.1 ≡ old.me.1

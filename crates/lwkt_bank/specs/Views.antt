@@ -58,6 +58,7 @@ taken e word mode row = record (looked e word) { held = Holds mode 0; first = ro
 -- the entry with one reference more, and with one less
 abbrev pub more : Entry → Entry
 more e = record e { held = one_more e.held Shared }
+
 abbrev pub less : Entry → Entry
 less e = record e { held = one_less e.held }
 
@@ -95,6 +96,7 @@ abbrev pub after_made : SeatKind → SeatKind
 after_made (Clerk made back) = Clerk (made + 1) back
 after_made (Of cpu) = Of cpu
 after_made Spent = Spent
+
 abbrev pub after_back : SeatKind → SeatKind
 after_back (Clerk made back) = Clerk made (back + 1)
 after_back (Of cpu) = Of cpu
@@ -109,6 +111,7 @@ next_seat Spent = Spent
 -- the clerk's view after a seat was split off, and the view of that seat
 abbrev pub clerk_after : View → View
 clerk_after v = record v { kind = after_made v.kind }
+
 abbrev pub new_seat : View → View
 new_seat v = record { kind = next_seat v.kind; plans = v.plans; tokens = []; steps = [] }
 
@@ -124,19 +127,23 @@ merged (suc n) ds es = both_of n (at ds n) (at es n) ∷ merged n ds es
 -- the clerk's view after a seat was taken back, and what stays of that seat's view
 abbrev pub joined : View → View → View
 joined v w = record v { kind = after_back v.kind; tokens = merged (length v.plans) v.tokens w.tokens }
+
 abbrev pub spent : View
 spent = record { kind = Spent; plans = []; tokens = []; steps = [] }
 
 -- a load of the word of a token, and an exchange of it, that found this word
 abbrev pub load : ℕ → ℕ → WordStep
 load tok found = record { at = tok; operation = Load; found = found }
+
 abbrev pub exchange : ℕ → ℕ → ℕ → ℕ → WordStep
 exchange tok old new found = record { at = tok; operation = Exchange old new; found = found }
 
 -- an addition to the word of a token, a subtraction from it, and bits set in it, that found this word
 abbrev pub add : ℕ → ℕ → ℕ → WordStep
 add tok k found = record { at = tok; operation = Add k; found = found }
+
 abbrev pub sub : ℕ → ℕ → ℕ → WordStep
 sub tok k found = record { at = tok; operation = Sub k; found = found }
+
 abbrev pub or : ℕ → ℕ → ℕ → WordStep
 or tok bits found = record { at = tok; operation = Or bits; found = found }

@@ -5,11 +5,10 @@ ghost use Rattle.lwkt_bank.specs.Views.{at, amount};
 ghost use Rattle.lwkt_bank.specs.Rule.{plan_at};
 ghost use Rattle.lwkt_bank.specs.Notes.{clerk_number};
 
-use atomic_table::{Seat, Table};
-use std::alloc::Global;
-
 use crate::rules::{BankRule, Key};
 use crate::views::View;
+use atomic_table::{Seat, Table};
+use std::alloc::Global;
 
 /// The token words and cells of a machine.
 #[derive(Drop)]

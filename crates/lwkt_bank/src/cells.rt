@@ -5,12 +5,11 @@ ghost use Rattle.lwkt_base.specs.Law.{MeetsLaw};
 ghost use Rattle.lwkt_bank.specs.Views.{amount, read, stored, raised};
 ghost use Rattle.lwkt_bank.specs.Seats.{id_of, bank_of, tokens_of, plan_of, entry, holding, Changes, Knowing, IsUnchanged};
 
-use lwkt_base::{Fault, Law, TokId};
-
 use crate::banks::Bank;
 use crate::notes::Change;
 use crate::seats::CpuSeat;
 use crate::steps;
+use lwkt_base::{Fault, Law, TokId};
 
 impl CpuSeat {
     /// The value of a cell. That the seat holds the token, in any mode, is the caller's condition.

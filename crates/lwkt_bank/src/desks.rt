@@ -7,11 +7,6 @@ ghost use Rattle.lwkt_bank.specs.Opened.{plans_of, opening_words};
 ghost use Rattle.lwkt_bank.specs.Seats.{id_of, bank_of, entry, steps_of};
 ghost use Rattle.lwkt_bank.specs.Gathered.{HasMade, IsNew, AreHandedOut, IsOpened};
 
-use atomic_table::{Seat, Table};
-use lwkt_base::{CpuId, Fault, Held, TokSpec};
-use lwkt_core::SeatKind;
-use std::alloc::{AllocError, Global};
-
 use crate::banks::Bank;
 use crate::notes::Note;
 use crate::opens;
@@ -19,6 +14,10 @@ use crate::plays::HandOut;
 use crate::rules::{BankRule, Key};
 use crate::seats::CpuSeat;
 use crate::views::View;
+use atomic_table::{Seat, Table};
+use lwkt_base::{CpuId, Fault, Held, TokSpec};
+use lwkt_core::SeatKind;
+use std::alloc::{AllocError, Global};
 
 // What a seat keeps at the opening.
 fn blank_notes() -> [Note; 64]

@@ -4,26 +4,18 @@ ghost use Rattle.lwkt_base.specs.declared.holdings.Held.TheVariants.{Nothing};
 ghost use Rattle.lwkt_core.specs.Seating.{total};
 ghost use Rattle.lwkt_bank.specs.Views.{at, amount, joined, after_back};
 ghost use Rattle.lwkt_bank.specs.Notes.{clerk_number, note_at};
-ghost use Rattle.lwkt_bank.specs.Seats.{id_of, bank_of, cpus_of, tokens_of, entry, holding};
-
-use atomic_table::{Seat, Table};
-use lwkt_base::CpuId;
-use lwkt_core::SeatKind;
-use std::alloc::{AllocError, Global};
+ghost use Rattle.lwkt_bank.specs.Closing.{IsReady, Gathering};
 
 use crate::banks::Bank;
-use crate::notes::Note;
+use crate::kept::Kept;
 use crate::plays::TakeBack;
 use crate::rules::{BankRule, Key};
 use crate::seats::CpuSeat;
 use crate::views::View;
-
-/// What a seat that was taken back had kept.
-#[derive(Drop)]
-pub(crate) struct Kept {
-    pub(crate) notes: [Note; 64],
-    pub(crate) cpu: CpuId,
-}
+use atomic_table::{Seat, Table};
+use lwkt_base::CpuId;
+use lwkt_core::SeatKind;
+use std::alloc::{AllocError, Global};
 
 // The clerk takes back a seat that holds nothing.
 fn join(
@@ -41,4 +33,29 @@ fn join(
     ensures { (clerk.new.table_id ≡ clerk.old.table_id) × (clerk.new.id ≡ clerk.old.id) × (clerk.new.me ≡ (joined clerk.old.me.0 other.me.0, clerk.old.me.1)) }
 {
     table.shared.join_seat::<TakeBack>(clerk, other)
+}
+
+// The clerk takes back all these seats, each holding nothing.
+pub(crate) fn gather(
+    table: &Table<(), View, Key, BankRule, Global>,
+    clerk: &mut Seat<(), View>,
+    mut seats: Vec<CpuSeat>,
+    kept: &mut Vec<Kept>,
+) -> Result<(), AllocError>
+    requires same { clerk.old.table_id ≡ table.now.shared.table_id }
+    requires words { 0 < table.now.shared.table_id.words }
+    requires begin { Gathering (record { table = table.now.shared.table_id; plans = table.now.shared.key.plans.items }) clerk.old.me.0 seats.items seats.items kept.old.items 0 }
+    ensures same { (clerk.new.table_id ≡ clerk.old.table_id) × (clerk.new.id ≡ clerk.old.id) }
+    ensures done { OnOk result (Gathering (record { table = table.now.shared.table_id; plans = table.now.shared.key.plans.items }) clerk.new.me.0 seats.items [] kept.new.items (length seats.items)) }
+{
+    while let Some(seat) = seats.pop() {
+        let CpuSeat {
+            notes,
+            seat: other,
+            cpu,
+        } = seat;
+        join(table, clerk, other, cpu);
+        kept.push(Kept { notes, cpu })?;
+    }
+    Ok(())
 }

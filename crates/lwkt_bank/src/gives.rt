@@ -8,13 +8,12 @@ ghost use Rattle.lwkt_core.specs.Tokens.{IsNotLastExclusive};
 ghost use Rattle.lwkt_bank.specs.Notes.{has_changed};
 ghost use Rattle.lwkt_bank.specs.Seats.{id_of, bank_of, tokens_of, plan_of, entry, holding, Stepped, Gave};
 
-use lwkt_base::{Held, Mode, TokId};
-
 use crate::banks::Bank;
 use crate::notes::Change;
 use crate::seats::CpuSeat;
 use crate::steps;
 use crate::tries::Given;
+use lwkt_base::{Held, Mode, TokId};
 
 // Whether the cell was stored to, and its last value isn't its first.
 fn has_changed(change: &Option<Change>) -> bool

@@ -4,9 +4,12 @@
 pub mod banks;
 mod cells;
 pub mod closed;
+mod closes;
 mod desks;
 mod gathers;
 mod gives;
+mod kept;
+pub mod laws;
 pub mod notes;
 mod opens;
 mod plans;

@@ -5,11 +5,10 @@ ghost use Rattle.lwkt_core.specs.Opening.{IsTokenWithin, AreWithin, AllOpenLawfu
 ghost use Rattle.lwkt_bank.specs.Rule.{law_number};
 ghost use Rattle.lwkt_bank.specs.Opened.{plan_of_spec, plans_of, block, opening_words};
 
+use crate::views::Plan;
 use lwkt_base::{LAST_GENERATION, Law, TokSpec};
 use lwkt_core::tokens::CPU_LIMIT;
 use std::alloc::{AllocError, Global};
-
-use crate::views::Plan;
 
 fn is_token_within(spec: &TokSpec) -> bool
     ensures { IsTrue result ↔ IsTokenWithin spec.now }

@@ -1,10 +1,9 @@
 ghost use Rattle.std.specs.Prelude.{◌≡◌, ◌+◌, ◌<◌, length};
 ghost use Rattle.lwkt_bank.specs.Rule.{plan_at};
 
-use lwkt_base::TokId;
-
 use crate::banks::Bank;
 use crate::views::Plan;
+use lwkt_base::TokId;
 
 impl Bank {
     ghost use Rattle.lwkt_bank.specs.Seats.{id_of, tokens_of, plan_of};

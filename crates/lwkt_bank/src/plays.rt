@@ -3,9 +3,8 @@ ghost use Rattle.lwkt_bank.specs.Plays.{at_word, at_cell, exchanges, Looks, Adds
 ghost use Rattle.lwkt_bank.specs.Views.{clerk_after, new_seat, joined, spent};
 ghost use Rattle.lwkt_base.specs.declared.names.Mode.TheVariants.{Exclusive, Shared};
 
-use atomic_table::{Join, Play, Split};
-
 use crate::views::View;
+use atomic_table::{Join, Play, Split};
 
 /// A load of a count word.
 pub(crate) struct Look;

@@ -5,11 +5,10 @@ ghost use Rattle.lwkt_base.specs.Law.{MeetsLaw};
 ghost use Rattle.lwkt_bank.specs.Views.{stored};
 ghost use Rattle.lwkt_bank.specs.Seats.{id_of, bank_of, tokens_of, plan_of, entry, holding, Changes, Knowing, IsUnchanged, Restored};
 
-use lwkt_base::{Law, TokId};
-
 use crate::banks::Bank;
 use crate::notes::Change;
 use crate::seats::CpuSeat;
+use lwkt_base::{Law, TokId};
 
 impl CpuSeat {
     // The row, each cell loaded; past its end zeros.
@@ -38,8 +37,7 @@ impl CpuSeat {
     {
         let plan = bank.plan(tok);
         let values = self.row(bank, tok);
-        plan.law
-            .holds_of_section(&values[..plan.cells], plan.param)
+        plan.law.holds_of_section(&values[..plan.cells], plan.param)
     }
 
     // Stores the first value of a cell again, if it was stored to in the section, and answers it.

@@ -1,6 +1,5 @@
-use atomic_table::TableRule;
-
 use crate::views::{Plan, View};
+use atomic_table::TableRule;
 
 /// What the bank's table is told once, when it is made.
 #[derive(Debug, Drop)]

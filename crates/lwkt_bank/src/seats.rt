@@ -1,11 +1,10 @@
 ghost use Rattle.std.specs.Prelude.{◌≡◌, length};
 ghost use Rattle.lwkt_bank.specs.Notes.{Keeps};
 
-use atomic_table::Seat;
-use lwkt_base::CpuId;
-
 use crate::notes::Note;
 use crate::views::View;
+use atomic_table::Seat;
+use lwkt_base::CpuId;
 
 /// One processor's seat at a bank.
 #[derive(Drop)]

@@ -10,15 +10,14 @@ ghost use Rattle.lwkt_bank.specs.Rule.{token_word, cell_word, plan_at};
 ghost use Rattle.lwkt_bank.specs.Plays.{Looks, Exchanges, AddsOne, Marks, GivesOne, GivesClean, GivesWritten, ReadsCell, StoresCell, RaisesCell};
 ghost use Rattle.lwkt_bank.specs.Seats.{IsOf, IsSame, Decides};
 
-use atomic_table::Seat;
-use lwkt_base::{Decision, Mode, TokId};
-
 use crate::banks::Bank;
 use crate::plays::{
     AddOne, GiveClean, GiveOne, GiveWritten, Look, RaiseCell, ReadCell, SetMark, Share, StoreCell,
     Take,
 };
 use crate::views::View;
+use atomic_table::Seat;
+use lwkt_base::{Decision, Mode, TokId};
 
 fn word_of_token(tok: TokId) -> usize
     ensures { result ≡ token_word tok.0 }
@@ -145,13 +144,7 @@ pub(crate) fn read_cell(bank: &Bank, seat: &mut Seat<(), View>, tok: TokId, cell
     bank.table.shared.load::<ReadCell>(seat, word)
 }
 
-pub(crate) fn store_cell(
-    bank: &Bank,
-    seat: &mut Seat<(), View>,
-    tok: TokId,
-    cell: u8,
-    value: u64,
-)
+pub(crate) fn store_cell(bank: &Bank, seat: &mut Seat<(), View>, tok: TokId, cell: u8, value: u64)
     requires of { IsOf bank.now seat.old }
     requires there { tok.0 < length bank.now.key.plans.items }
     requires held { is_exclusive (at seat.old.me.0.tokens tok.0).held ≡ true }

@@ -5,13 +5,12 @@ ghost use Rattle.lwkt_bank.specs.Views.{more, looked, add, or};
 ghost use Rattle.lwkt_bank.specs.Notes.{note_at};
 ghost use Rattle.lwkt_bank.specs.Seats.{id_of, bank_of, tokens_of, entry, holding, references, Changes, Looked, Took, Lost, Tried, Decides, Hit, Miss, Stepped};
 
-use lwkt_base::{CpuId, Decision, Held, Mode, TokId, TokWord};
-
 use crate::banks::Bank;
 use crate::notes::Note;
 use crate::seats::CpuSeat;
 use crate::steps;
 use crate::tries::Try;
+use lwkt_base::{CpuId, Decision, Held, Mode, TokId, TokWord};
 
 impl CpuSeat {
     /// The processor whose seat this is.

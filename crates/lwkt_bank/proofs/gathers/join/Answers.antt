@@ -11,6 +11,11 @@ join_seat-requires c =
     let key = c.args.table.now.shared.key in
     let desk = c.requires.desk in
     let v = c.args.clerk.now.me.0 in
-    let w = c.args.other.me.0 in
-    (c.requires.same.0, c.requires.same.1, c.requires.slots, c.requires.words, λ s r here apart there.
-      Rule-join key.plans.items key.cpus s c.args.clerk.now.id v desk.0 desk.1 c.args.other.id c.args.cpu w r here desk.2 apart (sym (set_else s.views c.args.clerk.now.id c.args.other.id (joined v w) apart) ∙ there) c.requires.named c.requires.quiet)
+    let w = c.args.other.me.0 in (
+      c.requires.same.0,
+      c.requires.same.1,
+      c.requires.slots,
+      c.requires.words,
+      λ s r here apart there.
+          Rule-join key.plans.items key.cpus s c.args.clerk.now.id v desk.0 desk.1 c.args.other.id c.args.cpu w r here desk.2 apart (sym (set_else s.views c.args.clerk.now.id c.args.other.id (joined v w) apart) ∙ there) c.requires.named c.requires.quiet,
+    )

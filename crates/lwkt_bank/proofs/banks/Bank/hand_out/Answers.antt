@@ -20,8 +20,7 @@ pub returns-clause-seat : goal.returns-clause-seat
 returns-clause-seat c =
     let b = c.args.self.now in
     let table = c.split-seat.ensures.seat.0 ∙ b.seated in
-    let plans = ap (λ m. m.0.plans) c.split-seat.ensures.seat.1 ∙ c.requires.next.plans in
-    (
+    let plans = ap (λ m. m.0.plans) c.split-seat.ensures.seat.1 ∙ c.requires.next.plans in (
       λ i. record { table = table i; plans = plans i },
       record { entries = λ tok. ap (λ m. at m.0.tokens tok) c.split-seat.ensures.seat.1; steps = ap (λ m. m.0.steps) c.split-seat.ensures.seat.1 },
       refl,

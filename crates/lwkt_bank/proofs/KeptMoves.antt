@@ -1,0 +1,281 @@
+use Rattle.std.proofs.Common.{eqb, eq-eqb, ne_eqb, ⊎_elim, ◌≡◌, ◌≢◌, ℕ, zero, suc, take, get_or, ◌*◌, ◌+◌, ◌<◌, ◌≤◌, Bool, cond, List, [], ◌∷◌, ◌++◌, length, refl, ap, sym, ◌∙◌, subst, arith, All, Some, length-append}
+use Rattle.std.proofs.lemmas.Bool.{cases_eq}
+use Rattle.std.proofs.lemmas.List.Elements.{All-pop}
+use Rattle.std.proofs.lemmas.List.Sums.{sum_by-append, sum_by-cons}
+use Rattle.std.proofs.lemmas.List.{ext_get_or, get_or_append_left}
+use Rattle.std.proofs.Math.Seq.{get_or-append_seam}
+use Rattle.std.specs.Prelude.{slice_index, sum}
+use mathlib.Core.Option.{some, some-injective, some-ne-none}
+use lib.ListN.{get_elem?}
+use Rattle.lwkt_base.specs.declared.laws.Law.{Law}
+use Rattle.lwkt_base.specs.declared.laws.Law.TheVariants.{Tally}
+use Rattle.lwkt_base.specs.Law.{MeetsLaw, IsTallied}
+use Rattle.lwkt_bank.specs.declared.views.Plan.{Plan}
+use Rattle.lwkt_bank.specs.Rule.{cell_word, plan_at}
+use Rattle.lwkt_bank.proofs.CloseMoves.{Settled, settled}
+use Rattle.lwkt_bank.proofs.SeatMoves.{tally-le}
+use Rattle.lwkt_base.specs.declared.names.CpuId.{CpuId}
+use Rattle.lwkt_base.specs.declared.holdings.Held.TheVariants.{Nothing}
+use Rattle.lwkt_core.specs.declared.seats.SeatKind.{SeatKind}
+use Rattle.lwkt_core.specs.declared.seats.SeatKind.TheVariants.{Clerk, Of, Spent}
+use Rattle.lwkt_core.proofs.SeatingLemmas.{total-snoc}
+use Rattle.lwkt_bank.specs.declared.views.Added.{Added}
+use Rattle.lwkt_bank.specs.declared.views.Entry.{Entry}
+use Rattle.lwkt_bank.specs.declared.views.View.{View}
+use Rattle.lwkt_bank.specs.declared.seats.CpuSeat.{CpuSeat}
+use Rattle.lwkt_bank.specs.declared.kept.Kept.{Kept}
+use Rattle.lwkt_bank.specs.Views.{at, amount, joined, after_back, merged, both_of}
+use Rattle.lwkt_bank.specs.Notes.{note_at, clerk_number}
+use Rattle.lwkt_bank.specs.Seats.{BankId, id_of, bank_of, entry, holding}
+use Rattle.lwkt_bank.specs.Gathered.{written_by, added_by, IsClosedToken, IsClosed}
+use Rattle.lwkt_bank.specs.declared.banks.Bank.{Bank}
+use Rattle.lwkt_bank.specs.declared.rules.Key.{Key}
+use Rattle.lwkt_bank.specs.Closing.{IsReady, kept_of, kept_by, Gathering, IsRead, AreRead, Left}
+use Rattle.lwkt_bank.specs.declared.closed.Closed.{Closed}
+use Rattle.lwkt_bank.proofs.ViewMoves.{at-merged}
+
+-- what a seat had kept is what its view says was added
+kept_is : (s : CpuSeat) (k : Kept) (tok cpu : ℕ) → tok < length s.seat.me.0.plans → k.notes ≡ s.notes → k.cpu ≡ s.cpu → kept_of tok cpu k ≡ amount cpu (entry s tok).added
+kept_is s k tok cpu there notes named =
+    let noted = s.kept.each tok there in
+    let tally : (note_at k.notes tok).tally ≡ amount s.cpu.0 (entry s tok).added = ap (λ ns. (note_at ns tok).tally) notes ∙ noted.tally in
+    ⊎_elim
+    (λ (same : k.cpu.0 ≡ cpu).
+    let test = ap (λ b. cond b (note_at k.notes tok).tally 0) (eq-eqb k.cpu.0 cpu same) in
+    let mine : s.cpu.0 ≡ cpu = sym (ap (λ (c : CpuId). c.0) named) ∙ same in
+    test ∙ tally ∙ ap (λ (c : ℕ). amount c (entry s tok).added) mine)
+    (λ away.
+    let test = ap (λ b. cond b (note_at k.notes tok).tally 0) (ne_eqb k.cpu.0 cpu away) in
+    let theirs : cpu ≢ s.cpu.0 = (λ same. away (ap (λ (c : CpuId). c.0) named ∙ sym same)) in
+    test ∙ sym (noted.own cpu theirs))
+    (cases_eq k.cpu.0 cpu)
+
+-- one seat more was taken back
+pub gathering_more : (bank : BankId) (v w : View) (all rest front : List CpuSeat) (s : CpuSeat) (kept : List Kept) (k : Kept) (back : ℕ) → Gathering bank v all rest kept back → rest ≡ front ++ s ∷ [] → w ≡ joined v s.seat.me.0 → k.notes ≡ s.notes → k.cpu ≡ s.cpu
+    → Gathering bank w all front (kept ++ k ∷ []) (back + 1)
+gathering_more bank v w all rest front s kept k back so_far last is notes named =
+    let F : View → Type 0 = λ x. Gathering bank x all front (kept ++ k ∷ []) (back + 1) in
+    let ready_all : All (IsReady bank) (front ++ s ∷ []) = subst (λ xs. All (IsReady bank) xs) last so_far.ready in
+    let longer = length-append front (s ∷ []) in
+    let of_bank : IsReady bank s = All-last front s ready_all in
+    let plans : length s.seat.me.0.plans ≡ length bank.plans = ap (λ (b : BankId). length b.plans) of_bank.of in
+    subst F (sym is) (record {
+      made = so_far.made;
+      desk = ap after_back so_far.desk;
+      counted = let c = so_far.counted in let l = ap length last in omega arith;
+      informed = so_far.informed;
+      ready = All-front front s ready_all;
+      written = λ tok there.
+          let n = so_far.informed in
+          let merged_is = ap (λ (e : Entry). e.written) (at-merged (length v.plans) v.tokens s.seat.me.0.tokens tok (omega arith)) in
+          let before = so_far.written tok there in
+          let split = ap (λ (xs : List CpuSeat). written_by xs tok) last ∙ total-snoc (λ (x : CpuSeat). (entry x tok).written) front s in
+          omega arith;
+      added = λ tok cpu there.
+          let n = so_far.informed in
+          let merged_is = ap (λ (e : Entry). amount cpu e.added) (at-merged (length v.plans) v.tokens s.seat.me.0.tokens tok (omega arith)) in
+          let both = sum_by-append (λ (q : Added). cond (eqb q.cpu.0 cpu) q.amount 0) (at v.tokens tok).added (at s.seat.me.0.tokens tok).added in
+          let before = so_far.added tok cpu there in
+          let split = ap (λ (xs : List CpuSeat). added_by xs tok cpu) last ∙ total-snoc (λ (x : CpuSeat). amount cpu (entry x tok).added) front s in
+          omega arith;
+      told = λ tok cpu there.
+          let grown = total-snoc (kept_of tok cpu) kept k in
+          let its = kept_is s k tok cpu (omega arith) notes named in
+          let before = so_far.told tok cpu there in
+          let split = ap (λ (xs : List CpuSeat). added_by xs tok cpu) last ∙ total-snoc (λ (x : CpuSeat). amount cpu (entry x tok).added) front s in
+          omega arith;
+    })
+  where
+    All-last : (xs : List CpuSeat) (x : CpuSeat) → All (IsReady bank) (xs ++ x ∷ []) → IsReady bank x
+    All-last xs x all_ready = (All-pop (IsReady bank) (xs ++ x ∷ []) xs (Some x) refl all_ready).1
+
+    All-front : (xs : List CpuSeat) (x : CpuSeat) → All (IsReady bank) (xs ++ x ∷ []) → All (IsReady bank) xs
+    All-front xs x all_ready = (All-pop (IsReady bank) (xs ++ x ∷ []) xs (Some x) refl all_ready).0
+
+-- nothing was taken back yet
+pub gathering_none : (bank : BankId) (v : View) (seats : List CpuSeat) (made : ℕ) → v.kind ≡ Clerk made 0 → length v.plans ≡ length bank.plans → All (IsReady bank) seats
+    → ((tok : ℕ) → ((at v.tokens tok).written ≡ 0) × ((cpu : ℕ) → amount cpu (at v.tokens tok).added ≡ 0)) → Gathering bank v seats seats [] 0
+gathering_none bank v seats made desk informed ready clean = record {
+  made = made;
+  desk = desk;
+  counted = omega arith;
+  informed = informed;
+  ready = ready;
+  written = λ tok there. let c = (clean tok).0 in omega arith;
+  added = λ tok cpu there. let c = (clean tok).1 cpu in omega arith;
+  told = λ tok cpu there. omega arith;
+}
+
+-- one element more of a list that is read in order
+take_suc : (xs : List ℕ) (i x : ℕ) → get_elem? xs i ≡ some x → take (suc i) xs ≡ take i xs ++ x ∷ []
+take_suc [] i x e = absurd (some-ne-none x (sym e))
+take_suc (y ∷ ys) zero x e = λ k. some-injective y x e k ∷ []
+take_suc (y ∷ ys) (suc i) x e = λ k. y ∷ take_suc ys i x e k
+
+pub take_elem : (xs : List ℕ) (i x : ℕ) → get_elem? xs i ≡ some x → take (i + 1) xs ≡ take i xs ++ x ∷ []
+take_elem xs i x e = let same : i + 1 ≡ suc i = omega arith in ap (λ (n : ℕ). take n xs) same ∙ take_suc xs i x e
+
+-- a list that shows the first of some numbers, past which there are zeros, has their sum
+sum_zero : (xs : List ℕ) → ((a : ℕ) → slice_index xs a ≡ 0) → sum xs ≡ 0
+sum_zero [] none = refl
+sum_zero (x ∷ xs) none = let c = sum_by-cons (λ (y : ℕ). y) x xs in let h : x ≡ 0 = none 0 in let r = sum_zero xs (λ a. none (suc a)) in omega arith
+
+sum_shown : (shown all : List ℕ) → length shown ≤ length all → ((a : ℕ) → a < length shown → slice_index shown a ≡ slice_index all a) → ((a : ℕ) → length shown ≤ a → slice_index all a ≡ 0) → sum all ≡ sum shown
+sum_shown [] all few same none = sum_zero all (λ a. none a (omega arith))
+sum_shown (x ∷ xs) [] few same none = absurd (omega arith)
+sum_shown (x ∷ xs) (y ∷ ys) few same none =
+    let c = sum_by-cons (λ (z : ℕ). z) x xs in
+    let d = sum_by-cons (λ (z : ℕ). z) y ys in
+    let h : x ≡ y = same 0 (omega arith) in
+    let r = sum_shown xs ys (omega arith) (λ a low. same (suc a) (omega arith)) (λ a far. none (suc a) (omega arith)) in
+    omega arith
+
+-- a token at the close: what its words and notes say, and what the rule says of them
+pub closed_token : (plan : Plan) (cpus : ℕ) (words : List ℕ) (kept : List Kept) (tok : ℕ) (seats : List CpuSeat) (row : List ℕ) (generation : ℕ) (tallies : List ℕ) → cpus ≤ 8
+    → Settled plan cpus words tok (written_by seats tok) (λ a. added_by seats tok a) → ((a : ℕ) → kept_by kept tok a ≡ added_by seats tok a) → IsRead plan cpus words kept tok row generation tallies
+    → IsClosedToken plan cpus seats tok row generation tallies
+closed_token plan cpus words kept tok seats row generation tallies few settled told read =
+    let same_row : row ≡ settled.row = ext_get_or 0 row settled.row (read.long ∙ sym settled.long) (λ i inside. let l = read.long in let low : i < plan.cells = omega arith in read.cells i low ∙ settled.cells i low) in
+    let F : List ℕ → Type 0 = λ r. MeetsLaw plan.law plan.param r in
+    record {
+      long = read.long;
+      lawful = subst F (sym same_row) settled.lawful;
+      generation_is = read.generation_is ∙ settled.generation;
+      none = read.none;
+      as_many = read.as_many;
+      each = λ tally cpu low. read.each tally cpu low ∙ told cpu;
+      all_added = λ tally.
+          let P : Law → Type 0 = λ l. IsTallied l plan.param settled.row settled.tallies in
+          let sum_is : settled.row ≡ (plan.param + sum settled.tallies) ∷ [] = subst P tally settled.tallied in
+          let shown = read.as_many tally in
+          let eight = settled.eight in
+          let same : sum settled.tallies ≡ sum tallies = sum_shown tallies settled.tallies (omega arith) (λ a low. read.each tally a (omega arith) ∙ told a ∙ sym (settled.tally a)) (λ a far. settled.absent a (omega arith)) in
+          same_row ∙ sum_is ∙ ap (λ (n : ℕ). (plan.param + n) ∷ []) same;
+    }
+
+-- no tally passes a number of 64 bits
+pub tally_fits : (plan : Plan) (cpus : ℕ) (words : List ℕ) (tok : ℕ) (written : ℕ) (added : ℕ → ℕ) → Settled plan cpus words tok written added → plan.law ≡ Tally → slice_index words (cell_word tok 0) < 18446744073709551616 → (a : ℕ) → added a < 18446744073709551616
+tally_fits plan cpus words tok written added settled tally fits a =
+    let P : Law → Type 0 = λ l. IsTallied l plan.param settled.row settled.tallies in
+    let sum_is : settled.row ≡ (plan.param + sum settled.tallies) ∷ [] = subst P tally settled.tallied in
+    let one : length settled.row ≡ 1 = ap length sum_is in
+    let long = settled.long in
+    let cell = settled.cells 0 (omega arith) in
+    let value : slice_index settled.row 0 ≡ plan.param + sum settled.tallies = ap (λ (r : List ℕ). slice_index r 0) sum_is in
+    let most = tally-le settled.tallies a in
+    let its = settled.tally a in
+    omega arith
+
+-- the last of a list, and the others
+more_here : {A : Type 0} (xs : List A) (x d : A) (k : ℕ) → k ≡ length xs → get_or (xs ++ x ∷ []) k d ≡ x
+more_here xs x d k is = ap (λ (n : ℕ). get_or (xs ++ x ∷ []) n d) is ∙ get_or-append_seam xs x [] d
+
+-- one token more is read
+pub read_more : (plans : List Plan) (cpus : ℕ) (words : List ℕ) (kept : List Kept) (old new : Closed) (count : ℕ) (row : List ℕ) (generation : ℕ) (tallies : List ℕ) → AreRead plans cpus words kept old count
+    → IsRead (plan_at plans count) cpus words kept count row generation tallies → new.rows.items ≡ old.rows.items ++ row ∷ [] → new.gens.items ≡ old.gens.items ++ generation ∷ [] → new.tallies.items ≡ old.tallies.items ++ tallies ∷ []
+    → AreRead plans cpus words kept new (count + 1)
+read_more plans cpus words kept old new count row generation tallies so_far read rows gens all_tallies = record {
+  rows = let l = so_far.rows in let a = ap length rows in let b = length-append old.rows.items (row ∷ []) in omega arith;
+  gens = let l = so_far.gens in let a = ap length gens in let b = length-append old.gens.items (generation ∷ []) in omega arith;
+  tallies = let l = so_far.tallies in let a = ap length all_tallies in let b = length-append old.tallies.items (tallies ∷ []) in omega arith;
+  each = λ tok low. ⊎_elim
+      (λ (now : tok ≡ count).
+      let R : List (List ℕ) → List ℕ → List (List ℕ) → Type 0 = λ rs gs ts. IsRead (plan_at plans tok) cpus words kept tok (get_or rs tok []) (get_or gs tok 0) (get_or ts tok []) in
+      let P : ℕ → Type 0 = λ t. IsRead (plan_at plans t) cpus words kept t row generation tallies in
+      let at_rows : get_or new.rows.items tok [] ≡ row = ap (λ xs. get_or xs tok []) rows ∙ more_here old.rows.items row [] tok (now ∙ sym so_far.rows) in
+      let at_gens : get_or new.gens.items tok 0 ≡ generation = ap (λ xs. get_or xs tok 0) gens ∙ more_here old.gens.items generation 0 tok (now ∙ sym so_far.gens) in
+      let at_tallies : get_or new.tallies.items tok [] ≡ tallies = ap (λ xs. get_or xs tok []) all_tallies ∙ more_here old.tallies.items tallies [] tok (now ∙ sym so_far.tallies) in
+      IsRead_same (plan_at plans tok) cpus words kept tok row generation tallies (get_or new.rows.items tok []) (get_or new.gens.items tok 0) (get_or new.tallies.items tok []) at_rows at_gens at_tallies (subst P (sym now) read))
+      (λ before.
+      let low' : tok < count = omega arith in
+      let r = so_far.rows in
+      let g = so_far.gens in
+      let t = so_far.tallies in
+      IsRead_same (plan_at plans tok) cpus words kept tok (get_or old.rows.items tok []) (get_or old.gens.items tok 0) (get_or old.tallies.items tok []) (get_or new.rows.items tok []) (get_or new.gens.items tok 0) (get_or new.tallies.items tok [])
+      (ap (λ xs. get_or xs tok []) rows ∙ get_or_append_left old.rows.items (row ∷ []) [] tok (omega arith))
+      (ap (λ xs. get_or xs tok 0) gens ∙ get_or_append_left old.gens.items (generation ∷ []) 0 tok (omega arith))
+      (ap (λ xs. get_or xs tok []) all_tallies ∙ get_or_append_left old.tallies.items (tallies ∷ []) [] tok (omega arith))
+      (so_far.each tok low'))
+      (cases_eq tok count);
+}
+  where
+    IsRead_same : (plan : Plan) (c : ℕ) (ws : List ℕ) (ks : List Kept) (t : ℕ) (row : List ℕ) (generation : ℕ) (tallies row' : List ℕ) (generation' : ℕ) (tallies' : List ℕ) → row' ≡ row → generation' ≡ generation → tallies' ≡ tallies → IsRead plan c ws ks t row generation tallies → IsRead plan c ws ks t row' generation' tallies'
+    IsRead_same plan c ws ks t row generation tallies row' generation' tallies' same_row same_generation same_tallies read = record {
+      long = ap length same_row ∙ read.long;
+      cells = λ i low. ap (λ r. slice_index r i) same_row ∙ read.cells i low;
+      generation_is = same_generation ∙ read.generation_is;
+      none = λ other. same_tallies ∙ read.none other;
+      as_many = λ tally. ap length same_tallies ∙ read.as_many tally;
+      each = λ tally a low. ap (λ ts. slice_index ts a) same_tallies ∙ read.each tally a low;
+    }
+
+-- what is left once all seats were taken back
+module _ (bank : BankId) (cpus id : ℕ) (v : View) (words : List ℕ) (seats : List CpuSeat) (kept : List Kept) (left : Left bank.plans cpus id v words) (gathered : Gathering bank v seats [] kept (length seats)) (all : length seats ≡ cpus) where
+  few : cpus ≤ 8
+  few = let r = left.1.0 in let p = r.safe.processors in let q = r.pictures.processors in omega arith
+
+  pub wide : length words ≡ 16 * length bank.plans + 1
+  wide = sym (ap length left.1.1.1) ∙ left.1.0.wide
+
+  settled_token : (tok : ℕ) → tok < length bank.plans → Settled (plan_at bank.plans tok) cpus words tok (written_by seats tok) (λ a. added_by seats tok a)
+  settled_token tok there =
+      let s = settled bank.plans cpus left.0 id v gathered.made (length seats) tok left.1.0 left.1.1.0 gathered.desk (omega arith) there in
+      let F : List ℕ → Type 0 = λ ws. Settled (plan_at bank.plans tok) cpus ws tok (at v.tokens tok).written (λ a. amount a (at v.tokens tok).added) in
+      let t = subst F left.1.1.1 s in
+      let w = gathered.written tok there in
+      record {
+        row = t.row;
+        tallies = t.tallies;
+        long = t.long;
+        cells = t.cells;
+        generation = let g = t.generation in omega arith;
+        lawful = t.lawful;
+        tallied = t.tallied;
+        eight = t.eight;
+        tally = λ a. let x = t.tally a in let y = gathered.added tok a there in omega arith;
+        absent = t.absent;
+      }
+
+  told_token : (tok : ℕ) → tok < length bank.plans → (a : ℕ) → kept_by kept tok a ≡ added_by seats tok a
+  told_token tok there a = let h = gathered.told tok a there in omega arith
+
+  pub kept_fits : ((k : ℕ) → slice_index words k < 18446744073709551616) → (tok : ℕ) → tok < length bank.plans → (plan_at bank.plans tok).law ≡ Tally → (a : ℕ) → kept_by kept tok a < 18446744073709551616
+  kept_fits fits tok there tally a =
+      let h = tally_fits (plan_at bank.plans tok) cpus words tok (written_by seats tok) (λ b. added_by seats tok b) (settled_token tok there) tally (fits (cell_word tok 0)) a in
+      let e = told_token tok there a in
+      omega arith
+
+  pub closed_tokens : (closed : Closed) → AreRead bank.plans cpus words kept closed (length bank.plans) → (tok : ℕ) → tok < length bank.plans
+      → IsClosedToken (plan_at bank.plans tok) cpus seats tok (get_or closed.rows.items tok []) (get_or closed.gens.items tok 0) (get_or closed.tallies.items tok [])
+  closed_tokens closed read tok there =
+      closed_token (plan_at bank.plans tok) cpus words kept tok seats (get_or closed.rows.items tok []) (get_or closed.gens.items tok 0) (get_or closed.tallies.items tok []) few (settled_token tok there) (told_token tok there) (read.each tok there)
+
+-- the clerk before it takes a seat back
+pub desk_told : (kind : SeatKind) → clerk_number kind ≡ 1 → (made : ℕ) × (kind ≡ Clerk made 0)
+desk_told (Clerk made back) e = let none : back ≡ 0 = omega arith in (made, ap (Clerk made) none)
+desk_told (Of cpu) e = absurd (omega arith)
+desk_told Spent e = absurd (omega arith)
+
+-- the same over a bank, whose table was told what the bank keeps
+module _ (bank : Bank) (id : ℕ) (v : View) (words : List ℕ) (seats : List CpuSeat) (kept : List Kept)
+    (left : Left bank.table.shared.key.plans.items bank.table.shared.key.cpus id v words)
+    (gathered : Gathering (record { table = bank.table.shared.table_id; plans = bank.table.shared.key.plans.items }) v seats [] kept (length seats)) (all : length seats ≡ bank.key.cpus) where
+  left_here : Left bank.key.plans.items bank.key.cpus id v words
+  left_here = let F : Key → Type 0 = λ k. Left k.plans.items k.cpus id v words in subst F bank.told left
+
+  gathered_here : Gathering (id_of bank) v seats [] kept (length seats)
+  gathered_here = let F : Key → Type 0 = λ k. Gathering (record { table = bank.table.shared.table_id; plans = k.plans.items }) v seats [] kept (length seats) in subst F bank.told gathered
+
+  pub bank_fits : ((k : ℕ) → slice_index words k < 18446744073709551616) → (tok : ℕ) → tok < length bank.key.plans.items → (plan_at bank.key.plans.items tok).law ≡ Tally → (a : ℕ) → kept_by kept tok a < 18446744073709551616
+  bank_fits fits tok there tally a = kept_fits (id_of bank) bank.key.cpus id v words seats kept left_here gathered_here all fits tok there tally a
+
+  pub bank_wide : length words ≡ 16 * length bank.key.plans.items + 1
+  bank_wide = wide (id_of bank) bank.key.cpus id v words seats kept left_here gathered_here all
+
+  pub bank_closed : (closed : Closed) → AreRead bank.key.plans.items bank.key.cpus words kept closed (length bank.key.plans.items) → IsClosed bank seats closed
+  bank_closed closed read = record {
+    rows = read.rows;
+    gens = read.gens;
+    tallies = read.tallies;
+    each = λ tok there. closed_tokens (id_of bank) bank.key.cpus id v words seats kept left_here gathered_here all closed read tok there;
+  }

@@ -1,0 +1,31 @@
+use Rattle.std.proofs.Common.{ap, sym, ◌∙◌, ◌≡◌, ◌<◌, ℕ, List, length, subst, arith}
+use Rattle.std.specs.Prelude.{IfOk, slice_index}
+use Rattle.std.proofs.lemmas.Result.{IfOk-weaker}
+use Rattle.lwkt_base.specs.declared.laws.Law.TheVariants.{Tally}
+use Rattle.lwkt_bank.specs.declared.views.Plan.{Plan}
+use Rattle.lwkt_bank.specs.declared.kept.Kept.{Kept}
+use Rattle.lwkt_bank.specs.Rule.{plan_at}
+use Rattle.lwkt_bank.specs.Closing.{AreRead, kept_by}
+use Rattle.lwkt_bank.specs.Gathered.{IsClosed}
+use Rattle.lwkt_bank.proofs.KeptMoves.{bank_fits, bank_closed}
+use Rattle.lwkt_bank.proofs.banks.Bank.close_seats.Goals as goal
+
+pub values-requires-clause-fits : goal.values-requires-clause-fits
+values-requires-clause-fits c =
+    let b = c.args.self in
+    let F : List Plan → List ℕ → List Kept → Type 0 = λ ps ws ks. ((k : ℕ) → slice_index ws k < 18446744073709551616) → (tok : ℕ) → tok < length ps → (plan_at ps tok).law ≡ Tally → (cpu : ℕ) → kept_by ks tok cpu < 18446744073709551616 in
+    let ps = c.as_slice.result.now in
+    let ws = c.as_slice-2.result.now in
+    subst (λ ks. F ps ws ks) (sym c.as_slice-3.ensures.value) (subst (λ x. F ps x c.gather.new.kept.items) (sym c.as_slice-2.ensures.value) (subst (λ x. F x c.in_ok-words.words.items c.gather.new.kept.items) (sym c.as_slice.ensures.value)
+    (bank_fits b c.gather.new.clerk.id c.gather.new.clerk.me.0 c.in_ok-words.words.items c.args.seats.items c.gather.new.kept.items c.in_ok-words.ensures c.in_ok-gather.ensures.done c.requires.all)))
+
+pub returns : goal.returns
+returns c =
+    let b = c.args.self in
+    let F : List Plan → List ℕ → List Kept → Type 0 = λ ps ws ks. IfOk c.values.result (λ closed. AreRead ps b.key.cpus ws ks closed (length ps)) in
+    let ks = c.as_slice-3.result.now in
+    let ws = c.as_slice-2.result.now in
+    let read : F b.key.plans.items c.in_ok-words.words.items c.gather.new.kept.items =
+    subst (λ x. F b.key.plans.items c.in_ok-words.words.items x) c.as_slice-3.ensures.value (subst (λ x. F b.key.plans.items x ks) c.as_slice-2.ensures.value (subst (λ x. F x ws ks) c.as_slice.ensures.value c.values.ensures)) in
+    IfOk-weaker c.values.result (λ closed. AreRead b.key.plans.items b.key.cpus c.in_ok-words.words.items c.gather.new.kept.items closed (length b.key.plans.items)) (λ closed. IsClosed b c.args.seats.items closed)
+    (λ closed is. bank_closed b c.gather.new.clerk.id c.gather.new.clerk.me.0 c.in_ok-words.words.items c.args.seats.items c.gather.new.kept.items c.in_ok-words.ensures c.in_ok-gather.ensures.done c.requires.all closed is) read

@@ -1,0 +1,6 @@
+use Rattle.std.proofs.Common.{◌≡◌, take}
+use Rattle.std.specs.Slots.{slots_items}
+use Rattle.lwkt_bank.proofs.closes.copy_words.Given as goal
+
+abbrev pub invariant-loop-i : goal.invariant-loop-i
+invariant-loop-i l = l.words.items ≡ take l.i (slots_items l.closed.words)

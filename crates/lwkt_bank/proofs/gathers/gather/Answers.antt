@@ -1,0 +1,26 @@
+use Rattle.std.proofs.Common.{ap, sym, refl, ◌∙◌, ◌≡◌, ◌+◌, ◌-◌, ℕ, List, length, length-append, subst, arith, ◌∷◌, []}
+use Rattle.lwkt_bank.specs.declared.kept.Kept.{Kept}
+use Rattle.lwkt_bank.specs.Seats.{BankId}
+use Rattle.lwkt_bank.specs.Closing.{Gathering}
+use Rattle.lwkt_bank.proofs.KeptMoves.{gathering_more}
+use Rattle.lwkt_bank.proofs.gathers.gather.Goals as goal
+
+pub loop-seat-preserved : goal.loop-seat-preserved
+loop-seat-preserved c =
+    let i = c.loop-seat.invariant in
+    let bank : BankId = record { table = c.args.table.now.shared.table_id; plans = c.args.table.now.shared.key.plans.items } in
+    let all = c.args.seats.items in
+    let rest = c.loop-seat.seats.items in
+    let front = c.pop.new.self.items in
+    let counted = i.so_far.counted in
+    let last = c.in-Some.ensures.items in
+    let longer = ap length last in
+    let more = length-append front (c.in-Some.seat ∷ []) in
+    let F : ℕ → Type 0 = λ b. Gathering bank c.join.new.clerk.me.0 all front c.push.new.self.items b in
+    let G : List Kept → Type 0 = λ ks. Gathering bank c.join.new.clerk.me.0 all front ks (length all - length rest + 1) in
+    let step = gathering_more bank c.loop-seat.clerk.me.0 c.join.new.clerk.me.0 all rest front c.in-Some.seat c.loop-seat.kept.items _ (length all - length rest) i.so_far last (ap (λ m. m.0) c.join.ensures.2) refl refl in
+    record {
+      same = c.join.ensures.0 ∙ i.same;
+      id = c.join.ensures.1 ∙ i.id;
+      so_far = subst F (omega arith) (subst G (sym c.in_ok-push.ensures.items) step);
+    }

@@ -1,0 +1,61 @@
+use Rattle.std.specs.Prelude.{◌≡◌, ◌≢◌, ℕ, ◌+◌, ◌<◌, ◌==◌, if◌then◌else◌, List, [], length, All, slice_index, slice_index_or}
+use Rattle.lwkt_base.specs.declared.names.CpuId.{CpuId}
+use Rattle.lwkt_base.specs.declared.holdings.Held.TheVariants.{Nothing}
+use Rattle.lwkt_core.specs.declared.seats.SeatKind.TheVariants.{Clerk, Of, Spent}
+use Rattle.lwkt_core.specs.Seating.{total}
+use mathlib.Core.Option.{some}
+use lib.ListN.{get_elem?}
+use Rattle.lwkt_bank.specs.declared.views.Plan.{Plan}
+use Rattle.lwkt_bank.specs.Rule.{Bench, Rule, token_word, cell_word, plan_at}
+use Rattle.lwkt_base.specs.declared.laws.Law.TheVariants.{Tally}
+use Rattle.lwkt_bank.specs.declared.closed.Closed.{Closed}
+use Rattle.lwkt_bank.specs.declared.views.View.{View}
+use Rattle.lwkt_bank.specs.declared.seats.CpuSeat.{CpuSeat}
+use Rattle.lwkt_bank.specs.declared.kept.Kept.{Kept}
+use Rattle.lwkt_bank.specs.Views.{at, amount, generation_in}
+use Rattle.lwkt_bank.specs.Notes.{note_at}
+use Rattle.lwkt_bank.specs.Seats.{BankId, bank_of, entry, holding}
+use Rattle.lwkt_bank.specs.Gathered.{written_by, added_by}
+
+-- a seat of this bank that holds nothing
+pub record IsReady (bank : BankId) (s : CpuSeat) : Type 0 where
+  pub of : bank_of s ≡ bank
+  pub empty : (tok : ℕ) → tok < length bank.plans → holding s tok ≡ Nothing
+
+-- what a processor has added to a token, by what one seat had kept, and by all
+abbrev pub kept_of : ℕ → ℕ → Kept → ℕ
+kept_of tok cpu k = if k.cpu.0 == cpu then (note_at k.notes tok).tally else 0
+
+abbrev pub kept_by : List Kept → ℕ → ℕ → ℕ
+kept_by kept tok cpu = total (kept_of tok cpu) kept
+
+-- the clerk has taken back all of these seats but the rest: what it knows and what was kept say of them what they did
+pub record Gathering (bank : BankId) (v : View) (all rest : List CpuSeat) (kept : List Kept) (back : ℕ) : Type 0 where
+  pub made : ℕ
+  pub desk : v.kind ≡ Clerk made back
+  pub counted : back + length rest ≡ length all
+  pub informed : length v.plans ≡ length bank.plans
+  pub ready : All (IsReady bank) rest
+  pub written : (tok : ℕ) → tok < length bank.plans → (at v.tokens tok).written + written_by rest tok ≡ written_by all tok
+  pub added : (tok cpu : ℕ) → tok < length bank.plans → amount cpu (at v.tokens tok).added + added_by rest tok cpu ≡ added_by all tok cpu
+  pub told : (tok cpu : ℕ) → tok < length bank.plans → kept_by kept tok cpu + added_by rest tok cpu ≡ added_by all tok cpu
+
+-- the words of a state of the rule in which a seat has this view
+abbrev pub Left : List Plan → ℕ → ℕ → View → List ℕ → Type 0
+Left plans cpus id v words = (s : Bench) × (Rule plans cpus s × ((get_elem? s.views id ≡ some v) × (s.words ≡ words)))
+
+-- a token's row, generation and tallies as the words and what was kept say
+pub record IsRead (plan : Plan) (cpus : ℕ) (words : List ℕ) (kept : List Kept) (tok : ℕ) (row : List ℕ) (generation : ℕ) (tallies : List ℕ) : Type 0 where
+  pub long : length row ≡ plan.cells
+  pub cells : (i : ℕ) → i < plan.cells → slice_index row i ≡ slice_index words (cell_word tok i)
+  pub generation_is : generation ≡ generation_in (slice_index words (token_word tok))
+  pub none : plan.law ≢ Tally → tallies ≡ []
+  pub as_many : plan.law ≡ Tally → length tallies ≡ cpus
+  pub each : plan.law ≡ Tally → (cpu : ℕ) → cpu < cpus → slice_index tallies cpu ≡ kept_by kept tok cpu
+
+-- the first so many tokens are read
+pub record AreRead (plans : List Plan) (cpus : ℕ) (words : List ℕ) (kept : List Kept) (closed : Closed) (count : ℕ) : Type 0 where
+  pub rows : length closed.rows.items ≡ count
+  pub gens : length closed.gens.items ≡ count
+  pub tallies : length closed.tallies.items ≡ count
+  pub each : (tok : ℕ) → tok < count → IsRead (plan_at plans tok) cpus words kept tok (slice_index_or closed.rows.items tok []) (slice_index closed.gens.items tok) (slice_index_or closed.tallies.items tok [])
