@@ -34,6 +34,12 @@ get_inside [] i x e = absurd (let h : None ≡ Some x = e in cc)
 get_inside (y ∷ ys) zero x e = omega arith
 get_inside (y ∷ ys) (suc i) x e = let h = get_inside ys i x e in omega arith
 
+-- an element within the length of a list is there
+get_there : (xs : List MsgEnd) (i : ℕ) (d : MsgEnd) → i < length xs → slice_get xs i ≡ Some (get_or xs i d)
+get_there [] i d h = absurd (omega arith)
+get_there (x ∷ xs) zero d h = refl
+get_there (x ∷ xs) (suc i) d h = get_there xs i d (omega arith)
+
 -- a word of a table is there
 word_there : (xs : List ℕ) (i : ℕ) → i < length xs → get_elem? xs i ≡ some (get_or xs i 0)
 word_there [] i h = absurd (omega arith)
@@ -45,7 +51,7 @@ pub closes : (book : Shelf) (key : Layout) (seats : List Desk) (v w : View) (id 
     → length seats ≡ book.cpus → HasTakenBack book.cpus v seats w → Rule key s → get_elem? s.views id ≡ some w → s.words ≡ words → AreShown (length key.specs.items) words ends → AreClosed book seats ends
 closes book key seats v w id words ends s cpus_is specs_is v_specs all taken rule at_id words_are shown = record {
   as_many = shown.as_many ∙ ap (λ (xs : List MsgSpec). length xs) (sym specs_is);
-  each = each;
+  each = λ m d within. each m (get_or ends m d) (get_there ends m d (let a = shown.as_many in let b = ap (λ (xs : List MsgSpec). length xs) specs_is in omega arith));
 }
   where
     within_of : (m : ℕ) (end : MsgEnd) → slice_get ends m ≡ Some end → m < length key.specs.items

@@ -1,4 +1,4 @@
-use Rattle.std.specs.Prelude.{◌≡◌, ℕ, ◌+◌, ◌*◌, ◌<◌, ◌≤◌, ◌==◌, List, [], length, slice_get, slice_index, Some, if◌then◌else◌}
+use Rattle.std.specs.Prelude.{◌≡◌, ℕ, ◌+◌, ◌*◌, ◌<◌, ◌≤◌, ◌==◌, List, [], length, slice_get, slice_index, slice_index_or, Some, if◌then◌else◌}
 use mathlib.Core.Option.{some}
 use lib.ListN.{get_elem?}
 use Rattle.atomic_table.specs.Seated.{TableId}
@@ -101,7 +101,7 @@ pub record IsOpened (cpu : ℕ) (book : Shelf) (d : Desk) : Type 0 where
 -- the seats of so many processors as they are opened
 pub record AreSeats (made : ℕ) (book : Shelf) (seats : List Desk) : Type 0 where
   pub as_many : length seats ≡ made
-  pub each : (cpu : ℕ) (d : Desk) → slice_get seats cpu ≡ Some d → IsOpened cpu book d
+  pub each : (cpu : ℕ) (d : Desk) → cpu < made → IsOpened cpu book (slice_index_or seats cpu d)
 
 -- a book that was just opened, with one seat for each processor
 pub record AreOpened (cpus : ℕ) (specs : List MsgSpec) (book : Shelf) (seats : List Desk) : Type 0 where
@@ -130,7 +130,7 @@ pub record IsClosed (book : Shelf) (seats : List Desk) (m : ℕ) (end : MsgEnd) 
 -- the closing values are those of the book's messages
 pub record AreClosed (book : Shelf) (seats : List Desk) (ends : List MsgEnd) : Type 0 where
   pub as_many : length ends ≡ length book.specs
-  pub each : (m : ℕ) (end : MsgEnd) → slice_get ends m ≡ Some end → IsClosed book seats m end
+  pub each : (m : ℕ) (end : MsgEnd) → m < length book.specs → IsClosed book seats m (slice_index_or ends m end)
 
 -- a seat that is being opened, and has the records of its own messages up to this one
 pub record IsHanding (cpu : CpuId) (upto : ℕ) (place : Seat Rec View) : Type 0 where
