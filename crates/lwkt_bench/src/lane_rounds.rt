@@ -1,0 +1,133 @@
+//! Bursts of notes through a lane and through rings written by hand.
+use crate::rings::{Ring, WordRing};
+use crate::rounds::{Race, Rounds, Timed, end_round};
+use lwkt_base::MsgId;
+use lwkt_lane::{LaneIn, LaneOut, Note, NoteKind, lane};
+use std::alloc::AllocError;
+use std::io;
+use std::sync::Wait;
+use std::time::CpuClock;
+
+// A lane for 32 notes, as the ring.
+const CAPACITY: usize = 32;
+
+const BURST: u64 = 16;
+
+const BURSTS: u64 = 1000;
+
+const ROUNDS: u32 = 401;
+
+const IN_RING: Race = Race {
+    what: "lane: a note pushed and popped, beside a ring",
+    steps: BURST * BURSTS,
+    goal: 220,
+    most: 260,
+};
+
+const IN_WORDS: Race = Race {
+    what: "the same, beside a ring of words alone",
+    steps: BURST * BURSTS,
+    goal: 220,
+    most: 260,
+};
+
+fn note(round: u64) -> Note {
+    Note {
+        round,
+        msg: MsgId((round % 64) as u8),
+        port: 3,
+        kind: NoteKind::Request,
+    }
+}
+
+fn push_burst(rt: &impl Wait, out: &mut LaneOut, turn: u64) {
+    for i in 0..BURST {
+        let _ = out.push(rt, note(turn ^ i));
+    }
+}
+
+// The sum of what came out.
+fn pop_burst(rt: &impl Wait, into: &mut LaneIn) -> u64 {
+    let mut sum = 0u64;
+    for _i in 0..BURST {
+        if let Some(note) = into.pop(rt) {
+            sum = sum.wrapping_add(note.round ^ u64::from(note.msg.0));
+        }
+    }
+    sum
+}
+
+fn lane_round<R: Wait + CpuClock>(
+    rt: &R,
+    out: &mut LaneOut,
+    into: &mut LaneIn,
+) -> io::Result<Timed> {
+    let start = rt.thread_cpu_time()?;
+    let mut sum = 0u64;
+    for turn in 0..BURSTS {
+        push_burst(rt, out, turn);
+        sum = sum.wrapping_add(pop_burst(rt, into));
+    }
+    end_round(rt, start, sum)
+}
+
+fn ring_burst(ring: &mut Ring, turn: u64) -> u64 {
+    for i in 0..BURST {
+        ring.push(note(turn ^ i));
+    }
+    let mut sum = 0u64;
+    for _i in 0..BURST {
+        if let Some(note) = ring.pop() {
+            sum = sum.wrapping_add(note.round ^ u64::from(note.msg.0));
+        }
+    }
+    sum
+}
+
+fn ring_round<R: CpuClock>(rt: &R, ring: &mut Ring) -> io::Result<Timed> {
+    let start = rt.thread_cpu_time()?;
+    let mut sum = 0u64;
+    for turn in 0..BURSTS {
+        sum = sum.wrapping_add(ring_burst(ring, turn));
+    }
+    end_round(rt, start, sum)
+}
+
+fn word_burst(ring: &WordRing, turn: u64) -> u64 {
+    for i in 0..BURST {
+        ring.push(note(turn ^ i));
+    }
+    let mut sum = 0u64;
+    for _i in 0..BURST {
+        if let Some(note) = ring.pop() {
+            sum = sum.wrapping_add(note.round ^ u64::from(note.msg.0));
+        }
+    }
+    sum
+}
+
+fn word_round<R: CpuClock>(rt: &R, ring: &WordRing) -> io::Result<Timed> {
+    let start = rt.thread_cpu_time()?;
+    let mut sum = 0u64;
+    for turn in 0..BURSTS {
+        sum = sum.wrapping_add(word_burst(ring, turn));
+    }
+    end_round(rt, start, sum)
+}
+
+/// Times a lane beside the two rings, and prints a line for each.
+pub fn time_lanes<R: Wait + CpuClock + Print + AllocGlobal>(rt: &R) -> io::Result<()> {
+    let alloc = rt.alloc();
+    let (mut out, mut into) = lane(alloc, CAPACITY).map_err(|_| AllocError)?;
+    let mut ring = Ring::new();
+    let words = WordRing::new();
+    let mut by_ring = Rounds::new(alloc);
+    let mut by_words = Rounds::new(alloc);
+    for _round in 0..ROUNDS {
+        let ours = lane_round(rt, &mut out, &mut into)?;
+        by_ring.add(ours, ring_round(rt, &mut ring)?)?;
+        by_words.add(ours, word_round(rt, &words)?)?;
+    }
+    by_ring.print_line(rt, IN_RING)?;
+    by_words.print_line(rt, IN_WORDS)
+}

@@ -1,0 +1,38 @@
+//! Times the steps of the layer beside the same steps written by hand on plain words. `lwkt_bench run` prints the table.
+#![tactic(auto)]
+
+mod lane_rounds;
+mod rings;
+mod rounds;
+
+use lane_rounds::time_lanes;
+use std::process::ExitCode;
+use std::rt::Env;
+use std::sync::Wait;
+use std::time::CpuClock;
+use std::{env, io};
+
+const USAGE: &str = "lwkt_bench: run";
+
+// Whether `run` is the one argument.
+fn is_run<R: Env + AllocGlobal>(rt: &R) -> io::Result<bool> {
+    let mut words = env::args(rt)?.skip(1);
+    let Some(first) = words.next() else {
+        return Ok(false);
+    };
+    Ok(first.as_str() == "run" && words.next().is_none())
+}
+
+fn run<R: Wait + CpuClock + Print + AllocGlobal>(rt: &R) -> io::Result<()> {
+    rounds::print_head(rt)?;
+    time_lanes(rt)
+}
+
+fn main(rt: HostRuntime) -> io::Result<ExitCode> {
+    if !is_run(&rt)? {
+        println!(rt; "{USAGE}")?;
+        return Ok(ExitCode::from(1));
+    }
+    run(&rt)?;
+    Ok(ExitCode::SUCCESS)
+}
