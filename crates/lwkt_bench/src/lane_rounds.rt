@@ -21,14 +21,14 @@ const IN_RING: Race = Race {
     what: "lane: a note pushed and popped, beside a ring",
     steps: BURST * BURSTS,
     goal: 220,
-    most: 260,
+    worst: 260,
 };
 
 const IN_WORDS: Race = Race {
     what: "the same, beside a ring of words alone",
     steps: BURST * BURSTS,
     goal: 220,
-    most: 260,
+    worst: 260,
 };
 
 fn note(round: u64) -> Note {

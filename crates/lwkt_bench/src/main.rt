@@ -1,9 +1,13 @@
 //! Times the steps of the layer beside the same steps written by hand on plain words. `lwkt_bench run` prints the table.
 #![tactic(auto)]
 
+mod desks;
+mod hands;
 mod lane_rounds;
 mod rings;
 mod rounds;
+mod steps;
+mod token_rounds;
 
 use lane_rounds::time_lanes;
 use std::process::ExitCode;
@@ -11,6 +15,7 @@ use std::rt::Env;
 use std::sync::Wait;
 use std::time::CpuClock;
 use std::{env, io};
+use token_rounds::time_tokens;
 
 const USAGE: &str = "lwkt_bench: run";
 
@@ -25,6 +30,7 @@ fn is_run<R: Env + AllocGlobal>(rt: &R) -> io::Result<bool> {
 
 fn run<R: Wait + CpuClock + Print + AllocGlobal>(rt: &R) -> io::Result<()> {
     rounds::print_head(rt)?;
+    time_tokens(rt)?;
     time_lanes(rt)
 }
 

@@ -25,9 +25,9 @@ pub struct Race {
     pub what: &'static str,
     /// How many steps a round makes.
     pub steps: u64,
-    /// The ratio that is wanted, and the most that is accepted, in hundredths.
+    /// The ratio that is wanted, and the worst that is accepted, in hundredths.
     pub goal: u64,
-    pub most: u64,
+    pub worst: u64,
 }
 
 /// A round that began at this processor time of the thread and has just ended.
@@ -83,7 +83,7 @@ impl Rounds {
         print_hundredths(rt, hundredths(plain, race.steps))?;
         print_hundredths(rt, hundredths(ours, plain))?;
         print_hundredths(rt, race.goal)?;
-        print_hundredths(rt, race.most)?;
+        print_hundredths(rt, race.worst)?;
         println!(rt; "")
     }
 }
@@ -97,6 +97,6 @@ fn print_hundredths<R: Print + Alloc>(rt: &R, number: u64) -> io::Result<()> {
 /// Prints the head of the table.
 pub fn print_head<R: Print + Alloc>(rt: &R) -> io::Result<()> {
     let what = "what, nanoseconds a step";
-    let [ours, plain, ratio, goal, most] = ["ours", "plain", "ratio", "goal", "most"];
-    println!(rt; "{what:<46} {ours:>9} {plain:>9} {ratio:>9} {goal:>9} {most:>9}")
+    let [ours, plain, ratio, goal, worst] = ["ours", "plain", "ratio", "goal", "worst"];
+    println!(rt; "{what:<46} {ours:>9} {plain:>9} {ratio:>9} {goal:>9} {worst:>9}")
 }

@@ -1,0 +1,2 @@
+mod IdleMoves
+mod ReadyMoves
