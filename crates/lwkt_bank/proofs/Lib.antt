@@ -13,3 +13,4 @@ pub mod GatherMoves
 pub mod OpenMoves
 pub mod CloseMoves
 pub mod KeptMoves
+pub mod HoldMoves

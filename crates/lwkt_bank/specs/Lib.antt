@@ -7,3 +7,4 @@ pub mod Opened
 pub mod Gathered
 pub mod Closing
 pub mod Laws
+pub mod Holdings

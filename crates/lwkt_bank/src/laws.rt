@@ -1,5 +1,6 @@
 //! What the bank's rule is for, as laws.
 ghost use Rattle.lwkt_bank.specs.Laws.{RuleShowsSafety, LookIsLoad, ExchangeIsTake, ExchangeIsShare, AddIsAgain, OrIsMark, SubIsGiveOne, SubIsGiveClean, AddIsGiveWritten, CellLoadIsRead, CellStoreIsWrite, TallyStoreIsWrite};
+ghost use Rattle.lwkt_bank.specs.Holdings.{TakingAdds, AgainAdds, GivingRemoves, OthersKeep, NothingCounts, AddedCounts};
 
 /// Every state of the table that meets the rule shows a safe machine of the model, holders and tallies by processor, and each
 /// view knows what is true of it. The kit keeps the rule between any two steps of any number of seats.
@@ -21,4 +22,18 @@ pub fn steps_are_events()
     ensures read { CellLoadIsRead }
     ensures store { CellStoreIsWrite }
     ensures raise { TallyStoreIsWrite }
+{}
+
+/// What a seat holds after each call: one reference more, one less, or as before.
+pub fn calls_change_holdings()
+    ensures taking { TakingAdds }
+    ensures again { AgainAdds }
+    ensures giving { GivingRemoves }
+    ensures others { OthersKeep }
+{}
+
+/// How many references a holding has in all.
+pub fn references_are_counted()
+    ensures nothing { NothingCounts }
+    ensures added { AddedCounts }
 {}
