@@ -9,7 +9,7 @@ use Rattle.lwkt_bank.specs.declared.banks.Bank.{Bank}
 use Rattle.lwkt_bank.specs.declared.seats.CpuSeat.{CpuSeat}
 use Rattle.std.proofs.lemmas.Bool.{cases_eq}
 use Rattle.std.proofs.Math.Path.{fun_ext}
-use Rattle.std.proofs.lemmas.List.{get_or-take, ext_get_or}
+use Rattle.std.proofs.lemmas.List.{get_or-take, ext_get_or, get_or_default}
 use Rattle.lwkt_base.specs.Holding.{is_held}
 use Rattle.lwkt_base.specs.declared.names.Mode.{Mode}
 use Rattle.lwkt_base.specs.declared.holdings.Held.TheVariants.{Nothing, Holds}
@@ -21,7 +21,7 @@ use Rattle.lwkt_base.specs.Holding.{Holding}
 use Rattle.lwkt_bank.specs.Plays.{IsTakenRow}
 use Rattle.lwkt_bank.specs.Views.{at, noted, seen, looked, taken, generation_in, count_from, load, exchange}
 use Rattle.lwkt_bank.specs.Rule.{plan_at}
-use Rattle.lwkt_bank.specs.Notes.{Keeps, IsNoted, note_at}
+use Rattle.lwkt_bank.specs.Notes.{Keeps, IsNoted, no_note, note_at}
 use Rattle.lwkt_bank.specs.declared.notes.Note.{Note}
 use Rattle.lwkt_bank.specs.Seats.{BankId, id_of, bank_of, tokens_of, plan_of, entry, holding, references, IsOf, IsSame, Changes, written_over, Looked, Took, Lost, Hit, Miss, Decides}
 use Rattle.lwkt_bank.proofs.ViewMoves.{at-here, at-else, at-tok}
@@ -196,3 +196,16 @@ written_more (None ∷ made) i (suc c) x row room none =
 written_more (Some y ∷ made) i (suc c) x row room none =
     let at_c : suc i + c ≡ i + suc c = omega arith in
     written_more made (suc i) c x (set row i y) (omega arith) (λ k low. none (suc k) (omega arith)) ∙ ap (λ (j : ℕ). set (written_over (suc i) made (set row i y)) j x) at_c
+
+-- a token that exists has room in what a seat keeps
+pub room_of : (bank : Bank) (s : CpuSeat) (tok : ℕ) → bank_of s ≡ id_of bank → tok < length s.seat.me.0.plans → tok < 64
+room_of bank s tok of there = let t = there_of bank s tok of there in let f = bank.few in omega arith
+
+-- what a seat keeps after a part of the note of a token was written
+pub keeps_part : (s : CpuSeat) (w : View) (tok : ℕ) (e : Entry) (made : List WordStep) (f : Note → Note) (d : Note) → tok < 64 → w ≡ noted s.seat.me.0 e made → e.tok ≡ tok → IsNoted (plan_at s.seat.me.0.plans tok) s.cpu.0 e (f (note_at s.notes tok)) → Keeps (set s.notes tok (f (get_or s.notes tok d))) s.cpu w
+keeps_part s w tok e made f d room is is_tok here =
+    let sized = s.sized in
+    let inside : tok < length s.notes = omega arith in
+    let same : get_or s.notes tok d ≡ note_at s.notes tok = get_or_default s.notes tok d no_note inside in
+    let F : Note → Type 0 = λ m. Keeps (set s.notes tok (f m)) s.cpu w in
+    subst F (sym same) (keeps_set s w tok e made (f (note_at s.notes tok)) room is is_tok here)

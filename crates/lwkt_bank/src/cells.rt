@@ -34,9 +34,8 @@ impl CpuSeat {
         requires first { change.first ≡ slice_index (entry self.old tok.0).first cell }
         ensures { Changes self.old self.new tok.0 (stored (entry self.old tok.0) cell change.last) [] }
     {
-        let note = self.note(bank, tok);
         steps::store_cell(bank, &mut self.seat, tok, cell, change.last);
-        self.notes[tok.0 as usize] = note.changed(cell as usize, change);
+        self.notes[tok.0 as usize].cells[cell as usize] = Some(change);
     }
 
     // Stores a value in a cell of a token that keeps no tallies.

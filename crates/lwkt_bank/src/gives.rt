@@ -60,9 +60,9 @@ impl CpuSeat {
         requires not_last { IsNotLastExclusive (holding self.old tok.0) }
         ensures { Stepped self.old self.new tok.0 (less (entry self.old tok.0)) (sub tok.0 4) }
     {
-        let note = self.note(bank, tok);
+        let held = self.note(bank, tok).held;
         steps::give_one(bank, &mut self.seat, tok);
-        self.notes[tok.0 as usize] = note.held_as(note.held.one_less());
+        self.notes[tok.0 as usize].held = held.one_less();
     }
 
     fn end_clean(&mut self, bank: &Bank, tok: TokId)
@@ -72,9 +72,8 @@ impl CpuSeat {
         requires clean { (entry self.old tok.0).row ≡ (entry self.old tok.0).first }
         ensures { Stepped self.old self.new tok.0 (less (entry self.old tok.0)) (sub tok.0 1) }
     {
-        let note = self.note(bank, tok);
         steps::give_clean(bank, &mut self.seat, tok);
-        self.notes[tok.0 as usize] = note.held_as(Held::Nothing);
+        self.notes[tok.0 as usize].held = Held::Nothing;
     }
 
     fn end_written(&mut self, bank: &Bank, tok: TokId)
@@ -85,9 +84,8 @@ impl CpuSeat {
         requires lawful { MeetsLaw (plan_of (bank_of self.old) tok.0).law (plan_of (bank_of self.old) tok.0).param (entry self.old tok.0).row }
         ensures { Stepped self.old self.new tok.0 (ended (entry self.old tok.0)) (add tok.0 262143) }
     {
-        let note = self.note(bank, tok);
         steps::give_written(bank, &mut self.seat, tok);
-        self.notes[tok.0 as usize] = note.held_as(Held::Nothing);
+        self.notes[tok.0 as usize].held = Held::Nothing;
     }
 
     /// Gives a reference back. That the seat holds the token is the caller's condition, and if that ends a section, that the

@@ -34,15 +34,6 @@ impl Note {
         }
     }
 
-    /// The note with another holding.
-    pub(crate) fn held_as(self, held: Held) -> Note
-        ensures { result ≡ record self { held = held } }
-    {
-        let mut note = self;
-        note.held = held;
-        note
-    }
-
     /// The note with this change of a cell.
     pub(crate) fn changed(self, cell: usize, change: Change) -> Note
         requires { cell < length self.cells }

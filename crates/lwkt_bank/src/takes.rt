@@ -93,9 +93,9 @@ impl CpuSeat {
         requires few { references self.old < 32 }
         ensures { Stepped self.old self.new tok.0 (more (entry self.old tok.0)) (add tok.0 4) }
     {
-        let note = self.note(bank, tok);
+        let held = self.note(bank, tok).held;
         steps::add_one(bank, &mut self.seat, tok);
-        self.notes[tok.0 as usize] = note.held_as(note.held.one_more(Mode::Shared));
+        self.notes[tok.0 as usize].held = held.one_more(Mode::Shared);
     }
 
     /// Marks the token for an exclusive request.

@@ -1,22 +1,22 @@
-use Rattle.std.proofs.Common.{refl, length-set, ◌∙◌}
+use Rattle.std.proofs.Common.{refl, length-set, set, Some, ◌∙◌}
+use Rattle.lwkt_bank.specs.Notes.{note_at}
 use Rattle.lwkt_bank.specs.Views.{stored}
 use Rattle.lwkt_bank.specs.Seats.{entry}
 use Rattle.lwkt_bank.proofs.TurnMoves.{exclusive_held}
 use Rattle.lwkt_bank.proofs.NoteMoves.{IsNoted-stored}
-use Rattle.lwkt_bank.proofs.ChangeMoves.{changed, keeps_set, still_quiet, entry_tok, noted_as, short_row}
+use Rattle.lwkt_bank.proofs.ChangeMoves.{changed, keeps_part, room_of, still_quiet, entry_tok, short_row}
 use Rattle.lwkt_bank.proofs.seats.CpuSeat.store_over.Goals as goal
 
 pub invariant_of-self : goal.invariant_of-self
 invariant_of-self c =
     let s = c.args.self.now in
     let t = c.args.tok.0 in
-    let n = c.note-note.result in
     let e = entry s t in
-    let noted' = IsNoted-stored _ s.cpu.0 e n (noted_as s t n c.requires.there c.note-note.ensures.is) (exclusive_held e.held c.requires.held) (short_row c.args.bank.now s t c.requires.of) c.args.cell c.args.change.first c.args.change.last c.requires.inside c.requires.first in
+    let noted' = IsNoted-stored _ s.cpu.0 e (note_at s.notes t) (s.kept.each t c.requires.there) (exclusive_held e.held c.requires.held) (short_row c.args.bank.now s t c.requires.of) c.args.cell c.args.change.first c.args.change.last c.requires.inside c.requires.first in
     record {
-      kept = keeps_set s c.store_cell.new.seat.me.0 t (stored e c.args.cell c.args.change.last) _ c.changed.result c.note-note.ensures.room c.store_cell.ensures.stores (entry_tok s t) (rw c.changed.ensures noted');
+      kept = keeps_part s c.store_cell.new.seat.me.0 t (stored e c.args.cell c.args.change.last) _ (λ m. record m { cells = set m.cells c.args.cell (Some c.args.change) }) _ (room_of c.args.bank.now s t c.requires.of c.requires.there) c.store_cell.ensures.stores (entry_tok s t) noted';
       quiet = still_quiet s.seat c.store_cell.new.seat c.store_cell.ensures.same s.quiet;
-      sized = length-set s.notes t c.changed.result ∙ s.sized;
+      sized = length-set s.notes t _ ∙ s.sized;
     }
 
 pub returns : goal.returns
