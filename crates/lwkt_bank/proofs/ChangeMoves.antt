@@ -1,4 +1,4 @@
-use Rattle.std.proofs.Common.{eq-eqb, ⊎_elim, Bool, true, cond, ◌≡◌, ◌≢◌, ℕ, ◌+◌, ◌<◌, ◌≤◌, List, [], ◌∷◌, ◌++◌, length, refl, ap, sym, ◌∙◌, subst, arith, append_assoc, set, zero, suc, take, get_or, Option, None, length-take}
+use Rattle.std.proofs.Common.{eq-eqb, ⊎_elim, Bool, true, cond, ◌≡◌, ℕ, ◌+◌, ◌<◌, ◌≤◌, List, [], ◌∷◌, ◌++◌, length, refl, ap, sym, ◌∙◌, subst, arith, append_assoc, set, zero, suc, take, get_or, Option, None, length-take}
 use Rattle.std.specs.Prelude.{slice_get, slice_index, All, Some}
 use Rattle.atomic_table.specs.declared.shared.Seat.{Seat}
 use Rattle.lwkt_core.specs.declared.seats.WordStep.{WordStep}
@@ -12,7 +12,7 @@ use Rattle.std.proofs.Math.Path.{fun_ext}
 use Rattle.std.proofs.lemmas.List.{get_or-take, ext_get_or, get_or_default}
 use Rattle.lwkt_base.specs.Holding.{is_held}
 use Rattle.lwkt_base.specs.declared.names.Mode.{Mode}
-use Rattle.lwkt_base.specs.declared.holdings.Held.TheVariants.{Nothing, Holds}
+use Rattle.lwkt_base.specs.declared.holdings.Held.TheVariants.{Holds}
 use Rattle.lwkt_base.specs.declared.words.TokWord.{TokWord}
 use Rattle.lwkt_base.specs.declared.words.Decision.{Decision}
 use Rattle.lwkt_base.specs.declared.words.Decision.TheVariants.{Take}

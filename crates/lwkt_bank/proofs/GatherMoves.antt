@@ -1,28 +1,26 @@
-use Rattle.std.proofs.Common.{eqb, inl, inr, ◌≡◌, ◌≢◌, ◌⊎◌, ⊎_elim, ℕ, zero, suc, ◌+◌, ◌-◌, ◌*◌, ◌<◌, ◌≤◌, Bool, true, false, cond, List, [], ◌∷◌, ◌++◌, length, map, get_or, set, refl, ap, sym, ◌∙◌, subst, arith, All, Some}
+use Rattle.std.proofs.Common.{eqb, inl, inr, ◌≡◌, ◌≢◌, ⊎_elim, ℕ, ◌+◌, ◌<◌, cond, List, [], ◌∷◌, ◌++◌, length, map, set, refl, ap, sym, ◌∙◌, subst, arith, All, Some}
 use Rattle.std.specs.Prelude.{slice_index, slice_get}
 use Rattle.std.proofs.lemmas.Bool.{cases_eq, false≢true}
 use Rattle.std.proofs.lemmas.List.Elements.{All-nil}
 use Rattle.std.proofs.lemmas.List.Sums.{sum_by-append}
-use mathlib.Core.Option.{Option, some, some-injective, some-ne-none}
+use mathlib.Core.Option.{Option, some, some-injective}
 use lib.ListN.{get_elem?}
-use Rattle.atomic_table.specs.Table.{State}
 use Rattle.lwkt_base.specs.declared.names.CpuId.{CpuId}
-use Rattle.lwkt_base.specs.declared.holdings.Held.{Held}
-use Rattle.lwkt_base.specs.declared.holdings.Held.TheVariants.{Nothing, Holds}
+use Rattle.lwkt_base.specs.declared.holdings.Held.TheVariants.{Nothing}
 use Rattle.lwkt_base.specs.Holding.{is_held}
 use Rattle.lwkt_core.specs.declared.seats.SeatKind.{SeatKind}
 use Rattle.lwkt_core.specs.declared.seats.SeatKind.TheVariants.{Clerk, Of, Spent}
 use Rattle.lwkt_core.specs.declared.tokens.Token.{Token}
-use Rattle.lwkt_core.specs.Tokens.{held_by, tally_of}
-use Rattle.lwkt_core.specs.Seating.{total, AreSeated}
-use Rattle.lwkt_core.proofs.SeatingLemmas.{at_set, at_snoc, at_last, at_longer, set_here, set_else, set_again, inside, at_map, of_map, map-set, map-snoc, total-set, total-snoc, AreSeated-split, AreSeated-join, AreSeated-below}
+use Rattle.lwkt_core.specs.Tokens.{held_by}
+use Rattle.lwkt_core.specs.Seating.{AreSeated}
+use Rattle.lwkt_core.proofs.SeatingLemmas.{at_set, at_snoc, at_longer, set_else, at_map, of_map, map-set, map-snoc, total-set, total-snoc, AreSeated-split, AreSeated-join, AreSeated-below}
 use Rattle.lwkt_bank.specs.declared.views.Plan.{Plan}
 use Rattle.lwkt_bank.specs.declared.views.Added.{Added}
 use Rattle.lwkt_bank.specs.declared.views.Entry.{Entry}
 use Rattle.lwkt_bank.specs.declared.views.View.{View}
 use Rattle.lwkt_bank.specs.Views.{blank, at, amount, both_of, merged, after_made, after_back, next_seat, clerk_after, new_seat, joined, spent}
-use Rattle.lwkt_bank.specs.Rule.{Bench, token_word, cell_word, Seen, seen_by, column, held_in, Knows, Shows, Pictures, Rule, plan_at, token_at}
-use Rattle.lwkt_bank.proofs.ViewMoves.{column-set, at-merged}
+use Rattle.lwkt_bank.specs.Rule.{Bench, token_word, cell_word, Seen, seen_by, column, held_in, Knows, Shows, Rule, plan_at, token_at}
+use Rattle.lwkt_bank.proofs.ViewMoves.{at-merged}
 use Rattle.lwkt_bank.proofs.ShowMoves.{cpu_in, numbered_seat}
 
 -- who holds nothing and knows no cell knows nothing wrong

@@ -1,4 +1,4 @@
-use Rattle.std.proofs.Common.{eqb, eq-eqb, ne_eqb, ⊎_elim, ◌≡◌, ◌≢◌, ℕ, zero, suc, take, get_or, ◌*◌, ◌+◌, ◌<◌, ◌≤◌, Bool, cond, List, [], ◌∷◌, ◌++◌, length, refl, ap, sym, ◌∙◌, subst, arith, All, Some, length-append}
+use Rattle.std.proofs.Common.{eqb, eq-eqb, ne_eqb, ⊎_elim, ◌≡◌, ◌≢◌, ℕ, zero, suc, take, get_or, ◌*◌, ◌+◌, ◌<◌, ◌≤◌, cond, List, [], ◌∷◌, ◌++◌, length, refl, ap, sym, ◌∙◌, subst, arith, All, Some, length-append}
 use Rattle.std.proofs.lemmas.Bool.{cases_eq}
 use Rattle.std.proofs.lemmas.List.Elements.{All-pop}
 use Rattle.std.proofs.lemmas.List.Sums.{sum_by-append, sum_by-cons}
@@ -15,7 +15,6 @@ use Rattle.lwkt_bank.specs.Rule.{cell_word, plan_at}
 use Rattle.lwkt_bank.proofs.CloseMoves.{Settled, settled}
 use Rattle.lwkt_bank.proofs.SeatMoves.{tally-le}
 use Rattle.lwkt_base.specs.declared.names.CpuId.{CpuId}
-use Rattle.lwkt_base.specs.declared.holdings.Held.TheVariants.{Nothing}
 use Rattle.lwkt_core.specs.declared.seats.SeatKind.{SeatKind}
 use Rattle.lwkt_core.specs.declared.seats.SeatKind.TheVariants.{Clerk, Of, Spent}
 use Rattle.lwkt_core.proofs.SeatingLemmas.{total-snoc}
@@ -24,9 +23,9 @@ use Rattle.lwkt_bank.specs.declared.views.Entry.{Entry}
 use Rattle.lwkt_bank.specs.declared.views.View.{View}
 use Rattle.lwkt_bank.specs.declared.seats.CpuSeat.{CpuSeat}
 use Rattle.lwkt_bank.specs.declared.kept.Kept.{Kept}
-use Rattle.lwkt_bank.specs.Views.{at, amount, joined, after_back, merged, both_of}
+use Rattle.lwkt_bank.specs.Views.{at, amount, joined, after_back}
 use Rattle.lwkt_bank.specs.Notes.{note_at, clerk_number}
-use Rattle.lwkt_bank.specs.Seats.{BankId, id_of, bank_of, entry, holding}
+use Rattle.lwkt_bank.specs.Seats.{BankId, id_of, entry}
 use Rattle.lwkt_bank.specs.Gathered.{written_by, added_by, IsClosedToken, IsClosed}
 use Rattle.lwkt_bank.specs.declared.banks.Bank.{Bank}
 use Rattle.lwkt_bank.specs.declared.rules.Key.{Key}

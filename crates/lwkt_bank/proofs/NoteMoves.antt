@@ -1,8 +1,8 @@
-use Rattle.std.proofs.Common.{eqb, eq-eqb, ne_eqb, not, take, inl, inr, ◌≡◌, ◌≢◌, ◌⊎◌, ⊎_elim, ℕ, zero, suc, ◌+◌, ◌*◌, ◌<◌, ◌≤◌, Bool, true, false, cond, List, [], ◌∷◌, ◌++◌, length, get_or, set, refl, ap, sym, ◌∙◌, subst, arith, All, Option, Some, None, length-set, length-take, get_or-set_same, get_or-set_other}
+use Rattle.std.proofs.Common.{eqb, eq-eqb, ne_eqb, not, take, ◌≡◌, ◌≢◌, ⊎_elim, ℕ, zero, suc, ◌+◌, ◌<◌, ◌≤◌, Bool, true, false, cond, List, [], ◌∷◌, length, get_or, set, refl, ap, sym, ◌∙◌, subst, arith, Option, Some, None, length-set, length-take, get_or-set_same, get_or-set_other}
 use Rattle.std.specs.Prelude.{slice_index, slice_set}
 use Rattle.std.specs.Option.{ForSome, ForNone}
-use Rattle.std.proofs.lemmas.Bool.{eqb-true, eqb-false, cases_eq, cases_Bool, false≢true}
-use Rattle.std.proofs.lemmas.List.{set-get_or, get_or-take, get_or_default, ext_get_or}
+use Rattle.std.proofs.lemmas.Bool.{eqb-true, cases_eq, cases_Bool, false≢true}
+use Rattle.std.proofs.lemmas.List.{get_or-take, get_or_default, ext_get_or}
 use Rattle.std.proofs.lemmas.List.Folds.{Any-from_list_any, list_any_at}
 use Rattle.std.specs.List.{list_any}
 use Rattle.std.proofs.lemmas.List.Sums.{sum_by-cons}
@@ -12,21 +12,19 @@ use Rattle.lwkt_base.specs.declared.names.Mode.{Mode}
 use Rattle.lwkt_base.specs.declared.names.Mode.TheVariants.{Exclusive, Shared}
 use Rattle.lwkt_base.specs.declared.holdings.Held.{Held}
 use Rattle.lwkt_base.specs.declared.holdings.Held.TheVariants.{Nothing, Holds}
-use Rattle.lwkt_base.specs.Holding.{is_held, is_exclusive, one_more, one_less}
+use Rattle.lwkt_base.specs.Holding.{is_held}
 use Rattle.lwkt_core.specs.declared.seats.SeatKind.{SeatKind}
 use Rattle.lwkt_core.specs.declared.seats.SeatKind.TheVariants.{Clerk, Of, Spent}
 use Rattle.lwkt_core.specs.declared.seats.WordStep.{WordStep}
-use Rattle.lwkt_core.specs.Tokens.{IsNotLastExclusive}
 use Rattle.lwkt_bank.specs.declared.views.Plan.{Plan}
 use Rattle.lwkt_bank.specs.declared.views.Entry.{Entry}
 use Rattle.lwkt_bank.specs.declared.views.View.{View}
 use Rattle.lwkt_bank.specs.declared.notes.Change.{Change}
 use Rattle.lwkt_bank.specs.declared.notes.Note.{Note}
-use Rattle.lwkt_bank.specs.Views.{at, amount, generation_in, seen, looked, taken, more, less, ended, read, stored, raised, noted}
+use Rattle.lwkt_bank.specs.Views.{at, amount, generation_in, seen, taken, stored, raised, noted}
 use Rattle.lwkt_bank.specs.Rule.{plan_at}
-use Rattle.lwkt_bank.specs.Plays.{IsTakenRow}
 use Rattle.lwkt_bank.specs.Notes.{held_number, seat_number, no_note, note_at, change_at, has_changed, IsNoted, Keeps}
-use Rattle.lwkt_bank.proofs.ViewMoves.{at-here, at-else, at-tok}
+use Rattle.lwkt_bank.proofs.ViewMoves.{at-here, at-else}
 use Rattle.lwkt_bank.proofs.TurnMoves.{seen-keeps}
 
 -- the number of a holding tells it

@@ -1,10 +1,10 @@
-use Rattle.std.proofs.Common.{inl, inr, ◌≡◌, ◌≢◌, ◌⊎◌, ⊎_elim, ℕ, zero, suc, ◌+◌, ◌-◌, ◌*◌, ◌<◌, ◌≤◌, Bool, true, false, List, [], ◌∷◌, ◌++◌, length, map, get_or, set, replicate, refl, ap, sym, ◌∙◌, subst, arith, All, length-append}
+use Rattle.std.proofs.Common.{inl, ◌≡◌, ⊎_elim, ℕ, zero, suc, ◌+◌, ◌*◌, ◌<◌, ◌≤◌, List, [], ◌∷◌, ◌++◌, length, get_or, replicate, refl, ap, sym, ◌∙◌, subst, arith, All, length-append}
 use Rattle.std.specs.Prelude.{slice_index}
 use Rattle.std.specs.List.{flat_map}
-use Rattle.std.proofs.lemmas.Bool.{cases_eq, cases_lt, false≢true}
+use Rattle.std.proofs.lemmas.Bool.{cases_lt, false≢true}
 use Rattle.std.proofs.Math.ListN.{get_or-eq_default}
 use Rattle.std.proofs.lemmas.List.{get_or-map, get_or-append_right, get_or_append_left, length-map}
-use mathlib.Core.Option.{Option, some, some-injective, some-ne-none}
+use mathlib.Core.Option.{some, some-injective, some-ne-none}
 use lib.ListN.{get_elem?}
 use Rattle.atomic_table.specs.Table.{opening as table_opening}
 use Rattle.lwkt_base.specs.declared.names.CpuId.{CpuId}
@@ -12,9 +12,8 @@ use Rattle.lwkt_base.specs.declared.laws.Law.TheVariants.{Any, Tally}
 use Rattle.lwkt_base.specs.declared.holdings.Held.TheVariants.{Nothing}
 use Rattle.lwkt_base.specs.declared.openings.TokSpec.{TokSpec}
 use Rattle.lwkt_base.specs.TokenWord.{word_of}
-use Rattle.lwkt_core.specs.declared.seats.SeatKind.TheVariants.{Clerk, Of, Spent}
+use Rattle.lwkt_core.specs.declared.seats.SeatKind.TheVariants.{Clerk, Spent}
 use Rattle.lwkt_core.specs.declared.tokens.Token.{Token}
-use Rattle.lwkt_core.specs.Tokens.{held_by, tally_of}
 use Rattle.lwkt_core.specs.Picture.{picture_of}
 use Rattle.lwkt_core.specs.Opening.{opened_token, opening, AreWithin, AllOpenLawfully, IsTokenWithin}
 use Rattle.lwkt_core.proofs.OpeningLemmas.{IsSafe-opening}
@@ -24,7 +23,7 @@ use Rattle.lwkt_bank.specs.declared.views.View.{View}
 use Rattle.lwkt_bank.specs.Views.{blank, first_view, new_seat, next_seat}
 use Rattle.lwkt_bank.specs.declared.notes.Note.{Note}
 use Rattle.lwkt_bank.specs.Notes.{seat_number, no_note, IsNoted, Keeps}
-use Rattle.lwkt_bank.specs.Rule.{Bench, token_word, cell_word, law_word, param_word, law_number, Seen, seen_by, column, held_in, Knows, Shows, Pictures, Rule, plan_at, token_at, no_plan, no_token}
+use Rattle.lwkt_bank.specs.Rule.{token_word, cell_word, law_word, param_word, law_number, Seen, column, held_in, Knows, Shows, Rule, plan_at, token_at, no_plan, no_token}
 use Rattle.lwkt_bank.specs.Opened.{plan_of_spec, plans_of, block, opening_words}
 use Rattle.lwkt_bank.proofs.GatherMoves.{Knows-blank}
 

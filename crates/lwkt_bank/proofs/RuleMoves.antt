@@ -1,31 +1,29 @@
-use Rattle.std.proofs.Common.{inl, inr, ◌≡◌, ◌≢◌, ◌⊎◌, ⊎_elim, ℕ, zero, suc, ◌+◌, ◌-◌, ◌*◌, ◌<◌, ◌≤◌, Bool, true, false, List, [], ◌∷◌, ◌++◌, length, map, get_or, set, refl, ap, sym, ◌∙◌, subst, arith, All, Some, length-set, get_or-set_same, get_or-set_other}
+use Rattle.std.proofs.Common.{inl, ◌≡◌, ◌≢◌, ⊎_elim, ℕ, ◌+◌, ◌*◌, ◌<◌, ◌≤◌, true, List, [], length, map, get_or, set, refl, ap, sym, ◌∙◌, subst, arith, Some, length-set, get_or-set_same, get_or-set_other}
 use Rattle.std.specs.Prelude.{slice_index, slice_set, slice_get, IsSomeAnd}
 use Rattle.std.proofs.lemmas.Bool.{cases_eq}
 use Rattle.std.proofs.lemmas.Option.{slice_get-get_or}
-use mathlib.Core.Option.{Option, some, some-injective, some-ne-none}
+use mathlib.Core.Option.{Option, some}
 use lib.ListN.{get_elem?}
-use Rattle.atomic_table.specs.Table.{State, Act, keeps, stepped}
+use Rattle.atomic_table.specs.Table.{keeps, stepped}
 use Rattle.lwkt_base.specs.declared.names.CpuId.{CpuId}
-use Rattle.lwkt_base.specs.declared.holdings.Held.{Held}
 use Rattle.lwkt_core.specs.declared.seats.SeatKind.{SeatKind}
-use Rattle.lwkt_core.specs.declared.seats.SeatKind.TheVariants.{Clerk, Of, Spent}
+use Rattle.lwkt_core.specs.declared.seats.SeatKind.TheVariants.{Of, Spent}
 use Rattle.lwkt_core.specs.declared.tokens.Token.{Token}
 use Rattle.lwkt_core.specs.declared.events.Event.{Event}
 use Rattle.lwkt_core.specs.declared.events.Place.{Place}
-use Rattle.lwkt_core.specs.declared.events.Place.TheVariants.{AtToken, AtMessage}
+use Rattle.lwkt_core.specs.declared.events.Place.TheVariants.{AtToken}
 use Rattle.lwkt_core.specs.Events.{cpu_of, place_of, adds_reference}
 use Rattle.lwkt_core.specs.Tokens.{held_by, IsSafeToken, TokenNeeds, token_after}
-use Rattle.lwkt_core.specs.Machine.{Machine, machine, IsSafe, Needs, PlaceNeeds, references_of, Happens, after}
+use Rattle.lwkt_core.specs.Machine.{Machine, machine, Needs, PlaceNeeds, references_of, Happens, after}
 use Rattle.lwkt_core.specs.Seating.{AreSeated}
 use Rattle.lwkt_core.proofs.MachineMoves.{IsSafe_left, changed_at, after_token}
-use Rattle.lwkt_core.proofs.SeatingLemmas.{at_set, set_here, set_else, set_again, inside, at_map, of_map, map-set, AreSeated-there}
+use Rattle.lwkt_core.proofs.SeatingLemmas.{at_set, set_again, at_map, of_map, map-set, AreSeated-there}
 use Rattle.lwkt_bank.specs.declared.views.Plan.{Plan}
-use Rattle.lwkt_bank.specs.declared.views.Entry.{Entry}
 use Rattle.lwkt_bank.specs.declared.views.View.{View}
-use Rattle.lwkt_bank.specs.Views.{at, amount, spent, count_from, held_of}
-use Rattle.lwkt_bank.specs.Rule.{Bench, token_word, cell_word, law_word, param_word, Seen, seen_by, column, held_in, Knows, Shows, Pictures, Rule, plan_at, token_at, no_token}
+use Rattle.lwkt_bank.specs.Views.{at, count_from, held_of}
+use Rattle.lwkt_bank.specs.Rule.{Bench, token_word, cell_word, law_word, param_word, Seen, seen_by, column, held_in, Knows, Shows, Rule, plan_at, token_at, no_token}
 use Rattle.lwkt_bank.proofs.ViewMoves.{column-set, column-same, seen-same, references-from}
-use Rattle.lwkt_bank.proofs.ShowMoves.{cpu_in, Turns, Shows-step}
+use Rattle.lwkt_bank.proofs.ShowMoves.{Turns, Shows-step}
 
 -- equal words, cells, views and tokens show the same
 pub Shows-move : (plan : Plan) (home : Option (Option (Unit {0}))) (word word' : ℕ) (cells cells' : ℕ → ℕ) (views views' : List Seen) (tok tok' : Token)

@@ -1,4 +1,4 @@
-use Rattle.std.proofs.Common.{eqb, eq-eqb, ne_eqb, inl, inr, ◌≡◌, ◌≢◌, ◌⊎◌, ⊎_elim, ℕ, zero, suc, ◌+◌, ◌-◌, ◌*◌, ◌%◌, ◌^◌, ◌<◌, ◌≤◌, Bool, true, false, cond, List, [], ◌∷◌, ◌++◌, length, get_or, set, refl, ap, sym, ◌∙◌, subst, arith, All, Some, sum, get_or-set_same, get_or-set_other}
+use Rattle.std.proofs.Common.{eqb, ◌≡◌, ◌≢◌, ⊎_elim, ℕ, ◌+◌, ◌-◌, ◌%◌, ◌^◌, ◌<◌, ◌≤◌, Bool, true, false, cond, List, [], ◌∷◌, length, set, refl, ap, sym, ◌∙◌, subst, arith, Some, sum, get_or-set_same, get_or-set_other}
 use Rattle.std.specs.Prelude.{slice_index, slice_set, slice_get, bit_or}
 use Rattle.std.proofs.lemmas.List.{set-get_or}
 use Rattle.std.proofs.lemmas.Option.{slice_get-get_or}
@@ -9,18 +9,17 @@ use Rattle.lwkt_core.proofs.SeatingLemmas.{total-at, at_map}
 use mathlib.Core.Option.{some}
 use lib.ListN.{get_elem?}
 use prog.Atomic.{either}
-use Rattle.atomic_table.specs.Table.{State, Step, Me, Act, keeps, stepped, Allows}
+use Rattle.atomic_table.specs.Table.{keeps, stepped}
 use Rattle.lwkt_base.specs.declared.names.CpuId.{CpuId}
 use Rattle.lwkt_base.specs.declared.names.TokId.{TokId}
 use Rattle.lwkt_base.specs.declared.names.Mode.{Mode}
 use Rattle.lwkt_base.specs.declared.names.Mode.TheVariants.{Exclusive, Shared}
 use Rattle.lwkt_base.specs.declared.laws.Law.{Law}
 use Rattle.lwkt_base.specs.declared.laws.Law.TheVariants.{Any, Sum, Order, Cap, Tally}
-use Rattle.lwkt_base.specs.declared.holdings.Held.{Held}
 use Rattle.lwkt_base.specs.declared.holdings.Held.TheVariants.{Nothing, Holds}
 use Rattle.lwkt_base.specs.declared.words.TokWord.{TokWord}
 use Rattle.lwkt_base.specs.declared.words.Decision.TheVariants.{Take as Takes}
-use Rattle.lwkt_base.specs.Holding.{references_in, is_exclusive, is_held}
+use Rattle.lwkt_base.specs.Holding.{is_exclusive, is_held}
 use Rattle.lwkt_base.specs.Law.{MeetsLaw, IsTallied}
 use Rattle.lwkt_base.specs.TokenWord.{word_of, Fits, decision}
 use Rattle.lwkt_core.specs.declared.seats.SeatKind.TheVariants.{Of}
@@ -30,7 +29,7 @@ use Rattle.lwkt_core.specs.declared.events.Event.{Event}
 use Rattle.lwkt_core.specs.declared.events.Event.TheVariants.{Load, Take, Share, Again, Mark, GiveOne, GiveClean, GiveWritten, Read, Write}
 use Rattle.lwkt_core.specs.declared.events.Place.TheVariants.{AtToken}
 use Rattle.lwkt_core.specs.Events.{cpu_of, place_of, adds_reference}
-use Rattle.lwkt_core.specs.Tokens.{held_by, tally_of, IsNotLastExclusive, MayWrite, TokenNeeds, token_after}
+use Rattle.lwkt_core.specs.Tokens.{tally_of, IsNotLastExclusive, MayWrite, TokenNeeds, token_after}
 use Rattle.lwkt_core.specs.Picture.{picture_of}
 use Rattle.lwkt_core.specs.Machine.{Happens}
 use Rattle.lwkt_core.proofs.MachineMoves.{references_le}
@@ -38,12 +37,12 @@ use Rattle.lwkt_bank.specs.declared.views.Plan.{Plan}
 use Rattle.lwkt_bank.specs.declared.views.Entry.{Entry}
 use Rattle.lwkt_bank.specs.declared.views.View.{View}
 use Rattle.lwkt_bank.specs.Views.{at, amount, generation_in, count_from, held_of, looked, taken, more, less, ended, read, stored, raised, noted, load, exchange, add, sub, or}
-use Rattle.lwkt_bank.specs.Rule.{Bench, Rule, Seen, seen_by, column, Knows, token_word, cell_word, plan_at, token_at}
-use Rattle.lwkt_bank.specs.Plays.{Steps, at_word, at_cell, Looks, IsTakenRow, Exchanges, AddsOne, Marks, GivesOne, GivesClean, GivesWritten, ReadsCell, StoresCell, RaisesCell}
+use Rattle.lwkt_bank.specs.Rule.{Bench, Rule, Seen, seen_by, column, token_word, cell_word, plan_at, token_at}
+use Rattle.lwkt_bank.specs.Plays.{Steps, Looks, IsTakenRow, Exchanges, AddsOne, Marks, GivesOne, GivesClean, GivesWritten, ReadsCell, StoresCell, RaisesCell}
 use Rattle.lwkt_bank.proofs.WordMoves.{Fits-safe}
-use Rattle.lwkt_bank.proofs.ViewMoves.{at-here, at-else, at-tok, count-at}
+use Rattle.lwkt_bank.proofs.ViewMoves.{at-here, at-else, at-tok}
 use Rattle.lwkt_bank.proofs.ShowMoves.{Turns}
-use Rattle.lwkt_bank.proofs.RuleMoves.{there, token_is, safe_token, few_cells, seat_there, held_there, knows_there, plans_there, lift}
+use Rattle.lwkt_bank.proofs.RuleMoves.{token_is, safe_token, few_cells, seat_there, held_there, knows_there, plans_there, lift}
 use Rattle.lwkt_bank.proofs.TurnMoves.{Sight, seen-keeps, generation_is, first_lawful, fresh, free_at, settled_free, open_at, turns_load, turns_take, turns_share, turns_again, turns_give_one, turns_give_clean, turns_give_written, turns_mark, turns_read, turns_write, turns_raise, room_less, room_more, room_clean, room_written, marked_is, exclusive_held}
 
 -- one number of a list is at most their sum

@@ -1,20 +1,16 @@
-use Rattle.std.proofs.Common.{inl, inr, ◌≡◌, ◌≢◌, ◌⊎◌, ⊎_elim, ℕ, zero, suc, ◌+◌, ◌-◌, ◌<◌, ◌≤◌, Bool, true, false, List, [], ◌∷◌, ◌++◌, length, get_or, set, refl, ap, sym, ◌∙◌, subst, arith, All}
+use Rattle.std.proofs.Common.{inl, inr, ◌≡◌, ◌≢◌, ◌⊎◌, ⊎_elim, ℕ, ◌+◌, ◌<◌, List, length, set, refl, ap, sym, ◌∙◌, subst, arith}
 use Rattle.std.specs.Prelude.{slice_index}
-use Rattle.std.proofs.lemmas.Bool.{cases_eq, false≢true}
-use mathlib.Core.Option.{Option, some, some-injective, some-ne-none}
+use Rattle.std.proofs.lemmas.Bool.{cases_eq}
+use mathlib.Core.Option.{Option, some, some-injective}
 use lib.ListN.{get_elem?}
 use Rattle.lwkt_base.specs.declared.names.CpuId.{CpuId}
-use Rattle.lwkt_base.specs.declared.laws.Law.{Law}
-use Rattle.lwkt_base.specs.declared.holdings.Held.{Held}
-use Rattle.lwkt_base.specs.declared.holdings.Held.TheVariants.{Nothing, Holds}
-use Rattle.lwkt_base.specs.Holding.{is_held}
+use Rattle.lwkt_base.specs.declared.holdings.Held.TheVariants.{Nothing}
 use Rattle.lwkt_base.specs.TokenWord.{word_of}
 use Rattle.lwkt_core.specs.declared.seats.SeatKind.{SeatKind}
 use Rattle.lwkt_core.specs.declared.seats.SeatKind.TheVariants.{Clerk, Of, Spent}
 use Rattle.lwkt_core.specs.declared.tokens.Token.{Token}
 use Rattle.lwkt_core.specs.Tokens.{held_by, tally_of}
 use Rattle.lwkt_core.specs.Picture.{picture_of}
-use Rattle.lwkt_core.specs.Seating.{total}
 use Rattle.lwkt_core.proofs.SeatingLemmas.{at_set, set_here, set_else, inside, total-set}
 use Rattle.lwkt_bank.specs.declared.views.Plan.{Plan}
 use Rattle.lwkt_bank.specs.declared.views.Entry.{Entry}

@@ -1,6 +1,6 @@
-use Rattle.std.proofs.Common.{eqb, eq-eqb, ne_eqb, inl, inr, ◌≡◌, ◌≢◌, ◌⊎◌, ⊎_elim, ℕ, zero, suc, ◌+◌, ◌-◌, ◌*◌, ◌/◌, ◌<◌, ◌≤◌, Bool, true, false, cond, List, [], ◌∷◌, ◌++◌, length, get_or, set, refl, ap, sym, ◌∙◌, subst, arith, All, Some, length-set, get_or-set_same, get_or-set_other}
-use Rattle.std.specs.Prelude.{slice_index, slice_set, slice_get, sum_by, bit_or}
-use Rattle.std.proofs.lemmas.Bool.{eqb-true, eqb-false, cases_Bool, cases_eq, false≢true}
+use Rattle.std.proofs.Common.{eqb, eq-eqb, ne_eqb, ◌≡◌, ◌≢◌, ⊎_elim, ℕ, suc, ◌+◌, ◌-◌, ◌<◌, ◌≤◌, Bool, true, false, cond, List, [], ◌∷◌, length, get_or, set, refl, ap, sym, ◌∙◌, subst, arith, All, Some, length-set, get_or-set_same, get_or-set_other}
+use Rattle.std.specs.Prelude.{slice_index, slice_set, slice_get, bit_or}
+use Rattle.std.proofs.lemmas.Bool.{eqb-true, cases_eq, false≢true}
 use Rattle.std.proofs.lemmas.Option.{slice_get-get_or}
 use Rattle.std.proofs.lemmas.List.Elements.{All-nil, All-cons, All-from_recursion}
 use Rattle.std.specs.List.{AllByRecursion}
@@ -14,26 +14,22 @@ use Rattle.lwkt_base.specs.declared.laws.Law.{Law}
 use Rattle.lwkt_base.specs.declared.laws.Law.TheVariants.{Any, Sum, Order, Cap, Tally}
 use Rattle.lwkt_base.specs.declared.holdings.Held.{Held}
 use Rattle.lwkt_base.specs.declared.holdings.Held.TheVariants.{Nothing, Holds}
-use Rattle.lwkt_base.specs.declared.words.TokWord.{TokWord}
-use Rattle.lwkt_base.specs.declared.words.Decision.{Decision}
 use Rattle.lwkt_base.specs.declared.words.Decision.TheVariants.{Take as Takes}
 use Rattle.lwkt_base.specs.declared.words.TheConstants.{LAST_GENERATION}
 use Rattle.lwkt_base.specs.Holding.{references_in, is_exclusive, is_held, one_more, one_less}
-use Rattle.lwkt_base.specs.Law.{MeetsLaw, IsTallied}
-use Rattle.lwkt_base.specs.TokenWord.{bit, word_of, Fits, decision}
+use Rattle.lwkt_base.specs.Law.{MeetsLaw}
+use Rattle.lwkt_base.specs.TokenWord.{bit, word_of, decision}
 use Rattle.lwkt_core.specs.declared.tokens.Token.{Token}
 use Rattle.lwkt_core.specs.declared.tokens.TheConstants.{CPU_LIMIT}
-use Rattle.lwkt_core.specs.declared.events.Event.{Event}
-use Rattle.lwkt_core.specs.declared.events.Event.TheVariants.{Load, Take, Share, Again, Mark, GiveOne, GiveClean, GiveWritten, Read, Write}
-use Rattle.lwkt_core.specs.Tokens.{held_by, tally_of, IsFree, IsOpen, IsHolder, IsExclusiveHolder, IsNotLastExclusive, IsSafeToken, MayWrite, TokenNeeds, token_after, tallies_after, with_more, with_less}
+use Rattle.lwkt_core.specs.declared.events.Event.TheVariants.{Take, Share, Again, Mark, GiveOne, GiveClean, GiveWritten, Write}
+use Rattle.lwkt_core.specs.Tokens.{held_by, tally_of, IsFree, IsOpen, IsNotLastExclusive, IsSafeToken, token_after, tallies_after}
 use Rattle.lwkt_core.specs.Picture.{counted, picture_of}
 use Rattle.lwkt_bank.specs.declared.views.Plan.{Plan}
-use Rattle.lwkt_bank.specs.declared.views.KnownCell.{KnownCell}
 use Rattle.lwkt_bank.specs.declared.views.Added.{Added}
 use Rattle.lwkt_bank.specs.declared.views.Entry.{Entry}
 use Rattle.lwkt_bank.specs.Views.{amount, generation_in, seen, looked, taken, more, less, numbered, ended, read, stored, raised}
 use Rattle.lwkt_bank.specs.Rule.{Knows}
-use Rattle.lwkt_bank.proofs.WordMoves.{bit-le, counted-more, exclusive-more, counted-less, exclusive-less, IsOpen-from_picture, picture-open, IsFree-from_picture, Fits-safe, count-le, count-set, exclusive-set, exclusive-here, word-room, word-room-written, generation-word, or-marked, decided-exclusive, decided-shared}
+use Rattle.lwkt_bank.proofs.WordMoves.{counted-more, exclusive-more, counted-less, exclusive-less, IsOpen-from_picture, picture-open, IsFree-from_picture, count-le, count-set, exclusive-set, exclusive-here, word-room, word-room-written, generation-word, or-marked, decided-exclusive, decided-shared}
 use Rattle.lwkt_bank.proofs.ShowMoves.{IsOthers, Turns}
 
 -- what a seat's processor sees of a token that it may step on

@@ -1,19 +1,17 @@
-use Rattle.std.proofs.Common.{eqb, eq-eqb, ne_eqb, inl, inr, ◌≡◌, ◌≢◌, ◌⊎◌, ⊎_elim, ℕ, zero, suc, ◌+◌, ◌<◌, ◌≤◌, Bool, true, false, cond, List, [], ◌∷◌, ◌++◌, length, map, get_or, set, refl, ap, sym, ◌∙◌, subst, arith}
-use Rattle.std.specs.Prelude.{sum_by}
+use Rattle.std.proofs.Common.{eqb, eq-eqb, ne_eqb, ◌≡◌, ◌≢◌, ⊎_elim, ℕ, zero, suc, ◌+◌, ◌<◌, ◌≤◌, Bool, true, false, cond, List, [], ◌∷◌, length, get_or, set, refl, ap, sym, ◌∙◌, arith}
 use Rattle.std.proofs.lemmas.Bool.{eqb-true, cases_Bool, cases_eq}
 use Rattle.std.proofs.lemmas.List.Sums.{sum_by-cons}
-use mathlib.Core.Option.{some, some-injective, some-ne-none}
+use mathlib.Core.Option.{some}
 use lib.ListN.{get_elem?}
 use Rattle.lwkt_base.specs.Holding.{references_in, Holding}
 use Rattle.lwkt_core.specs.declared.tokens.Token.{Token}
 use Rattle.lwkt_core.specs.Tokens.{held_by}
 use Rattle.lwkt_core.specs.Machine.{references_of}
-use Rattle.lwkt_core.specs.Seating.{total}
-use Rattle.lwkt_core.proofs.SeatingLemmas.{set_again, at_map, map-set, map-snoc}
+use Rattle.lwkt_core.proofs.SeatingLemmas.{set_again, at_map, map-set}
 use Rattle.lwkt_bank.specs.declared.views.Entry.{Entry}
 use Rattle.lwkt_bank.specs.declared.views.View.{View}
-use Rattle.lwkt_bank.specs.Views.{blank, at, both_of, merged, count_from}
-use Rattle.lwkt_bank.specs.Rule.{Seen, seen_by, column, no_token}
+use Rattle.lwkt_bank.specs.Views.{at, both_of, merged, count_from}
+use Rattle.lwkt_bank.specs.Rule.{seen_by, column, no_token}
 
 cond-true : {A : Type 0} (b : Bool) (x y : A) → b ≡ true → cond b x y ≡ x
 cond-true b x y e = ap (λ c. cond c x y) e

@@ -1,27 +1,24 @@
-use Rattle.std.proofs.Common.{eqb, ltb, ◌||◌, ◌&&◌, inl, inr, ◌≡◌, ◌≢◌, ◌⊎◌, ⊎_elim, ℕ, zero, suc, ◌+◌, ◌-◌, ◌*◌, ◌/◌, ◌%◌, ◌^◌, ◌<◌, ◌≤◌, Bool, true, false, cond, List, [], ◌∷◌, length, get_or, set, refl, ap, sym, ◌∙◌, subst, arith, All, length-set, get_or-set_same, get_or-set_other}
+use Rattle.std.proofs.Common.{eqb, ltb, ◌||◌, ◌&&◌, ◌≡◌, ◌≢◌, ⊎_elim, ℕ, zero, suc, ◌+◌, ◌-◌, ◌*◌, ◌/◌, ◌<◌, ◌≤◌, Bool, true, false, cond, List, [], ◌∷◌, length, get_or, set, refl, ap, sym, ◌∙◌, arith, All, length-set, get_or-set_same}
 use Rattle.std.specs.Prelude.{sum_by, bit_or, bit_and}
 use Rattle.std.specs.Int.Bits.{or_add_and}
 use Rattle.std.specs.Int.{bit_at}
 use Rattle.std.specs.List.{list_any}
 use Rattle.std.proofs.lemmas.Nat.Bits.{and_pow}
-use Rattle.std.proofs.lemmas.Bool.{eqb-true, eqb-false, ltb-false, or_parts, cases_Bool, cases_eq, cases_lt, false≢true}
+use Rattle.std.proofs.lemmas.Bool.{eqb-true, eqb-false, ltb-false, or_parts, cases_Bool, cases_lt, false≢true}
 use Rattle.std.proofs.lemmas.List.{get_or_default}
 use Rattle.std.proofs.Math.ListN.{get_or-eq_default}
 use Rattle.std.proofs.lemmas.List.Folds.{list_any_at, list_any_none}
 use Rattle.std.proofs.lemmas.List.Sums.{sum_by-set, sum_by-le, get_or-le-sum_by}
-use Rattle.lwkt_base.specs.declared.names.Mode.{Mode}
 use Rattle.lwkt_base.specs.declared.names.Mode.TheVariants.{Exclusive, Shared}
 use Rattle.lwkt_base.specs.declared.holdings.Held.{Held}
 use Rattle.lwkt_base.specs.declared.holdings.Held.TheVariants.{Nothing, Holds}
 use Rattle.lwkt_base.specs.declared.words.TokWord.{TokWord}
-use Rattle.lwkt_base.specs.declared.words.Decision.{Decision}
 use Rattle.lwkt_base.specs.declared.words.Decision.TheVariants.{Take, Held as IsHeldBack, Marked, Worn}
 use Rattle.lwkt_base.specs.declared.words.TheConstants.{LAST_GENERATION}
 use Rattle.lwkt_base.specs.Holding.{references_in, is_exclusive, is_held, one_more, one_less}
 use Rattle.lwkt_base.specs.TokenWord.{bit, word_of, Fits, decision}
 use Rattle.lwkt_core.specs.declared.tokens.Token.{Token}
-use Rattle.lwkt_core.specs.declared.tokens.TheConstants.{CPU_LIMIT}
-use Rattle.lwkt_core.specs.Tokens.{held_by, IsFree, IsOpen, IsSafeToken, IsNotLastExclusive, with_more, with_less}
+use Rattle.lwkt_core.specs.Tokens.{held_by, IsFree, IsOpen, IsSafeToken, IsNotLastExclusive}
 use Rattle.lwkt_core.specs.Picture.{counted, picture_of}
 
 -- a bit is 0 or 1

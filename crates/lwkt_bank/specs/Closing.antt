@@ -1,7 +1,6 @@
 use Rattle.std.specs.Prelude.{◌≡◌, ◌≢◌, ℕ, ◌+◌, ◌<◌, ◌==◌, if◌then◌else◌, List, [], length, All, slice_index, slice_index_or}
-use Rattle.lwkt_base.specs.declared.names.CpuId.{CpuId}
 use Rattle.lwkt_base.specs.declared.holdings.Held.TheVariants.{Nothing}
-use Rattle.lwkt_core.specs.declared.seats.SeatKind.TheVariants.{Clerk, Of, Spent}
+use Rattle.lwkt_core.specs.declared.seats.SeatKind.TheVariants.{Clerk}
 use Rattle.lwkt_core.specs.Seating.{total}
 use mathlib.Core.Option.{some}
 use lib.ListN.{get_elem?}
@@ -14,7 +13,7 @@ use Rattle.lwkt_bank.specs.declared.seats.CpuSeat.{CpuSeat}
 use Rattle.lwkt_bank.specs.declared.kept.Kept.{Kept}
 use Rattle.lwkt_bank.specs.Views.{at, amount, generation_in}
 use Rattle.lwkt_bank.specs.Notes.{note_at}
-use Rattle.lwkt_bank.specs.Seats.{BankId, bank_of, entry, holding}
+use Rattle.lwkt_bank.specs.Seats.{BankId, bank_of, holding}
 use Rattle.lwkt_bank.specs.Gathered.{written_by, added_by}
 
 -- a seat of this bank that holds nothing

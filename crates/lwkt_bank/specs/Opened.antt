@@ -1,4 +1,4 @@
-use Rattle.std.specs.Prelude.{◌≡◌, ℕ, ◌*◌, List, [], ◌∷◌, length, map, slice_index}
+use Rattle.std.specs.Prelude.{ℕ, ◌*◌, List, [], ◌∷◌, length, map, slice_index}
 use Rattle.std.specs.List.{flat_map}
 use Rattle.lwkt_base.specs.declared.openings.TokSpec.{TokSpec}
 use Rattle.lwkt_bank.specs.declared.views.Plan.{Plan}

@@ -2,11 +2,10 @@ use Rattle.std.specs.Prelude.{◌≡◌, ◌⊎◌, ℕ, ◌+◌, ◌*◌, ◌<�
 use mathlib.Core.Option.{Option, some, none}
 use lib.ListN.{get_elem?}
 use Rattle.atomic_table.specs.Table.{State}
-use Rattle.lwkt_base.specs.declared.names.CpuId.{CpuId}
 use Rattle.lwkt_base.specs.declared.laws.Law.{Law}
 use Rattle.lwkt_base.specs.declared.laws.Law.TheVariants.{Any, Sum, Order, Cap, Tally}
 use Rattle.lwkt_base.specs.declared.holdings.Held.{Held}
-use Rattle.lwkt_base.specs.declared.holdings.Held.TheVariants.{Nothing, Holds}
+use Rattle.lwkt_base.specs.declared.holdings.Held.TheVariants.{Nothing}
 use Rattle.lwkt_base.specs.Holding.{is_held}
 use Rattle.lwkt_base.specs.TokenWord.{word_of}
 use Rattle.lwkt_core.specs.declared.seats.SeatKind.{SeatKind}

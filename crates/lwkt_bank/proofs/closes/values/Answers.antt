@@ -1,6 +1,5 @@
-use Rattle.std.proofs.Common.{ap, sym, ◌∙◌, ◌≡◌, ◌<◌, ℕ, length, subst, arith}
+use Rattle.std.proofs.Common.{ap, sym, ◌∙◌, ◌<◌, ℕ, subst, arith}
 use Rattle.lwkt_bank.specs.declared.views.Plan.{Plan}
-use Rattle.lwkt_bank.specs.Rule.{plan_at}
 use Rattle.lwkt_bank.specs.Closing.{IsRead, kept_by}
 use Rattle.lwkt_bank.proofs.KeptMoves.{read_more}
 use Rattle.lwkt_bank.proofs.closes.values.Goals as goal

@@ -1,4 +1,3 @@
-use Rattle.std.proofs.Common.{sym}
 use Rattle.lwkt_bank.proofs.GatherMoves.{Rule-split}
 use Rattle.lwkt_bank.proofs.desks.split.Goals as goal
 

@@ -1,4 +1,4 @@
-use Rattle.std.proofs.Common.{ap, sym, refl, ◌∙◌, ◌≡◌, ◌+◌, ◌-◌, ℕ, List, length, length-append, subst, arith, ◌∷◌, []}
+use Rattle.std.proofs.Common.{ap, sym, refl, ◌∙◌, ◌+◌, ◌-◌, ℕ, List, length, length-append, subst, arith, ◌∷◌, []}
 use Rattle.lwkt_bank.specs.declared.kept.Kept.{Kept}
 use Rattle.lwkt_bank.specs.Seats.{BankId}
 use Rattle.lwkt_bank.specs.Closing.{Gathering}

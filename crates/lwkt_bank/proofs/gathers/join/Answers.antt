@@ -1,6 +1,4 @@
-use Rattle.std.proofs.Common.{◌∙◌, sym, ◌≢◌, ℕ}
-use mathlib.Core.Option.{some}
-use lib.ListN.{get_elem?}
+use Rattle.std.proofs.Common.{◌∙◌, sym}
 use Rattle.lwkt_bank.proofs.GatherMoves.{Rule-join}
 use Rattle.lwkt_core.proofs.SeatingLemmas.{set_else}
 use Rattle.lwkt_bank.specs.Views.{joined}

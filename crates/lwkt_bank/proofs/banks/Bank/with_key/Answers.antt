@@ -1,12 +1,11 @@
-use Rattle.std.proofs.Common.{ap, sym, refl, ◌∙◌, ◌≡◌, ◌≤◌, List, ℕ, length, subst, arith, []}
+use Rattle.std.proofs.Common.{ap, sym, ◌∙◌, ◌≡◌, ◌≤◌, List, ℕ, length, subst, arith, []}
 use Rattle.atomic_table.specs.Table.{opening}
 use Rattle.lwkt_base.specs.declared.laws.Law.TheVariants.{Tally}
 use Rattle.lwkt_bank.specs.declared.views.Plan.{Plan}
-use Rattle.lwkt_bank.specs.declared.views.View.{View}
 use Rattle.lwkt_bank.specs.Rule.{Rule, plan_at}
 use Rattle.lwkt_bank.specs.Views.{at, amount, first_view}
 use Rattle.lwkt_bank.specs.Notes.{clerk_number}
-use Rattle.lwkt_bank.specs.Opened.{plans_of, opening_words}
+use Rattle.lwkt_bank.specs.Opened.{plans_of}
 use Rattle.lwkt_bank.proofs.OpenMoves.{Rule-opening, short_plans, single_plans, many_plans}
 use Rattle.lwkt_bank.proofs.banks.Bank.with_key.Goals as goal
 

@@ -1,15 +1,14 @@
-use Rattle.std.proofs.Common.{refl, ap, sym, ◌∙◌, ◌≡◌, length, length-set, subst, arith}
-use Rattle.lwkt_base.specs.Holding.{is_held, references_in, one_more}
+use Rattle.std.proofs.Common.{ap, sym, ◌∙◌, ◌≡◌, length, length-set, subst, arith}
+use Rattle.lwkt_base.specs.Holding.{references_in, one_more}
 use Rattle.lwkt_base.specs.declared.names.Mode.TheVariants.{Shared}
 use Rattle.lwkt_base.specs.declared.holdings.Held.{Held}
-use Rattle.lwkt_bank.specs.declared.notes.Note.{Note}
 use Rattle.lwkt_bank.specs.Rule.{plan_at}
 use Rattle.lwkt_bank.specs.Views.{more}
 use Rattle.lwkt_bank.specs.Notes.{IsNoted, note_at}
 use Rattle.lwkt_bank.specs.Seats.{entry, holding}
 use Rattle.lwkt_bank.proofs.ViewMoves.{count-at}
 use Rattle.lwkt_bank.proofs.NoteMoves.{IsNoted-held}
-use Rattle.lwkt_bank.proofs.ChangeMoves.{changed, keeps_part, room_of, still_quiet, entry_tok}
+use Rattle.lwkt_bank.proofs.ChangeMoves.{keeps_part, room_of, still_quiet, entry_tok}
 use Rattle.lwkt_bank.proofs.seats.CpuSeat.again.Goals as goal
 
 pub one_more-requires : goal.one_more-requires

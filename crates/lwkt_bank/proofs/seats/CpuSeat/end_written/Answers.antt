@@ -1,8 +1,7 @@
-use Rattle.std.proofs.Common.{refl, ap, sym, ◌∙◌, length-set}
-use Rattle.lwkt_base.specs.Holding.{one_less}
+use Rattle.std.proofs.Common.{refl, ◌∙◌, length-set}
 use Rattle.lwkt_base.specs.declared.holdings.Held.TheVariants.{Nothing}
 use Rattle.lwkt_bank.specs.Notes.{note_at}
-use Rattle.lwkt_bank.specs.Seats.{entry, holding}
+use Rattle.lwkt_bank.specs.Seats.{entry}
 use Rattle.lwkt_bank.specs.Views.{ended}
 use Rattle.lwkt_bank.proofs.NoteMoves.{IsNoted-nothing}
 use Rattle.lwkt_bank.proofs.ChangeMoves.{keeps_part, room_of, still_quiet, entry_tok}

@@ -1,15 +1,12 @@
-use Rattle.std.proofs.Common.{refl, ap, sym, ◌∙◌, ◌≡◌, length, length-set, subst, arith}
-use Rattle.lwkt_base.specs.Holding.{is_held, references_in, one_less}
-use Rattle.lwkt_base.specs.declared.names.Mode.TheVariants.{Shared}
+use Rattle.std.proofs.Common.{ap, sym, ◌∙◌, ◌≡◌, length-set, subst}
+use Rattle.lwkt_base.specs.Holding.{one_less}
 use Rattle.lwkt_base.specs.declared.holdings.Held.{Held}
-use Rattle.lwkt_bank.specs.declared.notes.Note.{Note}
 use Rattle.lwkt_bank.specs.Rule.{plan_at}
 use Rattle.lwkt_bank.specs.Views.{less}
 use Rattle.lwkt_bank.specs.Notes.{IsNoted, note_at}
 use Rattle.lwkt_bank.specs.Seats.{entry, holding}
-use Rattle.lwkt_bank.proofs.ViewMoves.{count-at}
 use Rattle.lwkt_bank.proofs.NoteMoves.{IsNoted-held}
-use Rattle.lwkt_bank.proofs.ChangeMoves.{changed, keeps_part, room_of, still_quiet, entry_tok}
+use Rattle.lwkt_bank.proofs.ChangeMoves.{keeps_part, room_of, still_quiet, entry_tok}
 use Rattle.lwkt_bank.proofs.seats.CpuSeat.give_one.Goals as goal
 
 pub invariant_of-self : goal.invariant_of-self

@@ -1,4 +1,4 @@
-use Rattle.std.proofs.Common.{ap, sym, ◌∙◌, ◌≡◌, ◌≤◌, ◌↔◌, List, ℕ, take, subst, arith}
+use Rattle.std.proofs.Common.{ap, sym, ◌∙◌, ◌≡◌, ◌↔◌, List, ℕ, take, subst, arith}
 use Rattle.std.specs.Prelude.{IsTrue}
 use Rattle.lwkt_base.specs.Law.{MeetsLaw}
 use Rattle.lwkt_bank.specs.declared.views.Plan.{Plan}

@@ -3,7 +3,7 @@ use Rattle.std.specs.Prelude.{slice_index}
 use Rattle.lwkt_bank.specs.declared.views.Plan.{Plan}
 use Rattle.lwkt_bank.specs.declared.notes.Note.{Note}
 use Rattle.lwkt_bank.specs.Rule.{plan_at}
-use Rattle.lwkt_bank.specs.Views.{raised, noted}
+use Rattle.lwkt_bank.specs.Views.{raised}
 use Rattle.lwkt_bank.specs.Seats.{entry}
 use Rattle.lwkt_bank.proofs.TurnMoves.{exclusive_held}
 use Rattle.lwkt_bank.proofs.NoteMoves.{IsNoted-raised, seat_told}
