@@ -2,6 +2,7 @@ use Rattle.std.specs.Prelude.{◌≡◌, ℕ, ◌+◌, ◌*◌, ◌<◌, ◌≤�
 use mathlib.Core.Option.{some}
 use lib.ListN.{get_elem?}
 use Rattle.atomic_table.specs.Seated.{TableId}
+use Rattle.atomic_table.specs.Perched.{Roost}
 use Rattle.atomic_table.specs.declared.shared.Seat.{Seat}
 use Rattle.lwkt_base.specs.declared.names.CpuId.{CpuId}
 use Rattle.lwkt_base.specs.declared.openings.MsgSpec.{MsgSpec}
@@ -48,17 +49,17 @@ pub record IsMsgSeat (cpu : CpuId) (cpus messages : ℕ) (place : Seat Rec View)
   pub messages_is : messages ≡ length place.me.0.specs
 
 -- the fields of a book are those of a table of so many processors and messages, with the clerk who has made all seats
-pub record IsMsgBook (cpus messages : ℕ) (table : TableId) (key : Layout) (clerk : Seat Rec View) : Type 0 where
+pub record IsMsgBook (cpus messages : ℕ) (table : TableId) (key : Layout) (clerk : Roost View) : Type 0 where
   pub words : table.words ≡ 16 * messages + 1
   pub slots : table.slots ≡ 4 * messages
   pub few : messages ≤ 64
   pub cpus_is : cpus ≡ key.cpus
   pub messages_is : messages ≡ length key.specs.items
   pub clerk_table : clerk.table_id ≡ table
-  pub clerk_kind : clerk.me.0.kind ≡ Clerk cpus 0
-  pub clerk_cpus : clerk.me.0.cpus ≡ cpus
-  pub clerk_specs : clerk.me.0.specs ≡ key.specs.items
-  pub none_noted : clerk.me.0.entries ≡ []
+  pub clerk_kind : clerk.view.kind ≡ Clerk cpus 0
+  pub clerk_cpus : clerk.view.cpus ≡ cpus
+  pub clerk_specs : clerk.view.specs ≡ key.specs.items
+  pub none_noted : clerk.view.entries ≡ []
 
 -- the processor of a seat
 abbrev pub seat_cpu : SeatKind → CpuId

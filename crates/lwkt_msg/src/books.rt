@@ -1,19 +1,28 @@
-ghost use Rattle.std.specs.Prelude.{◌≡◌, ◌⊎◌, ℕ, ◌<◌, [], length, All, MatchResult, IfOk};
+ghost use Rattle.std.specs.Prelude.{◌≡◌, ◌⊎◌, ℕ, ◌<◌, [], length, All, MatchResult, IfOk, IfSome};
 
 use crate::closings::{read_and_free, take_all};
 use crate::openings::{are_within, blank_records, opening_words, seat_all};
 use crate::rules::{BookTable, Place, Top};
 use crate::seats::MsgSeat;
-use crate::views::Layout;
-use lwkt_base::{Fault, MsgEnd, MsgSpec};
+use crate::views::{Layout, View};
+use atomic_table::Perch;
+use lwkt_base::{Fault, MsgEnd, MsgSpec, Rec};
 use std::alloc::{AllocError, Global};
 use std::marker::Model;
+
+// The place that rests on a perch.
+fn place_of(perch: Perch<Rec, View>) -> Option<Place>
+    ensures { IfSome result (λ place. (place.table_id ≡ perch.table_id) × (place.me ≡ (perch.view, []))) }
+{
+    perch.take(0).1
+}
 
 /// A message book: the words of its messages, and the records that no seat has in hand.
 #[derive(Drop)]
 pub struct MsgBook {
     table: BookTable,
-    clerk: Place,
+    // Where the clerk's place rests until the close, so that threads may share the book.
+    clerk: Perch<Rec, View>,
     cpus: usize,
     messages: usize,
 }
@@ -71,9 +80,14 @@ impl MsgBook {
             return Err(AllocError);
         };
         seat_all(&table.shared, &mut clerk, cpus, specs, &mut seats)?;
+        let perch = Perch::new(&clerk, 0);
+        // Nobody else knows the perch yet, so this can't fail.
+        if let Err(_clerk) = perch.give(clerk, 0, 2) {
+            return Err(AllocError);
+        }
         let book = MsgBook {
             table,
-            clerk,
+            clerk: perch,
             cpus,
             messages: specs.len(),
         };
@@ -89,11 +103,15 @@ impl MsgBook {
     {
         let MsgBook {
             table,
-            mut clerk,
+            clerk,
             cpus,
             messages,
         } = self;
         let Ok(ends) = Vec::with_capacity(alloc, messages) else {
+            return Err(Fault::Memory);
+        };
+        // The clerk's place has rested there since the opening.
+        let Some(mut clerk) = place_of(clerk) else {
             return Err(Fault::Memory);
         };
         take_all(&table.shared, &mut clerk, cpus, seats);

@@ -82,7 +82,7 @@ fn seat_for(top: &Top, clerk: &mut Place, cpu: CpuId, cpus: usize, specs: &[MsgS
     requires table { clerk.old.table_id ≡ top.now.table_id }
     requires clerk { IsClerk cpu.0 cpus specs.now clerk.old }
     requires room { cpu.0 < cpus }
-    ensures table { clerk.new.table_id ≡ clerk.old.table_id }
+    ensures table { (clerk.new.table_id ≡ clerk.old.table_id) × (clerk.new.me.1 ≡ clerk.old.me.1) }
     ensures clerk { IsClerk (cpu.0 + 1) cpus specs.now clerk.new }
     ensures seat { IsOpened cpu.0 (record { table = clerk.old.table_id; cpus = cpus; specs = specs.now }) result }
 {
@@ -102,7 +102,7 @@ pub(crate) fn seat_all(
     requires table { clerk.old.table_id ≡ top.now.table_id }
     requires clerk { IsClerk 0 cpus specs.now clerk.old }
     requires none { seats.old.items ≡ [] }
-    ensures table { clerk.new.table_id ≡ clerk.old.table_id }
+    ensures table { (clerk.new.table_id ≡ clerk.old.table_id) × (clerk.new.me.1 ≡ clerk.old.me.1) }
     ensures ok { IfOk result (λ _. IsClerk cpus cpus specs.now clerk.new × AreSeats cpus (record { table = clerk.old.table_id; cpus = cpus; specs = specs.now }) seats.new.items) }
 {
     for cpu in 0..cpus {
