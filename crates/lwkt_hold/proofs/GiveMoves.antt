@@ -1,0 +1,237 @@
+use Rattle.std.proofs.Common.{◌≡◌, ◌≢◌, ◌⊎◌, ℕ, suc, ◌+◌, ◌-◌, ◌<◌, ◌≤◌, Bool, true, false, cond, eqb, List, [], ◌∷◌, ◌++◌, length, take, get_or, refl, ap, sym, ◌∙◌, subst, arith, inl, inr, append_assoc, length-take, eq-eqb, ne_eqb}
+use Rattle.std.specs.Prelude.{not, All, filter, Vec, vec_len, vec_capacity, Option, Some, None, slice_get, IsSomeAnd}
+use Rattle.std.specs.List.{AllZip}
+use Rattle.std.specs.declared.alloc.Global.{Global}
+use Rattle.std.proofs.lemmas.List.Elements.{All-from_recursion, All-cons}
+use Rattle.std.proofs.lemmas.Option.{slice_get-get_or, slice_get_within, get_or_from_slice_get}
+use Rattle.lwkt_base.specs.declared.names.CpuId.{CpuId}
+use Rattle.lwkt_base.specs.declared.names.TokId.{TokId}
+use Rattle.lwkt_base.specs.declared.names.Mode.{Mode}
+use Rattle.lwkt_base.specs.declared.names.Mode.TheVariants.{Exclusive, Shared}
+use Rattle.lwkt_base.specs.declared.names.Ref.{Ref}
+use Rattle.lwkt_base.specs.declared.holdings.Held.{Held}
+use Rattle.lwkt_base.specs.declared.holdings.Held.TheVariants.{Nothing, Holds}
+use Rattle.lwkt_base.specs.declared.laws.Law.{Law}
+use Rattle.lwkt_base.specs.declared.laws.Law.TheVariants.{Tally}
+use Rattle.lwkt_base.specs.Law.{MeetsLaw}
+use Rattle.std.proofs.lemmas.Bool.{eqb-true, eqb-false, cases_Bool, false≢true}
+use Rattle.lwkt_base.specs.Holding.{Holding, is_held, is_exclusive, one_more, one_less, added, removed, holding_of}
+use Rattle.lwkt_core.specs.declared.events.Event.{Event}
+use Rattle.lwkt_core.specs.declared.events.Event.TheVariants.{Write, GiveOne, GiveClean, GiveWritten}
+use Rattle.lwkt_core.specs.declared.seats.WordStep.{WordStep}
+use Rattle.lwkt_core.specs.Events.{cpu_of}
+use Rattle.lwkt_bank.specs.declared.views.Entry.{Entry}
+use Rattle.lwkt_bank.specs.declared.views.KnownCell.{KnownCell}
+use Rattle.lwkt_bank.specs.declared.seats.CpuSeat.{CpuSeat}
+use Rattle.lwkt_bank.specs.Seats.{BankId, bank_of, plan_of, entry, holding, steps_of, Changes, Knowing, Restored}
+use Rattle.lwkt_hold.specs.Fronts.{IsFront, names}
+use Rattle.lwkt_hold.specs.Steps.{after, is_counted, is_on_word, Shows}
+use Rattle.lwkt_hold.specs.Runs.{Moves, Ran}
+use Rattle.lwkt_hold.specs.Rows.{row, first_row, MeetsItsLaw, IsBroken, SameRow, writes, GivesBack, Mends}
+use Rattle.lwkt_hold.proofs.HoldingMoves.{holding_of_push, holding_of_more, removed_added, held_named}
+use Rattle.lwkt_hold.proofs.RunMoves.{ran_none, ran_then, ran_step, ran_quiet, ran_weaker, holding_kept}
+
+-- stores are no steps on a token word, are by their processor, and keep every holding
+writes_off : (cpu : CpuId) (tok : TokId) (cell : ℕ) (values : List (Option ℕ)) → filter is_on_word (writes cpu tok cell values) ≡ []
+writes_off cpu tok cell [] = refl
+writes_off cpu tok cell (None ∷ values) = writes_off cpu tok (suc cell) values
+writes_off cpu tok cell (Some value ∷ values) = writes_off cpu tok (suc cell) values
+
+writes_own : (cpu : CpuId) (tok : TokId) (cell : ℕ) (values : List (Option ℕ)) → All (λ e. cpu_of e ≡ cpu.0) (writes cpu tok cell values)
+writes_own cpu tok cell [] = All-from_recursion (λ (e : Event). cpu_of e ≡ cpu.0) [] tt
+writes_own cpu tok cell (None ∷ values) = writes_own cpu tok (suc cell) values
+writes_own cpu tok cell (Some value ∷ values) = All-cons (λ (e : Event). cpu_of e ≡ cpu.0) (Write cpu tok cell value) (writes cpu tok (suc cell) values) refl (writes_own cpu tok (suc cell) values)
+
+writes_move : (P : Holding → Type 0) (h : Holding) (cpu : CpuId) (tok : TokId) (cell : ℕ) (values : List (Option ℕ)) → P h → Moves P h (writes cpu tok cell values) h
+writes_move P h cpu tok cell [] at_front = refl
+writes_move P h cpu tok cell (None ∷ values) at_front = writes_move P h cpu tok (suc cell) values at_front
+writes_move P h cpu tok cell (Some value ∷ values) at_front = (at_front, writes_move P h cpu tok (suc cell) values at_front)
+
+-- a call that stored these values
+pub stored_ran : (P : Holding → Type 0) (s s' : CpuSeat) (tok : TokId) (cpu : CpuId) (values : List (Option ℕ)) (t u : Vec Event Global) → Restored s s' tok.0 values → P (holding s) → cpu ≡ s.cpu → u.items ≡ t.items ++ writes cpu tok 0 values → vec_len u ≡ vec_len t + length (writes cpu tok 0 values) → length (writes cpu tok 0 values) ≤ 4 → vec_capacity t ≤ vec_capacity u → Ran P 4 s s' t u
+stored_ran P s s' tok cpu values t u r at_front mine pushed longer few room = record {
+  bank = r.changes.bank;
+  cpu = r.changes.cpu;
+  made = [];
+  steps = r.changes.steps;
+  done = writes cpu tok 0 values;
+  trace = pushed;
+  own = let F : ℕ → Type 0 = λ k. All (λ (e : Event). cpu_of e ≡ k) (writes cpu tok 0 values) in subst F (ap (λ (x : CpuId). x.0) mine) (writes_own cpu tok 0 values);
+  told = let F : List Event → Type 0 = λ ys. AllZip Shows [] ys in subst F (sym (writes_off cpu tok 0 values)) tt;
+  moves =
+      let F : Holding → Type 0 = λ h. Moves P (holding s) (writes cpu tok 0 values) h in
+      subst F (sym (holding_kept s s' tok.0 (record (entry s tok.0) { row = (entry s tok.0).first }) [] r.changes refl)) (writes_move P (holding s) cpu tok 0 values at_front);
+  few = few;
+  grown = longer;
+  room = room;
+}
+
+pub stored_kept : (s s' : CpuSeat) (tok : ℕ) (values : List (Option ℕ)) → Restored s s' tok values → holding s' ≡ holding s
+stored_kept s s' tok values r = holding_kept s s' tok (record (entry s tok) { row = (entry s tok).first }) [] r.changes refl
+
+-- a call without a word step that learns of cells
+pub knowing_ran : (P : Holding → Type 0) (most : ℕ) (s s' : CpuSeat) (tok : ℕ) (t : Vec Event Global) → Knowing s s' tok (entry s tok) → Ran P most s s' t t
+knowing_ran P most s s' tok t k = ran_weaker P P 0 most s s' t t (λ x p. p) (omega arith) (ran_quiet P s s' tok (record (entry s tok) { known = k.known }) [] t k.changes refl refl)
+
+pub knowing_kept : (s s' : CpuSeat) (tok : ℕ) → Knowing s s' tok (entry s tok) → holding s' ≡ holding s
+knowing_kept s s' tok k = holding_kept s s' tok (record (entry s tok) { known = k.known }) [] k.changes refl
+
+-- what the front with the reference of this place holds
+pub held_at : (refs : List Ref) (at : ℕ) (last : Ref) → slice_get refs at ≡ Some last → holding_of (take (at + 1) refs) ≡ added (holding_of (take at refs)) last.tok.0 last.mode
+held_at refs at last got =
+    let within = slice_get_within refs at last got in
+    let is : get_or refs at last ≡ last = get_or_from_slice_get refs at last last got in
+    holding_of_more refs at last within ∙ ap (λ (r : Ref). added (holding_of (take at refs)) r.tok.0 r.mode) is
+
+one_more_here : (b : Bool) (held : Held) (mode : Mode) → b ≡ true → cond b (one_more held mode) held ≡ one_more held mode
+one_more_here true held mode is = refl
+one_more_here false held mode is = cc
+
+-- what a holding with one reference more has of its token
+pub more_here : (h : Holding) (tok : ℕ) (mode : Mode) → added h tok mode tok ≡ one_more (h tok) mode
+more_here h tok mode = one_more_here (eqb tok tok) (h tok) mode (eq-eqb tok tok refl)
+
+first_exclusive : (held : Held) → is_held held ≡ false → one_more held Exclusive ≡ Holds Exclusive 0
+first_exclusive Nothing is = refl
+first_exclusive (Holds mode further) is = cc
+
+no_shared : (held : Held) → one_more held Shared ≡ Holds Exclusive 0 → ⊥
+no_shared Nothing is = cc
+no_shared (Holds mode further) is = let F : Held → ℕ = further_of in absurd (omega (arith, ap F is))
+  where
+    further_of : Held → ℕ
+    further_of Nothing = 0
+    further_of (Holds m f) = f
+
+no_further : (held : Held) (mode : Mode) → is_held held ≡ true → one_more held mode ≡ Holds Exclusive 0 → ⊥
+no_further Nothing mode is e = cc
+no_further (Holds m further) mode is e = no_shared (Holds m further) e
+
+module _ (front : List Ref) (last : Ref) where
+  pub ends_yes : last.mode ≡ Exclusive → names front last.tok.0 ≡ false → added (holding_of front) last.tok.0 last.mode last.tok.0 ≡ Holds Exclusive 0
+  ends_yes exclusive none =
+      more_here (holding_of front) last.tok.0 last.mode
+      ∙ ap (λ m. one_more (holding_of front last.tok.0) m) exclusive
+      ∙ first_exclusive (holding_of front last.tok.0) (held_named front last.tok.0 ∙ none)
+
+  pub ends_no_shared : last.mode ≡ Shared → added (holding_of front) last.tok.0 last.mode last.tok.0 ≡ Holds Exclusive 0 → ⊥
+  ends_no_shared shared is = no_shared (holding_of front last.tok.0) (ap (λ m. one_more (holding_of front last.tok.0) m) (sym shared) ∙ sym (more_here (holding_of front) last.tok.0 last.mode) ∙ is)
+
+  pub ends_no_named : names front last.tok.0 ≡ true → added (holding_of front) last.tok.0 last.mode last.tok.0 ≡ Holds Exclusive 0 → ⊥
+  ends_no_named named is = no_further (holding_of front last.tok.0) last.mode (held_named front last.tok.0 ∙ named) (sym (more_here (holding_of front) last.tok.0 last.mode) ∙ is)
+
+-- a row that doesn't obey its law isn't that of a Tally token
+pub not_tally : (s : CpuSeat) (tok : ℕ) → (MeetsItsLaw s tok → ⊥) → (plan_of (bank_of s) tok).law ≡ Tally → ⊥
+not_tally s tok broken tally = let F : Law → Type 0 = λ l. MeetsLaw l (plan_of (bank_of s) tok).param (row s tok) in broken (subst F (sym tally) tt)
+
+one_less_here : (b : Bool) (held : Held) → b ≡ true → cond b (one_less held) held ≡ one_less held
+one_less_here true held is = refl
+one_less_here false held is = cc
+
+pub removed_here : (h : Holding) (tok : ℕ) → removed h tok tok ≡ one_less (h tok)
+removed_here h tok = one_less_here (eqb tok tok) (h tok) (eq-eqb tok tok refl)
+
+ends_if : (b : Bool) (further : ℕ) → eqb further 0 ≡ b → is_held (cond b Nothing (Holds Exclusive (further - 1))) ≡ false → Holds Exclusive further ≡ Holds Exclusive 0
+ends_if true further is none = ap (λ n. Holds Exclusive n) (eqb-true further 0 is)
+ends_if false further is none = cc
+
+last_exclusive : (held : Held) → is_exclusive held ≡ true → is_held (one_less held) ≡ false → held ≡ Holds Exclusive 0
+last_exclusive Nothing exclusive none = cc
+last_exclusive (Holds Shared further) exclusive none = cc
+last_exclusive (Holds Exclusive further) exclusive none = ends_if (eqb further 0) further refl none
+
+pub held_more : (held : Held) (mode : Mode) → is_held (one_more held mode) ≡ true
+held_more Nothing mode = refl
+held_more (Holds first further) mode = refl
+
+pub exclusive_held : (held : Held) → held ≡ Holds Exclusive 0 → is_exclusive held ≡ true
+exclusive_held held is = ap is_exclusive is
+
+pub same_law : (s m : CpuSeat) (tok : ℕ) → bank_of m ≡ bank_of s → row m tok ≡ row s tok → MeetsItsLaw s tok → MeetsItsLaw m tok
+same_law s m tok bank same meets =
+    let F : List ℕ → Type 0 = λ xs. MeetsLaw (plan_of (bank_of s) tok).law (plan_of (bank_of s) tok).param xs in
+    let G : BankId → Type 0 = λ b. MeetsLaw (plan_of b tok).law (plan_of b tok).param (row m tok) in
+    subst G (sym bank) (subst F (sym same) meets)
+
+-- a reference is given back after its section was mended
+module _ (s m : CpuSeat) (h : Holding) (last : Ref) (restored : Bool) (front : holding s ≡ added h last.tok.0 last.mode) (kept : holding m ≡ holding s) (bank : bank_of m ≡ bank_of s) (mends : Mends s m last.tok.0 restored) where
+  pub held_now : is_held (holding m last.tok.0) ≡ true
+  held_now = ap (λ x. is_held (x last.tok.0)) (kept ∙ front) ∙ ap is_held (more_here h last.tok.0 last.mode) ∙ held_more (h last.tok.0) last.mode
+
+  pub ready_now : holding m last.tok.0 ≡ Holds Exclusive 0 → (row m last.tok.0 ≡ first_row m last.tok.0) ⊎ MeetsItsLaw m last.tok.0
+  ready_now ends = elim (cases_Bool restored) [
+    | inl is ↦ inl ((mends.yes is).2 ∙ sym mends.first_is)
+    | inr is ↦ inr (same_law s m last.tok.0 bank (mends.no is).0 ((mends.no is).1 (ap (λ x. x last.tok.0) (sym kept) ∙ ends)))
+  ]
+
+  pub given_now : removed (holding m) last.tok.0 ≡ h
+  given_now = ap (λ x. removed x last.tok.0) (kept ∙ front) ∙ removed_added h last.tok.0 last.mode
+
+  module _ (s' : CpuSeat) (given : holding s' ≡ removed (holding m) last.tok.0) (others : (other : ℕ) → other ≢ last.tok.0 → SameRow m s' other) (same : row s' last.tok.0 ≡ row m last.tok.0) (still : is_held (holding s' last.tok.0) ≡ true → SameRow m s' last.tok.0) where
+    less : holding s' last.tok.0 ≡ one_less (holding s last.tok.0)
+    less = ap (λ x. x last.tok.0) given ∙ removed_here (holding m) last.tok.0 ∙ ap (λ x. one_less (x last.tok.0)) kept
+
+    ended : restored ≡ true → is_held (holding s' last.tok.0) ≡ false
+    ended is = ap is_held (less ∙ ap one_less (mends.yes is).1)
+
+    pub gives_back : GivesBack s s' last.tok.0 restored
+    gives_back = record {
+      others = λ other away. record { row_is = (others other away).row_is ∙ (mends.others other away).row_is; first_is = (others other away).first_is ∙ (mends.others other away).first_is };
+      still = λ held. elim (cases_Bool restored) [
+        | inl is ↦ absurd (false≢true (sym (ended is) ∙ held))
+        | inr is ↦ record { row_is = (still held).row_is ∙ (mends.no is).0; first_is = (still held).first_is ∙ mends.first_is }
+      ];
+      yes = λ is. ((mends.yes is).0, same ∙ (mends.yes is).2, ended is);
+      no = λ is. (
+        same ∙ (mends.no is).0,
+        λ none broken. broken.broken ((mends.no is).1 (last_exclusive (holding s last.tok.0) broken.exclusive (ap is_held (sym less) ∙ none))),
+      );
+    }
+
+-- what a negation tells
+pub of_not : (b : Bool) → (not b ≡ true → b ≡ false) × (not b ≡ false → b ≡ true)
+of_not true = (λ is. cc, λ is. refl)
+of_not false = (λ is. refl, λ is. cc)
+
+-- what learning of cells leaves of the rows
+same_rows : (s m : CpuSeat) (tok other : ℕ) → Knowing s m tok (entry s tok) → SameRow s m other
+same_rows s m tok other k = elim (cases_Bool (eqb other tok)) [
+  | inl is ↦
+    let same = eqb-true other tok is in
+    let F : ℕ → Type 0 = λ t. SameRow s m t in
+    subst F (sym same) (record { row_is = ap (λ (e : Entry). e.row) k.changes.here; first_is = ap (λ (e : Entry). e.first) k.changes.here })
+  | inr is ↦
+    let e = k.changes.else_ other (eqb-false other tok is) in
+    record { row_is = ap (λ (e : Entry). e.row) e; first_is = ap (λ (e : Entry). e.first) e }
+]
+
+-- nothing is restored
+pub mends_none : (s : CpuSeat) (tok : ℕ) → (holding s tok ≡ Holds Exclusive 0 → ⊥) → Mends s s tok false
+mends_none s tok no_end = record {
+  first_is = refl;
+  others = λ other away. record { row_is = refl; first_is = refl };
+  yes = λ is. cc;
+  no = λ is. (refl, λ ends. absurd (no_end ends));
+}
+
+pub mends_lawful : (s m : CpuSeat) (tok : ℕ) → Knowing s m tok (entry s tok) → MeetsItsLaw s tok → Mends s m tok false
+mends_lawful s m tok k meets = record {
+  first_is = (same_rows s m tok tok k).first_is;
+  others = λ other away. same_rows s m tok other k;
+  yes = λ is. cc;
+  no = λ is. ((same_rows s m tok tok k).row_is, λ ends. meets);
+}
+
+pub still_broken : (s m : CpuSeat) (tok : ℕ) → Knowing s m tok (entry s tok) → holding s tok ≡ Holds Exclusive 0 → (MeetsItsLaw s tok → ⊥) → IsBroken m tok
+still_broken s m tok k ends broken = record {
+  exclusive = exclusive_held (holding m tok) (ap (λ h. h tok) (knowing_kept s m tok k) ∙ ends);
+  broken = λ meets. broken (same_law m s tok (sym k.changes.bank) (sym (same_rows s m tok tok k).row_is) meets);
+}
+
+pub mends_broken : (s l m : CpuSeat) (tok : ℕ) → Knowing s l tok (entry s tok) → holding s tok ≡ Holds Exclusive 0 → (MeetsItsLaw s tok → ⊥) → row m tok ≡ first_row l tok → first_row m tok ≡ first_row l tok → ((other : ℕ) → other ≢ tok → SameRow l m other) → Mends s m tok true
+mends_broken s l m tok k ends broken restored first others = record {
+  first_is = first ∙ (same_rows s l tok tok k).first_is;
+  others = λ other away. record { row_is = (others other away).row_is ∙ (same_rows s l tok other k).row_is; first_is = (others other away).first_is ∙ (same_rows s l tok other k).first_is };
+  yes = λ is. (record { exclusive = exclusive_held (holding s tok) ends; broken = broken }, ends, restored ∙ (same_rows s l tok tok k).first_is);
+  no = λ is. cc;
+}

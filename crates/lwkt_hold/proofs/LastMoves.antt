@@ -1,0 +1,107 @@
+use Rattle.std.proofs.Common.{◌≡◌, ◌≢◌, ◌⊎◌, ℕ, suc, ◌+◌, ◌<◌, ◌≤◌, Bool, true, false, List, [], ◌∷◌, ◌++◌, length, take, get_or, refl, ap, sym, ◌∙◌, subst, arith, inl, inr, Option, Some, None, Result, Ok, Err, append_assoc, length-append, add-zero}
+use Rattle.std.specs.Prelude.{◌↔◌, All, IfOk, OnErr, IsSomeAnd, slice_get, Vec, vec_len, vec_capacity, filter}
+use Rattle.std.specs.List.{AllZip}
+use Rattle.std.specs.declared.alloc.Global.{Global}
+use Rattle.std.proofs.lemmas.List.{take_at, same_from_push, append-nil}
+use Rattle.std.proofs.lemmas.Option.{get_or_from_slice_get, slice_get_within}
+use Rattle.lwkt_base.specs.declared.faults.Fault.{Fault}
+use Rattle.lwkt_base.specs.declared.faults.Fault.TheVariants.{NotHeld, NotLast}
+use Rattle.lwkt_base.specs.declared.names.Mode.{Mode}
+use Rattle.lwkt_base.specs.declared.names.Ref.{Ref}
+use Rattle.lwkt_base.specs.declared.holdings.Held.{Held}
+use Rattle.lwkt_base.specs.declared.holdings.Held.TheVariants.{Nothing, Holds}
+use Rattle.lwkt_base.specs.Refs.{first_mode, IsLastTo}
+use Rattle.lwkt_base.specs.Holding.{Holding, one_more, added, holding_of}
+use Rattle.lwkt_core.specs.declared.events.Event.{Event}
+use Rattle.lwkt_core.specs.Events.{cpu_of}
+use Rattle.lwkt_core.specs.declared.seats.WordStep.{WordStep}
+use Rattle.lwkt_bank.specs.declared.seats.CpuSeat.{CpuSeat}
+use Rattle.lwkt_bank.specs.Seats.{bank_of, holding, steps_of}
+use Rattle.lwkt_hold.specs.declared.answers.Missed.{Missed}
+use Rattle.lwkt_hold.specs.declared.answers.Acquired.{Acquired}
+use Rattle.lwkt_hold.specs.declared.answers.Acquired.TheVariants.{MustSwitch}
+use Rattle.lwkt_hold.specs.Fronts.{IsFront}
+use Rattle.lwkt_hold.specs.Steps.{is_counted, is_on_word, Shows}
+use Rattle.lwkt_hold.specs.Runs.{Moves, Ran}
+use Rattle.lwkt_hold.proofs.HoldingMoves.{holding_of_push}
+use Rattle.lwkt_hold.proofs.RunMoves.{ran_weaker}
+use Rattle.lwkt_hold.proofs.GiveMoves.{more_here}
+use Rattle.lwkt_hold.proofs.ReadMoves.{mode_of, modes, whole_front}
+
+mode_of_more : (held : Held) (mode : Mode) → mode_of (one_more held mode) ≡ None → ⊥
+mode_of_more Nothing mode is = cc
+mode_of_more (Holds first further) mode is = cc
+
+-- the token of the last reference is on the list
+pub listed_last : (front : List Ref) (last : Ref) → first_mode (front ++ last ∷ []) last.tok.0 ≡ None → ⊥
+listed_last front last none =
+    mode_of_more (holding_of front last.tok.0) last.mode
+    (ap mode_of (sym (more_here (holding_of front) last.tok.0 last.mode) ∙ ap (λ h. h last.tok.0) (sym (holding_of_push front last))) ∙ modes (front ++ last ∷ []) last.tok.0 ∙ none)
+
+-- a pop of the last reference leaves those before it
+pub popped : (old now : List Ref) (last : Ref) (result : Result Ref Fault) (front : List Ref) → old ≡ front ++ last ∷ [] → IfOk result (λ r. (old ≡ now ++ r ∷ []) × (r.tok.0 ≡ last.tok.0)) → ((result ≡ Err NotHeld) ↔ (first_mode old last.tok.0 ≡ None)) → ((result ≡ Err NotLast) ↔ ((first_mode old last.tok.0 ≢ None) × ¬ IsLastTo old last.tok.0)) → OnErr result ((result ≡ Err NotHeld) ⊎ (result ≡ Err NotLast)) → now ≡ front
+popped old now last (Ok r) front is ok not_held not_last only = (same_from_push now front r last (sym ok.0 ∙ is)).0
+popped old now last (Err e) front is ok not_held not_last only = absurd (elim only [
+  | inl held ↦ let F : List Ref → Type 0 = λ refs. first_mode refs last.tok.0 ≡ None in listed_last front last (subst F is (not_held.0 held))
+  | inr at_end ↦ (not_last.0 at_end).1 (front, (last, (is, refl)))
+])
+
+-- the last reference of a list, by its place
+pub got_last : (front : List Ref) (last : Ref) → slice_get (front ++ last ∷ []) (length front) ≡ Some last
+got_last [] last = refl
+got_last (r ∷ front) last = got_last front last
+
+pub last_there : (refs front : List Ref) (last : Ref) (at n : ℕ) → refs ≡ front ++ last ∷ [] → at ≡ length front → last.tok.0 < n → IsSomeAnd (slice_get refs at) (λ r. r.tok.0 < n)
+last_there refs front last at n is here below =
+    let e : slice_get refs at ≡ Some last = ap (λ xs. slice_get xs at) is ∙ ap (λ k. slice_get (front ++ last ∷ []) k) here ∙ got_last front last in
+    let F : Option Ref → Type 0 = λ o. IsSomeAnd o (λ r. r.tok.0 < n) in
+    subst F (sym e) below
+
+-- what holds of each reference holds of the last
+pub all_last : (P : Ref → Type 0) (refs front : List Ref) (last : Ref) → refs ≡ front ++ last ∷ [] → All P refs → P last
+all_last P refs front last is all =
+    let F : List Ref → Type 0 = λ xs. All P xs in
+    let G : Ref → Type 0 = λ r. P r in
+    let got = got_last front last in
+    subst G (get_or_from_slice_get (front ++ last ∷ []) (length front) last last got) ((subst F is all) (length front) last (slice_get_within (front ++ last ∷ []) (length front) last got))
+
+-- the front without the last reference is a front
+pub front_of_push : (refs front : List Ref) (last : Ref) (h : Holding) → refs ≡ front ++ last ∷ [] → h ≡ holding_of front → IsFront refs h
+front_of_push refs front last h is here = (length front, here ∙ ap holding_of (sym (ap (λ xs. take (length front) xs) is ∙ take_at front (last ∷ []) (length front) refl)))
+
+-- the holding of a list with one reference more
+pub pushed_holding : (refs front : List Ref) (last : Ref) → refs ≡ front ++ last ∷ [] → holding_of refs ≡ added (holding_of front) last.tok.0 last.mode
+pushed_holding refs front last is = ap holding_of is ∙ holding_of_push front last
+
+-- a call that left the trace as it was has no event
+no_events : (done : List Event) → length done ≡ 0 → done ≡ []
+no_events [] is = refl
+no_events (e ∷ done) is = absurd (omega (arith, is))
+
+pub ran_silent : (P Q : Holding → Type 0) (m n : ℕ) (a b : CpuSeat) (t u : Vec Event Global) → u ≡ t → Ran P m a b t u → Ran Q n a b t u
+ran_silent P Q m n a b t u silent ran =
+    let same : vec_len u ≡ vec_len t = ap (λ v. vec_len v) silent in
+    let longer = ran.grown in
+    let none : ran.done ≡ [] = no_events ran.done (omega arith) in
+    record {
+      bank = ran.bank;
+      cpu = ran.cpu;
+      made = ran.made;
+      steps = ran.steps;
+      done = [];
+      trace = ran.trace ∙ ap (λ xs. t.items ++ xs) none;
+      own = let F : List Event → Type 0 = λ xs. All (λ e. cpu_of e ≡ a.cpu.0) xs in subst F none ran.own;
+      told = let F : List Event → Type 0 = λ xs. AllZip Shows (filter is_counted ran.made) (filter is_on_word xs) in subst F none ran.told;
+      moves = let F : List Event → Type 0 = λ xs. Moves P (holding a) xs (holding b) in subst F none ran.moves;
+      few = omega arith;
+      grown = same ∙ sym (add-zero (vec_len t));
+      room = ran.room;
+    }
+
+-- a miss that was answered, as the answer of a call
+pub lost_as : (r : Result (Unit {0}) Missed) (why : Missed) → r ≡ Err why → ◌≡◌ {A = Result (Result (Unit {0}) Missed) Fault} (Ok r) (Ok (Err why))
+lost_as r why is = ap Ok is
+
+-- two answers to switch that are equal have one reason
+pub same_switch : (a b : Missed) → ◌≡◌ {A = Result Acquired Fault} (Ok (MustSwitch a)) (Ok (MustSwitch b)) → a ≡ b
+same_switch a b is = cc

@@ -1,0 +1,135 @@
+use Rattle.std.proofs.Common.{◌≡◌, ◌≢◌, ℕ, suc, ◌+◌, ◌-◌, ◌<◌, ◌≤◌, Bool, true, false, cond, eqb, List, [], ◌∷◌, ◌++◌, length, take, get_or, refl, ap, sym, ◌∙◌, subst, arith, inl, inr, eq-eqb, ne_eqb, Option, Some, None}
+use Rattle.std.specs.Prelude.{find, option_map, fold, Vec, vec_len, vec_capacity}
+use Rattle.std.specs.Option.{option_or}
+use Rattle.std.specs.declared.alloc.Global.{Global}
+use Rattle.std.proofs.lemmas.Bool.{eqb-true, eqb-false, cases_Bool}
+use Rattle.std.proofs.lemmas.List.{take_all, append-nil}
+use Rattle.std.proofs.lemmas.List.Elements.{All-from_recursion}
+use Rattle.lwkt_core.specs.Events.{cpu_of}
+use Rattle.std.proofs.Math.Path.{fun_ext}
+use Rattle.lwkt_base.specs.declared.names.CpuId.{CpuId}
+use Rattle.lwkt_base.specs.declared.names.TokId.{TokId}
+use Rattle.lwkt_base.specs.declared.names.Mode.{Mode}
+use Rattle.lwkt_base.specs.declared.names.Mode.TheVariants.{Exclusive, Shared}
+use Rattle.lwkt_base.specs.declared.names.Ref.{Ref}
+use Rattle.lwkt_base.specs.declared.holdings.Held.{Held}
+use Rattle.lwkt_base.specs.declared.holdings.Held.TheVariants.{Nothing, Holds}
+use Rattle.lwkt_base.specs.Refs.{is_to, first_mode}
+use Rattle.lwkt_base.specs.Holding.{Holding, is_held, is_exclusive, one_more, added, holding_of, holds_nothing}
+use Rattle.lwkt_core.specs.declared.events.Event.{Event}
+use Rattle.lwkt_core.specs.declared.events.Event.TheVariants.{Read, Write}
+use Rattle.lwkt_core.specs.declared.seats.WordStep.{WordStep}
+use Rattle.lwkt_bank.specs.declared.views.Entry.{Entry}
+use Rattle.lwkt_bank.specs.declared.seats.CpuSeat.{CpuSeat}
+use Rattle.lwkt_bank.specs.Seats.{bank_of, entry, holding, steps_of, Changes, Knowing, IsUnchanged}
+use Rattle.lwkt_hold.specs.Fronts.{IsFront}
+use Rattle.lwkt_hold.specs.Runs.{Ran}
+use Rattle.lwkt_hold.proofs.RunMoves.{ran_none, ran_then, ran_quiet, ran_weaker, ran_step, holding_kept}
+use Rattle.lwkt_base.specs.declared.laws.Law.{Law}
+use Rattle.lwkt_base.specs.declared.laws.Law.TheVariants.{Any, Sum, Order, Cap, Tally}
+
+-- nothing was done
+pub ran_still : (P : Holding → Type 0) (most : ℕ) (s : CpuSeat) (t : Vec Event Global) → Ran P most s s t t
+ran_still P most s t = ran_weaker P P 0 most s s t t (λ h p. p) (omega arith) (ran_none P s t)
+
+-- what a list holds is a front of it
+pub whole_front : (refs : List Ref) (h : Holding) → h ≡ holding_of refs → IsFront refs h
+whole_front refs h is = (length refs, is ∙ ap holding_of (sym (take_all (length refs) refs (omega arith))))
+
+-- the mode of what is held
+abbrev pub mode_of : Held → Option Mode
+mode_of Nothing = None
+mode_of (Holds mode further) = Some mode
+
+or_none : (o : Option Mode) → o ≡ option_or o None
+or_none None = refl
+or_none (Some mode) = refl
+
+mode_more : (held : Held) (mode : Mode) (rest : Option Mode) → option_or (mode_of (one_more held mode)) rest ≡ option_or (mode_of held) (Some mode)
+mode_more Nothing mode rest = refl
+mode_more (Holds first further) mode rest = refl
+
+mode_step : (b : Bool) (h : Holding) (refs : List Ref) (r : Ref) (tok : ℕ) → eqb tok r.tok.0 ≡ b → eqb r.tok.0 tok ≡ b → option_or (mode_of (added h r.tok.0 r.mode tok)) (first_mode refs tok) ≡ option_or (mode_of (h tok)) (first_mode (r ∷ refs) tok)
+mode_step true h refs r tok one two = rw (one, two) (mode_more (h tok) r.mode (first_mode refs tok))
+mode_step false h refs r tok one two = rw (one, two) refl
+
+eqb_turn : (a b : ℕ) (x : Bool) → eqb a b ≡ x → eqb b a ≡ x
+eqb_turn a b true is = eq-eqb b a (sym (eqb-true a b is))
+eqb_turn a b false is = ne_eqb b a (λ same. eqb-false a b is (sym same))
+
+modes_fold : (refs : List Ref) (h : Holding) (tok : ℕ) → mode_of (fold (λ held r. added held r.tok.0 r.mode) h refs tok) ≡ option_or (mode_of (h tok)) (first_mode refs tok)
+modes_fold [] h tok = or_none (mode_of (h tok))
+modes_fold (r ∷ refs) h tok = modes_fold refs (added h r.tok.0 r.mode) tok ∙ mode_step (eqb tok r.tok.0) h refs r tok refl (eqb_turn tok r.tok.0 (eqb tok r.tok.0) refl)
+
+-- a list holds a token in the mode of its first reference
+pub modes : (refs : List Ref) (tok : ℕ) → mode_of (holding_of refs tok) ≡ first_mode refs tok
+modes refs tok = modes_fold refs holds_nothing tok
+
+held_if_mode : (held : Held) → (mode_of held ≡ None → ⊥) → is_held held ≡ true
+held_if_mode Nothing some = absurd (some refl)
+held_if_mode (Holds mode further) some = refl
+
+exclusive_if_mode : (held : Held) → mode_of held ≡ Some Exclusive → is_exclusive held ≡ true
+exclusive_if_mode Nothing is = cc
+exclusive_if_mode (Holds Exclusive further) is = refl
+exclusive_if_mode (Holds Shared further) is = cc
+
+pub held_listed : (s : CpuSeat) (refs : List Ref) (tok : ℕ) → holding s ≡ holding_of refs → (first_mode refs tok ≡ None → ⊥) → is_held (holding s tok) ≡ true
+held_listed s refs tok front some = ap (λ h. is_held (h tok)) front ∙ held_if_mode (holding_of refs tok) (λ none. some (sym (modes refs tok) ∙ none))
+
+pub exclusive_listed : (s : CpuSeat) (refs : List Ref) (tok : ℕ) → holding s ≡ holding_of refs → first_mode refs tok ≡ Some Exclusive → is_exclusive (holding s tok) ≡ true
+exclusive_listed s refs tok front is = ap (λ h. is_exclusive (h tok)) front ∙ exclusive_if_mode (holding_of refs tok) (modes refs tok ∙ is)
+
+-- a cell was read, and a cell was stored to
+pub read_ran : (refs : List Ref) (s s' : CpuSeat) (tok : TokId) (e : Entry) (cpu : CpuId) (cell value : ℕ) (t u : Vec Event Global) → Changes s s' tok.0 e [] → e.held ≡ holding s tok.0 → holding s ≡ holding_of refs → cpu ≡ s.cpu → u.items ≡ t.items ++ Read cpu tok cell value ∷ [] → vec_len u ≡ vec_len t + 1 → vec_capacity t ≤ vec_capacity u → Ran (IsFront refs) 1 s s' t u
+read_ran refs s s' tok e cpu cell value t u c held front mine pushed longer room =
+    let kept = holding_kept s s' tok.0 e [] c held in
+    ran_step (IsFront refs) s s' tok.0 e [] (Read cpu tok cell value) t u c pushed longer room (ap (λ (x : CpuId). x.0) mine) tt kept (whole_front refs (holding s') (kept ∙ front))
+
+pub write_ran : (refs : List Ref) (s s' : CpuSeat) (tok : TokId) (e : Entry) (cpu : CpuId) (cell value : ℕ) (t u : Vec Event Global) → Knowing s s' tok.0 e → e.held ≡ holding s tok.0 → holding s ≡ holding_of refs → cpu ≡ s.cpu → u.items ≡ t.items ++ Write cpu tok cell value ∷ [] → vec_len u ≡ vec_len t + 1 → vec_capacity t ≤ vec_capacity u → Ran (IsFront refs) 1 s s' t u
+write_ran refs s s' tok e cpu cell value t u k held front mine pushed longer room =
+    let kept = holding_kept s s' tok.0 (record e { known = k.known }) [] k.changes held in
+    ran_step (IsFront refs) s s' tok.0 (record e { known = k.known }) [] (Write cpu tok cell value) t u k.changes pushed longer room (ap (λ (x : CpuId). x.0) mine) tt kept (whole_front refs (holding s') (kept ∙ front))
+
+-- a call that leaves the seat as it was
+pub unchanged_kept : (s s' : CpuSeat) → IsUnchanged s s' → holding s' ≡ holding s
+unchanged_kept s s' same = fun_ext (λ tok. ap (λ (e : Entry). e.held) (same.entries tok))
+
+pub unchanged_ran : (P : Holding → Type 0) (most : ℕ) (s s' : CpuSeat) (t : Vec Event Global) → IsUnchanged s s' → Ran P most s s' t t
+unchanged_ran P most s s' t same = record {
+  bank = same.bank;
+  cpu = same.cpu;
+  made = [];
+  steps = same.steps ∙ sym (append-nil (steps_of s));
+  done = [];
+  trace = sym (append-nil t.items);
+  own = All-from_recursion (λ (e : Event). cpu_of e ≡ s.cpu.0) [] tt;
+  told = tt;
+  moves = unchanged_kept s s' same;
+  few = omega arith;
+  grown = omega arith;
+  room = omega arith;
+}
+
+-- a law that isn't another is Tally
+pub tally_or_not : (law : Law) → ((law ≡ Tally → ⊥) → ⊥) → law ≡ Tally
+tally_or_not Any other = absurd (other (λ is. cc))
+tally_or_not Sum other = absurd (other (λ is. cc))
+tally_or_not Order other = absurd (other (λ is. cc))
+tally_or_not Cap other = absurd (other (λ is. cc))
+tally_or_not Tally other = refl
+
+pub held_of_exclusive : (s : CpuSeat) (refs : List Ref) (tok : ℕ) → holding s ≡ holding_of refs → first_mode refs tok ≡ Some Exclusive → is_held (holding s tok) ≡ true
+held_of_exclusive s refs tok front is = held_listed s refs tok front (λ none. not_none (sym is ∙ none))
+  where
+    not_none : ◌≡◌ {A = Option Mode} (Some Exclusive) None → ⊥
+    not_none e = cc
+
+-- a sum was stored in the first cell, and read there
+pub added_ran : (refs : List Ref) (s m s' : CpuSeat) (tok : TokId) (d e : Entry) (cpu : CpuId) (value : ℕ) (t u : Vec Event Global) → Knowing s m tok.0 d → d.held ≡ holding s tok.0 → Changes m s' tok.0 e [] → e.held ≡ holding m tok.0 → holding s ≡ holding_of refs → cpu ≡ s.cpu → u.items ≡ t.items ++ Write cpu tok 0 value ∷ [] → vec_len u ≡ vec_len t + 1 → vec_capacity t ≤ vec_capacity u → Ran (IsFront refs) 1 s s' t u
+added_ran refs s m s' tok d e cpu value t u k held c held' front mine pushed longer room =
+    let first = holding_kept s m tok.0 (record d { known = k.known }) [] k.changes held in
+    let kept = holding_kept m s' tok.0 e [] c held' in
+    let quiet = ran_quiet (IsFront refs) s m tok.0 (record d { known = k.known }) [] t k.changes held refl in
+    let step = ran_step (IsFront refs) m s' tok.0 e [] (Write cpu tok 0 value) t u c pushed longer room (ap (λ (x : CpuId). x.0) (mine ∙ sym k.changes.cpu)) tt kept (whole_front refs (holding s') (kept ∙ first ∙ front)) in
+    ran_then (IsFront refs) 0 1 s m s' t t u quiet step

@@ -1,0 +1,146 @@
+use Rattle.std.proofs.Common.{◌≡◌, ◌≢◌, ℕ, ◌+◌, ◌<◌, ◌≤◌, Bool, true, false, cond, eqb, List, [], ◌∷◌, ◌++◌, length, refl, ap, sym, ◌∙◌, subst, arith, inl, inr, append_assoc, length-append, eq-eqb, ne_eqb}
+use Rattle.std.specs.Prelude.{All, filter, Vec, vec_len, vec_capacity}
+use Rattle.std.specs.List.{AllZip}
+use Rattle.std.specs.declared.alloc.Global.{Global}
+use Rattle.std.proofs.lemmas.List.{append-nil}
+use Rattle.std.proofs.lemmas.List.Elements.{All-append, filter-append, All-from_recursion}
+use Rattle.std.proofs.lemmas.Bool.{cases_Bool, eqb-true, eqb-false}
+use Rattle.std.proofs.Math.Path.{fun_ext}
+use Rattle.lwkt_base.specs.declared.holdings.Held.{Held}
+use Rattle.lwkt_base.specs.Holding.{Holding, added, removed}
+use Rattle.lwkt_core.specs.declared.events.Event.{Event}
+use Rattle.lwkt_core.specs.declared.seats.WordStep.{WordStep}
+use Rattle.lwkt_core.specs.Events.{cpu_of}
+use Rattle.lwkt_bank.specs.declared.views.Entry.{Entry}
+use Rattle.lwkt_bank.specs.declared.seats.CpuSeat.{CpuSeat}
+use Rattle.lwkt_bank.specs.Seats.{bank_of, entry, holding, steps_of, Changes}
+use Rattle.lwkt_hold.specs.Steps.{after, is_counted, is_on_word, Shows}
+use Rattle.lwkt_hold.specs.Runs.{Moves, Ran}
+
+-- moves one after the other
+pub Moves-append : (P : Holding → Type 0) (xs ys : List Event) (h mid h' : Holding) → Moves P h xs mid → Moves P mid ys h' → Moves P h (xs ++ ys) h'
+Moves-append P [] ys h mid h' first second = let F : Holding → Type 0 = λ x. Moves P x ys h' in subst F first second
+Moves-append P (e ∷ xs) ys h mid h' first second = (first.0, Moves-append P xs ys (after e h) mid h' first.1 second)
+
+-- moves among fewer holdings are moves among more
+pub Moves-weaker : (P Q : Holding → Type 0) (xs : List Event) (h h' : Holding) → ((x : Holding) → P x → Q x) → Moves P h xs h' → Moves Q h xs h'
+Moves-weaker P Q [] h h' weaker moves = moves
+Moves-weaker P Q (e ∷ xs) h h' weaker moves = (weaker (after e h) moves.0, Moves-weaker P Q xs (after e h) h' weaker moves.1)
+
+-- two lists that fit, one after two others that do
+pub AllZip-append : {A B : Type 0} (R : A → B → Type 0) (xs : List A) (ys : List B) (us : List A) (vs : List B) → AllZip R xs ys → AllZip R us vs → AllZip R (xs ++ us) (ys ++ vs)
+AllZip-append R [] [] us vs first second = second
+AllZip-append R [] (y ∷ ys) us vs first second = absurd first
+AllZip-append R (x ∷ xs) [] us vs first second = absurd first
+AllZip-append R (x ∷ xs) (y ∷ ys) us vs first second = (first.0, AllZip-append R xs ys us vs first.1 second)
+
+-- nothing was done
+pub ran_none : (P : Holding → Type 0) (s : CpuSeat) (t : Vec Event Global) → Ran P 0 s s t t
+ran_none P s t = record {
+  bank = refl;
+  cpu = refl;
+  made = [];
+  steps = sym (append-nil (steps_of s));
+  done = [];
+  trace = sym (append-nil t.items);
+  own = All-from_recursion (λ (e : Event). cpu_of e ≡ s.cpu.0) [] tt;
+  told = tt;
+  moves = refl;
+  few = omega arith;
+  grown = omega arith;
+  room = omega arith;
+}
+
+-- two in a row
+pub ran_then : (P : Holding → Type 0) (m n : ℕ) (a b c : CpuSeat) (t u v : Vec Event Global) → Ran P m a b t u → Ran P n b c u v → Ran P (m + n) a c t v
+ran_then P m n a b c t u v first second = record {
+  bank = second.bank ∙ first.bank;
+  cpu = second.cpu ∙ first.cpu;
+  made = first.made ++ second.made;
+  steps = second.steps ∙ ap (λ xs. xs ++ second.made) first.steps ∙ append_assoc (steps_of a) first.made second.made;
+  done = first.done ++ second.done;
+  trace = second.trace ∙ ap (λ xs. xs ++ second.done) first.trace ∙ append_assoc t.items first.done second.done;
+  own =
+      let same : b.cpu.0 ≡ a.cpu.0 = ap (λ x. x.0) first.cpu in
+      let F : ℕ → Type 0 = λ k. All (λ (e : Event). cpu_of e ≡ k) second.done in
+      All-append (λ (e : Event). cpu_of e ≡ a.cpu.0) first.done second.done first.own (subst F same second.own);
+  told =
+      let F : List WordStep → Type 0 = λ xs. AllZip Shows xs (filter is_on_word (first.done ++ second.done)) in
+      let G : List Event → Type 0 = λ ys. AllZip Shows (filter is_counted first.made ++ filter is_counted second.made) ys in
+      subst F (sym (filter-append is_counted first.made second.made))
+      (subst G (sym (filter-append is_on_word first.done second.done))
+      (AllZip-append Shows (filter is_counted first.made) (filter is_on_word first.done) (filter is_counted second.made) (filter is_on_word second.done) first.told second.told));
+  moves = Moves-append P first.done second.done (holding a) (holding b) (holding c) first.moves second.moves;
+  few = let l = length-append first.done second.done in let x = first.few in let y = second.few in omega arith;
+  grown = let l = length-append first.done second.done in let x = first.grown in let y = second.grown in omega arith;
+  room = let x = first.room in let y = second.room in omega arith;
+}
+
+-- a weaker word on the holdings, and a wider bound
+pub ran_weaker : (P Q : Holding → Type 0) (m n : ℕ) (a b : CpuSeat) (t u : Vec Event Global) → ((x : Holding) → P x → Q x) → m ≤ n → Ran P m a b t u → Ran Q n a b t u
+ran_weaker P Q m n a b t u weaker wider ran = record {
+  bank = ran.bank;
+  cpu = ran.cpu;
+  made = ran.made;
+  steps = ran.steps;
+  done = ran.done;
+  trace = ran.trace;
+  own = ran.own;
+  told = ran.told;
+  moves = Moves-weaker P Q ran.done (holding a) (holding b) weaker ran.moves;
+  few = let x = ran.few in omega arith;
+  grown = ran.grown;
+  room = ran.room;
+}
+
+-- what a change of one token does to the holding
+pub holding_if : (b : Bool) (x y z : Held) → (b ≡ true → x ≡ y) → (b ≡ false → x ≡ z) → x ≡ cond b y z
+holding_if true x y z here away = here refl
+holding_if false x y z here away = away refl
+
+pub holding_changed : (s s' : CpuSeat) (tok : ℕ) (e : Entry) (made : List WordStep) (f : Held → Held) → Changes s s' tok e made → e.held ≡ f (holding s tok) → holding s' ≡ (λ other. cond (eqb other tok) (f (holding s other)) (holding s other))
+holding_changed s s' tok e made f c is = fun_ext (λ other. holding_if (eqb other tok) (holding s' other) (f (holding s other)) (holding s other)
+    (λ here. let same : other ≡ tok = eqb-true other tok here in let F : ℕ → Type 0 = λ t. holding s' t ≡ f (holding s t) in subst F (sym same) (ap (λ (x : Entry). x.held) c.here ∙ is))
+    (λ away. ap (λ (x : Entry). x.held) (c.else_ other (eqb-false other tok away))))
+
+pub same_if : (b : Bool) (x : Held) → cond b x x ≡ x
+same_if true x = refl
+same_if false x = refl
+
+-- a change that keeps what the seat holds of the token keeps the holding
+pub holding_kept : (s s' : CpuSeat) (tok : ℕ) (e : Entry) (made : List WordStep) → Changes s s' tok e made → e.held ≡ holding s tok → holding s' ≡ holding s
+holding_kept s s' tok e made c is = holding_changed s s' tok e made (λ x. x) c is ∙ fun_ext (λ other. same_if (eqb other tok) (holding s other))
+
+-- a call without an event
+pub ran_quiet : (P : Holding → Type 0) (s s' : CpuSeat) (tok : ℕ) (e : Entry) (made : List WordStep) (t : Vec Event Global) → Changes s s' tok e made → e.held ≡ holding s tok → filter is_counted made ≡ [] → Ran P 0 s s' t t
+ran_quiet P s s' tok e made t c held none = record {
+  bank = c.bank;
+  cpu = c.cpu;
+  made = made;
+  steps = c.steps;
+  done = [];
+  trace = sym (append-nil t.items);
+  own = All-from_recursion (λ (e : Event). cpu_of e ≡ s.cpu.0) [] tt;
+  told = let F : List WordStep → Type 0 = λ xs. AllZip Shows xs [] in subst F (sym none) tt;
+  moves = holding_kept s s' tok e made c held;
+  few = omega arith;
+  grown = omega arith;
+  room = omega arith;
+}
+
+-- a call with one event
+pub ran_step : (P : Holding → Type 0) (s s' : CpuSeat) (tok : ℕ) (e : Entry) (made : List WordStep) (ev : Event) (t u : Vec Event Global) → Changes s s' tok e made → u.items ≡ t.items ++ ev ∷ [] → vec_len u ≡ vec_len t + 1 → vec_capacity t ≤ vec_capacity u → cpu_of ev ≡ s.cpu.0 → AllZip Shows (filter is_counted made) (filter is_on_word (ev ∷ [])) → holding s' ≡ after ev (holding s) → P (holding s') → Ran P 1 s s' t u
+ran_step P s s' tok e made ev t u c pushed longer room own told moved at_front = record {
+  bank = c.bank;
+  cpu = c.cpu;
+  made = made;
+  steps = c.steps;
+  done = ev ∷ [];
+  trace = pushed;
+  own = All-from_recursion (λ (e : Event). cpu_of e ≡ s.cpu.0) (ev ∷ []) (own, tt);
+  told = told;
+  moves = (let F : Holding → Type 0 = λ x. P x in subst F moved at_front, moved);
+  few = omega arith;
+  grown = longer;
+  room = room;
+}

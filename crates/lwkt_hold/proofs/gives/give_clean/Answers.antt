@@ -1,0 +1,38 @@
+use Rattle.std.proofs.Common.{◌≡◌, ◌+◌, ◌-◌, ◌<◌, ◌≤◌, refl, ap, sym, ◌∙◌, inl, take, length, get_or, arith}
+use Rattle.lwkt_base.specs.Holding.{Holding, holding_of, removed}
+use Rattle.lwkt_bank.specs.Seats.{holding}
+use Rattle.lwkt_hold.specs.Fronts.{IsFront}
+use Rattle.lwkt_hold.proofs.RunMoves.{ran_none, ran_then, ran_weaker}
+use Rattle.lwkt_hold.proofs.TakeMoves.{unused}
+use Rattle.lwkt_hold.proofs.ListMoves.{back_held, back_removed, clean_given}
+use Rattle.lwkt_hold.proofs.gives.give_clean.Goals as goal
+
+pub loop-given-init : goal.loop-given-init
+loop-given-init c =
+    let e : c.args.count ≡ c.args.count - 0 = omega arith in
+    record {
+      ran = ran_none (IsFront c.args.refs.now) c.args.seat.now c.args.trace.now;
+      front = c.requires.front ∙ ap (λ n. holding_of (take n c.args.refs.now)) e;
+      clean = c.requires.clean;
+    }
+
+pub give-requires-clause-held : goal.give-requires-clause-held
+give-requires-clause-held c = let l = c.loop-given in back_held l.seat c.args.refs.now c.args.count l.given c.loop-given-test.true c.requires.within l.invariant.front
+
+pub give-requires-clause-ready : goal.give-requires-clause-ready
+give-requires-clause-ready c = let l = c.loop-given in λ _. inl (l.invariant.clean.each (get_or c.args.refs.now (c.args.count - 1 - l.given) unused).tok.0 (back_held l.seat c.args.refs.now c.args.count l.given c.loop-given-test.true c.requires.within l.invariant.front))
+
+pub loop-given-preserved : goal.loop-given-preserved
+loop-given-preserved c =
+    let l = c.loop-given in
+    let tok = (get_or c.args.refs.now (c.args.count - 1 - l.given) unused).tok.0 in
+    let held = back_held l.seat c.args.refs.now c.args.count l.given c.loop-given-test.true c.requires.within l.invariant.front in
+    let next = back_removed l.seat c.args.refs.now c.args.count l.given c.loop-given-test.true c.requires.within l.invariant.front in
+    let P : Holding → Type 0 = IsFront c.args.refs.now in
+    let R : Holding → Type 0 = λ h. h ≡ removed (holding l.seat) tok in
+    record {
+      ran = ran_then P l.given 1 c.args.seat.now l.seat c.give.new.seat c.args.trace.now l.trace c.give.new.trace l.invariant.ran
+          (ran_weaker R P 1 1 l.seat c.give.new.seat l.trace c.give.new.trace (λ h r. (c.args.count - (l.given + 1), r ∙ next)) (omega arith) c.give.ensures.ran);
+      front = c.give.ensures.given ∙ next;
+      clean = clean_given l.seat c.give.new.seat tok held c.give.ensures.given c.give.ensures.others c.give.ensures.still l.invariant.clean;
+    }

@@ -1,0 +1,6 @@
+pub mod Steps
+pub mod Fronts
+pub mod Runs
+pub mod Misses
+pub mod Rows
+pub mod Holds

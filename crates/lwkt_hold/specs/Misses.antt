@@ -1,0 +1,40 @@
+use Rattle.std.specs.Prelude.{◌≡◌, ◌≢◌, ◌⊎◌, ℕ, Bool, List, [], ◌∷◌, ◌++◌, IsSomeAnd, slice_get}
+use Rattle.lwkt_base.specs.declared.faults.Fault.{Fault}
+use Rattle.lwkt_base.specs.declared.faults.Fault.TheVariants.{Busy as IsBusy, Again as IsAgain, Worn as WasWorn}
+use Rattle.lwkt_base.specs.declared.names.TokId.{TokId}
+use Rattle.lwkt_base.specs.declared.names.Mode.{Mode}
+use Rattle.lwkt_base.specs.declared.names.Mode.TheVariants.{Exclusive}
+use Rattle.lwkt_base.specs.declared.names.Ref.{Ref}
+use Rattle.lwkt_base.specs.declared.words.Decision.TheVariants.{Take, Held, Marked, Worn as IsWorn}
+use Rattle.lwkt_core.specs.declared.seats.WordStep.{WordStep}
+use Rattle.lwkt_bank.specs.declared.seats.CpuSeat.{CpuSeat}
+use Rattle.lwkt_bank.specs.Seats.{steps_of, Decides}
+use Rattle.lwkt_bank.specs.Views.{load, exchange}
+use Rattle.lwkt_hold.specs.declared.answers.Missed.{Missed}
+use Rattle.lwkt_hold.specs.declared.answers.Missed.TheVariants.{Busy, Again, Worn}
+use Rattle.lwkt_hold.specs.Fronts.{is_alone}
+
+-- the steps of a try that was missed: a load of the word that was refused, or a load of a word that can be taken and an
+-- exchange that found another (own)
+abbrev pub IsMiss : ℕ → Mode → Bool → Missed → List WordStep → Type 0
+IsMiss tok mode alone (Busy word) steps = (Decides word mode alone Held ⊎ Decides word mode alone Marked) × (steps ≡ load tok word ∷ [])
+IsMiss tok mode alone Again steps = (word next found : ℕ) × (Decides word mode alone (Take next) × (found ≢ word) × (steps ≡ load tok word ∷ exchange tok word next found ∷ []))
+IsMiss tok mode alone Worn steps = (word : ℕ) × (Decides word mode alone IsWorn × (steps ≡ load tok word ∷ []))
+
+-- among a seat's steps in a call are those of a missed try for the reference of this place
+pub record Misses (old new : CpuSeat) (refs : List Ref) (place : ℕ) (why : Missed) : Type 0 where
+  pub earlier : List WordStep
+  pub missed : List WordStep
+  pub later : List WordStep
+  pub steps : steps_of new ≡ steps_of old ++ (earlier ++ (missed ++ later))
+  pub is_miss : IsSomeAnd (slice_get refs place) (λ r. IsMiss r.tok.0 r.mode (is_alone refs r.tok.0) why missed)
+
+-- the refusal for each miss
+abbrev pub fault_of : Missed → Fault
+fault_of (Busy word) = IsBusy
+fault_of Again = IsAgain
+fault_of Worn = WasWorn
+
+-- an exclusive reference to the token
+abbrev pub exclusive : TokId → Ref
+exclusive tok = record { tok = tok; mode = Exclusive }

@@ -1,0 +1,96 @@
+use Rattle.std.specs.Prelude.{◌≡◌, ◌≢◌, ℕ, suc, Bool, true, false, List, [], ◌∷◌, Option, Some, None, IsSomeAnd, slice_get, take}
+use Rattle.lwkt_base.specs.declared.names.Ref.{Ref}
+use Rattle.lwkt_base.specs.declared.names.CpuId.{CpuId}
+use Rattle.lwkt_base.specs.declared.names.TokId.{TokId}
+use Rattle.lwkt_base.specs.declared.names.Mode.TheVariants.{Exclusive}
+use Rattle.lwkt_base.specs.declared.holdings.Held.TheVariants.{Holds}
+use Rattle.lwkt_base.specs.Holding.{is_held, is_exclusive}
+use Rattle.lwkt_base.specs.Law.{MeetsLaw}
+use Rattle.lwkt_core.specs.declared.events.Event.{Event}
+use Rattle.lwkt_core.specs.declared.events.Event.TheVariants.{Write}
+use Rattle.lwkt_hold.specs.declared.answers.Blocked.{Blocked}
+use Rattle.lwkt_hold.specs.declared.answers.Blocked.TheVariants.{Clean, Restored}
+use Rattle.lwkt_hold.specs.Fronts.{names}
+use Rattle.lwkt_bank.specs.declared.seats.CpuSeat.{CpuSeat}
+use Rattle.lwkt_bank.specs.Seats.{bank_of, plan_of, entry, holding}
+
+-- the row of a token that a seat holds, and the first row of its section
+abbrev pub row : CpuSeat → ℕ → List ℕ
+row s tok = (entry s tok).row
+abbrev pub first_row : CpuSeat → ℕ → List ℕ
+first_row s tok = (entry s tok).first
+
+-- the row of a token obeys its law
+abbrev pub MeetsItsLaw : CpuSeat → ℕ → Type 0
+MeetsItsLaw s tok = MeetsLaw (plan_of (bank_of s) tok).law (plan_of (bank_of s) tok).param (row s tok)
+
+-- a token is held exclusively, and its row doesn't obey its law
+pub record IsBroken (s : CpuSeat) (tok : ℕ) : Type 0 where
+  pub exclusive : is_exclusive (holding s tok) ≡ true
+  pub broken : ¬ MeetsItsLaw s tok
+
+-- row and first row of a token are as before
+pub record SameRow (old new : CpuSeat) (tok : ℕ) : Type 0 where
+  pub row_is : row new tok ≡ row old tok
+  pub first_is : first_row new tok ≡ first_row old tok
+
+-- the events of storing these values in the cells of a token, from a cell on
+abbrev pub writes : CpuId → TokId → ℕ → List (Option ℕ) → List Event
+writes cpu tok cell [] = []
+writes cpu tok cell (None ∷ values) = writes cpu tok (suc cell) values
+writes cpu tok cell (Some value ∷ values) = Write cpu tok cell value ∷ writes cpu tok (suc cell) values
+
+-- what is done to the row of a token when a reference to it is given back: a section that ends and has broken its law gets
+-- its first row back, and no other row changes
+pub record GivesBack (old new : CpuSeat) (tok : ℕ) (restored : Bool) : Type 0 where
+  pub others : (other : ℕ) → other ≢ tok → SameRow old new other
+  pub still : is_held (holding new tok) ≡ true → SameRow old new tok
+  pub yes : restored ≡ true → IsBroken old tok × (row new tok ≡ first_row old tok) × (is_held (holding new tok) ≡ false)
+  pub no : restored ≡ false → (row new tok ≡ row old tok) × (is_held (holding new tok) ≡ false → ¬ IsBroken old tok)
+
+-- what is done to the row of a token before a reference to it is given back: if the reference ends a section that has broken
+-- its law, the row becomes the first row; else no row changes, and one that is written obeys the law
+pub record Mends (old new : CpuSeat) (tok : ℕ) (restored : Bool) : Type 0 where
+  pub first_is : first_row new tok ≡ first_row old tok
+  pub others : (other : ℕ) → other ≢ tok → SameRow old new other
+  pub yes : restored ≡ true → IsBroken old tok × (holding old tok ≡ Holds Exclusive 0) × (row new tok ≡ first_row old tok)
+  pub no : restored ≡ false → (row new tok ≡ row old tok) × (holding old tok ≡ Holds Exclusive 0 → MeetsItsLaw old tok)
+
+-- the row of each token that is held is its section's first row
+pub record IsClean (s : CpuSeat) : Type 0 where
+  pub each : (tok : ℕ) → is_held (holding s tok) ≡ true → row s tok ≡ first_row s tok
+
+-- the row of this token has become this one; its first row and every other row are as before
+pub record OnlyRow (old new : CpuSeat) (tok : ℕ) (cells : List ℕ) : Type 0 where
+  pub row_is : row new tok ≡ cells
+  pub first_is : first_row new tok ≡ first_row old tok
+  pub others : (other : ℕ) → other ≢ tok → SameRow old new other
+
+-- a token that is broken, such that every other broken token has a reference further in front on the list
+pub record IsFirstBroken (s : CpuSeat) (refs : List Ref) (tok : ℕ) : Type 0 where
+  pub is_broken : IsBroken s tok
+  pub place : ℕ
+  pub at_place : IsSomeAnd (slice_get refs place) (λ r. r.tok.0 ≡ tok)
+  pub others_in_front : (other : ℕ) → IsBroken s other → other ≢ tok → names (take place refs) other ≡ true
+
+-- what is done to the rows when references are given back: of a token that isn't held any more, a broken row is its first row
+-- again, and any other row is as before; a token that is still held has its row and mode as before
+pub record GivenUp (old now : CpuSeat) : Type 0 where
+  pub same : (tok : ℕ) → is_held (holding now tok) ≡ true → SameRow old now tok × (is_exclusive (holding now tok) ≡ is_exclusive (holding old tok))
+  pub given : (tok : ℕ) → is_held (holding now tok) ≡ false → (IsBroken old tok → row now tok ≡ first_row old tok) × (¬ IsBroken old tok → row now tok ≡ row old tok)
+
+-- the first token that was restored so far, if any was
+abbrev pub IsFirstSoFar : CpuSeat → List Ref → CpuSeat → Option TokId → Type 0
+IsFirstSoFar old refs now None = (tok : ℕ) → is_held (holding now tok) ≡ false → ¬ IsBroken old tok
+IsFirstSoFar old refs now (Some tok) = IsFirstBroken old refs tok.0
+
+-- the first token that is restored, after one more reference was given back
+abbrev pub first_of : Option TokId → Bool → TokId → Option TokId
+first_of (Some first) restored tok = Some first
+first_of None true tok = Some tok
+first_of None false tok = None
+
+-- what giving up everything tells: which token was restored first, or that none had broken its law
+abbrev pub Blocks : CpuSeat → List Ref → Blocked → Type 0
+Blocks old refs Clean = (tok : ℕ) → ¬ IsBroken old tok
+Blocks old refs (Restored tok) = IsFirstBroken old refs tok.0

@@ -1,0 +1,84 @@
+use Rattle.std.specs.Prelude.{◌≡◌, ℕ, ◌==◌, Bool, true, false}
+use Rattle.lwkt_base.specs.declared.names.CpuId.{CpuId}
+use Rattle.lwkt_base.specs.declared.names.TokId.{TokId}
+use Rattle.lwkt_base.specs.declared.names.Mode.{Mode}
+use Rattle.lwkt_base.specs.declared.names.Mode.TheVariants.{Exclusive, Shared}
+use Rattle.lwkt_base.specs.Holding.{Holding, added, removed}
+use Rattle.lwkt_core.specs.declared.events.Event.{Event}
+use Rattle.lwkt_core.specs.declared.events.Event.TheVariants.{Load, Take, Share, Again, Mark, GiveOne, GiveClean, GiveWritten, Read, Write, Send, TakeMsg, DropMsg, Reply, Reap, Abort}
+use Rattle.lwkt_core.specs.declared.seats.WordStep.{WordStep}
+use Rattle.lwkt_core.specs.declared.seats.Operation.{Operation}
+use Rattle.lwkt_core.specs.declared.seats.Operation.TheVariants.{Load as Loads, Store, Exchange, Add, Sub, Or}
+
+-- what a processor holds after an event of its own (token(9))
+abbrev pub after : Event → Holding → Holding
+after (Take cpu tok) h = added h tok.0 Exclusive
+after (Share cpu tok) h = added h tok.0 Shared
+after (Again cpu tok) h = added h tok.0 Shared
+after (GiveOne cpu tok) h = removed h tok.0
+after (GiveClean cpu tok) h = removed h tok.0
+after (GiveWritten cpu tok) h = removed h tok.0
+after (Load cpu tok) h = h
+after (Mark cpu tok) h = h
+after (Read cpu tok cell value) h = h
+after (Write cpu tok cell value) h = h
+after (Send cpu msg to round) h = h
+after (TakeMsg cpu msg round) h = h
+after (DropMsg cpu msg) h = h
+after (Reply cpu msg) h = h
+after (Reap cpu msg) h = h
+after (Abort cpu msg) h = h
+
+-- whether an operation that found this word has an event: a load and an exchange that lost have none (own)
+abbrev pub has_event : Operation → ℕ → Bool
+has_event Loads found = false
+has_event (Store word) found = true
+has_event (Exchange old new) found = found == old
+has_event (Add k) found = true
+has_event (Sub k) found = true
+has_event (Or bits) found = true
+abbrev pub is_counted : WordStep → Bool
+is_counted s = has_event s.operation s.found
+
+-- whether an event is a step on the word of a token
+abbrev pub is_on_word : Event → Bool
+is_on_word (Take cpu tok) = true
+is_on_word (Share cpu tok) = true
+is_on_word (Again cpu tok) = true
+is_on_word (Mark cpu tok) = true
+is_on_word (GiveOne cpu tok) = true
+is_on_word (GiveClean cpu tok) = true
+is_on_word (GiveWritten cpu tok) = true
+is_on_word (Load cpu tok) = true
+is_on_word (Read cpu tok cell value) = false
+is_on_word (Write cpu tok cell value) = false
+is_on_word (Send cpu msg to round) = false
+is_on_word (TakeMsg cpu msg round) = false
+is_on_word (DropMsg cpu msg) = false
+is_on_word (Reply cpu msg) = false
+is_on_word (Reap cpu msg) = false
+is_on_word (Abort cpu msg) = false
+
+-- a step on a token word is this event: the operation that the event stands for (lwkt_token.c's count word; own)
+abbrev pub Shows : WordStep → Event → Type 0
+Shows s (Take cpu tok) = (s.at ≡ tok.0) × ((new : ℕ) × (s.operation ≡ Exchange s.found new))
+Shows s (Share cpu tok) = (s.at ≡ tok.0) × ((new : ℕ) × (s.operation ≡ Exchange s.found new))
+Shows s (Again cpu tok) = (s.at ≡ tok.0) × (s.operation ≡ Add 4)
+Shows s (Mark cpu tok) = (s.at ≡ tok.0) × (s.operation ≡ Or 2)
+Shows s (GiveOne cpu tok) = (s.at ≡ tok.0) × (s.operation ≡ Sub 4)
+Shows s (GiveClean cpu tok) = (s.at ≡ tok.0) × (s.operation ≡ Sub 1)
+Shows s (GiveWritten cpu tok) = (s.at ≡ tok.0) × (s.operation ≡ Add 262143)
+Shows s (Load cpu tok) = ⊥
+Shows s (Read cpu tok cell value) = ⊥
+Shows s (Write cpu tok cell value) = ⊥
+Shows s (Send cpu msg to round) = ⊥
+Shows s (TakeMsg cpu msg round) = ⊥
+Shows s (DropMsg cpu msg) = ⊥
+Shows s (Reply cpu msg) = ⊥
+Shows s (Reap cpu msg) = ⊥
+Shows s (Abort cpu msg) = ⊥
+
+-- the event of taking a first reference
+abbrev pub taking : CpuId → TokId → Mode → Event
+taking cpu tok Exclusive = Take cpu tok
+taking cpu tok Shared = Share cpu tok

@@ -1,0 +1,137 @@
+//! One reference of a list: given back.
+ghost use Rattle.std.specs.Prelude.{◌≡◌, ◌≢◌, ◌⊎◌, ℕ, ◌+◌, ◌<◌, ◌≤◌, true, false, length, take, All, vec_len, vec_capacity};
+ghost use Rattle.lwkt_base.specs.Holding.{holding_of, holds_nothing, is_held, added, removed};
+ghost use Rattle.lwkt_base.specs.declared.holdings.Held.TheVariants.{Holds};
+ghost use Rattle.lwkt_base.specs.declared.names.Mode.TheVariants.{Exclusive};
+ghost use Rattle.lwkt_bank.specs.Seats.{id_of, bank_of, tokens_of, holding};
+ghost use Rattle.lwkt_hold.specs.Fronts.{IsFront};
+ghost use Rattle.lwkt_hold.specs.Runs.{Ran};
+ghost use Rattle.lwkt_hold.specs.Rows.{row, first_row, MeetsItsLaw, IsBroken, SameRow, Mends, GivesBack, IsClean};
+
+use lwkt_bank::banks::Bank;
+use lwkt_bank::seats::CpuSeat;
+use lwkt_bank::tries::Given;
+use lwkt_base::{Mode, Ref, TokId};
+use lwkt_core::Event;
+
+use crate::takes::has;
+use crate::traces::{note, note_cells};
+
+/// Stores the first row of a section again, which has broken its law.
+fn restore(seat: &mut CpuSeat, bank: &Bank, tok: TokId, trace: &mut Vec<Event>)
+    requires of { bank_of seat.old ≡ id_of bank.now }
+    requires there { tok.0 < tokens_of (bank_of seat.old) }
+    requires broken { IsBroken seat.old tok.0 }
+    requires room { vec_len trace.old + 4 ≤ vec_capacity trace.old }
+    ensures ran { Ran (λ h. h ≡ holding seat.old) 4 seat.old seat.new trace.old trace.new }
+    ensures kept { holding seat.new ≡ holding seat.old }
+    ensures restored { row seat.new tok.0 ≡ first_row seat.old tok.0 }
+    ensures first { first_row seat.new tok.0 ≡ first_row seat.old tok.0 }
+    ensures others { (other : ℕ) → other ≢ tok.0 → SameRow seat.old seat.new other }
+{
+    let cpu = seat.cpu();
+    let values = seat.restore(bank, tok);
+    note_cells(trace, cpu, tok, &values);
+}
+
+/// Whether a reference is the last one of an exclusive holding, if those before it are held too.
+fn ends_section(front: &[Ref], last: Ref) -> bool
+    ensures yes { result ≡ true → added (holding_of front.now) last.tok.0 last.mode last.tok.0 ≡ Holds Exclusive 0 }
+    ensures no { result ≡ false → added (holding_of front.now) last.tok.0 last.mode last.tok.0 ≢ Holds Exclusive 0 }
+{
+    match last.mode {
+        Mode::Shared => false,
+        Mode::Exclusive => !has(front, last.tok),
+    }
+}
+
+/// Before a reference is given back: a section that it ends, and that has broken its law, gets its first row again.
+fn mend(
+    seat: &mut CpuSeat,
+    bank: &Bank,
+    front: &[Ref],
+    last: Ref,
+    trace: &mut Vec<Event>,
+) -> bool
+    requires of { bank_of seat.old ≡ id_of bank.now }
+    requires there { last.tok.0 < tokens_of (bank_of seat.old) }
+    requires front { holding seat.old ≡ added (holding_of front.now) last.tok.0 last.mode }
+    requires room { vec_len trace.old + 4 ≤ vec_capacity trace.old }
+    ensures ran { Ran (λ h. h ≡ holding seat.old) 4 seat.old seat.new trace.old trace.new }
+    ensures kept { holding seat.new ≡ holding seat.old }
+    ensures mends { Mends seat.old seat.new last.tok.0 result }
+{
+    if !ends_section(front, last) {
+        return false;
+    }
+    if seat.lawful(bank, last.tok) {
+        return false;
+    }
+    restore(seat, bank, last.tok, trace);
+    true
+}
+
+/// Gives a reference to a token back, and says so in the trace.
+pub(crate) fn give(seat: &mut CpuSeat, bank: &Bank, tok: TokId, trace: &mut Vec<Event>)
+    requires of { bank_of seat.old ≡ id_of bank.now }
+    requires there { tok.0 < tokens_of (bank_of seat.old) }
+    requires held { is_held (holding seat.old tok.0) ≡ true }
+    requires ready { holding seat.old tok.0 ≡ Holds Exclusive 0 → (row seat.old tok.0 ≡ first_row seat.old tok.0) ⊎ MeetsItsLaw seat.old tok.0 }
+    requires room { vec_len trace.old < vec_capacity trace.old }
+    ensures ran { Ran (λ h. h ≡ removed (holding seat.old) tok.0) 1 seat.old seat.new trace.old trace.new }
+    ensures given { holding seat.new ≡ removed (holding seat.old) tok.0 }
+    ensures others { (other : ℕ) → other ≢ tok.0 → SameRow seat.old seat.new other }
+    ensures row { row seat.new tok.0 ≡ row seat.old tok.0 }
+    ensures still { is_held (holding seat.new tok.0) ≡ true → SameRow seat.old seat.new tok.0 }
+{
+    let cpu = seat.cpu();
+    match seat.give(bank, tok) {
+        Given::One => note(trace, Event::GiveOne { cpu, tok }),
+        Given::Clean => note(trace, Event::GiveClean { cpu, tok }),
+        Given::Written => note(trace, Event::GiveWritten { cpu, tok }),
+    }
+}
+
+/// Gives the last reference back, those before it staying held; says whether the section's cells were restored.
+pub(crate) fn give_last(
+    seat: &mut CpuSeat,
+    bank: &Bank,
+    front: &[Ref],
+    last: Ref,
+    trace: &mut Vec<Event>,
+) -> bool
+    requires of { bank_of seat.old ≡ id_of bank.now }
+    requires there { last.tok.0 < tokens_of (bank_of seat.old) }
+    requires front { holding seat.old ≡ added (holding_of front.now) last.tok.0 last.mode }
+    requires room { vec_len trace.old + 5 ≤ vec_capacity trace.old }
+    ensures ran { Ran (λ h. (h ≡ holding seat.old) ⊎ (h ≡ holding_of front.now)) 5 seat.old seat.new trace.old trace.new }
+    ensures given { holding seat.new ≡ holding_of front.now }
+    ensures rows { GivesBack seat.old seat.new last.tok.0 result }
+{
+    let restored = mend(seat, bank, front, last, trace);
+    give(seat, bank, last.tok, trace);
+    restored
+}
+
+/// Gives so many first references of a list back, in reverse order, where no held token was written.
+pub(crate) fn give_clean(
+    seat: &mut CpuSeat,
+    bank: &Bank,
+    refs: &[Ref],
+    count: usize,
+    trace: &mut Vec<Event>,
+)
+    requires of { bank_of seat.old ≡ id_of bank.now }
+    requires there { All (λ r. r.tok.0 < tokens_of (bank_of seat.old)) refs.now }
+    requires within { count ≤ length refs.now }
+    requires front { holding seat.old ≡ holding_of (take count refs.now) }
+    requires clean { IsClean seat.old }
+    requires room { vec_len trace.old + count ≤ vec_capacity trace.old }
+    ensures ran { Ran (IsFront refs.now) count seat.old seat.new trace.old trace.new }
+    ensures empty { holding seat.new ≡ holds_nothing }
+{
+    for given in 0..count {
+        let tok = refs[count - 1 - given].tok;
+        give(seat, bank, tok, trace);
+    }
+}

@@ -1,0 +1,15 @@
+//! All or none: a thread's list of references over one processor's seat.
+#![tactic(auto)]
+
+pub mod answers;
+mod gets;
+mod gives;
+pub mod holds;
+mod reads;
+mod releases;
+mod resumes;
+mod takes;
+mod traces;
+
+pub use answers::{Acquired, Blocked, Missed, Resumed};
+pub use holds::Hold;

@@ -1,0 +1,101 @@
+//! References of a list given up: the last one, or all.
+ghost use Rattle.std.specs.Prelude.{◌≡◌, ◌≢◌, ◌⊎◌, ℕ, ◌+◌, ◌-◌, ◌*◌, ◌<◌, ◌≤◌, ◌↔◌, [], ◌∷◌, ◌++◌, true, false, length, take, All, Some, None, Ok, Err, Option, OnOk, OnErr, vec_len, vec_capacity};
+ghost use Rattle.lwkt_base.specs.Holding.{holding_of, holds_nothing};
+ghost use Rattle.lwkt_base.specs.Refs.{first_mode, IsLastTo};
+ghost use Rattle.lwkt_bank.specs.Seats.{id_of, bank_of, tokens_of, holding};
+ghost use Rattle.lwkt_hold.specs.Fronts.{IsFront};
+ghost use Rattle.lwkt_hold.specs.Runs.{Ran};
+ghost use Rattle.lwkt_hold.specs.Rows.{first_of};
+ghost use Rattle.lwkt_base.specs.declared.names.Ref.{Ref};
+
+use lwkt_bank::banks::Bank;
+use lwkt_base::{Fault, TokId, TokList};
+use lwkt_core::Event;
+
+use crate::answers::Blocked;
+use crate::gives::give_last;
+use crate::holds::Hold;
+
+impl Hold {
+    ghost use Rattle.lwkt_hold.specs.Holds.{seat_of};
+    ghost use Rattle.lwkt_hold.specs.Rows.{GivesBack, GivenUp, Blocks};
+
+    /// Gives the last reference back, which has to be to this token. That the holding is the list's, that the tokens exist
+    /// and that the trace has room for 256 events are the caller's conditions.
+    ///
+    /// Refused with `NotHeld` exactly if the token is not on the list, else with `NotLast` exactly if the last reference is
+    /// to another token; nothing changes then. `Broken` says that the reference ended a section whose row had broken its
+    /// law: the row is the section's first row again, and the reference is given back.
+    pub fn rel(
+        &mut self,
+        bank: &Bank,
+        list: &mut TokList,
+        tok: TokId,
+        trace: &mut Vec<Event>,
+    ) -> Result<(), Fault>
+        requires of { bank_of (seat_of self.old) ≡ id_of bank.now }
+        requires there { All (λ r. r.tok.0 < tokens_of (bank_of (seat_of self.old))) list.old }
+        requires held { holding (seat_of self.old) ≡ holding_of list.old }
+        requires room { vec_len trace.old + 256 ≤ vec_capacity trace.old }
+        ensures ran { Ran (IsFront list.old) 5 (seat_of self.old) (seat_of self.new) trace.old trace.new }
+        ensures held { holding (seat_of self.new) ≡ holding_of list.new }
+        ensures popped { ((result ≡ Ok tt) ⊎ (result ≡ Err Fault.Broken)) → (r : Ref) × ((list.old ≡ list.new ++ r ∷ []) × (r.tok.0 ≡ tok.0)) }
+        ensures ok { OnOk result (GivesBack (seat_of self.old) (seat_of self.new) tok.0 false) }
+        ensures broken { result ≡ Err Fault.Broken → GivesBack (seat_of self.old) (seat_of self.new) tok.0 true }
+        ensures not_held { (result ≡ Err Fault.NotHeld) ↔ (first_mode list.old tok.0 ≡ None) }
+        ensures not_last { (result ≡ Err Fault.NotLast) ↔ ((first_mode list.old tok.0 ≢ None) × ¬ IsLastTo list.old tok.0) }
+        ensures refused { ((result ≡ Err Fault.NotHeld) ⊎ (result ≡ Err Fault.NotLast)) → (self.new ≡ self.old) × (list.new ≡ list.old) × (trace.new ≡ trace.old) }
+        ensures only { OnErr result ((result ≡ Err Fault.NotHeld) ⊎ (result ≡ Err Fault.NotLast) ⊎ (result ≡ Err Fault.Broken)) }
+    {
+        let last = list.pop(tok)?;
+        if give_last(&mut self.seat, bank, list.refs(), last, trace) {
+            return Err(Fault::Broken);
+        }
+        Ok(())
+    }
+
+    /// Gives up the first `held` references of a list, in reverse order. A section that has broken its law gets its first
+    /// row again before it ends; the first such token is named. That these references are held, that the tokens exist and
+    /// that the trace has room for 256 events are the caller's conditions.
+    pub fn block(
+        &mut self,
+        bank: &Bank,
+        list: &TokList,
+        held: usize,
+        trace: &mut Vec<Event>,
+    ) -> Blocked
+        requires of { bank_of (seat_of self.old) ≡ id_of bank.now }
+        requires there { All (λ r. r.tok.0 < tokens_of (bank_of (seat_of self.old))) list.now }
+        requires within { held ≤ length list.now }
+        requires held { holding (seat_of self.old) ≡ holding_of (take held list.now) }
+        requires room { vec_len trace.old + 256 ≤ vec_capacity trace.old }
+        ensures ran { Ran (IsFront list.now) 160 (seat_of self.old) (seat_of self.new) trace.old trace.new }
+        ensures empty { holding (seat_of self.new) ≡ holds_nothing }
+        ensures rows { GivenUp (seat_of self.old) (seat_of self.new) }
+        ensures blocks { Blocks (seat_of self.old) list.now result }
+    {
+        let refs = list.refs();
+        let mut first = None;
+        for given in 0..held {
+            let last = refs[held - 1 - given];
+            let front = &refs[..held - 1 - given];
+            let restored = give_last(&mut self.seat, bank, front, last, trace);
+            first = first_restored(first, restored, last.tok);
+        }
+        match first {
+            Some(tok) => Blocked::Restored(tok),
+            None => Blocked::Clean,
+        }
+    }
+}
+
+// The first token restored, after one more reference was given back.
+fn first_restored(first: Option<TokId>, restored: bool, tok: TokId) -> Option<TokId>
+    ensures { result ≡ first_of first restored tok }
+{
+    match first {
+        Some(first) => Some(first),
+        None if restored => Some(tok),
+        None => None,
+    }
+}

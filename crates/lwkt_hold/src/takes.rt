@@ -1,0 +1,82 @@
+//! One reference of a list: taken.
+ghost use Rattle.std.specs.Prelude.{◌≡◌, ℕ, ◌+◌, ◌<◌, ◌≤◌, length, take, slice_get, IsSomeAnd, OnOk, OnErr, IfErr, vec_len, vec_capacity};
+ghost use Rattle.lwkt_base.specs.Holding.{holding_of};
+ghost use Rattle.lwkt_bank.specs.Seats.{id_of, bank_of, tokens_of, holding};
+ghost use Rattle.lwkt_hold.specs.Fronts.{IsFront, is_alone, names};
+ghost use Rattle.lwkt_hold.specs.Rows.{IsClean};
+ghost use Rattle.lwkt_hold.specs.Runs.{Ran};
+ghost use Rattle.lwkt_hold.specs.Steps.{taking};
+ghost use Rattle.lwkt_hold.specs.Misses.{Misses};
+
+use lwkt_bank::banks::Bank;
+use lwkt_bank::seats::CpuSeat;
+use lwkt_bank::tries::Try;
+use lwkt_base::{CpuId, Mode, Ref, TokId};
+use lwkt_core::Event;
+
+use crate::answers::Missed;
+use crate::traces::note;
+
+/// Whether the list has a reference to the token.
+pub(crate) fn has(refs: &[Ref], tok: TokId) -> bool
+    ensures { result ≡ names refs.now tok.0 }
+{
+    refs.iter().any(|r| r.tok.0 == tok.0)
+}
+
+/// Whether the list has no reference to another token.
+pub(crate) fn has_only(refs: &[Ref], tok: TokId) -> bool
+    ensures { result ≡ is_alone refs.now tok.0 }
+{
+    refs.iter().all(|r| r.tok.0 == tok.0)
+}
+
+/// The event of taking a first reference.
+fn taken(cpu: CpuId, new: Ref) -> Event
+    ensures { result ≡ taking cpu new.tok new.mode }
+{
+    match new.mode {
+        Mode::Exclusive => Event::Take { cpu, tok: new.tok },
+        Mode::Shared => Event::Share { cpu, tok: new.tok },
+    }
+}
+
+/// Takes the reference of this place, those before it being held. Of a miss it says why.
+pub(crate) fn take_one(
+    seat: &mut CpuSeat,
+    bank: &Bank,
+    refs: &[Ref],
+    at: usize,
+    trace: &mut Vec<Event>,
+) -> Result<(), Missed>
+    requires of { bank_of seat.old ≡ id_of bank.now }
+    requires there { IsSomeAnd (slice_get refs.now at) (λ r. r.tok.0 < tokens_of (bank_of seat.old)) }
+    requires short { length refs.now ≤ 32 }
+    requires within { at < length refs.now }
+    requires front { holding seat.old ≡ holding_of (take at refs.now) }
+    requires room { vec_len trace.old < vec_capacity trace.old }
+    ensures ran { Ran (IsFront refs.now) 1 seat.old seat.new trace.old trace.new }
+    ensures taken { OnOk result (holding seat.new ≡ holding_of (take (at + 1) refs.now)) }
+    ensures kept { OnErr result (holding seat.new ≡ holding seat.old) }
+    ensures silent { OnErr result (trace.new ≡ trace.old) }
+    ensures clean { IsClean seat.old → IsClean seat.new }
+    ensures missed { IfErr result (λ why. Misses seat.old seat.new refs.now at why) }
+{
+    let new = refs[at];
+    let cpu = seat.cpu();
+    if has(&refs[..at], new.tok) {
+        seat.again(bank, new.tok);
+        note(trace, Event::Again { cpu, tok: new.tok });
+        return Ok(());
+    }
+    let alone = has_only(refs, new.tok);
+    match seat.try_take(bank, new.tok, new.mode, alone) {
+        Try::Got { .. } => {
+            note(trace, taken(cpu, new));
+            Ok(())
+        }
+        Try::Busy { word } => Err(Missed::Busy { word }),
+        Try::Again => Err(Missed::Again),
+        Try::Worn => Err(Missed::Worn),
+    }
+}
