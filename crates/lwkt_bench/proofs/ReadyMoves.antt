@@ -1,4 +1,4 @@
-use Rattle.std.proofs.Common.{◌≡◌, ℕ, zero, suc, ◌+◌, ◌<◌, List, [], ◌∷◌, length, map, get_or, ap, sym, subst, arith}
+use Rattle.std.proofs.Common.{◌≡◌, ℕ, zero, suc, ◌<◌, List, [], ◌∷◌, length, get_or, ap, sym, subst, arith}
 use Rattle.std.specs.Prelude.{All, Vec, Result, IfOk, slice_index_or}
 use Rattle.std.specs.declared.alloc.Global.{Global}
 use Rattle.std.proofs.lemmas.List.Elements.{All-nil, All-cons, All-get_or}
@@ -11,9 +11,9 @@ use Rattle.lwkt_bank.specs.declared.views.Entry.{Entry}
 use Rattle.lwkt_bank.specs.declared.views.Plan.{Plan}
 use Rattle.lwkt_bank.specs.declared.banks.Bank.{Bank}
 use Rattle.lwkt_bank.specs.declared.seats.CpuSeat.{CpuSeat}
-use Rattle.lwkt_bank.specs.Seats.{BankId, id_of, bank_of, tokens_of, plan_of, holding}
+use Rattle.lwkt_bank.specs.Seats.{id_of, bank_of, holding}
 use Rattle.lwkt_bank.specs.Rule.{plan_at}
-use Rattle.lwkt_bank.specs.Opened.{plan_of_spec, plans_of}
+use Rattle.lwkt_bank.specs.Opened.{plans_of}
 use Rattle.lwkt_bank.specs.Gathered.{IsOpened}
 use Rattle.lwkt_bench.specs.Idle.{IsPlain, IsPlainSpec, IsReady}
 

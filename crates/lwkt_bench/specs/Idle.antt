@@ -1,14 +1,13 @@
 -- What a timed seat keeps from step to step (own).
-use Rattle.std.specs.Prelude.{◌≡◌, ◌≢◌, ℕ, ◌<◌, List, length, All}
+use Rattle.std.specs.Prelude.{◌≡◌, ◌≢◌, ℕ, ◌<◌, List, All}
 use Rattle.lwkt_base.specs.declared.names.Mode.{Mode}
 use Rattle.lwkt_base.specs.declared.holdings.Held.{Held}
 use Rattle.lwkt_base.specs.declared.holdings.Held.TheVariants.{Nothing, Holds}
 use Rattle.lwkt_base.specs.declared.laws.Law.TheVariants.{Sum, Order, Cap}
 use Rattle.lwkt_base.specs.declared.openings.TokSpec.{TokSpec}
 use Rattle.lwkt_bank.specs.declared.views.Plan.{Plan}
-use Rattle.lwkt_bank.specs.declared.banks.Bank.{Bank}
 use Rattle.lwkt_bank.specs.declared.seats.CpuSeat.{CpuSeat}
-use Rattle.lwkt_bank.specs.Seats.{BankId, id_of, bank_of, tokens_of, plan_of, holding}
+use Rattle.lwkt_bank.specs.Seats.{BankId, bank_of, tokens_of, plan_of, holding}
 use Rattle.lwkt_bank.specs.Opened.{plan_of_spec}
 
 -- a seat of this bank that holds this of one token, and nothing of any other
