@@ -94,24 +94,24 @@ module _ (a s s' : CpuSeat) (h : Holding) (tok : TokId) (mode : Mode) (restored 
   given_more = record {
     same = λ other held. elim (cases_Bool (eqb other tok.0)) [
       | inl is ↦
-        let same = eqb-true other tok.0 is in
-        let F : ℕ → Type 0 = λ t. SameRow a s' t × (is_exclusive (holding s' t) ≡ is_exclusive (holding a t)) in
-        subst F (sym same) (still_here (ap (λ t. is_held (holding s' t)) (sym same) ∙ held))
+          let same = eqb-true other tok.0 is in
+          let F : ℕ → Type 0 = λ t. SameRow a s' t × (is_exclusive (holding s' t) ≡ is_exclusive (holding a t)) in
+          subst F (sym same) (still_here (ap (λ t. is_held (holding s' t)) (sym same) ∙ held))
       | inr is ↦
-        let e = elsewhere other is in
-        let k = up.same other (ap is_held (sym e) ∙ held) in
-        let m = back.others other (eqb-false other tok.0 is) in
-        (record { row_is = m.row_is ∙ k.0.row_is; first_is = m.first_is ∙ k.0.first_is }, ap is_exclusive e ∙ k.1)
+          let e = elsewhere other is in
+          let k = up.same other (ap is_held (sym e) ∙ held) in
+          let m = back.others other (eqb-false other tok.0 is) in
+          (record { row_is = m.row_is ∙ k.0.row_is; first_is = m.first_is ∙ k.0.first_is }, ap is_exclusive e ∙ k.1)
     ];
     given = λ other free. elim (cases_Bool (eqb other tok.0)) [
       | inl is ↦
-        let same = eqb-true other tok.0 is in
-        let F : ℕ → Type 0 = λ t. (IsBroken a t → row s' t ≡ first_row a t) × (¬ IsBroken a t → row s' t ≡ row a t) in
-        subst F (sym same) (given_here (ap (λ t. is_held (holding s' t)) (sym same) ∙ free))
+          let same = eqb-true other tok.0 is in
+          let F : ℕ → Type 0 = λ t. (IsBroken a t → row s' t ≡ first_row a t) × (¬ IsBroken a t → row s' t ≡ row a t) in
+          subst F (sym same) (given_here (ap (λ t. is_held (holding s' t)) (sym same) ∙ free))
       | inr is ↦
-        let k = up.given other (ap is_held (sym (elsewhere other is)) ∙ free) in
-        let m = back.others other (eqb-false other tok.0 is) in
-        (λ broken. m.row_is ∙ k.0 broken, λ fine. m.row_is ∙ k.1 fine)
+          let k = up.given other (ap is_held (sym (elsewhere other is)) ∙ free) in
+          let m = back.others other (eqb-false other tok.0 is) in
+          (λ broken. m.row_is ∙ k.0 broken, λ fine. m.row_is ∙ k.1 fine)
     ];
   }
 
@@ -120,9 +120,9 @@ module _ (a s s' : CpuSeat) (h : Holding) (tok : TokId) (mode : Mode) (restored 
     none_yet : restored ≡ false → ((other : ℕ) → is_held (holding s other) ≡ false → ¬ IsBroken a other) → (other : ℕ) → is_held (holding s' other) ≡ false → ¬ IsBroken a other
     none_yet is before other free broken = elim (cases_Bool (eqb other tok.0)) [
       | inl one ↦
-        let same = eqb-true other tok.0 one in
-        let F : ℕ → Type 0 = λ t. IsBroken a t in
-        (back.no is).1 (ap (λ t. is_held (holding s' t)) (sym same) ∙ free) (on_here (subst F same broken))
+          let same = eqb-true other tok.0 one in
+          let F : ℕ → Type 0 = λ t. IsBroken a t in
+          (back.no is).1 (ap (λ t. is_held (holding s' t)) (sym same) ∙ free) (on_here (subst F same broken))
       | inr two ↦ before other (ap is_held (sym (elsewhere other two)) ∙ free) broken
     ]
 

@@ -197,12 +197,12 @@ of_not false = (λ is. refl, λ is. cc)
 same_rows : (s m : CpuSeat) (tok other : ℕ) → Knowing s m tok (entry s tok) → SameRow s m other
 same_rows s m tok other k = elim (cases_Bool (eqb other tok)) [
   | inl is ↦
-    let same = eqb-true other tok is in
-    let F : ℕ → Type 0 = λ t. SameRow s m t in
-    subst F (sym same) (record { row_is = ap (λ (e : Entry). e.row) k.changes.here; first_is = ap (λ (e : Entry). e.first) k.changes.here })
+      let same = eqb-true other tok is in
+      let F : ℕ → Type 0 = λ t. SameRow s m t in
+      subst F (sym same) (record { row_is = ap (λ (e : Entry). e.row) k.changes.here; first_is = ap (λ (e : Entry). e.first) k.changes.here })
   | inr is ↦
-    let e = k.changes.else_ other (eqb-false other tok is) in
-    record { row_is = ap (λ (e : Entry). e.row) e; first_is = ap (λ (e : Entry). e.first) e }
+      let e = k.changes.else_ other (eqb-false other tok is) in
+      record { row_is = ap (λ (e : Entry). e.row) e; first_is = ap (λ (e : Entry). e.first) e }
 ]
 
 -- nothing is restored

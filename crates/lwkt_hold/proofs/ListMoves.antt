@@ -28,13 +28,13 @@ pub clean_changed : (s s' : CpuSeat) (tok : ℕ) (e : Entry) (made : List WordSt
 clean_changed s s' tok e made c here clean = record {
   each = λ other held. elim (cases_Bool (eqb other tok)) [
     | inl is ↦
-      let same = eqb-true other tok is in
-      let F : ℕ → Type 0 = λ t. row s' t ≡ first_row s' t in
-      let held' : is_held e.held ≡ true = sym (ap (λ (x : Entry). is_held x.held) c.here) ∙ ap (λ t. is_held (holding s' t)) (sym same) ∙ held in
-      subst F (sym same) (ap (λ (x : Entry). x.row) c.here ∙ here held' ∙ sym (ap (λ (x : Entry). x.first) c.here))
+        let same = eqb-true other tok is in
+        let F : ℕ → Type 0 = λ t. row s' t ≡ first_row s' t in
+        let held' : is_held e.held ≡ true = sym (ap (λ (x : Entry). is_held x.held) c.here) ∙ ap (λ t. is_held (holding s' t)) (sym same) ∙ held in
+        subst F (sym same) (ap (λ (x : Entry). x.row) c.here ∙ here held' ∙ sym (ap (λ (x : Entry). x.first) c.here))
     | inr is ↦
-      let kept = c.else_ other (eqb-false other tok is) in
-      ap (λ (x : Entry). x.row) kept ∙ clean.each other (sym (ap (λ (x : Entry). is_held x.held) kept) ∙ held) ∙ sym (ap (λ (x : Entry). x.first) kept)
+        let kept = c.else_ other (eqb-false other tok is) in
+        ap (λ (x : Entry). x.row) kept ∙ clean.each other (sym (ap (λ (x : Entry). is_held x.held) kept) ∙ held) ∙ sym (ap (λ (x : Entry). x.first) kept)
   ];
 }
 
@@ -51,14 +51,14 @@ pub clean_given : (s s' : CpuSeat) (tok : ℕ) → is_held (holding s tok) ≡ t
 clean_given s s' tok was given others still clean = record {
   each = λ other held. elim (cases_Bool (eqb other tok)) [
     | inl is ↦
-      let same = eqb-true other tok is in
-      let F : ℕ → Type 0 = λ t. row s' t ≡ first_row s' t in
-      let k = still (ap (λ t. is_held (holding s' t)) (sym same) ∙ held) in
-      subst F (sym same) (k.row_is ∙ clean.each tok was ∙ sym k.first_is)
+        let same = eqb-true other tok is in
+        let F : ℕ → Type 0 = λ t. row s' t ≡ first_row s' t in
+        let k = still (ap (λ t. is_held (holding s' t)) (sym same) ∙ held) in
+        subst F (sym same) (k.row_is ∙ clean.each tok was ∙ sym k.first_is)
     | inr is ↦
-      let k = others other (eqb-false other tok is) in
-      let before : is_held (holding s other) ≡ true = sym (ap (λ h. is_held (h other)) given ∙ ap (λ b. is_held (cond b (one_less (holding s other)) (holding s other))) is) ∙ held in
-      k.row_is ∙ clean.each other before ∙ sym k.first_is
+        let k = others other (eqb-false other tok is) in
+        let before : is_held (holding s other) ≡ true = sym (ap (λ h. is_held (h other)) given ∙ ap (λ b. is_held (cond b (one_less (holding s other)) (holding s other))) is) ∙ held in
+        k.row_is ∙ clean.each other before ∙ sym k.first_is
   ];
 }
 

@@ -17,6 +17,7 @@ use Rattle.lwkt_bank.specs.Seats.{bank_of, plan_of, entry, holding}
 -- the row of a token that a seat holds, and the first row of its section
 abbrev pub row : CpuSeat → ℕ → List ℕ
 row s tok = (entry s tok).row
+
 abbrev pub first_row : CpuSeat → ℕ → List ℕ
 first_row s tok = (entry s tok).first
 

@@ -37,6 +37,7 @@ has_event (Exchange old new) found = found == old
 has_event (Add k) found = true
 has_event (Sub k) found = true
 has_event (Or bits) found = true
+
 abbrev pub is_counted : WordStep → Bool
 is_counted s = has_event s.operation s.found
 

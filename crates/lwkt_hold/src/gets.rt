@@ -11,15 +11,14 @@ ghost use Rattle.lwkt_hold.specs.Misses.{fault_of, exclusive};
 ghost use Rattle.lwkt_base.specs.declared.names.Ref.{Ref};
 ghost use Rattle.std.specs.Prelude.{List};
 
-use lwkt_bank::banks::Bank;
-use lwkt_bank::seats::CpuSeat;
-use lwkt_base::{Fault, Mode, Ref, TokId, TokList};
-use lwkt_core::Event;
-
 use crate::answers::{Acquired, Missed};
 use crate::holds::Hold;
 use crate::takes::take_one;
 use crate::traces::note;
+use lwkt_bank::banks::Bank;
+use lwkt_bank::seats::CpuSeat;
+use lwkt_base::{Fault, Mode, Ref, TokId, TokList};
+use lwkt_core::Event;
 
 /// Puts the mark of an exclusive request on its token; a shared one puts none.
 fn mark(seat: &mut CpuSeat, bank: &Bank, new: Ref, trace: &mut Vec<Event>)

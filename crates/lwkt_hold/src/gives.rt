@@ -8,14 +8,13 @@ ghost use Rattle.lwkt_hold.specs.Fronts.{IsFront};
 ghost use Rattle.lwkt_hold.specs.Runs.{Ran};
 ghost use Rattle.lwkt_hold.specs.Rows.{row, first_row, MeetsItsLaw, IsBroken, SameRow, Mends, GivesBack, IsClean};
 
+use crate::takes::has;
+use crate::traces::{note, note_cells};
 use lwkt_bank::banks::Bank;
 use lwkt_bank::seats::CpuSeat;
 use lwkt_bank::tries::Given;
 use lwkt_base::{Mode, Ref, TokId};
 use lwkt_core::Event;
-
-use crate::takes::has;
-use crate::traces::{note, note_cells};
 
 /// Stores the first row of a section again, which has broken its law.
 fn restore(seat: &mut CpuSeat, bank: &Bank, tok: TokId, trace: &mut Vec<Event>)
@@ -46,13 +45,7 @@ fn ends_section(front: &[Ref], last: Ref) -> bool
 }
 
 /// Before a reference is given back: a section that it ends, and that has broken its law, gets its first row again.
-fn mend(
-    seat: &mut CpuSeat,
-    bank: &Bank,
-    front: &[Ref],
-    last: Ref,
-    trace: &mut Vec<Event>,
-) -> bool
+fn mend(seat: &mut CpuSeat, bank: &Bank, front: &[Ref], last: Ref, trace: &mut Vec<Event>) -> bool
     requires of { bank_of seat.old ≡ id_of bank.now }
     requires there { last.tok.0 < tokens_of (bank_of seat.old) }
     requires front { holding seat.old ≡ added (holding_of front.now) last.tok.0 last.mode }

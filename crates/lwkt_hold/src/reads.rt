@@ -7,12 +7,11 @@ ghost use Rattle.lwkt_bank.specs.Seats.{id_of, bank_of, tokens_of, plan_of, hold
 ghost use Rattle.lwkt_hold.specs.Fronts.{IsFront};
 ghost use Rattle.lwkt_hold.specs.Runs.{Ran};
 
+use crate::holds::Hold;
+use crate::traces::note;
 use lwkt_bank::banks::Bank;
 use lwkt_base::{Fault, Mode, TokId, TokList};
 use lwkt_core::Event;
-
-use crate::holds::Hold;
-use crate::traces::note;
 
 impl Hold {
     ghost use Rattle.lwkt_hold.specs.Holds.{seat_of};

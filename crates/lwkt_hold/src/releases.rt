@@ -8,13 +8,12 @@ ghost use Rattle.lwkt_hold.specs.Runs.{Ran};
 ghost use Rattle.lwkt_hold.specs.Rows.{first_of};
 ghost use Rattle.lwkt_base.specs.declared.names.Ref.{Ref};
 
-use lwkt_bank::banks::Bank;
-use lwkt_base::{Fault, TokId, TokList};
-use lwkt_core::Event;
-
 use crate::answers::Blocked;
 use crate::gives::give_last;
 use crate::holds::Hold;
+use lwkt_bank::banks::Bank;
+use lwkt_base::{Fault, TokId, TokList};
+use lwkt_core::Event;
 
 impl Hold {
     ghost use Rattle.lwkt_hold.specs.Holds.{seat_of};

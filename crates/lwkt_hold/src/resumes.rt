@@ -5,14 +5,13 @@ ghost use Rattle.lwkt_bank.specs.Seats.{id_of, bank_of, tokens_of, holding};
 ghost use Rattle.lwkt_hold.specs.Fronts.{IsFront};
 ghost use Rattle.lwkt_hold.specs.Runs.{Ran};
 
-use lwkt_bank::banks::Bank;
-use lwkt_base::TokList;
-use lwkt_core::Event;
-
 use crate::answers::Resumed;
 use crate::gives::give_clean;
 use crate::holds::Hold;
 use crate::takes::take_one;
+use lwkt_bank::banks::Bank;
+use lwkt_base::TokList;
+use lwkt_core::Event;
 
 impl Hold {
     ghost use Rattle.lwkt_hold.specs.Holds.{seat_of, Resumes};

@@ -8,14 +8,13 @@ ghost use Rattle.lwkt_hold.specs.Runs.{Ran};
 ghost use Rattle.lwkt_hold.specs.Steps.{taking};
 ghost use Rattle.lwkt_hold.specs.Misses.{Misses};
 
+use crate::answers::Missed;
+use crate::traces::note;
 use lwkt_bank::banks::Bank;
 use lwkt_bank::seats::CpuSeat;
 use lwkt_bank::tries::Try;
 use lwkt_base::{CpuId, Mode, Ref, TokId};
 use lwkt_core::Event;
-
-use crate::answers::Missed;
-use crate::traces::note;
 
 /// Whether the list has a reference to the token.
 pub(crate) fn has(refs: &[Ref], tok: TokId) -> bool

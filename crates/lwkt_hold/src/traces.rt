@@ -35,12 +35,7 @@ fn note_cell(trace: &mut Vec<Event>, cpu: CpuId, tok: TokId, cell: u8, value: Op
 }
 
 /// The stores of these values in the cells of a token, rising.
-pub(crate) fn note_cells(
-    trace: &mut Vec<Event>,
-    cpu: CpuId,
-    tok: TokId,
-    values: &[Option<u64>; 4],
-)
+pub(crate) fn note_cells(trace: &mut Vec<Event>, cpu: CpuId, tok: TokId, values: &[Option<u64>; 4])
     requires four { length values.now ≡ 4 }
     requires room { vec_len trace.old + 4 ≤ vec_capacity trace.old }
     ensures items { trace.new.items ≡ trace.old.items ++ writes cpu tok 0 values.now }

@@ -40,7 +40,7 @@ loop-given-preserved c =
     let P : Holding → Type 0 = λ h. (h ≡ holding l.self.seat) ⊎ (h ≡ holding_of (take place refs)) in
     let next : place ≡ held - (l.given + 1) = omega arith in
     let all = ran_then (IsFront refs) (5 * l.given) 5 a l.self.seat g.new.seat c.args.trace.now l.trace g.new.trace l.invariant.ran
-        (ran_weaker P (IsFront refs) 5 5 l.self.seat g.new.seat l.trace g.new.trace (λ h p. elim p [ inl is ↦ (held - l.given, is ∙ l.invariant.front) | inr is ↦ (place, is) ]) (omega arith) g.ensures.ran) in
+    (ran_weaker P (IsFront refs) 5 5 l.self.seat g.new.seat l.trace g.new.trace (λ h p. elim p [ inl is ↦ (held - l.given, is ∙ l.invariant.front) | inr is ↦ (place, is) ]) (omega arith) g.ensures.ran) in
     let F : Option TokId → Type 0 = λ o. IsFirstSoFar a refs g.new.seat o in
     record {
       ran = ran_weaker (IsFront refs) (IsFront refs) (5 * l.given + 5) (5 * (l.given + 1)) a g.new.seat c.args.trace.now g.new.trace (λ h p. p) (omega arith) all;

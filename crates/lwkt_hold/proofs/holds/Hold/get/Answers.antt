@@ -44,14 +44,14 @@ returns-in-Err-clause-must_switch c =
     let P : Holding → Type 0 = λ h. h ≡ holding p.new.seat in
     let between = misses_between P P 0 1 a a p.new.seat c.mark.new.seat t t p.new.trace c.mark.new.trace p.new.list (length c.args.list.now) why (ran_none P a t) m.2 c.mark.ensures.ran in
     λ other is.
-        let F : Missed → Type 0 = λ x. Misses a c.mark.new.seat p.new.list (length c.args.list.now) x in
-        (c.in_ok-push_and_take.ensures.pushed.0, c.mark.ensures.kept ∙ m.0, subst F (same_switch why other is) between)
+    let F : Missed → Type 0 = λ x. Misses a c.mark.new.seat p.new.list (length c.args.list.now) x in
+    (c.in_ok-push_and_take.ensures.pushed.0, c.mark.ensures.kept ∙ m.0, subst F (same_switch why other is) between)
 
 pub returns-in-Err-clause-marked : goal.returns-in-Err-clause-marked
 returns-in-Err-clause-marked c =
     let m = c.in_ok-push_and_take.ensures.missed c.in-Err.why (lost_as c.in_ok-push_and_take.field-0 c.in-Err.why c.in-Err.is) in
     λ other is mode.
-        c.mark.ensures.exclusive mode ∙ ap (λ (t : Vec Event Global). t.items ++ Mark c.push_and_take.new.seat.cpu c.args.new.tok ∷ []) m.1 ∙ ap (λ cpu. c.args.trace.now.items ++ Mark cpu c.args.new.tok ∷ []) c.in_ok-push_and_take.ensures.ran.cpu
+    c.mark.ensures.exclusive mode ∙ ap (λ (t : Vec Event Global). t.items ++ Mark c.push_and_take.new.seat.cpu c.args.new.tok ∷ []) m.1 ∙ ap (λ cpu. c.args.trace.now.items ++ Mark cpu c.args.new.tok ∷ []) c.in_ok-push_and_take.ensures.ran.cpu
 
 pub returns-in-Err-clause-unmarked : goal.returns-in-Err-clause-unmarked
 returns-in-Err-clause-unmarked c =

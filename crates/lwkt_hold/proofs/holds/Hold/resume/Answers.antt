@@ -34,8 +34,7 @@ returns-in-Err-clause-resumes c =
     let s = c.args.self.now.seat in
     let t = c.args.trace.now in
     let P : Holding → Type 0 = IsFront c.refs-refs.result.now in
-    let F : List Ref → Type 0 = λ refs. Misses s c.give_clean.new.seat refs l.at c.in-Err.why in
-    (
+    let F : List Ref → Type 0 = λ refs. Misses s c.give_clean.new.seat refs l.at c.in-Err.why in (
       c.give_clean.ensures.empty,
       subst F c.refs-refs.ensures.value (misses_between P P l.at l.at s l.self.seat c.take_one.new.seat c.give_clean.new.seat t l.trace c.take_one.new.trace c.give_clean.new.trace c.refs-refs.result.now l.at c.in-Err.why l.invariant.ran c.in-Err.ensures.missed c.give_clean.ensures.ran),
     )
