@@ -4,6 +4,8 @@
 #[cfg(test)]
 mod base_rows;
 #[cfg(test)]
+mod book_rows;
+#[cfg(test)]
 mod core_rows;
 #[cfg(test)]
 mod fixtures;
