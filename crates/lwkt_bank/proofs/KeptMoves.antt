@@ -25,9 +25,9 @@ use Rattle.lwkt_bank.specs.declared.seats.CpuSeat.{CpuSeat}
 use Rattle.lwkt_bank.specs.declared.kept.Kept.{Kept}
 use Rattle.lwkt_bank.specs.Views.{at, amount, joined, after_back}
 use Rattle.lwkt_bank.specs.Notes.{note_at, clerk_number}
-use Rattle.lwkt_bank.specs.Seats.{BankId, id_of, entry}
+use Rattle.lwkt_bank.specs.Seats.{BankId, id_of_desk, entry}
 use Rattle.lwkt_bank.specs.Gathered.{written_by, added_by, IsClosedToken, IsClosed}
-use Rattle.lwkt_bank.specs.declared.banks.Bank.{Bank}
+use Rattle.lwkt_bank.specs.declared.clerks.Desk.{Desk}
 use Rattle.lwkt_bank.specs.declared.rules.Key.{Key}
 use Rattle.lwkt_bank.specs.Closing.{IsReady, kept_of, kept_by, Gathering, IsRead, AreRead, Left}
 use Rattle.lwkt_bank.specs.declared.closed.Closed.{Closed}
@@ -255,26 +255,26 @@ desk_told (Clerk made back) e = let none : back ≡ 0 = omega arith in (made, ap
 desk_told (Of cpu) e = absurd (omega arith)
 desk_told Spent e = absurd (omega arith)
 
--- the same over a bank, whose table was told what the bank keeps
-module _ (bank : Bank) (id : ℕ) (v : View) (words : List ℕ) (seats : List CpuSeat) (kept : List Kept)
-    (left : Left bank.table.shared.key.plans.items bank.table.shared.key.cpus id v words)
-    (gathered : Gathering (record { table = bank.table.shared.table_id; plans = bank.table.shared.key.plans.items }) v seats [] kept (length seats)) (all : length seats ≡ bank.key.cpus) where
-  left_here : Left bank.key.plans.items bank.key.cpus id v words
-  left_here = let F : Key → Type 0 = λ k. Left k.plans.items k.cpus id v words in subst F bank.told left
+-- the same over a desk, whose table was told what the bank keeps
+module _ (desk : Desk) (id : ℕ) (v : View) (words : List ℕ) (seats : List CpuSeat) (kept : List Kept)
+    (left : Left desk.table.shared.key.plans.items desk.table.shared.key.cpus id v words)
+    (gathered : Gathering (record { table = desk.table.shared.table_id; plans = desk.table.shared.key.plans.items }) v seats [] kept (length seats)) (all : length seats ≡ desk.key.cpus) where
+  left_here : Left desk.key.plans.items desk.key.cpus id v words
+  left_here = let F : Key → Type 0 = λ k. Left k.plans.items k.cpus id v words in subst F desk.told left
 
-  gathered_here : Gathering (id_of bank) v seats [] kept (length seats)
-  gathered_here = let F : Key → Type 0 = λ k. Gathering (record { table = bank.table.shared.table_id; plans = k.plans.items }) v seats [] kept (length seats) in subst F bank.told gathered
+  gathered_here : Gathering (id_of_desk desk) v seats [] kept (length seats)
+  gathered_here = let F : Key → Type 0 = λ k. Gathering (record { table = desk.table.shared.table_id; plans = k.plans.items }) v seats [] kept (length seats) in subst F desk.told gathered
 
-  pub bank_fits : ((k : ℕ) → slice_index words k < 18446744073709551616) → (tok : ℕ) → tok < length bank.key.plans.items → (plan_at bank.key.plans.items tok).law ≡ Tally → (a : ℕ) → kept_by kept tok a < 18446744073709551616
-  bank_fits fits tok there tally a = kept_fits (id_of bank) bank.key.cpus id v words seats kept left_here gathered_here all fits tok there tally a
+  pub bank_fits : ((k : ℕ) → slice_index words k < 18446744073709551616) → (tok : ℕ) → tok < length desk.key.plans.items → (plan_at desk.key.plans.items tok).law ≡ Tally → (a : ℕ) → kept_by kept tok a < 18446744073709551616
+  bank_fits fits tok there tally a = kept_fits (id_of_desk desk) desk.key.cpus id v words seats kept left_here gathered_here all fits tok there tally a
 
-  pub bank_wide : length words ≡ 16 * length bank.key.plans.items + 1
-  bank_wide = wide (id_of bank) bank.key.cpus id v words seats kept left_here gathered_here all
+  pub bank_wide : length words ≡ 16 * length desk.key.plans.items + 1
+  bank_wide = wide (id_of_desk desk) desk.key.cpus id v words seats kept left_here gathered_here all
 
-  pub bank_closed : (closed : Closed) → AreRead bank.key.plans.items bank.key.cpus words kept closed (length bank.key.plans.items) → IsClosed bank seats closed
+  pub bank_closed : (closed : Closed) → AreRead desk.key.plans.items desk.key.cpus words kept closed (length desk.key.plans.items) → IsClosed (id_of_desk desk) desk.key.cpus seats closed
   bank_closed closed read = record {
     rows = read.rows;
     gens = read.gens;
     tallies = read.tallies;
-    each = λ tok there. closed_tokens (id_of bank) bank.key.cpus id v words seats kept left_here gathered_here all closed read tok there;
+    each = λ tok there. closed_tokens (id_of_desk desk) desk.key.cpus id v words seats kept left_here gathered_here all closed read tok there;
   }

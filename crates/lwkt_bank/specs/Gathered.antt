@@ -1,6 +1,7 @@
 use Rattle.std.specs.Prelude.{◌≡◌, ◌≢◌, ℕ, ◌+◌, ◌<◌, List, [], ◌∷◌, length, slice_index, slice_index_or, sum}
 use Rattle.lwkt_core.specs.declared.seats.SeatKind.TheVariants.{Clerk}
 use Rattle.lwkt_bank.specs.declared.banks.Bank.{Bank}
+use Rattle.lwkt_bank.specs.declared.clerks.Desk.{Desk}
 use Rattle.lwkt_bank.specs.declared.seats.CpuSeat.{CpuSeat}
 use Rattle.lwkt_base.specs.declared.laws.Law.TheVariants.{Tally}
 use Rattle.lwkt_base.specs.Law.{MeetsLaw}
@@ -13,9 +14,9 @@ use Rattle.lwkt_bank.specs.Opened.{plans_of}
 use Rattle.lwkt_base.specs.declared.openings.TokSpec.{TokSpec}
 
 -- the bank's clerk has made so many seats, and knows what was declared
-pub record HasMade (bank : Bank) (made : ℕ) : Type 0 where
-  pub kind : bank.clerk.me.0.kind ≡ Clerk made 0
-  pub plans : bank.clerk.me.0.plans ≡ bank.key.plans.items
+pub record HasMade (desk : Desk) (made : ℕ) : Type 0 where
+  pub kind : desk.clerk.me.0.kind ≡ Clerk made 0
+  pub plans : desk.clerk.me.0.plans ≡ desk.key.plans.items
 
 -- a seat that knows nothing of any token and has made no step
 pub record IsNew (s : CpuSeat) : Type 0 where
@@ -51,9 +52,9 @@ pub record IsClosedToken (plan : Plan) (cpus : ℕ) (seats : List CpuSeat) (tok 
   pub each : plan.law ≡ Tally → (cpu : ℕ) → cpu < cpus → slice_index tallies cpu ≡ added_by seats tok cpu
   pub all_added : plan.law ≡ Tally → row ≡ (plan.param + sum tallies) ∷ []
 
--- the closing values of a bank that took back these seats
-pub record IsClosed (bank : Bank) (seats : List CpuSeat) (closed : Closed) : Type 0 where
-  pub rows : length closed.rows.items ≡ tokens_of (id_of bank)
-  pub gens : length closed.gens.items ≡ tokens_of (id_of bank)
-  pub tallies : length closed.tallies.items ≡ tokens_of (id_of bank)
-  pub each : (tok : ℕ) → tok < tokens_of (id_of bank) → IsClosedToken (plan_of (id_of bank) tok) (cpus_of bank) seats tok (slice_index_or closed.rows.items tok []) (slice_index closed.gens.items tok) (slice_index_or closed.tallies.items tok [])
+-- the closing values of a bank of so many processors that took back these seats
+pub record IsClosed (bank : BankId) (cpus : ℕ) (seats : List CpuSeat) (closed : Closed) : Type 0 where
+  pub rows : length closed.rows.items ≡ tokens_of bank
+  pub gens : length closed.gens.items ≡ tokens_of bank
+  pub tallies : length closed.tallies.items ≡ tokens_of bank
+  pub each : (tok : ℕ) → tok < tokens_of bank → IsClosedToken (plan_of bank tok) cpus seats tok (slice_index_or closed.rows.items tok []) (slice_index closed.gens.items tok) (slice_index_or closed.tallies.items tok [])

@@ -18,6 +18,7 @@ use Rattle.lwkt_bank.specs.declared.views.KnownCell.{KnownCell}
 use Rattle.lwkt_bank.specs.declared.views.Entry.{Entry}
 use Rattle.lwkt_bank.specs.declared.views.View.{View}
 use Rattle.lwkt_bank.specs.declared.banks.Bank.{Bank}
+use Rattle.lwkt_bank.specs.declared.clerks.Desk.{Desk}
 use Rattle.lwkt_bank.specs.declared.seats.CpuSeat.{CpuSeat}
 use Rattle.lwkt_bank.specs.declared.tries.Try.{Try}
 use Rattle.lwkt_bank.specs.declared.tries.Try.TheVariants.{Got, Busy, Again, Worn}
@@ -34,6 +35,9 @@ pub record BankId : Type 0 where
 
 abbrev pub id_of : Bank → BankId
 id_of bank = record { table = bank.table.shared.table_id; plans = bank.key.plans.items }
+
+abbrev pub id_of_desk : Desk → BankId
+id_of_desk desk = record { table = desk.table.shared.table_id; plans = desk.key.plans.items }
 
 abbrev pub bank_of : CpuSeat → BankId
 bank_of s = record { table = s.seat.table_id; plans = s.seat.me.0.plans }

@@ -7,14 +7,15 @@ ghost use Rattle.lwkt_bank.specs.Notes.{clerk_number};
 
 use crate::rules::{BankRule, Key};
 use crate::views::View;
-use atomic_table::{Seat, Table};
+use atomic_table::{Perch, Table};
 use std::alloc::Global;
 
 /// The token words and cells of a machine.
 #[derive(Drop)]
 pub struct Bank {
     pub(crate) table: Table<(), View, Key, BankRule, Global>,
-    pub(crate) clerk: Seat<(), View>,
+    // Where the clerk's seat rests from the opening to the close, so that threads may share the bank.
+    pub(crate) clerk: Perch<(), View>,
     pub(crate) key: Key,
     ghost told: { table.shared.key ≡ key } by { Coded-set key-code table.shared.key key },
     ghost wide: { table.shared.table_id.words ≡ 16 * length key.plans.items + 1 },
@@ -23,8 +24,7 @@ pub struct Bank {
     ghost short: { (tok : ℕ) → (plan_at key.plans.items tok).cells ≤ 4 },
     ghost single: { (tok : ℕ) → (plan_at key.plans.items tok).law ≡ Tally → (plan_at key.plans.items tok).cells ≡ 1 },
     ghost seated: { clerk.table_id ≡ table.shared.table_id },
-    ghost quiet: { length clerk.me.1 ≡ 0 },
-    ghost counts: { clerk_number clerk.me.0.kind ≡ 1 },
-    ghost informed: { length clerk.me.0.plans ≡ length key.plans.items },
-    ghost clean: { (tok : ℕ) → ((at clerk.me.0.tokens tok).written ≡ 0) × ((cpu : ℕ) → amount cpu (at clerk.me.0.tokens tok).added ≡ 0) },
+    ghost counts: { clerk_number clerk.view.kind ≡ 1 },
+    ghost informed: { length clerk.view.plans ≡ length key.plans.items },
+    ghost clean: { (tok : ℕ) → ((at clerk.view.tokens tok).written ≡ 0) × ((cpu : ℕ) → amount cpu (at clerk.view.tokens tok).added ≡ 0) },
 }

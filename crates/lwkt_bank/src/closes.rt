@@ -7,10 +7,11 @@ ghost use Rattle.lwkt_base.specs.declared.laws.Law.TheVariants.{Tally};
 ghost use Rattle.lwkt_bank.specs.Rule.{Bench, Rule, cell_word, plan_at};
 ghost use Rattle.lwkt_bank.specs.Notes.{note_at};
 ghost use Rattle.lwkt_bank.specs.Closing.{kept_of, kept_by, IsRead, AreRead, Left, IsReady};
-ghost use Rattle.lwkt_bank.specs.Seats.{id_of, cpus_of};
+ghost use Rattle.lwkt_bank.specs.Seats.{id_of, id_of_desk, cpus_of};
 ghost use Rattle.lwkt_bank.specs.Gathered.{IsClosed};
 
 use crate::banks::Bank;
+use crate::clerks::Desk;
 use crate::closed::Closed;
 use crate::gathers::gather;
 use crate::kept::Kept;
@@ -182,15 +183,15 @@ fn values(
     Ok(closed)
 }
 
-impl Bank {
+impl Desk {
     fn close_seats(self, alloc: Global, seats: Vec<CpuSeat>) -> Result<Closed, AllocError>
-        requires ready { All (IsReady (id_of self)) seats.items }
-        requires all { length seats.items ≡ cpus_of self }
+        requires ready { All (IsReady (id_of_desk self)) seats.items }
+        requires all { length seats.items ≡ self.key.cpus }
         requires desk { (made : ℕ) × (self.clerk.me.0.kind ≡ SeatKind.Clerk made 0) }
-        ensures { IfOk result (λ closed. IsClosed self seats.items closed) }
+        ensures { IfOk result (λ closed. IsClosed (id_of_desk self) self.key.cpus seats.items closed) }
     {
         let mut kept = Vec::with_capacity(alloc, 8)?;
-        let Bank {
+        let Desk {
             table,
             mut clerk,
             key,
@@ -205,16 +206,22 @@ impl Bank {
             key.cpus,
         )
     }
+}
 
+impl Bank {
     /// Closes the bank, with all its seats, in any order. That there are as many as processors, all of this bank, and that
     /// each holds nothing is the caller's condition. Refused with `Memory` only if an allocation is; the bank is then given
     /// up.
     pub fn close(self, alloc: Global, seats: Vec<CpuSeat>) -> Result<Closed, Fault>
         requires ready { All (IsReady (id_of self)) seats.items }
         requires all { length seats.items ≡ cpus_of self }
-        ensures ok { IfOk result (λ closed. IsClosed self seats.items closed) }
+        ensures ok { IfOk result (λ closed. IsClosed (id_of self) (cpus_of self) seats.items closed) }
         ensures only { IfErr result (λ f. f ≡ Fault.Memory) }
     {
-        self.close_seats(alloc, seats).map_err(|_| Fault::Memory)
+        // The clerk's seat has rested there since the opening.
+        let Some(desk) = self.into_desk() else {
+            return Err(Fault::Memory);
+        };
+        desk.close_seats(alloc, seats).map_err(|_| Fault::Memory)
     }
 }

@@ -4,10 +4,11 @@ ghost use Rattle.lwkt_core.specs.Opening.{IsTokenWithin, AreWithin, AllOpenLawfu
 ghost use Rattle.lwkt_bank.specs.Notes.{no_note};
 ghost use Rattle.lwkt_bank.specs.Views.{blank, clerk_after, new_seat};
 ghost use Rattle.lwkt_bank.specs.Opened.{plans_of, opening_words};
-ghost use Rattle.lwkt_bank.specs.Seats.{id_of, bank_of, entry, steps_of};
+ghost use Rattle.lwkt_bank.specs.Seats.{id_of_desk, bank_of, entry, steps_of};
 ghost use Rattle.lwkt_bank.specs.Gathered.{HasMade, IsNew, AreHandedOut, IsOpened};
 
 use crate::banks::Bank;
+use crate::clerks::Desk;
 use crate::notes::Note;
 use crate::opens;
 use crate::plays::HandOut;
@@ -47,22 +48,22 @@ fn split(
     table.shared.split_seat::<HandOut>(clerk)
 }
 
-impl Bank {
+impl Desk {
     // A bank of these tokens whose clerk hasn't made a seat yet.
     fn with_key(
         alloc: Global,
         specs: &[TokSpec],
         words: &[u64],
         key: Key,
-    ) -> Result<Bank, AllocError>
+    ) -> Result<Desk, AllocError>
         requires within { AreWithin key.cpus specs.now [] }
         requires lawful { AllOpenLawfully specs.now }
         requires plans { key.plans.items ≡ plans_of specs.now }
         requires words { words.now ≡ opening_words specs.now }
-        ensures { IfOk result (λ bank. (bank.key ≡ key) × HasMade bank 0) }
+        ensures { IfOk result (λ desk. (desk.key ≡ key) × HasMade desk 0) }
     {
         let (table, clerk) = Table::of_words(alloc, words, &key)?;
-        Ok(Bank { table, clerk, key })
+        Ok(Desk { table, clerk, key })
     }
 
     // The seat of the next processor.
@@ -70,9 +71,9 @@ impl Bank {
         requires next { HasMade self.old cpu.0 }
         requires room { cpu.0 < self.old.key.cpus }
         ensures made { HasMade self.new (cpu.0 + 1) }
-        ensures same { id_of self.new ≡ id_of self.old }
+        ensures same { id_of_desk self.new ≡ id_of_desk self.old }
         ensures key { self.new.key ≡ self.old.key }
-        ensures seat { (bank_of result ≡ id_of self.old) × IsNew result × (result.cpu ≡ cpu) }
+        ensures seat { (bank_of result ≡ id_of_desk self.old) × IsNew result × (result.cpu ≡ cpu) }
     {
         let seat = split(&self.table, &mut self.clerk, cpu);
         let notes = blank_notes();
@@ -84,8 +85,8 @@ impl Bank {
         requires next { HasMade self.old 0 }
         requires limit { self.old.key.cpus ≤ 8 }
         requires none { seats.old.items ≡ [] }
-        ensures out { OnOk result ((length seats.new.items ≡ self.old.key.cpus) × AreHandedOut (id_of self.old) seats.new.items) }
-        ensures same { id_of self.new ≡ id_of self.old }
+        ensures out { OnOk result ((length seats.new.items ≡ self.old.key.cpus) × AreHandedOut (id_of_desk self.old) seats.new.items) }
+        ensures same { id_of_desk self.new ≡ id_of_desk self.old }
         ensures key { self.new.key ≡ self.old.key }
     {
         for cpu in 0..self.key.cpus {
@@ -94,7 +95,9 @@ impl Bank {
         }
         Ok(())
     }
+}
 
+impl Bank {
     fn open_within(
         alloc: Global,
         specs: &[TokSpec],
@@ -109,8 +112,9 @@ impl Bank {
         requires none { seats.items ≡ [] }
         ensures { IfOk result (λ opened. IsOpened key.cpus specs.now opened.0 opened.1.items) }
     {
-        let mut bank = Bank::with_key(alloc, specs, words, key)?;
-        bank.hand_out_all(&mut seats)?;
+        let mut desk = Desk::with_key(alloc, specs, words, key)?;
+        desk.hand_out_all(&mut seats)?;
+        let bank = desk.into_bank()?;
         Ok((bank, seats))
     }
 

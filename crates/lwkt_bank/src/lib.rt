@@ -3,6 +3,7 @@
 
 pub mod banks;
 mod cells;
+mod clerks;
 pub mod closed;
 mod closes;
 mod desks;
@@ -14,6 +15,7 @@ pub mod notes;
 mod opens;
 mod plans;
 mod plays;
+mod rests;
 mod rows;
 pub mod rules;
 pub mod seats;

@@ -6,9 +6,10 @@ use Rattle.lwkt_bank.specs.declared.views.Plan.{Plan}
 use Rattle.lwkt_bank.specs.declared.kept.Kept.{Kept}
 use Rattle.lwkt_bank.specs.Rule.{plan_at}
 use Rattle.lwkt_bank.specs.Closing.{AreRead, kept_by}
+use Rattle.lwkt_bank.specs.Seats.{id_of_desk}
 use Rattle.lwkt_bank.specs.Gathered.{IsClosed}
 use Rattle.lwkt_bank.proofs.KeptMoves.{bank_fits, bank_closed}
-use Rattle.lwkt_bank.proofs.banks.Bank.close_seats.Goals as goal
+use Rattle.lwkt_bank.proofs.clerks.Desk.close_seats.Goals as goal
 
 pub values-requires-clause-fits : goal.values-requires-clause-fits
 values-requires-clause-fits c =
@@ -27,5 +28,5 @@ returns c =
     let ws = c.as_slice-2.result.now in
     let read : F b.key.plans.items c.in_ok-words.words.items c.gather.new.kept.items =
     subst (λ x. F b.key.plans.items c.in_ok-words.words.items x) c.as_slice-3.ensures.value (subst (λ x. F b.key.plans.items x ks) c.as_slice-2.ensures.value (subst (λ x. F x ws ks) c.as_slice.ensures.value c.values.ensures)) in
-    IfOk-weaker c.values.result (λ closed. AreRead b.key.plans.items b.key.cpus c.in_ok-words.words.items c.gather.new.kept.items closed (length b.key.plans.items)) (λ closed. IsClosed b c.args.seats.items closed)
+    IfOk-weaker c.values.result (λ closed. AreRead b.key.plans.items b.key.cpus c.in_ok-words.words.items c.gather.new.kept.items closed (length b.key.plans.items)) (λ closed. IsClosed (id_of_desk b) b.key.cpus c.args.seats.items closed)
     (λ closed is. bank_closed b c.gather.new.clerk.id c.gather.new.clerk.me.0 c.in_ok-words.words.items c.args.seats.items c.gather.new.kept.items c.in_ok-words.ensures c.in_ok-gather.ensures.done c.requires.all closed is) read

@@ -3,7 +3,7 @@ use Rattle.lwkt_bank.specs.declared.notes.Note.{Note}
 use Rattle.lwkt_bank.specs.Views.{at}
 use Rattle.lwkt_bank.specs.Notes.{Keeps}
 use Rattle.lwkt_bank.proofs.OpenMoves.{Keeps-new}
-use Rattle.lwkt_bank.proofs.banks.Bank.hand_out.Goals as goal
+use Rattle.lwkt_bank.proofs.clerks.Desk.hand_out.Goals as goal
 
 pub invariant_of-result : goal.invariant_of-result
 invariant_of-result c =

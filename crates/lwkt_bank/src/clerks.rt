@@ -1,0 +1,30 @@
+ghost use Rattle.std.specs.Prelude.{◌≡◌, ℕ, ◌+◌, ◌*◌, ◌≤◌, length};
+ghost use Rattle.std.specs.Coded.{Coded-set};
+ghost use Rattle.lwkt_base.specs.declared.laws.Law.TheVariants.{Tally};
+ghost use Rattle.lwkt_bank.specs.Views.{at, amount};
+ghost use Rattle.lwkt_bank.specs.Rule.{plan_at};
+ghost use Rattle.lwkt_bank.specs.Notes.{clerk_number};
+
+use crate::rules::{BankRule, Key};
+use crate::views::View;
+use atomic_table::{Seat, Table};
+use std::alloc::Global;
+
+/// A bank whose clerk's seat is at hand: at the opening, where the clerk makes the seats, and at the close.
+#[derive(Drop)]
+pub(crate) struct Desk {
+    pub(crate) table: Table<(), View, Key, BankRule, Global>,
+    pub(crate) clerk: Seat<(), View>,
+    pub(crate) key: Key,
+    ghost told: { table.shared.key ≡ key } by { Coded-set key-code table.shared.key key },
+    ghost wide: { table.shared.table_id.words ≡ 16 * length key.plans.items + 1 },
+    ghost slotless: { table.shared.table_id.slots ≡ 0 },
+    ghost few: { length key.plans.items ≤ 64 },
+    ghost short: { (tok : ℕ) → (plan_at key.plans.items tok).cells ≤ 4 },
+    ghost single: { (tok : ℕ) → (plan_at key.plans.items tok).law ≡ Tally → (plan_at key.plans.items tok).cells ≡ 1 },
+    ghost seated: { clerk.table_id ≡ table.shared.table_id },
+    ghost quiet: { length clerk.me.1 ≡ 0 },
+    ghost counts: { clerk_number clerk.me.0.kind ≡ 1 },
+    ghost informed: { length clerk.me.0.plans ≡ length key.plans.items },
+    ghost clean: { (tok : ℕ) → ((at clerk.me.0.tokens tok).written ≡ 0) × ((cpu : ℕ) → amount cpu (at clerk.me.0.tokens tok).added ≡ 0) },
+}
