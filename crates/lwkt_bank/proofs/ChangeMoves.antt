@@ -63,7 +63,7 @@ changed_twice s mid s' tok d e made more first second = record {
 -- what a seat keeps after a look
 pub keeps_seen : (s : CpuSeat) (w : View) (tok g : ℕ) (made : List WordStep) → tok < length s.seat.me.0.plans → w ≡ noted s.seat.me.0 (seen (entry s tok) g) made → Keeps s.notes s.cpu w
 keeps_seen s w tok g made there is =
-    Keeps-kept s.notes s.cpu s.seat.me.0 w (seen (entry s tok) g) made tok s.kept is ((seen-keeps (entry s tok) g).0 ∙ at-tok s.seat.me.0.tokens tok)
+    Keeps-kept s.notes s.cpu s.seat.me.0 w (seen (entry s tok) g) made tok s.kept is there ((seen-keeps (entry s tok) g).0 ∙ at-tok s.seat.me.0.tokens tok)
     (IsNoted-seen (plan_at s.seat.me.0.plans tok) s.cpu.0 (entry s tok) g (note_at s.notes tok) (s.kept.each tok there))
 
 -- a seat holds no slot after a step
@@ -145,14 +145,14 @@ pub decides_so : (word : ℕ) (mode : Mode) (alone : Bool) (answer given : Decis
 decides_so word mode alone answer given says is = λ w fits its. sym (says w its fits) ∙ is
 
 -- what a seat keeps after the note of a token was written anew
-pub keeps_set : (s : CpuSeat) (w : View) (tok : ℕ) (e : Entry) (made : List WordStep) (note : Note) → tok < 64 → w ≡ noted s.seat.me.0 e made → e.tok ≡ tok → IsNoted (plan_at s.seat.me.0.plans tok) s.cpu.0 e note → Keeps (set s.notes tok note) s.cpu w
-keeps_set s w tok e made note room is is_tok here =
+pub keeps_set : (s : CpuSeat) (w : View) (tok : ℕ) (e : Entry) (made : List WordStep) (note : Note) → tok < 64 → w ≡ noted s.seat.me.0 e made → tok < length s.seat.me.0.plans → e.tok ≡ tok → IsNoted (plan_at s.seat.me.0.plans tok) s.cpu.0 e note → Keeps (set s.notes tok note) s.cpu w
+keeps_set s w tok e made note room is there is_tok here =
     let sized = s.sized in
-    Keeps-set s.notes s.cpu s.seat.me.0 w e made tok note s.kept is is_tok (omega arith) here
+    Keeps-set s.notes s.cpu s.seat.me.0 w e made tok note s.kept is there is_tok (omega arith) here
 
 -- and where it stays
-pub keeps_kept : (s : CpuSeat) (w : View) (tok : ℕ) (e : Entry) (made : List WordStep) → w ≡ noted s.seat.me.0 e made → e.tok ≡ tok → IsNoted (plan_at s.seat.me.0.plans tok) s.cpu.0 e (note_at s.notes tok) → Keeps s.notes s.cpu w
-keeps_kept s w tok e made is is_tok here = Keeps-kept s.notes s.cpu s.seat.me.0 w e made tok s.kept is is_tok here
+pub keeps_kept : (s : CpuSeat) (w : View) (tok : ℕ) (e : Entry) (made : List WordStep) → w ≡ noted s.seat.me.0 e made → tok < length s.seat.me.0.plans → e.tok ≡ tok → IsNoted (plan_at s.seat.me.0.plans tok) s.cpu.0 e (note_at s.notes tok) → Keeps s.notes s.cpu w
+keeps_kept s w tok e made is there is_tok here = Keeps-kept s.notes s.cpu s.seat.me.0 w e made tok s.kept is there is_tok here
 
 -- the entry of a token says which it is
 pub entry_tok : (s : CpuSeat) (tok : ℕ) → (entry s tok).tok ≡ tok
@@ -202,10 +202,10 @@ pub room_of : (bank : Bank) (s : CpuSeat) (tok : ℕ) → bank_of s ≡ id_of ba
 room_of bank s tok of there = let t = there_of bank s tok of there in let f = bank.few in omega arith
 
 -- what a seat keeps after a part of the note of a token was written
-pub keeps_part : (s : CpuSeat) (w : View) (tok : ℕ) (e : Entry) (made : List WordStep) (f : Note → Note) (d : Note) → tok < 64 → w ≡ noted s.seat.me.0 e made → e.tok ≡ tok → IsNoted (plan_at s.seat.me.0.plans tok) s.cpu.0 e (f (note_at s.notes tok)) → Keeps (set s.notes tok (f (get_or s.notes tok d))) s.cpu w
-keeps_part s w tok e made f d room is is_tok here =
+pub keeps_part : (s : CpuSeat) (w : View) (tok : ℕ) (e : Entry) (made : List WordStep) (f : Note → Note) (d : Note) → tok < 64 → w ≡ noted s.seat.me.0 e made → tok < length s.seat.me.0.plans → e.tok ≡ tok → IsNoted (plan_at s.seat.me.0.plans tok) s.cpu.0 e (f (note_at s.notes tok)) → Keeps (set s.notes tok (f (get_or s.notes tok d))) s.cpu w
+keeps_part s w tok e made f d room is there is_tok here =
     let sized = s.sized in
     let inside : tok < length s.notes = omega arith in
     let same : get_or s.notes tok d ≡ note_at s.notes tok = get_or_default s.notes tok d no_note inside in
     let F : Note → Type 0 = λ m. Keeps (set s.notes tok (f m)) s.cpu w in
-    subst F (sym same) (keeps_set s w tok e made (f (note_at s.notes tok)) room is is_tok here)
+    subst F (sym same) (keeps_set s w tok e made (f (note_at s.notes tok)) room is there is_tok here)

@@ -107,11 +107,18 @@ IsNoted-taken plan cpu e word mode row tally note long tally_is noted' =
       untouched = λ cell is inside none. refl;
     }
 
+-- after an entry of a token that exists has changed, no other token is held
+within-changed : (v : View) (e : Entry) (tok : ℕ) → ((k : ℕ) → is_held (at v.tokens k).held ≡ true → k < length v.plans) → tok < length v.plans → e.tok ≡ tok → (k : ℕ) → is_held (at (e ∷ v.tokens) k).held ≡ true → k < length v.plans
+within-changed v e tok within there is_tok k held = ⊎_elim
+    (λ (same : k ≡ tok). let h = same in omega arith)
+    (λ away. within k (subst (λ (d : Entry). is_held d.held ≡ true) (at-else e v.tokens tok k is_tok away) held))
+    (cases_eq k tok)
+
 -- what is kept after an entry of a token has changed
-pub Keeps-set : (notes : List Note) (cpu : CpuId) (v w : View) (e : Entry) (made : List WordStep) (tok : ℕ) (note : Note) → Keeps notes cpu v → w ≡ noted v e made → e.tok ≡ tok → tok < length notes → IsNoted (plan_at v.plans tok) cpu.0 e note → Keeps (set notes tok note) cpu w
-Keeps-set notes cpu v w e made tok note keeps is is_tok room here =
+pub Keeps-set : (notes : List Note) (cpu : CpuId) (v w : View) (e : Entry) (made : List WordStep) (tok : ℕ) (note : Note) → Keeps notes cpu v → w ≡ noted v e made → tok < length v.plans → e.tok ≡ tok → tok < length notes → IsNoted (plan_at v.plans tok) cpu.0 e note → Keeps (set notes tok note) cpu w
+Keeps-set notes cpu v w e made tok note keeps is there is_tok room here =
     let F : View → Type 0 = λ x. Keeps (set notes tok note) cpu x in
-    subst F (sym is) (record { seat = keeps.seat; each = each })
+    subst F (sym is) (record { seat = keeps.seat; each = each; within = within-changed v e tok keeps.within there is_tok })
   where
     each : (k : ℕ) → k < length v.plans → IsNoted (plan_at v.plans k) cpu.0 (at (e ∷ v.tokens) k) (note_at (set notes tok note) k)
     each k h =
@@ -123,10 +130,10 @@ Keeps-set notes cpu v w e made tok note keeps is is_tok room here =
         (cases_eq k tok)
 
 -- and where its note stays
-pub Keeps-kept : (notes : List Note) (cpu : CpuId) (v w : View) (e : Entry) (made : List WordStep) (tok : ℕ) → Keeps notes cpu v → w ≡ noted v e made → e.tok ≡ tok → IsNoted (plan_at v.plans tok) cpu.0 e (note_at notes tok) → Keeps notes cpu w
-Keeps-kept notes cpu v w e made tok keeps is is_tok here =
+pub Keeps-kept : (notes : List Note) (cpu : CpuId) (v w : View) (e : Entry) (made : List WordStep) (tok : ℕ) → Keeps notes cpu v → w ≡ noted v e made → tok < length v.plans → e.tok ≡ tok → IsNoted (plan_at v.plans tok) cpu.0 e (note_at notes tok) → Keeps notes cpu w
+Keeps-kept notes cpu v w e made tok keeps is there is_tok here =
     let F : View → Type 0 = λ x. Keeps notes cpu x in
-    subst F (sym is) (record { seat = keeps.seat; each = each })
+    subst F (sym is) (record { seat = keeps.seat; each = each; within = within-changed v e tok keeps.within there is_tok })
   where
     each : (k : ℕ) → k < length v.plans → IsNoted (plan_at v.plans k) cpu.0 (at (e ∷ v.tokens) k) (note_at notes k)
     each k h =

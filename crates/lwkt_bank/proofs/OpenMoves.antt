@@ -163,4 +163,5 @@ Keeps-new cpu v w kind is =
             stored = λ cell held. absurd (false≢true held);
             untouched = λ cell held. absurd (false≢true held);
           });
+      within = λ tok held. absurd (false≢true held);
     })

@@ -51,10 +51,11 @@ pub record IsNoted (plan : Plan) (cpu : ℕ) (e : Entry) (note : Note) : Type 0 
   pub stored : (cell : ℕ) → is_held e.held ≡ true → cell < plan.cells → ForSome (change_at note cell) (λ c. (c.first ≡ slice_index e.first cell) × (c.last ≡ slice_index e.row cell))
   pub untouched : (cell : ℕ) → is_held e.held ≡ true → cell < plan.cells → ForNone (change_at note cell) (slice_index e.row cell ≡ slice_index e.first cell)
 
--- what a seat keeps at run time is what its view says, and the view is that of its processor
+-- what a seat keeps at run time is what its view says, the view is that of its processor, and it holds no token that isn't there
 pub record Keeps (notes : List Note) (cpu : CpuId) (v : View) : Type 0 where
   pub seat : seat_number v.kind ≡ cpu.0 + 1
   pub each : (tok : ℕ) → tok < length v.plans → IsNoted (plan_at v.plans tok) cpu.0 (at v.tokens tok) (note_at notes tok)
+  pub within : (tok : ℕ) → is_held (at v.tokens tok).held ≡ true → tok < length v.plans
 
 -- whether a cell was stored to, and its last value isn't its first
 abbrev pub has_changed : Option Change → Bool

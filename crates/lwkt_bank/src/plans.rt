@@ -1,24 +1,27 @@
-ghost use Rattle.std.specs.Prelude.{◌≡◌, ◌+◌, ◌<◌, length};
+ghost use Rattle.std.specs.Prelude.{◌≡◌, ◌+◌, ◌<◌, ◌≤◌, length};
 ghost use Rattle.lwkt_bank.specs.Rule.{plan_at};
 
 use crate::banks::Bank;
 use crate::views::Plan;
-use lwkt_base::TokId;
+use lwkt_base::{Law, TokId};
 
 impl Bank {
     ghost use Rattle.lwkt_bank.specs.Seats.{id_of, tokens_of, plan_of};
 
     /// How many tokens there are, 0 to 64.
     pub fn tokens(&self) -> usize
-        ensures { result ≡ tokens_of (id_of self.now) }
+        ensures is { result ≡ tokens_of (id_of self.now) }
+        ensures few { result ≤ 64 }
     {
         self.key.plans.len()
     }
 
-    /// How many cells a token has, 0 to 4.
+    /// How many cells a token has, 0 to 4, and exactly 1 under `Law::Tally`.
     pub fn cells(&self, tok: TokId) -> usize
         requires { tok.0 < tokens_of (id_of self.now) }
-        ensures { result ≡ (plan_of (id_of self.now) tok.0).cells }
+        ensures is { result ≡ (plan_of (id_of self.now) tok.0).cells }
+        ensures short { result ≤ 4 }
+        ensures single { (plan_of (id_of self.now) tok.0).law ≡ Law.Tally → result ≡ 1 }
     {
         self.plan(tok).cells
     }

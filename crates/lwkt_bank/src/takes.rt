@@ -13,9 +13,10 @@ use crate::tries::Try;
 use lwkt_base::{CpuId, Decision, Held, Mode, TokId, TokWord};
 
 impl CpuSeat {
-    /// The processor whose seat this is.
+    /// The processor whose seat this is. A seat holds no token that its bank doesn't have.
     pub fn cpu(&self) -> CpuId
-        ensures { result ≡ self.now.cpu }
+        ensures is { result ≡ self.now.cpu }
+        ensures within { (tok : ℕ) → is_held (holding self.now tok) ≡ true → tok < tokens_of (bank_of self.now) }
     {
         self.cpu
     }

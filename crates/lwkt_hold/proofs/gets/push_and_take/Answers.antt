@@ -14,5 +14,5 @@ returns-in_err-push-clause-ran c = ran_still (IsFront c.push.new.self) 1 c.args.
 pub take_one-requires-clause-there : goal.take_one-requires-clause-there
 take_one-requires-clause-there c =
     let same = ap (λ (b : BankId). tokens_of b) c.requires.of in
-    let below : c.args.new.tok.0 < tokens_of (bank_of c.args.seat.now) = omega (arith, c.if-new-tokens.false, c.tokens.ensures, same) in
+    let below : c.args.new.tok.0 < tokens_of (bank_of c.args.seat.now) = omega (arith, c.if-new-tokens.false, c.tokens.ensures.is, same) in
     last_there c.refs.result.now c.args.list.now c.args.new c.len-at.result (tokens_of (bank_of c.args.seat.now)) (c.refs.ensures.value ∙ c.in_ok-push.ensures.ok) c.len-at.ensures.value below

@@ -14,7 +14,7 @@ pub again-requires-clause-few : goal.again-requires-clause-few
 again-requires-clause-few c = few_in_front c.args.seat.now c.args.refs.now c.args.at c.requires.front c.requires.within c.requires.short
 
 pub returns-then-has-clause-ran : goal.returns-then-has-clause-ran
-returns-then-has-clause-ran c = again_ran c.args.seat.now c.again.new.self c.args.refs.now c.args.at unused c.cpu-cpu.result c.args.trace.now c.note.new.trace c.requires.within c.requires.front (sym c.has.ensures ∙ c.if-has.true) c.again.ensures c.cpu-cpu.ensures c.note.ensures.items c.note.ensures.longer c.note.ensures.room
+returns-then-has-clause-ran c = again_ran c.args.seat.now c.again.new.self c.args.refs.now c.args.at unused c.cpu-cpu.result c.args.trace.now c.note.new.trace c.requires.within c.requires.front (sym c.has.ensures ∙ c.if-has.true) c.again.ensures c.cpu-cpu.ensures.is c.note.ensures.items c.note.ensures.longer c.note.ensures.room
 
 pub returns-then-has-clause-taken : goal.returns-then-has-clause-taken
 returns-then-has-clause-taken c = (again_holds c.args.seat.now c.again.new.self c.args.refs.now c.args.at unused c.requires.within c.requires.front (sym c.has.ensures ∙ c.if-has.true) c.again.ensures).1
@@ -26,7 +26,7 @@ pub try_take-requires-clause-few : goal.try_take-requires-clause-few
 try_take-requires-clause-few c = few_in_front c.args.seat.now c.args.refs.now c.args.at c.requires.front c.requires.within c.requires.short
 
 pub returns-in-Got-clause-ran : goal.returns-in-Got-clause-ran
-returns-in-Got-clause-ran c = took_ran c.args.seat.now c.try_take.new.self c.args.refs.now c.args.at unused c.has_only-alone.result c.in-Got.generation c.cpu-cpu.result c.taken.result c.args.trace.now c.note-in-Got.new.trace c.requires.within c.requires.front (sym c.has.ensures ∙ c.if-has.false) c.in-Got.ensures c.cpu-cpu.ensures c.taken.ensures c.note-in-Got.ensures.items c.note-in-Got.ensures.longer c.note-in-Got.ensures.room
+returns-in-Got-clause-ran c = took_ran c.args.seat.now c.try_take.new.self c.args.refs.now c.args.at unused c.has_only-alone.result c.in-Got.generation c.cpu-cpu.result c.taken.result c.args.trace.now c.note-in-Got.new.trace c.requires.within c.requires.front (sym c.has.ensures ∙ c.if-has.false) c.in-Got.ensures c.cpu-cpu.ensures.is c.taken.ensures c.note-in-Got.ensures.items c.note-in-Got.ensures.longer c.note-in-Got.ensures.room
 
 pub returns-in-Got-clause-taken : goal.returns-in-Got-clause-taken
 returns-in-Got-clause-taken c = (took_holds c.args.seat.now c.try_take.new.self c.args.refs.now c.args.at unused c.has_only-alone.result c.in-Got.generation c.requires.within c.requires.front (sym c.has.ensures ∙ c.if-has.false) c.in-Got.ensures).1

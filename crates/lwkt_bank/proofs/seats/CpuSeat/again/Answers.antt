@@ -29,7 +29,7 @@ invariant_of-self c =
     let F : Held → Type 0 = λ x. IsNoted plan s.cpu.0 (more (entry s t)) (record (note_at s.notes t) { held = x }) in
     let noted' : F new = subst F (sym same) (IsNoted-held plan s.cpu.0 (entry s t) h (note_at s.notes t) (λ held. c.requires.held) (s.kept.each t c.requires.there)) in
     record {
-      kept = keeps_part s c.add_one.new.seat.me.0 t (more (entry s t)) _ (λ m. record m { held = new }) _ (room_of c.args.bank.now s t c.requires.of c.requires.there) c.add_one.ensures.adds (entry_tok s t) noted';
+      kept = keeps_part s c.add_one.new.seat.me.0 t (more (entry s t)) _ (λ m. record m { held = new }) _ (room_of c.args.bank.now s t c.requires.of c.requires.there) c.add_one.ensures.adds c.requires.there (entry_tok s t) noted';
       quiet = still_quiet s.seat c.add_one.new.seat c.add_one.ensures.same s.quiet;
       sized = length-set s.notes t _ ∙ s.sized;
     }

@@ -20,7 +20,7 @@ invariant_of-self c =
     let F : Held → Type 0 = λ x. IsNoted plan s.cpu.0 (less (entry s t)) (record (note_at s.notes t) { held = x }) in
     let noted' : F new = subst F (sym same) (IsNoted-held plan s.cpu.0 (entry s t) h (note_at s.notes t) (λ held. c.requires.held) (s.kept.each t c.requires.there)) in
     record {
-      kept = keeps_part s c.give_one.new.seat.me.0 t (less (entry s t)) _ (λ m. record m { held = new }) _ (room_of c.args.bank.now s t c.requires.of c.requires.there) c.give_one.ensures.gives (entry_tok s t) noted';
+      kept = keeps_part s c.give_one.new.seat.me.0 t (less (entry s t)) _ (λ m. record m { held = new }) _ (room_of c.args.bank.now s t c.requires.of c.requires.there) c.give_one.ensures.gives c.requires.there (entry_tok s t) noted';
       quiet = still_quiet s.seat c.give_one.new.seat c.give_one.ensures.same s.quiet;
       sized = length-set s.notes t _ ∙ s.sized;
     }

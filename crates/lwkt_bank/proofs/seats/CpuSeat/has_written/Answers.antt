@@ -14,7 +14,7 @@ returns-clause-written c = λ yes'.
     let t = c.args.tok.0 in
     let n = c.note-note.result in
     let plan = plan_at s.seat.me.0.plans t in
-    let cells : plan.cells ≡ c.cells-cells.result = ap (λ (p : Plan). p.cells) (plan_is c.args.bank.now s t c.requires.of) ∙ sym c.cells-cells.ensures in
+    let cells : plan.cells ≡ c.cells-cells.result = ap (λ (p : Plan). p.cells) (plan_is c.args.bank.now s t c.requires.of) ∙ sym c.cells-cells.ensures.is in
     row_written plan s.cpu.0 (entry s t) n (noted_as s t n c.requires.there c.note-note.ensures.is) c.requires.held (short_row c.args.bank.now s t c.requires.of)
     (ap (λ (k : ℕ). list_any has_changed (take k n.cells)) cells ∙ sym c.is_written.ensures ∙ yes')
 
@@ -24,6 +24,6 @@ returns-clause-clean c = λ no'.
     let t = c.args.tok.0 in
     let n = c.note-note.result in
     let plan = plan_at s.seat.me.0.plans t in
-    let cells : plan.cells ≡ c.cells-cells.result = ap (λ (p : Plan). p.cells) (plan_is c.args.bank.now s t c.requires.of) ∙ sym c.cells-cells.ensures in
+    let cells : plan.cells ≡ c.cells-cells.result = ap (λ (p : Plan). p.cells) (plan_is c.args.bank.now s t c.requires.of) ∙ sym c.cells-cells.ensures.is in
     row_clean plan s.cpu.0 (entry s t) n (noted_as s t n c.requires.there c.note-note.ensures.is) c.requires.held (short_row c.args.bank.now s t c.requires.of)
     (ap (λ (k : ℕ). list_any has_changed (take k n.cells)) cells ∙ sym c.is_written.ensures ∙ no')

@@ -5,7 +5,7 @@ use Rattle.lwkt_bank.proofs.seats.CpuSeat.mark.Goals as goal
 
 pub invariant_of-self : goal.invariant_of-self
 invariant_of-self c = let s = c.args.self.now in record {
-  kept = keeps_kept s c.set_mark.new.seat.me.0 c.args.tok.0 (entry s c.args.tok.0) _ c.set_mark.ensures.marks (entry_tok s c.args.tok.0) (s.kept.each c.args.tok.0 c.requires.there);
+  kept = keeps_kept s c.set_mark.new.seat.me.0 c.args.tok.0 (entry s c.args.tok.0) _ c.set_mark.ensures.marks c.requires.there (entry_tok s c.args.tok.0) (s.kept.each c.args.tok.0 c.requires.there);
   quiet = still_quiet s.seat c.set_mark.new.seat c.set_mark.ensures.same s.quiet;
   sized = s.sized;
 }

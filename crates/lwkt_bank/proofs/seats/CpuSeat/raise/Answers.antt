@@ -24,7 +24,7 @@ invariant_of-self c =
     let same : c.raised.result ≡ record n { cells = set n.cells 0 (Some (record { first = c.args.change.first; last = slice_index e.row 0 + k })); tally = n.tally + k } =
     c.raised.ensures ∙ ap (λ (m : Note). record m { tally = m.tally + k }) c.changed.ensures ∙ ap (λ (l : ℕ). record n { cells = set n.cells 0 (Some (record { first = c.args.change.first; last = l })); tally = n.tally + k }) c.requires.last in
     record {
-      kept = keeps_set s c.raise_cell.new.seat.me.0 t (raised e s.cpu k) _ c.raised.result c.note-note.ensures.room (c.raise_cell.ensures.raises s.cpu k (seat_told s.seat.me.0.kind s.cpu s.kept.seat) c.requires.last) (entry_tok s t) (rw same noted');
+      kept = keeps_set s c.raise_cell.new.seat.me.0 t (raised e s.cpu k) _ c.raised.result c.note-note.ensures.room (c.raise_cell.ensures.raises s.cpu k (seat_told s.seat.me.0.kind s.cpu s.kept.seat) c.requires.last) c.requires.there (entry_tok s t) (rw same noted');
       quiet = still_quiet s.seat c.raise_cell.new.seat c.raise_cell.ensures.same s.quiet;
       sized = length-set s.notes t c.raised.result ∙ s.sized;
     }

@@ -11,7 +11,7 @@ pub loop-cell-preserved : goal.loop-cell-preserved
 loop-cell-preserved c =
     let s = c.args.self.now in
     let t = c.args.tok.0 in
-    let cells : (plan_at s.seat.me.0.plans t).cells ≡ c.cells-cell-end.result = ap (λ (p : Plan). p.cells) (plan_is c.args.bank.now s t c.requires.of) ∙ sym c.cells-cell-end.ensures in
+    let cells : (plan_at s.seat.me.0.plans t).cells ≡ c.cells-cell-end.result = ap (λ (p : Plan). p.cells) (plan_is c.args.bank.now s t c.requires.of) ∙ sym c.cells-cell-end.ensures.is in
     let short = short_row c.args.bank.now s t c.requires.of in
     let long = ((s.kept.each t c.requires.there).long (exclusive_held (entry s t).held c.requires.held)).1 in
     restoring_more s c.loop-cell.self c.restore_cell.new.self t c.loop-cell.made c.loop-cell.cell c.restore_cell.result c.loop-cell.invariant (omega arith) (omega arith) c.restore_cell.ensures
@@ -20,5 +20,5 @@ pub returns : goal.returns
 returns c =
     let s = c.args.self.now in
     let t = c.args.tok.0 in
-    let cells : (plan_at s.seat.me.0.plans t).cells ≡ c.cells-cell-end.result = ap (λ (p : Plan). p.cells) (plan_is c.args.bank.now s t c.requires.of) ∙ sym c.cells-cell-end.ensures in
+    let cells : (plan_at s.seat.me.0.plans t).cells ≡ c.cells-cell-end.result = ap (λ (p : Plan). p.cells) (plan_is c.args.bank.now s t c.requires.of) ∙ sym c.cells-cell-end.ensures.is in
     restored_all s c.loop-cell.self t c.loop-cell.made c.loop-cell.cell c.loop-cell.invariant c.requires.there (exclusive_held (entry s t).held c.requires.held) (omega arith)

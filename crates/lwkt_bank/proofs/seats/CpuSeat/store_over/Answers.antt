@@ -14,7 +14,7 @@ invariant_of-self c =
     let e = entry s t in
     let noted' = IsNoted-stored _ s.cpu.0 e (note_at s.notes t) (s.kept.each t c.requires.there) (exclusive_held e.held c.requires.held) (short_row c.args.bank.now s t c.requires.of) c.args.cell c.args.change.first c.args.change.last c.requires.inside c.requires.first in
     record {
-      kept = keeps_part s c.store_cell.new.seat.me.0 t (stored e c.args.cell c.args.change.last) _ (λ m. record m { cells = set m.cells c.args.cell (Some c.args.change) }) _ (room_of c.args.bank.now s t c.requires.of c.requires.there) c.store_cell.ensures.stores (entry_tok s t) noted';
+      kept = keeps_part s c.store_cell.new.seat.me.0 t (stored e c.args.cell c.args.change.last) _ (λ m. record m { cells = set m.cells c.args.cell (Some c.args.change) }) _ (room_of c.args.bank.now s t c.requires.of c.requires.there) c.store_cell.ensures.stores c.requires.there (entry_tok s t) noted';
       quiet = still_quiet s.seat c.store_cell.new.seat c.store_cell.ensures.same s.quiet;
       sized = length-set s.notes t _ ∙ s.sized;
     }

@@ -28,7 +28,7 @@ invariant_of-self-2 c =
     let n = c.note-note.result in
     let noted' = IsNoted-taken _ s.cpu.0 (entry s c.args.tok.0) c.swing-found.result c.args.mode hit.0 n.tally n hit.1.0.long refl (noted_as s c.args.tok.0 n c.requires.there c.note-note.ensures.is) in
     record {
-      kept = keeps_set s c.swing-found.new.seat.me.0 c.args.tok.0 _ _ c.taken.result c.note-note.ensures.room hit.1.1 ((seen-keeps (entry s c.args.tok.0) (generation_in c.swing-found.result)).0 ∙ entry_tok s c.args.tok.0) (rw c.taken.ensures noted');
+      kept = keeps_set s c.swing-found.new.seat.me.0 c.args.tok.0 _ _ c.taken.result c.note-note.ensures.room hit.1.1 c.requires.there ((seen-keeps (entry s c.args.tok.0) (generation_in c.swing-found.result)).0 ∙ entry_tok s c.args.tok.0) (rw c.taken.ensures noted');
       quiet = still_quiet s.seat c.swing-found.new.seat c.swing-found.ensures.same s.quiet;
       sized = length-set s.notes c.args.tok.0 c.taken.result ∙ s.sized;
     }

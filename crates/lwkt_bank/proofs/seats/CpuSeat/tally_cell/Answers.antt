@@ -10,7 +10,7 @@ invariant_of-self c =
     let s = c.args.self.now in
     let t = c.args.tok.0 in
     record {
-      kept = keeps_kept s c.read_cell.new.seat.me.0 t (read (entry s t) 0) _ c.read_cell.ensures.reads.1 (entry_tok s t) (IsNoted-same _ s.cpu.0 (entry s t) (read (entry s t) 0) _ refl refl refl refl (s.kept.each t c.requires.there));
+      kept = keeps_kept s c.read_cell.new.seat.me.0 t (read (entry s t) 0) _ c.read_cell.ensures.reads.1 c.requires.there (entry_tok s t) (IsNoted-same _ s.cpu.0 (entry s t) (read (entry s t) 0) _ refl refl refl refl (s.kept.each t c.requires.there));
       quiet = still_quiet s.seat c.read_cell.new.seat c.read_cell.ensures.same s.quiet;
       sized = s.sized;
     }

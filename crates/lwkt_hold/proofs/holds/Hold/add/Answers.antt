@@ -32,7 +32,7 @@ load-value-requires-clause-held c = ap (λ (e : Entry). is_held e.held) c.in_ok-
 pub returns-clause-ran : goal.returns-clause-ran
 returns-clause-ran c =
     let s = c.args.self.now.seat in
-    added_ran c.args.list.now s c.add.new.self c.load-value.new.self c.args.tok (raised (entry s c.args.tok.0) s.cpu c.args.k) (read (entry c.add.new.self c.args.tok.0) 0) c.cpu-cpu.result c.load-value.result c.args.trace.now c.note.new.trace c.in_ok-add.ensures.ok refl c.load-value.ensures.changes refl c.requires.held c.cpu-cpu.ensures c.note.ensures.items c.note.ensures.longer c.note.ensures.room
+    added_ran c.args.list.now s c.add.new.self c.load-value.new.self c.args.tok (raised (entry s c.args.tok.0) s.cpu c.args.k) (read (entry c.add.new.self c.args.tok.0) 0) c.cpu-cpu.result c.load-value.result c.args.trace.now c.note.new.trace c.in_ok-add.ensures.ok refl c.load-value.ensures.changes refl c.requires.held c.cpu-cpu.ensures.is c.note.ensures.items c.note.ensures.longer c.note.ensures.room
 
 pub returns-clause-written : goal.returns-clause-written
 returns-clause-written c =
@@ -43,11 +43,11 @@ returns-clause-written c =
     let cells = ap (λ (b : BankId). (plan_of b c.args.tok.0).cells) c.requires.of in
     let held = held_of_exclusive s c.args.list.now c.args.tok.0 c.requires.held c.in_ok-may_write.ensures.ok in
     let there = ap (λ (b : BankId). length b.plans) c.requires.of in
-    let long = ((s.kept.each c.args.tok.0 (omega (arith, there, c.if-tok-tokens.false, c.tokens.ensures))).long held).1 in
+    let long = ((s.kept.each c.args.tok.0 (omega (arith, there, c.if-tok-tokens.false, c.tokens.ensures.is))).long held).1 in
     let some : 0 < length e.row = omega (arith, long, cells, one) in
     let value = c.load-value.ensures.value ∙ ap (λ (x : Entry). get_or x.row 0 0) c.in_ok-add.ensures.ok.changes.here ∙ get_or-set_same e.row 0 (get_or e.row 0 0 + c.args.k) 0 some in
     c.note.ensures.items
-    ∙ ap (λ cpu. c.args.trace.now.items ++ Write cpu c.args.tok 0 c.load-value.result ∷ []) c.cpu-cpu.ensures
+    ∙ ap (λ cpu. c.args.trace.now.items ++ Write cpu c.args.tok 0 c.load-value.result ∷ []) c.cpu-cpu.ensures.is
     ∙ ap (λ v. c.args.trace.now.items ++ Write s.cpu c.args.tok 0 v ∷ []) value
   where
     not_ok : ◌≡◌ {A = Result (Unit {0}) Fault} (Ok tt) (Err TallyOnly) → ⊥
