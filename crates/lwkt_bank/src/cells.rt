@@ -1,5 +1,5 @@
 //! The cells of a token that is held.
-ghost use Rattle.std.specs.Prelude.{◌≡◌, ◌≢◌, ◌↔◌, ◌⊎◌, ◌+◌, ◌^◌, ◌<◌, ◌≤◌, ℕ, List, [], ◌∷◌, length, true, false, None, Some, Ok, Err, OnOk, OnErr, slice_index, slice_set};
+ghost use Rattle.std.specs.Prelude.{◌≡◌, ◌≢◌, ◌↔◌, ◌⊎◌, ◌+◌, ◌^◌, ◌<◌, ◌≤◌, ℕ, List, [], ◌∷◌, length, true, false, None, Some, Ok, Err, OnOk, OnErr, IfOk, slice_index, slice_set};
 ghost use Rattle.lwkt_base.specs.Holding.{is_held, is_exclusive};
 ghost use Rattle.lwkt_base.specs.Law.{MeetsLaw};
 ghost use Rattle.lwkt_bank.specs.Views.{amount, read, stored, raised};
@@ -114,13 +114,14 @@ impl CpuSeat {
         steps::read_cell(bank, &mut self.seat, tok, 0)
     }
 
-    /// Adds to the cell of a Tally token. That the seat holds the token exclusively is the caller's condition. 22 for any
-    /// other token, 21 exactly if the sum passes 18446744073709551615.
-    pub fn add(&mut self, bank: &Bank, tok: TokId, k: u64) -> Result<(), Fault>
+    /// Adds to the cell of a Tally token, and answers its new value. That the seat holds the token exclusively is the
+    /// caller's condition. 22 for any other token, 21 exactly if the sum passes 18446744073709551615.
+    pub fn add(&mut self, bank: &Bank, tok: TokId, k: u64) -> Result<u64, Fault>
         requires of { bank_of self.old ≡ id_of bank.now }
         requires there { tok.0 < tokens_of (bank_of self.old) }
         requires held { is_exclusive (holding self.old tok.0) ≡ true }
         ensures ok { OnOk result (Knowing self.old self.new tok.0 (raised (entry self.old tok.0) self.old.cpu k)) }
+        ensures value { IfOk result (λ value. value ≡ slice_index (entry self.old tok.0).row 0 + k) }
         ensures tally { (result ≡ Err Fault.TallyOnly) ↔ ((plan_of (bank_of self.old) tok.0).law ≢ Law.Tally) }
         ensures overflow { (result ≡ Err Fault.Overflow) ↔ (((plan_of (bank_of self.old) tok.0).law ≡ Law.Tally) × (2 ^ 64 ≤ slice_index (entry self.old tok.0).row 0 + k)) }
         ensures only { OnErr result (((result ≡ Err Fault.TallyOnly) ⊎ (result ≡ Err Fault.Overflow)) × Knowing self.old self.new tok.0 (entry self.old tok.0)) }
@@ -134,6 +135,6 @@ impl CpuSeat {
         };
         let first = self.first_value(bank, tok, 0);
         self.raise(bank, tok, k, Change { first, last: sum });
-        Ok(())
+        Ok(sum)
     }
 }

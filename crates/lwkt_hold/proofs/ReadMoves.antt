@@ -110,26 +110,3 @@ unchanged_ran P most s s' t same = record {
   grown = omega arith;
   room = omega arith;
 }
-
--- a law that isn't another is Tally
-pub tally_or_not : (law : Law) → ((law ≡ Tally → ⊥) → ⊥) → law ≡ Tally
-tally_or_not Any other = absurd (other (λ is. cc))
-tally_or_not Sum other = absurd (other (λ is. cc))
-tally_or_not Order other = absurd (other (λ is. cc))
-tally_or_not Cap other = absurd (other (λ is. cc))
-tally_or_not Tally other = refl
-
-pub held_of_exclusive : (s : CpuSeat) (refs : List Ref) (tok : ℕ) → holding s ≡ holding_of refs → first_mode refs tok ≡ Some Exclusive → is_held (holding s tok) ≡ true
-held_of_exclusive s refs tok front is = held_listed s refs tok front (λ none. not_none (sym is ∙ none))
-  where
-    not_none : ◌≡◌ {A = Option Mode} (Some Exclusive) None → ⊥
-    not_none e = cc
-
--- a sum was stored in the first cell, and read there
-pub added_ran : (refs : List Ref) (s m s' : CpuSeat) (tok : TokId) (d e : Entry) (cpu : CpuId) (value : ℕ) (t u : Vec Event Global) → Knowing s m tok.0 d → d.held ≡ holding s tok.0 → Changes m s' tok.0 e [] → e.held ≡ holding m tok.0 → holding s ≡ holding_of refs → cpu ≡ s.cpu → u.items ≡ t.items ++ Write cpu tok 0 value ∷ [] → vec_len u ≡ vec_len t + 1 → vec_capacity t ≤ vec_capacity u → Ran (IsFront refs) 1 s s' t u
-added_ran refs s m s' tok d e cpu value t u k held c held' front mine pushed longer room =
-    let first = holding_kept s m tok.0 (record d { known = k.known }) [] k.changes held in
-    let kept = holding_kept m s' tok.0 e [] c held' in
-    let quiet = ran_quiet (IsFront refs) s m tok.0 (record d { known = k.known }) [] t k.changes held refl in
-    let step = ran_step (IsFront refs) m s' tok.0 e [] (Write cpu tok 0 value) t u c pushed longer room (ap (λ (x : CpuId). x.0) (mine ∙ sym k.changes.cpu)) tt kept (whole_front refs (holding s') (kept ∙ first ∙ front)) in
-    ran_then (IsFront refs) 0 1 s m s' t t u quiet step

@@ -164,8 +164,7 @@ impl Hold {
         }
         Hold::may_write(list, tok)?;
         let cpu = self.seat.cpu();
-        self.seat.add(bank, tok, k)?;
-        let value = self.seat.load(bank, tok, 0);
+        let value = self.seat.add(bank, tok, k)?;
         note(
             trace,
             Event::Write {
