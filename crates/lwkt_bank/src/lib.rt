@@ -23,3 +23,8 @@ mod steps;
 mod takes;
 pub mod tries;
 pub mod views;
+
+pub use banks::Bank;
+pub use closed::Closed;
+pub use seats::CpuSeat;
+pub use tries::{Given, Try};

@@ -5,9 +5,7 @@ ghost use Rattle.lwkt_bank.specs.Seats.{id_of};
 ghost use Rattle.lwkt_bench.specs.Idle.{IsIdle, IsHolding, HasPlain};
 
 use crate::steps::Steps;
-use lwkt_bank::banks::Bank;
-use lwkt_bank::seats::CpuSeat;
-use lwkt_bank::tries::Try;
+use lwkt_bank::{Bank, CpuSeat, Try};
 use lwkt_base::{Mode, TokId};
 
 /// A seat that holds nothing, at its bank, and the token that it takes and gives back.

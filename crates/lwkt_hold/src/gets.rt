@@ -15,8 +15,7 @@ use crate::answers::{Acquired, Missed};
 use crate::holds::Hold;
 use crate::takes::take_one;
 use crate::traces::note;
-use lwkt_bank::banks::Bank;
-use lwkt_bank::seats::CpuSeat;
+use lwkt_bank::{Bank, CpuSeat};
 use lwkt_base::{Fault, Mode, Ref, TokId, TokList};
 use lwkt_core::Event;
 

@@ -10,9 +10,7 @@ ghost use Rattle.lwkt_hold.specs.Rows.{row, first_row, MeetsItsLaw, IsBroken, Sa
 
 use crate::takes::has;
 use crate::traces::{note, note_cells};
-use lwkt_bank::banks::Bank;
-use lwkt_bank::seats::CpuSeat;
-use lwkt_bank::tries::Given;
+use lwkt_bank::{Bank, CpuSeat, Given};
 use lwkt_base::{Mode, Ref, TokId};
 use lwkt_core::Event;
 

@@ -2,7 +2,7 @@ ghost use Rattle.std.specs.Prelude.{◌≡◌};
 ghost use Rattle.lwkt_base.specs.Holding.{holds_nothing};
 ghost use Rattle.lwkt_bank.specs.Seats.{holding};
 
-use lwkt_bank::seats::CpuSeat;
+use lwkt_bank::CpuSeat;
 
 /// A processor's seat, over which a thread's list of references is held as a whole or not at all.
 #[derive(Drop)]

@@ -9,7 +9,7 @@ ghost use Rattle.lwkt_hold.specs.Runs.{Ran};
 
 use crate::holds::Hold;
 use crate::traces::note;
-use lwkt_bank::banks::Bank;
+use lwkt_bank::Bank;
 use lwkt_base::{Fault, Mode, TokId, TokList};
 use lwkt_core::Event;
 

@@ -11,7 +11,7 @@ ghost use Rattle.lwkt_base.specs.declared.names.Ref.{Ref};
 use crate::answers::Blocked;
 use crate::gives::give_last;
 use crate::holds::Hold;
-use lwkt_bank::banks::Bank;
+use lwkt_bank::Bank;
 use lwkt_base::{Fault, TokId, TokList};
 use lwkt_core::Event;
 

@@ -9,7 +9,7 @@ use crate::answers::Resumed;
 use crate::gives::give_clean;
 use crate::holds::Hold;
 use crate::takes::take_one;
-use lwkt_bank::banks::Bank;
+use lwkt_bank::Bank;
 use lwkt_base::TokList;
 use lwkt_core::Event;
 

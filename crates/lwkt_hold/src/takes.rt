@@ -10,9 +10,7 @@ ghost use Rattle.lwkt_hold.specs.Misses.{Misses};
 
 use crate::answers::Missed;
 use crate::traces::note;
-use lwkt_bank::banks::Bank;
-use lwkt_bank::seats::CpuSeat;
-use lwkt_bank::tries::Try;
+use lwkt_bank::{Bank, CpuSeat, Try};
 use lwkt_base::{CpuId, Mode, Ref, TokId};
 use lwkt_core::Event;
 
