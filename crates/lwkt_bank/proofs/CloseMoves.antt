@@ -1,5 +1,5 @@
 use Rattle.std.proofs.Common.{◌≡◌, ◌≢◌, ⊎_elim, ℕ, ◌+◌, ◌<◌, ◌≤◌, List, [], length, map, ap, sym, ◌∙◌, subst, arith}
-use Rattle.std.specs.Prelude.{slice_index}
+use Rattle.std.specs.Prelude.{All, Some, slice_index, slice_get}
 use Rattle.std.proofs.lemmas.Bool.{cases_eq}
 use mathlib.Core.Option.{some, some-injective}
 use lib.ListN.{get_elem?}
@@ -17,13 +17,14 @@ use Rattle.lwkt_bank.specs.declared.views.Plan.{Plan}
 use Rattle.lwkt_bank.specs.declared.views.Entry.{Entry}
 use Rattle.lwkt_bank.specs.declared.views.View.{View}
 use Rattle.lwkt_bank.specs.Views.{at, amount, generation_in}
+use Rattle.lwkt_bank.specs.Gathered.{IsStill}
 use Rattle.lwkt_bank.specs.Rule.{Bench, token_word, cell_word, Seen, seen_by, column, Rule, plan_at, token_at}
 use Rattle.lwkt_bank.proofs.WordMoves.{count-le, generation-word}
 use Rattle.lwkt_bank.proofs.RuleMoves.{safe_token, token_is}
 use Rattle.lwkt_bank.proofs.ShowMoves.{numbered_seat}
 
 -- a token of a bank whose seats were all taken back
-pub record Settled (plan : Plan) (cpus : ℕ) (words : List ℕ) (tok written : ℕ) (added : ℕ → ℕ) : Type 0 where
+pub record Settled (plan : Plan) (cpus : ℕ) (words : List ℕ) (tok written : ℕ) (added : ℕ → ℕ) (known : Entry) : Type 0 where
   pub row : List ℕ
   pub tallies : List ℕ
   pub long : length row ≡ plan.cells
@@ -34,10 +35,11 @@ pub record Settled (plan : Plan) (cpus : ℕ) (words : List ℕ) (tok written : 
   pub eight : length tallies ≡ 8
   pub tally : (a : ℕ) → slice_index tallies a ≡ added a
   pub absent : (a : ℕ) → cpus ≤ a → slice_index tallies a ≡ 0
+  pub stands : IsStill known row (generation_in (slice_index words (token_word tok)))
 
 -- once the clerk has taken back as many seats as there are processors
 pub settled : (plans : List Plan) (cpus : ℕ) (s : Bench) (id : ℕ) (v : View) (made back tok : ℕ) → Rule plans cpus s → get_elem? s.views id ≡ some v → v.kind ≡ Clerk made back → cpus ≤ back → tok < length plans
-    → Settled (plan_at plans tok) cpus s.words tok (at v.tokens tok).written (λ a. amount a (at v.tokens tok).added)
+    → Settled (plan_at plans tok) cpus s.words tok (at v.tokens tok).written (λ a. amount a (at v.tokens tok).added) (at v.tokens tok)
 settled plans cpus s id v made back tok r here kind all there =
     let shows = r.pictures.each_token tok there in
     let tk = token_at r.model tok in
@@ -66,6 +68,12 @@ settled plans cpus s id v made back tok r here kind all there =
       eight = safe.eight_tallies;
       tally = λ a. shows.tallies a ∙ total-only (λ (x : Seen). amount a x.entry.added) (column tok s.views) id (seen_by tok v) (at_map (seen_by tok) s.views id v here) (λ j x e apart. ap (λ (d : Entry). amount a d.added) (spent_entry j x e apart));
       absent = λ a far. (safe.absent a (omega arith)).1;
+      stands =
+          let k = shows.known id (seen_by tok v) (at_map (seen_by tok) s.views id v here) in
+          record {
+            not_above = let n = k.not_above in omega arith;
+            cells = λ same. subst (λ (row : List ℕ). All (λ c. slice_get row c.at ≡ Some c.value) (at v.tokens tok).known) (sym row_first) (k.cells (same ∙ gen));
+          };
     }
   where
     closed : (j : ℕ) (k : SeatKind) → j ≢ id → get_elem? (map (λ (u : View). u.kind) s.views) j ≡ some k → k ≡ Spent

@@ -1,7 +1,8 @@
-use Rattle.std.proofs.Common.{eqb, inl, inr, ◌≡◌, ◌≢◌, ⊎_elim, ℕ, ◌+◌, ◌<◌, cond, List, [], ◌∷◌, ◌++◌, length, map, set, refl, ap, sym, ◌∙◌, subst, arith, All, Some}
-use Rattle.std.specs.Prelude.{slice_index, slice_get}
+use Rattle.std.proofs.Common.{Bool, eqb, eq-eqb, ne_eqb, inl, inr, ◌≡◌, ◌≢◌, ⊎_elim, ℕ, ◌+◌, ◌<◌, cond, List, [], ◌∷◌, ◌++◌, length, map, set, refl, ap, sym, ◌∙◌, subst, arith, All, Some}
+use Rattle.std.specs.Prelude.{max, slice_index, slice_get}
+use Rattle.std.proofs.Math.Nat.{max-le}
 use Rattle.std.proofs.lemmas.Bool.{cases_eq, false≢true}
-use Rattle.std.proofs.lemmas.List.Elements.{All-nil}
+use Rattle.std.proofs.lemmas.List.Elements.{All-nil, All-append}
 use Rattle.std.proofs.lemmas.List.Sums.{sum_by-append}
 use mathlib.Core.Option.{Option, some, some-injective}
 use lib.ListN.{get_elem?}
@@ -16,9 +17,10 @@ use Rattle.lwkt_core.specs.Seating.{AreSeated}
 use Rattle.lwkt_core.proofs.SeatingLemmas.{at_set, at_snoc, at_longer, set_else, at_map, of_map, map-set, map-snoc, total-set, total-snoc, AreSeated-split, AreSeated-join, AreSeated-below}
 use Rattle.lwkt_bank.specs.declared.views.Plan.{Plan}
 use Rattle.lwkt_bank.specs.declared.views.Added.{Added}
+use Rattle.lwkt_bank.specs.declared.views.KnownCell.{KnownCell}
 use Rattle.lwkt_bank.specs.declared.views.Entry.{Entry}
 use Rattle.lwkt_bank.specs.declared.views.View.{View}
-use Rattle.lwkt_bank.specs.Views.{blank, at, amount, both_of, merged, after_made, after_back, next_seat, clerk_after, new_seat, joined, spent}
+use Rattle.lwkt_bank.specs.Views.{blank, at, amount, known_of, both_of, merged, after_made, after_back, next_seat, clerk_after, new_seat, joined, spent}
 use Rattle.lwkt_bank.specs.Rule.{Bench, token_word, cell_word, Seen, seen_by, column, held_in, Knows, Shows, Rule, plan_at, token_at}
 use Rattle.lwkt_bank.proofs.ViewMoves.{at-merged}
 use Rattle.lwkt_bank.proofs.ShowMoves.{cpu_in, numbered_seat}
@@ -30,6 +32,27 @@ Knows-blank tok e held zero_generation none = record {
   cells = λ same. subst (λ xs. All (λ c. slice_get tok.first c.at ≡ Some c.value) xs) (sym none) (All-nil (λ c. slice_get tok.first c.at ≡ Some c.value));
   holder = λ is. absurd (false≢true (sym (ap is_held held) ∙ is));
 }
+
+-- what an entry knows of a generation
+pub known_same : (e : Entry) (g : ℕ) → e.generation ≡ g → known_of e g ≡ e.known
+known_same e g same = ap (λ (b : Bool). cond b e.known []) (eq-eqb e.generation g same)
+
+known_all : (P : KnownCell → Type 0) (e : Entry) (g : ℕ) → (e.generation ≡ g → All P e.known) → All P (known_of e g)
+known_all P e g knows = ⊎_elim
+    (λ (same : e.generation ≡ g). subst (λ (xs : List KnownCell). All P xs) (sym (known_same e g same)) (knows same))
+    (λ other. let none : known_of e g ≡ [] = ap (λ (b : Bool). cond b e.known []) (ne_eqb e.generation g other) in subst (λ (xs : List KnownCell). All P xs) (sym none) (All-nil P))
+    (cases_eq e.generation g)
+
+-- what two views know is true of the token together
+Knows-both : (tok : Token) (t : ℕ) (d e : Entry) → Knows tok d → Knows tok e → Knows tok (both_of t d e)
+Knows-both tok t d e one two =
+    let P : KnownCell → Type 0 = λ c. slice_get tok.first c.at ≡ Some c.value in
+    let g : ℕ = max d.generation e.generation in
+    record {
+      not_above = max-le one.not_above two.not_above;
+      cells = λ same. All-append P (known_of d g) (known_of e g) (known_all P d g (λ its. one.cells (its ∙ same))) (known_all P e g (λ its. two.cells (its ∙ same)));
+      holder = λ held. absurd (false≢true held);
+    }
 
 -- a token seen by one seat more
 Shows-split : (plan : Plan) (home : Option (Option (Unit {0}))) (word : ℕ) (cells : ℕ → ℕ) (views : List Seen) (tok : Token) (id made back t : ℕ) (x : Seen) → Shows plan home word cells views tok → get_elem? views id ≡ some x → x.kind ≡ Clerk made back
@@ -192,7 +215,7 @@ Shows-join plan home word cells views tok id made back other t cpu x w shows her
           omega arith;
       known = λ k u e. ⊎_elim
           (λ it. subst (λ (q : Seen). Knows tok q.entry) it.1 (Knows-blank tok (blank t) refl refl refl))
-          (λ else_. ⊎_elim (λ it. subst (λ (q : Seen). Knows tok q.entry) it.1 (Knows-blank tok (both_of t x.entry w.entry) refl refl refl)) (λ old. shows.known k u old.1) (at_set views id k y u else_.1))
+          (λ else_. ⊎_elim (λ it. subst (λ (q : Seen). Knows tok q.entry) it.1 (Knows-both tok t x.entry w.entry (shows.known id x here) (shows.known other w there))) (λ old. shows.known k u old.1) (at_set views id k y u else_.1))
           (at_set mid other k z u e);
     }
   where

@@ -1,17 +1,18 @@
-use Rattle.std.proofs.Common.{eqb, eq-eqb, ne_eqb, ⊎_elim, ◌≡◌, ◌≢◌, ℕ, zero, suc, take, get_or, ◌*◌, ◌+◌, ◌<◌, ◌≤◌, cond, List, [], ◌∷◌, ◌++◌, length, refl, ap, sym, ◌∙◌, subst, arith, All, Some, length-append}
+use Rattle.std.proofs.Common.{eqb, eq-eqb, ne_eqb, ⊎_elim, ◌≡◌, ◌≢◌, ℕ, zero, suc, take, get_or, ◌*◌, ◌+◌, ◌<◌, ◌≤◌, cond, List, [], ◌∷◌, ◌++◌, length, refl, ap, sym, ◌∙◌, subst, arith, All, Some, length-append, append_assoc}
 use Rattle.std.proofs.lemmas.Bool.{cases_eq}
-use Rattle.std.proofs.lemmas.List.Elements.{All-pop}
+use Rattle.std.proofs.lemmas.List.Elements.{All-pop, All-nil, All-cons, All-head, All-tail, All-weaker}
 use Rattle.std.proofs.lemmas.List.Sums.{sum_by-append, sum_by-cons}
-use Rattle.std.proofs.lemmas.List.{ext_get_or, get_or_append_left}
+use Rattle.std.proofs.lemmas.List.{ext_get_or, get_or_append_left, append-nil}
+use Rattle.std.proofs.Math.Nat.{le-max_left, le-max_right}
 use Rattle.std.proofs.Math.Seq.{get_or-append_seam}
-use Rattle.std.specs.Prelude.{slice_index, sum}
+use Rattle.std.specs.Prelude.{max, slice_index, slice_get, sum}
 use mathlib.Core.Option.{some, some-injective, some-ne-none}
 use lib.ListN.{get_elem?}
 use Rattle.lwkt_base.specs.declared.laws.Law.{Law}
 use Rattle.lwkt_base.specs.declared.laws.Law.TheVariants.{Tally}
 use Rattle.lwkt_base.specs.Law.{MeetsLaw, IsTallied}
 use Rattle.lwkt_bank.specs.declared.views.Plan.{Plan}
-use Rattle.lwkt_bank.specs.Rule.{cell_word, plan_at}
+use Rattle.lwkt_bank.specs.Rule.{token_word, cell_word, plan_at}
 use Rattle.lwkt_bank.proofs.CloseMoves.{Settled, settled}
 use Rattle.lwkt_bank.proofs.SeatMoves.{tally-le}
 use Rattle.lwkt_base.specs.declared.names.CpuId.{CpuId}
@@ -19,19 +20,21 @@ use Rattle.lwkt_core.specs.declared.seats.SeatKind.{SeatKind}
 use Rattle.lwkt_core.specs.declared.seats.SeatKind.TheVariants.{Clerk, Of, Spent}
 use Rattle.lwkt_core.proofs.SeatingLemmas.{total-snoc}
 use Rattle.lwkt_bank.specs.declared.views.Added.{Added}
+use Rattle.lwkt_bank.specs.declared.views.KnownCell.{KnownCell}
 use Rattle.lwkt_bank.specs.declared.views.Entry.{Entry}
 use Rattle.lwkt_bank.specs.declared.views.View.{View}
 use Rattle.lwkt_bank.specs.declared.seats.CpuSeat.{CpuSeat}
 use Rattle.lwkt_bank.specs.declared.kept.Kept.{Kept}
-use Rattle.lwkt_bank.specs.Views.{at, amount, joined, after_back}
+use Rattle.lwkt_bank.specs.Views.{at, amount, generation_in, known_of, both_of, joined, after_back}
 use Rattle.lwkt_bank.specs.Notes.{note_at, clerk_number}
 use Rattle.lwkt_bank.specs.Seats.{BankId, id_of_desk, entry}
-use Rattle.lwkt_bank.specs.Gathered.{written_by, added_by, IsClosedToken, IsClosed}
+use Rattle.lwkt_bank.specs.Gathered.{written_by, added_by, IsStill, IsClosedToken, IsClosed}
 use Rattle.lwkt_bank.specs.declared.clerks.Desk.{Desk}
 use Rattle.lwkt_bank.specs.declared.rules.Key.{Key}
-use Rattle.lwkt_bank.specs.Closing.{IsReady, kept_of, kept_by, Gathering, IsRead, AreRead, Left}
+use Rattle.lwkt_bank.specs.Closing.{IsReady, kept_of, kept_by, Recalls, Gathering, IsRead, AreRead, Left}
 use Rattle.lwkt_bank.specs.declared.closed.Closed.{Closed}
 use Rattle.lwkt_bank.proofs.ViewMoves.{at-merged}
+use Rattle.lwkt_bank.proofs.GatherMoves.{known_same}
 
 -- what a seat had kept is what its view says was added
 kept_is : (s : CpuSeat) (k : Kept) (tok cpu : ℕ) → tok < length s.seat.me.0.plans → k.notes ≡ s.notes → k.cpu ≡ s.cpu → kept_of tok cpu k ≡ amount cpu (entry s tok).added
@@ -48,6 +51,46 @@ kept_is s k tok cpu there notes named =
     let theirs : cpu ≢ s.cpu.0 = (λ same. away (ap (λ (c : CpuId). c.0) named ∙ sym same)) in
     test ∙ sym (noted.own cpu theirs))
     (cases_eq k.cpu.0 cpu)
+
+-- what is true of each element of a list is true of each of its parts
+all_left : {X : Type 0} (P : X → Type 0) (xs ys : List X) → All P (xs ++ ys) → All P xs
+all_left P [] ys all = All-nil P
+all_left P (x ∷ xs) ys all = All-cons P x xs (All-head P x (xs ++ ys) all) (all_left P xs ys (All-tail P x (xs ++ ys) all))
+
+all_right : {X : Type 0} (P : X → Type 0) (xs ys : List X) → All P (xs ++ ys) → All P ys
+all_right P [] ys all = all
+all_right P (x ∷ xs) ys all = all_right P xs ys (All-tail P x (xs ++ ys) all)
+
+-- two entries together say at least what each of them says
+recalls_left : (t : ℕ) (d e : Entry) → Recalls (both_of t d e) d
+recalls_left t d e =
+    let g : ℕ = max d.generation e.generation in
+    record {
+      rises = le-max_left d.generation e.generation;
+      cells = λ same row all.
+          let P : KnownCell → Type 0 = λ c. slice_get row c.at ≡ Some c.value in
+          subst (λ (xs : List KnownCell). All P xs) (known_same d g same) (all_left P (known_of d g) (known_of e g) all);
+    }
+
+recalls_right : (t : ℕ) (d e : Entry) → Recalls (both_of t d e) e
+recalls_right t d e =
+    let g : ℕ = max d.generation e.generation in
+    record {
+      rises = le-max_right d.generation e.generation;
+      cells = λ same row all.
+          let P : KnownCell → Type 0 = λ c. slice_get row c.at ≡ Some c.value in
+          subst (λ (xs : List KnownCell). All P xs) (known_same e g same) (all_right P (known_of d g) (known_of e g) all);
+    }
+
+recalls_then : (c d e : Entry) → Recalls c d → Recalls d e → Recalls c e
+recalls_then c d e one two = record {
+  rises = let a = one.rises in let b = two.rises in omega arith;
+  cells = λ same row all.
+      let a = one.rises in
+      let b = two.rises in
+      let first : d.generation ≡ c.generation = omega arith in
+      let second : e.generation ≡ d.generation = omega arith in two.cells second row (one.cells first row all);
+}
 
 -- one seat more was taken back
 pub gathering_more : (bank : BankId) (v w : View) (all rest front : List CpuSeat) (s : CpuSeat) (kept : List Kept) (k : Kept) (back : ℕ) → Gathering bank v all rest kept back → rest ≡ front ++ s ∷ [] → w ≡ joined v s.seat.me.0 → k.notes ≡ s.notes → k.cpu ≡ s.cpu
@@ -83,6 +126,16 @@ gathering_more bank v w all rest front s kept k back so_far last is notes named 
           let before = so_far.told tok cpu there in
           let split = ap (λ (xs : List CpuSeat). added_by xs tok cpu) last ∙ total-snoc (λ (x : CpuSeat). amount cpu (entry x tok).added) front s in
           omega arith;
+      behind = s ∷ so_far.behind;
+      in_order = so_far.in_order ∙ ap (λ (xs : List CpuSeat). xs ++ so_far.behind) last ∙ append_assoc front (s ∷ []) so_far.behind;
+      recalls = λ tok there.
+          let n = so_far.informed in
+          let d = at v.tokens tok in
+          let e = at s.seat.me.0.tokens tok in
+          let merged_is = at-merged (length v.plans) v.tokens s.seat.me.0.tokens tok (omega arith) in
+          let P : CpuSeat → Type 0 = λ x. Recalls (both_of tok d e) (entry x tok) in
+          let others : All P so_far.behind = All-weaker (λ (x : CpuSeat). Recalls d (entry x tok)) P (λ x r. recalls_then (both_of tok d e) d (entry x tok) (recalls_left tok d e) r) so_far.behind (so_far.recalls tok there) in
+          subst (λ (z : Entry). All (λ (x : CpuSeat). Recalls z (entry x tok)) (s ∷ so_far.behind)) (sym merged_is) (All-cons P s so_far.behind (recalls_right tok d e) others);
     })
   where
     All-last : (xs : List CpuSeat) (x : CpuSeat) → All (IsReady bank) (xs ++ x ∷ []) → IsReady bank x
@@ -103,6 +156,9 @@ gathering_none bank v seats made desk informed ready clean = record {
   written = λ tok there. let c = (clean tok).0 in omega arith;
   added = λ tok cpu there. let c = (clean tok).1 cpu in omega arith;
   told = λ tok cpu there. omega arith;
+  behind = [];
+  in_order = sym (append-nil seats);
+  recalls = λ tok there. All-nil (λ (s : CpuSeat). Recalls (at v.tokens tok) (entry s tok));
 }
 
 -- one element more of a list that is read in order
@@ -130,10 +186,10 @@ sum_shown (x ∷ xs) (y ∷ ys) few same none =
     omega arith
 
 -- a token at the close: what its words and notes say, and what the rule says of them
-pub closed_token : (plan : Plan) (cpus : ℕ) (words : List ℕ) (kept : List Kept) (tok : ℕ) (seats : List CpuSeat) (row : List ℕ) (generation : ℕ) (tallies : List ℕ) → cpus ≤ 8
-    → Settled plan cpus words tok (written_by seats tok) (λ a. added_by seats tok a) → ((a : ℕ) → kept_by kept tok a ≡ added_by seats tok a) → IsRead plan cpus words kept tok row generation tallies
+pub closed_token : (plan : Plan) (cpus : ℕ) (words : List ℕ) (kept : List Kept) (tok : ℕ) (seats : List CpuSeat) (row : List ℕ) (generation : ℕ) (tallies : List ℕ) (known : Entry) → cpus ≤ 8
+    → Settled plan cpus words tok (written_by seats tok) (λ a. added_by seats tok a) known → All (λ s. Recalls known (entry s tok)) seats → ((a : ℕ) → kept_by kept tok a ≡ added_by seats tok a) → IsRead plan cpus words kept tok row generation tallies
     → IsClosedToken plan cpus seats tok row generation tallies
-closed_token plan cpus words kept tok seats row generation tallies few settled told read =
+closed_token plan cpus words kept tok seats row generation tallies known few settled recalls told read =
     let same_row : row ≡ settled.row = ext_get_or 0 row settled.row (read.long ∙ sym settled.long) (λ i inside. let l = read.long in let low : i < plan.cells = omega arith in read.cells i low ∙ settled.cells i low) in
     let F : List ℕ → Type 0 = λ r. MeetsLaw plan.law plan.param r in
     record {
@@ -143,6 +199,19 @@ closed_token plan cpus words kept tok seats row generation tallies few settled t
       none = read.none;
       as_many = read.as_many;
       each = λ tally cpu low. read.each tally cpu low ∙ told cpu;
+      stands = All-weaker (λ (s : CpuSeat). Recalls known (entry s tok)) (λ (s : CpuSeat). IsStill (entry s tok) row generation)
+          (λ s r.
+          let later = r.rises in
+          let most = settled.stands.not_above in
+          let same_generation = read.generation_is in
+          record {
+            not_above = omega arith;
+            cells = λ same.
+                let first : known.generation ≡ generation_in (slice_index words (token_word tok)) = omega arith in
+                let second : (entry s tok).generation ≡ known.generation = omega arith in
+                subst (λ (r' : List ℕ). All (λ c. slice_get r' c.at ≡ Some c.value) (entry s tok).known) (sym same_row) (r.cells second settled.row (settled.stands.cells first));
+          })
+          seats recalls;
       all_added = λ tally.
           let P : Law → Type 0 = λ l. IsTallied l plan.param settled.row settled.tallies in
           let sum_is : settled.row ≡ (plan.param + sum settled.tallies) ∷ [] = subst P tally settled.tallied in
@@ -153,8 +222,8 @@ closed_token plan cpus words kept tok seats row generation tallies few settled t
     }
 
 -- no tally passes a number of 64 bits
-pub tally_fits : (plan : Plan) (cpus : ℕ) (words : List ℕ) (tok : ℕ) (written : ℕ) (added : ℕ → ℕ) → Settled plan cpus words tok written added → plan.law ≡ Tally → slice_index words (cell_word tok 0) < 18446744073709551616 → (a : ℕ) → added a < 18446744073709551616
-tally_fits plan cpus words tok written added settled tally fits a =
+pub tally_fits : (plan : Plan) (cpus : ℕ) (words : List ℕ) (tok : ℕ) (written : ℕ) (added : ℕ → ℕ) (known : Entry) → Settled plan cpus words tok written added known → plan.law ≡ Tally → slice_index words (cell_word tok 0) < 18446744073709551616 → (a : ℕ) → added a < 18446744073709551616
+tally_fits plan cpus words tok written added known settled tally fits a =
     let P : Law → Type 0 = λ l. IsTallied l plan.param settled.row settled.tallies in
     let sum_is : settled.row ≡ (plan.param + sum settled.tallies) ∷ [] = subst P tally settled.tallied in
     let one : length settled.row ≡ 1 = ap length sum_is in
@@ -216,10 +285,10 @@ module _ (bank : BankId) (cpus id : ℕ) (v : View) (words : List ℕ) (seats : 
   pub wide : length words ≡ 16 * length bank.plans + 1
   wide = sym (ap length left.1.1.1) ∙ left.1.0.wide
 
-  settled_token : (tok : ℕ) → tok < length bank.plans → Settled (plan_at bank.plans tok) cpus words tok (written_by seats tok) (λ a. added_by seats tok a)
+  settled_token : (tok : ℕ) → tok < length bank.plans → Settled (plan_at bank.plans tok) cpus words tok (written_by seats tok) (λ a. added_by seats tok a) (at v.tokens tok)
   settled_token tok there =
       let s = settled bank.plans cpus left.0 id v gathered.made (length seats) tok left.1.0 left.1.1.0 gathered.desk (omega arith) there in
-      let F : List ℕ → Type 0 = λ ws. Settled (plan_at bank.plans tok) cpus ws tok (at v.tokens tok).written (λ a. amount a (at v.tokens tok).added) in
+      let F : List ℕ → Type 0 = λ ws. Settled (plan_at bank.plans tok) cpus ws tok (at v.tokens tok).written (λ a. amount a (at v.tokens tok).added) (at v.tokens tok) in
       let t = subst F left.1.1.1 s in
       let w = gathered.written tok there in
       record {
@@ -233,6 +302,7 @@ module _ (bank : BankId) (cpus id : ℕ) (v : View) (words : List ℕ) (seats : 
         eight = t.eight;
         tally = λ a. let x = t.tally a in let y = gathered.added tok a there in omega arith;
         absent = t.absent;
+        stands = t.stands;
       }
 
   told_token : (tok : ℕ) → tok < length bank.plans → (a : ℕ) → kept_by kept tok a ≡ added_by seats tok a
@@ -240,14 +310,15 @@ module _ (bank : BankId) (cpus id : ℕ) (v : View) (words : List ℕ) (seats : 
 
   pub kept_fits : ((k : ℕ) → slice_index words k < 18446744073709551616) → (tok : ℕ) → tok < length bank.plans → (plan_at bank.plans tok).law ≡ Tally → (a : ℕ) → kept_by kept tok a < 18446744073709551616
   kept_fits fits tok there tally a =
-      let h = tally_fits (plan_at bank.plans tok) cpus words tok (written_by seats tok) (λ b. added_by seats tok b) (settled_token tok there) tally (fits (cell_word tok 0)) a in
+      let h = tally_fits (plan_at bank.plans tok) cpus words tok (written_by seats tok) (λ b. added_by seats tok b) (at v.tokens tok) (settled_token tok there) tally (fits (cell_word tok 0)) a in
       let e = told_token tok there a in
       omega arith
 
   pub closed_tokens : (closed : Closed) → AreRead bank.plans cpus words kept closed (length bank.plans) → (tok : ℕ) → tok < length bank.plans
       → IsClosedToken (plan_at bank.plans tok) cpus seats tok (get_or closed.rows.items tok []) (get_or closed.gens.items tok 0) (get_or closed.tallies.items tok [])
   closed_tokens closed read tok there =
-      closed_token (plan_at bank.plans tok) cpus words kept tok seats (get_or closed.rows.items tok []) (get_or closed.gens.items tok 0) (get_or closed.tallies.items tok []) few (settled_token tok there) (told_token tok there) (read.each tok there)
+      closed_token (plan_at bank.plans tok) cpus words kept tok seats (get_or closed.rows.items tok []) (get_or closed.gens.items tok 0) (get_or closed.tallies.items tok []) (at v.tokens tok) few (settled_token tok there)
+      (subst (λ (xs : List CpuSeat). All (λ (s : CpuSeat). Recalls (at v.tokens tok) (entry s tok)) xs) (sym gathered.in_order) (gathered.recalls tok there)) (told_token tok there) (read.each tok there)
 
 -- the clerk before it takes a seat back
 pub desk_told : (kind : SeatKind) → clerk_number kind ≡ 1 → (made : ℕ) × (kind ≡ Clerk made 0)

@@ -1,4 +1,4 @@
-use Rattle.std.specs.Prelude.{◌≡◌, ◌≢◌, ℕ, ◌+◌, ◌<◌, ◌==◌, if◌then◌else◌, List, [], length, All, slice_index, slice_index_or}
+use Rattle.std.specs.Prelude.{◌≡◌, ◌≢◌, ℕ, ◌+◌, ◌<◌, ◌≤◌, ◌==◌, if◌then◌else◌, List, [], ◌++◌, length, All, Some, slice_get, slice_index, slice_index_or}
 use Rattle.lwkt_base.specs.declared.holdings.Held.TheVariants.{Nothing}
 use Rattle.lwkt_core.specs.declared.seats.SeatKind.TheVariants.{Clerk}
 use Rattle.lwkt_core.specs.Seating.{total}
@@ -9,11 +9,12 @@ use Rattle.lwkt_bank.specs.Rule.{Bench, Rule, token_word, cell_word, plan_at}
 use Rattle.lwkt_base.specs.declared.laws.Law.TheVariants.{Tally}
 use Rattle.lwkt_bank.specs.declared.closed.Closed.{Closed}
 use Rattle.lwkt_bank.specs.declared.views.View.{View}
+use Rattle.lwkt_bank.specs.declared.views.Entry.{Entry}
 use Rattle.lwkt_bank.specs.declared.seats.CpuSeat.{CpuSeat}
 use Rattle.lwkt_bank.specs.declared.kept.Kept.{Kept}
 use Rattle.lwkt_bank.specs.Views.{at, amount, generation_in}
 use Rattle.lwkt_bank.specs.Notes.{note_at}
-use Rattle.lwkt_bank.specs.Seats.{BankId, bank_of, holding}
+use Rattle.lwkt_bank.specs.Seats.{BankId, bank_of, entry, holding}
 use Rattle.lwkt_bank.specs.Gathered.{written_by, added_by}
 
 -- a seat of this bank that holds nothing
@@ -28,6 +29,11 @@ kept_of tok cpu k = if k.cpu.0 == cpu then (note_at k.notes tok).tally else 0
 abbrev pub kept_by : List Kept → ℕ → ℕ → ℕ
 kept_by kept tok cpu = total (kept_of tok cpu) kept
 
+-- one entry of a token says at least what another says: no earlier generation, and at an equal one each cell known there
+pub record Recalls (d e : Entry) : Type 0 where
+  pub rises : e.generation ≤ d.generation
+  pub cells : e.generation ≡ d.generation → (row : List ℕ) → All (λ c. slice_get row c.at ≡ Some c.value) d.known → All (λ c. slice_get row c.at ≡ Some c.value) e.known
+
 -- the clerk has taken back all of these seats but the rest: what it knows and what was kept say of them what they did
 pub record Gathering (bank : BankId) (v : View) (all rest : List CpuSeat) (kept : List Kept) (back : ℕ) : Type 0 where
   pub made : ℕ
@@ -38,6 +44,9 @@ pub record Gathering (bank : BankId) (v : View) (all rest : List CpuSeat) (kept 
   pub written : (tok : ℕ) → tok < length bank.plans → (at v.tokens tok).written + written_by rest tok ≡ written_by all tok
   pub added : (tok cpu : ℕ) → tok < length bank.plans → amount cpu (at v.tokens tok).added + added_by rest tok cpu ≡ added_by all tok cpu
   pub told : (tok cpu : ℕ) → tok < length bank.plans → kept_by kept tok cpu + added_by rest tok cpu ≡ added_by all tok cpu
+  pub behind : List CpuSeat
+  pub in_order : all ≡ rest ++ behind
+  pub recalls : (tok : ℕ) → tok < length bank.plans → All (λ s. Recalls (at v.tokens tok) (entry s tok)) behind
 
 -- the words of a state of the rule in which a seat has this view
 abbrev pub Left : List Plan → ℕ → ℕ → View → List ℕ → Type 0

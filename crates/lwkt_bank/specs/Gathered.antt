@@ -1,4 +1,4 @@
-use Rattle.std.specs.Prelude.{◌≡◌, ◌≢◌, ℕ, ◌+◌, ◌<◌, List, [], ◌∷◌, length, slice_index, slice_index_or, sum}
+use Rattle.std.specs.Prelude.{◌≡◌, ◌≢◌, ℕ, ◌+◌, ◌<◌, ◌≤◌, List, [], ◌∷◌, length, All, Some, slice_get, slice_index, slice_index_or, sum}
 use Rattle.lwkt_core.specs.declared.seats.SeatKind.TheVariants.{Clerk}
 use Rattle.lwkt_bank.specs.declared.banks.Bank.{Bank}
 use Rattle.lwkt_bank.specs.declared.clerks.Desk.{Desk}
@@ -7,6 +7,7 @@ use Rattle.lwkt_base.specs.declared.laws.Law.TheVariants.{Tally}
 use Rattle.lwkt_base.specs.Law.{MeetsLaw}
 use Rattle.lwkt_core.specs.Seating.{total}
 use Rattle.lwkt_bank.specs.declared.views.Plan.{Plan}
+use Rattle.lwkt_bank.specs.declared.views.Entry.{Entry}
 use Rattle.lwkt_bank.specs.declared.closed.Closed.{Closed}
 use Rattle.lwkt_bank.specs.Views.{blank, amount}
 use Rattle.lwkt_bank.specs.Seats.{BankId, id_of, bank_of, cpus_of, tokens_of, plan_of, entry, steps_of}
@@ -41,7 +42,13 @@ written_by seats tok = total (λ s. (entry s tok).written) seats
 abbrev pub added_by : List CpuSeat → ℕ → ℕ → ℕ
 added_by seats tok cpu = total (λ s. amount cpu (entry s tok).added) seats
 
--- a token at the close: its row obeys its law, its generation is the opening one plus the written sections of all seats, and a
+-- what a seat knew of a token is so at the close: the generation isn't below the one that it last saw, and at an equal one the
+-- row has each cell that it knew
+pub record IsStill (e : Entry) (row : List ℕ) (generation : ℕ) : Type 0 where
+  pub not_above : e.generation ≤ generation
+  pub cells : e.generation ≡ generation → All (λ c. slice_get row c.at ≡ Some c.value) e.known
+
+-- a token at the close: what each seat knew of it is so, its row obeys its law, its generation is the opening one plus the written sections of all seats, and a
 -- Tally token shows for each processor what it has added, and its cell is the parameter plus all of it
 pub record IsClosedToken (plan : Plan) (cpus : ℕ) (seats : List CpuSeat) (tok : ℕ) (row : List ℕ) (generation : ℕ) (tallies : List ℕ) : Type 0 where
   pub long : length row ≡ plan.cells
@@ -50,6 +57,7 @@ pub record IsClosedToken (plan : Plan) (cpus : ℕ) (seats : List CpuSeat) (tok 
   pub none : plan.law ≢ Tally → tallies ≡ []
   pub as_many : plan.law ≡ Tally → length tallies ≡ cpus
   pub each : plan.law ≡ Tally → (cpu : ℕ) → cpu < cpus → slice_index tallies cpu ≡ added_by seats tok cpu
+  pub stands : All (λ s. IsStill (entry s tok) row generation) seats
   pub all_added : plan.law ≡ Tally → row ≡ (plan.param + sum tallies) ∷ []
 
 -- the closing values of a bank of so many processors that took back these seats

@@ -1,4 +1,4 @@
-use Rattle.std.specs.Prelude.{ℕ, ◌+◌, ◌/◌, ◌==◌, zero, suc, if◌then◌else◌, List, [], ◌∷◌, ◌++◌, length, slice_set, slice_index, sum_by}
+use Rattle.std.specs.Prelude.{ℕ, max, ◌+◌, ◌/◌, ◌==◌, zero, suc, if◌then◌else◌, List, [], ◌∷◌, ◌++◌, length, slice_set, slice_index, sum_by}
 use Rattle.lwkt_base.specs.declared.names.CpuId.{CpuId}
 use Rattle.lwkt_base.specs.declared.names.Mode.{Mode}
 use Rattle.lwkt_base.specs.declared.names.Mode.TheVariants.{Shared}
@@ -112,9 +112,13 @@ clerk_after v = record v { kind = after_made v.kind }
 abbrev pub new_seat : View → View
 new_seat v = record { kind = next_seat v.kind; plans = v.plans; tokens = []; steps = [] }
 
--- what two views together say of a token that neither holds
+-- the cells that an entry knows of this generation's first row
+abbrev pub known_of : Entry → ℕ → List KnownCell
+known_of e generation = if e.generation == generation then e.known else []
+
+-- what two views together say of a token that neither holds: the later generation, and what both know of it
 abbrev pub both_of : ℕ → Entry → Entry → Entry
-both_of tok d e = record (blank tok) { written = d.written + e.written; added = d.added ++ e.added }
+both_of tok d e = record (blank tok) { generation = max d.generation e.generation; known = known_of d (max d.generation e.generation) ++ known_of e (max d.generation e.generation); written = d.written + e.written; added = d.added ++ e.added }
 
 -- what two views together say of the tokens below a number
 abbrev pub merged : ℕ → List Entry → List Entry → List Entry

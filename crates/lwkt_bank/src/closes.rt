@@ -210,8 +210,9 @@ impl Desk {
 
 impl Bank {
     /// Closes the bank, with all its seats, in any order. That there are as many as processors, all of this bank, and that
-    /// each holds nothing is the caller's condition. Refused with `Memory` only if an allocation is; the bank is then given
-    /// up.
+    /// each holds nothing is the caller's condition. What each seat knew of a token stands: the closing generation isn't
+    /// below the one that it last saw, and if it is that one, the row has each cell that it knew. Refused with `Memory` only
+    /// if an allocation is; the bank is then given up.
     pub fn close(self, alloc: Global, seats: Vec<CpuSeat>) -> Result<Closed, Fault>
         requires ready { All (IsReady (id_of self)) seats.items }
         requires all { length seats.items ≡ cpus_of self }
