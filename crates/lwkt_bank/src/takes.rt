@@ -33,6 +33,16 @@ impl CpuSeat {
         self.notes[tok.0 as usize]
     }
 
+    /// What the seat holds of a token, told without a step.
+    pub fn held(&self, bank: &Bank, tok: TokId) -> Held
+        requires of { bank_of self.now ≡ id_of bank.now }
+        requires there { tok.0 < tokens_of (bank_of self.now) }
+        ensures { result ≡ holding self.now tok.0 }
+    {
+        let note = self.note(bank, tok);
+        note.held
+    }
+
     /// Loads the word of a token.
     pub fn word(&mut self, bank: &Bank, tok: TokId) -> u64
         requires of { bank_of self.old ≡ id_of bank.now }
