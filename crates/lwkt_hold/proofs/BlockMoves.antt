@@ -1,4 +1,4 @@
-use Rattle.std.proofs.Common.{◌≡◌, ◌≢◌, ◌⊎◌, ℕ, ◌+◌, ◌-◌, ◌<◌, ◌≤◌, Bool, true, false, cond, eqb, ne_eqb, List, [], ◌∷◌, length, take, get_or, refl, ap, sym, ◌∙◌, subst, arith, inl, inr, Option, Some, None}
+use Rattle.std.proofs.Common.{◌≡◌, ◌≢◌, ℕ, ◌-◌, ◌<◌, ◌≤◌, Bool, true, false, cond, eqb, ne_eqb, List, length, take, get_or, refl, ap, sym, ◌∙◌, subst, arith, inl, inr, Option, Some, None}
 use Rattle.std.specs.Prelude.{IsSomeAnd, slice_get}
 use Rattle.std.proofs.lemmas.Bool.{eqb-true, eqb-false, cases_Bool, false≢true}
 use Rattle.std.proofs.lemmas.Option.{slice_get-get_or}
@@ -9,11 +9,10 @@ use Rattle.lwkt_base.specs.declared.names.Ref.{Ref}
 use Rattle.lwkt_base.specs.declared.holdings.Held.{Held}
 use Rattle.lwkt_base.specs.declared.holdings.Held.TheVariants.{Nothing, Holds}
 use Rattle.lwkt_base.specs.Holding.{Holding, is_held, is_exclusive, one_more, added, holding_of, holds_nothing}
-use Rattle.lwkt_base.specs.Law.{MeetsLaw}
 use Rattle.lwkt_bank.specs.declared.seats.CpuSeat.{CpuSeat}
-use Rattle.lwkt_bank.specs.Seats.{BankId, bank_of, plan_of, holding}
+use Rattle.lwkt_bank.specs.Seats.{bank_of, holding}
 use Rattle.lwkt_hold.specs.Fronts.{names}
-use Rattle.lwkt_hold.specs.Rows.{row, first_row, MeetsItsLaw, IsBroken, SameRow, GivesBack, GivenUp, IsFirstBroken, IsFirstSoFar, first_of}
+use Rattle.lwkt_hold.specs.Rows.{row, first_row, IsBroken, SameRow, GivesBack, GivenUp, IsFirstSoFar, first_of}
 use Rattle.lwkt_hold.proofs.HoldingMoves.{held_named}
 use Rattle.lwkt_hold.proofs.GiveMoves.{more_here, held_more, same_law}
 
@@ -126,6 +125,9 @@ module _ (a s s' : CpuSeat) (h : Holding) (tok : TokId) (mode : Mode) (restored 
       | inr two ↦ before other (ap is_held (sym (elsewhere other two)) ∙ free) broken
     ]
 
+    first_here : restored ≡ true → names (take place refs) tok.0 ≡ false
+    first_here is = sym (held_named (take place refs) tok.0) ∙ ap (λ x. is_held (x tok.0)) (sym (now ∙ front)) ∙ (back.yes is).2
+
     in_front : ((other : ℕ) → is_held (holding s other) ≡ false → ¬ IsBroken a other) → (other : ℕ) → IsBroken a other → other ≢ tok.0 → names (take place refs) other ≡ true
     in_front before other broken away = elim (cases_Bool (is_held (holding s' other))) [
       | inl held ↦ sym (held_named (take place refs) other) ∙ ap (λ x. is_held (x other)) (sym (now ∙ front)) ∙ held
@@ -140,7 +142,7 @@ module _ (a s s' : CpuSeat) (h : Holding) (tok : TokId) (mode : Mode) (restored 
       where
         go : (o : Option TokId) (b : Bool) → restored ≡ b → IsFirstSoFar a refs s o → IsFirstSoFar a refs s' (first_of o b tok)
         go (Some t) b is before = before
-        go None true is before = record { is_broken = back_here (back.yes is).0; place = place; at_place = at_place; others_in_front = in_front before }
+        go None true is before = record { is_broken = back_here (back.yes is).0; place = place; at_place = at_place; is_first = first_here is; others_in_front = in_front before }
         go None false is before = none_yet is before
 
 -- the token of the reference of a place

@@ -1,9 +1,9 @@
-use Rattle.std.proofs.Common.{◌≡◌, ◌≢◌, ◌⊎◌, ℕ, suc, ◌+◌, ◌-◌, ◌<◌, ◌≤◌, Bool, true, false, cond, eqb, List, [], ◌∷◌, ◌++◌, length, take, get_or, refl, ap, sym, ◌∙◌, subst, arith, inl, inr, append_assoc, length-take, eq-eqb, ne_eqb}
-use Rattle.std.specs.Prelude.{not, All, filter, Vec, vec_len, vec_capacity, Option, Some, None, slice_get, IsSomeAnd}
+use Rattle.std.proofs.Common.{◌≡◌, ◌≢◌, ◌⊎◌, ℕ, suc, ◌+◌, ◌-◌, ◌<◌, ◌≤◌, Bool, true, false, cond, eqb, List, [], ◌∷◌, ◌++◌, length, take, get_or, refl, ap, sym, ◌∙◌, subst, arith, inl, inr, eq-eqb}
+use Rattle.std.specs.Prelude.{All, filter, Vec, vec_len, vec_capacity, Option, Some, None, slice_get}
 use Rattle.std.specs.List.{AllZip}
 use Rattle.std.specs.declared.alloc.Global.{Global}
 use Rattle.std.proofs.lemmas.List.Elements.{All-from_recursion, All-cons}
-use Rattle.std.proofs.lemmas.Option.{slice_get-get_or, slice_get_within, get_or_from_slice_get}
+use Rattle.std.proofs.lemmas.Option.{slice_get_within, get_or_from_slice_get}
 use Rattle.lwkt_base.specs.declared.names.CpuId.{CpuId}
 use Rattle.lwkt_base.specs.declared.names.TokId.{TokId}
 use Rattle.lwkt_base.specs.declared.names.Mode.{Mode}
@@ -17,19 +17,17 @@ use Rattle.lwkt_base.specs.Law.{MeetsLaw}
 use Rattle.std.proofs.lemmas.Bool.{eqb-true, eqb-false, cases_Bool, false≢true}
 use Rattle.lwkt_base.specs.Holding.{Holding, is_held, is_exclusive, one_more, one_less, added, removed, holding_of}
 use Rattle.lwkt_core.specs.declared.events.Event.{Event}
-use Rattle.lwkt_core.specs.declared.events.Event.TheVariants.{Write, GiveOne, GiveClean, GiveWritten}
-use Rattle.lwkt_core.specs.declared.seats.WordStep.{WordStep}
+use Rattle.lwkt_core.specs.declared.events.Event.TheVariants.{Write}
 use Rattle.lwkt_core.specs.Events.{cpu_of}
 use Rattle.lwkt_bank.specs.declared.views.Entry.{Entry}
-use Rattle.lwkt_bank.specs.declared.views.KnownCell.{KnownCell}
 use Rattle.lwkt_bank.specs.declared.seats.CpuSeat.{CpuSeat}
-use Rattle.lwkt_bank.specs.Seats.{BankId, bank_of, plan_of, entry, holding, steps_of, Changes, Knowing, Restored}
-use Rattle.lwkt_hold.specs.Fronts.{IsFront, names}
-use Rattle.lwkt_hold.specs.Steps.{after, is_counted, is_on_word, Shows}
+use Rattle.lwkt_bank.specs.Seats.{BankId, bank_of, plan_of, entry, holding, Knowing, Restored, written_over}
+use Rattle.lwkt_hold.specs.Steps.{is_on_word, Shows}
 use Rattle.lwkt_hold.specs.Runs.{Moves, Ran}
 use Rattle.lwkt_hold.specs.Rows.{row, first_row, MeetsItsLaw, IsBroken, SameRow, writes, GivesBack, Mends}
-use Rattle.lwkt_hold.proofs.HoldingMoves.{holding_of_push, holding_of_more, removed_added, held_named}
-use Rattle.lwkt_hold.proofs.RunMoves.{ran_none, ran_then, ran_step, ran_quiet, ran_weaker, holding_kept}
+use Rattle.lwkt_hold.specs.Givings.{StoresFirst}
+use Rattle.lwkt_hold.proofs.HoldingMoves.{holding_of_more}
+use Rattle.lwkt_hold.proofs.RunMoves.{ran_quiet, ran_weaker, holding_kept}
 
 -- stores are no steps on a token word, are by their processor, and keep every holding
 writes_off : (cpu : CpuId) (tok : TokId) (cell : ℕ) (values : List (Option ℕ)) → filter is_on_word (writes cpu tok cell values) ≡ []
@@ -91,35 +89,6 @@ one_more_here false held mode is = cc
 pub more_here : (h : Holding) (tok : ℕ) (mode : Mode) → added h tok mode tok ≡ one_more (h tok) mode
 more_here h tok mode = one_more_here (eqb tok tok) (h tok) mode (eq-eqb tok tok refl)
 
-first_exclusive : (held : Held) → is_held held ≡ false → one_more held Exclusive ≡ Holds Exclusive 0
-first_exclusive Nothing is = refl
-first_exclusive (Holds mode further) is = cc
-
-no_shared : (held : Held) → one_more held Shared ≡ Holds Exclusive 0 → ⊥
-no_shared Nothing is = cc
-no_shared (Holds mode further) is = let F : Held → ℕ = further_of in absurd (omega (arith, ap F is))
-  where
-    further_of : Held → ℕ
-    further_of Nothing = 0
-    further_of (Holds m f) = f
-
-no_further : (held : Held) (mode : Mode) → is_held held ≡ true → one_more held mode ≡ Holds Exclusive 0 → ⊥
-no_further Nothing mode is e = cc
-no_further (Holds m further) mode is e = no_shared (Holds m further) e
-
-module _ (front : List Ref) (last : Ref) where
-  pub ends_yes : last.mode ≡ Exclusive → names front last.tok.0 ≡ false → added (holding_of front) last.tok.0 last.mode last.tok.0 ≡ Holds Exclusive 0
-  ends_yes exclusive none =
-      more_here (holding_of front) last.tok.0 last.mode
-      ∙ ap (λ m. one_more (holding_of front last.tok.0) m) exclusive
-      ∙ first_exclusive (holding_of front last.tok.0) (held_named front last.tok.0 ∙ none)
-
-  pub ends_no_shared : last.mode ≡ Shared → added (holding_of front) last.tok.0 last.mode last.tok.0 ≡ Holds Exclusive 0 → ⊥
-  ends_no_shared shared is = no_shared (holding_of front last.tok.0) (ap (λ m. one_more (holding_of front last.tok.0) m) (sym shared) ∙ sym (more_here (holding_of front) last.tok.0 last.mode) ∙ is)
-
-  pub ends_no_named : names front last.tok.0 ≡ true → added (holding_of front) last.tok.0 last.mode last.tok.0 ≡ Holds Exclusive 0 → ⊥
-  ends_no_named named is = no_further (holding_of front last.tok.0) last.mode (held_named front last.tok.0 ∙ named) (sym (more_here (holding_of front) last.tok.0 last.mode) ∙ is)
-
 -- a row that doesn't obey its law isn't that of a Tally token
 pub not_tally : (s : CpuSeat) (tok : ℕ) → (MeetsItsLaw s tok → ⊥) → (plan_of (bank_of s) tok).law ≡ Tally → ⊥
 not_tally s tok broken tally = let F : Law → Type 0 = λ l. MeetsLaw l (plan_of (bank_of s) tok).param (row s tok) in broken (subst F (sym tally) tt)
@@ -154,44 +123,39 @@ same_law s m tok bank same meets =
     subst G (sym bank) (subst F (sym same) meets)
 
 -- a reference is given back after its section was mended
-module _ (s m : CpuSeat) (h : Holding) (last : Ref) (restored : Bool) (front : holding s ≡ added h last.tok.0 last.mode) (kept : holding m ≡ holding s) (bank : bank_of m ≡ bank_of s) (mends : Mends s m last.tok.0 restored) where
-  pub held_now : is_held (holding m last.tok.0) ≡ true
-  held_now = ap (λ x. is_held (x last.tok.0)) (kept ∙ front) ∙ ap is_held (more_here h last.tok.0 last.mode) ∙ held_more (h last.tok.0) last.mode
+module _ (s m : CpuSeat) (tok : ℕ) (restored : Bool) (held : is_held (holding s tok) ≡ true) (kept : holding m ≡ holding s) (bank : bank_of m ≡ bank_of s) (mends : Mends s m tok restored) where
+  pub held_now : is_held (holding m tok) ≡ true
+  held_now = ap (λ x. is_held (x tok)) kept ∙ held
 
-  pub ready_now : holding m last.tok.0 ≡ Holds Exclusive 0 → (row m last.tok.0 ≡ first_row m last.tok.0) ⊎ MeetsItsLaw m last.tok.0
+  pub ready_now : holding m tok ≡ Holds Exclusive 0 → (row m tok ≡ first_row m tok) ⊎ MeetsItsLaw m tok
   ready_now ends = elim (cases_Bool restored) [
     | inl is ↦ inl ((mends.yes is).2 ∙ sym mends.first_is)
-    | inr is ↦ inr (same_law s m last.tok.0 bank (mends.no is).0 ((mends.no is).1 (ap (λ x. x last.tok.0) (sym kept) ∙ ends)))
+    | inr is ↦ inr (same_law s m tok bank (mends.no is).0 ((mends.no is).1 (ap (λ x. x tok) (sym kept) ∙ ends)))
   ]
 
-  pub given_now : removed (holding m) last.tok.0 ≡ h
-  given_now = ap (λ x. removed x last.tok.0) (kept ∙ front) ∙ removed_added h last.tok.0 last.mode
+  pub given_now : removed (holding m) tok ≡ removed (holding s) tok
+  given_now = ap (λ x. removed x tok) kept
 
-  module _ (s' : CpuSeat) (given : holding s' ≡ removed (holding m) last.tok.0) (others : (other : ℕ) → other ≢ last.tok.0 → SameRow m s' other) (same : row s' last.tok.0 ≡ row m last.tok.0) (still : is_held (holding s' last.tok.0) ≡ true → SameRow m s' last.tok.0) where
-    less : holding s' last.tok.0 ≡ one_less (holding s last.tok.0)
-    less = ap (λ x. x last.tok.0) given ∙ removed_here (holding m) last.tok.0 ∙ ap (λ x. one_less (x last.tok.0)) kept
+  module _ (s' : CpuSeat) (given : holding s' ≡ removed (holding m) tok) (others : (other : ℕ) → other ≢ tok → SameRow m s' other) (same : row s' tok ≡ row m tok) (still : is_held (holding s' tok) ≡ true → SameRow m s' tok) where
+    less : holding s' tok ≡ one_less (holding s tok)
+    less = ap (λ x. x tok) given ∙ removed_here (holding m) tok ∙ ap (λ x. one_less (x tok)) kept
 
-    ended : restored ≡ true → is_held (holding s' last.tok.0) ≡ false
+    ended : restored ≡ true → is_held (holding s' tok) ≡ false
     ended is = ap is_held (less ∙ ap one_less (mends.yes is).1)
 
-    pub gives_back : GivesBack s s' last.tok.0 restored
+    pub gives_back : GivesBack s s' tok restored
     gives_back = record {
       others = λ other away. record { row_is = (others other away).row_is ∙ (mends.others other away).row_is; first_is = (others other away).first_is ∙ (mends.others other away).first_is };
-      still = λ held. elim (cases_Bool restored) [
-        | inl is ↦ absurd (false≢true (sym (ended is) ∙ held))
-        | inr is ↦ record { row_is = (still held).row_is ∙ (mends.no is).0; first_is = (still held).first_is ∙ mends.first_is }
+      still = λ left. elim (cases_Bool restored) [
+        | inl is ↦ absurd (false≢true (sym (ended is) ∙ left))
+        | inr is ↦ record { row_is = (still left).row_is ∙ (mends.no is).0; first_is = (still left).first_is ∙ mends.first_is }
       ];
       yes = λ is. ((mends.yes is).0, same ∙ (mends.yes is).2, ended is);
       no = λ is. (
         same ∙ (mends.no is).0,
-        λ none broken. broken.broken ((mends.no is).1 (last_exclusive (holding s last.tok.0) broken.exclusive (ap is_held (sym less) ∙ none))),
+        λ none broken. broken.broken ((mends.no is).1 (last_exclusive (holding s tok) broken.exclusive (ap is_held (sym less) ∙ none))),
       );
     }
-
--- what a negation tells
-pub of_not : (b : Bool) → (not b ≡ true → b ≡ false) × (not b ≡ false → b ≡ true)
-of_not true = (λ is. cc, λ is. refl)
-of_not false = (λ is. refl, λ is. cc)
 
 -- what learning of cells leaves of the rows
 same_rows : (s m : CpuSeat) (tok other : ℕ) → Knowing s m tok (entry s tok) → SameRow s m other
@@ -235,3 +199,19 @@ mends_broken s l m tok k ends broken restored first others = record {
   yes = λ is. (record { exclusive = exclusive_held (holding s tok) ends; broken = broken }, ends, restored ∙ (same_rows s l tok tok k).first_is);
   no = λ is. cc;
 }
+
+-- the values of a restore make the row the first row
+pub stores_first : (s s' : CpuSeat) (tok : ℕ) (values : List (Option ℕ)) → Restored s s' tok values → StoresFirst s tok values
+stores_first s s' tok values r = record { makes_first = r.writes; inside = r.inside }
+
+-- values that make the row the first row, for a seat that only knew fewer cells
+pub stores_before : (s m : CpuSeat) (tok : ℕ) (values : List (Option ℕ)) → Knowing s m tok (entry s tok) → StoresFirst m tok values → StoresFirst s tok values
+stores_before s m tok values k stores =
+    let same = same_rows s m tok tok k in
+    record {
+      makes_first = ap (λ xs. over xs) (sym same.row_is) ∙ stores.makes_first ∙ same.first_is;
+      inside = let G : BankId → Type 0 = λ b. (cell value : ℕ) → slice_get values cell ≡ Some (Some value) → cell < (plan_of b tok).cells in subst G k.changes.bank stores.inside;
+    }
+  where
+    over : List ℕ → List ℕ
+    over xs = written_over 0 values xs

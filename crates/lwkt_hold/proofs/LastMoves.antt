@@ -1,8 +1,8 @@
-use Rattle.std.proofs.Common.{◌≡◌, ◌≢◌, ◌⊎◌, ℕ, suc, ◌+◌, ◌<◌, ◌≤◌, Bool, true, false, List, [], ◌∷◌, ◌++◌, length, take, get_or, refl, ap, sym, ◌∙◌, subst, arith, inl, inr, Option, Some, None, Result, Ok, Err, append_assoc, length-append, add-zero}
-use Rattle.std.specs.Prelude.{◌↔◌, All, IfOk, OnErr, IsSomeAnd, slice_get, Vec, vec_len, vec_capacity, filter}
+use Rattle.std.proofs.Common.{◌≡◌, ◌≢◌, ◌⊎◌, ℕ, ◌+◌, ◌<◌, true, List, [], ◌∷◌, ◌++◌, length, take, refl, ap, sym, ◌∙◌, subst, arith, inl, inr, Option, Some, None, Result, Ok, Err, length-append, add-zero}
+use Rattle.std.specs.Prelude.{◌↔◌, All, IfOk, OnOk, OnErr, IsSomeAnd, slice_get, Vec, vec_len, filter}
 use Rattle.std.specs.List.{AllZip}
 use Rattle.std.specs.declared.alloc.Global.{Global}
-use Rattle.std.proofs.lemmas.List.{take_at, same_from_push, append-nil}
+use Rattle.std.proofs.lemmas.List.{take_at, take_all, same_from_push}
 use Rattle.std.proofs.lemmas.Option.{get_or_from_slice_get, slice_get_within}
 use Rattle.lwkt_base.specs.declared.faults.Fault.{Fault}
 use Rattle.lwkt_base.specs.declared.faults.Fault.TheVariants.{NotHeld, NotLast}
@@ -11,21 +11,21 @@ use Rattle.lwkt_base.specs.declared.names.Ref.{Ref}
 use Rattle.lwkt_base.specs.declared.holdings.Held.{Held}
 use Rattle.lwkt_base.specs.declared.holdings.Held.TheVariants.{Nothing, Holds}
 use Rattle.lwkt_base.specs.Refs.{first_mode, IsLastTo}
-use Rattle.lwkt_base.specs.Holding.{Holding, one_more, added, holding_of}
+use Rattle.lwkt_base.specs.Holding.{Holding, is_held, one_more, added, removed, holding_of}
 use Rattle.lwkt_core.specs.declared.events.Event.{Event}
 use Rattle.lwkt_core.specs.Events.{cpu_of}
-use Rattle.lwkt_core.specs.declared.seats.WordStep.{WordStep}
 use Rattle.lwkt_bank.specs.declared.seats.CpuSeat.{CpuSeat}
-use Rattle.lwkt_bank.specs.Seats.{bank_of, holding, steps_of}
+use Rattle.lwkt_bank.specs.Seats.{holding}
 use Rattle.lwkt_hold.specs.declared.answers.Missed.{Missed}
 use Rattle.lwkt_hold.specs.declared.answers.Acquired.{Acquired}
 use Rattle.lwkt_hold.specs.declared.answers.Acquired.TheVariants.{MustSwitch}
+use Rattle.lwkt_base.specs.declared.names.CpuId.{CpuId}
 use Rattle.lwkt_hold.specs.Fronts.{IsFront}
+use Rattle.lwkt_hold.specs.Takings.{takes}
 use Rattle.lwkt_hold.specs.Steps.{is_counted, is_on_word, Shows}
 use Rattle.lwkt_hold.specs.Runs.{Moves, Ran}
-use Rattle.lwkt_hold.proofs.HoldingMoves.{holding_of_push}
-use Rattle.lwkt_hold.proofs.RunMoves.{ran_weaker}
-use Rattle.lwkt_hold.proofs.GiveMoves.{more_here}
+use Rattle.lwkt_hold.proofs.HoldingMoves.{holding_of_push, removed_added}
+use Rattle.lwkt_hold.proofs.GiveMoves.{more_here, held_more}
 use Rattle.lwkt_hold.proofs.ReadMoves.{mode_of, modes, whole_front}
 
 mode_of_more : (held : Held) (mode : Mode) → mode_of (one_more held mode) ≡ None → ⊥
@@ -56,6 +56,22 @@ last_there refs front last at n is here below =
     let e : slice_get refs at ≡ Some last = ap (λ xs. slice_get xs at) is ∙ ap (λ k. slice_get (front ++ last ∷ []) k) here ∙ got_last front last in
     let F : Option Ref → Type 0 = λ o. IsSomeAnd o (λ r. r.tok.0 < n) in
     subst F (sym e) below
+
+-- the event of the last reference of a list
+pub pushed_told : (refs front : List Ref) (last : Ref) (at : ℕ) (cpu : CpuId) (xs ys : List Event) → refs ≡ front ++ last ∷ [] → at ≡ length front → IsSomeAnd (slice_get refs at) (λ r. ys ≡ xs ++ takes cpu (take at refs) r ∷ []) → ys ≡ xs ++ takes cpu front last ∷ []
+pushed_told refs front last at cpu xs ys is here told =
+    let e : slice_get refs at ≡ Some last = ap (λ k. slice_get k at) is ∙ ap (λ k. slice_get (front ++ last ∷ []) k) here ∙ got_last front last in
+    let f : take at refs ≡ front = ap (λ k. take at k) is ∙ ap (λ k. take k (front ++ last ∷ [])) here ∙ take_at front (last ∷ []) (length front) refl in
+    let F : Option Ref → Type 0 = λ o. IsSomeAnd o (λ r. ys ≡ xs ++ takes cpu (take at refs) r ∷ []) in
+    subst F e told ∙ ap (λ k. xs ++ takes cpu k last ∷ []) f
+
+-- a reference that was put on the list and taken
+pub got_as : (result : Result (Unit {0}) Missed) (refs list front : List Ref) (last : Ref) (at : ℕ) (cpu : CpuId) (h : Holding) (xs ys : List Event) → refs ≡ list → list ≡ front ++ last ∷ [] → at ≡ length front → OnOk result (h ≡ holding_of (take (at + 1) refs)) → OnOk result (IsSomeAnd (slice_get refs at) (λ r. ys ≡ xs ++ takes cpu (take at refs) r ∷ [])) → ◌≡◌ {A = Result (Result (Unit {0}) Missed) Fault} (Ok result) (Ok (Ok tt)) → (h ≡ holding_of list) × (ys ≡ xs ++ takes cpu front last ∷ [])
+got_as (Ok u) refs list front last at cpu h xs ys same is here taken told answer =
+    let long : length list ≡ at + 1 = ap length is ∙ length-append front (last ∷ []) ∙ ap (λ n. n + 1) (sym here) in
+    let whole : take (at + 1) refs ≡ list = ap (λ k. take (at + 1) k) same ∙ take_all (at + 1) list (omega (arith, long)) in
+    (taken ∙ ap holding_of whole, pushed_told refs front last at cpu xs ys (same ∙ is) here told)
+got_as (Err e) refs list front last at cpu h xs ys same is here taken told answer = cc
 
 -- what holds of each reference holds of the last
 pub all_last : (P : Ref → Type 0) (refs front : List Ref) (last : Ref) → refs ≡ front ++ last ∷ [] → All P refs → P last
@@ -105,3 +121,28 @@ lost_as r why is = ap Ok is
 -- two answers to switch that are equal have one reason
 pub same_switch : (a b : Missed) → ◌≡◌ {A = Result Acquired Fault} (Ok (MustSwitch a)) (Ok (MustSwitch b)) → a ≡ b
 same_switch a b is = cc
+
+-- the last reference of a list that is held, as the token that is given back
+module _ (s : CpuSeat) (refs front : List Ref) (last : Ref) (tok : ℕ) (held : holding s ≡ holding_of refs) (is : refs ≡ front ++ last ∷ []) (same : last.tok.0 ≡ tok) where
+  last_holding : holding s ≡ added (holding_of front) last.tok.0 last.mode
+  last_holding = held ∙ pushed_holding refs front last is
+
+  pub last_held : is_held (holding s tok) ≡ true
+  last_held =
+      let F : ℕ → Type 0 = λ t. is_held (holding s t) ≡ true in
+      subst F same (ap (λ h. is_held (h last.tok.0)) last_holding ∙ ap is_held (more_here (holding_of front) last.tok.0 last.mode) ∙ held_more (holding_of front last.tok.0) last.mode)
+
+  pub last_removed : removed (holding s) tok ≡ holding_of front
+  last_removed =
+      let F : ℕ → Type 0 = λ t. removed (holding s) t ≡ holding_of front in
+      subst F same (ap (λ h. removed h last.tok.0) last_holding ∙ removed_added (holding_of front) last.tok.0 last.mode)
+
+  pub last_there_all : (n : ℕ) → All (λ r. r.tok.0 < n) refs → tok < n
+  last_there_all n all = let F : ℕ → Type 0 = λ t. t < n in subst F same (all_last (λ (r : Ref). r.tok.0 < n) refs front last is all)
+
+  -- each holding while it is given back is that of a front
+  pub last_front : (h : Holding) → (h ≡ holding s) ⊎ (h ≡ removed (holding s) tok) → IsFront refs h
+  last_front h p = elim p [
+    | inl was ↦ whole_front refs h (was ∙ held)
+    | inr now ↦ front_of_push refs front last h is (now ∙ last_removed)
+  ]

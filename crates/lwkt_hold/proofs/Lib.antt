@@ -6,3 +6,4 @@ pub mod ListMoves
 pub mod ReadMoves
 pub mod LastMoves
 pub mod BlockMoves
+pub mod EventMoves

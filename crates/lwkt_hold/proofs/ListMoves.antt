@@ -1,50 +1,102 @@
-use Rattle.std.proofs.Common.{◌≡◌, ◌≢◌, ◌⊎◌, ℕ, suc, ◌+◌, ◌-◌, ◌<◌, ◌≤◌, Bool, true, false, cond, eqb, List, [], ◌∷◌, ◌++◌, length, take, get_or, refl, ap, sym, ◌∙◌, subst, arith, inl, inr, append_assoc, length-take, eq-eqb, ne_eqb}
-use Rattle.std.specs.Prelude.{Vec, vec_len, vec_capacity}
+use Rattle.std.proofs.Common.{◌≡◌, ◌≢◌, ℕ, ◌+◌, ◌-◌, ◌/◌, ◌<◌, ◌≤◌, Bool, true, false, cond, eqb, List, [], ◌∷◌, ◌++◌, length, take, get_or, refl, ap, sym, ◌∙◌, subst, arith, inl, inr, append_assoc}
+use Rattle.std.specs.Prelude.{Vec}
 use Rattle.std.specs.declared.alloc.Global.{Global}
 use Rattle.std.proofs.lemmas.Bool.{eqb-true, eqb-false, cases_Bool, false≢true}
 use Rattle.lwkt_base.specs.declared.names.Mode.{Mode}
-use Rattle.lwkt_base.specs.declared.names.Mode.TheVariants.{Exclusive}
 use Rattle.lwkt_base.specs.declared.names.Ref.{Ref}
-use Rattle.lwkt_base.specs.declared.holdings.Held.{Held}
-use Rattle.lwkt_base.specs.declared.holdings.Held.TheVariants.{Nothing, Holds}
+use Rattle.lwkt_base.specs.declared.holdings.Held.TheVariants.{Nothing}
 use Rattle.lwkt_base.specs.Holding.{Holding, is_held, one_less, added, removed, holding_of, holds_nothing}
 use Rattle.lwkt_core.specs.declared.events.Event.{Event}
 use Rattle.lwkt_core.specs.declared.seats.WordStep.{WordStep}
 use Rattle.lwkt_bank.specs.declared.views.Entry.{Entry}
 use Rattle.lwkt_bank.specs.declared.seats.CpuSeat.{CpuSeat}
-use Rattle.lwkt_bank.specs.Seats.{bank_of, entry, holding, steps_of, Changes, Looked, Lost}
+use Rattle.lwkt_bank.specs.Seats.{entry, holding, Changes, Looked, Lost}
 use Rattle.lwkt_bank.specs.Views.{looked, load, exchange}
 use Rattle.lwkt_hold.specs.declared.answers.Missed.{Missed}
-use Rattle.lwkt_hold.specs.Fronts.{IsFront}
 use Rattle.lwkt_hold.specs.Runs.{Ran}
 use Rattle.lwkt_hold.specs.Misses.{Misses}
 use Rattle.lwkt_hold.specs.Rows.{row, first_row, SameRow, IsClean}
+use Rattle.lwkt_hold.specs.Takings.{TakesRows}
 use Rattle.lwkt_hold.proofs.HoldingMoves.{holding_of_more, removed_added}
 use Rattle.lwkt_hold.proofs.GiveMoves.{more_here, held_more}
 use Rattle.lwkt_hold.proofs.TakeMoves.{unused, looked-held}
 
--- a change of one token leaves a clean seat clean, if it leaves the token's row its first row
-pub clean_changed : (s s' : CpuSeat) (tok : ℕ) (e : Entry) (made : List WordStep) → Changes s s' tok e made → (is_held e.held ≡ true → e.row ≡ e.first) → IsClean s → IsClean s'
-clean_changed s s' tok e made c here clean = record {
-  each = λ other held. elim (cases_Bool (eqb other tok)) [
+-- a change of one token by which references are taken: if it was held, its row and first row stay; if it is held from now on,
+-- its row is its first row
+pub takes_changed : (s s' : CpuSeat) (tok : ℕ) (e : Entry) (made : List WordStep) → Changes s s' tok e made → (is_held (holding s tok) ≡ true → (e.row ≡ row s tok) × (e.first ≡ first_row s tok)) → (is_held (holding s tok) ≡ false → is_held e.held ≡ true → e.row ≡ e.first) → TakesRows s s'
+takes_changed s s' tok e made c stays begins = record {
+  kept = λ other held. elim (cases_Bool (eqb other tok)) [
+    | inl is ↦
+        let same = eqb-true other tok is in
+        let F : ℕ → Type 0 = λ t. SameRow s s' t in
+        let k = stays (ap (λ t. is_held (holding s t)) (sym same) ∙ held) in
+        subst F (sym same) (record { row_is = ap (λ (x : Entry). x.row) c.here ∙ k.0; first_is = ap (λ (x : Entry). x.first) c.here ∙ k.1 })
+    | inr is ↦
+        let k = c.else_ other (eqb-false other tok is) in
+        record { row_is = ap (λ (x : Entry). x.row) k; first_is = ap (λ (x : Entry). x.first) k }
+  ];
+  begun = λ other free held. elim (cases_Bool (eqb other tok)) [
     | inl is ↦
         let same = eqb-true other tok is in
         let F : ℕ → Type 0 = λ t. row s' t ≡ first_row s' t in
+        let free' : is_held (holding s tok) ≡ false = ap (λ t. is_held (holding s t)) (sym same) ∙ free in
         let held' : is_held e.held ≡ true = sym (ap (λ (x : Entry). is_held x.held) c.here) ∙ ap (λ t. is_held (holding s' t)) (sym same) ∙ held in
-        subst F (sym same) (ap (λ (x : Entry). x.row) c.here ∙ here held' ∙ sym (ap (λ (x : Entry). x.first) c.here))
+        subst F (sym same) (ap (λ (x : Entry). x.row) c.here ∙ begins free' held' ∙ sym (ap (λ (x : Entry). x.first) c.here))
     | inr is ↦
-        let kept = c.else_ other (eqb-false other tok is) in
-        ap (λ (x : Entry). x.row) kept ∙ clean.each other (sym (ap (λ (x : Entry). is_held x.held) kept) ∙ held) ∙ sym (ap (λ (x : Entry). x.first) kept)
+        let k = c.else_ other (eqb-false other tok is) in
+        absurd (false≢true (sym free ∙ sym (ap (λ (x : Entry). is_held x.held) k) ∙ held))
   ];
 }
+
+-- nothing was taken
+pub takes_none : (s : CpuSeat) → TakesRows s s
+takes_none s = record { kept = λ tok held. record { row_is = refl; first_is = refl }; begun = λ tok free held. absurd (false≢true (sym free ∙ held)) }
+
+-- something was taken, and then no row and no holding changed
+pub takes_then_same : (a b c : CpuSeat) → TakesRows a b → holding c ≡ holding b → ((tok : ℕ) → SameRow b c tok) → TakesRows a c
+takes_then_same a b c taken kept same = record {
+  kept = λ tok held. record { row_is = (same tok).row_is ∙ (taken.kept tok held).row_is; first_is = (same tok).first_is ∙ (taken.kept tok held).first_is };
+  begun = λ tok free held. (same tok).row_is ∙ taken.begun tok free (ap (λ h. is_held (h tok)) (sym kept) ∙ held) ∙ sym (same tok).first_is;
+}
+
+-- a clean seat stays clean when references are taken
+pub clean_taken : (s s' : CpuSeat) → TakesRows s s' → IsClean s → IsClean s'
+clean_taken s s' taken clean = record {
+  each = λ tok held. elim (cases_Bool (is_held (holding s tok))) [
+    | inl was ↦ (taken.kept tok was).row_is ∙ clean.each tok was ∙ sym (taken.kept tok was).first_is
+    | inr free ↦ taken.begun tok free held
+  ];
+}
+
+looked-row_if : (b : Bool) (e : Entry) (g : ℕ) → (cond b e (record e { generation = g; known = [] })).row ≡ e.row
+looked-row_if true e g = refl
+looked-row_if false e g = refl
+
+looked-row : (e : Entry) (word : ℕ) → (looked e word).row ≡ e.row
+looked-row e word = looked-row_if (eqb e.generation (word / 262144)) e (word / 262144)
+
+looked-first_if : (b : Bool) (e : Entry) (g : ℕ) → (cond b e (record e { generation = g; known = [] })).first ≡ e.first
+looked-first_if true e g = refl
+looked-first_if false e g = refl
+
+looked-first : (e : Entry) (word : ℕ) → (looked e word).first ≡ e.first
+looked-first e word = looked-first_if (eqb e.generation (word / 262144)) e (word / 262144)
+
+-- a mark leaves every row as it was
+pub stepped_rows : (s s' : CpuSeat) (tok : ℕ) (made : List WordStep) → Changes s s' tok (entry s tok) made → (other : ℕ) → SameRow s s' other
+stepped_rows s s' tok made c other = elim (cases_Bool (eqb other tok)) [
+  | inl is ↦
+      let same = eqb-true other tok is in
+      let F : ℕ → Type 0 = λ t. SameRow s s' t in
+      subst F (sym same) (record { row_is = ap (λ (x : Entry). x.row) c.here; first_is = ap (λ (x : Entry). x.first) c.here })
+  | inr is ↦
+      let k = c.else_ other (eqb-false other tok is) in
+      record { row_is = ap (λ (x : Entry). x.row) k; first_is = ap (λ (x : Entry). x.first) k }
+]
 
 -- a seat that holds nothing is clean
 pub clean_empty : (s : CpuSeat) → holding s ≡ holds_nothing → IsClean s
 clean_empty s empty = record { each = λ tok held. absurd (false≢true (sym (ap (λ h. is_held (h tok)) empty) ∙ held)) }
-
--- a token that is not held has no row to keep
-pub free_entry : (e : Entry) (held : Held) → e.held ≡ held → held ≡ Nothing → is_held e.held ≡ true → e.row ≡ e.first
-free_entry e held is free kept = absurd (false≢true (sym (ap is_held (is ∙ free)) ∙ kept))
 
 -- giving a reference back keeps a clean seat clean
 pub clean_given : (s s' : CpuSeat) (tok : ℕ) → is_held (holding s tok) ≡ true → holding s' ≡ removed (holding s) tok → ((other : ℕ) → other ≢ tok → SameRow s s' other) → (is_held (holding s' tok) ≡ true → SameRow s s' tok) → IsClean s → IsClean s'
@@ -92,9 +144,18 @@ misses_between P Q m n a b c d t u v w refs place why before miss after = record
   is_miss = miss.is_miss;
 }
 
--- a missed try leaves a clean seat clean
-pub looked_clean : (s s' : CpuSeat) (tok word : ℕ) → holding s tok ≡ Nothing → Looked s s' tok word → IsClean s → IsClean s'
-looked_clean s s' tok word free l = clean_changed s s' tok (looked (entry s tok) word) (load tok word ∷ []) l.changes (free_entry (looked (entry s tok) word) (holding s tok) (looked-held (entry s tok) word) free)
+-- a missed try changes no row
+pub looked_rows : (s s' : CpuSeat) (tok word : ℕ) → holding s tok ≡ Nothing → Looked s s' tok word → TakesRows s s'
+looked_rows s s' tok word free l =
+    let e = entry s tok in
+    takes_changed s s' tok (looked e word) (load tok word ∷ []) l.changes
+    (λ held. (looked-row e word, looked-first e word))
+    (λ none held. absurd (false≢true (sym (ap is_held (looked-held e word ∙ free)) ∙ held)))
 
-pub lost_clean : (s s' : CpuSeat) (tok : ℕ) (mode : Mode) (alone : Bool) → holding s tok ≡ Nothing → Lost s s' tok mode alone → IsClean s → IsClean s'
-lost_clean s s' tok mode alone free l = clean_changed s s' tok (looked (looked (entry s tok) l.word) l.found) (load tok l.word ∷ exchange tok l.word l.next l.found ∷ []) l.changes (free_entry (looked (looked (entry s tok) l.word) l.found) (holding s tok) (looked-held (looked (entry s tok) l.word) l.found ∙ looked-held (entry s tok) l.word) free)
+pub lost_rows : (s s' : CpuSeat) (tok : ℕ) (mode : Mode) (alone : Bool) → holding s tok ≡ Nothing → Lost s s' tok mode alone → TakesRows s s'
+lost_rows s s' tok mode alone free l =
+    let e = entry s tok in
+    let m = looked e l.word in
+    takes_changed s s' tok (looked m l.found) (load tok l.word ∷ exchange tok l.word l.next l.found ∷ []) l.changes
+    (λ held. (looked-row m l.found ∙ looked-row e l.word, looked-first m l.found ∙ looked-first e l.word))
+    (λ none held. absurd (false≢true (sym (ap is_held (looked-held m l.found ∙ looked-held e l.word ∙ free)) ∙ held)))

@@ -1,19 +1,19 @@
-use Rattle.std.proofs.Common.{◌≡◌, ◌≢◌, ℕ, ◌+◌, ◌<◌, ◌≤◌, Bool, true, false, cond, eqb, List, [], ◌∷◌, ◌++◌, length, refl, ap, sym, ◌∙◌, subst, arith, inl, inr, append_assoc, length-append, eq-eqb, ne_eqb}
+use Rattle.std.proofs.Common.{◌≡◌, ℕ, ◌+◌, ◌≤◌, Bool, true, false, cond, eqb, List, [], ◌∷◌, ◌++◌, refl, ap, sym, ◌∙◌, subst, arith, append_assoc, length-append}
 use Rattle.std.specs.Prelude.{All, filter, Vec, vec_len, vec_capacity}
 use Rattle.std.specs.List.{AllZip}
 use Rattle.std.specs.declared.alloc.Global.{Global}
 use Rattle.std.proofs.lemmas.List.{append-nil}
 use Rattle.std.proofs.lemmas.List.Elements.{All-append, filter-append, All-from_recursion}
-use Rattle.std.proofs.lemmas.Bool.{cases_Bool, eqb-true, eqb-false}
+use Rattle.std.proofs.lemmas.Bool.{eqb-true, eqb-false}
 use Rattle.std.proofs.Math.Path.{fun_ext}
 use Rattle.lwkt_base.specs.declared.holdings.Held.{Held}
-use Rattle.lwkt_base.specs.Holding.{Holding, added, removed}
+use Rattle.lwkt_base.specs.Holding.{Holding}
 use Rattle.lwkt_core.specs.declared.events.Event.{Event}
 use Rattle.lwkt_core.specs.declared.seats.WordStep.{WordStep}
 use Rattle.lwkt_core.specs.Events.{cpu_of}
 use Rattle.lwkt_bank.specs.declared.views.Entry.{Entry}
 use Rattle.lwkt_bank.specs.declared.seats.CpuSeat.{CpuSeat}
-use Rattle.lwkt_bank.specs.Seats.{bank_of, entry, holding, steps_of, Changes}
+use Rattle.lwkt_bank.specs.Seats.{holding, steps_of, Changes}
 use Rattle.lwkt_hold.specs.Steps.{after, is_counted, is_on_word, Shows}
 use Rattle.lwkt_hold.specs.Runs.{Moves, Ran}
 

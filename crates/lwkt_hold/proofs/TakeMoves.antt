@@ -1,5 +1,5 @@
-use Rattle.std.proofs.Common.{◌≡◌, ◌≢◌, ◌⊎◌, ℕ, ◌+◌, ◌<◌, ◌≤◌, Bool, true, false, cond, eqb, List, [], ◌∷◌, ◌++◌, ◌/◌, length, take, get_or, refl, ap, sym, ◌∙◌, subst, arith, inl, inr, append_assoc, length-take, eq-eqb, ne_eqb}
-use Rattle.std.specs.Prelude.{All, filter, Vec, vec_len, vec_capacity, Some, slice_get, IsSomeAnd}
+use Rattle.std.proofs.Common.{◌≡◌, ◌≢◌, ℕ, ◌+◌, ◌<◌, ◌≤◌, Bool, true, false, cond, eqb, List, [], ◌∷◌, ◌++◌, ◌/◌, length, take, get_or, refl, ap, sym, ◌∙◌, subst, arith, length-take, eq-eqb, ne_eqb}
+use Rattle.std.specs.Prelude.{filter, Vec, vec_len, vec_capacity, Some, slice_get}
 use Rattle.std.specs.List.{AllZip}
 use Rattle.std.specs.declared.alloc.Global.{Global}
 use Rattle.std.proofs.lemmas.List.{append-nil}
@@ -14,20 +14,18 @@ use Rattle.lwkt_base.specs.declared.names.Ref.{Ref}
 use Rattle.lwkt_base.specs.declared.holdings.Held.{Held}
 use Rattle.lwkt_base.specs.declared.holdings.Held.TheVariants.{Nothing, Holds}
 use Rattle.lwkt_base.specs.Holding.{Holding, is_held, one_more, added, holding_of}
-use Rattle.lwkt_base.specs.declared.words.Decision.TheVariants.{Take as Takes, Held as IsHeld, Marked, Worn as IsWorn}
 use Rattle.lwkt_core.specs.declared.events.Event.{Event}
 use Rattle.lwkt_core.specs.declared.events.Event.TheVariants.{Again}
 use Rattle.lwkt_core.specs.declared.seats.WordStep.{WordStep}
 use Rattle.lwkt_core.specs.Events.{cpu_of}
 use Rattle.lwkt_bank.specs.declared.views.Entry.{Entry}
 use Rattle.lwkt_bank.specs.declared.seats.CpuSeat.{CpuSeat}
-use Rattle.lwkt_bank.specs.Views.{count_from, seen, looked, taken, more, load, exchange, add}
-use Rattle.lwkt_bank.specs.Seats.{bank_of, tokens_of, entry, holding, references, steps_of, Changes, Looked, Took, Lost, Stepped, Decides}
+use Rattle.lwkt_bank.specs.Views.{count_from, looked, taken, more, load, exchange, add}
+use Rattle.lwkt_bank.specs.Seats.{bank_of, tokens_of, entry, holding, references, steps_of, Looked, Took, Lost, Stepped}
 use Rattle.lwkt_hold.specs.declared.answers.Missed.{Missed}
-use Rattle.lwkt_hold.specs.declared.answers.Missed.TheVariants.{Busy as WasBusy, Again as WasAgain, Worn as WasWorn}
 use Rattle.lwkt_hold.specs.Fronts.{IsFront, is_alone, names}
 use Rattle.lwkt_hold.specs.Steps.{after, is_counted, is_on_word, Shows, taking}
-use Rattle.lwkt_hold.specs.Runs.{Moves, Ran}
+use Rattle.lwkt_hold.specs.Runs.{Ran}
 use Rattle.lwkt_hold.specs.Misses.{IsMiss, Misses}
 use Rattle.lwkt_hold.proofs.HoldingMoves.{holding_of_more, more_in_any_mode, count_of_list, held_named}
 use Rattle.lwkt_hold.proofs.RunMoves.{ran_step, ran_quiet, ran_weaker, holding_changed, holding_kept}
@@ -43,6 +41,10 @@ added_in_any_mode h tok mode is = fun_ext (λ other. added_if (eqb other tok) (h
 not_held : (held : Held) → is_held held ≡ false → held ≡ Nothing
 not_held Nothing is = refl
 not_held (Holds mode further) is = cc
+
+-- what a front holds of a token, as the seat tells it
+pub front_names : (s : CpuSeat) (refs : List Ref) (at tok : ℕ) (held : Held) (b r : Bool) → holding s ≡ holding_of (take at refs) → held ≡ holding s tok → b ≡ is_held held → b ≡ r → names (take at refs) tok ≡ r
+front_names s refs at tok held b r front told is so = sym (held_named (take at refs) tok) ∙ sym (ap (λ h. is_held (h tok)) front) ∙ ap is_held (sym told) ∙ sym is ∙ so
 
 -- the holding of a front names what it names
 pub held_in_front : (s : CpuSeat) (refs : List Ref) (at tok : ℕ) → holding s ≡ holding_of (take at refs) → names (take at refs) tok ≡ true → is_held (holding s tok) ≡ true
@@ -132,8 +134,8 @@ pub lost_kept : (s s' : CpuSeat) (tok : ℕ) (mode : Mode) (alone : Bool) → Lo
 lost_kept s s' tok mode alone l = holding_kept s s' tok (looked (looked (entry s tok) l.word) l.found) (load tok l.word ∷ exchange tok l.word l.next l.found ∷ []) l.changes (lost_held s s' tok mode alone l)
 
 -- the steps of a miss stand in the step list
-pub misses : (s s' : CpuSeat) (refs : List Ref) (at : ℕ) (d : Ref) (alone : Bool) (why : Missed) (made : List WordStep) → at < length refs → alone ≡ is_alone refs (get_or refs at d).tok.0 → steps_of s' ≡ steps_of s ++ made → IsMiss (get_or refs at d).tok.0 (get_or refs at d).mode alone why made → Misses s s' refs at why
-misses s s' refs at d alone why made within is steps miss =
+pub misses : (s s' : CpuSeat) (refs : List Ref) (at : ℕ) (d : Ref) (alone : Bool) (why : Missed) (made : List WordStep) → at < length refs → alone ≡ is_alone refs (get_or refs at d).tok.0 → names (take at refs) (get_or refs at d).tok.0 ≡ false → steps_of s' ≡ steps_of s ++ made → IsMiss (get_or refs at d).tok.0 (get_or refs at d).mode alone why made → Misses s s' refs at why
+misses s s' refs at d alone why made within is first steps miss =
     let r = get_or refs at d in
     let got : slice_get refs at ≡ Some r = slice_get-get_or refs at d within in
     let F : Bool → Type 0 = λ b. IsMiss r.tok.0 r.mode b why made in
@@ -142,7 +144,7 @@ misses s s' refs at d alone why made within is steps miss =
       missed = made;
       later = [];
       steps = steps ∙ ap (λ xs. steps_of s ++ xs) (sym (append-nil made));
-      is_miss = rw got (subst F is miss);
+      is_miss = rw got (first, subst F is miss);
     }
 
 -- what a slice is read with past its end

@@ -1,4 +1,4 @@
-use Rattle.std.specs.Prelude.{◌≡◌, ℕ, ◌<◌, Bool, List, take}
+use Rattle.std.specs.Prelude.{◌≡◌, ℕ, Bool, List, take}
 use Rattle.std.specs.List.{list_all, list_any}
 use Rattle.lwkt_base.specs.declared.names.Ref.{Ref}
 use Rattle.lwkt_base.specs.Refs.{is_to}

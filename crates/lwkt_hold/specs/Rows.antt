@@ -67,11 +67,12 @@ pub record OnlyRow (old new : CpuSeat) (tok : ℕ) (cells : List ℕ) : Type 0 w
   pub first_is : first_row new tok ≡ first_row old tok
   pub others : (other : ℕ) → other ≢ tok → SameRow old new other
 
--- a token that is broken, such that every other broken token has a reference further in front on the list
+-- a token that is broken, such that every other broken token has a reference in front of the first reference to it
 pub record IsFirstBroken (s : CpuSeat) (refs : List Ref) (tok : ℕ) : Type 0 where
   pub is_broken : IsBroken s tok
   pub place : ℕ
   pub at_place : IsSomeAnd (slice_get refs place) (λ r. r.tok.0 ≡ tok)
+  pub is_first : names (take place refs) tok ≡ false
   pub others_in_front : (other : ℕ) → IsBroken s other → other ≢ tok → names (take place refs) other ≡ true
 
 -- what is done to the rows when references are given back: of a token that isn't held any more, a broken row is its first row

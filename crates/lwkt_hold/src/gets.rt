@@ -6,6 +6,8 @@ ghost use Rattle.lwkt_bank.specs.Seats.{id_of, bank_of, tokens_of, holding};
 ghost use Rattle.lwkt_hold.specs.Fronts.{IsFront};
 ghost use Rattle.lwkt_hold.specs.Runs.{Ran};
 ghost use Rattle.lwkt_hold.specs.Misses.{Misses};
+ghost use Rattle.lwkt_hold.specs.Rows.{SameRow};
+ghost use Rattle.lwkt_hold.specs.Takings.{takes, TakesRows};
 ghost use Rattle.lwkt_hold.specs.declared.answers.Missed.{Missed};
 ghost use Rattle.lwkt_hold.specs.Misses.{fault_of, exclusive};
 ghost use Rattle.lwkt_base.specs.declared.names.Ref.{Ref};
@@ -26,6 +28,7 @@ fn mark(seat: &mut CpuSeat, bank: &Bank, new: Ref, trace: &mut Vec<Event>)
     requires room { vec_len trace.old < vec_capacity trace.old }
     ensures ran { Ran (λ h. h ≡ holding seat.old) 1 seat.old seat.new trace.old trace.new }
     ensures kept { holding seat.new ≡ holding seat.old }
+    ensures rows { (tok : ℕ) → SameRow seat.old seat.new tok }
     ensures exclusive { new.mode ≡ Mode.Exclusive → trace.new.items ≡ trace.old.items ++ Event.Mark seat.old.cpu new.tok ∷ [] }
     ensures shared { new.mode ≡ Mode.Shared → (trace.new ≡ trace.old) × (seat.new ≡ seat.old) }
 {
@@ -49,7 +52,8 @@ fn push_and_take(
     requires room { vec_len trace.old < vec_capacity trace.old }
     ensures ran { Ran (IsFront list.new) 1 seat.old seat.new trace.old trace.new }
     ensures pushed { OnOk result ((list.new ≡ list.old ++ new ∷ []) × (new.tok.0 < tokens_of (bank_of seat.old))) }
-    ensures got { result ≡ Ok (Ok tt) → holding seat.new ≡ holding_of list.new }
+    ensures got { result ≡ Ok (Ok tt) → (holding seat.new ≡ holding_of list.new) × (trace.new.items ≡ trace.old.items ++ takes seat.old.cpu list.old new ∷ []) }
+    ensures rows { TakesRows seat.old seat.new }
     ensures missed { (why : Missed) → result ≡ Ok (Err why) → (holding seat.new ≡ holding_of list.old) × (trace.new ≡ trace.old) × Misses seat.old seat.new list.new (length list.old) why }
     ensures err { OnErr result ((list.new ≡ list.old) × (seat.new ≡ seat.old) × (trace.new ≡ trace.old)) }
     ensures no_token { (result ≡ Err Fault.NoToken) ↔ (tokens_of (id_of bank.now) ≤ new.tok.0) }
@@ -104,9 +108,12 @@ impl Hold {
         requires held { holding (seat_of self.old) ≡ holding_of list.old }
         requires room { vec_len trace.old + 256 ≤ vec_capacity trace.old }
         ensures ran { Ran (IsFront list.new) 2 (seat_of self.old) (seat_of self.new) trace.old trace.new }
-        ensures got { result ≡ Ok Acquired.Got → (list.new ≡ list.old ++ new ∷ []) × (holding (seat_of self.new) ≡ holding_of list.new) }
+        ensures got { result ≡ Ok Acquired.Got → (list.new ≡ list.old ++ new ∷ []) × (holding (seat_of self.new) ≡ holding_of list.new)
+            × (trace.new.items ≡ trace.old.items ++ takes (seat_of self.old).cpu list.old new ∷ []) }
+        ensures rows { TakesRows (seat_of self.old) (seat_of self.new) }
         ensures must_switch { (why : Missed) → result ≡ Ok (Acquired.MustSwitch why)
             → (list.new ≡ list.old ++ new ∷ []) × (holding (seat_of self.new) ≡ holding_of list.old) × Misses (seat_of self.old) (seat_of self.new) list.new (length list.old) why }
+        ensures not_worn { (why : Missed) → result ≡ Ok (Acquired.MustSwitch why) → why ≢ Missed.Worn }
         ensures marked { (why : Missed) → result ≡ Ok (Acquired.MustSwitch why) → new.mode ≡ Mode.Exclusive → trace.new.items ≡ trace.old.items ++ Event.Mark (seat_of self.old).cpu new.tok ∷ [] }
         ensures unmarked { (why : Missed) → result ≡ Ok (Acquired.MustSwitch why) → new.mode ≡ Mode.Shared → trace.new ≡ trace.old }
         ensures err { OnErr result ((list.new ≡ list.old) × (holding (seat_of self.new) ≡ holding_of list.old) × (trace.new ≡ trace.old)) }
@@ -145,7 +152,9 @@ impl Hold {
         requires held { holding (seat_of self.old) ≡ holding_of list.old }
         requires room { vec_len trace.old + 256 ≤ vec_capacity trace.old }
         ensures ran { Ran (IsFront list.new) 1 (seat_of self.old) (seat_of self.new) trace.old trace.new }
-        ensures got { OnOk result ((list.new ≡ list.old ++ exclusive tok ∷ []) × (holding (seat_of self.new) ≡ holding_of list.new)) }
+        ensures got { OnOk result ((list.new ≡ list.old ++ exclusive tok ∷ []) × (holding (seat_of self.new) ≡ holding_of list.new)
+            × (trace.new.items ≡ trace.old.items ++ takes (seat_of self.old).cpu list.old (exclusive tok) ∷ [])) }
+        ensures rows { TakesRows (seat_of self.old) (seat_of self.new) }
         ensures err { OnErr result ((list.new ≡ list.old) × (holding (seat_of self.new) ≡ holding_of list.old) × (trace.new ≡ trace.old)) }
         ensures no_token { (result ≡ Err Fault.NoToken) ↔ (tokens_of (id_of bank.now) ≤ tok.0) }
         ensures full { (result ≡ Err Fault.ListFull) ↔ ((tok.0 < tokens_of (id_of bank.now)) × (length list.old ≡ 32)) }

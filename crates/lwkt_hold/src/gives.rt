@@ -1,17 +1,20 @@
 //! One reference of a list: given back.
-ghost use Rattle.std.specs.Prelude.{◌≡◌, ◌≢◌, ◌⊎◌, ℕ, ◌+◌, ◌<◌, ◌≤◌, true, false, length, take, All, vec_len, vec_capacity};
-ghost use Rattle.lwkt_base.specs.Holding.{holding_of, holds_nothing, is_held, added, removed};
+ghost use Rattle.std.specs.Prelude.{◌≡◌, ◌≢◌, ◌⊎◌, ℕ, ◌+◌, ◌<◌, ◌≤◌, true, false, List, Option, [], ◌∷◌, ◌++◌, length, take, All, vec_len, vec_capacity};
+ghost use Rattle.lwkt_base.specs.Holding.{holding_of, holds_nothing, is_held, removed};
 ghost use Rattle.lwkt_base.specs.declared.holdings.Held.TheVariants.{Holds};
 ghost use Rattle.lwkt_base.specs.declared.names.Mode.TheVariants.{Exclusive};
 ghost use Rattle.lwkt_bank.specs.Seats.{id_of, bank_of, tokens_of, holding};
 ghost use Rattle.lwkt_hold.specs.Fronts.{IsFront};
 ghost use Rattle.lwkt_hold.specs.Runs.{Ran};
-ghost use Rattle.lwkt_hold.specs.Rows.{row, first_row, MeetsItsLaw, IsBroken, SameRow, Mends, GivesBack, IsClean};
+ghost use Rattle.lwkt_hold.specs.Rows.{row, first_row, MeetsItsLaw, IsBroken, SameRow, Mends, GivesBack, IsClean, writes};
+ghost use Rattle.lwkt_hold.specs.Givings.{gives_all, GivesBy, StoresFirst, Releases};
+ghost use Rattle.lwkt_core.specs.declared.events.Event.{Event};
 
-use crate::takes::has;
 use crate::traces::{note, note_cells};
-use lwkt_bank::{Bank, CpuSeat, Given};
-use lwkt_base::{Mode, Ref, TokId};
+use lwkt_bank::banks::Bank;
+use lwkt_bank::seats::CpuSeat;
+use lwkt_bank::tries::Given;
+use lwkt_base::{Held, Mode, Ref, TokId};
 use lwkt_core::Event;
 
 /// Stores the first row of a section again, which has broken its law.
@@ -25,40 +28,39 @@ fn restore(seat: &mut CpuSeat, bank: &Bank, tok: TokId, trace: &mut Vec<Event>)
     ensures restored { row seat.new tok.0 ≡ first_row seat.old tok.0 }
     ensures first { first_row seat.new tok.0 ≡ first_row seat.old tok.0 }
     ensures others { (other : ℕ) → other ≢ tok.0 → SameRow seat.old seat.new other }
+    ensures stored { (values : List (Option ℕ)) × (StoresFirst seat.old tok.0 values × (trace.new.items ≡ trace.old.items ++ writes seat.old.cpu tok 0 values)) }
 {
     let cpu = seat.cpu();
     let values = seat.restore(bank, tok);
     note_cells(trace, cpu, tok, &values);
 }
 
-/// Whether a reference is the last one of an exclusive holding, if those before it are held too.
-fn ends_section(front: &[Ref], last: Ref) -> bool
-    ensures yes { result ≡ true → added (holding_of front.now) last.tok.0 last.mode last.tok.0 ≡ Holds Exclusive 0 }
-    ensures no { result ≡ false → added (holding_of front.now) last.tok.0 last.mode last.tok.0 ≢ Holds Exclusive 0 }
+/// Whether this is one exclusive reference, which ends its section when it is given back.
+fn ends_section(held: Held) -> bool
+    ensures yes { result ≡ true → held ≡ Holds Exclusive 0 }
+    ensures no { result ≡ false → held ≢ Holds Exclusive 0 }
 {
-    match last.mode {
-        Mode::Shared => false,
-        Mode::Exclusive => !has(front, last.tok),
-    }
+    matches!(held, Held::Holds(Mode::Exclusive, 0))
 }
 
 /// Before a reference is given back: a section that it ends, and that has broken its law, gets its first row again.
-fn mend(seat: &mut CpuSeat, bank: &Bank, front: &[Ref], last: Ref, trace: &mut Vec<Event>) -> bool
+fn mend(seat: &mut CpuSeat, bank: &Bank, tok: TokId, trace: &mut Vec<Event>) -> bool
     requires of { bank_of seat.old ≡ id_of bank.now }
-    requires there { last.tok.0 < tokens_of (bank_of seat.old) }
-    requires front { holding seat.old ≡ added (holding_of front.now) last.tok.0 last.mode }
+    requires there { tok.0 < tokens_of (bank_of seat.old) }
     requires room { vec_len trace.old + 4 ≤ vec_capacity trace.old }
     ensures ran { Ran (λ h. h ≡ holding seat.old) 4 seat.old seat.new trace.old trace.new }
     ensures kept { holding seat.new ≡ holding seat.old }
-    ensures mends { Mends seat.old seat.new last.tok.0 result }
+    ensures mends { Mends seat.old seat.new tok.0 result }
+    ensures silent { result ≡ false → trace.new ≡ trace.old }
+    ensures stored { result ≡ true → (values : List (Option ℕ)) × (StoresFirst seat.old tok.0 values × (trace.new.items ≡ trace.old.items ++ writes seat.old.cpu tok 0 values)) }
 {
-    if !ends_section(front, last) {
+    if !ends_section(seat.held(bank, tok)) {
         return false;
     }
-    if seat.lawful(bank, last.tok) {
+    if seat.lawful(bank, tok) {
         return false;
     }
-    restore(seat, bank, last.tok, trace);
+    restore(seat, bank, tok, trace);
     true
 }
 
@@ -74,6 +76,7 @@ pub(crate) fn give(seat: &mut CpuSeat, bank: &Bank, tok: TokId, trace: &mut Vec<
     ensures others { (other : ℕ) → other ≢ tok.0 → SameRow seat.old seat.new other }
     ensures row { row seat.new tok.0 ≡ row seat.old tok.0 }
     ensures still { is_held (holding seat.new tok.0) ≡ true → SameRow seat.old seat.new tok.0 }
+    ensures told { (event : Event) × ((trace.new.items ≡ trace.old.items ++ event ∷ []) × GivesBy seat.old tok event) }
 {
     let cpu = seat.cpu();
     match seat.give(bank, tok) {
@@ -83,24 +86,19 @@ pub(crate) fn give(seat: &mut CpuSeat, bank: &Bank, tok: TokId, trace: &mut Vec<
     }
 }
 
-/// Gives the last reference back, those before it staying held; says whether the section's cells were restored.
-pub(crate) fn give_last(
-    seat: &mut CpuSeat,
-    bank: &Bank,
-    front: &[Ref],
-    last: Ref,
-    trace: &mut Vec<Event>,
-) -> bool
+/// Gives a reference back, a section that it ends being mended before; says whether the section's cells were restored.
+pub(crate) fn give_last(seat: &mut CpuSeat, bank: &Bank, tok: TokId, trace: &mut Vec<Event>) -> bool
     requires of { bank_of seat.old ≡ id_of bank.now }
-    requires there { last.tok.0 < tokens_of (bank_of seat.old) }
-    requires front { holding seat.old ≡ added (holding_of front.now) last.tok.0 last.mode }
+    requires there { tok.0 < tokens_of (bank_of seat.old) }
+    requires held { is_held (holding seat.old tok.0) ≡ true }
     requires room { vec_len trace.old + 5 ≤ vec_capacity trace.old }
-    ensures ran { Ran (λ h. (h ≡ holding seat.old) ⊎ (h ≡ holding_of front.now)) 5 seat.old seat.new trace.old trace.new }
-    ensures given { holding seat.new ≡ holding_of front.now }
-    ensures rows { GivesBack seat.old seat.new last.tok.0 result }
+    ensures ran { Ran (λ h. (h ≡ holding seat.old) ⊎ (h ≡ removed (holding seat.old) tok.0)) 5 seat.old seat.new trace.old trace.new }
+    ensures given { holding seat.new ≡ removed (holding seat.old) tok.0 }
+    ensures rows { GivesBack seat.old seat.new tok.0 result }
+    ensures events { (done : List Event) × ((trace.new.items ≡ trace.old.items ++ done) × Releases seat.old (holding seat.old tok.0) tok done) }
 {
-    let restored = mend(seat, bank, front, last, trace);
-    give(seat, bank, last.tok, trace);
+    let restored = mend(seat, bank, tok, trace);
+    give(seat, bank, tok, trace);
     restored
 }
 
@@ -120,6 +118,7 @@ pub(crate) fn give_clean(
     requires room { vec_len trace.old + count ≤ vec_capacity trace.old }
     ensures ran { Ran (IsFront refs.now) count seat.old seat.new trace.old trace.new }
     ensures empty { holding seat.new ≡ holds_nothing }
+    ensures told { trace.new.items ≡ trace.old.items ++ gives_all seat.old.cpu [] (take count refs.now) }
 {
     for given in 0..count {
         let tok = refs[count - 1 - given].tok;

@@ -109,6 +109,7 @@ impl Hold {
         ensures not_held { (result ≡ Err Fault.NotHeld) ↔ ((tok.0 < tokens_of (id_of bank.now)) × (cell < (plan_of (id_of bank.now) tok.0).cells) × (first_mode list.now tok.0 ≡ None)) }
         ensures shared { (result ≡ Err Fault.SharedWrite) ↔ ((tok.0 < tokens_of (id_of bank.now)) × (cell < (plan_of (id_of bank.now) tok.0).cells) × (first_mode list.now tok.0 ≡ Some Mode.Shared)) }
         ensures tally { (result ≡ Err Fault.TallyOnly) ↔ ((tok.0 < tokens_of (id_of bank.now)) × (cell < (plan_of (id_of bank.now) tok.0).cells) × (first_mode list.now tok.0 ≡ Some Mode.Exclusive) × ((plan_of (id_of bank.now) tok.0).law ≡ Tally)) }
+        ensures only { OnErr result ((result ≡ Err Fault.NoToken) ⊎ (result ≡ Err Fault.NoCell) ⊎ (result ≡ Err Fault.NotHeld) ⊎ (result ≡ Err Fault.SharedWrite) ⊎ (result ≡ Err Fault.TallyOnly)) }
     {
         if tok.0 as usize >= bank.tokens() {
             return Err(Fault::NoToken);

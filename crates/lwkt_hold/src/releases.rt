@@ -1,5 +1,5 @@
 //! References of a list given up: the last one, or all.
-ghost use Rattle.std.specs.Prelude.{◌≡◌, ◌≢◌, ◌⊎◌, ℕ, ◌+◌, ◌-◌, ◌*◌, ◌<◌, ◌≤◌, ◌↔◌, [], ◌∷◌, ◌++◌, true, false, length, take, All, Some, None, Ok, Err, Option, OnOk, OnErr, vec_len, vec_capacity};
+ghost use Rattle.std.specs.Prelude.{◌≡◌, ◌≢◌, ◌⊎◌, ℕ, ◌+◌, ◌-◌, ◌*◌, ◌<◌, ◌≤◌, ◌↔◌, [], ◌∷◌, ◌++◌, true, false, List, length, take, All, Some, None, Ok, Err, Option, OnOk, OnErr, vec_len, vec_capacity};
 ghost use Rattle.lwkt_base.specs.Holding.{holding_of, holds_nothing};
 ghost use Rattle.lwkt_base.specs.Refs.{first_mode, IsLastTo};
 ghost use Rattle.lwkt_bank.specs.Seats.{id_of, bank_of, tokens_of, holding};
@@ -18,6 +18,8 @@ use lwkt_core::Event;
 impl Hold {
     ghost use Rattle.lwkt_hold.specs.Holds.{seat_of};
     ghost use Rattle.lwkt_hold.specs.Rows.{GivesBack, GivenUp, Blocks};
+    ghost use Rattle.lwkt_hold.specs.Givings.{Releases, ReleasesAll};
+    ghost use Rattle.lwkt_core.specs.declared.events.Event.{Event};
 
     /// Gives the last reference back, which has to be to this token. That the holding is the list's, that the tokens exist
     /// and that the trace has room for 256 events are the caller's conditions.
@@ -38,6 +40,7 @@ impl Hold {
         requires room { vec_len trace.old + 256 ≤ vec_capacity trace.old }
         ensures ran { Ran (IsFront list.old) 5 (seat_of self.old) (seat_of self.new) trace.old trace.new }
         ensures held { holding (seat_of self.new) ≡ holding_of list.new }
+        ensures events { ((result ≡ Ok tt) ⊎ (result ≡ Err Fault.Broken)) → (done : List Event) × ((trace.new.items ≡ trace.old.items ++ done) × Releases (seat_of self.old) (holding (seat_of self.old) tok.0) tok done) }
         ensures popped { ((result ≡ Ok tt) ⊎ (result ≡ Err Fault.Broken)) → (r : Ref) × ((list.old ≡ list.new ++ r ∷ []) × (r.tok.0 ≡ tok.0)) }
         ensures ok { OnOk result (GivesBack (seat_of self.old) (seat_of self.new) tok.0 false) }
         ensures broken { result ≡ Err Fault.Broken → GivesBack (seat_of self.old) (seat_of self.new) tok.0 true }
@@ -46,8 +49,8 @@ impl Hold {
         ensures refused { ((result ≡ Err Fault.NotHeld) ⊎ (result ≡ Err Fault.NotLast)) → (self.new ≡ self.old) × (list.new ≡ list.old) × (trace.new ≡ trace.old) }
         ensures only { OnErr result ((result ≡ Err Fault.NotHeld) ⊎ (result ≡ Err Fault.NotLast) ⊎ (result ≡ Err Fault.Broken)) }
     {
-        let last = list.pop(tok)?;
-        if give_last(&mut self.seat, bank, list.refs(), last, trace) {
+        list.pop(tok)?;
+        if give_last(&mut self.seat, bank, tok, trace) {
             return Err(Fault::Broken);
         }
         Ok(())
@@ -71,15 +74,15 @@ impl Hold {
         ensures ran { Ran (IsFront list.now) 160 (seat_of self.old) (seat_of self.new) trace.old trace.new }
         ensures empty { holding (seat_of self.new) ≡ holds_nothing }
         ensures rows { GivenUp (seat_of self.old) (seat_of self.new) }
+        ensures events { (done : List Event) × ((trace.new.items ≡ trace.old.items ++ done) × ReleasesAll (seat_of self.old) [] (take held list.now) done) }
         ensures blocks { Blocks (seat_of self.old) list.now result }
     {
         let refs = list.refs();
         let mut first = None;
         for given in 0..held {
-            let last = refs[held - 1 - given];
-            let front = &refs[..held - 1 - given];
-            let restored = give_last(&mut self.seat, bank, front, last, trace);
-            first = first_restored(first, restored, last.tok);
+            let tok = refs[held - 1 - given].tok;
+            let restored = give_last(&mut self.seat, bank, tok, trace);
+            first = first_restored(first, restored, tok);
         }
         match first {
             Some(tok) => Blocked::Restored(tok),

@@ -1,5 +1,5 @@
 //! A whole list of references: taken, or not at all.
-ghost use Rattle.std.specs.Prelude.{◌≡◌, ℕ, ◌+◌, ◌<◌, ◌≤◌, length, take, All, vec_len, vec_capacity};
+ghost use Rattle.std.specs.Prelude.{◌≡◌, ℕ, ◌+◌, ◌<◌, ◌≤◌, [], ◌++◌, length, take, All, vec_len, vec_capacity};
 ghost use Rattle.lwkt_base.specs.Holding.{holding_of, holds_nothing};
 ghost use Rattle.lwkt_bank.specs.Seats.{id_of, bank_of, tokens_of, holding};
 ghost use Rattle.lwkt_hold.specs.Fronts.{IsFront};
@@ -15,6 +15,10 @@ use lwkt_core::Event;
 
 impl Hold {
     ghost use Rattle.lwkt_hold.specs.Holds.{seat_of, Resumes};
+    ghost use Rattle.lwkt_hold.specs.Rows.{IsClean};
+    ghost use Rattle.lwkt_hold.specs.Takings.{takes_all};
+    ghost use Rattle.lwkt_hold.specs.Givings.{gives_all};
+    ghost use Rattle.lwkt_hold.specs.declared.answers.Missed.{Missed};
 
     /// Takes the references of a list in order. At the first miss it gives back what it took, in reverse order. That
     /// nothing is held, that the tokens exist and that the trace has room for 64 events are the caller's conditions.
@@ -24,6 +28,10 @@ impl Hold {
         requires empty { holding (seat_of self.old) ≡ holds_nothing }
         requires room { vec_len trace.old + 64 ≤ vec_capacity trace.old }
         ensures ran { Ran (IsFront list.now) 64 (seat_of self.old) (seat_of self.new) trace.old trace.new }
+        ensures all { result ≡ Resumed.All → trace.new.items ≡ trace.old.items ++ takes_all (seat_of self.old).cpu [] list.now }
+        ensures passed { (place : ℕ) → (why : Missed) → result ≡ Resumed.Passed place why
+            → trace.new.items ≡ trace.old.items ++ (takes_all (seat_of self.old).cpu [] (take place list.now) ++ gives_all (seat_of self.old).cpu [] (take place list.now)) }
+        ensures clean { IsClean (seat_of self.new) }
         ensures resumes { Resumes (seat_of self.old) (seat_of self.new) list.now result }
     {
         let refs = list.refs();

@@ -1,11 +1,11 @@
 //! One reference of a list: taken.
-ghost use Rattle.std.specs.Prelude.{◌≡◌, ℕ, ◌+◌, ◌<◌, ◌≤◌, length, take, slice_get, IsSomeAnd, OnOk, OnErr, IfErr, vec_len, vec_capacity};
+ghost use Rattle.std.specs.Prelude.{◌≡◌, ℕ, ◌+◌, ◌<◌, ◌≤◌, [], ◌∷◌, ◌++◌, length, take, slice_get, IsSomeAnd, OnOk, OnErr, IfErr, vec_len, vec_capacity};
 ghost use Rattle.lwkt_base.specs.Holding.{holding_of};
 ghost use Rattle.lwkt_bank.specs.Seats.{id_of, bank_of, tokens_of, holding};
-ghost use Rattle.lwkt_hold.specs.Fronts.{IsFront, is_alone, names};
-ghost use Rattle.lwkt_hold.specs.Rows.{IsClean};
+ghost use Rattle.lwkt_hold.specs.Fronts.{IsFront, is_alone};
 ghost use Rattle.lwkt_hold.specs.Runs.{Ran};
 ghost use Rattle.lwkt_hold.specs.Steps.{taking};
+ghost use Rattle.lwkt_hold.specs.Takings.{takes, TakesRows};
 ghost use Rattle.lwkt_hold.specs.Misses.{Misses};
 
 use crate::answers::Missed;
@@ -14,15 +14,8 @@ use lwkt_bank::{Bank, CpuSeat, Try};
 use lwkt_base::{CpuId, Mode, Ref, TokId};
 use lwkt_core::Event;
 
-/// Whether the list has a reference to the token.
-pub(crate) fn has(refs: &[Ref], tok: TokId) -> bool
-    ensures { result ≡ names refs.now tok.0 }
-{
-    refs.iter().any(|r| r.tok.0 == tok.0)
-}
-
 /// Whether the list has no reference to another token.
-pub(crate) fn has_only(refs: &[Ref], tok: TokId) -> bool
+fn has_only(refs: &[Ref], tok: TokId) -> bool
     ensures { result ≡ is_alone refs.now tok.0 }
 {
     refs.iter().all(|r| r.tok.0 == tok.0)
@@ -56,12 +49,13 @@ pub(crate) fn take_one(
     ensures taken { OnOk result (holding seat.new ≡ holding_of (take (at + 1) refs.now)) }
     ensures kept { OnErr result (holding seat.new ≡ holding seat.old) }
     ensures silent { OnErr result (trace.new ≡ trace.old) }
-    ensures clean { IsClean seat.old → IsClean seat.new }
+    ensures told { OnOk result (IsSomeAnd (slice_get refs.now at) (λ r. trace.new.items ≡ trace.old.items ++ takes seat.old.cpu (take at refs.now) r ∷ [])) }
+    ensures rows { TakesRows seat.old seat.new }
     ensures missed { IfErr result (λ why. Misses seat.old seat.new refs.now at why) }
 {
     let new = refs[at];
     let cpu = seat.cpu();
-    if has(&refs[..at], new.tok) {
+    if seat.held(bank, new.tok).is_held() {
         seat.again(bank, new.tok);
         note(trace, Event::Again { cpu, tok: new.tok });
         return Ok(());

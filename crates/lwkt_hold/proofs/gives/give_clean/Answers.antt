@@ -1,10 +1,13 @@
-use Rattle.std.proofs.Common.{◌≡◌, ◌+◌, ◌-◌, ◌<◌, ◌≤◌, refl, ap, sym, ◌∙◌, inl, take, length, get_or, arith}
+use Rattle.std.proofs.Common.{◌≡◌, ◌+◌, ◌-◌, [], ◌++◌, ap, sym, ◌∙◌, inl, take, get_or, arith}
 use Rattle.lwkt_base.specs.Holding.{Holding, holding_of, removed}
 use Rattle.lwkt_bank.specs.Seats.{holding}
 use Rattle.lwkt_hold.specs.Fronts.{IsFront}
 use Rattle.lwkt_hold.proofs.RunMoves.{ran_none, ran_then, ran_weaker}
 use Rattle.lwkt_hold.proofs.TakeMoves.{unused}
 use Rattle.lwkt_hold.proofs.ListMoves.{back_held, back_removed, clean_given}
+use Rattle.lwkt_hold.proofs.EventMoves.{gives_more, gives_done, gives_clean}
+use Rattle.lwkt_hold.specs.Givings.{gives_all}
+use Rattle.lwkt_base.specs.declared.names.TokId.{TokId}
 use Rattle.lwkt_hold.proofs.gives.give_clean.Goals as goal
 
 pub loop-given-init : goal.loop-given-init
@@ -14,6 +17,7 @@ loop-given-init c =
       ran = ran_none (IsFront c.args.refs.now) c.args.seat.now c.args.trace.now;
       front = c.requires.front ∙ ap (λ n. holding_of (take n c.args.refs.now)) e;
       clean = c.requires.clean;
+      told = ap (λ n. c.args.trace.now.items ++ gives_all c.args.seat.now.cpu [] (take n c.args.refs.now)) (sym e);
     }
 
 pub give-requires-clause-held : goal.give-requires-clause-held
@@ -35,4 +39,14 @@ loop-given-preserved c =
           (ran_weaker R P 1 1 l.seat c.give.new.seat l.trace c.give.new.trace (λ h r. (c.args.count - (l.given + 1), r ∙ next)) (omega arith) c.give.ensures.ran);
       front = c.give.ensures.given ∙ next;
       clean = clean_given l.seat c.give.new.seat tok held c.give.ensures.given c.give.ensures.others c.give.ensures.still l.invariant.clean;
+      told =
+          let g = c.give.ensures.told in
+          let d : TokId = (get_or c.args.refs.now (c.args.count - 1 - l.given) unused).tok in
+          gives_more c.args.refs.now c.args.count l.given unused c.args.seat.now.cpu l.seat.cpu (holding l.seat) g.0 c.args.trace.now.items l.trace.items c.give.new.trace.items c.loop-given-test.true c.requires.within l.invariant.ran.cpu l.invariant.front
+          (gives_clean l.seat d g.0 (l.invariant.clean.each tok held) g.1.1) l.invariant.told g.1.0;
     }
+
+pub returns-clause-told : goal.returns-clause-told
+returns-clause-told c =
+    let l = c.loop-given in
+    gives_done c.args.refs.now c.args.count l.given c.args.seat.now.cpu c.args.trace.now.items l.trace.items c.loop-given-test.false l.invariant.told

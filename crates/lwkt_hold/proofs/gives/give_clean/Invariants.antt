@@ -1,9 +1,10 @@
-use Rattle.std.proofs.Common.{◌≡◌, ◌-◌, take}
+use Rattle.std.proofs.Common.{◌≡◌, ◌-◌, [], ◌++◌, take}
 use Rattle.lwkt_base.specs.Holding.{holding_of}
-use Rattle.lwkt_bank.specs.Seats.{bank_of, id_of, holding}
+use Rattle.lwkt_bank.specs.Seats.{holding}
 use Rattle.lwkt_hold.specs.Fronts.{IsFront}
 use Rattle.lwkt_hold.specs.Runs.{Ran}
 use Rattle.lwkt_hold.specs.Rows.{IsClean}
+use Rattle.lwkt_hold.specs.Givings.{gives_all}
 use Rattle.lwkt_hold.proofs.gives.give_clean.Given as goal
 
 abbrev pub invariant-loop-given : goal.invariant-loop-given
@@ -11,4 +12,5 @@ invariant-loop-given l = record {
   ran : Ran (IsFront l.refs) l.given l.initial.seat l.seat l.initial.trace l.trace;
   front : holding l.seat ≡ holding_of (take (l.count - l.given) l.refs);
   clean : IsClean l.seat;
+  told : l.trace.items ++ gives_all l.initial.seat.cpu [] (take (l.count - l.given) l.refs) ≡ l.initial.trace.items ++ gives_all l.initial.seat.cpu [] (take l.count l.refs);
 }

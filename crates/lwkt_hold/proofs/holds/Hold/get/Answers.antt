@@ -1,5 +1,4 @@
-use Rattle.std.proofs.Common.{◌≡◌, ◌+◌, ◌≤◌, ◌∙◌, ap, Ok, Err, Result, List, [], ◌∷◌, ◌++◌, length, subst, arith}
-use Rattle.lwkt_base.specs.declared.faults.Fault.{Fault}
+use Rattle.std.proofs.Common.{◌≡◌, ◌∙◌, ap, Err, [], ◌∷◌, ◌++◌, length, subst, arith}
 use Rattle.lwkt_base.specs.Holding.{Holding}
 use Rattle.lwkt_bank.specs.Seats.{holding}
 use Rattle.lwkt_hold.specs.declared.answers.Missed.{Missed}
@@ -7,7 +6,7 @@ use Rattle.lwkt_hold.specs.declared.answers.Missed.TheVariants.{Worn}
 use Rattle.lwkt_hold.specs.Fronts.{IsFront}
 use Rattle.lwkt_hold.proofs.RunMoves.{ran_none, ran_then, ran_weaker}
 use Rattle.lwkt_hold.proofs.LastMoves.{ran_silent, front_of_push, lost_as, same_switch}
-use Rattle.lwkt_hold.proofs.ListMoves.{misses_between}
+use Rattle.lwkt_hold.proofs.ListMoves.{misses_between, takes_then_same}
 use Rattle.lwkt_hold.specs.Misses.{Misses}
 use Rattle.lwkt_core.specs.declared.events.Event.{Event}
 use Rattle.lwkt_core.specs.declared.events.Event.TheVariants.{Mark}
@@ -57,3 +56,6 @@ pub returns-in-Err-clause-unmarked : goal.returns-in-Err-clause-unmarked
 returns-in-Err-clause-unmarked c =
     let m = c.in_ok-push_and_take.ensures.missed c.in-Err.why (lost_as c.in_ok-push_and_take.field-0 c.in-Err.why c.in-Err.is) in
     λ other is mode. (c.mark.ensures.shared mode).0 ∙ m.1
+
+pub returns-in-Err-clause-rows : goal.returns-in-Err-clause-rows
+returns-in-Err-clause-rows c = takes_then_same c.args.self.now.seat c.push_and_take.new.seat c.mark.new.seat c.push_and_take.ensures.rows c.mark.ensures.kept c.mark.ensures.rows

@@ -1,10 +1,16 @@
-use Rattle.std.proofs.Common.{◌≡◌, ◌+◌, ◌<◌, ◌≤◌, List, length, refl, ap, sym, ◌∙◌, subst, arith}
+use Rattle.std.proofs.Common.{◌≡◌, ◌+◌, ◌<◌, ◌≤◌, List, length, ap, sym, ◌∙◌, subst, arith}
 use Rattle.lwkt_base.specs.declared.names.Ref.{Ref}
 use Rattle.lwkt_base.specs.Holding.{Holding}
 use Rattle.lwkt_hold.specs.Fronts.{IsFront}
 use Rattle.lwkt_hold.specs.Misses.{Misses}
 use Rattle.lwkt_hold.proofs.RunMoves.{ran_none, ran_then, ran_weaker}
-use Rattle.lwkt_hold.proofs.ListMoves.{clean_empty, misses_between}
+use Rattle.lwkt_hold.proofs.ListMoves.{clean_empty, clean_taken, misses_between}
+use Rattle.lwkt_hold.proofs.EventMoves.{takes_more, taken_all, passed_as}
+use Rattle.std.specs.Prelude.{Vec}
+use Rattle.std.specs.declared.alloc.Global.{Global}
+use Rattle.lwkt_core.specs.declared.events.Event.{Event}
+use Rattle.lwkt_hold.proofs.TakeMoves.{unused}
+use Rattle.std.proofs.lemmas.List.{append-nil}
 use Rattle.lwkt_hold.proofs.holds.Hold.resume.Goals as goal
 
 pub loop-at-init : goal.loop-at-init
@@ -12,6 +18,7 @@ loop-at-init c = record {
   ran = ran_none (IsFront c.refs-refs.result.now) c.args.self.now.seat c.args.trace.now;
   front = c.requires.empty;
   clean = clean_empty c.args.self.now.seat c.requires.empty;
+  told = sym (append-nil c.args.trace.now.items);
 }
 
 pub returns-in-Err-clause-ran : goal.returns-in-Err-clause-ran
@@ -46,5 +53,24 @@ loop-at-preserved c =
     record {
       ran = ran_then P l.at 1 c.args.self.now.seat l.self.seat c.take_one.new.seat c.args.trace.now l.trace c.take_one.new.trace l.invariant.ran c.in_default.ensures.ran;
       front = c.in_default.ensures.taken;
-      clean = c.in_default.ensures.clean l.invariant.clean;
+      clean = clean_taken l.self.seat c.take_one.new.seat c.in_default.ensures.rows l.invariant.clean;
+      told = takes_more c.refs-refs.result.now l.at unused c.args.self.now.seat.cpu l.self.seat.cpu c.args.trace.now.items l.trace.items c.take_one.new.trace.items c.loop-at-test.true l.invariant.ran.cpu l.invariant.told c.in_default.ensures.told;
     }
+
+pub give_clean-requires-clause-clean : goal.give_clean-requires-clause-clean
+give_clean-requires-clause-clean c = let l = c.loop-at in clean_taken l.self.seat c.take_one.new.seat c.in-Err.ensures.rows l.invariant.clean
+
+pub returns-in-Err-clause-clean : goal.returns-in-Err-clause-clean
+returns-in-Err-clause-clean c = clean_empty c.give_clean.new.seat c.give_clean.ensures.empty
+
+pub returns-in-Err-clause-passed : goal.returns-in-Err-clause-passed
+returns-in-Err-clause-passed c =
+    let l = c.loop-at in
+    let cpu = c.args.self.now.seat.cpu in
+    let taker : c.take_one.new.seat.cpu ≡ cpu = c.in-Err.ensures.ran.cpu ∙ l.invariant.ran.cpu in
+    passed_as c.refs-refs.result.now c.args.list.now l.at c.in-Err.why cpu c.take_one.new.seat.cpu c.args.trace.now.items l.trace.items c.take_one.new.trace.items c.give_clean.new.trace.items c.refs-refs.ensures.value taker l.invariant.told (ap (λ (t : Vec Event Global). t.items) c.in-Err.ensures.silent) c.give_clean.ensures.told
+
+pub returns-clause-all : goal.returns-clause-all
+returns-clause-all c =
+    let l = c.loop-at in
+    taken_all c.refs-refs.result.now c.args.list.now l.at c.args.self.now.seat.cpu c.args.trace.now.items l.trace.items c.refs-refs.ensures.value c.loop-at-test.false l.invariant.told

@@ -1,4 +1,4 @@
-use Rattle.std.proofs.Common.{◌∙◌, ap, sym, subst, inr, Err, List, ◌∷◌, [], ◌++◌, length}
+use Rattle.std.proofs.Common.{ap, subst, inr, Err, List, length}
 use Rattle.lwkt_base.specs.declared.names.Ref.{Ref}
 use Rattle.lwkt_hold.specs.Fronts.{IsFront}
 use Rattle.lwkt_hold.specs.Misses.{Misses}

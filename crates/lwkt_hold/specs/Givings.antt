@@ -1,0 +1,50 @@
+use Rattle.std.specs.Prelude.{◌≡◌, ◌≢◌, ◌⊎◌, ℕ, ◌==◌, ◌<◌, if◌then◌else◌, List, [], ◌∷◌, ◌++◌, Option, Some, slice_get}
+use Rattle.lwkt_base.specs.declared.names.CpuId.{CpuId}
+use Rattle.lwkt_base.specs.declared.names.TokId.{TokId}
+use Rattle.lwkt_base.specs.declared.names.Mode.TheVariants.{Exclusive, Shared}
+use Rattle.lwkt_base.specs.declared.names.Ref.{Ref}
+use Rattle.lwkt_base.specs.declared.holdings.Held.{Held}
+use Rattle.lwkt_base.specs.declared.holdings.Held.TheVariants.{Nothing, Holds}
+use Rattle.lwkt_base.specs.Holding.{holding_of}
+use Rattle.lwkt_core.specs.declared.events.Event.{Event}
+use Rattle.lwkt_core.specs.declared.events.Event.TheVariants.{GiveOne, GiveClean, GiveWritten}
+use Rattle.lwkt_bank.specs.declared.seats.CpuSeat.{CpuSeat}
+use Rattle.lwkt_bank.specs.Seats.{bank_of, plan_of, holding, written_over}
+use Rattle.lwkt_hold.specs.Rows.{row, first_row, MeetsItsLaw, writes}
+
+-- the event of giving a reference to a token back of which so much is held, and whose row is its first row
+abbrev pub gives : CpuId → TokId → Held → Event
+gives cpu tok Nothing = GiveOne cpu tok
+gives cpu tok (Holds Shared further) = GiveOne cpu tok
+gives cpu tok (Holds Exclusive further) = if further == 0 then GiveClean cpu tok else GiveOne cpu tok
+
+-- the events of giving references back in reverse order, those in front of them staying held, where no row was changed
+abbrev pub gives_all : CpuId → List Ref → List Ref → List Event
+gives_all cpu front [] = []
+gives_all cpu front (r ∷ refs) = gives_all cpu (front ++ r ∷ []) refs ++ gives cpu r.tok (holding_of (front ++ r ∷ []) r.tok.0) ∷ []
+
+-- the event of giving a reference to a token back: one reference less, or the end of a section, which is written exactly if row
+-- and first row differ (own)
+abbrev pub GivesBy : CpuSeat → TokId → Event → Type 0
+GivesBy s tok event =
+    ((holding s tok.0 ≢ Holds Exclusive 0) × (event ≡ GiveOne s.cpu tok))
+    ⊎ ((holding s tok.0 ≡ Holds Exclusive 0) × (row s tok.0 ≡ first_row s tok.0) × (event ≡ GiveClean s.cpu tok))
+    ⊎ ((holding s tok.0 ≡ Holds Exclusive 0) × (row s tok.0 ≢ first_row s tok.0) × (event ≡ GiveWritten s.cpu tok))
+
+-- these values, stored in the cells of a token, make its row the section's first row, and each is stored in a cell that exists
+pub record StoresFirst (s : CpuSeat) (tok : ℕ) (values : List (Option ℕ)) : Type 0 where
+  pub makes_first : written_over 0 values (row s tok) ≡ first_row s tok
+  pub inside : (cell value : ℕ) → slice_get values cell ≡ Some (Some value) → cell < (plan_of (bank_of s) tok).cells
+
+-- the events of giving a reference back to a token of which so much is held: one reference less; or the end of a section, which
+-- is clean or written, and where the law is broken the stores of first values and then a clean end (own)
+pub record Releases (s : CpuSeat) (held : Held) (tok : TokId) (events : List Event) : Type 0 where
+  pub one : held ≢ Holds Exclusive 0 → events ≡ GiveOne s.cpu tok ∷ []
+  pub clean : held ≡ Holds Exclusive 0 → MeetsItsLaw s tok.0 → row s tok.0 ≡ first_row s tok.0 → events ≡ GiveClean s.cpu tok ∷ []
+  pub written : held ≡ Holds Exclusive 0 → MeetsItsLaw s tok.0 → row s tok.0 ≢ first_row s tok.0 → events ≡ GiveWritten s.cpu tok ∷ []
+  pub restored : held ≡ Holds Exclusive 0 → ¬ MeetsItsLaw s tok.0 → (values : List (Option ℕ)) × (StoresFirst s tok.0 values × (events ≡ writes s.cpu tok 0 values ++ GiveClean s.cpu tok ∷ []))
+
+-- the events of giving references back in reverse order, those in front of them staying held
+abbrev pub ReleasesAll : CpuSeat → List Ref → List Ref → List Event → Type 0
+ReleasesAll s front [] events = events ≡ []
+ReleasesAll s front (r ∷ refs) events = (later : List Event) × ((last : List Event) × (ReleasesAll s (front ++ r ∷ []) refs later × Releases s (holding_of (front ++ r ∷ []) r.tok.0) r.tok last × (events ≡ later ++ last)))
