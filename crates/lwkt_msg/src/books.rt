@@ -1,7 +1,7 @@
 ghost use Rattle.std.specs.Prelude.{◌≡◌, ◌⊎◌, ℕ, ◌<◌, [], length, All, MatchResult, IfOk, IfSome};
 
 use crate::closings::{read_and_free, take_all};
-use crate::openings::{are_within, blank_records, opening_words, seat_all};
+use crate::openings::{are_within, blank_records, known_specs, opening_words, seat_all};
 use crate::rules::{BookTable, Place, Top};
 use crate::seats::MsgSeat;
 use crate::views::{Layout, View};
@@ -54,28 +54,30 @@ impl MsgBook {
             (λ r. AreWithin cpus [] specs.now × AreOpened cpus specs.now r.0 r.1.items)
             (λ fault. (fault ≡ Memory) ⊎ ((fault ≡ Limits) × (AreWithin cpus [] specs.now → ⊥))) }
     {
+        let seats = Vec::with_capacity(alloc, 8).map_err(|_| Fault::Memory)?;
+        let known = known_specs(alloc, specs).map_err(|_| Fault::Memory)?;
         if !are_within(specs, cpus) {
             return Err(Fault::Limits);
         }
-        MsgBook::open_within(alloc, specs, cpus).map_err(|_| Fault::Memory)
+        let layout = Layout { specs: known, cpus };
+        MsgBook::open_within(alloc, specs, layout, seats).map_err(|_| Fault::Memory)
     }
 
     // Opens a book that keeps the limits.
     fn open_within(
         alloc: Global,
         specs: &[MsgSpec],
-        cpus: usize,
+        layout: Layout,
+        mut seats: Vec<MsgSeat>,
     ) -> Result<(MsgBook, Vec<MsgSeat>), AllocError>
-        requires { AreWithin cpus [] specs.now }
-        ensures { IfOk result (λ r. AreOpened cpus specs.now r.0 r.1.items) }
+        requires within { AreWithin layout.cpus [] specs.now }
+        requires known { layout.specs.items ≡ specs.now }
+        requires none { seats.items ≡ [] }
+        ensures { IfOk result (λ r. AreOpened layout.cpus specs.now r.0 r.1.items) }
     {
+        let cpus = layout.cpus;
         let words = opening_words(alloc, specs, cpus)?;
         let records = blank_records(alloc, specs.len())?;
-        let layout = Layout {
-            specs: specs.iter().copied().collect(alloc)?,
-            cpus,
-        };
-        let mut seats = Vec::with_capacity(alloc, cpus)?;
         let Ok((table, mut clerk)) = BookTable::new(alloc, &words, records, &layout) else {
             return Err(AllocError);
         };

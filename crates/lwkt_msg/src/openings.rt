@@ -34,6 +34,13 @@ pub(crate) fn are_within(specs: &[MsgSpec], cpus: usize) -> bool
     cpus > 0 && cpus <= 8 && specs.len() <= 64 && all_within(specs, cpus)
 }
 
+// The opening messages, as the table keeps them.
+pub(crate) fn known_specs(alloc: Global, specs: &[MsgSpec]) -> Result<Vec<MsgSpec>, AllocError>
+    ensures { IfOk result (λ v. v.items ≡ specs.now) }
+{
+    specs.iter().copied().collect(alloc)
+}
+
 // The words of a table that is opened with these messages.
 pub(crate) fn opening_words(
     alloc: Global,
