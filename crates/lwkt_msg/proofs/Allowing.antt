@@ -24,7 +24,7 @@ use Rattle.lwkt_msg.specs.declared.views.Entry.{Entry}
 use Rattle.lwkt_msg.specs.declared.views.Layout.{Layout}
 use Rattle.lwkt_msg.specs.declared.views.View.{View}
 use Rattle.lwkt_msg.specs.Views.{word_at, slot_at, spec_at, call_of, at, after_step, looked, handed, sent, took, replied, reaped, shows_away, shows_back, shows_with, Sees, SeesOwn, Stands}
-use Rattle.lwkt_msg.specs.Book.{Mail, parts_of, state_of, shown_target, in_slot, is_taken, is_back, KnowsOwn, Knows, IsKept, mail_at, IsBook, HadRecord, Rule}
+use Rattle.lwkt_msg.specs.Book.{Mail, parts_of, state_of, shown_target, in_slot, is_taken, is_back, IsBack, KnowsOwn, Knows, IsKept, mail_at, IsBook, HadRecord, Rule}
 use Rattle.lwkt_msg.specs.Hands.{Has, AreSame, IsOwn, IsInHand, AreHands}
 use Rattle.lwkt_msg.specs.Steps.{sent_word, rest_word}
 use Rattle.lwkt_msg.specs.Plays.{Looked, looks, sends, Took, takes_it, replies, reaps, hands_out}
@@ -243,7 +243,7 @@ module _ (key : Layout) (id : ℕ) (me : Me Rec View) (cpu : CpuId) (m : ℕ) (i
             takes (slot_at m) rec,
             slot.0,
             subst F (sym new_is) now,
-            at_word m (λ k. Took k old new me n (v', (slot_at m, rec) ∷ me.1)) record { won = λ _. (rec, slot.1, slot.2, refl, refl, record { key = key; mails = rule.mails; s = s; id = id; book = rule.book; seat = at_id; owner_is = lead.out_owner key rule.mails s id me.0 cpu m rule.book at_id is_seat there w (found ∙ old_is) fits out; record_is = refl }); lost = λ other. absurd (other found) },
+            at_word m (λ k. Took k old new me n (v', (slot_at m, rec) ∷ me.1)) record { won = λ _. (rec, slot.1, slot.2, refl, refl, record { key = key; mails = rule.mails; s = s; id = id; book = rule.book; seat = at_id; was_so = sym found ∙ (kept key s id me.0 cpu m rule at_id is_seat within).is_word; record_is = refl }); lost = λ other. absurd (other found) },
           )
 
       miss : n ≢ old → (v' : View) × (a : Act Rec) × Valid s.homes me.1 a × Rule key (stepped s (word_at m) n id me.1 v' a) × takes_it (step slots (word_at m) old new none) me n (v', carried_after me.1 a)
@@ -291,7 +291,7 @@ module _ (key : Layout) (id : ℕ) (me : Me Rec View) (cpu : CpuId) (m : ℕ) (i
         takes (slot_at m) rec,
         slot.0,
         record { mails = l.after_mails; book = l.book },
-        at_word m (λ k. (y : Rec) × (call_of y ≡ (at me.0 k).call) × (v' ≡ after_step me.0 k (reaped (at me.0 k)) (operation.Store n) n) × ((slot_at m, rec) ∷ me.1 ≡ (slot_at k, y) ∷ me.1) × HadRecord me.0 k is_back y) (rec, slot.1, refl, refl, record { key = key; mails = rule.mails; s = s; id = id; book = rule.book; seat = at_id; owner_is = (lead.knows_own key rule.mails s id me.0 cpu m rule.book at_id is_seat there own).back_is seen; record_is = refl }),
+        at_word m (λ k. (y : Rec) × (call_of y ≡ (at me.0 k).call) × (v' ≡ after_step me.0 k (reaped (at me.0 k)) (operation.Store n) n) × ((slot_at m, rec) ∷ me.1 ≡ (slot_at k, y) ∷ me.1) × HadRecord me.0 k IsBack y) (rec, slot.1, refl, refl, record { key = key; mails = rule.mails; s = s; id = id; book = rule.book; seat = at_id; was_so = (lead.knows_own key rule.mails s id me.0 cpu m rule.book at_id is_seat there own).back_is seen; record_is = refl }),
       )
 
   -- the load at the opening that hands a record out

@@ -17,7 +17,7 @@ use Rattle.lwkt_core.specs.declared.seats.SeatKind.{SeatKind}
 use Rattle.lwkt_msg.specs.declared.views.Entry.{Entry}
 use Rattle.lwkt_msg.specs.declared.views.View.{View}
 use Rattle.lwkt_msg.specs.Views.{spec_at, call_of, at, after_step, looked, sent, took, answered, reaped, shows_away, shows_back, shows_with, SeesOwn, Stands}
-use Rattle.lwkt_msg.specs.Book.{is_out, is_back, HadRecord}
+use Rattle.lwkt_msg.specs.Book.{IsShownBy, IsBack, HadRecord}
 use Rattle.lwkt_msg.specs.Hands.{IsOwn, IsInHand}
 use Rattle.lwkt_msg.specs.Steps.{sent_word, rest_word}
 use Rattle.lwkt_msg.specs.Plays.{IsLooked, HasLost, IsSat, IsInFront}
@@ -147,7 +147,7 @@ module _ (place place1 : Seat Rec View) (cpu : CpuId) (m : ℕ) (w : MsgWord) (s
   take_new is (inr h) =
       let a : false ≡ true = sym (not_taken_at Out is refl) ∙ (ap (λ (x : Entry). x.taken) (sym entry_is) ∙ h) in cc
 
-  pub take_done : (round : ℕ) (found : ℕ) (rec : Rec) (w2 : View) → IsForTaking cpu round w → found ≡ message_word w → (rec.error ≡ 0) × (rec.result ≡ 0) × (w2 ≡ after_step place1.me.0 m (took rec (at place1.me.0 m)) (Exchange found (found + 1)) found) × HadRecord place1.me.0 m is_out rec → HasTaken cpu v w2 m round rec w.aborted
+  pub take_done : (round : ℕ) (found : ℕ) (rec : Rec) (w2 : View) → IsForTaking cpu round w → found ≡ message_word w → (rec.error ≡ 0) × (rec.result ≡ 0) × (w2 ≡ after_step place1.me.0 m (took rec (at place1.me.0 m)) (Exchange found (found + 1)) found) × HadRecord place1.me.0 m (IsShownBy found) rec → HasTaken cpu v w2 m round rec w.aborted
   take_done round found rec w2 is found_is won =
       let did : w2 ≡ after_step place1.me.0 m (took rec (looked w e)) (Exchange (message_word w) (message_word w + 1)) (message_word w)
       = won.2 ∙ (λ i. after_step place1.me.0 m (took rec (entry_is i)) (Exchange (found_is i) (found_is i + 1)) (found_is i)) in
@@ -157,7 +157,7 @@ module _ (place place1 : Seat Rec View) (cpu : CpuId) (m : ℕ) (w : MsgWord) (s
         allowed = is;
         aborted_is = refl;
         clean = (won.0, won.1);
-        had = subst (λ (x : View). HadRecord x m is_out rec) l.view_is won.3;
+        had = subst (λ (x : ℕ). HadRecord (after_step v m (looked w e) Load (message_word w)) m (IsShownBy x) rec) found_is (subst (λ (x : View). HadRecord x m (IsShownBy found) rec) l.view_is won.3);
         does = Does-two v place1.me.0 w2 m (looked w e) (took rec (looked w e)) Load (Exchange (message_word w) (message_word w + 1)) (message_word w) (message_word w) l.view_is did;
       }
 
@@ -220,7 +220,7 @@ module _ (place place1 : Seat Rec View) (cpu : CpuId) (m : ℕ) (w : MsgWord) (s
       seen : (looked w e).back ≡ true
       seen = or_true e.back w.state is.0
 
-  pub reap_done : (round : ℕ) (word : MsgWord) (rec : Rec) (w2 : View) → IsForReaping cpu round w → word ≡ rest_word cpu round → call_of rec ≡ (at place1.me.0 m).call → HadRecord place1.me.0 m is_back rec
+  pub reap_done : (round : ℕ) (word : MsgWord) (rec : Rec) (w2 : View) → IsForReaping cpu round w → word ≡ rest_word cpu round → call_of rec ≡ (at place1.me.0 m).call → HadRecord place1.me.0 m IsBack rec
       → w2 ≡ after_step place1.me.0 m (reaped (at place1.me.0 m)) (Store (message_word word)) (message_word word) → HasReaped cpu v w2 m round rec
   reap_done round word rec w2 is word_is call_is had w2_is =
       let new : MsgWord = rest_word cpu round in
@@ -235,6 +235,6 @@ module _ (place place1 : Seat Rec View) (cpu : CpuId) (m : ℕ) (w : MsgWord) (s
         was_away = away_at Back is.0 own;
         round_is = sym is.2 ∙ sym (sees_own own).round_is;
         call_is = call_is ∙ ap (λ (x : Entry). x.call) entry_is;
-        had = subst (λ (x : View). HadRecord x m is_back rec) l.view_is had;
+        had = subst (λ (x : View). HadRecord x m IsBack rec) l.view_is had;
         does = Does-two v place1.me.0 w2 m (looked w e) (reaped e) Load (Store (message_word new)) (message_word w) (message_word new) l.view_is did;
       }

@@ -36,7 +36,7 @@ use Rattle.lwkt_msg.specs.declared.views.Entry.{Entry}
 use Rattle.lwkt_msg.specs.declared.views.Layout.{Layout}
 use Rattle.lwkt_msg.specs.declared.views.View.{View}
 use Rattle.lwkt_msg.specs.Views.{word_at, slot_at, spec_at, call_of, at, after_step, handed, sent, took, replied, reaped, dropped, requested, Stands}
-use Rattle.lwkt_msg.specs.Book.{is_out, Mail, parts_of, state_of, shown_target, in_slot, is_taken, is_back, KnowsOwn, KnowsTaken, Knows, IsKept, mail_at, IsBook}
+use Rattle.lwkt_msg.specs.Book.{Mail, parts_of, state_of, shown_target, in_slot, is_taken, is_back, KnowsOwn, KnowsTaken, Knows, IsKept, mail_at, IsBook}
 use Rattle.lwkt_msg.specs.Hands.{IsOwn}
 use Rattle.lwkt_msg.specs.Steps.{sent_word, rest_word, machine_of, LeadsTo}
 use Rattle.lwkt_msg.proofs.WordFacts.{message_word-injective}
@@ -247,10 +247,6 @@ module _ (key : Layout) (mails : List Mail) (s : State Rec View) (id : ℕ) (v :
       let now = subst F (sym owner_is) (taken_kept (origin_of mail.msg.owner) w op found is round_is) kept in
       let G : Owner → Type 0 = λ x. IsOutTo cpu x in
       leads (mail_after mail event mail.rec) event (message_word w + 1) (set s.homes (slot_at m) none) (took mail.rec (at v m)) op found (length-set s.homes (slot_at m) none) (set_slots none) now refl refl cpu_there (subst G (sym owner_is) refl, round_is) refl
-
-  -- whom a message is with that its word shows on its way
-  pub out_owner : (w : MsgWord) → get_or s.words (word_at m) 0 ≡ message_word w → MessageFits w → w.state ≡ state.Out → is_out mail.msg.owner ≡ true
-  out_owner w is fits out = ap is_out (sent_out mail.msg.owner (ap (λ (x : MsgWord). x.state) (parts_are w is fits) ∙ out))
 
   -- what the slot of a message on its way holds
   pub out_slot : (w : MsgWord) → get_or s.words (word_at m) 0 ≡ message_word w → MessageFits w → w.state ≡ state.Out → (get_elem? s.homes (slot_at m) ≡ some (some mail.rec)) × (mail.rec.error ≡ 0) × (mail.rec.result ≡ 0)

@@ -37,18 +37,12 @@ shown_target (Out origin target) = target
 shown_target (With origin target) = target
 shown_target (Back origin target) = target
 
--- whether a message was replied to, and whether by this processor; whether it is on its way, and whether this processor has taken it
+-- whether a message was replied to, and whether by this processor; whether this processor has taken it
 abbrev pub is_back : Owner → Bool
 is_back (Rest origin) = false
 is_back (Out origin target) = false
 is_back (With origin target) = false
 is_back (Back origin target) = true
-
-abbrev pub is_out : Owner → Bool
-is_out (Rest origin) = false
-is_out (Out origin target) = true
-is_out (With origin target) = false
-is_out (Back origin target) = false
 
 abbrev pub is_answered : ℕ → Owner → Bool
 is_answered cpu (Rest origin) = false
@@ -168,14 +162,21 @@ no_rec = record { arg = 0; result = 0; op = 0; error = 0 }
 abbrev pub opened_mail : MsgSpec → Mail
 opened_mail spec = record { msg = opened_message spec; had = false; sync = false; flags = no_flags; rec = no_rec }
 
--- in a state of the book in which a seat knew so much, the message was with such an owner and had this record: its call is what
--- its origin sent, and once it is back its error and result are what its target replied
-pub record HadRecord (v : View) (m : ℕ) (shows : Owner → Bool) (rec : Rec) : Type 0 where
+-- this word shows the message: so it is in this word's state and round; and the message was replied to
+abbrev pub IsShownBy : ℕ → Mail → Type 0
+IsShownBy word mail = word ≡ message_word (parts_of mail)
+
+abbrev pub IsBack : Mail → Type 0
+IsBack mail = is_back mail.msg.owner ≡ true
+
+-- in a state of the book in which a seat knew so much, the message was so and had this record: its call is what its origin sent,
+-- and once it is back its error and result are what its target replied
+pub record HadRecord (v : View) (m : ℕ) (IsSo : Mail → Type 0) (rec : Rec) : Type 0 where
   pub key : Layout
   pub mails : List Mail
   pub s : State Rec View
   pub id : ℕ
   pub book : IsBook key mails s
   pub seat : get_elem? s.views id ≡ some v
-  pub owner_is : shows (mail_at mails m).msg.owner ≡ true
+  pub was_so : IsSo (mail_at mails m)
   pub record_is : (mail_at mails m).rec ≡ rec

@@ -19,7 +19,7 @@ use Rattle.lwkt_msg.specs.declared.answers.Reaped.TheVariants as reaped_
 use Rattle.lwkt_msg.specs.declared.views.Entry.{Entry}
 use Rattle.lwkt_msg.specs.declared.views.View.{View}
 use Rattle.lwkt_msg.specs.Views.{call_of, at, after_step, looked, sent, took, answered, reaped, Sees}
-use Rattle.lwkt_msg.specs.Book.{is_out, is_back, HadRecord}
+use Rattle.lwkt_msg.specs.Book.{IsShownBy, IsBack, HadRecord}
 use Rattle.lwkt_msg.specs.Hands.{IsOwn}
 use Rattle.lwkt_msg.specs.Steps.{sent_word, rest_word}
 
@@ -74,15 +74,15 @@ IsForTaking cpu round w = (w.state ≡ Out) × (w.target ≡ cpu) × (w.round �
 abbrev pub IsForReaping : CpuId → ℕ → MsgWord → Type 0
 IsForReaping cpu round w = (w.state ≡ Back) × (w.origin ≡ cpu) × (w.round ≡ round)
 
--- the message was taken, as its word allowed: the record is that of the message, as it was sent, and the request to abort is that of
--- the word
+-- the message was taken, as its word allowed: the record is that of the message in this round, as it was sent, and the request to
+-- abort is that of the word
 pub record HasTaken (cpu : CpuId) (v w : View) (m round : ℕ) (rec : Rec) (aborted : Bool) : Type 0 where
   pub found : MsgWord
   pub loaded : IsLoaded v m found
   pub allowed : IsForTaking cpu round found
   pub aborted_is : aborted ≡ found.aborted
   pub clean : (rec.error ≡ 0) × (rec.result ≡ 0)
-  pub had : HadRecord (after_step v m (looked found (at v m)) Load (message_word found)) m is_out rec
+  pub had : HadRecord (after_step v m (looked found (at v m)) Load (message_word found)) m (IsShownBy (message_word found)) rec
   pub does : Does v w m (took rec (looked found (at v m))) (word_step m Load (message_word found) ∷ word_step m (Exchange (message_word found) (message_word found + 1)) (message_word found) ∷ [])
 
 -- the message was not taken: its word didn't allow it
@@ -130,7 +130,7 @@ pub record HasReaped (cpu : CpuId) (v w : View) (m round : ℕ) (rec : Rec) : Ty
   pub was_away : (at v m).away ≡ true
   pub round_is : round ≡ (at v m).round
   pub call_is : call_of rec ≡ (at v m).call
-  pub had : HadRecord (after_step v m (looked found (at v m)) Load (message_word found)) m is_back rec
+  pub had : HadRecord (after_step v m (looked found (at v m)) Load (message_word found)) m IsBack rec
   pub does :
       let new : MsgWord = rest_word cpu round in
       Does v w m (reaped (at v m)) (word_step m Load (message_word found) ∷ word_step m (Store (message_word new)) (message_word new) ∷ [])

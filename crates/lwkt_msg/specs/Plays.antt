@@ -9,7 +9,7 @@ use Rattle.lwkt_core.specs.declared.seats.Operation.TheVariants.{Load, Store, Ex
 use Rattle.lwkt_core.specs.declared.seats.SeatKind.TheVariants.{Of}
 use Rattle.lwkt_msg.specs.declared.views.View.{View}
 use Rattle.lwkt_msg.specs.Views.{word_at, slot_at, call_of, at, after_step, looked, handed, sent, took, replied, reaped, Sees}
-use Rattle.lwkt_msg.specs.Book.{is_out, is_back, HadRecord}
+use Rattle.lwkt_msg.specs.Book.{IsShownBy, IsBack, HadRecord}
 use Rattle.lwkt_msg.specs.Hands.{Has, AreSame, IsOwn, AreHands}
 
 -- what a load of a message's word tells: the parts of the word, which are what the view knows; if the seat has the record in
@@ -41,7 +41,7 @@ sends st me found then = (m : ℕ) → st.word ≡ word_at m → (w : MsgWord) �
 
 -- what the exchange of a take tells: the record is in hand, as it was sent, or another word was found
 pub record Took (m : ℕ) (old new : ℕ) (me : Me Rec View) (found : ℕ) (then : Me Rec View) : Type 0 where
-  pub won : found ≡ old → (rec : Rec) × (rec.error ≡ 0) × (rec.result ≡ 0) × (then.0 ≡ after_step me.0 m (took rec (at me.0 m)) (Exchange old new) found) × (then.1 ≡ (slot_at m, rec) ∷ me.1) × HadRecord me.0 m is_out rec
+  pub won : found ≡ old → (rec : Rec) × (rec.error ≡ 0) × (rec.result ≡ 0) × (then.0 ≡ after_step me.0 m (took rec (at me.0 m)) (Exchange old new) found) × (then.1 ≡ (slot_at m, rec) ∷ me.1) × HadRecord me.0 m (IsShownBy old) rec
   pub lost : found ≢ old → (then.0 ≡ after_step me.0 m (at me.0 m) (Exchange old new) found) × (then.1 ≡ me.1)
 
 abbrev pub takes_it : Step Rec → Me Rec View → ℕ → Me Rec View → Type 0
@@ -55,7 +55,7 @@ replies st me found then = (m : ℕ) → st.word ≡ word_at m → (rec : Rec) (
 -- what the store of a reap tells: the record is in hand, with the call that was sent
 abbrev pub reaps : Step Rec → Me Rec View → ℕ → Me Rec View → Type 0
 reaps st me found then = (m : ℕ) → st.word ≡ word_at m
-    → (rec : Rec) × (call_of rec ≡ (at me.0 m).call) × (then.0 ≡ after_step me.0 m (reaped (at me.0 m)) (Store found) found) × (then.1 ≡ (slot_at m, rec) ∷ me.1) × HadRecord me.0 m is_back rec
+    → (rec : Rec) × (call_of rec ≡ (at me.0 m).call) × (then.0 ≡ after_step me.0 m (reaped (at me.0 m)) (Store found) found) × (then.1 ≡ (slot_at m, rec) ∷ me.1) × HadRecord me.0 m IsBack rec
 
 -- what the load at the opening tells that hands a record out
 abbrev pub hands_out : Step Rec → Me Rec View → ℕ → Me Rec View → Type 0

@@ -6,7 +6,7 @@ ghost use Rattle.lwkt_base.specs.declared.message_words.MsgState.TheVariants as 
 ghost use Rattle.lwkt_base.specs.MessageWord.{message_word, MessageFits};
 ghost use Rattle.lwkt_core.specs.declared.seats.Operation.TheVariants.{Store, Exchange, Add};
 ghost use Rattle.lwkt_msg.specs.Views.{call_of, at, after_step, flags_of, sent, took, answered, reaped};
-ghost use Rattle.lwkt_msg.specs.Book.{is_out, is_back, HadRecord};
+ghost use Rattle.lwkt_msg.specs.Book.{IsShownBy, IsBack, HadRecord};
 ghost use Rattle.lwkt_msg.specs.Hands.{IsOwn, IsInHand};
 ghost use Rattle.lwkt_core.specs.declared.messages.TheConstants.{LAST_ROUND};
 ghost use Rattle.lwkt_msg.specs.Steps.{sent_word, rest_word};
@@ -66,7 +66,7 @@ pub(crate) fn win(top: &Top, place: &mut Place, m: usize, found: u64, word: MsgW
     requires new { IsInHand place.old.me.0 word.target.0 m → ⊥ }
     ensures seat { IsSameSeat place.old place.new }
     ensures sat { IsSat word.target place.new }
-    ensures view { MatchOption result (HasLost m found place.old.me.0 place.new.me.0) (λ rec. (rec.error ≡ 0) × (rec.result ≡ 0) × (place.new.me.0 ≡ after_step place.old.me.0 m (took rec (at place.old.me.0 m)) (Exchange found (found + 1)) found) × HadRecord place.old.me.0 m is_out rec) }
+    ensures view { MatchOption result (HasLost m found place.old.me.0 place.new.me.0) (λ rec. (rec.error ≡ 0) × (rec.result ≡ 0) × (place.new.me.0 ≡ after_step place.old.me.0 m (took rec (at place.old.me.0 m)) (Exchange found (found + 1)) found) × HadRecord place.old.me.0 m (IsShownBy found) rec) }
 {
     let seen = top.compare_exchange::<Take>(place, 16 * m + 1, found, found + 1);
     if seen == found {
@@ -105,7 +105,7 @@ pub(crate) fn fetch(top: &Top, place: &mut Place, m: usize, word: MsgWord) -> Re
     ensures seat { IsSameSeat place.old place.new }
     ensures sat { IsSat word.origin place.new }
     ensures call { call_of result ≡ (at place.old.me.0 m).call }
-    ensures had { HadRecord place.old.me.0 m is_back result }
+    ensures had { HadRecord place.old.me.0 m IsBack result }
     ensures view { place.new.me.0 ≡ after_step place.old.me.0 m (reaped (at place.old.me.0 m)) (Store (message_word word)) (message_word word) }
 {
     top.store::<Reap>(place, 16 * m + 1, word.make());

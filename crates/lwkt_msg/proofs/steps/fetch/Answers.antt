@@ -6,7 +6,7 @@ use Rattle.lwkt_base.specs.MessageWord.{message_word}
 use Rattle.lwkt_core.specs.declared.seats.Operation.TheVariants.{Store}
 use Rattle.lwkt_msg.specs.declared.views.View.{View}
 use Rattle.lwkt_msg.specs.Views.{word_at, slot_at, call_of, at, after_step, reaped}
-use Rattle.lwkt_msg.specs.Book.{is_back, HadRecord, Rule}
+use Rattle.lwkt_msg.specs.Book.{IsBack, HadRecord, Rule}
 use Rattle.lwkt_msg.specs.Hands.{IsOwn, IsInHand}
 use Rattle.lwkt_msg.specs.Steps.{rest_word}
 use Rattle.lwkt_msg.specs.Plays.{reaps}
@@ -59,7 +59,7 @@ returns-clause-had c =
     let got = c.store.ensures.2 m refl in
     let value = c.front.ensures.value in
     let is : got.0 ≡ c.front.result = ap (λ (h : ℕ × Rec). h.1) (first_same (slot_at m, got.0) (slot_at m, c.front.result) c.args.place.now.me.1 value.0 (sym got.3 ∙ value.1)) in
-    subst (λ (r : Rec). HadRecord c.args.place.now.me.0 m is_back r) is got.4
+    subst (λ (r : Rec). HadRecord c.args.place.now.me.0 m IsBack r) is got.4
 
 pub returns-clause-view : goal.returns-clause-view
 returns-clause-view c =

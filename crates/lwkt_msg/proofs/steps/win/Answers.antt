@@ -4,7 +4,7 @@ use Rattle.lwkt_base.specs.declared.records.Rec.{Rec}
 use Rattle.lwkt_core.specs.declared.seats.Operation.TheVariants.{Exchange}
 use Rattle.lwkt_msg.specs.declared.views.View.{View}
 use Rattle.lwkt_msg.specs.Views.{slot_at, at, after_step, took}
-use Rattle.lwkt_msg.specs.Book.{is_out, HadRecord}
+use Rattle.lwkt_msg.specs.Book.{IsShownBy, HadRecord}
 use Rattle.lwkt_msg.proofs.Allowing.{take_allowed, first_same}
 use Rattle.lwkt_msg.proofs.Sitting.{sat_taken, sat_same, word_inside}
 use Rattle.lwkt_msg.proofs.steps.win.Goals as goal
@@ -42,7 +42,7 @@ returns-then-seen-found-clause-view c =
       ap (λ (r : Rec). r.error) (sym is) ∙ won.1,
       ap (λ (r : Rec). r.result) (sym is) ∙ won.2,
       ap (λ (x : Me Rec View). x.0) same.1 ∙ (won.3 ∙ (λ i. after_step c.args.place.now.me.0 m (took (is i) (at c.args.place.now.me.0 m)) (Exchange c.args.found (c.args.found + 1)) (c.if-seen-found.true i))),
-      subst (λ (r : Rec). HadRecord c.args.place.now.me.0 m is_out r) is won.5,
+      subst (λ (r : Rec). HadRecord c.args.place.now.me.0 m (IsShownBy c.args.found) r) is won.5,
     )
 
 pub returns-else-seen-found-clause-sat : goal.returns-else-seen-found-clause-sat
