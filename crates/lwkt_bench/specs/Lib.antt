@@ -1,1 +1,2 @@
 pub mod Idle
+pub mod Lists

@@ -1,5 +1,6 @@
 //! Tokens written by hand on shared words: the same steps without the bank.
 use crate::steps::Steps;
+use std::alloc::{AllocError, Global};
 use std::sync::atomic::{AtomicU64, Ordering};
 
 // The exclusive bit, the mark, one reference more, the bits of all these, and the last generation's first word.
@@ -36,7 +37,8 @@ impl HandToken {
             .is_ok()
     }
 
-    fn take(&self) -> bool {
+    /// Whether the token was taken.
+    pub fn take(&self) -> bool {
         let word = self.word.load(Ordering::SeqCst);
         if word % GENERATION & !MARK != 0 || word >= LAST {
             return false;
@@ -52,8 +54,8 @@ impl HandToken {
         self.swing(word, word.wrapping_add(REFERENCE))
     }
 
-    // The end of a section, written or clean.
-    fn give(&self, written: bool) {
+    /// The end of a section, written or clean.
+    pub fn give(&self, written: bool) {
         if written {
             self.word.fetch_add(GENERATION - 1, Ordering::SeqCst);
         } else {
@@ -61,16 +63,56 @@ impl HandToken {
         }
     }
 
+    /// One reference more.
+    pub fn again(&self) {
+        self.word.fetch_add(REFERENCE, Ordering::SeqCst);
+    }
+
+    /// One reference less, which ends no section.
+    pub fn give_one(&self) {
+        self.word.fetch_sub(REFERENCE, Ordering::SeqCst);
+    }
+
+    pub fn load(&self) -> u64 {
+        self.cell.load(Ordering::SeqCst)
+    }
+
+    pub fn store(&self, value: u64) {
+        self.cell.store(value, Ordering::SeqCst);
+    }
+
+    // A section that adds 1 to the cell; whether it was made.
+    fn add(&self) -> bool {
+        if !self.take() {
+            return false;
+        }
+        let sum = self.load().checked_add(1);
+        if let Some(sum) = sum {
+            self.store(sum);
+        }
+        self.give(sum.is_some());
+        sum.is_some()
+    }
+
     fn section(&self) -> bool {
         if !self.take() {
             return false;
         }
-        let first = self.cell.load(Ordering::SeqCst);
+        let first = self.load();
         let last = first.wrapping_add(1);
-        self.cell.store(last, Ordering::SeqCst);
+        self.store(last);
         self.give(first != last);
         true
     }
+}
+
+/// So many tokens.
+pub fn hand_tokens(alloc: Global, count: u8) -> Result<Vec<HandToken>, AllocError> {
+    let mut tokens = Vec::new(alloc);
+    for _tok in 0..count {
+        tokens.push(HandToken::new())?;
+    }
+    Ok(tokens)
 }
 
 /// Sections with one load and one store.
@@ -91,8 +133,23 @@ impl Steps for HandShares<'_> {
     fn step(&mut self) -> bool {
         let taken = self.0.share();
         if taken {
-            self.0.word.fetch_sub(REFERENCE, Ordering::SeqCst);
+            self.0.give_one();
         }
         taken
+    }
+}
+
+/// Sections that add 1 to the cell, and count what this thread has added.
+#[derive(Drop)]
+pub struct HandAdds<'a> {
+    pub token: &'a HandToken,
+    pub added: u64,
+}
+
+impl Steps for HandAdds<'_> {
+    fn step(&mut self) -> bool {
+        let made = self.token.add();
+        self.added = self.added.wrapping_add(u64::from(made));
+        made
     }
 }

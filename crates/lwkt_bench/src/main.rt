@@ -4,12 +4,16 @@
 mod desks;
 mod hands;
 mod lane_rounds;
+mod list_desks;
+mod list_hands;
+mod list_rounds;
 mod rings;
 mod rounds;
 mod steps;
 mod token_rounds;
 
 use lane_rounds::time_lanes;
+use list_rounds::time_lists;
 use std::process::ExitCode;
 use std::rt::Env;
 use std::sync::Wait;
@@ -31,6 +35,7 @@ fn is_run<R: Env + AllocGlobal>(rt: &R) -> io::Result<bool> {
 fn run<R: Wait + CpuClock + Print + AllocGlobal>(rt: &R) -> io::Result<()> {
     rounds::print_head(rt)?;
     time_tokens(rt)?;
+    time_lists(rt)?;
     time_lanes(rt)
 }
 

@@ -14,9 +14,14 @@ pub trait Steps {
 
 /// A round by this thread alone, in the thread's processor time. The sum is how many steps were made.
 pub fn alone<R: CpuClock, S: Steps>(rt: &R, steps: &mut S) -> io::Result<Timed> {
+    some_steps(rt, STEPS, steps)
+}
+
+/// A round of so many steps by this thread alone.
+pub fn some_steps<R: CpuClock, S: Steps>(rt: &R, count: u64, steps: &mut S) -> io::Result<Timed> {
     let start = rt.thread_cpu_time()?;
     let mut made = 0u64;
-    for _step in 0..STEPS {
+    for _step in 0..count {
         made = made.wrapping_add(u64::from(steps.step()));
     }
     end_round(rt, start, made)

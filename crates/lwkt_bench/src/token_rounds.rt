@@ -61,8 +61,13 @@ fn plain_tokens(alloc: Global, law: Law, count: usize) -> Result<Vec<TokSpec>, A
     Ok(specs)
 }
 
-// A bank of so many plain tokens, with a seat for each of so many processors.
-fn open(alloc: Global, law: Law, tokens: usize, cpus: usize) -> Result<(Bank, Vec<CpuSeat>), Fault>
+/// A bank of so many plain tokens, with a seat for each of so many processors.
+pub fn open(
+    alloc: Global,
+    law: Law,
+    tokens: usize,
+    cpus: usize,
+) -> Result<(Bank, Vec<CpuSeat>), Fault>
     requires not_sum { law ≢ Law.Sum }
     requires not_order { law ≢ Law.Order }
     requires not_cap { law ≢ Law.Cap }
@@ -73,8 +78,8 @@ fn open(alloc: Global, law: Law, tokens: usize, cpus: usize) -> Result<(Bank, Ve
     Bank::open(alloc, specs.as_slice(), cpus)
 }
 
-// The next of the seats, at a token. None if no seat is left.
-fn desk<'a>(bank: &'a Bank, seats: &mut Vec<CpuSeat>, tok: TokId) -> Option<Desk<'a>>
+/// The next of the seats, at a token. None if no seat is left.
+pub fn desk<'a>(bank: &'a Bank, seats: &mut Vec<CpuSeat>, tok: TokId) -> Option<Desk<'a>>
     requires ready { IsReady (id_of bank.now) seats.old.items }
     requires there { tok.0 < tokens_of (id_of bank.now) }
     ensures { IsReady (id_of bank.now) seats.new.items }
@@ -83,7 +88,8 @@ fn desk<'a>(bank: &'a Bank, seats: &mut Vec<CpuSeat>, tok: TokId) -> Option<Desk
     Some(Desk { seat, bank, tok })
 }
 
-fn refused(fault: Fault) -> io::Error {
+/// What a refusal is as an error of the program.
+pub fn refused(fault: Fault) -> io::Error {
     let kind = match fault {
         Fault::Memory => io::ErrorKind::OutOfMemory,
         _ => io::ErrorKind::InvalidInput,
@@ -91,7 +97,8 @@ fn refused(fault: Fault) -> io::Error {
     kind.into()
 }
 
-fn no_seat() -> io::Error {
+/// That no seat is left.
+pub fn no_seat() -> io::Error {
     io::ErrorKind::NotFound.into()
 }
 
