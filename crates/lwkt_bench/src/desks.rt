@@ -69,6 +69,20 @@ fn share(bank: &Bank, seat: &mut CpuSeat, tok: TokId) -> bool
     true
 }
 
+// A section that adds 1 to the cell.
+fn add(bank: &Bank, seat: &mut CpuSeat, tok: TokId) -> bool
+    requires plain { HasPlain (id_of bank.now) tok.0 }
+    requires idle { IsIdle (id_of bank.now) seat.old tok.0 }
+    ensures { IsIdle (id_of bank.now) seat.new tok.0 }
+{
+    if !take(bank, seat, tok, Mode::Exclusive) {
+        return false;
+    }
+    let added = seat.add(bank, tok, 1).is_ok();
+    give(bank, seat, tok);
+    added
+}
+
 /// Sections with one load and one store.
 #[derive(Drop)]
 pub struct Sections<'a>(pub Desk<'a>);
@@ -88,5 +102,16 @@ impl Steps for Shares<'_> {
     fn step(&mut self) -> bool {
         let desk = &mut self.0;
         share(desk.bank, &mut desk.seat, desk.tok)
+    }
+}
+
+/// Sections that add 1 to the cell.
+#[derive(Drop)]
+pub struct Adds<'a>(pub Desk<'a>);
+
+impl Steps for Adds<'_> {
+    fn step(&mut self) -> bool {
+        let desk = &mut self.0;
+        add(desk.bank, &mut desk.seat, desk.tok)
     }
 }

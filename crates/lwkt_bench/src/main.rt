@@ -6,19 +6,25 @@ mod hands;
 mod lane_rounds;
 mod list_desks;
 mod list_hands;
+mod list_races;
 mod list_rounds;
+mod races;
 mod rings;
 mod rounds;
 mod steps;
+mod token_races;
 mod token_rounds;
 
 use lane_rounds::time_lanes;
+use list_races::race_lists;
 use list_rounds::time_lists;
 use std::process::ExitCode;
 use std::rt::Env;
 use std::sync::Wait;
-use std::time::CpuClock;
+use std::thread::Threads;
+use std::time::{Clock, CpuClock};
 use std::{env, io};
+use token_races::race_tokens;
 use token_rounds::time_tokens;
 
 const USAGE: &str = "lwkt_bench: run";
@@ -32,10 +38,14 @@ fn is_run<R: Env + AllocGlobal>(rt: &R) -> io::Result<bool> {
     Ok(first.as_str() == "run" && words.next().is_none())
 }
 
-fn run<R: Wait + CpuClock + Print + AllocGlobal>(rt: &R) -> io::Result<()> {
+fn run<R: Threads + Sync + Wait + CpuClock + Clock + Print + AllocGlobal>(
+    rt: &R,
+) -> io::Result<()> {
     rounds::print_head(rt)?;
     time_tokens(rt)?;
+    race_tokens(rt)?;
     time_lists(rt)?;
+    race_lists(rt)?;
     time_lanes(rt)
 }
 

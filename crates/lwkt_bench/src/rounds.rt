@@ -12,7 +12,7 @@ pub struct Rounds {
     plain: Vec<u64>,
 }
 
-/// The processor time that a round took, and the sum of what it read.
+/// The time that a round took, and the sum of what it read.
 #[derive(Clone, Copy)]
 pub struct Timed {
     pub time: Duration,
@@ -77,15 +77,33 @@ impl Rounds {
     pub fn print_line<R: Print + Alloc>(mut self, rt: &R, race: Race) -> io::Result<()> {
         let ours = median(&mut self.ours);
         let plain = median(&mut self.plain);
-        let what = race.what;
-        print!(rt; "{what:<46}")?;
-        print_hundredths(rt, hundredths(ours, race.steps))?;
-        print_hundredths(rt, hundredths(plain, race.steps))?;
-        print_hundredths(rt, hundredths(ours, plain))?;
-        print_hundredths(rt, race.goal)?;
-        print_hundredths(rt, race.worst)?;
-        println!(rt; "")
+        print_row(rt, race, ours, plain, hundredths(ours, plain))
     }
+
+    /// Prints the line of a race by its rates: the ratio is our steps in a time over the plain ones in that time, so that more
+    /// is better.
+    pub fn print_rate_line<R: Print + Alloc>(mut self, rt: &R, race: Race) -> io::Result<()> {
+        let ours = median(&mut self.ours);
+        let plain = median(&mut self.plain);
+        print_row(rt, race, ours, plain, hundredths(plain, ours))
+    }
+}
+
+fn print_row<R: Print + Alloc>(
+    rt: &R,
+    race: Race,
+    ours: u64,
+    plain: u64,
+    ratio: u64,
+) -> io::Result<()> {
+    let what = race.what;
+    print!(rt; "{what:<46}")?;
+    print_hundredths(rt, hundredths(ours, race.steps))?;
+    print_hundredths(rt, hundredths(plain, race.steps))?;
+    print_hundredths(rt, ratio)?;
+    print_hundredths(rt, race.goal)?;
+    print_hundredths(rt, race.worst)?;
+    println!(rt; "")
 }
 
 fn print_hundredths<R: Print + Alloc>(rt: &R, number: u64) -> io::Result<()> {
