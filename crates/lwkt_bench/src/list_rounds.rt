@@ -8,7 +8,7 @@ use crate::list_hands::{HandList, HandListRounds};
 use crate::rounds::{Race, Rounds};
 use crate::steps::{Steps, some_steps};
 use crate::token_rounds::{no_seat, open, refused};
-use lwkt_bank::banks::Bank;
+use lwkt_bank::Bank;
 use lwkt_base::{CpuId, Fault, Law, TokId, TokList};
 use std::alloc::{AllocError, Global};
 use std::io;

@@ -11,9 +11,9 @@ ghost use Rattle.lwkt_hold.specs.Givings.{gives_all, GivesBy, StoresFirst, Relea
 ghost use Rattle.lwkt_core.specs.declared.events.Event.{Event};
 
 use crate::traces::{note, note_cells};
-use lwkt_bank::banks::Bank;
-use lwkt_bank::seats::CpuSeat;
-use lwkt_bank::tries::Given;
+use lwkt_bank::Bank;
+use lwkt_bank::CpuSeat;
+use lwkt_bank::Given;
 use lwkt_base::{Held, Mode, Ref, TokId};
 use lwkt_core::Event;
 
