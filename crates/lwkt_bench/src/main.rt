@@ -2,15 +2,19 @@
 #![tactic(auto)]
 
 mod desks;
+mod hand_messages;
 mod hands;
 mod lane_rounds;
 mod list_desks;
 mod list_hands;
 mod list_races;
 mod list_rounds;
+mod message_rounds;
+mod posts;
 mod races;
 mod rings;
 mod rounds;
+mod sides;
 mod steps;
 mod token_races;
 mod token_rounds;
@@ -18,11 +22,12 @@ mod token_rounds;
 use lane_rounds::time_lanes;
 use list_races::race_lists;
 use list_rounds::time_lists;
+use message_rounds::time_messages;
 use std::process::ExitCode;
-use std::rt::Env;
+use std::rt::{Clock, Env};
 use std::sync::Wait;
 use std::thread::Threads;
-use std::time::{Clock, CpuClock};
+use std::time::CpuClock;
 use std::{env, io};
 use token_races::race_tokens;
 use token_rounds::time_tokens;
@@ -46,7 +51,8 @@ fn run<R: Threads + Sync + Wait + CpuClock + Clock + Print + AllocGlobal>(
     race_tokens(rt)?;
     time_lists(rt)?;
     race_lists(rt)?;
-    time_lanes(rt)
+    time_lanes(rt)?;
+    time_messages(rt)
 }
 
 fn main(rt: HostRuntime) -> io::Result<ExitCode> {
