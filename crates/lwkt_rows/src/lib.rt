@@ -10,6 +10,10 @@ mod core_rows;
 #[cfg(test)]
 mod fixtures;
 #[cfg(test)]
+mod hold_desks;
+#[cfg(test)]
+mod hold_rows;
+#[cfg(test)]
 mod lane_rows;
 #[cfg(test)]
 mod report_rows;

@@ -1,0 +1,250 @@
+//! Holds: the worked rows, their refusals and limits, and two threads with their lists crossed.
+
+use crate::hold_desks::{Desk, Watch, next_desk, next_watch, open};
+use lwkt_base::{Answer, Ask, Cells, CpuId, Fault, Law, Mode, Ref, TokId, TokSpec};
+use lwkt_core::Event;
+use lwkt_hold::{Acquired, Blocked, Missed, Resumed};
+use std::alloc::{AllocError, Global};
+use std::test::Fail;
+
+const MOST: u64 = 18446744073709551615;
+
+const LAST_GENERATION: u64 = 70368744177663;
+
+const LAST_WORD: u64 = 18446744073709289472;
+
+const T0: TokId = TokId(0);
+
+const T1: TokId = TokId(1);
+
+const X0: Ref = Ref {
+    tok: T0,
+    mode: Mode::Exclusive,
+};
+
+const X1: Ref = Ref {
+    tok: T1,
+    mode: Mode::Exclusive,
+};
+
+const S0: Ref = Ref {
+    tok: T0,
+    mode: Mode::Shared,
+};
+
+fn token(
+    alloc: Global,
+    law: Law,
+    param: u64,
+    cells: &[u64],
+    generation: u64,
+) -> Result<TokSpec, AllocError> {
+    Ok(TokSpec {
+        cells: Cells::from_vec(Vec::from_slice(alloc, cells)?),
+        law,
+        param,
+        generation,
+    })
+}
+
+// Two tokens of one cell under no law.
+fn two_tokens(alloc: Global) -> Result<[TokSpec; 2], AllocError> {
+    let first = token(alloc, Law::Any, 0, &[0], 0)?;
+    let second = token(alloc, Law::Any, 0, &[0], 0)?;
+    Ok([first, second])
+}
+
+// An ask, its answer, and the words of tokens 0 and 1 after it.
+type Row = (Ask, Answer, u64, u64);
+
+// The place of the first row that goes otherwise, with what was answered and the words.
+type Other = (usize, Option<Answer>, u64, u64);
+
+fn first_other(desk: &mut Desk, watch: &mut Watch, rows: &[Row]) -> Option<Other> {
+    for (place, (ask, answer, first, second)) in rows.iter().enumerate() {
+        let answered = desk.ask(*ask);
+        let found = (watch.word(0), watch.word(1));
+        if answered != Some(*answer) || found != (*first, *second) {
+            return Some((place, answered, found.0, found.1));
+        }
+    }
+    None
+}
+
+fn refused(fault: Fault) -> Answer {
+    Answer::Refused(fault)
+}
+
+#[test]
+fn words_of_holds(rt: HostRuntime) -> Result<(), Fail> {
+    let specs = two_tokens(rt.alloc())?;
+    let (bank, mut seats) = open(rt.alloc(), &specs, 2)?;
+    let mut watch = next_watch(&bank, &mut seats).ok_or("a seat")?;
+    let mut desk = next_desk(rt.alloc(), &bank, &mut seats).ok_or("a seat")?;
+    let rows = [
+        (Ask::Get(T0), Answer::Done, 1, 0),
+        (Ask::Get(T0), Answer::Done, 5, 0),
+        (Ask::GetShared(T0), Answer::Done, 9, 0),
+        (Ask::Rel(T0), Answer::Done, 5, 0),
+        (Ask::Rel(T0), Answer::Done, 1, 0),
+        (Ask::Rel(T0), Answer::Done, 0, 0),
+        // References are given back in the order in which they were had, the last one first.
+        (Ask::Get(T0), Answer::Done, 1, 0),
+        (Ask::Get(T1), Answer::Done, 1, 1),
+        (Ask::Rel(T0), refused(Fault::NotLast), 1, 1),
+    ];
+    assert_eq!(rt; first_other(&mut desk, &mut watch, &rows), None);
+    assert_eq!(rt; desk.refs(), [X0, X1].as_slice());
+    Ok(())
+}
+
+#[test]
+fn refusals_of_holds(rt: HostRuntime) -> Result<(), Fail> {
+    let first = token(rt.alloc(), Law::Any, 0, &[1], 0)?;
+    let second = token(rt.alloc(), Law::Tally, MOST, &[MOST], 0)?;
+    let (bank, mut seats) = open(rt.alloc(), &[first, second], 2)?;
+    let mut watch = next_watch(&bank, &mut seats).ok_or("a seat")?;
+    let mut desk = next_desk(rt.alloc(), &bank, &mut seats).ok_or("a seat")?;
+    let rows = [
+        (Ask::Read(TokId(9), 0), refused(Fault::NoToken), 0, 0),
+        (Ask::Read(T0, 3), refused(Fault::NoCell), 0, 0),
+        (Ask::Read(T0, 0), refused(Fault::NotHeld), 0, 0),
+        (Ask::GetShared(T0), Answer::Done, 4, 0),
+        (Ask::Write(T0, 0, 5), refused(Fault::SharedWrite), 4, 0),
+        (Ask::Rel(T0), Answer::Done, 0, 0),
+        (Ask::Get(T1), Answer::Done, 0, 1),
+        (Ask::Write(T1, 0, 5), refused(Fault::TallyOnly), 0, 1),
+        (Ask::Add(T1, 1), refused(Fault::Overflow), 0, 1),
+        (Ask::Rel(T1), Answer::Done, 0, 0),
+        (Ask::Rel(T1), refused(Fault::NotHeld), 0, 0),
+    ];
+    assert_eq!(rt; first_other(&mut desk, &mut watch, &rows), None);
+    let cpu = CpuId(0);
+    let events = [
+        Event::Share { cpu, tok: T0 },
+        Event::GiveOne { cpu, tok: T0 },
+        Event::Take { cpu, tok: T1 },
+        Event::GiveClean { cpu, tok: T1 },
+    ];
+    assert_eq!(rt; desk.trace(), events.as_slice());
+    Ok(())
+}
+
+// A section that broke its law: its cells are as at its beginning, whichever way it ends.
+#[test]
+fn a_broken_law_is_undone(rt: HostRuntime) -> Result<(), Fail> {
+    let spec = token(rt.alloc(), Law::Sum, 10, &[5, 5], 0)?;
+    let (bank, mut seats) = open(rt.alloc(), &[spec], 2)?;
+    let mut watch = next_watch(&bank, &mut seats).ok_or("a seat")?;
+    let mut desk = next_desk(rt.alloc(), &bank, &mut seats).ok_or("a seat")?;
+    let broken = [
+        (Ask::Get(T0), Answer::Done, 1, 0),
+        (Ask::Write(T0, 0, 9), Answer::Done, 1, 0),
+    ];
+    let given = [(Ask::Rel(T0), refused(Fault::Broken), 0, 0)];
+    let looks = [
+        (Ask::Get(T0), Answer::Done, 1, 0),
+        (Ask::Read(T0, 0), Answer::Value(5), 1, 0),
+        (Ask::Read(T0, 1), Answer::Value(5), 1, 0),
+        (Ask::Rel(T0), Answer::Done, 0, 0),
+    ];
+    assert_eq!(rt; first_other(&mut desk, &mut watch, &broken), None);
+    assert_eq!(rt; first_other(&mut desk, &mut watch, &given), None);
+    assert!(rt; desk.refs().is_empty());
+    assert_eq!(rt; first_other(&mut desk, &mut watch, &looks), None);
+    assert_eq!(rt; first_other(&mut desk, &mut watch, &broken), None);
+    assert_eq!(rt; desk.block(), Ok(Blocked::Restored(T0)));
+    assert_eq!(rt; watch.word(0), 0);
+    assert_eq!(rt; first_other(&mut desk, &mut watch, &looks), None);
+    Ok(())
+}
+
+#[test]
+fn a_missed_list_is_given_back(rt: HostRuntime) -> Result<(), Fail> {
+    let specs = two_tokens(rt.alloc())?;
+    let (bank, mut seats) = open(rt.alloc(), &specs, 3)?;
+    let mut watch = next_watch(&bank, &mut seats).ok_or("a seat")?;
+    let mut second = next_desk(rt.alloc(), &bank, &mut seats).ok_or("a seat")?;
+    let mut first = next_desk(rt.alloc(), &bank, &mut seats).ok_or("a seat")?;
+    assert_eq!(rt; second.get(X1), Ok(Acquired::Got));
+    let passed = Resumed::Passed {
+        at: 1,
+        why: Missed::Busy { word: 1 },
+    };
+    assert_eq!(rt; first.resume(&[X0, X1]), Ok(passed));
+    let cpu = CpuId(0);
+    let events = [
+        Event::Take { cpu, tok: T0 },
+        Event::GiveClean { cpu, tok: T0 },
+    ];
+    assert!(rt; watch.word(0) == 0 && watch.word(1) == 1 && first.refs().is_empty());
+    assert_eq!(rt; first.trace(), events.as_slice());
+    // A list of no references is held at once.
+    assert_eq!(rt; first.resume(&[]), Ok(Resumed::All));
+    // Trying for a token that is held changes nothing.
+    assert_eq!(rt; first.ask(Ask::TryGet(T1)), Some(refused(Fault::Busy)));
+    assert!(rt; watch.word(0) == 0 && watch.word(1) == 1 && first.refs().is_empty());
+    assert_eq!(rt; first.trace(), events.as_slice());
+    Ok(())
+}
+
+#[test]
+fn mark_stops_lone_sharers(rt: HostRuntime) -> Result<(), Fail> {
+    let specs = two_tokens(rt.alloc())?;
+    let (bank, mut seats) = open(rt.alloc(), &specs, 5)?;
+    let mut watch = next_watch(&bank, &mut seats).ok_or("a seat")?;
+    let mut fourth = next_desk(rt.alloc(), &bank, &mut seats).ok_or("a seat")?;
+    let mut third = next_desk(rt.alloc(), &bank, &mut seats).ok_or("a seat")?;
+    let mut second = next_desk(rt.alloc(), &bank, &mut seats).ok_or("a seat")?;
+    let mut first = next_desk(rt.alloc(), &bank, &mut seats).ok_or("a seat")?;
+    assert!(rt; first.get(S0) == Ok(Acquired::Got) && watch.word(0) == 4);
+    assert!(rt; second.get(S0) == Ok(Acquired::Got) && watch.word(0) == 8);
+    assert!(rt; third.get(X0) == Ok(busy(8)) && watch.word(0) == 10);
+    assert!(rt; fourth.get(S0) == Ok(busy(10)) && watch.word(0) == 10);
+    assert_eq!(rt; fourth.resume(&[X1]), Ok(Resumed::All));
+    assert!(rt; fourth.get(S0) == Ok(Acquired::Got) && watch.word(0) == 14);
+    let released = Some(Answer::Done);
+    assert!(rt; fourth.ask(Ask::Rel(T0)) == released && watch.word(0) == 10);
+    assert!(rt; first.ask(Ask::Rel(T0)) == released && watch.word(0) == 6);
+    assert!(rt; second.ask(Ask::Rel(T0)) == released && watch.word(0) == 2);
+    assert!(rt; third.resume(&[X0]) == Ok(Resumed::All) && watch.word(0) == 1);
+    Ok(())
+}
+
+fn busy(word: u64) -> Acquired {
+    Acquired::MustSwitch {
+        why: Missed::Busy { word },
+    }
+}
+
+#[test]
+fn limits_of_holds(rt: HostRuntime) -> Result<(), Fail> {
+    let first = token(rt.alloc(), Law::Any, 0, &[], 0)?;
+    let second = token(rt.alloc(), Law::Any, 0, &[], LAST_GENERATION)?;
+    let (bank, mut seats) = open(rt.alloc(), &[first, second], 2)?;
+    let mut watch = next_watch(&bank, &mut seats).ok_or("a seat")?;
+    let mut desk = next_desk(rt.alloc(), &bank, &mut seats).ok_or("a seat")?;
+    let rows = [
+        (Ask::Get(T1), refused(Fault::Worn), 0, LAST_WORD),
+        (Ask::TryGet(T1), refused(Fault::Worn), 0, LAST_WORD),
+        (Ask::GetShared(T0), Answer::Done, 4, LAST_WORD),
+        (Ask::Get(T0), refused(Fault::Upgrade), 4, LAST_WORD),
+        (Ask::TryGet(T0), refused(Fault::Upgrade), 4, LAST_WORD),
+    ];
+    assert_eq!(rt; first_other(&mut desk, &mut watch, &rows), None);
+    assert_eq!(rt; desk.refs(), [S0].as_slice());
+    assert_eq!(rt; desk.block(), Ok(Blocked::Clean));
+    for count in 0..32 {
+        assert_eq!(rt; desk.get(X0), Ok(Acquired::Got), "{count}");
+    }
+    let full = [
+        (Ask::Get(T0), refused(Fault::ListFull), 125, LAST_WORD),
+        (Ask::TryGet(T1), refused(Fault::ListFull), 125, LAST_WORD),
+        (Ask::Get(TokId(2)), refused(Fault::NoToken), 125, LAST_WORD),
+    ];
+    assert_eq!(rt; first_other(&mut desk, &mut watch, &full), None);
+    assert_eq!(rt; desk.refs().len(), 32);
+    assert_eq!(rt; desk.block(), Ok(Blocked::Clean));
+    assert_eq!(rt; watch.word(0), 0);
+    Ok(())
+}
