@@ -6,7 +6,7 @@ use Rattle.crossbeam_queue.specs.Fifo.{Pushes, Pops, Forks, Merges, Learns}
 use Rattle.crossbeam_queue.proofs.Lists.{at_set, at_snoc}
 use Rattle.lwkt_lane.specs.declared.lines.Log.{Log}
 use Rattle.lwkt_lane.specs.declared.notes.Note.{Note}
-use Rattle.lwkt_lane.specs.Relay.{log, Fits, IsRelayed, HasLeft, Drains}
+use Rattle.lwkt_lane.specs.Relay.{log, Fits, IsRelayed, HasLeft, Takes}
 
 -- a view found in a longer list, and not in the shorter one, stands at its end
 at_end : (l : List Log) (a b : Log) (j : ℕ) → get_elem? l j ≢ some b → get_elem? (l ++ a ∷ []) j ≡ some b → j ≡ length l
@@ -53,25 +53,22 @@ pushes n port v note may items views _ h at = let w : Log = log v.pushes v.pops 
 )
 
 -- a pop by the reader
-pub pops : (port : ℕ) (v : Log) → v.pops ≡ true → Pops IsRelayed port v (λ note w. w ≡ log v.pushes v.pops v.pushed (v.popped ++ note ∷ []))
-pops port v may note items views h at = let w : Log = log v.pushes v.pops v.pushed (v.popped ++ note ∷ []) in let mine = h.5 port v at in let popped = h.3 ++ note ∷ [] in (
-  w,
-  (
-    h.0,
-    h.1,
-    h.2,
-    popped,
-    h.4 ∙ sym (append_assoc h.3 (note ∷ []) items),
-    all_set (Fits h.0 h.1 h.2 popped) views port w (mine.0, λ _. ((mine.1 may).0, ap (λ l. l ++ note ∷ []) (mine.1 may).1))
-        (λ j u other e. ((h.5 j u e).0, λ p. absurd (other (((h.5 j u e).1 p).0 ∙ sym (mine.1 may).0)))),
-  ),
-  refl,
-)
-
--- a pop by a pass that both pushes and pops
-pub drains : (port : ℕ) (v : Log) → v.pushes ≡ true → v.pops ≡ true → Pops IsRelayed port v (Drains v)
-drains port v a b note items views h at = let mine = h.5 port v at in let r = pops port v b note items views h at in
-    (r.0, r.1, (r.2, (items, subst (λ (w : Log). HasLeft w items) (sym r.2) ((mine.0 a).1 ∙ h.4 ∙ ap (λ l. l ++ (note ∷ items)) (sym (mine.1 b).1) ∙ sym (append_assoc v.popped (note ∷ []) items)))))
+pub pops : (port : ℕ) (v : Log) → v.pops ≡ true → Pops IsRelayed port v (Takes v)
+pops port v may note items views h at = let w : Log = log v.pushes v.pops v.pushed (v.popped ++ note ∷ []) in let mine = h.5 port v at in let popped = h.3 ++ note ∷ [] in
+    let split : h.2 ≡ popped ++ items = h.4 ∙ sym (append_assoc h.3 (note ∷ []) items) in
+    let mine_popped : v.popped ++ note ∷ [] ≡ popped = ap (λ l. l ++ note ∷ []) (mine.1 may).1 in (
+      w,
+      (
+        h.0,
+        h.1,
+        h.2,
+        popped,
+        split,
+        all_set (Fits h.0 h.1 h.2 popped) views port w (mine.0, λ _. ((mine.1 may).0, mine_popped))
+            (λ j u other e. ((h.5 j u e).0, λ p. absurd (other (((h.5 j u e).1 p).0 ∙ sym (mine.1 may).0)))),
+      ),
+      (refl, (items, λ p _. (mine.0 p).1 ∙ split ∙ ap (λ l. l ++ items) (sym mine_popped))),
+    )
 
 -- the first pass is cut into a writer and a reader
 pub forks : (port : ℕ) (v : Log) → v.pushes ≡ true → v.pops ≡ true → Forks IsRelayed port v (log true false v.pushed []) (log false true [] v.popped)
@@ -96,5 +93,5 @@ merges port v other u a b items views h at two at' = let both : Log = log true t
     (h.0, port, h.2, h.3, h.4, all_set (Fits h.0 port h.2 h.3) vs other (log false false [] []) ((λ p. absurd (true≢false (sym p))), λ p. absurd (true≢false (sym p))) (λ j y apart e. now j y e apart))
 
 -- what a pass that both pushes and pops knows of the queue
-pub learns : (port : ℕ) (v : Log) → v.pushes ≡ true → v.pops ≡ true → Learns IsRelayed port v (HasLeft v)
-learns port v a b items views h at = let mine = h.5 port v at in (mine.0 a).1 ∙ h.4 ∙ ap (λ l. l ++ items) (sym (mine.1 b).1)
+pub learns : (port : ℕ) (v : Log) → Learns IsRelayed port v (HasLeft v)
+learns port v items views h at p q = let mine = h.5 port v at in (mine.0 p).1 ∙ h.4 ∙ ap (λ l. l ++ items) (sym (mine.1 q).1)

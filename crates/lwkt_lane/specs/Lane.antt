@@ -1,5 +1,5 @@
 -- What a contract sees of the two ends of a lane (own).
-use Rattle.std.specs.Prelude.{◌≡◌, ℕ, ◌+◌, List, ◌∷◌, ◌++◌, Option, option_to_list}
+use Rattle.std.specs.Prelude.{◌≡◌, ℕ, ◌+◌, Bool, List, ◌∷◌, ◌++◌, length, Option, option_to_list}
 use Rattle.std.specs.Arc.{arc_value}
 use Rattle.crossbeam_queue.specs.Passes.{Pass, view, ruled_capacity}
 use Rattle.lwkt_lane.specs.declared.lines.Log.{Log}
@@ -18,6 +18,22 @@ sent out = (view out.pass).pushed ++ option_to_list (in_hand out)
 -- every note popped so far, the oldest first
 abbrev pub received : LaneIn → List Note
 received into = (view into.pass).popped
+
+-- whether a receiving end alone uses its queue: its pass pushes too
+abbrev pub receives_alone : LaneIn → Bool
+receives_alone into = (view into.pass).pushes
+
+-- every note that came into the queue so far, the oldest first, as a receiving end knows that alone uses it
+abbrev pub all_pushed : LaneIn → List Note
+all_pushed into = (view into.pass).pushed
+
+-- what was received is a front of what came into the queue, as a receiving end knows that alone uses it
+abbrev pub IsFrontReceived : LaneIn → Type 0
+IsFrontReceived into = (left : List Note) × (all_pushed into ≡ received into ++ left)
+
+-- so many notes came into the queue and weren't received, as a receiving end knows that alone uses it
+abbrev pub HasLeftInQueue : LaneIn → ℕ → Type 0
+HasLeftInQueue into n = (left : List Note) × (length left ≡ n) × (all_pushed into ≡ received into ++ left)
 
 -- which lane it is: how many notes its queue has room for, and the numbers that tell its queue from every other
 pub record LaneId : Type 0 where

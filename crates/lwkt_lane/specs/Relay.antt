@@ -20,8 +20,8 @@ IsRelayed items views = (writer : ℕ) × (reader : ℕ) × (pushed : List Note)
 
 -- what a pass that both pushes and pops knows of the queue's notes
 abbrev pub HasLeft : Log → List Note → Type 0
-HasLeft v items = v.pushed ≡ v.popped ++ items
+HasLeft v items = v.pushes ≡ true → v.pops ≡ true → v.pushed ≡ v.popped ++ items
 
--- such a pass popped this note, and knows that the others are left
-abbrev pub Drains : Log → Note → Log → Type 0
-Drains v note w = (w ≡ log v.pushes v.pops v.pushed (v.popped ++ note ∷ [])) × ((left : List Note) × HasLeft w left)
+-- a pass popped this note, and one that both pushes and pops knows that the others are left
+abbrev pub Takes : Log → Note → Log → Type 0
+Takes v note w = (w ≡ log v.pushes v.pops v.pushed (v.popped ++ note ∷ [])) × ((left : List Note) × HasLeft w left)

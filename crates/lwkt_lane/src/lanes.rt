@@ -1,12 +1,10 @@
 ghost use Rattle.std.specs.Prelude.{◌≡◌, ◌≤◌, true, [], ◌++◌, None, IfOk, IsOkUnless, vec_len, vec_capacity};
-ghost use Rattle.crossbeam_queue.specs.Passes.{view, IsPassOf, ruled_capacity};
-ghost use Rattle.lwkt_lane.specs.Lane.{sent, in_hand, received, out_lane, IsLane, lane_capacity};
+ghost use Rattle.lwkt_lane.specs.Lane.{sent, in_hand, received, receives_alone, all_pushed, out_lane, in_lane, IsLane, lane_capacity};
 
 use crate::ins::LaneIn;
-use crate::lines::{Drained, Ends, Line, Log};
+use crate::lines::{Ends, Line};
 use crate::notes::Note;
 use crate::outs::LaneOut;
-use crossbeam_queue::Pass;
 use lwkt_base::Fault;
 use std::alloc::Global;
 use std::sync::{Arc, Wait};
@@ -62,27 +60,27 @@ pub fn settle(rt: &impl Wait, alloc: Global, out: LaneOut, into: LaneIn) -> Resu
         pass: reader,
     } = into;
     line.absorb::<Ends>(&mut pass, reader);
-    drain(rt, &line, &mut pass, &mut notes);
+    let mut whole = LaneIn { line, pass };
+    receive_all(rt, &mut whole, &mut notes);
     if let Some(note) = hand {
         notes.push(note).unwrap();
     }
     Ok(notes)
 }
 
-// Pops every note of a line that no other pass uses.
-fn drain(rt: &impl Wait, line: &Line, pass: &mut Pass<Note, Log>, notes: &mut Vec<Note>)
-    requires of_line { IsPassOf line.now pass.old }
-    requires alone { ((view pass.old).pushes ≡ true) × ((view pass.old).pops ≡ true) }
+// Receives every note that is left in a lane, by an end that alone uses its queue.
+fn receive_all(rt: &impl Wait, into: &mut LaneIn, notes: &mut Vec<Note>)
+    requires whole { receives_alone into.old ≡ true }
     requires empty { notes.old.items ≡ [] }
-    requires room { ruled_capacity line.now ≤ vec_capacity notes.old }
-    ensures all { (view pass.old).popped ++ notes.new.items ≡ (view pass.old).pushed }
-    ensures within { vec_len notes.new ≤ ruled_capacity line.now }
+    requires room { (in_lane into.old).room ≤ vec_capacity notes.old }
+    ensures all { received into.old ++ notes.new.items ≡ all_pushed into.old }
+    ensures within { vec_len notes.new ≤ (in_lane into.old).room }
     ensures capacity { vec_capacity notes.old ≤ vec_capacity notes.new }
 {
-    let count = line.len_as::<Drained, _>(rt, pass);
+    let count = into.count_left(rt);
     for _turn in 0..count {
-        let Some(note) = line.pop_as::<Drained, _>(rt, pass) else {
-            unreachable!()
+        let Some(note) = into.pop(rt) else {
+            break;
         };
         notes.push(note).unwrap();
     }

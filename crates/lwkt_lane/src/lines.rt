@@ -61,32 +61,16 @@ impl Lesson<Note, Log> for Pushed {
     ghost fact = { λ v items. ⊤ };
 }
 
-/// A pop, which tells its pass of the note.
+/// A pop, which tells its pass of the note. A pass that pushes too knows what is left.
 pub struct Popped;
 
 impl Outcome<Note, Log> for Popped {
-    ghost use Rattle.std.specs.Prelude.{◌≡◌, [], ◌∷◌, ◌++◌};
-    ghost use Rattle.lwkt_lane.specs.Relay.{log};
+    ghost use Rattle.lwkt_lane.specs.Relay.{Takes};
 
-    ghost then = { λ v note w. w ≡ log v.pushes v.pops v.pushed (v.popped ++ note ∷ []) };
+    ghost then = { Takes };
 }
 
 impl Lesson<Note, Log> for Popped {
-    ghost use Rattle.std.specs.Prelude.{⊤};
-
-    ghost fact = { λ v items. ⊤ };
-}
-
-/// A pop by the one pass that both pushes and pops, which knows what is left.
-pub struct Drained;
-
-impl Outcome<Note, Log> for Drained {
-    ghost use Rattle.lwkt_lane.specs.Relay.{Drains};
-
-    ghost then = { Drains };
-}
-
-impl Lesson<Note, Log> for Drained {
     ghost use Rattle.lwkt_lane.specs.Relay.{HasLeft};
 
     ghost fact = { HasLeft };
