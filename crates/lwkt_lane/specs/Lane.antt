@@ -35,6 +35,14 @@ IsFrontReceived into = (left : List Note) × (all_pushed into ≡ received into 
 abbrev pub HasLeftInQueue : LaneIn → ℕ → Type 0
 HasLeftInQueue into n = (left : List Note) × (length left ≡ n) × (all_pushed into ≡ received into ++ left)
 
+-- whether a sending end alone uses its queue: its pass pops too
+abbrev pub sends_alone : LaneOut → Bool
+sends_alone out = (view out.pass).pops
+
+-- the queue holds as many notes as it has room for, as a sending end knows that alone uses it
+abbrev pub IsQueueFull : LaneOut → Type 0
+IsQueueFull out = (left : List Note) × (length left ≡ ruled_capacity (arc_value out.line)) × ((view out.pass).pushed ≡ (view out.pass).popped ++ left)
+
 -- which lane it is: how many notes its queue has room for, and the numbers that tell its queue from every other
 pub record LaneId : Type 0 where
   pub room : ℕ

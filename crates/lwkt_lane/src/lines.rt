@@ -45,7 +45,7 @@ impl Join<Log> for Ends {
     ghost spent = { log false false [] [] };
 }
 
-/// A push, which tells its pass of the note.
+/// A push, which tells its pass of the note. A pass that pops too knows what is left.
 pub struct Pushed;
 
 impl Outcome<Note, Log> for Pushed {
@@ -56,9 +56,9 @@ impl Outcome<Note, Log> for Pushed {
 }
 
 impl Lesson<Note, Log> for Pushed {
-    ghost use Rattle.std.specs.Prelude.{⊤};
+    ghost use Rattle.lwkt_lane.specs.Relay.{HasLeft};
 
-    ghost fact = { λ v items. ⊤ };
+    ghost fact = { HasLeft };
 }
 
 /// A pop, which tells its pass of the note. A pass that pushes too knows what is left.
