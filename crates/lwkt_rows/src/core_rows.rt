@@ -1,8 +1,9 @@
 //! The core against rows: openings at their limits, verdicts on traces, and events that name what is not there.
 
+use crate::fixtures::{cells, token};
 use lwkt_base::{
-    Cells, CpuId, Fault, Held, LAST_GENERATION, Law, Mode, MsgEnd, MsgId, MsgSpec, Owner, ThreadId,
-    TokId, TokSpec,
+    CpuId, Fault, Held, LAST_GENERATION, Law, Mode, MsgEnd, MsgId, MsgSpec, Owner, ThreadId, TokId,
+    TokSpec,
 };
 use lwkt_core::checks::{failure_is_only, failure_refutes};
 use lwkt_core::decisions::{decisions_are_events, pictures_fit};
@@ -19,25 +20,6 @@ const P1: CpuId = CpuId(1);
 const T0: TokId = TokId(0);
 
 const M0: MsgId = MsgId(0);
-
-fn cells(alloc: Global, items: &[u64]) -> Result<Cells, AllocError> {
-    Ok(Cells::from_vec(Vec::from_slice(alloc, items)?))
-}
-
-fn token(
-    alloc: Global,
-    law: Law,
-    param: u64,
-    generation: u64,
-    items: &[u64],
-) -> Result<TokSpec, AllocError> {
-    Ok(TokSpec {
-        cells: cells(alloc, items)?,
-        law,
-        param,
-        generation,
-    })
-}
 
 fn message(cpu: u8, thread: u8, round: u64) -> MsgSpec {
     MsgSpec {

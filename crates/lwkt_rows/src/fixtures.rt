@@ -1,6 +1,7 @@
-//! What the rows share: scripts with a change, readers and writers that fail.
+//! What the rows share: scripts with a change, tokens, readers and writers that fail.
 
-use std::alloc::Global;
+use lwkt_base::{Cells, Law, TokSpec};
+use std::alloc::{AllocError, Global};
 use std::io;
 use std::io::{Read, Write};
 use std::test::Fail;
@@ -35,6 +36,27 @@ pub fn listed(alloc: Global, item: &str, count: u32) -> Result<String, Fail> {
         text.push_str(item)?;
     }
     Ok(text)
+}
+
+/// Cells of these values.
+pub fn cells(alloc: Global, items: &[u64]) -> Result<Cells, AllocError> {
+    Ok(Cells::from_vec(Vec::from_slice(alloc, items)?))
+}
+
+/// A token as it is opened.
+pub fn token(
+    alloc: Global,
+    law: Law,
+    param: u64,
+    generation: u64,
+    items: &[u64],
+) -> Result<TokSpec, AllocError> {
+    Ok(TokSpec {
+        cells: cells(alloc, items)?,
+        law,
+        param,
+        generation,
+    })
 }
 
 /// Gives one byte a call, and fails at the call `bad`, the first being call 1.
