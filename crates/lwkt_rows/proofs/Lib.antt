@@ -1,1 +1,2 @@
 pub mod HeldListMoves
+mod DeskMoves

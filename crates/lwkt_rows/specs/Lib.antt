@@ -1,1 +1,2 @@
 pub mod HeldLists
+pub mod Desks

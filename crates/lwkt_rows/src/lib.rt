@@ -2,11 +2,15 @@
 #![tactic(auto)]
 
 #[cfg(test)]
+mod bank_rows;
+#[cfg(test)]
 mod base_rows;
 #[cfg(test)]
 mod book_rows;
 #[cfg(test)]
 mod core_rows;
+#[cfg(test)]
+mod desks;
 #[cfg(test)]
 mod fixtures;
 #[cfg(test)]
