@@ -1,2 +1,3 @@
 pub mod HeldListMoves
 mod DeskMoves
+mod ReadMoves

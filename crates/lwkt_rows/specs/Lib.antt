@@ -1,2 +1,3 @@
 pub mod HeldLists
 pub mod Desks
+pub mod Readings

@@ -1,14 +1,16 @@
-//! The token bank: the worked rows as tables of calls, and four threads.
+//! The token bank: the worked rows as tables of calls, four threads, and what a reader learns.
 ghost use Rattle.std.specs.Prelude.{◌≡◌, All, length};
 ghost use Rattle.lwkt_bank.specs.Seats.{id_of};
 ghost use Rattle.lwkt_rows.specs.Desks.{Sits};
 
-use crate::desks::{Ask, Desk, Line, Told, call, close, open, play};
+use crate::desks::{Ask, Desk, Line, Told, call, close, open, play, seat_of};
 use crate::fixtures::token;
+use crate::readers::{Reading, read_around};
 use lwkt_bank::banks::Bank;
 use lwkt_bank::closed::Closed;
 use lwkt_bank::tries::{Given, Try};
 use lwkt_base::{Fault, Law, Mode, TokId};
+use std::alloc::Global;
 use std::test::Fail;
 use std::thread;
 use std::thread::Threads;
@@ -223,5 +225,36 @@ fn bank_exclusive_5(rt: HostRuntime) -> Result<(), Fail> {
         end_of(&closed, 0),
         Some(([12000].as_slice(), 4000, [3000; 4].as_slice()))
     );
+    Ok(())
+}
+
+// A reading before and after a section of another seat that stores this value.
+fn readings(alloc: Global, value: u64) -> Result<Option<(Reading, Reading)>, Fault> {
+    let tokens = [token(alloc, Law::Any, 0, 0, &[3]).map_err(|_| Fault::Memory)?];
+    let (bank, mut desks) = open(alloc, &tokens, 2)?;
+    let (Some(mut writer), Some(reader)) = (desks.pop(), desks.pop()) else {
+        return Ok(None);
+    };
+    let Some(mut reader) = seat_of(reader) else {
+        return Ok(None);
+    };
+    if bank.tokens() == 0 || bank.cells(TokId(0)) == 0 {
+        return Ok(None);
+    }
+    Ok(read_around(&bank, &mut reader, &mut writer, TokId(0), 0, value))
+}
+
+#[test]
+fn readings_are_fresh(rt: HostRuntime) -> Result<(), Fail> {
+    let first = Reading {
+        generation: 0,
+        value: 3,
+    };
+    let written = Reading {
+        generation: 1,
+        value: 7,
+    };
+    assert_eq!(rt; readings(rt.alloc(), 7)?, Some((first, written)));
+    assert_eq!(rt; readings(rt.alloc(), 3)?, Some((first, first)));
     Ok(())
 }

@@ -1,5 +1,5 @@
 //! Seats at a bank with the lists of what they hold, and tables of calls on them.
-ghost use Rattle.std.specs.Prelude.{◌≡◌, ◌≢◌, ◌↔◌, ◌+◌, ◌<◌, true, [], ◌∷◌, ◌++◌, length, map, All, None, Some, IsTrue, IfOk};
+ghost use Rattle.std.specs.Prelude.{◌≡◌, ◌≢◌, ◌↔◌, ◌+◌, ◌<◌, true, [], ◌∷◌, ◌++◌, length, map, All, None, Some, IsTrue, IfSome, IfOk};
 ghost use Rattle.lwkt_base.specs.Refs.{first_mode};
 ghost use Rattle.lwkt_bank.specs.Seats.{id_of, tokens_of, cpus_of};
 ghost use Rattle.lwkt_rows.specs.Desks.{Sits, MayGive};
@@ -342,6 +342,16 @@ pub fn open(alloc: Global, tokens: &[TokSpec], cpus: usize) -> Result<(Bank, Vec
     let (bank, seats) = Bank::open(alloc, tokens, cpus)?;
     let desks = desks_of(alloc, seats).map_err(|_| Fault::Memory)?;
     Ok((bank, desks))
+}
+
+/// The seat of a desk that holds nothing.
+pub fn seat_of(desk: Desk) -> Option<CpuSeat>
+    ensures { IfSome result (λ s. (s ≡ desk.seat) × (desk.refs ≡ [])) }
+{
+    if !desk.refs.is_empty() {
+        return None;
+    }
+    Some(desk.seat)
 }
 
 /// The closing values of a bank whose desks hold nothing.

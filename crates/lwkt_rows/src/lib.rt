@@ -20,6 +20,8 @@ mod hold_rows;
 #[cfg(test)]
 mod lane_rows;
 #[cfg(test)]
+mod readers;
+#[cfg(test)]
 mod report_rows;
 #[cfg(test)]
 mod run_rows;
