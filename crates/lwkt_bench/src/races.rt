@@ -21,6 +21,8 @@ const TRIES: u32 = 10_000_000;
 pub struct Runner<S: Steps> {
     steps: S,
     made: u64,
+    // So that no two runners side by side share a cache line.
+    _gap: [u64; 16],
 }
 
 fn pause(turns: u32) {
@@ -54,7 +56,11 @@ impl<S: Steps> Runner<S> {
 
 /// Adds a thread with these steps to those that race.
 pub fn join_in<S: Steps + Drop>(runners: &mut Vec<Runner<S>>, steps: S) -> Result<(), AllocError> {
-    runners.push(Runner { steps, made: 0 })?;
+    runners.push(Runner {
+        steps,
+        made: 0,
+        _gap: [0; 16],
+    })?;
     Ok(())
 }
 
