@@ -1,5 +1,5 @@
 -- How an end that alone uses its queue receives all that is left.
-use Rattle.std.proofs.Common.{◌≡◌, ℕ, ◌+◌, ◌≤◌, true, List, [], ◌∷◌, ◌++◌, length, sym, ap, ◌∙◌, refl, append_assoc, length-append, arith}
+use Rattle.std.proofs.Common.{◌≡◌, ◌+◌, ◌≤◌, true, List, [], ◌∷◌, ◌++◌, length, sym, ap, ◌∙◌, refl, append_assoc, length-append, arith}
 use Rattle.std.proofs.lemmas.List.{append-nil}
 use Rattle.lwkt_lane.specs.declared.notes.Note.{Note}
 use Rattle.lwkt_lane.specs.declared.ins.LaneIn.{LaneIn}

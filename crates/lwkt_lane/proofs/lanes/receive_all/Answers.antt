@@ -1,6 +1,6 @@
-use Rattle.std.proofs.Common.{◌≡◌, ◌≤◌, ◌++◌, length, sym, ap, ◌∙◌, arith}
+use Rattle.std.proofs.Common.{◌≤◌, ◌++◌, length, sym, ap, ◌∙◌, arith}
 use Rattle.lwkt_lane.specs.Lane.{received, all_pushed}
-use Rattle.lwkt_lane.proofs.Draining.{IsReceiving, all_received}
+use Rattle.lwkt_lane.proofs.Draining.{all_received}
 use Rattle.lwkt_lane.proofs.lanes.receive_all.Goals as goal
 
 pub returns-after-loop-turn-clause-all : goal.returns-after-loop-turn-clause-all
