@@ -73,14 +73,6 @@ got_as (Ok u) refs list front last at cpu h xs ys same is here taken told answer
     (taken ∙ ap holding_of whole, pushed_told refs front last at cpu xs ys (same ∙ is) here told)
 got_as (Err e) refs list front last at cpu h xs ys same is here taken told answer = cc
 
--- what holds of each reference holds of the last
-pub all_last : (P : Ref → Type 0) (refs front : List Ref) (last : Ref) → refs ≡ front ++ last ∷ [] → All P refs → P last
-all_last P refs front last is all =
-    let F : List Ref → Type 0 = λ xs. All P xs in
-    let G : Ref → Type 0 = λ r. P r in
-    let got = got_last front last in
-    subst G (get_or_from_slice_get (front ++ last ∷ []) (length front) last last got) ((subst F is all) (length front) last (slice_get_within (front ++ last ∷ []) (length front) last got))
-
 -- the front without the last reference is a front
 pub front_of_push : (refs front : List Ref) (last : Ref) (h : Holding) → refs ≡ front ++ last ∷ [] → h ≡ holding_of front → IsFront refs h
 front_of_push refs front last h is here = (length front, here ∙ ap holding_of (sym (ap (λ xs. take (length front) xs) is ∙ take_at front (last ∷ []) (length front) refl)))
@@ -136,9 +128,6 @@ module _ (s : CpuSeat) (refs front : List Ref) (last : Ref) (tok : ℕ) (held : 
   last_removed =
       let F : ℕ → Type 0 = λ t. removed (holding s) t ≡ holding_of front in
       subst F same (ap (λ h. removed h last.tok.0) last_holding ∙ removed_added (holding_of front) last.tok.0 last.mode)
-
-  pub last_there_all : (n : ℕ) → All (λ r. r.tok.0 < n) refs → tok < n
-  last_there_all n all = let F : ℕ → Type 0 = λ t. t < n in subst F same (all_last (λ (r : Ref). r.tok.0 < n) refs front last is all)
 
   -- each holding while it is given back is that of a front
   pub last_front : (h : Holding) → (h ≡ holding s) ⊎ (h ≡ removed (holding s) tok) → IsFront refs h

@@ -1,5 +1,5 @@
 //! One reference of a list: given back.
-ghost use Rattle.std.specs.Prelude.{◌≡◌, ◌≢◌, ◌⊎◌, ℕ, ◌+◌, ◌<◌, ◌≤◌, true, false, List, Option, [], ◌∷◌, ◌++◌, length, take, All, vec_len, vec_capacity};
+ghost use Rattle.std.specs.Prelude.{◌≡◌, ◌≢◌, ◌⊎◌, ℕ, ◌+◌, ◌<◌, ◌≤◌, true, false, List, Option, [], ◌∷◌, ◌++◌, length, take, vec_len, vec_capacity};
 ghost use Rattle.lwkt_base.specs.Holding.{holding_of, holds_nothing, is_held, removed};
 ghost use Rattle.lwkt_base.specs.declared.holdings.Held.TheVariants.{Holds};
 ghost use Rattle.lwkt_base.specs.declared.names.Mode.TheVariants.{Exclusive};
@@ -11,16 +11,15 @@ ghost use Rattle.lwkt_hold.specs.Givings.{gives_all, GivesBy, StoresFirst, Relea
 ghost use Rattle.lwkt_core.specs.declared.events.Event.{Event};
 
 use crate::traces::{note, note_cells};
-use lwkt_bank::Bank;
-use lwkt_bank::CpuSeat;
-use lwkt_bank::Given;
-use lwkt_base::{Held, Mode, Ref, TokId};
+use lwkt_bank::{Bank, CpuSeat, Given};
+use lwkt_base::{CpuId, Held, Mode, Ref, TokId};
 use lwkt_core::Event;
 
 /// Stores the first row of a section again, which has broken its law.
-fn restore(seat: &mut CpuSeat, bank: &Bank, tok: TokId, trace: &mut Vec<Event>)
+fn restore(seat: &mut CpuSeat, bank: &Bank, cpu: CpuId, tok: TokId, trace: &mut Vec<Event>)
     requires of { bank_of seat.old ≡ id_of bank.now }
     requires there { tok.0 < tokens_of (bank_of seat.old) }
+    requires mine { cpu ≡ seat.old.cpu }
     requires broken { IsBroken seat.old tok.0 }
     requires room { vec_len trace.old + 4 ≤ vec_capacity trace.old }
     ensures ran { Ran (λ h. h ≡ holding seat.old) 4 seat.old seat.new trace.old trace.new }
@@ -30,7 +29,6 @@ fn restore(seat: &mut CpuSeat, bank: &Bank, tok: TokId, trace: &mut Vec<Event>)
     ensures others { (other : ℕ) → other ≢ tok.0 → SameRow seat.old seat.new other }
     ensures stored { (values : List (Option ℕ)) × (StoresFirst seat.old tok.0 values × (trace.new.items ≡ trace.old.items ++ writes seat.old.cpu tok 0 values)) }
 {
-    let cpu = seat.cpu();
     let values = seat.restore(bank, tok);
     note_cells(trace, cpu, tok, &values);
 }
@@ -46,7 +44,7 @@ fn ends_section(held: Held) -> bool
 /// Before a reference is given back: a section that it ends, and that has broken its law, gets its first row again.
 fn mend(seat: &mut CpuSeat, bank: &Bank, tok: TokId, trace: &mut Vec<Event>) -> bool
     requires of { bank_of seat.old ≡ id_of bank.now }
-    requires there { tok.0 < tokens_of (bank_of seat.old) }
+    requires held { is_held (holding seat.old tok.0) ≡ true }
     requires room { vec_len trace.old + 4 ≤ vec_capacity trace.old }
     ensures ran { Ran (λ h. h ≡ holding seat.old) 4 seat.old seat.new trace.old trace.new }
     ensures kept { holding seat.new ≡ holding seat.old }
@@ -54,20 +52,20 @@ fn mend(seat: &mut CpuSeat, bank: &Bank, tok: TokId, trace: &mut Vec<Event>) -> 
     ensures silent { result ≡ false → trace.new ≡ trace.old }
     ensures stored { result ≡ true → (values : List (Option ℕ)) × (StoresFirst seat.old tok.0 values × (trace.new.items ≡ trace.old.items ++ writes seat.old.cpu tok 0 values)) }
 {
+    let cpu = seat.cpu();
     if !ends_section(seat.held(bank, tok)) {
         return false;
     }
     if seat.lawful(bank, tok) {
         return false;
     }
-    restore(seat, bank, tok, trace);
+    restore(seat, bank, cpu, tok, trace);
     true
 }
 
 /// Gives a reference to a token back, and says so in the trace.
-pub(crate) fn give(seat: &mut CpuSeat, bank: &Bank, tok: TokId, trace: &mut Vec<Event>)
+fn give(seat: &mut CpuSeat, bank: &Bank, tok: TokId, trace: &mut Vec<Event>)
     requires of { bank_of seat.old ≡ id_of bank.now }
-    requires there { tok.0 < tokens_of (bank_of seat.old) }
     requires held { is_held (holding seat.old tok.0) ≡ true }
     requires ready { holding seat.old tok.0 ≡ Holds Exclusive 0 → (row seat.old tok.0 ≡ first_row seat.old tok.0) ⊎ MeetsItsLaw seat.old tok.0 }
     requires room { vec_len trace.old < vec_capacity trace.old }
@@ -89,7 +87,6 @@ pub(crate) fn give(seat: &mut CpuSeat, bank: &Bank, tok: TokId, trace: &mut Vec<
 /// Gives a reference back, a section that it ends being mended before; says whether the section's cells were restored.
 pub(crate) fn give_last(seat: &mut CpuSeat, bank: &Bank, tok: TokId, trace: &mut Vec<Event>) -> bool
     requires of { bank_of seat.old ≡ id_of bank.now }
-    requires there { tok.0 < tokens_of (bank_of seat.old) }
     requires held { is_held (holding seat.old tok.0) ≡ true }
     requires room { vec_len trace.old + 5 ≤ vec_capacity trace.old }
     ensures ran { Ran (λ h. (h ≡ holding seat.old) ⊎ (h ≡ removed (holding seat.old) tok.0)) 5 seat.old seat.new trace.old trace.new }
@@ -111,7 +108,6 @@ pub(crate) fn give_clean(
     trace: &mut Vec<Event>,
 )
     requires of { bank_of seat.old ≡ id_of bank.now }
-    requires there { All (λ r. r.tok.0 < tokens_of (bank_of seat.old)) refs.now }
     requires within { count ≤ length refs.now }
     requires front { holding seat.old ≡ holding_of (take count refs.now) }
     requires clean { IsClean seat.old }

@@ -159,6 +159,7 @@ impl Hold {
         ensures shared { (result ≡ Err Fault.SharedWrite) ↔ ((tok.0 < tokens_of (id_of bank.now)) × (first_mode list.now tok.0 ≡ Some Mode.Shared)) }
         ensures tally { (result ≡ Err Fault.TallyOnly) ↔ ((tok.0 < tokens_of (id_of bank.now)) × (first_mode list.now tok.0 ≡ Some Mode.Exclusive) × ((plan_of (id_of bank.now) tok.0).law ≢ Tally)) }
         ensures overflow { (result ≡ Err Fault.Overflow) ↔ ((tok.0 < tokens_of (id_of bank.now)) × (first_mode list.now tok.0 ≡ Some Mode.Exclusive) × ((plan_of (id_of bank.now) tok.0).law ≡ Tally) × (2 ^ 64 ≤ slice_index (row (seat_of self.old) tok.0) 0 + k)) }
+        ensures only { OnErr result ((result ≡ Err Fault.NoToken) ⊎ (result ≡ Err Fault.NotHeld) ⊎ (result ≡ Err Fault.SharedWrite) ⊎ (result ≡ Err Fault.TallyOnly) ⊎ (result ≡ Err Fault.Overflow)) }
     {
         if tok.0 as usize >= bank.tokens() {
             return Err(Fault::NoToken);

@@ -1,8 +1,8 @@
 //! References of a list given up: the last one, or all.
-ghost use Rattle.std.specs.Prelude.{◌≡◌, ◌≢◌, ◌⊎◌, ℕ, ◌+◌, ◌-◌, ◌*◌, ◌<◌, ◌≤◌, ◌↔◌, [], ◌∷◌, ◌++◌, true, false, List, length, take, All, Some, None, Ok, Err, Option, OnOk, OnErr, vec_len, vec_capacity};
+ghost use Rattle.std.specs.Prelude.{◌≡◌, ◌≢◌, ◌⊎◌, ℕ, ◌+◌, ◌-◌, ◌*◌, ◌<◌, ◌≤◌, ◌↔◌, [], ◌∷◌, ◌++◌, true, false, List, length, take, Some, None, Ok, Err, Option, OnOk, OnErr, vec_len, vec_capacity};
 ghost use Rattle.lwkt_base.specs.Holding.{holding_of, holds_nothing};
 ghost use Rattle.lwkt_base.specs.Refs.{first_mode, IsLastTo};
-ghost use Rattle.lwkt_bank.specs.Seats.{id_of, bank_of, tokens_of, holding};
+ghost use Rattle.lwkt_bank.specs.Seats.{id_of, bank_of, holding};
 ghost use Rattle.lwkt_hold.specs.Fronts.{IsFront};
 ghost use Rattle.lwkt_hold.specs.Runs.{Ran};
 ghost use Rattle.lwkt_hold.specs.Rows.{first_of};
@@ -21,8 +21,8 @@ impl Hold {
     ghost use Rattle.lwkt_hold.specs.Givings.{Releases, ReleasesAll};
     ghost use Rattle.lwkt_core.specs.declared.events.Event.{Event};
 
-    /// Gives the last reference back, which has to be to this token. That the holding is the list's, that the tokens exist
-    /// and that the trace has room for 256 events are the caller's conditions.
+    /// Gives the last reference back, which has to be to this token. That the holding is the list's and that the
+    /// trace has room for 256 events are the caller's conditions.
     ///
     /// Refused with `NotHeld` exactly if the token is not on the list, else with `NotLast` exactly if the last reference is
     /// to another token; nothing changes then. `Broken` says that the reference ended a section whose row had broken its
@@ -35,7 +35,6 @@ impl Hold {
         trace: &mut Vec<Event>,
     ) -> Result<(), Fault>
         requires of { bank_of (seat_of self.old) ≡ id_of bank.now }
-        requires there { All (λ r. r.tok.0 < tokens_of (bank_of (seat_of self.old))) list.old }
         requires held { holding (seat_of self.old) ≡ holding_of list.old }
         requires room { vec_len trace.old + 256 ≤ vec_capacity trace.old }
         ensures ran { Ran (IsFront list.old) 5 (seat_of self.old) (seat_of self.new) trace.old trace.new }
@@ -57,8 +56,8 @@ impl Hold {
     }
 
     /// Gives up the first `held` references of a list, in reverse order. A section that has broken its law gets its first
-    /// row again before it ends; the first such token is named. That these references are held, that the tokens exist and
-    /// that the trace has room for 256 events are the caller's conditions.
+    /// row again before it ends; the first such token is named. That these references are held and that the trace has room
+    /// for 256 events are the caller's conditions.
     pub fn block(
         &mut self,
         bank: &Bank,
@@ -67,7 +66,6 @@ impl Hold {
         trace: &mut Vec<Event>,
     ) -> Blocked
         requires of { bank_of (seat_of self.old) ≡ id_of bank.now }
-        requires there { All (λ r. r.tok.0 < tokens_of (bank_of (seat_of self.old))) list.now }
         requires within { held ≤ length list.now }
         requires held { holding (seat_of self.old) ≡ holding_of (take held list.now) }
         requires room { vec_len trace.old + 256 ≤ vec_capacity trace.old }

@@ -1,7 +1,7 @@
-use Rattle.std.proofs.Common.{◌≡◌, ◌++◌, ◌∙◌, ap, sym, arith}
+use Rattle.std.proofs.Common.{◌<◌, subst, ◌≡◌, ◌++◌, ◌∙◌, ap, sym, arith}
 use Rattle.std.proofs.lemmas.Bool.{false≢true}
 use Rattle.lwkt_base.specs.Holding.{Holding}
-use Rattle.lwkt_bank.specs.Seats.{holding}
+use Rattle.lwkt_bank.specs.Seats.{BankId, tokens_of, holding}
 use Rattle.lwkt_hold.proofs.RunMoves.{ran_none, ran_then, ran_weaker}
 use Rattle.lwkt_hold.proofs.GiveMoves.{knowing_ran, knowing_kept, exclusive_held, mends_none, mends_lawful, still_broken, mends_broken, stores_before}
 use Rattle.lwkt_hold.specs.Rows.{writes}
@@ -54,3 +54,17 @@ returns-clause-stored c =
     let k = c.lawful.ensures.knowing in
     let x = c.restore.ensures.stored in
     λ is. (x.0, (stores_before s l c.args.tok.0 x.0 k x.1.0, x.1.1 ∙ ap (λ cpu. c.args.trace.now.items ++ writes cpu c.args.tok 0 x.0) k.changes.cpu))
+
+pub held-requires-clause-there : goal.held-requires-clause-there
+held-requires-clause-there c = c.cpu-cpu.ensures.within c.args.tok.0 c.requires.held
+
+pub lawful-requires-clause-there : goal.lawful-requires-clause-there
+lawful-requires-clause-there c = c.cpu-cpu.ensures.within c.args.tok.0 c.requires.held
+
+pub restore-requires-clause-there : goal.restore-requires-clause-there
+restore-requires-clause-there c =
+    let F : BankId → Type 0 = λ b. c.args.tok.0 < tokens_of b in
+    subst F (sym c.lawful.ensures.knowing.changes.bank) (c.cpu-cpu.ensures.within c.args.tok.0 c.requires.held)
+
+pub restore-requires-clause-mine : goal.restore-requires-clause-mine
+restore-requires-clause-mine c = c.cpu-cpu.ensures.is ∙ sym c.lawful.ensures.knowing.changes.cpu

@@ -17,7 +17,7 @@ pub again-requires-clause-few : goal.again-requires-clause-few
 again-requires-clause-few c = few_in_front c.args.seat.now c.args.refs.now c.args.at c.requires.front c.requires.within c.requires.short
 
 pub returns-then-is_held-clause-ran : goal.returns-then-is_held-clause-ran
-returns-then-is_held-clause-ran c = again_ran c.args.seat.now c.again.new.self c.args.refs.now c.args.at unused c.cpu-cpu.result c.args.trace.now c.note.new.trace c.requires.within c.requires.front (front_names c.args.seat.now c.args.refs.now c.args.at (get_or c.args.refs.now c.args.at unused).tok.0 c.held.result c.is_held.result true c.requires.front c.held.ensures c.is_held.ensures c.if-is_held.true) c.again.ensures c.cpu-cpu.ensures c.note.ensures.items c.note.ensures.longer c.note.ensures.room
+returns-then-is_held-clause-ran c = again_ran c.args.seat.now c.again.new.self c.args.refs.now c.args.at unused c.cpu-cpu.result c.args.trace.now c.note.new.trace c.requires.within c.requires.front (front_names c.args.seat.now c.args.refs.now c.args.at (get_or c.args.refs.now c.args.at unused).tok.0 c.held.result c.is_held.result true c.requires.front c.held.ensures c.is_held.ensures c.if-is_held.true) c.again.ensures c.cpu-cpu.ensures.is c.note.ensures.items c.note.ensures.longer c.note.ensures.room
 
 pub returns-then-is_held-clause-taken : goal.returns-then-is_held-clause-taken
 returns-then-is_held-clause-taken c = (again_holds c.args.seat.now c.again.new.self c.args.refs.now c.args.at unused c.requires.within c.requires.front (front_names c.args.seat.now c.args.refs.now c.args.at (get_or c.args.refs.now c.args.at unused).tok.0 c.held.result c.is_held.result true c.requires.front c.held.ensures c.is_held.ensures c.if-is_held.true) c.again.ensures).1
@@ -29,7 +29,7 @@ pub try_take-requires-clause-few : goal.try_take-requires-clause-few
 try_take-requires-clause-few c = few_in_front c.args.seat.now c.args.refs.now c.args.at c.requires.front c.requires.within c.requires.short
 
 pub returns-in-Got-clause-ran : goal.returns-in-Got-clause-ran
-returns-in-Got-clause-ran c = took_ran c.args.seat.now c.try_take.new.self c.args.refs.now c.args.at unused c.has_only-alone.result c.in-Got.generation c.cpu-cpu.result c.taken.result c.args.trace.now c.note-in-Got.new.trace c.requires.within c.requires.front (front_names c.args.seat.now c.args.refs.now c.args.at (get_or c.args.refs.now c.args.at unused).tok.0 c.held.result c.is_held.result false c.requires.front c.held.ensures c.is_held.ensures c.if-is_held.false) c.in-Got.ensures c.cpu-cpu.ensures c.taken.ensures c.note-in-Got.ensures.items c.note-in-Got.ensures.longer c.note-in-Got.ensures.room
+returns-in-Got-clause-ran c = took_ran c.args.seat.now c.try_take.new.self c.args.refs.now c.args.at unused c.has_only-alone.result c.in-Got.generation c.cpu-cpu.result c.taken.result c.args.trace.now c.note-in-Got.new.trace c.requires.within c.requires.front (front_names c.args.seat.now c.args.refs.now c.args.at (get_or c.args.refs.now c.args.at unused).tok.0 c.held.result c.is_held.result false c.requires.front c.held.ensures c.is_held.ensures c.if-is_held.false) c.in-Got.ensures c.cpu-cpu.ensures.is c.taken.ensures c.note-in-Got.ensures.items c.note-in-Got.ensures.longer c.note-in-Got.ensures.room
 
 pub returns-in-Got-clause-taken : goal.returns-in-Got-clause-taken
 returns-in-Got-clause-taken c = (took_holds c.args.seat.now c.try_take.new.self c.args.refs.now c.args.at unused c.has_only-alone.result c.in-Got.generation c.requires.within c.requires.front (front_names c.args.seat.now c.args.refs.now c.args.at (get_or c.args.refs.now c.args.at unused).tok.0 c.held.result c.is_held.result false c.requires.front c.held.ensures c.is_held.ensures c.if-is_held.false) c.in-Got.ensures).1
@@ -98,7 +98,7 @@ returns-in-Worn-clause-rows c =
     looked_rows c.args.seat.now c.try_take.new.self tok c.in-Worn.ensures.0 free c.in-Worn.ensures.1.1
 
 pub returns-then-is_held-clause-told : goal.returns-then-is_held-clause-told
-returns-then-is_held-clause-told c = again_told c.args.refs.now c.args.at unused c.args.seat.now.cpu c.cpu-cpu.result c.args.trace.now c.note.new.trace c.requires.within (front_names c.args.seat.now c.args.refs.now c.args.at (get_or c.args.refs.now c.args.at unused).tok.0 c.held.result c.is_held.result true c.requires.front c.held.ensures c.is_held.ensures c.if-is_held.true) c.cpu-cpu.ensures c.note.ensures.items
+returns-then-is_held-clause-told c = again_told c.args.refs.now c.args.at unused c.args.seat.now.cpu c.cpu-cpu.result c.args.trace.now c.note.new.trace c.requires.within (front_names c.args.seat.now c.args.refs.now c.args.at (get_or c.args.refs.now c.args.at unused).tok.0 c.held.result c.is_held.result true c.requires.front c.held.ensures c.is_held.ensures c.if-is_held.true) c.cpu-cpu.ensures.is c.note.ensures.items
 
 pub returns-in-Got-clause-told : goal.returns-in-Got-clause-told
-returns-in-Got-clause-told c = first_told c.args.refs.now c.args.at unused c.args.seat.now.cpu c.cpu-cpu.result c.taken.result c.args.trace.now c.note-in-Got.new.trace c.requires.within (front_names c.args.seat.now c.args.refs.now c.args.at (get_or c.args.refs.now c.args.at unused).tok.0 c.held.result c.is_held.result false c.requires.front c.held.ensures c.is_held.ensures c.if-is_held.false) c.cpu-cpu.ensures c.taken.ensures c.note-in-Got.ensures.items
+returns-in-Got-clause-told c = first_told c.args.refs.now c.args.at unused c.args.seat.now.cpu c.cpu-cpu.result c.taken.result c.args.trace.now c.note-in-Got.new.trace c.requires.within (front_names c.args.seat.now c.args.refs.now c.args.at (get_or c.args.refs.now c.args.at unused).tok.0 c.held.result c.is_held.result false c.requires.front c.held.ensures c.is_held.ensures c.if-is_held.false) c.cpu-cpu.ensures.is c.taken.ensures c.note-in-Got.ensures.items

@@ -1,17 +1,14 @@
 use Rattle.std.proofs.Common.{◌≡◌, ◌⊎◌, ◌∙◌, arith}
 use Rattle.lwkt_base.specs.Holding.{Holding, removed}
-use Rattle.lwkt_bank.specs.Seats.{bank_of, tokens_of, holding}
+use Rattle.lwkt_bank.specs.Seats.{holding}
 use Rattle.lwkt_hold.specs.Fronts.{IsFront}
 use Rattle.lwkt_hold.proofs.RunMoves.{ran_weaker}
 use Rattle.lwkt_hold.proofs.ReadMoves.{ran_still}
-use Rattle.lwkt_hold.proofs.LastMoves.{last_held, last_removed, last_there_all, last_front}
+use Rattle.lwkt_hold.proofs.LastMoves.{last_held, last_removed, last_front}
 use Rattle.lwkt_hold.proofs.holds.Hold.rel.Goals as goal
 
 pub returns-in_err-pop-clause-ran : goal.returns-in_err-pop-clause-ran
 returns-in_err-pop-clause-ran c = ran_still (IsFront c.args.list.now) 5 c.args.self.now.seat c.args.trace.now
-
-pub give_last-requires-clause-there : goal.give_last-requires-clause-there
-give_last-requires-clause-there c = last_there_all c.args.self.now.seat c.args.list.now c.pop.new.self c.in_ok-pop.field-0 c.args.tok.0 c.requires.held c.in_ok-pop.ensures.ok.0 c.in_ok-pop.ensures.ok.1 (tokens_of (bank_of c.args.self.now.seat)) c.requires.there
 
 pub give_last-requires-clause-held : goal.give_last-requires-clause-held
 give_last-requires-clause-held c = last_held c.args.self.now.seat c.args.list.now c.pop.new.self c.in_ok-pop.field-0 c.args.tok.0 c.requires.held c.in_ok-pop.ensures.ok.0 c.in_ok-pop.ensures.ok.1
