@@ -14,6 +14,16 @@ use crate::steps::{answer, fetch, look, put, win};
 use lwkt_base::{Call, CpuId, Fault, Flags, MsgState, MsgWord, Rec};
 use lwkt_core::messages::LAST_ROUND;
 
+/// What a sender asks for.
+#[derive(Clone, Copy)]
+pub(crate) struct Sending {
+    pub target: CpuId,
+    pub call: Call,
+    pub flags: Flags,
+    /// Whether the sender waits for the reply.
+    pub sync: bool,
+}
+
 // Whether a word shows a message at rest with this processor.
 fn is_home(word: &MsgWord, cpu: CpuId) -> bool
     ensures { IsTrue result ↔ ((word.now.state ≡ state.Rest) × (word.now.origin ≡ cpu)) }
@@ -59,18 +69,18 @@ pub(crate) fn rest(cpu: CpuId, round: u64) -> MsgWord
 }
 
 // The word of a message that is sent.
-fn outgoing(cpu: CpuId, target: CpuId, round: u64, flags: Flags, sync: bool) -> MsgWord
-    ensures { result ≡ sent_word cpu target round sync flags }
+fn outgoing(cpu: CpuId, round: u64, sending: &Sending) -> MsgWord
+    ensures { result ≡ sent_word cpu sending.now.target round sending.now.sync sending.now.flags }
 {
     MsgWord {
         round,
         state: MsgState::Out,
         origin: cpu,
-        target,
+        target: sending.target,
         aborted: false,
-        sync,
-        dropable: flags.dropable,
-        abortable: flags.abortable,
+        sync: sending.sync,
+        dropable: sending.flags.dropable,
+        abortable: sending.flags.abortable,
     }
 }
 
@@ -107,18 +117,15 @@ pub(crate) fn send(
     place: &mut Place,
     cpu: CpuId,
     m: usize,
-    target: CpuId,
-    call: Call,
-    flags: Flags,
-    sync: bool,
+    sending: &Sending,
 ) -> Result<u64, Fault>
     requires table { place.old.table_id ≡ top.now.table_id }
     requires sat { IsSat cpu place.old }
     requires exists { m < length place.old.me.0.specs }
-    requires target { target.0 < place.old.me.0.cpus }
+    requires target { sending.now.target.0 < place.old.me.0.cpus }
     ensures seat { IsSameSeat place.old place.new }
     ensures sat { IsSat cpu place.new }
-    ensures answer { MatchResult result (λ round. HasSent cpu place.old.me.0 place.new.me.0 m target call flags sync round) (λ fault. IsUnsent cpu place.old.me.0 place.new.me.0 m fault) }
+    ensures answer { MatchResult result (λ round. HasSent cpu place.old.me.0 place.new.me.0 m sending.now.target sending.now.call sending.now.flags sending.now.sync round) (λ fault. IsUnsent cpu place.old.me.0 place.new.me.0 m fault) }
 {
     let (_, word) = parts(top, place, m);
     if !is_home(&word, cpu) {
@@ -132,8 +139,8 @@ pub(crate) fn send(
         top,
         place,
         m,
-        written(call),
-        outgoing(cpu, target, round, flags, sync),
+        written(sending.call),
+        outgoing(cpu, round, sending),
     );
     Ok(round)
 }

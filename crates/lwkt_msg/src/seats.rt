@@ -3,6 +3,7 @@ ghost use Rattle.std.specs.Prelude.{◌≡◌, ◌⊎◌, ◌<◌, ◌≤◌, Ma
 use crate::answers::{Reaped, Taken};
 use crate::books::MsgBook;
 use crate::calls;
+use crate::calls::Sending;
 use crate::rules::Place;
 use lwkt_base::{Call, CpuId, Fault, Flags, MsgId};
 use std::marker::Model;
@@ -100,7 +101,13 @@ impl MsgSeat {
             return Err(Fault::NotOwner);
         }
         let top = book.top();
-        calls::send(top, &mut self.place, self.cpu, m, target, call, flags, sync)
+        let sending = Sending {
+            target,
+            call,
+            flags,
+            sync,
+        };
+        calls::send(top, &mut self.place, self.cpu, m, &sending)
     }
 
     /// Takes a message that was sent to this processor in this round. That the message exists is the caller's condition.

@@ -43,7 +43,7 @@ put-requires-clause-word c =
     let own = own_is c.args.place.now c.parts.new.place c.args.cpu c.args.m c.parts.result.1 c.requires.sat c.parts.ensures.looked (c.if-not-is_home.ensures.0 refl).1 in
     let round_is : (at c.parts.new.place.me.0 c.args.m).round ≡ c.parts.result.1.round = round1 c.args.place.now c.parts.new.place c.args.cpu c.args.m c.parts.result.1 c.requires.sat c.parts.ensures.looked own in
     let F : MsgWord → Type 0 = λ w. w ≡ sent_word w.origin w.target ((at c.parts.new.place.me.0 c.args.m).round + 1) w.sync (flags_of w) in
-    subst F (sym c.outgoing.ensures) (ap (λ (n : ℕ). sent_word c.args.cpu c.args.target (n + 1) c.args.sync c.args.flags) (sym round_is))
+    subst F (sym c.outgoing.ensures) (ap (λ (n : ℕ). sent_word c.args.cpu c.args.sending.now.target (n + 1) c.args.sending.now.sync c.args.sending.now.flags) (sym round_is))
 
 pub put-requires-clause-fits : goal.put-requires-clause-fits
 put-requires-clause-fits c =
@@ -51,7 +51,7 @@ put-requires-clause-fits c =
     let round_is : (at c.parts.new.place.me.0 c.args.m).round ≡ c.parts.result.1.round = round1 c.args.place.now c.parts.new.place c.args.cpu c.args.m c.parts.result.1 c.requires.sat c.parts.ensures.looked own in
     let last = c.parts.ensures.looked.fits.2 in
     let not_last = c.if-word-eq-LAST_ROUND.false in
-    let target_is : c.outgoing.result.target.0 ≡ c.args.target.0 = ap (λ (w : MsgWord). w.target.0) c.outgoing.ensures in
+    let target_is : c.outgoing.result.target.0 ≡ c.args.sending.now.target.0 = ap (λ (w : MsgWord). w.target.0) c.outgoing.ensures in
     let cpus_is : c.parts.new.place.me.0.cpus ≡ c.args.place.now.me.0.cpus = ap (λ (v : View). v.cpus) c.parts.ensures.looked.view_is in
     let there = c.requires.target in
     (omega arith, omega arith)
@@ -60,5 +60,5 @@ pub returns-clause-answer : goal.returns-clause-answer
 returns-clause-answer c =
     let last = c.parts.ensures.looked.fits.2 in
     let not_last = c.if-word-eq-LAST_ROUND.false in
-    send_done c.args.place.now c.parts.new.place c.args.cpu c.args.m c.parts.result.1 c.requires.sat c.parts.ensures.looked c.args.target c.args.call c.args.flags c.args.sync c.outgoing.result c.written.result c.put.new.place.me.0
+    send_done c.args.place.now c.parts.new.place c.args.cpu c.args.m c.parts.result.1 c.requires.sat c.parts.ensures.looked c.args.sending.now.target c.args.sending.now.call c.args.sending.now.flags c.args.sending.now.sync c.outgoing.result c.written.result c.put.new.place.me.0
     (c.if-not-is_home.ensures.0 refl) (omega arith) c.outgoing.ensures c.written.ensures.call c.put.ensures.view
