@@ -4,8 +4,8 @@ use lwkt_base::{Call, Rec};
 use std::cell::Cell;
 use std::sync::atomic::{AtomicU32, AtomicU64, Ordering};
 
-// The states, and the first bits of the origin, the target and the round.
-const STATES: u64 = 4;
+// The bits of a state, and the states.
+const STATES: u64 = 3;
 
 const REST: u64 = 0;
 
@@ -15,13 +15,15 @@ const WITH: u64 = 2;
 
 const BACK: u64 = 3;
 
-const ORIGIN: u64 = 128;
+// Where the origin, the target and the round stand in a word.
+const ORIGIN: u32 = 7;
 
-const TARGET: u64 = 1024;
+const TARGET: u32 = 10;
 
-const ROUND: u64 = 8192;
+const ROUND: u32 = 13;
 
-const CPUS: u64 = 8;
+// The bits of a processor.
+const CPUS: u64 = 7;
 
 const LAST_ROUND: u64 = 2_251_799_813_685_247;
 
@@ -119,19 +121,19 @@ impl<T: Slot> HandMessage<T> {
 }
 
 fn state_of(word: u64) -> u64 {
-    word % STATES
+    word & STATES
 }
 
 fn origin_of(word: u64) -> u64 {
-    word / ORIGIN % CPUS
+    word >> ORIGIN & CPUS
 }
 
 fn target_of(word: u64) -> u64 {
-    word / TARGET % CPUS
+    word >> TARGET & CPUS
 }
 
 fn round_of(word: u64) -> u64 {
-    word / ROUND
+    word >> ROUND
 }
 
 /// A side of a message by hand.
@@ -151,7 +153,7 @@ impl<T: Slot> Side for HandSide<'_, T> {
         }
         message.rec.keep_call(call);
         let next = round.wrapping_add(1);
-        let sent = next << 13 | TARGET | self.cpu << 7 | OUT;
+        let sent = next << ROUND | 1 << TARGET | self.cpu << ORIGIN | OUT;
         message.word.store(sent, Ordering::SeqCst);
         Some(next)
     }
@@ -191,7 +193,7 @@ impl<T: Slot> Side for HandSide<'_, T> {
         if state_of(word) != BACK || origin_of(word) != self.cpu || round_of(word) != round {
             return None;
         }
-        let rest = round << 13 | self.cpu << 7 | REST;
+        let rest = round << ROUND | self.cpu << ORIGIN | REST;
         message.word.store(rest, Ordering::SeqCst);
         Some(message.rec.read())
     }
