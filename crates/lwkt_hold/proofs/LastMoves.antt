@@ -3,7 +3,6 @@ use Rattle.std.specs.Prelude.{◌↔◌, All, IfOk, OnOk, OnErr, IsSomeAnd, slic
 use Rattle.std.specs.List.{AllZip}
 use Rattle.std.specs.declared.alloc.Global.{Global}
 use Rattle.std.proofs.lemmas.List.{take_at, take_all, same_from_push}
-use Rattle.std.proofs.lemmas.Option.{get_or_from_slice_get, slice_get_within}
 use Rattle.lwkt_base.specs.declared.faults.Fault.{Fault}
 use Rattle.lwkt_base.specs.declared.faults.Fault.TheVariants.{NotHeld, NotLast}
 use Rattle.lwkt_base.specs.declared.names.Mode.{Mode}

@@ -23,9 +23,7 @@ use Rattle.lwkt_bank.specs.declared.seats.CpuSeat.{CpuSeat}
 use Rattle.lwkt_bank.specs.Seats.{holding, steps_of, Changes, Knowing, IsUnchanged}
 use Rattle.lwkt_hold.specs.Fronts.{IsFront}
 use Rattle.lwkt_hold.specs.Runs.{Ran}
-use Rattle.lwkt_hold.proofs.RunMoves.{ran_none, ran_then, ran_quiet, ran_weaker, ran_step, holding_kept}
-use Rattle.lwkt_base.specs.declared.laws.Law.{Law}
-use Rattle.lwkt_base.specs.declared.laws.Law.TheVariants.{Any, Sum, Order, Cap, Tally}
+use Rattle.lwkt_hold.proofs.RunMoves.{ran_none, ran_weaker, ran_step, holding_kept}
 
 -- nothing was done
 pub ran_still : (P : Holding → Type 0) (most : ℕ) (s : CpuSeat) (t : Vec Event Global) → Ran P most s s t t
