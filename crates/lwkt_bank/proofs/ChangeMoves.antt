@@ -209,3 +209,24 @@ keeps_part s w tok e made f d room is there is_tok here =
     let same : get_or s.notes tok d ≡ note_at s.notes tok = get_or_default s.notes tok d no_note inside in
     let F : Note → Type 0 = λ m. Keeps (set s.notes tok (f m)) s.cpu w in
     subst F (sym same) (keeps_set s w tok e made (f (note_at s.notes tok)) room is there is_tok here)
+
+-- the note that is read of a token that exists
+pub note_read : (s : CpuSeat) (tok : ℕ) (d : Note) → tok < 64 → get_or s.notes tok d ≡ note_at s.notes tok
+note_read s tok d room =
+    let sized = s.sized in
+    let inside : tok < length s.notes = omega arith in
+    get_or_default s.notes tok d no_note inside
+
+-- an exchange that found the word that was asked for
+pub hit_of : (s s' : CpuSeat) (tok : ℕ) (mode : Mode) (word next found : ℕ) (row : List ℕ) → found ≡ word → IsTakenRow (plan_of (bank_of s) tok) (entry s tok) found row → Changes s s' tok (taken (entry s tok) found mode row) (exchange tok word next found ∷ []) → Hit s s' tok mode word next
+hit_of s s' tok mode word next found row same is changes = record {
+  row = row;
+  found = subst (λ (w : ℕ). IsTakenRow (plan_of (bank_of s) tok) (entry s tok) w row) same is;
+  changes = subst (λ (w : ℕ). Changes s s' tok (taken (entry s tok) w mode row) (exchange tok word next w ∷ [])) same changes;
+}
+
+-- what a seat keeps after the note of a token was changed where it lies
+pub keeps_changed : (s : CpuSeat) (w : View) (tok : ℕ) (e : Entry) (made : List WordStep) (f : Note → Note) (d note : Note) → tok < 64 → w ≡ noted s.seat.me.0 e made → tok < length s.seat.me.0.plans → e.tok ≡ tok → note ≡ f (get_or s.notes tok d) → IsNoted (plan_at s.seat.me.0.plans tok) s.cpu.0 e (f (note_at s.notes tok)) → Keeps (set s.notes tok note) s.cpu w
+keeps_changed s w tok e made f d note room is there is_tok note_is here =
+    let F : Note → Type 0 = λ m. Keeps (set s.notes tok m) s.cpu w in
+    subst F (sym (note_is ∙ ap f (note_read s tok d room))) (keeps_set s w tok e made (f (note_at s.notes tok)) room is there is_tok here)

@@ -1,8 +1,7 @@
-use Rattle.std.proofs.Common.{eqb, eq-eqb, ne_eqb, not, take, ◌≡◌, ◌≢◌, ⊎_elim, ℕ, zero, suc, ◌+◌, ◌<◌, ◌≤◌, Bool, true, false, cond, List, [], ◌∷◌, length, get_or, set, refl, ap, sym, ◌∙◌, subst, arith, Option, Some, None, length-set, length-take, get_or-set_same, get_or-set_other}
-use Rattle.std.specs.Prelude.{slice_index, slice_set}
-use Rattle.std.specs.Option.{ForSome, ForNone}
-use Rattle.std.proofs.lemmas.Bool.{eqb-true, cases_eq, cases_Bool, false≢true}
-use Rattle.std.proofs.lemmas.List.{get_or-take, get_or_default, ext_get_or}
+use Rattle.std.proofs.Common.{eqb, eq-eqb, ne_eqb, ◌-◌, ◌≡◌, ◌≢◌, ⊎_elim, ℕ, zero, suc, ◌+◌, ◌<◌, ◌≤◌, Bool, true, false, cond, List, [], ◌∷◌, length, set, refl, ap, sym, ◌∙◌, subst, arith, length-set, get_or-set_same, get_or-set_other}
+use Rattle.std.specs.Prelude.{slice_index, slice_index_or, slice_set}
+use Rattle.std.proofs.lemmas.Bool.{eqb-true, eqb-false, cases_eq, cases_Bool, false≢true}
+use Rattle.std.proofs.lemmas.List.{get_or_default, ext_get_or}
 use Rattle.std.proofs.lemmas.List.Folds.{Any-from_list_any, list_any_at}
 use Rattle.std.specs.List.{list_any}
 use Rattle.std.proofs.lemmas.List.Sums.{sum_by-cons}
@@ -12,7 +11,7 @@ use Rattle.lwkt_base.specs.declared.names.Mode.{Mode}
 use Rattle.lwkt_base.specs.declared.names.Mode.TheVariants.{Exclusive, Shared}
 use Rattle.lwkt_base.specs.declared.holdings.Held.{Held}
 use Rattle.lwkt_base.specs.declared.holdings.Held.TheVariants.{Nothing, Holds}
-use Rattle.lwkt_base.specs.Holding.{is_held}
+use Rattle.lwkt_base.specs.Holding.{references_in, is_held, is_exclusive, one_less, one_more}
 use Rattle.lwkt_core.specs.declared.seats.SeatKind.{SeatKind}
 use Rattle.lwkt_core.specs.declared.seats.SeatKind.TheVariants.{Clerk, Of, Spent}
 use Rattle.lwkt_core.specs.declared.seats.WordStep.{WordStep}
@@ -20,24 +19,14 @@ use Rattle.lwkt_bank.specs.declared.views.Plan.{Plan}
 use Rattle.lwkt_bank.specs.declared.views.Entry.{Entry}
 use Rattle.lwkt_bank.specs.declared.views.View.{View}
 use Rattle.lwkt_bank.specs.declared.notes.Change.{Change}
+use Rattle.lwkt_bank.specs.declared.notes.Touch.{Touch}
+use Rattle.lwkt_bank.specs.declared.notes.Touch.TheVariants.{Untouched, Same, Other}
 use Rattle.lwkt_bank.specs.declared.notes.Note.{Note}
-use Rattle.lwkt_bank.specs.Views.{at, amount, generation_in, seen, taken, stored, raised, noted}
+use Rattle.lwkt_bank.specs.Views.{at, amount, generation_in, seen, taken, less, more, stored, raised, noted}
 use Rattle.lwkt_bank.specs.Rule.{plan_at}
-use Rattle.lwkt_bank.specs.Notes.{held_number, seat_number, no_note, note_at, change_at, has_changed, IsNoted, Keeps}
+use Rattle.lwkt_bank.specs.Notes.{seat_number, no_note, note_at, touch_at, touch_of, held_in, begun, changed, is_other, IsTouched, IsNoted, Keeps}
 use Rattle.lwkt_bank.proofs.ViewMoves.{at-here, at-else}
-use Rattle.lwkt_bank.proofs.TurnMoves.{seen-keeps}
-
--- the number of a holding tells it
-pub held_told : (g h : Held) → held_number g ≡ held_number h → g ≡ h
-held_told Nothing Nothing e = refl
-held_told Nothing (Holds Exclusive f) e = absurd (omega arith)
-held_told Nothing (Holds Shared f) e = absurd (omega arith)
-held_told (Holds Exclusive f) Nothing e = absurd (omega arith)
-held_told (Holds Shared f) Nothing e = absurd (omega arith)
-held_told (Holds Exclusive f) (Holds Exclusive k) e = let same : f ≡ k = omega arith in ap (Holds Exclusive) same
-held_told (Holds Exclusive f) (Holds Shared k) e = absurd (omega arith)
-held_told (Holds Shared f) (Holds Exclusive k) e = absurd (omega arith)
-held_told (Holds Shared f) (Holds Shared k) e = let same : f ≡ k = omega arith in ap (Holds Shared) same
+use Rattle.lwkt_bank.proofs.TurnMoves.{seen-keeps, exclusive_held}
 
 -- the number of a seat tells its processor
 pub seat_told : (kind : SeatKind) (cpu : CpuId) → seat_number kind ≡ cpu.0 + 1 → kind ≡ Of cpu
@@ -49,12 +38,15 @@ seat_told Spent cpu e = absurd (omega arith)
 pub IsNoted-same : (plan : Plan) (cpu : ℕ) (e e' : Entry) (note : Note) → e'.held ≡ e.held → e'.first ≡ e.first → e'.row ≡ e.row → e'.added ≡ e.added → IsNoted plan cpu e note → IsNoted plan cpu e' note
 IsNoted-same plan cpu e e' note held first row added noted' = record {
   four = noted'.four;
-  held = noted'.held ∙ sym (ap held_number held);
+  firsts = noted'.firsts;
   tally = noted'.tally ∙ sym (ap (amount cpu) added);
   own = λ other away. ap (amount other) added ∙ noted'.own other away;
   long = λ is. let l = noted'.long (sym (ap is_held held) ∙ is) in (ap length first ∙ l.0, ap length row ∙ l.1);
-  stored = λ cell is inside c found. let s = noted'.stored cell (sym (ap is_held held) ∙ is) inside c found in (s.0 ∙ sym (ap (λ r. slice_index r cell) first), s.1 ∙ sym (ap (λ r. slice_index r cell) row));
-  untouched = λ cell is inside none. ap (λ r. slice_index r cell) row ∙ noted'.untouched cell (sym (ap is_held held) ∙ is) inside none ∙ sym (ap (λ r. slice_index r cell) first);
+  references = noted'.references ∙ sym (ap references_in held);
+  mode = λ is. ap is_exclusive held ∙ noted'.mode (sym (ap is_held held) ∙ is);
+  touched = λ cell is.
+      let F : List ℕ → List ℕ → Type 0 = λ f r. IsTouched (touch_at note cell) (slice_index note.first cell) (slice_index f cell) (slice_index r cell) in
+      subst (λ (r : List ℕ). F e'.first r) (sym row) (subst (λ (f : List ℕ). F f e.row) (sym first) (noted'.touched cell (sym (ap is_exclusive held) ∙ is)));
 }
 
 -- a look changes nothing of what is noted
@@ -62,49 +54,120 @@ pub IsNoted-seen : (plan : Plan) (cpu : ℕ) (e : Entry) (g : ℕ) (note : Note)
 IsNoted-seen plan cpu e g note noted' = let k = seen-keeps e g in IsNoted-same plan cpu e (seen e g) note k.1 k.2 k.3 k.5 noted'
 
 -- a token that is held no longer
-pub IsNoted-nothing : (plan : Plan) (cpu : ℕ) (e e' : Entry) (note : Note) → e'.held ≡ Nothing → e'.added ≡ e.added → IsNoted plan cpu e note → IsNoted plan cpu e' (record note { held = Nothing })
+pub IsNoted-nothing : (plan : Plan) (cpu : ℕ) (e e' : Entry) (note : Note) → e'.held ≡ Nothing → e'.added ≡ e.added → IsNoted plan cpu e note → IsNoted plan cpu e' (record note { references = 0 })
 IsNoted-nothing plan cpu e e' note held added noted' = record {
   four = noted'.four;
-  held = sym (ap held_number held);
+  firsts = noted'.firsts;
   tally = noted'.tally ∙ sym (ap (amount cpu) added);
   own = λ other away. ap (amount other) added ∙ noted'.own other away;
   long = λ is. absurd (false≢true (sym (ap is_held held) ∙ is));
-  stored = λ cell is inside c found. absurd (false≢true (sym (ap is_held held) ∙ is));
-  untouched = λ cell is inside none. absurd (false≢true (sym (ap is_held held) ∙ is));
+  references = sym (ap references_in held);
+  mode = λ is. absurd (false≢true (sym (ap is_held held) ∙ is));
+  touched = λ cell is. absurd (false≢true (sym (ap is_exclusive held) ∙ is));
 }
 
--- another holding of a token that is held still
-pub IsNoted-held : (plan : Plan) (cpu : ℕ) (e : Entry) (h : Held) (note : Note) → (is_held h ≡ true → is_held e.held ≡ true) → IsNoted plan cpu e note → IsNoted plan cpu (record e { held = h }) (record note { held = h })
-IsNoted-held plan cpu e h note was noted' = record {
+-- another holding of a token that is held, in the same mode
+pub IsNoted-held : (plan : Plan) (cpu : ℕ) (e : Entry) (h : Held) (references : ℕ) (note : Note) → is_held e.held ≡ true → (is_held h ≡ true → is_exclusive h ≡ is_exclusive e.held) → references ≡ references_in h → IsNoted plan cpu e note → IsNoted plan cpu (record e { held = h }) (record note { references = references })
+IsNoted-held plan cpu e h references note was same count noted' = record {
   four = noted'.four;
-  held = refl;
+  firsts = noted'.firsts;
   tally = noted'.tally;
   own = noted'.own;
-  long = λ is. noted'.long (was is);
-  stored = λ cell is inside. noted'.stored cell (was is) inside;
-  untouched = λ cell is inside. noted'.untouched cell (was is) inside;
+  long = λ is. noted'.long was;
+  references = count;
+  mode = λ is. same is ∙ noted'.mode was;
+  touched = λ cell is. noted'.touched cell (sym (same (exclusive_held h is)) ∙ is);
 }
 
+-- one reference less keeps the mode, and so does one more
+less_keeps : (b : Bool) (m : Mode) (f k : ℕ) → is_held (cond b Nothing (Holds m k)) ≡ true → is_exclusive (cond b Nothing (Holds m k)) ≡ is_exclusive (Holds m f)
+less_keeps true m f k is = absurd (false≢true is)
+less_keeps false Exclusive f k is = refl
+less_keeps false Shared f k is = refl
+
+less_counts : (m : Mode) (f : ℕ) → f + 1 - 1 ≡ references_in (one_less (Holds m f))
+less_counts m f = ⊎_elim
+    (λ (none : f ≡ 0). let c : references_in (cond (eqb f 0) Nothing (Holds m (f - 1))) ≡ 0 = ap (λ (b : Bool). references_in (cond b Nothing (Holds m (f - 1)))) (eq-eqb f 0 none) in omega (arith, c))
+    (λ (some : f ≢ 0). let c : references_in (cond (eqb f 0) Nothing (Holds m (f - 1))) ≡ f - 1 + 1 = ap (λ (b : Bool). references_in (cond b Nothing (Holds m (f - 1)))) (ne_eqb f 0 some) in omega (arith, c))
+    (cases_eq f 0)
+
+less_is : (h : Held) → is_held h ≡ true → (is_held (one_less h) ≡ true → is_exclusive (one_less h) ≡ is_exclusive h) × (references_in h - 1 ≡ references_in (one_less h))
+less_is Nothing held = absurd (false≢true held)
+less_is (Holds m f) held = (less_keeps (eqb f 0) m f (f - 1), less_counts m f)
+
+more_is : (h : Held) → is_held h ≡ true → (is_exclusive (one_more h Shared) ≡ is_exclusive h) × (references_in h + 1 ≡ references_in (one_more h Shared))
+more_is Nothing held = absurd (false≢true held)
+more_is (Holds Exclusive f) held = (refl, refl)
+more_is (Holds Shared f) held = (refl, refl)
+
+pub IsNoted-less : (plan : Plan) (cpu : ℕ) (e : Entry) (note : Note) → is_held e.held ≡ true → IsNoted plan cpu e note → IsNoted plan cpu (less e) (record note { references = note.references - 1 })
+IsNoted-less plan cpu e note held noted' =
+    let l = less_is e.held held in
+    IsNoted-held plan cpu e (one_less e.held) (note.references - 1) note held l.0 (ap (λ (k : ℕ). k - 1) noted'.references ∙ l.1) noted'
+
+pub IsNoted-more : (plan : Plan) (cpu : ℕ) (e : Entry) (note : Note) → is_held e.held ≡ true → IsNoted plan cpu e note → IsNoted plan cpu (more e) (record note { references = note.references + 1 })
+IsNoted-more plan cpu e note held noted' =
+    let m = more_is e.held held in
+    IsNoted-held plan cpu e (one_more e.held Shared) (note.references + 1) note held (λ is. m.0) (ap (λ (k : ℕ). k + 1) noted'.references ∙ m.1) noted'
+
+-- what is noted of a holding tells it
+mode_told : (m mode : Mode) (f : ℕ) → is_exclusive (Holds m f) ≡ is_exclusive (Holds mode 0) → mode ≡ m
+mode_told Exclusive Exclusive f same = refl
+mode_told Exclusive Shared f same = absurd (false≢true (sym same))
+mode_told Shared Exclusive f same = absurd (false≢true same)
+mode_told Shared Shared f same = refl
+
+told : (h : Held) (mode : Mode) (references : ℕ) → references ≡ references_in h → (is_held h ≡ true → is_exclusive h ≡ is_exclusive (Holds mode 0)) → cond (eqb references 0) Nothing (Holds mode (references - 1)) ≡ h
+told Nothing mode references count same = ap (λ (b : Bool). cond b Nothing (Holds mode (references - 1))) (eq-eqb references 0 count)
+told (Holds m f) mode references count same =
+    let further : references - 1 ≡ f = omega arith in
+    ap (λ (b : Bool). cond b Nothing (Holds mode (references - 1))) (ne_eqb references 0 (λ none. absurd (omega arith)))
+    ∙ ap (λ (x : Mode). Holds x (references - 1)) (mode_told m mode f (same refl))
+    ∙ ap (Holds m) further
+
+pub held_told : (plan : Plan) (cpu : ℕ) (e : Entry) (note : Note) → IsNoted plan cpu e note → held_in note ≡ e.held
+held_told plan cpu e note noted' = told e.held note.mode note.references noted'.references noted'.mode
+
+-- a token that is held has a reference
+pub counted : (h : Held) → is_held h ≡ true → 0 < references_in h
+counted Nothing held = absurd (false≢true held)
+counted (Holds m f) held = omega arith
+
 -- no cell of a fresh note was stored to
-no_change : (cell : ℕ) → change_at (record { cells = None ∷ None ∷ None ∷ None ∷ []; tally = 0; held = Nothing }) cell ≡ None
-no_change zero = refl
-no_change (suc zero) = refl
-no_change (suc (suc zero)) = refl
-no_change (suc (suc (suc zero))) = refl
-no_change (suc (suc (suc (suc cell)))) = refl
+untouched_at : (cell : ℕ) → slice_index_or (Untouched ∷ Untouched ∷ Untouched ∷ Untouched ∷ []) cell Untouched ≡ Untouched
+untouched_at zero = refl
+untouched_at (suc zero) = refl
+untouched_at (suc (suc zero)) = refl
+untouched_at (suc (suc (suc zero))) = refl
+untouched_at (suc (suc (suc (suc cell)))) = refl
 
 -- a token that was taken with this row
-pub IsNoted-taken : (plan : Plan) (cpu : ℕ) (e : Entry) (word : ℕ) (mode : Mode) (row : List ℕ) (tally : ℕ) (note : Note) → length row ≡ plan.cells → tally ≡ note.tally → IsNoted plan cpu e note → IsNoted plan cpu (taken e word mode row) (record { cells = None ∷ None ∷ None ∷ None ∷ []; tally = tally; held = Holds mode 0 })
-IsNoted-taken plan cpu e word mode row tally note long tally_is noted' =
+pub IsNoted-taken : (plan : Plan) (cpu : ℕ) (e : Entry) (word : ℕ) (mode : Mode) (row : List ℕ) (note : Note) → length row ≡ plan.cells → IsNoted plan cpu e note → IsNoted plan cpu (taken e word mode row) (begun note mode)
+IsNoted-taken plan cpu e word Exclusive row note long noted' =
     let k = seen-keeps e (generation_in word) in
     record {
       four = refl;
-      held = refl;
-      tally = tally_is ∙ noted'.tally ∙ sym (ap (amount cpu) k.5);
+      firsts = noted'.firsts;
+      tally = noted'.tally ∙ sym (ap (amount cpu) k.5);
       own = λ other away. ap (amount other) k.5 ∙ noted'.own other away;
       long = λ is. (long, long);
-      stored = λ cell is inside c found. absurd (let h : None ≡ Some c = sym (no_change cell) ∙ found in cc);
-      untouched = λ cell is inside none. refl;
+      references = refl;
+      mode = λ is. refl;
+      touched = λ cell is.
+          let F : Touch → Type 0 = λ t. IsTouched t (slice_index note.first cell) (slice_index row cell) (slice_index row cell) in
+          subst F (sym (untouched_at cell)) (record { first_kept = λ s. absurd (false≢true s); same = λ s. refl; other = λ o. absurd (false≢true o) });
+    }
+IsNoted-taken plan cpu e word Shared row note long noted' =
+    let k = seen-keeps e (generation_in word) in
+    record {
+      four = noted'.four;
+      firsts = noted'.firsts;
+      tally = noted'.tally ∙ sym (ap (amount cpu) k.5);
+      own = λ other away. ap (amount other) k.5 ∙ noted'.own other away;
+      long = λ is. (long, long);
+      references = refl;
+      mode = λ is. refl;
+      touched = λ cell is. absurd (false≢true is);
     }
 
 -- after an entry of a token that exists has changed, no other token is held
@@ -143,118 +206,102 @@ Keeps-kept notes cpu v w e made tok keeps is there is_tok here =
         (λ away. subst (λ (d : Entry). G k d) (sym (at-else e v.tokens tok k is_tok away)) (keeps.each k h))
         (cases_eq k tok)
 
--- where a cell was changed, and where none was
-module _ (plan : Plan) (cpu : ℕ) (e : Entry) (note : Note) (noted' : IsNoted plan cpu e note) (held : is_held e.held ≡ true) (within : plan.cells ≤ 4) where
-  cell_is : (cell : ℕ) → cell < plan.cells → get_or (take plan.cells note.cells) cell None ≡ change_at note cell
-  cell_is cell inside = get_or-take plan.cells note.cells cell None inside
-
-  differs : (cell : ℕ) → cell < plan.cells → (o : Option Change) → change_at note cell ≡ o → has_changed o ≡ true → slice_index e.row cell ≢ slice_index e.first cell
-  differs cell inside None is changed = absurd (false≢true changed)
-  differs cell inside (Some c) is changed = λ same.
-      let s = noted'.stored cell held inside c is in
-      let equal : eqb c.first c.last ≡ true = eq-eqb c.first c.last (s.0 ∙ sym same ∙ sym s.1) in
-      let no' : not (eqb c.first c.last) ≡ false = ap not equal in
-      false≢true (sym no' ∙ changed)
-
-  same_cell : (cell : ℕ) → cell < plan.cells → (o : Option Change) → change_at note cell ≡ o → has_changed o ≡ false → slice_index e.row cell ≡ slice_index e.first cell
-  same_cell cell inside None is unchanged = noted'.untouched cell held inside is
-  same_cell cell inside (Some c) is unchanged =
-      let s = noted'.stored cell held inside c is in
-      let equal : c.first ≡ c.last = eqb-true c.first c.last (not-false (eqb c.first c.last) unchanged) in
-      sym s.1 ∙ sym equal ∙ s.0
-    where
-      not-false : (b : Bool) → not b ≡ false → b ≡ true
-      not-false true e = refl
-      not-false false e = absurd (false≢true (sym e))
-
-  pub row_written : list_any has_changed (take plan.cells note.cells) ≡ true → e.row ≢ e.first
+-- where a cell has another value, and where none has
+module _ (plan : Plan) (cpu : ℕ) (e : Entry) (note : Note) (noted' : IsNoted plan cpu e note) (held : is_exclusive e.held ≡ true) (within : plan.cells ≤ 4) where
+  pub row_written : list_any is_other note.cells ≡ true → e.row ≢ e.first
   row_written some same =
-      let found = Any-from_list_any has_changed (take plan.cells note.cells) some in
+      let found = Any-from_list_any is_other note.cells some in
       let cell = found.0 in
-      let inside : cell < plan.cells = (let l = length-take plan.cells note.cells in let h = found.2 in omega arith) in
-      let short : cell < length (take plan.cells note.cells) = found.2 in
-      let is : change_at note cell ≡ found.1 = sym (cell_is cell inside) ∙ get_or_default (take plan.cells note.cells) cell None found.1 short ∙ found.3 in
-      differs cell inside found.1 is found.4 (ap (λ r. slice_index r cell) same)
+      let is : touch_at note cell ≡ found.1 = get_or_default note.cells cell Untouched found.1 found.2 ∙ found.3 in
+      (noted'.touched cell held).other (ap is_other is ∙ found.4) (ap (λ r. slice_index r cell) same)
 
-  pub row_clean : list_any has_changed (take plan.cells note.cells) ≡ false → e.row ≡ e.first
+  pub row_clean : list_any is_other note.cells ≡ false → e.row ≡ e.first
   row_clean none =
-      let long = noted'.long held in
-      ext_get_or 0 e.row e.first (long.1 ∙ sym long.0) (λ cell inside_row. let l = long.1 in same_cell cell (omega arith) (change_at note cell) refl (unchanged cell (omega arith)))
+      let long = noted'.long (exclusive_held e.held held) in
+      ext_get_or 0 e.row e.first (long.1 ∙ sym long.0) (λ cell inside_row. let l = long.1 in (noted'.touched cell held).same (unchanged cell (omega arith)))
     where
-      unchanged : (cell : ℕ) → cell < plan.cells → has_changed (change_at note cell) ≡ false
+      unchanged : (cell : ℕ) → cell < plan.cells → is_other (touch_at note cell) ≡ false
       unchanged cell inside = ⊎_elim
           (λ yes'. absurd (
-          let l = length-take plan.cells note.cells in
           let f = noted'.four in
           let w = within in
-          let short : cell < length (take plan.cells note.cells) = omega arith in
-          false≢true (sym none ∙ list_any_at has_changed (take plan.cells note.cells) cell None short (ap has_changed (cell_is cell inside) ∙ yes'))))
+          let short : cell < length note.cells = omega arith in
+          false≢true (sym none ∙ list_any_at is_other note.cells cell Untouched short yes')))
           (λ no'. no')
-          (cases_Bool (has_changed (change_at note cell)))
+          (cases_Bool (is_other (touch_at note cell)))
 
 -- a cell that was stored to, and the others
-module _ (plan : Plan) (cpu : ℕ) (e : Entry) (note : Note) (noted' : IsNoted plan cpu e note) (is : is_held e.held ≡ true) (within : plan.cells ≤ 4) (cell first value : ℕ) (inside : cell < plan.cells) (first_is : first ≡ slice_index e.first cell) where
-  abbrev change : Change
-  change = record { first = first; last = value }
-
-  abbrev cells : List (Option Change)
-  cells = set note.cells cell (Some change)
-
+module _ (plan : Plan) (cpu : ℕ) (e : Entry) (note : Note) (noted' : IsNoted plan cpu e note) (is : is_exclusive e.held ≡ true) (within : plan.cells ≤ 4) (cell : ℕ) (change : Change) (inside : cell < plan.cells) (first_is : change.first ≡ slice_index e.first cell) where
   abbrev row : List ℕ
-  row = slice_set e.row cell value
+  row = slice_set e.row cell change.last
 
-  cell_here : get_or cells cell None ≡ Some change
-  cell_here = let f = noted'.four in get_or-set_same note.cells cell (Some change) None (omega arith)
+  touch_here : touch_at (changed note cell change) cell ≡ touch_of change
+  touch_here = let f = noted'.four in get_or-set_same note.cells cell (touch_of change) Untouched (omega arith)
 
-  row_here : slice_index row cell ≡ value
-  row_here = let l = (noted'.long is).1 in get_or-set_same e.row cell value 0 (omega arith)
+  first_here : slice_index (changed note cell change).first cell ≡ change.first
+  first_here = let f = noted'.firsts in get_or-set_same note.first cell change.first 0 (omega arith)
 
-  pub stored_there : (k : ℕ) → k < plan.cells → ForSome (get_or cells k None) (λ c. (c.first ≡ slice_index e.first k) × (c.last ≡ slice_index row k))
-  stored_there k low c found = ⊎_elim
+  row_here : slice_index row cell ≡ change.last
+  row_here = let l = (noted'.long (exclusive_held e.held is)).1 in get_or-set_same e.row cell change.last 0 (omega arith)
+
+  made : (b : Bool) → eqb change.first change.last ≡ b → IsTouched (cond b Same Other) change.first (slice_index e.first cell) change.last
+  made true test = record { first_kept = λ s. first_is; same = λ s. sym (eqb-true change.first change.last test) ∙ first_is; other = λ o. absurd (false≢true o) }
+  made false test = record { first_kept = λ s. first_is; same = λ s. absurd (false≢true (sym s)); other = λ o same. eqb-false change.first change.last test (first_is ∙ sym same) }
+
+  touched_here : IsTouched (touch_at (changed note cell change) cell) (slice_index (changed note cell change).first cell) (slice_index e.first cell) (slice_index row cell)
+  touched_here =
+      let F : Touch → ℕ → ℕ → Type 0 = λ t kept value. IsTouched t kept (slice_index e.first cell) value in
+      subst (λ (t : Touch). F t (slice_index (changed note cell change).first cell) (slice_index row cell)) (sym touch_here)
+      (subst (λ (kept : ℕ). F (touch_of change) kept (slice_index row cell)) (sym first_here)
+      (subst (λ (value : ℕ). F (touch_of change) change.first value) (sym row_here) (made (eqb change.first change.last) refl)))
+
+  touched_else : (k : ℕ) → k ≢ cell → IsTouched (touch_at (changed note cell change) k) (slice_index (changed note cell change).first k) (slice_index e.first k) (slice_index row k)
+  touched_else k away =
+      let F : Touch → ℕ → ℕ → Type 0 = λ t kept value. IsTouched t kept (slice_index e.first k) value in
+      subst (λ (t : Touch). F t (slice_index (changed note cell change).first k) (slice_index row k)) (sym (get_or-set_other note.cells cell k (touch_of change) Untouched away))
+      (subst (λ (kept : ℕ). F (touch_at note k) kept (slice_index row k)) (sym (get_or-set_other note.first cell k change.first 0 away))
+      (subst (λ (value : ℕ). F (touch_at note k) (slice_index note.first k) value) (sym (get_or-set_other e.row cell k change.last 0 away)) (noted'.touched k is)))
+
+  pub touched_there : (k : ℕ) → IsTouched (touch_at (changed note cell change) k) (slice_index (changed note cell change).first k) (slice_index e.first k) (slice_index row k)
+  touched_there k = ⊎_elim
       (λ (same : k ≡ cell).
-      let one : change ≡ c = (let h : Some change ≡ Some c = sym cell_here ∙ ap (λ (j : ℕ). get_or cells j None) (sym same) ∙ found in cc) in
-      let F : ℕ → Type 0 = λ j. (change.first ≡ slice_index e.first j) × (change.last ≡ slice_index row j) in
-      subst (λ (d : Change). (d.first ≡ slice_index e.first k) × (d.last ≡ slice_index row k)) one (subst F (sym same) (first_is, sym row_here)))
-      (λ away.
-      let s = noted'.stored k is low c (sym (get_or-set_other note.cells cell k (Some change) None away) ∙ found) in
-      (s.0, s.1 ∙ sym (get_or-set_other e.row cell k value 0 away)))
+      let F : ℕ → Type 0 = λ j. IsTouched (touch_at (changed note cell change) j) (slice_index (changed note cell change).first j) (slice_index e.first j) (slice_index row j) in
+      subst F (sym same) touched_here)
+      (λ away. touched_else k away)
       (cases_eq k cell)
 
-  pub untouched_there : (k : ℕ) → k < plan.cells → ForNone (get_or cells k None) (slice_index row k ≡ slice_index e.first k)
-  untouched_there k low none = ⊎_elim
-      (λ (same : k ≡ cell). absurd (let h : Some change ≡ None = sym cell_here ∙ ap (λ (j : ℕ). get_or cells j None) (sym same) ∙ none in cc))
-      (λ away. get_or-set_other e.row cell k value 0 away ∙ noted'.untouched k is low (sym (get_or-set_other note.cells cell k (Some change) None away) ∙ none))
-      (cases_eq k cell)
-
-  pub IsNoted-stored : IsNoted plan cpu (stored e cell value) (record note { cells = cells })
+  pub IsNoted-stored : IsNoted plan cpu (stored e cell change.last) (changed note cell change)
   IsNoted-stored = record {
-    four = length-set note.cells cell (Some change) ∙ noted'.four;
-    held = noted'.held;
+    four = length-set note.cells cell (touch_of change) ∙ noted'.four;
+    firsts = length-set note.first cell change.first ∙ noted'.firsts;
     tally = noted'.tally;
     own = noted'.own;
-    long = λ h. let l = noted'.long is in (l.0, length-set e.row cell value ∙ l.1);
-    stored = λ k h low. stored_there k low;
-    untouched = λ k h low. untouched_there k low;
+    long = λ h. let l = noted'.long h in (l.0, length-set e.row cell change.last ∙ l.1);
+    references = noted'.references;
+    mode = noted'.mode;
+    touched = λ k h. touched_there k;
   }
 
 -- a Tally token's cell that was raised
-pub IsNoted-raised : (plan : Plan) (cpu : CpuId) (e : Entry) (note : Note) (noted' : IsNoted plan cpu.0 e note) → is_held e.held ≡ true → plan.cells ≤ 4 → (first k : ℕ) → 0 < plan.cells → first ≡ slice_index e.first 0
-    → IsNoted plan cpu.0 (raised e cpu k) (record note { cells = set note.cells 0 (Some (record { first = first; last = slice_index e.row 0 + k })); tally = note.tally + k })
-IsNoted-raised plan cpu e note noted' is within first k inside first_is =
-    let value = slice_index e.row 0 + k in
+pub IsNoted-raised : (plan : Plan) (cpu : CpuId) (e : Entry) (note : Note) (noted' : IsNoted plan cpu.0 e note) → is_exclusive e.held ≡ true → plan.cells ≤ 4 → (change : Change) (k : ℕ) → 0 < plan.cells → change.first ≡ slice_index e.first 0 → change.last ≡ slice_index e.row 0 + k
+    → IsNoted plan cpu.0 (raised e cpu k) (record (changed note 0 change) { tally = note.tally + k })
+IsNoted-raised plan cpu e note noted' is within change k inside first_is last_is =
     let own_sum = sum_by-cons (λ (x : Added). cond (eqb x.cpu.0 cpu.0) x.amount 0) (record { cpu = cpu; amount = k }) e.added in
     let test = ap (λ b. cond b k 0) (eq-eqb cpu.0 cpu.0 refl) in
     let before = noted'.tally in
     record {
-      four = length-set note.cells 0 (Some (record { first = first; last = value })) ∙ noted'.four;
-      held = noted'.held;
+      four = length-set note.cells 0 (touch_of change) ∙ noted'.four;
+      firsts = length-set note.first 0 change.first ∙ noted'.firsts;
       tally = omega arith;
       own = λ other away.
           let sum = sum_by-cons (λ (x : Added). cond (eqb x.cpu.0 other) x.amount 0) (record { cpu = cpu; amount = k }) e.added in
           let none = ap (λ b. cond b k 0) (ne_eqb cpu.0 other (λ same. away (sym same))) in
           let rest = noted'.own other away in
           omega arith;
-      long = λ h. let l = noted'.long is in (l.0, length-set e.row 0 value ∙ l.1);
-      stored = λ j h low. stored_there plan cpu.0 e note noted' is within 0 first value inside first_is j low;
-      untouched = λ j h low. untouched_there plan cpu.0 e note noted' is within 0 first value inside first_is j low;
+      long = λ h. let l = noted'.long h in (l.0, length-set e.row 0 (slice_index e.row 0 + k) ∙ l.1);
+      references = noted'.references;
+      mode = noted'.mode;
+      touched = λ j h.
+          let F : ℕ → Type 0 = λ last. IsTouched (touch_at (changed note 0 change) j) (slice_index (changed note 0 change).first j) (slice_index e.first j) (slice_index (slice_set e.row 0 last) j) in
+          subst F last_is (touched_there plan cpu.0 e note noted' is within 0 change inside first_is j);
     }

@@ -156,12 +156,13 @@ Keeps-new cpu v w kind is =
           let G : Note → Type 0 = λ n. IsNoted (plan_at v.plans tok) cpu.0 (blank tok) n in
           subst G (sym (replicated 64 tok no_note)) (record {
             four = refl;
-            held = refl;
+            firsts = refl;
             tally = refl;
             own = λ other away. refl;
             long = λ held. absurd (false≢true held);
-            stored = λ cell held. absurd (false≢true held);
-            untouched = λ cell held. absurd (false≢true held);
+            references = refl;
+            mode = λ held. absurd (false≢true held);
+            touched = λ cell held. absurd (false≢true held);
           });
       within = λ tok held. absurd (false≢true held);
     })

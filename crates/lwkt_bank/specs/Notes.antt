@@ -1,26 +1,23 @@
-use Rattle.std.specs.Prelude.{◌≡◌, ◌≢◌, ℕ, ◌+◌, ◌*◌, ◌<◌, ◌==◌, Bool, true, false, not, List, [], ◌∷◌, length, Option, None, Some, slice_index, slice_index_or}
-use Rattle.std.specs.Option.{ForSome, ForNone}
+use Rattle.std.specs.Prelude.{◌≡◌, ◌≢◌, ℕ, ◌+◌, ◌-◌, ◌<◌, ◌==◌, if◌then◌else◌, Bool, true, false, List, [], ◌∷◌, length, slice_index, slice_index_or, slice_set}
 use Rattle.lwkt_base.specs.declared.names.CpuId.{CpuId}
+use Rattle.lwkt_base.specs.declared.names.Mode.{Mode}
 use Rattle.lwkt_base.specs.declared.names.Mode.TheVariants.{Exclusive, Shared}
 use Rattle.lwkt_base.specs.declared.holdings.Held.{Held}
 use Rattle.lwkt_base.specs.declared.holdings.Held.TheVariants.{Nothing, Holds}
-use Rattle.lwkt_base.specs.Holding.{is_held}
+use Rattle.lwkt_base.specs.Holding.{references_in, is_held, is_exclusive}
 use Rattle.lwkt_core.specs.declared.seats.SeatKind.{SeatKind}
 use Rattle.lwkt_core.specs.declared.seats.SeatKind.TheVariants.{Clerk, Of, Spent}
 use Rattle.lwkt_bank.specs.declared.views.Plan.{Plan}
 use Rattle.lwkt_bank.specs.declared.views.Entry.{Entry}
 use Rattle.lwkt_bank.specs.declared.views.View.{View}
 use Rattle.lwkt_bank.specs.declared.notes.Change.{Change}
+use Rattle.lwkt_bank.specs.declared.notes.Touch.{Touch}
+use Rattle.lwkt_bank.specs.declared.notes.Touch.TheVariants.{Untouched, Same, Other}
 use Rattle.lwkt_bank.specs.declared.notes.Note.{Note}
 use Rattle.lwkt_bank.specs.Views.{at, amount}
 use Rattle.lwkt_bank.specs.Rule.{plan_at}
 
--- a holding, and whose seat a view is, by number: no two have the same
-abbrev pub held_number : Held → ℕ
-held_number Nothing = 0
-held_number (Holds Exclusive further) = 2 * further + 1
-held_number (Holds Shared further) = 2 * further + 2
-
+-- whose seat a view is, by number: no two have the same
 abbrev pub seat_number : SeatKind → ℕ
 seat_number (Of cpu) = cpu.0 + 1
 seat_number (Clerk made back) = 0
@@ -31,33 +28,62 @@ clerk_number (Clerk made back) = back + 1
 clerk_number (Of cpu) = 0
 clerk_number Spent = 0
 
--- what stands for a note past the last
+-- what is kept of a token that was never taken, and what stands for a note past the last
 abbrev pub no_note : Note
-no_note = record { cells = None ∷ None ∷ None ∷ None ∷ []; tally = 0; held = Nothing }
+no_note = record { first = 0 ∷ 0 ∷ 0 ∷ 0 ∷ []; tally = 0; cells = Untouched ∷ Untouched ∷ Untouched ∷ Untouched ∷ []; mode = Exclusive; references = 0 }
 
 abbrev pub note_at : List Note → ℕ → Note
 note_at notes tok = slice_index_or notes tok no_note
 
-abbrev pub change_at : Note → ℕ → Option Change
-change_at note cell = slice_index_or note.cells cell None
+abbrev pub touch_at : Note → ℕ → Touch
+touch_at note cell = slice_index_or note.cells cell Untouched
 
--- what a seat keeps at run time of a token is what its view says
+-- what the note says that the seat holds
+abbrev pub held_in : Note → Held
+held_in note = if note.references == 0 then Nothing else Holds note.mode (note.references - 1)
+
+-- how a cell stands after a store
+abbrev pub touch_of : Change → Touch
+touch_of change = if change.first == change.last then Same else Other
+
+-- the note after the token was taken, and after a store to a cell
+abbrev pub begun : Note → Mode → Note
+begun note Exclusive = record note { cells = Untouched ∷ Untouched ∷ Untouched ∷ Untouched ∷ []; mode = Exclusive; references = 1 }
+begun note Shared = record note { mode = Shared; references = 1 }
+
+abbrev pub changed : Note → ℕ → Change → Note
+changed note cell change = record note { first = slice_set note.first cell change.first; cells = slice_set note.cells cell (touch_of change) }
+
+-- whether a cell was stored to, and whether it has another value than its first
+abbrev pub is_stored : Touch → Bool
+is_stored Untouched = false
+is_stored Same = true
+is_stored Other = true
+
+abbrev pub is_other : Touch → Bool
+is_other Untouched = false
+is_other Same = false
+is_other Other = true
+
+-- how a cell stands: the first value that is kept of it, its value in the first row, and its value
+pub record IsTouched (touch : Touch) (kept first value : ℕ) : Type 0 where
+  pub first_kept : is_stored touch ≡ true → kept ≡ first
+  pub same : is_other touch ≡ false → value ≡ first
+  pub other : is_other touch ≡ true → value ≢ first
+
+-- what a seat keeps at run time of a token is what its view says; how the cells stand only while it is held exclusively
 pub record IsNoted (plan : Plan) (cpu : ℕ) (e : Entry) (note : Note) : Type 0 where
   pub four : length note.cells ≡ 4
-  pub held : held_number note.held ≡ held_number e.held
+  pub firsts : length note.first ≡ 4
   pub tally : note.tally ≡ amount cpu e.added
   pub own : (other : ℕ) → other ≢ cpu → amount other e.added ≡ 0
   pub long : is_held e.held ≡ true → (length e.first ≡ plan.cells) × (length e.row ≡ plan.cells)
-  pub stored : (cell : ℕ) → is_held e.held ≡ true → cell < plan.cells → ForSome (change_at note cell) (λ c. (c.first ≡ slice_index e.first cell) × (c.last ≡ slice_index e.row cell))
-  pub untouched : (cell : ℕ) → is_held e.held ≡ true → cell < plan.cells → ForNone (change_at note cell) (slice_index e.row cell ≡ slice_index e.first cell)
+  pub references : note.references ≡ references_in e.held
+  pub mode : is_held e.held ≡ true → is_exclusive e.held ≡ is_exclusive (Holds note.mode 0)
+  pub touched : (cell : ℕ) → is_exclusive e.held ≡ true → IsTouched (touch_at note cell) (slice_index note.first cell) (slice_index e.first cell) (slice_index e.row cell)
 
 -- what a seat keeps at run time is what its view says, the view is that of its processor, and it holds no token that isn't there
 pub record Keeps (notes : List Note) (cpu : CpuId) (v : View) : Type 0 where
   pub seat : seat_number v.kind ≡ cpu.0 + 1
   pub each : (tok : ℕ) → tok < length v.plans → IsNoted (plan_at v.plans tok) cpu.0 (at v.tokens tok) (note_at notes tok)
   pub within : (tok : ℕ) → is_held (at v.tokens tok).held ≡ true → tok < length v.plans
-
--- whether a cell was stored to, and its last value isn't its first
-abbrev pub has_changed : Option Change → Bool
-has_changed None = false
-has_changed (Some change) = not (change.first == change.last)

@@ -1,18 +1,19 @@
 //! The cells of a token that is held.
-ghost use Rattle.std.specs.Prelude.{◌≡◌, ◌≢◌, ◌↔◌, ◌⊎◌, ◌+◌, ◌^◌, ◌<◌, ◌≤◌, ℕ, List, [], ◌∷◌, length, true, false, None, Some, Ok, Err, OnOk, OnErr, IfOk, slice_index, slice_set};
+ghost use Rattle.std.specs.Prelude.{◌≡◌, ◌≢◌, ◌↔◌, ◌⊎◌, ◌+◌, ◌^◌, ◌<◌, ◌≤◌, ℕ, List, [], ◌∷◌, length, true, false, None, Some, Ok, Err, OnOk, OnErr, IfOk, MatchOption, slice_index, slice_set};
 ghost use Rattle.lwkt_base.specs.Holding.{is_held, is_exclusive};
 ghost use Rattle.lwkt_base.specs.Law.{MeetsLaw};
 ghost use Rattle.lwkt_bank.specs.Views.{amount, read, stored, raised};
 ghost use Rattle.lwkt_bank.specs.Seats.{id_of, bank_of, tokens_of, plan_of, entry, holding, Changes, Knowing, IsUnchanged};
 
 use crate::banks::Bank;
-use crate::notes::Change;
+use crate::notes::{Change, Touch};
 use crate::seats::CpuSeat;
 use crate::steps;
 use lwkt_base::{Fault, Law, TokId};
 
 impl CpuSeat {
     /// The value of a cell. That the seat holds the token, in any mode, is the caller's condition.
+    #[inline(always)]
     pub fn load(&mut self, bank: &Bank, tok: TokId, cell: u8) -> u64
         requires of { bank_of self.old ≡ id_of bank.now }
         requires there { tok.0 < tokens_of (bank_of self.old) }
@@ -25,6 +26,7 @@ impl CpuSeat {
     }
 
     // Stores a value in a cell, whose value in the first row is known, of a token that keeps no tallies.
+    #[inline]
     pub(crate) fn store_over(&mut self, bank: &Bank, tok: TokId, cell: u8, change: Change)
         requires of { bank_of self.old ≡ id_of bank.now }
         requires there { tok.0 < tokens_of (bank_of self.old) }
@@ -34,11 +36,12 @@ impl CpuSeat {
         requires first { change.first ≡ slice_index (entry self.old tok.0).first cell }
         ensures { Changes self.old self.new tok.0 (stored (entry self.old tok.0) cell change.last) [] }
     {
+        self.notes[tok.0 as usize].change(cell as usize, change);
         steps::store_cell(bank, &mut self.seat, tok, cell, change.last);
-        self.notes[tok.0 as usize].cells[cell as usize] = Some(change);
     }
 
     // Stores a value in a cell of a token that keeps no tallies.
+    #[inline]
     fn put(&mut self, bank: &Bank, tok: TokId, cell: u8, value: u64)
         requires of { bank_of self.old ≡ id_of bank.now }
         requires there { tok.0 < tokens_of (bank_of self.old) }
@@ -51,24 +54,41 @@ impl CpuSeat {
         self.store_over(bank, tok, cell, Change { first, last: value });
     }
 
+    // The value of a cell in the section's first row, if the cell was stored to.
+    #[inline]
+    pub(crate) fn kept_first(&self, bank: &Bank, tok: TokId, cell: u8) -> Option<u64>
+        requires of { bank_of self.now ≡ id_of bank.now }
+        requires there { tok.0 < tokens_of (bank_of self.now) }
+        requires held { is_exclusive (holding self.now tok.0) ≡ true }
+        requires inside { cell < (plan_of (bank_of self.now) tok.0).cells }
+        ensures { MatchOption result (slice_index (entry self.now tok.0).row cell ≡ slice_index (entry self.now tok.0).first cell) (λ value. value ≡ slice_index (entry self.now tok.0).first cell) }
+    {
+        let at = tok.0 as usize;
+        match self.notes[at].cells[cell as usize] {
+            Touch::Untouched => None,
+            Touch::Same | Touch::Other => Some(self.notes[at].first[cell as usize]),
+        }
+    }
+
     // The value of a cell in the section's first row: kept, if the cell was stored to, else loaded.
+    #[inline]
     fn first_value(&mut self, bank: &Bank, tok: TokId, cell: u8) -> u64
         requires of { bank_of self.old ≡ id_of bank.now }
         requires there { tok.0 < tokens_of (bank_of self.old) }
-        requires held { is_held (holding self.old tok.0) ≡ true }
+        requires held { is_exclusive (holding self.old tok.0) ≡ true }
         requires inside { cell < (plan_of (bank_of self.old) tok.0).cells }
         ensures value { result ≡ slice_index (entry self.old tok.0).first cell }
         ensures knowing { Knowing self.old self.new tok.0 (entry self.old tok.0) }
     {
-        let note = self.note(bank, tok);
-        match note.cells[cell as usize] {
-            Some(change) => change.first,
+        match self.kept_first(bank, tok, cell) {
+            Some(value) => value,
             None => self.load(bank, tok, cell),
         }
     }
 
     /// Stores a value in a cell. That the seat holds the token exclusively is the caller's condition. The first store to a
     /// cell in a section loads it once before. 22 for a Tally token.
+    #[inline(always)]
     pub fn store(&mut self, bank: &Bank, tok: TokId, cell: u8, value: u64) -> Result<(), Fault>
         requires of { bank_of self.old ≡ id_of bank.now }
         requires there { tok.0 < tokens_of (bank_of self.old) }
@@ -96,9 +116,8 @@ impl CpuSeat {
         requires covered { amount self.old.cpu.0 (entry self.old tok.0).added + k < 2 ^ 64 }
         ensures { Changes self.old self.new tok.0 (raised (entry self.old tok.0) self.old.cpu k) [] }
     {
-        let note = self.note(bank, tok);
+        self.notes[tok.0 as usize].raise(change, k);
         steps::raise_cell(bank, &mut self.seat, tok, change.last);
-        self.notes[tok.0 as usize] = note.changed(0, change).raised(k);
     }
 
     // The value of the cell of a Tally token, which is at least what this processor has added.

@@ -16,7 +16,7 @@ use crate::rules::{BankRule, Key};
 use crate::seats::CpuSeat;
 use crate::views::View;
 use atomic_table::{Seat, Table};
-use lwkt_base::{CpuId, Fault, Held, TokSpec};
+use lwkt_base::{CpuId, Fault, TokSpec};
 use lwkt_core::SeatKind;
 use std::alloc::{AllocError, Global};
 
@@ -24,12 +24,7 @@ use std::alloc::{AllocError, Global};
 fn blank_notes() -> [Note; 64]
     ensures { result ≡ replicate 64 no_note }
 {
-    let note = Note {
-        cells: [None; 4],
-        tally: 0,
-        held: Held::Nothing,
-    };
-    [note; 64]
+    [Note::blank(); 64]
 }
 
 // The clerk makes a seat.

@@ -1,37 +1,36 @@
 //! Giving references back.
 ghost use Rattle.std.specs.Prelude.{◌≡◌, ◌≢◌, ◌⊎◌, ◌+◌, ◌<◌, ◌≤◌, length, true, false};
 ghost use Rattle.std.specs.List.{list_any};
-ghost use Rattle.lwkt_base.specs.Holding.{is_held};
+ghost use Rattle.lwkt_base.specs.Holding.{is_held, is_exclusive};
 ghost use Rattle.lwkt_base.specs.Law.{MeetsLaw};
 ghost use Rattle.lwkt_bank.specs.Views.{less, ended, add, sub};
 ghost use Rattle.lwkt_core.specs.Tokens.{IsNotLastExclusive};
-ghost use Rattle.lwkt_bank.specs.Notes.{has_changed};
+ghost use Rattle.lwkt_bank.specs.Notes.{is_other};
 ghost use Rattle.lwkt_bank.specs.Seats.{id_of, bank_of, tokens_of, plan_of, entry, holding, Stepped, Gave};
 
 use crate::banks::Bank;
-use crate::notes::Change;
+use crate::notes::Touch;
 use crate::seats::CpuSeat;
 use crate::steps;
 use crate::tries::Given;
 use lwkt_base::{Held, Mode, TokId};
 
-// Whether the cell was stored to, and its last value isn't its first.
-fn has_changed(change: &Option<Change>) -> bool
-    ensures { result ≡ has_changed change.now }
+// Whether the cell was stored to, and has another value than its first.
+fn is_other(touch: Touch) -> bool
+    ensures { result ≡ is_other touch }
 {
-    match change {
-        Some(change) => change.first != change.last,
-        None => false,
-    }
+    matches!(touch, Touch::Other)
 }
 
-fn is_written(cells: &[Option<Change>]) -> bool
-    ensures { result ≡ list_any has_changed cells.now }
+#[inline]
+fn is_written(cells: &[Touch]) -> bool
+    ensures { result ≡ list_any is_other cells.now }
 {
-    cells.iter().any(|change| has_changed(change))
+    cells.iter().any(|touch| is_other(*touch))
 }
 
 // Whether this is one exclusive reference.
+#[inline]
 fn is_last(held: Held) -> bool
     ensures last { result ≡ true → held ≡ Held.Holds Mode.Exclusive 0 }
     ensures not_last { result ≡ false → is_held held ≡ true → IsNotLastExclusive held }
@@ -40,19 +39,19 @@ fn is_last(held: Held) -> bool
 }
 
 impl CpuSeat {
-    // Whether the row of a token that is held differs from the section's first row.
+    // Whether the row of a token that is held exclusively differs from the section's first row.
+    #[inline]
     fn has_written(&self, bank: &Bank, tok: TokId) -> bool
         requires of { bank_of self.now ≡ id_of bank.now }
         requires there { tok.0 < tokens_of (bank_of self.now) }
-        requires held { is_held (holding self.now tok.0) ≡ true }
+        requires held { is_exclusive (holding self.now tok.0) ≡ true }
         ensures written { result ≡ true → (entry self.now tok.0).row ≢ (entry self.now tok.0).first }
         ensures clean { result ≡ false → (entry self.now tok.0).row ≡ (entry self.now tok.0).first }
     {
-        let note = self.note(bank, tok);
-        let cells = bank.cells(tok);
-        is_written(&note.cells[..cells])
+        is_written(&self.notes[tok.0 as usize].cells)
     }
 
+    #[inline]
     fn give_one(&mut self, bank: &Bank, tok: TokId)
         requires of { bank_of self.old ≡ id_of bank.now }
         requires there { tok.0 < tokens_of (bank_of self.old) }
@@ -60,11 +59,11 @@ impl CpuSeat {
         requires not_last { IsNotLastExclusive (holding self.old tok.0) }
         ensures { Stepped self.old self.new tok.0 (less (entry self.old tok.0)) (sub tok.0 4) }
     {
-        let held = self.note(bank, tok).held;
         steps::give_one(bank, &mut self.seat, tok);
-        self.notes[tok.0 as usize].held = held.one_less();
+        self.notes[tok.0 as usize].references -= 1;
     }
 
+    #[inline]
     fn end_clean(&mut self, bank: &Bank, tok: TokId)
         requires of { bank_of self.old ≡ id_of bank.now }
         requires there { tok.0 < tokens_of (bank_of self.old) }
@@ -73,9 +72,10 @@ impl CpuSeat {
         ensures { Stepped self.old self.new tok.0 (less (entry self.old tok.0)) (sub tok.0 1) }
     {
         steps::give_clean(bank, &mut self.seat, tok);
-        self.notes[tok.0 as usize].held = Held::Nothing;
+        self.notes[tok.0 as usize].references = 0;
     }
 
+    #[inline]
     fn end_written(&mut self, bank: &Bank, tok: TokId)
         requires of { bank_of self.old ≡ id_of bank.now }
         requires there { tok.0 < tokens_of (bank_of self.old) }
@@ -85,11 +85,29 @@ impl CpuSeat {
         ensures { Stepped self.old self.new tok.0 (ended (entry self.old tok.0)) (add tok.0 262143) }
     {
         steps::give_written(bank, &mut self.seat, tok);
-        self.notes[tok.0 as usize].held = Held::Nothing;
+        self.notes[tok.0 as usize].references = 0;
+    }
+
+    // Ends a section.
+    #[inline]
+    fn end(&mut self, bank: &Bank, tok: TokId) -> Given
+        requires of { bank_of self.old ≡ id_of bank.now }
+        requires there { tok.0 < tokens_of (bank_of self.old) }
+        requires last { holding self.old tok.0 ≡ Held.Holds Mode.Exclusive 0 }
+        requires lawful { ((entry self.old tok.0).row ≡ (entry self.old tok.0).first) ⊎ MeetsLaw (plan_of (bank_of self.old) tok.0).law (plan_of (bank_of self.old) tok.0).param (entry self.old tok.0).row }
+        ensures { Gave self.old self.new tok.0 result }
+    {
+        if self.has_written(bank, tok) {
+            self.end_written(bank, tok);
+            return Given::Written;
+        }
+        self.end_clean(bank, tok);
+        Given::Clean
     }
 
     /// Gives a reference back. That the seat holds the token is the caller's condition, and if that ends a section, that the
     /// row is its first row or obeys the law.
+    #[inline(always)]
     pub fn give(&mut self, bank: &Bank, tok: TokId) -> Given
         requires of { bank_of self.old ≡ id_of bank.now }
         requires there { tok.0 < tokens_of (bank_of self.old) }
@@ -97,15 +115,10 @@ impl CpuSeat {
         requires lawful { holding self.old tok.0 ≡ Held.Holds Mode.Exclusive 0 → ((entry self.old tok.0).row ≡ (entry self.old tok.0).first) ⊎ MeetsLaw (plan_of (bank_of self.old) tok.0).law (plan_of (bank_of self.old) tok.0).param (entry self.old tok.0).row }
         ensures { Gave self.old self.new tok.0 result }
     {
-        if !is_last(self.note(bank, tok).held) {
+        if !is_last(self.held(bank, tok)) {
             self.give_one(bank, tok);
             return Given::One;
         }
-        if self.has_written(bank, tok) {
-            self.end_written(bank, tok);
-            return Given::Written;
-        }
-        self.end_clean(bank, tok);
-        Given::Clean
+        self.end(bank, tok)
     }
 }

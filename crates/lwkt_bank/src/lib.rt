@@ -11,7 +11,7 @@ mod gathers;
 mod gives;
 mod kept;
 pub mod laws;
-pub mod notes;
+mod notes;
 mod opens;
 mod plans;
 mod plays;

@@ -1,56 +1,113 @@
-ghost use Rattle.std.specs.Prelude.{◌≡◌, ◌+◌, ◌^◌, ◌<◌, length, None, Some, [], ◌∷◌, slice_set};
+ghost use Rattle.std.specs.Prelude.{◌≡◌, ◌+◌, ◌^◌, ◌<◌, length};
+ghost use Rattle.lwkt_bank.specs.Notes.{no_note, held_in, touch_of, begun, changed};
 
 use lwkt_base::{Held, Mode};
 
-/// A cell that was stored to in the present section.
-#[derive(Clone, Copy, Debug, PartialEq, Eq)]
+/// A store to a cell in a section.
+#[derive(Clone, Copy)]
 pub struct Change {
-    /// Its value in the section's first row.
+    /// The cell's value in the section's first row.
     pub first: u64,
-    /// The value stored last.
+    /// The value stored.
     pub last: u64,
 }
 
+impl Change {
+    #[inline]
+    fn touch(self) -> Touch
+        ensures { result ≡ touch_of self }
+    {
+        if self.first == self.last {
+            Touch::Same
+        } else {
+            Touch::Other
+        }
+    }
+}
+
+/// How a cell stands in the present section.
+#[derive(Clone, Copy)]
+pub enum Touch {
+    /// It wasn't stored to.
+    Untouched,
+    /// It was stored to, and has its first value.
+    Same,
+    /// It was stored to, and has another value.
+    Other,
+}
+
 /// What a seat keeps of one token.
-#[derive(Clone, Copy, Debug, PartialEq, Eq)]
+#[derive(Clone, Copy)]
 pub struct Note {
-    /// The cells that were stored to since the section began.
-    pub cells: [Option<Change>; 4],
+    /// The first values of the cells that were stored to since the section began.
+    pub first: [u64; 4],
     /// What this processor has added to the cell of a Tally token.
     pub tally: u64,
-    /// What the seat holds.
-    pub held: Held,
+    /// How each cell stands. It counts only while the token is held exclusively.
+    pub cells: [Touch; 4],
+    /// The mode of the first reference that the seat has.
+    pub mode: Mode,
+    /// How many references it has.
+    pub references: u8,
 }
 
 impl Note {
-    /// The note of a token that was taken in this mode.
-    pub(crate) fn taken(self, mode: Mode) -> Note
-        ensures { result ≡ record { cells = None ∷ None ∷ None ∷ None ∷ []; tally = self.tally; held = Held.Holds mode 0 } }
+    /// The note of a token that was never taken.
+    pub(crate) fn blank() -> Note
+        ensures { result ≡ no_note }
     {
         Note {
-            cells: [None; 4],
-            tally: self.tally,
-            held: Held::Holds(mode, 0),
+            first: [0; 4],
+            tally: 0,
+            cells: [Touch::Untouched; 4],
+            mode: Mode::Exclusive,
+            references: 0,
         }
     }
 
-    /// The note with this change of a cell.
-    pub(crate) fn changed(self, cell: usize, change: Change) -> Note
-        requires { cell < length self.cells }
-        ensures { result ≡ record self { cells = slice_set self.cells cell (Some change) } }
+    /// What the seat holds.
+    #[inline]
+    pub(crate) fn held(&self) -> Held
+        ensures { result ≡ held_in self.now }
     {
-        let mut note = self;
-        note.cells[cell] = Some(change);
-        note
+        if self.references == 0 {
+            Held::Nothing
+        } else {
+            Held::Holds(self.mode, self.references - 1)
+        }
     }
 
-    /// The note with this much more added.
-    pub(crate) fn raised(self, k: u64) -> Note
-        requires { self.tally + k < 2 ^ 64 }
-        ensures { result ≡ record self { tally = self.tally + k } }
+    /// The token was taken in this mode.
+    #[inline]
+    pub(crate) fn take(&mut self, mode: Mode)
+        ensures { self.new ≡ begun self.old mode }
     {
-        let mut note = self;
-        note.tally += k;
-        note
+        if matches!(mode, Mode::Exclusive) {
+            self.cells = [Touch::Untouched; 4];
+        }
+        self.mode = mode;
+        self.references = 1;
+    }
+
+    /// The cell is stored to.
+    #[inline]
+    pub(crate) fn change(&mut self, cell: usize, change: Change)
+        requires first { cell < length self.old.first }
+        requires inside { cell < length self.old.cells }
+        ensures { self.new ≡ changed self.old cell change }
+    {
+        self.first[cell] = change.first;
+        self.cells[cell] = change.touch();
+    }
+
+    /// This much more is added to the first cell.
+    pub(crate) fn raise(&mut self, change: Change, k: u64)
+        requires first { 0 < length self.old.first }
+        requires inside { 0 < length self.old.cells }
+        requires fits { self.old.tally + k < 2 ^ 64 }
+        ensures { self.new ≡ record (changed self.old 0 change) { tally = self.old.tally + k } }
+    {
+        self.change(0, change);
+        self.tally += k;
     }
 }

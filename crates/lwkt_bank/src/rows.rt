@@ -49,11 +49,9 @@ impl CpuSeat {
         requires inside { cell < (plan_of (bank_of self.old) tok.0).cells }
         ensures { MatchOption result (IsUnchanged self.old self.new × (slice_index (entry self.old tok.0).row cell ≡ slice_index (entry self.old tok.0).first cell)) (λ value. (value ≡ slice_index (entry self.old tok.0).first cell) × Changes self.old self.new tok.0 (stored (entry self.old tok.0) cell value) []) }
     {
-        let note = self.note(bank, tok);
-        let Some(change) = note.cells[cell as usize] else {
+        let Some(first) = self.kept_first(bank, tok, cell) else {
             return None;
         };
-        let first = change.first;
         self.store_over(bank, tok, cell, Change { first, last: first });
         Some(first)
     }

@@ -1,12 +1,10 @@
 //! Taking tokens.
-ghost use Rattle.std.specs.Prelude.{◌≡◌, ℕ, ◌+◌, ◌<◌, length, Bool, true, false, [], ◌∷◌};
+ghost use Rattle.std.specs.Prelude.{◌≡◌, ℕ, ◌+◌, ◌<◌, Bool, true, false, [], ◌∷◌};
 ghost use Rattle.lwkt_base.specs.Holding.{is_held};
 ghost use Rattle.lwkt_bank.specs.Views.{more, looked, add, or};
-ghost use Rattle.lwkt_bank.specs.Notes.{note_at};
 ghost use Rattle.lwkt_bank.specs.Seats.{id_of, bank_of, tokens_of, entry, holding, references, Changes, Looked, Took, Lost, Tried, Decides, Hit, Miss, Stepped};
 
 use crate::banks::Bank;
-use crate::notes::Note;
 use crate::seats::CpuSeat;
 use crate::steps;
 use crate::tries::Try;
@@ -21,29 +19,18 @@ impl CpuSeat {
         self.cpu
     }
 
-    // What the seat keeps of a token.
-    pub(crate) fn note(&self, bank: &Bank, tok: TokId) -> Note
-        requires of { bank_of self.now ≡ id_of bank.now }
-        requires there { tok.0 < tokens_of (bank_of self.now) }
-        ensures is { result ≡ note_at self.now.notes tok.0 }
-        ensures held { result.held ≡ holding self.now tok.0 }
-        ensures four { length result.cells ≡ 4 }
-        ensures room { tok.0 < 64 }
-    {
-        self.notes[tok.0 as usize]
-    }
-
     /// What the seat holds of a token, told without a step.
+    #[inline]
     pub fn held(&self, bank: &Bank, tok: TokId) -> Held
         requires of { bank_of self.now ≡ id_of bank.now }
         requires there { tok.0 < tokens_of (bank_of self.now) }
         ensures { result ≡ holding self.now tok.0 }
     {
-        let note = self.note(bank, tok);
-        note.held
+        self.notes[tok.0 as usize].held()
     }
 
     /// Loads the word of a token.
+    #[inline]
     pub fn word(&mut self, bank: &Bank, tok: TokId) -> u64
         requires of { bank_of self.old ≡ id_of bank.now }
         requires there { tok.0 < tokens_of (bank_of self.old) }
@@ -52,6 +39,7 @@ impl CpuSeat {
         steps::look(bank, &mut self.seat, tok)
     }
 
+    #[inline]
     fn take_at(&mut self, bank: &Bank, tok: TokId, mode: Mode, word: u64, next: u64) -> bool
         requires of { bank_of self.old ≡ id_of bank.now }
         requires there { tok.0 < tokens_of (bank_of self.old) }
@@ -61,18 +49,18 @@ impl CpuSeat {
         ensures hit { result ≡ true → Hit self.old self.new tok.0 mode word next }
         ensures miss { result ≡ false → Miss self.old self.new tok.0 word next }
     {
-        let note = self.note(bank, tok);
         let found = steps::swing(bank, &mut self.seat, tok, mode, word, next);
         if found != word {
             return false;
         }
-        self.notes[tok.0 as usize] = note.taken(mode);
+        self.notes[tok.0 as usize].take(mode);
         true
     }
 
     /// Tries to take the token in this mode. `alone` says that the asking list has no reference to another token. One load,
     /// and at most one compare-exchange. That the seat doesn't hold the token and has fewer than 32 references is the
     /// caller's condition.
+    #[inline(always)]
     pub fn try_take(&mut self, bank: &Bank, tok: TokId, mode: Mode, alone: bool) -> Try
         requires of { bank_of self.old ≡ id_of bank.now }
         requires there { tok.0 < tokens_of (bank_of self.old) }
@@ -104,9 +92,8 @@ impl CpuSeat {
         requires few { references self.old < 32 }
         ensures { Stepped self.old self.new tok.0 (more (entry self.old tok.0)) (add tok.0 4) }
     {
-        let held = self.note(bank, tok).held;
         steps::add_one(bank, &mut self.seat, tok);
-        self.notes[tok.0 as usize].held = held.one_more(Mode::Shared);
+        self.notes[tok.0 as usize].references += 1;
     }
 
     /// Marks the token for an exclusive request.

@@ -1,6 +1,5 @@
 use Rattle.std.proofs.Common.{refl, ap, ◌∙◌, length-set}
 use Rattle.lwkt_base.specs.Holding.{one_less}
-use Rattle.lwkt_base.specs.declared.holdings.Held.TheVariants.{Nothing}
 use Rattle.lwkt_bank.specs.Notes.{note_at}
 use Rattle.lwkt_bank.specs.Seats.{entry}
 use Rattle.lwkt_bank.specs.Views.{less}
@@ -14,7 +13,7 @@ invariant_of-self c =
     let t = c.args.tok.0 in
     let noted' = IsNoted-nothing _ s.cpu.0 (entry s t) (less (entry s t)) (note_at s.notes t) (ap one_less c.requires.last) refl (s.kept.each t c.requires.there) in
     record {
-      kept = keeps_part s c.give_clean.new.seat.me.0 t (less (entry s t)) _ (λ m. record m { held = Nothing }) _ (room_of c.args.bank.now s t c.requires.of c.requires.there) c.give_clean.ensures.gives c.requires.there (entry_tok s t) noted';
+      kept = keeps_part s c.give_clean.new.seat.me.0 t (less (entry s t)) _ (λ m. record m { references = 0 }) _ (room_of c.args.bank.now s t c.requires.of c.requires.there) c.give_clean.ensures.gives c.requires.there (entry_tok s t) noted';
       quiet = still_quiet s.seat c.give_clean.new.seat c.give_clean.ensures.same s.quiet;
       sized = length-set s.notes t _ ∙ s.sized;
     }

@@ -1,5 +1,4 @@
-use Rattle.std.proofs.Common.{refl, ◌∙◌, length-set}
-use Rattle.lwkt_base.specs.declared.holdings.Held.TheVariants.{Nothing}
+use Rattle.std.proofs.Common.{refl, ap, ◌∙◌, length-set}
 use Rattle.lwkt_bank.specs.Notes.{note_at}
 use Rattle.lwkt_bank.specs.Seats.{entry}
 use Rattle.lwkt_bank.specs.Views.{ended}
@@ -13,7 +12,7 @@ invariant_of-self c =
     let t = c.args.tok.0 in
     let noted' = IsNoted-nothing _ s.cpu.0 (entry s t) (ended (entry s t)) (note_at s.notes t) refl refl (s.kept.each t c.requires.there) in
     record {
-      kept = keeps_part s c.give_written.new.seat.me.0 t (ended (entry s t)) _ (λ m. record m { held = Nothing }) _ (room_of c.args.bank.now s t c.requires.of c.requires.there) c.give_written.ensures.gives c.requires.there (entry_tok s t) noted';
+      kept = keeps_part s c.give_written.new.seat.me.0 t (ended (entry s t)) _ (λ m. record m { references = 0 }) _ (room_of c.args.bank.now s t c.requires.of c.requires.there) c.give_written.ensures.gives c.requires.there (entry_tok s t) noted';
       quiet = still_quiet s.seat c.give_written.new.seat c.give_written.ensures.same s.quiet;
       sized = length-set s.notes t _ ∙ s.sized;
     }

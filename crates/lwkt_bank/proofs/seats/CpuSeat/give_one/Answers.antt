@@ -1,26 +1,29 @@
-use Rattle.std.proofs.Common.{ap, sym, ◌∙◌, ◌≡◌, length-set, subst}
-use Rattle.lwkt_base.specs.Holding.{one_less}
-use Rattle.lwkt_base.specs.declared.holdings.Held.{Held}
-use Rattle.lwkt_bank.specs.Rule.{plan_at}
+use Rattle.std.proofs.Common.{ap, sym, ◌∙◌, ◌≡◌, ◌-◌, ◌<◌, ◌≤◌, length-set, subst, arith}
+use Rattle.lwkt_base.specs.Holding.{references_in}
+use Rattle.lwkt_bank.specs.declared.notes.Note.{Note}
 use Rattle.lwkt_bank.specs.Views.{less}
-use Rattle.lwkt_bank.specs.Notes.{IsNoted, note_at}
+use Rattle.lwkt_bank.specs.Notes.{note_at}
 use Rattle.lwkt_bank.specs.Seats.{entry, holding}
-use Rattle.lwkt_bank.proofs.NoteMoves.{IsNoted-held}
-use Rattle.lwkt_bank.proofs.ChangeMoves.{keeps_part, room_of, still_quiet, entry_tok}
+use Rattle.lwkt_bank.proofs.NoteMoves.{IsNoted-less, counted}
+use Rattle.lwkt_bank.proofs.ChangeMoves.{keeps_part, note_read, room_of, still_quiet, entry_tok}
 use Rattle.lwkt_bank.proofs.seats.CpuSeat.give_one.Goals as goal
+
+pub overflow_sub-self : goal.overflow_sub-self
+overflow_sub-self c =
+    let s = c.args.self.now in
+    let t = c.args.tok.0 in
+    let count = (s.kept.each t c.requires.there).references in
+    let some : 0 < references_in (holding s t) = counted (holding s t) c.requires.held in
+    let F : Note → Type 0 = λ n. 1 ≤ n.references in
+    subst F (sym (note_read s t _ (room_of c.args.bank.now s t c.requires.of c.requires.there))) (omega (arith, count, some))
 
 pub invariant_of-self : goal.invariant_of-self
 invariant_of-self c =
     let s = c.args.self.now in
     let t = c.args.tok.0 in
-    let h : Held = one_less (holding s t) in
-    let new = c.one_less.result in
-    let same : new ≡ h = c.one_less.ensures ∙ ap (λ (x : Held). one_less x) c.note-held.ensures.held in
-    let plan = plan_at s.seat.me.0.plans t in
-    let F : Held → Type 0 = λ x. IsNoted plan s.cpu.0 (less (entry s t)) (record (note_at s.notes t) { held = x }) in
-    let noted' : F new = subst F (sym same) (IsNoted-held plan s.cpu.0 (entry s t) h (note_at s.notes t) (λ held. c.requires.held) (s.kept.each t c.requires.there)) in
+    let noted' = IsNoted-less _ s.cpu.0 (entry s t) (note_at s.notes t) c.requires.held (s.kept.each t c.requires.there) in
     record {
-      kept = keeps_part s c.give_one.new.seat.me.0 t (less (entry s t)) _ (λ m. record m { held = new }) _ (room_of c.args.bank.now s t c.requires.of c.requires.there) c.give_one.ensures.gives c.requires.there (entry_tok s t) noted';
+      kept = keeps_part s c.give_one.new.seat.me.0 t (less (entry s t)) _ (λ m. record m { references = m.references - 1 }) _ (room_of c.args.bank.now s t c.requires.of c.requires.there) c.give_one.ensures.gives c.requires.there (entry_tok s t) noted';
       quiet = still_quiet s.seat c.give_one.new.seat c.give_one.ensures.same s.quiet;
       sized = length-set s.notes t _ ∙ s.sized;
     }

@@ -1,10 +1,9 @@
-use Rattle.std.proofs.Common.{refl, length-set, set, Some, ◌∙◌}
-use Rattle.lwkt_bank.specs.Notes.{note_at}
+use Rattle.std.proofs.Common.{refl, length-set, ◌∙◌}
+use Rattle.lwkt_bank.specs.Notes.{note_at, changed as changed_note}
 use Rattle.lwkt_bank.specs.Views.{stored}
 use Rattle.lwkt_bank.specs.Seats.{entry}
-use Rattle.lwkt_bank.proofs.TurnMoves.{exclusive_held}
 use Rattle.lwkt_bank.proofs.NoteMoves.{IsNoted-stored}
-use Rattle.lwkt_bank.proofs.ChangeMoves.{changed, keeps_part, room_of, still_quiet, entry_tok, short_row}
+use Rattle.lwkt_bank.proofs.ChangeMoves.{changed, keeps_changed, room_of, still_quiet, entry_tok, short_row}
 use Rattle.lwkt_bank.proofs.seats.CpuSeat.store_over.Goals as goal
 
 pub invariant_of-self : goal.invariant_of-self
@@ -12,9 +11,9 @@ invariant_of-self c =
     let s = c.args.self.now in
     let t = c.args.tok.0 in
     let e = entry s t in
-    let noted' = IsNoted-stored _ s.cpu.0 e (note_at s.notes t) (s.kept.each t c.requires.there) (exclusive_held e.held c.requires.held) (short_row c.args.bank.now s t c.requires.of) c.args.cell c.args.change.first c.args.change.last c.requires.inside c.requires.first in
+    let noted' = IsNoted-stored _ s.cpu.0 e (note_at s.notes t) (s.kept.each t c.requires.there) c.requires.held (short_row c.args.bank.now s t c.requires.of) c.args.cell c.args.change c.requires.inside c.requires.first in
     record {
-      kept = keeps_part s c.store_cell.new.seat.me.0 t (stored e c.args.cell c.args.change.last) _ (λ m. record m { cells = set m.cells c.args.cell (Some c.args.change) }) _ (room_of c.args.bank.now s t c.requires.of c.requires.there) c.store_cell.ensures.stores c.requires.there (entry_tok s t) noted';
+      kept = keeps_changed s c.store_cell.new.seat.me.0 t (stored e c.args.cell c.args.change.last) _ (λ m. changed_note m c.args.cell c.args.change) _ c.change.new.self (room_of c.args.bank.now s t c.requires.of c.requires.there) c.store_cell.ensures.stores c.requires.there (entry_tok s t) c.change.ensures noted';
       quiet = still_quiet s.seat c.store_cell.new.seat c.store_cell.ensures.same s.quiet;
       sized = length-set s.notes t _ ∙ s.sized;
     }

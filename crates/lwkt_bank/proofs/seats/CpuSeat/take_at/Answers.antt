@@ -1,7 +1,8 @@
 use Rattle.std.proofs.Common.{refl, length-set, ◌∙◌}
 use Rattle.lwkt_bank.specs.Views.{generation_in}
 use Rattle.lwkt_bank.specs.Seats.{entry}
-use Rattle.lwkt_bank.proofs.ChangeMoves.{changed, keeps_seen, keeps_set, still_quiet, entry_tok, noted_as}
+use Rattle.lwkt_bank.specs.Notes.{note_at, begun}
+use Rattle.lwkt_bank.proofs.ChangeMoves.{changed, keeps_seen, keeps_changed, hit_of, still_quiet, entry_tok, room_of}
 use Rattle.lwkt_bank.proofs.NoteMoves.{IsNoted-taken}
 use Rattle.lwkt_bank.proofs.TurnMoves.{seen-keeps}
 use Rattle.lwkt_bank.proofs.seats.CpuSeat.take_at.Goals as goal
@@ -24,11 +25,19 @@ returns-then-found-word-clause-miss c = λ no'. let s = c.args.self.now in let m
 pub invariant_of-self-2 : goal.invariant_of-self-2
 invariant_of-self-2 c =
     let s = c.args.self.now in
+    let t = c.args.tok.0 in
     let hit = c.swing-found.ensures.exchanges.0 c.if-found-word.false in
-    let n = c.note-note.result in
-    let noted' = IsNoted-taken _ s.cpu.0 (entry s c.args.tok.0) c.swing-found.result c.args.mode hit.0 n.tally n hit.1.0.long refl (noted_as s c.args.tok.0 n c.requires.there c.note-note.ensures.is) in
+    let noted' = IsNoted-taken _ s.cpu.0 (entry s t) c.swing-found.result c.args.mode hit.0 (note_at s.notes t) hit.1.0.long (s.kept.each t c.requires.there) in
     record {
-      kept = keeps_set s c.swing-found.new.seat.me.0 c.args.tok.0 _ _ c.taken.result c.note-note.ensures.room hit.1.1 c.requires.there ((seen-keeps (entry s c.args.tok.0) (generation_in c.swing-found.result)).0 ∙ entry_tok s c.args.tok.0) (rw c.taken.ensures noted');
+      kept = keeps_changed s c.swing-found.new.seat.me.0 t _ _ (λ m. begun m c.args.mode) _ c.take.new.self (room_of c.args.bank.now s t c.requires.of c.requires.there) hit.1.1 c.requires.there ((seen-keeps (entry s t) (generation_in c.swing-found.result)).0 ∙ entry_tok s t) c.take.ensures noted';
       quiet = still_quiet s.seat c.swing-found.new.seat c.swing-found.ensures.same s.quiet;
-      sized = length-set s.notes c.args.tok.0 c.taken.result ∙ s.sized;
+      sized = length-set s.notes t _ ∙ s.sized;
     }
+
+pub returns-clause-hit : goal.returns-clause-hit
+returns-clause-hit c = λ yes'.
+    let s = c.args.self.now in
+    let t = c.args.tok.0 in
+    let hit = c.swing-found.ensures.exchanges.0 c.if-found-word.false in
+    hit_of s _ t c.args.mode c.args.word c.args.next c.swing-found.result hit.0 c.if-found-word.false hit.1.0
+    (changed s _ t _ _ c.swing-found.ensures.same refl hit.1.1 ((seen-keeps (entry s t) (generation_in c.swing-found.result)).0 ∙ entry_tok s t))
