@@ -5,8 +5,7 @@ ghost use Rattle.lwkt_bank.specs.Seats.{id_of, bank_of, tokens_of, cpus_of, hold
 ghost use Rattle.lwkt_hold.specs.Holds.{seat_of};
 ghost use Rattle.lwkt_rows.specs.HeldLists.{IsHeld, IsFree};
 
-use lwkt_bank::banks::Bank;
-use lwkt_bank::seats::CpuSeat;
+use lwkt_bank::{Bank, CpuSeat};
 use lwkt_base::{Answer, Ask, Fault, Mode, Ref, TokId, TokList, TokSpec};
 use lwkt_core::Event;
 use lwkt_hold::{Acquired, Blocked, Hold, Resumed};

@@ -1,11 +1,21 @@
 //! Holds: the worked rows, their refusals and limits, and two threads with their lists crossed.
+ghost use Rattle.std.specs.Prelude.{◌≡◌, ◌+◌, ◌<◌, ◌≤◌, [], ◌∷◌, All, IfSome, IfOk, vec_len, vec_capacity};
+ghost use Rattle.lwkt_bank.specs.Seats.{id_of, tokens_of, cpus_of};
+ghost use Rattle.lwkt_rows.specs.HeldLists.{IsHeld, IsFree};
 
-use crate::hold_desks::{Desk, Watch, next_desk, next_watch, open};
-use lwkt_base::{Answer, Ask, Cells, CpuId, Fault, Law, Mode, Ref, TokId, TokSpec};
+use crate::fixtures::token;
+use crate::hold_desks::{Desk, Watch, list_of, make_room, next_desk, next_watch, open};
+use lwkt_bank::{Bank, Closed, CpuSeat};
+use lwkt_base::{Answer, Ask, Cells, CpuId, Fault, Law, Mode, Ref, TokId, TokList, TokSpec};
 use lwkt_core::Event;
-use lwkt_hold::{Acquired, Blocked, Missed, Resumed};
+use lwkt_hold::{Acquired, Blocked, Hold, Missed, Resumed};
 use std::alloc::{AllocError, Global};
 use std::test::Fail;
+use std::thread;
+
+const TRIES: u32 = 100_000_000;
+
+const ROUNDS: u64 = 500;
 
 const MOST: u64 = 18446744073709551615;
 
@@ -32,25 +42,10 @@ const S0: Ref = Ref {
     mode: Mode::Shared,
 };
 
-fn token(
-    alloc: Global,
-    law: Law,
-    param: u64,
-    cells: &[u64],
-    generation: u64,
-) -> Result<TokSpec, AllocError> {
-    Ok(TokSpec {
-        cells: Cells::from_vec(Vec::from_slice(alloc, cells)?),
-        law,
-        param,
-        generation,
-    })
-}
-
 // Two tokens of one cell under no law.
 fn two_tokens(alloc: Global) -> Result<[TokSpec; 2], AllocError> {
-    let first = token(alloc, Law::Any, 0, &[0], 0)?;
-    let second = token(alloc, Law::Any, 0, &[0], 0)?;
+    let first = token(alloc, Law::Any, 0, 0, &[0])?;
+    let second = token(alloc, Law::Any, 0, 0, &[0])?;
     Ok([first, second])
 }
 
@@ -100,8 +95,8 @@ fn words_of_holds(rt: HostRuntime) -> Result<(), Fail> {
 
 #[test]
 fn refusals_of_holds(rt: HostRuntime) -> Result<(), Fail> {
-    let first = token(rt.alloc(), Law::Any, 0, &[1], 0)?;
-    let second = token(rt.alloc(), Law::Tally, MOST, &[MOST], 0)?;
+    let first = token(rt.alloc(), Law::Any, 0, 0, &[1])?;
+    let second = token(rt.alloc(), Law::Tally, MOST, 0, &[MOST])?;
     let (bank, mut seats) = open(rt.alloc(), &[first, second], 2)?;
     let mut watch = next_watch(&bank, &mut seats).ok_or("a seat")?;
     let mut desk = next_desk(rt.alloc(), &bank, &mut seats).ok_or("a seat")?;
@@ -133,7 +128,7 @@ fn refusals_of_holds(rt: HostRuntime) -> Result<(), Fail> {
 // A section that broke its law: its cells are as at its beginning, whichever way it ends.
 #[test]
 fn a_broken_law_is_undone(rt: HostRuntime) -> Result<(), Fail> {
-    let spec = token(rt.alloc(), Law::Sum, 10, &[5, 5], 0)?;
+    let spec = token(rt.alloc(), Law::Sum, 10, 0, &[5, 5])?;
     let (bank, mut seats) = open(rt.alloc(), &[spec], 2)?;
     let mut watch = next_watch(&bank, &mut seats).ok_or("a seat")?;
     let mut desk = next_desk(rt.alloc(), &bank, &mut seats).ok_or("a seat")?;
@@ -219,8 +214,8 @@ fn busy(word: u64) -> Acquired {
 
 #[test]
 fn limits_of_holds(rt: HostRuntime) -> Result<(), Fail> {
-    let first = token(rt.alloc(), Law::Any, 0, &[], 0)?;
-    let second = token(rt.alloc(), Law::Any, 0, &[], LAST_GENERATION)?;
+    let first = token(rt.alloc(), Law::Any, 0, 0, &[])?;
+    let second = token(rt.alloc(), Law::Any, 0, LAST_GENERATION, &[])?;
     let (bank, mut seats) = open(rt.alloc(), &[first, second], 2)?;
     let mut watch = next_watch(&bank, &mut seats).ok_or("a seat")?;
     let mut desk = next_desk(rt.alloc(), &bank, &mut seats).ok_or("a seat")?;
@@ -246,5 +241,119 @@ fn limits_of_holds(rt: HostRuntime) -> Result<(), Fail> {
     assert_eq!(rt; desk.refs().len(), 32);
     assert_eq!(rt; desk.block(), Ok(Blocked::Clean));
     assert_eq!(rt; watch.word(0), 0);
+    Ok(())
+}
+
+// Adds 1 to both tokens of the list that is held, and gives up the list. Says whether both were added to.
+fn section(hold: &mut Hold, bank: &Bank, both: &TokList, trace: &mut Vec<Event>) -> bool
+    requires held { IsHeld (id_of bank.now) hold.old both.now }
+    requires room { vec_len trace.old + 448 ≤ vec_capacity trace.old }
+    ensures { IsHeld (id_of bank.now) hold.new [] }
+{
+    let first = hold.add(bank, both, T0, 1, trace).is_ok();
+    let second = hold.add(bank, both, T1, 1, trace).is_ok();
+    let _ = hold.block(bank, both, both.len(), trace);
+    first && second
+}
+
+// Tries once for the whole list, and says whether a section was made.
+fn turn(hold: &mut Hold, bank: &Bank, both: &TokList, trace: &mut Vec<Event>) -> bool
+    requires held { IsHeld (id_of bank.now) hold.old [] }
+    requires there { All (λ r. r.tok.0 < tokens_of (id_of bank.now)) both.now }
+    ensures { IsHeld (id_of bank.now) hold.new [] }
+{
+    match make_room(trace) {
+        Ok(()) => match hold.resume(bank, both, trace) {
+            Resumed::All => section(hold, bank, both, trace),
+            Resumed::Passed { .. } => false,
+        },
+        Err(_) => false,
+    }
+}
+
+// Makes so many sections under this list, and says how many were made.
+fn add_all(alloc: Global, bank: &Bank, seat: CpuSeat, refs: [Ref; 2]) -> (CpuSeat, u64)
+    requires { IsFree (id_of bank.now) seat }
+    ensures { IsFree (id_of bank.now) result.0 }
+{
+    let Ok(both) = list_of(bank, &refs) else {
+        return (seat, 0);
+    };
+    let mut hold = Hold::new(seat);
+    let mut trace = Vec::new(alloc);
+    let mut good = 0;
+    for _ in 0..TRIES {
+        if good >= ROUNDS {
+            break;
+        }
+        trace.clear();
+        if turn(&mut hold, bank, &both, &mut trace) {
+            good += 1;
+        } else {
+            thread::yield_now();
+        }
+    }
+    (hold.into_seat(), good)
+}
+
+// The two seats of a bank of two processors.
+fn both_seats(mut seats: Vec<CpuSeat>, bank: &Bank) -> Option<(CpuSeat, CpuSeat)>
+    requires { All (IsFree (id_of bank.now)) seats.items }
+    ensures { IfSome result (λ p. IsFree (id_of bank.now) p.0 × IsFree (id_of bank.now) p.1) }
+{
+    let second = seats.pop()?;
+    let first = seats.pop()?;
+    Some((first, second))
+}
+
+// A list of two seats.
+fn list_of_seats(alloc: Global, first: CpuSeat, second: CpuSeat) -> Result<Vec<CpuSeat>, AllocError>
+    ensures { IfOk result (λ v. v.items ≡ first ∷ second ∷ []) }
+{
+    let mut seats = Vec::new(alloc);
+    seats.push(first)?;
+    seats.push(second)?;
+    Ok(seats)
+}
+
+// The closing values of a bank of two processors.
+fn close(
+    alloc: Global,
+    bank: Bank,
+    first: CpuSeat,
+    second: CpuSeat,
+) -> Result<Result<Closed, Fault>, AllocError>
+    requires first { IsFree (id_of bank) first }
+    requires second { IsFree (id_of bank) second }
+    requires two { cpus_of bank ≡ 2 }
+{
+    let seats = list_of_seats(alloc, first, second)?;
+    Ok(bank.close(alloc, seats))
+}
+
+// Whether there are two rows, each of these values.
+fn are_two(rows: &[Cells], want: &[u64]) -> bool {
+    rows.len() == 2 && rows.iter().all(|row| row.as_slice() == want)
+}
+
+#[test]
+fn crossed_lists_add_up(rt: HostRuntime) -> Result<(), Fail> {
+    let alloc = rt.alloc();
+    let specs = [
+        token(alloc, Law::Tally, 0, 0, &[0])?,
+        token(alloc, Law::Tally, 0, 0, &[0])?,
+    ];
+    let (bank, seats) = open(alloc, &specs, 2)?;
+    let (first, second) = both_seats(seats, &bank).ok_or("two seats")?;
+    let ((first, one), (second, other)) = thread::join(
+        &rt,
+        || add_all(alloc, &bank, first, [X0, X1]),
+        || add_all(alloc, &bank, second, [X1, X0]),
+    );
+    assert!(rt; one == ROUNDS && other == ROUNDS);
+    let closed = close(alloc, bank, first, second)??;
+    assert!(rt; are_two(closed.rows.as_slice(), &[1000]));
+    assert_eq!(rt; closed.gens.as_slice(), [1000, 1000].as_slice());
+    assert!(rt; are_two(closed.tallies.as_slice(), &[500, 500]));
     Ok(())
 }
