@@ -1,5 +1,5 @@
 //! Desks at a bank, for the rows of holds: a hold, its list and its trace.
-ghost use Rattle.std.specs.Prelude.{◌≡◌, ◌+◌, ◌<◌, ◌≤◌, [], length, take, All, IfSome, IfOk, OnOk, vec_len, vec_capacity};
+ghost use Rattle.std.specs.Prelude.{◌≡◌, ◌+◌, ◌<◌, ◌≤◌, [], length, take, All, IfOk, OnOk, vec_len, vec_capacity};
 ghost use Rattle.lwkt_base.specs.Holding.{holding_of};
 ghost use Rattle.lwkt_bank.specs.Seats.{id_of, bank_of, tokens_of, cpus_of, holding};
 ghost use Rattle.lwkt_hold.specs.Holds.{seat_of};
