@@ -1,4 +1,4 @@
-use Rattle.std.proofs.Common.{refl, ap, ◌∙◌, length-set}
+use Rattle.std.proofs.Common.{refl, ◌∙◌, length-set}
 use Rattle.lwkt_bank.specs.Notes.{note_at}
 use Rattle.lwkt_bank.specs.Seats.{entry}
 use Rattle.lwkt_bank.specs.Views.{ended}

@@ -1,4 +1,4 @@
-use Rattle.std.proofs.Common.{ap, sym, ◌∙◌, ◌≡◌, ◌-◌, ◌<◌, ◌≤◌, length-set, subst, arith}
+use Rattle.std.proofs.Common.{sym, ◌∙◌, ◌-◌, ◌<◌, ◌≤◌, length-set, subst, arith}
 use Rattle.lwkt_base.specs.Holding.{references_in}
 use Rattle.lwkt_bank.specs.declared.notes.Note.{Note}
 use Rattle.lwkt_bank.specs.Views.{less}
