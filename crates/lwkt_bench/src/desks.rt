@@ -19,6 +19,7 @@ pub struct Desk<'a> {
 }
 
 // Whether the token was taken.
+#[inline(always)]
 fn take(bank: &Bank, seat: &mut CpuSeat, tok: TokId, mode: Mode) -> bool
     requires plain { HasPlain (id_of bank.now) tok.0 }
     requires idle { IsIdle (id_of bank.now) seat.old tok.0 }
@@ -33,6 +34,7 @@ fn take(bank: &Bank, seat: &mut CpuSeat, tok: TokId, mode: Mode) -> bool
     }
 }
 
+#[inline(always)]
 fn give(bank: &Bank, seat: &mut CpuSeat, tok: TokId)
     requires plain { HasPlain (id_of bank.now) tok.0 }
     requires held { (mode : Mode) × IsHolding (id_of bank.now) seat.old tok.0 mode }
