@@ -84,6 +84,7 @@ taken_after_look plan e word row rises took = record {
   long = took.long;
   lawful = took.lawful;
   rises = rises;
+  opening = took.opening;
   fresh = λ same.
       let F : Entry → Type 0 = λ d. d.generation ≡ generation_in word → All (λ c. slice_get row c.at ≡ Some c.value) d.known in
       subst F (seen_known e (generation_in word) same) took.fresh same;

@@ -18,7 +18,7 @@ use Rattle.lwkt_bank.specs.declared.views.Entry.{Entry}
 use Rattle.lwkt_bank.specs.declared.views.View.{View}
 use Rattle.lwkt_bank.specs.Views.{at, amount, generation_in}
 use Rattle.lwkt_bank.specs.Gathered.{IsStill}
-use Rattle.lwkt_bank.specs.Rule.{Bench, token_word, cell_word, Seen, seen_by, column, Rule, plan_at, token_at}
+use Rattle.lwkt_bank.specs.Rule.{Bench, IsOpeningRow, token_word, cell_word, Seen, seen_by, column, Rule, plan_at, token_at}
 use Rattle.lwkt_bank.proofs.WordMoves.{count-le, generation-word}
 use Rattle.lwkt_bank.proofs.RuleMoves.{safe_token, token_is}
 use Rattle.lwkt_bank.proofs.ShowMoves.{numbered_seat}
@@ -35,6 +35,7 @@ pub record Settled (plan : Plan) (cpus : ℕ) (words : List ℕ) (tok written : 
   pub eight : length tallies ≡ 8
   pub tally : (a : ℕ) → slice_index tallies a ≡ added a
   pub absent : (a : ℕ) → cpus ≤ a → slice_index tallies a ≡ 0
+  pub opening : generation_in (slice_index words (token_word tok)) ≡ plan.generation → IsOpeningRow plan row
   pub stands : IsStill known row (generation_in (slice_index words (token_word tok)))
 
 -- once the clerk has taken back as many seats as there are processors
@@ -68,6 +69,7 @@ settled plans cpus s id v made back tok r here kind all there =
       eight = safe.eight_tallies;
       tally = λ a. shows.tallies a ∙ total-only (λ (x : Seen). amount a x.entry.added) (column tok s.views) id (seen_by tok v) (at_map (seen_by tok) s.views id v here) (λ j x e apart. ap (λ (d : Entry). amount a d.added) (spent_entry j x e apart));
       absent = λ a far. (safe.absent a (omega arith)).1;
+      opening = λ same. subst (λ (row : List ℕ). IsOpeningRow (plan_at plans tok) row) (sym row_first) (shows.opening (sym gen ∙ same));
       stands =
           let k = shows.known id (seen_by tok v) (at_map (seen_by tok) s.views id v here) in
           record {

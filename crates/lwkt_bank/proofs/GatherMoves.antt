@@ -71,6 +71,7 @@ Shows-split plan home word cells views tok id made back t x shows here kind abse
       long = shows.long;
       count_word = shows.count_word;
       row = shows.row;
+      opening = shows.opening;
       held = λ k u e. ⊎_elim
           (λ old. ⊎_elim (λ it. subst (λ (w : Seen). w.entry.held ≡ held_in tok w.kind) it.1 own) (λ other. shows.held k u other.1) (at_set views id k y u old))
           (λ new. subst (λ (w : Seen). w.entry.held ≡ held_in tok w.kind) new.1 (sym free))
@@ -181,6 +182,7 @@ Shows-join plan home word cells views tok id made back other t cpu x w shows her
       long = shows.long;
       count_word = shows.count_word;
       row = shows.row;
+      opening = shows.opening;
       held = λ k u e. ⊎_elim
           (λ it. subst (λ (q : Seen). q.entry.held ≡ held_in tok q.kind) it.1 refl)
           (λ else_. ⊎_elim (λ it. subst (λ (q : Seen). q.entry.held ≡ held_in tok q.kind) it.1 refl) (λ old. shows.held k u old.1) (at_set views id k y u else_.1))

@@ -12,7 +12,7 @@ use Rattle.lwkt_base.specs.declared.laws.Law.{Law}
 use Rattle.lwkt_base.specs.declared.laws.Law.TheVariants.{Tally}
 use Rattle.lwkt_base.specs.Law.{MeetsLaw, IsTallied}
 use Rattle.lwkt_bank.specs.declared.views.Plan.{Plan}
-use Rattle.lwkt_bank.specs.Rule.{token_word, cell_word, plan_at}
+use Rattle.lwkt_bank.specs.Rule.{token_word, cell_word, IsOpeningRow, plan_at}
 use Rattle.lwkt_bank.proofs.CloseMoves.{Settled, settled}
 use Rattle.lwkt_bank.proofs.SeatMoves.{tally-le}
 use Rattle.lwkt_base.specs.declared.names.CpuId.{CpuId}
@@ -199,6 +199,7 @@ closed_token plan cpus words kept tok seats row generation tallies known few set
       none = read.none;
       as_many = read.as_many;
       each = λ tally cpu low. read.each tally cpu low ∙ told cpu;
+      unwritten = λ same. subst (λ (r : List ℕ). IsOpeningRow plan r) (sym same_row) (settled.opening (sym read.generation_is ∙ same));
       stands = All-weaker (λ (s : CpuSeat). Recalls known (entry s tok)) (λ (s : CpuSeat). IsStill (entry s tok) row generation)
           (λ s r.
           let later = r.rises in
@@ -302,6 +303,7 @@ module _ (bank : BankId) (cpus id : ℕ) (v : View) (words : List ℕ) (seats : 
         eight = t.eight;
         tally = λ a. let x = t.tally a in let y = gathered.added tok a there in omega arith;
         absent = t.absent;
+        opening = t.opening;
         stands = t.stands;
       }
 

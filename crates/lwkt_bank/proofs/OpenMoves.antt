@@ -59,10 +59,17 @@ first_only : (plans : List Plan) (t k : ℕ) (x : Seen) (P : Seen → Type 0) �
 first_only plans t zero x P e p = subst P (some-injective (record { kind = Clerk 0 0; entry = blank t }) x e) p
 first_only plans t (suc k) x P e p = absurd (some-ne-none x (sym e))
 
+cell_in_plan : (spec : TokSpec) (i : ℕ) → i < 4 → slice_index (plan_of_spec spec).first i ≡ slice_index spec.cells i
+cell_in_plan spec zero low = refl
+cell_in_plan spec (suc zero) low = refl
+cell_in_plan spec (suc (suc zero)) low = refl
+cell_in_plan spec (suc (suc (suc zero))) low = refl
+cell_in_plan spec (suc (suc (suc (suc i)))) low = absurd (omega arith)
+
 -- a token at the opening
-Shows-opening : (plans : List Plan) (spec : TokSpec) (t word : ℕ) (cells : ℕ → ℕ) → word ≡ 262144 * spec.generation → ((i : ℕ) → i < length spec.cells → cells i ≡ slice_index spec.cells i)
+Shows-opening : (plans : List Plan) (spec : TokSpec) (t word : ℕ) (cells : ℕ → ℕ) → length spec.cells ≤ 4 → word ≡ 262144 * spec.generation → ((i : ℕ) → i < length spec.cells → cells i ≡ slice_index spec.cells i)
     → Shows (plan_of_spec spec) (get_elem? [] t) word cells (column t (first_view plans ∷ [])) (opened_token spec)
-Shows-opening plans spec t word cells is rows = record {
+Shows-opening plans spec t word cells short is rows = record {
   no_slot = refl;
   law = refl;
   param = refl;
@@ -73,6 +80,7 @@ Shows-opening plans spec t word cells is rows = record {
   seated = λ cpu. inl (replicated 8 cpu Nothing);
   tallies = λ cpu. replicated 8 cpu 0;
   sections = omega arith;
+  opening = λ same i low. sym (cell_in_plan spec i (omega arith));
   known = λ k x e. first_only plans t k x (λ y. Knows (opened_token spec) y.entry) e (Knows-blank (opened_token spec) (blank t) refl refl refl);
 }
 
@@ -92,7 +100,7 @@ Rule-opening cpus specs within lawful = record {
         let F : Plan → Type 0 = λ p. Shows p (get_elem? [] t) (slice_index (opening_words specs) (token_word t)) (λ i. slice_index (opening_words specs) (cell_word t i)) (column t (first_view (plans_of specs) ∷ [])) (token_at (opening cpus specs []) t) in
         let G : Token → Type 0 = λ k. Shows (plan_of_spec spec) (get_elem? [] t) (slice_index (opening_words specs) (token_word t)) (λ i. slice_index (opening_words specs) (cell_word t i)) (column t (first_view (plans_of specs) ∷ [])) k in
         subst F (sym (get_or-map plan_of_spec specs t no_spec no_plan there)) (subst G (sym (get_or-map opened_token specs t no_spec no_token there))
-        (Shows-opening (plans_of specs) spec t (slice_index (opening_words specs) (token_word t)) (λ i. slice_index (opening_words specs) (cell_word t i))
+        (Shows-opening (plans_of specs) spec t (slice_index (opening_words specs) (token_word t)) (λ i. slice_index (opening_words specs) (cell_word t i)) short
         (word_at specs t 0 (token_word t) there (omega arith) (omega arith))
         (λ i low. word_at specs t (1 + i) (cell_word t i) there (omega arith) (omega arith) ∙ cell_in spec i (omega arith))));
   };

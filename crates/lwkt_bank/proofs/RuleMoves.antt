@@ -38,6 +38,7 @@ Shows-move plan home word word' cells cells' views views' tok tok' same_word sam
       long = shows.long;
       count_word = same_word ∙ shows.count_word;
       row = λ i h. same_cells i h ∙ shows.row i h;
+      opening = shows.opening;
       held = shows.held;
       seated = shows.seated;
       tallies = shows.tallies;

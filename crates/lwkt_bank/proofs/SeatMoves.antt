@@ -37,7 +37,7 @@ use Rattle.lwkt_bank.specs.declared.views.Plan.{Plan}
 use Rattle.lwkt_bank.specs.declared.views.Entry.{Entry}
 use Rattle.lwkt_bank.specs.declared.views.View.{View}
 use Rattle.lwkt_bank.specs.Views.{at, amount, generation_in, count_from, held_of, looked, taken, more, less, ended, read, stored, raised, noted, load, exchange, add, sub, or}
-use Rattle.lwkt_bank.specs.Rule.{Bench, Rule, Seen, seen_by, column, token_word, cell_word, plan_at, token_at}
+use Rattle.lwkt_bank.specs.Rule.{IsOpeningRow, Bench, Rule, Seen, seen_by, column, token_word, cell_word, plan_at, token_at}
 use Rattle.lwkt_bank.specs.Plays.{Steps, Looks, IsTakenRow, Exchanges, AddsOne, Marks, GivesOne, GivesClean, GivesWritten, ReadsCell, StoresCell, RaisesCell}
 use Rattle.lwkt_bank.proofs.WordMoves.{Fits-safe}
 use Rattle.lwkt_bank.proofs.ViewMoves.{at-here, at-else, at-tok}
@@ -98,6 +98,7 @@ module _ (plans : List Plan) (cpus id : ℕ) (v : View) (cpu : CpuId) (tok : ℕ
           count_word = shows.count_word;
           row = shows.row;
           held = sym (held_there plans cpus s r id v cpu tok here kind exists');
+          opening = shows.opening;
           knows = knows_there plans cpus s r id v tok here exists';
         }
 
@@ -161,6 +162,7 @@ module _ (plans : List Plan) (cpus id : ℕ) (v : View) (cpu : CpuId) (tok : ℕ
           lawful = subst F (sym settled) (first_lawful r.model.cpus (plan_at plans tok) (token_at r.model tok) cpu e found (cells s r here) m);
           rises = omega arith;
           fresh = fresh r.model.cpus (plan_at plans tok) (token_at r.model tok) cpu e found (cells s r here) m settled;
+          opening = λ same. let at_opening : (token_at r.model tok).generation ≡ (plan_at plans tok).generation = omega arith in subst (λ (x : List ℕ). IsOpeningRow (plan_at plans tok) x) (sym settled) (m.opening at_opening);
         })
 
     taken_tok : (mode : Mode) → (taken e found mode row).tok ≡ tok

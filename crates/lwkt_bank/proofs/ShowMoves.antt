@@ -1,4 +1,4 @@
-use Rattle.std.proofs.Common.{inl, inr, ◌≡◌, ◌≢◌, ◌⊎◌, ⊎_elim, ℕ, ◌+◌, ◌<◌, List, length, set, refl, ap, sym, ◌∙◌, subst, arith}
+use Rattle.std.proofs.Common.{inl, inr, ◌≡◌, ◌≢◌, ◌⊎◌, ⊎_elim, ℕ, ◌+◌, ◌<◌, ◌≤◌, List, length, set, refl, ap, sym, ◌∙◌, subst, arith}
 use Rattle.std.specs.Prelude.{slice_index}
 use Rattle.std.proofs.lemmas.Bool.{cases_eq}
 use mathlib.Core.Option.{Option, some, some-injective}
@@ -15,7 +15,7 @@ use Rattle.lwkt_core.proofs.SeatingLemmas.{at_set, set_here, set_else, inside, t
 use Rattle.lwkt_bank.specs.declared.views.Plan.{Plan}
 use Rattle.lwkt_bank.specs.declared.views.Entry.{Entry}
 use Rattle.lwkt_bank.specs.Views.{amount}
-use Rattle.lwkt_bank.specs.Rule.{Seen, Knows, Shows, held_in}
+use Rattle.lwkt_bank.specs.Rule.{Seen, Knows, Shows, IsOpeningRow, held_in}
 
 -- the number of a processor by which a kind is told apart from others
 abbrev pub cpu_in : SeatKind → ℕ
@@ -42,6 +42,8 @@ pub record Turns (plan : Plan) (tok tok' : Token) (cpu : ℕ) (e e' : Entry) (wo
   pub held : e'.held ≡ held_by tok' cpu
   pub tallies : (a : ℕ) → tally_of tok' a + amount a e.added ≡ tally_of tok a + amount a e'.added
   pub sections : tok'.generation + e.written ≡ tok.generation + e'.written
+  pub rises : tok.generation ≤ tok'.generation
+  pub same_first : tok'.generation ≡ tok.generation → tok'.first ≡ tok.first
   pub known : Knows tok' e'
   pub others_known : (d : Entry) → IsOthers tok cpu d → Knows tok d → Knows tok' d
 
@@ -78,6 +80,11 @@ Shows-step plan home word cells views tok j x y cpu word' cells' tok' shows here
       let s = shows.sections in
       let u = turns.sections in
       omega arith;
+  opening = λ at_opening.
+      let s = shows.sections in
+      let u = turns.rises in
+      let still_there : tok.generation ≡ plan.generation = omega arith in
+      subst (λ (first : List ℕ). IsOpeningRow plan first) (sym (turns.same_first (at_opening ∙ sym still_there))) (shows.opening still_there);
   known = λ k z e. ⊎_elim
       (λ new. subst (λ (w : Seen). Knows tok' w.entry) new.1 turns.known)
       (λ old. turns.others_known z.entry (is_others k z old.0 old.1 z.kind refl) (shows.known k z old.1))

@@ -28,7 +28,7 @@ use Rattle.lwkt_bank.specs.declared.views.Plan.{Plan}
 use Rattle.lwkt_bank.specs.declared.views.Added.{Added}
 use Rattle.lwkt_bank.specs.declared.views.Entry.{Entry}
 use Rattle.lwkt_bank.specs.Views.{amount, generation_in, seen, looked, taken, more, less, numbered, ended, read, stored, raised}
-use Rattle.lwkt_bank.specs.Rule.{Knows}
+use Rattle.lwkt_bank.specs.Rule.{Knows, IsOpeningRow}
 use Rattle.lwkt_bank.proofs.WordMoves.{counted-more, exclusive-more, counted-less, exclusive-less, IsOpen-from_picture, picture-open, IsFree-from_picture, count-le, count-set, exclusive-set, exclusive-here, word-room, word-room-written, generation-word, or-marked, decided-exclusive, decided-shared}
 use Rattle.lwkt_bank.proofs.ShowMoves.{IsOthers, Turns}
 
@@ -44,6 +44,7 @@ pub record Sight (cpus : ℕ) (plan : Plan) (tok : Token) (cpu : ℕ) (e : Entry
   pub count_word : n ≡ word_of (picture_of tok)
   pub row : (i : ℕ) → i < plan.cells → cells i ≡ slice_index tok.row i
   pub held : e.held ≡ held_by tok cpu
+  pub opening : tok.generation ≡ plan.generation → IsOpeningRow plan tok.first
   pub knows : Knows tok e
 
 -- a look at a generation keeps all but the generation and the known cells
@@ -116,6 +117,8 @@ module _ (cpus : ℕ) (plan : Plan) (tok : Token) (cpu : CpuId) (e : Entry) (n :
       → Turns plan tok (record tok { holders = set tok.holders cpu.0 h; mark = mark }) cpu.0 e e' word cells
   turns_moved h mark e' word is held added written knows = record {
     law = refl;
+    rises = omega arith;
+    same_first = λ same. refl;
     param = refl;
     long = refl;
     count_word = is;
@@ -134,6 +137,8 @@ module _ (cpus : ℕ) (plan : Plan) (tok : Token) (cpu : CpuId) (e : Entry) (n :
       let kept = seen-keeps e (generation_in n) in
       record {
         law = refl;
+        rises = omega arith;
+        same_first = λ same. refl;
         param = refl;
         long = refl;
         count_word = sight.count_word;
@@ -295,6 +300,8 @@ module _ (cpus : ℕ) (plan : Plan) (tok : Token) (cpu : CpuId) (e : Entry) (n :
         let own = sight.knows.holder (ap is_held last) in
         record {
           law = refl;
+          rises = omega arith;
+          same_first = λ same. absurd (omega arith);
           param = refl;
           long = refl;
           count_word = omega arith;
@@ -325,6 +332,8 @@ module _ (cpus : ℕ) (plan : Plan) (tok : Token) (cpu : CpuId) (e : Entry) (n :
   pub turns_mark : (t : TokId) → Turns plan tok (token_after tok (Mark cpu t)) cpu.0 e e (word_of (record (picture_of tok) { mark = true })) cells
   turns_mark t = record {
     law = refl;
+    rises = omega arith;
+    same_first = λ same. refl;
     param = refl;
     long = refl;
     count_word = refl;
@@ -345,6 +354,8 @@ module _ (cpus : ℕ) (plan : Plan) (tok : Token) (cpu : CpuId) (e : Entry) (n :
       let value : slice_get tok.first cell ≡ Some (slice_index e.first cell) = slice_get-get_or tok.first cell 0 (omega arith) ∙ ap (λ (r : List ℕ). Some (slice_index r cell)) (sym own.1) in
       record {
         law = refl;
+        rises = omega arith;
+        same_first = λ same. refl;
         param = refl;
         long = refl;
         count_word = sight.count_word;
@@ -375,6 +386,8 @@ module _ (cpus : ℕ) (plan : Plan) (tok : Token) (cpu : CpuId) (e : Entry) (n :
       let own = sight.knows.holder (exclusive_held e.held is) in
       record {
         law = refl;
+        rises = omega arith;
+        same_first = λ same. refl;
         param = refl;
         long = length-set tok.row cell value;
         count_word = sight.count_word;
@@ -402,6 +415,8 @@ module _ (cpus : ℕ) (plan : Plan) (tok : Token) (cpu : CpuId) (e : Entry) (n :
       let old : slice_index e.row 0 ≡ slice_index tok.row 0 = ap (λ (r : List ℕ). slice_index r 0) own.2 in
       record {
         law = refl;
+        rises = omega arith;
+        same_first = λ same. refl;
         param = refl;
         long = length-set tok.row 0 (slice_index e.row 0 + k);
         count_word = sight.count_word;

@@ -9,6 +9,7 @@ use Rattle.lwkt_core.specs.Seating.{total}
 use Rattle.lwkt_bank.specs.declared.views.Plan.{Plan}
 use Rattle.lwkt_bank.specs.declared.views.Entry.{Entry}
 use Rattle.lwkt_bank.specs.declared.closed.Closed.{Closed}
+use Rattle.lwkt_bank.specs.Rule.{IsOpeningRow}
 use Rattle.lwkt_bank.specs.Views.{blank, amount}
 use Rattle.lwkt_bank.specs.Seats.{BankId, id_of, bank_of, cpus_of, tokens_of, plan_of, entry, steps_of}
 use Rattle.lwkt_bank.specs.Opened.{plans_of}
@@ -48,8 +49,8 @@ pub record IsStill (e : Entry) (row : List ℕ) (generation : ℕ) : Type 0 wher
   pub not_above : e.generation ≤ generation
   pub cells : e.generation ≡ generation → All (λ c. slice_get row c.at ≡ Some c.value) e.known
 
--- a token at the close: what each seat knew of it is so, its row obeys its law, its generation is the opening one plus the written sections of all seats, and a
--- Tally token shows for each processor what it has added, and its cell is the parameter plus all of it
+-- a token at the close: what each seat knew of it is so, its row obeys its law, its generation is the opening one plus the
+-- written sections of all seats, without such a section the row is the opening row, and a Tally token shows for each processor what it has added, and its cell is the parameter plus all of it
 pub record IsClosedToken (plan : Plan) (cpus : ℕ) (seats : List CpuSeat) (tok : ℕ) (row : List ℕ) (generation : ℕ) (tallies : List ℕ) : Type 0 where
   pub long : length row ≡ plan.cells
   pub lawful : MeetsLaw plan.law plan.param row
@@ -58,6 +59,7 @@ pub record IsClosedToken (plan : Plan) (cpus : ℕ) (seats : List CpuSeat) (tok 
   pub as_many : plan.law ≡ Tally → length tallies ≡ cpus
   pub each : plan.law ≡ Tally → (cpu : ℕ) → cpu < cpus → slice_index tallies cpu ≡ added_by seats tok cpu
   pub stands : All (λ s. IsStill (entry s tok) row generation) seats
+  pub unwritten : generation ≡ plan.generation → IsOpeningRow plan row
   pub all_added : plan.law ≡ Tally → row ≡ (plan.param + sum tallies) ∷ []
 
 -- the closing values of a bank of so many processors that took back these seats

@@ -6,7 +6,7 @@ use Rattle.lwkt_bank.specs.Rule.{law_number}
 
 -- what is declared of a token by its opening
 abbrev pub plan_of_spec : TokSpec → Plan
-plan_of_spec spec = record { generation = spec.generation; param = spec.param; cells = length spec.cells; law = spec.law }
+plan_of_spec spec = record { generation = spec.generation; param = spec.param; first = slice_index spec.cells 0 ∷ slice_index spec.cells 1 ∷ slice_index spec.cells 2 ∷ slice_index spec.cells 3 ∷ []; cells = length spec.cells; law = spec.law }
 
 abbrev pub plans_of : List TokSpec → List Plan
 plans_of specs = map plan_of_spec specs

@@ -13,7 +13,7 @@ use Rattle.lwkt_bank.specs.declared.views.Plan.{Plan}
 use Rattle.lwkt_bank.specs.declared.views.Entry.{Entry}
 use Rattle.lwkt_bank.specs.declared.views.View.{View}
 use Rattle.lwkt_bank.specs.Views.{at, amount, generation_in, looked, taken, more, less, ended, read, stored, raised, noted, load, exchange, add, sub, or}
-use Rattle.lwkt_bank.specs.Rule.{Bench, Rule, token_word, cell_word, plan_at}
+use Rattle.lwkt_bank.specs.Rule.{Bench, Rule, token_word, cell_word, IsOpeningRow, plan_at}
 
 -- whatever state of the rule the table is in when a word becomes f of what it was, the seat has a view after it with which
 -- the rule stays, and the machines shown before and after are related by the event
@@ -33,13 +33,14 @@ at_cell R st m n m' = (m'.1 ≡ m.1) × ((tok cell : ℕ) → cell < 4 → st.wo
 abbrev pub Looks : ℕ → View → ℕ → View → Type 0
 Looks tok v n w = (n + 4 < 18446744073709551616) × ((at v.tokens tok).generation ≤ generation_in n) × (w ≡ noted v (looked (at v.tokens tok) n) (load tok n ∷ []))
 
--- the row that a take at this word finds: it obeys the law, the generation doesn't fall, and at an equal generation the row
--- is the one that the seat knew
+-- the row that a take at this word finds: it obeys the law, the generation doesn't fall, at an equal generation the row is the
+-- one that the seat knew, and at the opening generation it is the opening row
 pub record IsTakenRow (plan : Plan) (e : Entry) (word : ℕ) (row : List ℕ) : Type 0 where
   pub long : length row ≡ plan.cells
   pub lawful : MeetsLaw plan.law plan.param row
   pub rises : e.generation ≤ generation_in word
   pub fresh : e.generation ≡ generation_in word → All (λ c. slice_get row c.at ≡ Some c.value) e.known
+  pub opening : generation_in word ≡ plan.generation → IsOpeningRow plan row
 
 -- an exchange that takes the token, or finds another word
 abbrev pub Exchanges : Mode → ℕ → ℕ → ℕ → View → ℕ → View → Type 0

@@ -1,4 +1,4 @@
-use Rattle.std.specs.Prelude.{◌≡◌, ◌⊎◌, ℕ, ◌+◌, ◌*◌, ◌<◌, ◌≤◌, true, false, List, [], length, map, All, Some, slice_get, slice_index, slice_index_or}
+use Rattle.std.specs.Prelude.{◌≡◌, ◌⊎◌, ℕ, ◌+◌, ◌*◌, ◌<◌, ◌≤◌, true, false, List, [], ◌∷◌, length, map, All, Some, slice_get, slice_index, slice_index_or}
 use mathlib.Core.Option.{Option, some, none}
 use lib.ListN.{get_elem?}
 use Rattle.atomic_table.specs.Table.{State}
@@ -70,9 +70,13 @@ pub record Knows (tok : Token) (e : Entry) : Type 0 where
   pub cells : e.generation ≡ tok.generation → All (λ c. slice_get tok.first c.at ≡ Some c.value) e.known
   pub holder : is_held e.held ≡ true → (e.generation ≡ tok.generation) × (e.first ≡ tok.first) × (e.row ≡ tok.row)
 
+-- the cells of a row are those of the opening row
+abbrev pub IsOpeningRow : Plan → List ℕ → Type 0
+IsOpeningRow plan row = (i : ℕ) → i < plan.cells → slice_index row i ≡ slice_index plan.first i
+
 -- words and views show a token of the model: the count word is its picture, the cells are its row, each seat's view has what
--- its processor holds, nobody else holds the token, what the views added are the tallies, and the generation is the opening
--- one plus the written sections of all views
+-- its processor holds, nobody else holds the token, what the views added are the tallies, the generation is the opening one
+-- plus the written sections of all views, and at the opening generation the first row is the opening row
 pub record Shows (plan : Plan) (home : Option (Option (Unit {0}))) (word : ℕ) (cells : ℕ → ℕ) (views : List Seen) (tok : Token) : Type 0 where
   pub no_slot : home ≡ none
   pub law : tok.law ≡ plan.law
@@ -84,11 +88,12 @@ pub record Shows (plan : Plan) (home : Option (Option (Unit {0}))) (word : ℕ) 
   pub seated : (cpu : ℕ) → (held_by tok cpu ≡ Nothing) ⊎ ((j : ℕ) × ((x : Seen) × ((get_elem? views j ≡ some x) × (x.kind ≡ Of (record { 0 = cpu })))))
   pub tallies : (cpu : ℕ) → tally_of tok cpu ≡ total (λ x. amount cpu x.entry.added) views
   pub sections : plan.generation + total (λ x. x.entry.written) views ≡ tok.generation
+  pub opening : tok.generation ≡ plan.generation → IsOpeningRow plan tok.first
   pub known : (j : ℕ) (x : Seen) → get_elem? views j ≡ some x → Knows tok x.entry
 
 -- what stands for a token or a plan past the last
 abbrev pub no_plan : Plan
-no_plan = record { generation = 0; param = 0; cells = 0; law = Any }
+no_plan = record { generation = 0; param = 0; first = 0 ∷ 0 ∷ 0 ∷ 0 ∷ []; cells = 0; law = Any }
 
 abbrev pub no_token : Token
 no_token = record { law = Any; param = 0; generation = 0; mark = false; row = []; first = []; holders = []; tallies = [] }

@@ -39,10 +39,17 @@ pub(crate) fn all_open_lawfully(specs: &[TokSpec]) -> bool
 fn plan_of(spec: &TokSpec) -> Plan
     ensures { result ≡ plan_of_spec spec.now }
 {
+    let cells = spec.cells.as_slice();
     Plan {
         generation: spec.generation,
         param: spec.param,
-        cells: spec.cells.as_slice().len(),
+        first: [
+            cell_or_zero(cells, 0),
+            cell_or_zero(cells, 1),
+            cell_or_zero(cells, 2),
+            cell_or_zero(cells, 3),
+        ],
+        cells: cells.len(),
         law: spec.law,
     }
 }

@@ -8,6 +8,8 @@ pub struct Plan {
     pub generation: u64,
     /// The law's parameter.
     pub param: u64,
+    /// The cells of the opening row; past the last zeros.
+    pub first: [u64; 4],
     /// How many cells it has, 0 to 4.
     pub cells: usize,
     pub law: Law,
