@@ -66,6 +66,8 @@ Turns-move plan tok tok' cpu e e' d word word' cells cells' same_entry same_word
       held = turns.held;
       tallies = turns.tallies;
       sections = turns.sections;
+      rises = turns.rises;
+      same_first = turns.same_first;
       known = turns.known;
       others_known = turns.others_known;
     })

@@ -1,5 +1,5 @@
 //! The row of a token that is held exclusively, as a whole.
-ghost use Rattle.std.specs.Prelude.{◌≡◌, ◌≢◌, ◌↔◌, ℕ, ◌<◌, [], ◌∷◌, length, true, None, Some, IsTrue, MatchOption, slice_index};
+ghost use Rattle.std.specs.Prelude.{◌≡◌, ◌≢◌, ◌↔◌, ℕ, List, ◌<◌, [], ◌∷◌, length, true, None, Some, IsTrue, MatchOption, slice_index};
 ghost use Rattle.lwkt_base.specs.Holding.{is_held, is_exclusive};
 ghost use Rattle.lwkt_base.specs.Law.{MeetsLaw};
 ghost use Rattle.lwkt_bank.specs.Views.{stored};
@@ -9,6 +9,13 @@ use crate::banks::Bank;
 use crate::notes::Change;
 use crate::seats::CpuSeat;
 use lwkt_base::{Law, TokId};
+
+// Whether the law asks nothing of a row.
+fn asks_nothing(law: Law) -> bool
+    ensures { result ≡ true → (param : ℕ) → (row : List ℕ) → MeetsLaw law param row }
+{
+    matches!(law, Law::Any | Law::Tally)
+}
 
 impl CpuSeat {
     // The row, each cell loaded; past its end zeros.
@@ -27,8 +34,8 @@ impl CpuSeat {
         values
     }
 
-    /// Whether the row obeys the law; under Tally always. That the seat holds the token exclusively is the caller's condition.
-    pub fn lawful(&mut self, bank: &Bank, tok: TokId) -> bool
+    // The same as `lawful`, each cell loaded.
+    fn row_is_lawful(&mut self, bank: &Bank, tok: TokId) -> bool
         requires of { bank_of self.old ≡ id_of bank.now }
         requires there { tok.0 < tokens_of (bank_of self.old) }
         requires held { is_exclusive (holding self.old tok.0) ≡ true }
@@ -38,6 +45,20 @@ impl CpuSeat {
         let plan = bank.plan(tok);
         let values = self.row(bank, tok);
         plan.law.holds_of_section(&values[..plan.cells], plan.param)
+    }
+
+    /// Whether the row obeys the law; under Tally always. That the seat holds the token exclusively is the caller's condition.
+    pub fn lawful(&mut self, bank: &Bank, tok: TokId) -> bool
+        requires of { bank_of self.old ≡ id_of bank.now }
+        requires there { tok.0 < tokens_of (bank_of self.old) }
+        requires held { is_exclusive (holding self.old tok.0) ≡ true }
+        ensures lawful { IsTrue result ↔ MeetsLaw (plan_of (bank_of self.old) tok.0).law (plan_of (bank_of self.old) tok.0).param (entry self.old tok.0).row }
+        ensures knowing { Knowing self.old self.new tok.0 (entry self.old tok.0) }
+    {
+        if asks_nothing(bank.plan(tok).law) {
+            return true;
+        }
+        self.row_is_lawful(bank, tok)
     }
 
     // Stores the first value of a cell again, if it was stored to in the section, and answers it.

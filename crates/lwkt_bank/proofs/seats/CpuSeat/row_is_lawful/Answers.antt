@@ -6,7 +6,7 @@ use Rattle.lwkt_bank.specs.Rule.{plan_at}
 use Rattle.lwkt_bank.specs.Seats.{entry}
 use Rattle.lwkt_bank.proofs.TurnMoves.{exclusive_held}
 use Rattle.lwkt_bank.proofs.ChangeMoves.{plan_is, short_row, row_read}
-use Rattle.lwkt_bank.proofs.seats.CpuSeat.lawful.Goals as goal
+use Rattle.lwkt_bank.proofs.seats.CpuSeat.row_is_lawful.Goals as goal
 
 pub returns-clause-lawful : goal.returns-clause-lawful
 returns-clause-lawful c =
