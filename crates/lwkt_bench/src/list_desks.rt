@@ -6,8 +6,7 @@ ghost use Rattle.lwkt_bench.specs.Idle.{IsReady};
 ghost use Rattle.lwkt_bench.specs.Lists.{IsAtRest, HoldsAll, IsEmptyTrace, HasTraceRoom};
 
 use crate::steps::Steps;
-use lwkt_bank::Bank;
-use lwkt_bank::CpuSeat;
+use lwkt_bank::{Bank, CpuSeat};
 use lwkt_base::{Fault, Mode, Ref, TokId, TokList};
 use lwkt_core::Event;
 use lwkt_hold::{Hold, Resumed};
