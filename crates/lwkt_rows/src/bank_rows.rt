@@ -77,7 +77,7 @@ fn bank_exclusive_3(rt: HostRuntime) -> Result<(), Fail> {
     let lines = [
         line(0, 0, TAKE, got(0)),
         line(0, 0, Ask::Store(0, 1), Told::Refused(Fault::TallyOnly)),
-        line(0, 0, Ask::Add(5), Told::Done),
+        line(0, 0, Ask::Add(5), Told::Value(15)),
         line(0, 0, Ask::Load(0), Told::Value(15)),
         line(
             0,
@@ -191,7 +191,7 @@ fn add_once(bank: &Bank, desk: &mut Desk) -> bool
     ensures { Sits (id_of bank.now) desk.new.seat desk.new.refs }
 {
     take_at_last(bank, desk)
-        && call(bank, desk, TokId(0), Ask::Add(3)) == Told::Done
+        && matches!(call(bank, desk, TokId(0), Ask::Add(3)), Told::Value(_))
         && call(bank, desk, TokId(0), Ask::Give) == Told::Given(Given::Written)
 }
 

@@ -189,7 +189,10 @@ fn add(bank: &Bank, seat: &mut CpuSeat, refs: &TokList, tok: TokId, k: u64) -> T
     if refs.mode(tok) != Some(Mode::Exclusive) {
         return Told::Unfit;
     }
-    told_of(seat.add(bank, tok, k))
+    match seat.add(bank, tok, k) {
+        Ok(sum) => Told::Value(sum),
+        Err(fault) => Told::Refused(fault),
+    }
 }
 
 fn word(bank: &Bank, seat: &mut CpuSeat, refs: &TokList, tok: TokId) -> u64
