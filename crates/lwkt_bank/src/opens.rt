@@ -36,6 +36,24 @@ pub(crate) fn all_open_lawfully(specs: &[TokSpec]) -> bool
         .all(|spec| spec.law.holds(spec.cells.as_slice(), spec.param))
 }
 
+fn cell_or_zero(cells: &[u64], cell: usize) -> u64
+    ensures { result ≡ slice_index cells.now cell }
+{
+    cells.get(cell).copied().unwrap_or(0)
+}
+
+// The cells of a row; past its end zeros.
+fn four_cells(cells: &[u64]) -> [u64; 4]
+    ensures { result ≡ slice_index cells.now 0 ∷ slice_index cells.now 1 ∷ slice_index cells.now 2 ∷ slice_index cells.now 3 ∷ [] }
+{
+    [
+        cell_or_zero(cells, 0),
+        cell_or_zero(cells, 1),
+        cell_or_zero(cells, 2),
+        cell_or_zero(cells, 3),
+    ]
+}
+
 fn plan_of(spec: &TokSpec) -> Plan
     ensures { result ≡ plan_of_spec spec.now }
 {
@@ -43,12 +61,7 @@ fn plan_of(spec: &TokSpec) -> Plan
     Plan {
         generation: spec.generation,
         param: spec.param,
-        first: [
-            cell_or_zero(cells, 0),
-            cell_or_zero(cells, 1),
-            cell_or_zero(cells, 2),
-            cell_or_zero(cells, 3),
-        ],
+        first: four_cells(cells),
         cells: cells.len(),
         law: spec.law,
     }
@@ -73,23 +86,17 @@ fn law_number(law: Law) -> u64
     }
 }
 
-fn cell_or_zero(cells: &[u64], cell: usize) -> u64
-    ensures { result ≡ slice_index cells.now cell }
-{
-    cells.get(cell).copied().unwrap_or(0)
-}
-
 fn block_of(spec: &TokSpec) -> [u64; 16]
     requires { spec.now.generation ≤ LAST_GENERATION }
     ensures { result ≡ block spec.now }
 {
-    let cells = spec.cells.as_slice();
+    let [first, second, third, fourth] = four_cells(spec.cells.as_slice());
     [
         262144 * spec.generation,
-        cell_or_zero(cells, 0),
-        cell_or_zero(cells, 1),
-        cell_or_zero(cells, 2),
-        cell_or_zero(cells, 3),
+        first,
+        second,
+        third,
+        fourth,
         law_number(spec.law),
         spec.param,
         0,
