@@ -13,13 +13,13 @@ use lwkt_core::{Event, Final, Message, State, Token, check};
 use std::alloc::{AllocError, Global};
 use std::test::Fail;
 
-const P0: CpuId = CpuId(0);
+const FIRST_CPU: CpuId = CpuId(0);
 
-const P1: CpuId = CpuId(1);
+const SECOND_CPU: CpuId = CpuId(1);
 
-const T0: TokId = TokId(0);
+const FIRST_TOKEN: TokId = TokId(0);
 
-const M0: MsgId = MsgId(0);
+const FIRST_MESSAGE: MsgId = MsgId(0);
 
 fn message(cpu: u8, thread: u8, round: u64) -> MsgSpec {
     MsgSpec {
@@ -156,33 +156,51 @@ fn token_final(
 }
 
 fn take(cpu: CpuId) -> Event {
-    Event::Take { cpu, tok: T0 }
+    Event::Take {
+        cpu,
+        tok: FIRST_TOKEN,
+    }
 }
 
 fn share(cpu: CpuId) -> Event {
-    Event::Share { cpu, tok: T0 }
+    Event::Share {
+        cpu,
+        tok: FIRST_TOKEN,
+    }
 }
 
 fn again(cpu: CpuId) -> Event {
-    Event::Again { cpu, tok: T0 }
+    Event::Again {
+        cpu,
+        tok: FIRST_TOKEN,
+    }
 }
 
 fn give_one(cpu: CpuId) -> Event {
-    Event::GiveOne { cpu, tok: T0 }
+    Event::GiveOne {
+        cpu,
+        tok: FIRST_TOKEN,
+    }
 }
 
 fn give_clean(cpu: CpuId) -> Event {
-    Event::GiveClean { cpu, tok: T0 }
+    Event::GiveClean {
+        cpu,
+        tok: FIRST_TOKEN,
+    }
 }
 
 fn give_written(cpu: CpuId) -> Event {
-    Event::GiveWritten { cpu, tok: T0 }
+    Event::GiveWritten {
+        cpu,
+        tok: FIRST_TOKEN,
+    }
 }
 
 fn read(cpu: CpuId, cell: u8, value: u64) -> Event {
     Event::Read {
         cpu,
-        tok: T0,
+        tok: FIRST_TOKEN,
         cell,
         value,
     }
@@ -191,7 +209,7 @@ fn read(cpu: CpuId, cell: u8, value: u64) -> Event {
 fn write(cpu: CpuId, cell: u8, value: u64) -> Event {
     Event::Write {
         cpu,
-        tok: T0,
+        tok: FIRST_TOKEN,
         cell,
         value,
     }
@@ -200,9 +218,18 @@ fn write(cpu: CpuId, cell: u8, value: u64) -> Event {
 #[test]
 fn checker_verdicts(rt: HostRuntime) -> Result<(), Fail> {
     let alloc = rt.alloc();
-    let section = [take(P0), write(P0, 0, 7), give_written(P0)];
-    let open = [take(P0), write(P0, 0, 7)];
-    let crowded = [take(P0), share(P1), write(P0, 0, 7), give_written(P0)];
+    let section = [
+        take(FIRST_CPU),
+        write(FIRST_CPU, 0, 7),
+        give_written(FIRST_CPU),
+    ];
+    let open = [take(FIRST_CPU), write(FIRST_CPU, 0, 7)];
+    let crowded = [
+        take(FIRST_CPU),
+        share(SECOND_CPU),
+        write(FIRST_CPU, 0, 7),
+        give_written(FIRST_CPU),
+    ];
     let rows: [(&[Event], u64, Result<(), Fault>); 4] = [
         (&section, 1, Ok(())),
         (&section, 0, Err(Fault::Unlawful { index: 3 })),
@@ -224,40 +251,85 @@ fn checker_verdicts(rt: HostRuntime) -> Result<(), Fail> {
 #[test]
 fn token_events(rt: HostRuntime) -> Result<(), Fail> {
     let alloc = rt.alloc();
-    let load = Event::Load { cpu: P1, tok: T0 };
-    let mark = Event::Mark { cpu: P1, tok: T0 };
+    let load = Event::Load {
+        cpu: SECOND_CPU,
+        tok: FIRST_TOKEN,
+    };
+    let mark = Event::Mark {
+        cpu: SECOND_CPU,
+        tok: FIRST_TOKEN,
+    };
     let unlawful = |index| Err(Fault::Unlawful { index });
     let rows: [(&[Event], Result<(), Fault>); 21] = [
         (&[], Ok(())),
         (&[load, mark, load], Ok(())),
-        (&[share(P0), share(P1), give_one(P0), give_one(P1)], Ok(())),
-        (&[take(P0), again(P0), give_one(P0), give_clean(P0)], Ok(())),
-        (&[mark, share(P0), read(P0, 0, 5), give_one(P0)], Ok(())),
-        (&[take(P0), read(P0, 1, 6), mark, give_clean(P0)], Ok(())),
         (
             &[
-                take(P0),
-                write(P0, 0, 9),
-                read(P0, 0, 9),
-                write(P0, 0, 5),
-                give_clean(P0),
+                share(FIRST_CPU),
+                share(SECOND_CPU),
+                give_one(FIRST_CPU),
+                give_one(SECOND_CPU),
             ],
             Ok(()),
         ),
-        (&[take(P0)], unlawful(1)),
-        (&[share(P0)], unlawful(1)),
-        (&[take(P0), take(P1)], unlawful(1)),
-        (&[take(P0), take(P0)], unlawful(1)),
-        (&[share(P0), take(P0)], unlawful(1)),
-        (&[share(P0), share(P0)], unlawful(1)),
-        (&[share(P0), write(P0, 0, 9)], unlawful(1)),
-        (&[again(P0)], unlawful(0)),
-        (&[take(P0), again(P1)], unlawful(1)),
-        (&[read(P0, 0, 5)], unlawful(0)),
-        (&[take(P0), read(P0, 0, 6)], unlawful(1)),
-        (&[take(P0), give_one(P0)], unlawful(1)),
-        (&[take(P0), give_written(P0)], unlawful(1)),
-        (&[take(P0), write(P0, 0, 9), give_clean(P0)], unlawful(2)),
+        (
+            &[
+                take(FIRST_CPU),
+                again(FIRST_CPU),
+                give_one(FIRST_CPU),
+                give_clean(FIRST_CPU),
+            ],
+            Ok(()),
+        ),
+        (
+            &[
+                mark,
+                share(FIRST_CPU),
+                read(FIRST_CPU, 0, 5),
+                give_one(FIRST_CPU),
+            ],
+            Ok(()),
+        ),
+        (
+            &[
+                take(FIRST_CPU),
+                read(FIRST_CPU, 1, 6),
+                mark,
+                give_clean(FIRST_CPU),
+            ],
+            Ok(()),
+        ),
+        (
+            &[
+                take(FIRST_CPU),
+                write(FIRST_CPU, 0, 9),
+                read(FIRST_CPU, 0, 9),
+                write(FIRST_CPU, 0, 5),
+                give_clean(FIRST_CPU),
+            ],
+            Ok(()),
+        ),
+        (&[take(FIRST_CPU)], unlawful(1)),
+        (&[share(FIRST_CPU)], unlawful(1)),
+        (&[take(FIRST_CPU), take(SECOND_CPU)], unlawful(1)),
+        (&[take(FIRST_CPU), take(FIRST_CPU)], unlawful(1)),
+        (&[share(FIRST_CPU), take(FIRST_CPU)], unlawful(1)),
+        (&[share(FIRST_CPU), share(FIRST_CPU)], unlawful(1)),
+        (&[share(FIRST_CPU), write(FIRST_CPU, 0, 9)], unlawful(1)),
+        (&[again(FIRST_CPU)], unlawful(0)),
+        (&[take(FIRST_CPU), again(SECOND_CPU)], unlawful(1)),
+        (&[read(FIRST_CPU, 0, 5)], unlawful(0)),
+        (&[take(FIRST_CPU), read(FIRST_CPU, 0, 6)], unlawful(1)),
+        (&[take(FIRST_CPU), give_one(FIRST_CPU)], unlawful(1)),
+        (&[take(FIRST_CPU), give_written(FIRST_CPU)], unlawful(1)),
+        (
+            &[
+                take(FIRST_CPU),
+                write(FIRST_CPU, 0, 9),
+                give_clean(FIRST_CPU),
+            ],
+            unlawful(2),
+        ),
     ];
     for (events, want) in rows {
         let spec = token(alloc, Law::Any, 0, 3, &[5, 6])?;
@@ -274,13 +346,17 @@ fn token_events(rt: HostRuntime) -> Result<(), Fail> {
 #[test]
 fn sections_and_tallies(rt: HostRuntime) -> Result<(), Fail> {
     let alloc = rt.alloc();
-    let added = [take(P1), write(P1, 0, 15), give_written(P1)];
+    let added = [
+        take(SECOND_CPU),
+        write(SECOND_CPU, 0, 15),
+        give_written(SECOND_CPU),
+    ];
     let rows: [(&[Event], &[u64], Result<(), Fault>); 4] = [
         (&added, &[0, 5], Ok(())),
         (&added, &[5, 0], Err(Fault::Unlawful { index: 3 })),
         (&added, &[0, 5, 0], Err(Fault::Unlawful { index: 3 })),
         (
-            &[take(P1), write(P1, 0, 9)],
+            &[take(SECOND_CPU), write(SECOND_CPU, 0, 9)],
             &[0, 0],
             Err(Fault::Unlawful { index: 1 }),
         ),
@@ -293,21 +369,30 @@ fn sections_and_tallies(rt: HostRuntime) -> Result<(), Fail> {
             "{events:?}"
         );
     }
-    let moved = [take(P0), write(P0, 0, 4), write(P0, 1, 6), give_written(P0)];
+    let moved = [
+        take(FIRST_CPU),
+        write(FIRST_CPU, 0, 4),
+        write(FIRST_CPU, 1, 6),
+        give_written(FIRST_CPU),
+    ];
     let worn = LAST_GENERATION;
     // At the last generation no section begins, and a token can still be shared.
     let rows: [(u64, &[Event], u64, Result<(), Fault>); 4] = [
         (0, &moved, 1, Ok(())),
         (
             0,
-            &[take(P0), write(P0, 0, 4), give_written(P0)],
+            &[
+                take(FIRST_CPU),
+                write(FIRST_CPU, 0, 4),
+                give_written(FIRST_CPU),
+            ],
             1,
             Err(Fault::Unlawful { index: 2 }),
         ),
         (worn, &moved, worn, Err(Fault::Unlawful { index: 0 })),
         (
             worn,
-            &[share(P0), give_one(P0)],
+            &[share(FIRST_CPU), give_one(FIRST_CPU)],
             worn,
             Err(Fault::Unlawful { index: 2 }),
         ),
@@ -325,8 +410,8 @@ fn sections_and_tallies(rt: HostRuntime) -> Result<(), Fail> {
 
 fn send(to: CpuId, round: u64) -> Event {
     Event::Send {
-        cpu: P0,
-        msg: M0,
+        cpu: FIRST_CPU,
+        msg: FIRST_MESSAGE,
         to,
         round,
     }
@@ -335,7 +420,7 @@ fn send(to: CpuId, round: u64) -> Event {
 fn take_message(cpu: CpuId, round: u64) -> Event {
     Event::TakeMsg {
         cpu,
-        msg: M0,
+        msg: FIRST_MESSAGE,
         round,
     }
 }
@@ -361,17 +446,29 @@ fn message_verdict(
 // Rows Book-Basics-7 and Book-Basics-8, and each event of a message where it can happen, and where it can't.
 #[test]
 fn book_basics_7_and_8(rt: HostRuntime) -> Result<(), Fail> {
-    let (origin, target) = (P0, P1);
+    let (origin, target) = (FIRST_CPU, SECOND_CPU);
     let rest = Owner::Rest { origin };
-    let reply = Event::Reply { cpu: P1, msg: M0 };
-    let reap = Event::Reap { cpu: P0, msg: M0 };
-    let drop_it = Event::DropMsg { cpu: P0, msg: M0 };
-    let abort = Event::Abort { cpu: P0, msg: M0 };
-    let (sent, taken) = (send(P1, 1), take_message(P1, 1));
+    let reply = Event::Reply {
+        cpu: SECOND_CPU,
+        msg: FIRST_MESSAGE,
+    };
+    let reap = Event::Reap {
+        cpu: FIRST_CPU,
+        msg: FIRST_MESSAGE,
+    };
+    let drop_it = Event::DropMsg {
+        cpu: FIRST_CPU,
+        msg: FIRST_MESSAGE,
+    };
+    let abort = Event::Abort {
+        cpu: FIRST_CPU,
+        msg: FIRST_MESSAGE,
+    };
+    let (sent, taken) = (send(SECOND_CPU, 1), take_message(SECOND_CPU, 1));
     let unlawful = |index| Err(Fault::Unlawful { index });
     let rows: [(&[Event], Owner, u64, Result<(), Fault>); 19] = [
         (&[sent, taken, reply, reply], rest, 1, unlawful(3)),
-        (&[sent, take_message(P1, 2)], rest, 1, unlawful(1)),
+        (&[sent, take_message(SECOND_CPU, 2)], rest, 1, unlawful(1)),
         (&[sent, taken, drop_it], rest, 1, unlawful(2)),
         (&[], rest, 0, Ok(())),
         (&[], rest, 1, unlawful(0)),
@@ -385,9 +482,14 @@ fn book_basics_7_and_8(rt: HostRuntime) -> Result<(), Fail> {
             Ok(()),
         ),
         (&[sent, taken, reply, reap], rest, 1, Ok(())),
-        (&[sent, drop_it, send(P1, 2), drop_it], rest, 2, Ok(())),
         (
-            &[send(P0, 1), take_message(P0, 1)],
+            &[sent, drop_it, send(SECOND_CPU, 2), drop_it],
+            rest,
+            2,
+            Ok(()),
+        ),
+        (
+            &[send(FIRST_CPU, 1), take_message(FIRST_CPU, 1)],
             Owner::With {
                 origin,
                 target: origin,
@@ -395,9 +497,9 @@ fn book_basics_7_and_8(rt: HostRuntime) -> Result<(), Fail> {
             1,
             Ok(()),
         ),
-        (&[send(P1, 2)], rest, 0, unlawful(0)),
-        (&[sent, send(P1, 2)], rest, 1, unlawful(1)),
-        (&[sent, take_message(P0, 1)], rest, 1, unlawful(1)),
+        (&[send(SECOND_CPU, 2)], rest, 0, unlawful(0)),
+        (&[sent, send(SECOND_CPU, 2)], rest, 1, unlawful(1)),
+        (&[sent, take_message(FIRST_CPU, 1)], rest, 1, unlawful(1)),
         (&[sent, taken, taken], rest, 1, unlawful(2)),
         (&[sent, reply], rest, 1, unlawful(1)),
         (&[sent, taken, reap], rest, 1, unlawful(2)),
@@ -419,19 +521,19 @@ fn held(alloc: Global) -> Result<State, Fault> {
         token(alloc, Law::Tally, 5, 3, &[5]).map_err(|_| Fault::Memory)?,
     ].map_err(|_| Fault::Memory)?;
     let mut state = State::open(alloc, &specs, &[message(0, 0, 7)], 2)?;
-    state.step(&take(P0))?;
-    state.step(&write(P0, 0, 6))?;
+    state.step(&take(FIRST_CPU))?;
+    state.step(&write(FIRST_CPU, 0, 6))?;
     Ok(state)
 }
 
 // What a state shows of token 0: its cell, the cell of its first row, its generation, two tallies.
 fn shown(state: &State) -> [Option<u64>; 5] {
     [
-        state.cell(T0, 0),
-        state.first(T0, 0),
-        state.generation(T0),
-        state.tally(P0, T0),
-        state.tally(P1, T0),
+        state.cell(FIRST_TOKEN, 0),
+        state.first(FIRST_TOKEN, 0),
+        state.generation(FIRST_TOKEN),
+        state.tally(FIRST_CPU, FIRST_TOKEN),
+        state.tally(SECOND_CPU, FIRST_TOKEN),
     ]
 }
 
@@ -443,53 +545,62 @@ fn events_without_a_place(rt: HostRuntime) -> Result<(), Fail> {
     let alloc = rt.alloc();
     let (far, far_tok, far_msg) = (CpuId(8), TokId(64), MsgId(64));
     for event in [
-        Event::Load { cpu: far, tok: T0 },
+        Event::Load {
+            cpu: far,
+            tok: FIRST_TOKEN,
+        },
         take(far),
         share(far),
         again(far),
-        Event::Mark { cpu: far, tok: T0 },
+        Event::Mark {
+            cpu: far,
+            tok: FIRST_TOKEN,
+        },
         give_one(far),
         give_clean(far),
         give_written(far),
         read(far, 0, 6),
         write(far, 0, 7),
         Event::Load {
-            cpu: P0,
+            cpu: FIRST_CPU,
             tok: far_tok,
         },
         Event::Take {
-            cpu: P0,
+            cpu: FIRST_CPU,
             tok: far_tok,
         },
         Event::Mark {
-            cpu: P0,
+            cpu: FIRST_CPU,
             tok: far_tok,
         },
         Event::GiveWritten {
-            cpu: P0,
+            cpu: FIRST_CPU,
             tok: far_tok,
         },
-        read(P0, 4, 0),
-        write(P0, 4, 0),
+        read(FIRST_CPU, 4, 0),
+        write(FIRST_CPU, 4, 0),
         send(far, 8),
         Event::Send {
             cpu: far,
-            msg: M0,
-            to: P1,
+            msg: FIRST_MESSAGE,
+            to: SECOND_CPU,
             round: 8,
         },
         Event::Send {
-            cpu: P0,
+            cpu: FIRST_CPU,
             msg: far_msg,
-            to: P1,
+            to: SECOND_CPU,
             round: 8,
         },
         take_message(far, 7),
         Event::Reap {
-            cpu: P0,
+            cpu: FIRST_CPU,
             msg: far_msg,
         },
-        Event::Abort { cpu: far, msg: M0 },
+        Event::Abort {
+            cpu: far,
+            msg: FIRST_MESSAGE,
+        },
     ] {
         let mut state = held(alloc)?;
         let allowed = state.allows(&event);
@@ -500,7 +611,7 @@ fn events_without_a_place(rt: HostRuntime) -> Result<(), Fail> {
         );
         assert_eq!(rt; shown(&state).as_slice(), HELD.as_slice(), "{event:?}");
         let last = token_final(alloc, &[6], 4, &[1, 0])?;
-        let found = check(held(alloc)?, &[read(P0, 0, 6), event], &last);
+        let found = check(held(alloc)?, &[read(FIRST_CPU, 0, 6), event], &last);
         assert_eq!(rt; found, Err(Fault::Unlawful { index: 1 }), "{event:?}");
     }
     Ok(())
@@ -512,21 +623,21 @@ fn readers_of_a_state(rt: HostRuntime) -> Result<(), Fail> {
     let mut state = held(alloc)?;
     let (far, far_tok) = (CpuId(2), TokId(1));
     let absent = [
-        state.cell(T0, 1),
+        state.cell(FIRST_TOKEN, 1),
         state.cell(far_tok, 0),
-        state.first(T0, 1),
+        state.first(FIRST_TOKEN, 1),
         state.first(far_tok, 0),
-        state.tally(far, T0),
-        state.tally(P0, far_tok),
+        state.tally(far, FIRST_TOKEN),
+        state.tally(FIRST_CPU, far_tok),
         state.generation(far_tok),
     ];
     assert_eq!(rt; absent.as_slice(), [None; 7].as_slice());
     let mut last = token_final(alloc, &[6], 4, &[1, 0])?;
     last.messages.push(MsgEnd {
         round: 7,
-        state: Owner::Rest { origin: P0 },
+        state: Owner::Rest { origin: FIRST_CPU },
     })?;
-    let give = give_written(P0);
+    let give = give_written(FIRST_CPU);
     let before = (state.closes(&last), state.allows(&give));
     assert_eq!(rt; before, (false, true));
     let after = (state.step(&give), state.closes(&last));
@@ -551,11 +662,11 @@ fn readers_of_a_state(rt: HostRuntime) -> Result<(), Fail> {
 fn parts_of_the_model(rt: HostRuntime) -> Result<(), Fail> {
     let alloc = rt.alloc();
     for (event, cpu, place, adds) in [
-        (take(P1), P1, Place::AtToken(0), true),
-        (share(P0), P0, Place::AtToken(0), true),
-        (again(P1), P1, Place::AtToken(0), true),
-        (write(P0, 1, 2), P0, Place::AtToken(0), false),
-        (send(P1, 1), P0, Place::AtMessage(0), false),
+        (take(SECOND_CPU), SECOND_CPU, Place::AtToken(0), true),
+        (share(FIRST_CPU), FIRST_CPU, Place::AtToken(0), true),
+        (again(SECOND_CPU), SECOND_CPU, Place::AtToken(0), true),
+        (write(FIRST_CPU, 1, 2), FIRST_CPU, Place::AtToken(0), false),
+        (send(SECOND_CPU, 1), FIRST_CPU, Place::AtMessage(0), false),
     ] {
         let found = (event.cpu(), event.place(), event.adds_reference());
         assert_eq!(rt; found, (cpu, place, adds), "{event:?}");
@@ -570,20 +681,26 @@ fn parts_of_the_model(rt: HostRuntime) -> Result<(), Fail> {
         holders: [Held::Nothing; 8],
         tallies: [0, 5, 0, 0, 0, 0, 0, 0],
     };
-    let free = token.is_free() && token.is_open() && token.allows(&take(P1));
+    let free = token.is_free() && token.is_open() && token.allows(&take(SECOND_CPU));
     token.holders[1] = Held::Holds(Mode::Exclusive, 0);
-    let open = token.is_free() || token.is_open() || token.allows(&take(P0));
-    assert!(rt; free && !open && token.allows(&give_written(P1)));
+    let open = token.is_free() || token.is_open() || token.allows(&take(FIRST_CPU));
+    assert!(rt; free && !open && token.allows(&give_written(SECOND_CPU)));
     assert_eq!(rt;
-        (token.held_by(P1), token.held_by(CpuId(8))),
+        (token.held_by(SECOND_CPU), token.held_by(CpuId(8))),
         (Held::Holds(Mode::Exclusive, 0), Held::Nothing)
     );
-    assert_eq!(rt; (token.tally(P1), token.tally(CpuId(8))), (Some(5), None));
+    assert_eq!(rt;
+        (token.tally(SECOND_CPU), token.tally(CpuId(8))),
+        (Some(5), None)
+    );
     let message = Message {
-        origin: ThreadId { cpu: P0, thread: 0 },
+        origin: ThreadId {
+            cpu: FIRST_CPU,
+            thread: 0,
+        },
         opening: 0,
         round: 0,
-        owner: Owner::Rest { origin: P0 },
+        owner: Owner::Rest { origin: FIRST_CPU },
         asked: false,
         sends: 0,
         takes: 0,
@@ -591,7 +708,9 @@ fn parts_of_the_model(rt: HostRuntime) -> Result<(), Fail> {
         replies: 0,
         reaps: 0,
     };
-    assert!(rt; message.allows(2, &send(P1, 1)) && !message.allows(1, &send(P1, 1)));
+    assert!(rt;
+        message.allows(2, &send(SECOND_CPU, 1)) && !message.allows(1, &send(SECOND_CPU, 1))
+    );
     failure_refutes();
     failure_is_only();
     decisions_are_events();

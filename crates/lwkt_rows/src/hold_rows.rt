@@ -23,22 +23,22 @@ const LAST_GENERATION: u64 = 70368744177663;
 
 const LAST_WORD: u64 = 18446744073709289472;
 
-const T0: TokId = TokId(0);
+const FIRST_TOKEN: TokId = TokId(0);
 
-const T1: TokId = TokId(1);
+const SECOND_TOKEN: TokId = TokId(1);
 
-const X0: Ref = Ref {
-    tok: T0,
+const FIRST_EXCLUSIVE: Ref = Ref {
+    tok: FIRST_TOKEN,
     mode: Mode::Exclusive,
 };
 
-const X1: Ref = Ref {
-    tok: T1,
+const SECOND_EXCLUSIVE: Ref = Ref {
+    tok: SECOND_TOKEN,
     mode: Mode::Exclusive,
 };
 
-const S0: Ref = Ref {
-    tok: T0,
+const FIRST_SHARED: Ref = Ref {
+    tok: FIRST_TOKEN,
     mode: Mode::Shared,
 };
 
@@ -77,19 +77,19 @@ fn words_of_holds(rt: HostRuntime) -> Result<(), Fail> {
     let mut watch = next_watch(&bank, &mut seats).ok_or("a seat")?;
     let mut desk = next_desk(rt.alloc(), &bank, &mut seats).ok_or("a seat")?;
     let rows = [
-        (Ask::Get(T0), Answer::Done, 1, 0),
-        (Ask::Get(T0), Answer::Done, 5, 0),
-        (Ask::GetShared(T0), Answer::Done, 9, 0),
-        (Ask::Rel(T0), Answer::Done, 5, 0),
-        (Ask::Rel(T0), Answer::Done, 1, 0),
-        (Ask::Rel(T0), Answer::Done, 0, 0),
+        (Ask::Get(FIRST_TOKEN), Answer::Done, 1, 0),
+        (Ask::Get(FIRST_TOKEN), Answer::Done, 5, 0),
+        (Ask::GetShared(FIRST_TOKEN), Answer::Done, 9, 0),
+        (Ask::Rel(FIRST_TOKEN), Answer::Done, 5, 0),
+        (Ask::Rel(FIRST_TOKEN), Answer::Done, 1, 0),
+        (Ask::Rel(FIRST_TOKEN), Answer::Done, 0, 0),
         // References are given back in the order in which they were had, the last one first.
-        (Ask::Get(T0), Answer::Done, 1, 0),
-        (Ask::Get(T1), Answer::Done, 1, 1),
-        (Ask::Rel(T0), refused(Fault::NotLast), 1, 1),
+        (Ask::Get(FIRST_TOKEN), Answer::Done, 1, 0),
+        (Ask::Get(SECOND_TOKEN), Answer::Done, 1, 1),
+        (Ask::Rel(FIRST_TOKEN), refused(Fault::NotLast), 1, 1),
     ];
     assert_eq!(rt; first_other(&mut desk, &mut watch, &rows), None);
-    assert_eq!(rt; desk.refs(), [X0, X1].as_slice());
+    assert_eq!(rt; desk.refs(), [FIRST_EXCLUSIVE, SECOND_EXCLUSIVE].as_slice());
     Ok(())
 }
 
@@ -102,24 +102,46 @@ fn refusals_of_holds(rt: HostRuntime) -> Result<(), Fail> {
     let mut desk = next_desk(rt.alloc(), &bank, &mut seats).ok_or("a seat")?;
     let rows = [
         (Ask::Read(TokId(9), 0), refused(Fault::NoToken), 0, 0),
-        (Ask::Read(T0, 3), refused(Fault::NoCell), 0, 0),
-        (Ask::Read(T0, 0), refused(Fault::NotHeld), 0, 0),
-        (Ask::GetShared(T0), Answer::Done, 4, 0),
-        (Ask::Write(T0, 0, 5), refused(Fault::SharedWrite), 4, 0),
-        (Ask::Rel(T0), Answer::Done, 0, 0),
-        (Ask::Get(T1), Answer::Done, 0, 1),
-        (Ask::Write(T1, 0, 5), refused(Fault::TallyOnly), 0, 1),
-        (Ask::Add(T1, 1), refused(Fault::Overflow), 0, 1),
-        (Ask::Rel(T1), Answer::Done, 0, 0),
-        (Ask::Rel(T1), refused(Fault::NotHeld), 0, 0),
+        (Ask::Read(FIRST_TOKEN, 3), refused(Fault::NoCell), 0, 0),
+        (Ask::Read(FIRST_TOKEN, 0), refused(Fault::NotHeld), 0, 0),
+        (Ask::GetShared(FIRST_TOKEN), Answer::Done, 4, 0),
+        (
+            Ask::Write(FIRST_TOKEN, 0, 5),
+            refused(Fault::SharedWrite),
+            4,
+            0,
+        ),
+        (Ask::Rel(FIRST_TOKEN), Answer::Done, 0, 0),
+        (Ask::Get(SECOND_TOKEN), Answer::Done, 0, 1),
+        (
+            Ask::Write(SECOND_TOKEN, 0, 5),
+            refused(Fault::TallyOnly),
+            0,
+            1,
+        ),
+        (Ask::Add(SECOND_TOKEN, 1), refused(Fault::Overflow), 0, 1),
+        (Ask::Rel(SECOND_TOKEN), Answer::Done, 0, 0),
+        (Ask::Rel(SECOND_TOKEN), refused(Fault::NotHeld), 0, 0),
     ];
     assert_eq!(rt; first_other(&mut desk, &mut watch, &rows), None);
     let cpu = CpuId(0);
     let events = [
-        Event::Share { cpu, tok: T0 },
-        Event::GiveOne { cpu, tok: T0 },
-        Event::Take { cpu, tok: T1 },
-        Event::GiveClean { cpu, tok: T1 },
+        Event::Share {
+            cpu,
+            tok: FIRST_TOKEN,
+        },
+        Event::GiveOne {
+            cpu,
+            tok: FIRST_TOKEN,
+        },
+        Event::Take {
+            cpu,
+            tok: SECOND_TOKEN,
+        },
+        Event::GiveClean {
+            cpu,
+            tok: SECOND_TOKEN,
+        },
     ];
     assert_eq!(rt; desk.trace(), events.as_slice());
     Ok(())
@@ -133,22 +155,22 @@ fn a_broken_law_is_undone(rt: HostRuntime) -> Result<(), Fail> {
     let mut watch = next_watch(&bank, &mut seats).ok_or("a seat")?;
     let mut desk = next_desk(rt.alloc(), &bank, &mut seats).ok_or("a seat")?;
     let broken = [
-        (Ask::Get(T0), Answer::Done, 1, 0),
-        (Ask::Write(T0, 0, 9), Answer::Done, 1, 0),
+        (Ask::Get(FIRST_TOKEN), Answer::Done, 1, 0),
+        (Ask::Write(FIRST_TOKEN, 0, 9), Answer::Done, 1, 0),
     ];
-    let given = [(Ask::Rel(T0), refused(Fault::Broken), 0, 0)];
+    let given = [(Ask::Rel(FIRST_TOKEN), refused(Fault::Broken), 0, 0)];
     let looks = [
-        (Ask::Get(T0), Answer::Done, 1, 0),
-        (Ask::Read(T0, 0), Answer::Value(5), 1, 0),
-        (Ask::Read(T0, 1), Answer::Value(5), 1, 0),
-        (Ask::Rel(T0), Answer::Done, 0, 0),
+        (Ask::Get(FIRST_TOKEN), Answer::Done, 1, 0),
+        (Ask::Read(FIRST_TOKEN, 0), Answer::Value(5), 1, 0),
+        (Ask::Read(FIRST_TOKEN, 1), Answer::Value(5), 1, 0),
+        (Ask::Rel(FIRST_TOKEN), Answer::Done, 0, 0),
     ];
     assert_eq!(rt; first_other(&mut desk, &mut watch, &broken), None);
     assert_eq!(rt; first_other(&mut desk, &mut watch, &given), None);
     assert!(rt; desk.refs().is_empty());
     assert_eq!(rt; first_other(&mut desk, &mut watch, &looks), None);
     assert_eq!(rt; first_other(&mut desk, &mut watch, &broken), None);
-    assert_eq!(rt; desk.block(), Ok(Blocked::Restored(T0)));
+    assert_eq!(rt; desk.block(), Ok(Blocked::Restored(FIRST_TOKEN)));
     assert_eq!(rt; watch.word(0), 0);
     assert_eq!(rt; first_other(&mut desk, &mut watch, &looks), None);
     Ok(())
@@ -161,23 +183,35 @@ fn a_missed_list_is_given_back(rt: HostRuntime) -> Result<(), Fail> {
     let mut watch = next_watch(&bank, &mut seats).ok_or("a seat")?;
     let mut second = next_desk(rt.alloc(), &bank, &mut seats).ok_or("a seat")?;
     let mut first = next_desk(rt.alloc(), &bank, &mut seats).ok_or("a seat")?;
-    assert_eq!(rt; second.get(X1), Ok(Acquired::Got));
+    assert_eq!(rt; second.get(SECOND_EXCLUSIVE), Ok(Acquired::Got));
     let passed = Resumed::Passed {
         at: 1,
         why: Missed::Busy { word: 1 },
     };
-    assert_eq!(rt; first.resume(&[X0, X1]), Ok(passed));
+    assert_eq!(rt;
+        first.resume(&[FIRST_EXCLUSIVE, SECOND_EXCLUSIVE]),
+        Ok(passed)
+    );
     let cpu = CpuId(0);
     let events = [
-        Event::Take { cpu, tok: T0 },
-        Event::GiveClean { cpu, tok: T0 },
+        Event::Take {
+            cpu,
+            tok: FIRST_TOKEN,
+        },
+        Event::GiveClean {
+            cpu,
+            tok: FIRST_TOKEN,
+        },
     ];
     assert!(rt; watch.word(0) == 0 && watch.word(1) == 1 && first.refs().is_empty());
     assert_eq!(rt; first.trace(), events.as_slice());
     // A list of no references is held at once.
     assert_eq!(rt; first.resume(&[]), Ok(Resumed::All));
     // Trying for a token that is held changes nothing.
-    assert_eq!(rt; first.ask(Ask::TryGet(T1)), Some(refused(Fault::Busy)));
+    assert_eq!(rt;
+        first.ask(Ask::TryGet(SECOND_TOKEN)),
+        Some(refused(Fault::Busy))
+    );
     assert!(rt; watch.word(0) == 0 && watch.word(1) == 1 && first.refs().is_empty());
     assert_eq!(rt; first.trace(), events.as_slice());
     Ok(())
@@ -192,17 +226,17 @@ fn mark_stops_lone_sharers(rt: HostRuntime) -> Result<(), Fail> {
     let mut third = next_desk(rt.alloc(), &bank, &mut seats).ok_or("a seat")?;
     let mut second = next_desk(rt.alloc(), &bank, &mut seats).ok_or("a seat")?;
     let mut first = next_desk(rt.alloc(), &bank, &mut seats).ok_or("a seat")?;
-    assert!(rt; first.get(S0) == Ok(Acquired::Got) && watch.word(0) == 4);
-    assert!(rt; second.get(S0) == Ok(Acquired::Got) && watch.word(0) == 8);
-    assert!(rt; third.get(X0) == Ok(busy(8)) && watch.word(0) == 10);
-    assert!(rt; fourth.get(S0) == Ok(busy(10)) && watch.word(0) == 10);
-    assert_eq!(rt; fourth.resume(&[X1]), Ok(Resumed::All));
-    assert!(rt; fourth.get(S0) == Ok(Acquired::Got) && watch.word(0) == 14);
+    assert!(rt; first.get(FIRST_SHARED) == Ok(Acquired::Got) && watch.word(0) == 4);
+    assert!(rt; second.get(FIRST_SHARED) == Ok(Acquired::Got) && watch.word(0) == 8);
+    assert!(rt; third.get(FIRST_EXCLUSIVE) == Ok(busy(8)) && watch.word(0) == 10);
+    assert!(rt; fourth.get(FIRST_SHARED) == Ok(busy(10)) && watch.word(0) == 10);
+    assert_eq!(rt; fourth.resume(&[SECOND_EXCLUSIVE]), Ok(Resumed::All));
+    assert!(rt; fourth.get(FIRST_SHARED) == Ok(Acquired::Got) && watch.word(0) == 14);
     let released = Some(Answer::Done);
-    assert!(rt; fourth.ask(Ask::Rel(T0)) == released && watch.word(0) == 10);
-    assert!(rt; first.ask(Ask::Rel(T0)) == released && watch.word(0) == 6);
-    assert!(rt; second.ask(Ask::Rel(T0)) == released && watch.word(0) == 2);
-    assert!(rt; third.resume(&[X0]) == Ok(Resumed::All) && watch.word(0) == 1);
+    assert!(rt; fourth.ask(Ask::Rel(FIRST_TOKEN)) == released && watch.word(0) == 10);
+    assert!(rt; first.ask(Ask::Rel(FIRST_TOKEN)) == released && watch.word(0) == 6);
+    assert!(rt; second.ask(Ask::Rel(FIRST_TOKEN)) == released && watch.word(0) == 2);
+    assert!(rt; third.resume(&[FIRST_EXCLUSIVE]) == Ok(Resumed::All) && watch.word(0) == 1);
     Ok(())
 }
 
@@ -220,21 +254,41 @@ fn limits_of_holds(rt: HostRuntime) -> Result<(), Fail> {
     let mut watch = next_watch(&bank, &mut seats).ok_or("a seat")?;
     let mut desk = next_desk(rt.alloc(), &bank, &mut seats).ok_or("a seat")?;
     let rows = [
-        (Ask::Get(T1), refused(Fault::Worn), 0, LAST_WORD),
-        (Ask::TryGet(T1), refused(Fault::Worn), 0, LAST_WORD),
-        (Ask::GetShared(T0), Answer::Done, 4, LAST_WORD),
-        (Ask::Get(T0), refused(Fault::Upgrade), 4, LAST_WORD),
-        (Ask::TryGet(T0), refused(Fault::Upgrade), 4, LAST_WORD),
+        (Ask::Get(SECOND_TOKEN), refused(Fault::Worn), 0, LAST_WORD),
+        (
+            Ask::TryGet(SECOND_TOKEN),
+            refused(Fault::Worn),
+            0,
+            LAST_WORD,
+        ),
+        (Ask::GetShared(FIRST_TOKEN), Answer::Done, 4, LAST_WORD),
+        (Ask::Get(FIRST_TOKEN), refused(Fault::Upgrade), 4, LAST_WORD),
+        (
+            Ask::TryGet(FIRST_TOKEN),
+            refused(Fault::Upgrade),
+            4,
+            LAST_WORD,
+        ),
     ];
     assert_eq!(rt; first_other(&mut desk, &mut watch, &rows), None);
-    assert_eq!(rt; desk.refs(), [S0].as_slice());
+    assert_eq!(rt; desk.refs(), [FIRST_SHARED].as_slice());
     assert_eq!(rt; desk.block(), Ok(Blocked::Clean));
     for count in 0..32 {
-        assert_eq!(rt; desk.get(X0), Ok(Acquired::Got), "{count}");
+        assert_eq!(rt; desk.get(FIRST_EXCLUSIVE), Ok(Acquired::Got), "{count}");
     }
     let full = [
-        (Ask::Get(T0), refused(Fault::ListFull), 125, LAST_WORD),
-        (Ask::TryGet(T1), refused(Fault::ListFull), 125, LAST_WORD),
+        (
+            Ask::Get(FIRST_TOKEN),
+            refused(Fault::ListFull),
+            125,
+            LAST_WORD,
+        ),
+        (
+            Ask::TryGet(SECOND_TOKEN),
+            refused(Fault::ListFull),
+            125,
+            LAST_WORD,
+        ),
         (Ask::Get(TokId(2)), refused(Fault::NoToken), 125, LAST_WORD),
     ];
     assert_eq!(rt; first_other(&mut desk, &mut watch, &full), None);
@@ -250,8 +304,8 @@ fn section(hold: &mut Hold, bank: &Bank, both: &TokList, trace: &mut Vec<Event>)
     requires room { vec_len trace.old + 448 ≤ vec_capacity trace.old }
     ensures { IsHeld (id_of bank.now) hold.new [] }
 {
-    let first = hold.add(bank, both, T0, 1, trace).is_ok();
-    let second = hold.add(bank, both, T1, 1, trace).is_ok();
+    let first = hold.add(bank, both, FIRST_TOKEN, 1, trace).is_ok();
+    let second = hold.add(bank, both, SECOND_TOKEN, 1, trace).is_ok();
     let _ = hold.block(bank, both, both.len(), trace);
     first && second
 }
@@ -347,8 +401,8 @@ fn crossed_lists_add_up(rt: HostRuntime) -> Result<(), Fail> {
     let (first, second) = both_seats(seats, &bank).ok_or("two seats")?;
     let ((first, one), (second, other)) = thread::join(
         &rt,
-        || add_all(alloc, &bank, first, [X0, X1]),
-        || add_all(alloc, &bank, second, [X1, X0]),
+        || add_all(alloc, &bank, first, [FIRST_EXCLUSIVE, SECOND_EXCLUSIVE]),
+        || add_all(alloc, &bank, second, [SECOND_EXCLUSIVE, FIRST_EXCLUSIVE]),
     );
     assert!(rt; one == ROUNDS && other == ROUNDS);
     let closed = close(alloc, bank, first, second)??;
