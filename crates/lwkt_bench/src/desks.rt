@@ -11,11 +11,12 @@ use lwkt_base::{Mode, TokId};
 /// A seat that holds nothing, at its bank, and the token that it takes and gives back.
 #[derive(Drop)]
 pub struct Desk<'a> {
-    pub seat: CpuSeat,
+    // Behind a pointer, so that bank and token stay in registers from step to step.
+    pub seat: Box<CpuSeat>,
     pub bank: &'a Bank,
     pub tok: TokId,
     ghost plain: { HasPlain (id_of bank.now) tok.0 },
-    ghost idle: { IsIdle (id_of bank.now) seat tok.0 },
+    ghost idle: { IsIdle (id_of bank.now) seat.value tok.0 },
 }
 
 // Whether the token was taken.
@@ -92,7 +93,7 @@ pub struct Sections<'a>(pub Desk<'a>);
 impl Steps for Sections<'_> {
     fn step(&mut self) -> bool {
         let desk = &mut self.0;
-        section(desk.bank, &mut desk.seat, desk.tok)
+        section(desk.bank, &mut *desk.seat, desk.tok)
     }
 }
 
@@ -103,7 +104,7 @@ pub struct Shares<'a>(pub Desk<'a>);
 impl Steps for Shares<'_> {
     fn step(&mut self) -> bool {
         let desk = &mut self.0;
-        share(desk.bank, &mut desk.seat, desk.tok)
+        share(desk.bank, &mut *desk.seat, desk.tok)
     }
 }
 
@@ -114,6 +115,6 @@ pub struct Adds<'a>(pub Desk<'a>);
 impl Steps for Adds<'_> {
     fn step(&mut self) -> bool {
         let desk = &mut self.0;
-        add(desk.bank, &mut desk.seat, desk.tok)
+        add(desk.bank, &mut *desk.seat, desk.tok)
     }
 }

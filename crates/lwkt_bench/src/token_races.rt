@@ -7,7 +7,7 @@ use crate::desks::{Adds, Sections};
 use crate::hands::{HandAdds, HandSections, HandToken, hand_tokens};
 use crate::races::{Runner, join_in, race_in_turn};
 use crate::rounds::Race;
-use crate::token_rounds::{desk, no_seat, open, refused};
+use crate::token_rounds::{desk, open, refused};
 use lwkt_bank::{Bank, CpuSeat};
 use lwkt_base::{Law, TokId};
 use std::alloc::Global;
@@ -45,7 +45,7 @@ fn adding<'a>(
 {
     let mut runners = Vec::new(alloc);
     for _cpu in 0..THREADS {
-        let next = desk(bank, seats, TokId(0)).ok_or(no_seat())?;
+        let next = desk(alloc, bank, seats, TokId(0))?;
         join_in(&mut runners, Adds(next))?;
     }
     Ok(runners)
@@ -62,7 +62,7 @@ fn apart<'a>(
 {
     let mut runners = Vec::new(alloc);
     for tok in 0..THREADS {
-        let next = desk(bank, seats, TokId(tok)).ok_or(no_seat())?;
+        let next = desk(alloc, bank, seats, TokId(tok))?;
         join_in(&mut runners, Sections(next))?;
     }
     Ok(runners)

@@ -78,14 +78,20 @@ pub fn open(
     Bank::open(alloc, specs.as_slice(), cpus)
 }
 
-/// The next of the seats, at a token. None if no seat is left.
-pub fn desk<'a>(bank: &'a Bank, seats: &mut Vec<CpuSeat>, tok: TokId) -> Option<Desk<'a>>
+/// The next of the seats, at a token. `NotFound` if no seat is left.
+pub fn desk<'a>(
+    alloc: Global,
+    bank: &'a Bank,
+    seats: &mut Vec<CpuSeat>,
+    tok: TokId,
+) -> io::Result<Desk<'a>>
     requires ready { IsReady (id_of bank.now) seats.old.items }
     requires there { tok.0 < tokens_of (id_of bank.now) }
     ensures { IsReady (id_of bank.now) seats.new.items }
 {
-    let seat = seats.pop()?;
-    Some(Desk { seat, bank, tok })
+    let seat = seats.pop().ok_or(no_seat())?;
+    let seat = Box::new(alloc, seat)?;
+    Ok(Desk { seat, bank, tok })
 }
 
 /// What a refusal is as an error of the program.
@@ -119,14 +125,14 @@ fn race_alone<R: CpuClock + Print + AllocGlobal, A: Steps, B: Steps>(
 
 fn time_sections<R: CpuClock + Print + AllocGlobal>(rt: &R) -> io::Result<()> {
     let (bank, mut seats) = open(rt.alloc(), Law::Any, 1, 1).map_err(refused)?;
-    let first = desk(&bank, &mut seats, TokId(0)).ok_or(no_seat())?;
+    let first = desk(rt.alloc(), &bank, &mut seats, TokId(0))?;
     let token = HandToken::new();
     race_alone(rt, SECTION, &mut Sections(first), &mut HandSections(&token))
 }
 
 fn time_shares<R: CpuClock + Print + AllocGlobal>(rt: &R) -> io::Result<()> {
     let (bank, mut seats) = open(rt.alloc(), Law::Any, 1, 1).map_err(refused)?;
-    let first = desk(&bank, &mut seats, TokId(0)).ok_or(no_seat())?;
+    let first = desk(rt.alloc(), &bank, &mut seats, TokId(0))?;
     let token = HandToken::new();
     race_alone(rt, SHARED, &mut Shares(first), &mut HandShares(&token))
 }
