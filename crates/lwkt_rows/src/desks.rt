@@ -146,13 +146,6 @@ fn give(bank: &Bank, seat: &mut CpuSeat, refs: &mut TokList, tok: TokId) -> Opti
     }
 }
 
-fn told_of(answer: Result<(), Fault>) -> Told {
-    match answer {
-        Ok(()) => Told::Done,
-        Err(fault) => Told::Refused(fault),
-    }
-}
-
 fn load(bank: &Bank, seat: &mut CpuSeat, refs: &TokList, tok: TokId, cell: u8) -> Told
     requires sits { Sits (id_of bank.now) seat.old refs.now }
     requires there { tok.0 < tokens_of (id_of bank.now) }
@@ -176,7 +169,10 @@ fn store(bank: &Bank, seat: &mut CpuSeat, refs: &TokList, tok: TokId, cell: u8, 
     if refs.mode(tok) != Some(Mode::Exclusive) || cell as usize >= bank.cells(tok) {
         return Told::Unfit;
     }
-    told_of(seat.store(bank, tok, cell, value))
+    match seat.store(bank, tok, cell, value) {
+        Ok(()) => Told::Done,
+        Err(fault) => Told::Refused(fault),
+    }
 }
 
 fn add(bank: &Bank, seat: &mut CpuSeat, refs: &TokList, tok: TokId, k: u64) -> Told
