@@ -31,7 +31,7 @@ told_by (Sub k) n = n
 told_by (Or bits) n = n
 
 -- a step on the word of a token or message met one word, and left another (own)
-record IsStepOver (met left : ℕ) (step : WordStep) : Type 0 where
+pub record IsStepOver (met left : ℕ) (step : WordStep) : Type 0 where
   pub found : step.found ≡ told_by step.operation met
   pub leaves : left ≡ left_by step.operation met
 
