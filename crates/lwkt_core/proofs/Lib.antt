@@ -4,5 +4,6 @@ pub mod MachineMoves
 pub mod OpeningLemmas
 pub mod TraceLemmas
 pub mod SeatingLemmas
+pub mod HistoryLemmas
 pub mod PictureLemmas
 pub mod SafetyLemmas
