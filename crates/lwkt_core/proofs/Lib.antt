@@ -5,5 +5,6 @@ pub mod OpeningLemmas
 pub mod TraceLemmas
 pub mod SeatingLemmas
 pub mod HistoryLemmas
+pub mod ChronicleLemmas
 pub mod PictureLemmas
 pub mod SafetyLemmas
