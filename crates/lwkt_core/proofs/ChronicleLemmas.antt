@@ -1,4 +1,4 @@
-use Rattle.std.proofs.Common.{◌≡◌, ◌≢◌, ◌⊎◌, inl, inr, ⊎_elim, ℕ, zero, suc, ◌+◌, ◌<◌, ◌≤◌, List, [], ◌∷◌, ◌++◌, length, map, set, refl, ap, sym, ◌∙◌, subst, arith, append_assoc, append-nil, flat_map, slice_index_or, length-append}
+use Rattle.std.proofs.Common.{◌≡◌, ◌≢◌, ◌⊎◌, inl, inr, ⊎_elim, ℕ, zero, suc, ◌+◌, ◌<◌, ◌≤◌, List, [], ◌∷◌, ◌++◌, length, set, refl, ap, sym, ◌∙◌, subst, arith, append_assoc, append-nil, flat_map, slice_index_or, length-append}
 use Rattle.std.proofs.lemmas.Bool.{cases_eq, cases_lt}
 use Rattle.std.proofs.lemmas.List.{append_cancel_left, nil_from_length}
 use mathlib.Core.Option.{some, some-injective, some-ne-none}
@@ -11,7 +11,7 @@ use Rattle.lwkt_core.specs.declared.seats.Chapter.{Chapter}
 use Rattle.lwkt_core.specs.Seating.{AreSeated, after_made, after_back, next_seat}
 use Rattle.lwkt_core.specs.History.{Passes, part_by, AreOthers, AreOwn, IsPastOf, Page, kinds_of, first_page, spent_page, noted_page, made_page, seat_page, back_page, HasClerk, HasSeat, HasChapter, HasSeen, Chronicle}
 use Rattle.lwkt_core.proofs.SeatingLemmas.{at_set, set_here, set_else, at_longer, at_last, at_snoc, inside, at_map, of_map, at_two, AreSeated-below, AreSeated-clerk, AreSeated-closed}
-use Rattle.lwkt_core.proofs.HistoryLemmas.{others-nil, others-cons, others-append, others-snoc, others-right, part_by-append, part_by-others, part_by-own, part_by-noted, Passes-snoc, Passes-split, Passes-same}
+use Rattle.lwkt_core.proofs.HistoryLemmas.{others-nil, others-snoc, others-right, part_by-append, part_by-others, part_by-own, part_by-noted, Passes-snoc, Passes-split, Passes-same}
 
 -- what a kind has in it
 abbrev cpu_in : SeatKind → CpuId
@@ -122,8 +122,8 @@ module _ {S : Type 0} (Done : S → Deed → S → Type 0) (first : S) where
   none_made : (made back : ℕ) → HasClerk (first_page ∷ []) made back → made ≡ 0
   none_made made back c = sym (ap (λ (k : SeatKind). made_in k) (ap (λ (x : Page). x.kind) (only_first c.at c.page c.here) ∙ c.kind))
 
-  pub Chronicle-opened : Chronicle Done first (first_page ∷ []) first
-  Chronicle-opened = record {
+  chronicle_opened : Chronicle Done first (first_page ∷ []) first
+  chronicle_opened = record {
     history = [];
     passes = refl;
     parts = λ cpu past seen. absurd (⊎_elim (λ s. no_seat_yet cpu past s) (λ k. no_chapter_yet (record { cpu = cpu; past = past }) k) seen);
@@ -133,6 +133,10 @@ module _ {S : Type 0} (Done : S → Deed → S → Type 0) (first : S) where
     met = λ made back cpu clerk low. absurd (let z = none_made made back clerk in omega arith);
     whole = inl refl;
   }
+
+  pub Chronicle-opened : (q : Chronicle Done first (first_page ∷ []) first) × (q.history ≡ [])
+  unfolding chronicle_opened
+  Chronicle-opened = (chronicle_opened, refl)
 
 -- what others have done since a seat's last deed is the rest of the history
 pub Chronicle-between : {S : Type 0} (Done : S → Deed → S → Type 0) (first m : S) (pages : List Page) (id : ℕ) (p : Page) (cpu : CpuId) → get_elem? pages id ≡ some p → p.kind ≡ Of cpu → (r : Chronicle Done first pages m) → IsPastOf r.history cpu.0 p.past
