@@ -4,5 +4,8 @@ pub mod MachineMoves
 pub mod OpeningLemmas
 pub mod TraceLemmas
 pub mod SeatingLemmas
+pub mod HistoryLemmas
+pub mod ChronicleLemmas
+pub mod ViewLemmas
 pub mod PictureLemmas
 pub mod SafetyLemmas
