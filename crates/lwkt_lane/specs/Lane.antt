@@ -1,8 +1,10 @@
 -- What a contract sees of the two ends of a lane (own).
-use Rattle.std.specs.Prelude.{◌≡◌, ℕ, ◌+◌, Bool, List, ◌∷◌, ◌++◌, length, Option, option_to_list}
-use Rattle.std.specs.Arc.{arc_value}
-use Rattle.crossbeam_queue.specs.Passes.{Pass, view, ruled_capacity}
-use Rattle.lwkt_lane.specs.declared.lines.Log.{Log}
+use Rattle.std.specs.Prelude.{◌≡◌, ℕ, ◌+◌, List, [], ◌∷◌, ◌++◌, Option, Some, None, option_to_list}
+use mathlib.Core.List.{IsPrefix}
+use denote.RawPtr.{Ptr}
+use Rattle.rtrb.specs.Shared.{Names}
+use Rattle.rtrb.specs.Ring.{producer_capacity, consumer_capacity, known_items, known_free}
+use Rattle.rtrb.specs.Ring as ring
 use Rattle.lwkt_lane.specs.declared.notes.Note.{Note}
 use Rattle.lwkt_lane.specs.declared.outs.LaneOut.{LaneOut}
 use Rattle.lwkt_lane.specs.declared.ins.LaneIn.{LaneIn}
@@ -13,54 +15,39 @@ in_hand out = out.hand
 
 -- every note pushed so far, the oldest first; a note in hand counts as sent
 abbrev pub sent : LaneOut → List Note
-sent out = (view out.pass).pushed ++ option_to_list (in_hand out)
+sent out = ring.sent out.ring ++ option_to_list (in_hand out)
+
+-- how many places of the queue the sending end knows to be free
+abbrev pub free : LaneOut → ℕ
+free out = known_free out.ring
 
 -- every note popped so far, the oldest first
 abbrev pub received : LaneIn → List Note
-received into = (view into.pass).popped
+received into = ring.received into.ring
 
--- whether a receiving end alone uses its queue: its pass pushes too
-abbrev pub receives_alone : LaneIn → Bool
-receives_alone into = (view into.pass).pushes
+-- the notes that the receiving end has seen in the queue, which the next pops give, the oldest first
+abbrev pub seen : LaneIn → List Note
+seen into = known_items into.ring
 
--- every note that came into the queue so far, the oldest first, as a receiving end knows that alone uses it
-abbrev pub all_pushed : LaneIn → List Note
-all_pushed into = (view into.pass).pushed
+-- a pop gives the oldest note that was seen, if one was, and forgets none
+abbrev pub IsSeenGone : Option Note → List Note → List Note → Type 0
+IsSeenGone None before now = now ≡ before
+IsSeenGone (Some note) before now = IsPrefix before (note ∷ now)
 
--- what was received is a front of what came into the queue, as a receiving end knows that alone uses it
-abbrev pub IsFrontReceived : LaneIn → Type 0
-IsFrontReceived into = (left : List Note) × (all_pushed into ≡ received into ++ left)
-
--- so many notes came into the queue and weren't received, as a receiving end knows that alone uses it
-abbrev pub HasLeftInQueue : LaneIn → ℕ → Type 0
-HasLeftInQueue into n = (left : List Note) × (length left ≡ n) × (all_pushed into ≡ received into ++ left)
-
--- whether a sending end alone uses its queue: its pass pops too
-abbrev pub sends_alone : LaneOut → Bool
-sends_alone out = (view out.pass).pops
-
--- the queue holds as many notes as it has room for, as a sending end knows that alone uses it
-abbrev pub IsQueueFull : LaneOut → Type 0
-IsQueueFull out = (left : List Note) × (length left ≡ ruled_capacity (arc_value out.line)) × ((view out.pass).pushed ≡ (view out.pass).popped ++ left)
-
--- which lane it is: how many notes its queue has room for, and the numbers that tell its queue from every other
+-- which lane it is: how many notes its queue has room for, and where the queue lies
 pub record LaneId : Type 0 where
   pub room : ℕ
-  pub queue : List ℕ
-
--- the lane whose queue has room for so many notes, by a pass of that queue
-abbrev pub lane_id : ℕ → Pass Note Log → LaneId
-lane_id room pass =
-    let t = pass.table_id in
-    record { room = room; queue = t.words ∷ (t.slots ∷ (t.views_name ∷ (t.atom ∷ (t.block ∷ (t.offset ∷ t.slot_names))))) }
+  pub words : Ptr
+  pub slots : Ptr
+  pub names : Names
 
 -- the lane of a sending end
 abbrev pub out_lane : LaneOut → LaneId
-out_lane out = lane_id (ruled_capacity (arc_value out.line)) out.pass
+out_lane out = record { room = producer_capacity out.ring; words = out.ring.end.words; slots = out.ring.end.slots; names = out.ring.end.names }
 
 -- the lane of a receiving end
 abbrev pub in_lane : LaneIn → LaneId
-in_lane into = lane_id (ruled_capacity (arc_value into.line)) into.pass
+in_lane into = record { room = consumer_capacity into.ring; words = into.ring.end.words; slots = into.ring.end.slots; names = into.ring.end.names }
 
 -- the two are the ends of one lane
 abbrev pub IsLane : LaneOut → LaneIn → Type 0

@@ -3,7 +3,6 @@
 
 pub mod ins;
 pub mod lanes;
-mod lines;
 pub mod notes;
 pub mod outs;
 

@@ -1,2 +1,0 @@
-pub mod Draining
-pub mod RelayMoves
