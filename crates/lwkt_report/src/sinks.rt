@@ -15,8 +15,8 @@ pub trait Sink {
     // whether a call of it has failed
     ghost has_failed: { Self → Bool };
 
-    // whether a flush has passed on all that it has taken; only a flush tells
-    ghost is_flushed: { Self → Type 0 } = { λ _. Unit {0} };
+    // whether it keeps back nothing of what it has taken, as far as it knows
+    ghost is_flushed: { Self → Type 0 };
 
     // whether it is known to take so many bytes more
     ghost has_room: { Self → ℕ → Type 0 } = { λ _ _. ⊥ };
@@ -50,15 +50,18 @@ pub struct WriterSink<W> {
     pub writer: W,
     /// Whether a call of the writer has failed.
     pub failed: bool,
+    /// Whether a flush of the writer came after its last write, and didn't fail.
+    pub flushed: bool,
 }
 
 impl<W: Write> WriterSink<W> {
     pub fn new(writer: W) -> Self
-        ensures { result ≡ record { writer = writer; failed = false } }
+        ensures { result ≡ record { writer = writer; failed = false; flushed = false } }
     {
         WriterSink {
             writer,
             failed: false,
+            flushed: false,
         }
     }
 }
@@ -68,7 +71,10 @@ impl<W: Write> Sink for WriterSink<W> {
 
     ghost has_failed = { λ sink. sink.failed };
 
+    ghost is_flushed = { λ sink. IsTrue sink.flushed };
+
     fn put(&mut self, bytes: &[u8]) -> Result<usize, StreamError> {
+        self.flushed = false;
         match self.writer.write(bytes) {
             Ok(count) if count > 0 || bytes.is_empty() => Ok(count),
             _ => {
@@ -79,13 +85,12 @@ impl<W: Write> Sink for WriterSink<W> {
     }
 
     fn flush(&mut self) -> Result<(), StreamError> {
-        match self.writer.flush() {
-            Ok(()) => Ok(()),
-            Err(_) => {
-                self.failed = true;
-                Err(StreamError)
-            }
+        self.flushed = self.writer.flush().is_ok();
+        if !self.flushed {
+            self.failed = true;
+            return Err(StreamError);
         }
+        Ok(())
     }
 }
 
@@ -118,6 +123,9 @@ impl Sink for Page {
     ghost contents = { λ page. Some page.text.items };
 
     ghost has_failed = { λ page. page.failed };
+
+    // memory keeps nothing back
+    ghost is_flushed = { λ _. Unit {0} };
 
     ghost has_room = { λ page more. vec_len page.text + more ≤ vec_capacity page.text };
 
