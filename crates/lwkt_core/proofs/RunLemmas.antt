@@ -1,5 +1,6 @@
-use Rattle.std.proofs.Common.{◌≡◌, ◌≢◌, ◌⊎◌, inl, inr, ⊎_elim, ℕ, zero, suc, ◌+◌, ◌<◌, ◌≤◌, ◌==◌, ◌||◌, Bool, true, false, cond, List, [], ◌∷◌, ◌++◌, length, map, set, All, Contains, count_by, refl, ap, sym, ◌∙◌, subst, arith, Option, Some, None, eq-eqb, eqb-true}
-use Rattle.std.specs.Prelude.{slice_get, IsSomeAnd, option_to_list}
+use Rattle.std.proofs.Common.{◌≡◌, ◌≢◌, ◌⊎◌, inl, inr, ⊎_elim, ℕ, zero, suc, ◌+◌, ◌<◌, ◌≤◌, ◌==◌, ◌||◌, Bool, true, false, cond, List, [], ◌∷◌, ◌++◌, length, map, set, All, Contains, count_by, refl, ap, sym, ◌∙◌, subst, arith, Option, Some, None, eq-eqb, eqb-true, ne_eqb, get_or-set_same, get_or-set_other, ◌-◌, ◌&&◌}
+use Rattle.std.specs.Prelude.{slice_get, slice_index, IsSomeAnd, option_to_list}
+use Rattle.std.specs.Option.{option_map_or}
 use Rattle.std.proofs.lemmas.Bool.{cases_Bool, cases_eq, or_cases, false≢true}
 use Rattle.std.proofs.lemmas.List.Elements.{All-nil, All-cons, All-head, All-tail, All-weaker}
 use Rattle.std.proofs.lemmas.List.Sums.{sum_by-cons}
@@ -9,6 +10,7 @@ use Rattle.lwkt_base.specs.declared.names.MsgId.{MsgId}
 use Rattle.lwkt_base.specs.declared.owners.Owner.{Owner}
 use Rattle.lwkt_base.specs.declared.owners.Owner.TheVariants.{Rest, Out, With, Back}
 use Rattle.lwkt_base.specs.declared.laws.Law.{Law}
+use Rattle.lwkt_base.specs.declared.laws.Law.TheVariants.{Tally}
 use Rattle.lwkt_base.specs.Law.{MeetsLaw}
 use Rattle.lwkt_core.specs.declared.tokens.Token.{Token}
 use Rattle.lwkt_core.specs.declared.messages.Message.{Message}
@@ -16,13 +18,13 @@ use Rattle.lwkt_core.specs.declared.events.Event.{Event}
 use Rattle.lwkt_core.specs.declared.events.Event.TheVariants.{Load, Take, Share, Again, Mark, GiveOne, GiveClean, GiveWritten, Read, Write, Send, TakeMsg, DropMsg, Reply, Reap, Abort}
 use Rattle.lwkt_core.specs.declared.events.Place.{Place}
 use Rattle.lwkt_core.specs.declared.events.Place.TheVariants.{AtToken, AtMessage}
-use Rattle.lwkt_core.specs.Events.{place_of}
-use Rattle.lwkt_core.specs.Tokens.{IsSafeToken, TokenNeeds, token_after}
+use Rattle.lwkt_core.specs.Events.{cpu_of, place_of}
+use Rattle.lwkt_core.specs.Tokens.{tally_of, tallies_after, IsSafeToken, TokenNeeds, token_after}
 use Rattle.lwkt_core.specs.Messages.{MessageNeeds, message_after, in_out, in_with, owner_taken, owner_replied, IsOutTo, IsOutFrom, IsWith}
-use Rattle.lwkt_core.specs.Machine.{Machine, IsSafe, PlaceNeeds, Happens, after, after_at}
+use Rattle.lwkt_core.specs.Machine.{Machine, IsSafe, Needs, PlaceNeeds, Happens, after, after_at}
 use Rattle.lwkt_core.specs.Trace.{Run}
-use Rattle.lwkt_core.specs.Headline.{sends, takes, drops, replies, takes_or_drops, reaps_or_drops, LiesBetween, MessagesGoRound, EachSendIsAnsweredOnce, AnswersAreOfTheirSend, Section, section_of, ends_written, sections_of, IsChain, SectionsAreChain, RowsStandBetweenSections, RunsAreCompatible, RunsKeepLaws}
-use Rattle.lwkt_core.proofs.MachineMoves.{changed_at}
+use Rattle.lwkt_core.specs.Headline.{sends, takes, drops, replies, takes_or_drops, reaps_or_drops, LiesBetween, MessagesGoRound, EachSendIsAnsweredOnce, AnswersAreOfTheirSend, Section, section_of, ends_written, sections_of, IsChain, SectionsAreChain, RowsStandBetweenSections, RunsAreCompatible, RunsKeepLaws, raise_of, raised_by, TalliesAreRaises}
+use Rattle.lwkt_core.proofs.MachineMoves.{changed_at, IsSafe_left}
 use Rattle.lwkt_core.proofs.SafetyLemmas.{stays, compatible, unwritten}
 
 -- in every machine of a run
@@ -592,3 +594,85 @@ rows_stand m events n t tok last safe run here there opened closed =
     let F : List ℕ → Type 0 = λ row. IsChain tok.generation row (sections_of t m events) last.generation last.first in
     let G : List ℕ → Type 0 = λ row. IsChain tok.generation tok.row (sections_of t m events) last.generation row in
     subst G (sym ((safe_read n t last (stays m events n safe run) there).settled closed)) (subst F (sym ((safe_read m t tok safe here).settled opened)) (are_chain m events n t tok last run here there).0)
+
+-- a number in a list, after one of them was raised
+raised_tally : (xs : List ℕ) (i j more : ℕ) → i < length xs → slice_index (set xs i (slice_index xs i + more)) j ≡ slice_index xs j + cond (i == j) more 0
+raised_tally xs i j more low = ⊎_elim
+    (λ (same : i ≡ j).
+    let F : ℕ → Type 0 = λ k. slice_index (set xs i (slice_index xs i + more)) k ≡ slice_index xs k + cond (i == k) more 0 in
+    let all : cond (i == i) more 0 ≡ more = ap (λ (b : Bool). cond b more 0) (eq-eqb i i refl) in
+    subst F same (get_or-set_same xs i (slice_index xs i + more) 0 low ∙ ap (λ (x : ℕ). slice_index xs i + x) (sym all)))
+    (λ (differ : i ≢ j).
+    let none : cond (i == j) more 0 ≡ 0 = ap (λ (b : Bool). cond b more 0) (ne_eqb i j differ) in
+    let still : slice_index (set xs i (slice_index xs i + more)) j ≡ slice_index xs j = get_or-set_other xs i j (slice_index xs i + more) 0 (λ e. differ (sym e)) in
+    omega arith)
+    (cases_eq i j)
+
+-- how an event at a Tally token changes what a processor has added to it
+raised_after : (t cpu : ℕ) (m : Machine) (tok : Token) (e : Event) → slice_get m.tokens t ≡ Some tok → place_of e ≡ AtToken t → TokenNeeds tok e → tok.law ≡ Tally → length tok.tallies ≡ 8 → cpu_of e < 8 → tally_of (token_after tok e) cpu ≡ tally_of tok cpu + raise_of t cpu m e
+raised_after t cpu m tok (Write by k cell value) here at needs tally eight low =
+    let more : ℕ = value - slice_index tok.row cell in
+    let old_row : slice_index (option_map_or (λ (x : Token). x.row) (slice_get m.tokens t) []) cell ≡ slice_index tok.row cell = ap (λ (o : Option Token). slice_index (option_map_or (λ (x : Token). x.row) o []) cell) here in
+    let raise : raise_of t cpu m (Write by k cell value) ≡ cond (by.0 == cpu) more 0 =
+    ap (λ (b : Bool). cond (b && (by.0 == cpu)) (value - slice_index (option_map_or (λ (x : Token). x.row) (slice_get m.tokens t) []) cell) 0) (eq-eqb k.0 t (ap (λ (p : Place). number_of p) at))
+    ∙ ap (λ (old : ℕ). cond (by.0 == cpu) (value - old) 0) old_row in
+    let changed' : tallies_after tok.law tok.tallies by.0 more ≡ set tok.tallies by.0 (slice_index tok.tallies by.0 + more) = ap (λ (l : Law). tallies_after l tok.tallies by.0 more) tally in
+    ap (λ (xs : List ℕ). slice_index xs cpu) changed'
+    ∙ raised_tally tok.tallies by.0 cpu more (omega arith)
+    ∙ ap (λ (x : ℕ). slice_index tok.tallies cpu + x) (sym raise)
+raised_after t cpu m tok (Load by k) here at needs tally eight low = omega arith
+raised_after t cpu m tok (Take by k) here at needs tally eight low = omega arith
+raised_after t cpu m tok (Share by k) here at needs tally eight low = omega arith
+raised_after t cpu m tok (Again by k) here at needs tally eight low = omega arith
+raised_after t cpu m tok (Mark by k) here at needs tally eight low = omega arith
+raised_after t cpu m tok (GiveOne by k) here at needs tally eight low = omega arith
+raised_after t cpu m tok (GiveClean by k) here at needs tally eight low = omega arith
+raised_after t cpu m tok (GiveWritten by k) here at needs tally eight low = omega arith
+raised_after t cpu m tok (Read by k cell value) here at needs tally eight low = omega arith
+raised_after t cpu m tok e here at needs tally eight low = absurd needs
+
+-- an event elsewhere raises nothing here
+raised_else : (t cpu : ℕ) (m : Machine) (e : Event) → place_of e ≢ AtToken t → raise_of t cpu m e ≡ 0
+raised_else t cpu m (Write by k cell value) away =
+    ap (λ (b : Bool). cond (b && (by.0 == cpu)) (value - slice_index (option_map_or (λ (x : Token). x.row) (slice_get m.tokens t) []) cell) 0) (ne_eqb k.0 t (λ same. away (ap (λ (j : ℕ). AtToken j) same)))
+raised_else t cpu m e away = refl
+
+-- an event keeps the law of a token
+law_stays : (tok : Token) (e : Event) → (token_after tok e).law ≡ tok.law
+law_stays tok (Load cpu t) = refl
+law_stays tok (Take cpu t) = refl
+law_stays tok (Share cpu t) = refl
+law_stays tok (Again cpu t) = refl
+law_stays tok (Mark cpu t) = refl
+law_stays tok (GiveOne cpu t) = refl
+law_stays tok (GiveClean cpu t) = refl
+law_stays tok (GiveWritten cpu t) = refl
+law_stays tok (Read cpu t cell value) = refl
+law_stays tok (Write cpu t cell value) = refl
+law_stays tok e = refl
+
+raise_law : (m : Machine) (e : Event) (t : ℕ) (tok tok' : Token) → TokenTurns e t tok tok' → tok.law ≡ Tally → tok'.law ≡ Tally
+raise_law m e t tok tok' (inl turned) tally = ap (λ (x : Token). x.law) turned.1.1 ∙ law_stays tok e ∙ tally
+raise_law m e t tok tok' (inr stays') tally = ap (λ (x : Token). x.law) stays'.1 ∙ tally
+
+raise_step : (m : Machine) (e : Event) (t cpu : ℕ) (tok tok' : Token) → IsSafe m → slice_get m.tokens t ≡ Some tok → Needs m e → TokenTurns e t tok tok' → tok.law ≡ Tally → tally_of tok' cpu ≡ tally_of tok cpu + raise_of t cpu m e
+raise_step m e t cpu tok tok' safe here needs (inl turned) tally =
+    let few = safe.processors in
+    let low = needs.processor in
+    ap (λ (x : Token). tally_of x cpu) turned.1.1 ∙ raised_after t cpu m tok e here turned.0 turned.1.0 tally (safe_read m t tok safe here).eight_tallies (omega arith)
+raise_step m e t cpu tok tok' safe here needs (inr stays') tally =
+    let none = raised_else t cpu m e stays'.0 in
+    let same : tally_of tok' cpu ≡ tally_of tok cpu = ap (λ (x : Token). tally_of x cpu) stays'.1 in
+    omega arith
+
+pub are_raises : TalliesAreRaises
+are_raises m [] n t tok last safe run here there tally cpu =
+    let same : last ≡ tok = same_Some last tok (sym there ∙ ap (λ (x : Machine). slice_get x.tokens t) run ∙ here) in
+    let one : tally_of last cpu ≡ tally_of tok cpu = ap (λ (x : Token). tally_of x cpu) same in
+    omega arith
+are_raises m (e ∷ events) n t tok last safe run here there tally cpu =
+    let left = token_left m run.0 e t tok here run.1.0 in
+    let rest = are_raises run.0 events n t left.0 last (IsSafe_left m run.0 e safe run.1.0.0 run.1.0.1) run.1.1 left.1.0 there (raise_law m e t tok left.0 left.1.1 tally) cpu in
+    let one = raise_step m e t cpu tok left.0 safe here run.1.0.0 left.1.1 tally in
+    let next : raised_by t cpu run.0 events ≡ raised_by t cpu (after m e) events = ap (λ (x : Machine). raised_by t cpu x events) run.1.0.1 in
+    omega arith

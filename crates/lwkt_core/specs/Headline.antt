@@ -1,11 +1,13 @@
-use Rattle.std.specs.Prelude.{◌≡◌, ◌≢◌, ℕ, ◌+◌, ◌≤◌, ◌==◌, if◌then◌else◌, Bool, true, false, ◌||◌, List, [], ◌∷◌, ◌++◌, map, All, Contains, count_by, Some, slice_get, option_to_list}
+use Rattle.std.specs.Prelude.{◌≡◌, ◌≢◌, ℕ, ◌+◌, ◌-◌, ◌≤◌, ◌==◌, if◌then◌else◌, Bool, true, false, ◌&&◌, ◌||◌, List, [], ◌∷◌, ◌++◌, map, All, Contains, count_by, Some, slice_get, slice_index, option_to_list}
+use Rattle.std.specs.Option.{option_map_or}
 use Rattle.lwkt_base.specs.declared.names.CpuId.{CpuId}
 use Rattle.lwkt_base.specs.declared.names.MsgId.{MsgId}
+use Rattle.lwkt_base.specs.declared.laws.Law.TheVariants.{Tally}
 use Rattle.lwkt_base.specs.Law.{MeetsLaw, IsTallied}
 use Rattle.lwkt_core.specs.declared.tokens.Token.{Token}
 use Rattle.lwkt_core.specs.declared.events.Event.{Event}
-use Rattle.lwkt_core.specs.declared.events.Event.TheVariants.{GiveWritten, Send, TakeMsg, DropMsg, Reply, Reap}
-use Rattle.lwkt_core.specs.Tokens.{IsOpen}
+use Rattle.lwkt_core.specs.declared.events.Event.TheVariants.{GiveWritten, Write, Send, TakeMsg, DropMsg, Reply, Reap}
+use Rattle.lwkt_core.specs.Tokens.{tally_of, IsOpen}
 use Rattle.lwkt_core.specs.Machine.{Machine, IsSafe, after}
 use Rattle.lwkt_core.specs.Trace.{Run}
 use Rattle.lwkt_core.specs.Safety.{IsCompatible, IsWriting}
@@ -25,6 +27,20 @@ RunsAreCompatible = (m : Machine) (events : List Event) (mid : Machine) → IsSa
 -- a law: in every machine that a run goes through a token that no exclusive holder is writing keeps its declared law
 abbrev pub RunsKeepLaws : Type 0
 RunsKeepLaws = (m : Machine) (events : List Event) (mid : Machine) → IsSafe m → GoesThrough m events mid → All (λ tok. ((cpu : ℕ) → ¬ IsWriting tok cpu) → KeepsLaw tok) mid.tokens
+
+-- how much an event raises a cell of a token for a processor, and how much the events of a run do
+abbrev pub raise_of : ℕ → ℕ → Machine → Event → ℕ
+raise_of t cpu m (Write by tok cell value) = if (tok.0 == t) && (by.0 == cpu) then value - slice_index (option_map_or (λ k. k.row) (slice_get m.tokens t) []) cell else 0
+raise_of t cpu m e = 0
+
+abbrev pub raised_by : ℕ → ℕ → Machine → List Event → ℕ
+raised_by t cpu m [] = 0
+raised_by t cpu m (e ∷ events) = raise_of t cpu m e + raised_by t cpu (after m e) events
+
+-- a law: what a processor has added to a Tally token grows in a run by what its writes raise the cell
+abbrev pub TalliesAreRaises : Type 0
+TalliesAreRaises = (m : Machine) (events : List Event) (n : Machine) (t : ℕ) (tok last : Token) → IsSafe m → Run m events n → slice_get m.tokens t ≡ Some tok → slice_get n.tokens t ≡ Some last → tok.law ≡ Tally
+    → (cpu : ℕ) → tally_of last cpu ≡ tally_of tok cpu + raised_by t cpu m events
 
 -- what an event does with a message: sends it, takes it, drops it, replies to it, reaps it
 abbrev pub sends : ℕ → Event → Bool
