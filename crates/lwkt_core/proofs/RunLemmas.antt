@@ -62,10 +62,6 @@ there_is None P h = absurd h
 there_is (Some x) P h = (x, (refl, h))
 
 -- places with one number
-token_number : Place → ℕ
-token_number (AtToken i) = i
-token_number (AtMessage i) = 0
-
 abbrev number_of : Place → ℕ
 number_of (AtToken i) = i
 number_of (AtMessage i) = i
