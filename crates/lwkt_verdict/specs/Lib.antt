@@ -1,0 +1,5 @@
+pub mod Asks
+pub mod Owns
+pub mod Parts
+pub mod Threads
+pub mod Run

@@ -1,0 +1,9 @@
+//! Checks that the turns of a run are those that its script asks for: which thread was polled when, what it asked and was
+//! answered, which events of the trace came of it, what was logged, and how the threads ended.
+#![tactic(auto)]
+
+mod asks;
+mod progress;
+pub mod turns;
+
+pub use turns::{Poll, ThreadEnd, ThreadPlan, Turn};
