@@ -1,5 +1,5 @@
 -- The events that an ask makes itself, and those that may stand in a part of a trace unasked (own).
-use Rattle.std.specs.Prelude.{◌≡◌, ℕ, ◌+◌, ◌-◌, ◌==◌, ◌&&◌, Bool, true, false, not, List, length, position, slice_get, unwrap_or, if◌then◌else◌, Option, Some, None}
+use Rattle.std.specs.Prelude.{◌≡◌, ℕ, ◌+◌, ◌-◌, ◌==◌, ◌&&◌, Bool, true, false, not, List, [], ◌∷◌, length, slice_get, if◌then◌else◌, Option, Some, None}
 use Rattle.std.specs.Option.{option_map_or}
 use Rattle.lwkt_base.specs.declared.asks.Ask.{Ask}
 use Rattle.lwkt_base.specs.declared.asks.Ask.TheVariants.{Get, GetShared, TryGet, Rel, Swap, Read as ReadAsk, Write as WriteAsk, Add as AddAsk, Send as SendAsk, Do as DoAsk, Reply as ReplyAsk, Abort as AbortAsk, IsAborted, DropMsg as DropAsk, GetPort, WaitPort, Yield, Exit}
@@ -104,9 +104,14 @@ abbrev pub is_send : Event → Bool
 is_send (Send cpu msg to round) = true
 is_send _ = false
 
+-- the place of the first send among some events, or their number
+abbrev pub first_send : List Event → ℕ
+first_send [] = 0
+first_send (e ∷ es) = if is_send e then 0 else (first_send es + 1)
+
 -- where in its part the event of an ask stands: at the end, or for a synchronous send where the first send is
 abbrev pub own_place : Ask → List Event → ℕ
-own_place ask part = if is_do ask then unwrap_or (position is_send part) (length part) else (length part - 1)
+own_place ask part = if is_do ask then first_send part else (length part - 1)
 
 -- whether a part ends with a take, a share or a further reference
 abbrev pub ends_taking : List Event → Bool

@@ -3,6 +3,9 @@
 #![tactic(auto)]
 
 mod asks;
+mod owns;
+mod parts;
+mod plans;
 mod progress;
 pub mod turns;
 
