@@ -1,1 +1,2 @@
 pub mod PartMoves
+pub mod PlanMoves

@@ -1,5 +1,5 @@
 -- What one thread of a script asks, is answered and logs, and how it ends (own).
-use Rattle.std.specs.Prelude.{◌≡◌, ℕ, ◌+◌, ◌-◌, ◌*◌, ◌/◌, ◌%◌, ◌==◌, ◌&&◌, ◌||◌, nat_lt, Bool, true, false, not, List, [], ◌∷◌, ◌++◌, length, take, min, slice_get, filter_map, Option, Some, None, MatchOption, option_map, option_and_then, is_some, if◌then◌else◌}
+use Rattle.std.specs.Prelude.{◌≡◌, ℕ, ◌+◌, ◌-◌, ◌*◌, ◌/◌, ◌%◌, ◌<◌, ◌==◌, ◌&&◌, ◌||◌, nat_lt, Bool, true, false, not, List, [], ◌∷◌, ◌++◌, length, take, min, slice_get, filter_map, Option, Some, None, MatchOption, option_map, option_and_then, is_some, if◌then◌else◌}
 use Rattle.std.specs.Option.{option_map_or}
 use Rattle.lwkt_base.specs.declared.names.ThreadId.{ThreadId}
 use Rattle.lwkt_base.specs.declared.threads.ThreadState.{ThreadState}
@@ -66,9 +66,21 @@ entries_of asked = filter_map logged_by asked
 abbrev pub progress_of : List Asked → Progress
 progress_of asked = record { polls = length asked; last = last_of asked; logged = min 32 (length (entries_of asked)) }
 
--- a thread may be polled with this ask after those: it is the thread's next ask, and the ask before it has its answer
-abbrev pub MayAsk : ThreadPlan → List Asked → Ask → Type 0
-MayAsk plan asked ask = (ask_at plan (length asked) ≡ Some ask) × MatchOption (last_of asked) (Unit {0}) (λ a. is_some a.answer ≡ true)
+-- how far a thread has come after one more ask
+abbrev pub progress_after : Progress → Asked → Progress
+progress_after p a = record { polls = p.polls + 1; last = Some a; logged = option_map_or (λ e. min 32 (p.logged + 1)) (logged_by a) p.logged }
+
+-- a thread that has come so far may be polled with this ask: it is the thread's next ask, and the ask before it has its answer
+abbrev pub MayAsk : ThreadPlan → Progress → Ask → Type 0
+MayAsk plan p ask = (ask_at plan p.polls ≡ Some ask) × MatchOption p.last (Unit {0}) (λ a. is_some a.answer ≡ true)
+
+-- the entry of an ask's answer, if it has one and is among the first 32, stands at its place in the thread's log
+abbrev pub IsLogged : ThreadEnd → Progress → Asked → Type 0
+IsLogged line p a = MatchOption (logged_by a) (Unit {0}) (λ e. p.logged < 32 → slice_get line.log.items p.logged ≡ Some e)
+
+-- a thread may rest: it was polled, and its last ask was one after which it may
+abbrev pub Rests : Progress → Type 0
+Rests p = MatchOption p.last ⊥ (λ a. may_rest a.ask a.answer a.took ≡ true)
 
 -- whether a thread may end in this state whose last ask was this
 abbrev pub may_end : ThreadState → Option Ask → Bool
@@ -78,17 +90,17 @@ may_end Running ask = not (option_map_or is_exit ask false)
 may_end Exited ask = option_map_or is_exit ask false
 may_end (Faulted fault) ask = (number_of fault == 19 && (option_map_or is_exit ask false || option_map_or may_block ask false)) || (number_of fault == 20 && option_map_or may_block ask false)
 
--- a thread ends as its printed line says: its last ask has no answer, the line's log has the first 32 entries of the answers
--- that it was given, and its state may come of its last ask
-abbrev pub EndsAs : ThreadEnd → List Asked → Type 0
-EndsAs line asked = MatchOption (last_of asked) (Unit {0}) (λ a. is_some a.answer ≡ false) × (line.log.items ≡ take 32 (entries_of asked)) × (may_end line.state (option_map (λ a. a.ask) (last_of asked)) ≡ true)
+-- a thread that has come so far ends as its printed line says: its last ask has no answer, the line's log has no more than
+-- the entries that were logged, and its state may come of its last ask
+abbrev pub EndsAs : ThreadEnd → Progress → Type 0
+EndsAs line p = MatchOption p.last (Unit {0}) (λ a. is_some a.answer ≡ false) × (length line.log.items ≡ p.logged) × (may_end line.state (option_map (λ a. a.ask) p.last) ≡ true)
 
 -- the same of a thread that the script may have or not: a line is there exactly if the thread is
-abbrev pub Ends : Option ThreadPlan → Option ThreadEnd → List Asked → Type 0
-Ends None None asked = Unit {0}
-Ends None (Some line) asked = ⊥
-Ends (Some plan) None asked = ⊥
-Ends (Some plan) (Some line) asked = EndsAs line asked
+abbrev pub Ends : Option ThreadPlan → Option ThreadEnd → Progress → Type 0
+Ends None None p = Unit {0}
+Ends None (Some line) p = ⊥
+Ends (Some plan) None p = ⊥
+Ends (Some plan) (Some line) p = EndsAs line p
 
 -- whether a thread has ended
 abbrev pub has_ended : ThreadState → Bool
