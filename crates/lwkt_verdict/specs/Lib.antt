@@ -3,3 +3,4 @@ pub mod Owns
 pub mod Parts
 pub mod Threads
 pub mod Run
+pub mod Homes

@@ -1,5 +1,5 @@
 -- A run of a script over a lawful trace (own).
-use Rattle.std.specs.Prelude.{◌≡◌, ℕ, ◌+◌, ◌-◌, ◌*◌, ◌/◌, ◌%◌, ◌<◌, ◌≤◌, ◌⊎◌, Bool, true, false, List, [], ◌∷◌, ◌++◌, length, take, drop, All, Option, Some, None, MatchOption, is_some}
+use Rattle.std.specs.Prelude.{◌≡◌, ℕ, ◌+◌, ◌-◌, ◌*◌, ◌/◌, ◌%◌, ◌<◌, ◌≤◌, ◌⊎◌, Bool, true, false, List, [], ◌∷◌, ◌++◌, length, take, drop, All, slice_get, Option, Some, None, MatchOption, is_some}
 use Rattle.lwkt_core.specs.declared.events.Event.{Event}
 use Rattle.lwkt_core.specs.Events.{cpu_of}
 use Rattle.lwkt_core.specs.Machine.{Machine}
@@ -40,6 +40,10 @@ pub record Polls (plans : List ThreadPlan) (lines : List ThreadEnd) (cpu : ℕ) 
 -- a turn without an ask fits threads that have come so far: each thread of its processor may rest
 abbrev pub Idles : List ThreadPlan → ℕ → (ℕ → Progress) → Type 0
 Idles plans cpu progress = (n : ℕ) → n < 16 → MatchOption (thread_of cpu n plans) (Unit {0}) (λ plan. Rests (progress (16 * cpu + n)))
+
+-- the same of one thread, by a table of how far the threads have come
+abbrev pub IdlesAt : List ThreadPlan → ℕ → List Progress → ℕ → Type 0
+IdlesAt plans cpu table n = MatchOption (thread_of cpu n plans) (Unit {0}) (λ plan. MatchOption (slice_get table (16 * cpu + n)) ⊥ Rests)
 
 -- the part of a turn with or without an ask
 abbrev pub Makes : Machine → Option Poll → List Event → Type 0

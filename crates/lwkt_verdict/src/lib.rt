@@ -3,9 +3,11 @@
 #![tactic(auto)]
 
 mod asks;
+mod homes;
 mod owns;
 mod parts;
 mod plans;
+mod polls;
 mod progress;
 pub mod turns;
 

@@ -91,13 +91,20 @@ pub fn may_ask(plan: &ThreadPlan, progress: Progress, ask: Ask) -> bool
     is_ask_at(plan, progress.polls, ask) && is_answered(progress.last)
 }
 
+// The entry at a place of a log.
+fn entry_at(log: &[Entry], place: usize) -> Option<Entry>
+    ensures { result ≡ slice_get log.now place }
+{
+    log.get(place).copied()
+}
+
 // Whether an entry stands at a place of a log.
 fn is_entry(log: &[Entry], place: usize, entry: Entry) -> bool
     ensures { IsTrue result ↔ (slice_get log.now place ≡ Some entry) }
 {
-    match log.get(place) {
+    match entry_at(log, place) {
         None => false,
-        Some(there) => *there == entry,
+        Some(there) => there == entry,
     }
 }
 
