@@ -1,2 +1,3 @@
 pub mod PartMoves
 pub mod PlanMoves
+pub mod PollMoves

@@ -1,13 +1,9 @@
 -- Where the threads of a script and their lines stand, as a check of a run keeps it (own).
-use Rattle.std.specs.Prelude.{◌≡◌, ℕ, ◌+◌, ◌*◌, ◌/◌, ◌%◌, ◌<◌, List, length, Option, Some, None, is_some, slice_get, slice_index_or}
+use Rattle.std.specs.Prelude.{◌≡◌, ℕ, ◌+◌, ◌*◌, ◌/◌, ◌%◌, ◌<◌, List, length, Option, Some, None, slice_get, slice_index_or}
 use Rattle.lwkt_verdict.specs.declared.turns.ThreadPlan.{ThreadPlan}
 use Rattle.lwkt_verdict.specs.declared.turns.ThreadEnd.{ThreadEnd}
 use Rattle.lwkt_verdict.specs.declared.homes.Home.{Home}
 use Rattle.lwkt_verdict.specs.Threads.{thread_of, line_of}
-
--- a thread and its line are both there, or neither is
-abbrev pub IsPaired : List ThreadPlan → List ThreadEnd → ℕ → ℕ → Type 0
-IsPaired plans lines cpu n = is_some (thread_of cpu n plans) ≡ is_some (line_of (16 * cpu + n) lines)
 
 -- where a thread and its line stand, if they are there
 abbrev pub IsHome : List ThreadPlan → List ThreadEnd → ℕ → ℕ → Option Home → Type 0

@@ -67,6 +67,10 @@ Runs plans lines cpus m before [] events = Closes plans lines m before events
 Runs plans lines cpus m before (turn ∷ turns) events =
     (turn.events ≤ length events) × (Fits plans lines (length before % cpus) m before turn (take turn.events events) × Runs plans lines cpus (after_all m (take turn.events events)) (before ++ piece turn (take turn.events events) ∷ []) turns (drop turn.events events))
 
+-- a thread and its line are both there, or neither is
+abbrev pub IsPaired : List ThreadPlan → List ThreadEnd → ℕ → ℕ → Type 0
+IsPaired plans lines cpu n = is_some (thread_of cpu n plans) ≡ is_some (line_of (16 * cpu + n) lines)
+
 -- the lines of threads are in order, by processor, then number
 abbrev pub AreListed : ℕ → ℕ → List ThreadEnd → Type 0
 AreListed cpus least [] = Unit {0}
@@ -78,8 +82,9 @@ pub record EndsEarly (cpus : ℕ) (limit : ℕ) (turns : List Turn) (lines : Lis
   pub unasked : All (λ turn. is_some turn.poll ≡ false) (drop (length turns - cpus) turns)
   pub ended : All (λ line. has_ended line.state ≡ true) lines
 
--- so many turns are whole rounds, at least one
+-- so many turns are whole rounds of the processors, at least one; they are the script's, or fewer
 pub record AreRounds (cpus : ℕ) (limit : ℕ) (turns : List Turn) (lines : List ThreadEnd) : Type 0 where
+  pub processors : 0 < cpus
   pub some : 0 < length turns
   pub whole : length turns % cpus ≡ 0
   pub enough : (length turns ≡ limit * cpus) ⊎ EndsEarly cpus limit turns lines
@@ -87,5 +92,6 @@ pub record AreRounds (cpus : ℕ) (limit : ℕ) (turns : List Turn) (lines : Lis
 -- the turns are a run of a script with so many rounds at most, over a trace from an opening, which ends as the lines say
 pub record IsScriptRun (plans : List ThreadPlan) (limit : ℕ) (opening : Machine) (turns : List Turn) (trace : List Event) (lines : List ThreadEnd) : Type 0 where
   pub listed : AreListed opening.cpus 0 lines
+  pub paired : (cpu n : ℕ) → cpu < 8 → n < 16 → IsPaired plans lines cpu n
   pub rounds : AreRounds opening.cpus limit turns lines
   pub runs : Runs plans lines opening.cpus opening [] turns trace

@@ -1,5 +1,6 @@
 ghost use Rattle.std.specs.Prelude.{◌≡◌, ℕ, ◌<◌, ◌+◌, ◌*◌, ◌↔◌, IsTrue, length, MatchOption, slice_index_or, None};
-ghost use Rattle.lwkt_verdict.specs.Homes.{IsPaired, IsHome, AreHomes};
+ghost use Rattle.lwkt_verdict.specs.Homes.{IsHome, AreHomes};
+ghost use Rattle.lwkt_verdict.specs.Run.{IsPaired};
 
 use crate::plans::{find_line, find_thread};
 use crate::turns::{ThreadEnd, ThreadPlan};

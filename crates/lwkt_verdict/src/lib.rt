@@ -9,6 +9,7 @@ mod parts;
 mod plans;
 mod polls;
 mod progress;
+mod rounds;
 pub mod turns;
 
 pub use turns::{Poll, ThreadEnd, ThreadPlan, Turn};

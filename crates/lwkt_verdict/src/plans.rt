@@ -1,12 +1,13 @@
-ghost use Rattle.std.specs.Prelude.{◌≡◌, ◌<◌, ◌↔◌, IsTrue, Some, length, slice_get, option_and_then, IfSome};
+ghost use Rattle.std.specs.Prelude.{◌≡◌, ◌<◌, ◌^◌, ◌↔◌, IsTrue, Some, length, slice_get, option_and_then, IfSome};
 ghost use Rattle.lwkt_verdict.specs.Threads.{thread_of, line_of, slot_of, ask_in, ask_at};
 
 use crate::turns::{ThreadEnd, ThreadPlan};
 use lwkt_base::{Ask, ThreadId};
 
-// A thread's number among those of all processors, 16 for each.
-fn slot_of(id: ThreadId) -> usize
-    ensures { result ≡ slot_of id }
+/// A thread's number among those of all processors, 16 for each.
+pub fn slot_of(id: ThreadId) -> usize
+    ensures slot { result ≡ slot_of id }
+    ensures small { result < 2 ^ 16 }
 {
     16 * usize::from(id.cpu.0) + usize::from(id.thread)
 }
