@@ -4,3 +4,4 @@ pub mod Parts
 pub mod Threads
 pub mod Run
 pub mod Homes
+pub mod Shows

@@ -3,6 +3,8 @@
 #![tactic(auto)]
 
 mod asks;
+mod checks;
+mod ends;
 mod homes;
 mod owns;
 mod parts;
@@ -12,4 +14,5 @@ mod progress;
 mod rounds;
 pub mod turns;
 
+pub use checks::is_script_run;
 pub use turns::{Poll, ThreadEnd, ThreadPlan, Turn};

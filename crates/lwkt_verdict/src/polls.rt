@@ -47,8 +47,8 @@ fn poll_fits(
         && is_logged(&lines[home.line], progress, asked)
 }
 
-// How far a thread has come.
-fn progress_at(table: &[Progress], slot: usize) -> Progress
+/// How far a thread has come.
+pub fn progress_at(table: &[Progress], slot: usize) -> Progress
     requires { slot < length table.now }
     ensures { slice_get table.now slot ≡ Some result }
 {

@@ -31,6 +31,15 @@ pub struct Progress {
     pub logged: usize,
 }
 
+impl Progress {
+    /// That of a thread that was never polled.
+    pub const START: Progress = Progress {
+        polls: 0,
+        last: None,
+        logged: 0,
+    };
+}
+
 /// What a turn was. Only proofs have values of it.
 #[derive(Clone, Copy, Debug, PartialEq, Eq)]
 pub struct Piece {
