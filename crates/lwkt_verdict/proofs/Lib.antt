@@ -1,3 +1,5 @@
 pub mod PartMoves
 pub mod PlanMoves
 pub mod PollMoves
+pub mod ShowMoves
+pub mod EndMoves
