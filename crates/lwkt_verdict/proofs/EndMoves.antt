@@ -1,11 +1,11 @@
 use Rattle.std.proofs.Common.{zero, suc, ◌≡◌, ℕ, ◌+◌, ◌*◌, ◌/◌, ◌%◌, ◌<◌, ◌≤◌, List, [], ◌∷◌, length, refl, sym, ap, ◌∙◌, subst, arith, rules, Option, Some, None}
-use Rattle.std.specs.Prelude.{◌↔◌, slice_get, MatchOption, IfSome}
+use Rattle.std.specs.Prelude.{◌↔◌, slice_get, slice_index_or, MatchOption, IfSome}
 use Rattle.lwkt_verdict.specs.declared.turns.ThreadPlan.{ThreadPlan}
 use Rattle.lwkt_verdict.specs.declared.turns.ThreadEnd.{ThreadEnd}
 use Rattle.lwkt_verdict.specs.declared.homes.Home.{Home}
 use Rattle.lwkt_verdict.specs.declared.progress.Progress.{Progress}
 use Rattle.lwkt_verdict.specs.Threads.{thread_of, line_of, EndsAs, Ends}
-use Rattle.lwkt_verdict.specs.Homes.{IsHome}
+use Rattle.lwkt_verdict.specs.Homes.{IsHome, AreHomes}
 use Rattle.lwkt_verdict.specs.Shows.{EndsAt}
 
 -- the element at an index inside a list
@@ -60,3 +60,15 @@ pub by_threads : (P : ℕ → ℕ → Type 0) → ((k : ℕ) → k < 128 → P (
 by_threads P all cpu n here few =
     let there : P ((16 * cpu + n) / 16) ((16 * cpu + n) % 16) = all (16 * cpu + n) (omega arith) in
     subst (λ m. P cpu m) (slot_number cpu n few) (subst (λ c. P c ((16 * cpu + n) % 16)) (slot_cpu cpu n few) there)
+
+-- where the thread of a number stands
+pub home_k : (plans : List ThreadPlan) (lines : List ThreadEnd) (homes : List (Option Home)) (k : ℕ) (home : Option Home) → AreHomes plans lines homes → k < 128 → home ≡ slice_index_or homes k None → IsHome plans lines (k / 16) (k % 16) home
+home_k plans lines homes k home are inside is =
+    let there = are.1 (k / 16) (k % 16) (omega arith) (omega arith) in
+    let same : slice_index_or homes (16 * (k / 16) + k % 16) None ≡ home = ap (λ i. slice_index_or homes i None) (slot_back k) ∙ sym is in
+    subst (λ (h : Option Home). IsHome plans lines (k / 16) (k % 16) h) same there
+
+-- the same as above, of the thread of a number
+pub end_k : (plans : List ThreadPlan) (lines : List ThreadEnd) (table : List Progress) (k : ℕ) (home : Option Home) (p : Progress) → IsHome plans lines (k / 16) (k % 16) home → slice_get table k ≡ Some p → MatchOption home (Unit {0}) (λ h. MatchOption (slice_get lines h.line) ⊥ (λ line. EndsAs line p)) ↔ EndsAt plans lines table (k / 16) (k % 16)
+end_k plans lines table k home p is at =
+    end_here plans lines table (k / 16) (k % 16) home p is (ap (λ i. slice_get table i) (slot_back k) ∙ at)

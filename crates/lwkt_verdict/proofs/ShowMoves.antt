@@ -7,11 +7,13 @@ use Rattle.std.proofs.lemmas.List.{length_push}
 use Rattle.std.proofs.lemmas.List.Elements.{filter_map-append}
 use Rattle.lwkt_base.specs.declared.entries.Entry.{Entry}
 use Rattle.lwkt_verdict.specs.declared.turns.Poll.{Poll}
+use Rattle.lwkt_verdict.specs.declared.turns.ThreadPlan.{ThreadPlan}
+use Rattle.lwkt_verdict.specs.declared.turns.ThreadEnd.{ThreadEnd}
 use Rattle.lwkt_verdict.specs.declared.progress.Asked.{Asked}
 use Rattle.lwkt_verdict.specs.declared.progress.Progress.{Progress}
 use Rattle.lwkt_verdict.specs.declared.progress.Piece.{Piece}
 use Rattle.lwkt_verdict.specs.Threads.{slot_of, asked_in, asked_by, last_of, logged_by, entries_of, progress_of, progress_after}
-use Rattle.lwkt_verdict.specs.Run.{came, asked}
+use Rattle.lwkt_verdict.specs.Run.{came, asked, Polls}
 use Rattle.lwkt_verdict.specs.Shows.{Shows}
 
 -- what a turn more asked of a thread
@@ -120,6 +122,14 @@ few_in (Some q) f few = few q
 asked_once : (slot : ℕ) (p : Piece) → length (asked_in slot p) ≤ 1
 asked_once slot p = few_in p.poll (λ q. if slot_of q.thread == slot then (asked q p.took ∷ []) else []) (λ q. if_few (slot_of q.thread == slot) (asked q p.took))
 
+-- a poll that fits is of one of the threads that there can be
+inside_by : (plans : List ThreadPlan) (lines : List ThreadEnd) (cpu : ℕ) (o : Option Progress) (q : Poll) → cpu < 8 → MatchOption o ⊥ (λ p. Polls plans lines cpu p q) → slot_of q.thread < 128
+inside_by plans lines cpu None q small right = absurd right
+inside_by plans lines cpu (Some p) q small right =
+    let here = right.here in
+    let few = right.numbered in
+    omega arith
+
 -- no thread was asked more often than there were turns
 asked_few : (slot : ℕ) (before : List Piece) → length (asked_by slot before) ≤ length before
 asked_few slot [] = omega arith
@@ -133,3 +143,11 @@ few_polls before table k shows few inside =
     let F : Option Progress → Type 0 = λ o. IfSome o (λ p. p.polls < 18446744073709551615) in
     let less = asked_few k before in
     subst F (sym (shows.at k inside)) (omega arith)
+
+-- the same, by what the check of a poll says
+pub shows_polled : (plans : List ThreadPlan) (lines : List ThreadEnd) (cpu : ℕ) (before : List Piece) (table new : List Progress) (q : Poll) (took : Bool) → cpu < 8 → Shows before table → MatchOption (slice_get table (slot_of q.thread)) ⊥ (λ p. Polls plans lines cpu p q) → MatchOption (slice_get table (slot_of q.thread)) ⊥ (λ p. new ≡ slice_set table (slot_of q.thread) (progress_after p (asked q took))) → Shows (before ++ record { poll = Some q; took = took } ∷ []) new
+shows_polled plans lines cpu before table new q took small shows right moved =
+    let slot = slot_of q.thread in
+    let inside : slot < 128 = inside_by plans lines cpu (slice_get table slot) q small right in
+    let F : Option Progress → Type 0 = λ o. MatchOption o ⊥ (λ p. new ≡ slice_set table slot (progress_after p (asked q took))) in
+    shows_poll before table new q took shows inside (subst F (shows.at slot inside) moved)

@@ -76,9 +76,13 @@ fn fits(
     ensures moved { IsTrue result → state.new ≡ after_all state.old part.now }
     ensures noted { (before : List Piece) → Shows before table.old → IsTrue result → Shows (before ++ piece turn.now part.now ∷ []) table.new }
 {
-    are_of(cpu, part)
-        && makes(state, turn, part)
-        && asks(plans, lines, homes, table, cpu, turn, ends_taking(part))
+    if !are_of(cpu, part) {
+        return false;
+    }
+    if !makes(state, turn, part) {
+        return false;
+    }
+    asks(plans, lines, homes, table, cpu, turn, ends_taking(part))
 }
 
 // Whether what is left of a trace after the last turn is the end of a run.
