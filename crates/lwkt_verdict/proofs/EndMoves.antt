@@ -1,11 +1,12 @@
 use Rattle.std.proofs.Common.{zero, suc, ◌≡◌, ℕ, ◌+◌, ◌*◌, ◌/◌, ◌%◌, ◌<◌, ◌≤◌, List, [], ◌∷◌, length, refl, sym, ap, ◌∙◌, subst, arith, rules, Option, Some, None}
-use Rattle.std.specs.Prelude.{◌↔◌, slice_get, slice_index_or, MatchOption, IfSome}
+use Rattle.std.specs.Prelude.{◌↔◌, slice_get, slice_index_or, MatchOption, IfSome, is_some}
 use Rattle.lwkt_verdict.specs.declared.turns.ThreadPlan.{ThreadPlan}
 use Rattle.lwkt_verdict.specs.declared.turns.ThreadEnd.{ThreadEnd}
 use Rattle.lwkt_verdict.specs.declared.homes.Home.{Home}
 use Rattle.lwkt_verdict.specs.declared.progress.Progress.{Progress}
 use Rattle.lwkt_verdict.specs.Threads.{thread_of, line_of, EndsAs, Ends}
 use Rattle.lwkt_verdict.specs.Homes.{IsHome, AreHomes}
+use Rattle.lwkt_verdict.specs.Run.{IsPaired}
 use Rattle.lwkt_verdict.specs.Shows.{EndsAt}
 
 -- the element at an index inside a list
@@ -72,3 +73,16 @@ home_k plans lines homes k home are inside is =
 pub end_k : (plans : List ThreadPlan) (lines : List ThreadEnd) (table : List Progress) (k : ℕ) (home : Option Home) (p : Progress) → IsHome plans lines (k / 16) (k % 16) home → slice_get table k ≡ Some p → MatchOption home (Unit {0}) (λ h. MatchOption (slice_get lines h.line) ⊥ (λ line. EndsAs line p)) ↔ EndsAt plans lines table (k / 16) (k % 16)
 end_k plans lines table k home p is at =
     end_here plans lines table (k / 16) (k % 16) home p is (ap (λ i. slice_get table i) (slot_back k) ∙ at)
+
+-- where threads and lines stand, each thread has its line and each line its thread
+home_paired : (plans : List ThreadPlan) (lines : List ThreadEnd) (cpu n : ℕ) (home : Option Home) → IsHome plans lines cpu n home → IsPaired plans lines cpu n
+home_paired plans lines cpu n None is =
+    ap (λ (o : Option ThreadPlan). is_some o) is.0 ∙ sym (ap (λ (o : Option ThreadEnd). is_some o) is.1)
+home_paired plans lines cpu n (Some home) is =
+    let plan = some_of plans home.plan is.1 in
+    let line = some_of lines home.line is.3 in
+    ap (λ (o : Option ThreadPlan). is_some o) (is.0 ∙ plan.1) ∙ sym (ap (λ (o : Option ThreadEnd). is_some o) (is.2 ∙ line.1))
+
+pub homes_paired : (plans : List ThreadPlan) (lines : List ThreadEnd) (homes : List (Option Home)) → AreHomes plans lines homes → (cpu n : ℕ) → cpu < 8 → n < 16 → IsPaired plans lines cpu n
+homes_paired plans lines homes are cpu n here few =
+    home_paired plans lines cpu n (slice_index_or homes (16 * cpu + n) None) (are.1 cpu n here few)

@@ -3,3 +3,4 @@ pub mod PlanMoves
 pub mod PollMoves
 pub mod ShowMoves
 pub mod EndMoves
+pub mod RunMoves

@@ -1,4 +1,5 @@
-use Rattle.std.proofs.Common.{zero, suc, inl, inr, ◌≡◌, ◌⊎◌, ℕ, ◌+◌, ◌-◌, ◌*◌, ◌<◌, ◌≤◌, List, [], ◌∷◌, ◌++◌, length, refl, sym, ap, ◌∙◌, subst, arith, rules, Option, Some, None, append-nil, append_assoc, length-append}
+use Rattle.std.proofs.Common.{zero, suc, inl, inr, ◌≡◌, ◌⊎◌, ℕ, ◌+◌, ◌-◌, ◌*◌, ◌<◌, ◌≤◌, List, [], ◌∷◌, ◌++◌, length, refl, sym, ap, ◌∙◌, subst, arith, rules, Option, Some, None, append-nil, append_assoc, length-append, replicate}
+use Rattle.std.proofs.Math.ListN.{length-replicate}
 use Rattle.std.specs.Prelude.{◌==◌, Bool, min, slice_get, slice_set, true, false, if◌then◌else◌, filter_map, MatchOption, IfSome}
 use Rattle.std.specs.List.{cons_option}
 use Rattle.std.specs.Option.{option_map_or}
@@ -86,7 +87,18 @@ length_set [] i v = refl
 length_set (x ∷ xs) zero v = refl
 length_set (x ∷ xs) (suc i) v = ap suc (length_set xs i v)
 
--- a table at the beginning
+-- an element of a list of as many of one
+get_replicate : {A : Type 0} (n : ℕ) (x : A) (k : ℕ) → k < n → slice_get (replicate n x) k ≡ Some x
+get_replicate zero x k inside = absurd (omega arith)
+get_replicate (suc n) x zero inside = refl
+get_replicate (suc n) x (suc k) inside = get_replicate n x k (omega arith)
+
+-- the table before the first turn
+pub shows_start : Shows [] (replicate 128 (record { polls = 0; last = None; logged = 0 }))
+shows_start =
+    let p : Progress = record { polls = 0; last = None; logged = 0 } in
+    record { room = length-replicate {A = Progress} 128 p; at = λ k inside. get_replicate 128 p k inside }
+
 -- after a turn without an ask
 pub shows_idle : (before : List Piece) (table : List Progress) (took : Bool) → Shows before table → Shows (before ++ record { poll = None; took = took } ∷ []) table
 shows_idle before table took shows = record {

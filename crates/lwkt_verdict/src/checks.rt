@@ -106,30 +106,61 @@ fn runs(
     plans: &[ThreadPlan],
     lines: &[ThreadEnd],
     homes: &[Option<Home>],
-    state: State,
+    table: &mut [Progress],
+    state: &mut State,
     turns: &[Turn],
     trace: &[Event],
 ) -> bool
-    requires processors { 0 < state.cpus }
+    requires processors { 0 < state.old.cpus }
     requires homes { AreHomes plans.now lines.now homes.now }
-    ensures { IsTrue result ↔ Runs plans.now lines.now state.cpus state [] turns.now trace.now }
+    requires shows { Shows [] table.old }
+    ensures { IsTrue result ↔ Runs plans.now lines.now state.old.cpus state.old [] turns.now trace.now }
 {
-    let mut state = state;
     let cpus = state.cpus();
-    let mut table = [Progress::START; 128];
     let mut rest = trace;
     for (i, turn) in turns.iter().enumerate() {
         let count = turn.events as usize;
         if count > rest.len() {
             return false;
         }
-        let part = &rest[..count];
-        if !fits(plans, lines, homes, &mut table, &mut state, i % cpus, turn, part) {
+        let (part, later) = rest.split_at(count);
+        if !fits(plans, lines, homes, table, state, i % cpus, turn, part) {
             return false;
         }
-        rest = &rest[count..];
+        rest = later;
     }
-    closes(plans, lines, homes, &table, &mut state, rest)
+    closes(plans, lines, homes, table, state, rest)
+}
+
+// How far the threads have come before the first turn.
+fn start() -> [Progress; 128]
+    ensures { Shows [] result }
+{
+    [Progress::START; 128]
+}
+
+// Whether the turns are a run of a script from this machine.
+fn is_run_from(
+    plans: &[ThreadPlan],
+    limit: u32,
+    state: &mut State,
+    turns: &[Turn],
+    trace: &[Event],
+    lines: &[ThreadEnd],
+) -> bool
+    ensures { IsTrue result ↔ IsScriptRun plans.now limit state.old turns.now trace.now lines.now }
+{
+    let cpus = state.cpus();
+    if !are_listed(cpus, lines) || !are_rounds(cpus, limit, turns, lines) {
+        return false;
+    }
+    match homes_of(plans, lines) {
+        None => false,
+        Some(homes) => {
+            let mut table = start();
+            runs(plans, lines, &homes, &mut table, state, turns, trace)
+        }
+    }
 }
 
 /// Whether these turns are a run of a script with these threads and so many rounds at most, over this trace from the opening,
@@ -144,12 +175,6 @@ pub fn is_script_run(
 ) -> bool
     ensures { IsTrue result ↔ IsScriptRun plans.now limit opening turns.now trace.now lines.now }
 {
-    let cpus = opening.cpus();
-    if !are_listed(cpus, lines) || !are_rounds(cpus, limit, turns, lines) {
-        return false;
-    }
-    match homes_of(plans, lines) {
-        None => false,
-        Some(homes) => runs(plans, lines, &homes, opening, turns, trace),
-    }
+    let mut state = opening;
+    is_run_from(plans, limit, &mut state, turns, trace, lines)
 }

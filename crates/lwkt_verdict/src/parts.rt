@@ -51,12 +51,7 @@ fn is_made(state: &State, ask: Ask, answer: Option<Answer>, event: &Event) -> bo
 }
 
 // Makes the events happen, if they can, from the place of an ask's own event on.
-fn goes_from(
-    state: &mut State,
-    ask: Ask,
-    answer: Option<Answer>,
-    events: &[Event],
-) -> bool
+fn goes_from(state: &mut State, ask: Ask, answer: Option<Answer>, events: &[Event]) -> bool
     ensures right { IsTrue result ↔ GoesFrom state.old ask answer events.now }
     ensures moved { IsTrue result → state.new ≡ after_all state.old events.now }
 {

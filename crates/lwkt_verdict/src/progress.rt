@@ -64,7 +64,11 @@ pub fn progress_after(progress: Progress, asked: Asked) -> Progress
 {
     let logged = match logged_by(asked) {
         None => progress.logged,
-        Some(_) => if progress.logged < LOG_LIMIT { progress.logged + 1 } else { LOG_LIMIT },
+        Some(_) => if progress.logged < LOG_LIMIT {
+            progress.logged + 1
+        } else {
+            LOG_LIMIT
+        },
     };
     Progress {
         polls: progress.polls + 1,
