@@ -1,0 +1,30 @@
+use Rattle.std.proofs.Common.{zero, suc, ◌≡◌, ℕ, ◌+◌, ◌-◌, ◌<◌, ◌≤◌, List, [], ◌∷◌, length, drop, get_or, refl, sym, ap, ◌∙◌, subst, arith, rules, Option, Some}
+use Rattle.std.specs.Prelude.{slice_get}
+use Rattle.std.proofs.lemmas.List.{drop_more}
+use Rattle.std.proofs.lemmas.Option.{slice_get-get_or}
+use Rattle.lwkt_verdict.specs.declared.turns.ThreadPlan.{ThreadPlan}
+use Rattle.lwkt_verdict.specs.declared.turns.ThreadEnd.{ThreadEnd}
+use Rattle.lwkt_verdict.specs.Threads.{slot_of, thread_of, line_of}
+
+-- the first of some lines, where it is the one that is looked for
+line_head : (slot : ℕ) (l : ThreadEnd) (ls : List ThreadEnd) → slot_of l.id ≡ slot → line_of slot (l ∷ ls) ≡ Some l
+line_head slot l ls is = search rules
+
+-- the first of some threads, where it is the one that is looked for
+thread_head : (cpu n : ℕ) (t : ThreadPlan) (ts : List ThreadPlan) → t.cpu.0 ≡ cpu → n ≡ 0 → thread_of cpu n (t ∷ ts) ≡ Some t
+thread_head cpu n t ts is first = search rules
+
+-- an element at an index, and the rest of the list from there
+at_index : {A : Type 0} (xs : List A) (i : ℕ) (x : A) (F : List A → Option A) → i < length xs → x ≡ get_or xs i x → F (x ∷ drop (i + 1) xs) ≡ Some x → slice_get xs i ≡ F (drop i xs)
+at_index xs i x F inside is head =
+    let get : slice_get xs i ≡ Some x = slice_get-get_or xs i x inside ∙ ap (λ y. Some y) (sym is) in
+    let rest : drop i xs ≡ x ∷ drop (i + 1) xs = drop_more xs i x inside ∙ ap (λ y. y ∷ drop (i + 1) xs) (sym is) in
+    get ∙ sym head ∙ ap F (sym rest)
+
+pub line_found : (slot : ℕ) (lines : List ThreadEnd) (i : ℕ) (l : ThreadEnd) → i < length lines → l ≡ get_or lines i l → slot_of l.id ≡ slot → line_of slot lines ≡ line_of slot (drop i lines) → slice_get lines i ≡ line_of slot lines
+line_found slot lines i l inside is here so_far =
+    at_index lines i l (λ ls. line_of slot ls) inside is (line_head slot l (drop (i + 1) lines) here) ∙ sym so_far
+
+pub thread_found : (cpu n left : ℕ) (plans : List ThreadPlan) (i : ℕ) (t : ThreadPlan) → i < length plans → t ≡ get_or plans i t → t.cpu.0 ≡ cpu → left ≡ 0 → thread_of cpu n plans ≡ thread_of cpu left (drop i plans) → slice_get plans i ≡ thread_of cpu n plans
+thread_found cpu n left plans i t inside is here first so_far =
+    at_index plans i t (λ ts. thread_of cpu left ts) inside is (thread_head cpu left t (drop (i + 1) plans) here first) ∙ sym so_far

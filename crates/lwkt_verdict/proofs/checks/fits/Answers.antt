@@ -1,0 +1,13 @@
+use Rattle.std.proofs.Common.{◌≡◌, ◌++◌, ◌∷◌, [], Bool, sym, subst}
+use Rattle.lwkt_verdict.specs.Shows.{Shows}
+use Rattle.lwkt_verdict.proofs.checks.fits.Goals as goal
+
+pub returns-clause-right : goal.returns-clause-right
+returns-clause-right c = λ before shows.
+    let right = c.asks.ensures.right before shows in
+    ((λ yes. record { own = c.are_of.ensures.0 c.if-not-are_of.false; makes = c.makes.ensures.right.0 c.if-not-makes.false; polls = right.0 yes }), (λ fits. right.1 fits.polls))
+
+pub returns-clause-noted : goal.returns-clause-noted
+returns-clause-noted c = λ before shows yes.
+    let F : Bool → Type 0 = λ b. Shows (before ++ record { poll = c.args.turn.now.poll; took = b } ∷ []) c.asks.new.table in
+    subst F c.ends_taking.ensures (c.asks.ensures.moved before shows yes)

@@ -1,0 +1,8 @@
+use Rattle.std.proofs.Common.{[]}
+use Rattle.lwkt_verdict.specs.Run.{Runs}
+use Rattle.lwkt_verdict.proofs.RunMoves.{Goes}
+use Rattle.lwkt_verdict.proofs.checks.runs.Given as goal
+
+-- the turns so far fit, and the run is one exactly if the turns that are left go on from there
+abbrev pub invariant-loop-i : goal.invariant-loop-i
+invariant-loop-i l = Goes (Runs l.fn.plans l.fn.lines l.fn.state.cpus l.fn.state [] l.fn.turns l.fn.trace) l.fn.plans l.fn.lines l.fn.state.cpus l.state l.table l.fn.turns l.i l.rest

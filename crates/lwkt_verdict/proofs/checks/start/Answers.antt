@@ -1,0 +1,5 @@
+use Rattle.lwkt_verdict.proofs.ShowMoves.{shows_start}
+use Rattle.lwkt_verdict.proofs.checks.start.Goals as goal
+
+pub returns : goal.returns
+returns c = shows_start

@@ -1,0 +1,182 @@
+-- What an ask can be answered, what it leaves of the thread that made it, and what its answer puts in a log (own).
+use Rattle.std.specs.Prelude.{ℕ, ◌==◌, ◌&&◌, ◌||◌, nat_le, Bool, true, false, not, List, [], ◌∷◌, Option, Some, None, if◌then◌else◌}
+use Rattle.std.specs.List.{list_any}
+use Rattle.lwkt_base.specs.declared.names.MsgId.{MsgId}
+use Rattle.lwkt_base.specs.declared.records.Call.{Call}
+use Rattle.lwkt_base.specs.declared.records.Rec.{Rec}
+use Rattle.lwkt_base.specs.declared.faults.Fault.{Fault}
+use Rattle.lwkt_base.specs.declared.asks.Ask.{Ask}
+use Rattle.lwkt_base.specs.declared.asks.Ask.TheVariants.{Get, GetShared, TryGet, Rel, Swap, Read, Write, Add, Send, Do, Reply, Abort, IsAborted, DropMsg, GetPort, WaitPort, Yield, Exit}
+use Rattle.lwkt_base.specs.declared.asks.Item.{Item}
+use Rattle.lwkt_base.specs.declared.asks.Item.TheVariants.{Request, Answered}
+use Rattle.lwkt_base.specs.declared.asks.Answer.{Answer}
+use Rattle.lwkt_base.specs.declared.asks.Answer.TheVariants.{Begin, Done, Value, Dropped, Got, NoMsg, Refused}
+use Rattle.lwkt_base.specs.declared.entries.Entry.{Entry}
+use Rattle.lwkt_base.specs.declared.entries.Entry.TheVariants.{Value as ValueEntry, Aborted, Request as RequestEntry, Reply as ReplyEntry, NoMessage, Dropped as DroppedEntry, Refused as RefusedEntry}
+use Rattle.lwkt_base.specs.Fault.{number_of}
+
+-- the numbers of the faults with which an ask can be refused
+abbrev pub refusals : Ask → List ℕ
+refusals (Get tok) = 16 ∷ 10 ∷ 11 ∷ 20 ∷ []
+refusals (GetShared tok) = 16 ∷ 10 ∷ []
+refusals (TryGet tok) = 16 ∷ 10 ∷ 11 ∷ 20 ∷ 23 ∷ 34 ∷ []
+refusals (Rel tok) = 13 ∷ 12 ∷ 19 ∷ []
+refusals Swap = 15 ∷ 14 ∷ []
+refusals (Read tok cell) = 16 ∷ 17 ∷ 13 ∷ []
+refusals (Write tok cell value) = 16 ∷ 17 ∷ 13 ∷ 18 ∷ 22 ∷ []
+refusals (Add tok more) = 16 ∷ 13 ∷ 18 ∷ 22 ∷ 21 ∷ []
+refusals (Send msg to call flags) = 30 ∷ 25 ∷ 24 ∷ 36 ∷ []
+refusals (Do msg to call) = 30 ∷ 29 ∷ 25 ∷ 24 ∷ 36 ∷ []
+refusals (Reply msg error outcome) = 31 ∷ 24 ∷ []
+refusals (Abort msg) = 25 ∷ 26 ∷ 27 ∷ []
+refusals (IsAborted msg) = 31 ∷ []
+refusals (DropMsg msg) = 25 ∷ 26 ∷ 28 ∷ []
+refusals GetPort = 34 ∷ []
+refusals WaitPort = []
+refusals Yield = []
+refusals Exit = []
+
+-- whether an ask can be refused with a fault of this number
+abbrev pub may_refuse : Ask → ℕ → Bool
+may_refuse ask number = list_any (λ n. n == number) (refusals ask)
+
+-- whether an ask can be answered that it is done
+abbrev pub may_be_done : Ask → Bool
+may_be_done (Get tok) = true
+may_be_done (GetShared tok) = true
+may_be_done (TryGet tok) = true
+may_be_done (Rel tok) = true
+may_be_done Swap = true
+may_be_done (Read tok cell) = false
+may_be_done (Write tok cell value) = true
+may_be_done (Add tok more) = true
+may_be_done (Send msg to call flags) = true
+may_be_done (Do msg to call) = false
+may_be_done (Reply msg error outcome) = true
+may_be_done (Abort msg) = true
+may_be_done (IsAborted msg) = false
+may_be_done (DropMsg msg) = false
+may_be_done GetPort = false
+may_be_done WaitPort = false
+may_be_done Yield = true
+may_be_done Exit = false
+
+-- whether an ask can be answered by this value: a read by any, a question whether a message is to be aborted by 0 or 1
+abbrev pub may_give_value : Ask → ℕ → Bool
+may_give_value (Read tok cell) value = true
+may_give_value (IsAborted msg) value = nat_le value 1
+may_give_value _ value = false
+
+-- whether an ask can be answered by this message's record
+abbrev pub may_drop : Ask → ℕ → Bool
+may_drop (DropMsg mine) msg = mine.0 == msg
+may_drop _ msg = false
+
+-- whether an item is the reply to this message
+abbrev pub is_reply_to : ℕ → Item → Bool
+is_reply_to msg (Request other call) = false
+is_reply_to msg (Answered other error outcome) = msg == other.0
+
+-- whether an ask can be answered by this item of the port: a synchronous send by the reply to its message alone
+abbrev pub may_give_item : Ask → Item → Bool
+may_give_item GetPort item = true
+may_give_item WaitPort item = true
+may_give_item (Do msg to call) item = is_reply_to msg.0 item
+may_give_item _ item = false
+
+-- whether an ask can be answered that the port has nothing
+abbrev pub may_find_nothing : Ask → Bool
+may_find_nothing GetPort = true
+may_find_nothing _ = false
+
+-- whether an ask can have an answer
+abbrev pub may_answer : Ask → Answer → Bool
+may_answer ask Begin = false
+may_answer ask Done = may_be_done ask
+may_answer ask (Value value) = may_give_value ask value
+may_answer ask (Dropped msg rec) = may_drop ask msg.0
+may_answer ask (Got item) = may_give_item ask item
+may_answer ask NoMsg = may_find_nothing ask
+may_answer ask (Refused fault) = may_refuse ask (number_of fault)
+
+-- whether an ask has an answer, and it is a refusal
+abbrev pub is_refused : Option Answer → Bool
+is_refused None = false
+is_refused (Some Begin) = false
+is_refused (Some Done) = false
+is_refused (Some (Value value)) = false
+is_refused (Some (Dropped msg rec)) = false
+is_refused (Some (Got item)) = false
+is_refused (Some NoMsg) = false
+is_refused (Some (Refused fault)) = true
+
+-- whether an ask that isn't refused makes an event of its own
+abbrev pub makes_event : Ask → Bool
+makes_event (Get tok) = false
+makes_event (GetShared tok) = false
+makes_event (TryGet tok) = false
+makes_event (Rel tok) = false
+makes_event Swap = false
+makes_event (Read tok cell) = true
+makes_event (Write tok cell value) = true
+makes_event (Add tok more) = true
+makes_event (Send msg to call flags) = true
+makes_event (Do msg to call) = true
+makes_event (Reply msg error outcome) = true
+makes_event (Abort msg) = true
+makes_event (IsAborted msg) = false
+makes_event (DropMsg msg) = true
+makes_event GetPort = false
+makes_event WaitPort = false
+makes_event Yield = false
+makes_event Exit = false
+
+-- whether an ask is a synchronous send, which goes on after its own event
+abbrev pub is_do : Ask → Bool
+is_do (Do msg to call) = true
+is_do _ = false
+
+-- whether a thread may rest whose last ask was this, with this answer or none yet, and whose part ended so: with a take, a
+-- share or a further reference, or not
+abbrev pub may_rest : Ask → Option Answer → Bool → Bool
+may_rest (Get tok) answer took = not (is_refused answer) && not took
+may_rest (GetShared tok) answer took = not (is_refused answer) && not took
+may_rest (Do msg to call) answer took = not (is_refused answer)
+may_rest WaitPort answer took = true
+may_rest Yield answer took = true
+may_rest Exit answer took = true
+may_rest _ answer took = false
+
+-- whether an ask is the last one of a body
+abbrev pub is_exit : Ask → Bool
+is_exit Exit = true
+is_exit _ = false
+
+-- whether an ask can block its thread and leave it to go on
+abbrev pub may_block : Ask → Bool
+may_block (Get tok) = true
+may_block (GetShared tok) = true
+may_block (Do msg to call) = true
+may_block WaitPort = true
+may_block Yield = true
+may_block _ = false
+
+-- the entry of a value: of a question whether a message is to be aborted, or of a read
+abbrev pub value_entry : Ask → ℕ → Entry
+value_entry (IsAborted msg) value = Aborted (value == 1)
+value_entry _ value = ValueEntry value
+
+-- the entry of an item
+abbrev pub item_entry : Item → Entry
+item_entry (Request msg call) = RequestEntry msg call
+item_entry (Answered msg error outcome) = ReplyEntry msg error outcome
+
+-- what an answer to an ask puts in the log
+abbrev pub entry_of : Ask → Answer → Option Entry
+entry_of ask Begin = None
+entry_of ask Done = None
+entry_of ask (Value value) = Some (value_entry ask value)
+entry_of ask (Dropped msg rec) = Some (DroppedEntry msg (record { arg = rec.arg; op = rec.op }))
+entry_of ask (Got item) = Some (item_entry item)
+entry_of ask NoMsg = Some NoMessage
+entry_of ask (Refused fault) = Some (RefusedEntry (number_of fault))

@@ -1,0 +1,118 @@
+-- The events that an ask makes itself, and those that may stand in a part of a trace unasked (own).
+use Rattle.std.specs.Prelude.{◌≡◌, ℕ, ◌+◌, ◌-◌, ◌==◌, ◌&&◌, Bool, true, false, not, List, [], ◌∷◌, length, slice_get, if◌then◌else◌, Option, Some, None}
+use Rattle.std.specs.Option.{option_map_or}
+use Rattle.lwkt_base.specs.declared.asks.Ask.{Ask}
+use Rattle.lwkt_base.specs.declared.asks.Ask.TheVariants.{Get, GetShared, TryGet, Rel, Swap, Read as ReadAsk, Write as WriteAsk, Add as AddAsk, Send as SendAsk, Do as DoAsk, Reply as ReplyAsk, Abort as AbortAsk, IsAborted, DropMsg as DropAsk, GetPort, WaitPort, Yield, Exit}
+use Rattle.lwkt_base.specs.declared.asks.Answer.{Answer}
+use Rattle.lwkt_base.specs.declared.asks.Answer.TheVariants.{Begin, Done, Value, Dropped, Got, NoMsg, Refused}
+use Rattle.lwkt_core.specs.declared.events.Event.{Event}
+use Rattle.lwkt_core.specs.declared.events.Event.TheVariants.{Load, Take, Share, Again, Mark, GiveOne, GiveClean, GiveWritten, Read, Write, Send, TakeMsg, DropMsg, Reply, Reap, Abort}
+use Rattle.lwkt_core.specs.Events.{adds_reference}
+use Rattle.lwkt_core.specs.Machine.{Machine}
+use Rattle.lwkt_core.specs.Values.{cell_at, first_at}
+use Rattle.lwkt_verdict.specs.Asks.{is_do}
+
+-- an event may happen unasked: no read, send, abort or drop may, and a write only of the cell's value in the first row
+abbrev pub IsQuiet : Machine → Event → Type 0
+IsQuiet m (Read cpu tok cell value) = ⊥
+IsQuiet m (Send cpu msg to round) = ⊥
+IsQuiet m (Abort cpu msg) = ⊥
+IsQuiet m (DropMsg cpu msg) = ⊥
+IsQuiet m (Write cpu tok cell value) = first_at m tok.0 cell ≡ Some value
+IsQuiet m (Load cpu tok) = Unit {0}
+IsQuiet m (Take cpu tok) = Unit {0}
+IsQuiet m (Share cpu tok) = Unit {0}
+IsQuiet m (Again cpu tok) = Unit {0}
+IsQuiet m (Mark cpu tok) = Unit {0}
+IsQuiet m (GiveOne cpu tok) = Unit {0}
+IsQuiet m (GiveClean cpu tok) = Unit {0}
+IsQuiet m (GiveWritten cpu tok) = Unit {0}
+IsQuiet m (TakeMsg cpu msg round) = Unit {0}
+IsQuiet m (Reply cpu msg) = Unit {0}
+IsQuiet m (Reap cpu msg) = Unit {0}
+
+-- an answer, if there is one, is this value
+abbrev pub agrees : Option Answer → ℕ → Bool
+agrees None value = true
+agrees (Some (Value given)) value = given == value
+agrees (Some Begin) value = false
+agrees (Some Done) value = false
+agrees (Some (Dropped msg rec)) value = false
+agrees (Some (Got item)) value = false
+agrees (Some NoMsg) value = false
+agrees (Some (Refused fault)) value = false
+
+-- whether an event reads this cell, and the value agrees with the answer
+abbrev pub is_read : ℕ → ℕ → Option Answer → Event → Bool
+is_read tok cell answer (Read cpu t c value) = t.0 == tok && c == cell && agrees answer value
+is_read tok cell answer _ = false
+
+-- whether an event stores this value in this cell
+abbrev pub is_write : ℕ → ℕ → ℕ → Event → Bool
+is_write tok cell value (Write cpu t c v) = t.0 == tok && c == cell && v == value
+is_write tok cell value _ = false
+
+-- whether an event adds this to the first cell of a token, where that has a value
+abbrev pub is_raise : Option ℕ → ℕ → ℕ → Event → Bool
+is_raise None tok more e = false
+is_raise (Some old) tok more e = is_write tok 0 (old + more) e
+
+-- whether an event sends this message to this processor
+abbrev pub is_send_of : ℕ → ℕ → Event → Bool
+is_send_of msg to (Send cpu m q round) = m.0 == msg && q.0 == to
+is_send_of msg to _ = false
+
+-- whether an event is a reply to this message
+abbrev pub is_reply_of : ℕ → Event → Bool
+is_reply_of msg (Reply cpu m) = m.0 == msg
+is_reply_of msg _ = false
+
+-- whether an event asks for this message to be aborted
+abbrev pub is_abort_of : ℕ → Event → Bool
+is_abort_of msg (Abort cpu m) = m.0 == msg
+is_abort_of msg _ = false
+
+-- whether an event drops this message
+abbrev pub is_drop_of : ℕ → Event → Bool
+is_drop_of msg (DropMsg cpu m) = m.0 == msg
+is_drop_of msg _ = false
+
+-- whether an event is what an ask makes of this machine, with this answer or none yet: a read that was answered by its value,
+-- a write, for an addition of the old value and what is added, a send, a reply, an abort or a drop
+abbrev pub is_own : Machine → Ask → Option Answer → Event → Bool
+is_own m (ReadAsk tok cell) answer e = is_read tok.0 cell answer e
+is_own m (WriteAsk tok cell value) answer e = is_write tok.0 cell value e
+is_own m (AddAsk tok more) answer e = is_raise (cell_at m tok.0 0) tok.0 more e
+is_own m (SendAsk msg to call flags) answer e = is_send_of msg.0 to.cpu.0 e
+is_own m (DoAsk msg to call) answer e = is_send_of msg.0 to.cpu.0 e
+is_own m (ReplyAsk msg error outcome) answer e = is_reply_of msg.0 e
+is_own m (AbortAsk msg) answer e = is_abort_of msg.0 e
+is_own m (DropAsk msg) answer e = is_drop_of msg.0 e
+is_own m (Get tok) answer e = false
+is_own m (GetShared tok) answer e = false
+is_own m (TryGet tok) answer e = false
+is_own m (Rel tok) answer e = false
+is_own m Swap answer e = false
+is_own m (IsAborted msg) answer e = false
+is_own m GetPort answer e = false
+is_own m WaitPort answer e = false
+is_own m Yield answer e = false
+is_own m Exit answer e = false
+
+-- whether an event sends a message
+abbrev pub is_send : Event → Bool
+is_send (Send cpu msg to round) = true
+is_send _ = false
+
+-- the place of the first send among some events, or their number
+abbrev pub first_send : List Event → ℕ
+first_send [] = 0
+first_send (e ∷ es) = if is_send e then 0 else (first_send es + 1)
+
+-- where in its part the event of an ask stands: at the end, or for a synchronous send where the first send is
+abbrev pub own_place : Ask → List Event → ℕ
+own_place ask part = if is_do ask then first_send part else (length part - 1)
+
+-- whether a part ends with a take, a share or a further reference
+abbrev pub ends_taking : List Event → Bool
+ends_taking part = option_map_or adds_reference (slice_get part (length part - 1)) false

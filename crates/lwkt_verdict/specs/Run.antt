@@ -1,0 +1,97 @@
+-- A run of a script over a lawful trace (own).
+use Rattle.std.specs.Prelude.{◌≡◌, ℕ, ◌+◌, ◌-◌, ◌*◌, ◌/◌, ◌%◌, ◌<◌, ◌≤◌, ◌⊎◌, Bool, true, false, List, [], ◌∷◌, ◌++◌, length, take, drop, All, slice_get, Option, Some, None, MatchOption, is_some}
+use Rattle.lwkt_core.specs.declared.events.Event.{Event}
+use Rattle.lwkt_core.specs.Events.{cpu_of}
+use Rattle.lwkt_core.specs.Machine.{Machine}
+use Rattle.lwkt_verdict.specs.declared.turns.ThreadPlan.{ThreadPlan}
+use Rattle.lwkt_verdict.specs.declared.turns.ThreadEnd.{ThreadEnd}
+use Rattle.lwkt_verdict.specs.declared.turns.Poll.{Poll}
+use Rattle.lwkt_verdict.specs.declared.turns.Turn.{Turn}
+use Rattle.lwkt_verdict.specs.declared.progress.Asked.{Asked}
+use Rattle.lwkt_verdict.specs.declared.progress.Progress.{Progress}
+use Rattle.lwkt_verdict.specs.declared.progress.Piece.{Piece}
+use Rattle.lwkt_verdict.specs.Asks.{may_answer}
+use Rattle.lwkt_verdict.specs.Owns.{ends_taking}
+use Rattle.lwkt_verdict.specs.Parts.{after_all, GoesQuietly, IsPartOf}
+use Rattle.lwkt_verdict.specs.Threads.{slot_of, thread_of, line_of, asked_by, progress_of, MayAsk, IsLogged, Rests, Ends, has_ended}
+
+-- what a turn was, where its part of the trace is this
+abbrev pub piece : Turn → List Event → Piece
+piece turn part = record { poll = turn.poll; took = ends_taking part }
+
+-- how far a thread has come after those turns
+abbrev pub came : List Piece → ℕ → Progress
+came before slot = progress_of (asked_by slot before)
+
+-- an ask and its answer, where its part ended so
+abbrev pub asked : Poll → Bool → Asked
+asked q took = record { ask = q.ask; answer = q.answer; took = took }
+
+-- a poll fits a thread that has come so far: the thread is one of the script's, of this processor, the ask is its next one,
+-- the ask before it has its answer, the answer of this one, if it has one, is one that the ask can have, and its entry stands
+-- in the thread's log
+pub record Polls (plans : List ThreadPlan) (lines : List ThreadEnd) (cpu : ℕ) (p : Progress) (q : Poll) : Type 0 where
+  pub here : q.thread.cpu.0 ≡ cpu
+  pub numbered : q.thread.thread < 16
+  pub asks : MatchOption (thread_of cpu q.thread.thread plans) ⊥ (λ plan. MayAsk plan p q.ask)
+  pub answers : MatchOption q.answer (Unit {0}) (λ a. may_answer q.ask a ≡ true)
+  pub logs : MatchOption (line_of (16 * cpu + q.thread.thread) lines) ⊥ (λ line. IsLogged line p (asked q false))
+
+-- a turn without an ask fits threads that have come so far: each thread of its processor may rest
+abbrev pub Idles : List ThreadPlan → ℕ → (ℕ → Progress) → Type 0
+Idles plans cpu progress = (n : ℕ) → n < 16 → MatchOption (thread_of cpu n plans) (Unit {0}) (λ plan. Rests (progress (16 * cpu + n)))
+
+-- the same of one thread, by a table of how far the threads have come
+abbrev pub IdlesAt : List ThreadPlan → ℕ → List Progress → ℕ → Type 0
+IdlesAt plans cpu table n = MatchOption (thread_of cpu n plans) (Unit {0}) (λ plan. MatchOption (slice_get table (16 * cpu + n)) ⊥ Rests)
+
+-- the part of a turn with or without an ask
+abbrev pub Makes : Machine → Option Poll → List Event → Type 0
+Makes m poll part = MatchOption poll (GoesQuietly m part) (λ q. IsPartOf m q.ask q.answer part)
+
+-- a turn fits the turns before it, and its part of the trace the machine that it finds; each event of the part is of the
+-- turn's processor
+pub record Fits (plans : List ThreadPlan) (lines : List ThreadEnd) (cpu : ℕ) (m : Machine) (before : List Piece) (turn : Turn) (part : List Event) : Type 0 where
+  pub own : All (λ e. cpu_of e ≡ cpu) part
+  pub makes : Makes m turn.poll part
+  pub polls : MatchOption turn.poll (Idles plans cpu (came before)) (λ q. Polls plans lines cpu (came before (slot_of q.thread)) q)
+
+-- the end of a run: the events of the stop may happen unasked, and each thread of the script has its line and ends as it says
+pub record Closes (plans : List ThreadPlan) (lines : List ThreadEnd) (m : Machine) (before : List Piece) (stop : List Event) : Type 0 where
+  pub quiet : GoesQuietly m stop
+  pub ends : (cpu n : ℕ) → cpu < 8 → n < 16 → Ends (thread_of cpu n plans) (line_of (16 * cpu + n) lines) (came before (16 * cpu + n))
+
+-- the trace is cut in order into one part for each turn and the events of the stop; the processors take their turns in rounds
+abbrev pub Runs : List ThreadPlan → List ThreadEnd → ℕ → Machine → List Piece → List Turn → List Event → Type 0
+Runs plans lines cpus m before [] events = Closes plans lines m before events
+Runs plans lines cpus m before (turn ∷ turns) events =
+    (turn.events ≤ length events) × (Fits plans lines (length before % cpus) m before turn (take turn.events events) × Runs plans lines cpus (after_all m (take turn.events events)) (before ++ piece turn (take turn.events events) ∷ []) turns (drop turn.events events))
+
+-- a thread and its line are both there, or neither is
+abbrev pub IsPaired : List ThreadPlan → List ThreadEnd → ℕ → ℕ → Type 0
+IsPaired plans lines cpu n = is_some (thread_of cpu n plans) ≡ is_some (line_of (16 * cpu + n) lines)
+
+-- the lines of threads are in order, by processor, then number
+abbrev pub AreListed : ℕ → ℕ → List ThreadEnd → Type 0
+AreListed cpus least [] = Unit {0}
+AreListed cpus least (l ∷ ls) = (least ≤ slot_of l.id) × ((l.id.cpu.0 < cpus) × ((l.id.thread < 16) × AreListed cpus (slot_of l.id + 1) ls))
+
+-- the rounds of a run end before the script's are used up: the last round has no ask, and every thread has ended
+pub record EndsEarly (cpus : ℕ) (limit : ℕ) (turns : List Turn) (lines : List ThreadEnd) : Type 0 where
+  pub fewer : length turns < limit * cpus
+  pub unasked : All (λ turn. is_some turn.poll ≡ false) (drop (length turns - cpus) turns)
+  pub ended : All (λ line. has_ended line.state ≡ true) lines
+
+-- so many turns are whole rounds of the processors, at least one; they are the script's, or fewer
+pub record AreRounds (cpus : ℕ) (limit : ℕ) (turns : List Turn) (lines : List ThreadEnd) : Type 0 where
+  pub processors : 0 < cpus
+  pub some : 0 < length turns
+  pub whole : length turns % cpus ≡ 0
+  pub enough : (length turns ≡ limit * cpus) ⊎ EndsEarly cpus limit turns lines
+
+-- the turns are a run of a script with so many rounds at most, over a trace from an opening, which ends as the lines say
+pub record IsScriptRun (plans : List ThreadPlan) (limit : ℕ) (opening : Machine) (turns : List Turn) (trace : List Event) (lines : List ThreadEnd) : Type 0 where
+  pub listed : AreListed opening.cpus 0 lines
+  pub paired : (cpu n : ℕ) → cpu < 8 → n < 16 → IsPaired plans lines cpu n
+  pub rounds : AreRounds opening.cpus limit turns lines
+  pub runs : Runs plans lines opening.cpus opening [] turns trace

@@ -1,0 +1,17 @@
+-- What a check of a run keeps while it goes over the turns (own).
+use Rattle.std.specs.Prelude.{◌≡◌, ℕ, ◌+◌, ◌*◌, ◌<◌, List, length, slice_get, Some, MatchOption}
+use Rattle.lwkt_verdict.specs.declared.turns.ThreadPlan.{ThreadPlan}
+use Rattle.lwkt_verdict.specs.declared.turns.ThreadEnd.{ThreadEnd}
+use Rattle.lwkt_verdict.specs.declared.progress.Progress.{Progress}
+use Rattle.lwkt_verdict.specs.declared.progress.Piece.{Piece}
+use Rattle.lwkt_verdict.specs.Threads.{thread_of, line_of, Ends}
+use Rattle.lwkt_verdict.specs.Run.{came}
+
+-- a table says how far each thread has come after some turns, 16 for each of 8 processors
+pub record Shows (before : List Piece) (table : List Progress) : Type 0 where
+  pub room : length table ≡ 128
+  pub at : (k : ℕ) → k < 128 → slice_get table k ≡ Some (came before k)
+
+-- a thread that the script may have or not ends as its line says, by a table of how far the threads have come
+abbrev pub EndsAt : List ThreadPlan → List ThreadEnd → List Progress → ℕ → ℕ → Type 0
+EndsAt plans lines table cpu n = MatchOption (slice_get table (16 * cpu + n)) ⊥ (Ends (thread_of cpu n plans) (line_of (16 * cpu + n) lines))

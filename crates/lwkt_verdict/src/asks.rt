@@ -1,0 +1,218 @@
+ghost use Rattle.std.specs.Prelude.{◌≡◌, ◌==◌};
+ghost use Rattle.lwkt_verdict.specs.Asks.{refusals, may_refuse, may_be_done, may_give_value, may_drop, is_reply_to, may_give_item, may_find_nothing, may_answer, is_refused, makes_event, is_do, may_rest, is_exit, may_block, value_entry, item_entry, entry_of};
+
+use lwkt_base::{Answer, Ask, Call, Entry, Item};
+
+// The numbers of the faults with which an ask can be refused.
+fn refusals(ask: Ask) -> &'static [u8]
+    ensures { result.now ≡ refusals ask }
+{
+    match ask {
+        Ask::Get(_) => &[16, 10, 11, 20],
+        Ask::GetShared(_) => &[16, 10],
+        Ask::TryGet(_) => &[16, 10, 11, 20, 23, 34],
+        Ask::Rel(_) => &[13, 12, 19],
+        Ask::Swap => &[15, 14],
+        Ask::Read(..) => &[16, 17, 13],
+        Ask::Write(..) => &[16, 17, 13, 18, 22],
+        Ask::Add(..) => &[16, 13, 18, 22, 21],
+        Ask::Send(..) => &[30, 25, 24, 36],
+        Ask::Do(..) => &[30, 29, 25, 24, 36],
+        Ask::Reply(..) => &[31, 24],
+        Ask::Abort(_) => &[25, 26, 27],
+        Ask::IsAborted(_) => &[31],
+        Ask::DropMsg(_) => &[25, 26, 28],
+        Ask::GetPort => &[34],
+        Ask::WaitPort | Ask::Yield | Ask::Exit => &[],
+    }
+}
+
+// Whether an ask can be refused with a fault of this number.
+fn may_refuse(ask: Ask, number: u8) -> bool
+    ensures { result ≡ may_refuse ask number }
+{
+    refusals(ask).iter().any(|n| *n == number)
+}
+
+// Whether an ask can be answered that it is done.
+fn may_be_done(ask: Ask) -> bool
+    ensures { result ≡ may_be_done ask }
+{
+    !matches!(
+        ask,
+        Ask::Read(..)
+            | Ask::Do(..)
+            | Ask::IsAborted(_)
+            | Ask::DropMsg(_)
+            | Ask::GetPort
+            | Ask::WaitPort
+            | Ask::Exit
+    )
+}
+
+// Whether an ask can be answered by this value.
+fn may_give_value(ask: Ask, value: u64) -> bool
+    ensures { result ≡ may_give_value ask value }
+{
+    match ask {
+        Ask::Read(..) => true,
+        Ask::IsAborted(_) => value <= 1,
+        _ => false,
+    }
+}
+
+// Whether an ask can be answered by this message's record.
+fn may_drop(ask: Ask, msg: u8) -> bool
+    ensures { result ≡ may_drop ask msg }
+{
+    match ask {
+        Ask::DropMsg(mine) => mine.0 == msg,
+        _ => false,
+    }
+}
+
+// Whether an item is the reply to this message.
+fn is_reply_to(msg: u8, item: Item) -> bool
+    ensures { result ≡ is_reply_to msg item }
+{
+    match item {
+        Item::Request(..) => false,
+        Item::Answered(other, _, _) => msg == other.0,
+    }
+}
+
+// Whether an ask can be answered by this item of the port.
+fn may_give_item(ask: Ask, item: Item) -> bool
+    ensures { result ≡ may_give_item ask item }
+{
+    match ask {
+        Ask::GetPort | Ask::WaitPort => true,
+        Ask::Do(msg, _, _) => is_reply_to(msg.0, item),
+        _ => false,
+    }
+}
+
+// Whether an ask can be answered that the port has nothing.
+fn may_find_nothing(ask: Ask) -> bool
+    ensures { result ≡ may_find_nothing ask }
+{
+    matches!(ask, Ask::GetPort)
+}
+
+/// Whether an ask can have an answer.
+pub fn may_answer(ask: Ask, answer: Answer) -> bool
+    ensures { result ≡ may_answer ask answer }
+{
+    match answer {
+        Answer::Begin => false,
+        Answer::Done => may_be_done(ask),
+        Answer::Value(value) => may_give_value(ask, value),
+        Answer::Dropped(msg, _) => may_drop(ask, msg.0),
+        Answer::Got(item) => may_give_item(ask, item),
+        Answer::NoMsg => may_find_nothing(ask),
+        Answer::Refused(fault) => may_refuse(ask, fault.number()),
+    }
+}
+
+/// Whether an ask has an answer, and it is a refusal.
+pub fn is_refused(answer: Option<Answer>) -> bool
+    ensures { result ≡ is_refused answer }
+{
+    match answer {
+        Some(Answer::Refused(_)) => true,
+        _ => false,
+    }
+}
+
+/// Whether an ask that isn't refused makes an event of its own.
+pub fn makes_event(ask: Ask) -> bool
+    ensures { result ≡ makes_event ask }
+{
+    matches!(
+        ask,
+        Ask::Read(..)
+            | Ask::Write(..)
+            | Ask::Add(..)
+            | Ask::Send(..)
+            | Ask::Do(..)
+            | Ask::Reply(..)
+            | Ask::Abort(_)
+            | Ask::DropMsg(_)
+    )
+}
+
+/// Whether an ask is a synchronous send, which goes on after its own event.
+pub fn is_do(ask: Ask) -> bool
+    ensures { result ≡ is_do ask }
+{
+    matches!(ask, Ask::Do(..))
+}
+
+/// Whether a thread may rest whose last ask was this.
+pub fn may_rest(ask: Ask, answer: Option<Answer>, took: bool) -> bool
+    ensures { result ≡ may_rest ask answer took }
+{
+    match ask {
+        Ask::Get(_) | Ask::GetShared(_) => !is_refused(answer) && !took,
+        Ask::Do(..) => !is_refused(answer),
+        Ask::WaitPort | Ask::Yield | Ask::Exit => true,
+        _ => false,
+    }
+}
+
+/// Whether an ask is the last one of a body.
+pub fn is_exit(ask: Ask) -> bool
+    ensures { result ≡ is_exit ask }
+{
+    matches!(ask, Ask::Exit)
+}
+
+/// Whether an ask can block its thread and leave it to go on.
+pub fn may_block(ask: Ask) -> bool
+    ensures { result ≡ may_block ask }
+{
+    matches!(
+        ask,
+        Ask::Get(_) | Ask::GetShared(_) | Ask::Do(..) | Ask::WaitPort | Ask::Yield
+    )
+}
+
+// The entry of a value: of a question whether a message is to be aborted, or of a read.
+fn value_entry(ask: Ask, value: u64) -> Entry
+    ensures { result ≡ value_entry ask value }
+{
+    match ask {
+        Ask::IsAborted(_) => Entry::Aborted(value == 1),
+        _ => Entry::Value(value),
+    }
+}
+
+// The entry of an item.
+fn item_entry(item: Item) -> Entry
+    ensures { result ≡ item_entry item }
+{
+    match item {
+        Item::Request(msg, call) => Entry::Request(msg, call),
+        Item::Answered(msg, error, outcome) => Entry::Reply(msg, error, outcome),
+    }
+}
+
+/// What an answer to an ask puts in the log.
+pub fn entry_of(ask: Ask, answer: Answer) -> Option<Entry>
+    ensures { result ≡ entry_of ask answer }
+{
+    match answer {
+        Answer::Begin | Answer::Done => None,
+        Answer::Value(value) => Some(value_entry(ask, value)),
+        Answer::Dropped(msg, rec) => Some(Entry::Dropped(
+            msg,
+            Call {
+                arg: rec.arg,
+                op: rec.op,
+            },
+        )),
+        Answer::Got(item) => Some(item_entry(item)),
+        Answer::NoMsg => Some(Entry::NoMessage),
+        Answer::Refused(fault) => Some(Entry::Refused(fault.number())),
+    }
+}

@@ -1,0 +1,39 @@
+ghost use Rattle.std.specs.Prelude.{◌≡◌, ℕ, ◌<◌, ◌+◌, ◌*◌, ◌↔◌, IsTrue, length, MatchOption, IfSome, slice_get};
+ghost use Rattle.lwkt_verdict.specs.Threads.{EndsAs};
+ghost use Rattle.lwkt_verdict.specs.Homes.{IsHome, AreHomes};
+ghost use Rattle.lwkt_verdict.specs.Shows.{EndsAt};
+
+use crate::homes::{Home, THREAD_LIMIT, home_at};
+use crate::polls::progress_at;
+use crate::progress::{Progress, ends_as};
+use crate::turns::{ThreadEnd, ThreadPlan};
+
+// Whether a thread that has come so far ends as its line says, if it has one.
+fn ends(lines: &[ThreadEnd], home: Option<Home>, progress: Progress) -> bool
+    requires { IfSome home (λ h. h.line < length lines.now) }
+    ensures { IsTrue result ↔ MatchOption home (Unit {0}) (λ h. MatchOption (slice_get lines.now h.line) ⊥ (λ line. EndsAs line progress)) }
+{
+    match home {
+        None => true,
+        Some(home) => ends_as(&lines[home.line], progress),
+    }
+}
+
+/// Whether each thread ends as its line says.
+pub fn all_end(
+    plans: &[ThreadPlan],
+    lines: &[ThreadEnd],
+    homes: &[Option<Home>],
+    table: &[Progress],
+) -> bool
+    requires homes { AreHomes plans.now lines.now homes.now }
+    requires room { length table.now ≡ 128 }
+    ensures { IsTrue result ↔ ((cpu n : ℕ) → cpu < 8 → n < 16 → EndsAt plans.now lines.now table.now cpu n) }
+{
+    for slot in 0..THREAD_LIMIT {
+        if !ends(lines, home_at(homes, slot), progress_at(table, slot)) {
+            return false;
+        }
+    }
+    true
+}

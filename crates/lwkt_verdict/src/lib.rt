@@ -1,0 +1,18 @@
+//! Checks that the turns of a run are those that its script asks for: which thread was polled when, what it asked and was
+//! answered, which events of the trace came of it, what was logged, and how the threads ended.
+#![tactic(auto)]
+
+mod asks;
+mod checks;
+mod ends;
+mod homes;
+mod owns;
+mod parts;
+mod plans;
+mod polls;
+mod progress;
+mod rounds;
+pub mod turns;
+
+pub use checks::is_script_run;
+pub use turns::{Poll, ThreadEnd, ThreadPlan, Turn};

@@ -1,0 +1,203 @@
+ghost use Rattle.std.specs.Prelude.{◌≡◌, ◌≤◌, ◌↔◌, ◌+◌, ◌==◌, IsTrue, length, Some};
+ghost use Rattle.lwkt_core.specs.Values.{first_at, cell_at};
+ghost use Rattle.lwkt_verdict.specs.Owns.{IsQuiet, agrees, is_read, is_write, is_raise, is_send_of, is_reply_of, is_abort_of, is_drop_of, is_own, is_send, first_send, own_place, ends_taking};
+
+use crate::asks::is_do;
+use lwkt_base::{Answer, Ask, TokId};
+use lwkt_core::{Event, State};
+
+// Whether a cell has this value in the first row.
+fn is_first(state: &State, tok: TokId, cell: u8, value: u64) -> bool
+    ensures { IsTrue result ↔ (first_at state.now tok.0 cell ≡ Some value) }
+{
+    match state.first(tok, cell) {
+        None => false,
+        Some(first) => first == value,
+    }
+}
+
+/// Whether an event may happen unasked.
+pub fn is_quiet(state: &State, event: &Event) -> bool
+    ensures { IsTrue result ↔ IsQuiet state.now event.now }
+{
+    match *event {
+        Event::Read { .. } | Event::Send { .. } | Event::Abort { .. } | Event::DropMsg { .. } => {
+            false
+        }
+        Event::Write {
+            tok,
+            cell,
+            value,
+            ..
+        } => is_first(state, tok, cell, value),
+        _ => true,
+    }
+}
+
+// Whether an answer, if there is one, is this value.
+fn agrees(answer: Option<Answer>, value: u64) -> bool
+    ensures { result ≡ agrees answer value }
+{
+    match answer {
+        None => true,
+        Some(Answer::Value(given)) => given == value,
+        Some(_) => false,
+    }
+}
+
+// Whether an event reads this cell, and the value agrees with the answer.
+fn is_read(wanted: TokId, at: u8, answer: Option<Answer>, event: &Event) -> bool
+    ensures { result ≡ is_read wanted.0 at answer event.now }
+{
+    match *event {
+        Event::Read {
+            tok,
+            cell,
+            value,
+            ..
+        } => tok.0 == wanted.0 && cell == at && agrees(answer, value),
+        _ => false,
+    }
+}
+
+// Whether an event stores this value in this cell.
+fn is_write(wanted: TokId, at: u8, stored: u64, event: &Event) -> bool
+    ensures { result ≡ is_write wanted.0 at stored event.now }
+{
+    match *event {
+        Event::Write {
+            tok,
+            cell,
+            value,
+            ..
+        } => tok.0 == wanted.0 && cell == at && value == stored,
+        _ => false,
+    }
+}
+
+// Whether a value is this sum.
+fn is_sum(value: u64, old: u64, more: u64) -> bool
+    ensures { result ≡ (value == old + more) }
+{
+    match old.checked_add(more) {
+        None => false,
+        Some(sum) => value == sum,
+    }
+}
+
+// Whether an event adds this to the first cell of a token, where that has a value.
+fn is_raise(old: Option<u64>, wanted: TokId, more: u64, event: &Event) -> bool
+    ensures { result ≡ is_raise old wanted.0 more event.now }
+{
+    match (old, *event) {
+        (
+            Some(old),
+            Event::Write {
+                tok,
+                cell,
+                value,
+                ..
+            },
+        ) => tok.0 == wanted.0 && cell == 0 && is_sum(value, old, more),
+        _ => false,
+    }
+}
+
+// Whether an event sends this message to this processor.
+fn is_send_of(wanted: u8, target: u8, event: &Event) -> bool
+    ensures { result ≡ is_send_of wanted target event.now }
+{
+    match *event {
+        Event::Send { msg, to, .. } => msg.0 == wanted && to.0 == target,
+        _ => false,
+    }
+}
+
+// Whether an event is a reply to this message.
+fn is_reply_of(wanted: u8, event: &Event) -> bool
+    ensures { result ≡ is_reply_of wanted event.now }
+{
+    match *event {
+        Event::Reply { msg, .. } => msg.0 == wanted,
+        _ => false,
+    }
+}
+
+// Whether an event asks for this message to be aborted.
+fn is_abort_of(wanted: u8, event: &Event) -> bool
+    ensures { result ≡ is_abort_of wanted event.now }
+{
+    match *event {
+        Event::Abort { msg, .. } => msg.0 == wanted,
+        _ => false,
+    }
+}
+
+// Whether an event drops this message.
+fn is_drop_of(wanted: u8, event: &Event) -> bool
+    ensures { result ≡ is_drop_of wanted event.now }
+{
+    match *event {
+        Event::DropMsg { msg, .. } => msg.0 == wanted,
+        _ => false,
+    }
+}
+
+/// Whether an event is what an ask makes, with this answer or none yet.
+pub fn is_own(state: &State, ask: Ask, answer: Option<Answer>, event: &Event) -> bool
+    ensures { result ≡ is_own state.now ask answer event.now }
+{
+    match ask {
+        Ask::Read(tok, cell) => is_read(tok, cell, answer, event),
+        Ask::Write(tok, cell, value) => is_write(tok, cell, value, event),
+        Ask::Add(tok, more) => is_raise(state.cell(tok, 0), tok, more, event),
+        Ask::Send(msg, to, _, _) => is_send_of(msg.0, to.cpu.0, event),
+        Ask::Do(msg, to, _) => is_send_of(msg.0, to.cpu.0, event),
+        Ask::Reply(msg, _, _) => is_reply_of(msg.0, event),
+        Ask::Abort(msg) => is_abort_of(msg.0, event),
+        Ask::DropMsg(msg) => is_drop_of(msg.0, event),
+        _ => false,
+    }
+}
+
+// Whether an event sends a message.
+fn is_send(event: &Event) -> bool
+    ensures { result ≡ is_send event.now }
+{
+    matches!(event, Event::Send { .. })
+}
+
+// The place of the first send among some events, or their number.
+fn first_send(events: &[Event]) -> usize
+    ensures place { result ≡ first_send events.now }
+    ensures within { result ≤ length events.now }
+{
+    for (place, event) in events.iter().enumerate() {
+        if is_send(event) {
+            return place;
+        }
+    }
+    events.len()
+}
+
+/// Where in its part the event of an ask stands.
+pub fn own_place(ask: Ask, part: &[Event]) -> usize
+    ensures place { result ≡ own_place ask part.now }
+    ensures within { result ≤ length part.now }
+{
+    if is_do(ask) {
+        first_send(part)
+    } else {
+        part.len().saturating_sub(1)
+    }
+}
+
+/// Whether a part ends with a take, a share or a further reference.
+pub fn ends_taking(part: &[Event]) -> bool
+    ensures { result ≡ ends_taking part.now }
+{
+    match part.get(part.len().saturating_sub(1)) {
+        None => false,
+        Some(event) => event.adds_reference(),
+    }
+}

@@ -1,0 +1,71 @@
+ghost use Rattle.std.specs.Prelude.{◌≡◌, ◌<◌, ◌^◌, ◌↔◌, IsTrue, Some, length, slice_get, option_and_then, IfSome};
+ghost use Rattle.lwkt_verdict.specs.Threads.{thread_of, line_of, slot_of, ask_in, ask_at};
+
+use crate::turns::{ThreadEnd, ThreadPlan};
+use lwkt_base::{Ask, ThreadId};
+
+/// A thread's number among those of all processors, 16 for each.
+pub fn slot_of(id: ThreadId) -> usize
+    ensures slot { result ≡ slot_of id }
+    ensures small { result < 2 ^ 16 }
+{
+    16 * usize::from(id.cpu.0) + usize::from(id.thread)
+}
+
+// Ask k of a thread that makes these steps so many times over.
+fn ask_in(repeat: u64, steps: &[Ask], k: u64) -> Option<Ask>
+    ensures { result ≡ ask_in repeat steps.now k }
+{
+    let count = steps.len() as u64;
+    if count == 0 {
+        return if k == 0 { Some(Ask::Exit) } else { None };
+    }
+    if k / count < repeat {
+        return steps.get((k % count) as usize).copied();
+    }
+    if k / count == repeat && k % count == 0 {
+        Some(Ask::Exit)
+    } else {
+        None
+    }
+}
+
+/// Whether an ask is ask k of a thread.
+pub fn is_ask_at(plan: &ThreadPlan, k: u64, ask: Ask) -> bool
+    ensures { IsTrue result ↔ (ask_at plan.now k ≡ Some ask) }
+{
+    match ask_in(u64::from(plan.repeat), plan.steps.as_slice(), k) {
+        None => false,
+        Some(wanted) => wanted == ask,
+    }
+}
+
+/// Where in a script thread number n of a processor stands.
+pub fn find_thread(cpu: u8, n: u8, plans: &[ThreadPlan]) -> Option<usize>
+    ensures there { option_and_then (slice_get plans.now) result ≡ thread_of cpu n plans.now }
+    ensures within { IfSome result (λ i. i < length plans.now) }
+{
+    let mut left = n;
+    for (i, plan) in plans.iter().enumerate() {
+        if plan.cpu.0 == cpu {
+            if left == 0 {
+                return Some(i);
+            }
+            left -= 1;
+        }
+    }
+    None
+}
+
+/// Where the line of a thread stands.
+pub fn find_line(slot: usize, lines: &[ThreadEnd]) -> Option<usize>
+    ensures there { option_and_then (slice_get lines.now) result ≡ line_of slot lines.now }
+    ensures within { IfSome result (λ i. i < length lines.now) }
+{
+    for (i, line) in lines.iter().enumerate() {
+        if slot_of(line.id) == slot {
+            return Some(i);
+        }
+    }
+    None
+}

@@ -1,0 +1,124 @@
+ghost use Rattle.std.specs.Prelude.{◌≡◌, ℕ, ◌<◌, ◌+◌, ◌*◌, ◌-◌, ◌^◌, ◌↔◌, IsTrue, true, length, MatchOption, IfSome, slice_get, slice_set, slice_index_or, None};
+ghost use Rattle.lwkt_verdict.specs.Asks.{may_answer};
+ghost use Rattle.lwkt_verdict.specs.Threads.{slot_of, progress_after, Rests};
+ghost use Rattle.lwkt_verdict.specs.Run.{asked, Polls, IdlesAt};
+ghost use Rattle.lwkt_verdict.specs.Homes.{IsHome, AreHomes};
+
+use crate::asks::may_answer;
+use crate::homes::{Home, home_at};
+use crate::progress::{Asked, Progress, is_logged, may_ask, progress_after, rests};
+use crate::turns::{Poll, ThreadEnd, ThreadPlan};
+use lwkt_base::{Answer, Ask};
+
+// Whether an answer, if there is one, is one that an ask can have.
+fn fits_ask(ask: Ask, answer: Option<Answer>) -> bool
+    ensures { IsTrue result ↔ MatchOption answer (Unit {0}) (λ a. may_answer ask a ≡ true) }
+{
+    match answer {
+        None => true,
+        Some(answer) => may_answer(ask, answer),
+    }
+}
+
+// Whether a poll fits a thread of this processor that has come so far.
+fn poll_fits(
+    plans: &[ThreadPlan],
+    lines: &[ThreadEnd],
+    home: Option<Home>,
+    cpu: usize,
+    progress: Progress,
+    poll: &Poll,
+) -> bool
+    requires here { poll.now.thread.cpu.0 ≡ cpu }
+    requires numbered { poll.now.thread.thread < 16 }
+    requires home { IsHome plans.now lines.now cpu poll.now.thread.thread home }
+    ensures { IsTrue result ↔ Polls plans.now lines.now cpu progress poll.now }
+{
+    let Some(home) = home else {
+        return false;
+    };
+    let asked = Asked {
+        ask: poll.ask,
+        answer: poll.answer,
+        took: false,
+    };
+    may_ask(&plans[home.plan], progress, poll.ask)
+        && fits_ask(poll.ask, poll.answer)
+        && is_logged(&lines[home.line], progress, asked)
+}
+
+/// How far a thread has come.
+pub fn progress_at(table: &[Progress], slot: usize) -> Progress
+    requires { slot < length table.now }
+    ensures { slice_get table.now slot ≡ Some result }
+{
+    table[slot]
+}
+
+/// Whether a poll fits the turns before it; how far its thread has come is then noted.
+pub fn polls(
+    plans: &[ThreadPlan],
+    lines: &[ThreadEnd],
+    homes: &[Option<Home>],
+    table: &mut [Progress],
+    cpu: usize,
+    poll: &Poll,
+    took: bool,
+) -> bool
+    requires processor { cpu < 8 }
+    requires homes { AreHomes plans.now lines.now homes.now }
+    requires room { length table.old ≡ 128 }
+    requires few { (k : ℕ) → k < 128 → IfSome (slice_get table.old k) (λ p. p.polls < 2 ^ 64 - 1) }
+    ensures right { IsTrue result ↔ MatchOption (slice_get table.old (slot_of poll.now.thread)) ⊥ (λ p. Polls plans.now lines.now cpu p poll.now) }
+    ensures moved { IsTrue result → MatchOption (slice_get table.old (slot_of poll.now.thread)) ⊥ (λ p. table.new ≡ slice_set table.old (slot_of poll.now.thread) (progress_after p (asked poll.now took))) }
+{
+    if usize::from(poll.thread.cpu.0) != cpu || poll.thread.thread >= 16 {
+        return false;
+    }
+    let slot = 16 * cpu + usize::from(poll.thread.thread);
+    let progress = progress_at(table, slot);
+    let home = home_at(homes, slot);
+    if !poll_fits(plans, lines, home, cpu, progress, poll) {
+        return false;
+    }
+    let asked = Asked {
+        ask: poll.ask,
+        answer: poll.answer,
+        took,
+    };
+    table[slot] = progress_after(progress, asked);
+    true
+}
+
+// Whether a thread, if it is there, may rest.
+fn may_idle(home: Option<Home>, progress: Progress) -> bool
+    ensures { IsTrue result ↔ MatchOption home (Unit {0}) (λ h. Rests progress) }
+{
+    match home {
+        None => true,
+        Some(_) => rests(progress),
+    }
+}
+
+/// Whether a turn without an ask fits the turns before it: each thread of its processor may rest.
+pub fn idles(
+    plans: &[ThreadPlan],
+    lines: &[ThreadEnd],
+    homes: &[Option<Home>],
+    table: &[Progress],
+    cpu: usize,
+) -> bool
+    requires processor { cpu < 8 }
+    requires homes { AreHomes plans.now lines.now homes.now }
+    requires room { length table.now ≡ 128 }
+    ensures { IsTrue result ↔ ((n : ℕ) → n < 16 → IdlesAt plans.now cpu table.now n) }
+{
+    for n in 0..16 {
+        let slot = 16 * cpu + n;
+        let progress = progress_at(table, slot);
+        if !may_idle(home_at(homes, slot), progress) {
+            return false;
+        }
+    }
+    true
+}

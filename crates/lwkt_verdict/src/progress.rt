@@ -1,0 +1,197 @@
+ghost use Rattle.std.specs.Prelude.{◌≡◌, ◌<◌, ◌^◌, ◌-◌, ◌↔◌, IsTrue, true, false, Some, slice_get, is_some, option_map, MatchOption};
+ghost use Rattle.std.specs.Option.{option_map_or};
+ghost use Rattle.lwkt_verdict.specs.Asks.{is_exit, may_block};
+ghost use Rattle.lwkt_verdict.specs.Threads.{logged_by, progress_after, MayAsk, IsLogged, Rests, may_end, EndsAs};
+
+use crate::asks::{entry_of, is_exit, may_block, may_rest};
+use crate::plans::is_ask_at;
+use crate::turns::{Poll, ThreadEnd, ThreadPlan};
+use lwkt_base::{Answer, Ask, Entry, ThreadState};
+
+/// The most entries of a log.
+pub const LOG_LIMIT: usize = 32;
+
+/// An ask of a thread, its answer, if it has one, and whether its part of the trace ended with a take, a share or a further
+/// reference.
+#[derive(Clone, Copy, Debug, PartialEq, Eq)]
+pub struct Asked {
+    pub ask: Ask,
+    pub answer: Option<Answer>,
+    pub took: bool,
+}
+
+/// How far a thread has come.
+#[derive(Clone, Copy, Debug, PartialEq, Eq)]
+pub struct Progress {
+    /// How many times it was polled.
+    pub polls: u64,
+    /// What it last asked.
+    pub last: Option<Asked>,
+    /// How many entries its log has, at most 32.
+    pub logged: usize,
+}
+
+impl Progress {
+    /// That of a thread that was never polled.
+    pub const START: Progress = Progress {
+        polls: 0,
+        last: None,
+        logged: 0,
+    };
+}
+
+/// What a turn was. Only proofs have values of it.
+#[derive(Clone, Copy, Debug, PartialEq, Eq)]
+pub struct Piece {
+    pub poll: Option<Poll>,
+    pub took: bool,
+}
+
+// What an ask puts in the log by its answer.
+fn logged_by(asked: Asked) -> Option<Entry>
+    ensures { result ≡ logged_by asked }
+{
+    match asked.answer {
+        None => None,
+        Some(answer) => entry_of(asked.ask, answer),
+    }
+}
+
+/// How far a thread has come after one more ask.
+pub fn progress_after(progress: Progress, asked: Asked) -> Progress
+    requires { progress.polls < 2 ^ 64 - 1 }
+    ensures { result ≡ progress_after progress asked }
+{
+    let logged = match logged_by(asked) {
+        None => progress.logged,
+        Some(_) => if progress.logged < LOG_LIMIT {
+            progress.logged + 1
+        } else {
+            LOG_LIMIT
+        },
+    };
+    Progress {
+        polls: progress.polls + 1,
+        last: Some(asked),
+        logged,
+    }
+}
+
+// Whether what was asked last, if anything was, has its answer.
+fn is_answered(last: Option<Asked>) -> bool
+    ensures { IsTrue result ↔ MatchOption last (Unit {0}) (λ a. is_some a.answer ≡ true) }
+{
+    match last {
+        None => true,
+        Some(asked) => asked.answer.is_some(),
+    }
+}
+
+// Whether what was asked last, if anything was, has no answer.
+fn is_unanswered(last: Option<Asked>) -> bool
+    ensures { IsTrue result ↔ MatchOption last (Unit {0}) (λ a. is_some a.answer ≡ false) }
+{
+    match last {
+        None => true,
+        Some(asked) => asked.answer.is_none(),
+    }
+}
+
+/// Whether a thread that has come so far may be polled with this ask.
+pub fn may_ask(plan: &ThreadPlan, progress: Progress, ask: Ask) -> bool
+    ensures { IsTrue result ↔ MayAsk plan.now progress ask }
+{
+    is_ask_at(plan, progress.polls, ask) && is_answered(progress.last)
+}
+
+// The entry at a place of a log.
+fn entry_at(log: &[Entry], place: usize) -> Option<Entry>
+    ensures { result ≡ slice_get log.now place }
+{
+    log.get(place).copied()
+}
+
+// Whether an entry stands at a place of a log.
+fn is_entry(log: &[Entry], place: usize, entry: Entry) -> bool
+    ensures { IsTrue result ↔ (slice_get log.now place ≡ Some entry) }
+{
+    match entry_at(log, place) {
+        None => false,
+        Some(there) => there == entry,
+    }
+}
+
+/// Whether the entry of an ask's answer, if it has one and is among the first 32, stands in the thread's log.
+pub fn is_logged(line: &ThreadEnd, progress: Progress, asked: Asked) -> bool
+    ensures { IsTrue result ↔ IsLogged line.now progress asked }
+{
+    match logged_by(asked) {
+        None => true,
+        Some(entry) => {
+            progress.logged >= LOG_LIMIT || is_entry(line.log.as_slice(), progress.logged, entry)
+        }
+    }
+}
+
+/// Whether a thread may rest.
+pub fn rests(progress: Progress) -> bool
+    ensures { IsTrue result ↔ Rests progress }
+{
+    match progress.last {
+        None => false,
+        Some(asked) => may_rest(asked.ask, asked.answer, asked.took),
+    }
+}
+
+// Whether the last ask, if there was one, was the last one of a body.
+fn was_exit(last: Option<Ask>) -> bool
+    ensures { result ≡ option_map_or is_exit last false }
+{
+    match last {
+        None => false,
+        Some(ask) => is_exit(ask),
+    }
+}
+
+// Whether the last ask, if there was one, can have blocked its thread.
+fn was_block(last: Option<Ask>) -> bool
+    ensures { result ≡ option_map_or may_block last false }
+{
+    match last {
+        None => false,
+        Some(ask) => may_block(ask),
+    }
+}
+
+// Whether a thread may end in this state whose last ask was this.
+fn may_end(state: ThreadState, last: Option<Ask>) -> bool
+    ensures { result ≡ may_end state last }
+{
+    match state {
+        ThreadState::Ready | ThreadState::Waiting | ThreadState::Running => !was_exit(last),
+        ThreadState::Exited => was_exit(last),
+        ThreadState::Faulted(fault) => {
+            (fault.number() == 19 && (was_exit(last) || was_block(last)))
+                || (fault.number() == 20 && was_block(last))
+        }
+    }
+}
+
+// The last ask, if there was one.
+fn last_ask(last: Option<Asked>) -> Option<Ask>
+    ensures { result ≡ option_map (λ a. a.ask) last }
+{
+    match last {
+        None => None,
+        Some(asked) => Some(asked.ask),
+    }
+}
+
+/// Whether a thread that has come so far ends as its line says.
+pub fn ends_as(line: &ThreadEnd, progress: Progress) -> bool
+    ensures { IsTrue result ↔ EndsAs line.now progress }
+{
+    is_unanswered(progress.last)
+        && line.log.len() == progress.logged
+        && may_end(line.state, last_ask(progress.last))
+}

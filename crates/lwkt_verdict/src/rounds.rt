@@ -1,0 +1,70 @@
+ghost use Rattle.std.specs.Prelude.{◌≡◌, ◌<◌, ◌≤◌, ◌+◌, ◌*◌, ◌-◌, ◌↔◌, IsTrue, true, false, All, is_some};
+ghost use Rattle.lwkt_verdict.specs.Threads.{slot_of, has_ended};
+ghost use Rattle.lwkt_verdict.specs.Run.{AreListed, EndsEarly, AreRounds};
+
+use crate::plans::slot_of;
+use crate::turns::{ThreadEnd, Turn};
+use lwkt_base::ThreadState;
+
+// Whether a line is of a thread that can be, and comes after those before it.
+fn is_listed(cpus: usize, least: usize, line: &ThreadEnd) -> bool
+    ensures { IsTrue result ↔ ((least ≤ slot_of line.now.id) × (line.now.id.cpu.0 < cpus) × (line.now.id.thread < 16)) }
+{
+    least <= slot_of(line.id) && usize::from(line.id.cpu.0) < cpus && line.id.thread < 16
+}
+
+/// Whether the lines of threads are in order, by processor, then number.
+pub fn are_listed(cpus: usize, lines: &[ThreadEnd]) -> bool
+    ensures { IsTrue result ↔ AreListed cpus 0 lines.now }
+{
+    let mut least = 0;
+    for line in lines {
+        if !is_listed(cpus, least, line) {
+            return false;
+        }
+        least = slot_of(line.id) + 1;
+    }
+    true
+}
+
+// Whether a thread has ended.
+fn has_ended(state: ThreadState) -> bool
+    ensures { result ≡ has_ended state }
+{
+    matches!(state, ThreadState::Exited | ThreadState::Faulted(_))
+}
+
+// Whether every thread has ended.
+fn all_ended(lines: &[ThreadEnd]) -> bool
+    ensures { IsTrue result ↔ All (λ line. has_ended line.state ≡ true) lines.now }
+{
+    lines.iter().all(|line| has_ended(line.state))
+}
+
+// Whether no turn has an ask.
+fn none_asked(turns: &[Turn]) -> bool
+    ensures { IsTrue result ↔ All (λ turn. is_some turn.poll ≡ false) turns.now }
+{
+    turns.iter().all(|turn| turn.poll.is_none())
+}
+
+// Whether the rounds end before the script's are used up.
+fn ends_early(cpus: usize, limit: u32, turns: &[Turn], lines: &[ThreadEnd]) -> bool
+    requires { cpus ≤ 8 }
+    ensures { IsTrue result ↔ EndsEarly cpus limit turns.now lines.now }
+{
+    turns.len() < limit as usize * cpus
+        && none_asked(&turns[turns.len().saturating_sub(cpus)..])
+        && all_ended(lines)
+}
+
+/// Whether so many turns are whole rounds, at least one, and the script's or fewer.
+pub fn are_rounds(cpus: usize, limit: u32, turns: &[Turn], lines: &[ThreadEnd]) -> bool
+    requires { cpus ≤ 8 }
+    ensures { IsTrue result ↔ AreRounds cpus limit turns.now lines.now }
+{
+    if cpus == 0 || turns.is_empty() || turns.len() % cpus != 0 {
+        return false;
+    }
+    turns.len() == limit as usize * cpus || ends_early(cpus, limit, turns, lines)
+}
