@@ -1,5 +1,5 @@
-use Rattle.lwkt_msg.specs.Desks.{IsSameDesk}
+use Rattle.std.proofs.Common.{◌≡◌}
 use Rattle.lwkt_msg_rows.proofs.book_rows.serve_all.Given as goal
 
 abbrev pub invariant-loop-round : goal.invariant-loop-round
-invariant-loop-round l = IsSameDesk l.fn.seat l.seat
+invariant-loop-round l = l.seat.table ≡ l.fn.seat.table
