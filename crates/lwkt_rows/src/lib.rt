@@ -8,6 +8,8 @@ mod base_rows;
 #[cfg(test)]
 mod book_rows;
 #[cfg(test)]
+mod call_script_rows;
+#[cfg(test)]
 mod core_rows;
 #[cfg(test)]
 mod desks;

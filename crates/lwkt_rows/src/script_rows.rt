@@ -52,7 +52,7 @@ fn bad_scripts(rt: HostRuntime) -> Result<(), Fail> {
         (
             "\"messages\":[]",
             "\"messages\":[{\"of\":[0,0],\"round\":0}]",
-            Some(2000),
+            None,
         ),
         ("\"repeat\":1", "\"repeat\":1000001", Some(3000)),
         ("\"repeat\":1", "\"repeat\":1000000", None),
