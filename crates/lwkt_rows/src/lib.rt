@@ -5,6 +5,8 @@
 #[cfg(test)]
 mod base_rows;
 #[cfg(test)]
+mod call_script_rows;
+#[cfg(test)]
 mod core_rows;
 #[cfg(test)]
 mod fixtures;

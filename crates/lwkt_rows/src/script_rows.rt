@@ -61,7 +61,7 @@ const BAD_SCRIPTS: [Changed; 34] = [
     Changed(
         "\"messages\":[]",
         "\"messages\":[{\"of\":[0,0],\"round\":0}]",
-        Some(2000),
+        None,
     ),
     Changed("\"repeat\":1", "\"repeat\":1000001", Some(3000)),
     Changed("\"repeat\":1", "\"repeat\":1000000", None),

@@ -25,7 +25,7 @@ use Rattle.lwkt_report.specs.Report.{report_text}
 use Rattle.lwkt_report.specs.Stream.{AppendsFront}
 use Rattle.lwkt_report.specs.Complaint.{fault_line}
 use Rattle.lwkt_script.specs.declared.scripts.Script.{Script}
-use Rattle.lwkt_script.specs.Format.{script_of}
+use Rattle.lwkt_script.specs.Format.{plain_script_of}
 use Rattle.lwkt_run.specs.declared.runs.End.{End}
 use Rattle.lwkt_run.specs.declared.runs.End.TheVariants.{Ended, TurnsOut, Unlawful as UnlawfulEnd}
 
@@ -83,7 +83,7 @@ end_of closing = end_by closing.verdict (list_all (λ line. has_ended line.state
 -- these bytes are a script, and a run of it may end so, with this report
 pub record HasRun (bytes : List ℕ) (end : End) (text : List ℕ) : Type 0 where
   pub script : Script
-  pub read : script_of bytes ≡ Ok script
+  pub read : plain_script_of bytes ≡ Ok script
   pub closing : Closing
   pub closes : MayClose script closing
   pub is_text : text ≡ report_text closing
@@ -98,10 +98,10 @@ Declines script _ = ⊥
 
 -- why a run of these bytes is refused
 abbrev pub Refuses : List ℕ → Refusal → Type 0
-Refuses bytes (ScriptFault place) = script_of bytes ≡ Err place
+Refuses bytes (ScriptFault place) = plain_script_of bytes ≡ Err place
 Refuses bytes Memory = Unit {0}
-Refuses bytes Limits = (script : Script) × ((script_of bytes ≡ Ok script) × Declines script Limits)
-Refuses bytes LawBroken = (script : Script) × ((script_of bytes ≡ Ok script) × Declines script LawBroken)
+Refuses bytes Limits = (script : Script) × ((plain_script_of bytes ≡ Ok script) × Declines script Limits)
+Refuses bytes LawBroken = (script : Script) × ((plain_script_of bytes ≡ Ok script) × Declines script LawBroken)
 Refuses bytes _ = ⊥
 
 -- these are the bytes that are read of a source that has so many left, where that is known

@@ -9,6 +9,6 @@ mod runs;
 mod threads;
 
 pub use lwkt_report::{RunFault, Verdict};
-pub use lwkt_script::{Script, read_script};
+pub use lwkt_script::{Script, read_plain_script, read_script};
 pub use programs::run_program;
 pub use runs::{End, run_turns};

@@ -14,7 +14,7 @@ use lwkt_report::{
     Closing, Log, RunFault, Sink, Source, ThreadLine, TokenLine, Verdict, read_capped, report,
     write_whole,
 };
-use lwkt_script::{Script, ThreadSpec, read_script};
+use lwkt_script::{Script, ThreadSpec, read_plain_script};
 use std::alloc::{AllocError, Global};
 
 /// How a run ended.
@@ -297,7 +297,7 @@ fn done_of_bytes(alloc: Global, bytes: &[u8]) -> Result<Done, Fault>
     ensures ok { IfOk result (λ done. HasRun bytes.now done.end (string_bytes done.text)) }
     ensures refused { IfErr result (λ fault. Refuses bytes.now fault) }
 {
-    let script = read_script(alloc, bytes)?;
+    let script = read_plain_script(alloc, bytes)?;
     let closing = closing_of_script(alloc, script)?;
     let end = end_of(&closing);
     let text = report(alloc, &closing)?;

@@ -1,4 +1,5 @@
 pub mod Outcome
+pub mod Profile
 pub mod Field
 pub mod Member
 pub mod Step

@@ -1,5 +1,7 @@
 -- The limits that a script keeps (own).
 use Rattle.std.specs.Prelude.{◌≡◌, ℕ, ◌<◌, ◌≤◌, length, All}
+use Rattle.lwkt_base.specs.declared.names.ThreadId.{ThreadId}
+use Rattle.lwkt_base.specs.declared.openings.MsgSpec.{MsgSpec}
 use Rattle.lwkt_base.specs.declared.laws.Law.TheVariants.{Tally}
 use Rattle.lwkt_base.specs.declared.openings.TokSpec.{TokSpec}
 use Rattle.lwkt_script.specs.declared.scripts.Script.{Script}
@@ -11,6 +13,16 @@ pub record IsToken (t : TokSpec) : Type 0 where
   pub few_cells : length t.cells ≤ 4
   pub one_cell : t.law ≡ Tally → length t.cells ≡ 1
   pub generation : t.generation ≤ 70368744177663
+
+-- a thread that a script of so many processors may name as an origin
+pub record IsOrigin (cpus : ℕ) (t : ThreadId) : Type 0 where
+  pub cpu : t.cpu.0 < cpus
+  pub thread : t.thread ≤ 15
+
+-- a message that a script of so many processors may have
+pub record IsMessage (cpus : ℕ) (m : MsgSpec) : Type 0 where
+  pub origin : IsOrigin cpus m.origin
+  pub round : m.round ≤ 2251799813685247
 
 -- a thread that a script of so many processors may have
 pub record IsThread (cpus : ℕ) (t : ThreadSpec) : Type 0 where
@@ -25,9 +37,16 @@ pub record IsWithinLimits (s : Script) : Type 0 where
   pub few_turns : s.turns ≤ 1000000
   pub some_idle : 1 ≤ s.idle
   pub few_idle : s.idle ≤ 100000000
-  pub one_cpu : s.cpus ≡ 1
+  pub some_cpus : 1 ≤ s.cpus
+  pub few_cpus : s.cpus ≤ 8
   pub few_tokens : length s.tokens ≤ 64
   pub tokens : All IsToken s.tokens
-  pub no_messages : length s.messages ≡ 0
+  pub few_messages : length s.messages ≤ 64
+  pub messages : All (IsMessage s.cpus) s.messages
   pub threads : All (IsThread s.cpus) s.threads
   pub few_threads : (cpu : ℕ) → threads_on cpu s.threads ≤ 16
+
+-- one processor, and no messages
+pub record IsPlain (s : Script) : Type 0 where
+  pub one_cpu : s.cpus ≡ 1
+  pub no_messages : length s.messages ≡ 0

@@ -1,18 +1,26 @@
 -- The steps of a thread, by their words and how many items they have.
-use Rattle.std.specs.Prelude.{ℕ, ◌==◌, nat_le, List, codes, bytes_eq, if◌then◌else◌, Option, Some, None, option_and_then}
+use Rattle.std.specs.Prelude.{ℕ, ◌==◌, nat_le, List, codes, bytes_eq, true, false, if◌then◌else◌, Option, Some, None, option_and_then}
 use Rattle.serde_json.specs.Data.{Data}
 use Rattle.serde_json.specs.Find.{at, as_str}
 use Rattle.lwkt_base.specs.declared.asks.Ask.{Ask}
-use Rattle.lwkt_base.specs.declared.asks.Ask.TheVariants.{Get, GetShared, TryGet, Rel, Swap, Read, Write, Add, GetPort, WaitPort, Yield, Exit}
+use Rattle.lwkt_base.specs.declared.asks.Ask.TheVariants.{Get, GetShared, TryGet, Rel, Swap, Read, Write, Add, Send, Do, Reply, GetPort, WaitPort, Yield, Exit}
+use Rattle.lwkt_base.specs.declared.records.Flags.{Flags}
+use Rattle.lwkt_script.specs.declared.profiles.Profile.{Profile}
+use Rattle.lwkt_script.specs.declared.steps.Sending.{Sending}
 use Rattle.lwkt_script.specs.Field.{item_count, number, whole}
+use Rattle.lwkt_script.specs.Profile.{may_ask}
 
 infixl 10 ◌>>=◌
 abbrev pub ◌>>=◌ : {A B : Type 0} → Option A → (A → Option B) → Option B
 o >>= f = option_and_then f o
 
--- item i, the number of a token or a cell
+-- item i, the number of a token, a cell, a message, a processor or a thread
 abbrev pub small_at : ℕ → Data → Option ℕ
 small_at i d = at i d >>= number 0 255
+
+-- item i, a number of 32 bits
+abbrev pub code_at : ℕ → Data → Option ℕ
+code_at i d = at i d >>= number 0 4294967295
 
 -- item i, any whole number
 abbrev pub whole_at : ℕ → Data → Option ℕ
@@ -41,9 +49,37 @@ with_number word tok n =
     if bytes_eq word (codes "read") then (if nat_le n 255 then Some (Read (record { 0 = tok }) n) else None) else (
     if bytes_eq word (codes "add") then Some (Add (record { 0 = tok }) n) else None)
 
--- the ask of a word with a token, a cell and a value
-abbrev pub with_cell : List ℕ → ℕ → ℕ → ℕ → Option Ask
-with_cell word tok cell n = if bytes_eq word (codes "write") then Some (Write (record { 0 = tok }) cell n) else None
+-- the ask of a word with a token or a message and two numbers: a cell and its value, or the error and the result of a reply
+abbrev pub with_numbers : List ℕ → ℕ → ℕ → ℕ → Option Ask
+with_numbers word first n m =
+    if bytes_eq word (codes "write") then (if nat_le n 255 then Some (Write (record { 0 = first }) n m) else None) else (
+    if bytes_eq word (codes "reply") then (if nat_le n 4294967295 then Some (Reply (record { 0 = first }) n m) else None) else None)
+
+-- items 1 to 5: a message, the thread that it goes to, by processor and number, and the call's op and arg
+unfoldable pub sending_in : Data → Option Sending
+sending_in d = do
+  msg ← small_at 1 d
+  cpu ← small_at 2 d
+  thread ← small_at 3 d
+  op ← code_at 4 d
+  arg ← whole_at 5 d
+  Some (record { msg = record { 0 = msg }; to = record { cpu = record { 0 = cpu }; thread = thread }; call = record { arg = arg; op = op } })
+
+-- flags: 1 for dropable plus 2 for abortable
+abbrev pub flags_of : ℕ → Option Flags
+flags_of n =
+    if n == 0 then Some (record { dropable = false; abortable = false }) else (
+    if n == 1 then Some (record { dropable = true; abortable = false }) else (
+    if n == 2 then Some (record { dropable = false; abortable = true }) else (
+    if n == 3 then Some (record { dropable = true; abortable = true }) else None)))
+
+-- the ask of a word with what is sent
+abbrev pub with_sending : List ℕ → Sending → Option Ask
+with_sending word s = if bytes_eq word (codes "do") then Some (Do s.msg s.to s.call) else None
+
+-- the ask of a word with what is sent, and flags
+abbrev pub with_flags : List ℕ → Sending → Flags → Option Ask
+with_flags word s flags = if bytes_eq word (codes "send") then Some (Send s.msg s.to s.call flags) else None
 
 -- the ask of a word with so many items in all
 abbrev pub asked : List ℕ → ℕ → Data → Option Ask
@@ -51,8 +87,14 @@ asked word count d =
     if count == 1 then alone word else (
     if count == 2 then (small_at 1 d >>= with_token word) else (
     if count == 3 then (small_at 1 d >>= λ tok. whole_at 2 d >>= with_number word tok) else (
-    if count == 4 then (small_at 1 d >>= λ tok. small_at 2 d >>= λ cell. whole_at 3 d >>= with_cell word tok cell) else None)))
+    if count == 4 then (small_at 1 d >>= λ first. whole_at 2 d >>= λ n. whole_at 3 d >>= with_numbers word first n) else (
+    if count == 6 then (sending_in d >>= with_sending word) else (
+    if count == 7 then (sending_in d >>= λ s. (whole_at 6 d >>= flags_of) >>= with_flags word s) else None)))))
 
 -- the ask of a step: a word, and the numbers that go with it
 abbrev pub ask_of : Data → Option Ask
 ask_of d = item_count d >>= λ count. (at 0 d >>= as_str) >>= λ word. asked word count d
+
+-- the same, of those that a thread may ask
+abbrev pub ask_in : Profile → Data → Option Ask
+ask_in profile d = ask_of d >>= λ ask. if may_ask profile ask then Some ask else None

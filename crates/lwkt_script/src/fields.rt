@@ -1,5 +1,5 @@
 // The fields of a script's parts.
-ghost use Rattle.std.specs.Prelude.{◌≡◌, ◌≤◌, is_some, option_map, IfOk};
+ghost use Rattle.std.specs.Prelude.{◌≡◌, ◌≤◌, is_some, option_map, IfOk, IfSome};
 ghost use Rattle.serde_json.specs.Find.{get};
 ghost use Rattle.serde_json.specs.View.{view, items_view};
 ghost use Rattle.lwkt_script.specs.Field.{has_members, item_count, number, number_in, list_in};
@@ -39,7 +39,8 @@ pub fn has(value: &Value, name: &str) -> bool
 
 // The value as a whole number within these limits.
 pub fn number(value: &Value, low: u64, high: u64) -> Option<u64>
-    ensures { result ≡ number low high (view value.now) }
+    ensures exact { result ≡ number low high (view value.now) }
+    ensures within { IfSome result (λ n. (low ≤ n) × (n ≤ high)) }
 {
     match value.as_u64() {
         Some(n) if low <= n && n <= high => Some(n),

@@ -5,6 +5,7 @@ mod fields;
 mod growth;
 mod messages;
 mod parts;
+mod profiles;
 mod readers;
 mod scripts;
 mod steps;
@@ -12,5 +13,5 @@ mod threads;
 mod tokens;
 
 pub use parts::Parts;
-pub use readers::read_script;
+pub use readers::{read_plain_script, read_script};
 pub use scripts::{Script, ThreadSpec};

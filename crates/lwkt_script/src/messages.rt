@@ -1,16 +1,17 @@
-ghost use Rattle.std.specs.Prelude.{◌≡◌, ◌<◌, ◌≤◌, [], length, IfOk, OnOk};
+ghost use Rattle.std.specs.Prelude.{◌≡◌, ◌<◌, ◌≤◌, [], length, All, IfOk, IfSome};
 ghost use Rattle.serde_json.specs.View.{view, items_view};
 ghost use Rattle.lwkt_script.specs.Outcome.{Gives, each};
 ghost use Rattle.lwkt_script.specs.Member.{thread_of, origin_in};
 ghost use Rattle.lwkt_script.specs.Format.{message_at, message};
+ghost use Rattle.lwkt_script.specs.Limits.{IsOrigin, IsMessage};
+ghost use Rattle.lwkt_script.specs.Profile.{most_messages};
 
 use crate::fields::{has_members, item_count, number, number_at};
 use crate::growth::push;
+use crate::profiles::{Profile, most_messages};
 use lwkt_base::{CpuId, Fault, MsgSpec, ThreadId};
 use serde_json::Value;
 use std::alloc::Global;
-
-const MESSAGE_LIMIT: usize = 0;
 
 const LAST_ROUND: u64 = 2_251_799_813_685_247;
 
@@ -18,7 +19,8 @@ const LAST_ROUND: u64 = 2_251_799_813_685_247;
 #[tactic(auto, unfolding(crate::specs::Member::thread_of))]
 fn thread_of(cpus: u8, value: &Value) -> Option<ThreadId>
     requires { 0 < cpus }
-    ensures { result ≡ thread_of cpus (view value.now) }
+    ensures exact { result ≡ thread_of cpus (view value.now) }
+    ensures within { IfSome result (IsOrigin cpus) }
 {
     let count = item_count(value)?;
     let cpu = number(value.get(0usize)?, 0, cpus as u64 - 1)?;
@@ -34,7 +36,8 @@ fn thread_of(cpus: u8, value: &Value) -> Option<ThreadId>
 
 fn origin_in(cpus: u8, value: &Value) -> Option<ThreadId>
     requires { 0 < cpus }
-    ensures { result ≡ origin_in cpus (view value.now) }
+    ensures exact { result ≡ origin_in cpus (view value.now) }
+    ensures within { IfSome result (IsOrigin cpus) }
 {
     thread_of(cpus, value.get("of")?)
 }
@@ -42,7 +45,8 @@ fn origin_in(cpus: u8, value: &Value) -> Option<ThreadId>
 #[tactic(auto, unfolding(crate::specs::Format::message_at))]
 fn message_at(cpus: u8, place: u32, value: &Value) -> Result<MsgSpec, Fault>
     requires { 0 < cpus }
-    ensures { Gives (λ m. m) result (message_at cpus place (view value.now)) }
+    ensures exact { Gives (λ m. m) result (message_at cpus place (view value.now)) }
+    ensures within { IfOk result (IsMessage cpus) }
 {
     if !has_members(value, 2) {
         return Err(Fault::Script { place });
@@ -55,25 +59,33 @@ fn message_at(cpus: u8, place: u32, value: &Value) -> Result<MsgSpec, Fault>
 }
 
 // The message after those.
-fn message(cpus: u8, before: &[MsgSpec], value: &Value) -> Result<MsgSpec, Fault>
+fn message(profile: Profile, cpus: u8, before: &[MsgSpec], value: &Value) -> Result<MsgSpec, Fault>
     requires { 0 < cpus }
-    ensures exact { Gives (λ m. m) result (message cpus before.now (view value.now)) }
-    ensures within { OnOk result (length before.now < 0) }
+    ensures exact { Gives (λ m. m) result (message profile cpus before.now (view value.now)) }
+    ensures within { IfOk result (λ m. IsMessage cpus m × (length before.now < most_messages profile)) }
 {
-    if before.len() >= MESSAGE_LIMIT {
-        return Err(Fault::Script { place: 2000 });
+    let most = most_messages(profile);
+    if before.len() >= most {
+        return Err(Fault::Script {
+            place: 2000 + most as u32,
+        });
     }
     message_at(cpus, 2000 + before.len() as u32, value)
 }
 
-pub fn messages_of(alloc: Global, cpus: u8, items: &[Value]) -> Result<Vec<MsgSpec>, Fault>
+pub fn messages_of(
+    alloc: Global,
+    profile: Profile,
+    cpus: u8,
+    items: &[Value],
+) -> Result<Vec<MsgSpec>, Fault>
     requires { 0 < cpus }
-    ensures exact { Gives (λ v. v.items) result (each (message cpus) [] (items_view items.now)) }
-    ensures within { IfOk result (λ v. length v.items ≤ 0) }
+    ensures exact { Gives (λ v. v.items) result (each (message profile cpus) [] (items_view items.now)) }
+    ensures within { IfOk result (λ v. (length v.items ≤ most_messages profile) × All (IsMessage cpus) v.items) }
 {
     let mut messages = Vec::new(alloc);
     for item in items {
-        let next = message(cpus, messages.as_slice(), item)?;
+        let next = message(profile, cpus, messages.as_slice(), item)?;
         push(&mut messages, next)?;
     }
     Ok(messages)

@@ -1,12 +1,14 @@
 ghost use Rattle.std.specs.Prelude.{◌≡◌, ◌<◌, ◌≤◌, length, Err, IfOk};
 ghost use Rattle.serde_json.specs.View.{view};
 ghost use Rattle.lwkt_script.specs.Outcome.{Gives};
-ghost use Rattle.lwkt_script.specs.Format.{is_whole, script, script_of};
-ghost use Rattle.lwkt_script.specs.Limits.{IsWithinLimits};
+ghost use Rattle.lwkt_script.specs.Format.{is_whole, script, script_under, script_of, plain_script_of};
+ghost use Rattle.lwkt_script.specs.Limits.{IsWithinLimits, IsPlain};
+ghost use Rattle.lwkt_script.specs.Profile.{most_cpus, most_messages};
 
 use crate::fields::{has, has_members, list_at, number_at};
 use crate::messages::messages_of;
 use crate::parts::Parts;
+use crate::profiles::{Profile, most_cpus};
 use crate::scripts::Script;
 use crate::threads::threads_of;
 use crate::tokens::tokens_of;
@@ -20,8 +22,6 @@ const MOST_TURNS: u64 = 1_000_000;
 
 const MOST_IDLE: u64 = 100_000_000;
 
-const CPU_LIMIT: u64 = 1;
-
 // Whether the value is an object with exactly the seven members.
 fn is_whole(value: &Value) -> bool
     ensures { result ≡ is_whole (view value.now) }
@@ -34,9 +34,11 @@ fn is_whole(value: &Value) -> bool
 }
 
 #[tactic(auto, unfolding(crate::specs::Format::script))]
-fn script(alloc: Global, value: &Value) -> Result<Script, Fault>
-    ensures exact { Gives (λ s. s) result (script (view value.now)) }
+fn script(alloc: Global, profile: Profile, value: &Value) -> Result<Script, Fault>
+    ensures exact { Gives (λ s. s) result (script profile (view value.now)) }
     ensures limits { IfOk result IsWithinLimits }
+    ensures cpus { IfOk result (λ s. s.cpus ≤ most_cpus profile) }
+    ensures messages { IfOk result (λ s. length s.messages ≤ most_messages profile) }
 {
     if !is_whole(value) {
         return Err(Fault::Script { place: 1 });
@@ -47,10 +49,10 @@ fn script(alloc: Global, value: &Value) -> Result<Script, Fault>
     number_at(2, value, "version", 1, 1)?;
     let turns = number_at(3, value, "turns", 1, MOST_TURNS)? as u32;
     let idle = number_at(4, value, "idle", 1, MOST_IDLE)? as u32;
-    let cpus = number_at(5, value, "cpus", 1, CPU_LIMIT)? as u8;
+    let cpus = number_at(5, value, "cpus", 1, u64::from(most_cpus(profile)))? as u8;
     let tokens = tokens_of(alloc, token_items.as_slice())?;
-    let messages = messages_of(alloc, cpus, message_items.as_slice())?;
-    let threads = threads_of(alloc, cpus, thread_items.as_slice())?;
+    let messages = messages_of(alloc, profile, cpus, message_items.as_slice())?;
+    let threads = threads_of(alloc, profile, cpus, thread_items.as_slice())?;
     Ok(Script {
         turns,
         idle,
@@ -61,6 +63,30 @@ fn script(alloc: Global, value: &Value) -> Result<Script, Fault>
     })
 }
 
+// Reads a script of which the reader lets in so much.
+#[tactic(auto, unfolding(crate::specs::Format::script_under))]
+fn read_under(alloc: Global, profile: Profile, bytes: &[u8]) -> Result<Script, Fault>
+    ensures exact { Gives (λ s. s) result (script_under profile bytes.now) }
+    ensures limits { IfOk result IsWithinLimits }
+    ensures cpus { IfOk result (λ s. s.cpus ≤ most_cpus profile) }
+    ensures messages { IfOk result (λ s. length s.messages ≤ most_messages profile) }
+    ensures memory { result ≡ Err Fault.Memory → (0 < length bytes.now) × (length bytes.now ≤ 1048576) }
+{
+    if bytes.len() > LENGTH_LIMIT {
+        return Err(Fault::Script { place: 0 });
+    }
+    match Value::from_slice(alloc, bytes) {
+        Ok(value) => script(alloc, profile, &value),
+        Err(e) => {
+            if e.is_memory() {
+                Err(Fault::Memory)
+            } else {
+                Err(Fault::Script { place: 0 })
+            }
+        }
+    }
+}
+
 /// Reads a script of version 1: one JSON text of at most 1048576 bytes.
 ///
 /// Refused with `Script` and the place of the first bad part, and with `Memory` only where an allocation was refused;
@@ -69,15 +95,14 @@ fn script(alloc: Global, value: &Value) -> Result<Script, Fault>
 /// - 0: the text is too long, or no JSON text (nested at most 127 deep).
 /// - 1: it is no object with exactly `version`, `turns`, `idle`, `cpus`, `tokens`, `messages` and `threads`, or one of
 ///   the last three is no list.
-/// - 2, 3, 4, 5: `version` isn't 1, `turns` isn't 1 to 1000000, `idle` isn't 1 to 100000000, `cpus` isn't 1.
+/// - 2, 3, 4, 5: `version` isn't 1, `turns` isn't 1 to 1000000, `idle` isn't 1 to 100000000, `cpus` isn't 1 to 8.
 /// - 1000 + n: token n, which is 64 where there are more than 64.
-/// - 2000: there is a message.
+/// - 2000 + n: message n, which is 64 where there are more than 64.
 /// - 3000 + n: thread n: its members, more than 256 steps, or the 17th thread of its processor.
-/// - 100000 + 1000 * n + j: step j of thread n.
+/// - 100000 + 1000 * n + j: step j of thread n. The steps `abort`, `isab` and `drop` are not there yet.
 ///
 /// Of a member that stands twice the last one counts. A number with a fraction or an exponent, -0, and a number of
 /// more than 64 bits are no whole numbers.
-#[tactic(auto, unfolding(crate::specs::Format::script_of))]
 pub fn read_script(alloc: Global, bytes: &[u8]) -> Result<Script, Fault>
     // The script that the bytes are, or the place of their first bad part.
     ensures exact { Gives (λ s. s) result (script_of bytes.now) }
@@ -88,17 +113,23 @@ pub fn read_script(alloc: Global, bytes: &[u8]) -> Result<Script, Fault>
     // No memory is taken for no bytes or for too many.
     ensures memory { result ≡ Err Fault.Memory → (0 < length bytes.now) × (length bytes.now ≤ 1048576) }
 {
-    if bytes.len() > LENGTH_LIMIT {
-        return Err(Fault::Script { place: 0 });
-    }
-    match Value::from_slice(alloc, bytes) {
-        Ok(value) => script(alloc, &value),
-        Err(e) => {
-            if e.is_memory() {
-                Err(Fault::Memory)
-            } else {
-                Err(Fault::Script { place: 0 })
-            }
-        }
-    }
+    read_under(alloc, Profile::Whole, bytes)
+}
+
+/// Reads a script that a machine of one processor without messages can run.
+///
+/// As `read_script`, but `cpus` other than 1, a message, at place 2000, and a step `send`, `do` or `reply` are bad
+/// parts too.
+pub fn read_plain_script(alloc: Global, bytes: &[u8]) -> Result<Script, Fault>
+    // The script that the bytes are, or the place of their first bad part.
+    ensures exact { Gives (λ s. s) result (plain_script_of bytes.now) }
+
+    // What each script keeps.
+    ensures limits { IfOk result IsWithinLimits }
+    ensures plain { IfOk result IsPlain }
+
+    // No memory is taken for no bytes or for too many.
+    ensures memory { result ≡ Err Fault.Memory → (0 < length bytes.now) × (length bytes.now ≤ 1048576) }
+{
+    read_under(alloc, Profile::Plain, bytes)
 }

@@ -8,11 +8,11 @@ pub struct Script {
     pub turns: u32,
     /// How many turns of a processor may pass without a thread that runs, 1 to 100000000.
     pub idle: u32,
-    /// How many processors there are: 1.
+    /// How many processors there are, 1 to 8.
     pub cpus: u8,
     /// At most 64 tokens, by their numbers.
     pub tokens: Parts<TokSpec>,
-    /// The messages, by their numbers: none.
+    /// At most 64 messages, by their numbers.
     pub messages: Parts<MsgSpec>,
     /// At most 16 threads of each processor. A thread's number is its place among those of its processor.
     pub threads: Parts<ThreadSpec>,

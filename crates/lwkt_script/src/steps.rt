@@ -1,21 +1,40 @@
 ghost use Rattle.std.specs.Prelude.{◌≡◌, ◌≤◌, ◌<◌, length, [], IfOk};
 ghost use Rattle.serde_json.specs.View.{view, items_view};
 ghost use Rattle.lwkt_script.specs.Outcome.{Gives, each};
-ghost use Rattle.lwkt_script.specs.Step.{small_at, whole_at, alone, with_token, with_number, with_cell, asked, ask_of};
+ghost use Rattle.lwkt_script.specs.Step.{small_at, code_at, whole_at, alone, with_token, with_number, with_numbers, sending_in, flags_of, with_sending, with_flags, asked, ask_of, ask_in};
 ghost use Rattle.lwkt_script.specs.Format.{step};
 
 use crate::fields::{item_count, number};
 use crate::growth::push;
-use lwkt_base::{Ask, Fault, TokId};
+use crate::profiles::{Profile, may_ask};
+use lwkt_base::{Ask, Call, CpuId, Fault, Flags, MsgId, ThreadId, TokId};
 use serde_json::Value;
 use std::alloc::Global;
 
-// Item i of a step as the number of a token or a cell.
+// What a step sends: a message, the thread that it goes to, and the call.
+#[derive(Clone, Copy)]
+pub struct Sending {
+    msg: MsgId,
+    to: ThreadId,
+    call: Call,
+}
+
+// Item i of a step as the number of a token, a cell, a message, a processor or a thread.
 fn small_at(value: &Value, i: usize) -> Option<u8>
     ensures { result ≡ small_at i (view value.now) }
 {
     match number(value.get(i)?, 0, 255) {
         Some(n) => Some(n as u8),
+        None => None,
+    }
+}
+
+// Item i of a step as a number of 32 bits.
+fn code_at(value: &Value, i: usize) -> Option<u32>
+    ensures { result ≡ code_at i (view value.now) }
+{
+    match number(value.get(i)?, 0, 4_294_967_295) {
+        Some(n) => Some(n as u32),
         None => None,
     }
 }
@@ -58,12 +77,68 @@ fn with_number(word: &str, tok: u8, n: u64) -> Option<Ask>
     }
 }
 
-// The ask of a word with a token, a cell and a value.
-fn with_cell(word: &str, tok: u8, cell: u8, n: u64) -> Option<Ask>
-    ensures { result ≡ with_cell word.now tok cell n }
+// The ask of a word with a token or a message and two numbers.
+fn with_numbers(word: &str, first: u8, n: u64, m: u64) -> Option<Ask>
+    ensures { result ≡ with_numbers word.now first n m }
 {
     match word {
-        "write" => Some(Ask::Write(TokId(tok), cell, n)),
+        "write" if n <= 255 => Some(Ask::Write(TokId(first), n as u8, m)),
+        "reply" if n <= 4_294_967_295 => Some(Ask::Reply(MsgId(first), n as u32, m)),
+        _ => None,
+    }
+}
+
+// What items 1 to 5 of a step send.
+#[tactic(auto, unfolding(crate::specs::Step::sending_in))]
+fn sending_in(value: &Value) -> Option<Sending>
+    ensures { result ≡ sending_in (view value.now) }
+{
+    let msg = small_at(value, 1)?;
+    let cpu = small_at(value, 2)?;
+    let thread = small_at(value, 3)?;
+    let op = code_at(value, 4)?;
+    let arg = whole_at(value, 5)?;
+    Some(Sending {
+        msg: MsgId(msg),
+        to: ThreadId {
+            cpu: CpuId(cpu),
+            thread,
+        },
+        call: Call { arg, op },
+    })
+}
+
+// The flags of a number: 1 for dropable plus 2 for abortable.
+fn flags_of(n: u64) -> Option<Flags>
+    ensures { result ≡ flags_of n }
+{
+    if n > 3 {
+        return None;
+    }
+    Some(Flags {
+        dropable: n == 1 || n == 3,
+        abortable: n == 2 || n == 3,
+    })
+}
+
+// The ask of a word with what is sent.
+fn with_sending(word: &str, sending: Sending) -> Option<Ask>
+    ensures { result ≡ with_sending word.now sending }
+{
+    let Sending { msg, to, call } = sending;
+    match word {
+        "do" => Some(Ask::Do(msg, to, call)),
+        _ => None,
+    }
+}
+
+// The ask of a word with what is sent, and flags.
+fn with_flags(word: &str, sending: Sending, flags: Flags) -> Option<Ask>
+    ensures { result ≡ with_flags word.now sending flags }
+{
+    let Sending { msg, to, call } = sending;
+    match word {
+        "send" => Some(Ask::Send(msg, to, call, flags)),
         _ => None,
     }
 }
@@ -83,12 +158,14 @@ fn asked(word: &str, count: usize, value: &Value) -> Option<Ask>
         1 => alone(word),
         2 => with_token(word, small_at(value, 1)?),
         3 => with_number(word, small_at(value, 1)?, whole_at(value, 2)?),
-        4 => with_cell(
+        4 => with_numbers(
             word,
             small_at(value, 1)?,
-            small_at(value, 2)?,
+            whole_at(value, 2)?,
             whole_at(value, 3)?,
         ),
+        6 => with_sending(word, sending_in(value)?),
+        7 => with_flags(word, sending_in(value)?, flags_of(whole_at(value, 6)?)?),
         _ => None,
     }
 }
@@ -101,17 +178,29 @@ fn ask_of(value: &Value) -> Option<Ask>
     asked(value.get(0usize)?.as_str()?, count, value)
 }
 
+// The same, if a thread may ask it.
+fn ask_in(profile: Profile, value: &Value) -> Option<Ask>
+    ensures { result ≡ ask_in profile (view value.now) }
+{
+    let ask = ask_of(value)?;
+    if may_ask(profile, ask) {
+        Some(ask)
+    } else {
+        None
+    }
+}
+
 // The asks of the steps of thread n of a script.
-pub fn steps_of(alloc: Global, n: u32, items: &[Value]) -> Result<Vec<Ask>, Fault>
+pub fn steps_of(alloc: Global, profile: Profile, n: u32, items: &[Value]) -> Result<Vec<Ask>, Fault>
     requires thread { n ≤ 128 }
     requires steps { length items.now ≤ 256 }
-    ensures exact { Gives (λ v. v.items) result (each (step n) [] (items_view items.now)) }
+    ensures exact { Gives (λ v. v.items) result (each (step profile n) [] (items_view items.now)) }
     ensures count { IfOk result (λ v. length v.items ≡ length items.now) }
 {
     let mut asks = Vec::new(alloc);
     for item in items {
         let place = 100_000 + 1000 * n + asks.len() as u32;
-        let Some(ask) = ask_of(item) else {
+        let Some(ask) = ask_in(profile, item) else {
             return Err(Fault::Script { place });
         };
         push(&mut asks, ask)?;

@@ -7,10 +7,12 @@ returns-clause-limits c = record {
   few_turns = search rules;
   some_idle = search rules;
   few_idle = search rules;
-  one_cpu = search rules;
+  some_cpus = search rules;
+  few_cpus = search rules;
   few_tokens = search rules;
   tokens = search rules;
-  no_messages = search rules;
+  few_messages = search rules;
+  messages = search rules;
   threads = search rules;
   few_threads = rw c.from_vec-3.ensures c.in_ok-threads.ensures.within.1;
 }
