@@ -1,9 +1,10 @@
-use Rattle.std.proofs.Common.{◌≡◌, ℕ, ◌+◌, ◌≤◌, Bool, true, false, eqb, List, [], ◌∷◌, ◌++◌, length, refl, ap, sym, ◌∙◌, arith, eq-eqb, ne_eqb, Option, Some, None}
+use Rattle.std.proofs.Common.{◌≡◌, ℕ, ◌+◌, ◌≤◌, Bool, true, false, eqb, List, [], ◌∷◌, ◌++◌, length, take, refl, ap, sym, ◌∙◌, arith, eq-eqb, ne_eqb, Option, Some, None, inl, inr}
 use Rattle.std.specs.Prelude.{fold, Vec, vec_len, vec_capacity}
 use Rattle.std.specs.Option.{option_or}
 use Rattle.std.specs.declared.alloc.Global.{Global}
-use Rattle.std.proofs.lemmas.Bool.{eqb-true, eqb-false}
+use Rattle.std.proofs.lemmas.Bool.{eqb-true, eqb-false, cases_lt}
 use Rattle.std.proofs.lemmas.List.{take_all, append-nil}
+use Rattle.std.proofs.lemmas.Grind.{common_steps}
 use Rattle.std.proofs.lemmas.List.Elements.{All-from_recursion}
 use Rattle.lwkt_core.specs.Events.{cpu_of}
 use Rattle.std.proofs.Math.Path.{fun_ext}
@@ -32,6 +33,31 @@ ran_still P most s t = ran_weaker P P 0 most s s t t (λ h p. p) (omega arith) (
 -- what a list holds is a front of it
 pub whole_front : (refs : List Ref) (h : Holding) → h ≡ holding_of refs → IsFront refs h
 whole_front refs h is = (length refs, is ∙ ap holding_of (sym (take_all (length refs) refs (omega arith))))
+
+-- the first few of the first few
+pub take_within : (n k : ℕ) (refs : List Ref) → n ≤ k → take n (take k refs) ≡ take n refs
+take_within n k refs below = grind (arith, common_steps)
+
+-- a front within another is a front of it
+pub front_within : (refs : List Ref) (n k : ℕ) (h : Holding) → n ≤ k → h ≡ holding_of (take n refs) → IsFront (take k refs) h
+front_within refs n k h below is = (n, is ∙ ap holding_of (sym (take_within n k refs below)))
+
+-- a front of the first few is one of the whole list
+pub front_of_few : (refs : List Ref) (k : ℕ) (h : Holding) → IsFront (take k refs) h → IsFront refs h
+front_of_few refs k h front = elim (cases_lt front.0 k) [
+  | inl below ↦ (front.0, front.1 ∙ ap holding_of (take_within front.0 k refs (omega arith)))
+  | inr above ↦ (k, front.1 ∙ ap holding_of (take_above front.0 above))
+]
+  where
+    take_above : (n : ℕ) → k ≤ n → take n (take k refs) ≡ take k refs
+    take_above n more = grind (arith, common_steps)
+
+-- the empty list's front is a front of any list
+pub front_none : (refs : List Ref) (h : Holding) → IsFront [] h → IsFront refs h
+front_none refs h front = (0, front.1 ∙ ap holding_of (take_none front.0))
+  where
+    take_none : (n : ℕ) → take n [] ≡ take 0 refs
+    take_none n = grind (arith, common_steps)
 
 -- the mode of what is held
 abbrev pub mode_of : Held → Option Mode

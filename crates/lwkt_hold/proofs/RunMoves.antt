@@ -1,4 +1,4 @@
-use Rattle.std.proofs.Common.{◌≡◌, ℕ, ◌+◌, ◌≤◌, Bool, true, false, cond, eqb, List, [], ◌∷◌, ◌++◌, refl, ap, sym, ◌∙◌, subst, arith, append_assoc, length-append}
+use Rattle.std.proofs.Common.{◌≡◌, ℕ, ◌+◌, ◌≤◌, Bool, true, false, cond, eqb, List, [], ◌∷◌, ◌++◌, refl, ap, sym, ◌∙◌, subst, arith, append_assoc, length, length-append}
 use Rattle.std.specs.Prelude.{All, filter, Vec, vec_len, vec_capacity}
 use Rattle.std.specs.List.{AllZip}
 use Rattle.std.specs.declared.alloc.Global.{Global}
@@ -91,6 +91,23 @@ ran_weaker P Q m n a b t u weaker wider ran = record {
   few = let x = ran.few in omega arith;
   grown = ran.grown;
   room = ran.room;
+}
+
+-- a trace that was given more room
+pub ran_with_room : (P : Holding → Type 0) (most : ℕ) (a b : CpuSeat) (t u v : Vec Event Global) → u.items ≡ t.items → vec_len u ≡ vec_len t → vec_capacity t ≤ vec_capacity u → Ran P most a b u v → Ran P most a b t v
+ran_with_room P most a b t u v same long wider ran = record {
+  bank = ran.bank;
+  cpu = ran.cpu;
+  made = ran.made;
+  steps = ran.steps;
+  done = ran.done;
+  trace = ran.trace ∙ ap (λ xs. xs ++ ran.done) same;
+  own = ran.own;
+  told = ran.told;
+  moves = ran.moves;
+  few = ran.few;
+  grown = ran.grown ∙ ap (λ n. n + length ran.done) long;
+  room = let x = ran.room in omega arith;
 }
 
 -- what a change of one token does to the holding
