@@ -4,8 +4,8 @@ use Rattle.atomic_table.specs.declared.shared.Seat.{Seat}
 use Rattle.lwkt_base.specs.declared.names.CpuId.{CpuId}
 use Rattle.lwkt_core.specs.declared.seats.SeatKind.TheVariants.{Of}
 use Rattle.lwkt_core.specs.declared.seats.Deed.{Deed}
-use Rattle.lwkt_core.specs.History.{AreOthers, Grows}
-use Rattle.lwkt_core.proofs.HistoryLemmas.{Grows-append}
+use Rattle.lwkt_core.specs.History.{AreOthers, AreOwn, Grows}
+use Rattle.lwkt_core.proofs.HistoryLemmas.{own-nil, own-cons, own-append, Grows-append}
 use Rattle.lwkt_bank.specs.declared.views.Plan.{Plan}
 use Rattle.lwkt_bank.specs.declared.views.KnownCell.{KnownCell}
 use Rattle.lwkt_bank.specs.declared.views.Entry.{Entry}
@@ -51,8 +51,8 @@ pub who_is : (s : CpuSeat) → who s.seat.me.0 ≡ s.cpu
 who_is s = ap seat_cpu (seat_told s.seat.me.0.kind s.cpu s.kept.seat)
 
 -- what a step on the seat's view changes
-pub changed : (s s' : CpuSeat) (tok : ℕ) (e : Entry) (between : List Deed) (deed : CpuId → Deed) → IsSame s.seat s'.seat → s'.cpu ≡ s.cpu → AreOthers (who s.seat.me.0).0 between → s'.seat.me.0 ≡ noted between s.seat.me.0 e (deed (who s.seat.me.0)) → e.tok ≡ tok → Changes s s' tok e (deed s.cpu ∷ [])
-changed s s' tok e between deed same cpu others is is_tok =
+pub changed : (s s' : CpuSeat) (tok : ℕ) (e : Entry) (between : List Deed) (deed : CpuId → Deed) → IsSame s.seat s'.seat → s'.cpu ≡ s.cpu → ((deed s.cpu).cpu ≡ s.cpu) → AreOthers (who s.seat.me.0).0 between → s'.seat.me.0 ≡ noted between s.seat.me.0 e (deed (who s.seat.me.0)) → e.tok ≡ tok → Changes s s' tok e (deed s.cpu ∷ [])
+changed s s' tok e between deed same cpu own others is is_tok =
     let F : CpuId → Type 0 = λ c. Grows c.0 (past_of s) (deed c ∷ []) (past_of s') in
     record {
       bank = λ i. record { table = same.table i; plans = (is i).plans };
@@ -60,6 +60,7 @@ changed s s' tok e between deed same cpu others is is_tok =
       here = ap (λ (v : View). at v.tokens tok) is ∙ at-here e s.seat.me.0.tokens tok is_tok;
       else_ = λ other away. ap (λ (v : View). at v.tokens other) is ∙ at-else e s.seat.me.0.tokens tok other is_tok away;
       grows = subst F (who_is s) (between, (others, ap (λ (v : View). v.past) is));
+      own = own-cons s.cpu.0 (deed s.cpu) [] (ap (λ (c : CpuId). c.0) own) (own-nil s.cpu.0);
     }
 
 -- the cell of a Tally token that was raised by the seat's processor
@@ -76,6 +77,7 @@ changed_twice s mid s' tok d e made more first second =
       here = second.here;
       else_ = λ other away. second.else_ other away ∙ first.else_ other away;
       grows = Grows-append s.cpu.0 (past_of s) made (past_of mid) more (past_of s') first.grows (subst F first.cpu second.grows);
+      own = own-append s.cpu.0 made more first.own (subst (λ (c : CpuId). AreOwn c.0 more) first.cpu second.own);
     }
 
 -- a change is one that leaves the known cells as they were
@@ -84,10 +86,10 @@ knowing_same s s' tok e deeds changes = record { known = e.known; new = []; grow
 
 -- nothing was changed yet
 pub knowing_none : (s : CpuSeat) (tok : ℕ) → Knowing s s tok (entry s tok) []
-knowing_none s tok = record { known = (entry s tok).known; new = []; grown = refl; changes = record { bank = refl; cpu = refl; here = refl; else_ = λ other away. refl; grows = refl } }
+knowing_none s tok = record { known = (entry s tok).known; new = []; grown = refl; changes = record { bank = refl; cpu = refl; here = refl; else_ = λ other away. refl; grows = refl; own = own-nil s.cpu.0 } }
 
 pub knowing_unchanged : (s s' : CpuSeat) (tok : ℕ) → IsUnchanged s s' → Knowing s s' tok (entry s tok) []
-knowing_unchanged s s' tok same = record { known = (entry s tok).known; new = []; grown = refl; changes = record { bank = same.bank; cpu = same.cpu; here = same.entries tok; else_ = λ other away. same.entries other; grows = same.past } }
+knowing_unchanged s s' tok same = record { known = (entry s tok).known; new = []; grown = refl; changes = record { bank = same.bank; cpu = same.cpu; here = same.entries tok; else_ = λ other away. same.entries other; grows = same.past; own = own-nil s.cpu.0 } }
 
 -- a cell was read: one more is known
 pub knowing_read : (s s' : CpuSeat) (tok cell : ℕ) (deeds : List Deed) → Changes s s' tok (read (entry s tok) cell) deeds → Knowing s s' tok (entry s tok) deeds

@@ -52,6 +52,7 @@ restoring_more s mid s' tok made cell None so_far low inside told =
         here = told.0.entries tok ∙ so_far.changes.here;
         else_ = λ other away. told.0.entries other ∙ so_far.changes.else_ other away;
         grows = subst G (sym told.0.past) so_far.changes.grows;
+        own = so_far.changes.own;
       };
       done = λ k h. ⊎_elim
           (λ (now : k ≡ cell).

@@ -19,16 +19,17 @@ use Rattle.lwkt_core.specs.Tokens.{held_by, IsNotLastExclusive}
 use Rattle.lwkt_core.specs.Machine.{Machine, IsSafe}
 use Rattle.lwkt_core.specs.Opening.{opening, AreWithin, AllOpenLawfully}
 use Rattle.lwkt_core.specs.Trace.{Run}
-use Rattle.lwkt_core.specs.History.{IsStepOver, AreOthers, IsPastOf, Passes, events_by, steps_by, events_in, noted_page}
+use Rattle.lwkt_core.specs.History.{IsStepOver, AreOthers, IsPastOf, Passes, events_by, steps_by, events_in, steps_in, AreOwn, Grows, noted_page}
 use Rattle.lwkt_bank.specs.declared.views.Plan.{Plan}
 use Rattle.lwkt_bank.specs.declared.views.View.{View}
+use Rattle.lwkt_bank.specs.declared.seats.CpuSeat.{CpuSeat}
 use Rattle.lwkt_bank.specs.Views.{at, who, page_of, named, count_from, held_of, exchange, first_view, clerk_after, new_seat, joined, spent}
 use Rattle.lwkt_bank.specs.Deeds.{deed_by, loads, adds_one, marks, gives_one, gives_clean, gives_written, reads, writes}
 use Rattle.lwkt_bank.specs.Rule.{Bench, token_word, cell_word, plan_at, token_at, Knows, Pictures}
 use Rattle.lwkt_bank.specs.Opened.{plans_of, opening_words}
 use Rattle.lwkt_bank.specs.Told.{IsOperation, IsDone, first_machine, Told, Deeds}
 use Rattle.lwkt_bank.specs.Plays.{Amid, Looks, Exchanges, AddsOne, Marks, GivesOne, GivesClean, GivesWritten, ReadsCell, StoresCell, RaisesCell}
-use Rattle.lwkt_bank.specs.Seats.{Decides}
+use Rattle.lwkt_bank.specs.Seats.{Decides, past_of, steps_of, events_of}
 
 -- whatever meets the rule shows a safe machine; each processor with a seat holds in it what its view says, and each view
 -- knows what is true of it
@@ -148,3 +149,7 @@ CellStoreIsWrite = AtSeat (λ plans cpus id v tok. is_exclusive (at v.tokens tok
 
 abbrev pub TallyStoreIsWrite : Type 0
 TallyStoreIsWrite = AtSeat (λ plans cpus id v tok. is_exclusive (at v.tokens tok).held ≡ true → (plan_at plans tok).law ≡ Tally → (k : ℕ) → Deeds plans cpus id v (cell_word tok 0) (λ _. slice_index (at v.tokens tok).row 0 + k) (λ _. writes (who v) tok 0 (slice_index (at v.tokens tok).row 0 + k)) (λ _ w. Amid v (λ between. RaisesCell between tok 0 v (slice_index (at v.tokens tok).row 0 + k) w)))
+
+-- what a call's deeds tell of its seat's steps on token words and of its events: they are appended, in order
+abbrev pub DeedsAreTold : Type 0
+DeedsAreTold = (s s' : CpuSeat) (deeds : List Deed) → s'.cpu ≡ s.cpu → Grows s.cpu.0 (past_of s) deeds (past_of s') → AreOwn s.cpu.0 deeds → (steps_of s' ≡ steps_of s ++ steps_in deeds) × (events_of s' ≡ events_of s ++ events_in deeds)

@@ -28,7 +28,7 @@ use Rattle.lwkt_bank.specs.declared.tries.Given.{Given}
 use Rattle.lwkt_bank.specs.declared.tries.Given.TheVariants.{One, Clean, Written}
 use Rattle.lwkt_core.specs.declared.seats.Deed.{Deed}
 use Rattle.lwkt_core.specs.declared.events.Event.{Event}
-use Rattle.lwkt_core.specs.History.{steps_by, events_by, Grows}
+use Rattle.lwkt_core.specs.History.{steps_by, events_by, AreOwn, Grows}
 use Rattle.lwkt_bank.specs.Views.{at, count_from, held_of, generation_in, is_touched, looked, taken, less, ended, who}
 use Rattle.lwkt_bank.specs.Deeds.{loads, takes, loses, gives_one, gives_clean, gives_written, reads, writes_all}
 use Rattle.lwkt_bank.specs.Plays.{IsTakenRow}
@@ -102,6 +102,7 @@ pub record Changes (s s' : CpuSeat) (tok : ℕ) (e : Entry) (deeds : List Deed) 
   pub here : entry s' tok ≡ e
   pub else_ : (other : ℕ) → other ≢ tok → entry s' other ≡ entry s other
   pub grows : Grows s.cpu.0 (past_of s) deeds (past_of s')
+  pub own : AreOwn s.cpu.0 deeds
 
 -- a look at a token word that found this: the generation doesn't fall, and there is room for a reference more
 pub record Looked (s s' : CpuSeat) (tok found : ℕ) : Type 0 where

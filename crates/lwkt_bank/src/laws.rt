@@ -1,5 +1,5 @@
 //! What the bank's rule is for, as laws.
-ghost use Rattle.lwkt_bank.specs.Laws.{RuleShowsSafety, StatesAreReached, ViewsDecide, OpeningIsDeclared, SplitIsNoDeed, JoinIsNoDeed, MadeAsTold, NothingUntold, LookIsLoad, ExchangeIsTake, ExchangeIsShare, AddIsAgain, OrIsMark, SubIsGiveOne, SubIsGiveClean, AddIsGiveWritten, CellLoadIsRead, CellStoreIsWrite, TallyStoreIsWrite};
+ghost use Rattle.lwkt_bank.specs.Laws.{RuleShowsSafety, StatesAreReached, ViewsDecide, OpeningIsDeclared, SplitIsNoDeed, JoinIsNoDeed, MadeAsTold, NothingUntold, LookIsLoad, ExchangeIsTake, ExchangeIsShare, AddIsAgain, OrIsMark, SubIsGiveOne, SubIsGiveClean, AddIsGiveWritten, CellLoadIsRead, CellStoreIsWrite, TallyStoreIsWrite, DeedsAreTold};
 ghost use Rattle.lwkt_bank.specs.Holdings.{TakingAdds, AgainAdds, GivingRemoves, OthersKeep, NothingCounts, AddedCounts};
 
 /// Every state of the table that meets the rule shows a safe machine of the model, holders and tallies by processor, and each
@@ -43,6 +43,11 @@ pub fn steps_are_deeds()
     ensures raise { TallyStoreIsWrite }
     ensures split { SplitIsNoDeed }
     ensures join { JoinIsNoDeed }
+{}
+
+/// The deeds that a call's contract tells are its seat's new events and steps, in order.
+pub fn deeds_are_told()
+    ensures { DeedsAreTold }
 {}
 
 /// What a seat holds after each call: one reference more, one less, or as before.

@@ -36,4 +36,4 @@ pub returns : goal.returns
 returns c =
     let s = c.args.self.now in
     let t = c.args.tok.0 in
-    record { found = c.add_one.result; changes = changed s _ t (more (entry s t)) c.add_one.ensures.adds.0 (λ cpu. adds_one cpu t c.add_one.result) c.add_one.ensures.same refl c.add_one.ensures.adds.1.0 c.add_one.ensures.adds.1.1 (entry_tok s t) }
+    record { found = c.add_one.result; changes = changed s _ t (more (entry s t)) c.add_one.ensures.adds.0 (λ cpu. adds_one cpu t c.add_one.result) c.add_one.ensures.same refl refl c.add_one.ensures.adds.1.0 c.add_one.ensures.adds.1.1 (entry_tok s t) }

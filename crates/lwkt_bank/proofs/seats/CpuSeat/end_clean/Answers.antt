@@ -23,4 +23,4 @@ pub returns : goal.returns
 returns c =
     let s = c.args.self.now in
     let t = c.args.tok.0 in
-    record { found = c.give_clean.result; changes = changed s _ t (less (entry s t)) c.give_clean.ensures.gives.0 (λ cpu. gives_clean cpu t c.give_clean.result) c.give_clean.ensures.same refl c.give_clean.ensures.gives.1.0 c.give_clean.ensures.gives.1.1 (entry_tok s t) }
+    record { found = c.give_clean.result; changes = changed s _ t (less (entry s t)) c.give_clean.ensures.gives.0 (λ cpu. gives_clean cpu t c.give_clean.result) c.give_clean.ensures.same refl refl c.give_clean.ensures.gives.1.0 c.give_clean.ensures.gives.1.1 (entry_tok s t) }

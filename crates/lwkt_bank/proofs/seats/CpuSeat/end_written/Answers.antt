@@ -22,4 +22,4 @@ pub returns : goal.returns
 returns c =
     let s = c.args.self.now in
     let t = c.args.tok.0 in
-    record { found = c.give_written.result; changes = changed s _ t (ended (entry s t)) c.give_written.ensures.gives.0 (λ cpu. gives_written cpu t c.give_written.result) c.give_written.ensures.same refl c.give_written.ensures.gives.1.0 c.give_written.ensures.gives.1.1 (entry_tok s t) }
+    record { found = c.give_written.result; changes = changed s _ t (ended (entry s t)) c.give_written.ensures.gives.0 (λ cpu. gives_written cpu t c.give_written.result) c.give_written.ensures.same refl refl c.give_written.ensures.gives.1.0 c.give_written.ensures.gives.1.1 (entry_tok s t) }

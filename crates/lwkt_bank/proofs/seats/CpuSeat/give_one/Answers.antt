@@ -33,4 +33,4 @@ pub returns : goal.returns
 returns c =
     let s = c.args.self.now in
     let t = c.args.tok.0 in
-    record { found = c.give_one.result; changes = changed s _ t (less (entry s t)) c.give_one.ensures.gives.0 (λ cpu. gives_one cpu t c.give_one.result) c.give_one.ensures.same refl c.give_one.ensures.gives.1.0 c.give_one.ensures.gives.1.1 (entry_tok s t) }
+    record { found = c.give_one.result; changes = changed s _ t (less (entry s t)) c.give_one.ensures.gives.0 (λ cpu. gives_one cpu t c.give_one.result) c.give_one.ensures.same refl refl c.give_one.ensures.gives.1.0 c.give_one.ensures.gives.1.1 (entry_tok s t) }

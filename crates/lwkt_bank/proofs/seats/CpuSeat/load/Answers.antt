@@ -17,7 +17,7 @@ invariant_of-self c =
     }
 
 pub returns-clause-changes : goal.returns-clause-changes
-returns-clause-changes c = let s = c.args.self.now in changed s _ c.args.tok.0 (read (entry s c.args.tok.0) c.args.cell) c.read_cell.ensures.reads.0 (λ cpu. reads cpu c.args.tok.0 c.args.cell c.read_cell.result) c.read_cell.ensures.same refl c.read_cell.ensures.reads.1.0 c.read_cell.ensures.reads.1.1.1 (entry_tok s c.args.tok.0)
+returns-clause-changes c = let s = c.args.self.now in changed s _ c.args.tok.0 (read (entry s c.args.tok.0) c.args.cell) c.read_cell.ensures.reads.0 (λ cpu. reads cpu c.args.tok.0 c.args.cell c.read_cell.result) c.read_cell.ensures.same refl refl c.read_cell.ensures.reads.1.0 c.read_cell.ensures.reads.1.1.1 (entry_tok s c.args.tok.0)
 
 pub returns-clause-value : goal.returns-clause-value
 returns-clause-value c = c.read_cell.ensures.reads.1.1.0

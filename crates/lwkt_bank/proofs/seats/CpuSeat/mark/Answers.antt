@@ -14,5 +14,5 @@ invariant_of-self c = let s = c.args.self.now in record {
 pub returns : goal.returns
 returns c = let s = c.args.self.now in record {
   found = c.set_mark.result;
-  changes = changed s _ c.args.tok.0 (entry s c.args.tok.0) c.set_mark.ensures.marks.0 (λ cpu. marks cpu c.args.tok.0 c.set_mark.result) c.set_mark.ensures.same refl c.set_mark.ensures.marks.1.0 c.set_mark.ensures.marks.1.1 (entry_tok s c.args.tok.0);
+  changes = changed s _ c.args.tok.0 (entry s c.args.tok.0) c.set_mark.ensures.marks.0 (λ cpu. marks cpu c.args.tok.0 c.set_mark.result) c.set_mark.ensures.same refl refl c.set_mark.ensures.marks.1.0 c.set_mark.ensures.marks.1.1 (entry_tok s c.args.tok.0);
 }

@@ -29,5 +29,5 @@ pub returns : goal.returns
 returns c =
     let s = c.args.self.now in
     let t = c.args.tok.0 in
-    changed s _ t (raised (entry s t) s.cpu c.args.k) c.raise_cell.ensures.raises.0 (λ cpu. writes cpu t 0 c.args.change.last) c.raise_cell.ensures.same refl c.raise_cell.ensures.raises.1.0
+    changed s _ t (raised (entry s t) s.cpu c.args.k) c.raise_cell.ensures.raises.0 (λ cpu. writes cpu t 0 c.args.change.last) c.raise_cell.ensures.same refl refl c.raise_cell.ensures.raises.1.0
     (raised_is s c.raise_cell.new.seat.me.0 t c.args.k c.args.change.last c.raise_cell.ensures.raises.0 (c.raise_cell.ensures.raises.1.1 c.args.k c.requires.last)) (entry_tok s t)

@@ -20,4 +20,4 @@ invariant_of-self c =
     }
 
 pub returns : goal.returns
-returns c = let s = c.args.self.now in changed s _ c.args.tok.0 (stored (entry s c.args.tok.0) c.args.cell c.args.change.last) c.store_cell.ensures.stores.0 (λ cpu. writes cpu c.args.tok.0 c.args.cell c.args.change.last) c.store_cell.ensures.same refl c.store_cell.ensures.stores.1.0 c.store_cell.ensures.stores.1.1 (entry_tok s c.args.tok.0)
+returns c = let s = c.args.self.now in changed s _ c.args.tok.0 (stored (entry s c.args.tok.0) c.args.cell c.args.change.last) c.store_cell.ensures.stores.0 (λ cpu. writes cpu c.args.tok.0 c.args.cell c.args.change.last) c.store_cell.ensures.same refl refl c.store_cell.ensures.stores.1.0 c.store_cell.ensures.stores.1.1 (entry_tok s c.args.tok.0)

@@ -20,7 +20,7 @@ returns-then-found-word-clause-miss c = λ no'. let s = c.args.self.now in let m
   found = c.swing-found.result;
   other = c.if-found-word.true;
   rises = miss.0;
-  changes = changed s _ c.args.tok.0 (looked (entry s c.args.tok.0) c.swing-found.result) c.swing-found.ensures.exchanges.0 (λ cpu. loses cpu c.args.tok.0 c.args.word c.args.next c.swing-found.result) c.swing-found.ensures.same refl c.swing-found.ensures.exchanges.1.0 miss.1 ((seen-keeps (entry s c.args.tok.0) (generation_in c.swing-found.result)).0 ∙ entry_tok s c.args.tok.0);
+  changes = changed s _ c.args.tok.0 (looked (entry s c.args.tok.0) c.swing-found.result) c.swing-found.ensures.exchanges.0 (λ cpu. loses cpu c.args.tok.0 c.args.word c.args.next c.swing-found.result) c.swing-found.ensures.same refl refl c.swing-found.ensures.exchanges.1.0 miss.1 ((seen-keeps (entry s c.args.tok.0) (generation_in c.swing-found.result)).0 ∙ entry_tok s c.args.tok.0);
 }
 
 pub invariant_of-self-2 : goal.invariant_of-self-2
@@ -41,4 +41,4 @@ returns-clause-hit c = λ yes'.
     let t = c.args.tok.0 in
     let hit = c.swing-found.ensures.exchanges.1.1.0 c.if-found-word.false in
     hit_of s _ t c.args.mode c.args.word c.args.next c.swing-found.result hit.0 c.if-found-word.false hit.1.0
-    (changed s _ t (taken (entry s t) c.swing-found.result c.args.mode hit.0) c.swing-found.ensures.exchanges.0 (λ cpu. takes cpu t c.args.mode c.args.word c.args.next c.swing-found.result) c.swing-found.ensures.same refl c.swing-found.ensures.exchanges.1.0 hit.1.1 ((seen-keeps (entry s t) (generation_in c.swing-found.result)).0 ∙ entry_tok s t))
+    (changed s _ t (taken (entry s t) c.swing-found.result c.args.mode hit.0) c.swing-found.ensures.exchanges.0 (λ cpu. takes cpu t c.args.mode c.args.word c.args.next c.swing-found.result) c.swing-found.ensures.same refl refl c.swing-found.ensures.exchanges.1.0 hit.1.1 ((seen-keeps (entry s t) (generation_in c.swing-found.result)).0 ∙ entry_tok s t))

@@ -18,5 +18,5 @@ pub returns : goal.returns
 returns c = let s = c.args.self.now in record {
   room = c.look.ensures.looks.1.1.0;
   rises = c.look.ensures.looks.1.1.1;
-  changes = changed s _ c.args.tok.0 (looked (entry s c.args.tok.0) c.look.result) c.look.ensures.looks.0 (λ cpu. loads cpu c.args.tok.0 c.look.result) c.look.ensures.same refl c.look.ensures.looks.1.0 c.look.ensures.looks.1.1.2 ((seen-keeps (entry s c.args.tok.0) (generation_in c.look.result)).0 ∙ at-tok s.seat.me.0.tokens c.args.tok.0);
+  changes = changed s _ c.args.tok.0 (looked (entry s c.args.tok.0) c.look.result) c.look.ensures.looks.0 (λ cpu. loads cpu c.args.tok.0 c.look.result) c.look.ensures.same refl refl c.look.ensures.looks.1.0 c.look.ensures.looks.1.1.2 ((seen-keeps (entry s c.args.tok.0) (generation_in c.look.result)).0 ∙ at-tok s.seat.me.0.tokens c.args.tok.0);
 }
