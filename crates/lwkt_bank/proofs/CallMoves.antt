@@ -1,4 +1,4 @@
-use Rattle.std.proofs.Common.{◌≡◌, ◌≢◌, ℕ, ◌+◌, ◌-◌, ◌%◌, ◌^◌, ◌<◌, ◌≤◌, Bool, true, List, length, eqb, cond, refl, ap, sym, ◌∙◌, subst, arith}
+use Rattle.std.proofs.Common.{◌≡◌, ◌≢◌, ℕ, ◌+◌, ◌-◌, ◌%◌, ◌^◌, ◌<◌, ◌≤◌, Bool, true, List, [], ◌∷◌, length, eqb, cond, refl, ap, sym, ◌∙◌, subst, arith}
 use Rattle.std.specs.Prelude.{slice_index, bit_or}
 use mathlib.Core.Option.{none}
 use prog.Atomic.{either}
@@ -12,19 +12,21 @@ use Rattle.lwkt_base.specs.declared.holdings.Held.TheVariants.{Nothing, Holds}
 use Rattle.lwkt_base.specs.declared.words.Decision.TheVariants.{Take as Takes}
 use Rattle.lwkt_base.specs.Holding.{is_held, is_exclusive}
 use Rattle.lwkt_base.specs.Law.{MeetsLaw}
-use Rattle.lwkt_core.specs.declared.events.Event.{Event}
-use Rattle.lwkt_core.specs.declared.events.Event.TheVariants.{Load, Again, Mark, GiveOne, GiveClean, GiveWritten, Read, Write, Take, Share}
+use Rattle.lwkt_core.specs.declared.events.Event.TheVariants.{Load, Take, Share}
+use Rattle.lwkt_core.specs.declared.seats.Deed.{Deed}
 use Rattle.lwkt_core.specs.Tokens.{IsNotLastExclusive}
 use Rattle.lwkt_bank.specs.declared.views.Plan.{Plan}
 use Rattle.lwkt_bank.specs.declared.views.View.{View}
 use Rattle.lwkt_bank.specs.declared.rules.Key.{Key}
 use Rattle.lwkt_bank.specs.declared.banks.Bank.{Bank}
-use Rattle.lwkt_bank.specs.Views.{at, count_from, held_of}
-use Rattle.lwkt_bank.specs.Rule.{Rule, token_word, cell_word, plan_at}
-use Rattle.lwkt_bank.specs.Plays.{Steps, at_word, at_cell, exchanges, Looks, Exchanges, AddsOne, Marks, GivesOne, GivesClean, GivesWritten, ReadsCell, StoresCell, RaisesCell}
+use Rattle.lwkt_bank.specs.Views.{at, count_from, held_of, who, named, exchange}
+use Rattle.lwkt_bank.specs.Deeds.{deed_by, loads, adds_one, marks, gives_one, gives_clean, gives_written, reads, writes}
+use Rattle.lwkt_bank.specs.Told.{Told, Deeds}
+use Rattle.lwkt_bank.specs.Rule.{token_word, cell_word, plan_at}
+use Rattle.lwkt_bank.specs.Plays.{Amid, at_word, at_cell, exchanges, Looks, Exchanges, AddsOne, Marks, GivesOne, GivesClean, GivesWritten, ReadsCell, StoresCell, RaisesCell}
 use Rattle.lwkt_bank.specs.Seats.{IsOf, Decides}
 use Rattle.lwkt_bank.proofs.AllowMoves.{allow_word, allow_cell, allow_store}
-use Rattle.lwkt_bank.proofs.SeatMoves.{look_steps, take_steps, share_steps, again_steps, mark_steps, give_one_steps, give_clean_steps, give_written_steps, read_steps, store_steps, raise_steps}
+use Rattle.lwkt_bank.proofs.DeedMoves.{look_deeds, take_deeds, share_deeds, again_deeds, mark_deeds, give_one_deeds, give_clean_deeds, give_written_deeds, read_deeds, store_deeds, raise_deeds}
 
 module _ (bank : Bank) (seat : Seat (Unit {0}) View) (tok : ℕ) (of : IsOf bank seat) (there : tok < length bank.key.plans.items) where
   abbrev key : Key
@@ -38,7 +40,7 @@ module _ (bank : Bank) (seat : Seat (Unit {0}) View) (tok : ℕ) (of : IsOf bank
 
   -- what a step asks whose word becomes f of what it was
   abbrev pub Asks : ℕ → (ℕ → ℕ) → (ℕ → Me (Unit {0}) View → Type 0) → Type 0
-  Asks word f then = (seat.table_id ≡ bank.table.shared.table_id) × (word < bank.table.shared.table_id.words) × Allows (Rule key.plans.items key.cpus) slots seat.id seat.me word f then
+  Asks word f then = (seat.table_id ≡ bank.table.shared.table_id) × (word < bank.table.shared.table_id.words) × Allows (Told key.plans.items key.cpus) slots seat.id seat.me word f then
 
   abbrev plans_are : key.plans.items ≡ bank.key.plans.items
   plans_are = ap (λ (k : Key). k.plans.items) bank.told
@@ -46,32 +48,32 @@ module _ (bank : Bank) (seat : Seat (Unit {0}) View) (tok : ℕ) (of : IsOf bank
   there' : tok < length key.plans.items
   there' = let e = ap length plans_are in omega arith
 
-  word_in : token_word tok < bank.table.shared.table_id.words
-  word_in = let w = bank.wide in omega arith
+  word_there : token_word tok < bank.table.shared.table_id.words
+  word_there = let w = bank.wide in omega arith
 
-  cell_in : (cell : ℕ) → cell < 4 → cell_word tok cell < bank.table.shared.table_id.words
-  cell_in cell few = let w = bank.wide in omega arith
+  cell_there : (cell : ℕ) → cell < 4 → cell_word tok cell < bank.table.shared.table_id.words
+  cell_there cell few = let w = bank.wide in omega arith
 
-  asks_word : (word : ℕ) → word ≡ token_word tok → (f : ℕ → ℕ) (event : ℕ → Event) (R : ℕ → View → ℕ → View → Type 0) (first second : ℕ) → Steps key.plans.items key.cpus seat.id v (token_word tok) f event (R tok v) → Asks word f (at_word R (step slots word first second none) seat.me)
-  asks_word word is f event R first second steps =
+  asks_word : (word : ℕ) → word ≡ token_word tok → (f : ℕ → ℕ) (deed : ℕ → Deed) (R : List Deed → ℕ → View → ℕ → View → Type 0) (first second : ℕ) → Deeds key.plans.items key.cpus seat.id v (token_word tok) f deed (λ n w. Amid v (λ between. R between tok v n w)) → Asks word f (at_word R (step slots word first second none) seat.me)
+  asks_word word is f deed R first second deeds =
       let F : ℕ → Type 0 = λ w. Asks w f (at_word R (step slots w first second none) seat.me) in
-      subst F (sym is) (of.table, word_in, allow_word key.plans.items key.cpus slots seat.id seat.me (step slots (token_word tok) first second none) tok f event R refl steps)
+      subst F (sym is) (of.table, word_there, allow_word key.plans.items key.cpus slots seat.id seat.me (step slots (token_word tok) first second none) tok f deed R refl deeds)
 
-  asks_cell : (word cell : ℕ) → cell < 4 → word ≡ cell_word tok cell → (f : ℕ → ℕ) (event : ℕ → Event) (R : ℕ → ℕ → View → ℕ → View → Type 0) (first second : ℕ) → Steps key.plans.items key.cpus seat.id v (cell_word tok cell) f event (R tok cell v) → Asks word f (at_cell R (step slots word first second none) seat.me)
-  asks_cell word cell few is f event R first second steps =
+  asks_cell : (word cell : ℕ) → cell < 4 → word ≡ cell_word tok cell → (f : ℕ → ℕ) (deed : ℕ → Deed) (R : List Deed → ℕ → ℕ → View → ℕ → View → Type 0) (first second : ℕ) → Deeds key.plans.items key.cpus seat.id v (cell_word tok cell) f deed (λ n w. Amid v (λ between. R between tok cell v n w)) → Asks word f (at_cell R (step slots word first second none) seat.me)
+  asks_cell word cell few is f deed R first second deeds =
       let F : ℕ → Type 0 = λ w. Asks w f (at_cell R (step slots w first second none) seat.me) in
-      subst F (sym is) (of.table, cell_in cell few, allow_cell key.plans.items key.cpus slots seat.id seat.me (step slots (cell_word tok cell) first second none) tok cell f event R few refl steps)
+      subst F (sym is) (of.table, cell_there cell few, allow_cell key.plans.items key.cpus slots seat.id seat.me (step slots (cell_word tok cell) first second none) tok cell f deed R few refl deeds)
 
-  asks_store : (word cell : ℕ) → cell < 4 → word ≡ cell_word tok cell → (new : ℕ) (event : Event) (R : ℕ → ℕ → View → ℕ → View → Type 0) → Steps key.plans.items key.cpus seat.id v (cell_word tok cell) (λ _. new) (λ _. event) (λ _. R tok cell v new) → Asks word (λ _. new) (λ _. at_cell R (step slots word new 0 none) seat.me new)
-  asks_store word cell few is new event R steps =
+  asks_store : (word cell : ℕ) → cell < 4 → word ≡ cell_word tok cell → (new : ℕ) (deed : Deed) (R : List Deed → ℕ → ℕ → View → ℕ → View → Type 0) → Deeds key.plans.items key.cpus seat.id v (cell_word tok cell) (λ _. new) (λ _. deed) (λ _ w. Amid v (λ between. R between tok cell v new w)) → Asks word (λ _. new) (λ _. at_cell R (step slots word new 0 none) seat.me new)
+  asks_store word cell few is new deed R deeds =
       let F : ℕ → Type 0 = λ w. Asks w (λ _. new) (λ _. at_cell R (step slots w new 0 none) seat.me new) in
-      subst F (sym is) (of.table, cell_in cell few, allow_store key.plans.items key.cpus slots seat.id seat.me (step slots (cell_word tok cell) new 0 none) tok cell new event R few refl steps)
+      subst F (sym is) (of.table, cell_there cell few, allow_store key.plans.items key.cpus slots seat.id seat.me (step slots (cell_word tok cell) new 0 none) tok cell new deed R few refl deeds)
 
   abbrev cpu : CpuId
-  cpu = of.named.0
+  cpu = who v
 
   abbrev t : TokId
-  t = record { 0 = tok }
+  t = named tok
 
   few_there : count_from 0 (length bank.key.plans.items) (held_of v.tokens) < 32 → count_from 0 (length key.plans.items) (held_of v.tokens) < 32
   few_there few = let F : ℕ → Type 0 = λ n. count_from 0 n (held_of v.tokens) < 32 in subst F (ap length (sym plans_are)) few
@@ -81,30 +83,30 @@ module _ (bank : Bank) (seat : Seat (Unit {0}) View) (tok : ℕ) (of : IsOf bank
 
   module _ (word : ℕ) (is : word ≡ token_word tok) where
     pub look_asks : Asks word (λ n. n) (at_word Looks (step slots word 0 0 none) seat.me)
-    look_asks = asks_word word is (λ n. n) (λ _. Load cpu t) Looks 0 0 (look_steps key.plans.items key.cpus seat.id v cpu tok of.named.1 there')
+    look_asks = asks_word word is (λ n. n) (λ n. loads cpu tok n) Looks 0 0 (look_deeds key.plans.items key.cpus seat.id v of.named tok there')
 
     pub take_asks : (old new : ℕ) → ((alone : Bool) × Decides old Exclusive alone (Takes new)) → count_from 0 (length bank.key.plans.items) (held_of v.tokens) < 32 → Asks word (λ n. either (eqb n old) new n) (exchanges Exclusive (step slots word old new none) seat.me)
-    take_asks old new decided few = asks_word word is (λ n. either (eqb n old) new n) (λ n. cond (eqb n old) (Take cpu t) (Load cpu t)) (Exchanges Exclusive old new) old new (take_steps key.plans.items key.cpus seat.id v cpu tok of.named.1 there' old new decided.0 (few_there few) decided.1)
+    take_asks old new decided few = asks_word word is (λ n. either (eqb n old) new n) (λ n. deed_by cpu (cond (eqb n old) (Take cpu t) (Load cpu t)) (exchange tok old new n ∷ [])) (Exchanges Exclusive old new) old new (take_deeds key.plans.items key.cpus seat.id v of.named tok there' old new decided.0 (few_there few) decided.1)
 
     pub share_asks : (old new : ℕ) → ((alone : Bool) × Decides old Shared alone (Takes new)) → (at v.tokens tok).held ≡ Nothing → count_from 0 (length bank.key.plans.items) (held_of v.tokens) < 32 → Asks word (λ n. either (eqb n old) new n) (exchanges Shared (step slots word old new none) seat.me)
-    share_asks old new decided free few = asks_word word is (λ n. either (eqb n old) new n) (λ n. cond (eqb n old) (Share cpu t) (Load cpu t)) (Exchanges Shared old new) old new (share_steps key.plans.items key.cpus seat.id v cpu tok of.named.1 there' old new decided.0 (few_there few) decided.1 free)
+    share_asks old new decided free few = asks_word word is (λ n. either (eqb n old) new n) (λ n. deed_by cpu (cond (eqb n old) (Share cpu t) (Load cpu t)) (exchange tok old new n ∷ [])) (Exchanges Shared old new) old new (share_deeds key.plans.items key.cpus seat.id v of.named tok there' old new decided.0 (few_there few) decided.1 free)
 
     pub add_asks : is_held (at v.tokens tok).held ≡ true → count_from 0 (length bank.key.plans.items) (held_of v.tokens) < 32 → Asks word (λ n. (n + 4) % 2 ^ 64) (at_word AddsOne (step slots word 4 0 none) seat.me)
-    add_asks held few = asks_word word is (λ n. (n + 4) % 2 ^ 64) (λ _. Again cpu t) AddsOne 4 0 (again_steps key.plans.items key.cpus seat.id v cpu tok of.named.1 there' held (few_there few))
+    add_asks held few = asks_word word is (λ n. (n + 4) % 2 ^ 64) (λ n. adds_one cpu tok n) AddsOne 4 0 (again_deeds key.plans.items key.cpus seat.id v of.named tok there' held (few_there few))
 
     pub mark_asks : Asks word (λ n. bit_or n 2) (at_word Marks (step slots word 2 0 none) seat.me)
-    mark_asks = asks_word word is (λ n. bit_or n 2) (λ _. Mark cpu t) Marks 2 0 (mark_steps key.plans.items key.cpus seat.id v cpu tok of.named.1 there')
+    mark_asks = asks_word word is (λ n. bit_or n 2) (λ n. marks cpu tok n) Marks 2 0 (mark_deeds key.plans.items key.cpus seat.id v of.named tok there')
 
     pub give_one_asks : is_held (at v.tokens tok).held ≡ true → IsNotLastExclusive (at v.tokens tok).held → Asks word (λ n. (n + (2 ^ 64 - 4)) % 2 ^ 64) (at_word GivesOne (step slots word 4 0 none) seat.me)
-    give_one_asks held may = asks_word word is (λ n. (n + (2 ^ 64 - 4)) % 2 ^ 64) (λ _. GiveOne cpu t) GivesOne 4 0 (give_one_steps key.plans.items key.cpus seat.id v cpu tok of.named.1 there' may held)
+    give_one_asks held may = asks_word word is (λ n. (n + (2 ^ 64 - 4)) % 2 ^ 64) (λ n. gives_one cpu tok n) GivesOne 4 0 (give_one_deeds key.plans.items key.cpus seat.id v of.named tok there' may held)
 
     pub give_clean_asks : (at v.tokens tok).held ≡ Holds Exclusive 0 → (at v.tokens tok).row ≡ (at v.tokens tok).first → Asks word (λ n. (n + (2 ^ 64 - 1)) % 2 ^ 64) (at_word GivesClean (step slots word 1 0 none) seat.me)
-    give_clean_asks last clean = asks_word word is (λ n. (n + (2 ^ 64 - 1)) % 2 ^ 64) (λ _. GiveClean cpu t) GivesClean 1 0 (give_clean_steps key.plans.items key.cpus seat.id v cpu tok of.named.1 there' last clean)
+    give_clean_asks last clean = asks_word word is (λ n. (n + (2 ^ 64 - 1)) % 2 ^ 64) (λ n. gives_clean cpu tok n) GivesClean 1 0 (give_clean_deeds key.plans.items key.cpus seat.id v of.named tok there' last clean)
 
     pub give_written_asks : (at v.tokens tok).held ≡ Holds Exclusive 0 → (at v.tokens tok).row ≢ (at v.tokens tok).first → MeetsLaw (plan_at bank.key.plans.items tok).law (plan_at bank.key.plans.items tok).param (at v.tokens tok).row → Asks word (λ n. (n + 262143) % 2 ^ 64) (at_word GivesWritten (step slots word 262143 0 none) seat.me)
     give_written_asks last written lawful =
         let F : Plan → Type 0 = λ p. MeetsLaw p.law p.param (at v.tokens tok).row in
-        asks_word word is (λ n. (n + 262143) % 2 ^ 64) (λ _. GiveWritten cpu t) GivesWritten 262143 0 (give_written_steps key.plans.items key.cpus seat.id v cpu tok of.named.1 there' last written (subst F (sym plan_there) lawful))
+        asks_word word is (λ n. (n + 262143) % 2 ^ 64) (λ n. gives_written cpu tok n) GivesWritten 262143 0 (give_written_deeds key.plans.items key.cpus seat.id v of.named tok there' last written (subst F (sym plan_there) lawful))
 
   module _ (word cell : ℕ) (is : word ≡ cell_word tok cell) where
     few_cells' : cell < (plan_at bank.key.plans.items tok).cells → cell < 4
@@ -114,16 +116,16 @@ module _ (bank : Bank) (seat : Seat (Unit {0}) View) (tok : ℕ) (of : IsOf bank
     cells_there inside_row = let e = ap (λ (p : Plan). p.cells) plan_there in omega arith
 
     pub read_asks : is_held (at v.tokens tok).held ≡ true → cell < (plan_at bank.key.plans.items tok).cells → Asks word (λ n. n) (at_cell ReadsCell (step slots word 0 0 none) seat.me)
-    read_asks held inside_row = asks_cell word cell (few_cells' inside_row) is (λ n. n) (λ n. Read cpu t cell n) ReadsCell 0 0 (read_steps key.plans.items key.cpus seat.id v cpu tok of.named.1 there' held cell (cells_there inside_row))
+    read_asks held inside_row = asks_cell word cell (few_cells' inside_row) is (λ n. n) (λ n. reads cpu tok cell n) ReadsCell 0 0 (read_deeds key.plans.items key.cpus seat.id v of.named tok there' held cell (cells_there inside_row))
 
     pub store_asks : (value : ℕ) → is_exclusive (at v.tokens tok).held ≡ true → (plan_at bank.key.plans.items tok).law ≢ Tally → cell < (plan_at bank.key.plans.items tok).cells → Asks word (λ _. value) (λ _. at_cell StoresCell (step slots word value 0 none) seat.me value)
-    store_asks value held untallied inside_row = asks_store word cell (few_cells' inside_row) is value (Write cpu t cell value) StoresCell
-        (store_steps key.plans.items key.cpus seat.id v cpu tok of.named.1 there' held (λ tally. untallied (sym (ap (λ (p : Plan). p.law) plan_there) ∙ tally)) cell value (cells_there inside_row))
+    store_asks value held untallied inside_row = asks_store word cell (few_cells' inside_row) is value (writes cpu tok cell value) StoresCell
+        (store_deeds key.plans.items key.cpus seat.id v of.named tok there' held (λ tally. untallied (sym (ap (λ (p : Plan). p.law) plan_there) ∙ tally)) cell value (cells_there inside_row))
 
   pub raise_asks : (word value : ℕ) → word ≡ cell_word tok 0 → is_exclusive (at v.tokens tok).held ≡ true → (plan_at bank.key.plans.items tok).law ≡ Tally → slice_index (at v.tokens tok).row 0 ≤ value → Asks word (λ _. value) (λ _. at_cell RaisesCell (step slots word value 0 none) seat.me value)
   raise_asks word value is held tally raised_to =
       let k = value - slice_index (at v.tokens tok).row 0 in
       let sum_is : slice_index (at v.tokens tok).row 0 + k ≡ value = omega arith in
       let F : ℕ → Type 0 = λ x. Asks word (λ _. x) (λ _. at_cell RaisesCell (step slots word x 0 none) seat.me x) in
-      subst F sum_is (asks_store word 0 (omega arith) is (slice_index (at v.tokens tok).row 0 + k) (Write cpu t 0 (slice_index (at v.tokens tok).row 0 + k)) RaisesCell
-      (raise_steps key.plans.items key.cpus seat.id v cpu tok of.named.1 there' held (ap (λ (p : Plan). p.law) plan_there ∙ tally) k))
+      subst F sum_is (asks_store word 0 (omega arith) is (slice_index (at v.tokens tok).row 0 + k) (writes cpu tok 0 (slice_index (at v.tokens tok).row 0 + k)) RaisesCell
+      (raise_deeds key.plans.items key.cpus seat.id v of.named tok there' held (ap (λ (p : Plan). p.law) plan_there ∙ tally) k))

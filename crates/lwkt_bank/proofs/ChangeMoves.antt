@@ -1,8 +1,13 @@
-use Rattle.std.proofs.Common.{eq-eqb, ⊎_elim, Bool, true, cond, ◌≡◌, ℕ, ◌+◌, ◌<◌, ◌≤◌, List, [], ◌∷◌, ◌++◌, length, refl, ap, sym, ◌∙◌, subst, arith, append_assoc, set, zero, suc, take, get_or, Option, None, length-take}
+use Rattle.std.proofs.Common.{eq-eqb, ⊎_elim, Bool, true, cond, ◌≡◌, ℕ, ◌+◌, ◌<◌, ◌≤◌, List, [], ◌∷◌, ◌++◌, length, refl, ap, sym, ◌∙◌, subst, arith, set, zero, suc, take, get_or, Option, None, length-take}
 use Rattle.std.specs.Prelude.{slice_get, slice_index, All, Some}
 use Rattle.atomic_table.specs.declared.shared.Seat.{Seat}
-use Rattle.lwkt_core.specs.declared.seats.WordStep.{WordStep}
+use Rattle.lwkt_base.specs.declared.names.CpuId.{CpuId}
+use Rattle.lwkt_core.specs.declared.seats.SeatKind.TheVariants.{Of}
+use Rattle.lwkt_core.specs.declared.seats.Deed.{Deed}
+use Rattle.lwkt_core.specs.History.{AreOthers, AreOwn, Grows}
+use Rattle.lwkt_core.proofs.HistoryLemmas.{own-nil, own-cons, own-append, Grows-append}
 use Rattle.lwkt_bank.specs.declared.views.Plan.{Plan}
+use Rattle.lwkt_bank.specs.declared.views.KnownCell.{KnownCell}
 use Rattle.lwkt_bank.specs.declared.views.Entry.{Entry}
 use Rattle.lwkt_bank.specs.declared.views.View.{View}
 use Rattle.lwkt_bank.specs.declared.banks.Bank.{Bank}
@@ -19,11 +24,12 @@ use Rattle.lwkt_base.specs.declared.words.Decision.TheVariants.{Take}
 use Rattle.lwkt_base.specs.TokenWord.{word_of, Fits, decision}
 use Rattle.lwkt_base.specs.Holding.{Holding}
 use Rattle.lwkt_bank.specs.Plays.{IsTakenRow}
-use Rattle.lwkt_bank.specs.Views.{at, noted, seen, looked, taken, generation_in, count_from, load, exchange}
+use Rattle.lwkt_bank.specs.Views.{at, noted, seat_cpu, who, read, seen, looked, taken, generation_in, raised, count_from}
+use Rattle.lwkt_bank.specs.Deeds.{loads, takes, loses, writes}
 use Rattle.lwkt_bank.specs.Rule.{plan_at}
 use Rattle.lwkt_bank.specs.Notes.{Keeps, IsNoted, no_note, note_at}
 use Rattle.lwkt_bank.specs.declared.notes.Note.{Note}
-use Rattle.lwkt_bank.specs.Seats.{BankId, id_of, bank_of, tokens_of, plan_of, entry, holding, references, IsOf, IsSame, Changes, written_over, Looked, Took, Lost, Hit, Miss, Decides}
+use Rattle.lwkt_bank.specs.Seats.{BankId, id_of, bank_of, tokens_of, plan_of, entry, past_of, holding, references, IsOf, IsSame, Changes, Knowing, IsUnchanged, written_over, Looked, Took, Lost, Hit, Miss, Decides}
 use Rattle.lwkt_bank.proofs.ViewMoves.{at-here, at-else, at-tok}
 use Rattle.lwkt_bank.proofs.NoteMoves.{seat_told, IsNoted-seen, Keeps-kept, Keeps-set}
 use Rattle.lwkt_bank.proofs.TurnMoves.{seen-keeps}
@@ -33,37 +39,92 @@ pub is_of : (bank : Bank) (s : CpuSeat) → bank_of s ≡ id_of bank → IsOf ba
 is_of bank s of = record {
   table = ap (λ (b : BankId). b.table) of;
   plans = ap (λ (b : BankId). b.plans) of;
-  named = (s.cpu, seat_told s.seat.me.0.kind s.cpu s.kept.seat);
+  named = let told = seat_told s.seat.me.0.kind s.cpu s.kept.seat in told ∙ ap Of (sym (ap seat_cpu told));
 }
 
 -- a number of tokens, told by the seat or by the bank
 pub there_of : (bank : Bank) (s : CpuSeat) (tok : ℕ) → bank_of s ≡ id_of bank → tok < length s.seat.me.0.plans → tok < length bank.key.plans.items
 there_of bank s tok of there = let e = ap (λ (b : BankId). length b.plans) of in omega arith
 
+-- a seat's processor, told by its view
+pub who_is : (s : CpuSeat) → who s.seat.me.0 ≡ s.cpu
+who_is s = ap seat_cpu (seat_told s.seat.me.0.kind s.cpu s.kept.seat)
+
 -- what a step on the seat's view changes
-pub changed : (s s' : CpuSeat) (tok : ℕ) (e : Entry) (made : List WordStep) → IsSame s.seat s'.seat → s'.cpu ≡ s.cpu → s'.seat.me.0 ≡ noted s.seat.me.0 e made → e.tok ≡ tok → Changes s s' tok e made
-changed s s' tok e made same cpu is is_tok = record {
-  bank = λ i. record { table = same.table i; plans = (is i).plans };
-  cpu = cpu;
-  here = ap (λ (v : View). at v.tokens tok) is ∙ at-here e s.seat.me.0.tokens tok is_tok;
-  else_ = λ other away. ap (λ (v : View). at v.tokens other) is ∙ at-else e s.seat.me.0.tokens tok other is_tok away;
-  steps = ap (λ (v : View). v.steps) is;
-}
+pub changed : (s s' : CpuSeat) (tok : ℕ) (e : Entry) (between : List Deed) (deed : CpuId → Deed) → IsSame s.seat s'.seat → s'.cpu ≡ s.cpu → ((deed s.cpu).cpu ≡ s.cpu) → AreOthers (who s.seat.me.0).0 between → s'.seat.me.0 ≡ noted between s.seat.me.0 e (deed (who s.seat.me.0)) → e.tok ≡ tok → Changes s s' tok e (deed s.cpu ∷ [])
+changed s s' tok e between deed same cpu own others is is_tok =
+    let F : CpuId → Type 0 = λ c. Grows c.0 (past_of s) (deed c ∷ []) (past_of s') in
+    record {
+      bank = λ i. record { table = same.table i; plans = (is i).plans };
+      cpu = cpu;
+      here = ap (λ (v : View). at v.tokens tok) is ∙ at-here e s.seat.me.0.tokens tok is_tok;
+      else_ = λ other away. ap (λ (v : View). at v.tokens other) is ∙ at-else e s.seat.me.0.tokens tok other is_tok away;
+      grows = subst F (who_is s) (between, (others, ap (λ (v : View). v.past) is));
+      own = own-cons s.cpu.0 (deed s.cpu) [] (ap (λ (c : CpuId). c.0) own) (own-nil s.cpu.0);
+    }
+
+-- the cell of a Tally token that was raised by the seat's processor
+pub raised_is : (s : CpuSeat) (w : View) (tok k value : ℕ) (between : List Deed) → w ≡ noted between s.seat.me.0 (raised (entry s tok) (who s.seat.me.0) k) (writes (who s.seat.me.0) tok 0 value) → w ≡ noted between s.seat.me.0 (raised (entry s tok) s.cpu k) (writes (who s.seat.me.0) tok 0 value)
+raised_is s w tok k value between is = is ∙ ap (λ (c : CpuId). noted between s.seat.me.0 (raised (entry s tok) c k) (writes (who s.seat.me.0) tok 0 value)) (who_is s)
 
 -- two changes of one token in a row
-pub changed_twice : (s mid s' : CpuSeat) (tok : ℕ) (d e : Entry) (made more : List WordStep) → Changes s mid tok d made → Changes mid s' tok e more → Changes s s' tok e (made ++ more)
-changed_twice s mid s' tok d e made more first second = record {
-  bank = second.bank ∙ first.bank;
-  cpu = second.cpu ∙ first.cpu;
-  here = second.here;
-  else_ = λ other away. second.else_ other away ∙ first.else_ other away;
-  steps = second.steps ∙ ap (λ (xs : List WordStep). xs ++ more) first.steps ∙ append_assoc s.seat.me.0.steps made more;
-}
+pub changed_twice : (s mid s' : CpuSeat) (tok : ℕ) (d e : Entry) (made more : List Deed) → Changes s mid tok d made → Changes mid s' tok e more → Changes s s' tok e (made ++ more)
+changed_twice s mid s' tok d e made more first second =
+    let F : CpuId → Type 0 = λ c. Grows c.0 (past_of mid) more (past_of s') in
+    record {
+      bank = second.bank ∙ first.bank;
+      cpu = second.cpu ∙ first.cpu;
+      here = second.here;
+      else_ = λ other away. second.else_ other away ∙ first.else_ other away;
+      grows = Grows-append s.cpu.0 (past_of s) made (past_of mid) more (past_of s') first.grows (subst F first.cpu second.grows);
+      own = own-append s.cpu.0 made more first.own (subst (λ (c : CpuId). AreOwn c.0 more) first.cpu second.own);
+    }
+
+-- a change is one that leaves the known cells as they were
+pub knowing_same : (s s' : CpuSeat) (tok : ℕ) (e : Entry) (deeds : List Deed) → Changes s s' tok e deeds → Knowing s s' tok e deeds
+knowing_same s s' tok e deeds changes = record { known = e.known; new = []; grown = refl; changes = changes }
+
+-- nothing was changed yet
+pub knowing_none : (s : CpuSeat) (tok : ℕ) → Knowing s s tok (entry s tok) []
+knowing_none s tok = record { known = (entry s tok).known; new = []; grown = refl; changes = record { bank = refl; cpu = refl; here = refl; else_ = λ other away. refl; grows = refl; own = own-nil s.cpu.0 } }
+
+pub knowing_unchanged : (s s' : CpuSeat) (tok : ℕ) → IsUnchanged s s' → Knowing s s' tok (entry s tok) []
+knowing_unchanged s s' tok same = record { known = (entry s tok).known; new = []; grown = refl; changes = record { bank = same.bank; cpu = same.cpu; here = same.entries tok; else_ = λ other away. same.entries other; grows = same.past; own = own-nil s.cpu.0 } }
+
+-- a cell was read: one more is known
+pub knowing_read : (s s' : CpuSeat) (tok cell : ℕ) (deeds : List Deed) → Changes s s' tok (read (entry s tok) cell) deeds → Knowing s s' tok (entry s tok) deeds
+knowing_read s s' tok cell deeds changes = record { known = record { at = cell; value = slice_index (entry s tok).first cell } ∷ (entry s tok).known; new = record { at = cell; value = slice_index (entry s tok).first cell } ∷ []; grown = refl; changes = changes }
+
+-- a call by which more is known, and then one that changes the entry whatever is known
+pub knowing_then : (s mid s' : CpuSeat) (tok : ℕ) (f : Entry → Entry) (made more : List Deed) → ((e : Entry) (known : List KnownCell) → f (record e { known = known }) ≡ record (f e) { known = known }) → (f (entry s tok)).known ≡ (entry s tok).known
+    → Knowing s mid tok (entry s tok) made → Changes mid s' tok (f (entry mid tok)) more → Knowing s s' tok (f (entry s tok)) (made ++ more)
+knowing_then s mid s' tok f made more apart same first second =
+    let F : Entry → Type 0 = λ e. Changes mid s' tok e more in
+    let there : f (entry mid tok) ≡ record (f (entry s tok)) { known = first.known } = ap f first.changes.here ∙ apart (entry s tok) first.known in
+    record {
+      known = first.known;
+      new = first.new;
+      grown = first.grown ∙ ap (λ (xs : List KnownCell). first.new ++ xs) (sym same);
+      changes = changed_twice s mid s' tok (record (entry s tok) { known = first.known }) (record (f (entry s tok)) { known = first.known }) made more first.changes (subst F there second);
+    }
+
+-- a cell was read after others
+pub knowing_more : (s mid s' : CpuSeat) (tok cell : ℕ) (made more : List Deed) → Knowing s mid tok (entry s tok) made → Changes mid s' tok (read (entry mid tok) cell) more → Knowing s s' tok (entry s tok) (made ++ more)
+knowing_more s mid s' tok cell made more first second =
+    let one : KnownCell = record { at = cell; value = slice_index (entry s tok).first cell } in
+    let F : Entry → Type 0 = λ e. Changes mid s' tok e more in
+    let there : read (entry mid tok) cell ≡ record (entry s tok) { known = one ∷ first.known } = ap (λ (e : Entry). read e cell) first.changes.here in
+    record {
+      known = one ∷ first.known;
+      new = one ∷ first.new;
+      grown = ap (λ (xs : List KnownCell). one ∷ xs) first.grown;
+      changes = changed_twice s mid s' tok (record (entry s tok) { known = first.known }) (record (entry s tok) { known = one ∷ first.known }) made more first.changes (subst F there second);
+    }
 
 -- what a seat keeps after a look
-pub keeps_seen : (s : CpuSeat) (w : View) (tok g : ℕ) (made : List WordStep) → tok < length s.seat.me.0.plans → w ≡ noted s.seat.me.0 (seen (entry s tok) g) made → Keeps s.notes s.cpu w
-keeps_seen s w tok g made there is =
-    Keeps-kept s.notes s.cpu s.seat.me.0 w (seen (entry s tok) g) made tok s.kept is there ((seen-keeps (entry s tok) g).0 ∙ at-tok s.seat.me.0.tokens tok)
+pub keeps_seen : (s : CpuSeat) (w : View) (tok g : ℕ) (between : List Deed) (d : Deed) → tok < length s.seat.me.0.plans → w ≡ noted between s.seat.me.0 (seen (entry s tok) g) d → Keeps s.notes s.cpu w
+keeps_seen s w tok g between d there is =
+    Keeps-kept s.notes s.cpu s.seat.me.0 w (seen (entry s tok) g) between d tok s.kept is there ((seen-keeps (entry s tok) g).0 ∙ at-tok s.seat.me.0.tokens tok)
     (IsNoted-seen (plan_at s.seat.me.0.plans tok) s.cpu.0 (entry s tok) g (note_at s.notes tok) (s.kept.each tok there))
 
 -- a seat holds no slot after a step
@@ -91,13 +152,13 @@ taken_after_look plan e word row rises took = record {
 }
 
 -- a call that keeps what is held of its token keeps what is held
-pub same_holding : (s s' : CpuSeat) (tok : ℕ) (e : Entry) (made : List WordStep) → Changes s s' tok e made → e.held ≡ (entry s tok).held → holding s' ≡ holding s
+pub same_holding : (s s' : CpuSeat) (tok : ℕ) (e : Entry) (made : List Deed) → Changes s s' tok e made → e.held ≡ (entry s tok).held → holding s' ≡ holding s
 same_holding s s' tok e made changes held = fun_ext (λ k. ⊎_elim
     (λ (same : k ≡ tok). let F : ℕ → Type 0 = λ j. holding s' j ≡ holding s j in subst F (sym same) (ap (λ (d : Entry). d.held) changes.here ∙ held))
     (λ away. ap (λ (d : Entry). d.held) (changes.else_ k away))
     (cases_eq k tok))
 
-pub same_references : (s s' : CpuSeat) (tok : ℕ) (e : Entry) (made : List WordStep) → Changes s s' tok e made → e.held ≡ (entry s tok).held → references s' ≡ references s
+pub same_references : (s s' : CpuSeat) (tok : ℕ) (e : Entry) (made : List Deed) → Changes s s' tok e made → e.held ≡ (entry s tok).held → references s' ≡ references s
 same_references s s' tok e made changes held =
     ap (λ (h : Holding). count_from 0 (tokens_of (bank_of s')) h) (same_holding s s' tok e made changes held)
     ∙ ap (λ (b : BankId). count_from 0 (tokens_of b) (holding s)) changes.bank
@@ -111,8 +172,8 @@ took s mid s' tok mode alone word next looked' decides hit =
     let G : BankId → Type 0 = λ b. IsTakenRow (plan_of b tok) (looked e word) word hit.row in
     let row_is = subst G looked'.changes.bank (subst F looked'.changes.here hit.found) in
     let again : taken (entry mid tok) word mode hit.row ≡ taken e word mode hit.row =
-    ap (λ (d : Entry). taken d word mode hit.row) looked'.changes.here ∙ ap (λ (d : Entry). record d { held = Holds mode 0; first = hit.row; row = hit.row }) (seen_twice e g) in
-    let H : Entry → Type 0 = λ d. Changes mid s' tok d (exchange tok word next word ∷ []) in
+    ap (λ (d : Entry). taken d word mode hit.row) looked'.changes.here ∙ ap (λ (d : Entry). record d { held = Holds mode 0; first = hit.row; row = hit.row; touched = [] }) (seen_twice e g) in
+    let H : Entry → CpuId → Type 0 = λ d c. Changes mid s' tok d (takes c tok mode word next word ∷ []) in
     record {
       word = word;
       next = next;
@@ -120,7 +181,7 @@ took s mid s' tok mode alone word next looked' decides hit =
       decided = decides;
       generation_is = refl;
       found = taken_after_look (plan_of (bank_of s) tok) e word hit.row looked'.rises row_is;
-      changes = changed_twice s mid s' tok (looked e word) (taken e word mode hit.row) (load tok word ∷ []) (exchange tok word next word ∷ []) looked'.changes (subst H again hit.changes);
+      changes = changed_twice s mid s' tok (looked e word) (taken e word mode hit.row) (loads s.cpu tok word ∷ []) (takes s.cpu tok mode word next word ∷ []) looked'.changes (subst (λ d. H d s.cpu) again (subst (λ c. H (taken (entry mid tok) word mode hit.row) c) looked'.changes.cpu hit.changes));
     }
 
 -- a try that lost: the look, and then the exchange that missed
@@ -129,7 +190,7 @@ lost s mid s' tok mode alone word next looked' decides miss =
     let e = entry s tok in
     let g = generation_in word in
     let known : (entry mid tok).generation ≡ g = ap (λ (d : Entry). d.generation) looked'.changes.here ∙ (seen-keeps e g).6 in
-    let H : Entry → Type 0 = λ d. Changes mid s' tok d (exchange tok word next miss.found ∷ []) in
+    let H : Entry → CpuId → Type 0 = λ d c. Changes mid s' tok d (loses c tok word next miss.found ∷ []) in
     record {
       word = word;
       next = next;
@@ -137,8 +198,8 @@ lost s mid s' tok mode alone word next looked' decides miss =
       decided = decides;
       other = miss.other;
       rises = (looked'.rises, (let r = miss.rises in omega arith));
-      changes = changed_twice s mid s' tok (looked e word) (looked (looked e word) miss.found) (load tok word ∷ []) (exchange tok word next miss.found ∷ []) looked'.changes
-          (subst H (ap (λ (d : Entry). looked d miss.found) looked'.changes.here) miss.changes);
+      changes = changed_twice s mid s' tok (looked e word) (looked (looked e word) miss.found) (loads s.cpu tok word ∷ []) (loses s.cpu tok word next miss.found ∷ []) looked'.changes
+          (subst (λ d. H d s.cpu) (ap (λ (d : Entry). looked d miss.found) looked'.changes.here) (subst (λ c. H (looked (entry mid tok) miss.found) c) looked'.changes.cpu miss.changes));
     }
 
 -- what `decide` answers, in the order of a try's contract
@@ -146,14 +207,14 @@ pub decides_so : (word : ℕ) (mode : Mode) (alone : Bool) (answer given : Decis
 decides_so word mode alone answer given says is = λ w fits its. sym (says w its fits) ∙ is
 
 -- what a seat keeps after the note of a token was written anew
-pub keeps_set : (s : CpuSeat) (w : View) (tok : ℕ) (e : Entry) (made : List WordStep) (note : Note) → tok < 64 → w ≡ noted s.seat.me.0 e made → tok < length s.seat.me.0.plans → e.tok ≡ tok → IsNoted (plan_at s.seat.me.0.plans tok) s.cpu.0 e note → Keeps (set s.notes tok note) s.cpu w
-keeps_set s w tok e made note room is there is_tok here =
+pub keeps_set : (s : CpuSeat) (w : View) (tok : ℕ) (e : Entry) (between : List Deed) (d : Deed) (note : Note) → tok < 64 → w ≡ noted between s.seat.me.0 e d → tok < length s.seat.me.0.plans → e.tok ≡ tok → IsNoted (plan_at s.seat.me.0.plans tok) s.cpu.0 e note → Keeps (set s.notes tok note) s.cpu w
+keeps_set s w tok e between d note room is there is_tok here =
     let sized = s.sized in
-    Keeps-set s.notes s.cpu s.seat.me.0 w e made tok note s.kept is there is_tok (omega arith) here
+    Keeps-set s.notes s.cpu s.seat.me.0 w e between d tok note s.kept is there is_tok (omega arith) here
 
 -- and where it stays
-pub keeps_kept : (s : CpuSeat) (w : View) (tok : ℕ) (e : Entry) (made : List WordStep) → w ≡ noted s.seat.me.0 e made → tok < length s.seat.me.0.plans → e.tok ≡ tok → IsNoted (plan_at s.seat.me.0.plans tok) s.cpu.0 e (note_at s.notes tok) → Keeps s.notes s.cpu w
-keeps_kept s w tok e made is there is_tok here = Keeps-kept s.notes s.cpu s.seat.me.0 w e made tok s.kept is there is_tok here
+pub keeps_kept : (s : CpuSeat) (w : View) (tok : ℕ) (e : Entry) (between : List Deed) (d : Deed) → w ≡ noted between s.seat.me.0 e d → tok < length s.seat.me.0.plans → e.tok ≡ tok → IsNoted (plan_at s.seat.me.0.plans tok) s.cpu.0 e (note_at s.notes tok) → Keeps s.notes s.cpu w
+keeps_kept s w tok e between d is there is_tok here = Keeps-kept s.notes s.cpu s.seat.me.0 w e between d tok s.kept is there is_tok here
 
 -- the entry of a token says which it is
 pub entry_tok : (s : CpuSeat) (tok : ℕ) → (entry s tok).tok ≡ tok
@@ -203,13 +264,13 @@ pub room_of : (bank : Bank) (s : CpuSeat) (tok : ℕ) → bank_of s ≡ id_of ba
 room_of bank s tok of there = let t = there_of bank s tok of there in let f = bank.few in omega arith
 
 -- what a seat keeps after a part of the note of a token was written
-pub keeps_part : (s : CpuSeat) (w : View) (tok : ℕ) (e : Entry) (made : List WordStep) (f : Note → Note) (d : Note) → tok < 64 → w ≡ noted s.seat.me.0 e made → tok < length s.seat.me.0.plans → e.tok ≡ tok → IsNoted (plan_at s.seat.me.0.plans tok) s.cpu.0 e (f (note_at s.notes tok)) → Keeps (set s.notes tok (f (get_or s.notes tok d))) s.cpu w
-keeps_part s w tok e made f d room is there is_tok here =
+pub keeps_part : (s : CpuSeat) (w : View) (tok : ℕ) (e : Entry) (between : List Deed) (deed : Deed) (f : Note → Note) (d : Note) → tok < 64 → w ≡ noted between s.seat.me.0 e deed → tok < length s.seat.me.0.plans → e.tok ≡ tok → IsNoted (plan_at s.seat.me.0.plans tok) s.cpu.0 e (f (note_at s.notes tok)) → Keeps (set s.notes tok (f (get_or s.notes tok d))) s.cpu w
+keeps_part s w tok e between deed f d room is there is_tok here =
     let sized = s.sized in
     let inside : tok < length s.notes = omega arith in
     let same : get_or s.notes tok d ≡ note_at s.notes tok = get_or_default s.notes tok d no_note inside in
     let F : Note → Type 0 = λ m. Keeps (set s.notes tok (f m)) s.cpu w in
-    subst F (sym same) (keeps_set s w tok e made (f (note_at s.notes tok)) room is there is_tok here)
+    subst F (sym same) (keeps_set s w tok e between deed (f (note_at s.notes tok)) room is there is_tok here)
 
 -- the note that is read of a token that exists
 pub note_read : (s : CpuSeat) (tok : ℕ) (d : Note) → tok < 64 → get_or s.notes tok d ≡ note_at s.notes tok
@@ -219,15 +280,15 @@ note_read s tok d room =
     get_or_default s.notes tok d no_note inside
 
 -- an exchange that found the word that was asked for
-pub hit_of : (s s' : CpuSeat) (tok : ℕ) (mode : Mode) (word next found : ℕ) (row : List ℕ) → found ≡ word → IsTakenRow (plan_of (bank_of s) tok) (entry s tok) found row → Changes s s' tok (taken (entry s tok) found mode row) (exchange tok word next found ∷ []) → Hit s s' tok mode word next
+pub hit_of : (s s' : CpuSeat) (tok : ℕ) (mode : Mode) (word next found : ℕ) (row : List ℕ) → found ≡ word → IsTakenRow (plan_of (bank_of s) tok) (entry s tok) found row → Changes s s' tok (taken (entry s tok) found mode row) (takes s.cpu tok mode word next found ∷ []) → Hit s s' tok mode word next
 hit_of s s' tok mode word next found row same is changes = record {
   row = row;
   found = subst (λ (w : ℕ). IsTakenRow (plan_of (bank_of s) tok) (entry s tok) w row) same is;
-  changes = subst (λ (w : ℕ). Changes s s' tok (taken (entry s tok) w mode row) (exchange tok word next w ∷ [])) same changes;
+  changes = subst (λ (w : ℕ). Changes s s' tok (taken (entry s tok) w mode row) (takes s.cpu tok mode word next w ∷ [])) same changes;
 }
 
 -- what a seat keeps after the note of a token was changed where it lies
-pub keeps_changed : (s : CpuSeat) (w : View) (tok : ℕ) (e : Entry) (made : List WordStep) (f : Note → Note) (d note : Note) → tok < 64 → w ≡ noted s.seat.me.0 e made → tok < length s.seat.me.0.plans → e.tok ≡ tok → note ≡ f (get_or s.notes tok d) → IsNoted (plan_at s.seat.me.0.plans tok) s.cpu.0 e (f (note_at s.notes tok)) → Keeps (set s.notes tok note) s.cpu w
-keeps_changed s w tok e made f d note room is there is_tok note_is here =
+pub keeps_changed : (s : CpuSeat) (w : View) (tok : ℕ) (e : Entry) (between : List Deed) (deed : Deed) (f : Note → Note) (d note : Note) → tok < 64 → w ≡ noted between s.seat.me.0 e deed → tok < length s.seat.me.0.plans → e.tok ≡ tok → note ≡ f (get_or s.notes tok d) → IsNoted (plan_at s.seat.me.0.plans tok) s.cpu.0 e (f (note_at s.notes tok)) → Keeps (set s.notes tok note) s.cpu w
+keeps_changed s w tok e between deed f d note room is there is_tok note_is here =
     let F : Note → Type 0 = λ m. Keeps (set s.notes tok m) s.cpu w in
-    subst F (sym (note_is ∙ ap f (note_read s tok d room))) (keeps_set s w tok e made (f (note_at s.notes tok)) room is there is_tok here)
+    subst F (sym (note_is ∙ ap f (note_read s tok d room))) (keeps_set s w tok e between deed (f (note_at s.notes tok)) room is there is_tok here)

@@ -1,4 +1,4 @@
-use Rattle.std.proofs.Common.{◌≡◌, ◌≢◌, ⊎_elim, ℕ, ◌+◌, ◌<◌, ◌≤◌, List, [], length, map, ap, sym, ◌∙◌, subst, arith}
+use Rattle.std.proofs.Common.{◌≡◌, ◌≢◌, ⊎_elim, ℕ, ◌+◌, ◌<◌, ◌≤◌, List, [], length, map, refl, ap, sym, ◌∙◌, subst, arith}
 use Rattle.std.specs.Prelude.{All, Some, slice_index, slice_get}
 use Rattle.std.proofs.lemmas.Bool.{cases_eq}
 use mathlib.Core.Option.{some, some-injective}
@@ -9,7 +9,8 @@ use Rattle.lwkt_base.specs.Holding.{is_exclusive, references_in}
 use Rattle.lwkt_base.specs.Law.{MeetsLaw, IsTallied}
 use Rattle.lwkt_core.specs.declared.seats.SeatKind.{SeatKind}
 use Rattle.lwkt_core.specs.declared.seats.SeatKind.TheVariants.{Clerk, Spent}
-use Rattle.lwkt_core.specs.Tokens.{held_by}
+use Rattle.lwkt_core.specs.declared.tokens.Token.{Token}
+use Rattle.lwkt_core.specs.Tokens.{held_by, IsFree}
 use Rattle.lwkt_core.specs.Picture.{picture_of}
 use Rattle.lwkt_core.proofs.SeatingLemmas.{at_map, of_map, total-only, AreSeated-closed}
 use Rattle.lwkt_core.proofs.MachineMoves.{references_le}
@@ -24,7 +25,7 @@ use Rattle.lwkt_bank.proofs.RuleMoves.{safe_token, token_is}
 use Rattle.lwkt_bank.proofs.ShowMoves.{numbered_seat}
 
 -- a token of a bank whose seats were all taken back
-pub record Settled (plan : Plan) (cpus : ℕ) (words : List ℕ) (tok written : ℕ) (added : ℕ → ℕ) (known : Entry) : Type 0 where
+pub record Settled (plan : Plan) (cpus : ℕ) (words : List ℕ) (tok : ℕ) (tk : Token) (written : ℕ) (added : ℕ → ℕ) (known : Entry) : Type 0 where
   pub row : List ℕ
   pub tallies : List ℕ
   pub long : length row ≡ plan.cells
@@ -37,10 +38,15 @@ pub record Settled (plan : Plan) (cpus : ℕ) (words : List ℕ) (tok written : 
   pub absent : (a : ℕ) → cpus ≤ a → slice_index tallies a ≡ 0
   pub opening : generation_in (slice_index words (token_word tok)) ≡ plan.generation → IsOpeningRow plan row
   pub stands : IsStill known row (generation_in (slice_index words (token_word tok)))
+  pub law_is : tk.law ≡ plan.law
+  pub row_is : row ≡ tk.row
+  pub tallies_are : tallies ≡ tk.tallies
+  pub generation_is : generation_in (slice_index words (token_word tok)) ≡ tk.generation
+  pub free : IsFree tk
 
 -- once the clerk has taken back as many seats as there are processors
-pub settled : (plans : List Plan) (cpus : ℕ) (s : Bench) (id : ℕ) (v : View) (made back tok : ℕ) → Rule plans cpus s → get_elem? s.views id ≡ some v → v.kind ≡ Clerk made back → cpus ≤ back → tok < length plans
-    → Settled (plan_at plans tok) cpus s.words tok (at v.tokens tok).written (λ a. amount a (at v.tokens tok).added) (at v.tokens tok)
+pub settled : (plans : List Plan) (cpus : ℕ) (s : Bench) (id : ℕ) (v : View) (made back tok : ℕ) (r : Rule plans cpus s) → get_elem? s.views id ≡ some v → v.kind ≡ Clerk made back → cpus ≤ back → tok < length plans
+    → Settled (plan_at plans tok) cpus s.words tok (token_at r.model tok) (at v.tokens tok).written (λ a. amount a (at v.tokens tok).added) (at v.tokens tok)
 settled plans cpus s id v made back tok r here kind all there =
     let shows = r.pictures.each_token tok there in
     let tk = token_at r.model tok in
@@ -67,6 +73,11 @@ settled plans cpus s id v made back tok r here kind all there =
       lawful = subst F shows.law (subst G shows.param (subst H (sym row_first) safe.lawful));
       tallied = subst P shows.law (subst Q shows.param safe.tallied);
       eight = safe.eight_tallies;
+      law_is = shows.law;
+      row_is = refl;
+      tallies_are = refl;
+      generation_is = gen;
+      free = free;
       tally = λ a. shows.tallies a ∙ total-only (λ (x : Seen). amount a x.entry.added) (column tok s.views) id (seen_by tok v) (at_map (seen_by tok) s.views id v here) (λ j x e apart. ap (λ (d : Entry). amount a d.added) (spent_entry j x e apart));
       absent = λ a far. (safe.absent a (omega arith)).1;
       opening = λ same. subst (λ (row : List ℕ). IsOpeningRow (plan_at plans tok) row) (sym row_first) (shows.opening (sym gen ∙ same));

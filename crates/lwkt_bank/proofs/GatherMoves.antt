@@ -13,14 +13,14 @@ use Rattle.lwkt_core.specs.declared.seats.SeatKind.{SeatKind}
 use Rattle.lwkt_core.specs.declared.seats.SeatKind.TheVariants.{Clerk, Of, Spent}
 use Rattle.lwkt_core.specs.declared.tokens.Token.{Token}
 use Rattle.lwkt_core.specs.Tokens.{held_by}
-use Rattle.lwkt_core.specs.Seating.{AreSeated}
+use Rattle.lwkt_core.specs.Seating.{AreSeated, after_made, after_back, next_seat}
 use Rattle.lwkt_core.proofs.SeatingLemmas.{at_set, at_snoc, at_longer, set_else, at_map, of_map, map-set, map-snoc, total-set, total-snoc, AreSeated-split, AreSeated-join, AreSeated-below}
 use Rattle.lwkt_bank.specs.declared.views.Plan.{Plan}
 use Rattle.lwkt_bank.specs.declared.views.Added.{Added}
 use Rattle.lwkt_bank.specs.declared.views.KnownCell.{KnownCell}
 use Rattle.lwkt_bank.specs.declared.views.Entry.{Entry}
 use Rattle.lwkt_bank.specs.declared.views.View.{View}
-use Rattle.lwkt_bank.specs.Views.{blank, at, amount, known_of, both_of, merged, after_made, after_back, next_seat, clerk_after, new_seat, joined, spent}
+use Rattle.lwkt_bank.specs.Views.{blank, at, amount, known_of, both_of, merged, clerk_after, new_seat, joined, spent}
 use Rattle.lwkt_bank.specs.Rule.{Bench, token_word, cell_word, Seen, seen_by, column, held_in, Knows, Shows, Rule, plan_at, token_at}
 use Rattle.lwkt_bank.proofs.ViewMoves.{at-merged}
 use Rattle.lwkt_bank.proofs.ShowMoves.{cpu_in, numbered_seat}
@@ -105,9 +105,9 @@ Shows-split plan home word cells views tok id made back t x shows here kind abse
         let h : Clerk made back ≡ numbered_seat a = sym kind ∙ ap (λ (w : Seen). w.kind) one ∙ is in cc
 
 -- the clerk makes a seat
-pub Rule-split : (plans : List Plan) (cpus : ℕ) (s : Bench) (id : ℕ) (v : View) (made back : ℕ) → Rule plans cpus s → get_elem? s.views id ≡ some v → v.kind ≡ Clerk made back → made < cpus
+rule_split : (plans : List Plan) (cpus : ℕ) (s : Bench) (id : ℕ) (v : View) (made back : ℕ) → Rule plans cpus s → get_elem? s.views id ≡ some v → v.kind ≡ Clerk made back → made < cpus
     → Rule plans cpus (record { words = s.words; homes = s.homes; views = set s.views id (clerk_after v) ++ new_seat v ∷ [] })
-Rule-split plans cpus s id v made back r here kind room = record {
+rule_split plans cpus s id v made back r here kind room = record {
   model = r.model;
   safe = r.safe;
   pictures = record {
@@ -225,10 +225,10 @@ Shows-join plan home word cells views tok id made back other t cpu x w shows her
     no_clerk m b a e = cc
 
 -- the clerk takes back a seat that holds nothing
-pub Rule-join : (plans : List Plan) (cpus : ℕ) (s : Bench) (id : ℕ) (v : View) (made back other : ℕ) (cpu : CpuId) (w : View) → Rule plans cpus s → get_elem? s.views id ≡ some v → v.kind ≡ Clerk made back
+rule_join : (plans : List Plan) (cpus : ℕ) (s : Bench) (id : ℕ) (v : View) (made back other : ℕ) (cpu : CpuId) (w : View) → Rule plans cpus s → get_elem? s.views id ≡ some v → v.kind ≡ Clerk made back
     → other ≢ id → get_elem? s.views other ≡ some w → w.kind ≡ Of cpu → ((tok : ℕ) → tok < length plans → (at w.tokens tok).held ≡ Nothing)
     → Rule plans cpus (record { words = s.words; homes = s.homes; views = set (set s.views id (joined v w)) other spent })
-Rule-join plans cpus s id v made back other cpu w r here kind apart there its_kind quiet = record {
+rule_join plans cpus s id v made back other cpu w r here kind apart there its_kind quiet = record {
   model = r.model;
   safe = r.safe;
   pictures = record {
@@ -274,3 +274,15 @@ Rule-join plans cpus s id v made back other cpu w r here kind apart there its_ki
         ∙ ap (λ (vs : List Seen). set vs other (seen_by tok spent)) (map-set (seen_by tok) s.views id (joined v w))
         ∙ ap (λ (k : SeatKind). set (set (column tok s.views) id (record { kind = after_back k; entry = at (merged (length v.plans) v.tokens w.tokens) tok })) other (seen_by tok spent)) kind
         ∙ ap (λ (e : Entry). set (set (column tok s.views) id (record { kind = Clerk made (back + 1); entry = e })) other (seen_by tok spent)) (at-merged (length v.plans) v.tokens w.tokens tok (omega arith))
+
+-- both keep the machine that is shown
+pub Rule-split : (plans : List Plan) (cpus : ℕ) (s : Bench) (id : ℕ) (v : View) (made back : ℕ) (r : Rule plans cpus s) → get_elem? s.views id ≡ some v → v.kind ≡ Clerk made back → made < cpus
+    → (q : Rule plans cpus (record { words = s.words; homes = s.homes; views = set s.views id (clerk_after v) ++ new_seat v ∷ [] })) × (q.model ≡ r.model)
+unfolding rule_split
+Rule-split plans cpus s id v made back r here kind room = (rule_split plans cpus s id v made back r here kind room, refl)
+
+pub Rule-join : (plans : List Plan) (cpus : ℕ) (s : Bench) (id : ℕ) (v : View) (made back other : ℕ) (cpu : CpuId) (w : View) (r : Rule plans cpus s) → get_elem? s.views id ≡ some v → v.kind ≡ Clerk made back
+    → other ≢ id → get_elem? s.views other ≡ some w → w.kind ≡ Of cpu → ((tok : ℕ) → tok < length plans → (at w.tokens tok).held ≡ Nothing)
+    → (q : Rule plans cpus (record { words = s.words; homes = s.homes; views = set (set s.views id (joined v w)) other spent })) × (q.model ≡ r.model)
+unfolding rule_join
+Rule-join plans cpus s id v made back other cpu w r here kind apart there its_kind quiet = (rule_join plans cpus s id v made back other cpu w r here kind apart there its_kind quiet, refl)

@@ -6,7 +6,7 @@ use Rattle.lwkt_base.specs.declared.names.Mode.TheVariants.{Shared}
 use Rattle.lwkt_base.specs.declared.holdings.Held.{Held}
 use Rattle.lwkt_base.specs.declared.holdings.Held.TheVariants.{Nothing, Holds}
 use Rattle.lwkt_base.specs.Holding.{Holding, references_in, holds_nothing, one_more, one_less, added, removed}
-use Rattle.lwkt_core.specs.declared.seats.WordStep.{WordStep}
+use Rattle.lwkt_core.specs.declared.seats.Deed.{Deed}
 use Rattle.lwkt_bank.specs.declared.views.Entry.{Entry}
 use Rattle.lwkt_bank.specs.declared.seats.CpuSeat.{CpuSeat}
 use Rattle.lwkt_bank.specs.declared.tries.Given.TheVariants.{One, Clean, Written}
@@ -15,7 +15,7 @@ use Rattle.lwkt_bank.specs.Seats.{holding, Changes}
 use Rattle.lwkt_bank.specs.Holdings.{TakingAdds, AgainAdds, GivingRemoves, NothingCounts, AddedCounts}
 
 -- what is held after a call on one token
-held_after : (s s' : CpuSeat) (tok : ℕ) (e : Entry) (made : List WordStep) (h : Held) → Changes s s' tok e made → e.held ≡ h → (f : Holding) → ((other : ℕ) → f other ≡ cond (eqb other tok) h (holding s other)) → holding s' ≡ f
+held_after : (s s' : CpuSeat) (tok : ℕ) (e : Entry) (made : List Deed) (h : Held) → Changes s s' tok e made → e.held ≡ h → (f : Holding) → ((other : ℕ) → f other ≡ cond (eqb other tok) h (holding s other)) → holding s' ≡ f
 held_after s s' tok e made h changes is f says = fun_ext (λ other. ⊎_elim
     (λ (same : other ≡ tok).
     let F : ℕ → Type 0 = λ k. holding s' k ≡ h in

@@ -1,20 +1,32 @@
-use Rattle.std.proofs.Common.{eqb, eq-eqb, ne_eqb, ⊎_elim, ◌≡◌, ◌≢◌, ℕ, zero, suc, take, get_or, ◌*◌, ◌+◌, ◌<◌, ◌≤◌, cond, List, [], ◌∷◌, ◌++◌, length, refl, ap, sym, ◌∙◌, subst, arith, All, Some, length-append, append_assoc}
+use Rattle.std.proofs.Common.{eqb, eq-eqb, ne_eqb, ⊎_elim, ◌≡◌, ◌≢◌, ℕ, zero, suc, take, get_or, ◌*◌, ◌+◌, ◌<◌, ◌≤◌, cond, List, [], ◌∷◌, ◌++◌, length, map, refl, ap, sym, ◌∙◌, subst, arith, All, Some, length-append, append_assoc}
 use Rattle.std.proofs.lemmas.Bool.{cases_eq}
 use Rattle.std.proofs.lemmas.List.Elements.{All-pop, All-nil, All-cons, All-head, All-tail, All-weaker}
 use Rattle.std.proofs.lemmas.List.Sums.{sum_by-append, sum_by-cons}
-use Rattle.std.proofs.lemmas.List.{ext_get_or, get_or_append_left, append-nil}
+use Rattle.std.proofs.lemmas.List.{ext_get_or, get_or_append_left, append-nil, get_or-map, get_or_default, length-map, length-take-le, get_or-take}
 use Rattle.std.proofs.Math.Nat.{le-max_left, le-max_right}
 use Rattle.std.proofs.Math.Seq.{get_or-append_seam}
 use Rattle.std.specs.Prelude.{max, slice_index, slice_get, sum}
 use mathlib.Core.Option.{some, some-injective, some-ne-none}
 use lib.ListN.{get_elem?}
 use Rattle.lwkt_base.specs.declared.laws.Law.{Law}
-use Rattle.lwkt_base.specs.declared.laws.Law.TheVariants.{Tally}
+use Rattle.lwkt_base.specs.declared.laws.Law.TheVariants.{Any, Sum, Order, Cap, Tally}
+use Rattle.lwkt_base.specs.declared.holdings.Held.TheVariants.{Nothing}
+use Rattle.lwkt_core.specs.declared.tokens.Token.{Token}
+use Rattle.lwkt_core.specs.declared.events.Event.{Event}
+use Rattle.lwkt_core.specs.declared.seats.Deed.{Deed}
+use Rattle.lwkt_core.specs.Tokens.{held_by}
+use Rattle.lwkt_core.specs.Machine.{Machine}
+use Rattle.lwkt_core.specs.Trace.{Run, shown_tallies}
+use Rattle.lwkt_core.specs.History.{IsPastOf, events_by, steps_by}
+use Rattle.lwkt_core.proofs.HistoryLemmas.{Passes-run, events_by-past, steps_by-past}
+use Rattle.lwkt_core.proofs.ViewLemmas.{Views-part, Views-others}
+use Rattle.lwkt_bank.specs.Told.{IsDone, first_machine}
 use Rattle.lwkt_base.specs.Law.{MeetsLaw, IsTallied}
 use Rattle.lwkt_bank.specs.declared.views.Plan.{Plan}
-use Rattle.lwkt_bank.specs.Rule.{token_word, cell_word, IsOpeningRow, plan_at}
+use Rattle.lwkt_bank.specs.Rule.{token_word, cell_word, IsOpeningRow, plan_at, token_at, no_token}
 use Rattle.lwkt_bank.proofs.CloseMoves.{Settled, settled}
 use Rattle.lwkt_bank.proofs.SeatMoves.{tally-le}
+use Rattle.lwkt_bank.proofs.ChangeMoves.{who_is}
 use Rattle.lwkt_base.specs.declared.names.CpuId.{CpuId}
 use Rattle.lwkt_core.specs.declared.seats.SeatKind.{SeatKind}
 use Rattle.lwkt_core.specs.declared.seats.SeatKind.TheVariants.{Clerk, Of, Spent}
@@ -25,13 +37,14 @@ use Rattle.lwkt_bank.specs.declared.views.Entry.{Entry}
 use Rattle.lwkt_bank.specs.declared.views.View.{View}
 use Rattle.lwkt_bank.specs.declared.seats.CpuSeat.{CpuSeat}
 use Rattle.lwkt_bank.specs.declared.kept.Kept.{Kept}
-use Rattle.lwkt_bank.specs.Views.{at, amount, generation_in, known_of, both_of, joined, after_back}
+use Rattle.lwkt_bank.specs.Views.{at, amount, generation_in, page_of, known_of, both_of, joined}
+use Rattle.lwkt_core.specs.Seating.{after_back}
 use Rattle.lwkt_bank.specs.Notes.{note_at, clerk_number}
-use Rattle.lwkt_bank.specs.Seats.{BankId, id_of_desk, entry}
-use Rattle.lwkt_bank.specs.Gathered.{written_by, added_by, IsStill, IsClosedToken, IsClosed}
+use Rattle.lwkt_bank.specs.Seats.{BankId, id_of_desk, entry, past_of, events_of, steps_of}
+use Rattle.lwkt_bank.specs.Gathered.{written_by, added_by, IsStill, IsClosedToken, Ends, IsHistory, IsClosed}
 use Rattle.lwkt_bank.specs.declared.clerks.Desk.{Desk}
 use Rattle.lwkt_bank.specs.declared.rules.Key.{Key}
-use Rattle.lwkt_bank.specs.Closing.{IsReady, kept_of, kept_by, Recalls, Gathering, IsRead, AreRead, Left}
+use Rattle.lwkt_bank.specs.Closing.{IsReady, IsChapter, kept_of, kept_by, Recalls, Gathering, IsRead, AreRead, Left}
 use Rattle.lwkt_bank.specs.declared.closed.Closed.{Closed}
 use Rattle.lwkt_bank.proofs.ViewMoves.{at-merged}
 use Rattle.lwkt_bank.proofs.GatherMoves.{known_same}
@@ -136,6 +149,10 @@ gathering_more bank v w all rest front s kept k back so_far last is notes named 
           let P : CpuSeat → Type 0 = λ x. Recalls (both_of tok d e) (entry x tok) in
           let others : All P so_far.behind = All-weaker (λ (x : CpuSeat). Recalls d (entry x tok)) P (λ x r. recalls_then (both_of tok d e) d (entry x tok) (recalls_left tok d e) r) so_far.behind (so_far.recalls tok there) in
           subst (λ (z : Entry). All (λ (x : CpuSeat). Recalls z (entry x tok)) (s ∷ so_far.behind)) (sym merged_is) (All-cons P s so_far.behind (recalls_right tok d e) others);
+      chapters =
+          let P : CpuSeat → Type 0 = λ x. IsChapter (joined v s.seat.me.0) x in
+          let newest : P s = (0, ap (λ (c : CpuId). some (record { cpu = c; past = past_of s })) (who_is s)) in
+          All-cons P s so_far.behind newest (All-weaker (IsChapter v) P (λ x c. (suc c.0, c.1)) so_far.behind so_far.chapters);
     })
   where
     All-last : (xs : List CpuSeat) (x : CpuSeat) → All (IsReady bank) (xs ++ x ∷ []) → IsReady bank x
@@ -159,6 +176,7 @@ gathering_none bank v seats made desk informed ready clean = record {
   behind = [];
   in_order = sym (append-nil seats);
   recalls = λ tok there. All-nil (λ (s : CpuSeat). Recalls (at v.tokens tok) (entry s tok));
+  chapters = All-nil (IsChapter v);
 }
 
 -- one element more of a list that is read in order
@@ -186,10 +204,10 @@ sum_shown (x ∷ xs) (y ∷ ys) few same none =
     omega arith
 
 -- a token at the close: what its words and notes say, and what the rule says of them
-pub closed_token : (plan : Plan) (cpus : ℕ) (words : List ℕ) (kept : List Kept) (tok : ℕ) (seats : List CpuSeat) (row : List ℕ) (generation : ℕ) (tallies : List ℕ) (known : Entry) → cpus ≤ 8
-    → Settled plan cpus words tok (written_by seats tok) (λ a. added_by seats tok a) known → All (λ s. Recalls known (entry s tok)) seats → ((a : ℕ) → kept_by kept tok a ≡ added_by seats tok a) → IsRead plan cpus words kept tok row generation tallies
+pub closed_token : (plan : Plan) (cpus : ℕ) (words : List ℕ) (kept : List Kept) (tok : ℕ) (tk : Token) (seats : List CpuSeat) (row : List ℕ) (generation : ℕ) (tallies : List ℕ) (known : Entry) → cpus ≤ 8
+    → Settled plan cpus words tok tk (written_by seats tok) (λ a. added_by seats tok a) known → All (λ s. Recalls known (entry s tok)) seats → ((a : ℕ) → kept_by kept tok a ≡ added_by seats tok a) → IsRead plan cpus words kept tok row generation tallies
     → IsClosedToken plan cpus seats tok row generation tallies
-closed_token plan cpus words kept tok seats row generation tallies known few settled recalls told read =
+closed_token plan cpus words kept tok tk seats row generation tallies known few settled recalls told read =
     let same_row : row ≡ settled.row = ext_get_or 0 row settled.row (read.long ∙ sym settled.long) (λ i inside. let l = read.long in let low : i < plan.cells = omega arith in read.cells i low ∙ settled.cells i low) in
     let F : List ℕ → Type 0 = λ r. MeetsLaw plan.law plan.param r in
     record {
@@ -223,8 +241,8 @@ closed_token plan cpus words kept tok seats row generation tallies known few set
     }
 
 -- no tally passes a number of 64 bits
-pub tally_fits : (plan : Plan) (cpus : ℕ) (words : List ℕ) (tok : ℕ) (written : ℕ) (added : ℕ → ℕ) (known : Entry) → Settled plan cpus words tok written added known → plan.law ≡ Tally → slice_index words (cell_word tok 0) < 18446744073709551616 → (a : ℕ) → added a < 18446744073709551616
-tally_fits plan cpus words tok written added known settled tally fits a =
+pub tally_fits : (plan : Plan) (cpus : ℕ) (words : List ℕ) (tok : ℕ) (tk : Token) (written : ℕ) (added : ℕ → ℕ) (known : Entry) → Settled plan cpus words tok tk written added known → plan.law ≡ Tally → slice_index words (cell_word tok 0) < 18446744073709551616 → (a : ℕ) → added a < 18446744073709551616
+tally_fits plan cpus words tok tk written added known settled tally fits a =
     let P : Law → Type 0 = λ l. IsTallied l plan.param settled.row settled.tallies in
     let sum_is : settled.row ≡ (plan.param + sum settled.tallies) ∷ [] = subst P tally settled.tallied in
     let one : length settled.row ≡ 1 = ap length sum_is in
@@ -280,16 +298,19 @@ read_more plans cpus words kept old new count row generation tallies so_far read
 
 -- what is left once all seats were taken back
 module _ (bank : BankId) (cpus id : ℕ) (v : View) (words : List ℕ) (seats : List CpuSeat) (kept : List Kept) (left : Left bank.plans cpus id v words) (gathered : Gathering bank v seats [] kept (length seats)) (all : length seats ≡ cpus) where
+  abbrev last : Machine
+  last = left.1.0.rule.model
+
   few : cpus ≤ 8
-  few = let r = left.1.0 in let p = r.safe.processors in let q = r.pictures.processors in omega arith
+  few = let r = left.1.0.rule in let p = r.safe.processors in let q = r.pictures.processors in omega arith
 
   pub wide : length words ≡ 16 * length bank.plans + 1
-  wide = sym (ap length left.1.1.1) ∙ left.1.0.wide
+  wide = sym (ap length left.1.1.1) ∙ left.1.0.rule.wide
 
-  settled_token : (tok : ℕ) → tok < length bank.plans → Settled (plan_at bank.plans tok) cpus words tok (written_by seats tok) (λ a. added_by seats tok a) (at v.tokens tok)
+  settled_token : (tok : ℕ) → tok < length bank.plans → Settled (plan_at bank.plans tok) cpus words tok (token_at last tok) (written_by seats tok) (λ a. added_by seats tok a) (at v.tokens tok)
   settled_token tok there =
-      let s = settled bank.plans cpus left.0 id v gathered.made (length seats) tok left.1.0 left.1.1.0 gathered.desk (omega arith) there in
-      let F : List ℕ → Type 0 = λ ws. Settled (plan_at bank.plans tok) cpus ws tok (at v.tokens tok).written (λ a. amount a (at v.tokens tok).added) (at v.tokens tok) in
+      let s = settled bank.plans cpus left.0 id v gathered.made (length seats) tok left.1.0.rule left.1.1.0 gathered.desk (omega arith) there in
+      let F : List ℕ → Type 0 = λ ws. Settled (plan_at bank.plans tok) cpus ws tok (token_at last tok) (at v.tokens tok).written (λ a. amount a (at v.tokens tok).added) (at v.tokens tok) in
       let t = subst F left.1.1.1 s in
       let w = gathered.written tok there in
       record {
@@ -305,6 +326,11 @@ module _ (bank : BankId) (cpus id : ℕ) (v : View) (words : List ℕ) (seats : 
         absent = t.absent;
         opening = t.opening;
         stands = t.stands;
+        law_is = t.law_is;
+        row_is = t.row_is;
+        tallies_are = t.tallies_are;
+        generation_is = t.generation_is;
+        free = t.free;
       }
 
   told_token : (tok : ℕ) → tok < length bank.plans → (a : ℕ) → kept_by kept tok a ≡ added_by seats tok a
@@ -312,15 +338,88 @@ module _ (bank : BankId) (cpus id : ℕ) (v : View) (words : List ℕ) (seats : 
 
   pub kept_fits : ((k : ℕ) → slice_index words k < 18446744073709551616) → (tok : ℕ) → tok < length bank.plans → (plan_at bank.plans tok).law ≡ Tally → (a : ℕ) → kept_by kept tok a < 18446744073709551616
   kept_fits fits tok there tally a =
-      let h = tally_fits (plan_at bank.plans tok) cpus words tok (written_by seats tok) (λ b. added_by seats tok b) (at v.tokens tok) (settled_token tok there) tally (fits (cell_word tok 0)) a in
+      let h = tally_fits (plan_at bank.plans tok) cpus words tok (token_at last tok) (written_by seats tok) (λ b. added_by seats tok b) (at v.tokens tok) (settled_token tok there) tally (fits (cell_word tok 0)) a in
       let e = told_token tok there a in
       omega arith
 
   pub closed_tokens : (closed : Closed) → AreRead bank.plans cpus words kept closed (length bank.plans) → (tok : ℕ) → tok < length bank.plans
       → IsClosedToken (plan_at bank.plans tok) cpus seats tok (get_or closed.rows.items tok []) (get_or closed.gens.items tok 0) (get_or closed.tallies.items tok [])
   closed_tokens closed read tok there =
-      closed_token (plan_at bank.plans tok) cpus words kept tok seats (get_or closed.rows.items tok []) (get_or closed.gens.items tok 0) (get_or closed.tallies.items tok []) (at v.tokens tok) few (settled_token tok there)
+      closed_token (plan_at bank.plans tok) cpus words kept tok (token_at last tok) seats (get_or closed.rows.items tok []) (get_or closed.gens.items tok 0) (get_or closed.tallies.items tok []) (at v.tokens tok) few (settled_token tok there)
       (subst (λ (xs : List CpuSeat). All (λ (s : CpuSeat). Recalls (at v.tokens tok) (entry s tok)) xs) (sym gathered.in_order) (gathered.recalls tok there)) (told_token tok there) (read.each tok there)
+
+  -- a token that was read is the last machine's
+  read_token : (closed : Closed) → AreRead bank.plans cpus words kept closed (length bank.plans) → (tok : ℕ) → tok < length bank.plans
+      → (get_or closed.rows.items tok [] ≡ (token_at last tok).row) × (get_or closed.gens.items tok 0 ≡ (token_at last tok).generation) × (get_or closed.tallies.items tok [] ≡ shown_tallies (token_at last tok).law last.cpus (token_at last tok).tallies)
+  read_token closed read tok there =
+      let r = read.each tok there in
+      let t = settled_token tok there in
+      let plan = plan_at bank.plans tok in
+      let row = get_or closed.rows.items tok [] in
+      let tallies = get_or closed.tallies.items tok [] in
+      let same_row : row ≡ t.row = ext_get_or 0 row t.row (r.long ∙ sym t.long) (λ i inside. let l = r.long in let low : i < plan.cells = omega arith in r.cells i low ∙ t.cells i low) in
+      let processors : last.cpus ≡ cpus = left.1.0.rule.pictures.processors in
+      let F : Law → ℕ → List ℕ → Type 0 = λ l c ts. tallies ≡ shown_tallies l c ts in
+      let shown : F plan.law cpus t.tallies = shown_by plan.law cpus tallies t.tallies r.none (λ tally.
+      let eight = t.eight in
+      let f = few in
+      let many = r.as_many tally in
+      let short : length (take cpus t.tallies) ≡ cpus = length-take-le cpus t.tallies (omega arith) in
+      ext_get_or 0 tallies (take cpus t.tallies) (many ∙ sym short) (λ a inside. let low : a < cpus = omega arith in r.each tally a low ∙ told_token tok there a ∙ sym (t.tally a) ∙ sym (get_or-take cpus t.tallies a 0 low))) in (
+        same_row ∙ t.row_is,
+        r.generation_is ∙ t.generation_is,
+        subst (λ l. F l last.cpus (token_at last tok).tallies) (sym t.law_is) (subst (λ c. F plan.law c (token_at last tok).tallies) (sym processors) (subst (λ ts. F plan.law cpus ts) t.tallies_are shown)),
+      )
+    where
+      shown_by : (law : Law) (c : ℕ) (ts all_tallies : List ℕ) → (law ≢ Tally → ts ≡ []) → (law ≡ Tally → ts ≡ take c all_tallies) → ts ≡ shown_tallies law c all_tallies
+      shown_by Any c ts all_tallies none some' = none (λ same. absurd (let h = same in cc))
+      shown_by Sum c ts all_tallies none some' = none (λ same. absurd (let h = same in cc))
+      shown_by Order c ts all_tallies none some' = none (λ same. absurd (let h = same in cc))
+      shown_by Cap c ts all_tallies none some' = none (λ same. absurd (let h = same in cc))
+      shown_by Tally c ts all_tallies none some' = some' refl
+
+  -- the last machine has the closing values, and nobody holds a token of it
+  ends : (closed : Closed) → AreRead bank.plans cpus words kept closed (length bank.plans) → Ends last closed
+  ends closed read =
+      let many = left.1.0.rule.pictures.as_many in
+      let rows = read.rows in
+      let gens = read.gens in
+      let tallies = read.tallies in
+      record {
+        free = λ tok d low cpu. subst (λ (t : Token). held_by t cpu ≡ Nothing) (get_or_default last.tokens tok no_token d low) ((settled_token tok (omega arith)).free cpu);
+        rows = ext_get_or [] closed.rows.items (map (λ t. t.row) last.tokens) (let l = length-map last.tokens (λ (t : Token). t.row) in omega arith)
+            (λ tok low. (read_token closed read tok (omega arith)).0 ∙ sym (get_or-map (λ (t : Token). t.row) last.tokens tok no_token [] (omega arith)));
+        gens = ext_get_or 0 closed.gens.items (map (λ t. t.generation) last.tokens) (let l = length-map last.tokens (λ (t : Token). t.generation) in omega arith)
+            (λ tok low. (read_token closed read tok (omega arith)).1 ∙ sym (get_or-map (λ (t : Token). t.generation) last.tokens tok no_token 0 (omega arith)));
+        tallies = ext_get_or [] closed.tallies.items (map (λ t. shown_tallies t.law last.cpus t.tallies) last.tokens) (let l = length-map last.tokens (λ (t : Token). shown_tallies t.law last.cpus t.tallies) in omega arith)
+            (λ tok low. (read_token closed read tok (omega arith)).2 ∙ sym (get_or-map (λ (t : Token). shown_tallies t.law last.cpus t.tallies) last.tokens tok no_token [] (omega arith)));
+        messages = left.1.0.rule.pictures.no_messages;
+      }
+
+  abbrev pub history : List Deed
+  history = left.1.0.chronicle.history
+
+  -- one deed that is done is a run of its event
+  done_runs : (m : Machine) (d : Deed) (n : Machine) → IsDone m d n → Run m d.events n
+  done_runs m d n done = let F : List Event → Type 0 = λ es. Run m es n in subst F (sym done.events) (n, (done.happens, refl))
+
+  -- what a seat that came back had seen has all of its processor's part
+  part_of : (s : CpuSeat) → IsChapter v s → IsPastOf history s.cpu.0 (past_of s)
+  part_of s c = Views-part IsDone page_of (first_machine bank.plans cpus) last left.0.views left.1.0.chronicle id v left.1.1.0 cpus left.1.0.rule.seats gathered.made (length seats) gathered.desk (omega arith) c.0 (record { cpu = s.cpu; past = past_of s }) c.1
+
+  pub closed_history : (closed : Closed) → AreRead bank.plans cpus words kept closed (length bank.plans) → IsHistory bank cpus seats closed history
+  closed_history closed read =
+      let chapters : All (IsChapter v) seats = subst (λ (xs : List CpuSeat). All (IsChapter v) xs) (sym gathered.in_order) gathered.chapters in
+      record {
+        last = last;
+        passes = left.1.0.chronicle.passes;
+        run = Passes-run IsDone (λ m. m) done_runs (first_machine bank.plans cpus) history last left.1.0.chronicle.passes;
+        ends = ends closed read;
+        parts = All-weaker (IsChapter v) (λ (s : CpuSeat). IsPastOf history s.cpu.0 (past_of s)) (λ s c. part_of s c) seats chapters;
+        events = All-weaker (IsChapter v) (λ (s : CpuSeat). events_of s ≡ events_by s.cpu.0 history) (λ s c. sym (events_by-past history s.cpu.0 (past_of s) (part_of s c))) seats chapters;
+        steps = All-weaker (IsChapter v) (λ (s : CpuSeat). steps_of s ≡ steps_by s.cpu.0 history) (λ s c. sym (steps_by-past history s.cpu.0 (past_of s) (part_of s c))) seats chapters;
+        others = λ cpu high. Views-others IsDone page_of (first_machine bank.plans cpus) last left.0.views left.1.0.chronicle id v left.1.1.0 cpus left.1.0.rule.seats gathered.made (length seats) gathered.desk (omega arith) cpu high;
+      }
 
 -- the clerk before it takes a seat back
 pub desk_told : (kind : SeatKind) → clerk_number kind ≡ 1 → (made : ℕ) × (kind ≡ Clerk made 0)
@@ -350,4 +449,6 @@ module _ (desk : Desk) (id : ℕ) (v : View) (words : List ℕ) (seats : List Cp
     gens = read.gens;
     tallies = read.tallies;
     each = λ tok there. closed_tokens (id_of_desk desk) desk.key.cpus id v words seats kept left_here gathered_here all closed read tok there;
+    history = history (id_of_desk desk) desk.key.cpus id v words seats kept left_here gathered_here all;
+    is_history = closed_history (id_of_desk desk) desk.key.cpus id v words seats kept left_here gathered_here all closed read;
   }

@@ -4,13 +4,17 @@ pub mod ShowMoves
 pub mod RuleMoves
 pub mod TurnMoves
 pub mod SeatMoves
+pub mod DeedMoves
 pub mod AllowMoves
 pub mod CallMoves
 pub mod NoteMoves
 pub mod ChangeMoves
+pub mod CellMoves
 pub mod RowMoves
 pub mod GatherMoves
 pub mod OpenMoves
+pub mod ToldMoves
+pub mod MadeMoves
 pub mod CloseMoves
 pub mod KeptMoves
 pub mod HoldMoves

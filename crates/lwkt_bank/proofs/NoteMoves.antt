@@ -2,7 +2,9 @@ use Rattle.std.proofs.Common.{eqb, eq-eqb, ne_eqb, ◌-◌, ◌≡◌, ◌≢◌
 use Rattle.std.specs.Prelude.{slice_index, slice_index_or, slice_set}
 use Rattle.std.proofs.lemmas.Bool.{eqb-true, eqb-false, cases_eq, cases_Bool, false≢true}
 use Rattle.std.proofs.lemmas.List.{get_or_default, ext_get_or}
-use Rattle.std.proofs.lemmas.List.Folds.{Any-from_list_any, list_any_at}
+use Rattle.std.proofs.lemmas.List.Folds.{Any-from_list_any, list_any_at, list_any_none, list_any-append}
+use Rattle.std.proofs.lemmas.List.Elements.{All-nil, All-cons}
+use Rattle.std.specs.Prelude.{◌||◌}
 use Rattle.std.specs.List.{list_any}
 use Rattle.std.proofs.lemmas.List.Sums.{sum_by-cons}
 use Rattle.lwkt_bank.specs.declared.views.Added.{Added}
@@ -14,7 +16,7 @@ use Rattle.lwkt_base.specs.declared.holdings.Held.TheVariants.{Nothing, Holds}
 use Rattle.lwkt_base.specs.Holding.{references_in, is_held, is_exclusive, one_less, one_more}
 use Rattle.lwkt_core.specs.declared.seats.SeatKind.{SeatKind}
 use Rattle.lwkt_core.specs.declared.seats.SeatKind.TheVariants.{Clerk, Of, Spent}
-use Rattle.lwkt_core.specs.declared.seats.WordStep.{WordStep}
+use Rattle.lwkt_core.specs.declared.seats.Deed.{Deed}
 use Rattle.lwkt_bank.specs.declared.views.Plan.{Plan}
 use Rattle.lwkt_bank.specs.declared.views.Entry.{Entry}
 use Rattle.lwkt_bank.specs.declared.views.View.{View}
@@ -22,9 +24,9 @@ use Rattle.lwkt_bank.specs.declared.notes.Change.{Change}
 use Rattle.lwkt_bank.specs.declared.notes.Touch.{Touch}
 use Rattle.lwkt_bank.specs.declared.notes.Touch.TheVariants.{Untouched, Same, Other}
 use Rattle.lwkt_bank.specs.declared.notes.Note.{Note}
-use Rattle.lwkt_bank.specs.Views.{at, amount, generation_in, seen, taken, less, more, stored, raised, noted}
+use Rattle.lwkt_bank.specs.Views.{at, amount, generation_in, is_touched, touching, seen, taken, less, more, stored, raised, noted}
 use Rattle.lwkt_bank.specs.Rule.{plan_at}
-use Rattle.lwkt_bank.specs.Notes.{seat_number, no_note, note_at, touch_at, touch_of, held_in, begun, changed, is_other, IsTouched, IsNoted, Keeps}
+use Rattle.lwkt_bank.specs.Notes.{seat_number, no_note, note_at, touch_at, touch_of, held_in, begun, changed, is_stored, is_other, IsTouched, IsNoted, Keeps}
 use Rattle.lwkt_bank.proofs.ViewMoves.{at-here, at-else}
 use Rattle.lwkt_bank.proofs.TurnMoves.{seen-keeps, exclusive_held}
 
@@ -35,8 +37,8 @@ seat_told (Clerk made back) cpu e = absurd (omega arith)
 seat_told Spent cpu e = absurd (omega arith)
 
 -- an entry that says the same of the holding, the rows and what was added is noted alike
-pub IsNoted-same : (plan : Plan) (cpu : ℕ) (e e' : Entry) (note : Note) → e'.held ≡ e.held → e'.first ≡ e.first → e'.row ≡ e.row → e'.added ≡ e.added → IsNoted plan cpu e note → IsNoted plan cpu e' note
-IsNoted-same plan cpu e e' note held first row added noted' = record {
+pub IsNoted-same : (plan : Plan) (cpu : ℕ) (e e' : Entry) (note : Note) → e'.held ≡ e.held → e'.first ≡ e.first → e'.row ≡ e.row → e'.added ≡ e.added → e'.touched ≡ e.touched → IsNoted plan cpu e note → IsNoted plan cpu e' note
+IsNoted-same plan cpu e e' note held first row added touched noted' = record {
   four = noted'.four;
   firsts = noted'.firsts;
   tally = noted'.tally ∙ sym (ap (amount cpu) added);
@@ -47,11 +49,12 @@ IsNoted-same plan cpu e e' note held first row added noted' = record {
   touched = λ cell is.
       let F : List ℕ → List ℕ → Type 0 = λ f r. IsTouched (touch_at note cell) (slice_index note.first cell) (slice_index f cell) (slice_index r cell) in
       subst (λ (r : List ℕ). F e'.first r) (sym row) (subst (λ (f : List ℕ). F f e.row) (sym first) (noted'.touched cell (sym (ap is_exclusive held) ∙ is)));
+  stored_to = λ cell inside is. noted'.stored_to cell inside (sym (ap is_exclusive held) ∙ is) ∙ ap (λ (cells : List ℕ). list_any (λ c. eqb c cell) cells) (sym touched);
 }
 
 -- a look changes nothing of what is noted
 pub IsNoted-seen : (plan : Plan) (cpu : ℕ) (e : Entry) (g : ℕ) (note : Note) → IsNoted plan cpu e note → IsNoted plan cpu (seen e g) note
-IsNoted-seen plan cpu e g note noted' = let k = seen-keeps e g in IsNoted-same plan cpu e (seen e g) note k.1 k.2 k.3 k.5 noted'
+IsNoted-seen plan cpu e g note noted' = let k = seen-keeps e g in IsNoted-same plan cpu e (seen e g) note k.1 k.2 k.3 k.5 k.7 noted'
 
 -- a token that is held no longer
 pub IsNoted-nothing : (plan : Plan) (cpu : ℕ) (e e' : Entry) (note : Note) → e'.held ≡ Nothing → e'.added ≡ e.added → IsNoted plan cpu e note → IsNoted plan cpu e' (record note { references = 0 })
@@ -64,6 +67,7 @@ IsNoted-nothing plan cpu e e' note held added noted' = record {
   references = sym (ap references_in held);
   mode = λ is. absurd (false≢true (sym (ap is_held held) ∙ is));
   touched = λ cell is. absurd (false≢true (sym (ap is_exclusive held) ∙ is));
+  stored_to = λ cell inside is. absurd (false≢true (sym (ap is_exclusive held) ∙ is));
 }
 
 -- another holding of a token that is held, in the same mode
@@ -77,6 +81,7 @@ IsNoted-held plan cpu e h references note was same count noted' = record {
   references = count;
   mode = λ is. same is ∙ noted'.mode was;
   touched = λ cell is. noted'.touched cell (sym (same (exclusive_held h is)) ∙ is);
+  stored_to = λ cell inside is. noted'.stored_to cell inside (sym (same (exclusive_held h is)) ∙ is);
 }
 
 -- one reference less keeps the mode, and so does one more
@@ -156,6 +161,7 @@ IsNoted-taken plan cpu e word Exclusive row note long noted' =
       touched = λ cell is.
           let F : Touch → Type 0 = λ t. IsTouched t (slice_index note.first cell) (slice_index row cell) (slice_index row cell) in
           subst F (sym (untouched_at cell)) (record { first_kept = λ s. absurd (false≢true s); same = λ s. refl; other = λ o. absurd (false≢true o) });
+      stored_to = λ cell inside is. ap is_stored (untouched_at cell);
     }
 IsNoted-taken plan cpu e word Shared row note long noted' =
     let k = seen-keeps e (generation_in word) in
@@ -168,6 +174,7 @@ IsNoted-taken plan cpu e word Shared row note long noted' =
       references = refl;
       mode = λ is. refl;
       touched = λ cell is. absurd (false≢true is);
+      stored_to = λ cell inside is. absurd (false≢true is);
     }
 
 -- after an entry of a token that exists has changed, no other token is held
@@ -178,8 +185,8 @@ within-changed v e tok within there is_tok k held = ⊎_elim
     (cases_eq k tok)
 
 -- what is kept after an entry of a token has changed
-pub Keeps-set : (notes : List Note) (cpu : CpuId) (v w : View) (e : Entry) (made : List WordStep) (tok : ℕ) (note : Note) → Keeps notes cpu v → w ≡ noted v e made → tok < length v.plans → e.tok ≡ tok → tok < length notes → IsNoted (plan_at v.plans tok) cpu.0 e note → Keeps (set notes tok note) cpu w
-Keeps-set notes cpu v w e made tok note keeps is there is_tok room here =
+pub Keeps-set : (notes : List Note) (cpu : CpuId) (v w : View) (e : Entry) (between : List Deed) (d : Deed) (tok : ℕ) (note : Note) → Keeps notes cpu v → w ≡ noted between v e d → tok < length v.plans → e.tok ≡ tok → tok < length notes → IsNoted (plan_at v.plans tok) cpu.0 e note → Keeps (set notes tok note) cpu w
+Keeps-set notes cpu v w e between deed tok note keeps is there is_tok room here =
     let F : View → Type 0 = λ x. Keeps (set notes tok note) cpu x in
     subst F (sym is) (record { seat = keeps.seat; each = each; within = within-changed v e tok keeps.within there is_tok })
   where
@@ -193,8 +200,8 @@ Keeps-set notes cpu v w e made tok note keeps is there is_tok room here =
         (cases_eq k tok)
 
 -- and where its note stays
-pub Keeps-kept : (notes : List Note) (cpu : CpuId) (v w : View) (e : Entry) (made : List WordStep) (tok : ℕ) → Keeps notes cpu v → w ≡ noted v e made → tok < length v.plans → e.tok ≡ tok → IsNoted (plan_at v.plans tok) cpu.0 e (note_at notes tok) → Keeps notes cpu w
-Keeps-kept notes cpu v w e made tok keeps is there is_tok here =
+pub Keeps-kept : (notes : List Note) (cpu : CpuId) (v w : View) (e : Entry) (between : List Deed) (d : Deed) (tok : ℕ) → Keeps notes cpu v → w ≡ noted between v e d → tok < length v.plans → e.tok ≡ tok → IsNoted (plan_at v.plans tok) cpu.0 e (note_at notes tok) → Keeps notes cpu w
+Keeps-kept notes cpu v w e between deed tok keeps is there is_tok here =
     let F : View → Type 0 = λ x. Keeps notes cpu x in
     subst F (sym is) (record { seat = keeps.seat; each = each; within = within-changed v e tok keeps.within there is_tok })
   where
@@ -229,6 +236,29 @@ module _ (plan : Plan) (cpu : ℕ) (e : Entry) (note : Note) (noted' : IsNoted p
           false≢true (sym none ∙ list_any_at is_other note.cells cell Untouched short yes')))
           (λ no'. no')
           (cases_Bool (is_other (touch_at note cell)))
+
+-- which cells were stored to, after one more was
+stored_by : (b : Bool) → is_stored (cond b Same Other) ≡ true
+stored_by true = refl
+stored_by false = refl
+
+pub touched_self : (e : Entry) (cell : ℕ) → list_any (λ c. eqb c cell) (touching e cell) ≡ true
+touched_self e cell = go (is_touched e cell) refl
+  where
+    go : (b : Bool) → is_touched e cell ≡ b → list_any (λ c. eqb c cell) (cond b e.touched (cell ∷ e.touched)) ≡ true
+    go true is = is
+    go false is = list_any_at (λ c. eqb c cell) (cell ∷ e.touched) 0 0 (omega arith) (eq-eqb cell cell refl)
+
+pub touched_other : (e : Entry) (cell k : ℕ) → k ≢ cell → list_any (λ c. eqb c k) (touching e cell) ≡ is_touched e k
+touched_other e cell k away = go (is_touched e cell)
+  where
+    go : (b : Bool) → list_any (λ c. eqb c k) (cond b e.touched (cell ∷ e.touched)) ≡ is_touched e k
+    go true = refl
+    go false =
+        let P : ℕ → Bool = λ c. eqb c k in
+        let apart : P cell ≡ false = ne_eqb cell k (λ same. away (sym same)) in
+        let none : list_any P (cell ∷ []) ≡ false = list_any_none P (cell ∷ []) (All-cons (λ c. P c ≡ false) cell [] apart (All-nil (λ c. P c ≡ false))) in
+        list_any-append P (cell ∷ []) e.touched ∙ ap (λ (b : Bool). b || list_any P e.touched) none
 
 -- a cell that was stored to, and the others
 module _ (plan : Plan) (cpu : ℕ) (e : Entry) (note : Note) (noted' : IsNoted plan cpu e note) (is : is_exclusive e.held ≡ true) (within : plan.cells ≤ 4) (cell : ℕ) (change : Change) (inside : cell < plan.cells) (first_is : change.first ≡ slice_index e.first cell) where
@@ -270,6 +300,16 @@ module _ (plan : Plan) (cpu : ℕ) (e : Entry) (note : Note) (noted' : IsNoted p
       (λ away. touched_else k away)
       (cases_eq k cell)
 
+  -- a cell that was stored to is touched, and no other is from now on
+  stored_there : (k : ℕ) → k < plan.cells → is_stored (touch_at (changed note cell change) k) ≡ is_touched (stored e cell change.last) k
+  stored_there k there = ⊎_elim
+      (λ (same : k ≡ cell).
+      let F : ℕ → Type 0 = λ j. is_stored (touch_at (changed note cell change) j) ≡ is_touched (stored e cell change.last) j in
+      subst F (sym same) (ap is_stored touch_here ∙ stored_by (eqb change.first change.last) ∙ sym (touched_self e cell)))
+      (λ away.
+      ap is_stored (get_or-set_other note.cells cell k (touch_of change) Untouched away) ∙ noted'.stored_to k there is ∙ sym (touched_other e cell k away))
+      (cases_eq k cell)
+
   pub IsNoted-stored : IsNoted plan cpu (stored e cell change.last) (changed note cell change)
   IsNoted-stored = record {
     four = length-set note.cells cell (touch_of change) ∙ noted'.four;
@@ -280,6 +320,7 @@ module _ (plan : Plan) (cpu : ℕ) (e : Entry) (note : Note) (noted' : IsNoted p
     references = noted'.references;
     mode = noted'.mode;
     touched = λ k h. touched_there k;
+    stored_to = λ k there h. stored_there k there;
   }
 
 -- a Tally token's cell that was raised
@@ -301,6 +342,7 @@ IsNoted-raised plan cpu e note noted' is within change k inside first_is last_is
       long = λ h. let l = noted'.long h in (l.0, length-set e.row 0 (slice_index e.row 0 + k) ∙ l.1);
       references = noted'.references;
       mode = noted'.mode;
+      stored_to = λ j there h. stored_there plan cpu.0 e note noted' is within 0 change inside first_is j there;
       touched = λ j h.
           let F : ℕ → Type 0 = λ last. IsTouched (touch_at (changed note 0 change) j) (slice_index (changed note 0 change).first j) (slice_index e.first j) (slice_index (slice_set e.row 0 last) j) in
           subst F last_is (touched_there plan cpu.0 e note noted' is within 0 change inside first_is j);

@@ -20,7 +20,8 @@ use Rattle.lwkt_core.proofs.OpeningLemmas.{IsSafe-opening}
 use Rattle.lwkt_core.proofs.SeatingLemmas.{AreSeated-opening}
 use Rattle.lwkt_bank.specs.declared.views.Plan.{Plan}
 use Rattle.lwkt_bank.specs.declared.views.View.{View}
-use Rattle.lwkt_bank.specs.Views.{blank, first_view, new_seat, next_seat}
+use Rattle.lwkt_bank.specs.Views.{blank, first_view, new_seat}
+use Rattle.lwkt_core.specs.Seating.{next_seat}
 use Rattle.lwkt_bank.specs.declared.notes.Note.{Note}
 use Rattle.lwkt_bank.specs.Notes.{seat_number, no_note, IsNoted, Keeps}
 use Rattle.lwkt_bank.specs.Rule.{token_word, cell_word, law_word, param_word, law_number, Seen, column, held_in, Knows, Shows, Rule, plan_at, token_at, no_plan, no_token}
@@ -85,8 +86,8 @@ Shows-opening plans spec t word cells short is rows = record {
 }
 
 -- the rule at the opening
-pub Rule-opening : (cpus : ℕ) (specs : List TokSpec) → AreWithin cpus specs [] → AllOpenLawfully specs → Rule (plans_of specs) cpus (table_opening (opening_words specs) [] (first_view (plans_of specs)))
-Rule-opening cpus specs within lawful = record {
+rule_opening : (cpus : ℕ) (specs : List TokSpec) → AreWithin cpus specs [] → AllOpenLawfully specs → Rule (plans_of specs) cpus (table_opening (opening_words specs) [] (first_view (plans_of specs)))
+rule_opening cpus specs within lawful = record {
   model = opening cpus specs [];
   safe = IsSafe-opening cpus specs [] within lawful;
   pictures = record {
@@ -130,6 +131,10 @@ Rule-opening cpus specs within lawful = record {
     cell_in spec (suc (suc (suc zero))) low = refl
     cell_in spec (suc (suc (suc (suc i)))) low = absurd (omega arith)
 
+pub Rule-opening : (cpus : ℕ) (specs : List TokSpec) → AreWithin cpus specs [] → AllOpenLawfully specs → (r : Rule (plans_of specs) cpus (table_opening (opening_words specs) [] (first_view (plans_of specs)))) × (r.model ≡ opening cpus specs [])
+unfolding rule_opening
+Rule-opening cpus specs within lawful = (rule_opening cpus specs within lawful, refl)
+
 -- what stands in a plan that is made of an opening
 plan_read : (specs : List TokSpec) (tok : ℕ) → tok < length specs → plan_at (plans_of specs) tok ≡ plan_of_spec (get_or specs tok no_spec)
 plan_read specs tok there = get_or-map plan_of_spec specs tok no_spec no_plan there
@@ -171,6 +176,7 @@ Keeps-new cpu v w kind is =
             references = refl;
             mode = λ held. absurd (false≢true held);
             touched = λ cell held. absurd (false≢true held);
+            stored_to = λ cell inside held. absurd (false≢true held);
           });
       within = λ tok held. absurd (false≢true held);
     })

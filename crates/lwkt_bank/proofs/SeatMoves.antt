@@ -23,6 +23,7 @@ use Rattle.lwkt_base.specs.Holding.{is_exclusive, is_held}
 use Rattle.lwkt_base.specs.Law.{MeetsLaw, IsTallied}
 use Rattle.lwkt_base.specs.TokenWord.{word_of, Fits, decision}
 use Rattle.lwkt_core.specs.declared.seats.SeatKind.TheVariants.{Of}
+use Rattle.lwkt_core.specs.declared.seats.Deed.{Deed}
 use Rattle.lwkt_core.specs.declared.seats.WordStep.{WordStep}
 use Rattle.lwkt_core.specs.declared.tokens.Token.{Token}
 use Rattle.lwkt_core.specs.declared.events.Event.{Event}
@@ -36,9 +37,10 @@ use Rattle.lwkt_core.proofs.MachineMoves.{references_le}
 use Rattle.lwkt_bank.specs.declared.views.Plan.{Plan}
 use Rattle.lwkt_bank.specs.declared.views.Entry.{Entry}
 use Rattle.lwkt_bank.specs.declared.views.View.{View}
-use Rattle.lwkt_bank.specs.Views.{at, amount, generation_in, count_from, held_of, looked, taken, more, less, ended, read, stored, raised, noted, load, exchange, add, sub, or}
+use Rattle.lwkt_bank.specs.Views.{at, amount, generation_in, count_from, held_of, looked, taken, more, less, ended, read, stored, raised, who, noted, load, exchange, add, sub, or}
+use Rattle.lwkt_bank.specs.Deeds.{deed_by, writes}
 use Rattle.lwkt_bank.specs.Rule.{IsOpeningRow, Bench, Rule, Seen, seen_by, column, token_word, cell_word, plan_at, token_at}
-use Rattle.lwkt_bank.specs.Plays.{Steps, Looks, IsTakenRow, Exchanges, AddsOne, Marks, GivesOne, GivesClean, GivesWritten, ReadsCell, StoresCell, RaisesCell}
+use Rattle.lwkt_bank.specs.Plays.{Looks, IsTakenRow, Exchanges, AddsOne, Marks, GivesOne, GivesClean, GivesWritten, ReadsCell, StoresCell, RaisesCell}
 use Rattle.lwkt_bank.proofs.WordMoves.{Fits-safe}
 use Rattle.lwkt_bank.proofs.ViewMoves.{at-here, at-else, at-tok}
 use Rattle.lwkt_bank.proofs.ShowMoves.{Turns}
@@ -72,7 +74,17 @@ Turns-move plan tok tok' cpu e e' d word word' cells cells' same_entry same_word
       others_known = turns.others_known;
     })
 
-module _ (plans : List Plan) (cpus id : ℕ) (v : View) (cpu : CpuId) (tok : ℕ) (kind : v.kind ≡ Of cpu) (exists' : tok < length plans) where
+-- whatever state the table is in when a word becomes f of what it was, the seat has an entry with which the rule of states stays,
+-- whatever others have done since its last deed; the machines shown before and after are related by the event
+abbrev pub Steps : List Plan → ℕ → ℕ → View → ℕ → (ℕ → ℕ) → (ℕ → Event) → (ℕ → List WordStep) → (List Deed → ℕ → View → Type 0) → Type 0
+Steps plans cpus id v i f event steps then = (s : Bench) (r : Rule plans cpus s) (between : List Deed) → get_elem? s.views id ≡ some v → slice_index s.words i < 18446744073709551616
+    → (e : Entry) × ((q : Rule plans cpus (stepped s i (f (slice_index s.words i)) id [] (noted between v e (deed_by (who v) (event (slice_index s.words i)) (steps (slice_index s.words i)))) keeps))
+    × (Happens r.model (event (slice_index s.words i)) q.model × then between (slice_index s.words i) (noted between v e (deed_by (who v) (event (slice_index s.words i)) (steps (slice_index s.words i))))))
+
+module _ (plans : List Plan) (cpus id : ℕ) (v : View) (tok : ℕ) (kind : v.kind ≡ Of (who v)) (exists' : tok < length plans) where
+  abbrev cpu : CpuId
+  cpu = who v
+
   abbrev e : Entry
   e = at v.tokens tok
 
@@ -105,23 +117,23 @@ module _ (plans : List Plan) (cpus id : ℕ) (v : View) (cpu : CpuId) (tok : ℕ
         }
 
     -- a step on the count word
-    word_step : (e' : Entry) (steps : List WordStep) (n' : ℕ) (ev : Event) → e'.tok ≡ tok → place_of ev ≡ AtToken tok → cpu_of ev ≡ cpu.0 → TokenNeeds (token_at r.model tok) ev → (adds_reference ev ≡ true → count_from 0 (length plans) (held_of v.tokens) < 32)
+    word_step : (e' : Entry) (between : List Deed) (steps : List WordStep) (n' : ℕ) (ev : Event) → e'.tok ≡ tok → place_of ev ≡ AtToken tok → cpu_of ev ≡ cpu.0 → TokenNeeds (token_at r.model tok) ev → (adds_reference ev ≡ true → count_from 0 (length plans) (held_of v.tokens) < 32)
         → Turns (plan_at plans tok) (token_at r.model tok) (token_after (token_at r.model tok) ev) cpu.0 e e' n' cells
-        → (q : Rule plans cpus (stepped s (token_word tok) n' id [] (noted v e' steps) keeps)) × Happens r.model ev q.model
-    word_step e' steps n' ev is_tok at_tok by_cpu needs room turns =
+        → (q : Rule plans cpus (stepped s (token_word tok) n' id [] (noted between v e' (deed_by cpu ev steps)) keeps)) × Happens r.model ev q.model
+    word_step e' between steps n' ev is_tok at_tok by_cpu needs room turns =
         let wide = r.wide in
         let few = few_cells plans cpus s r tok exists' in
-        lift plans cpus s r id v (noted v e' steps) cpu tok (token_word tok) n' ev here kind refl refl (λ k away. at-else e' v.tokens tok k is_tok away) exists' (omega arith) (omega arith) at_tok by_cpu needs room
+        lift plans cpus s r id v (noted between v e' (deed_by cpu ev steps)) cpu tok (token_word tok) n' ev here kind refl refl (λ k away. at-else e' v.tokens tok k is_tok away) exists' (omega arith) (omega arith) at_tok by_cpu needs room
         (Turns-move (plan_at plans tok) (token_at r.model tok) (token_after (token_at r.model tok) ev) cpu.0 e e' (at (e' ∷ v.tokens) tok) n' (slice_index (slice_set s.words (token_word tok) n') (token_word tok)) cells (λ c. slice_index (slice_set s.words (token_word tok) n') (cell_word tok c))
         (at-here e' v.tokens tok is_tok) (get_or-set_same s.words (token_word tok) n' 0 (omega arith)) (λ c h. get_or-set_other s.words (token_word tok) (cell_word tok c) n' 0 (λ same. absurd (omega arith))) turns)
 
     -- a step on a cell
-    cell_step : (e' : Entry) (cell value : ℕ) (ev : Event) → cell < (plan_at plans tok).cells → e'.tok ≡ tok → place_of ev ≡ AtToken tok → cpu_of ev ≡ cpu.0 → TokenNeeds (token_at r.model tok) ev → adds_reference ev ≡ false
+    cell_step : (e' : Entry) (between : List Deed) (cell value : ℕ) (ev : Event) → cell < (plan_at plans tok).cells → e'.tok ≡ tok → place_of ev ≡ AtToken tok → cpu_of ev ≡ cpu.0 → TokenNeeds (token_at r.model tok) ev → adds_reference ev ≡ false
         → Turns (plan_at plans tok) (token_at r.model tok) (token_after (token_at r.model tok) ev) cpu.0 e e' n (λ c. slice_index (slice_set s.words (cell_word tok cell) value) (cell_word tok c))
-        → (q : Rule plans cpus (stepped s (cell_word tok cell) value id [] (noted v e' []) keeps)) × Happens r.model ev q.model
-    cell_step e' cell value ev within is_tok at_tok by_cpu needs quiet turns =
+        → (q : Rule plans cpus (stepped s (cell_word tok cell) value id [] (noted between v e' (deed_by cpu ev [])) keeps)) × Happens r.model ev q.model
+    cell_step e' between cell value ev within is_tok at_tok by_cpu needs quiet turns =
         let few = few_cells plans cpus s r tok exists' in
-        lift plans cpus s r id v (noted v e' []) cpu tok (cell_word tok cell) value ev here kind refl refl (λ k away. at-else e' v.tokens tok k is_tok away) exists' (omega arith) (omega arith) at_tok by_cpu needs (λ adds. absurd (false≢true (sym quiet ∙ adds)))
+        lift plans cpus s r id v (noted between v e' (deed_by cpu ev [])) cpu tok (cell_word tok cell) value ev here kind refl refl (λ k away. at-else e' v.tokens tok k is_tok away) exists' (omega arith) (omega arith) at_tok by_cpu needs (λ adds. absurd (false≢true (sym quiet ∙ adds)))
         (Turns-move (plan_at plans tok) (token_at r.model tok) (token_after (token_at r.model tok) ev) cpu.0 e e' (at (e' ∷ v.tokens) tok) n (slice_index (slice_set s.words (cell_word tok cell) value) (token_word tok)) (λ c. slice_index (slice_set s.words (cell_word tok cell) value) (cell_word tok c)) (λ c. slice_index (slice_set s.words (cell_word tok cell) value) (cell_word tok c))
         (at-here e' v.tokens tok is_tok) (get_or-set_other s.words (cell_word tok cell) (token_word tok) value 0 (λ same. absurd (omega arith))) (λ c h. refl) turns)
 
@@ -137,12 +149,12 @@ module _ (plans : List Plan) (cpus id : ℕ) (v : View) (cpu : CpuId) (tok : ℕ
     looked_tok : (looked e n).tok ≡ tok
     looked_tok = (seen-keeps e (generation_in n)).0 ∙ at-tok v.tokens tok
 
-    look_step : (steps : List WordStep) → After (token_word tok) (noted v (looked e n) steps) (Load cpu t) n
-    look_step steps = word_step (looked e n) steps n (Load cpu t) looked_tok refl refl tt (λ adds. absurd (false≢true adds)) (turns_load r.model.cpus (plan_at plans tok) (token_at r.model tok) cpu e n cells sight)
+    look_step : (between : List Deed) (steps : List WordStep) → After (token_word tok) (noted between v (looked e n) (deed_by cpu (Load cpu t) steps)) (Load cpu t) n
+    look_step between steps = word_step (looked e n) between steps n (Load cpu t) looked_tok refl refl tt (λ adds. absurd (false≢true adds)) (turns_load r.model.cpus (plan_at plans tok) (token_at r.model tok) cpu e n cells sight)
 
   -- a look at the word
-  pub look_steps : Steps plans cpus id v (token_word tok) (λ n. n) (λ _. Load cpu t) (λ n w. Looks tok v n w)
-  look_steps s r here fits = let a = look_step s r here (load tok (n s r here) ∷ []) in (noted v (looked e (n s r here)) (load tok (n s r here) ∷ []), (a.0, (a.1, (room_here s r here, rises_here s r here, refl))))
+  pub look_steps : Steps plans cpus id v (token_word tok) (λ n. n) (λ _. Load cpu t) (λ n. load tok n ∷ []) (λ between n w. Looks between tok v n w)
+  look_steps s r between here fits = let a = look_step s r here between (load tok (n s r here) ∷ []) in (looked e (n s r here), (a.0, (a.1, (room_here s r here, rises_here s r here, refl))))
 
   -- what the row is that a take finds
   module _ (s : Bench) (r : Rule plans cpus s) (here : get_elem? s.views id ≡ some v) where
@@ -182,10 +194,10 @@ module _ (plans : List Plan) (cpus id : ℕ) (v : View) (cpu : CpuId) (tok : ℕ
     exchanged ev x = cond (eqb x old) ev (Load cpu t)
 
     pub take_steps : ((w : TokWord) → Fits w → word_of w ≡ old → decision w Exclusive alone ≡ Takes new)
-        → Steps plans cpus id v (token_word tok) (λ x. either (eqb x old) new x) (exchanged (Take cpu t)) (Exchanges Exclusive old new tok v)
-    take_steps decides s r here fits = go (eqb (found s r here) old) refl
+        → Steps plans cpus id v (token_word tok) (λ x. either (eqb x old) new x) (exchanged (Take cpu t)) (λ x. exchange tok old new x ∷ []) (λ between x w. Exchanges Exclusive old new between tok v x w)
+    take_steps decides s r between here fits = go (eqb (found s r here) old) refl
       where
-        go : (b : Bool) → eqb (found s r here) old ≡ b → (w : View) × ((q : Rule plans cpus (stepped s (token_word tok) (either b new (found s r here)) id [] w keeps)) × (Happens r.model (cond b (Take cpu t) (Load cpu t)) q.model × Exchanges Exclusive old new tok v (found s r here) w))
+        go : (b : Bool) → eqb (found s r here) old ≡ b → (e' : Entry) × ((q : Rule plans cpus (stepped s (token_word tok) (either b new (found s r here)) id [] (noted between v e' (deed_by cpu (cond b (Take cpu t) (Load cpu t)) (exchange tok old new (found s r here) ∷ []))) keeps)) × (Happens r.model (cond b (Take cpu t) (Load cpu t)) q.model × Exchanges Exclusive old new between tok v (found s r here) (noted between v e' (deed_by cpu (cond b (Take cpu t) (Load cpu t)) (exchange tok old new (found s r here) ∷ [])))))
         go true is =
             let m = sight s r here in
             let same : found s r here ≡ old = eqb-true (found s r here) old is in
@@ -193,20 +205,20 @@ module _ (plans : List Plan) (cpus id : ℕ) (v : View) (cpu : CpuId) (tok : ℕ
             let free = free_at r.model.cpus (plan_at plans tok) (token_at r.model tok) cpu e (found s r here) (cells s r here) m alone new d in
             let settled = settled_free r.model.cpus (plan_at plans tok) (token_at r.model tok) cpu e (found s r here) (cells s r here) m free.0 in
             let notes = exchange tok old new (found s r here) ∷ [] in
-            let a = word_step s r here (taken e (found s r here) Exclusive (row s r here)) notes new (Take cpu t) (taken_tok s r here Exclusive) refl refl free (λ adds. few)
+            let a = word_step s r here (taken e (found s r here) Exclusive (row s r here)) between notes new (Take cpu t) (taken_tok s r here Exclusive) refl refl free (λ adds. few)
             (turns_take r.model.cpus (plan_at plans tok) (token_at r.model tok) cpu e (found s r here) (cells s r here) m alone new d t) in
-            (noted v (taken e (found s r here) Exclusive (row s r here)) notes, (a.0, (a.1, ((λ hit. (row s r here, (row_taken s r here settled, refl))), (λ miss. absurd (miss same))))))
+            (taken e (found s r here) Exclusive (row s r here), (a.0, (a.1, ((λ hit. (row s r here, (row_taken s r here settled, refl))), (λ miss. absurd (miss same))))))
         go false is =
             let apart = eqb-false (found s r here) old is in
             let notes = exchange tok old new (found s r here) ∷ [] in
-            let a = look_step s r here notes in
-            (noted v (looked e (found s r here)) notes, (a.0, (a.1, ((λ hit. absurd (apart hit)), (λ miss. (rises_here s r here, refl))))))
+            let a = look_step s r here between notes in
+            (looked e (found s r here), (a.0, (a.1, ((λ hit. absurd (apart hit)), (λ miss. (rises_here s r here, refl))))))
 
     pub share_steps : ((w : TokWord) → Fits w → word_of w ≡ old → decision w Shared alone ≡ Takes new) → e.held ≡ Nothing
-        → Steps plans cpus id v (token_word tok) (λ x. either (eqb x old) new x) (exchanged (Share cpu t)) (Exchanges Shared old new tok v)
-    share_steps decides none s r here fits = go (eqb (found s r here) old) refl
+        → Steps plans cpus id v (token_word tok) (λ x. either (eqb x old) new x) (exchanged (Share cpu t)) (λ x. exchange tok old new x ∷ []) (λ between x w. Exchanges Shared old new between tok v x w)
+    share_steps decides none s r between here fits = go (eqb (found s r here) old) refl
       where
-        go : (b : Bool) → eqb (found s r here) old ≡ b → (w : View) × ((q : Rule plans cpus (stepped s (token_word tok) (either b new (found s r here)) id [] w keeps)) × (Happens r.model (cond b (Share cpu t) (Load cpu t)) q.model × Exchanges Shared old new tok v (found s r here) w))
+        go : (b : Bool) → eqb (found s r here) old ≡ b → (e' : Entry) × ((q : Rule plans cpus (stepped s (token_word tok) (either b new (found s r here)) id [] (noted between v e' (deed_by cpu (cond b (Share cpu t) (Load cpu t)) (exchange tok old new (found s r here) ∷ []))) keeps)) × (Happens r.model (cond b (Share cpu t) (Load cpu t)) q.model × Exchanges Shared old new between tok v (found s r here) (noted between v e' (deed_by cpu (cond b (Share cpu t) (Load cpu t)) (exchange tok old new (found s r here) ∷ [])))))
         go true is =
             let m = sight s r here in
             let same : found s r here ≡ old = eqb-true (found s r here) old is in
@@ -214,69 +226,69 @@ module _ (plans : List Plan) (cpus id : ℕ) (v : View) (cpu : CpuId) (tok : ℕ
             let opened = open_at r.model.cpus (plan_at plans tok) (token_at r.model tok) cpu e (found s r here) (cells s r here) m alone new d in
             let settled = m.safe.settled opened in
             let notes = exchange tok old new (found s r here) ∷ [] in
-            let a = word_step s r here (taken e (found s r here) Shared (row s r here)) notes new (Share cpu t) (taken_tok s r here Shared) refl refl (opened, sym m.held ∙ none) (λ adds. few)
+            let a = word_step s r here (taken e (found s r here) Shared (row s r here)) between notes new (Share cpu t) (taken_tok s r here Shared) refl refl (opened, sym m.held ∙ none) (λ adds. few)
             (turns_share r.model.cpus (plan_at plans tok) (token_at r.model tok) cpu e (found s r here) (cells s r here) m alone new d none t) in
-            (noted v (taken e (found s r here) Shared (row s r here)) notes, (a.0, (a.1, ((λ hit. (row s r here, (row_taken s r here settled, refl))), (λ miss. absurd (miss same))))))
+            (taken e (found s r here) Shared (row s r here), (a.0, (a.1, ((λ hit. (row s r here, (row_taken s r here settled, refl))), (λ miss. absurd (miss same))))))
         go false is =
             let apart = eqb-false (found s r here) old is in
             let notes = exchange tok old new (found s r here) ∷ [] in
-            let a = look_step s r here notes in
-            (noted v (looked e (found s r here)) notes, (a.0, (a.1, ((λ hit. absurd (apart hit)), (λ miss. (rises_here s r here, refl))))))
+            let a = look_step s r here between notes in
+            (looked e (found s r here), (a.0, (a.1, ((λ hit. absurd (apart hit)), (λ miss. (rises_here s r here, refl))))))
 
   -- a step on the count word whose operation leaves this number
   left_as : (s : Bench) (r : Rule plans cpus s) (here : get_elem? s.views id ≡ some v) (w : View) (ev : Event) (x y : ℕ) → y ≡ x → After s r here (token_word tok) w ev x → After s r here (token_word tok) w ev y
   left_as s r here w ev x y same a = subst (After s r here (token_word tok) w ev) (sym same) a
 
   -- a further reference
-  pub again_steps : is_held e.held ≡ true → count_from 0 (length plans) (held_of v.tokens) < 32 → Steps plans cpus id v (token_word tok) (λ x. (x + 4) % 2 ^ 64) (λ _. Again cpu t) (AddsOne tok v)
-  again_steps is few s r here fits =
+  pub again_steps : is_held e.held ≡ true → count_from 0 (length plans) (held_of v.tokens) < 32 → Steps plans cpus id v (token_word tok) (λ x. (x + 4) % 2 ^ 64) (λ _. Again cpu t) (λ x. add tok 4 x ∷ []) (λ between x w. AddsOne between tok v x w)
+  again_steps is few s r between here fits =
       let m = sight s r here in
       let x = found s r here in
       let notes = add tok 4 x ∷ [] in
       let room = room_more r.model.cpus (plan_at plans tok) (token_at r.model tok) cpu e x (cells s r here) m in
       let holds = ap is_held (sym m.held) ∙ is in
-      let a = word_step s r here (more e) notes (x + 4) (Again cpu t) (at-tok v.tokens tok) refl refl holds (λ adds. few) (turns_again r.model.cpus (plan_at plans tok) (token_at r.model tok) cpu e x (cells s r here) m is t) in
-      let b = left_as s r here (noted v (more e) notes) (Again cpu t) (x + 4) ((x + 4) % 2 ^ 64) (omega arith) a in
-      (noted v (more e) notes, (b.0, (b.1, refl)))
+      let a = word_step s r here (more e) between notes (x + 4) (Again cpu t) (at-tok v.tokens tok) refl refl holds (λ adds. few) (turns_again r.model.cpus (plan_at plans tok) (token_at r.model tok) cpu e x (cells s r here) m is t) in
+      let b = left_as s r here (noted between v (more e) (deed_by cpu (Again cpu t) notes)) (Again cpu t) (x + 4) ((x + 4) % 2 ^ 64) (omega arith) a in
+      (more e, (b.0, (b.1, refl)))
 
   -- the mark
-  pub mark_steps : Steps plans cpus id v (token_word tok) (λ x. bit_or x 2) (λ _. Mark cpu t) (Marks tok v)
-  mark_steps s r here fits =
+  pub mark_steps : Steps plans cpus id v (token_word tok) (λ x. bit_or x 2) (λ _. Mark cpu t) (λ x. or tok 2 x ∷ []) (λ between x w. Marks between tok v x w)
+  mark_steps s r between here fits =
       let m = sight s r here in
       let x = found s r here in
       let notes = or tok 2 x ∷ [] in
-      let a = word_step s r here e notes (word_of (record (picture_of (token_at r.model tok)) { mark = true })) (Mark cpu t) (at-tok v.tokens tok) refl refl tt (λ adds. absurd (false≢true adds)) (turns_mark r.model.cpus (plan_at plans tok) (token_at r.model tok) cpu e x (cells s r here) m t) in
-      let b = left_as s r here (noted v e notes) (Mark cpu t) (word_of (record (picture_of (token_at r.model tok)) { mark = true })) (bit_or x 2) (marked_is r.model.cpus (plan_at plans tok) (token_at r.model tok) cpu e x (cells s r here) m) a in
-      (noted v e notes, (b.0, (b.1, refl)))
+      let a = word_step s r here e between notes (word_of (record (picture_of (token_at r.model tok)) { mark = true })) (Mark cpu t) (at-tok v.tokens tok) refl refl tt (λ adds. absurd (false≢true adds)) (turns_mark r.model.cpus (plan_at plans tok) (token_at r.model tok) cpu e x (cells s r here) m t) in
+      let b = left_as s r here (noted between v e (deed_by cpu (Mark cpu t) notes)) (Mark cpu t) (word_of (record (picture_of (token_at r.model tok)) { mark = true })) (bit_or x 2) (marked_is r.model.cpus (plan_at plans tok) (token_at r.model tok) cpu e x (cells s r here) m) a in
+      (e, (b.0, (b.1, refl)))
 
   -- a reference given back that doesn't end an exclusive holding
-  pub give_one_steps : IsNotLastExclusive e.held → is_held e.held ≡ true → Steps plans cpus id v (token_word tok) (λ x. (x + (2 ^ 64 - 4)) % 2 ^ 64) (λ _. GiveOne cpu t) (GivesOne tok v)
-  give_one_steps may is s r here fits =
+  pub give_one_steps : IsNotLastExclusive e.held → is_held e.held ≡ true → Steps plans cpus id v (token_word tok) (λ x. (x + (2 ^ 64 - 4)) % 2 ^ 64) (λ _. GiveOne cpu t) (λ x. sub tok 4 x ∷ []) (λ between x w. GivesOne between tok v x w)
+  give_one_steps may is s r between here fits =
       let m = sight s r here in
       let x = found s r here in
       let notes = sub tok 4 x ∷ [] in
       let room = room_less r.model.cpus (plan_at plans tok) (token_at r.model tok) cpu e x (cells s r here) m may in
-      let a = word_step s r here (less e) notes (x - 4) (GiveOne cpu t) (at-tok v.tokens tok) refl refl (subst IsNotLastExclusive m.held may) (λ adds. absurd (false≢true adds))
+      let a = word_step s r here (less e) between notes (x - 4) (GiveOne cpu t) (at-tok v.tokens tok) refl refl (subst IsNotLastExclusive m.held may) (λ adds. absurd (false≢true adds))
       (turns_give_one r.model.cpus (plan_at plans tok) (token_at r.model tok) cpu e x (cells s r here) m may is t (x - 4) (omega arith)) in
-      let b = left_as s r here (noted v (less e) notes) (GiveOne cpu t) (x - 4) ((x + (2 ^ 64 - 4)) % 2 ^ 64) (omega arith) a in
-      (noted v (less e) notes, (b.0, (b.1, refl)))
+      let b = left_as s r here (noted between v (less e) (deed_by cpu (GiveOne cpu t) notes)) (GiveOne cpu t) (x - 4) ((x + (2 ^ 64 - 4)) % 2 ^ 64) (omega arith) a in
+      (less e, (b.0, (b.1, refl)))
 
   -- the last reference of an exclusive holding given back, with the row as it was
-  pub give_clean_steps : e.held ≡ Holds Exclusive 0 → e.row ≡ e.first → Steps plans cpus id v (token_word tok) (λ x. (x + (2 ^ 64 - 1)) % 2 ^ 64) (λ _. GiveClean cpu t) (GivesClean tok v)
-  give_clean_steps last clean s r here fits =
+  pub give_clean_steps : e.held ≡ Holds Exclusive 0 → e.row ≡ e.first → Steps plans cpus id v (token_word tok) (λ x. (x + (2 ^ 64 - 1)) % 2 ^ 64) (λ _. GiveClean cpu t) (λ x. sub tok 1 x ∷ []) (λ between x w. GivesClean between tok v x w)
+  give_clean_steps last clean s r between here fits =
       let m = sight s r here in
       let x = found s r here in
       let notes = sub tok 1 x ∷ [] in
       let own = m.knows.holder (ap is_held last) in
       let room = room_clean r.model.cpus (plan_at plans tok) (token_at r.model tok) cpu e x (cells s r here) m last in
-      let a = word_step s r here (less e) notes (x - 1) (GiveClean cpu t) (at-tok v.tokens tok) refl refl (sym m.held ∙ last, sym own.2 ∙ clean ∙ own.1) (λ adds. absurd (false≢true adds))
+      let a = word_step s r here (less e) between notes (x - 1) (GiveClean cpu t) (at-tok v.tokens tok) refl refl (sym m.held ∙ last, sym own.2 ∙ clean ∙ own.1) (λ adds. absurd (false≢true adds))
       (turns_give_clean r.model.cpus (plan_at plans tok) (token_at r.model tok) cpu e x (cells s r here) m last t (x - 1) (omega arith)) in
-      let b = left_as s r here (noted v (less e) notes) (GiveClean cpu t) (x - 1) ((x + (2 ^ 64 - 1)) % 2 ^ 64) (omega arith) a in
-      (noted v (less e) notes, (b.0, (b.1, refl)))
+      let b = left_as s r here (noted between v (less e) (deed_by cpu (GiveClean cpu t) notes)) (GiveClean cpu t) (x - 1) ((x + (2 ^ 64 - 1)) % 2 ^ 64) (omega arith) a in
+      (less e, (b.0, (b.1, refl)))
 
   -- and with another row
-  pub give_written_steps : e.held ≡ Holds Exclusive 0 → e.row ≢ e.first → MeetsLaw (plan_at plans tok).law (plan_at plans tok).param e.row → Steps plans cpus id v (token_word tok) (λ x. (x + 262143) % 2 ^ 64) (λ _. GiveWritten cpu t) (GivesWritten tok v)
-  give_written_steps last written lawful s r here fits =
+  pub give_written_steps : e.held ≡ Holds Exclusive 0 → e.row ≢ e.first → MeetsLaw (plan_at plans tok).law (plan_at plans tok).param e.row → Steps plans cpus id v (token_word tok) (λ x. (x + 262143) % 2 ^ 64) (λ _. GiveWritten cpu t) (λ x. add tok 262143 x ∷ []) (λ between x w. GivesWritten between tok v x w)
+  give_written_steps last written lawful s r between here fits =
       let m = sight s r here in
       let x = found s r here in
       let notes = add tok 262143 x ∷ [] in
@@ -287,14 +299,14 @@ module _ (plans : List Plan) (cpus id : ℕ) (v : View) (cpu : CpuId) (tok : ℕ
       let G : ℕ → Type 0 = λ p. MeetsLaw (plan_at plans tok).law p tk.row in
       let H : List ℕ → Type 0 = λ row. MeetsLaw (plan_at plans tok).law (plan_at plans tok).param row in
       let meets : MeetsLaw tk.law tk.param tk.row = subst F (sym m.law) (subst G (sym m.param) (subst H own.2 lawful)) in
-      let a = word_step s r here (ended e) notes (x + 262143) (GiveWritten cpu t) (at-tok v.tokens tok) refl refl (sym m.held ∙ last, (λ same. written (own.2 ∙ same ∙ sym own.1)), meets) (λ adds. absurd (false≢true adds))
+      let a = word_step s r here (ended e) between notes (x + 262143) (GiveWritten cpu t) (at-tok v.tokens tok) refl refl (sym m.held ∙ last, (λ same. written (own.2 ∙ same ∙ sym own.1)), meets) (λ adds. absurd (false≢true adds))
       (turns_give_written r.model.cpus (plan_at plans tok) (token_at r.model tok) cpu e x (cells s r here) m last t) in
-      let b = left_as s r here (noted v (ended e) notes) (GiveWritten cpu t) (x + 262143) ((x + 262143) % 2 ^ 64) (omega arith) a in
-      (noted v (ended e) notes, (b.0, (b.1, refl)))
+      let b = left_as s r here (noted between v (ended e) (deed_by cpu (GiveWritten cpu t) notes)) (GiveWritten cpu t) (x + 262143) ((x + 262143) % 2 ^ 64) (omega arith) a in
+      (ended e, (b.0, (b.1, refl)))
 
   -- a cell that is read
-  pub read_steps : is_held e.held ≡ true → (cell : ℕ) → cell < (plan_at plans tok).cells → Steps plans cpus id v (cell_word tok cell) (λ x. x) (λ x. Read cpu t cell x) (ReadsCell tok cell v)
-  read_steps is cell within s r here fits =
+  pub read_steps : is_held e.held ≡ true → (cell : ℕ) → cell < (plan_at plans tok).cells → Steps plans cpus id v (cell_word tok cell) (λ x. x) (λ x. Read cpu t cell x) (λ _. []) (λ between x w. ReadsCell between tok cell v x w)
+  read_steps is cell within s r between here fits =
       let m = sight s r here in
       let x = slice_index s.words (cell_word tok cell) in
       let tk = token_at r.model tok in
@@ -304,9 +316,9 @@ module _ (plans : List Plan) (cpus id : ℕ) (v : View) (cpu : CpuId) (tok : ℕ
       let needs : slice_get tk.row cell ≡ Some x = slice_get-get_or tk.row cell 0 (omega arith) ∙ ap (λ (y : ℕ). Some y) (sym value) in
       let same : set s.words (cell_word tok cell) x ≡ s.words = set-get_or s.words (cell_word tok cell) 0 in
       let F : List ℕ → Type 0 = λ ws. Turns (plan_at plans tok) tk tk cpu.0 e (read e cell) (found s r here) (λ c. slice_index ws (cell_word tok c)) in
-      let a = cell_step s r here (read e cell) cell x (Read cpu t cell x) within (at-tok v.tokens tok) refl refl (ap is_held (sym m.held) ∙ is, needs) refl
+      let a = cell_step s r here (read e cell) between cell x (Read cpu t cell x) within (at-tok v.tokens tok) refl refl (ap is_held (sym m.held) ∙ is, needs) refl
       (subst F (sym same) (turns_read r.model.cpus (plan_at plans tok) tk cpu e (found s r here) (cells s r here) m is cell within)) in
-      (noted v (read e cell) [], (a.0, (a.1, (value ∙ ap (λ (row : List ℕ). slice_index row cell) (sym own.2), refl, covered))))
+      (read e cell, (a.0, (a.1, (value ∙ ap (λ (row : List ℕ). slice_index row cell) (sym own.2), refl, covered))))
     where
       covered : (plan_at v.plans tok).law ≡ Tally → (a : ℕ) → amount a e.added ≤ slice_index e.row 0
       covered tally a =
@@ -342,14 +354,14 @@ module _ (plans : List Plan) (cpus id : ℕ) (v : View) (cpu : CpuId) (tok : ℕ
       (cases_eq c cell)
 
   -- a value stored in a cell, under any law but Tally
-  pub store_steps : is_exclusive e.held ≡ true → (plan_at plans tok).law ≢ Tally → (cell value : ℕ) → cell < (plan_at plans tok).cells → Steps plans cpus id v (cell_word tok cell) (λ _. value) (λ _. Write cpu t cell value) (λ _ w. StoresCell tok cell v value w)
-  store_steps is untallied cell value within s r here fits =
+  pub store_steps : is_exclusive e.held ≡ true → (plan_at plans tok).law ≢ Tally → (cell value : ℕ) → cell < (plan_at plans tok).cells → Steps plans cpus id v (cell_word tok cell) (λ _. value) (λ _. Write cpu t cell value) (λ _. []) (λ between _ w. StoresCell between tok cell v value w)
+  store_steps is untallied cell value within s r between here fits =
       let m = sight s r here in
       let tk = token_at r.model tok in
       let long = m.long in
-      let a = cell_step s r here (stored e cell value) cell value (Write cpu t cell value) within (at-tok v.tokens tok) refl refl (ap is_exclusive (sym m.held) ∙ is, omega arith, may tk.law (λ tally. untallied (sym m.law ∙ tally))) refl
+      let a = cell_step s r here (stored e cell value) between cell value (Write cpu t cell value) within (at-tok v.tokens tok) refl refl (ap is_exclusive (sym m.held) ∙ is, omega arith, may tk.law (λ tally. untallied (sym m.law ∙ tally))) refl
       (turns_write r.model.cpus (plan_at plans tok) tk cpu e (found s r here) (cells s r here) m is untallied t cell value (λ c. slice_index (slice_set s.words (cell_word tok cell) value) (cell_word tok c)) (row_stored s r here cell value within)) in
-      (noted v (stored e cell value) [], (a.0, (a.1, refl)))
+      (stored e cell value, (a.0, (a.1, refl)))
     where
       may : (law : Law) → law ≢ Tally → MayWrite law (slice_index (token_at r.model tok).row cell) value
       may Any apart = tt
@@ -359,8 +371,8 @@ module _ (plans : List Plan) (cpus id : ℕ) (v : View) (cpu : CpuId) (tok : ℕ
       may Tally apart = absurd (apart refl)
 
   -- a value added to the cell of a Tally token
-  pub raise_steps : is_exclusive e.held ≡ true → (plan_at plans tok).law ≡ Tally → (k : ℕ) → Steps plans cpus id v (cell_word tok 0) (λ _. slice_index e.row 0 + k) (λ _. Write cpu t 0 (slice_index e.row 0 + k)) (λ _ w. RaisesCell tok 0 v (slice_index e.row 0 + k) w)
-  raise_steps is tally k s r here fits =
+  pub raise_steps : is_exclusive e.held ≡ true → (plan_at plans tok).law ≡ Tally → (k : ℕ) → Steps plans cpus id v (cell_word tok 0) (λ _. slice_index e.row 0 + k) (λ _. Write cpu t 0 (slice_index e.row 0 + k)) (λ _. []) (λ between _ w. RaisesCell between tok 0 v (slice_index e.row 0 + k) w)
+  raise_steps is tally k s r between here fits =
       let m = sight s r here in
       let tk = token_at r.model tok in
       let value = slice_index e.row 0 + k in
@@ -373,13 +385,11 @@ module _ (plans : List Plan) (cpus id : ℕ) (v : View) (cpu : CpuId) (tok : ℕ
       let old : slice_index e.row 0 ≡ slice_index tk.row 0 = ap (λ (row : List ℕ). slice_index row 0) own.2 in
       let M : Law → Type 0 = λ l. MayWrite l (slice_index tk.row 0) value in
       let grows : slice_index tk.row 0 ≤ value = omega arith in
-      let a = cell_step s r here (raised e cpu k) 0 value (Write cpu t 0 value) within (at-tok v.tokens tok) refl refl (ap is_exclusive (sym m.held) ∙ is, omega arith, subst M (sym (m.law ∙ tally)) grows) refl
+      let a = cell_step s r here (raised e cpu k) between 0 value (Write cpu t 0 value) within (at-tok v.tokens tok) refl refl (ap is_exclusive (sym m.held) ∙ is, omega arith, subst M (sym (m.law ∙ tally)) grows) refl
       (turns_raise r.model.cpus (plan_at plans tok) tk cpu e (found s r here) (cells s r here) m is tally t k (λ c. slice_index (slice_set s.words (cell_word tok 0) value) (cell_word tok c)) (row_stored s r here 0 value within)) in
-      (noted v (raised e cpu k) [], (a.0, (a.1, told)))
+      (raised e cpu k, (a.0, (a.1, told)))
     where
-      told : (other : CpuId) (j : ℕ) → v.kind ≡ Of other → slice_index e.row 0 + k ≡ slice_index e.row 0 + j → noted v (raised e cpu k) [] ≡ noted v (raised e other j) []
-      told other j its same =
-          let named : Of cpu ≡ Of other = sym kind ∙ its in
-          let one : cpu ≡ other = cc in
+      told : RaisesCell between tok 0 v (slice_index e.row 0 + k) (noted between v (raised e cpu k) (writes cpu tok 0 (slice_index e.row 0 + k)))
+      told j same =
           let amount_is : k ≡ j = omega arith in
-          ap (λ (c : CpuId). noted v (raised e c k) []) one ∙ ap (λ (a : ℕ). noted v (raised e other a) []) amount_is
+          ap (λ (a : ℕ). noted between v (raised e cpu a) (writes cpu tok 0 (slice_index e.row 0 + k))) amount_is

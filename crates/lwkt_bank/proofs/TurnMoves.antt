@@ -48,12 +48,12 @@ pub record Sight (cpus : ℕ) (plan : Plan) (tok : Token) (cpu : ℕ) (e : Entry
   pub knows : Knows tok e
 
 -- a look at a generation keeps all but the generation and the known cells
-pub seen-keeps : (e : Entry) (g : ℕ) → ((seen e g).tok ≡ e.tok) × ((seen e g).held ≡ e.held) × ((seen e g).first ≡ e.first) × ((seen e g).row ≡ e.row) × ((seen e g).written ≡ e.written) × ((seen e g).added ≡ e.added) × ((seen e g).generation ≡ g)
+pub seen-keeps : (e : Entry) (g : ℕ) → ((seen e g).tok ≡ e.tok) × ((seen e g).held ≡ e.held) × ((seen e g).first ≡ e.first) × ((seen e g).row ≡ e.row) × ((seen e g).written ≡ e.written) × ((seen e g).added ≡ e.added) × ((seen e g).generation ≡ g) × ((seen e g).touched ≡ e.touched)
 seen-keeps e g = go (eqb e.generation g) refl
   where
-    go : (b : Bool) → eqb e.generation g ≡ b → ((cond b e (record e { generation = g; known = [] })).tok ≡ e.tok) × ((cond b e (record e { generation = g; known = [] })).held ≡ e.held) × ((cond b e (record e { generation = g; known = [] })).first ≡ e.first) × ((cond b e (record e { generation = g; known = [] })).row ≡ e.row) × ((cond b e (record e { generation = g; known = [] })).written ≡ e.written) × ((cond b e (record e { generation = g; known = [] })).added ≡ e.added) × ((cond b e (record e { generation = g; known = [] })).generation ≡ g)
-    go true is = (refl, refl, refl, refl, refl, refl, eqb-true e.generation g is)
-    go false is = (refl, refl, refl, refl, refl, refl, refl)
+    go : (b : Bool) → eqb e.generation g ≡ b → ((cond b e (record e { generation = g; known = [] })).tok ≡ e.tok) × ((cond b e (record e { generation = g; known = [] })).held ≡ e.held) × ((cond b e (record e { generation = g; known = [] })).first ≡ e.first) × ((cond b e (record e { generation = g; known = [] })).row ≡ e.row) × ((cond b e (record e { generation = g; known = [] })).written ≡ e.written) × ((cond b e (record e { generation = g; known = [] })).added ≡ e.added) × ((cond b e (record e { generation = g; known = [] })).generation ≡ g) × ((cond b e (record e { generation = g; known = [] })).touched ≡ e.touched)
+    go true is = (refl, refl, refl, refl, refl, refl, eqb-true e.generation g is, refl)
+    go false is = (refl, refl, refl, refl, refl, refl, refl, refl)
 
 -- the cells of a row with their numbers are those of the row
 numbered_from : (whole rest : List ℕ) (i : ℕ) → ((k : ℕ) → slice_get whole (i + k) ≡ slice_get rest k) → AllByRecursion (λ c. slice_get whole c.at ≡ Some c.value) (numbered i rest)

@@ -5,7 +5,8 @@ use Rattle.lwkt_core.specs.Seating.{total}
 use mathlib.Core.Option.{some}
 use lib.ListN.{get_elem?}
 use Rattle.lwkt_bank.specs.declared.views.Plan.{Plan}
-use Rattle.lwkt_bank.specs.Rule.{Bench, Rule, token_word, cell_word, plan_at}
+use Rattle.lwkt_bank.specs.Rule.{Bench, token_word, cell_word, plan_at}
+use Rattle.lwkt_bank.specs.Told.{Told}
 use Rattle.lwkt_base.specs.declared.laws.Law.TheVariants.{Tally}
 use Rattle.lwkt_bank.specs.declared.closed.Closed.{Closed}
 use Rattle.lwkt_bank.specs.declared.views.View.{View}
@@ -14,7 +15,7 @@ use Rattle.lwkt_bank.specs.declared.seats.CpuSeat.{CpuSeat}
 use Rattle.lwkt_bank.specs.declared.kept.Kept.{Kept}
 use Rattle.lwkt_bank.specs.Views.{at, amount, generation_in}
 use Rattle.lwkt_bank.specs.Notes.{note_at}
-use Rattle.lwkt_bank.specs.Seats.{BankId, bank_of, entry, holding}
+use Rattle.lwkt_bank.specs.Seats.{BankId, bank_of, entry, past_of, holding}
 use Rattle.lwkt_bank.specs.Gathered.{written_by, added_by}
 
 -- a seat of this bank that holds nothing
@@ -34,6 +35,10 @@ pub record Recalls (d e : Entry) : Type 0 where
   pub rises : e.generation ≤ d.generation
   pub cells : e.generation ≡ d.generation → (row : List ℕ) → All (λ c. slice_get row c.at ≡ Some c.value) d.known → All (λ c. slice_get row c.at ≡ Some c.value) e.known
 
+-- what a seat had seen is a chapter of the clerk's
+abbrev pub IsChapter : View → CpuSeat → Type 0
+IsChapter v s = (i : ℕ) × (get_elem? v.chapters i ≡ some (record { cpu = s.cpu; past = past_of s }))
+
 -- the clerk has taken back all of these seats but the rest: what it knows and what was kept say of them what they did
 pub record Gathering (bank : BankId) (v : View) (all rest : List CpuSeat) (kept : List Kept) (back : ℕ) : Type 0 where
   pub made : ℕ
@@ -47,10 +52,11 @@ pub record Gathering (bank : BankId) (v : View) (all rest : List CpuSeat) (kept 
   pub behind : List CpuSeat
   pub in_order : all ≡ rest ++ behind
   pub recalls : (tok : ℕ) → tok < length bank.plans → All (λ s. Recalls (at v.tokens tok) (entry s tok)) behind
+  pub chapters : All (IsChapter v) behind
 
 -- the words of a state of the rule in which a seat has this view
 abbrev pub Left : List Plan → ℕ → ℕ → View → List ℕ → Type 0
-Left plans cpus id v words = (s : Bench) × (Rule plans cpus s × ((get_elem? s.views id ≡ some v) × (s.words ≡ words)))
+Left plans cpus id v words = (s : Bench) × (Told plans cpus s × ((get_elem? s.views id ≡ some v) × (s.words ≡ words)))
 
 -- a token's row, generation and tallies as the words and what was kept say
 pub record IsRead (plan : Plan) (cpus : ℕ) (words : List ℕ) (kept : List Kept) (tok : ℕ) (row : List ℕ) (generation : ℕ) (tallies : List ℕ) : Type 0 where

@@ -1,4 +1,4 @@
-use Rattle.std.specs.Prelude.{◌≡◌, ◌≢◌, ℕ, ◌+◌, ◌<◌, ◌≤◌, List, [], ◌∷◌, length, All, Some, slice_get, slice_index, slice_index_or, sum}
+use Rattle.std.specs.Prelude.{◌≡◌, ◌≢◌, ℕ, ◌+◌, ◌<◌, ◌≤◌, List, [], ◌∷◌, length, map, All, Some, slice_get, slice_index, slice_index_or, sum}
 use Rattle.lwkt_core.specs.declared.seats.SeatKind.TheVariants.{Clerk}
 use Rattle.lwkt_bank.specs.declared.banks.Bank.{Bank}
 use Rattle.lwkt_bank.specs.declared.clerks.Desk.{Desk}
@@ -9,9 +9,15 @@ use Rattle.lwkt_core.specs.Seating.{total}
 use Rattle.lwkt_bank.specs.declared.views.Plan.{Plan}
 use Rattle.lwkt_bank.specs.declared.views.Entry.{Entry}
 use Rattle.lwkt_bank.specs.declared.closed.Closed.{Closed}
+use Rattle.lwkt_core.specs.declared.seats.Deed.{Deed}
+use Rattle.lwkt_core.specs.Tokens.{IsFree}
+use Rattle.lwkt_core.specs.Machine.{Machine}
+use Rattle.lwkt_core.specs.Trace.{Run, shown_tallies}
+use Rattle.lwkt_core.specs.History.{Passes, AreOthers, IsPastOf, events_in, events_by, steps_by}
 use Rattle.lwkt_bank.specs.Rule.{IsOpeningRow}
+use Rattle.lwkt_bank.specs.Told.{IsDone, first_machine}
 use Rattle.lwkt_bank.specs.Views.{blank, amount}
-use Rattle.lwkt_bank.specs.Seats.{BankId, id_of, bank_of, cpus_of, tokens_of, plan_of, entry, steps_of}
+use Rattle.lwkt_bank.specs.Seats.{BankId, id_of, bank_of, cpus_of, tokens_of, plan_of, entry, past_of, events_of, steps_of}
 use Rattle.lwkt_bank.specs.Opened.{plans_of}
 use Rattle.lwkt_base.specs.declared.openings.TokSpec.{TokSpec}
 
@@ -20,10 +26,10 @@ pub record HasMade (desk : Desk) (made : ℕ) : Type 0 where
   pub kind : desk.clerk.me.0.kind ≡ Clerk made 0
   pub plans : desk.clerk.me.0.plans ≡ desk.key.plans.items
 
--- a seat that knows nothing of any token and has made no step
+-- a seat that knows nothing of any token and has done nothing
 pub record IsNew (s : CpuSeat) : Type 0 where
   pub entries : (tok : ℕ) → entry s tok ≡ blank tok
-  pub steps : steps_of s ≡ []
+  pub past : past_of s ≡ []
 
 -- these seats are of the bank, each new, one for each processor in order
 pub record AreHandedOut (bank : BankId) (seats : List CpuSeat) : Type 0 where
@@ -62,9 +68,32 @@ pub record IsClosedToken (plan : Plan) (cpus : ℕ) (seats : List CpuSeat) (tok 
   pub unwritten : generation ≡ plan.generation → IsOpeningRow plan row
   pub all_added : plan.law ≡ Tally → row ≡ (plan.param + sum tallies) ∷ []
 
+-- a machine has these closing values, and nobody holds a token of it
+pub record Ends (m : Machine) (closed : Closed) : Type 0 where
+  pub free : All IsFree m.tokens
+  pub rows : closed.rows.items ≡ map (λ tok. tok.row) m.tokens
+  pub gens : closed.gens.items ≡ map (λ tok. tok.generation) m.tokens
+  pub tallies : closed.tallies.items ≡ map (λ tok. shown_tallies tok.law m.cpus tok.tallies) m.tokens
+  pub messages : m.messages ≡ []
+
+-- one history of all seats: its deeds are done one after another from the machine that was declared to one with the closing
+-- values, its events are a run of the model between the two, the events and steps of each seat are its processor's part, and no other
+-- processor has a deed
+pub record IsHistory (bank : BankId) (cpus : ℕ) (seats : List CpuSeat) (closed : Closed) (history : List Deed) : Type 0 where
+  pub last : Machine
+  pub passes : Passes IsDone (first_machine bank.plans cpus) history last
+  pub run : Run (first_machine bank.plans cpus) (events_in history) last
+  pub ends : Ends last closed
+  pub parts : All (λ s. IsPastOf history s.cpu.0 (past_of s)) seats
+  pub events : All (λ s. events_of s ≡ events_by s.cpu.0 history) seats
+  pub steps : All (λ s. steps_of s ≡ steps_by s.cpu.0 history) seats
+  pub others : (cpu : ℕ) → cpus ≤ cpu → AreOthers cpu history
+
 -- the closing values of a bank of so many processors that took back these seats
 pub record IsClosed (bank : BankId) (cpus : ℕ) (seats : List CpuSeat) (closed : Closed) : Type 0 where
   pub rows : length closed.rows.items ≡ tokens_of bank
   pub gens : length closed.gens.items ≡ tokens_of bank
   pub tallies : length closed.tallies.items ≡ tokens_of bank
   pub each : (tok : ℕ) → tok < tokens_of bank → IsClosedToken (plan_of bank tok) cpus seats tok (slice_index_or closed.rows.items tok []) (slice_index closed.gens.items tok) (slice_index_or closed.tallies.items tok [])
+  pub history : List Deed
+  pub is_history : IsHistory bank cpus seats closed history

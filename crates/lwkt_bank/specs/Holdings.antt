@@ -3,11 +3,12 @@ use Rattle.lwkt_base.specs.declared.names.Mode.{Mode}
 use Rattle.lwkt_base.specs.declared.names.Mode.TheVariants.{Shared}
 use Rattle.lwkt_base.specs.declared.holdings.Held.TheVariants.{Nothing}
 use Rattle.lwkt_base.specs.Holding.{Holding, holds_nothing, added, removed}
-use Rattle.lwkt_core.specs.declared.seats.WordStep.{WordStep}
+use Rattle.lwkt_core.specs.declared.seats.Deed.{Deed}
 use Rattle.lwkt_bank.specs.declared.views.Entry.{Entry}
 use Rattle.lwkt_bank.specs.declared.seats.CpuSeat.{CpuSeat}
 use Rattle.lwkt_bank.specs.declared.tries.Given.{Given}
-use Rattle.lwkt_bank.specs.Views.{more, add, count_from}
+use Rattle.lwkt_bank.specs.Views.{more, count_from}
+use Rattle.lwkt_bank.specs.Deeds.{adds_one}
 use Rattle.lwkt_bank.specs.Seats.{holding, entry, Changes, Took, Stepped, Gave}
 
 -- a try that took adds one reference in its mode
@@ -16,7 +17,7 @@ TakingAdds = (s s' : CpuSeat) (tok generation : ℕ) (mode : Mode) (alone : Bool
 
 -- a further reference is one more
 abbrev pub AgainAdds : Type 0
-AgainAdds = (s s' : CpuSeat) (tok : ℕ) → Stepped s s' tok (more (entry s tok)) (add tok 4) → holding s' ≡ added (holding s) tok Shared
+AgainAdds = (s s' : CpuSeat) (tok : ℕ) → Stepped s s' tok (more (entry s tok)) adds_one → holding s' ≡ added (holding s) tok Shared
 
 -- giving back is one less
 abbrev pub GivingRemoves : Type 0
@@ -24,7 +25,7 @@ GivingRemoves = (s s' : CpuSeat) (tok : ℕ) (given : Given) → Gave s s' tok g
 
 -- a call that keeps what is held of its token keeps what is held
 abbrev pub OthersKeep : Type 0
-OthersKeep = (s s' : CpuSeat) (tok : ℕ) (e : Entry) (made : List WordStep) → Changes s s' tok e made → e.held ≡ holding s tok → holding s' ≡ holding s
+OthersKeep = (s s' : CpuSeat) (tok : ℕ) (e : Entry) (deeds : List Deed) → Changes s s' tok e deeds → e.held ≡ holding s tok → holding s' ≡ holding s
 
 -- who holds nothing has no reference, and one reference more of a token that exists is one more
 abbrev pub NothingCounts : Type 0

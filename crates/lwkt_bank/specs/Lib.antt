@@ -1,5 +1,7 @@
 pub mod Views
 pub mod Rule
+pub mod Deeds
+pub mod Told
 pub mod Plays
 pub mod Notes
 pub mod Seats

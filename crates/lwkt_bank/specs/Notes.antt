@@ -14,7 +14,7 @@ use Rattle.lwkt_bank.specs.declared.notes.Change.{Change}
 use Rattle.lwkt_bank.specs.declared.notes.Touch.{Touch}
 use Rattle.lwkt_bank.specs.declared.notes.Touch.TheVariants.{Untouched, Same, Other}
 use Rattle.lwkt_bank.specs.declared.notes.Note.{Note}
-use Rattle.lwkt_bank.specs.Views.{at, amount}
+use Rattle.lwkt_bank.specs.Views.{at, amount, is_touched}
 use Rattle.lwkt_bank.specs.Rule.{plan_at}
 
 -- whose seat a view is, by number: no two have the same
@@ -81,6 +81,7 @@ pub record IsNoted (plan : Plan) (cpu : ℕ) (e : Entry) (note : Note) : Type 0 
   pub references : note.references ≡ references_in e.held
   pub mode : is_held e.held ≡ true → is_exclusive e.held ≡ is_exclusive (Holds note.mode 0)
   pub touched : (cell : ℕ) → is_exclusive e.held ≡ true → IsTouched (touch_at note cell) (slice_index note.first cell) (slice_index e.first cell) (slice_index e.row cell)
+  pub stored_to : (cell : ℕ) → cell < plan.cells → is_exclusive e.held ≡ true → is_stored (touch_at note cell) ≡ is_touched e cell
 
 -- what a seat keeps at run time is what its view says, the view is that of its processor, and it holds no token that isn't there
 pub record Keeps (notes : List Note) (cpu : CpuId) (v : View) : Type 0 where

@@ -1,9 +1,11 @@
-use Rattle.std.specs.Prelude.{◌≡◌, ◌≢◌, ◌⊎◌, ℕ, ◌+◌, ◌<◌, ◌≤◌, suc, Bool, List, [], ◌∷◌, ◌++◌, length, Option, Some, None, slice_get, slice_set}
+use Rattle.std.specs.Prelude.{◌≡◌, ◌≢◌, ◌⊎◌, ℕ, ◌+◌, ◌<◌, ◌≤◌, suc, if◌then◌else◌, Bool, true, List, [], ◌∷◌, ◌++◌, length, Option, Some, None, slice_get, slice_index, slice_set}
 use Rattle.atomic_table.specs.Seated.{TableId}
 use Rattle.atomic_table.specs.declared.shared.Seat.{Seat}
 use Rattle.lwkt_base.specs.declared.names.CpuId.{CpuId}
 use Rattle.lwkt_base.specs.declared.names.Mode.{Mode}
 use Rattle.lwkt_base.specs.declared.names.Mode.TheVariants.{Exclusive}
+use Rattle.lwkt_base.specs.declared.laws.Law.{Law}
+use Rattle.lwkt_base.specs.declared.laws.Law.TheVariants.{Any, Sum, Order, Cap, Tally}
 use Rattle.lwkt_base.specs.declared.holdings.Held.TheVariants.{Holds}
 use Rattle.lwkt_core.specs.Tokens.{IsNotLastExclusive}
 use Rattle.lwkt_base.specs.declared.words.TokWord.{TokWord}
@@ -24,7 +26,11 @@ use Rattle.lwkt_bank.specs.declared.tries.Try.{Try}
 use Rattle.lwkt_bank.specs.declared.tries.Try.TheVariants.{Got, Busy, Again, Worn}
 use Rattle.lwkt_bank.specs.declared.tries.Given.{Given}
 use Rattle.lwkt_bank.specs.declared.tries.Given.TheVariants.{One, Clean, Written}
-use Rattle.lwkt_bank.specs.Views.{at, count_from, held_of, generation_in, looked, taken, less, ended, load, exchange, add, sub}
+use Rattle.lwkt_core.specs.declared.seats.Deed.{Deed}
+use Rattle.lwkt_core.specs.declared.events.Event.{Event}
+use Rattle.lwkt_core.specs.History.{steps_by, events_by, AreOwn, Grows}
+use Rattle.lwkt_bank.specs.Views.{at, count_from, held_of, generation_in, is_touched, looked, taken, less, ended, who}
+use Rattle.lwkt_bank.specs.Deeds.{loads, takes, loses, gives_one, gives_clean, gives_written, reads, writes_all}
 use Rattle.lwkt_bank.specs.Plays.{IsTakenRow}
 use Rattle.lwkt_bank.specs.Rule.{plan_at}
 
@@ -53,7 +59,7 @@ tokens_of bank = length bank.plans
 abbrev pub plan_of : BankId → ℕ → Plan
 plan_of bank tok = plan_at bank.plans tok
 
--- what a seat knows of a token, what it holds, how many references it has, and its steps on token words
+-- what a seat knows of a token, what it holds, and how many references it has
 abbrev pub entry : CpuSeat → ℕ → Entry
 entry s tok = at s.seat.me.0.tokens tok
 
@@ -63,14 +69,22 @@ holding s = held_of s.seat.me.0.tokens
 abbrev pub references : CpuSeat → ℕ
 references s = count_from 0 (tokens_of (bank_of s)) (holding s)
 
+-- what a seat has seen of the bank's history, the front of it up to the seat's own last deed; and of that the seat's steps on
+-- token words and its events, in order
+abbrev pub past_of : CpuSeat → List Deed
+past_of s = s.seat.me.0.past
+
 abbrev pub steps_of : CpuSeat → List WordStep
-steps_of s = s.seat.me.0.steps
+steps_of s = steps_by s.cpu.0 (past_of s)
+
+abbrev pub events_of : CpuSeat → List Event
+events_of s = events_by s.cpu.0 (past_of s)
 
 -- a seat of the table, by its view and its table alone
 pub record IsOf (bank : Bank) (seat : Seat (Unit {0}) View) : Type 0 where
   pub table : seat.table_id ≡ bank.table.shared.table_id
   pub plans : seat.me.0.plans ≡ bank.key.plans.items
-  pub named : (cpu : CpuId) × (seat.me.0.kind ≡ Of cpu)
+  pub named : seat.me.0.kind ≡ Of (who seat.me.0)
 
 pub record IsSame (old new : Seat (Unit {0}) View) : Type 0 where
   pub table : new.table_id ≡ old.table_id
@@ -80,20 +94,21 @@ pub record IsSame (old new : Seat (Unit {0}) View) : Type 0 where
 abbrev pub Decides : ℕ → Mode → Bool → Decision → Type 0
 Decides word mode alone answer = (w : TokWord) → Fits w → word_of w ≡ word → decision w mode alone ≡ answer
 
--- after a call on a token the seat knows this of it, and as before of every other; it is the same seat of the same bank; and
--- its step list has these steps more
-pub record Changes (s s' : CpuSeat) (tok : ℕ) (e : Entry) (made : List WordStep) : Type 0 where
+-- after a call on a token the seat knows this of it, and as before of every other; it is the same seat of the same bank; and it
+-- has done these deeds, between which others may have acted
+pub record Changes (s s' : CpuSeat) (tok : ℕ) (e : Entry) (deeds : List Deed) : Type 0 where
   pub bank : bank_of s' ≡ bank_of s
   pub cpu : s'.cpu ≡ s.cpu
   pub here : entry s' tok ≡ e
   pub else_ : (other : ℕ) → other ≢ tok → entry s' other ≡ entry s other
-  pub steps : steps_of s' ≡ steps_of s ++ made
+  pub grows : Grows s.cpu.0 (past_of s) deeds (past_of s')
+  pub own : AreOwn s.cpu.0 deeds
 
 -- a look at a token word that found this: the generation doesn't fall, and there is room for a reference more
 pub record Looked (s s' : CpuSeat) (tok found : ℕ) : Type 0 where
   pub room : found + 4 < 18446744073709551616
   pub rises : (entry s tok).generation ≤ generation_in found
-  pub changes : Changes s s' tok (looked (entry s tok) found) (load tok found ∷ [])
+  pub changes : Changes s s' tok (looked (entry s tok) found) (loads s.cpu tok found ∷ [])
 
 -- a try that took the token at this generation: the word that `decide` takes was found twice; the row obeys the law, the
 -- generation doesn't fall, and at an equal one the row is the one that the seat knew
@@ -104,7 +119,7 @@ pub record Took (s s' : CpuSeat) (tok : ℕ) (mode : Mode) (alone : Bool) (gener
   pub decided : Decides word mode alone (Take next)
   pub generation_is : generation ≡ generation_in word
   pub found : IsTakenRow (plan_of (bank_of s) tok) (entry s tok) word row
-  pub changes : Changes s s' tok (taken (entry s tok) word mode row) (load tok word ∷ exchange tok word next word ∷ [])
+  pub changes : Changes s s' tok (taken (entry s tok) word mode row) (loads s.cpu tok word ∷ takes s.cpu tok mode word next word ∷ [])
 
 -- a try that lost: `decide` takes the word that the load found, and the exchange found another
 pub record Lost (s s' : CpuSeat) (tok : ℕ) (mode : Mode) (alone : Bool) : Type 0 where
@@ -114,7 +129,7 @@ pub record Lost (s s' : CpuSeat) (tok : ℕ) (mode : Mode) (alone : Bool) : Type
   pub decided : Decides word mode alone (Take next)
   pub other : found ≢ word
   pub rises : ((entry s tok).generation ≤ generation_in word) × (generation_in word ≤ generation_in found)
-  pub changes : Changes s s' tok (looked (looked (entry s tok) word) found) (load tok word ∷ exchange tok word next found ∷ [])
+  pub changes : Changes s s' tok (looked (looked (entry s tok) word) found) (loads s.cpu tok word ∷ loses s.cpu tok word next found ∷ [])
 
 -- what a try tells, by its answer
 abbrev pub Tried : CpuSeat → CpuSeat → ℕ → Mode → Bool → Try → Type 0
@@ -127,37 +142,51 @@ Tried s s' tok mode alone Worn = (word : ℕ) × (Decides word mode alone IsWorn
 pub record Hit (s s' : CpuSeat) (tok : ℕ) (mode : Mode) (word next : ℕ) : Type 0 where
   pub row : List ℕ
   pub found : IsTakenRow (plan_of (bank_of s) tok) (entry s tok) word row
-  pub changes : Changes s s' tok (taken (entry s tok) word mode row) (exchange tok word next word ∷ [])
+  pub changes : Changes s s' tok (taken (entry s tok) word mode row) (takes s.cpu tok mode word next word ∷ [])
 
 -- an exchange that found another word
 pub record Miss (s s' : CpuSeat) (tok word next : ℕ) : Type 0 where
   pub found : ℕ
   pub other : found ≢ word
   pub rises : (entry s tok).generation ≤ generation_in found
-  pub changes : Changes s s' tok (looked (entry s tok) found) (exchange tok word next found ∷ [])
+  pub changes : Changes s s' tok (looked (entry s tok) found) (loses s.cpu tok word next found ∷ [])
 
--- a step that is an operation with a number on the word of the token, and found some word
-pub record Stepped (s s' : CpuSeat) (tok : ℕ) (e : Entry) (made : ℕ → WordStep) : Type 0 where
+-- a deed that is a step on the word of the token, which found some word
+pub record Stepped (s s' : CpuSeat) (tok : ℕ) (e : Entry) (deed : CpuId → ℕ → ℕ → Deed) : Type 0 where
   pub found : ℕ
-  pub changes : Changes s s' tok e (made found ∷ [])
+  pub changes : Changes s s' tok e (deed s.cpu tok found ∷ [])
 
 -- what giving a reference back tells, by its answer: Written exactly if row and first row differ
 abbrev pub Gave : CpuSeat → CpuSeat → ℕ → Given → Type 0
-Gave s s' tok One = IsNotLastExclusive (holding s tok) × Stepped s s' tok (less (entry s tok)) (sub tok 4)
-Gave s s' tok Clean = (holding s tok ≡ Holds Exclusive 0) × ((entry s tok).row ≡ (entry s tok).first) × Stepped s s' tok (less (entry s tok)) (sub tok 1)
-Gave s s' tok Written = (holding s tok ≡ Holds Exclusive 0) × ((entry s tok).row ≢ (entry s tok).first) × Stepped s s' tok (ended (entry s tok)) (add tok 262143)
+Gave s s' tok One = IsNotLastExclusive (holding s tok) × Stepped s s' tok (less (entry s tok)) gives_one
+Gave s s' tok Clean = (holding s tok ≡ Holds Exclusive 0) × ((entry s tok).row ≡ (entry s tok).first) × Stepped s s' tok (less (entry s tok)) gives_clean
+Gave s s' tok Written = (holding s tok ≡ Holds Exclusive 0) × ((entry s tok).row ≢ (entry s tok).first) × Stepped s s' tok (ended (entry s tok)) gives_written
 
--- a call that leaves this entry, apart from the known cells, of which there may be more; no step on a token word
-pub record Knowing (s s' : CpuSeat) (tok : ℕ) (e : Entry) : Type 0 where
+-- a call that leaves this entry, apart from the known cells, of which there may be more; it has done these deeds
+pub record Knowing (s s' : CpuSeat) (tok : ℕ) (e : Entry) (deeds : List Deed) : Type 0 where
   pub known : List KnownCell
-  pub changes : Changes s s' tok (record e { known = known }) []
+  pub new : List KnownCell
+  pub grown : known ≡ new ++ e.known
+  pub changes : Changes s s' tok (record e { known = known }) deeds
 
 -- a call that leaves the seat as it was
 pub record IsUnchanged (s s' : CpuSeat) : Type 0 where
   pub bank : bank_of s' ≡ bank_of s
   pub cpu : s'.cpu ≡ s.cpu
   pub entries : (tok : ℕ) → entry s' tok ≡ entry s tok
-  pub steps : steps_of s' ≡ steps_of s
+  pub past : past_of s' ≡ past_of s
+
+-- the load of a cell of a token before the first store to it in a section
+abbrev pub first_load : CpuId → ℕ → Entry → ℕ → List Deed
+first_load cpu tok e cell = if is_touched e cell then [] else (reads cpu tok cell (slice_index e.first cell) ∷ [])
+
+-- the loads of a token's row in a question for its law: none where the law asks nothing of a row
+abbrev pub lawful_loads : Law → List Deed → List Deed
+lawful_loads Any deeds = []
+lawful_loads Sum deeds = deeds
+lawful_loads Order deeds = deeds
+lawful_loads Cap deeds = deeds
+lawful_loads Tally deeds = []
 
 -- a row after these values were stored in its cells, from a cell on
 abbrev pub written_over : ℕ → List (Option ℕ) → List ℕ → List ℕ
@@ -165,8 +194,11 @@ written_over cell [] row = row
 written_over cell (None ∷ made) row = written_over (suc cell) made row
 written_over cell (Some value ∷ made) row = written_over (suc cell) made (slice_set row cell value)
 
--- a restore: it stored these values, each in a cell that exists, and the row is the section's first row
+-- a restore: it stored these values, which are the first values of the cells that were stored to since the section began, each
+-- in its cell, rising; and the row is the section's first row
 pub record Restored (s s' : CpuSeat) (tok : ℕ) (made : List (Option ℕ)) : Type 0 where
-  pub changes : Changes s s' tok (record (entry s tok) { row = (entry s tok).first }) []
+  pub changes : Changes s s' tok (record (entry s tok) { row = (entry s tok).first }) (writes_all s.cpu tok 0 made)
   pub writes : written_over 0 made (entry s tok).row ≡ (entry s tok).first
   pub inside : (cell value : ℕ) → slice_get made cell ≡ Some (Some value) → cell < (plan_of (bank_of s) tok).cells
+  pub touched : (cell value : ℕ) → slice_get made cell ≡ Some (Some value) → (is_touched (entry s tok) cell ≡ true) × (value ≡ slice_index (entry s tok).first cell)
+  pub each : (cell : ℕ) → cell < (plan_of (bank_of s) tok).cells → is_touched (entry s tok) cell ≡ true → slice_get made cell ≡ Some (Some (slice_index (entry s tok).first cell))

@@ -1,5 +1,7 @@
-use Rattle.std.specs.Prelude.{ℕ, max, ◌+◌, ◌/◌, ◌==◌, zero, suc, if◌then◌else◌, List, [], ◌∷◌, ◌++◌, length, slice_set, slice_index, sum_by}
+use Rattle.std.specs.Prelude.{ℕ, Bool, max, ◌+◌, ◌/◌, ◌==◌, zero, suc, if◌then◌else◌, List, [], ◌∷◌, ◌++◌, length, slice_set, slice_index, sum_by}
 use Rattle.lwkt_base.specs.declared.names.CpuId.{CpuId}
+use Rattle.std.specs.List.{list_any}
+use Rattle.lwkt_base.specs.declared.names.TokId.{TokId}
 use Rattle.lwkt_base.specs.declared.names.Mode.{Mode}
 use Rattle.lwkt_base.specs.declared.names.Mode.TheVariants.{Shared}
 use Rattle.lwkt_base.specs.declared.holdings.Held.TheVariants.{Nothing, Holds}
@@ -8,6 +10,10 @@ use Rattle.lwkt_core.specs.declared.seats.SeatKind.{SeatKind}
 use Rattle.lwkt_core.specs.declared.seats.SeatKind.TheVariants.{Clerk, Of, Spent}
 use Rattle.lwkt_core.specs.declared.seats.WordStep.{WordStep}
 use Rattle.lwkt_core.specs.declared.seats.Operation.TheVariants.{Load, Exchange, Add, Sub, Or}
+use Rattle.lwkt_core.specs.declared.seats.Deed.{Deed}
+use Rattle.lwkt_core.specs.declared.seats.Chapter.{Chapter}
+use Rattle.lwkt_core.specs.History.{Page}
+use Rattle.lwkt_core.specs.Seating.{after_made, after_back, next_seat}
 use Rattle.lwkt_bank.specs.declared.views.Plan.{Plan}
 use Rattle.lwkt_bank.specs.declared.views.KnownCell.{KnownCell}
 use Rattle.lwkt_bank.specs.declared.views.Added.{Added}
@@ -16,7 +22,7 @@ use Rattle.lwkt_bank.specs.declared.views.View.{View}
 
 -- what a seat knows of a token that it never looked at
 abbrev pub blank : ℕ → Entry
-blank tok = record { tok = tok; held = Nothing; generation = 0; known = []; first = []; row = []; written = 0; added = [] }
+blank tok = record { tok = tok; held = Nothing; generation = 0; known = []; first = []; row = []; touched = []; written = 0; added = [] }
 
 -- what a list of entries says of a token: its first entry counts
 abbrev pub at : List Entry → ℕ → Entry
@@ -50,7 +56,7 @@ looked e word = seen e (generation_in word)
 
 -- the entry of a token that was taken at this word, with this row
 abbrev pub taken : Entry → ℕ → Mode → List ℕ → Entry
-taken e word mode row = record (looked e word) { held = Holds mode 0; first = row; row = row }
+taken e word mode row = record (looked e word) { held = Holds mode 0; first = row; row = row; touched = [] }
 
 -- the entry with one reference more, and with one less
 abbrev pub more : Entry → Entry
@@ -72,45 +78,52 @@ ended e = record e { held = Nothing; generation = e.generation + 1; known = numb
 abbrev pub read : Entry → ℕ → Entry
 read e cell = record e { known = record { at = cell; value = slice_index e.first cell } ∷ e.known }
 
+-- whether the cell was stored to since the section began, and the cells that were after one more store
+abbrev pub is_touched : Entry → ℕ → Bool
+is_touched e cell = list_any (λ c. c == cell) e.touched
+
+abbrev pub touching : Entry → ℕ → List ℕ
+touching e cell = if is_touched e cell then e.touched else (cell ∷ e.touched)
+
 -- the entry after a value was stored in a cell
 abbrev pub stored : Entry → ℕ → ℕ → Entry
-stored e cell value = record e { row = slice_set e.row cell value }
+stored e cell value = record e { row = slice_set e.row cell value; touched = touching e cell }
 
 -- the entry after a processor has added to the cell of a Tally token
 abbrev pub raised : Entry → CpuId → ℕ → Entry
-raised e cpu k = record e { row = slice_set e.row 0 (slice_index e.row 0 + k); added = record { cpu = cpu; amount = k } ∷ e.added }
+raised e cpu k = record e { row = slice_set e.row 0 (slice_index e.row 0 + k); touched = touching e 0; added = record { cpu = cpu; amount = k } ∷ e.added }
 
--- the view with another entry for a token, and steps more
-abbrev pub noted : View → Entry → List WordStep → View
-noted v e steps = record v { tokens = e ∷ v.tokens; steps = v.steps ++ steps }
+-- the processor of a seat: the clerk and a seat that was taken back have none
+abbrev pub seat_cpu : SeatKind → CpuId
+seat_cpu (Of cpu) = cpu
+seat_cpu (Clerk made back) = record { 0 = 0 }
+seat_cpu Spent = record { 0 = 0 }
+
+abbrev pub who : View → CpuId
+who v = seat_cpu v.kind
+
+-- the view with another entry for a token after a deed: since the seat's last deed others have acted
+abbrev pub noted : List Deed → View → Entry → Deed → View
+noted between v e d = record v { tokens = e ∷ v.tokens; past = v.past ++ (between ++ d ∷ []) }
+
+-- a view as the history sees it
+abbrev pub page_of : View → Page
+page_of v = record { kind = v.kind; past = v.past; chapters = v.chapters }
+
+-- a token by its number
+abbrev pub named : ℕ → TokId
+named tok = record { 0 = tok }
 
 -- the view of the clerk at the opening
 abbrev pub first_view : List Plan → View
-first_view plans = record { kind = Clerk 0 0; plans = plans; tokens = []; steps = [] }
-
--- the clerk has made one seat more, or taken one more back
-abbrev pub after_made : SeatKind → SeatKind
-after_made (Clerk made back) = Clerk (made + 1) back
-after_made (Of cpu) = Of cpu
-after_made Spent = Spent
-
-abbrev pub after_back : SeatKind → SeatKind
-after_back (Clerk made back) = Clerk made (back + 1)
-after_back (Of cpu) = Of cpu
-after_back Spent = Spent
-
--- the next seat that the clerk makes
-abbrev pub next_seat : SeatKind → SeatKind
-next_seat (Clerk made back) = Of (record { 0 = made })
-next_seat (Of cpu) = Spent
-next_seat Spent = Spent
+first_view plans = record { kind = Clerk 0 0; plans = plans; tokens = []; past = []; chapters = [] }
 
 -- the clerk's view after a seat was split off, and the view of that seat
 abbrev pub clerk_after : View → View
 clerk_after v = record v { kind = after_made v.kind }
 
 abbrev pub new_seat : View → View
-new_seat v = record { kind = next_seat v.kind; plans = v.plans; tokens = []; steps = [] }
+new_seat v = record { kind = next_seat v.kind; plans = v.plans; tokens = []; past = []; chapters = [] }
 
 -- the cells that an entry knows of this generation's first row
 abbrev pub known_of : Entry → ℕ → List KnownCell
@@ -125,12 +138,15 @@ abbrev pub merged : ℕ → List Entry → List Entry → List Entry
 merged zero ds es = []
 merged (suc n) ds es = both_of n (at ds n) (at es n) ∷ merged n ds es
 
--- the clerk's view after a seat was taken back, and what stays of that seat's view
+-- the clerk's view after a seat was taken back, whose past it keeps, and what stays of that seat's view
+abbrev pub chapter_of : View → Chapter
+chapter_of w = record { cpu = who w; past = w.past }
+
 abbrev pub joined : View → View → View
-joined v w = record v { kind = after_back v.kind; tokens = merged (length v.plans) v.tokens w.tokens }
+joined v w = record v { kind = after_back v.kind; tokens = merged (length v.plans) v.tokens w.tokens; chapters = chapter_of w ∷ v.chapters }
 
 abbrev pub spent : View
-spent = record { kind = Spent; plans = []; tokens = []; steps = [] }
+spent = record { kind = Spent; plans = []; tokens = []; past = []; chapters = [] }
 
 -- a load of the word of a token, and an exchange of it, that found this word
 abbrev pub load : ℕ → ℕ → WordStep

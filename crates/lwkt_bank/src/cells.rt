@@ -1,9 +1,10 @@
 //! The cells of a token that is held.
-ghost use Rattle.std.specs.Prelude.{◌≡◌, ◌≢◌, ◌↔◌, ◌⊎◌, ◌+◌, ◌^◌, ◌<◌, ◌≤◌, ℕ, List, [], ◌∷◌, length, true, false, None, Some, Ok, Err, OnOk, OnErr, IfOk, MatchOption, slice_index, slice_set};
+ghost use Rattle.std.specs.Prelude.{◌≡◌, ◌≢◌, ◌↔◌, ◌⊎◌, ◌+◌, ◌^◌, ◌<◌, ◌≤◌, ℕ, List, [], ◌∷◌, ◌++◌, length, true, false, None, Some, Ok, Err, OnOk, OnErr, IfOk, MatchOption, slice_index, slice_set};
 ghost use Rattle.lwkt_base.specs.Holding.{is_held, is_exclusive};
 ghost use Rattle.lwkt_base.specs.Law.{MeetsLaw};
-ghost use Rattle.lwkt_bank.specs.Views.{amount, read, stored, raised};
-ghost use Rattle.lwkt_bank.specs.Seats.{id_of, bank_of, tokens_of, plan_of, entry, holding, Changes, Knowing, IsUnchanged};
+ghost use Rattle.lwkt_bank.specs.Views.{amount, is_touched, read, stored, raised};
+ghost use Rattle.lwkt_bank.specs.Deeds.{reads, writes};
+ghost use Rattle.lwkt_bank.specs.Seats.{id_of, bank_of, tokens_of, plan_of, entry, holding, Changes, Knowing, IsUnchanged, first_load};
 
 use crate::banks::Bank;
 use crate::notes::{Change, Touch};
@@ -20,7 +21,7 @@ impl CpuSeat {
         requires held { is_held (holding self.old tok.0) ≡ true }
         requires inside { cell < (plan_of (bank_of self.old) tok.0).cells }
         ensures value { result ≡ slice_index (entry self.old tok.0).row cell }
-        ensures changes { Changes self.old self.new tok.0 (read (entry self.old tok.0) cell) [] }
+        ensures changes { Changes self.old self.new tok.0 (read (entry self.old tok.0) cell) (reads self.old.cpu tok.0 cell result ∷ []) }
     {
         steps::read_cell(bank, &mut self.seat, tok, cell)
     }
@@ -34,7 +35,7 @@ impl CpuSeat {
         requires untallied { (plan_of (bank_of self.old) tok.0).law ≢ Law.Tally }
         requires inside { cell < (plan_of (bank_of self.old) tok.0).cells }
         requires first { change.first ≡ slice_index (entry self.old tok.0).first cell }
-        ensures { Changes self.old self.new tok.0 (stored (entry self.old tok.0) cell change.last) [] }
+        ensures { Changes self.old self.new tok.0 (stored (entry self.old tok.0) cell change.last) (writes self.old.cpu tok.0 cell change.last ∷ []) }
     {
         self.notes[tok.0 as usize].change(cell as usize, change);
         steps::store_cell(bank, &mut self.seat, tok, cell, change.last);
@@ -48,7 +49,7 @@ impl CpuSeat {
         requires held { is_exclusive (holding self.old tok.0) ≡ true }
         requires untallied { (plan_of (bank_of self.old) tok.0).law ≢ Law.Tally }
         requires inside { cell < (plan_of (bank_of self.old) tok.0).cells }
-        ensures { Knowing self.old self.new tok.0 (stored (entry self.old tok.0) cell value) }
+        ensures { Knowing self.old self.new tok.0 (stored (entry self.old tok.0) cell value) (first_load self.old.cpu tok.0 (entry self.old tok.0) cell ++ writes self.old.cpu tok.0 cell value ∷ []) }
     {
         let first = self.first_value(bank, tok, cell);
         self.store_over(bank, tok, cell, Change { first, last: value });
@@ -61,7 +62,7 @@ impl CpuSeat {
         requires there { tok.0 < tokens_of (bank_of self.now) }
         requires held { is_exclusive (holding self.now tok.0) ≡ true }
         requires inside { cell < (plan_of (bank_of self.now) tok.0).cells }
-        ensures { MatchOption result (slice_index (entry self.now tok.0).row cell ≡ slice_index (entry self.now tok.0).first cell) (λ value. value ≡ slice_index (entry self.now tok.0).first cell) }
+        ensures { MatchOption result ((is_touched (entry self.now tok.0) cell ≡ false) × (slice_index (entry self.now tok.0).row cell ≡ slice_index (entry self.now tok.0).first cell)) (λ value. (is_touched (entry self.now tok.0) cell ≡ true) × (value ≡ slice_index (entry self.now tok.0).first cell)) }
     {
         let at = tok.0 as usize;
         match self.notes[at].cells[cell as usize] {
@@ -78,7 +79,7 @@ impl CpuSeat {
         requires held { is_exclusive (holding self.old tok.0) ≡ true }
         requires inside { cell < (plan_of (bank_of self.old) tok.0).cells }
         ensures value { result ≡ slice_index (entry self.old tok.0).first cell }
-        ensures knowing { Knowing self.old self.new tok.0 (entry self.old tok.0) }
+        ensures knowing { Knowing self.old self.new tok.0 (entry self.old tok.0) (first_load self.old.cpu tok.0 (entry self.old tok.0) cell) }
     {
         match self.kept_first(bank, tok, cell) {
             Some(value) => value,
@@ -94,7 +95,7 @@ impl CpuSeat {
         requires there { tok.0 < tokens_of (bank_of self.old) }
         requires held { is_exclusive (holding self.old tok.0) ≡ true }
         requires inside { cell < (plan_of (bank_of self.old) tok.0).cells }
-        ensures ok { OnOk result (Knowing self.old self.new tok.0 (stored (entry self.old tok.0) cell value)) }
+        ensures ok { OnOk result (Knowing self.old self.new tok.0 (stored (entry self.old tok.0) cell value) (first_load self.old.cpu tok.0 (entry self.old tok.0) cell ++ writes self.old.cpu tok.0 cell value ∷ [])) }
         ensures tally { (result ≡ Err Fault.TallyOnly) ↔ ((plan_of (bank_of self.old) tok.0).law ≡ Law.Tally) }
         ensures only { OnErr result ((result ≡ Err Fault.TallyOnly) × IsUnchanged self.old self.new) }
     {
@@ -114,7 +115,7 @@ impl CpuSeat {
         requires first { change.first ≡ slice_index (entry self.old tok.0).first 0 }
         requires last { change.last ≡ slice_index (entry self.old tok.0).row 0 + k }
         requires covered { amount self.old.cpu.0 (entry self.old tok.0).added + k < 2 ^ 64 }
-        ensures { Changes self.old self.new tok.0 (raised (entry self.old tok.0) self.old.cpu k) [] }
+        ensures { Changes self.old self.new tok.0 (raised (entry self.old tok.0) self.old.cpu k) (writes self.old.cpu tok.0 0 change.last ∷ []) }
     {
         self.notes[tok.0 as usize].raise(change, k);
         steps::raise_cell(bank, &mut self.seat, tok, change.last);
@@ -127,23 +128,23 @@ impl CpuSeat {
         requires held { is_exclusive (holding self.old tok.0) ≡ true }
         requires tally { (plan_of (bank_of self.old) tok.0).law ≡ Law.Tally }
         ensures value { result ≡ slice_index (entry self.old tok.0).row 0 }
-        ensures changes { Changes self.old self.new tok.0 (read (entry self.old tok.0) 0) [] }
+        ensures changes { Changes self.old self.new tok.0 (read (entry self.old tok.0) 0) (reads self.old.cpu tok.0 0 result ∷ []) }
         ensures covers { amount self.old.cpu.0 (entry self.old tok.0).added ≤ result }
     {
         steps::read_cell(bank, &mut self.seat, tok, 0)
     }
 
-    /// Adds to the cell of a Tally token, and answers its new value. That the seat holds the token exclusively is the
+    /// Adds to the cell of a Tally token, which is loaded once, and answers its new value. That the seat holds the token exclusively is the
     /// caller's condition. 22 for any other token, 21 exactly if the sum passes 18446744073709551615.
     pub fn add(&mut self, bank: &Bank, tok: TokId, k: u64) -> Result<u64, Fault>
         requires of { bank_of self.old ≡ id_of bank.now }
         requires there { tok.0 < tokens_of (bank_of self.old) }
         requires held { is_exclusive (holding self.old tok.0) ≡ true }
-        ensures ok { OnOk result (Knowing self.old self.new tok.0 (raised (entry self.old tok.0) self.old.cpu k)) }
+        ensures ok { OnOk result (Knowing self.old self.new tok.0 (raised (entry self.old tok.0) self.old.cpu k) (reads self.old.cpu tok.0 0 (slice_index (entry self.old tok.0).row 0) ∷ writes self.old.cpu tok.0 0 (slice_index (entry self.old tok.0).row 0 + k) ∷ [])) }
         ensures value { IfOk result (λ value. value ≡ slice_index (entry self.old tok.0).row 0 + k) }
         ensures tally { (result ≡ Err Fault.TallyOnly) ↔ ((plan_of (bank_of self.old) tok.0).law ≢ Law.Tally) }
         ensures overflow { (result ≡ Err Fault.Overflow) ↔ (((plan_of (bank_of self.old) tok.0).law ≡ Law.Tally) × (2 ^ 64 ≤ slice_index (entry self.old tok.0).row 0 + k)) }
-        ensures only { OnErr result (((result ≡ Err Fault.TallyOnly) ⊎ (result ≡ Err Fault.Overflow)) × Knowing self.old self.new tok.0 (entry self.old tok.0)) }
+        ensures only { OnErr result (((result ≡ Err Fault.TallyOnly) × IsUnchanged self.old self.new) ⊎ ((result ≡ Err Fault.Overflow) × Knowing self.old self.new tok.0 (entry self.old tok.0) (reads self.old.cpu tok.0 0 (slice_index (entry self.old tok.0).row 0) ∷ []))) }
     {
         if bank.plan(tok).law != Law::Tally {
             return Err(Fault::TallyOnly);
@@ -152,7 +153,7 @@ impl CpuSeat {
         let Some(sum) = old.checked_add(k) else {
             return Err(Fault::Overflow);
         };
-        let first = self.first_value(bank, tok, 0);
+        let first = self.kept_first(bank, tok, 0).unwrap_or(old);
         self.raise(bank, tok, k, Change { first, last: sum });
         Ok(sum)
     }

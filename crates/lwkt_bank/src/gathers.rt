@@ -2,7 +2,7 @@
 ghost use Rattle.std.specs.Prelude.{◌≡◌, ℕ, ◌+◌, ◌<◌, ◌≤◌, [], ◌∷◌, length, All, vec_len, IfOk, OnOk};
 ghost use Rattle.lwkt_base.specs.declared.holdings.Held.TheVariants.{Nothing};
 ghost use Rattle.lwkt_core.specs.Seating.{total};
-ghost use Rattle.lwkt_bank.specs.Views.{at, amount, joined, after_back};
+ghost use Rattle.lwkt_bank.specs.Views.{at, amount, joined};
 ghost use Rattle.lwkt_bank.specs.Notes.{clerk_number, note_at};
 ghost use Rattle.lwkt_bank.specs.Closing.{IsReady, Gathering};
 

@@ -3,7 +3,8 @@ ghost use Rattle.std.specs.Prelude.{◌≡◌, ◌≢◌, ◌⊎◌, ◌+◌, �
 ghost use Rattle.std.specs.List.{list_any};
 ghost use Rattle.lwkt_base.specs.Holding.{is_held, is_exclusive};
 ghost use Rattle.lwkt_base.specs.Law.{MeetsLaw};
-ghost use Rattle.lwkt_bank.specs.Views.{less, ended, add, sub};
+ghost use Rattle.lwkt_bank.specs.Views.{less, ended};
+ghost use Rattle.lwkt_bank.specs.Deeds.{gives_one, gives_clean, gives_written};
 ghost use Rattle.lwkt_core.specs.Tokens.{IsNotLastExclusive};
 ghost use Rattle.lwkt_bank.specs.Notes.{is_other};
 ghost use Rattle.lwkt_bank.specs.Seats.{id_of, bank_of, tokens_of, plan_of, entry, holding, Stepped, Gave};
@@ -57,7 +58,7 @@ impl CpuSeat {
         requires there { tok.0 < tokens_of (bank_of self.old) }
         requires held { is_held (holding self.old tok.0) ≡ true }
         requires not_last { IsNotLastExclusive (holding self.old tok.0) }
-        ensures { Stepped self.old self.new tok.0 (less (entry self.old tok.0)) (sub tok.0 4) }
+        ensures { Stepped self.old self.new tok.0 (less (entry self.old tok.0)) gives_one }
     {
         steps::give_one(bank, &mut self.seat, tok);
         self.notes[tok.0 as usize].references -= 1;
@@ -69,7 +70,7 @@ impl CpuSeat {
         requires there { tok.0 < tokens_of (bank_of self.old) }
         requires last { holding self.old tok.0 ≡ Held.Holds Mode.Exclusive 0 }
         requires clean { (entry self.old tok.0).row ≡ (entry self.old tok.0).first }
-        ensures { Stepped self.old self.new tok.0 (less (entry self.old tok.0)) (sub tok.0 1) }
+        ensures { Stepped self.old self.new tok.0 (less (entry self.old tok.0)) gives_clean }
     {
         steps::give_clean(bank, &mut self.seat, tok);
         self.notes[tok.0 as usize].references = 0;
@@ -82,7 +83,7 @@ impl CpuSeat {
         requires last { holding self.old tok.0 ≡ Held.Holds Mode.Exclusive 0 }
         requires written { (entry self.old tok.0).row ≢ (entry self.old tok.0).first }
         requires lawful { MeetsLaw (plan_of (bank_of self.old) tok.0).law (plan_of (bank_of self.old) tok.0).param (entry self.old tok.0).row }
-        ensures { Stepped self.old self.new tok.0 (ended (entry self.old tok.0)) (add tok.0 262143) }
+        ensures { Stepped self.old self.new tok.0 (ended (entry self.old tok.0)) gives_written }
     {
         steps::give_written(bank, &mut self.seat, tok);
         self.notes[tok.0 as usize].references = 0;

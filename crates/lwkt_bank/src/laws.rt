@@ -1,5 +1,5 @@
 //! What the bank's rule is for, as laws.
-ghost use Rattle.lwkt_bank.specs.Laws.{RuleShowsSafety, LookIsLoad, ExchangeIsTake, ExchangeIsShare, AddIsAgain, OrIsMark, SubIsGiveOne, SubIsGiveClean, AddIsGiveWritten, CellLoadIsRead, CellStoreIsWrite, TallyStoreIsWrite};
+ghost use Rattle.lwkt_bank.specs.Laws.{RuleShowsSafety, StatesAreReached, ViewsDecide, OpeningIsDeclared, SplitIsNoDeed, JoinIsNoDeed, MadeAsTold, NothingUntold, LookIsLoad, ExchangeIsTake, ExchangeIsShare, AddIsAgain, OrIsMark, SubIsGiveOne, SubIsGiveClean, AddIsGiveWritten, CellLoadIsRead, CellStoreIsWrite, TallyStoreIsWrite, DeedsAreTold};
 ghost use Rattle.lwkt_bank.specs.Holdings.{TakingAdds, AgainAdds, GivingRemoves, OthersKeep, NothingCounts, AddedCounts};
 
 /// Every state of the table that meets the rule shows a safe machine of the model, holders and tallies by processor, and each
@@ -8,9 +8,28 @@ pub fn rule_shows_safety()
     ensures { RuleShowsSafety }
 {}
 
-/// Each kind of step leads from a state of the rule to one of the rule, and the machines shown before and after it are related
-/// by its event.
-pub fn steps_are_events()
+/// Every state that meets the rule is reached from the opening by a run of the model: there is one history of the deeds of all
+/// seats, of which each seat has its processor's part, and words and views decide it.
+pub fn states_are_reached()
+    ensures reached { StatesAreReached }
+    ensures decided { ViewsDecide }
+{}
+
+/// The table at the opening shows the machine that is declared: no mark is set, nothing is held or added.
+pub fn opening_is_declared()
+    ensures { OpeningIsDeclared }
+{}
+
+/// Whatever a play of a seat notes is what it did to the words, and where it notes nothing, it has changed nothing. This is so of
+/// any play that keeps the rule, not only of those that there are.
+pub fn made_as_told()
+    ensures made { MadeAsTold }
+    ensures nothing { NothingUntold }
+{}
+
+/// Each kind of step leads from a state of the rule to one of the rule, in which the history has one deed more, that of the kind:
+/// its event relates the machines shown before and after it. A seat that is made or taken back is no deed.
+pub fn steps_are_deeds()
     ensures look { LookIsLoad }
     ensures take { ExchangeIsTake }
     ensures share { ExchangeIsShare }
@@ -22,6 +41,13 @@ pub fn steps_are_events()
     ensures read { CellLoadIsRead }
     ensures store { CellStoreIsWrite }
     ensures raise { TallyStoreIsWrite }
+    ensures split { SplitIsNoDeed }
+    ensures join { JoinIsNoDeed }
+{}
+
+/// The deeds that a call's contract tells are its seat's new events and steps, in order.
+pub fn deeds_are_told()
+    ensures { DeedsAreTold }
 {}
 
 /// What a seat holds after each call: one reference more, one less, or as before.

@@ -1,9 +1,11 @@
 //! The row of a token that is held exclusively, as a whole.
-ghost use Rattle.std.specs.Prelude.{◌≡◌, ◌≢◌, ◌↔◌, ℕ, List, ◌<◌, [], ◌∷◌, length, true, None, Some, IsTrue, MatchOption, slice_index};
+ghost use Rattle.std.specs.Prelude.{◌≡◌, ◌≢◌, ◌↔◌, ℕ, List, ◌<◌, [], ◌∷◌, length, true, false, None, Some, IsTrue, MatchOption, slice_index};
 ghost use Rattle.lwkt_base.specs.Holding.{is_held, is_exclusive};
 ghost use Rattle.lwkt_base.specs.Law.{MeetsLaw};
-ghost use Rattle.lwkt_bank.specs.Views.{stored};
-ghost use Rattle.lwkt_bank.specs.Seats.{id_of, bank_of, tokens_of, plan_of, entry, holding, Changes, Knowing, IsUnchanged, Restored};
+ghost use Rattle.lwkt_bank.specs.Views.{is_touched, stored};
+ghost use Rattle.lwkt_core.specs.declared.seats.Deed.{Deed};
+ghost use Rattle.lwkt_bank.specs.Deeds.{reads_all, writes};
+ghost use Rattle.lwkt_bank.specs.Seats.{id_of, bank_of, tokens_of, plan_of, entry, holding, Changes, Knowing, IsUnchanged, Restored, lawful_loads};
 
 use crate::banks::Bank;
 use crate::notes::Change;
@@ -12,7 +14,9 @@ use lwkt_base::{Law, TokId};
 
 // Whether the law asks nothing of a row.
 fn asks_nothing(law: Law) -> bool
-    ensures { result ≡ true → (param : ℕ) → (row : List ℕ) → MeetsLaw law param row }
+    ensures meets { result ≡ true → (param : ℕ) → (row : List ℕ) → MeetsLaw law param row }
+    ensures nothing { result ≡ true → (deeds : List Deed) → lawful_loads law deeds ≡ [] }
+    ensures all { result ≡ false → (deeds : List Deed) → lawful_loads law deeds ≡ deeds }
 {
     matches!(law, Law::Any | Law::Tally)
 }
@@ -25,7 +29,7 @@ impl CpuSeat {
         requires held { is_held (holding self.old tok.0) ≡ true }
         ensures four { length result ≡ 4 }
         ensures row { (cell : ℕ) → cell < (plan_of (bank_of self.old) tok.0).cells → slice_index result cell ≡ slice_index (entry self.old tok.0).row cell }
-        ensures knowing { Knowing self.old self.new tok.0 (entry self.old tok.0) }
+        ensures knowing { Knowing self.old self.new tok.0 (entry self.old tok.0) (reads_all self.old.cpu tok.0 0 (entry self.old tok.0).row) }
     {
         let mut values = [0u64; 4];
         for cell in 0..bank.cells(tok) {
@@ -40,7 +44,7 @@ impl CpuSeat {
         requires there { tok.0 < tokens_of (bank_of self.old) }
         requires held { is_exclusive (holding self.old tok.0) ≡ true }
         ensures lawful { IsTrue result ↔ MeetsLaw (plan_of (bank_of self.old) tok.0).law (plan_of (bank_of self.old) tok.0).param (entry self.old tok.0).row }
-        ensures knowing { Knowing self.old self.new tok.0 (entry self.old tok.0) }
+        ensures knowing { Knowing self.old self.new tok.0 (entry self.old tok.0) (reads_all self.old.cpu tok.0 0 (entry self.old tok.0).row) }
     {
         let plan = bank.plan(tok);
         let values = self.row(bank, tok);
@@ -53,7 +57,7 @@ impl CpuSeat {
         requires there { tok.0 < tokens_of (bank_of self.old) }
         requires held { is_exclusive (holding self.old tok.0) ≡ true }
         ensures lawful { IsTrue result ↔ MeetsLaw (plan_of (bank_of self.old) tok.0).law (plan_of (bank_of self.old) tok.0).param (entry self.old tok.0).row }
-        ensures knowing { Knowing self.old self.new tok.0 (entry self.old tok.0) }
+        ensures knowing { Knowing self.old self.new tok.0 (entry self.old tok.0) (lawful_loads (plan_of (bank_of self.old) tok.0).law (reads_all self.old.cpu tok.0 0 (entry self.old tok.0).row)) }
     {
         if asks_nothing(bank.plan(tok).law) {
             return true;
@@ -68,7 +72,7 @@ impl CpuSeat {
         requires held { is_exclusive (holding self.old tok.0) ≡ true }
         requires untallied { (plan_of (bank_of self.old) tok.0).law ≢ Law.Tally }
         requires inside { cell < (plan_of (bank_of self.old) tok.0).cells }
-        ensures { MatchOption result (IsUnchanged self.old self.new × (slice_index (entry self.old tok.0).row cell ≡ slice_index (entry self.old tok.0).first cell)) (λ value. (value ≡ slice_index (entry self.old tok.0).first cell) × Changes self.old self.new tok.0 (stored (entry self.old tok.0) cell value) []) }
+        ensures { MatchOption result (IsUnchanged self.old self.new × (is_touched (entry self.old tok.0) cell ≡ false) × (slice_index (entry self.old tok.0).row cell ≡ slice_index (entry self.old tok.0).first cell)) (λ value. (is_touched (entry self.old tok.0) cell ≡ true) × (value ≡ slice_index (entry self.old tok.0).first cell) × Changes self.old self.new tok.0 (stored (entry self.old tok.0) cell value) (writes self.old.cpu tok.0 cell value ∷ [])) }
     {
         let Some(first) = self.kept_first(bank, tok, cell) else {
             return None;

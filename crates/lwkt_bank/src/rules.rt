@@ -14,10 +14,10 @@ pub struct Key {
 pub struct BankRule;
 
 impl TableRule<(), View, Key> for BankRule {
-    ghost use Rattle.lwkt_bank.specs.Rule.{Rule};
+    ghost use Rattle.lwkt_bank.specs.Told.{Told};
     ghost use Rattle.lwkt_bank.specs.Views.{first_view};
 
-    ghost holds = { λ key. Rule key.plans.items key.cpus };
+    ghost holds = { λ key. Told key.plans.items key.cpus };
 
     ghost first = { λ key. first_view key.plans.items };
 }

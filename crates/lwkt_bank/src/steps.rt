@@ -7,7 +7,7 @@ ghost use Rattle.lwkt_base.specs.declared.laws.Law.TheVariants.{Tally};
 ghost use Rattle.lwkt_core.specs.Tokens.{IsNotLastExclusive};
 ghost use Rattle.lwkt_bank.specs.Views.{at, count_from, held_of};
 ghost use Rattle.lwkt_bank.specs.Rule.{token_word, cell_word, plan_at};
-ghost use Rattle.lwkt_bank.specs.Plays.{Looks, Exchanges, AddsOne, Marks, GivesOne, GivesClean, GivesWritten, ReadsCell, StoresCell, RaisesCell};
+ghost use Rattle.lwkt_bank.specs.Plays.{Amid, Looks, Exchanges, AddsOne, Marks, GivesOne, GivesClean, GivesWritten, ReadsCell, StoresCell, RaisesCell};
 ghost use Rattle.lwkt_bank.specs.Seats.{IsOf, IsSame, Decides};
 
 use crate::banks::Bank;
@@ -35,7 +35,7 @@ pub(crate) fn look(bank: &Bank, seat: &mut Seat<(), View>, tok: TokId) -> u64
     requires of { IsOf bank.now seat.old }
     requires there { tok.0 < length bank.now.key.plans.items }
     ensures same { IsSame seat.old seat.new }
-    ensures looks { Looks tok.0 seat.old.me.0 result seat.new.me.0 }
+    ensures looks { Amid seat.old.me.0 (λ between. Looks between tok.0 seat.old.me.0 result seat.new.me.0) }
 {
     let word = word_of_token(tok);
     bank.table.shared.load::<Look>(seat, word)
@@ -56,7 +56,7 @@ pub(crate) fn swing(
     requires free { (at seat.old.me.0.tokens tok.0).held ≡ Held.Nothing }
     requires few { count_from 0 (length bank.now.key.plans.items) (held_of seat.old.me.0.tokens) < 32 }
     ensures same { IsSame seat.old seat.new }
-    ensures exchanges { Exchanges mode old new tok.0 seat.old.me.0 result seat.new.me.0 }
+    ensures exchanges { Amid seat.old.me.0 (λ between. Exchanges mode old new between tok.0 seat.old.me.0 result seat.new.me.0) }
 {
     let word = word_of_token(tok);
     match mode {
@@ -77,7 +77,7 @@ pub(crate) fn add_one(bank: &Bank, seat: &mut Seat<(), View>, tok: TokId) -> u64
     requires held { is_held (at seat.old.me.0.tokens tok.0).held ≡ true }
     requires few { count_from 0 (length bank.now.key.plans.items) (held_of seat.old.me.0.tokens) < 32 }
     ensures same { IsSame seat.old seat.new }
-    ensures adds { AddsOne tok.0 seat.old.me.0 result seat.new.me.0 }
+    ensures adds { Amid seat.old.me.0 (λ between. AddsOne between tok.0 seat.old.me.0 result seat.new.me.0) }
 {
     let word = word_of_token(tok);
     bank.table.shared.fetch_add::<AddOne>(seat, word, 4)
@@ -87,7 +87,7 @@ pub(crate) fn set_mark(bank: &Bank, seat: &mut Seat<(), View>, tok: TokId) -> u6
     requires of { IsOf bank.now seat.old }
     requires there { tok.0 < length bank.now.key.plans.items }
     ensures same { IsSame seat.old seat.new }
-    ensures marks { Marks tok.0 seat.old.me.0 result seat.new.me.0 }
+    ensures marks { Amid seat.old.me.0 (λ between. Marks between tok.0 seat.old.me.0 result seat.new.me.0) }
 {
     let word = word_of_token(tok);
     bank.table.shared.fetch_or::<SetMark>(seat, word, 2)
@@ -99,7 +99,7 @@ pub(crate) fn give_one(bank: &Bank, seat: &mut Seat<(), View>, tok: TokId) -> u6
     requires held { is_held (at seat.old.me.0.tokens tok.0).held ≡ true }
     requires not_last { IsNotLastExclusive (at seat.old.me.0.tokens tok.0).held }
     ensures same { IsSame seat.old seat.new }
-    ensures gives { GivesOne tok.0 seat.old.me.0 result seat.new.me.0 }
+    ensures gives { Amid seat.old.me.0 (λ between. GivesOne between tok.0 seat.old.me.0 result seat.new.me.0) }
 {
     let word = word_of_token(tok);
     bank.table.shared.fetch_sub::<GiveOne>(seat, word, 4)
@@ -111,7 +111,7 @@ pub(crate) fn give_clean(bank: &Bank, seat: &mut Seat<(), View>, tok: TokId) -> 
     requires last { (at seat.old.me.0.tokens tok.0).held ≡ Held.Holds Mode.Exclusive 0 }
     requires clean { (at seat.old.me.0.tokens tok.0).row ≡ (at seat.old.me.0.tokens tok.0).first }
     ensures same { IsSame seat.old seat.new }
-    ensures gives { GivesClean tok.0 seat.old.me.0 result seat.new.me.0 }
+    ensures gives { Amid seat.old.me.0 (λ between. GivesClean between tok.0 seat.old.me.0 result seat.new.me.0) }
 {
     let word = word_of_token(tok);
     bank.table.shared.fetch_sub::<GiveClean>(seat, word, 1)
@@ -124,7 +124,7 @@ pub(crate) fn give_written(bank: &Bank, seat: &mut Seat<(), View>, tok: TokId) -
     requires written { (at seat.old.me.0.tokens tok.0).row ≢ (at seat.old.me.0.tokens tok.0).first }
     requires lawful { MeetsLaw (plan_at bank.now.key.plans.items tok.0).law (plan_at bank.now.key.plans.items tok.0).param (at seat.old.me.0.tokens tok.0).row }
     ensures same { IsSame seat.old seat.new }
-    ensures gives { GivesWritten tok.0 seat.old.me.0 result seat.new.me.0 }
+    ensures gives { Amid seat.old.me.0 (λ between. GivesWritten between tok.0 seat.old.me.0 result seat.new.me.0) }
 {
     let word = word_of_token(tok);
     bank.table
@@ -138,7 +138,7 @@ pub(crate) fn read_cell(bank: &Bank, seat: &mut Seat<(), View>, tok: TokId, cell
     requires held { is_held (at seat.old.me.0.tokens tok.0).held ≡ true }
     requires inside { cell < (plan_at bank.now.key.plans.items tok.0).cells }
     ensures same { IsSame seat.old seat.new }
-    ensures reads { ReadsCell tok.0 cell seat.old.me.0 result seat.new.me.0 }
+    ensures reads { Amid seat.old.me.0 (λ between. ReadsCell between tok.0 cell seat.old.me.0 result seat.new.me.0) }
 {
     let word = word_of_cell(tok, cell);
     bank.table.shared.load::<ReadCell>(seat, word)
@@ -151,7 +151,7 @@ pub(crate) fn store_cell(bank: &Bank, seat: &mut Seat<(), View>, tok: TokId, cel
     requires untallied { (plan_at bank.now.key.plans.items tok.0).law ≢ Tally }
     requires inside { cell < (plan_at bank.now.key.plans.items tok.0).cells }
     ensures same { IsSame seat.old seat.new }
-    ensures stores { StoresCell tok.0 cell seat.old.me.0 value seat.new.me.0 }
+    ensures stores { Amid seat.old.me.0 (λ between. StoresCell between tok.0 cell seat.old.me.0 value seat.new.me.0) }
 {
     let word = word_of_cell(tok, cell);
     bank.table.shared.store::<StoreCell>(seat, word, value)
@@ -165,7 +165,7 @@ pub(crate) fn raise_cell(bank: &Bank, seat: &mut Seat<(), View>, tok: TokId, val
     requires tally { (plan_at bank.now.key.plans.items tok.0).law ≡ Tally }
     requires raised { slice_index (at seat.old.me.0.tokens tok.0).row 0 ≤ value }
     ensures same { IsSame seat.old seat.new }
-    ensures raises { RaisesCell tok.0 0 seat.old.me.0 value seat.new.me.0 }
+    ensures raises { Amid seat.old.me.0 (λ between. RaisesCell between tok.0 0 seat.old.me.0 value seat.new.me.0) }
 {
     let word = word_of_cell(tok, 0);
     bank.table.shared.store::<RaiseCell>(seat, word, value)

@@ -1,7 +1,8 @@
 //! Taking tokens.
 ghost use Rattle.std.specs.Prelude.{◌≡◌, ℕ, ◌+◌, ◌<◌, Bool, true, false, [], ◌∷◌};
 ghost use Rattle.lwkt_base.specs.Holding.{is_held};
-ghost use Rattle.lwkt_bank.specs.Views.{more, looked, add, or};
+ghost use Rattle.lwkt_bank.specs.Views.{more, looked};
+ghost use Rattle.lwkt_bank.specs.Deeds.{adds_one, marks};
 ghost use Rattle.lwkt_bank.specs.Seats.{id_of, bank_of, tokens_of, entry, holding, references, Changes, Looked, Took, Lost, Tried, Decides, Hit, Miss, Stepped};
 
 use crate::banks::Bank;
@@ -90,7 +91,7 @@ impl CpuSeat {
         requires there { tok.0 < tokens_of (bank_of self.old) }
         requires held { is_held (holding self.old tok.0) ≡ true }
         requires few { references self.old < 32 }
-        ensures { Stepped self.old self.new tok.0 (more (entry self.old tok.0)) (add tok.0 4) }
+        ensures { Stepped self.old self.new tok.0 (more (entry self.old tok.0)) adds_one }
     {
         steps::add_one(bank, &mut self.seat, tok);
         self.notes[tok.0 as usize].references += 1;
@@ -100,7 +101,7 @@ impl CpuSeat {
     pub fn mark(&mut self, bank: &Bank, tok: TokId)
         requires of { bank_of self.old ≡ id_of bank.now }
         requires there { tok.0 < tokens_of (bank_of self.old) }
-        ensures { Stepped self.old self.new tok.0 (entry self.old tok.0) (or tok.0 2) }
+        ensures { Stepped self.old self.new tok.0 (entry self.old tok.0) marks }
     {
         steps::set_mark(bank, &mut self.seat, tok);
     }

@@ -1,5 +1,5 @@
 use lwkt_base::{CpuId, Held, Law};
-use lwkt_core::{SeatKind, WordStep};
+use lwkt_core::{Chapter, Deed, SeatKind};
 
 /// What is declared of a token at the opening.
 #[derive(Clone, Copy, Debug, PartialEq, Eq)]
@@ -40,6 +40,8 @@ pub struct Entry {
     pub first: [u64; 0],
     /// While the seat holds the token, its row.
     pub row: [u64; 0],
+    /// While the seat holds the token exclusively, the cells that it stored to since the section began.
+    pub touched: [u64; 0],
     /// How many written sections the seat has ended.
     pub written: u64,
     /// What was added to the cell of a Tally token.
@@ -52,6 +54,8 @@ pub struct View {
     pub plans: [Plan; 0],
     /// Of each token the first entry counts.
     pub tokens: [Entry; 0],
-    /// The seat's steps on token words, in order.
-    pub steps: [WordStep; 0],
+    /// What the seat has seen of the table's history: the front of it up to the seat's own last deed.
+    pub past: [Deed; 0],
+    /// What the seats had seen that the clerk took back.
+    pub chapters: [Chapter; 0],
 }

@@ -159,40 +159,24 @@ module _ (s m : CpuSeat) (tok : TokId) (restored : Bool) (t u v : List Event) (e
     ]
   ]
 
-  written_now : holding s tok.0 ≡ Holds Exclusive 0 → (row m tok.0 ≡ first_row m tok.0 → ⊥) → event ≡ GiveWritten s.cpu tok
-  written_now ends other = elim by [
-    | inl one ↦ absurd (one.0 (held_same ∙ ends))
-    | inr end ↦ elim end [
-      | inl clean ↦ absurd (other clean.1)
-      | inr written ↦ written.2 ∙ ap (λ c. GiveWritten c tok) mine
-    ]
-  ]
-
-  one_now : (holding s tok.0 ≡ Holds Exclusive 0 → ⊥) → event ≡ GiveOne s.cpu tok
-  one_now apart = elim by [
-    | inl one ↦ one.1 ∙ ap (λ c. GiveOne c tok) mine
-    | inr end ↦ elim end [
-      | inl clean ↦ absurd (apart (sym held_same ∙ clean.0))
-      | inr written ↦ absurd (apart (sym held_same ∙ written.0))
-    ]
-  ]
-
   same_first : restored ≡ false → (row m tok.0 ≡ first_row m tok.0 → row s tok.0 ≡ first_row s tok.0) × (row s tok.0 ≡ first_row s tok.0 → row m tok.0 ≡ first_row m tok.0)
   same_first is = (λ e. sym (mends.no is).0 ∙ e ∙ mends.first_is, λ e. (mends.no is).0 ∙ e ∙ sym mends.first_is)
 
+  only : restored ≡ false → Releases s (holding s tok.0) tok (event ∷ [])
+  only is = elim by [
+    | inl one ↦ inl (λ ends. one.0 (held_same ∙ ends), ap (λ e. e ∷ []) (one.1 ∙ ap (λ c. GiveOne c tok) mine))
+    | inr end ↦ elim end [
+      | inl clean ↦
+          let ends : holding s tok.0 ≡ Holds Exclusive 0 = sym held_same ∙ clean.0 in
+          inr (inl (ends, (mends.no is).1 ends, (same_first is).0 clean.1, ap (λ e. e ∷ []) (clean.2 ∙ ap (λ c. GiveClean c tok) mine)))
+      | inr written ↦
+          let ends : holding s tok.0 ≡ Holds Exclusive 0 = sym held_same ∙ written.0 in
+          inr (inr (inl (ends, (mends.no is).1 ends, λ e. written.1 ((same_first is).1 e), ap (λ e. e ∷ []) (written.2 ∙ ap (λ c. GiveWritten c tok) mine))))
+    ]
+  ]
+
   unmended : restored ≡ false → u ≡ t → (done : List Event) × ((v ≡ t ++ done) × Releases s (holding s tok.0) tok done)
-  unmended is silent = (
-    event ∷ [],
-    (
-      pushed ∙ ap (λ xs. xs ++ event ∷ []) silent,
-      record {
-        one = λ apart. ap (λ e. e ∷ []) (one_now apart);
-        clean = λ ends meets same. ap (λ e. e ∷ []) (clean_now ends ((same_first is).1 same));
-        written = λ ends meets other. ap (λ e. e ∷ []) (written_now ends (λ e. other ((same_first is).0 e)));
-        restored = λ ends broken. absurd (broken ((mends.no is).1 ends));
-      },
-    ),
-  )
+  unmended is silent = (event ∷ [], (pushed ∙ ap (λ xs. xs ++ event ∷ []) silent, only is))
 
   mended : restored ≡ true → (values : List (Option ℕ)) × (StoresFirst s tok.0 values × (u ≡ t ++ writes s.cpu tok 0 values)) → (done : List Event) × ((v ≡ t ++ done) × Releases s (holding s tok.0) tok done)
   mended is stored =
@@ -202,12 +186,7 @@ module _ (s m : CpuSeat) (tok : TokId) (restored : Bool) (t u v : List Event) (e
         writes s.cpu tok 0 values ++ GiveClean s.cpu tok ∷ [],
         (
           pushed ∙ ap (λ e. u ++ e ∷ []) last ∙ ap (λ xs. xs ++ GiveClean s.cpu tok ∷ []) stored.1.1 ∙ append_assoc t (writes s.cpu tok 0 values) (GiveClean s.cpu tok ∷ []),
-          record {
-            one = λ apart. absurd (apart ends);
-            clean = λ e meets same. absurd ((mends.yes is).0.broken meets);
-            written = λ e meets other. absurd ((mends.yes is).0.broken meets);
-            restored = λ e broken. (values, (stored.1.0, refl));
-          },
+          inr (inr (inr (ends, (mends.yes is).0.broken, (values, (stored.1.0, refl))))),
         ),
       )
 
@@ -219,22 +198,16 @@ module _ (s m : CpuSeat) (tok : TokId) (restored : Bool) (t u v : List Event) (e
 
 -- the events of giving a reference back are the same for a seat whose row of the token is the same
 pub released_before : (a s : CpuSeat) (tok : TokId) (held : Held) (done : List Event) → bank_of s ≡ bank_of a → s.cpu ≡ a.cpu → SameRow a s tok.0 → Releases s held tok done → Releases a held tok done
-released_before a s tok held done bank mine same r = record {
-  one = λ apart. r.one apart ∙ ap (λ c. GiveOne c tok ∷ []) mine;
-  clean = λ ends meets is. r.clean ends (there meets) (same.row_is ∙ is ∙ sym same.first_is) ∙ ap (λ c. GiveClean c tok ∷ []) mine;
-  written = λ ends meets other. r.written ends (there meets) (λ is. other (sym same.row_is ∙ is ∙ same.first_is)) ∙ ap (λ c. GiveWritten c tok ∷ []) mine;
-  restored = λ ends broken.
-      let x = r.restored ends (λ meets. broken (back meets)) in (
-        x.0,
-        (
-          record {
-            makes_first = ap (λ xs. written x.0 xs) (sym same.row_is) ∙ x.1.0.makes_first ∙ same.first_is;
-            inside = let G : BankId → Type 0 = λ b. (cell value : ℕ) → slice_get x.0 cell ≡ Some (Some value) → cell < (plan_of b tok.0).cells in subst G bank x.1.0.inside;
-          },
-          x.1.1 ∙ ap (λ c. writes c tok 0 x.0 ++ GiveClean c tok ∷ []) mine,
-        ),
-      );
-}
+released_before a s tok held done bank mine same r = elim r [
+  | inl one ↦ inl (one.0, one.1 ∙ ap (λ c. GiveOne c tok ∷ []) mine)
+  | inr end ↦ elim end [
+    | inl clean ↦ inr (inl (clean.0, back clean.1, sym same.row_is ∙ clean.2 ∙ same.first_is, clean.3 ∙ ap (λ c. GiveClean c tok ∷ []) mine))
+    | inr more ↦ elim more [
+      | inl wrote ↦ inr (inr (inl (wrote.0, back wrote.1, λ is. wrote.2 (same.row_is ∙ is ∙ sym same.first_is), wrote.3 ∙ ap (λ c. GiveWritten c tok ∷ []) mine)))
+      | inr restored ↦ inr (inr (inr (restored.0, λ meets. restored.1 (there meets), stores restored.2)))
+    ]
+  ]
+]
   where
     written : List (Option ℕ) → List ℕ → List ℕ
     written values cells = written_over 0 values cells
@@ -244,6 +217,18 @@ released_before a s tok held done bank mine same r = record {
 
     back : MeetsItsLaw s tok.0 → MeetsItsLaw a tok.0
     back meets = same_law s a tok.0 (sym bank) (sym same.row_is) meets
+
+    stores : (values : List (Option ℕ)) × (StoresFirst s tok.0 values × (done ≡ writes s.cpu tok 0 values ++ GiveClean s.cpu tok ∷ [])) → (values : List (Option ℕ)) × (StoresFirst a tok.0 values × (done ≡ writes a.cpu tok 0 values ++ GiveClean a.cpu tok ∷ []))
+    stores x = (
+      x.0,
+      (
+        record {
+          makes_first = ap (λ xs. written x.0 xs) (sym same.row_is) ∙ x.1.0.makes_first ∙ same.first_is;
+          inside = let G : BankId → Type 0 = λ b. (cell value : ℕ) → slice_get x.0 cell ≡ Some (Some value) → cell < (plan_of b tok.0).cells in subst G bank x.1.0.inside;
+        },
+        x.1.1 ∙ ap (λ c. writes c tok 0 x.0 ++ GiveClean c tok ∷ []) mine,
+      ),
+    )
 
 -- one reference more is given back before those in front of it
 releases_snoc : (s : CpuSeat) (front refs : List Ref) (r : Ref) (own rest : List Event) → Releases s (holding_of ((front ++ refs) ++ r ∷ []) r.tok.0) r.tok own → ReleasesAll s front refs rest → ReleasesAll s front (refs ++ r ∷ []) (own ++ rest)

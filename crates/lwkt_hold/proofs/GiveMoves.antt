@@ -12,7 +12,7 @@ use Rattle.lwkt_base.specs.declared.names.Ref.{Ref}
 use Rattle.lwkt_base.specs.declared.holdings.Held.{Held}
 use Rattle.lwkt_base.specs.declared.holdings.Held.TheVariants.{Nothing, Holds}
 use Rattle.lwkt_base.specs.declared.laws.Law.{Law}
-use Rattle.lwkt_base.specs.declared.laws.Law.TheVariants.{Tally}
+use Rattle.lwkt_base.specs.declared.laws.Law.TheVariants.{Any, Sum, Order, Cap, Tally}
 use Rattle.lwkt_base.specs.Law.{MeetsLaw}
 use Rattle.std.proofs.lemmas.Bool.{eqb-true, eqb-false, cases_Bool, false≢true}
 use Rattle.lwkt_base.specs.Holding.{Holding, is_held, is_exclusive, one_more, one_less, added, removed, holding_of}
@@ -21,8 +21,12 @@ use Rattle.lwkt_core.specs.declared.events.Event.TheVariants.{Write}
 use Rattle.lwkt_core.specs.Events.{cpu_of}
 use Rattle.lwkt_bank.specs.declared.views.Entry.{Entry}
 use Rattle.lwkt_bank.specs.declared.seats.CpuSeat.{CpuSeat}
-use Rattle.lwkt_bank.specs.Seats.{BankId, bank_of, plan_of, entry, holding, Knowing, Restored, written_over}
-use Rattle.lwkt_hold.specs.Steps.{is_on_word, Shows}
+use Rattle.lwkt_core.specs.declared.seats.WordStep.{WordStep}
+use Rattle.lwkt_core.specs.declared.seats.Deed.{Deed}
+use Rattle.lwkt_core.specs.History.{events_in, steps_in}
+use Rattle.lwkt_bank.specs.Deeds.{reads_all, writes_all}
+use Rattle.lwkt_bank.specs.Seats.{BankId, bank_of, plan_of, entry, holding, Knowing, Restored, lawful_loads, written_over}
+use Rattle.lwkt_hold.specs.Steps.{is_counted, is_on_word, Shows, Tells}
 use Rattle.lwkt_hold.specs.Runs.{Moves, Ran}
 use Rattle.lwkt_hold.specs.Rows.{row, first_row, MeetsItsLaw, IsBroken, SameRow, writes, GivesBack, Mends}
 use Rattle.lwkt_hold.specs.Givings.{StoresFirst}
@@ -45,34 +49,67 @@ writes_move P h cpu tok cell [] at_front = refl
 writes_move P h cpu tok cell (None ∷ values) at_front = writes_move P h cpu tok (suc cell) values at_front
 writes_move P h cpu tok cell (Some value ∷ values) at_front = (at_front, writes_move P h cpu tok (suc cell) values at_front)
 
+-- the stores of a restore are told, and are no steps on a token word
+tells_writes : (cpu : CpuId) (tok : TokId) (cell : ℕ) (values : List (Option ℕ)) → Tells (events_in (writes_all cpu tok.0 cell values)) (writes cpu tok cell values)
+tells_writes cpu tok cell [] = refl
+tells_writes cpu tok cell (None ∷ values) = tells_writes cpu tok (suc cell) values
+tells_writes cpu tok cell (Some value ∷ values) = inr (refl, (writes cpu tok (suc cell) values, (refl, tells_writes cpu tok (suc cell) values)))
+
+no_steps : (cpu : CpuId) (tok cell : ℕ) (values : List (Option ℕ)) → steps_in (writes_all cpu tok cell values) ≡ []
+no_steps cpu tok cell [] = refl
+no_steps cpu tok cell (None ∷ values) = no_steps cpu tok (suc cell) values
+no_steps cpu tok cell (Some value ∷ values) = no_steps cpu tok (suc cell) values
+
 -- a call that stored these values
 pub stored_ran : (P : Holding → Type 0) (s s' : CpuSeat) (tok : TokId) (cpu : CpuId) (values : List (Option ℕ)) (t u : Vec Event Global) → Restored s s' tok.0 values → P (holding s) → cpu ≡ s.cpu → u.items ≡ t.items ++ writes cpu tok 0 values → vec_len u ≡ vec_len t + length (writes cpu tok 0 values) → length (writes cpu tok 0 values) ≤ 4 → vec_capacity t ≤ vec_capacity u → Ran P 4 s s' t u
 stored_ran P s s' tok cpu values t u r at_front mine pushed longer few room = record {
   bank = r.changes.bank;
   cpu = r.changes.cpu;
-  made = [];
-  steps = r.changes.steps;
+  deeds = writes_all s.cpu tok.0 0 values;
+  grows = r.changes.grows;
+  mine = r.changes.own;
+  tells = let F : CpuId → Type 0 = λ c. Tells (events_in (writes_all s.cpu tok.0 0 values)) (writes c tok 0 values) in subst F (sym mine) (tells_writes s.cpu tok 0 values);
   done = writes cpu tok 0 values;
   trace = pushed;
   own = let F : ℕ → Type 0 = λ k. All (λ (e : Event). cpu_of e ≡ k) (writes cpu tok 0 values) in subst F (ap (λ (x : CpuId). x.0) mine) (writes_own cpu tok 0 values);
-  told = let F : List Event → Type 0 = λ ys. AllZip Shows [] ys in subst F (sym (writes_off cpu tok 0 values)) tt;
+  told =
+      let F : List Event → Type 0 = λ ys. AllZip Shows [] ys in
+      let G : List WordStep → Type 0 = λ xs. AllZip Shows (filter is_counted xs) (filter is_on_word (writes cpu tok 0 values)) in
+      subst G (sym (no_steps s.cpu tok.0 0 values)) (subst F (sym (writes_off cpu tok 0 values)) tt);
   moves =
       let F : Holding → Type 0 = λ h. Moves P (holding s) (writes cpu tok 0 values) h in
-      subst F (sym (holding_kept s s' tok.0 (record (entry s tok.0) { row = (entry s tok.0).first }) [] r.changes refl)) (writes_move P (holding s) cpu tok 0 values at_front);
+      subst F (sym (holding_kept s s' tok.0 (record (entry s tok.0) { row = (entry s tok.0).first }) (writes_all s.cpu tok.0 0 values) r.changes refl)) (writes_move P (holding s) cpu tok 0 values at_front);
   few = few;
   grown = longer;
   room = room;
 }
 
 pub stored_kept : (s s' : CpuSeat) (tok : ℕ) (values : List (Option ℕ)) → Restored s s' tok values → holding s' ≡ holding s
-stored_kept s s' tok values r = holding_kept s s' tok (record (entry s tok) { row = (entry s tok).first }) [] r.changes refl
+stored_kept s s' tok values r = holding_kept s s' tok (record (entry s tok) { row = (entry s tok).first }) (writes_all s.cpu tok 0 values) r.changes refl
+
+-- deeds that a trace tells nothing of, and that are no steps on a token word
+abbrev pub IsUntold : List Deed → Type 0
+IsUntold deeds = Tells (events_in deeds) [] × (steps_in deeds ≡ [])
+
+reads_untold : (cpu : CpuId) (tok cell : ℕ) (row : List ℕ) → IsUntold (reads_all cpu tok cell row)
+reads_untold cpu tok cell [] = (refl, refl)
+reads_untold cpu tok cell (x ∷ row) = let rest = reads_untold cpu tok (suc cell) row in (inl (refl, rest.0), rest.1)
+
+-- the loads of a question for the law
+pub lawful_untold : (law : Law) (cpu : CpuId) (tok : ℕ) (row : List ℕ) → IsUntold (lawful_loads law (reads_all cpu tok 0 row))
+lawful_untold Any cpu tok row = (refl, refl)
+lawful_untold Sum cpu tok row = reads_untold cpu tok 0 row
+lawful_untold Order cpu tok row = reads_untold cpu tok 0 row
+lawful_untold Cap cpu tok row = reads_untold cpu tok 0 row
+lawful_untold Tally cpu tok row = (refl, refl)
 
 -- a call without a word step that learns of cells
-pub knowing_ran : (P : Holding → Type 0) (most : ℕ) (s s' : CpuSeat) (tok : ℕ) (t : Vec Event Global) → Knowing s s' tok (entry s tok) → Ran P most s s' t t
-knowing_ran P most s s' tok t k = ran_weaker P P 0 most s s' t t (λ x p. p) (omega arith) (ran_quiet P s s' tok (record (entry s tok) { known = k.known }) [] t k.changes refl refl)
+pub knowing_ran : (P : Holding → Type 0) (most : ℕ) (s s' : CpuSeat) (tok : ℕ) (deeds : List Deed) (t : Vec Event Global) → IsUntold deeds → Knowing s s' tok (entry s tok) deeds → Ran P most s s' t t
+knowing_ran P most s s' tok deeds t untold k =
+    ran_weaker P P 0 most s s' t t (λ x p. p) (omega arith) (ran_quiet P s s' tok (record (entry s tok) { known = k.known }) deeds t k.changes refl untold.0 (ap (λ (xs : List WordStep). filter is_counted xs) untold.1))
 
-pub knowing_kept : (s s' : CpuSeat) (tok : ℕ) → Knowing s s' tok (entry s tok) → holding s' ≡ holding s
-knowing_kept s s' tok k = holding_kept s s' tok (record (entry s tok) { known = k.known }) [] k.changes refl
+pub knowing_kept : (s s' : CpuSeat) (tok : ℕ) (deeds : List Deed) → Knowing s s' tok (entry s tok) deeds → holding s' ≡ holding s
+knowing_kept s s' tok deeds k = holding_kept s s' tok (record (entry s tok) { known = k.known }) deeds k.changes refl
 
 -- what the front with the reference of this place holds
 pub held_at : (refs : List Ref) (at : ℕ) (last : Ref) → slice_get refs at ≡ Some last → holding_of (take (at + 1) refs) ≡ added (holding_of (take at refs)) last.tok.0 last.mode
@@ -158,8 +195,8 @@ module _ (s m : CpuSeat) (tok : ℕ) (restored : Bool) (held : is_held (holding 
     }
 
 -- what learning of cells leaves of the rows
-same_rows : (s m : CpuSeat) (tok other : ℕ) → Knowing s m tok (entry s tok) → SameRow s m other
-same_rows s m tok other k = elim (cases_Bool (eqb other tok)) [
+same_rows : (s m : CpuSeat) (tok other : ℕ) (deeds : List Deed) → Knowing s m tok (entry s tok) deeds → SameRow s m other
+same_rows s m tok other deeds k = elim (cases_Bool (eqb other tok)) [
   | inl is ↦
       let same = eqb-true other tok is in
       let F : ℕ → Type 0 = λ t. SameRow s m t in
@@ -178,25 +215,25 @@ mends_none s tok no_end = record {
   no = λ is. (refl, λ ends. absurd (no_end ends));
 }
 
-pub mends_lawful : (s m : CpuSeat) (tok : ℕ) → Knowing s m tok (entry s tok) → MeetsItsLaw s tok → Mends s m tok false
-mends_lawful s m tok k meets = record {
-  first_is = (same_rows s m tok tok k).first_is;
-  others = λ other away. same_rows s m tok other k;
+pub mends_lawful : (s m : CpuSeat) (tok : ℕ) (deeds : List Deed) → Knowing s m tok (entry s tok) deeds → MeetsItsLaw s tok → Mends s m tok false
+mends_lawful s m tok deeds k meets = record {
+  first_is = (same_rows s m tok tok deeds k).first_is;
+  others = λ other away. same_rows s m tok other deeds k;
   yes = λ is. cc;
-  no = λ is. ((same_rows s m tok tok k).row_is, λ ends. meets);
+  no = λ is. ((same_rows s m tok tok deeds k).row_is, λ ends. meets);
 }
 
-pub still_broken : (s m : CpuSeat) (tok : ℕ) → Knowing s m tok (entry s tok) → holding s tok ≡ Holds Exclusive 0 → (MeetsItsLaw s tok → ⊥) → IsBroken m tok
-still_broken s m tok k ends broken = record {
-  exclusive = exclusive_held (holding m tok) (ap (λ h. h tok) (knowing_kept s m tok k) ∙ ends);
-  broken = λ meets. broken (same_law m s tok (sym k.changes.bank) (sym (same_rows s m tok tok k).row_is) meets);
+pub still_broken : (s m : CpuSeat) (tok : ℕ) (deeds : List Deed) → Knowing s m tok (entry s tok) deeds → holding s tok ≡ Holds Exclusive 0 → (MeetsItsLaw s tok → ⊥) → IsBroken m tok
+still_broken s m tok deeds k ends broken = record {
+  exclusive = exclusive_held (holding m tok) (ap (λ h. h tok) (knowing_kept s m tok deeds k) ∙ ends);
+  broken = λ meets. broken (same_law m s tok (sym k.changes.bank) (sym (same_rows s m tok tok deeds k).row_is) meets);
 }
 
-pub mends_broken : (s l m : CpuSeat) (tok : ℕ) → Knowing s l tok (entry s tok) → holding s tok ≡ Holds Exclusive 0 → (MeetsItsLaw s tok → ⊥) → row m tok ≡ first_row l tok → first_row m tok ≡ first_row l tok → ((other : ℕ) → other ≢ tok → SameRow l m other) → Mends s m tok true
-mends_broken s l m tok k ends broken restored first others = record {
-  first_is = first ∙ (same_rows s l tok tok k).first_is;
-  others = λ other away. record { row_is = (others other away).row_is ∙ (same_rows s l tok other k).row_is; first_is = (others other away).first_is ∙ (same_rows s l tok other k).first_is };
-  yes = λ is. (record { exclusive = exclusive_held (holding s tok) ends; broken = broken }, ends, restored ∙ (same_rows s l tok tok k).first_is);
+pub mends_broken : (s l m : CpuSeat) (tok : ℕ) (deeds : List Deed) → Knowing s l tok (entry s tok) deeds → holding s tok ≡ Holds Exclusive 0 → (MeetsItsLaw s tok → ⊥) → row m tok ≡ first_row l tok → first_row m tok ≡ first_row l tok → ((other : ℕ) → other ≢ tok → SameRow l m other) → Mends s m tok true
+mends_broken s l m tok deeds k ends broken restored first others = record {
+  first_is = first ∙ (same_rows s l tok tok deeds k).first_is;
+  others = λ other away. record { row_is = (others other away).row_is ∙ (same_rows s l tok other deeds k).row_is; first_is = (others other away).first_is ∙ (same_rows s l tok other deeds k).first_is };
+  yes = λ is. (record { exclusive = exclusive_held (holding s tok) ends; broken = broken }, ends, restored ∙ (same_rows s l tok tok deeds k).first_is);
   no = λ is. cc;
 }
 
@@ -205,9 +242,9 @@ pub stores_first : (s s' : CpuSeat) (tok : ℕ) (values : List (Option ℕ)) →
 stores_first s s' tok values r = record { makes_first = r.writes; inside = r.inside }
 
 -- values that make the row the first row, for a seat that only knew fewer cells
-pub stores_before : (s m : CpuSeat) (tok : ℕ) (values : List (Option ℕ)) → Knowing s m tok (entry s tok) → StoresFirst m tok values → StoresFirst s tok values
-stores_before s m tok values k stores =
-    let same = same_rows s m tok tok k in
+pub stores_before : (s m : CpuSeat) (tok : ℕ) (values : List (Option ℕ)) (deeds : List Deed) → Knowing s m tok (entry s tok) deeds → StoresFirst m tok values → StoresFirst s tok values
+stores_before s m tok values deeds k stores =
+    let same = same_rows s m tok tok deeds k in
     record {
       makes_first = ap (λ xs. over xs) (sym same.row_is) ∙ stores.makes_first ∙ same.first_is;
       inside = let G : BankId → Type 0 = λ b. (cell value : ℕ) → slice_get values cell ≡ Some (Some value) → cell < (plan_of b tok).cells in subst G k.changes.bank stores.inside;

@@ -7,11 +7,13 @@ use Rattle.lwkt_base.specs.declared.names.Ref.{Ref}
 use Rattle.lwkt_base.specs.declared.holdings.Held.TheVariants.{Nothing}
 use Rattle.lwkt_base.specs.Holding.{Holding, is_held, one_less, added, removed, holding_of, holds_nothing}
 use Rattle.lwkt_core.specs.declared.events.Event.{Event}
-use Rattle.lwkt_core.specs.declared.seats.WordStep.{WordStep}
+use Rattle.lwkt_core.specs.declared.seats.Deed.{Deed}
 use Rattle.lwkt_bank.specs.declared.views.Entry.{Entry}
 use Rattle.lwkt_bank.specs.declared.seats.CpuSeat.{CpuSeat}
 use Rattle.lwkt_bank.specs.Seats.{entry, holding, Changes, Looked, Lost}
-use Rattle.lwkt_bank.specs.Views.{looked, load, exchange}
+use Rattle.lwkt_bank.specs.Views.{looked}
+use Rattle.lwkt_bank.specs.Deeds.{loads, loses}
+use Rattle.lwkt_core.specs.History.{steps_in}
 use Rattle.lwkt_hold.specs.declared.answers.Missed.{Missed}
 use Rattle.lwkt_hold.specs.Runs.{Ran}
 use Rattle.lwkt_hold.specs.Misses.{Misses}
@@ -19,11 +21,12 @@ use Rattle.lwkt_hold.specs.Rows.{row, first_row, SameRow, IsClean}
 use Rattle.lwkt_hold.specs.Takings.{TakesRows}
 use Rattle.lwkt_hold.proofs.HoldingMoves.{holding_of_more, removed_added}
 use Rattle.lwkt_hold.proofs.GiveMoves.{more_here, held_more}
+use Rattle.lwkt_hold.proofs.RunMoves.{ran_steps}
 use Rattle.lwkt_hold.proofs.TakeMoves.{unused, looked-held}
 
 -- a change of one token by which references are taken: if it was held, its row and first row stay; if it is held from now on,
 -- its row is its first row
-pub takes_changed : (s s' : CpuSeat) (tok : ℕ) (e : Entry) (made : List WordStep) → Changes s s' tok e made → (is_held (holding s tok) ≡ true → (e.row ≡ row s tok) × (e.first ≡ first_row s tok)) → (is_held (holding s tok) ≡ false → is_held e.held ≡ true → e.row ≡ e.first) → TakesRows s s'
+pub takes_changed : (s s' : CpuSeat) (tok : ℕ) (e : Entry) (made : List Deed) → Changes s s' tok e made → (is_held (holding s tok) ≡ true → (e.row ≡ row s tok) × (e.first ≡ first_row s tok)) → (is_held (holding s tok) ≡ false → is_held e.held ≡ true → e.row ≡ e.first) → TakesRows s s'
 takes_changed s s' tok e made c stays begins = record {
   kept = λ other held. elim (cases_Bool (eqb other tok)) [
     | inl is ↦
@@ -83,7 +86,7 @@ looked-first : (e : Entry) (word : ℕ) → (looked e word).first ≡ e.first
 looked-first e word = looked-first_if (eqb e.generation (word / 262144)) e (word / 262144)
 
 -- a mark leaves every row as it was
-pub stepped_rows : (s s' : CpuSeat) (tok : ℕ) (made : List WordStep) → Changes s s' tok (entry s tok) made → (other : ℕ) → SameRow s s' other
+pub stepped_rows : (s s' : CpuSeat) (tok : ℕ) (made : List Deed) → Changes s s' tok (entry s tok) made → (other : ℕ) → SameRow s s' other
 stepped_rows s s' tok made c other = elim (cases_Bool (eqb other tok)) [
   | inl is ↦
       let same = eqb-true other tok is in
@@ -137,10 +140,10 @@ module _ (s : CpuSeat) (refs : List Ref) (count given : ℕ) (more : given < cou
 -- a missed try stays among the steps when there are steps before and after it
 pub misses_between : (P Q : Holding → Type 0) (m n : ℕ) (a b c d : CpuSeat) (t u v w : Vec Event Global) (refs : List Ref) (place : ℕ) (why : Missed) → Ran P m a b t u → Misses b c refs place why → Ran Q n c d v w → Misses a d refs place why
 misses_between P Q m n a b c d t u v w refs place why before miss after = record {
-  earlier = before.made ++ miss.earlier;
+  earlier = steps_in before.deeds ++ miss.earlier;
   missed = miss.missed;
-  later = miss.later ++ after.made;
-  steps = after.steps ∙ ap (λ xs. xs ++ after.made) (miss.steps ∙ ap (λ xs. xs ++ (miss.earlier ++ (miss.missed ++ miss.later))) before.steps) ∙ simp append_assoc;
+  later = miss.later ++ steps_in after.deeds;
+  steps = ran_steps Q n c d v w after ∙ ap (λ xs. xs ++ steps_in after.deeds) (miss.steps ∙ ap (λ xs. xs ++ (miss.earlier ++ (miss.missed ++ miss.later))) (ran_steps P m a b t u before)) ∙ simp append_assoc;
   is_miss = miss.is_miss;
 }
 
@@ -148,7 +151,7 @@ misses_between P Q m n a b c d t u v w refs place why before miss after = record
 pub looked_rows : (s s' : CpuSeat) (tok word : ℕ) → holding s tok ≡ Nothing → Looked s s' tok word → TakesRows s s'
 looked_rows s s' tok word free l =
     let e = entry s tok in
-    takes_changed s s' tok (looked e word) (load tok word ∷ []) l.changes
+    takes_changed s s' tok (looked e word) (loads s.cpu tok word ∷ []) l.changes
     (λ held. (looked-row e word, looked-first e word))
     (λ none held. absurd (false≢true (sym (ap is_held (looked-held e word ∙ free)) ∙ held)))
 
@@ -156,6 +159,6 @@ pub lost_rows : (s s' : CpuSeat) (tok : ℕ) (mode : Mode) (alone : Bool) → ho
 lost_rows s s' tok mode alone free l =
     let e = entry s tok in
     let m = looked e l.word in
-    takes_changed s s' tok (looked m l.found) (load tok l.word ∷ exchange tok l.word l.next l.found ∷ []) l.changes
+    takes_changed s s' tok (looked m l.found) (loads s.cpu tok l.word ∷ loses s.cpu tok l.word l.next l.found ∷ []) l.changes
     (λ held. (looked-row m l.found ∙ looked-row e l.word, looked-first m l.found ∙ looked-first e l.word))
     (λ none held. absurd (false≢true (sym (ap is_held (looked-held m l.found ∙ looked-held e l.word ∙ free)) ∙ held)))

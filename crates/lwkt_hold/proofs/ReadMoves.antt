@@ -1,9 +1,11 @@
-use Rattle.std.proofs.Common.{◌≡◌, ℕ, ◌+◌, ◌≤◌, Bool, true, false, eqb, List, [], ◌∷◌, ◌++◌, length, refl, ap, sym, ◌∙◌, arith, eq-eqb, ne_eqb, Option, Some, None}
-use Rattle.std.specs.Prelude.{fold, Vec, vec_len, vec_capacity}
+use Rattle.std.proofs.Common.{◌≡◌, ℕ, ◌+◌, ◌≤◌, Bool, true, false, cond, eqb, List, [], ◌∷◌, ◌++◌, length, take, refl, ap, sym, ◌∙◌, subst, arith, eq-eqb, ne_eqb, Option, Some, None, inl, inr}
+use Rattle.std.specs.Prelude.{fold, slice_index, filter, Vec, vec_len, vec_capacity}
 use Rattle.std.specs.Option.{option_or}
+use Rattle.std.specs.List.{AllZip}
 use Rattle.std.specs.declared.alloc.Global.{Global}
-use Rattle.std.proofs.lemmas.Bool.{eqb-true, eqb-false}
+use Rattle.std.proofs.lemmas.Bool.{eqb-true, eqb-false, cases_lt}
 use Rattle.std.proofs.lemmas.List.{take_all, append-nil}
+use Rattle.std.proofs.lemmas.Grind.{common_steps}
 use Rattle.std.proofs.lemmas.List.Elements.{All-from_recursion}
 use Rattle.lwkt_core.specs.Events.{cpu_of}
 use Rattle.std.proofs.Math.Path.{fun_ext}
@@ -18,12 +20,19 @@ use Rattle.lwkt_base.specs.Refs.{first_mode}
 use Rattle.lwkt_base.specs.Holding.{Holding, is_held, is_exclusive, one_more, added, holding_of, holds_nothing}
 use Rattle.lwkt_core.specs.declared.events.Event.{Event}
 use Rattle.lwkt_core.specs.declared.events.Event.TheVariants.{Read, Write}
+use Rattle.lwkt_core.specs.declared.seats.WordStep.{WordStep}
+use Rattle.lwkt_core.specs.declared.seats.Deed.{Deed}
+use Rattle.lwkt_core.specs.History.{events_in, steps_in}
+use Rattle.lwkt_core.proofs.HistoryLemmas.{own-nil}
 use Rattle.lwkt_bank.specs.declared.views.Entry.{Entry}
 use Rattle.lwkt_bank.specs.declared.seats.CpuSeat.{CpuSeat}
-use Rattle.lwkt_bank.specs.Seats.{holding, steps_of, Changes, Knowing, IsUnchanged}
+use Rattle.lwkt_bank.specs.Views.{is_touched}
+use Rattle.lwkt_bank.specs.Deeds.{reads, writes}
+use Rattle.lwkt_bank.specs.Seats.{entry, holding, Changes, Knowing, IsUnchanged, first_load}
 use Rattle.lwkt_hold.specs.Fronts.{IsFront}
+use Rattle.lwkt_hold.specs.Steps.{is_counted, Shows, Tells}
 use Rattle.lwkt_hold.specs.Runs.{Ran}
-use Rattle.lwkt_hold.proofs.RunMoves.{ran_none, ran_weaker, ran_step, holding_kept}
+use Rattle.lwkt_hold.proofs.RunMoves.{tells_one, ran_none, ran_weaker, ran_step, holding_kept}
 
 -- nothing was done
 pub ran_still : (P : Holding → Type 0) (most : ℕ) (s : CpuSeat) (t : Vec Event Global) → Ran P most s s t t
@@ -32,6 +41,31 @@ ran_still P most s t = ran_weaker P P 0 most s s t t (λ h p. p) (omega arith) (
 -- what a list holds is a front of it
 pub whole_front : (refs : List Ref) (h : Holding) → h ≡ holding_of refs → IsFront refs h
 whole_front refs h is = (length refs, is ∙ ap holding_of (sym (take_all (length refs) refs (omega arith))))
+
+-- the first few of the first few
+pub take_within : (n k : ℕ) (refs : List Ref) → n ≤ k → take n (take k refs) ≡ take n refs
+take_within n k refs below = grind (arith, common_steps)
+
+-- a front within another is a front of it
+pub front_within : (refs : List Ref) (n k : ℕ) (h : Holding) → n ≤ k → h ≡ holding_of (take n refs) → IsFront (take k refs) h
+front_within refs n k h below is = (n, is ∙ ap holding_of (sym (take_within n k refs below)))
+
+-- a front of the first few is one of the whole list
+pub front_of_few : (refs : List Ref) (k : ℕ) (h : Holding) → IsFront (take k refs) h → IsFront refs h
+front_of_few refs k h front = elim (cases_lt front.0 k) [
+  | inl below ↦ (front.0, front.1 ∙ ap holding_of (take_within front.0 k refs (omega arith)))
+  | inr above ↦ (k, front.1 ∙ ap holding_of (take_above front.0 above))
+]
+  where
+    take_above : (n : ℕ) → k ≤ n → take n (take k refs) ≡ take k refs
+    take_above n more = grind (arith, common_steps)
+
+-- the empty list's front is a front of any list
+pub front_none : (refs : List Ref) (h : Holding) → IsFront [] h → IsFront refs h
+front_none refs h front = (0, front.1 ∙ ap holding_of (take_none front.0))
+  where
+    take_none : (n : ℕ) → take n [] ≡ take 0 refs
+    take_none n = grind (arith, common_steps)
 
 -- the mode of what is held
 abbrev pub mode_of : Held → Option Mode
@@ -78,15 +112,29 @@ pub exclusive_listed : (s : CpuSeat) (refs : List Ref) (tok : ℕ) → holding s
 exclusive_listed s refs tok front is = ap (λ h. is_exclusive (h tok)) front ∙ exclusive_if_mode (holding_of refs tok) (modes refs tok ∙ is)
 
 -- a cell was read, and a cell was stored to
-pub read_ran : (refs : List Ref) (s s' : CpuSeat) (tok : TokId) (e : Entry) (cpu : CpuId) (cell value : ℕ) (t u : Vec Event Global) → Changes s s' tok.0 e [] → e.held ≡ holding s tok.0 → holding s ≡ holding_of refs → cpu ≡ s.cpu → u.items ≡ t.items ++ Read cpu tok cell value ∷ [] → vec_len u ≡ vec_len t + 1 → vec_capacity t ≤ vec_capacity u → Ran (IsFront refs) 1 s s' t u
+pub read_ran : (refs : List Ref) (s s' : CpuSeat) (tok : TokId) (e : Entry) (cpu : CpuId) (cell value : ℕ) (t u : Vec Event Global) → Changes s s' tok.0 e (reads s.cpu tok.0 cell value ∷ []) → e.held ≡ holding s tok.0 → holding s ≡ holding_of refs → cpu ≡ s.cpu → u.items ≡ t.items ++ Read cpu tok cell value ∷ [] → vec_len u ≡ vec_len t + 1 → vec_capacity t ≤ vec_capacity u → Ran (IsFront refs) 1 s s' t u
 read_ran refs s s' tok e cpu cell value t u c held front mine pushed longer room =
-    let kept = holding_kept s s' tok.0 e [] c held in
-    ran_step (IsFront refs) s s' tok.0 e [] (Read cpu tok cell value) t u c pushed longer room (ap (λ (x : CpuId). x.0) mine) tt kept (whole_front refs (holding s') (kept ∙ front))
+    let deeds = reads s.cpu tok.0 cell value ∷ [] in
+    let kept = holding_kept s s' tok.0 e deeds c held in
+    ran_step (IsFront refs) s s' tok.0 e deeds (Read cpu tok cell value) t u c pushed longer room (ap (λ (x : CpuId). x.0) mine) (tells_one (Read s.cpu tok cell value) (Read cpu tok cell value) refl (ap (λ (x : CpuId). Read x tok cell value) mine)) tt kept (whole_front refs (holding s') (kept ∙ front))
 
-pub write_ran : (refs : List Ref) (s s' : CpuSeat) (tok : TokId) (e : Entry) (cpu : CpuId) (cell value : ℕ) (t u : Vec Event Global) → Knowing s s' tok.0 e → e.held ≡ holding s tok.0 → holding s ≡ holding_of refs → cpu ≡ s.cpu → u.items ≡ t.items ++ Write cpu tok cell value ∷ [] → vec_len u ≡ vec_len t + 1 → vec_capacity t ≤ vec_capacity u → Ran (IsFront refs) 1 s s' t u
-write_ran refs s s' tok e cpu cell value t u k held front mine pushed longer room =
-    let kept = holding_kept s s' tok.0 (record e { known = k.known }) [] k.changes held in
-    ran_step (IsFront refs) s s' tok.0 (record e { known = k.known }) [] (Write cpu tok cell value) t u k.changes pushed longer room (ap (λ (x : CpuId). x.0) mine) tt kept (whole_front refs (holding s') (kept ∙ front))
+-- loads of cells that weren't asked for are told by no trace
+pub tells_write : (s : CpuSeat) (tok : TokId) (cpu : CpuId) (cell value : ℕ) → cpu ≡ s.cpu → Tells (Write s.cpu tok cell value ∷ []) (Write cpu tok cell value ∷ [])
+tells_write s tok cpu cell value mine = tells_one (Write s.cpu tok cell value) (Write cpu tok cell value) refl (ap (λ (x : CpuId). Write x tok cell value) mine)
+
+pub tells_store : (s : CpuSeat) (tok : TokId) (cpu : CpuId) (cell value : ℕ) → cpu ≡ s.cpu
+    → Tells (events_in (first_load s.cpu tok.0 (entry s tok.0) cell ++ writes s.cpu tok.0 cell value ∷ [])) (Write cpu tok cell value ∷ []) × (steps_in (first_load s.cpu tok.0 (entry s tok.0) cell ++ writes s.cpu tok.0 cell value ∷ []) ≡ [])
+tells_store s tok cpu cell value mine = go (is_touched (entry s tok.0) cell)
+  where
+    go : (b : Bool) → Tells (events_in (cond b [] (reads s.cpu tok.0 cell (slice_index (entry s tok.0).first cell) ∷ []) ++ writes s.cpu tok.0 cell value ∷ [])) (Write cpu tok cell value ∷ []) × (steps_in (cond b [] (reads s.cpu tok.0 cell (slice_index (entry s tok.0).first cell) ∷ []) ++ writes s.cpu tok.0 cell value ∷ []) ≡ [])
+    go true = (tells_write s tok cpu cell value mine, refl)
+    go false = (inl (refl, tells_write s tok cpu cell value mine), refl)
+
+pub write_ran : (refs : List Ref) (s s' : CpuSeat) (tok : TokId) (e : Entry) (deeds : List Deed) (cpu : CpuId) (cell value : ℕ) (t u : Vec Event Global) → Knowing s s' tok.0 e deeds → Tells (events_in deeds) (Write cpu tok cell value ∷ []) → steps_in deeds ≡ [] → e.held ≡ holding s tok.0 → holding s ≡ holding_of refs → cpu ≡ s.cpu → u.items ≡ t.items ++ Write cpu tok cell value ∷ [] → vec_len u ≡ vec_len t + 1 → vec_capacity t ≤ vec_capacity u → Ran (IsFront refs) 1 s s' t u
+write_ran refs s s' tok e deeds cpu cell value t u k tells off held front mine pushed longer room =
+    let kept = holding_kept s s' tok.0 (record e { known = k.known }) deeds k.changes held in
+    let F : List WordStep → Type 0 = λ xs. AllZip Shows (filter is_counted xs) [] in
+    ran_step (IsFront refs) s s' tok.0 (record e { known = k.known }) deeds (Write cpu tok cell value) t u k.changes pushed longer room (ap (λ (x : CpuId). x.0) mine) tells (subst F (sym off) tt) kept (whole_front refs (holding s') (kept ∙ front))
 
 -- a call that leaves the seat as it was
 pub unchanged_kept : (s s' : CpuSeat) → IsUnchanged s s' → holding s' ≡ holding s
@@ -96,8 +144,10 @@ pub unchanged_ran : (P : Holding → Type 0) (most : ℕ) (s s' : CpuSeat) (t : 
 unchanged_ran P most s s' t same = record {
   bank = same.bank;
   cpu = same.cpu;
-  made = [];
-  steps = same.steps ∙ sym (append-nil (steps_of s));
+  deeds = [];
+  grows = same.past;
+  mine = own-nil s.cpu.0;
+  tells = refl;
   done = [];
   trace = sym (append-nil t.items);
   own = All-from_recursion (λ (e : Event). cpu_of e ≡ s.cpu.0) [] tt;

@@ -1,4 +1,4 @@
-use Rattle.std.specs.Prelude.{◌≡◌, ◌≢◌, ◌⊎◌, ℕ, ◌==◌, ◌<◌, if◌then◌else◌, List, [], ◌∷◌, ◌++◌, Option, Some, slice_get}
+use Rattle.std.specs.Prelude.{◌≡◌, ◌≢◌, ◌⊎◌, ℕ, Bool, ◌==◌, ◌<◌, if◌then◌else◌, List, [], ◌∷◌, ◌++◌, Option, Some, slice_get}
 use Rattle.lwkt_base.specs.declared.names.CpuId.{CpuId}
 use Rattle.lwkt_base.specs.declared.names.TokId.{TokId}
 use Rattle.lwkt_base.specs.declared.names.Mode.TheVariants.{Exclusive, Shared}
@@ -10,7 +10,7 @@ use Rattle.lwkt_core.specs.declared.events.Event.{Event}
 use Rattle.lwkt_core.specs.declared.events.Event.TheVariants.{GiveOne, GiveClean, GiveWritten}
 use Rattle.lwkt_bank.specs.declared.seats.CpuSeat.{CpuSeat}
 use Rattle.lwkt_bank.specs.Seats.{bank_of, plan_of, holding, written_over}
-use Rattle.lwkt_hold.specs.Rows.{row, first_row, MeetsItsLaw, writes}
+use Rattle.lwkt_hold.specs.Rows.{row, first_row, MeetsItsLaw, GivesBack, writes}
 
 -- the event of giving a reference to a token back of which so much is held, and whose row is its first row
 abbrev pub gives : CpuId → TokId → Held → Event
@@ -38,11 +38,23 @@ pub record StoresFirst (s : CpuSeat) (tok : ℕ) (values : List (Option ℕ)) : 
 
 -- the events of giving a reference back to a token of which so much is held: one reference less; or the end of a section, which
 -- is clean or written, and where the law is broken the stores of first values and then a clean end (own)
-pub record Releases (s : CpuSeat) (held : Held) (tok : TokId) (events : List Event) : Type 0 where
-  pub one : held ≢ Holds Exclusive 0 → events ≡ GiveOne s.cpu tok ∷ []
-  pub clean : held ≡ Holds Exclusive 0 → MeetsItsLaw s tok.0 → row s tok.0 ≡ first_row s tok.0 → events ≡ GiveClean s.cpu tok ∷ []
-  pub written : held ≡ Holds Exclusive 0 → MeetsItsLaw s tok.0 → row s tok.0 ≢ first_row s tok.0 → events ≡ GiveWritten s.cpu tok ∷ []
-  pub restored : held ≡ Holds Exclusive 0 → ¬ MeetsItsLaw s tok.0 → (values : List (Option ℕ)) × (StoresFirst s tok.0 values × (events ≡ writes s.cpu tok 0 values ++ GiveClean s.cpu tok ∷ []))
+abbrev pub Releases : CpuSeat → Held → TokId → List Event → Type 0
+Releases s held tok events =
+    ((held ≢ Holds Exclusive 0) × (events ≡ GiveOne s.cpu tok ∷ []))
+    ⊎ ((held ≡ Holds Exclusive 0) × MeetsItsLaw s tok.0 × (row s tok.0 ≡ first_row s tok.0) × (events ≡ GiveClean s.cpu tok ∷ []))
+    ⊎ ((held ≡ Holds Exclusive 0) × MeetsItsLaw s tok.0 × (row s tok.0 ≢ first_row s tok.0) × (events ≡ GiveWritten s.cpu tok ∷ []))
+    ⊎ ((held ≡ Holds Exclusive 0) × ¬ MeetsItsLaw s tok.0 × ((values : List (Option ℕ)) × (StoresFirst s tok.0 values × (events ≡ writes s.cpu tok 0 values ++ GiveClean s.cpu tok ∷ []))))
+
+-- what the release of the last reference of a list tells, which is to this token: the list is the rest, the events are those of
+-- giving the reference back, and its section's first row was stored again or not
+pub record ReleasesLast (old new : CpuSeat) (refs rest : List Ref) (tok : TokId) (restored : Bool) (before now : List Event) : Type 0 where
+  pub last : Ref
+  pub popped : refs ≡ rest ++ last ∷ []
+  pub to_it : last.tok.0 ≡ tok.0
+  pub done : List Event
+  pub told : now ≡ before ++ done
+  pub releases : Releases old (holding old tok.0) tok done
+  pub rows : GivesBack old new tok.0 restored
 
 -- the events of giving references back in reverse order, those in front of them staying held
 abbrev pub ReleasesAll : CpuSeat → List Ref → List Ref → List Event → Type 0

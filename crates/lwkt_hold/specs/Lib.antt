@@ -6,3 +6,4 @@ pub mod Rows
 pub mod Takings
 pub mod Givings
 pub mod Holds
+pub mod Laws

@@ -3,28 +3,31 @@ use Rattle.std.specs.List.{AllZip}
 use Rattle.std.specs.declared.alloc.Global.{Global}
 use Rattle.lwkt_base.specs.Holding.{Holding}
 use Rattle.lwkt_core.specs.declared.events.Event.{Event}
-use Rattle.lwkt_core.specs.declared.seats.WordStep.{WordStep}
+use Rattle.lwkt_core.specs.declared.seats.Deed.{Deed}
+use Rattle.lwkt_core.specs.History.{AreOwn, Grows, events_in, steps_in}
 use Rattle.lwkt_core.specs.Events.{cpu_of}
 use Rattle.lwkt_bank.specs.declared.seats.CpuSeat.{CpuSeat}
-use Rattle.lwkt_bank.specs.Seats.{bank_of, holding, steps_of}
-use Rattle.lwkt_hold.specs.Steps.{after, is_counted, is_on_word, Shows}
+use Rattle.lwkt_bank.specs.Seats.{bank_of, holding, past_of}
+use Rattle.lwkt_hold.specs.Steps.{after, is_counted, is_on_word, Shows, Tells}
 
 -- the holding goes from one to the other by these events, and after each of them it is such a one
 abbrev pub Moves : (Holding → Type 0) → Holding → List Event → Holding → Type 0
 Moves P h [] h' = h' ≡ h
 Moves P h (e ∷ events) h' = P (after e h) × Moves P (after e h) events h'
 
--- what a call does on a seat and a trace: the trace grows by the events of the seat's steps, in order and without those that
--- have none, and at most by so many; after each of them the holding is such a one; the trace has lost no room (own)
+-- what a call does on a seat and a trace: the trace grows by the events of the deeds by which what the seat has seen of the
+-- bank's history grows, in order, without looks at words and loads of cells that weren't asked for, and at most by so many; after each of them the holding is such a one; the trace has lost no room (own)
 pub record Ran (P : Holding → Type 0) (most : ℕ) (old new : CpuSeat) (before now : Vec Event Global) : Type 0 where
   pub bank : bank_of new ≡ bank_of old
   pub cpu : new.cpu ≡ old.cpu
-  pub made : List WordStep
-  pub steps : steps_of new ≡ steps_of old ++ made
+  pub deeds : List Deed
+  pub grows : Grows old.cpu.0 (past_of old) deeds (past_of new)
+  pub mine : AreOwn old.cpu.0 deeds
   pub done : List Event
   pub trace : now.items ≡ before.items ++ done
   pub own : All (λ e. cpu_of e ≡ old.cpu.0) done
-  pub told : AllZip Shows (filter is_counted made) (filter is_on_word done)
+  pub tells : Tells (events_in deeds) done
+  pub told : AllZip Shows (filter is_counted (steps_in deeds)) (filter is_on_word done)
   pub moves : Moves P (holding old) done (holding new)
   pub few : length done ≤ most
   pub grown : vec_len now ≡ vec_len before + length done

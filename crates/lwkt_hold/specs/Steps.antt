@@ -1,4 +1,4 @@
-use Rattle.std.specs.Prelude.{◌≡◌, ℕ, ◌==◌, Bool, true, false}
+use Rattle.std.specs.Prelude.{◌≡◌, ◌⊎◌, ℕ, ◌==◌, Bool, true, false, List, [], ◌∷◌}
 use Rattle.lwkt_base.specs.declared.names.CpuId.{CpuId}
 use Rattle.lwkt_base.specs.declared.names.TokId.{TokId}
 use Rattle.lwkt_base.specs.declared.names.Mode.{Mode}
@@ -40,6 +40,49 @@ has_event (Or bits) found = true
 
 abbrev pub is_counted : WordStep → Bool
 is_counted s = has_event s.operation s.found
+
+-- whether an event is a look at the word of a token, which no trace tells; and whether it is one or the load of a cell, which a
+-- trace tells only where it was asked for (own)
+abbrev pub is_look : Event → Bool
+is_look (Load cpu tok) = true
+is_look (Take cpu tok) = false
+is_look (Share cpu tok) = false
+is_look (Again cpu tok) = false
+is_look (Mark cpu tok) = false
+is_look (GiveOne cpu tok) = false
+is_look (GiveClean cpu tok) = false
+is_look (GiveWritten cpu tok) = false
+is_look (Read cpu tok cell value) = false
+is_look (Write cpu tok cell value) = false
+is_look (Send cpu msg to round) = false
+is_look (TakeMsg cpu msg round) = false
+is_look (DropMsg cpu msg) = false
+is_look (Reply cpu msg) = false
+is_look (Reap cpu msg) = false
+is_look (Abort cpu msg) = false
+
+abbrev pub may_be_untold : Event → Bool
+may_be_untold (Read cpu tok cell value) = true
+may_be_untold (Load cpu tok) = true
+may_be_untold (Take cpu tok) = false
+may_be_untold (Share cpu tok) = false
+may_be_untold (Again cpu tok) = false
+may_be_untold (Mark cpu tok) = false
+may_be_untold (GiveOne cpu tok) = false
+may_be_untold (GiveClean cpu tok) = false
+may_be_untold (GiveWritten cpu tok) = false
+may_be_untold (Write cpu tok cell value) = false
+may_be_untold (Send cpu msg to round) = false
+may_be_untold (TakeMsg cpu msg round) = false
+may_be_untold (DropMsg cpu msg) = false
+may_be_untold (Reply cpu msg) = false
+may_be_untold (Reap cpu msg) = false
+may_be_untold (Abort cpu msg) = false
+
+-- a trace tells these events in order, without the looks at words and without loads of cells that weren't asked for
+abbrev pub Tells : List Event → List Event → Type 0
+Tells [] told = told ≡ []
+Tells (e ∷ events) told = ((may_be_untold e ≡ true) × Tells events told) ⊎ ((is_look e ≡ false) × ((rest : List Event) × ((told ≡ e ∷ rest) × Tells events rest)))
 
 -- whether an event is a step on the word of a token
 abbrev pub is_on_word : Event → Bool

@@ -108,11 +108,13 @@ impl Hold {
         requires held { holding (seat_of self.old) ≡ holding_of list.old }
         requires room { vec_len trace.old + 256 ≤ vec_capacity trace.old }
         ensures ran { Ran (IsFront list.new) 2 (seat_of self.old) (seat_of self.new) trace.old trace.new }
+        ensures there { OnOk result (new.tok.0 < tokens_of (bank_of (seat_of self.old))) }
         ensures got { result ≡ Ok Acquired.Got → (list.new ≡ list.old ++ new ∷ []) × (holding (seat_of self.new) ≡ holding_of list.new)
             × (trace.new.items ≡ trace.old.items ++ takes (seat_of self.old).cpu list.old new ∷ []) }
         ensures rows { TakesRows (seat_of self.old) (seat_of self.new) }
         ensures must_switch { (why : Missed) → result ≡ Ok (Acquired.MustSwitch why)
             → (list.new ≡ list.old ++ new ∷ []) × (holding (seat_of self.new) ≡ holding_of list.old) × Misses (seat_of self.old) (seat_of self.new) list.new (length list.old) why }
+        ensures switched { (why : Missed) → result ≡ Ok (Acquired.MustSwitch why) → Ran (IsFront list.old) 2 (seat_of self.old) (seat_of self.new) trace.old trace.new }
         ensures not_worn { (why : Missed) → result ≡ Ok (Acquired.MustSwitch why) → why ≢ Missed.Worn }
         ensures marked { (why : Missed) → result ≡ Ok (Acquired.MustSwitch why) → new.mode ≡ Mode.Exclusive → trace.new.items ≡ trace.old.items ++ Event.Mark (seat_of self.old).cpu new.tok ∷ [] }
         ensures unmarked { (why : Missed) → result ≡ Ok (Acquired.MustSwitch why) → new.mode ≡ Mode.Shared → trace.new ≡ trace.old }
@@ -152,6 +154,7 @@ impl Hold {
         requires held { holding (seat_of self.old) ≡ holding_of list.old }
         requires room { vec_len trace.old + 256 ≤ vec_capacity trace.old }
         ensures ran { Ran (IsFront list.new) 1 (seat_of self.old) (seat_of self.new) trace.old trace.new }
+        ensures there { OnOk result (tok.0 < tokens_of (bank_of (seat_of self.old))) }
         ensures got { OnOk result ((list.new ≡ list.old ++ exclusive tok ∷ []) × (holding (seat_of self.new) ≡ holding_of list.new)
             × (trace.new.items ≡ trace.old.items ++ takes (seat_of self.old).cpu list.old (exclusive tok) ∷ [])) }
         ensures rows { TakesRows (seat_of self.old) (seat_of self.new) }

@@ -5,6 +5,7 @@ pub mod answers;
 mod gets;
 mod gives;
 pub mod holds;
+pub mod laws;
 mod reads;
 mod releases;
 mod resumes;

@@ -1,5 +1,5 @@
 //! References of a list given up: the last one, or all.
-ghost use Rattle.std.specs.Prelude.{◌≡◌, ◌≢◌, ◌⊎◌, ℕ, ◌+◌, ◌-◌, ◌*◌, ◌<◌, ◌≤◌, ◌↔◌, [], ◌∷◌, ◌++◌, true, false, List, length, take, Some, None, Ok, Err, Option, OnOk, OnErr, vec_len, vec_capacity};
+ghost use Rattle.std.specs.Prelude.{◌≡◌, ◌≢◌, ◌⊎◌, ℕ, ◌+◌, ◌-◌, ◌*◌, ◌<◌, ◌≤◌, ◌↔◌, [], ◌∷◌, ◌++◌, true, false, List, length, take, Some, None, Ok, Err, Option, OnOk, IfErr, vec_len, vec_capacity};
 ghost use Rattle.lwkt_base.specs.Holding.{holding_of, holds_nothing};
 ghost use Rattle.lwkt_base.specs.Refs.{first_mode, IsLastTo};
 ghost use Rattle.lwkt_bank.specs.Seats.{id_of, bank_of, holding};
@@ -17,8 +17,8 @@ use lwkt_core::Event;
 
 impl Hold {
     ghost use Rattle.lwkt_hold.specs.Holds.{seat_of};
-    ghost use Rattle.lwkt_hold.specs.Rows.{GivesBack, GivenUp, Blocks};
-    ghost use Rattle.lwkt_hold.specs.Givings.{Releases, ReleasesAll};
+    ghost use Rattle.lwkt_hold.specs.Rows.{GivenUp, Blocks};
+    ghost use Rattle.lwkt_hold.specs.Givings.{ReleasesLast, ReleasesAll};
     ghost use Rattle.lwkt_core.specs.declared.events.Event.{Event};
 
     /// Gives the last reference back, which has to be to this token. That the holding is the list's and that the
@@ -39,14 +39,11 @@ impl Hold {
         requires room { vec_len trace.old + 256 ≤ vec_capacity trace.old }
         ensures ran { Ran (IsFront list.old) 5 (seat_of self.old) (seat_of self.new) trace.old trace.new }
         ensures held { holding (seat_of self.new) ≡ holding_of list.new }
-        ensures events { ((result ≡ Ok tt) ⊎ (result ≡ Err Fault.Broken)) → (done : List Event) × ((trace.new.items ≡ trace.old.items ++ done) × Releases (seat_of self.old) (holding (seat_of self.old) tok.0) tok done) }
-        ensures popped { ((result ≡ Ok tt) ⊎ (result ≡ Err Fault.Broken)) → (r : Ref) × ((list.old ≡ list.new ++ r ∷ []) × (r.tok.0 ≡ tok.0)) }
-        ensures ok { OnOk result (GivesBack (seat_of self.old) (seat_of self.new) tok.0 false) }
-        ensures broken { result ≡ Err Fault.Broken → GivesBack (seat_of self.old) (seat_of self.new) tok.0 true }
+        ensures ok { OnOk result (ReleasesLast (seat_of self.old) (seat_of self.new) list.old list.new tok false trace.old.items trace.new.items) }
+        ensures err { IfErr result (λ fault. ((fault ≡ Fault.Broken) × ReleasesLast (seat_of self.old) (seat_of self.new) list.old list.new tok true trace.old.items trace.new.items)
+            ⊎ (((fault ≡ Fault.NotHeld) ⊎ (fault ≡ Fault.NotLast)) × (self.new ≡ self.old) × (list.new ≡ list.old) × (trace.new ≡ trace.old))) }
         ensures not_held { (result ≡ Err Fault.NotHeld) ↔ (first_mode list.old tok.0 ≡ None) }
         ensures not_last { (result ≡ Err Fault.NotLast) ↔ ((first_mode list.old tok.0 ≢ None) × ¬ IsLastTo list.old tok.0) }
-        ensures refused { ((result ≡ Err Fault.NotHeld) ⊎ (result ≡ Err Fault.NotLast)) → (self.new ≡ self.old) × (list.new ≡ list.old) × (trace.new ≡ trace.old) }
-        ensures only { OnErr result ((result ≡ Err Fault.NotHeld) ⊎ (result ≡ Err Fault.NotLast) ⊎ (result ≡ Err Fault.Broken)) }
     {
         list.pop(tok)?;
         if give_last(&mut self.seat, bank, tok, trace) {
@@ -69,7 +66,7 @@ impl Hold {
         requires within { held ≤ length list.now }
         requires held { holding (seat_of self.old) ≡ holding_of (take held list.now) }
         requires room { vec_len trace.old + 256 ≤ vec_capacity trace.old }
-        ensures ran { Ran (IsFront list.now) 160 (seat_of self.old) (seat_of self.new) trace.old trace.new }
+        ensures ran { Ran (IsFront (take held list.now)) 160 (seat_of self.old) (seat_of self.new) trace.old trace.new }
         ensures empty { holding (seat_of self.new) ≡ holds_nothing }
         ensures rows { GivenUp (seat_of self.old) (seat_of self.new) }
         ensures events { (done : List Event) × ((trace.new.items ≡ trace.old.items ++ done) × ReleasesAll (seat_of self.old) [] (take held list.now) done) }

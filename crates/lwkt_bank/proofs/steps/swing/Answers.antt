@@ -1,6 +1,7 @@
-use Rattle.std.proofs.Common.{Bool, subst}
+use Rattle.std.proofs.Common.{Bool, sym, subst}
 use Rattle.lwkt_base.specs.declared.names.Mode.{Mode}
 use Rattle.lwkt_base.specs.declared.words.Decision.TheVariants.{Take}
+use Rattle.lwkt_bank.specs.Plays.{Amid, Exchanges}
 use Rattle.lwkt_bank.specs.Seats.{Decides}
 use Rattle.lwkt_bank.proofs.CallMoves.{take_asks, share_asks}
 use Rattle.lwkt_bank.proofs.steps.swing.Goals as goal
@@ -14,3 +15,15 @@ pub compare_exchange-requires-in-Shared : goal.compare_exchange-requires-in-Shar
 compare_exchange-requires-in-Shared c =
     let F : Mode → Type 0 = λ m. (alone : Bool) × Decides c.args.old m alone (Take c.args.new) in
     share_asks c.args.bank.now c.args.seat.now c.args.tok.0 c.requires.of c.requires.there c.word_of_token-word.result c.word_of_token-word.ensures c.args.old c.args.new (subst F c.in-Shared.is c.requires.decided) c.requires.free c.requires.few
+
+pub returns-in-Exclusive-clause-exchanges : goal.returns-in-Exclusive-clause-exchanges
+returns-in-Exclusive-clause-exchanges c =
+    let v = c.args.seat.now.me.0 in
+    let F : Mode → Type 0 = λ m. Amid v (λ between. Exchanges m c.args.old c.args.new between c.args.tok.0 v c.compare_exchange.result c.compare_exchange.new.seat.me.0) in
+    subst F (sym c.in-Exclusive.is) (c.compare_exchange.ensures.2.1 c.args.tok.0 c.word_of_token-word.ensures)
+
+pub returns-in-Shared-clause-exchanges : goal.returns-in-Shared-clause-exchanges
+returns-in-Shared-clause-exchanges c =
+    let v = c.args.seat.now.me.0 in
+    let F : Mode → Type 0 = λ m. Amid v (λ between. Exchanges m c.args.old c.args.new between c.args.tok.0 v c.compare_exchange-in-Shared.result c.compare_exchange-in-Shared.new.seat.me.0) in
+    subst F (sym c.in-Shared.is) (c.compare_exchange-in-Shared.ensures.2.1 c.args.tok.0 c.word_of_token-word.ensures)

@@ -1,5 +1,7 @@
 use Rattle.std.proofs.Common.{true, false, refl, ap, sym, ◌∙◌, [], ◌∷◌, get_or}
-use Rattle.lwkt_bank.specs.Views.{load, exchange, add, more, taken}
+use Rattle.lwkt_bank.specs.Views.{load, exchange, more, taken}
+use Rattle.lwkt_bank.specs.Deeds.{loads, takes, adds_one}
+use Rattle.lwkt_hold.proofs.RunMoves.{changed_steps}
 use Rattle.lwkt_bank.specs.Seats.{entry}
 use Rattle.std.proofs.lemmas.Bool.{false≢true}
 use Rattle.lwkt_base.specs.Holding.{is_held}
@@ -41,7 +43,7 @@ pub returns-in-Busy-clause-kept : goal.returns-in-Busy-clause-kept
 returns-in-Busy-clause-kept c = looked_kept c.args.seat.now c.try_take.new.self (get_or c.args.refs.now c.args.at unused).tok.0 c.in-Busy.word c.in-Busy.ensures.1
 
 pub returns-in-Busy-clause-missed : goal.returns-in-Busy-clause-missed
-returns-in-Busy-clause-missed c = misses c.args.seat.now c.try_take.new.self c.args.refs.now c.args.at unused c.has_only-alone.result (Busy c.in-Busy.word) (load (get_or c.args.refs.now c.args.at unused).tok.0 c.in-Busy.word ∷ []) c.requires.within c.has_only-alone.ensures (front_names c.args.seat.now c.args.refs.now c.args.at (get_or c.args.refs.now c.args.at unused).tok.0 c.held.result c.is_held.result false c.requires.front c.held.ensures c.is_held.ensures c.if-is_held.false) c.in-Busy.ensures.1.changes.steps (c.in-Busy.ensures.0, refl)
+returns-in-Busy-clause-missed c = misses c.args.seat.now c.try_take.new.self c.args.refs.now c.args.at unused c.has_only-alone.result (Busy c.in-Busy.word) (load (get_or c.args.refs.now c.args.at unused).tok.0 c.in-Busy.word ∷ []) c.requires.within c.has_only-alone.ensures (front_names c.args.seat.now c.args.refs.now c.args.at (get_or c.args.refs.now c.args.at unused).tok.0 c.held.result c.is_held.result false c.requires.front c.held.ensures c.is_held.ensures c.if-is_held.false) (changed_steps c.args.seat.now c.try_take.new.self (get_or c.args.refs.now c.args.at unused).tok.0 _ _ c.in-Busy.ensures.1.changes) (c.in-Busy.ensures.0, refl)
 
 pub returns-in-Again-clause-ran : goal.returns-in-Again-clause-ran
 returns-in-Again-clause-ran c = lost_ran (IsFront c.args.refs.now) c.args.seat.now c.try_take.new.self (get_or c.args.refs.now c.args.at unused).tok.0 (get_or c.args.refs.now c.args.at unused).mode c.has_only-alone.result c.args.trace.now c.in-Again.ensures
@@ -53,7 +55,7 @@ pub returns-in-Again-clause-missed : goal.returns-in-Again-clause-missed
 returns-in-Again-clause-missed c =
     let l = c.in-Again.ensures in
     let r = get_or c.args.refs.now c.args.at unused in
-    misses c.args.seat.now c.try_take.new.self c.args.refs.now c.args.at unused c.has_only-alone.result Again (load r.tok.0 l.word ∷ exchange r.tok.0 l.word l.next l.found ∷ []) c.requires.within c.has_only-alone.ensures (front_names c.args.seat.now c.args.refs.now c.args.at (get_or c.args.refs.now c.args.at unused).tok.0 c.held.result c.is_held.result false c.requires.front c.held.ensures c.is_held.ensures c.if-is_held.false) l.changes.steps (l.word, l.next, l.found, (l.decided, l.other, refl))
+    misses c.args.seat.now c.try_take.new.self c.args.refs.now c.args.at unused c.has_only-alone.result Again (load r.tok.0 l.word ∷ exchange r.tok.0 l.word l.next l.found ∷ []) c.requires.within c.has_only-alone.ensures (front_names c.args.seat.now c.args.refs.now c.args.at (get_or c.args.refs.now c.args.at unused).tok.0 c.held.result c.is_held.result false c.requires.front c.held.ensures c.is_held.ensures c.if-is_held.false) (changed_steps c.args.seat.now c.try_take.new.self r.tok.0 _ _ l.changes) (l.word, l.next, l.found, (l.decided, l.other, refl))
 
 pub returns-in-Worn-clause-ran : goal.returns-in-Worn-clause-ran
 returns-in-Worn-clause-ran c = looked_ran (IsFront c.args.refs.now) c.args.seat.now c.try_take.new.self (get_or c.args.refs.now c.args.at unused).tok.0 c.in-Worn.ensures.0 c.args.trace.now c.in-Worn.ensures.1.1
@@ -62,14 +64,14 @@ pub returns-in-Worn-clause-kept : goal.returns-in-Worn-clause-kept
 returns-in-Worn-clause-kept c = looked_kept c.args.seat.now c.try_take.new.self (get_or c.args.refs.now c.args.at unused).tok.0 c.in-Worn.ensures.0 c.in-Worn.ensures.1.1
 
 pub returns-in-Worn-clause-missed : goal.returns-in-Worn-clause-missed
-returns-in-Worn-clause-missed c = misses c.args.seat.now c.try_take.new.self c.args.refs.now c.args.at unused c.has_only-alone.result Worn (load (get_or c.args.refs.now c.args.at unused).tok.0 c.in-Worn.ensures.0 ∷ []) c.requires.within c.has_only-alone.ensures (front_names c.args.seat.now c.args.refs.now c.args.at (get_or c.args.refs.now c.args.at unused).tok.0 c.held.result c.is_held.result false c.requires.front c.held.ensures c.is_held.ensures c.if-is_held.false) c.in-Worn.ensures.1.1.changes.steps (c.in-Worn.ensures.0, (c.in-Worn.ensures.1.0, refl))
+returns-in-Worn-clause-missed c = misses c.args.seat.now c.try_take.new.self c.args.refs.now c.args.at unused c.has_only-alone.result Worn (load (get_or c.args.refs.now c.args.at unused).tok.0 c.in-Worn.ensures.0 ∷ []) c.requires.within c.has_only-alone.ensures (front_names c.args.seat.now c.args.refs.now c.args.at (get_or c.args.refs.now c.args.at unused).tok.0 c.held.result c.is_held.result false c.requires.front c.held.ensures c.is_held.ensures c.if-is_held.false) (changed_steps c.args.seat.now c.try_take.new.self (get_or c.args.refs.now c.args.at unused).tok.0 _ _ c.in-Worn.ensures.1.1.changes) (c.in-Worn.ensures.0, (c.in-Worn.ensures.1.0, refl))
 
 pub returns-then-is_held-clause-rows : goal.returns-then-is_held-clause-rows
 returns-then-is_held-clause-rows c =
     let s = c.args.seat.now in
     let tok = (get_or c.args.refs.now c.args.at unused).tok.0 in
     let held = held_in_front s c.args.refs.now c.args.at tok c.requires.front (front_names c.args.seat.now c.args.refs.now c.args.at (get_or c.args.refs.now c.args.at unused).tok.0 c.held.result c.is_held.result true c.requires.front c.held.ensures c.is_held.ensures c.if-is_held.true) in
-    takes_changed s c.again.new.self tok (more (entry s tok)) (add tok 4 c.again.ensures.found ∷ []) c.again.ensures.changes (λ was. (refl, refl)) (λ free now. absurd (false≢true (sym free ∙ held)))
+    takes_changed s c.again.new.self tok (more (entry s tok)) (adds_one s.cpu tok c.again.ensures.found ∷ []) c.again.ensures.changes (λ was. (refl, refl)) (λ free now. absurd (false≢true (sym free ∙ held)))
 
 pub returns-in-Got-clause-rows : goal.returns-in-Got-clause-rows
 returns-in-Got-clause-rows c =
@@ -77,7 +79,7 @@ returns-in-Got-clause-rows c =
     let r = get_or c.args.refs.now c.args.at unused in
     let took = c.in-Got.ensures in
     let free = free_in_front s c.args.refs.now c.args.at r.tok.0 c.requires.front (front_names c.args.seat.now c.args.refs.now c.args.at (get_or c.args.refs.now c.args.at unused).tok.0 c.held.result c.is_held.result false c.requires.front c.held.ensures c.is_held.ensures c.if-is_held.false) in
-    takes_changed s c.try_take.new.self r.tok.0 (taken (entry s r.tok.0) took.word r.mode took.row) (load r.tok.0 took.word ∷ exchange r.tok.0 took.word took.next took.word ∷ []) took.changes (λ held. absurd (false≢true (sym (ap is_held free) ∙ held))) (λ none held. refl)
+    takes_changed s c.try_take.new.self r.tok.0 (taken (entry s r.tok.0) took.word r.mode took.row) (loads s.cpu r.tok.0 took.word ∷ takes s.cpu r.tok.0 r.mode took.word took.next took.word ∷ []) took.changes (λ held. absurd (false≢true (sym (ap is_held free) ∙ held))) (λ none held. refl)
 
 pub returns-in-Busy-clause-rows : goal.returns-in-Busy-clause-rows
 returns-in-Busy-clause-rows c =

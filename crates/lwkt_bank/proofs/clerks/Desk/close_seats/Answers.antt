@@ -4,12 +4,22 @@ use Rattle.std.proofs.lemmas.Result.{IfOk-weaker}
 use Rattle.lwkt_base.specs.declared.laws.Law.TheVariants.{Tally}
 use Rattle.lwkt_bank.specs.declared.views.Plan.{Plan}
 use Rattle.lwkt_bank.specs.declared.kept.Kept.{Kept}
+use Rattle.lwkt_bank.specs.declared.rules.Key.{Key}
 use Rattle.lwkt_bank.specs.Rule.{plan_at}
-use Rattle.lwkt_bank.specs.Closing.{AreRead, kept_by}
+use Rattle.lwkt_bank.specs.Closing.{AreRead, Gathering, kept_by}
 use Rattle.lwkt_bank.specs.Seats.{id_of_desk}
 use Rattle.lwkt_bank.specs.Gathered.{IsClosed}
-use Rattle.lwkt_bank.proofs.KeptMoves.{bank_fits, bank_closed}
+use Rattle.lwkt_bank.proofs.KeptMoves.{gathering_none, bank_fits, bank_closed}
 use Rattle.lwkt_bank.proofs.clerks.Desk.close_seats.Goals as goal
+
+pub gather-requires-clause-begin : goal.gather-requires-clause-begin
+gather-requires-clause-begin c =
+    let b = c.args.self in
+    let v = b.clerk.me.0 in
+    let seats = c.args.seats.items in
+    let F : Key → Type 0 = λ k. Gathering (record { table = b.table.shared.table_id; plans = k.plans.items }) v seats seats c.in_ok-kept.kept.items 0 in
+    let G : List Kept → Type 0 = λ ks. Gathering (id_of_desk b) v seats seats ks 0 in
+    subst F (sym b.told) (subst G (sym c.in_ok-kept.ensures.items) (gathering_none (id_of_desk b) v seats c.requires.desk.0 c.requires.desk.1 b.informed c.requires.ready b.clean))
 
 pub values-requires-clause-fits : goal.values-requires-clause-fits
 values-requires-clause-fits c =

@@ -22,6 +22,6 @@ returns-clause-seat c =
     let table = c.split-seat.ensures.seat.0 ∙ b.seated in
     let plans = ap (λ m. m.0.plans) c.split-seat.ensures.seat.1 ∙ c.requires.next.plans in (
       λ i. record { table = table i; plans = plans i },
-      record { entries = λ tok. ap (λ m. at m.0.tokens tok) c.split-seat.ensures.seat.1; steps = ap (λ m. m.0.steps) c.split-seat.ensures.seat.1 },
+      record { entries = λ tok. ap (λ m. at m.0.tokens tok) c.split-seat.ensures.seat.1; past = ap (λ m. m.0.past) c.split-seat.ensures.seat.1 },
       refl,
     )

@@ -2,25 +2,27 @@ use Rattle.std.proofs.Common.{ap, sym, ◌∙◌, ◌≡◌, ◌≤◌, List, �
 use Rattle.atomic_table.specs.Table.{opening}
 use Rattle.lwkt_base.specs.declared.laws.Law.TheVariants.{Tally}
 use Rattle.lwkt_bank.specs.declared.views.Plan.{Plan}
-use Rattle.lwkt_bank.specs.Rule.{Rule, plan_at}
+use Rattle.lwkt_bank.specs.Rule.{plan_at}
+use Rattle.lwkt_bank.specs.Told.{Told}
 use Rattle.lwkt_bank.specs.Views.{at, amount, first_view}
 use Rattle.lwkt_bank.specs.Notes.{clerk_number}
 use Rattle.lwkt_bank.specs.Opened.{plans_of}
-use Rattle.lwkt_bank.proofs.OpenMoves.{Rule-opening, short_plans, single_plans, many_plans}
+use Rattle.lwkt_bank.proofs.OpenMoves.{short_plans, single_plans, many_plans}
+use Rattle.lwkt_bank.proofs.ToldMoves.{Told-opening}
 use Rattle.lwkt_bank.proofs.clerks.Desk.with_key.Goals as goal
 
 pub of_words-requires : goal.of_words-requires
 of_words-requires c =
     let cpus = c.args.key.cpus in
-    let F : List Plan → Type 0 = λ ps. Rule ps cpus (opening c.args.words.now [] (first_view ps)) in
-    let G : List ℕ → Type 0 = λ ws. Rule (plans_of c.args.specs.now) cpus (opening ws [] (first_view (plans_of c.args.specs.now))) in
-    subst F (sym c.requires.plans) (subst G (sym c.requires.words) (Rule-opening cpus c.args.specs.now c.requires.within c.requires.lawful))
+    let F : List Plan → Type 0 = λ ps. Told ps cpus (opening c.args.words.now [] (first_view ps)) in
+    let G : List ℕ → Type 0 = λ ws. Told (plans_of c.args.specs.now) cpus (opening ws [] (first_view (plans_of c.args.specs.now))) in
+    subst F (sym c.requires.plans) (subst G (sym c.requires.words) (Told-opening cpus c.args.specs.now c.requires.within c.requires.lawful).0)
 
 pub invariant_of-result : goal.invariant_of-result
 invariant_of-result c =
     let specs = c.args.specs.now in
     let t = c.in_ok-table.ensures in
-    let r = Rule-opening c.args.key.cpus specs c.requires.within c.requires.lawful in
+    let r = (Told-opening c.args.key.cpus specs c.requires.within c.requires.lawful).0.rule in
     let many : length c.args.key.plans.items ≡ length specs = ap length c.requires.plans ∙ many_plans specs in
     let wide = r.wide in
     let words = ap length c.requires.words in

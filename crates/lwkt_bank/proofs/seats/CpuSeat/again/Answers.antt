@@ -1,4 +1,4 @@
-use Rattle.std.proofs.Common.{ap, ◌∙◌, ◌≡◌, ◌+◌, length, length-set, get_or, [], arith}
+use Rattle.std.proofs.Common.{refl, ap, ◌∙◌, ◌≡◌, ◌+◌, length, length-set, get_or, [], arith}
 use Rattle.lwkt_base.specs.declared.names.Mode.TheVariants.{Exclusive}
 use Rattle.lwkt_bank.specs.declared.notes.Note.{Note}
 use Rattle.lwkt_bank.specs.Views.{more}
@@ -6,7 +6,8 @@ use Rattle.lwkt_bank.specs.Notes.{note_at}
 use Rattle.lwkt_bank.specs.Seats.{entry, holding}
 use Rattle.lwkt_bank.proofs.ViewMoves.{count-at}
 use Rattle.lwkt_bank.proofs.NoteMoves.{IsNoted-more}
-use Rattle.lwkt_bank.proofs.ChangeMoves.{keeps_part, note_read, room_of, still_quiet, entry_tok}
+use Rattle.lwkt_bank.proofs.ChangeMoves.{changed, keeps_part, note_read, room_of, still_quiet, entry_tok}
+use Rattle.lwkt_bank.specs.Deeds.{adds_one}
 use Rattle.lwkt_bank.proofs.seats.CpuSeat.again.Goals as goal
 
 pub overflow_add-self : goal.overflow_add-self
@@ -26,7 +27,13 @@ invariant_of-self c =
     let t = c.args.tok.0 in
     let noted' = IsNoted-more _ s.cpu.0 (entry s t) (note_at s.notes t) c.requires.held (s.kept.each t c.requires.there) in
     record {
-      kept = keeps_part s c.add_one.new.seat.me.0 t (more (entry s t)) _ (λ m. record m { references = m.references + 1 }) _ (room_of c.args.bank.now s t c.requires.of c.requires.there) c.add_one.ensures.adds c.requires.there (entry_tok s t) noted';
+      kept = keeps_part s c.add_one.new.seat.me.0 t (more (entry s t)) c.add_one.ensures.adds.0 _ (λ m. record m { references = m.references + 1 }) _ (room_of c.args.bank.now s t c.requires.of c.requires.there) c.add_one.ensures.adds.1.1 c.requires.there (entry_tok s t) noted';
       quiet = still_quiet s.seat c.add_one.new.seat c.add_one.ensures.same s.quiet;
       sized = length-set s.notes t _ ∙ s.sized;
     }
+
+pub returns : goal.returns
+returns c =
+    let s = c.args.self.now in
+    let t = c.args.tok.0 in
+    record { found = c.add_one.result; changes = changed s _ t (more (entry s t)) c.add_one.ensures.adds.0 (λ cpu. adds_one cpu t c.add_one.result) c.add_one.ensures.same refl refl c.add_one.ensures.adds.1.0 c.add_one.ensures.adds.1.1 (entry_tok s t) }

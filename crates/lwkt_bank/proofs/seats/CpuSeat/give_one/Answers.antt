@@ -1,11 +1,12 @@
-use Rattle.std.proofs.Common.{sym, ◌∙◌, ◌-◌, ◌<◌, ◌≤◌, length-set, subst, arith}
+use Rattle.std.proofs.Common.{refl, sym, ◌∙◌, ◌-◌, ◌<◌, ◌≤◌, length-set, subst, arith}
 use Rattle.lwkt_base.specs.Holding.{references_in}
 use Rattle.lwkt_bank.specs.declared.notes.Note.{Note}
 use Rattle.lwkt_bank.specs.Views.{less}
 use Rattle.lwkt_bank.specs.Notes.{note_at}
 use Rattle.lwkt_bank.specs.Seats.{entry, holding}
 use Rattle.lwkt_bank.proofs.NoteMoves.{IsNoted-less, counted}
-use Rattle.lwkt_bank.proofs.ChangeMoves.{keeps_part, note_read, room_of, still_quiet, entry_tok}
+use Rattle.lwkt_bank.proofs.ChangeMoves.{changed, keeps_part, note_read, room_of, still_quiet, entry_tok}
+use Rattle.lwkt_bank.specs.Deeds.{gives_one}
 use Rattle.lwkt_bank.proofs.seats.CpuSeat.give_one.Goals as goal
 
 pub overflow_sub-self : goal.overflow_sub-self
@@ -23,7 +24,13 @@ invariant_of-self c =
     let t = c.args.tok.0 in
     let noted' = IsNoted-less _ s.cpu.0 (entry s t) (note_at s.notes t) c.requires.held (s.kept.each t c.requires.there) in
     record {
-      kept = keeps_part s c.give_one.new.seat.me.0 t (less (entry s t)) _ (λ m. record m { references = m.references - 1 }) _ (room_of c.args.bank.now s t c.requires.of c.requires.there) c.give_one.ensures.gives c.requires.there (entry_tok s t) noted';
+      kept = keeps_part s c.give_one.new.seat.me.0 t (less (entry s t)) c.give_one.ensures.gives.0 _ (λ m. record m { references = m.references - 1 }) _ (room_of c.args.bank.now s t c.requires.of c.requires.there) c.give_one.ensures.gives.1.1 c.requires.there (entry_tok s t) noted';
       quiet = still_quiet s.seat c.give_one.new.seat c.give_one.ensures.same s.quiet;
       sized = length-set s.notes t _ ∙ s.sized;
     }
+
+pub returns : goal.returns
+returns c =
+    let s = c.args.self.now in
+    let t = c.args.tok.0 in
+    record { found = c.give_one.result; changes = changed s _ t (less (entry s t)) c.give_one.ensures.gives.0 (λ cpu. gives_one cpu t c.give_one.result) c.give_one.ensures.same refl refl c.give_one.ensures.gives.1.0 c.give_one.ensures.gives.1.1 (entry_tok s t) }

@@ -21,4 +21,4 @@ returns c =
     let s = c.args.self.now in
     let t = c.args.tok.0 in
     let cells : (plan_at s.seat.me.0.plans t).cells ≡ c.cells-cell-end.result = ap (λ (p : Plan). p.cells) (plan_is c.args.bank.now s t c.requires.of) ∙ sym c.cells-cell-end.ensures.is in
-    restored_all s c.loop-cell.self t c.loop-cell.made c.loop-cell.cell c.loop-cell.invariant c.requires.there (exclusive_held (entry s t).held c.requires.held) (omega arith)
+    restored_all s c.loop-cell.self t c.loop-cell.made c.loop-cell.cell c.loop-cell.invariant c.requires.there (exclusive_held (entry s t).held c.requires.held) (let short = short_row c.args.bank.now s t c.requires.of in omega arith) (omega arith)

@@ -1,5 +1,6 @@
 use Rattle.std.proofs.Common.{refl, length-set, ◌∙◌}
-use Rattle.lwkt_bank.specs.Views.{generation_in}
+use Rattle.lwkt_bank.specs.Views.{generation_in, looked, taken}
+use Rattle.lwkt_bank.specs.Deeds.{loses, takes}
 use Rattle.lwkt_bank.specs.Seats.{entry}
 use Rattle.lwkt_bank.specs.Notes.{note_at, begun}
 use Rattle.lwkt_bank.proofs.ChangeMoves.{changed, keeps_seen, keeps_changed, hit_of, still_quiet, entry_tok, room_of}
@@ -8,28 +9,28 @@ use Rattle.lwkt_bank.proofs.TurnMoves.{seen-keeps}
 use Rattle.lwkt_bank.proofs.seats.CpuSeat.take_at.Goals as goal
 
 pub invariant_of-self : goal.invariant_of-self
-invariant_of-self c = let s = c.args.self.now in let miss = c.swing-found.ensures.exchanges.1 c.if-found-word.true in record {
-  kept = keeps_seen s c.swing-found.new.seat.me.0 c.args.tok.0 (generation_in c.swing-found.result) _ c.requires.there miss.1;
+invariant_of-self c = let s = c.args.self.now in let miss = c.swing-found.ensures.exchanges.1.1.1 c.if-found-word.true in record {
+  kept = keeps_seen s c.swing-found.new.seat.me.0 c.args.tok.0 (generation_in c.swing-found.result) c.swing-found.ensures.exchanges.0 _ c.requires.there miss.1;
   quiet = still_quiet s.seat c.swing-found.new.seat c.swing-found.ensures.same s.quiet;
   sized = s.sized;
 }
 
 pub returns-then-found-word-clause-miss : goal.returns-then-found-word-clause-miss
-returns-then-found-word-clause-miss c = λ no'. let s = c.args.self.now in let miss = c.swing-found.ensures.exchanges.1 c.if-found-word.true in record {
+returns-then-found-word-clause-miss c = λ no'. let s = c.args.self.now in let miss = c.swing-found.ensures.exchanges.1.1.1 c.if-found-word.true in record {
   found = c.swing-found.result;
   other = c.if-found-word.true;
   rises = miss.0;
-  changes = changed s _ c.args.tok.0 _ _ c.swing-found.ensures.same refl miss.1 ((seen-keeps (entry s c.args.tok.0) (generation_in c.swing-found.result)).0 ∙ entry_tok s c.args.tok.0);
+  changes = changed s _ c.args.tok.0 (looked (entry s c.args.tok.0) c.swing-found.result) c.swing-found.ensures.exchanges.0 (λ cpu. loses cpu c.args.tok.0 c.args.word c.args.next c.swing-found.result) c.swing-found.ensures.same refl refl c.swing-found.ensures.exchanges.1.0 miss.1 ((seen-keeps (entry s c.args.tok.0) (generation_in c.swing-found.result)).0 ∙ entry_tok s c.args.tok.0);
 }
 
 pub invariant_of-self-2 : goal.invariant_of-self-2
 invariant_of-self-2 c =
     let s = c.args.self.now in
     let t = c.args.tok.0 in
-    let hit = c.swing-found.ensures.exchanges.0 c.if-found-word.false in
+    let hit = c.swing-found.ensures.exchanges.1.1.0 c.if-found-word.false in
     let noted' = IsNoted-taken _ s.cpu.0 (entry s t) c.swing-found.result c.args.mode hit.0 (note_at s.notes t) hit.1.0.long (s.kept.each t c.requires.there) in
     record {
-      kept = keeps_changed s c.swing-found.new.seat.me.0 t _ _ (λ m. begun m c.args.mode) _ c.take.new.self (room_of c.args.bank.now s t c.requires.of c.requires.there) hit.1.1 c.requires.there ((seen-keeps (entry s t) (generation_in c.swing-found.result)).0 ∙ entry_tok s t) c.take.ensures noted';
+      kept = keeps_changed s c.swing-found.new.seat.me.0 t (taken (entry s t) c.swing-found.result c.args.mode hit.0) c.swing-found.ensures.exchanges.0 _ (λ m. begun m c.args.mode) _ c.take.new.self (room_of c.args.bank.now s t c.requires.of c.requires.there) hit.1.1 c.requires.there ((seen-keeps (entry s t) (generation_in c.swing-found.result)).0 ∙ entry_tok s t) c.take.ensures noted';
       quiet = still_quiet s.seat c.swing-found.new.seat c.swing-found.ensures.same s.quiet;
       sized = length-set s.notes t _ ∙ s.sized;
     }
@@ -38,6 +39,6 @@ pub returns-clause-hit : goal.returns-clause-hit
 returns-clause-hit c = λ yes'.
     let s = c.args.self.now in
     let t = c.args.tok.0 in
-    let hit = c.swing-found.ensures.exchanges.0 c.if-found-word.false in
+    let hit = c.swing-found.ensures.exchanges.1.1.0 c.if-found-word.false in
     hit_of s _ t c.args.mode c.args.word c.args.next c.swing-found.result hit.0 c.if-found-word.false hit.1.0
-    (changed s _ t _ _ c.swing-found.ensures.same refl hit.1.1 ((seen-keeps (entry s t) (generation_in c.swing-found.result)).0 ∙ entry_tok s t))
+    (changed s _ t (taken (entry s t) c.swing-found.result c.args.mode hit.0) c.swing-found.ensures.exchanges.0 (λ cpu. takes cpu t c.args.mode c.args.word c.args.next c.swing-found.result) c.swing-found.ensures.same refl refl c.swing-found.ensures.exchanges.1.0 hit.1.1 ((seen-keeps (entry s t) (generation_in c.swing-found.result)).0 ∙ entry_tok s t))

@@ -5,6 +5,7 @@ use Rattle.lwkt_bank.specs.Seats.{holding}
 use Rattle.lwkt_hold.specs.Fronts.{IsFront}
 use Rattle.lwkt_hold.proofs.RunMoves.{ran_none, ran_then, ran_weaker}
 use Rattle.lwkt_hold.proofs.TakeMoves.{unused}
+use Rattle.lwkt_hold.proofs.ReadMoves.{front_within}
 use Rattle.lwkt_hold.proofs.ListMoves.{back_front, back_held, back_removed}
 use Rattle.lwkt_hold.proofs.EventMoves.{Tells, tells_none, tells_more, tells_done, released_before}
 use Rattle.lwkt_hold.specs.Givings.{Releases, ReleasesAll}
@@ -18,7 +19,7 @@ pub loop-given-init : goal.loop-given-init
 loop-given-init c =
     let e : c.args.held ≡ c.args.held - 0 = omega arith in
     record {
-      ran = ran_none (IsFront c.refs-refs.result.now) c.args.self.now.seat c.args.trace.now;
+      ran = ran_none (IsFront (take c.args.held c.refs-refs.result.now)) c.args.self.now.seat c.args.trace.now;
       front = c.requires.held ∙ ap (λ xs. holding_of (take c.args.held xs)) (sym c.refs-refs.ensures.value) ∙ ap (λ n. holding_of (take n c.refs-refs.result.now)) e;
       rows = given_none c.args.self.now.seat;
       told = let F : ℕ → Type 0 = λ n. Tells c.args.self.now.seat c.refs-refs.result.now c.args.held n c.args.trace.now.items c.args.trace.now.items in subst F e (tells_none c.args.self.now.seat c.refs-refs.result.now c.args.held c.args.trace.now.items);
@@ -44,11 +45,12 @@ loop-given-preserved c =
     let P : Holding → Type 0 = λ h. (h ≡ holding l.self.seat) ⊎ (h ≡ removed (holding l.self.seat) last.tok.0) in
     let left : removed (holding l.self.seat) last.tok.0 ≡ holding_of (take place refs) = back_removed l.self.seat refs held l.given more within l.invariant.front ∙ ap (λ n. holding_of (take n refs)) (sym next) in
     let given = g.ensures.given ∙ left in
-    let all = ran_then (IsFront refs) (5 * l.given) 5 a l.self.seat g.new.seat c.args.trace.now l.trace g.new.trace l.invariant.ran
-    (ran_weaker P (IsFront refs) 5 5 l.self.seat g.new.seat l.trace g.new.trace (λ h p. elim p [ inl is ↦ (held - l.given, is ∙ l.invariant.front) | inr is ↦ (place, is ∙ left) ]) (omega arith) g.ensures.ran) in
+    let front = take held refs in
+    let all = ran_then (IsFront front) (5 * l.given) 5 a l.self.seat g.new.seat c.args.trace.now l.trace g.new.trace l.invariant.ran
+    (ran_weaker P (IsFront front) 5 5 l.self.seat g.new.seat l.trace g.new.trace (λ h p. elim p [ inl is ↦ front_within refs (held - l.given) held h (omega arith) (is ∙ l.invariant.front) | inr is ↦ front_within refs place held h (omega arith) (is ∙ left) ]) (omega arith) g.ensures.ran) in
     let F : Option TokId → Type 0 = λ o. IsFirstSoFar a refs g.new.seat o in
     record {
-      ran = ran_weaker (IsFront refs) (IsFront refs) (5 * l.given + 5) (5 * (l.given + 1)) a g.new.seat c.args.trace.now g.new.trace (λ h p. p) (omega arith) all;
+      ran = ran_weaker (IsFront front) (IsFront front) (5 * l.given + 5) (5 * (l.given + 1)) a g.new.seat c.args.trace.now g.new.trace (λ h p. p) (omega arith) all;
       front = given ∙ ap (λ n. holding_of (take n refs)) next;
       rows = given_more a l.self.seat g.new.seat (holding_of (take place refs)) last.tok last.mode g.result l.invariant.ran.bank was given l.invariant.rows g.ensures.rows;
       told =

@@ -5,6 +5,7 @@ use Rattle.lwkt_hold.specs.declared.answers.Missed.{Missed}
 use Rattle.lwkt_hold.specs.declared.answers.Missed.TheVariants.{Worn}
 use Rattle.lwkt_hold.specs.Fronts.{IsFront}
 use Rattle.lwkt_hold.proofs.RunMoves.{ran_none, ran_then, ran_weaker}
+use Rattle.lwkt_hold.proofs.ReadMoves.{whole_front}
 use Rattle.lwkt_hold.proofs.LastMoves.{ran_silent, front_of_push, lost_as, same_switch}
 use Rattle.lwkt_hold.proofs.ListMoves.{misses_between, takes_then_same}
 use Rattle.lwkt_hold.specs.Misses.{Misses}
@@ -59,3 +60,16 @@ returns-in-Err-clause-unmarked c =
 
 pub returns-in-Err-clause-rows : goal.returns-in-Err-clause-rows
 returns-in-Err-clause-rows c = takes_then_same c.args.self.now.seat c.push_and_take.new.seat c.mark.new.seat c.push_and_take.ensures.rows c.mark.ensures.kept c.mark.ensures.rows
+
+pub returns-in-Err-clause-switched : goal.returns-in-Err-clause-switched
+returns-in-Err-clause-switched c =
+    let p = c.push_and_take in
+    let a = c.args.self.now.seat in
+    let t = c.args.trace.now in
+    let list = c.args.list.now in
+    let m = c.in_ok-push_and_take.ensures.missed c.in-Err.why (lost_as c.in_ok-push_and_take.field-0 c.in-Err.why c.in-Err.is) in
+    let P : Holding → Type 0 = λ h. h ≡ holding p.new.seat in
+    λ other is.
+    ran_then (IsFront list) 1 1 a p.new.seat c.mark.new.seat t p.new.trace c.mark.new.trace
+    (ran_silent (IsFront p.new.list) (IsFront list) 1 1 a p.new.seat t p.new.trace m.1 c.in_ok-push_and_take.ensures.ran)
+    (ran_weaker P (IsFront list) 1 1 p.new.seat c.mark.new.seat p.new.trace c.mark.new.trace (λ h same. whole_front list h (same ∙ m.0)) (omega arith) c.mark.ensures.ran)

@@ -7,6 +7,7 @@ use Rattle.lwkt_bank.specs.Views.{read}
 use Rattle.lwkt_bank.specs.Seats.{entry}
 use Rattle.lwkt_hold.specs.Fronts.{IsFront}
 use Rattle.lwkt_hold.proofs.ReadMoves.{ran_still, held_listed, read_ran}
+use Rattle.lwkt_hold.proofs.RunMoves.{holding_kept}
 use Rattle.lwkt_hold.proofs.holds.Hold.read.Goals as goal
 
 pub returns-then-tok-tokens-clause-ran : goal.returns-then-tok-tokens-clause-ran
@@ -23,3 +24,6 @@ load-value-requires-clause-held c = held_listed c.args.self.now.seat c.args.list
 
 pub returns-clause-ran : goal.returns-clause-ran
 returns-clause-ran c = read_ran c.args.list.now c.args.self.now.seat c.load-value.new.self c.args.tok (read (entry c.args.self.now.seat c.args.tok.0) c.args.cell) c.cpu-cpu.result c.args.cell c.load-value.result c.args.trace.now c.note.new.trace c.load-value.ensures.changes refl c.requires.held c.cpu-cpu.ensures.is c.note.ensures.items c.note.ensures.longer c.note.ensures.room
+
+pub returns-clause-kept : goal.returns-clause-kept
+returns-clause-kept c = let s = c.args.self.now.seat in holding_kept s c.load-value.new.self c.args.tok.0 (read (entry s c.args.tok.0) c.args.cell) _ c.load-value.ensures.changes refl ∙ c.requires.held

@@ -1,0 +1,88 @@
+use Rattle.std.proofs.Common.{Bool, true, false, cond, ◌≡◌, ℕ, zero, suc, ◌+◌, ◌<◌, ◌≤◌, List, [], ◌∷◌, ◌++◌, length, take, set, get_or, Option, Some, None, refl, ap, sym, ◌∙◌, subst, arith, length-take}
+use Rattle.std.specs.Prelude.{slice_index}
+use Rattle.lwkt_base.specs.declared.names.CpuId.{CpuId}
+use Rattle.lwkt_core.specs.declared.seats.Deed.{Deed}
+use Rattle.lwkt_bank.specs.declared.seats.CpuSeat.{CpuSeat}
+use Rattle.lwkt_bank.specs.Views.{is_touched, read, stored, raised}
+use Rattle.lwkt_bank.specs.Deeds.{reads, writes, reads_all, writes_all}
+use Rattle.lwkt_bank.specs.Seats.{entry, Changes, Knowing, first_load}
+use Rattle.lwkt_bank.proofs.ChangeMoves.{knowing_none, knowing_read, knowing_then, knowing_more}
+
+-- the first value of a cell is kept, and nothing is loaded
+pub first_known : (s : CpuSeat) (tok cell : ℕ) → is_touched (entry s tok) cell ≡ true → Knowing s s tok (entry s tok) (first_load s.cpu tok (entry s tok) cell)
+first_known s tok cell touched =
+    let F : List Deed → Type 0 = λ deeds. Knowing s s tok (entry s tok) deeds in
+    subst F (sym (ap (λ (b : Bool). cond b [] (reads s.cpu tok cell (slice_index (entry s tok).first cell) ∷ [])) touched)) (knowing_none s tok)
+
+-- or it is loaded
+pub first_loaded : (s s' : CpuSeat) (tok cell value : ℕ) → is_touched (entry s tok) cell ≡ false → value ≡ slice_index (entry s tok).first cell → Changes s s' tok (read (entry s tok) cell) (reads s.cpu tok cell value ∷ []) → Knowing s s' tok (entry s tok) (first_load s.cpu tok (entry s tok) cell)
+first_loaded s s' tok cell value untouched is changes =
+    let F : List Deed → Type 0 = λ deeds. Knowing s s' tok (entry s tok) deeds in
+    let deeds : reads s.cpu tok cell value ∷ [] ≡ first_load s.cpu tok (entry s tok) cell
+    = ap (λ (x : ℕ). reads s.cpu tok cell x ∷ []) is ∙ sym (ap (λ (b : Bool). cond b [] (reads s.cpu tok cell (slice_index (entry s tok).first cell) ∷ [])) untouched) in
+    subst F deeds (knowing_read s s' tok cell (reads s.cpu tok cell value ∷ []) changes)
+
+-- a store after the load of the first value
+pub stored_after : (s mid s' : CpuSeat) (tok cell value : ℕ) (deeds : List Deed) → Knowing s mid tok (entry s tok) deeds → Changes mid s' tok (stored (entry mid tok) cell value) (writes mid.cpu tok cell value ∷ []) → Knowing s s' tok (stored (entry s tok) cell value) (deeds ++ writes s.cpu tok cell value ∷ [])
+stored_after s mid s' tok cell value deeds first second =
+    let F : CpuId → Type 0 = λ c. Changes mid s' tok (stored (entry mid tok) cell value) (writes c tok cell value ∷ []) in
+    knowing_then s mid s' tok (λ e. stored e cell value) deeds (writes s.cpu tok cell value ∷ []) (λ e known. refl) refl first (subst F first.changes.cpu second)
+
+-- the cell of a Tally token raised after its load
+pub raised_after : (s mid s' : CpuSeat) (tok k old sum : ℕ) → old ≡ slice_index (entry s tok).row 0 → sum ≡ old + k → Changes s mid tok (read (entry s tok) 0) (reads s.cpu tok 0 old ∷ []) → Changes mid s' tok (raised (entry mid tok) mid.cpu k) (writes mid.cpu tok 0 sum ∷ [])
+    → Knowing s s' tok (raised (entry s tok) s.cpu k) (reads s.cpu tok 0 (slice_index (entry s tok).row 0) ∷ writes s.cpu tok 0 (slice_index (entry s tok).row 0 + k) ∷ [])
+raised_after s mid s' tok k old sum old_is sum_is first second =
+    let F : CpuId → Type 0 = λ c. Changes mid s' tok (raised (entry mid tok) c k) (writes c tok 0 sum ∷ []) in
+    let G : ℕ → Type 0 = λ x. Knowing s s' tok (raised (entry s tok) s.cpu k) (reads s.cpu tok 0 x ∷ writes s.cpu tok 0 (x + k) ∷ []) in
+    let H : ℕ → Type 0 = λ x. Knowing s s' tok (raised (entry s tok) s.cpu k) (reads s.cpu tok 0 old ∷ writes s.cpu tok 0 x ∷ []) in
+    subst G old_is (subst H sum_is (knowing_then s mid s' tok (λ e. raised e s.cpu k) (reads s.cpu tok 0 old ∷ []) (writes s.cpu tok 0 sum ∷ []) (λ e known. refl) refl (knowing_read s mid tok 0 (reads s.cpu tok 0 old ∷ []) first) (subst F first.cpu second)))
+
+-- the same where the sum doesn't fit
+pub only_read : (s mid : CpuSeat) (tok old : ℕ) → old ≡ slice_index (entry s tok).row 0 → Changes s mid tok (read (entry s tok) 0) (reads s.cpu tok 0 old ∷ []) → Knowing s mid tok (entry s tok) (reads s.cpu tok 0 (slice_index (entry s tok).row 0) ∷ [])
+only_read s mid tok old old_is changes =
+    let G : ℕ → Type 0 = λ x. Knowing s mid tok (entry s tok) (reads s.cpu tok 0 x ∷ []) in
+    subst G old_is (knowing_read s mid tok 0 (reads s.cpu tok 0 old ∷ []) changes)
+
+-- one cell more of a row
+take_more : (xs : List ℕ) (i : ℕ) → i < length xs → take (i + 1) xs ≡ take i xs ++ slice_index xs i ∷ []
+take_more [] i low = absurd (omega arith)
+take_more (x ∷ xs) zero low = refl
+take_more (x ∷ xs) (suc i) low = ap (λ (n : ℕ). take n (x ∷ xs)) (let e : suc i + 1 ≡ suc (i + 1) = omega arith in e) ∙ ap (λ (ys : List ℕ). x ∷ ys) (take_more xs i (omega arith))
+
+reads_snoc : (cpu : CpuId) (tok i j x : ℕ) (xs : List ℕ) → j ≡ i + length xs → reads_all cpu tok i (xs ++ x ∷ []) ≡ reads_all cpu tok i xs ++ reads cpu tok j x ∷ []
+reads_snoc cpu tok i j x [] is = ap (λ (k : ℕ). reads cpu tok k x ∷ []) (omega arith)
+reads_snoc cpu tok i j x (y ∷ xs) is = ap (λ (ds : List Deed). reads cpu tok i y ∷ ds) (reads_snoc cpu tok (suc i) j x xs (omega arith))
+
+-- one cell more of a row that is loaded
+pub row_more : (s mid s' : CpuSeat) (tok cell value : ℕ) → cell < length (entry s tok).row → value ≡ slice_index (entry s tok).row cell → Knowing s mid tok (entry s tok) (reads_all s.cpu tok 0 (take cell (entry s tok).row)) → Changes mid s' tok (read (entry mid tok) cell) (reads mid.cpu tok cell value ∷ [])
+    → Knowing s s' tok (entry s tok) (reads_all s.cpu tok 0 (take (cell + 1) (entry s tok).row))
+row_more s mid s' tok cell value low is first second =
+    let row = (entry s tok).row in
+    let F : CpuId → Type 0 = λ c. Changes mid s' tok (read (entry mid tok) cell) (reads c tok cell value ∷ []) in
+    let G : List Deed → Type 0 = λ ds. Knowing s s' tok (entry s tok) ds in
+    let n = length-take cell row in
+    let deeds : reads_all s.cpu tok 0 (take cell row) ++ reads s.cpu tok cell value ∷ [] ≡ reads_all s.cpu tok 0 (take (cell + 1) row)
+    = ap (λ (x : ℕ). reads_all s.cpu tok 0 (take cell row) ++ reads s.cpu tok cell x ∷ []) is
+    ∙ sym (reads_snoc s.cpu tok 0 cell (slice_index row cell) (take cell row) (omega arith))
+    ∙ ap (λ (xs : List ℕ). reads_all s.cpu tok 0 xs) (sym (take_more row cell low)) in
+    subst G deeds (knowing_more s mid s' tok cell (reads_all s.cpu tok 0 (take cell row)) (reads s.cpu tok cell value ∷ []) first (subst F first.changes.cpu second))
+
+-- an empty list of values is no store, and one value more is one store more
+writes_none : (made : List (Option ℕ)) (i : ℕ) (cpu : CpuId) (tok : ℕ) → ((k : ℕ) → get_or made k None ≡ None) → writes_all cpu tok i made ≡ []
+writes_none [] i cpu tok none = refl
+writes_none (None ∷ made) i cpu tok none = writes_none made (suc i) cpu tok (λ k. none (suc k))
+writes_none (Some x ∷ made) i cpu tok none = absurd (let h : Some x ≡ None = none 0 in cc)
+
+pub writes_more : (made : List (Option ℕ)) (i c x : ℕ) (cpu : CpuId) (tok : ℕ) → c < length made → ((k : ℕ) → c ≤ k → get_or made k None ≡ None) → writes_all cpu tok i (set made c (Some x)) ≡ writes_all cpu tok i made ++ writes cpu tok (i + c) x ∷ []
+writes_more [] i c x cpu tok room none = absurd (omega arith)
+writes_more (None ∷ made) i zero x cpu tok room none =
+    let rest = writes_none made (suc i) cpu tok (λ k. none (suc k) (omega arith)) in
+    let at_i : i ≡ i + 0 = omega arith in
+    ap (λ (ds : List Deed). writes cpu tok i x ∷ ds) rest ∙ ap (λ (j : ℕ). writes cpu tok j x ∷ []) at_i ∙ ap (λ (ds : List Deed). ds ++ writes cpu tok (i + 0) x ∷ []) (sym rest)
+writes_more (Some y ∷ made) i zero x cpu tok room none = absurd (let h : Some y ≡ None = none 0 (omega arith) in cc)
+writes_more (None ∷ made) i (suc c) x cpu tok room none =
+    let at_c : suc i + c ≡ i + suc c = omega arith in
+    writes_more made (suc i) c x cpu tok (omega arith) (λ k low. none (suc k) (omega arith)) ∙ ap (λ (j : ℕ). writes_all cpu tok (suc i) made ++ writes cpu tok j x ∷ []) at_c
+writes_more (Some y ∷ made) i (suc c) x cpu tok room none =
+    let at_c : suc i + c ≡ i + suc c = omega arith in
+    ap (λ (ds : List Deed). writes cpu tok i y ∷ ds) (writes_more made (suc i) c x cpu tok (omega arith) (λ k low. none (suc k) (omega arith)) ∙ ap (λ (j : ℕ). writes_all cpu tok (suc i) made ++ writes cpu tok j x ∷ []) at_c)
