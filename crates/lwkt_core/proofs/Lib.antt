@@ -4,5 +4,7 @@ pub mod MachineMoves
 pub mod OpeningLemmas
 pub mod TraceLemmas
 pub mod SeatingLemmas
+pub mod HistoryLemmas
+pub mod ChronicleLemmas
 pub mod PictureLemmas
 pub mod SafetyLemmas

@@ -15,6 +15,23 @@ weight cpus (Clerk made back) = (cpus - made) + back
 weight cpus (Of cpu) = 1
 weight cpus Spent = 0
 
+-- the clerk has made one seat more, or taken one more back
+abbrev pub after_made : SeatKind → SeatKind
+after_made (Clerk made back) = Clerk (made + 1) back
+after_made (Of cpu) = Of cpu
+after_made Spent = Spent
+
+abbrev pub after_back : SeatKind → SeatKind
+after_back (Clerk made back) = Clerk made (back + 1)
+after_back (Of cpu) = Of cpu
+after_back Spent = Spent
+
+-- the next seat that the clerk makes
+abbrev pub next_seat : SeatKind → SeatKind
+next_seat (Clerk made back) = Of (record { 0 = made })
+next_seat (Of cpu) = Spent
+next_seat Spent = Spent
+
 -- there is one clerk and one seat for each processor made, and the views stand for all seats together (own)
 pub record AreSeated (cpus : ℕ) (kinds : List SeatKind) : Type 0 where
   pub desk : ℕ
