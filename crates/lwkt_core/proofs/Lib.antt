@@ -6,5 +6,6 @@ pub mod TraceLemmas
 pub mod SeatingLemmas
 pub mod HistoryLemmas
 pub mod ChronicleLemmas
+pub mod ViewLemmas
 pub mod PictureLemmas
 pub mod SafetyLemmas
