@@ -4,13 +4,13 @@ ghost use Rattle.lwkt_base.specs.declared.names.CpuId.{CpuId};
 ghost use Rattle.lwkt_base.specs.declared.records.Rec.{Rec};
 ghost use Rattle.lwkt_base.specs.declared.message_words.MsgState.TheVariants as state;
 ghost use Rattle.lwkt_base.specs.MessageWord.{message_word, MessageFits};
-ghost use Rattle.lwkt_core.specs.declared.seats.Operation.TheVariants.{Store, Exchange, Add};
-ghost use Rattle.lwkt_msg.specs.Views.{call_of, at, after_step, flags_of, sent, took, answered, reaped};
-ghost use Rattle.lwkt_msg.specs.Book.{IsShownBy, IsBack, HadRecord};
+ghost use Rattle.lwkt_msg.specs.Views.{call_of, at, who, flags_of, sent, answered};
+ghost use Rattle.lwkt_msg.specs.Deeds.{sends, replies};
+ghost use Rattle.lwkt_msg.specs.Calls.{answered_rec};
 ghost use Rattle.lwkt_msg.specs.Hands.{IsOwn, IsInHand};
 ghost use Rattle.lwkt_core.specs.declared.messages.TheConstants.{LAST_ROUND};
 ghost use Rattle.lwkt_msg.specs.Steps.{sent_word, rest_word};
-ghost use Rattle.lwkt_msg.specs.Plays.{Looked, HasLost, IsSat, IsSameSeat, IsInFront};
+ghost use Rattle.lwkt_msg.specs.Plays.{IsAfter, Looked, HasWon, HasLost, HasFetched, IsSat, IsSameSeat, IsInFront};
 
 use crate::plays::{Look, Reap, Reply, Send, Take};
 use crate::rules::{Place, Top};
@@ -50,7 +50,7 @@ pub(crate) fn put(top: &Top, place: &mut Place, m: usize, rec: Rec, word: MsgWor
     requires clean { (rec.error ≡ 0) × (rec.result ≡ 0) }
     requires held { (old : Rec) × IsInFront place.old m old }
     ensures seat { IsSameSeat place.old place.new }
-    ensures view { place.new.me.0 ≡ after_step place.old.me.0 m (sent word (call_of rec) (at place.old.me.0 m)) (Store (message_word word)) (message_word word) }
+    ensures view { IsAfter place.old.me.0 m (sent word (call_of rec) (at place.old.me.0 m)) (sends (who place.old.me.0) m word.target word.round (message_word word) rec) place.new.me.0 }
     ensures sat { IsSat word.origin place.new }
 {
     top.exchange(place, 4 * m, rec);
@@ -66,7 +66,7 @@ pub(crate) fn win(top: &Top, place: &mut Place, m: usize, found: u64, word: MsgW
     requires new { IsInHand place.old.me.0 word.target.0 m → ⊥ }
     ensures seat { IsSameSeat place.old place.new }
     ensures sat { IsSat word.target place.new }
-    ensures view { MatchOption result (HasLost m found place.old.me.0 place.new.me.0) (λ rec. (rec.error ≡ 0) × (rec.result ≡ 0) × (place.new.me.0 ≡ after_step place.old.me.0 m (took rec (at place.old.me.0 m)) (Exchange found (found + 1)) found) × HadRecord place.old.me.0 m (IsShownBy found) rec) }
+    ensures view { MatchOption result (HasLost m found place.old.me.0 place.new.me.0) (λ rec. HasWon m word.round found place.old.me.0 rec place.new.me.0) }
 {
     let seen = top.compare_exchange::<Take>(place, 16 * m + 1, found, found + 1);
     if seen == found {
@@ -85,7 +85,7 @@ pub(crate) fn answer(top: &Top, place: &mut Place, m: usize, cpu: CpuId, error: 
     requires held { (rec : Rec) × IsInFront place.old m rec × (call_of rec ≡ (at place.old.me.0 m).got) }
     ensures seat { IsSameSeat place.old place.new }
     ensures sat { IsSat cpu place.new }
-    ensures view { (found : ℕ) × (place.new.me.0 ≡ after_step place.old.me.0 m (answered error outcome (at place.old.me.0 m)) (Add 1) found) }
+    ensures view { (found : ℕ) × IsAfter place.old.me.0 m (answered error outcome (at place.old.me.0 m)) (replies (who place.old.me.0) m found (answered_rec (at place.old.me.0 m).got error outcome)) place.new.me.0 }
 {
     let mut rec = front(top, place, m);
     rec.error = error;
@@ -104,9 +104,7 @@ pub(crate) fn fetch(top: &Top, place: &mut Place, m: usize, word: MsgWord) -> Re
     requires fits { (at place.old.me.0 m).round ≤ LAST_ROUND }
     ensures seat { IsSameSeat place.old place.new }
     ensures sat { IsSat word.origin place.new }
-    ensures call { call_of result ≡ (at place.old.me.0 m).call }
-    ensures had { HadRecord place.old.me.0 m IsBack result }
-    ensures view { place.new.me.0 ≡ after_step place.old.me.0 m (reaped (at place.old.me.0 m)) (Store (message_word word)) (message_word word) }
+    ensures view { HasFetched m (message_word word) place.old.me.0 result place.new.me.0 }
 {
     top.store::<Reap>(place, 16 * m + 1, word.make());
     front(top, place, m)
