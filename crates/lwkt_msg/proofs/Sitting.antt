@@ -110,8 +110,9 @@ sat_moved place place' cpu sat same me =
     }
 
 -- the front after a record was written there
-pub wrote : (me then : Me Rec View) (slot : ℕ) (old rec : Rec) (others : List (ℕ × Rec)) → me.1 ≡ (slot, old) ∷ others → then ≡ (me.0, (slot, rec) ∷ rest me.1) → then ≡ (me.0, (slot, rec) ∷ others)
-wrote me then slot old rec others held is = is ∙ ap (λ (h : List (ℕ × Rec)). let z : Me Rec View = (me.0, (slot, rec) ∷ rest h) in z) held
+pub wrote : (me then : Me Rec View) (slot at_slot : ℕ) (old rec : Rec) (others : List (ℕ × Rec)) → at_slot ≡ slot → me.1 ≡ (slot, old) ∷ others → then ≡ (me.0, (at_slot, rec) ∷ rest me.1) → then ≡ (me.0, (slot, rec) ∷ others)
+wrote me then slot at_slot old rec others same held is =
+    is ∙ (ap (λ (k : ℕ). let z : Me Rec View = (me.0, (k, rec) ∷ rest me.1) in z) same ∙ ap (λ (h : List (ℕ × Rec)). let z : Me Rec View = (me.0, (slot, rec) ∷ rest h) in z) held)
 
 -- a word of the table is there
 pub word_inside : (place : Seat Rec View) (z : TableId) (cpu : CpuId) (m : ℕ) → IsSat cpu place → place.table_id ≡ z → m < length place.me.0.specs → 16 * m + 1 < z.words

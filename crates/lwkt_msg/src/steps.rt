@@ -12,6 +12,7 @@ ghost use Rattle.lwkt_core.specs.declared.messages.TheConstants.{LAST_ROUND};
 ghost use Rattle.lwkt_msg.specs.Steps.{sent_word, rest_word};
 ghost use Rattle.lwkt_msg.specs.Plays.{IsAfter, Looked, HasWon, HasLost, HasFetched, IsSat, IsSameSeat, IsInFront};
 
+use crate::places::{slot_of_message, word_of_message};
 use crate::plays::{Look, Reap, Reply, Send, Take};
 use crate::rules::{Place, Top};
 use lwkt_base::{CpuId, MsgWord, Rec};
@@ -25,7 +26,7 @@ pub(crate) fn look(top: &Top, place: &mut Place, m: usize) -> u64
     ensures looked { Looked m place.old.me result place.new.me }
     ensures sat { (cpu : CpuId) → IsSat cpu place.old → IsSat cpu place.new }
 {
-    top.load::<Look>(place, 16 * m + 1)
+    top.load::<Look>(place, word_of_message(m))
 }
 
 // The record of a message, which lies in front.
@@ -36,7 +37,7 @@ fn front(top: &Top, place: &mut Place, m: usize) -> Rec
     ensures seat { IsSameSeat place.old place.new × (place.new.me ≡ place.old.me) }
     ensures value { IsInFront place.old m result }
 {
-    *place.slot_mut(top, 4 * m)
+    *place.slot_mut(top, slot_of_message(m))
 }
 
 // Gives the record of a message away, by the store of a send. The word is that of the message after the send.
@@ -53,8 +54,8 @@ pub(crate) fn put(top: &Top, place: &mut Place, m: usize, rec: Rec, word: MsgWor
     ensures view { IsAfter place.old.me.0 m (sent word (call_of rec) (at place.old.me.0 m)) (sends (who place.old.me.0) m word.target word.round (message_word word) rec) place.new.me.0 }
     ensures sat { IsSat word.origin place.new }
 {
-    top.exchange(place, 4 * m, rec);
-    top.store::<Send>(place, 16 * m + 1, word.make());
+    top.exchange(place, slot_of_message(m), rec);
+    top.store::<Send>(place, word_of_message(m), word.make());
 }
 
 // Takes a message, by an exchange of its word. The word found before is that of a message on its way to this processor.
@@ -68,7 +69,7 @@ pub(crate) fn win(top: &Top, place: &mut Place, m: usize, found: u64, word: MsgW
     ensures sat { IsSat word.target place.new }
     ensures view { MatchOption result (HasLost m found place.old.me.0 place.new.me.0) (λ rec. HasWon m word.round found place.old.me.0 rec place.new.me.0) }
 {
-    let seen = top.compare_exchange::<Take>(place, 16 * m + 1, found, found + 1);
+    let seen = top.compare_exchange::<Take>(place, word_of_message(m), found, found + 1);
     if seen == found {
         Some(front(top, place, m))
     } else {
@@ -90,8 +91,8 @@ pub(crate) fn answer(top: &Top, place: &mut Place, m: usize, cpu: CpuId, error: 
     let mut rec = front(top, place, m);
     rec.error = error;
     rec.result = outcome;
-    top.exchange(place, 4 * m, rec);
-    top.fetch_add::<Reply>(place, 16 * m + 1, 1);
+    top.exchange(place, slot_of_message(m), rec);
+    top.fetch_add::<Reply>(place, word_of_message(m), 1);
 }
 
 // Takes the record of a message back that came back, by the store of a reap. The word is that of the message at rest.
@@ -106,6 +107,6 @@ pub(crate) fn fetch(top: &Top, place: &mut Place, m: usize, word: MsgWord) -> Re
     ensures sat { IsSat word.origin place.new }
     ensures view { HasFetched m (message_word word) place.old.me.0 result place.new.me.0 }
 {
-    top.store::<Reap>(place, 16 * m + 1, word.make());
+    top.store::<Reap>(place, word_of_message(m), word.make());
     front(top, place, m)
 }

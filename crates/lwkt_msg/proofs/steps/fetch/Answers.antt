@@ -1,4 +1,4 @@
-use Rattle.std.proofs.Common.{◌≡◌, inl, ⊎_elim, ℕ, true, false, refl, ap, sym, ◌∙◌, subst}
+use Rattle.std.proofs.Common.{◌≡◌, inl, ⊎_elim, ℕ, ◌<◌, true, false, refl, ap, sym, ◌∙◌, subst}
 use mathlib.Core.Option.{none}
 use Rattle.atomic_table.specs.Table.{Me, step, Allows}
 use Rattle.lwkt_base.specs.declared.records.Rec.{Rec}
@@ -23,19 +23,18 @@ store-requires c =
     let i = c.args.place.now.id in
     let n_is : c.make.result ≡ message_word (rest_word c.args.word.origin (at me.0 m).round) = c.make.ensures ∙ ap message_word c.requires.word in
     let G : ℕ → Type 0 = λ n. Allows (Told c.args.top.now.key) z.slots i me (word_at m) (λ _. n) (λ _. reaps (step z.slots (word_at m) n 0 none) me n) in
-    let back = c.requires.back in (
-      c.requires.table,
-      word_inside c.args.place.now z c.args.word.origin m sat c.requires.table c.requires.exists,
-      subst G (sym n_is) (reap_allowed c.args.top.now.key i me c.args.word.origin m sat.kind c.requires.exists z.slots back.0 back.1 back.2),
-    )
+    let back = c.requires.back in
+    let F : ℕ → Type 0 = λ j. (j < z.words) × Allows (Told c.args.top.now.key) z.slots i me j (λ _. c.make.result) (λ _. reaps (step z.slots j c.make.result 0 none) me c.make.result) in
+    let allowed = subst F (sym c.word_of_message.ensures) (word_inside c.args.place.now z c.args.word.origin m sat c.requires.table c.requires.exists, subst G (sym n_is) (reap_allowed c.args.top.now.key i me c.args.word.origin m sat.kind c.requires.exists z.slots back.0 back.1 back.2)) in
+    (c.requires.table, allowed.0, allowed.1)
 
 pub front-requires-clause-held : goal.front-requires-clause-held
-front-requires-clause-held c = let got = c.store.ensures.2 c.args.m refl in (got.0, (c.args.place.now.me.1, got.2))
+front-requires-clause-held c = let got = c.store.ensures.2 c.args.m c.word_of_message.ensures in (got.0, (c.args.place.now.me.1, got.2))
 
 pub returns-clause-sat : goal.returns-clause-sat
 returns-clause-sat c =
     let m : ℕ = c.args.m in
-    let got = c.store.ensures.2 m refl in
+    let got = c.store.ensures.2 m c.word_of_message.ensures in
     let same = c.front.ensures.seat in
     let back = c.requires.back in
     let not_yet : IsInHand c.args.place.now.me.0 c.args.word.origin.0 m → ⊥
@@ -49,7 +48,7 @@ pub returns-clause-view : goal.returns-clause-view
 returns-clause-view c =
     let m : ℕ = c.args.m in
     let v : View = c.args.place.now.me.0 in
-    let got = c.store.ensures.2 m refl in
+    let got = c.store.ensures.2 m c.word_of_message.ensures in
     let value = c.front.ensures.value in
     let is : got.0 ≡ c.front.result = ap (λ (h : ℕ × Rec). h.1) (first_same (slot_at m, got.0) (slot_at m, c.front.result) c.args.place.now.me.1 value.0 (sym got.2 ∙ value.1)) in
     let F : Rec → Type 0 = λ r. HasFetched m c.make.result v r c.store.new.seat.me.0 in
