@@ -1,4 +1,4 @@
-use Rattle.std.proofs.Common.{◌≡◌, ◌≢◌, inl, inr, ⊎_elim, ℕ, ◌+◌, ◌%◌, ◌<◌, ◌^◌, eqb, ◌&&◌, Bool, true, false, List, ◌∷◌, length, set, get_or, refl, ap, sym, ◌∙◌, subst, arith}
+use Rattle.std.proofs.Common.{◌≡◌, ◌≢◌, inl, inr, ⊎_elim, ℕ, ◌+◌, ◌%◌, ◌<◌, ◌^◌, eqb, ◌&&◌, Bool, true, false, List, ◌∷◌, ◌++◌, length, set, get_or, refl, ap, sym, ◌∙◌, subst, arith}
 use mathlib.Core.Option.{Option, some, none, some-injective}
 use lib.ListN.{get_elem?}
 use prog.Atomic.{either}
@@ -15,24 +15,30 @@ use Rattle.lwkt_base.specs.declared.message_words.MsgWord.{MsgWord}
 use Rattle.lwkt_base.specs.declared.message_words.MsgState.TheVariants as state
 use Rattle.lwkt_base.specs.MessageWord.{message_word, MessageFits}
 use Rattle.lwkt_core.specs.declared.messages.TheConstants.{LAST_ROUND}
-use Rattle.lwkt_core.specs.declared.seats.Operation.{Operation}
+use Rattle.lwkt_core.specs.declared.seats.Deed.{Deed}
 use Rattle.lwkt_core.specs.declared.seats.Operation.TheVariants as operation
 use Rattle.lwkt_core.specs.declared.seats.SeatKind.{SeatKind}
 use Rattle.lwkt_core.specs.declared.seats.SeatKind.TheVariants.{Of}
-use Rattle.lwkt_core.specs.Messages.{is_away}
+use Rattle.lwkt_core.specs.Messages.{is_away, origin_of, target_of}
 use Rattle.lwkt_msg.specs.declared.views.Entry.{Entry}
 use Rattle.lwkt_msg.specs.declared.views.Layout.{Layout}
 use Rattle.lwkt_msg.specs.declared.views.View.{View}
-use Rattle.lwkt_msg.specs.Views.{word_at, slot_at, spec_at, call_of, at, after_step, looked, handed, sent, took, replied, reaped, shows_away, shows_back, shows_with, Sees, SeesOwn, Stands}
-use Rattle.lwkt_msg.specs.Book.{Mail, parts_of, state_of, shown_target, in_slot, is_taken, is_back, IsBack, KnowsOwn, Knows, IsKept, mail_at, IsBook, HadRecord, Rule}
+use Rattle.lwkt_msg.specs.Views.{word_at, slot_at, spec_at, call_of, at, who, noted, looked, handed, sent, took, replied, reaped, shows_away, shows_back, shows_with, Sees, SeesOwn, Stands}
+use Rattle.lwkt_msg.specs.Book.{Mail, parts_of, state_of, shown_target, in_slot, is_taken, is_back, KnowsOwn, Knows, IsKept, mail_at, Rule}
 use Rattle.lwkt_msg.specs.Hands.{Has, AreSame, IsOwn, IsInHand, AreHands}
 use Rattle.lwkt_msg.specs.Steps.{sent_word, rest_word}
-use Rattle.lwkt_msg.specs.Plays.{Looked, looks, sends, Took, takes_it, replies, reaps, hands_out}
+use Rattle.lwkt_msg.specs.Deeds as deed
+use Rattle.lwkt_msg.specs.Told.{Told, Tells}
+use Rattle.lwkt_msg.specs.Records.{WasSent, WasAnswered, IsPosted}
+use Rattle.lwkt_msg.specs.Plays.{IsAfter, Looked, looks, sends, Took, takes_it, replies, HasFetched, reaps, hands_out}
 use Rattle.lwkt_msg.proofs.WordFacts.{message_word-injective, message_word-below}
 use Rattle.lwkt_msg.proofs.Bringing.{AreSame-refl, find_slot, bring}
 use Rattle.lwkt_msg.proofs.Moves.{never, look_mine}
 use Rattle.lwkt_msg.proofs.Frames.{seat_plan}
 use Rattle.lwkt_msg.proofs.Leading as lead
+use Rattle.lwkt_msg.proofs.Recording.{records_told}
+use Rattle.lwkt_msg.proofs.Telling.{who_is}
+use Rattle.lwkt_msg.proofs.Telling as tell
 
 -- a play tells of the one message whose word the step is on
 at_word : (m : ℕ) (P : ℕ → Type 0) → P m → (k : ℕ) → word_at m ≡ word_at k → P k
@@ -107,6 +113,7 @@ module _ (key : Layout) (s : State Rec View) (id : ℕ) (v : View) (cpu : CpuId)
         away_is = k.away_is ∙ away_shown mail.msg.owner;
         asked_is = k.asked_is;
         back_is = λ seen. back_shown mail.msg.owner (k.back_is seen);
+        target_is = λ away. sym (k.target_is (away_shown mail.msg.owner ∙ away));
         flags_is = λ away.
             let gone : is_away mail.msg.owner ≡ true = away_shown mail.msg.owner ∙ away in (
               flag_shown (is_away mail.msg.owner) mail.sync gone ∙ sym k.sync_is,
@@ -126,56 +133,61 @@ module _ (key : Layout) (s : State Rec View) (id : ℕ) (v : View) (cpu : CpuId)
       let k = lead.knows_taken key rule.mails s id v cpu m rule.book e is_seat there in
       kept.slot ∙ ap (λ (o : Option Rec). some o) (in_slot_taken cpu.0 mail.msg.owner mail.had mail.rec (sym k.taken_is ∙ h))
 
-  -- a step that leaves the message, and everything at home, as it is
-  pub stays : (e' : Entry) (o : Operation) (found : ℕ) (homes' : List (Option Rec)) → homes' ≡ s.homes → e'.sends ≡ (at v m).sends → e'.takes ≡ (at v m).takes → e'.drops ≡ (at v m).drops → e'.replies ≡ (at v m).replies → e'.reaps ≡ (at v m).reaps
-      → (Knows mail (Of cpu) (at v m) → Knows mail (Of cpu) e')
-      → Rule key record { words = set s.words (word_at m) (get_or s.words (word_at m) 0); homes = homes'; views = set s.views id (after_step v m e' o found) }
-  stays e' o found homes' same a b c d f mine = record {
-    mails = set rule.mails m mail;
-    book =
-        let F : List (Option Rec) → Type 0 = λ hs. IsBook key (set rule.mails m mail) record { words = set s.words (word_at m) (get_or s.words (word_at m) 0); homes = hs; views = set s.views id (after_step v m e' o found) } in
-        subst F (sym same) (lead.stays key rule.mails s id v cpu m rule.book e is_seat there e' o found a b c d f mine);
-  }
+-- what a step tells of its deed, by the processor of the view
+told_by_who : (key : Layout) (s : State Rec View) (told : Told key s) (id : ℕ) (v : View) (cpu : CpuId) (is_seat : v.kind ≡ Of cpu) (hands : List (ℕ × Rec)) (m : ℕ) (e : Entry) (d : CpuId → Deed) (word : ℕ) (act : Act Rec)
+    → (t : Tells key s told id v hands m e (d cpu) word act) → noted t.between v m e (d cpu) ≡ noted t.between v m e (d (who v))
+told_by_who key s told id v cpu is_seat hands m e d word act t = ap (λ (c : CpuId). noted t.between v m e (d c)) (sym (who_is v cpu is_seat))
 
 -- a load of a message's word
 pub look_allowed : (key : Layout) (slots id : ℕ) (me : Me Rec View) (cpu : CpuId) (m : ℕ) → me.0.kind ≡ Of cpu → m < length me.0.specs → AreHands me.0 cpu.0 me.1
-    → Allows (Rule key) slots id me (word_at m) (λ n. n) (looks (step slots (word_at m) 0 0 none) me)
-look_allowed key slots id me cpu m is_seat within hands s rule deep at_id small =
+    → Allows (Told key) slots id me (word_at m) (λ n. n) (looks (step slots (word_at m) 0 0 none) me)
+look_allowed key slots id me cpu m is_seat within hands s told deep at_id small =
     ⊎_elim
     (λ (found : (rec : Rec) × Has me.1 (slot_at m) rec). with_front found.0 found.1)
-    (λ (not_there : (rec : Rec) → Has me.1 (slot_at m) rec → ⊥). (after_view, keeps, tt, kept_rule s.homes refl, tells me.1 (AreSame-refl me.1) (λ rec has. absurd (not_there rec has))))
+    (λ (not_there : (rec : Rec) → Has me.1 (slot_at m) rec → ⊥).
+    let t = look keeps tt refl in
+    (noted t.between me.0 m e' d, keeps, tt, t.after, tells keeps tt refl me.1 refl (AreSame-refl me.1) (λ rec has. absurd (not_there rec has))))
     (find_slot me.1 (slot_at m))
   where
     n : ℕ
     n = get_or s.words (word_at m) 0
 
     mail : Mail
-    mail = mail_at rule.mails m
+    mail = mail_at told.rule.mails m
 
-    after_view : View
-    after_view = after_step me.0 m (looked (parts_of mail) (at me.0 m)) operation.Load n
+    e' : Entry
+    e' = looked (parts_of mail) (at me.0 m)
 
-    kept_rule : (homes' : List (Option Rec)) → homes' ≡ s.homes → Rule key record { words = set s.words (word_at m) n; homes = homes'; views = set s.views id after_view }
-    kept_rule homes' same = stays key s id me.0 cpu m rule at_id is_seat within (looked (parts_of mail) (at me.0 m)) operation.Load n homes' same refl refl refl refl refl (look_mine mail cpu (at me.0 m))
+    d : Deed
+    d = deed.loads cpu m n
 
-    tells : (hands' : List (ℕ × Rec)) → AreSame me.1 hands' → ((rec : Rec) → Has me.1 (slot_at m) rec → (others : List (ℕ × Rec)) × (hands' ≡ (slot_at m, rec) ∷ others)) → looks (step slots (word_at m) 0 0 none) me n (after_view, hands')
-    tells hands' same front = at_word m (λ k. Looked k me n (after_view, hands')) record {
-      parts = parts_of mail;
-      fits = parts_fit key s id me.0 cpu m rule at_id is_seat within;
-      is_word = (kept key s id me.0 cpu m rule at_id is_seat within).is_word;
-      sees = sees key s id me.0 cpu m rule at_id is_seat within;
-      view_is = refl;
-      same = same;
-      front = front;
-    }
+    here : m < length key.specs.items
+    here = there key s id me.0 cpu m told.rule at_id is_seat within
+
+    look : (act : Act Rec) → Valid s.homes me.1 act → homes_after s.homes me.1 act ≡ s.homes → Tells key s told id me.0 me.1 m e' d n act
+    look act valid same = tell.look_told key s id me.0 cpu m told at_id is_seat here e' operation.Load me.1 act valid same refl refl refl refl refl (look_mine mail cpu (at me.0 m)) (inl refl)
+
+    tells : (act : Act Rec) (valid : Valid s.homes me.1 act) (homes : homes_after s.homes me.1 act ≡ s.homes) (hands' : List (ℕ × Rec)) → carried_after me.1 act ≡ hands' → AreSame me.1 hands' → ((rec : Rec) → Has me.1 (slot_at m) rec → (others : List (ℕ × Rec)) × (hands' ≡ (slot_at m, rec) ∷ others))
+        → looks (step slots (word_at m) 0 0 none) me n (noted (look act valid homes).between me.0 m e' d, hands')
+    tells act valid homes hands' is same front =
+        let t = look act valid homes in
+        at_word m (λ k. Looked k me n (noted t.between me.0 m e' d, hands')) record {
+          parts = parts_of mail;
+          fits = parts_fit key s id me.0 cpu m told.rule at_id is_seat within;
+          is_word = (kept key s id me.0 cpu m told.rule at_id is_seat within).is_word;
+          sees = sees key s id me.0 cpu m told.rule at_id is_seat within;
+          view_is = (t.between, (t.others, told_by_who key s told id me.0 cpu is_seat me.1 m e' (λ c. deed.loads c m n) n act t));
+          same = same;
+          front = front;
+        }
 
     out : (k : ℕ) (y : Rec) → Has me.1 k y → get_elem? s.homes k ≡ some none
     out k y has =
         let h = hands.all k y has in
         let F : ℕ → Type 0 = λ i. get_elem? s.homes i ≡ some none in
-        subst F (sym h.2) (not_home key s id me.0 cpu h.0 rule at_id is_seat h.1 h.3)
+        subst F (sym h.2) (not_home key s id me.0 cpu h.0 told.rule at_id is_seat h.1 h.3)
 
-    with_front : (rec : Rec) → Has me.1 (slot_at m) rec → (w : View) × (a : Act Rec) × Valid s.homes me.1 a × Rule key (stepped s (word_at m) n id me.1 w a) × looks (step slots (word_at m) 0 0 none) me n (w, carried_after me.1 a)
+    with_front : (rec : Rec) → Has me.1 (slot_at m) rec → (w : View) × (a : Act Rec) × Valid s.homes me.1 a × Told key (stepped s (word_at m) n id me.1 w a) × looks (step slots (word_at m) 0 0 none) me n (w, carried_after me.1 a)
     with_front rec has =
         let b = bring me.1 has.0 s.homes (slot_at m) rec hands.apart out has.1 in
         let F : List (ℕ × Rec) → Type 0 = λ c. AreSame me.1 c in
@@ -183,129 +195,169 @@ look_allowed key slots id me cpu m is_seat within hands s rule deep at_id small 
         = λ y has'.
         let is : y ≡ rec = one_record me.1 (slot_at m) y rec has'.0 has.0 has'.1 has.1 (hands.apart.one has'.0 has.0 (slot_at m) y rec has'.1 has.1) in
         (b.others, b.carried ∙ ap (λ (z : Rec). (slot_at m, z) ∷ b.others) (sym is)) in
-        (after_view, b.act, b.valid, kept_rule (homes_after s.homes me.1 b.act) b.homes_same, tells (carried_after me.1 b.act) (subst F (sym b.carried) b.same) front)
+        let t = look b.act b.valid b.homes_same in
+        (noted t.between me.0 m e' d, b.act, b.valid, t.after, tells b.act b.valid b.homes_same (carried_after me.1 b.act) refl (subst F (sym b.carried) b.same) front)
 
 -- the first of a list, and what is behind it
 pub first_same : (x y : ℕ × Rec) (xs ys : List (ℕ × Rec)) → x ∷ xs ≡ y ∷ ys → x ≡ y
 first_same x y xs ys e = some-injective x y (ap (λ (l : List (ℕ × Rec)). get_elem? l 0) e)
+
+-- what a message's record is, by the history up to this step
+module _ (key : Layout) (s : State Rec View) (m : ℕ) (told : Told key s) (there : m < length key.specs.items) where
+  posted : IsPosted told.chronicle.history m (mail_at told.rule.mails m).msg.owner (mail_at told.rule.mails m).rec
+  posted = records_told key.cpus key.specs.items told.chronicle.history told.rule.mails told.chronicle.passes m (let h = told.rule.book.as_many in omega arith)
+
+  pub was_sent : (o t : CpuId) (front : List Deed) → (mail_at told.rule.mails m).msg.owner ≡ Out o t → front ≡ told.chronicle.history → WasSent front m (mail_at told.rule.mails m).rec
+  was_sent o t front out seen =
+      let F : Owner → Type 0 = λ x. IsPosted told.chronicle.history m x (mail_at told.rule.mails m).rec in
+      let G : List Deed → Type 0 = λ x. WasSent x m (mail_at told.rule.mails m).rec in
+      subst G (sym seen) (subst F out posted)
+
+  pub was_answered : (o t : CpuId) (front : List Deed) → (mail_at told.rule.mails m).msg.owner ≡ Back o t → front ≡ told.chronicle.history → WasAnswered front m (mail_at told.rule.mails m).rec
+  was_answered o t front back seen =
+      let F : Owner → Type 0 = λ x. IsPosted told.chronicle.history m x (mail_at told.rule.mails m).rec in
+      let G : List Deed → Type 0 = λ x. WasAnswered x m (mail_at told.rule.mails m).rec in
+      subst G (sym seen) (subst F back posted)
 
 -- a place at a step: the message's number is that of the table's
 module _ (key : Layout) (id : ℕ) (me : Me Rec View) (cpu : CpuId) (m : ℕ) (is_seat : me.0.kind ≡ Of cpu) (within : m < length me.0.specs) where
   -- the store of a send
   pub send_allowed : (slots : ℕ) (to : CpuId) (sync : Bool) (flags : Flags) (rec : Rec) (others : List (ℕ × Rec)) → me.1 ≡ (slot_at m, rec) ∷ others → IsOwn me.0 cpu.0 m → (at me.0 m).away ≡ false
       → cpu.0 < 8 → to.0 < 8 → to.0 < me.0.cpus → (at me.0 m).round < LAST_ROUND → rec.error ≡ 0 → rec.result ≡ 0
-      → Allows (Rule key) slots id me (word_at m) (λ _. message_word (sent_word cpu to ((at me.0 m).round + 1) sync flags))
+      → Allows (Told key) slots id me (word_at m) (λ _. message_word (sent_word cpu to ((at me.0 m).round + 1) sync flags))
       (λ _. sends (step slots (word_at m) (message_word (sent_word cpu to ((at me.0 m).round + 1) sync flags)) 0 none) me (message_word (sent_word cpu to ((at me.0 m).round + 1) sync flags)))
-  send_allowed slots to sync flags rec others front own home few_cpu few_to to_there room no_error no_result s rule deep at_id small =
+  send_allowed slots to sync flags rec others front own home few_cpu few_to to_there room no_error no_result s told deep at_id small =
       let w : MsgWord = sent_word cpu to ((at me.0 m).round + 1) sync flags in
       let n : ℕ = message_word w in
-      let there : m < length key.specs.items = subst (λ (xs : List MsgSpec). m < length xs) (seat_plan key rule.mails s id me.0 cpu rule.book at_id is_seat).1 within in
-      let to_here : to.0 < key.cpus = subst (λ (k : ℕ). to.0 < k) (seat_plan key rule.mails s id me.0 cpu rule.book at_id is_seat).0 to_there in
-      let l = lead.send_leads key rule.mails s id me.0 cpu m rule.book at_id is_seat there to sync flags rec own home to_here room no_error no_result in
-      let v' : View = after_step me.0 m (sent w (call_of rec) (at me.0 m)) (operation.Store n) n in
-      let now : Rule key record { words = set s.words (word_at m) n; homes = set s.homes (slot_at m) (some rec); views = set s.views id v' } = record { mails = l.after_mails; book = l.book } in
-      let F : List (ℕ × Rec) → Type 0 = λ c. Rule key record { words = set s.words (word_at m) n; homes = homes_after s.homes c gives; views = set s.views id v' } in
+      let plan = seat_plan key told.rule.mails s id me.0 cpu told.rule.book at_id is_seat in
+      let to_here : to.0 < key.cpus = subst (λ (k : ℕ). to.0 < k) plan.0 to_there in
+      let e' : Entry = sent w (call_of rec) (at me.0 m) in
+      let t = tell.send_told key s id me.0 cpu m told at_id is_seat (there key s id me.0 cpu m told.rule at_id is_seat within) to sync flags rec others own home to_here room no_error no_result in
+      let v' : View = noted t.between me.0 m e' (deed.sends cpu m to w.round n rec) in
+      let F : List (ℕ × Rec) → Type 0 = λ c. Told key record { words = set s.words (word_at m) n; homes = homes_after s.homes c gives; views = set s.views id v' } in
       let fits : MessageFits w = (few_cpu, few_to, omega arith) in
+      let same = told_by_who key s told id me.0 cpu is_seat ((slot_at m, rec) ∷ others) m e' (λ c. deed.sends c m to w.round n rec) n gives t in
       let tells : (k : ℕ) → word_at m ≡ word_at k → (x : MsgWord) → MessageFits x → n ≡ message_word x → (y : Rec) (others' : List (ℕ × Rec)) → me.1 ≡ (slot_at k, y) ∷ others'
-      → (v' ≡ after_step me.0 k (sent x (call_of y) (at me.0 k)) (operation.Store n) n) × (carried_after me.1 gives ≡ others')
-      = at_word m (λ k. (x : MsgWord) → MessageFits x → n ≡ message_word x → (y : Rec) (others' : List (ℕ × Rec)) → me.1 ≡ (slot_at k, y) ∷ others' → (v' ≡ after_step me.0 k (sent x (call_of y) (at me.0 k)) (operation.Store n) n) × (carried_after me.1 gives ≡ others'))
+      → IsAfter me.0 k (sent x (call_of y) (at me.0 k)) (deed.sends (who me.0) k x.target x.round n y) v' × (carried_after me.1 gives ≡ others')
+      = at_word m (λ k. (x : MsgWord) → MessageFits x → n ≡ message_word x → (y : Rec) (others' : List (ℕ × Rec)) → me.1 ≡ (slot_at k, y) ∷ others' → IsAfter me.0 k (sent x (call_of y) (at me.0 k)) (deed.sends (who me.0) k x.target x.round n y) v' × (carried_after me.1 gives ≡ others'))
       (λ x x_fits is y others' front'.
       let w_is : w ≡ x = message_word-injective w x fits x_fits is in
       let rec_is : rec ≡ y = ap (λ (h : ℕ × Rec). h.1) (first_same (slot_at m, rec) (slot_at m, y) others others' (sym front ∙ front')) in
-      ((λ i. after_step me.0 m (sent (w_is i) (call_of (rec_is i)) (at me.0 m)) (operation.Store n) n), ap (λ (c : List (ℕ × Rec)). carried_after c gives) front')) in
-      (v', gives, tt, subst F (sym front) now, tells)
+      ((t.between, (t.others, same ∙ (λ i. noted t.between me.0 m (sent (w_is i) (call_of (rec_is i)) (at me.0 m)) (deed.sends (who me.0) m (w_is i).target (w_is i).round n (rec_is i))))), ap (λ (c : List (ℕ × Rec)). carried_after c gives) front')) in
+      (v', gives, tt, subst F (sym front) t.after, tells)
 
   -- the exchange of a take
   pub take_allowed : (slots old new : ℕ) (w : MsgWord) → old ≡ message_word w → new ≡ message_word w + 1 → MessageFits w → w.state ≡ state.Out → w.target ≡ cpu
-      → Allows (Rule key) slots id me (word_at m) (λ n. either (eqb n old) new n) (takes_it (step slots (word_at m) old new none) me)
-  take_allowed slots old new w old_is new_is fits out to s rule deep at_id small =
+      → Allows (Told key) slots id me (word_at m) (λ n. either (eqb n old) new n) (takes_it (step slots (word_at m) old new none) me)
+  take_allowed slots old new w old_is new_is fits out to s told deep at_id small =
       exchanged n old new
-      (λ x. (v' : View) × (a : Act Rec) × Valid s.homes me.1 a × Rule key (stepped s (word_at m) x id me.1 v' a) × takes_it (step slots (word_at m) old new none) me n (v', carried_after me.1 a))
+      (λ x. (v' : View) × (a : Act Rec) × Valid s.homes me.1 a × Told key (stepped s (word_at m) x id me.1 v' a) × takes_it (step slots (word_at m) old new none) me n (v', carried_after me.1 a))
       hit miss
     where
       n : ℕ
       n = get_or s.words (word_at m) 0
 
-      there : m < length key.specs.items
-      there = subst (λ (xs : List MsgSpec). m < length xs) (seat_plan key rule.mails s id me.0 cpu rule.book at_id is_seat).1 within
+      here : m < length key.specs.items
+      here = there key s id me.0 cpu m told.rule at_id is_seat within
 
       rec : Rec
-      rec = (mail_at rule.mails m).rec
+      rec = (mail_at told.rule.mails m).rec
 
-      hit : n ≡ old → (v' : View) × (a : Act Rec) × Valid s.homes me.1 a × Rule key (stepped s (word_at m) new id me.1 v' a) × takes_it (step slots (word_at m) old new none) me n (v', carried_after me.1 a)
+      hit : n ≡ old → (v' : View) × (a : Act Rec) × Valid s.homes me.1 a × Told key (stepped s (word_at m) new id me.1 v' a) × takes_it (step slots (word_at m) old new none) me n (v', carried_after me.1 a)
       hit found =
-          let l = lead.take_leads key rule.mails s id me.0 cpu m rule.book at_id is_seat there w (operation.Exchange old new) n (found ∙ old_is) fits out to in
-          let slot = lead.out_slot key rule.mails s id me.0 cpu m rule.book at_id is_seat there w (found ∙ old_is) fits out in
-          let v' : View = after_step me.0 m (took rec (at me.0 m)) (operation.Exchange old new) n in
-          let now : Rule key record { words = set s.words (word_at m) (message_word w + 1); homes = set s.homes (slot_at m) none; views = set s.views id v' } = record { mails = l.after_mails; book = l.book } in
-          let F : ℕ → Type 0 = λ x. Rule key record { words = set s.words (word_at m) x; homes = set s.homes (slot_at m) none; views = set s.views id v' } in (
-            v',
-            takes (slot_at m) rec,
-            slot.0,
-            subst F (sym new_is) now,
-            at_word m (λ k. Took k old new me n (v', (slot_at m, rec) ∷ me.1)) record { won = λ _. (rec, slot.1, slot.2, refl, refl, record { key = key; mails = rule.mails; s = s; id = id; book = rule.book; seat = at_id; was_so = sym found ∙ (kept key s id me.0 cpu m rule at_id is_seat within).is_word; record_is = refl }); lost = λ other. absurd (other found) },
-          )
+          let t = tell.take_told key s id me.0 cpu m told at_id is_seat here w me.1 (found ∙ old_is) fits out to in
+          let e' : Entry = took rec (at me.0 m) in
+          let v' : View = noted t.between me.0 m e' (deed.takes cpu m w.round (message_word w) rec) in
+          let F : ℕ → Type 0 = λ x. Told key record { words = set s.words (word_at m) x; homes = set s.homes (slot_at m) none; views = set s.views id v' } in
+          let same = told_by_who key s told id me.0 cpu is_seat me.1 m e' (λ c. deed.takes c m w.round (message_word w) rec) (message_word w + 1) (takes (slot_at m) rec) t in
+          let owner_is = lead.goes_to key told.rule.mails s id me.0 cpu m told.rule.book at_id is_seat here w (found ∙ old_is) fits out to in
+          let tells : (k : ℕ) → word_at m ≡ word_at k → (x : MsgWord) → MessageFits x → old ≡ message_word x → Took k x.round old new me n (v', (slot_at m, rec) ∷ me.1)
+          = at_word m (λ k. (x : MsgWord) → MessageFits x → old ≡ message_word x → Took k x.round old new me n (v', (slot_at m, rec) ∷ me.1))
+          (λ x x_fits is.
+          let w_is : w ≡ x = message_word-injective w x fits x_fits (sym old_is ∙ is) in
+          record {
+            won = λ _. (
+              rec,
+              record {
+                between = t.between;
+                others = t.others;
+                view_is = same ∙ (λ i. noted t.between me.0 m e' (deed.takes (who me.0) m (w_is i).round (sym old_is i) rec));
+                sent = was_sent key s m told here (origin_of (mail_at told.rule.mails m).msg.owner) cpu (me.0.past ++ t.between) owner_is t.front;
+              },
+              refl,
+            );
+            lost = λ other. absurd (other found);
+          }) in
+          (v', takes (slot_at m) rec, t.valid, subst F (sym new_is) t.after, tells)
 
-      miss : n ≢ old → (v' : View) × (a : Act Rec) × Valid s.homes me.1 a × Rule key (stepped s (word_at m) n id me.1 v' a) × takes_it (step slots (word_at m) old new none) me n (v', carried_after me.1 a)
+      miss : n ≢ old → (v' : View) × (a : Act Rec) × Valid s.homes me.1 a × Told key (stepped s (word_at m) n id me.1 v' a) × takes_it (step slots (word_at m) old new none) me n (v', carried_after me.1 a)
       miss other =
-          let v' : View = after_step me.0 m (at me.0 m) (operation.Exchange old new) n in (
+          let t = tell.look_told key s id me.0 cpu m told at_id is_seat here (at me.0 m) (operation.Exchange old new) me.1 keeps tt refl refl refl refl refl refl (λ known. known) (inr (old, new, (refl, other))) in
+          let v' : View = noted t.between me.0 m (at me.0 m) (deed.loses cpu m old new n) in
+          let same = told_by_who key s told id me.0 cpu is_seat me.1 m (at me.0 m) (λ c. deed.loses c m old new n) n keeps t in (
             v',
             keeps,
             tt,
-            stays key s id me.0 cpu m rule at_id is_seat within (at me.0 m) (operation.Exchange old new) n s.homes refl refl refl refl refl refl (λ known. known),
-            at_word m (λ k. Took k old new me n (v', me.1)) record { won = λ found. absurd (other found); lost = λ _. (refl, refl) },
+            t.after,
+            at_word m (λ k. (x : MsgWord) → MessageFits x → old ≡ message_word x → Took k x.round old new me n (v', me.1))
+                (λ x x_fits is. record { won = λ found. absurd (other found); lost = λ _. ((t.between, (t.others, same)), refl) }),
           )
 
   -- the addition of a reply
   pub reply_allowed : (slots : ℕ) (rec : Rec) (others : List (ℕ × Rec)) → me.1 ≡ (slot_at m, rec) ∷ others → (at me.0 m).taken ≡ true → call_of rec ≡ (at me.0 m).got
-      → Allows (Rule key) slots id me (word_at m) (λ n. (n + 1) % 2 ^ 64) (replies (step slots (word_at m) 1 0 none) me)
-  reply_allowed slots rec others front taken same_call s rule deep at_id small =
+      → Allows (Told key) slots id me (word_at m) (λ n. (n + 1) % 2 ^ 64) (replies (step slots (word_at m) 1 0 none) me)
+  reply_allowed slots rec others front taken same_call s told deep at_id small =
       let n : ℕ = get_or s.words (word_at m) 0 in
-      let there : m < length key.specs.items = subst (λ (xs : List MsgSpec). m < length xs) (seat_plan key rule.mails s id me.0 cpu rule.book at_id is_seat).1 within in
-      let l = lead.reply_leads key rule.mails s id me.0 cpu m rule.book at_id is_seat there rec (operation.Add 1) n taken same_call in
-      let v' : View = after_step me.0 m (replied rec (at me.0 m)) (operation.Add 1) n in
-      let is_word : n ≡ message_word (parts_of (mail_at rule.mails m)) = (kept key s id me.0 cpu m rule at_id is_seat within).is_word in
-      let below : message_word (parts_of (mail_at rule.mails m)) + 4 < 2 ^ 64 = message_word-below (parts_of (mail_at rule.mails m)) (parts_fit key s id me.0 cpu m rule at_id is_seat within) in
+      let e' : Entry = replied rec (at me.0 m) in
+      let t = tell.reply_told key s id me.0 cpu m told at_id is_seat (there key s id me.0 cpu m told.rule at_id is_seat within) rec others taken same_call in
+      let v' : View = noted t.between me.0 m e' (deed.replies cpu m n rec) in
+      let is_word : n ≡ message_word (parts_of (mail_at told.rule.mails m)) = (kept key s id me.0 cpu m told.rule at_id is_seat within).is_word in
+      let below : message_word (parts_of (mail_at told.rule.mails m)) + 4 < 2 ^ 64 = message_word-below (parts_of (mail_at told.rule.mails m)) (parts_fit key s id me.0 cpu m told.rule at_id is_seat within) in
       let next : (n + 1) % 2 ^ 64 ≡ n + 1 = omega arith in
-      let now : Rule key record { words = set s.words (word_at m) (n + 1); homes = set s.homes (slot_at m) (some rec); views = set s.views id v' } = record { mails = l.after_mails; book = l.book } in
-      let F : ℕ → Type 0 = λ x. Rule key record { words = set s.words (word_at m) x; homes = set s.homes (slot_at m) (some rec); views = set s.views id v' } in
-      let G : List (ℕ × Rec) → Type 0 = λ c. Rule key record { words = set s.words (word_at m) ((n + 1) % 2 ^ 64); homes = homes_after s.homes c gives; views = set s.views id v' } in
-      let tells : (k : ℕ) → word_at m ≡ word_at k → (y : Rec) (others' : List (ℕ × Rec)) → me.1 ≡ (slot_at k, y) ∷ others' → (v' ≡ after_step me.0 k (replied y (at me.0 k)) (operation.Add 1) n) × (carried_after me.1 gives ≡ others')
-      = at_word m (λ k. (y : Rec) (others' : List (ℕ × Rec)) → me.1 ≡ (slot_at k, y) ∷ others' → (v' ≡ after_step me.0 k (replied y (at me.0 k)) (operation.Add 1) n) × (carried_after me.1 gives ≡ others'))
+      let F : ℕ → Type 0 = λ x. Told key record { words = set s.words (word_at m) x; homes = set s.homes (slot_at m) (some rec); views = set s.views id v' } in
+      let G : List (ℕ × Rec) → Type 0 = λ c. Told key record { words = set s.words (word_at m) ((n + 1) % 2 ^ 64); homes = homes_after s.homes c gives; views = set s.views id v' } in
+      let same = told_by_who key s told id me.0 cpu is_seat ((slot_at m, rec) ∷ others) m e' (λ c. deed.replies c m n rec) (n + 1) gives t in
+      let tells : (k : ℕ) → word_at m ≡ word_at k → (y : Rec) (others' : List (ℕ × Rec)) → me.1 ≡ (slot_at k, y) ∷ others' → IsAfter me.0 k (replied y (at me.0 k)) (deed.replies (who me.0) k n y) v' × (carried_after me.1 gives ≡ others')
+      = at_word m (λ k. (y : Rec) (others' : List (ℕ × Rec)) → me.1 ≡ (slot_at k, y) ∷ others' → IsAfter me.0 k (replied y (at me.0 k)) (deed.replies (who me.0) k n y) v' × (carried_after me.1 gives ≡ others'))
       (λ y others' front'.
       let rec_is : rec ≡ y = ap (λ (h : ℕ × Rec). h.1) (first_same (slot_at m, rec) (slot_at m, y) others others' (sym front ∙ front')) in
-      ((λ i. after_step me.0 m (replied (rec_is i) (at me.0 m)) (operation.Add 1) n), ap (λ (c : List (ℕ × Rec)). carried_after c gives) front')) in
-      (v', gives, tt, subst G (sym front) (subst F (sym next) now), tells)
+      ((t.between, (t.others, same ∙ (λ i. noted t.between me.0 m (replied (rec_is i) (at me.0 m)) (deed.replies (who me.0) m n (rec_is i))))), ap (λ (c : List (ℕ × Rec)). carried_after c gives) front')) in
+      (v', gives, tt, subst G (sym front) (subst F (sym next) t.after), tells)
 
   -- the store of a reap
   pub reap_allowed : (slots : ℕ) → IsOwn me.0 cpu.0 m → (at me.0 m).had ≡ true → (at me.0 m).back ≡ true
-      → Allows (Rule key) slots id me (word_at m) (λ _. message_word (rest_word cpu (at me.0 m).round)) (λ _. reaps (step slots (word_at m) (message_word (rest_word cpu (at me.0 m).round)) 0 none) me (message_word (rest_word cpu (at me.0 m).round)))
-  reap_allowed slots own had seen s rule deep at_id small =
+      → Allows (Told key) slots id me (word_at m) (λ _. message_word (rest_word cpu (at me.0 m).round)) (λ _. reaps (step slots (word_at m) (message_word (rest_word cpu (at me.0 m).round)) 0 none) me (message_word (rest_word cpu (at me.0 m).round)))
+  reap_allowed slots own had seen s told deep at_id small =
       let n : ℕ = message_word (rest_word cpu (at me.0 m).round) in
-      let rec : Rec = (mail_at rule.mails m).rec in
-      let there : m < length key.specs.items = subst (λ (xs : List MsgSpec). m < length xs) (seat_plan key rule.mails s id me.0 cpu rule.book at_id is_seat).1 within in
-      let l = lead.reap_leads key rule.mails s id me.0 cpu m rule.book at_id is_seat there (operation.Store n) n own had seen in
-      let slot = lead.back_slot key rule.mails s id me.0 cpu m rule.book at_id is_seat there own seen in
-      let v' : View = after_step me.0 m (reaped (at me.0 m)) (operation.Store n) n in (
+      let mail : Mail = mail_at told.rule.mails m in
+      let here : m < length key.specs.items = there key s id me.0 cpu m told.rule at_id is_seat within in
+      let e' : Entry = reaped (at me.0 m) in
+      let t = tell.reap_told key s id me.0 cpu m told at_id is_seat here me.1 own had seen in
+      let slot = lead.back_slot key told.rule.mails s id me.0 cpu m told.rule.book at_id is_seat here own seen in
+      let v' : View = noted t.between me.0 m e' (deed.reaps cpu m n mail.rec) in
+      let same = told_by_who key s told id me.0 cpu is_seat me.1 m e' (λ c. deed.reaps c m n mail.rec) n (takes (slot_at m) mail.rec) t in
+      let owner_is = lead.came_back key told.rule.mails s id me.0 cpu m told.rule.book at_id is_seat here own seen in (
         v',
-        takes (slot_at m) rec,
-        slot.0,
-        record { mails = l.after_mails; book = l.book },
-        at_word m (λ k. (y : Rec) × (call_of y ≡ (at me.0 k).call) × (v' ≡ after_step me.0 k (reaped (at me.0 k)) (operation.Store n) n) × ((slot_at m, rec) ∷ me.1 ≡ (slot_at k, y) ∷ me.1) × HadRecord me.0 k IsBack y) (rec, slot.1, refl, refl, record { key = key; mails = rule.mails; s = s; id = id; book = rule.book; seat = at_id; was_so = (lead.knows_own key rule.mails s id me.0 cpu m rule.book at_id is_seat there own).back_is seen; record_is = refl }),
+        takes (slot_at m) mail.rec,
+        t.valid,
+        t.after,
+        at_word m (λ k. (y : Rec) × HasFetched k n me.0 y v' × ((slot_at m, mail.rec) ∷ me.1 ≡ (slot_at k, y) ∷ me.1))
+            (mail.rec, record { between = t.between; others = t.others; view_is = same; call_is = slot.1; answered_ = was_answered key s m told here (origin_of mail.msg.owner) (target_of mail.msg.owner) (me.0.past ++ t.between) owner_is t.front }, refl),
       )
 
   -- the load at the opening that hands a record out
   pub hand_allowed : (slots : ℕ) → IsOwn me.0 cpu.0 m → (at me.0 m).had ≡ false → (at me.0 m).away ≡ false
-      → Allows (Rule key) slots id me (word_at m) (λ n. n) (hands_out (step slots (word_at m) 0 0 none) me)
-  hand_allowed slots own had home s rule deep at_id small =
+      → Allows (Told key) slots id me (word_at m) (λ n. n) (hands_out (step slots (word_at m) 0 0 none) me)
+  hand_allowed slots own had home s told deep at_id small =
       let n : ℕ = get_or s.words (word_at m) 0 in
-      let rec : Rec = (mail_at rule.mails m).rec in
-      let there : m < length key.specs.items = subst (λ (xs : List MsgSpec). m < length xs) (seat_plan key rule.mails s id me.0 cpu rule.book at_id is_seat).1 within in
-      let l = lead.hands_out key rule.mails s id me.0 cpu m rule.book at_id is_seat there operation.Load n own had home in
-      let v' : View = after_step me.0 m (handed (at me.0 m)) operation.Load n in (
+      let rec : Rec = (mail_at told.rule.mails m).rec in
+      let e' : Entry = handed (at me.0 m) in
+      let t = tell.hand_told key s id me.0 cpu m told at_id is_seat (there key s id me.0 cpu m told.rule at_id is_seat within) me.1 own had home in
+      let v' : View = noted t.between me.0 m e' (deed.hands_out cpu m n rec) in
+      let same = told_by_who key s told id me.0 cpu is_seat me.1 m e' (λ c. deed.hands_out c m n rec) n (takes (slot_at m) rec) t in (
         v',
         takes (slot_at m) rec,
-        l.0,
-        record { mails = set rule.mails m (record (mail_at rule.mails m) { had = true }); book = l.1 },
-        at_word m (λ k. (y : Rec) × (v' ≡ after_step me.0 k (handed (at me.0 k)) operation.Load n) × ((slot_at m, rec) ∷ me.1 ≡ (slot_at k, y) ∷ me.1)) (rec, refl, refl),
+        t.valid,
+        t.after,
+        at_word m (λ k. (y : Rec) × IsAfter me.0 k (handed (at me.0 k)) (deed.hands_out (who me.0) k n y) v' × ((slot_at m, rec) ∷ me.1 ≡ (slot_at k, y) ∷ me.1)) (rec, (t.between, (t.others, same)), refl),
       )

@@ -1,4 +1,4 @@
-use Rattle.std.proofs.Common.{◌≡◌, inl, inr, ℕ, ◌+◌, ◌<◌, Bool, true, false, [], ◌∷◌, length, refl, ap, sym, ◌∙◌, subst, arith, append_assoc, eq-eqb, ◌||◌}
+use Rattle.std.proofs.Common.{◌≡◌, inl, inr, ℕ, ◌+◌, ◌<◌, Bool, true, false, List, [], ◌∷◌, ◌++◌, length, refl, ap, sym, ◌∙◌, subst, arith, append_assoc, eq-eqb, ◌||◌}
 use Rattle.std.proofs.lemmas.Bool.{eqb-true}
 use Rattle.atomic_table.specs.declared.shared.Seat.{Seat}
 use Rattle.lwkt_base.specs.declared.faults.Fault.TheVariants.{NotOwner, NotTaken, RoundsOut}
@@ -11,37 +11,48 @@ use Rattle.lwkt_base.specs.declared.message_words.MsgState.{MsgState}
 use Rattle.lwkt_base.specs.declared.message_words.MsgState.TheVariants.{Rest, Out, With, Back}
 use Rattle.lwkt_base.specs.MessageWord.{message_word}
 use Rattle.lwkt_core.specs.declared.messages.TheConstants.{LAST_ROUND}
-use Rattle.lwkt_core.specs.declared.seats.Operation.{Operation}
-use Rattle.lwkt_core.specs.declared.seats.Operation.TheVariants.{Load, Store, Exchange, Add}
+use Rattle.lwkt_core.specs.declared.seats.Deed.{Deed}
 use Rattle.lwkt_core.specs.declared.seats.SeatKind.{SeatKind}
 use Rattle.lwkt_msg.specs.declared.views.Entry.{Entry}
 use Rattle.lwkt_msg.specs.declared.views.View.{View}
-use Rattle.lwkt_msg.specs.Views.{spec_at, call_of, at, after_step, looked, sent, took, answered, reaped, shows_away, shows_back, shows_with, SeesOwn, Stands}
-use Rattle.lwkt_msg.specs.Book.{IsShownBy, IsBack, HadRecord}
+use Rattle.lwkt_msg.specs.Views.{spec_at, call_of, at, who, noted, looked, sent, took, answered, reaped, shows_away, shows_back, shows_with, SeesOwn, Stands}
+use Rattle.lwkt_msg.specs.Deeds.{loads, loses, sends, takes, replies, reaps}
+use Rattle.lwkt_msg.specs.Records.{WasSent, WasAnswered, Last}
 use Rattle.lwkt_msg.specs.Hands.{IsOwn, IsInHand}
 use Rattle.lwkt_msg.specs.Steps.{sent_word, rest_word}
-use Rattle.lwkt_msg.specs.Plays.{IsLooked, HasLost, IsSat, IsInFront}
-use Rattle.lwkt_msg.specs.Calls.{word_step, Does, IsLoaded, OnlyLooked, IsHome, HasSent, IsUnsent, IsForTaking, IsForReaping, HasTaken, HasLostTake, HasReplied, IsUnreplied, HasReaped}
+use Rattle.lwkt_msg.specs.Plays.{IsAfter, IsLooked, HasWon, HasLost, HasFetched, IsSat, IsInFront}
+use Rattle.lwkt_msg.specs.Calls.{Does, IsLoaded, OnlyLooked, IsHome, sent_rec, HasSent, IsUnsent, IsForTaking, IsForReaping, HasTaken, HasLostTake, answered_rec, HasReplied, IsUnreplied, HasReaped}
 use Rattle.lwkt_msg.proofs.Knowing.{at-here, at-else}
 
--- what one step does, and what two do
-pub Does-one : (v w : View) (m : ℕ) (e : Entry) (op : Operation) (n : ℕ) → w ≡ after_step v m e op n → Does v w m e (word_step m op n ∷ [])
-Does-one v w m e op n is =
-    let F : View → Type 0 = λ x. Does v x m e (word_step m op n ∷ []) in
-    subst F (sym is) record { kind = refl; cpus = refl; specs = refl; here = at-here v m e op n; else_same = λ k apart. at-else v m e op n k apart; noted = refl }
+-- what one deed does, and what two do
+pub Does-one : (v w : View) (m : ℕ) (e : Entry) (d : Deed) → IsAfter v m e d w → Does v w m e (d ∷ [])
+Does-one v w m e d after =
+    let F : View → Type 0 = λ x. Does v x m e (d ∷ []) in
+    subst F (sym after.1.1) record { kind = refl; cpus = refl; specs = refl; here = at-here v m e after.0 d; else_same = λ k apart. at-else v m e after.0 d k apart; grows = (after.0, (after.1.0, refl)) }
 
-pub Does-two : (v v1 v2 : View) (m : ℕ) (e1 e2 : Entry) (op1 op2 : Operation) (n1 n2 : ℕ) → v1 ≡ after_step v m e1 op1 n1 → v2 ≡ after_step v1 m e2 op2 n2 → Does v v2 m e2 (word_step m op1 n1 ∷ word_step m op2 n2 ∷ [])
-Does-two v v1 v2 m e1 e2 op1 op2 n1 n2 is1 is2 =
-    let F : View → Type 0 = λ x. Does v x m e2 (word_step m op1 n1 ∷ word_step m op2 n2 ∷ []) in
-    let w : View = after_step v m e1 op1 n1 in
-    subst F (sym (is2 ∙ ap (λ (x : View). after_step x m e2 op2 n2) is1)) record {
+-- a deed after another, by the view after it or before it
+pub After-first : (v v1 v2 : View) (m : ℕ) (e1 e2 : Entry) (d1 d2 : Deed) → (first : IsAfter v m e1 d1 v1) → IsAfter v1 m e2 d2 v2 → IsAfter (noted first.0 v m e1 d1) m e2 d2 v2
+After-first v v1 v2 m e1 e2 d1 d2 first second = let F : View → Type 0 = λ x. IsAfter x m e2 d2 v2 in subst F first.1.1 second
+
+pub Does-two : (v v1 v2 : View) (m : ℕ) (e1 e2 : Entry) (d1 d2 : Deed) → IsAfter v m e1 d1 v1 → IsAfter v1 m e2 d2 v2 → Does v v2 m e2 (d1 ∷ d2 ∷ [])
+Does-two v v1 v2 m e1 e2 d1 d2 first second =
+    let F : View → Type 0 = λ x. Does v x m e2 (d1 ∷ d2 ∷ []) in
+    let w : View = noted first.0 v m e1 d1 in
+    let then : IsAfter w m e2 d2 v2 = After-first v v1 v2 m e1 e2 d1 d2 first second in
+    subst F (sym then.1.1) record {
       kind = refl;
       cpus = refl;
       specs = refl;
-      here = at-here w m e2 op2 n2;
-      else_same = λ k apart. at-else w m e2 op2 n2 k apart ∙ at-else v m e1 op1 n1 k apart;
-      noted = append_assoc v.steps (word_step m op1 n1 ∷ []) (word_step m op2 n2 ∷ []);
+      here = at-here w m e2 then.0 d2;
+      else_same = λ k apart. at-else w m e2 then.0 d2 k apart ∙ at-else v m e1 first.0 d1 k apart;
+      grows = (first.0, (first.1.0, (then.0, (then.1.0, refl))));
     }
+
+-- of the last deed of a past something is so that is so of the front up to it
+pub Last-of : (v w : View) (m : ℕ) (e : Entry) (d : Deed) (between : List Deed) (IsSo : List Deed → Type 0) → w ≡ noted between v m e d → IsSo (v.past ++ between) → Last w.past d IsSo
+Last-of v w m e d between IsSo is so =
+    let F : View → Type 0 = λ x. Last x.past d IsSo in
+    subst F (sym is) (v.past ++ between, (sym (append_assoc v.past between (d ∷ [])), so))
 
 rest_of : (s : MsgState) → shows_away s ≡ false → s ≡ Rest
 rest_of Rest e = refl
@@ -64,13 +75,17 @@ module _ (place place1 : Seat Rec View) (cpu : CpuId) (m : ℕ) (w : MsgWord) (s
   e = at place.me.0 m
 
   pub entry_is : at place1.me.0 m ≡ looked w e
-  entry_is = ap (λ (x : View). at x m) l.view_is ∙ at-here v m (looked w e) Load (message_word w)
+  entry_is = ap (λ (x : View). at x m) l.view_is.1.1 ∙ at-here v m (looked w e) l.view_is.0 (loads (who v) m (message_word w))
+
+  -- it is still the seat of the same processor
+  pub who_same : who place1.me.0 ≡ who v
+  who_same = ap (λ (x : View). who x) l.view_is.1.1
 
   pub loaded : IsLoaded v m w
   loaded = record { fits = l.fits; sees = l.sees }
 
   pub only : OnlyLooked v place1.me.0 m w
-  only = record { loaded = loaded; does = Does-one v place1.me.0 m (looked w e) Load (message_word w) l.view_is }
+  only = record { loaded = loaded; does = Does-one v place1.me.0 m (looked w e) (loads (who v) m (message_word w)) l.view_is }
 
   pub own_is : w.origin ≡ cpu → IsOwn v cpu.0 m
   own_is is = ap (λ (c : CpuId). c.0) (sym l.sees.origin_is ∙ is)
@@ -95,10 +110,10 @@ module _ (place place1 : Seat Rec View) (cpu : CpuId) (m : ℕ) (w : MsgWord) (s
 
   -- the specs are the same, and so are those of its own messages
   pub own1 : IsOwn v cpu.0 m → IsOwn place1.me.0 cpu.0 m
-  own1 own = ap (λ (x : View). (spec_at x.specs m).origin.cpu.0) l.view_is ∙ own
+  own1 own = ap (λ (x : View). (spec_at x.specs m).origin.cpu.0) l.view_is.1.1 ∙ own
 
   pub within1 : m < length v.specs → m < length place1.me.0.specs
-  within1 within = subst (λ (x : View). m < length x.specs) (sym l.view_is) within
+  within1 within = subst (λ (x : View). m < length x.specs) (sym l.view_is.1.1) within
 
   -- a send
   pub unsent_not_home : ((w.state ≡ Rest) × (w.origin ≡ cpu) → ⊥) → IsUnsent cpu v place1.me.0 m NotOwner
@@ -124,54 +139,56 @@ module _ (place place1 : Seat Rec View) (cpu : CpuId) (m : ℕ) (w : MsgWord) (s
       let has = sat.hands.own m within own (sat.had m within own) (away_at Rest is.0 own) in
       (has.0, l.front has.0 has.1)
 
-  pub send_done : (target : CpuId) (call : Call) (flags : Flags) (sync : Bool) (word : MsgWord) (rec : Rec) (w2 : View) → (w.state ≡ Rest) × (w.origin ≡ cpu) → w.round < LAST_ROUND → word ≡ sent_word cpu target (w.round + 1) sync flags → call_of rec ≡ call
-      → w2 ≡ after_step place1.me.0 m (sent word (call_of rec) (at place1.me.0 m)) (Store (message_word word)) (message_word word) → HasSent cpu v w2 m target call flags sync (w.round + 1)
-  send_done target call flags sync word rec w2 is room word_is call_is w2_is =
+  pub send_done : (target : CpuId) (call : Call) (flags : Flags) (sync : Bool) (word : MsgWord) (rec : Rec) (w2 : View) → (w.state ≡ Rest) × (w.origin ≡ cpu) → w.round < LAST_ROUND → word ≡ sent_word cpu target (w.round + 1) sync flags → rec ≡ sent_rec call
+      → IsAfter place1.me.0 m (sent word (call_of rec) (at place1.me.0 m)) (sends (who place1.me.0) m word.target word.round (message_word word) rec) w2 → HasSent cpu v w2 m target call flags sync (w.round + 1)
+  send_done target call flags sync word rec w2 is room word_is rec_is after =
       let new : MsgWord = sent_word cpu target (w.round + 1) sync flags in
-      let did : w2 ≡ after_step place1.me.0 m (sent new call e) (Store (message_word new)) (message_word new)
-      = w2_is ∙ (λ i. after_step place1.me.0 m (sent (word_is i) (call_is i) (entry_is i)) (Store (message_word (word_is i))) (message_word (word_is i))) in
+      let call_is : call_of rec ≡ call = ap call_of rec_is in
+      let did : IsAfter place1.me.0 m (sent new call e) (sends (who v) m target (w.round + 1) (message_word new) (sent_rec call)) w2
+      = (after.0, (after.1.0, after.1.1 ∙ (λ i. noted after.0 place1.me.0 m (sent (word_is i) (call_is i) (entry_is i)) (sends (who_same i) m (word_is i).target (word_is i).round (message_word (word_is i)) (rec_is i))))) in
       record {
         home = home_is is;
         next = ap (λ (n : ℕ). n + 1) (sym (sees_own (own_is is.1)).round_is);
         within = omega arith;
         found = w;
         loaded = loaded;
-        does = Does-two v place1.me.0 w2 m (looked w e) (sent new call e) Load (Store (message_word new)) (message_word w) (message_word new) l.view_is did;
+        does = Does-two v place1.me.0 w2 m (looked w e) (sent new call e) (loads (who v) m (message_word w)) (sends (who v) m target (w.round + 1) (message_word new) (sent_rec call)) l.view_is did;
       }
 
   -- a take
   pub take_new : w.state ≡ Out → IsInHand place1.me.0 cpu.0 m → ⊥
   take_new is (inl h) =
-      let own : IsOwn v cpu.0 m = ap (λ (x : View). (spec_at x.specs m).origin.cpu.0) (sym l.view_is) ∙ h.0 in
+      let own : IsOwn v cpu.0 m = ap (λ (x : View). (spec_at x.specs m).origin.cpu.0) (sym l.view_is.1.1) ∙ h.0 in
       let a : true ≡ false = sym (away_at Out is own) ∙ (ap (λ (x : Entry). x.away) (sym entry_is) ∙ h.2) in cc
   take_new is (inr h) =
       let a : false ≡ true = sym (not_taken_at Out is refl) ∙ (ap (λ (x : Entry). x.taken) (sym entry_is) ∙ h) in cc
 
-  pub take_done : (round : ℕ) (found : ℕ) (rec : Rec) (w2 : View) → IsForTaking cpu round w → found ≡ message_word w → (rec.error ≡ 0) × (rec.result ≡ 0) × (w2 ≡ after_step place1.me.0 m (took rec (at place1.me.0 m)) (Exchange found (found + 1)) found) × HadRecord place1.me.0 m (IsShownBy found) rec → HasTaken cpu v w2 m round rec w.aborted
+  pub take_done : (round : ℕ) (found : ℕ) (rec : Rec) (w2 : View) → IsForTaking cpu round w → found ≡ message_word w → HasWon m w.round found place1.me.0 rec w2 → HasTaken cpu v w2 m round rec w.aborted
   take_done round found rec w2 is found_is won =
-      let did : w2 ≡ after_step place1.me.0 m (took rec (looked w e)) (Exchange (message_word w) (message_word w + 1)) (message_word w)
-      = won.2 ∙ (λ i. after_step place1.me.0 m (took rec (entry_is i)) (Exchange (found_is i) (found_is i + 1)) (found_is i)) in
+      let d : Deed = takes (who v) m round (message_word w) rec in
+      let view_is : w2 ≡ noted won.between place1.me.0 m (took rec (looked w e)) d = won.view_is ∙ (λ i. noted won.between place1.me.0 m (took rec (entry_is i)) (takes (who_same i) m (is.2 i) (found_is i) rec)) in
       record {
         found = w;
         loaded = loaded;
         allowed = is;
         aborted_is = refl;
-        clean = (won.0, won.1);
-        had = subst (λ (x : ℕ). HadRecord (after_step v m (looked w e) Load (message_word w)) m (IsShownBy x) rec) found_is (subst (λ (x : View). HadRecord x m (IsShownBy found) rec) l.view_is won.3);
-        does = Does-two v place1.me.0 w2 m (looked w e) (took rec (looked w e)) Load (Exchange (message_word w) (message_word w + 1)) (message_word w) (message_word w) l.view_is did;
+        clean = won.sent.clean;
+        put = Last-of place1.me.0 w2 m (took rec (looked w e)) d won.between (λ front. WasSent front m rec) view_is won.sent;
+        does = Does-two v place1.me.0 w2 m (looked w e) (took rec (looked w e)) (loads (who v) m (message_word w)) d l.view_is (won.between, (won.others, view_is));
       }
 
   pub take_lost : (round : ℕ) (found : ℕ) (w2 : View) → IsForTaking cpu round w → found ≡ message_word w → HasLost m found place1.me.0 w2 → HasLostTake cpu v w2 m round
   take_lost round found w2 is found_is lost =
-      let did : w2 ≡ after_step place1.me.0 m (looked w e) (Exchange (message_word w) (message_word w + 1)) lost.0
-      = lost.2 ∙ (λ i. after_step place1.me.0 m (entry_is i) (Exchange (found_is i) (found_is i + 1)) lost.0) in
+      let d : Deed = loses (who v) m (message_word w) (message_word w + 1) lost.0 in
+      let did : IsAfter place1.me.0 m (looked w e) d w2
+      = (lost.2.0, (lost.2.1.0, lost.2.1.1 ∙ (λ i. noted lost.2.0 place1.me.0 m (entry_is i) (loses (who_same i) m (found_is i) (found_is i + 1) lost.0)))) in
       record {
         found = w;
         loaded = loaded;
         allowed = is;
         other = lost.0;
         differs = λ h. lost.1 (h ∙ sym found_is);
-        does = Does-two v place1.me.0 w2 m (looked w e) (looked w e) Load (Exchange (message_word w) (message_word w + 1)) (message_word w) lost.0 l.view_is did;
+        does = Does-two v place1.me.0 w2 m (looked w e) (looked w e) (loads (who v) m (message_word w)) d l.view_is did;
       }
 
   -- a reply
@@ -188,7 +205,7 @@ module _ (place place1 : Seat Rec View) (cpu : CpuId) (m : ℕ) (w : MsgWord) (s
   pub reply_ready : (w.state ≡ With) × (w.target ≡ cpu) → ((at place1.me.0 m).taken ≡ true) × (IsOwn place1.me.0 cpu.0 m → (at place1.me.0 m).away ≡ true)
   reply_ready is = (
     ap (λ (x : Entry). x.taken) entry_is ∙ reply_taken is,
-    λ own. ap (λ (x : Entry). x.away) entry_is ∙ away_at With is.0 (ap (λ (x : View). (spec_at x.specs m).origin.cpu.0) (sym l.view_is) ∙ own),
+    λ own. ap (λ (x : Entry). x.away) entry_is ∙ away_at With is.0 (ap (λ (x : View). (spec_at x.specs m).origin.cpu.0) (sym l.view_is.1.1) ∙ own),
   )
 
   pub reply_held : m < length v.specs → (w.state ≡ With) × (w.target ≡ cpu) → (rec : Rec) × IsInFront place1 m rec × (call_of rec ≡ (at place1.me.0 m).got)
@@ -196,15 +213,17 @@ module _ (place place1 : Seat Rec View) (cpu : CpuId) (m : ℕ) (w : MsgWord) (s
       let has = sat.hands.taken m within (reply_taken is) in
       (has.0, l.front has.0 has.1.0, has.1.1 ∙ ap (λ (x : Entry). x.got) (sym entry_is))
 
-  pub reply_done : (error outcome found : ℕ) (w2 : View) → (w.state ≡ With) × (w.target ≡ cpu) → w2 ≡ after_step place1.me.0 m (answered error outcome (at place1.me.0 m)) (Add 1) found → HasReplied v w2 m error outcome
-  reply_done error outcome found w2 is w2_is =
-      let did : w2 ≡ after_step place1.me.0 m (answered error outcome (looked w e)) (Add 1) found = w2_is ∙ (λ i. after_step place1.me.0 m (answered error outcome (entry_is i)) (Add 1) found) in
+  pub reply_done : (error outcome found : ℕ) (w2 : View) → (w.state ≡ With) × (w.target ≡ cpu) → IsAfter place1.me.0 m (answered error outcome (at place1.me.0 m)) (replies (who place1.me.0) m found (answered_rec (at place1.me.0 m).got error outcome)) w2 → HasReplied v w2 m error outcome
+  reply_done error outcome found w2 is after =
+      let d : Deed = replies (who v) m found (answered_rec e.got error outcome) in
+      let did : IsAfter place1.me.0 m (answered error outcome (looked w e)) d w2
+      = (after.0, (after.1.0, after.1.1 ∙ (λ i. noted after.0 place1.me.0 m (answered error outcome (entry_is i)) (replies (who_same i) m found (answered_rec (entry_is i).got error outcome))))) in
       record {
         taken_by_it = reply_taken is;
         found = w;
         loaded = loaded;
         other = found;
-        does = Does-two v place1.me.0 w2 m (looked w e) (answered error outcome (looked w e)) Load (Add 1) (message_word w) found l.view_is did;
+        does = Does-two v place1.me.0 w2 m (looked w e) (answered error outcome (looked w e)) (loads (who v) m (message_word w)) d l.view_is did;
       }
 
   -- a reap
@@ -220,13 +239,12 @@ module _ (place place1 : Seat Rec View) (cpu : CpuId) (m : ℕ) (w : MsgWord) (s
       seen : (looked w e).back ≡ true
       seen = or_true e.back w.state is.0
 
-  pub reap_done : (round : ℕ) (word : MsgWord) (rec : Rec) (w2 : View) → IsForReaping cpu round w → word ≡ rest_word cpu round → call_of rec ≡ (at place1.me.0 m).call → HadRecord place1.me.0 m IsBack rec
-      → w2 ≡ after_step place1.me.0 m (reaped (at place1.me.0 m)) (Store (message_word word)) (message_word word) → HasReaped cpu v w2 m round rec
-  reap_done round word rec w2 is word_is call_is had w2_is =
+  pub reap_done : (round : ℕ) (word : MsgWord) (rec : Rec) (w2 : View) → IsForReaping cpu round w → word ≡ rest_word cpu round → HasFetched m (message_word word) place1.me.0 rec w2 → HasReaped cpu v w2 m round rec
+  reap_done round word rec w2 is word_is got =
       let new : MsgWord = rest_word cpu round in
       let own = own_is is.1 in
-      let did : w2 ≡ after_step place1.me.0 m (reaped e) (Store (message_word new)) (message_word new)
-      = w2_is ∙ (λ i. after_step place1.me.0 m (reaped (entry_is i)) (Store (message_word (word_is i))) (message_word (word_is i))) in
+      let d : Deed = reaps (who v) m (message_word new) rec in
+      let view_is : w2 ≡ noted got.between place1.me.0 m (reaped e) d = got.view_is ∙ (λ i. noted got.between place1.me.0 m (reaped (entry_is i)) (reaps (who_same i) m (message_word (word_is i)) rec)) in
       record {
         found = w;
         loaded = loaded;
@@ -234,7 +252,7 @@ module _ (place place1 : Seat Rec View) (cpu : CpuId) (m : ℕ) (w : MsgWord) (s
         own = own;
         was_away = away_at Back is.0 own;
         round_is = sym is.2 ∙ sym (sees_own own).round_is;
-        call_is = call_is ∙ ap (λ (x : Entry). x.call) entry_is;
-        had = subst (λ (x : View). HadRecord x m IsBack rec) l.view_is had;
-        does = Does-two v place1.me.0 w2 m (looked w e) (reaped e) Load (Store (message_word new)) (message_word w) (message_word new) l.view_is did;
+        call_is = got.call_is ∙ ap (λ (x : Entry). x.call) entry_is;
+        put = Last-of place1.me.0 w2 m (reaped e) d got.between (λ front. WasAnswered front m rec) view_is got.answered_;
+        does = Does-two v place1.me.0 w2 m (looked w e) (reaped e) (loads (who v) m (message_word w)) d l.view_is (got.between, (got.others, view_is));
       }

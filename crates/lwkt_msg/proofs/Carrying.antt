@@ -3,10 +3,10 @@ use mathlib.Core.Logic.{dite}
 use mathlib.Core.Option.{some, some-injective}
 use native.Mathlib.Decide.{ℕ_discrete}
 use Rattle.lwkt_base.specs.declared.records.Rec.{Rec}
-use Rattle.lwkt_core.specs.declared.seats.Operation.{Operation}
+use Rattle.lwkt_core.specs.declared.seats.Deed.{Deed}
 use Rattle.lwkt_msg.specs.declared.views.Entry.{Entry}
 use Rattle.lwkt_msg.specs.declared.views.View.{View}
-use Rattle.lwkt_msg.specs.Views.{slot_at, call_of, at, after_step}
+use Rattle.lwkt_msg.specs.Views.{slot_at, call_of, at, noted}
 use Rattle.lwkt_msg.specs.Hands.{Has, AreSame, IsOwn, IsInHand, AreHands}
 use Rattle.lwkt_msg.proofs.Knowing.{at-here, at-else}
 use Rattle.lwkt_msg.proofs.Bringing.{AreApart-rest, AreApart-more, not_again}
@@ -18,18 +18,18 @@ pub record IsAlike (e e' : Entry) : Type 0 where
   pub taken : e'.taken ≡ e.taken
   pub got : e'.got ≡ e.got
 
-IsAlike-else : (v : View) (m : ℕ) (e' : Entry) (op : Operation) (found k : ℕ) → k ≢ m → IsAlike (at v k) (at (after_step v m e' op found) k)
-IsAlike-else v m e' op found k apart =
-    let same : at (after_step v m e' op found) k ≡ at v k = at-else v m e' op found k apart in record {
+IsAlike-else : (v : View) (m : ℕ) (e' : Entry) (between : List Deed) (did : Deed) (k : ℕ) → k ≢ m → IsAlike (at v k) (at (noted between v m e' did) k)
+IsAlike-else v m e' between did k apart =
+    let same : at (noted between v m e' did) k ≡ at v k = at-else v m e' between did k apart in record {
       had = ap (λ (x : Entry). x.had) same;
       away = ap (λ (x : Entry). x.away) same;
       taken = ap (λ (x : Entry). x.taken) same;
       got = ap (λ (x : Entry). x.got) same;
     }
 
-module _ (v : View) (m : ℕ) (e' : Entry) (op : Operation) (found cpu : ℕ) where
+module _ (v : View) (m : ℕ) (e' : Entry) (between : List Deed) (did : Deed) (cpu : ℕ) where
   abbrev w : View
-  w = after_step v m e' op found
+  w = noted between v m e' did
 
   -- a step after which the same is in hand
   pub hands_same : (hands others : List (ℕ × Rec)) → IsAlike (at v m) e' → AreHands v cpu hands → AreSame hands others → AreHands w cpu others
@@ -42,8 +42,8 @@ module _ (v : View) (m : ℕ) (e' : Entry) (op : Operation) (found cpu : ℕ) wh
     where
       each : (k : ℕ) → IsAlike (at v k) (at w k)
       each k = dite (ℕ_discrete k m)
-          (λ is. let F : ℕ → Type 0 = λ n. IsAlike (at v n) (at w n) in let G : Entry → Type 0 = λ x. IsAlike (at v m) x in subst F (sym is) (subst G (sym (at-here v m e' op found)) alike))
-          (λ apart. IsAlike-else v m e' op found k apart)
+          (λ is. let F : ℕ → Type 0 = λ n. IsAlike (at v n) (at w n) in let G : Entry → Type 0 = λ x. IsAlike (at v m) x in subst F (sym is) (subst G (sym (at-here v m e' between did)) alike))
+          (λ apart. IsAlike-else v m e' between did k apart)
 
       in_hand : (k : ℕ) → IsInHand v cpu k → IsInHand w cpu k
       in_hand k (inl h) = inl (h.0, (each k).had ∙ h.1, (each k).away ∙ h.2)
@@ -51,8 +51,8 @@ module _ (v : View) (m : ℕ) (e' : Entry) (op : Operation) (found cpu : ℕ) wh
 
   -- of another message the same is in hand
   in_hand_else : (k : ℕ) → k ≢ m → IsInHand v cpu k → IsInHand w cpu k
-  in_hand_else k apart (inl h) = let a = IsAlike-else v m e' op found k apart in inl (h.0, a.had ∙ h.1, a.away ∙ h.2)
-  in_hand_else k apart (inr h) = let a = IsAlike-else v m e' op found k apart in inr (a.taken ∙ h)
+  in_hand_else k apart (inl h) = let a = IsAlike-else v m e' between did k apart in inl (h.0, a.had ∙ h.1, a.away ∙ h.2)
+  in_hand_else k apart (inr h) = let a = IsAlike-else v m e' between did k apart in inr (a.taken ∙ h)
 
   slots_differ : (k n : ℕ) → slot_at k ≡ slot_at n → k ≡ n
   slots_differ k n h = omega arith
@@ -67,11 +67,11 @@ module _ (v : View) (m : ℕ) (e' : Entry) (op : Operation) (found cpu : ℕ) wh
         (h.0, h.1, h.2, in_hand_else h.0 apart h.3);
     own = λ k within own had home.
         let apart : k ≢ m = λ is. own_gone k is own had home in
-        let a = IsAlike-else v m e' op found k apart in
+        let a = IsAlike-else v m e' between did k apart in
         let h = known.own k within own (sym a.had ∙ had) (sym a.away ∙ home) in (h.0, behind k h.0 apart h.1);
     taken = λ k within taken.
         let apart : k ≢ m = λ is. taken_gone k is taken in
-        let a = IsAlike-else v m e' op found k apart in
+        let a = IsAlike-else v m e' between did k apart in
         let h = known.taken k within (sym a.taken ∙ taken) in (h.0, (behind k h.0 apart h.1.0, h.1.1 ∙ sym a.got));
   }
     where
@@ -79,14 +79,14 @@ module _ (v : View) (m : ℕ) (e' : Entry) (op : Operation) (found cpu : ℕ) wh
       own_gone k is own had home =
           let F : ℕ → Type 0 = λ n. (IsOwn w cpu n) × ((at w n).had ≡ true) × ((at w n).away ≡ false) in
           let moved = subst F is (own, had, home) in
-          let here : at w m ≡ e' = at-here v m e' op found in
+          let here : at w m ≡ e' = at-here v m e' between did in
           let gone : e'.away ≡ true = away moved.0 (ap (λ (x : Entry). x.had) (sym here) ∙ moved.1) in
           let h : true ≡ false = sym gone ∙ (ap (λ (x : Entry). x.away) (sym here) ∙ moved.2) in cc
 
       taken_gone : (k : ℕ) → k ≡ m → (at w k).taken ≡ true → ⊥
       taken_gone k is taken =
           let F : ℕ → Type 0 = λ n. (at w n).taken ≡ true in
-          let h : false ≡ true = sym not_taken ∙ (ap (λ (x : Entry). x.taken) (sym (at-here v m e' op found)) ∙ subst F is taken) in cc
+          let h : false ≡ true = sym not_taken ∙ (ap (λ (x : Entry). x.taken) (sym (at-here v m e' between did)) ∙ subst F is taken) in cc
 
       behind : (k : ℕ) (y : Rec) → k ≢ m → Has ((slot_at m, rec) ∷ others) (slot_at k) y → Has others (slot_at k) y
       behind k y apart (zero, e) = absurd (apart (slots_differ k m (sym (ap (λ (x : ℕ × Rec). x.0) (some-injective (slot_at m, rec) (slot_at k, y) e)))))
@@ -100,14 +100,14 @@ module _ (v : View) (m : ℕ) (e' : Entry) (op : Operation) (found cpu : ℕ) wh
     all = all;
     own = λ k k_within own had home. dite (ℕ_discrete k m)
         (λ is. (rec, (zero, ap (λ (n : ℕ). some (slot_at n, rec)) (sym is))))
-        (λ apart. let a = IsAlike-else v m e' op found k apart in let h = known.own k k_within own (sym a.had ∙ had) (sym a.away ∙ home) in (h.0, (suc h.1.0, h.1.1)));
+        (λ apart. let a = IsAlike-else v m e' between did k apart in let h = known.own k k_within own (sym a.had ∙ had) (sym a.away ∙ home) in (h.0, (suc h.1.0, h.1.1)));
     taken = λ k k_within taken. dite (ℕ_discrete k m)
         (λ is. (rec, ((zero, ap (λ (n : ℕ). some (slot_at n, rec)) (sym is)), call_here k is taken)))
-        (λ apart. let a = IsAlike-else v m e' op found k apart in let h = known.taken k k_within (sym a.taken ∙ taken) in (h.0, ((suc h.1.0.0, h.1.0.1), h.1.1 ∙ sym a.got)));
+        (λ apart. let a = IsAlike-else v m e' between did k apart in let h = known.taken k k_within (sym a.taken ∙ taken) in (h.0, ((suc h.1.0.0, h.1.0.1), h.1.1 ∙ sym a.got)));
   }
     where
       here : at w m ≡ e'
-      here = at-here v m e' op found
+      here = at-here v m e' between did
 
       new : (other : Rec) → Has hands (slot_at m) other → ⊥
       new other has =

@@ -1,5 +1,6 @@
-use Rattle.std.proofs.Common.{◌≡◌, ◌⊎◌, inl, inr, ⊎_elim, Some, None, ℕ, zero, suc, ◌+◌, ◌<◌, List, [], ◌∷◌, ◌++◌, length, refl, ap, sym, ◌∙◌, subst, arith, length-append}
+use Rattle.std.proofs.Common.{◌≡◌, ◌⊎◌, inl, inr, ⊎_elim, Some, None, ℕ, zero, suc, ◌+◌, ◌<◌, List, [], ◌∷◌, ◌++◌, length, refl, ap, sym, ◌∙◌, subst, arith, length-append, append-nil, append_assoc, All}
 use Rattle.std.specs.Prelude.{slice_get}
+use Rattle.std.proofs.lemmas.List.Elements.{All-nil, All-cons}
 use mathlib.Core.Option.{some, some-injective}
 use lib.ListN.{get_elem?}
 use Rattle.lwkt_base.specs.declared.openings.MsgSpec.{MsgSpec}
@@ -7,17 +8,20 @@ use Rattle.lwkt_base.specs.declared.owners.MsgEnd.{MsgEnd}
 use Rattle.lwkt_base.specs.declared.message_words.MsgWord.{MsgWord}
 use Rattle.lwkt_base.specs.MessageWord.{message_word, MessageFits}
 use Rattle.lwkt_core.specs.declared.seats.SeatKind.TheVariants.{Clerk}
-use Rattle.lwkt_core.specs.Seating.{total}
+use Rattle.lwkt_core.specs.Seating.{total, after_back}
 use Rattle.lwkt_core.proofs.SeatingLemmas.{total-snoc}
 use Rattle.lwkt_msg.specs.declared.views.Entry.{Entry}
 use Rattle.lwkt_msg.specs.declared.views.View.{View}
-use Rattle.lwkt_msg.specs.Views.{word_at, taken_back, added, at, clerk_both}
-use Rattle.lwkt_msg.specs.Desks.{Desk, IsTaking, HasTakenBack, AreShown, shown_end}
+use Rattle.lwkt_msg.specs.Views.{word_at, added, at, clerk_both}
+use Rattle.lwkt_msg.specs.Desks.{Desk, IsChapter, IsTaking, HasTakenBack, AreShown, shown_end}
 use Rattle.lwkt_msg.proofs.Splitting.{at-none, at-both}
 
 -- no seat is taken back yet
 pub taking_none : (cpus : ℕ) (v : View) (seats : List Desk) → v.kind ≡ Clerk cpus 0 → v.entries ≡ [] → IsTaking cpus v seats seats v
 taking_none cpus v seats kind none = record {
+  behind = [];
+  in_order = sym (append-nil seats);
+  chapters = All-nil (λ (d : Desk). IsChapter v d);
   back = 0;
   kind = kind;
   as_many = omega arith;
@@ -36,8 +40,11 @@ taking_none cpus v seats kind none = record {
 -- one seat more is taken back
 pub taking_more : (cpus : ℕ) (v : View) (seats left : List Desk) (seat : Desk) (w : View) → IsTaking cpus v seats (left ++ seat ∷ []) w → IsTaking cpus v seats left (clerk_both w seat.view)
 taking_more cpus v seats left seat w t = record {
+  behind = seat ∷ t.behind;
+  in_order = t.in_order ∙ append_assoc left (seat ∷ []) t.behind;
+  chapters = All-cons (λ (d : Desk). IsChapter (clerk_both w seat.view) d) seat t.behind (0, refl) (λ k x low. let old = t.chapters k x low in (suc old.0, old.1));
   back = t.back + 1;
-  kind = ap taken_back t.kind;
+  kind = ap after_back t.kind;
   as_many = let a = t.as_many in let b = length-append left (seat ∷ []) in omega arith;
   cpus_is = t.cpus_is;
   specs_is = t.specs_is;
@@ -60,6 +67,7 @@ taking_more cpus v seats left seat w t = record {
 -- all seats are taken back
 pub taking_all : (cpus : ℕ) (v : View) (seats : List Desk) (w : View) → IsTaking cpus v seats [] w → HasTakenBack cpus v seats w
 taking_all cpus v seats w t = record {
+  chapters = let F : List Desk → Type 0 = λ ds. All (λ (d : Desk). IsChapter w d) ds in subst F (sym t.in_order) t.chapters;
   kind = t.kind ∙ ap (λ (n : ℕ). Clerk cpus n) (let a = t.as_many in omega arith);
   cpus_is = t.cpus_is;
   specs_is = t.specs_is;

@@ -1,5 +1,5 @@
 use Rattle.std.proofs.Common.{◌≡◌, ◌≢◌, Some, None, ℕ, zero, suc, ◌<◌, ◌≤◌, List, [], ◌∷◌, length, map, get_or, refl, ap, sym, ◌∙◌, subst, arith}
-use Rattle.std.specs.Prelude.{slice_get}
+use Rattle.std.specs.Prelude.{slice_get, slice_index_or}
 use mathlib.Core.Option.{some}
 use lib.ListN.{get_elem?}
 use Rattle.atomic_table.specs.Table.{State}
@@ -16,9 +16,15 @@ use Rattle.lwkt_core.proofs.SeatingLemmas.{at_map, total-only, AreSeated-closed}
 use Rattle.lwkt_msg.specs.declared.views.Entry.{Entry}
 use Rattle.lwkt_msg.specs.declared.views.Layout.{Layout}
 use Rattle.lwkt_msg.specs.declared.views.View.{View}
-use Rattle.lwkt_msg.specs.Views.{word_at, spec_at, at}
+use Rattle.lwkt_msg.specs.Views.{word_at, spec_at, at, page_of}
+use Rattle.lwkt_msg.specs.Steps.{machine_of}
+use Rattle.lwkt_msg.specs.Told.{IsDone, first_mails, Told}
+use Rattle.lwkt_core.specs.History.{Passes, IsPastOf}
+use Rattle.lwkt_core.proofs.HistoryLemmas.{Passes-run, events_by-past, steps_by-past}
+use Rattle.lwkt_core.proofs.ViewLemmas.{Views-part, Views-others}
+use Rattle.lwkt_msg.proofs.Running.{done_runs}
 use Rattle.lwkt_msg.specs.Book.{Mail, parts_of, state_of, shown_target, HasNoCounts, mail_at, Rule}
-use Rattle.lwkt_msg.specs.Desks.{Desk, Shelf, IsClosed, AreClosed, AreShown, HasTakenBack, shown_by, shown_end}
+use Rattle.lwkt_msg.specs.Desks.{Desk, Shelf, cpu_of, past_of, IsHistory, IsClosed, AreClosed, AreShown, HasTakenBack, shown_by, shown_end}
 use Rattle.lwkt_msg.proofs.Leading.{fits_of}
 
 -- an owner is whom its word shows
@@ -46,14 +52,44 @@ word_there [] i h = absurd (omega arith)
 word_there (x ∷ xs) zero h = refl
 word_there (x ∷ xs) (suc i) h = word_there xs i (omega arith)
 
+-- the history of all seats, which the clerk has taken back
+is_history : (book : Shelf) (key : Layout) (seats : List Desk) (v w : View) (id : ℕ) (s : State Rec View) → book.cpus ≡ key.cpus → book.specs ≡ key.specs.items → length seats ≡ book.cpus → HasTakenBack book.cpus v seats w
+    → (told : Told key s) → get_elem? s.views id ≡ some w → IsHistory book seats told.rule.mails told.chronicle.history
+is_history book key seats v w id s cpus_is specs_is all taken told at_id = record {
+  passes = passes;
+  run = Passes-run (IsDone book.cpus) (λ (ms : List Mail). machine_of book.cpus ms) (done_runs book.cpus) (first_mails book.specs) told.chronicle.history told.rule.mails passes;
+  parts = λ k d low. part k d low;
+  events = λ k d low. sym (events_by-past told.chronicle.history (cpu_of (slice_index_or seats k d)).0 (past_of (slice_index_or seats k d)) (part k d low));
+  steps = λ k d low. sym (steps_by-past told.chronicle.history (cpu_of (slice_index_or seats k d)).0 (past_of (slice_index_or seats k d)) (part k d low));
+  no_others = λ cpu high. Views-others (IsDone key.cpus) page_of (first_mails key.specs.items) told.rule.mails s.views told.chronicle id w at_id key.cpus told.rule.book.seated book.cpus (length seats) taken.kind (omega arith) cpu (omega arith);
+}
+  where
+    passes : Passes (IsDone book.cpus) (first_mails book.specs) told.chronicle.history told.rule.mails
+    passes =
+        let F : ℕ → Type 0 = λ n. Passes (IsDone n) (first_mails book.specs) told.chronicle.history told.rule.mails in
+        let G : List MsgSpec → Type 0 = λ xs. Passes (IsDone key.cpus) (first_mails xs) told.chronicle.history told.rule.mails in
+        subst F (sym cpus_is) (subst G (sym specs_is) told.chronicle.passes)
+
+    part : (k : ℕ) (d : Desk) → k < length seats → IsPastOf told.chronicle.history (cpu_of (slice_index_or seats k d)).0 (past_of (slice_index_or seats k d))
+    part k d low =
+        let seat : Desk = slice_index_or seats k d in
+        let chapter = taken.chapters k d low in
+        Views-part (IsDone key.cpus) page_of (first_mails key.specs.items) told.rule.mails s.views told.chronicle id w at_id key.cpus told.rule.book.seated book.cpus (length seats) taken.kind (omega arith) chapter.0 (record { cpu = cpu_of seat; past = past_of seat }) chapter.1
+
 -- what the closing words show is what the book's messages are, once all seats are taken back
 pub closes : (book : Shelf) (key : Layout) (seats : List Desk) (v w : View) (id : ℕ) (words : List ℕ) (ends : List MsgEnd) (s : State Rec View) → book.cpus ≡ key.cpus → book.specs ≡ key.specs.items → v.specs ≡ key.specs.items
-    → length seats ≡ book.cpus → HasTakenBack book.cpus v seats w → Rule key s → get_elem? s.views id ≡ some w → s.words ≡ words → AreShown (length key.specs.items) words ends → AreClosed book seats ends
-closes book key seats v w id words ends s cpus_is specs_is v_specs all taken rule at_id words_are shown = record {
+    → length seats ≡ book.cpus → HasTakenBack book.cpus v seats w → Told key s → get_elem? s.views id ≡ some w → s.words ≡ words → AreShown (length key.specs.items) words ends → AreClosed book seats ends
+closes book key seats v w id words ends s cpus_is specs_is v_specs all taken told at_id words_are shown = record {
   as_many = shown.as_many ∙ ap (λ (xs : List MsgSpec). length xs) (sym specs_is);
+  mails = rule.mails;
+  history = told.chronicle.history;
+  is_history = is_history book key seats v w id s cpus_is specs_is all taken told at_id;
   each = λ m d within. each m (get_or ends m d) (get_there ends m d (let a = shown.as_many in let b = ap (λ (xs : List MsgSpec). length xs) specs_is in omega arith));
 }
   where
+    rule : Rule key s
+    rule = told.rule
+
     within_of : (m : ℕ) (end : MsgEnd) → slice_get ends m ≡ Some end → m < length key.specs.items
     within_of m end e = let a = get_inside ends m end e in let b = shown.as_many in omega arith
 
@@ -69,7 +105,7 @@ closes book key seats v w id words ends s cpus_is specs_is v_specs all taken rul
         let only = total-only (λ (x : View). f (at x m)) s.views id w at_id (λ j x d apart. none (at x m) (((rule.book.each m within).each_view j x d).spent (spent j x d apart))) in
         sym is ∙ (only ∙ here)
 
-    each : (m : ℕ) (end : MsgEnd) → slice_get ends m ≡ Some end → IsClosed book seats m end
+    each : (m : ℕ) (end : MsgEnd) → slice_get ends m ≡ Some end → IsClosed book seats m (mail_at told.rule.mails m).msg end
     each m end e =
         let within = within_of m end e in
         let mail : Mail = mail_at rule.mails m in
@@ -82,7 +118,6 @@ closes book key seats v w id words ends s cpus_is specs_is v_specs all taken rul
         let in_v : m < length v.specs = subst (λ (xs : List MsgSpec). m < length xs) (sym v_specs) within in
         let end_shown : end ≡ shown_end (parts_of mail) = shown.each m end e (get_or s.words (word_at m) 0) (subst F words_are there) (parts_of mail) fits (sym kept.is_word) in
         record {
-          msg = mail.msg;
           safe = subst (λ (n : ℕ). IsSafeMessage n mail.msg) (sym cpus_is) kept.safe;
           origin_is = kept.origin_is ∙ ap (λ (xs : List MsgSpec). (spec_at xs m).origin) (sym specs_is);
           opening_is = kept.opening_is ∙ ap (λ (xs : List MsgSpec). (spec_at xs m).round) (sym specs_is);

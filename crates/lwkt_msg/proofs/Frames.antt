@@ -9,7 +9,7 @@ use Rattle.lwkt_base.specs.declared.records.Rec.{Rec}
 use Rattle.lwkt_base.specs.declared.openings.MsgSpec.{MsgSpec}
 use Rattle.lwkt_base.specs.MessageWord.{message_word}
 use Rattle.lwkt_core.specs.declared.messages.Message.{Message}
-use Rattle.lwkt_core.specs.declared.seats.Operation.{Operation}
+use Rattle.lwkt_core.specs.declared.seats.Deed.{Deed}
 use Rattle.lwkt_core.specs.declared.seats.SeatKind.{SeatKind}
 use Rattle.lwkt_core.specs.declared.seats.SeatKind.TheVariants.{Clerk, Of, Spent}
 use Rattle.lwkt_core.specs.Messages.{IsSafeMessage, in_out}
@@ -18,7 +18,7 @@ use Rattle.lwkt_core.proofs.SeatingLemmas.{at_set, at_map, map-set, total-set, A
 use Rattle.lwkt_msg.specs.declared.views.Entry.{Entry}
 use Rattle.lwkt_msg.specs.declared.views.Layout.{Layout}
 use Rattle.lwkt_msg.specs.declared.views.View.{View}
-use Rattle.lwkt_msg.specs.Views.{word_at, slot_at, spec_at, at, after_step, Stands}
+use Rattle.lwkt_msg.specs.Views.{word_at, slot_at, spec_at, at, noted, Stands}
 use Rattle.lwkt_msg.specs.Book.{Mail, parts_of, in_slot, Knows, AreCounted, IsKept, no_mail, mail_at, IsBook}
 use Rattle.lwkt_msg.proofs.Knowing.{Changes, at-here}
 
@@ -107,7 +107,7 @@ kept_here cpus spec mail mail' word word' home home' m views id v w cpu kept e i
 }
 
 -- the same, where the view is that after a step
-pub kept_step : (cpus : ℕ) (spec : MsgSpec) (mail mail' : Mail) (word word' : ℕ) (home home' : Option (Option Rec)) (m : ℕ) (views : List View) (id : ℕ) (v : View) (cpu : CpuId) (e' : Entry) (operation : Operation) (found : ℕ)
+pub kept_step : (cpus : ℕ) (spec : MsgSpec) (mail mail' : Mail) (word word' : ℕ) (home home' : Option (Option Rec)) (m : ℕ) (views : List View) (id : ℕ) (v : View) (cpu : CpuId) (e' : Entry) (between : List Deed) (did : Deed)
     → IsKept cpus spec mail word home m views → get_elem? views id ≡ some v → v.kind ≡ Of cpu
     → ((j : ℕ) (x : View) → j ≢ id → get_elem? views j ≡ some x → Stands x.kind cpu.0 → ⊥)
     → IsSafeMessage cpus mail'.msg → mail'.msg.origin ≡ mail.msg.origin → mail'.msg.opening ≡ mail.msg.opening
@@ -115,12 +115,12 @@ pub kept_step : (cpus : ℕ) (spec : MsgSpec) (mail mail' : Mail) (word word' : 
     → (in_out mail'.msg.owner ≡ 1 → (mail'.rec.error ≡ 0) × (mail'.rec.result ≡ 0)) → CountsWith mail.msg mail'.msg (at v m) e'
     → (Knows mail (Of cpu) (at v m) → Knows mail' (Of cpu) e')
     → ((kind : SeatKind) (e : Entry) → (Stands kind cpu.0 → ⊥) → Knows mail kind e → Knows mail' kind e)
-    → IsKept cpus spec mail' word' home' m (set views id (after_step v m e' operation found))
-kept_step cpus spec mail mail' word word' home home' m views id v cpu e' operation found kept e is_seat alone safe origin opening is_word slot unanswered counts mine others =
-    let here : e' ≡ at (after_step v m e' operation found) m = sym (at-here v m e' operation found) in
+    → IsKept cpus spec mail' word' home' m (set views id (noted between v m e' did))
+kept_step cpus spec mail mail' word word' home home' m views id v cpu e' between did kept e is_seat alone safe origin opening is_word slot unanswered counts mine others =
+    let here : e' ≡ at (noted between v m e' did) m = sym (at-here v m e' between did) in
     let F : Entry → Type 0 = λ x. CountsWith mail.msg mail'.msg (at v m) x in
     let G : Entry → Type 0 = λ x. Knows mail (Of cpu) (at v m) → Knows mail' (Of cpu) x in
-    kept_here cpus spec mail mail' word word' home home' m views id v (after_step v m e' operation found) cpu kept e is_seat refl alone safe origin opening is_word slot unanswered (subst F here counts) (subst G here mine) others
+    kept_here cpus spec mail mail' word word' home home' m views id v (noted between v m e' did) cpu kept e is_seat refl alone safe origin opening is_word slot unanswered (subst F here counts) (subst G here mine) others
 
 -- no other view stands for the processor of a seat
 pub stands_alone : (cpus : ℕ) (views : List View) (id : ℕ) (v : View) (cpu : CpuId) → AreSeated cpus (map (λ (x : View). x.kind) views) → get_elem? views id ≡ some v → v.kind ≡ Of cpu

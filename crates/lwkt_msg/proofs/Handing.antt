@@ -8,10 +8,12 @@ use Rattle.atomic_table.specs.declared.shared.Seat.{Seat}
 use Rattle.lwkt_base.specs.declared.names.CpuId.{CpuId}
 use Rattle.lwkt_base.specs.declared.openings.MsgSpec.{MsgSpec}
 use Rattle.lwkt_base.specs.declared.records.Rec.{Rec}
-use Rattle.lwkt_core.specs.declared.seats.Operation.TheVariants.{Load}
+use Rattle.lwkt_core.specs.declared.seats.Deed.{Deed}
+use Rattle.lwkt_core.specs.Seating.{next_seat}
+use Rattle.lwkt_core.specs.Opening.{AreWithin}
 use Rattle.lwkt_msg.specs.declared.views.Entry.{Entry}
 use Rattle.lwkt_msg.specs.declared.views.View.{View}
-use Rattle.lwkt_msg.specs.Views.{next_seat, seat_right, slot_at, spec_at, first_entry, at, after_step, handed}
+use Rattle.lwkt_msg.specs.Views.{seat_right, slot_at, spec_at, first_entry, at, noted, handed}
 use Rattle.lwkt_msg.specs.Hands.{IsOwn, IsInHand, AreHands}
 use Rattle.lwkt_msg.specs.Plays.{IsSat}
 use Rattle.lwkt_msg.specs.Desks.{opened_entry, IsHanding, IsClerk}
@@ -20,9 +22,9 @@ use Rattle.lwkt_msg.proofs.Carrying.{hands_taken}
 use Rattle.lwkt_msg.proofs.Splitting.{at-none}
 
 -- the next message is the seat's own, and its record is handed out
-pub handing_own : (place place' : Seat Rec View) (cpu : CpuId) (m found : ℕ) (rec : Rec) → IsHanding cpu m place → m < length place.me.0.specs → IsOwn place.me.0 cpu.0 m → place'.table_id ≡ place.table_id
-    → place'.me.0 ≡ after_step place.me.0 m (handed (at place.me.0 m)) Load found → place'.me.1 ≡ (slot_at m, rec) ∷ place.me.1 → IsHanding cpu (m + 1) place'
-handing_own place place' cpu m found rec h within own same view_is hands_are =
+pub handing_own : (place place' : Seat Rec View) (cpu : CpuId) (m : ℕ) (between : List Deed) (did : Deed) (rec : Rec) → IsHanding cpu m place → m < length place.me.0.specs → IsOwn place.me.0 cpu.0 m → place'.table_id ≡ place.table_id
+    → place'.me.0 ≡ noted between place.me.0 m (handed (at place.me.0 m)) did → place'.me.1 ≡ (slot_at m, rec) ∷ place.me.1 → IsHanding cpu (m + 1) place'
+handing_own place place' cpu m between did rec h within own same view_is hands_are =
     let v : View = place.me.0 in
     let e : Entry = at v m in
     let first : e ≡ first_entry (spec_at v.specs m) = h.todo m (omega arith) in
@@ -40,8 +42,8 @@ handing_own place place' cpu m found rec h within own same view_is hands_are =
     let home : e.away ≡ false = ap (λ (x : Entry). x.away) first in
     let not_yet : IsInHand v cpu.0 m → ⊥
     = λ hand. ⊎_elim (λ (is : IsOwn v cpu.0 m × (e.had ≡ true) × (e.away ≡ false)). let f : false ≡ true = sym not_had ∙ is.1 in cc) (λ (is : e.taken ≡ true). let f : false ≡ true = sym not_taken ∙ is in cc) hand in
-    let now = hands_taken v m (handed e) Load found cpu.0 rec place.me.1 within h.hands not_yet (inl (own, refl, home)) (λ is. let f : false ≡ true = sym not_taken ∙ is in absurd cc) in
-    let w : View = after_step v m (handed e) Load found in
+    let now = hands_taken v m (handed e) between did cpu.0 rec place.me.1 within h.hands not_yet (inl (own, refl, home)) (λ is. let f : false ≡ true = sym not_taken ∙ is in absurd cc) in
+    let w : View = noted between v m (handed e) did in
     let F : Me Rec View → Type 0 = λ x. AreHands x.0 cpu.0 x.1 in
     let D : View → Type 0 = λ x. (k : ℕ) → k < m + 1 → at x k ≡ opened_entry cpu.0 (spec_at x.specs k) in
     let T : View → Type 0 = λ x. (k : ℕ) → m + 1 ≤ k → at x k ≡ first_entry (spec_at x.specs k) in
@@ -52,12 +54,13 @@ handing_own place place' cpu m found rec h within own same view_is hands_are =
       few = omega arith;
       cpus = omega arith;
       there = omega arith;
+      within = subst (λ (x : View). AreWithin x.cpus [] x.specs) (sym view_is) h.within;
       hands = subst F (λ i. (sym view_is i, sym hands_are i)) now;
       done = subst D (sym view_is) (λ k below. dite (ℕ_discrete k m)
           (λ is. let G : ℕ → Type 0 = λ n. at w n ≡ opened_entry cpu.0 (spec_at v.specs n) in
-          subst G (sym is) (at-here v m (handed e) Load found ∙ (ap handed first ∙ opened (spec_at v.specs m) own)))
-          (λ apart. at-else v m (handed e) Load found k apart ∙ h.done k (omega arith)));
-      todo = subst T (sym view_is) (λ k above. at-else v m (handed e) Load found k (λ is. absurd (omega arith)) ∙ h.todo k (omega arith));
+          subst G (sym is) (at-here v m (handed e) between did ∙ (ap handed first ∙ opened (spec_at v.specs m) own)))
+          (λ apart. at-else v m (handed e) between did k apart ∙ h.done k (omega arith)));
+      todo = subst T (sym view_is) (λ k above. at-else v m (handed e) between did k (λ is. absurd (omega arith)) ∙ h.todo k (omega arith));
     }
   where
     opened : (spec : MsgSpec) → spec.origin.cpu.0 ≡ cpu.0 → handed (first_entry spec) ≡ opened_entry cpu.0 spec
@@ -72,6 +75,7 @@ handing_other place cpu m h other = record {
   few = h.few;
   cpus = h.cpus;
   there = h.there;
+  within = h.within;
   hands = h.hands;
   done = λ k below. dite (ℕ_discrete k m)
       (λ is. let G : ℕ → Type 0 = λ n. at place.me.0 n ≡ opened_entry cpu.0 (spec_at place.me.0.specs n) in subst G (sym is) (h.todo m (omega arith) ∙ blank (spec_at place.me.0.specs m) other))
@@ -91,6 +95,7 @@ handing_done place cpu h = record {
   few = h.few;
   cpus = h.cpus;
   there = h.there;
+  within = h.within;
   had = λ m within own. ap (λ (x : Entry). x.had) (h.done m within) ∙ has (spec_at place.me.0.specs m) own;
   hands = h.hands;
 }
@@ -122,6 +127,7 @@ handing_fresh clerk place cpu cpus specs k room same me_is =
       few = omega arith;
       cpus = omega arith;
       there = omega arith;
+      within = subst (λ (x : Me Rec View). AreWithin x.0.cpus [] x.0.specs) (sym me_is) (subst (λ (n : ℕ). AreWithin n [] clerk.me.0.specs) (sym k.cpus_is) (subst (λ (xs : List MsgSpec). AreWithin cpus [] xs) (sym k.specs_is) k.within));
       hands = subst F (sym me_is) record {
         apart = record { one = λ i j slot rec other x y. absurd (some-ne-none (slot, rec) (sym x)) };
         all = λ slot rec has. absurd (some-ne-none (slot, rec) (sym has.1));

@@ -23,8 +23,7 @@ use Rattle.lwkt_core.specs.declared.events.Place.TheVariants.{AtMessage}
 use Rattle.lwkt_core.specs.declared.messages.Message.{Message}
 use Rattle.lwkt_core.specs.declared.messages.TheConstants.{LAST_ROUND}
 use Rattle.lwkt_core.specs.declared.tokens.TheConstants.{CPU_LIMIT}
-use Rattle.lwkt_core.specs.declared.seats.Operation.{Operation}
-use Rattle.lwkt_core.specs.declared.seats.Operation.TheVariants.{Store}
+use Rattle.lwkt_core.specs.declared.seats.Deed.{Deed}
 use Rattle.lwkt_core.specs.declared.seats.SeatKind.{SeatKind}
 use Rattle.lwkt_core.specs.declared.seats.SeatKind.TheVariants.{Of}
 use Rattle.lwkt_core.specs.Events.{cpu_of, place_of, adds_reference}
@@ -35,32 +34,38 @@ use Rattle.lwkt_core.proofs.SeatingLemmas.{set_here, set_else, at_map, map-set, 
 use Rattle.lwkt_msg.specs.declared.views.Entry.{Entry}
 use Rattle.lwkt_msg.specs.declared.views.Layout.{Layout}
 use Rattle.lwkt_msg.specs.declared.views.View.{View}
-use Rattle.lwkt_msg.specs.Views.{word_at, slot_at, spec_at, call_of, at, after_step, handed, sent, took, replied, reaped, dropped, requested, Stands}
+use Rattle.lwkt_msg.specs.Views.{word_at, slot_at, spec_at, call_of, at, noted, handed, sent, took, replied, reaped, dropped, requested, Stands}
 use Rattle.lwkt_msg.specs.Book.{Mail, parts_of, state_of, shown_target, in_slot, is_taken, is_back, KnowsOwn, KnowsTaken, Knows, IsKept, mail_at, IsBook}
 use Rattle.lwkt_msg.specs.Hands.{IsOwn}
-use Rattle.lwkt_msg.specs.Steps.{sent_word, rest_word, machine_of, LeadsTo}
+use Rattle.lwkt_msg.specs.Steps.{sent_word, rest_word, machine_of}
 use Rattle.lwkt_msg.proofs.WordFacts.{message_word-injective}
-use Rattle.lwkt_msg.proofs.Knowing.{Changes-after_step}
+use Rattle.lwkt_msg.proofs.Knowing.{Changes-noted}
 use Rattle.lwkt_msg.proofs.Frames.{CountsWith, kept_step, stands_alone, seat_plan, IsBook-moved}
 use Rattle.lwkt_msg.proofs.Moves.{owned, mail_after, mail_sent, never, send_others, send_mine, take_others, take_mine, reply_others, reply_mine, reap_others, reap_mine, drop_others, drop_mine, abort_others, abort_mine, hand_others, hand_mine}
 
+-- a step on a message after which the table is a book again, in which this word shows it, and the event that the step is
+pub record LeadsTo (key : Layout) (mails : List Mail) (m : ℕ) (after : Mail) (event : Event) (word : ℕ) (s : State Rec View) : Type 0 where
+  pub shows : word ≡ message_word (parts_of after)
+  pub book : IsBook key (set mails m after) s
+  pub happens : Happens (machine_of key.cpus mails) event (machine_of key.cpus (set mails m after))
+
 -- the message of a number in the machine that a book shows
-shown_at : (mails : List Mail) (m : ℕ) → m < length mails → slice_get (map (λ (mail : Mail). mail.msg) mails) m ≡ Some ((mail_at mails m).msg)
+pub shown_at : (mails : List Mail) (m : ℕ) → m < length mails → slice_get (map (λ (mail : Mail). mail.msg) mails) m ≡ Some ((mail_at mails m).msg)
 shown_at [] m h = absurd (omega arith)
 shown_at (x ∷ xs) zero h = refl
 shown_at (x ∷ xs) (suc m) h = shown_at xs m (omega arith)
 
 -- an event that can happen to a message happens in the machine that the book shows
 pub happens_at : (key : Layout) (mails : List Mail) (m : ℕ) (mail' : Mail) (event : Event) → m < length mails → place_of event ≡ AtMessage m → adds_reference event ≡ false → cpu_of event < key.cpus
-    → MessageNeeds key.cpus (mail_at mails m).msg event → mail'.msg ≡ message_after (mail_at mails m).msg event → Happens (machine_of key mails) event (machine_of key (set mails m mail'))
+    → MessageNeeds key.cpus (mail_at mails m).msg event → mail'.msg ≡ message_after (mail_at mails m).msg event → Happens (machine_of key.cpus mails) event (machine_of key.cpus (set mails m mail'))
 happens_at key mails m mail' event within place adds there needs leaves =
-    let M : Machine = machine_of key mails in
+    let M : Machine = machine_of key.cpus mails in
     let F : Option Message → Type 0 = λ x. IsSomeAnd x (λ msg. MessageNeeds key.cpus msg event) in
     let G : Place → Type 0 = λ p. PlaceNeeds M event p in
     let H : Option Message → List Message = λ x. option_map_or (λ msg. slice_set M.messages m (message_after msg event)) x M.messages in
     let left : map (λ (mail : Mail). mail.msg) (set mails m mail') ≡ changed (λ msg. message_after msg event) M.messages m
     = map-set (λ (mail : Mail). mail.msg) mails m mail' ∙ (ap (λ (x : Message). set M.messages m x) leaves ∙ sym (ap H (shown_at mails m within))) in
-    let after_is : machine_of key (set mails m mail') ≡ after_at M event (place_of event)
+    let after_is : machine_of key.cpus (set mails m mail') ≡ after_at M event (place_of event)
     = ap (λ (x : List Message). let z : Machine = record M { messages = x } in z) left ∙ ap (λ (p : Place). after_at M event p) (sym place) in (
       record {
         processor = there;
@@ -153,14 +158,14 @@ module _ (key : Layout) (mails : List Mail) (s : State Rec View) (id : ℕ) (v :
   alone = stands_alone key.cpus s.views id v cpu book.seated e is_seat
 
   -- a step on the message, and the event that it is
-  leads : (mail' : Mail) (event : Event) (word' : ℕ) (homes' : List (maybe.Option Rec)) (e' : Entry) (o : Operation) (found : ℕ)
+  leads : (mail' : Mail) (event : Event) (word' : ℕ) (homes' : List (maybe.Option Rec)) (e' : Entry) (between : List Deed) (did : Deed)
       → length homes' ≡ length s.homes → ((k : ℕ) → k ≢ m → get_elem? homes' (slot_at k) ≡ get_elem? s.homes (slot_at k))
-      → IsKept key.cpus (spec_at key.specs.items m) mail' word' (get_elem? homes' (slot_at m)) m (set s.views id (after_step v m e' o found))
+      → IsKept key.cpus (spec_at key.specs.items m) mail' word' (get_elem? homes' (slot_at m)) m (set s.views id (noted between v m e' did))
       → place_of event ≡ AtMessage m → adds_reference event ≡ false → cpu_of event < key.cpus → MessageNeeds key.cpus mail.msg event → mail'.msg ≡ message_after mail.msg event
-      → LeadsTo key mails event record { words = set s.words (word_at m) word'; homes = homes'; views = set s.views id (after_step v m e' o found) }
-  leads mail' event word' homes' e' o found as_deep slots now place adds by needs is = record {
-    after_mails = set mails m mail';
-    book = IsBook-moved key mails s m id v (after_step v m e' o found) mail' word' homes' book e (Changes-after_step v m e' o found) there as_deep slots now;
+      → LeadsTo key mails m mail' event word' record { words = set s.words (word_at m) word'; homes = homes'; views = set s.views id (noted between v m e' did) }
+  leads mail' event word' homes' e' between did as_deep slots now place adds by needs is = record {
+    shows = now.is_word;
+    book = IsBook-moved key mails s m id v (noted between v m e' did) mail' word' homes' book e (Changes-noted v m e' between did) there as_deep slots now;
     happens = happens_at key mails m mail' event in_mails place adds by needs is;
   }
 
@@ -168,13 +173,13 @@ module _ (key : Layout) (mails : List Mail) (s : State Rec View) (id : ℕ) (v :
   set_slots x k apart = set_else s.homes (slot_at m) (slot_at k) x (λ h. apart (omega arith))
 
   -- the origin sends a message at rest
-  pub send_leads : (to : CpuId) (sync : Bool) (flags : Flags) (rec : Rec) → IsOwn v cpu.0 m → (at v m).away ≡ false → to.0 < key.cpus → (at v m).round < LAST_ROUND → rec.error ≡ 0 → rec.result ≡ 0
-      → LeadsTo key mails (Send cpu msg to ((at v m).round + 1)) record {
+  pub send_leads : (to : CpuId) (sync : Bool) (flags : Flags) (rec : Rec) (between : List Deed) (did : Deed) → IsOwn v cpu.0 m → (at v m).away ≡ false → to.0 < key.cpus → (at v m).round < LAST_ROUND → rec.error ≡ 0 → rec.result ≡ 0
+      → LeadsTo key mails m (mail_sent mail (Send cpu msg to ((at v m).round + 1)) (sent_word cpu to ((at v m).round + 1) sync flags) rec) (Send cpu msg to ((at v m).round + 1)) (message_word (sent_word cpu to ((at v m).round + 1) sync flags)) record {
         words = set s.words (word_at m) (message_word (sent_word cpu to ((at v m).round + 1) sync flags));
         homes = set s.homes (slot_at m) (some rec);
-        views = set s.views id (after_step v m (sent (sent_word cpu to ((at v m).round + 1) sync flags) (call_of rec) (at v m)) (Store (message_word (sent_word cpu to ((at v m).round + 1) sync flags))) (message_word (sent_word cpu to ((at v m).round + 1) sync flags)));
+        views = set s.views id (noted between v m (sent (sent_word cpu to ((at v m).round + 1) sync flags) (call_of rec) (at v m)) did);
       }
-  send_leads to sync flags rec own home to_there room no_error no_result =
+  send_leads to sync flags rec between did own home to_there room no_error no_result =
       let w : MsgWord = sent_word cpu to ((at v m).round + 1) sync flags in
       let n : ℕ = message_word w in
       let k = knows_own own in
@@ -189,18 +194,18 @@ module _ (key : Layout) (mails : List Mail) (s : State Rec View) (id : ℕ) (v :
       let is_word : n ≡ message_word (parts_of mail') = ap (λ (b : Bool). message_word (record w { aborted = b })) (sym quiet) in
       let counts : CountsWith mail.msg mail'.msg (at v m) (sent w (call_of rec) (at v m)) = record { sends = omega arith; takes = refl; drops = refl; replies = refl; reaps = refl } in
       let mine : Knows mail (Of cpu) (at v m) → Knows mail' (Of cpu) (sent w (call_of rec) (at v m))
-      = λ known. send_mine mail cpu to cpu m w rec (at v m) quiet (subst (λ (x : Owner). Knows (owned mail x) (Of cpu) (at v m)) owner_is known) in
+      = λ known. send_mine mail cpu to cpu m w rec (at v m) quiet refl (subst (λ (x : Owner). Knows (owned mail x) (Of cpu) (at v m)) owner_is known) in
       let others : (kind : SeatKind) (x : Entry) → (Stands kind cpu.0 → ⊥) → Knows mail kind x → Knows mail' kind x
       = λ kind x not_its known. send_others mail cpu to cpu m w rec (own_origin own) kind x not_its (subst (λ (y : Owner). Knows (owned mail y) kind x) owner_is known) in
       let now = kept_step key.cpus (spec_at key.specs.items m) mail mail' (get_or s.words (word_at m) 0) n (get_elem? s.homes (slot_at m)) (get_elem? (set s.homes (slot_at m) (some rec)) (slot_at m)) m s.views id v cpu
-      (sent w (call_of rec) (at v m)) (Store n) n kept e is_seat alone safe refl refl is_word (set_here s.homes (slot_at m) (some rec) in_homes) (λ _. (no_error, no_result)) counts mine others in
-      leads mail' (Send cpu msg to w.round) n (set s.homes (slot_at m) (some rec)) (sent w (call_of rec) (at v m)) (Store n) n (length-set s.homes (slot_at m) (some rec)) (set_slots (some rec)) now refl refl cpu_there needs refl
+      (sent w (call_of rec) (at v m)) between did kept e is_seat alone safe refl refl is_word (set_here s.homes (slot_at m) (some rec) in_homes) (λ _. (no_error, no_result)) counts mine others in
+      leads mail' (Send cpu msg to w.round) n (set s.homes (slot_at m) (some rec)) (sent w (call_of rec) (at v m)) between did (length-set s.homes (slot_at m) (some rec)) (set_slots (some rec)) now refl refl cpu_there needs refl
 
   -- a step that leaves the message as it is
-  pub stays : (e' : Entry) (o : Operation) (found : ℕ) → e'.sends ≡ (at v m).sends → e'.takes ≡ (at v m).takes → e'.drops ≡ (at v m).drops → e'.replies ≡ (at v m).replies → e'.reaps ≡ (at v m).reaps
+  pub stays : (e' : Entry) (between : List Deed) (did : Deed) → e'.sends ≡ (at v m).sends → e'.takes ≡ (at v m).takes → e'.drops ≡ (at v m).drops → e'.replies ≡ (at v m).replies → e'.reaps ≡ (at v m).reaps
       → (Knows mail (Of cpu) (at v m) → Knows mail (Of cpu) e')
-      → IsBook key (set mails m mail) record { words = set s.words (word_at m) (get_or s.words (word_at m) 0); homes = s.homes; views = set s.views id (after_step v m e' o found) }
-  stays e' o found a b c d f mine =
+      → IsBook key (set mails m mail) record { words = set s.words (word_at m) (get_or s.words (word_at m) 0); homes = s.homes; views = set s.views id (noted between v m e' did) }
+  stays e' between did a b c d f mine =
       let counts : CountsWith mail.msg mail.msg (at v m) e' = record {
         sends = ap (λ (n : ℕ). n + mail.msg.sends) a;
         takes = ap (λ (n : ℕ). n + mail.msg.takes) b;
@@ -209,8 +214,8 @@ module _ (key : Layout) (mails : List Mail) (s : State Rec View) (id : ℕ) (v :
         reaps = ap (λ (n : ℕ). n + mail.msg.reaps) f;
       } in
       let now = kept_step key.cpus (spec_at key.specs.items m) mail mail (get_or s.words (word_at m) 0) (get_or s.words (word_at m) 0) (get_elem? s.homes (slot_at m)) (get_elem? s.homes (slot_at m)) m s.views id v cpu
-      e' o found kept e is_seat alone kept.safe refl refl kept.is_word kept.slot kept.unanswered counts mine (λ kind x _ known. known) in
-      IsBook-moved key mails s m id v (after_step v m e' o found) mail (get_or s.words (word_at m) 0) s.homes book e (Changes-after_step v m e' o found) there refl (λ k apart. refl) now
+      e' between did kept e is_seat alone kept.safe refl refl kept.is_word kept.slot kept.unanswered counts mine (λ kind x _ known. known) in
+      IsBook-moved key mails s m id v (noted between v m e' did) mail (get_or s.words (word_at m) 0) s.homes book e (Changes-noted v m e' between did) there refl (λ k apart. refl) now
 
   -- the word that shows the message
   pub parts_fit : MessageFits (parts_of mail)
@@ -220,10 +225,10 @@ module _ (key : Layout) (mails : List Mail) (s : State Rec View) (id : ℕ) (v :
   parts_are w is fits = message_word-injective (parts_of mail) w parts_fit fits (sym kept.is_word ∙ is)
 
   -- a message on its way to the seat's processor is taken
-  taken_kept : (o : CpuId) (w : MsgWord) (op : Operation) (found : ℕ) → get_or s.words (word_at m) 0 ≡ message_word w → w.round ≡ mail.msg.round
+  taken_kept : (o : CpuId) (w : MsgWord) (between : List Deed) (did : Deed) → get_or s.words (word_at m) 0 ≡ message_word w → w.round ≡ mail.msg.round
       → IsKept key.cpus (spec_at key.specs.items m) (owned mail (Out o cpu)) (get_or s.words (word_at m) 0) (get_elem? s.homes (slot_at m)) m s.views
-      → IsKept key.cpus (spec_at key.specs.items m) (mail_after (owned mail (Out o cpu)) (TakeMsg cpu msg w.round) mail.rec) (message_word w + 1) (get_elem? (set s.homes (slot_at m) none) (slot_at m)) m (set s.views id (after_step v m (took mail.rec (at v m)) op found))
-  taken_kept o w op found is round_is k =
+      → IsKept key.cpus (spec_at key.specs.items m) (mail_after (owned mail (Out o cpu)) (TakeMsg cpu msg w.round) mail.rec) (message_word w + 1) (get_elem? (set s.homes (slot_at m) none) (slot_at m)) m (set s.views id (noted between v m (took mail.rec (at v m)) did))
+  taken_kept o w between did is round_is k =
       let out : Mail = owned mail (Out o cpu) in
       let event : Event = TakeMsg cpu msg w.round in
       let out' : Mail = mail_after out event mail.rec in
@@ -232,21 +237,21 @@ module _ (key : Layout) (mails : List Mail) (s : State Rec View) (id : ℕ) (v :
       let counts : CountsWith out.msg out'.msg (at v m) (took mail.rec (at v m)) = record { sends = refl; takes = omega arith; drops = refl; replies = refl; reaps = refl } in
       let safe : IsSafeMessage key.cpus out'.msg = IsSafeMessage-after key.cpus out.msg event k.safe (refl, round_is) cpu_there in
       kept_step key.cpus (spec_at key.specs.items m) out out' (get_or s.words (word_at m) 0) (message_word w + 1) (get_elem? s.homes (slot_at m)) (get_elem? (set s.homes (slot_at m) none) (slot_at m)) m s.views id v cpu
-      (took mail.rec (at v m)) op found k e is_seat alone safe refl refl is_word (set_here s.homes (slot_at m) none in_homes) (λ h. absurd (omega arith)) counts
+      (took mail.rec (at v m)) between did k e is_seat alone safe refl refl is_word (set_here s.homes (slot_at m) none in_homes) (λ h. absurd (omega arith)) counts
       (take_mine mail o cpu cpu m w.round (at v m)) (take_others mail o cpu cpu m w.round)
 
-  pub take_leads : (w : MsgWord) (op : Operation) (found : ℕ) → get_or s.words (word_at m) 0 ≡ message_word w → MessageFits w → w.state ≡ state.Out → w.target ≡ cpu
-      → LeadsTo key mails (TakeMsg cpu msg w.round) record { words = set s.words (word_at m) (message_word w + 1); homes = set s.homes (slot_at m) none; views = set s.views id (after_step v m (took mail.rec (at v m)) op found) }
-  take_leads w op found is fits out to =
+  pub take_leads : (w : MsgWord) (between : List Deed) (did : Deed) → get_or s.words (word_at m) 0 ≡ message_word w → MessageFits w → w.state ≡ state.Out → w.target ≡ cpu
+      → LeadsTo key mails m (mail_after mail (TakeMsg cpu msg w.round) mail.rec) (TakeMsg cpu msg w.round) (message_word w + 1) record { words = set s.words (word_at m) (message_word w + 1); homes = set s.homes (slot_at m) none; views = set s.views id (noted between v m (took mail.rec (at v m)) did) }
+  take_leads w between did is fits out to =
       let same : parts_of mail ≡ w = parts_are w is fits in
       let owner_is : mail.msg.owner ≡ Out (origin_of mail.msg.owner) cpu = sent_to mail.msg.owner cpu (ap (λ (x : MsgWord). x.state) same ∙ out) (ap (λ (x : MsgWord). x.target) same ∙ to) in
       let event : Event = TakeMsg cpu msg w.round in
       let round_is : w.round ≡ mail.msg.round = sym (ap (λ (x : MsgWord). x.round) same) in
       let F : Owner → Type 0 = λ x. IsKept key.cpus (spec_at key.specs.items m) (owned mail x) (get_or s.words (word_at m) 0) (get_elem? s.homes (slot_at m)) m s.views
-      → IsKept key.cpus (spec_at key.specs.items m) (mail_after (owned mail x) event mail.rec) (message_word w + 1) (get_elem? (set s.homes (slot_at m) none) (slot_at m)) m (set s.views id (after_step v m (took mail.rec (at v m)) op found)) in
-      let now = subst F (sym owner_is) (taken_kept (origin_of mail.msg.owner) w op found is round_is) kept in
+      → IsKept key.cpus (spec_at key.specs.items m) (mail_after (owned mail x) event mail.rec) (message_word w + 1) (get_elem? (set s.homes (slot_at m) none) (slot_at m)) m (set s.views id (noted between v m (took mail.rec (at v m)) did)) in
+      let now = subst F (sym owner_is) (taken_kept (origin_of mail.msg.owner) w between did is round_is) kept in
       let G : Owner → Type 0 = λ x. IsOutTo cpu x in
-      leads (mail_after mail event mail.rec) event (message_word w + 1) (set s.homes (slot_at m) none) (took mail.rec (at v m)) op found (length-set s.homes (slot_at m) none) (set_slots none) now refl refl cpu_there (subst G (sym owner_is) refl, round_is) refl
+      leads (mail_after mail event mail.rec) event (message_word w + 1) (set s.homes (slot_at m) none) (took mail.rec (at v m)) between did (length-set s.homes (slot_at m) none) (set_slots none) now refl refl cpu_there (subst G (sym owner_is) refl, round_is) refl
 
   -- what the slot of a message on its way holds
   pub out_slot : (w : MsgWord) → get_or s.words (word_at m) 0 ≡ message_word w → MessageFits w → w.state ≡ state.Out → (get_elem? s.homes (slot_at m) ≡ some (some mail.rec)) × (mail.rec.error ≡ 0) × (mail.rec.result ≡ 0)
@@ -257,10 +262,10 @@ module _ (key : Layout) (mails : List Mail) (s : State Rec View) (id : ℕ) (v :
       subst F (sym (sent_out mail.msg.owner (ap (λ (x : MsgWord). x.state) same ∙ out))) go kept.slot kept.unanswered
 
   -- a message that the seat has taken is replied to
-  replied_kept : (o : CpuId) (rec : Rec) (op : Operation) (found : ℕ) → call_of rec ≡ call_of mail.rec
+  replied_kept : (o : CpuId) (rec : Rec) (between : List Deed) (did : Deed) → call_of rec ≡ call_of mail.rec
       → IsKept key.cpus (spec_at key.specs.items m) (owned mail (With o cpu)) (get_or s.words (word_at m) 0) (get_elem? s.homes (slot_at m)) m s.views
-      → IsKept key.cpus (spec_at key.specs.items m) (mail_after (owned mail (With o cpu)) (Reply cpu msg) rec) (get_or s.words (word_at m) 0 + 1) (get_elem? (set s.homes (slot_at m) (some rec)) (slot_at m)) m (set s.views id (after_step v m (replied rec (at v m)) op found))
-  replied_kept o rec op found same_call k =
+      → IsKept key.cpus (spec_at key.specs.items m) (mail_after (owned mail (With o cpu)) (Reply cpu msg) rec) (get_or s.words (word_at m) 0 + 1) (get_elem? (set s.homes (slot_at m) (some rec)) (slot_at m)) m (set s.views id (noted between v m (replied rec (at v m)) did))
+  replied_kept o rec between did same_call k =
       let held : Mail = owned mail (With o cpu) in
       let event : Event = Reply cpu msg in
       let held' : Mail = mail_after held event rec in
@@ -269,27 +274,27 @@ module _ (key : Layout) (mails : List Mail) (s : State Rec View) (id : ℕ) (v :
       let counts : CountsWith held.msg held'.msg (at v m) (replied rec (at v m)) = record { sends = refl; takes = refl; drops = refl; replies = omega arith; reaps = refl } in
       let safe : IsSafeMessage key.cpus held'.msg = IsSafeMessage-after key.cpus held.msg event k.safe refl cpu_there in
       kept_step key.cpus (spec_at key.specs.items m) held held' (get_or s.words (word_at m) 0) (get_or s.words (word_at m) 0 + 1) (get_elem? s.homes (slot_at m)) (get_elem? (set s.homes (slot_at m) (some rec)) (slot_at m)) m s.views id v cpu
-      (replied rec (at v m)) op found k e is_seat alone safe refl refl is_word (set_here s.homes (slot_at m) (some rec) in_homes) (λ h. absurd (omega arith)) counts
+      (replied rec (at v m)) between did k e is_seat alone safe refl refl is_word (set_here s.homes (slot_at m) (some rec) in_homes) (λ h. absurd (omega arith)) counts
       (reply_mine mail o cpu cpu m rec same_call (at v m)) (reply_others mail o cpu cpu m rec same_call)
 
-  pub reply_leads : (rec : Rec) (op : Operation) (found : ℕ) → (at v m).taken ≡ true → call_of rec ≡ (at v m).got
-      → LeadsTo key mails (Reply cpu msg) record { words = set s.words (word_at m) (get_or s.words (word_at m) 0 + 1); homes = set s.homes (slot_at m) (some rec); views = set s.views id (after_step v m (replied rec (at v m)) op found) }
-  reply_leads rec op found taken same_call =
+  pub reply_leads : (rec : Rec) (between : List Deed) (did : Deed) → (at v m).taken ≡ true → call_of rec ≡ (at v m).got
+      → LeadsTo key mails m (mail_after mail (Reply cpu msg) rec) (Reply cpu msg) (get_or s.words (word_at m) 0 + 1) record { words = set s.words (word_at m) (get_or s.words (word_at m) 0 + 1); homes = set s.homes (slot_at m) (some rec); views = set s.views id (noted between v m (replied rec (at v m)) did) }
+  reply_leads rec between did taken same_call =
       let k = knows_taken in
       let is : is_taken cpu.0 mail.msg.owner ≡ true = sym k.taken_is ∙ taken in
       let owner_is : mail.msg.owner ≡ With (origin_of mail.msg.owner) cpu = taken_by mail.msg.owner cpu is in
       let event : Event = Reply cpu msg in
       let F : Owner → Type 0 = λ x. IsKept key.cpus (spec_at key.specs.items m) (owned mail x) (get_or s.words (word_at m) 0) (get_elem? s.homes (slot_at m)) m s.views
-      → IsKept key.cpus (spec_at key.specs.items m) (mail_after (owned mail x) event rec) (get_or s.words (word_at m) 0 + 1) (get_elem? (set s.homes (slot_at m) (some rec)) (slot_at m)) m (set s.views id (after_step v m (replied rec (at v m)) op found)) in
-      let now = subst F (sym owner_is) (replied_kept (origin_of mail.msg.owner) rec op found (same_call ∙ k.got_is is)) kept in
+      → IsKept key.cpus (spec_at key.specs.items m) (mail_after (owned mail x) event rec) (get_or s.words (word_at m) 0 + 1) (get_elem? (set s.homes (slot_at m) (some rec)) (slot_at m)) m (set s.views id (noted between v m (replied rec (at v m)) did)) in
+      let now = subst F (sym owner_is) (replied_kept (origin_of mail.msg.owner) rec between did (same_call ∙ k.got_is is)) kept in
       let G : Owner → Type 0 = λ x. IsWith cpu x in
-      leads (mail_after mail event rec) event (get_or s.words (word_at m) 0 + 1) (set s.homes (slot_at m) (some rec)) (replied rec (at v m)) op found (length-set s.homes (slot_at m) (some rec)) (set_slots (some rec)) now refl refl cpu_there (subst G (sym owner_is) refl) refl
+      leads (mail_after mail event rec) event (get_or s.words (word_at m) 0 + 1) (set s.homes (slot_at m) (some rec)) (replied rec (at v m)) between did (length-set s.homes (slot_at m) (some rec)) (set_slots (some rec)) now refl refl cpu_there (subst G (sym owner_is) refl) refl
 
   -- a message that came back is reaped by its origin
-  reaped_kept : (t : CpuId) (op : Operation) (found : ℕ) → IsOwn v cpu.0 m → (at v m).round ≡ mail.msg.round
+  reaped_kept : (t : CpuId) (between : List Deed) (did : Deed) → IsOwn v cpu.0 m → (at v m).round ≡ mail.msg.round
       → IsKept key.cpus (spec_at key.specs.items m) (owned mail (Back cpu t)) (get_or s.words (word_at m) 0) (get_elem? s.homes (slot_at m)) m s.views → mail.had ≡ true
-      → IsKept key.cpus (spec_at key.specs.items m) (mail_after (owned mail (Back cpu t)) (Reap cpu msg) mail.rec) (message_word (rest_word cpu (at v m).round)) (get_elem? (set s.homes (slot_at m) none) (slot_at m)) m (set s.views id (after_step v m (reaped (at v m)) op found))
-  reaped_kept t op found own round_is k had =
+      → IsKept key.cpus (spec_at key.specs.items m) (mail_after (owned mail (Back cpu t)) (Reap cpu msg) mail.rec) (message_word (rest_word cpu (at v m).round)) (get_elem? (set s.homes (slot_at m) none) (slot_at m)) m (set s.views id (noted between v m (reaped (at v m)) did))
+  reaped_kept t between did own round_is k had =
       let back : Mail = owned mail (Back cpu t) in
       let event : Event = Reap cpu msg in
       let back' : Mail = mail_after back event mail.rec in
@@ -299,21 +304,21 @@ module _ (key : Layout) (mails : List Mail) (s : State Rec View) (id : ℕ) (v :
       let slot : get_elem? (set s.homes (slot_at m) none) (slot_at m) ≡ some (in_slot (Rest cpu) mail.had mail.rec)
       = set_here s.homes (slot_at m) none in_homes ∙ ap (λ (b : Bool). some (in_slot (Rest cpu) b mail.rec)) (sym had) in
       kept_step key.cpus (spec_at key.specs.items m) back back' (get_or s.words (word_at m) 0) (message_word (rest_word cpu (at v m).round)) (get_elem? s.homes (slot_at m)) (get_elem? (set s.homes (slot_at m) none) (slot_at m)) m s.views id v cpu
-      (reaped (at v m)) op found k e is_seat alone safe refl refl is_word slot (λ h. absurd (omega arith)) counts
+      (reaped (at v m)) between did k e is_seat alone safe refl refl is_word slot (λ h. absurd (omega arith)) counts
       (reap_mine mail cpu t cpu m (at v m)) (reap_others mail cpu t cpu m (own_origin own))
 
-  pub reap_leads : (op : Operation) (found : ℕ) → IsOwn v cpu.0 m → (at v m).had ≡ true → (at v m).back ≡ true
-      → LeadsTo key mails (Reap cpu msg) record { words = set s.words (word_at m) (message_word (rest_word cpu (at v m).round)); homes = set s.homes (slot_at m) none; views = set s.views id (after_step v m (reaped (at v m)) op found) }
-  reap_leads op found own had seen =
+  pub reap_leads : (between : List Deed) (did : Deed) → IsOwn v cpu.0 m → (at v m).had ≡ true → (at v m).back ≡ true
+      → LeadsTo key mails m (mail_after mail (Reap cpu msg) mail.rec) (Reap cpu msg) (message_word (rest_word cpu (at v m).round)) record { words = set s.words (word_at m) (message_word (rest_word cpu (at v m).round)); homes = set s.homes (slot_at m) none; views = set s.views id (noted between v m (reaped (at v m)) did) }
+  reap_leads between did own had seen =
       let k = knows_own own in
       let origin_same : origin_of mail.msg.owner ≡ cpu = kept.safe.home ∙ (λ i. record { 0 = own_origin own i }) in
       let owner_is : mail.msg.owner ≡ Back cpu (target_of mail.msg.owner) = come_back mail.msg.owner (k.back_is seen) ∙ ap (λ (x : CpuId). Back x (target_of mail.msg.owner)) origin_same in
       let event : Event = Reap cpu msg in
       let F : Owner → Type 0 = λ x. IsKept key.cpus (spec_at key.specs.items m) (owned mail x) (get_or s.words (word_at m) 0) (get_elem? s.homes (slot_at m)) m s.views → mail.had ≡ true
-      → IsKept key.cpus (spec_at key.specs.items m) (mail_after (owned mail x) event mail.rec) (message_word (rest_word cpu (at v m).round)) (get_elem? (set s.homes (slot_at m) none) (slot_at m)) m (set s.views id (after_step v m (reaped (at v m)) op found)) in
-      let now = subst F (sym owner_is) (reaped_kept (target_of mail.msg.owner) op found own k.round_is) kept (sym k.had_is ∙ had) in
+      → IsKept key.cpus (spec_at key.specs.items m) (mail_after (owned mail x) event mail.rec) (message_word (rest_word cpu (at v m).round)) (get_elem? (set s.homes (slot_at m) none) (slot_at m)) m (set s.views id (noted between v m (reaped (at v m)) did)) in
+      let now = subst F (sym owner_is) (reaped_kept (target_of mail.msg.owner) between did own k.round_is) kept (sym k.had_is ∙ had) in
       let G : Owner → Type 0 = λ x. IsBackTo cpu x in
-      leads (mail_after mail event mail.rec) event (message_word (rest_word cpu (at v m).round)) (set s.homes (slot_at m) none) (reaped (at v m)) op found (length-set s.homes (slot_at m) none) (set_slots none) now refl refl cpu_there (subst G (sym owner_is) refl) refl
+      leads (mail_after mail event mail.rec) event (message_word (rest_word cpu (at v m).round)) (set s.homes (slot_at m) none) (reaped (at v m)) between did (length-set s.homes (slot_at m) none) (set_slots none) now refl refl cpu_there (subst G (sym owner_is) refl) refl
 
   -- what the slot of a message that came back holds
   pub back_slot : IsOwn v cpu.0 m → (at v m).back ≡ true → (get_elem? s.homes (slot_at m) ≡ some (some mail.rec)) × (call_of mail.rec ≡ (at v m).call)
@@ -324,10 +329,10 @@ module _ (key : Layout) (mails : List Mail) (s : State Rec View) (id : ℕ) (v :
       (subst F (sym (come_back mail.msg.owner (k.back_is seen))) go kept.slot, sym k.call_is)
 
   -- a message on its way is dropped by its origin
-  dropped_kept : (t : CpuId) (op : Operation) (found : ℕ) → IsOwn v cpu.0 m → (at v m).round ≡ mail.msg.round
+  dropped_kept : (t : CpuId) (between : List Deed) (did : Deed) → IsOwn v cpu.0 m → (at v m).round ≡ mail.msg.round
       → IsKept key.cpus (spec_at key.specs.items m) (owned mail (Out cpu t)) (get_or s.words (word_at m) 0) (get_elem? s.homes (slot_at m)) m s.views → mail.had ≡ true
-      → IsKept key.cpus (spec_at key.specs.items m) (mail_after (owned mail (Out cpu t)) (DropMsg cpu msg) mail.rec) (message_word (rest_word cpu (at v m).round)) (get_elem? (set s.homes (slot_at m) none) (slot_at m)) m (set s.views id (after_step v m (dropped (at v m)) op found))
-  dropped_kept t op found own round_is k had =
+      → IsKept key.cpus (spec_at key.specs.items m) (mail_after (owned mail (Out cpu t)) (DropMsg cpu msg) mail.rec) (message_word (rest_word cpu (at v m).round)) (get_elem? (set s.homes (slot_at m) none) (slot_at m)) m (set s.views id (noted between v m (dropped (at v m)) did))
+  dropped_kept t between did own round_is k had =
       let out : Mail = owned mail (Out cpu t) in
       let event : Event = DropMsg cpu msg in
       let out' : Mail = mail_after out event mail.rec in
@@ -337,27 +342,27 @@ module _ (key : Layout) (mails : List Mail) (s : State Rec View) (id : ℕ) (v :
       let slot : get_elem? (set s.homes (slot_at m) none) (slot_at m) ≡ some (in_slot (Rest cpu) mail.had mail.rec)
       = set_here s.homes (slot_at m) none in_homes ∙ ap (λ (b : Bool). some (in_slot (Rest cpu) b mail.rec)) (sym had) in
       kept_step key.cpus (spec_at key.specs.items m) out out' (get_or s.words (word_at m) 0) (message_word (rest_word cpu (at v m).round)) (get_elem? s.homes (slot_at m)) (get_elem? (set s.homes (slot_at m) none) (slot_at m)) m s.views id v cpu
-      (dropped (at v m)) op found k e is_seat alone safe refl refl is_word slot (λ h. absurd (omega arith)) counts
+      (dropped (at v m)) between did k e is_seat alone safe refl refl is_word slot (λ h. absurd (omega arith)) counts
       (drop_mine mail cpu t cpu m (at v m)) (drop_others mail cpu t cpu m (own_origin own))
 
-  pub drop_leads : (w : MsgWord) (op : Operation) (found : ℕ) → IsOwn v cpu.0 m → (at v m).had ≡ true → get_or s.words (word_at m) 0 ≡ message_word w → MessageFits w → w.state ≡ state.Out
-      → LeadsTo key mails (DropMsg cpu msg) record { words = set s.words (word_at m) (message_word (rest_word cpu (at v m).round)); homes = set s.homes (slot_at m) none; views = set s.views id (after_step v m (dropped (at v m)) op found) }
-  drop_leads w op found own had is fits out =
+  pub drop_leads : (w : MsgWord) (between : List Deed) (did : Deed) → IsOwn v cpu.0 m → (at v m).had ≡ true → get_or s.words (word_at m) 0 ≡ message_word w → MessageFits w → w.state ≡ state.Out
+      → LeadsTo key mails m (mail_after mail (DropMsg cpu msg) mail.rec) (DropMsg cpu msg) (message_word (rest_word cpu (at v m).round)) record { words = set s.words (word_at m) (message_word (rest_word cpu (at v m).round)); homes = set s.homes (slot_at m) none; views = set s.views id (noted between v m (dropped (at v m)) did) }
+  drop_leads w between did own had is fits out =
       let k = knows_own own in
       let same : parts_of mail ≡ w = parts_are w is fits in
       let origin_same : origin_of mail.msg.owner ≡ cpu = kept.safe.home ∙ (λ i. record { 0 = own_origin own i }) in
       let owner_is : mail.msg.owner ≡ Out cpu (target_of mail.msg.owner) = sent_out mail.msg.owner (ap (λ (x : MsgWord). x.state) same ∙ out) ∙ ap (λ (x : CpuId). Out x (target_of mail.msg.owner)) origin_same in
       let event : Event = DropMsg cpu msg in
       let F : Owner → Type 0 = λ x. IsKept key.cpus (spec_at key.specs.items m) (owned mail x) (get_or s.words (word_at m) 0) (get_elem? s.homes (slot_at m)) m s.views → mail.had ≡ true
-      → IsKept key.cpus (spec_at key.specs.items m) (mail_after (owned mail x) event mail.rec) (message_word (rest_word cpu (at v m).round)) (get_elem? (set s.homes (slot_at m) none) (slot_at m)) m (set s.views id (after_step v m (dropped (at v m)) op found)) in
-      let now = subst F (sym owner_is) (dropped_kept (target_of mail.msg.owner) op found own k.round_is) kept (sym k.had_is ∙ had) in
+      → IsKept key.cpus (spec_at key.specs.items m) (mail_after (owned mail x) event mail.rec) (message_word (rest_word cpu (at v m).round)) (get_elem? (set s.homes (slot_at m) none) (slot_at m)) m (set s.views id (noted between v m (dropped (at v m)) did)) in
+      let now = subst F (sym owner_is) (dropped_kept (target_of mail.msg.owner) between did own k.round_is) kept (sym k.had_is ∙ had) in
       let G : Owner → Type 0 = λ x. IsOutFrom cpu x in
-      leads (mail_after mail event mail.rec) event (message_word (rest_word cpu (at v m).round)) (set s.homes (slot_at m) none) (dropped (at v m)) op found (length-set s.homes (slot_at m) none) (set_slots none) now refl refl cpu_there (subst G (sym owner_is) refl) refl
+      leads (mail_after mail event mail.rec) event (message_word (rest_word cpu (at v m).round)) (set s.homes (slot_at m) none) (dropped (at v m)) between did (length-set s.homes (slot_at m) none) (set_slots none) now refl refl cpu_there (subst G (sym owner_is) refl) refl
 
   -- the origin asks for a message that is away to be aborted
-  pub abort_leads : (w : MsgWord) (op : Operation) (found : ℕ) → IsOwn v cpu.0 m → (at v m).away ≡ true → get_or s.words (word_at m) 0 ≡ message_word w → MessageFits w
-      → LeadsTo key mails (Abort cpu msg) record { words = set s.words (word_at m) (message_word (record w { aborted = true })); homes = s.homes; views = set s.views id (after_step v m (requested (at v m)) op found) }
-  abort_leads w op found own away is fits =
+  pub abort_leads : (w : MsgWord) (between : List Deed) (did : Deed) → IsOwn v cpu.0 m → (at v m).away ≡ true → get_or s.words (word_at m) 0 ≡ message_word w → MessageFits w
+      → LeadsTo key mails m (mail_after mail (Abort cpu msg) mail.rec) (Abort cpu msg) (message_word (record w { aborted = true })) record { words = set s.words (word_at m) (message_word (record w { aborted = true })); homes = s.homes; views = set s.views id (noted between v m (requested (at v m)) did) }
+  abort_leads w between did own away is fits =
       let k = knows_own own in
       let same : parts_of mail ≡ w = parts_are w is fits in
       let origin_same : origin_of mail.msg.owner ≡ cpu = kept.safe.home ∙ (λ i. record { 0 = own_origin own i }) in
@@ -368,13 +373,28 @@ module _ (key : Layout) (mails : List Mail) (s : State Rec View) (id : ℕ) (v :
       let is_word : message_word (record w { aborted = true }) ≡ message_word (parts_of mail') = ap (λ (x : MsgWord). message_word (record x { aborted = true })) (sym same) in
       let counts : CountsWith mail.msg mail'.msg (at v m) (requested (at v m)) = record { sends = refl; takes = refl; drops = refl; replies = refl; reaps = refl } in
       let now = kept_step key.cpus (spec_at key.specs.items m) mail mail' (get_or s.words (word_at m) 0) (message_word (record w { aborted = true })) (get_elem? s.homes (slot_at m)) (get_elem? s.homes (slot_at m)) m s.views id v cpu
-      (requested (at v m)) op found kept e is_seat alone safe refl refl is_word kept.slot kept.unanswered counts (abort_mine mail cpu cpu cpu m (at v m)) (abort_others mail cpu cpu cpu m (own_origin own)) in
-      leads mail' event (message_word (record w { aborted = true })) s.homes (requested (at v m)) op found refl (λ n apart. refl) now refl refl cpu_there needs refl
+      (requested (at v m)) between did kept e is_seat alone safe refl refl is_word kept.slot kept.unanswered counts (abort_mine mail cpu cpu cpu m (at v m)) (abort_others mail cpu cpu cpu m (own_origin own)) in
+      leads mail' event (message_word (record w { aborted = true })) s.homes (requested (at v m)) between did refl (λ n apart. refl) now refl refl cpu_there needs refl
+
+  -- a message at rest with the seat's processor
+  pub rests : IsOwn v cpu.0 m → (at v m).away ≡ false → mail.msg.owner ≡ Rest cpu
+  rests own home =
+      let origin_same : origin_of mail.msg.owner ≡ cpu = kept.safe.home ∙ (λ i. record { 0 = own_origin own i }) in
+      at_rest mail.msg.owner (sym (knows_own own).away_is ∙ home) ∙ ap (λ (x : CpuId). Rest x) origin_same
+
+  -- a message that a word shows on its way to the seat's processor, and one that came back
+  pub goes_to : (w : MsgWord) → get_or s.words (word_at m) 0 ≡ message_word w → MessageFits w → w.state ≡ state.Out → w.target ≡ cpu → mail.msg.owner ≡ Out (origin_of mail.msg.owner) cpu
+  goes_to w is fits out to =
+      let same : parts_of mail ≡ w = parts_are w is fits in
+      sent_to mail.msg.owner cpu (ap (λ (x : MsgWord). x.state) same ∙ out) (ap (λ (x : MsgWord). x.target) same ∙ to)
+
+  pub came_back : IsOwn v cpu.0 m → (at v m).back ≡ true → mail.msg.owner ≡ Back (origin_of mail.msg.owner) (target_of mail.msg.owner)
+  came_back own seen = come_back mail.msg.owner ((knows_own own).back_is seen)
 
   -- the record of a message that is still at home is handed out to its origin
-  pub hands_out : (op : Operation) (found : ℕ) → IsOwn v cpu.0 m → (at v m).had ≡ false → (at v m).away ≡ false
-      → (get_elem? s.homes (slot_at m) ≡ some (some mail.rec)) × IsBook key (set mails m (record mail { had = true })) record { words = set s.words (word_at m) (get_or s.words (word_at m) 0); homes = set s.homes (slot_at m) none; views = set s.views id (after_step v m (handed (at v m)) op found) }
-  hands_out op found own had home =
+  pub hands_out : (between : List Deed) (did : Deed) → IsOwn v cpu.0 m → (at v m).had ≡ false → (at v m).away ≡ false
+      → (get_elem? s.homes (slot_at m) ≡ some (some mail.rec)) × IsBook key (set mails m (record mail { had = true })) record { words = set s.words (word_at m) (get_or s.words (word_at m) 0); homes = set s.homes (slot_at m) none; views = set s.views id (noted between v m (handed (at v m)) did) }
+  hands_out between did own had home =
       let k = knows_own own in
       let owner_is : mail.msg.owner ≡ Rest (origin_of mail.msg.owner) = at_rest mail.msg.owner (sym k.away_is ∙ home) in
       let mail' : Mail = record mail { had = true } in
@@ -384,7 +404,7 @@ module _ (key : Layout) (mails : List Mail) (s : State Rec View) (id : ℕ) (v :
       let slot : get_elem? (set s.homes (slot_at m) none) (slot_at m) ≡ some (in_slot mail.msg.owner true mail.rec) = subst G (sym owner_is) (set_here s.homes (slot_at m) none in_homes) in
       let counts : CountsWith mail.msg mail.msg (at v m) (handed (at v m)) = record { sends = refl; takes = refl; drops = refl; replies = refl; reaps = refl } in
       let now = kept_step key.cpus (spec_at key.specs.items m) mail mail' (get_or s.words (word_at m) 0) (get_or s.words (word_at m) 0) (get_elem? s.homes (slot_at m)) (get_elem? (set s.homes (slot_at m) none) (slot_at m)) m s.views id v cpu
-      (handed (at v m)) op found kept e is_seat alone kept.safe refl refl kept.is_word slot kept.unanswered counts (hand_mine mail cpu cpu cpu m (at v m)) (hand_others mail cpu cpu cpu m (own_origin own)) in (
+      (handed (at v m)) between did kept e is_seat alone kept.safe refl refl kept.is_word slot kept.unanswered counts (hand_mine mail cpu cpu cpu m (at v m)) (hand_others mail cpu cpu cpu m (own_origin own)) in (
         subst F (sym owner_is) go kept.slot (sym k.had_is ∙ had),
-        IsBook-moved key mails s m id v (after_step v m (handed (at v m)) op found) mail' (get_or s.words (word_at m) 0) (set s.homes (slot_at m) none) book e (Changes-after_step v m (handed (at v m)) op found) there (length-set s.homes (slot_at m) none) (set_slots none) now,
+        IsBook-moved key mails s m id v (noted between v m (handed (at v m)) did) mail' (get_or s.words (word_at m) 0) (set s.homes (slot_at m) none) book e (Changes-noted v m (handed (at v m)) between did) there (length-set s.homes (slot_at m) none) (set_slots none) now,
       )

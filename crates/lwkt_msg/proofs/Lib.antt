@@ -5,6 +5,10 @@ pub mod Bringing
 pub mod Moves
 pub mod Leading
 pub mod Carrying
+pub mod Telling
+pub mod Recording
+pub mod Running
+pub mod Deciding
 pub mod Allowing
 pub mod Splitting
 pub mod Sitting

@@ -1,38 +1,49 @@
-use Rattle.std.proofs.Common.{◌≡◌, ℕ, zero, suc, ◌+◌, ◌*◌, ◌^◌, ◌<◌, Bool, true, false, List, [], ◌∷◌, length, map, set, get_or, All, refl, ap, sym, ◌∙◌, subst, arith}
-use Rattle.std.specs.Prelude.{bit_or}
+use Rattle.std.proofs.Common.{◌≡◌, inl, inr, ℕ, zero, suc, ◌<◌, ◌≤◌, List, [], ◌∷◌, ◌++◌, length, map, set, get_or, All, refl, ap, sym, ◌∙◌, subst, arith, get_or-set_same}
 use Rattle.std.proofs.lemmas.List.Elements.{All-from_get_or}
-use Rattle.std.proofs.lemmas.Nat.{or_block, or_comm}
-use lib.ListN.{length-map}
-use Rattle.lwkt_base.specs.declared.message_words.MsgWord.{MsgWord}
-use Rattle.lwkt_base.specs.declared.message_words.MsgState.{MsgState}
-use Rattle.lwkt_base.specs.declared.message_words.MsgState.TheVariants as state
-use Rattle.lwkt_base.specs.TokenWord.{bit}
-use Rattle.lwkt_base.specs.MessageWord.{state_number, message_word}
-use Rattle.lwkt_core.specs.declared.events.Event.TheVariants.{Abort}
+use mathlib.Core.Option.{Option, some}
+use lib.ListN.{get_elem?, length-map}
+use Rattle.atomic_table.specs.Table.{State, keeps, homes_after, stepped}
+use Rattle.lwkt_base.specs.declared.names.CpuId.{CpuId}
+use Rattle.lwkt_base.specs.declared.owners.Owner.{Owner}
+use Rattle.lwkt_base.specs.declared.owners.Owner.TheVariants.{Rest, Out, With, Back}
+use Rattle.lwkt_base.specs.declared.records.Rec.{Rec}
+use Rattle.lwkt_base.specs.MessageWord.{message_word}
 use Rattle.lwkt_core.specs.declared.messages.Message.{Message}
 use Rattle.lwkt_core.specs.declared.seats.Operation.TheVariants as operation
-use Rattle.lwkt_core.specs.Machine.{Machine}
-use Rattle.lwkt_core.specs.Messages.{IsSafeMessage}
-use Rattle.lwkt_core.proofs.SeatingLemmas.{map-set}
+use Rattle.lwkt_core.specs.declared.seats.WordStep.{WordStep}
+use Rattle.lwkt_core.specs.declared.seats.Deed.{Deed}
+use Rattle.lwkt_core.specs.Messages.{IsSafeMessage, in_out, in_with}
+use Rattle.lwkt_core.specs.History.{IsStepOver, Page, Chronicle}
+use Rattle.lwkt_core.proofs.SeatingLemmas.{map-set, set_again, at_map}
+use Rattle.lwkt_core.proofs.HistoryLemmas.{Passes-run}
+use Rattle.lwkt_core.proofs.ChronicleLemmas.{Chronicle-same, Chronicle-decides}
+use Rattle.lwkt_core.proofs.ViewLemmas.{Views-between, Views-one_more, Views-was_done}
 use Rattle.lwkt_msg.specs.declared.views.Layout.{Layout}
-use Rattle.lwkt_msg.specs.Views.{at, looked, requested}
-use Rattle.lwkt_msg.specs.Book.{Mail, parts_of, mail_at, no_mail}
-use Rattle.lwkt_msg.specs.Steps.{rest_word, machine_of, LeadsTo}
-use Rattle.lwkt_msg.specs.Laws.{EachStateIsSafe, table_after, word_in, LoadsChangeNothing, HandingOutChangesNothing, SendsAreEvents, TakesAreEvents, RepliesAreEvents, ReapsAreEvents, DropsAreEvents, RequestsAreEvents, SeatingChangesNothing}
+use Rattle.lwkt_msg.specs.declared.views.View.{View}
+use Rattle.lwkt_msg.specs.Views.{word_at, slot_at, at, looked, page_of}
+use Rattle.lwkt_msg.specs.Book.{Mail, parts_of, in_slot, mail_at, no_mail}
+use Rattle.lwkt_msg.specs.Steps.{machine_of}
+use Rattle.lwkt_msg.specs.Told.{IsDone, first_mails, Told}
+use Rattle.lwkt_msg.specs.Laws.{EachStateIsSafe, EachSendAtMostOnce, EachStateIsReached, ViewsDecide, OpeningIsDeclared, IsStepOfSeat, LoadIsLook, LostExchangeIsLook, HandingOutIsLook, StoreIsSend, ExchangeIsTake, AddIsReply, StoreIsReap, ExchangeIsDrop, OrIsAbort, SeatingIsNoDeed, NotedIsDone, UnnotedChangesNothing}
 use Rattle.lwkt_msg.proofs.Moves.{look_mine}
-use Rattle.lwkt_msg.proofs.Splitting.{seat_book, whole_book, joined_book}
-use Rattle.lwkt_msg.proofs.Leading as lead
+use Rattle.lwkt_msg.proofs.Splitting.{seat_told, whole_told, joined_told, rule_opens}
+use Rattle.lwkt_msg.proofs.Running.{done_runs}
+use Rattle.lwkt_msg.proofs.Deciding.{done_decides}
+use Rattle.lwkt_msg.proofs.Telling as tell
 
 -- the message of a number among those of a list
 msg_at : (mails : List Mail) (i : ℕ) (d : Message) → i < length mails → get_or (map (λ (x : Mail). x.msg) mails) i d ≡ (mail_at mails i).msg
-msg_at [] i d h = absurd (omega arith)
-msg_at (x ∷ xs) zero d h = refl
-msg_at (x ∷ xs) (suc i) d h = msg_at xs i d (omega arith)
+msg_at mails i d h = shown mails i h
+  where
+    shown : (xs : List Mail) (k : ℕ) → k < length xs → get_or (map (λ (x : Mail). x.msg) xs) k d ≡ (mail_at xs k).msg
+    shown [] k h = absurd (omega arith)
+    shown (x ∷ xs) zero h = refl
+    shown (x ∷ xs) (suc k) h = shown xs k (omega arith)
 
 pub state_is_safe : EachStateIsSafe
-state_is_safe key s rule =
-    let book = rule.book in
-    let mails : List Mail = rule.mails in
+state_is_safe key s told =
+    let book = told.rule.book in
+    let mails : List Mail = told.rule.mails in
     let messages : List Message = map (λ (x : Mail). x.msg) mails in
     let long : length messages ≡ length mails = length-map mails (λ (x : Mail). x.msg) in
     let as_many = book.as_many in
@@ -43,112 +54,139 @@ state_is_safe key s rule =
     let in_specs : i < length key.specs.items = omega arith in
     let F : Message → Type 0 = λ x. IsSafeMessage key.cpus x in
     subst F (sym (msg_at mails i no_mail.msg in_mails)) (book.each i in_specs).safe) in (
-      mails,
-      (
-        book,
-        record {
-          processors = book.within.processors;
-          token_limit = omega arith;
-          each_token = λ i d h. absurd (omega arith);
-          few = λ cpu. omega arith;
-          message_limit = omega arith;
-          each_message = each;
-        },
-      ),
+      book,
+      record {
+        processors = book.within.processors;
+        token_limit = omega arith;
+        each_token = λ i d h. absurd (omega arith);
+        few = λ cpu. omega arith;
+        message_limit = omega arith;
+        each_message = each;
+      },
     )
 
--- the same machine is shown where a message of the model stays as it is
-same_machine : (key : Layout) (mails : List Mail) (m : ℕ) (mail' : Mail) → mail'.msg ≡ (mail_at mails m).msg → machine_of key (set mails m mail') ≡ machine_of key mails
-same_machine key mails m mail' same =
-    let messages : List Message = map (λ (x : Mail). x.msg) mails in
-    let e : map (λ (x : Mail). x.msg) (set mails m mail') ≡ messages
-    = map-set (λ (x : Mail). x.msg) mails m mail' ∙ (ap (λ (x : Message). set messages m x) same ∙ again mails m) in
-    ap (λ (x : List Message). let z : Machine = record { cpus = key.cpus; tokens = []; messages = x } in z) e
-  where
-    again : (xs : List Mail) (i : ℕ) → set (map (λ (x : Mail). x.msg) xs) i (mail_at xs i).msg ≡ map (λ (x : Mail). x.msg) xs
-    again [] i = refl
-    again (x ∷ xs) zero = refl
-    again (x ∷ xs) (suc i) = ap (λ (l : List Message). x.msg ∷ l) (again xs i)
+-- a message is in one place
+one_out : (o : Owner) → in_out o ≤ 1
+one_out (Rest o) = omega arith
+one_out (Out o t) = omega arith
+one_out (With o t) = omega arith
+one_out (Back o t) = omega arith
 
-pub loads_change_nothing : LoadsChangeNothing
-loads_change_nothing key mails s id v cpu m op h =
-    let mail : Mail = mail_at mails m in
-    let n : ℕ = word_in s m in (
-      (set mails m mail, (lead.stays key mails s id v cpu m h.book h.view h.kind h.exists_ (looked (parts_of mail) (at v m)) operation.Load n refl refl refl refl refl (look_mine mail cpu (at v m)), same_machine key mails m mail refl)),
-      (set mails m mail, (lead.stays key mails s id v cpu m h.book h.view h.kind h.exists_ (at v m) op n refl refl refl refl refl (λ known. known), same_machine key mails m mail refl)),
-    )
+one_with : (o : Owner) → in_with o ≤ 1
+one_with (Rest o) = omega arith
+one_with (Out o t) = omega arith
+one_with (With o t) = omega arith
+one_with (Back o t) = omega arith
 
-pub handing_out_changes_nothing : HandingOutChangesNothing
-handing_out_changes_nothing key mails s id v cpu m h own had home =
-    let mail' : Mail = record (mail_at mails m) { had = true } in
-    (set mails m mail', ((lead.hands_out key mails s id v cpu m h.book h.view h.kind h.exists_ operation.Load (word_in s m) own had home).1, same_machine key mails m mail' refl))
+pub sends_at_most_once : EachSendAtMostOnce
+sends_at_most_once key s told m there =
+    let safe = (told.rule.book.each m there).safe in
+    let a = safe.taken in
+    let b = safe.replied in
+    let c = one_out (mail_at told.rule.mails m).msg.owner in
+    let d = one_with (mail_at told.rule.mails m).msg.owner in
+    (omega arith, omega arith, omega arith, omega arith)
 
-pub sends_are_events : SendsAreEvents
-sends_are_events key mails s id v cpu m to sync flags rec h own home there room no_error no_result =
-    lead.send_leads key mails s id v cpu m h.book h.view h.kind h.exists_ to sync flags rec own home there room no_error no_result
-
-pub takes_are_events : TakesAreEvents
-takes_are_events key mails s id v cpu m w h is fits out to =
-    lead.take_leads key mails s id v cpu m h.book h.view h.kind h.exists_ w (operation.Exchange (message_word w) (message_word w + 1)) (message_word w) is fits out to
-
-pub replies_are_events : RepliesAreEvents
-replies_are_events key mails s id v cpu m rec h taken call =
-    lead.reply_leads key mails s id v cpu m h.book h.view h.kind h.exists_ rec (operation.Add 1) (word_in s m) taken call
-
-pub reaps_are_events : ReapsAreEvents
-reaps_are_events key mails s id v cpu m h own had seen =
-    let word : ℕ = message_word (rest_word cpu (at v m).round) in
-    lead.reap_leads key mails s id v cpu m h.book h.view h.kind h.exists_ (operation.Store word) word own had seen
-
-pub drops_are_events : DropsAreEvents
-drops_are_events key mails s id v cpu m w h own had is fits out =
-    let word : ℕ = message_word (rest_word cpu (at v m).round) in
-    lead.drop_leads key mails s id v cpu m h.book h.view h.kind h.exists_ w (operation.Exchange (message_word w) word) (message_word w) own had is fits out
-
--- the third bit of a word is that of the request to abort
-low_bits : (t : MsgState) (a : Bool) → bit_or (state_number t + 4 * bit a) 4 ≡ state_number t + 4
-low_bits state.Rest true = refl
-low_bits state.Rest false = refl
-low_bits state.Out true = refl
-low_bits state.Out false = refl
-low_bits state.With true = refl
-low_bits state.With false = refl
-low_bits state.Back true = refl
-low_bits state.Back false = refl
-
-low_below : (t : MsgState) (a : Bool) → state_number t + 4 * bit a < 2 ^ 3
-low_below state.Rest true = omega arith
-low_below state.Rest false = omega arith
-low_below state.Out true = omega arith
-low_below state.Out false = omega arith
-low_below state.With true = omega arith
-low_below state.With false = omega arith
-low_below state.Back true = omega arith
-low_below state.Back false = omega arith
-
-pub requested_word : (w : MsgWord) → bit_or (message_word w) 4 ≡ message_word (record w { aborted = true })
-requested_word w =
-    let high : ℕ = bit w.sync + 2 * bit w.dropable + 4 * bit w.abortable + 16 * w.origin.0 + 128 * w.target.0 + 1024 * w.round in
-    let low : ℕ = state_number w.state + 4 * bit w.aborted in
-    let cut : message_word w ≡ high * 2 ^ 3 + low = omega arith in
-    let four : 4 ≡ 0 * 2 ^ 3 + 4 = refl in
-    let blocks = or_block 3 high 0 low 4 (low_below w.state w.aborted) (omega arith) in
-    let none_high : bit_or high 0 ≡ high = or_comm high 0 in
-    let low_is : bit_or low 4 ≡ state_number w.state + 4 = low_bits w.state w.aborted in
-    let whole : bit_or high 0 * 2 ^ 3 + bit_or low 4 ≡ message_word (record w { aborted = true }) = rw (none_high, low_is) (omega arith) in
-    ap (λ (n : ℕ). bit_or n 4) cut ∙ (blocks ∙ whole)
-
-pub requests_are_events : RequestsAreEvents
-requests_are_events key mails s id v cpu m h own away =
-    let w : MsgWord = parts_of (mail_at mails m) in
-    let is : word_in s m ≡ message_word w = (h.book.each m h.exists_).is_word in
-    let l = lead.abort_leads key mails s id v cpu m h.book h.view h.kind h.exists_ w (operation.Or 4) (word_in s m) own away is (lead.parts_fit key mails s id v cpu m h.book h.view h.kind h.exists_) in
-    let F : ℕ → Type 0 = λ n. LeadsTo key mails (Abort cpu (record { 0 = m })) (table_after s id m v n s.homes (requested (at v m)) (operation.Or 4) (word_in s m)) in
-    subst F (sym (ap (λ (n : ℕ). bit_or n 4) is ∙ requested_word w)) l
-
-pub seating_changes_nothing : SeatingChangesNothing
-seating_changes_nothing key mails s id v book e = (
-  (λ made back is_clerk none room. seat_book key mails s id v made back book e is_clerk none room),
-  (λ cpu is_seat. whole_book key mails s id v cpu book e is_seat),
-  (λ other w made back cpu is_clerk is_seat apart d. joined_book key mails s id v other w made back cpu book e is_clerk is_seat apart d),
+pub state_is_reached : EachStateIsReached
+state_is_reached key s told = (
+  told.chronicle.passes,
+  Passes-run (IsDone key.cpus) (λ (ms : List Mail). machine_of key.cpus ms) (done_runs key.cpus) (first_mails key.specs.items) told.chronicle.history told.rule.mails told.chronicle.passes,
+  λ id v cpu e is_seat. Views-between (IsDone key.cpus) page_of (first_mails key.specs.items) told.rule.mails s.views told.chronicle id v e cpu is_seat,
 )
+
+pub views_decide : ViewsDecide
+views_decide key s told other = (
+  Chronicle-decides (IsDone key.cpus) (done_decides key.cpus) (first_mails key.specs.items) other.rule.mails told.rule.mails (map page_of s.views) other.chronicle told.chronicle,
+  Chronicle-same (IsDone key.cpus) (first_mails key.specs.items) other.rule.mails told.rule.mails (map page_of s.views) other.chronicle told.chronicle,
+)
+
+pub opening_is_declared : OpeningIsDeclared
+opening_is_declared key words within opened = rule_opens key words _ within opened.wide opened.zero_word opened.each refl
+
+pub load_is_look : LoadIsLook
+load_is_look key s told id v cpu m h hands =
+    tell.look_told key s id v cpu m told h.view h.kind h.exists_ (looked (parts_of (mail_at told.rule.mails m)) (at v m)) operation.Load hands keeps tt refl refl refl refl refl refl (look_mine (mail_at told.rule.mails m) cpu (at v m)) (inl refl)
+
+pub lost_exchange_is_look : LostExchangeIsLook
+lost_exchange_is_look key s told id v cpu m h hands old new other =
+    tell.look_told key s id v cpu m told h.view h.kind h.exists_ (at v m) (operation.Exchange old new) hands keeps tt refl refl refl refl refl refl (λ known. known) (inr (old, new, (refl, other)))
+
+pub handing_out_is_look : HandingOutIsLook
+handing_out_is_look key s told id v cpu m h hands own had home = tell.hand_told key s id v cpu m told h.view h.kind h.exists_ hands own had home
+
+pub store_is_send : StoreIsSend
+store_is_send key s told id v cpu m h to sync flags rec others own home there room no_error no_result = tell.send_told key s id v cpu m told h.view h.kind h.exists_ to sync flags rec others own home there room no_error no_result
+
+pub exchange_is_take : ExchangeIsTake
+exchange_is_take key s told id v cpu m h w hands is fits out to = tell.take_told key s id v cpu m told h.view h.kind h.exists_ w hands is fits out to
+
+pub add_is_reply : AddIsReply
+add_is_reply key s told id v cpu m h rec others taken call = tell.reply_told key s id v cpu m told h.view h.kind h.exists_ rec others taken call
+
+pub store_is_reap : StoreIsReap
+store_is_reap key s told id v cpu m h hands own had seen = tell.reap_told key s id v cpu m told h.view h.kind h.exists_ hands own had seen
+
+pub exchange_is_drop : ExchangeIsDrop
+exchange_is_drop key s told id v cpu m h w hands own had is fits out = tell.drop_told key s id v cpu m told h.view h.kind h.exists_ w hands own had is fits out
+
+pub or_is_abort : OrIsAbort
+or_is_abort key s told id v cpu m h hands own away = tell.abort_told key s id v cpu m told h.view h.kind h.exists_ hands own away
+
+pub seating_is_no_deed : SeatingIsNoDeed
+seating_is_no_deed key s told id v e = (
+  (λ made back is_clerk none room. seat_told key s told id v made back e is_clerk none room),
+  (λ cpu is_seat. whole_told key s told id v cpu e is_seat),
+  (λ other w made back cpu is_clerk is_seat apart d. joined_told key s told id v other w made back cpu e is_clerk is_seat apart d),
+)
+
+-- the page of a view after a step of its seat
+page_after : (v w : View) (cpu : CpuId) (past : List Deed) → IsStepOfSeat v w cpu past → page_of w ≡ record { kind = v.kind; past = past; chapters = v.chapters }
+page_after v w cpu past h = λ i. record { kind = h.same i; past = h.past_is i; chapters = h.chapters i }
+
+-- a word of the table shows its message
+shows : (key : Layout) (s : State Rec View) (told : Told key s) (m : ℕ) → m < length key.specs.items → get_or s.words (word_at m) 0 ≡ message_word (parts_of (mail_at told.rule.mails m))
+shows key s told m there = (told.rule.book.each m there).is_word
+
+pub noted_is_done : NotedIsDone
+noted_is_done key s told id v w cpu between d i n hands act after e h others own =
+    let page = page_after v w cpu (v.past ++ (between ++ d ∷ [])) h in
+    let more = Views-one_more (IsDone key.cpus) page_of (first_mails key.specs.items) told.rule.mails after.rule.mails s.views told.chronicle id v w after.chronicle e key.cpus told.rule.book.seated cpu between d h.kind own others page in
+    let done = Views-was_done (IsDone key.cpus) page_of (first_mails key.specs.items) told.rule.mails after.rule.mails s.views told.chronicle id v w after.chronicle e key.cpus told.rule.book.seated cpu between d h.kind own others page (done_decides key.cpus) in
+    (record { done = done; grown = more }, λ step steps. over done step steps)
+  where
+    words' : List ℕ
+    words' = set s.words i n
+
+    over : (done : IsDone key.cpus told.rule.mails d after.rule.mails) (step : WordStep) → d.steps ≡ step ∷ [] → (step.at < length key.specs.items) × IsStepOver (get_or s.words (word_at step.at) 0) (get_or (set s.words i n) (word_at step.at) 0) step
+    over done step steps =
+        let same : done.step ≡ step = ap (λ (xs : List WordStep). get_or xs 0 step) (sym done.steps ∙ steps) in
+        let m : ℕ = done.step.at in
+        let there : m < length key.specs.items = let a = done.there in let b = told.rule.book.as_many in omega arith in
+        let before = shows key s told m there in
+        let mail_is : mail_at after.rule.mails m ≡ done.after = ap (λ (xs : List Mail). mail_at xs m) done.leaves ∙ get_or-set_same told.rule.mails m done.after no_mail done.there in
+        let left : get_or (set s.words i n) (word_at m) 0 ≡ message_word (parts_of done.after) = shows key (stepped s i n id hands w act) after m there ∙ ap (λ (x : Mail). message_word (parts_of x)) mail_is in
+        let F : ℕ → Type 0 = λ x. IsStepOver x (get_or (set s.words i n) (word_at m) 0) done.step in
+        let G : ℕ → Type 0 = λ x. IsStepOver (message_word (parts_of (mail_at told.rule.mails m))) x done.step in
+        let H : WordStep → Type 0 = λ t. (t.at < length key.specs.items) × IsStepOver (get_or s.words (word_at t.at) 0) (get_or (set s.words i n) (word_at t.at) 0) t in
+        subst H same (there, subst F (sym before) (subst G (sym left) done.over))
+
+pub unnoted_changes_nothing : UnnotedChangesNothing
+unnoted_changes_nothing key s told id v w cpu i n hands act after e h =
+    let page = page_after v w cpu v.past h in
+    let pages : map page_of (set s.views id w) ≡ map page_of s.views
+    = map-set page_of s.views id w ∙ (ap (λ (p : Page). set (map page_of s.views) id p) page ∙ set_again (map page_of s.views) id (page_of v) (at_map page_of s.views id v e)) in
+    let F : List Page → Type 0 = λ ps. (q : Chronicle (IsDone key.cpus) (first_mails key.specs.items) ps after.rule.mails) × (q.history ≡ after.chronicle.history) in
+    let q = subst F pages (after.chronicle, refl) in
+    let mails_same : after.rule.mails ≡ told.rule.mails
+    = Chronicle-decides (IsDone key.cpus) (done_decides key.cpus) (first_mails key.specs.items) after.rule.mails told.rule.mails (map page_of s.views) q.0 told.chronicle in
+    let history_same : after.chronicle.history ≡ told.chronicle.history
+    = sym q.1 ∙ Chronicle-same (IsDone key.cpus) (first_mails key.specs.items) after.rule.mails told.rule.mails (map page_of s.views) q.0 told.chronicle in
+    (mails_same, history_same, λ m there. (word_same mails_same m there, slot_same mails_same m there))
+  where
+    word_same : after.rule.mails ≡ told.rule.mails → (m : ℕ) → m < length key.specs.items → get_or (set s.words i n) (word_at m) 0 ≡ get_or s.words (word_at m) 0
+    word_same same m there = shows key (stepped s i n id hands w act) after m there ∙ (ap (λ (xs : List Mail). message_word (parts_of (mail_at xs m))) same ∙ sym (shows key s told m there))
+
+    slot_same : after.rule.mails ≡ told.rule.mails → (m : ℕ) → m < length key.specs.items → get_elem? (homes_after s.homes hands act) (slot_at m) ≡ get_elem? s.homes (slot_at m)
+    slot_same same m there =
+        let held : Mail → Option (Option Rec) = λ x. some (in_slot x.msg.owner x.had x.rec) in
+        (after.rule.book.each m there).slot ∙ (ap (λ (xs : List Mail). held (mail_at xs m)) same ∙ sym (told.rule.book.each m there).slot)

@@ -11,15 +11,18 @@ use Rattle.lwkt_base.specs.MessageWord.{message_word}
 use Rattle.lwkt_core.specs.declared.seats.SeatKind.{SeatKind}
 use Rattle.lwkt_core.specs.declared.seats.SeatKind.TheVariants.{Clerk, Of, Spent}
 use Rattle.lwkt_core.specs.Opening.{AreWithin, IsMessageWithin}
-use Rattle.lwkt_core.specs.Seating.{AreSeated, total, weight}
+use Rattle.lwkt_core.specs.Seating.{AreSeated, total, weight, after_made, after_back, next_seat}
+use Rattle.lwkt_core.specs.History.{back_page}
+use Rattle.lwkt_core.proofs.ViewLemmas.{Views-opened, Views-split, Views-moved, Views-joined}
 use Rattle.lwkt_core.proofs.MessageMoves.{IsSafeMessage-opened}
 use Rattle.lwkt_core.proofs.SeatingLemmas.{at_set, set_else, at_longer, at_snoc, at_map, map-set, map-snoc, total-set, total-snoc, total-cons, AreSeated-opening, AreSeated-split, AreSeated-join}
 use Rattle.lwkt_msg.specs.declared.views.Entry.{Entry}
 use Rattle.lwkt_msg.specs.declared.views.Layout.{Layout}
 use Rattle.lwkt_msg.specs.declared.views.Noted.{Noted}
 use Rattle.lwkt_msg.specs.declared.views.View.{View}
-use Rattle.lwkt_msg.specs.Views.{word_at, slot_at, spec_at, at, entry_in, first_entry, made_one, next_seat, taken_back, no_spec, clerk_left, seat_right, spent_view, spent_left, whole_right, added, gathered, clerk_both}
-use Rattle.lwkt_msg.specs.Book.{Mail, Knows, IsKept, mail_at, IsBook, Rule, first_view, no_rec, opened_mail}
+use Rattle.lwkt_msg.specs.Views.{word_at, slot_at, spec_at, at, entry_in, first_entry, no_spec, seat_cpu, page_of, clerk_left, seat_right, spent_view, spent_left, whole_right, added, gathered, clerk_both}
+use Rattle.lwkt_msg.specs.Book.{Mail, Knows, IsKept, mail_at, IsBook, first_view, no_rec, opened_mail}
+use Rattle.lwkt_msg.specs.Told.{IsDone, first_mails, Told, IsSame, Opens}
 use Rattle.lwkt_msg.specs.Steps.{rest_word}
 use Rattle.std.proofs.lemmas.List.Elements.{All-get_or}
 use Rattle.lwkt_msg.proofs.Moves.{never}
@@ -83,7 +86,7 @@ seat_book key mails s id v made back book e is_clerk no_entries room = record {
     plan = book.plans id v e (λ gone. let h : Clerk made back ≡ Spent = sym is_clerk ∙ gone in absurd cc)
 
     left_kind : left.kind ≡ Clerk (made + 1) back
-    left_kind = ap made_one is_clerk
+    left_kind = ap after_made is_clerk
 
     right_kind : right.kind ≡ Of (record { 0 = made })
     right_kind = ap next_seat is_clerk
@@ -149,8 +152,15 @@ seat_book key mails s id v made back book e is_clerk no_entries room = record {
         (λ (new : (j ≡ length (set s.views id left)) × (right ≡ x)). let F : View → Type 0 = λ y. Knows (mail_at mails m) y.kind (at y m) in subst F new.1 (knows_right m within))
         (at_snoc (set s.views id left) right x j d)
 
-pub seat_splits : (key : Layout) (id : ℕ) (v : View) (made back : ℕ) → v.kind ≡ Clerk made back → v.entries ≡ [] → made < v.cpus → Splits (Rule key) id v (clerk_left v) (seat_right v)
-seat_splits key id v made back is_clerk no_entries room s rule e = record { mails = rule.mails; book = seat_book key rule.mails s id v made back rule.book e is_clerk no_entries room }
+-- which is no deed
+pub seat_told : (key : Layout) (s : State Rec View) (told : Told key s) (id : ℕ) (v : View) (made back : ℕ) → get_elem? s.views id ≡ some v → v.kind ≡ Clerk made back → v.entries ≡ [] → made < v.cpus
+    → IsSame key s record { words = s.words; homes = s.homes; views = set s.views id (clerk_left v) ++ seat_right v ∷ [] } told
+seat_told key s told id v made back e is_clerk no_entries room =
+    let q = Views-split (IsDone key.cpus) page_of (first_mails key.specs.items) told.rule.mails s.views told.chronicle id v e key.cpus told.rule.book.seated made back (clerk_left v) (seat_right v) is_clerk refl refl in
+    (record { rule = record { mails = told.rule.mails; book = seat_book key told.rule.mails s id v made back told.rule.book e is_clerk no_entries room }; chronicle = q.0 }, refl, q.1)
+
+pub seat_splits : (key : Layout) (id : ℕ) (v : View) (made back : ℕ) → v.kind ≡ Clerk made back → v.entries ≡ [] → made < v.cpus → Splits (Told key) id v (clerk_left v) (seat_right v)
+seat_splits key id v made back is_clerk no_entries room s told e = (seat_told key s told id v made back e is_clerk no_entries room).0
 
 -- a seat's view is cut off whole, and leaves a spent one
 AreSeated-moved : (cpus : ℕ) (ks : List SeatKind) (i : ℕ) (cpu : CpuId) → AreSeated cpus ks → get_elem? ks i ≡ some (Of cpu) → AreSeated cpus (set ks i Spent ++ Of cpu ∷ [])
@@ -254,8 +264,13 @@ whole_book key mails s id v cpu book e is_seat = record {
         (λ (new : (j ≡ length (set s.views id spent_view)) × (v ≡ x)). subst F new.1 ((book.each m within).each_view id v e))
         (at_snoc (set s.views id spent_view) v x j d)
 
-pub whole_splits : (key : Layout) (id : ℕ) (v : View) (cpu : CpuId) → v.kind ≡ Of cpu → Splits (Rule key) id v (spent_left v) (whole_right v)
-whole_splits key id v cpu is_seat s rule e = record { mails = rule.mails; book = whole_book key rule.mails s id v cpu rule.book e is_seat }
+pub whole_told : (key : Layout) (s : State Rec View) (told : Told key s) (id : ℕ) (v : View) (cpu : CpuId) → get_elem? s.views id ≡ some v → v.kind ≡ Of cpu → IsSame key s record { words = s.words; homes = s.homes; views = set s.views id (spent_left v) ++ whole_right v ∷ [] } told
+whole_told key s told id v cpu e is_seat =
+    let q = Views-moved (IsDone key.cpus) page_of (first_mails key.specs.items) told.rule.mails s.views told.chronicle id v e (spent_left v) refl in
+    (record { rule = record { mails = told.rule.mails; book = whole_book key told.rule.mails s id v cpu told.rule.book e is_seat }; chronicle = q.0 }, refl, q.1)
+
+pub whole_splits : (key : Layout) (id : ℕ) (v : View) (cpu : CpuId) → v.kind ≡ Of cpu → Splits (Told key) id v (spent_left v) (whole_right v)
+whole_splits key id v cpu is_seat s told e = (whole_told key s told id v cpu e is_seat).0
 
 -- what is gathered of each message
 in_gathered : (n : ℕ) (v other : View) (m : ℕ) (d : Entry) → m < n → entry_in (gathered n v other) m d ≡ added (at v m) (at other m)
@@ -300,7 +315,7 @@ joined_book key mails s id v other w made back cpu book e is_clerk is_seat apart
     both = clerk_both v w
 
     both_kind : both.kind ≡ Clerk made (back + 1)
-    both_kind = ap taken_back is_clerk
+    both_kind = ap after_back is_clerk
 
     w_there : get_elem? s.views other ≡ some w
     w_there = sym (set_else s.views id other both apart) ∙ d
@@ -327,7 +342,7 @@ joined_book key mails s id v other w made back cpu book e is_clerk is_seat apart
         let G : SeatKind → Type 0 = λ x. Knows mail x (at both m) in
         let H : Entry → Type 0 = λ x. Knows mail (Clerk made (back + 1)) x in
         subst G (sym both_kind) (subst H (sym (at-both v w m (in_v m within))) record {
-          as_origin = λ stands. let o = k.as_origin stands in record { round_is = o.round_is; away_is = o.away_is; asked_is = o.asked_is; had_is = o.had_is; sync_is = o.sync_is; flags_is = o.flags_is; call_is = o.call_is; back_is = o.back_is };
+          as_origin = λ stands. let o = k.as_origin stands in record { round_is = o.round_is; away_is = o.away_is; asked_is = o.asked_is; had_is = o.had_is; sync_is = o.sync_is; flags_is = o.flags_is; call_is = o.call_is; target_is = o.target_is; back_is = o.back_is };
           as_target = λ c stands. let t = k.as_target c stands in record { taken_is = t.taken_is; got_is = t.got_is; answer_is = t.answer_is };
           spent = λ gone. let h : Clerk made (back + 1) ≡ Spent = gone in absurd cc;
         })
@@ -342,8 +357,16 @@ joined_book key mails s id v other w made back cpu book e is_clerk is_seat apart
         (at_set s.views id j both x old.1))
         (at_set (set s.views id both) other j spent_view x f)
 
-pub seat_joins : (key : Layout) (id : ℕ) (v : View) (other : ℕ) (w : View) (made back : ℕ) (cpu : CpuId) → v.kind ≡ Clerk made back → w.kind ≡ Of cpu → Joins (Rule key) id v other w (clerk_both v w) spent_view
-seat_joins key id v other w made back cpu is_clerk is_seat s rule e apart d = record { mails = rule.mails; book = joined_book key rule.mails s id v other w made back cpu rule.book e is_clerk is_seat apart d }
+pub joined_told : (key : Layout) (s : State Rec View) (told : Told key s) (id : ℕ) (v : View) (other : ℕ) (w : View) (made back : ℕ) (cpu : CpuId) → get_elem? s.views id ≡ some v → v.kind ≡ Clerk made back → w.kind ≡ Of cpu → other ≢ id
+    → get_elem? (set s.views id (clerk_both v w)) other ≡ some w → IsSame key s record { words = s.words; homes = s.homes; views = set (set s.views id (clerk_both v w)) other spent_view } told
+joined_told key s told id v other w made back cpu e is_clerk is_seat apart d =
+    let there : get_elem? s.views other ≡ some w = sym (set_else s.views id other (clerk_both v w) apart) ∙ d in
+    let page_is : page_of (clerk_both v w) ≡ back_page (page_of v) cpu w.past = ap (λ (c : CpuId). back_page (page_of v) c w.past) (ap seat_cpu is_seat) in
+    let q = Views-joined (IsDone key.cpus) page_of (first_mails key.specs.items) told.rule.mails s.views told.chronicle id v e key.cpus told.rule.book.seated made back other w cpu (clerk_both v w) spent_view is_clerk apart there is_seat page_is refl in
+    (record { rule = record { mails = told.rule.mails; book = joined_book key told.rule.mails s id v other w made back cpu told.rule.book e is_clerk is_seat apart d }; chronicle = q.0 }, refl, q.1)
+
+pub seat_joins : (key : Layout) (id : ℕ) (v : View) (other : ℕ) (w : View) (made back : ℕ) (cpu : CpuId) → v.kind ≡ Clerk made back → w.kind ≡ Of cpu → Joins (Told key) id v other w (clerk_both v w) spent_view
+seat_joins key id v other w made back cpu is_clerk is_seat s told e apart d = (joined_told key s told id v other w made back cpu e is_clerk is_seat apart d).0
 
 -- the opened messages, by their numbers
 opened_at : (specs : List MsgSpec) (m : ℕ) → m < length specs → mail_at (map opened_mail specs) m ≡ opened_mail (spec_at specs m)
@@ -361,22 +384,19 @@ All-spec : (cpus : ℕ) (specs : List MsgSpec) (m : ℕ) → AreWithin cpus [] s
 All-spec cpus specs m within there = All-get_or (IsMessageWithin cpus) specs m no_spec there within.each_message
 
 -- an opening that keeps the limits meets the rule
-pub rule_opens : (key : Layout) (words : List ℕ) (slots : List Rec) → AreWithin key.cpus [] key.specs.items → length words ≡ 16 * length key.specs.items + 1 → get_or words 0 0 ≡ 0
+opened_book : (key : Layout) (words : List ℕ) (slots : List Rec) → AreWithin key.cpus [] key.specs.items → length words ≡ 16 * length key.specs.items + 1 → get_or words 0 0 ≡ 0
     → ((m : ℕ) → m < length key.specs.items → get_or words (word_at m) 0 ≡ message_word (rest_word (spec_at key.specs.items m).origin.cpu (spec_at key.specs.items m).round))
-    → slots ≡ replicate (4 * length key.specs.items) no_rec → Rule key (opening words slots (first_view key))
-rule_opens key words slots within wide zero_word words_are slots_are = record {
-  mails = map opened_mail key.specs.items;
-  book = record {
-    within = within;
-    as_many = length-map key.specs.items opened_mail;
-    wide = wide;
-    deep = length-map slots (λ (x : Rec). some x) ∙ (ap length slots_are ∙ length-replicate (4 * length key.specs.items) no_rec);
-    zero_word = zero_word;
-    seated = AreSeated-opening key.cpus;
-    plans = λ j v e. only j v e;
-    each = λ m there. let F : Mail → Type 0 = λ x. IsKept key.cpus (spec_at key.specs.items m) x (get_or words (word_at m) 0) (get_elem? (map some slots) (slot_at m)) m (first_view key ∷ []) in
-        subst F (sym (opened_at key.specs.items m there)) (kept m there);
-  };
+    → slots ≡ replicate (4 * length key.specs.items) no_rec → IsBook key (first_mails key.specs.items) (opening words slots (first_view key))
+opened_book key words slots within wide zero_word words_are slots_are = record {
+  within = within;
+  as_many = length-map key.specs.items opened_mail;
+  wide = wide;
+  deep = length-map slots (λ (x : Rec). some x) ∙ (ap length slots_are ∙ length-replicate (4 * length key.specs.items) no_rec);
+  zero_word = zero_word;
+  seated = AreSeated-opening key.cpus;
+  plans = λ j v e. only j v e;
+  each = λ m there. let F : Mail → Type 0 = λ x. IsKept key.cpus (spec_at key.specs.items m) x (get_or words (word_at m) 0) (get_elem? (map some slots) (slot_at m)) m (first_view key ∷ []) in
+      subst F (sym (opened_at key.specs.items m there)) (kept m there);
 }
   where
     only : (j : ℕ) (v : View) → get_elem? (first_view key ∷ []) j ≡ some v → (v.kind ≡ Spent → ⊥) → (v.cpus ≡ key.cpus) × (v.specs ≡ key.specs.items)
@@ -387,7 +407,7 @@ rule_opens key words slots within wide zero_word words_are slots_are = record {
     knows_first m =
         let F : Entry → Type 0 = λ x. Knows (opened_mail (spec_at key.specs.items m)) (Clerk 0 0) x in
         subst F (sym (at-none (first_view key) m refl)) record {
-          as_origin = λ stands. record { round_is = refl; away_is = refl; asked_is = refl; had_is = refl; sync_is = refl; flags_is = refl; call_is = refl; back_is = λ h. never h };
+          as_origin = λ stands. record { round_is = refl; away_is = refl; asked_is = refl; had_is = refl; sync_is = refl; flags_is = refl; call_is = refl; target_is = λ h. never h; back_is = λ h. never h };
           as_target = λ cpu stands. record { taken_is = refl; got_is = λ h. never h; answer_is = λ h. never h };
           spent = λ gone. let h : Clerk 0 0 ≡ Spent = gone in absurd cc;
         }
@@ -420,3 +440,11 @@ rule_opens key words slots within wide zero_word words_are slots_are = record {
       };
       each_view = knows m;
     }
+
+-- and its history is empty
+pub rule_opens : (key : Layout) (words : List ℕ) (slots : List Rec) → AreWithin key.cpus [] key.specs.items → length words ≡ 16 * length key.specs.items + 1 → get_or words 0 0 ≡ 0
+    → ((m : ℕ) → m < length key.specs.items → get_or words (word_at m) 0 ≡ message_word (rest_word (spec_at key.specs.items m).origin.cpu (spec_at key.specs.items m).round))
+    → slots ≡ replicate (4 * length key.specs.items) no_rec → Opens key (opening words slots (first_view key))
+rule_opens key words slots within wide zero_word words_are slots_are =
+    let q = Views-opened (IsDone key.cpus) page_of (first_mails key.specs.items) (first_view key) refl in
+    (record { rule = record { mails = first_mails key.specs.items; book = opened_book key words slots within wide zero_word words_are slots_are }; chronicle = q.0 }, refl, q.1)

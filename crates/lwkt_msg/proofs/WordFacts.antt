@@ -1,4 +1,6 @@
-use Rattle.std.proofs.Common.{◌≡◌, ℕ, ◌+◌, ◌*◌, ◌<◌, ◌^◌, Bool, true, false, refl, arith}
+use Rattle.std.proofs.Common.{◌≡◌, ℕ, ◌+◌, ◌*◌, ◌<◌, ◌^◌, Bool, true, false, refl, ap, ◌∙◌, arith}
+use Rattle.std.specs.Prelude.{bit_or}
+use Rattle.std.proofs.lemmas.Nat.{or_block, or_comm}
 use Rattle.lwkt_base.specs.declared.message_words.MsgWord.{MsgWord}
 use Rattle.lwkt_base.specs.declared.message_words.MsgState.{MsgState}
 use Rattle.lwkt_base.specs.declared.message_words.MsgState.TheVariants.{Rest, Out, With, Back}
@@ -92,3 +94,50 @@ message_word-below w fits =
     let g = fits.1 in
     let h = fits.2 in
     omega arith
+
+-- the third bit of a word is that of the request to abort
+low_bits : (t : MsgState) (a : Bool) → bit_or (state_number t + 4 * bit a) 4 ≡ state_number t + 4
+low_bits Rest true = refl
+low_bits Rest false = refl
+low_bits Out true = refl
+low_bits Out false = refl
+low_bits With true = refl
+low_bits With false = refl
+low_bits Back true = refl
+low_bits Back false = refl
+
+low_below : (t : MsgState) (a : Bool) → state_number t + 4 * bit a < 2 ^ 3
+low_below Rest true = omega arith
+low_below Rest false = omega arith
+low_below Out true = omega arith
+low_below Out false = omega arith
+low_below With true = omega arith
+low_below With false = omega arith
+low_below Back true = omega arith
+low_below Back false = omega arith
+
+pub requested_word : (w : MsgWord) → bit_or (message_word w) 4 ≡ message_word (record w { aborted = true })
+requested_word w =
+    let high : ℕ = bit w.sync + 2 * bit w.dropable + 4 * bit w.abortable + 16 * w.origin.0 + 128 * w.target.0 + 1024 * w.round in
+    let low : ℕ = state_number w.state + 4 * bit w.aborted in
+    let cut : message_word w ≡ high * 2 ^ 3 + low = omega arith in
+    let four : 4 ≡ 0 * 2 ^ 3 + 4 = refl in
+    let blocks = or_block 3 high 0 low 4 (low_below w.state w.aborted) (omega arith) in
+    let none_high : bit_or high 0 ≡ high = or_comm high 0 in
+    let low_is : bit_or low 4 ≡ state_number w.state + 4 = low_bits w.state w.aborted in
+    let whole : bit_or high 0 * 2 ^ 3 + bit_or low 4 ≡ message_word (record w { aborted = true }) = rw (none_high, low_is) (omega arith) in
+    ap (λ (n : ℕ). bit_or n 4) cut ∙ (blocks ∙ whole)
+
+-- a word tells how its message was sent
+pub flags_told : (w : MsgWord) (a b c a' b' c' : Bool) → message_word (record w { sync = a; dropable = b; abortable = c }) ≡ message_word (record w { sync = a'; dropable = b'; abortable = c' }) → (a ≡ a') × (b ≡ b') × (c ≡ c')
+flags_told w a b c a' b' c' e =
+    let h1 = bit_below a in
+    let h2 = bit_below b in
+    let h3 = bit_below c in
+    let k1 = bit_below a' in
+    let k2 = bit_below b' in
+    let k3 = bit_below c' in
+    let one : bit a ≡ bit a' = omega arith in
+    let two : bit b ≡ bit b' = omega arith in
+    let three : bit c ≡ bit c' = omega arith in
+    (bit_same a a' one, bit_same b b' two, bit_same c c' three)

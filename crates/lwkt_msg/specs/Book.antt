@@ -86,6 +86,7 @@ pub record KnowsOwn (mail : Mail) (e : Entry) : Type 0 where
   pub sync_is : e.sync ≡ mail.sync
   pub flags_is : e.flags ≡ mail.flags
   pub call_is : e.call ≡ call_of mail.rec
+  pub target_is : is_away mail.msg.owner ≡ true → e.target ≡ shown_target mail.msg.owner
   pub back_is : e.back ≡ true → is_back mail.msg.owner ≡ true
 
 -- what the view of a processor knows of a message as its target is so
@@ -153,7 +154,7 @@ pub record Rule (key : Layout) (s : State Rec View) : Type 0 where
 
 -- what the first seat, the clerk's, knows
 abbrev pub first_view : Layout → View
-first_view key = record { kind = Clerk 0 0; cpus = key.cpus; specs = key.specs.items; entries = []; steps = [] }
+first_view key = record { kind = Clerk 0 0; cpus = key.cpus; specs = key.specs.items; entries = []; past = []; chapters = [] }
 
 -- an empty record, and a message of the book at the opening
 abbrev pub no_rec : Rec
@@ -161,22 +162,3 @@ no_rec = record { arg = 0; result = 0; op = 0; error = 0 }
 
 abbrev pub opened_mail : MsgSpec → Mail
 opened_mail spec = record { msg = opened_message spec; had = false; sync = false; flags = no_flags; rec = no_rec }
-
--- this word shows the message: so it is in this word's state and round; and the message was replied to
-abbrev pub IsShownBy : ℕ → Mail → Type 0
-IsShownBy word mail = word ≡ message_word (parts_of mail)
-
-abbrev pub IsBack : Mail → Type 0
-IsBack mail = is_back mail.msg.owner ≡ true
-
--- in a state of the book in which a seat knew so much, the message was so and had this record: its call is what its origin sent,
--- and once it is back its error and result are what its target replied
-pub record HadRecord (v : View) (m : ℕ) (IsSo : Mail → Type 0) (rec : Rec) : Type 0 where
-  pub key : Layout
-  pub mails : List Mail
-  pub s : State Rec View
-  pub id : ℕ
-  pub book : IsBook key mails s
-  pub seat : get_elem? s.views id ≡ some v
-  pub was_so : IsSo (mail_at mails m)
-  pub record_is : (mail_at mails m).rec ≡ rec

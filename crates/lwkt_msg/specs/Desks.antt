@@ -1,4 +1,4 @@
-use Rattle.std.specs.Prelude.{◌≡◌, ℕ, ◌+◌, ◌*◌, ◌<◌, ◌≤◌, ◌==◌, List, [], length, slice_get, slice_index, slice_index_or, Some, if◌then◌else◌}
+use Rattle.std.specs.Prelude.{◌≡◌, ℕ, ◌+◌, ◌*◌, ◌<◌, ◌≤◌, ◌==◌, List, [], ◌++◌, length, All, slice_get, slice_index, slice_index_or, Some, if◌then◌else◌}
 use mathlib.Core.Option.{some}
 use lib.ListN.{get_elem?}
 use Rattle.atomic_table.specs.Seated.{TableId}
@@ -9,15 +9,19 @@ use Rattle.lwkt_base.specs.declared.openings.MsgSpec.{MsgSpec}
 use Rattle.lwkt_base.specs.declared.owners.MsgEnd.{MsgEnd}
 use Rattle.lwkt_base.specs.declared.records.Rec.{Rec}
 use Rattle.lwkt_core.specs.declared.messages.Message.{Message}
-use Rattle.lwkt_core.specs.declared.seats.SeatKind.{SeatKind}
-use Rattle.lwkt_core.specs.declared.seats.SeatKind.TheVariants.{Clerk, Of, Spent}
+use Rattle.lwkt_core.specs.declared.seats.SeatKind.TheVariants.{Clerk, Of}
 use Rattle.lwkt_core.specs.Messages.{IsSafeMessage}
+use Rattle.lwkt_core.specs.Opening.{AreWithin}
 use Rattle.lwkt_core.specs.Seating.{total}
-use Rattle.lwkt_core.specs.Trace.{end_of}
+use Rattle.lwkt_core.specs.Trace.{Run, end_of}
+use Rattle.lwkt_core.specs.declared.events.Event.{Event}
+use Rattle.lwkt_core.specs.declared.seats.WordStep.{WordStep}
+use Rattle.lwkt_core.specs.declared.seats.Deed.{Deed}
+use Rattle.lwkt_core.specs.History.{Passes, AreOthers, IsPastOf, events_in, events_by, steps_by}
 use Rattle.lwkt_msg.specs.declared.views.Entry.{Entry}
 use Rattle.lwkt_msg.specs.declared.views.Layout.{Layout}
 use Rattle.lwkt_msg.specs.declared.views.View.{View}
-use Rattle.lwkt_msg.specs.Views.{word_at, spec_at, first_entry, handed, at}
+use Rattle.lwkt_msg.specs.Views.{word_at, spec_at, first_entry, handed, at, who}
 use Rattle.lwkt_base.specs.declared.owners.Owner.{Owner}
 use Rattle.lwkt_base.specs.declared.owners.Owner.TheVariants.{Rest, Out, With, Back}
 use Rattle.lwkt_base.specs.declared.message_words.MsgWord.{MsgWord}
@@ -25,7 +29,9 @@ use Rattle.lwkt_base.specs.declared.message_words.MsgState.{MsgState}
 use Rattle.lwkt_base.specs.declared.message_words.MsgState.TheVariants as state
 use Rattle.lwkt_base.specs.MessageWord.{message_word, MessageFits}
 use Rattle.lwkt_msg.specs.Hands.{AreHands}
-use Rattle.lwkt_msg.specs.Steps.{rest_word}
+use Rattle.lwkt_msg.specs.Book.{Mail, mail_at}
+use Rattle.lwkt_msg.specs.Steps.{rest_word, machine_of}
+use Rattle.lwkt_msg.specs.Told.{IsDone, first_mails}
 use Rattle.lwkt_msg.specs.Plays.{IsSat}
 
 -- what callers see of a seat: the table that it sits at, and what it knows
@@ -62,13 +68,8 @@ pub record IsMsgBook (cpus messages : ℕ) (table : TableId) (key : Layout) (cle
   pub none_noted : clerk.view.entries ≡ []
 
 -- the processor of a seat
-abbrev pub seat_cpu : SeatKind → CpuId
-seat_cpu (Clerk made back) = record { 0 = 0 }
-seat_cpu (Of cpu) = cpu
-seat_cpu Spent = record { 0 = 0 }
-
 abbrev pub cpu_of : Desk → CpuId
-cpu_of d = seat_cpu d.view.kind
+cpu_of d = who d.view
 
 -- what a seat knows of a message, how many messages and processors there are
 abbrev pub entry : Desk → ℕ → Entry
@@ -79,6 +80,14 @@ messages_of d = length d.view.specs
 
 abbrev pub cpus_of : Desk → ℕ
 cpus_of d = d.view.cpus
+
+-- the seat of a processor, at a book that was opened within the limits: the processor is one of the book's, and so is that of
+-- each message's origin
+pub record IsSeatOf (cpu : CpuId) (d : Desk) : Type 0 where
+  pub kind : d.view.kind ≡ Of cpu
+  pub there : cpu.0 < cpus_of d
+  pub within : AreWithin (cpus_of d) [] d.view.specs
+  pub origins : (m : ℕ) → m < messages_of d → (spec_at d.view.specs m).origin.cpu.0 < cpus_of d
 
 -- the seat is still the one that it was: of the same processor, at the same table
 pub record IsSameDesk (d d' : Desk) : Type 0 where
@@ -120,18 +129,41 @@ pub record AreGathered (msg : Message) (m : ℕ) (seats : List Desk) : Type 0 wh
 
 -- what is known of a message at the close: it is a safe message with this owner and round, which was opened so, and with which all
 -- seats together did so much
-pub record IsClosed (book : Shelf) (seats : List Desk) (m : ℕ) (end : MsgEnd) : Type 0 where
-  pub msg : Message
+pub record IsClosed (book : Shelf) (seats : List Desk) (m : ℕ) (msg : Message) (end : MsgEnd) : Type 0 where
   pub safe : IsSafeMessage book.cpus msg
   pub origin_is : msg.origin ≡ (spec_at book.specs m).origin
   pub opening_is : msg.opening ≡ (spec_at book.specs m).round
   pub end_is : end ≡ end_of msg
   pub gathered : AreGathered msg m seats
 
--- the closing values are those of the book's messages
+-- what a seat has seen of the book's history, the front of it up to the seat's own last deed; and of that the seat's steps on
+-- words and its events, in order
+abbrev pub past_of : Desk → List Deed
+past_of d = d.view.past
+
+abbrev pub steps_of : Desk → List WordStep
+steps_of d = steps_by (cpu_of d).0 (past_of d)
+
+abbrev pub events_of : Desk → List Event
+events_of d = events_by (cpu_of d).0 (past_of d)
+
+-- one history of all seats: its deeds are done one after another from the messages that were declared to these, its events are a run
+-- of the model between the two, the events and steps of each seat are its processor's part, and no other processor has any
+pub record IsHistory (book : Shelf) (seats : List Desk) (mails : List Mail) (history : List Deed) : Type 0 where
+  pub passes : Passes (IsDone book.cpus) (first_mails book.specs) history mails
+  pub run : Run (machine_of book.cpus (first_mails book.specs)) (events_in history) (machine_of book.cpus mails)
+  pub parts : All (λ d. IsPastOf history (cpu_of d).0 (past_of d)) seats
+  pub events : All (λ d. events_of d ≡ events_by (cpu_of d).0 history) seats
+  pub steps : All (λ d. steps_of d ≡ steps_by (cpu_of d).0 history) seats
+  pub no_others : (cpu : ℕ) → book.cpus ≤ cpu → AreOthers cpu history
+
+-- the closing values are those of the messages to which the history of all seats leads
 pub record AreClosed (book : Shelf) (seats : List Desk) (ends : List MsgEnd) : Type 0 where
   pub as_many : length ends ≡ length book.specs
-  pub each : (m : ℕ) (end : MsgEnd) → m < length book.specs → IsClosed book seats m (slice_index_or ends m end)
+  pub mails : List Mail
+  pub each : (m : ℕ) (end : MsgEnd) → m < length book.specs → IsClosed book seats m (mail_at mails m).msg (slice_index_or ends m end)
+  pub history : List Deed
+  pub is_history : IsHistory book seats mails history
 
 -- a seat that is being opened, and has the records of its own messages up to this one
 pub record IsHanding (cpu : CpuId) (upto : ℕ) (place : Seat Rec View) : Type 0 where
@@ -141,6 +173,7 @@ pub record IsHanding (cpu : CpuId) (upto : ℕ) (place : Seat Rec View) : Type 0
   pub few : length place.me.0.specs ≤ 64
   pub cpus : place.me.0.cpus ≤ 8
   pub there : cpu.0 < place.me.0.cpus
+  pub within : AreWithin place.me.0.cpus [] place.me.0.specs
   pub hands : AreHands place.me.0 cpu.0 place.me.1
   pub done : (m : ℕ) → m < upto → at place.me.0 m ≡ opened_entry cpu.0 (spec_at place.me.0.specs m)
   pub todo : (m : ℕ) → upto ≤ m → at place.me.0 m ≡ first_entry (spec_at place.me.0.specs m)
@@ -155,6 +188,7 @@ pub record IsClerk (made cpus : ℕ) (specs : List MsgSpec) (place : Seat Rec Vi
   pub slots : place.table_id.slots ≡ 4 * length specs
   pub few : length specs ≤ 64
   pub few_cpus : cpus ≤ 8
+  pub within : AreWithin cpus [] specs
 
 -- the words of a table that is opened with these messages
 pub record AreOpeningWords (upto : ℕ) (specs : List MsgSpec) (words : List ℕ) : Type 0 where
@@ -180,8 +214,15 @@ pub record AreShown (upto : ℕ) (words : List ℕ) (ends : List MsgEnd) : Type 
   pub as_many : length ends ≡ upto
   pub each : (m : ℕ) (end : MsgEnd) → slice_get ends m ≡ Some end → (word : ℕ) → get_elem? words (word_at m) ≡ some word → (w : MsgWord) → MessageFits w → message_word w ≡ word → end ≡ shown_end w
 
+-- what a seat had seen is a chapter of the clerk's
+abbrev pub IsChapter : View → Desk → Type 0
+IsChapter v d = (i : ℕ) × (get_elem? v.chapters i ≡ some (record { cpu = cpu_of d; past = past_of d }))
+
 -- the clerk's view while seats are taken back, of which these are left
 pub record IsTaking (cpus : ℕ) (v : View) (seats left : List Desk) (w : View) : Type 0 where
+  pub behind : List Desk
+  pub in_order : seats ≡ left ++ behind
+  pub chapters : All (IsChapter w) behind
   pub back : ℕ
   pub kind : w.kind ≡ Clerk cpus back
   pub as_many : back + length left ≡ length seats
@@ -195,6 +236,7 @@ pub record IsTaking (cpus : ℕ) (v : View) (seats left : List Desk) (w : View) 
 
 -- the clerk's view after these seats were taken back
 pub record HasTakenBack (cpus : ℕ) (v : View) (seats : List Desk) (w : View) : Type 0 where
+  pub chapters : All (IsChapter w) seats
   pub kind : w.kind ≡ Clerk cpus (length seats)
   pub cpus_is : w.cpus ≡ v.cpus
   pub specs_is : w.specs ≡ v.specs

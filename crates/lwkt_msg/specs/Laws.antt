@@ -1,103 +1,139 @@
-use Rattle.std.specs.Prelude.{◌≡◌, ◌≢◌, ℕ, ◌+◌, ◌<◌, Bool, true, false, List, [], ◌∷◌, ◌++◌, length, slice_index, slice_set, bit_or}
-use mathlib.Core.Option.{Option, some, none}
+use Rattle.std.specs.Prelude.{◌≡◌, ◌≢◌, ℕ, ◌+◌, ◌*◌, ◌<◌, ◌≤◌, Bool, true, false, List, [], ◌∷◌, ◌++◌, length, replicate, slice_index, slice_set, bit_or}
+use mathlib.Core.Option.{some}
 use lib.ListN.{get_elem?}
-use Rattle.atomic_table.specs.Table.{State}
+use Rattle.atomic_table.specs.Table.{State, Act, keeps, takes, gives, homes_after, stepped, opening}
 use Rattle.lwkt_base.specs.declared.names.CpuId.{CpuId}
 use Rattle.lwkt_base.specs.declared.records.Rec.{Rec}
 use Rattle.lwkt_base.specs.declared.records.Flags.{Flags}
 use Rattle.lwkt_base.specs.declared.message_words.MsgWord.{MsgWord}
 use Rattle.lwkt_base.specs.declared.message_words.MsgState.TheVariants as state
 use Rattle.lwkt_base.specs.MessageWord.{message_word, MessageFits}
-use Rattle.lwkt_core.specs.declared.events.Event.TheVariants.{Send, TakeMsg, DropMsg, Reply, Reap, Abort}
 use Rattle.lwkt_core.specs.declared.messages.TheConstants.{LAST_ROUND}
-use Rattle.lwkt_core.specs.declared.seats.Operation.{Operation}
-use Rattle.lwkt_core.specs.declared.seats.Operation.TheVariants as operation
 use Rattle.lwkt_core.specs.declared.seats.SeatKind.TheVariants.{Clerk, Of}
+use Rattle.lwkt_core.specs.declared.seats.WordStep.{WordStep}
+use Rattle.lwkt_core.specs.declared.seats.Deed.{Deed}
 use Rattle.lwkt_core.specs.Machine.{IsSafe}
-use Rattle.lwkt_msg.specs.declared.views.Entry.{Entry}
+use Rattle.lwkt_core.specs.Opening.{AreWithin}
+use Rattle.lwkt_core.specs.Trace.{Run}
+use Rattle.lwkt_core.specs.History.{AreOthers, IsStepOver, IsPastOf, Passes, events_in}
 use Rattle.lwkt_msg.specs.declared.views.Layout.{Layout}
 use Rattle.lwkt_msg.specs.declared.views.View.{View}
-use Rattle.lwkt_msg.specs.Views.{word_at, slot_at, call_of, at, after_step, looked, handed, sent, took, replied, reaped, dropped, requested, clerk_left, seat_right, spent_left, whole_right, clerk_both, spent_view}
-use Rattle.lwkt_msg.specs.Book.{Mail, parts_of, mail_at, IsBook, Rule}
+use Rattle.lwkt_msg.specs.Views.{slot_at, word_at, call_of, at, looked, handed, sent, took, replied, reaped, dropped, requested, clerk_left, seat_right, spent_left, whole_right, clerk_both, spent_view}
+use Rattle.lwkt_msg.specs.Book.{parts_of, mail_at, IsBook, first_view, no_rec}
 use Rattle.lwkt_msg.specs.Hands.{IsOwn}
-use Rattle.lwkt_msg.specs.Steps.{sent_word, rest_word, machine_of, LeadsTo}
+use Rattle.lwkt_msg.specs.Steps.{sent_word, rest_word, machine_of}
+use Rattle.lwkt_msg.specs.Deeds as deed
+use Rattle.lwkt_msg.specs.Desks.{AreOpeningWords}
+use Rattle.lwkt_msg.specs.Told.{IsDone, first_mails, Told, IsNext, IsSame, Opens, Tells}
 
--- each state of a book's table shows a machine whose messages are all safe
+-- each state of a book's table shows a machine whose messages are all safe: each has one owner
 abbrev pub EachStateIsSafe : Type 0
-EachStateIsSafe = (key : Layout) (s : State Rec View) → Rule key s → (mails : List Mail) × (IsBook key mails s × IsSafe (machine_of key mails))
+EachStateIsSafe = (key : Layout) (s : State Rec View) (told : Told key s) → IsBook key told.rule.mails s × IsSafe (machine_of key.cpus told.rule.mails)
 
--- a seat of a processor steps on a message of a book with these messages
-pub record IsAtMessage (key : Layout) (mails : List Mail) (s : State Rec View) (id : ℕ) (v : View) (cpu : CpuId) (m : ℕ) : Type 0 where
-  pub book : IsBook key mails s
+-- in each state each send was taken or dropped at most once, and replied to at most once; what was replied to and not reaped yet
+-- is at most one
+abbrev pub EachSendAtMostOnce : Type 0
+EachSendAtMostOnce = (key : Layout) (s : State Rec View) (told : Told key s) (m : ℕ) → m < length key.specs.items
+    → ((mail_at told.rule.mails m).msg.takes + (mail_at told.rule.mails m).msg.drops ≤ (mail_at told.rule.mails m).msg.sends)
+    × ((mail_at told.rule.mails m).msg.sends ≤ (mail_at told.rule.mails m).msg.takes + (mail_at told.rule.mails m).msg.drops + 1)
+    × ((mail_at told.rule.mails m).msg.replies ≤ (mail_at told.rule.mails m).msg.takes)
+    × ((mail_at told.rule.mails m).msg.takes ≤ (mail_at told.rule.mails m).msg.replies + 1)
+
+-- each state is reached by one history of deeds from the messages that were declared, whose events are a run of the model, and of
+-- which each seat has seen the front up to its own last deed
+abbrev pub EachStateIsReached : Type 0
+EachStateIsReached = (key : Layout) (s : State Rec View) (told : Told key s) →
+    Passes (IsDone key.cpus) (first_mails key.specs.items) told.chronicle.history told.rule.mails
+    × Run (machine_of key.cpus (first_mails key.specs.items)) (events_in told.chronicle.history) (machine_of key.cpus told.rule.mails)
+    × ((id : ℕ) (v : View) (cpu : CpuId) → get_elem? s.views id ≡ some v → v.kind ≡ Of cpu → IsPastOf told.chronicle.history cpu.0 v.past)
+
+-- whatever shows that the rule holds of a state, the messages and the history are the same
+abbrev pub ViewsDecide : Type 0
+ViewsDecide = (key : Layout) (s : State Rec View) (told other : Told key s) → (other.rule.mails ≡ told.rule.mails) × (other.chronicle.history ≡ told.chronicle.history)
+
+-- a table that was opened within the limits, with the words of messages at rest and blank records, shows the messages that were
+-- declared, and has no history
+abbrev pub OpeningIsDeclared : Type 0
+OpeningIsDeclared = (key : Layout) (words : List ℕ) → AreWithin key.cpus [] key.specs.items → AreOpeningWords (length key.specs.items) key.specs.items words → Opens key (opening words (replicate (4 * length key.specs.items) no_rec) (first_view key))
+
+-- a seat of a processor is at a message of a book
+pub record IsAt (key : Layout) (s : State Rec View) (id : ℕ) (v : View) (cpu : CpuId) (m : ℕ) : Type 0 where
   pub view : get_elem? s.views id ≡ some v
   pub kind : v.kind ≡ Of cpu
   pub exists_ : m < length key.specs.items
 
--- the table after a step of a seat on the word of a message
-abbrev pub table_after : State Rec View → ℕ → ℕ → View → ℕ → List (Option Rec) → Entry → Operation → ℕ → State Rec View
-table_after s id m v word homes e operation found = record { words = slice_set s.words (word_at m) word; homes = homes; views = slice_set s.views id (after_step v m e operation found) }
+-- something that is so of each state, seat and message
+abbrev pub AtSeat : ((key : Layout) (s : State Rec View) → Told key s → ℕ → View → CpuId → ℕ → ℕ → Type 0) → Type 0
+AtSeat P = (key : Layout) (s : State Rec View) (told : Told key s) (id : ℕ) (v : View) (cpu : CpuId) (m : ℕ) → IsAt key s id v cpu m → P key s told id v cpu m (slice_index s.words (word_at m))
 
--- the word of a message in a table
-abbrev pub word_in : State Rec View → ℕ → ℕ
-word_in s m = slice_index s.words (word_at m)
+-- a load, or an exchange that is lost, is a look
+abbrev pub LoadIsLook : Type 0
+LoadIsLook = AtSeat (λ key s told id v cpu m n. (hands : List (ℕ × Rec)) → Tells key s told id v hands m (looked (parts_of (mail_at told.rule.mails m)) (at v m)) (deed.loads cpu m n) n keeps)
 
--- a table that shows the same machine
-abbrev pub ShowsTheSame : Layout → List Mail → State Rec View → Type 0
-ShowsTheSame key mails s = (after_mails : List Mail) × (IsBook key after_mails s × (machine_of key after_mails ≡ machine_of key mails))
+abbrev pub LostExchangeIsLook : Type 0
+LostExchangeIsLook = AtSeat (λ key s told id v cpu m n. (hands : List (ℕ × Rec)) (old new : ℕ) → n ≢ old → Tells key s told id v hands m (at v m) (deed.loses cpu m old new n) n keeps)
 
--- a load, or an exchange that is lost, changes nothing
-abbrev pub LoadsChangeNothing : Type 0
-LoadsChangeNothing = (key : Layout) (mails : List Mail) (s : State Rec View) (id : ℕ) (v : View) (cpu : CpuId) (m : ℕ) (op : Operation) → IsAtMessage key mails s id v cpu m
-    → ShowsTheSame key mails (table_after s id m v (word_in s m) s.homes (looked (parts_of (mail_at mails m)) (at v m)) operation.Load (word_in s m))
-    × ShowsTheSame key mails (table_after s id m v (word_in s m) s.homes (at v m) op (word_in s m))
-
--- nor does the load by which an origin gets the record of its message at the opening
-abbrev pub HandingOutChangesNothing : Type 0
-HandingOutChangesNothing = (key : Layout) (mails : List Mail) (s : State Rec View) (id : ℕ) (v : View) (cpu : CpuId) (m : ℕ) → IsAtMessage key mails s id v cpu m → IsOwn v cpu.0 m → (at v m).had ≡ false → (at v m).away ≡ false
-    → ShowsTheSame key mails (table_after s id m v (word_in s m) (slice_set s.homes (slot_at m) none) (handed (at v m)) operation.Load (word_in s m))
+-- so is the load by which an origin gets the record of its message at the opening
+abbrev pub HandingOutIsLook : Type 0
+HandingOutIsLook = AtSeat (λ key s told id v cpu m n. (hands : List (ℕ × Rec)) → IsOwn v cpu.0 m → (at v m).had ≡ false → (at v m).away ≡ false
+    → Tells key s told id v hands m (handed (at v m)) (deed.hands_out cpu m n (mail_at told.rule.mails m).rec) n (takes (slot_at m) (mail_at told.rule.mails m).rec))
 
 -- a send: the origin stores the word of a message that it has at rest
-abbrev pub SendsAreEvents : Type 0
-SendsAreEvents = (key : Layout) (mails : List Mail) (s : State Rec View) (id : ℕ) (v : View) (cpu : CpuId) (m : ℕ) (to : CpuId) (sync : Bool) (flags : Flags) (rec : Rec) → IsAtMessage key mails s id v cpu m
-    → IsOwn v cpu.0 m → (at v m).away ≡ false → to.0 < key.cpus → (at v m).round < LAST_ROUND → rec.error ≡ 0 → rec.result ≡ 0
-    → let round = (at v m).round + 1 in let w = sent_word cpu to round sync flags in
-    LeadsTo key mails (Send cpu (record { 0 = m }) to round) (table_after s id m v (message_word w) (slice_set s.homes (slot_at m) (some rec)) (sent w (call_of rec) (at v m)) (operation.Store (message_word w)) (message_word w))
+abbrev pub StoreIsSend : Type 0
+StoreIsSend = AtSeat (λ key s told id v cpu m n. (to : CpuId) (sync : Bool) (flags : Flags) (rec : Rec) (others : List (ℕ × Rec)) → IsOwn v cpu.0 m → (at v m).away ≡ false → to.0 < key.cpus → (at v m).round < LAST_ROUND → rec.error ≡ 0 → rec.result ≡ 0
+    → let w : MsgWord = sent_word cpu to ((at v m).round + 1) sync flags in Tells key s told id v ((slot_at m, rec) ∷ others) m (sent w (call_of rec) (at v m)) (deed.sends cpu m to w.round (message_word w) rec) (message_word w) gives)
 
 -- a take: the target changes the word of a message on its way to it from Out to With
-abbrev pub TakesAreEvents : Type 0
-TakesAreEvents = (key : Layout) (mails : List Mail) (s : State Rec View) (id : ℕ) (v : View) (cpu : CpuId) (m : ℕ) (w : MsgWord) → IsAtMessage key mails s id v cpu m
-    → word_in s m ≡ message_word w → MessageFits w → w.state ≡ state.Out → w.target ≡ cpu
-    → LeadsTo key mails (TakeMsg cpu (record { 0 = m }) w.round) (table_after s id m v (message_word w + 1) (slice_set s.homes (slot_at m) none) (took (mail_at mails m).rec (at v m)) (operation.Exchange (message_word w) (message_word w + 1)) (message_word w))
+abbrev pub ExchangeIsTake : Type 0
+ExchangeIsTake = AtSeat (λ key s told id v cpu m n. (w : MsgWord) (hands : List (ℕ × Rec)) → n ≡ message_word w → MessageFits w → w.state ≡ state.Out → w.target ≡ cpu
+    → Tells key s told id v hands m (took (mail_at told.rule.mails m).rec (at v m)) (deed.takes cpu m w.round (message_word w) (mail_at told.rule.mails m).rec) (message_word w + 1) (takes (slot_at m) (mail_at told.rule.mails m).rec))
 
 -- a reply: the target adds 1 to the word of a message that it has taken, and the call of the record is as it was
-abbrev pub RepliesAreEvents : Type 0
-RepliesAreEvents = (key : Layout) (mails : List Mail) (s : State Rec View) (id : ℕ) (v : View) (cpu : CpuId) (m : ℕ) (rec : Rec) → IsAtMessage key mails s id v cpu m
-    → (at v m).taken ≡ true → call_of rec ≡ (at v m).got
-    → LeadsTo key mails (Reply cpu (record { 0 = m })) (table_after s id m v (word_in s m + 1) (slice_set s.homes (slot_at m) (some rec)) (replied rec (at v m)) (operation.Add 1) (word_in s m))
+abbrev pub AddIsReply : Type 0
+AddIsReply = AtSeat (λ key s told id v cpu m n. (rec : Rec) (others : List (ℕ × Rec)) → (at v m).taken ≡ true → call_of rec ≡ (at v m).got
+    → Tells key s told id v ((slot_at m, rec) ∷ others) m (replied rec (at v m)) (deed.replies cpu m n rec) (n + 1) gives)
 
 -- a reap: the origin stores the word of a message at rest, once it has seen that it is back
-abbrev pub ReapsAreEvents : Type 0
-ReapsAreEvents = (key : Layout) (mails : List Mail) (s : State Rec View) (id : ℕ) (v : View) (cpu : CpuId) (m : ℕ) → IsAtMessage key mails s id v cpu m
-    → IsOwn v cpu.0 m → (at v m).had ≡ true → (at v m).back ≡ true
-    → let word = message_word (rest_word cpu (at v m).round) in
-    LeadsTo key mails (Reap cpu (record { 0 = m })) (table_after s id m v word (slice_set s.homes (slot_at m) none) (reaped (at v m)) (operation.Store word) word)
+abbrev pub StoreIsReap : Type 0
+StoreIsReap = AtSeat (λ key s told id v cpu m n. (hands : List (ℕ × Rec)) → IsOwn v cpu.0 m → (at v m).had ≡ true → (at v m).back ≡ true
+    → let word : ℕ = message_word (rest_word cpu (at v m).round) in Tells key s told id v hands m (reaped (at v m)) (deed.reaps cpu m word (mail_at told.rule.mails m).rec) word (takes (slot_at m) (mail_at told.rule.mails m).rec))
 
 -- a drop: the origin changes the word of a message on its way to that of a message at rest
-abbrev pub DropsAreEvents : Type 0
-DropsAreEvents = (key : Layout) (mails : List Mail) (s : State Rec View) (id : ℕ) (v : View) (cpu : CpuId) (m : ℕ) (w : MsgWord) → IsAtMessage key mails s id v cpu m
-    → IsOwn v cpu.0 m → (at v m).had ≡ true → word_in s m ≡ message_word w → MessageFits w → w.state ≡ state.Out
-    → let word = message_word (rest_word cpu (at v m).round) in
-    LeadsTo key mails (DropMsg cpu (record { 0 = m })) (table_after s id m v word (slice_set s.homes (slot_at m) none) (dropped (at v m)) (operation.Exchange (message_word w) word) (message_word w))
+abbrev pub ExchangeIsDrop : Type 0
+ExchangeIsDrop = AtSeat (λ key s told id v cpu m n. (w : MsgWord) (hands : List (ℕ × Rec)) → IsOwn v cpu.0 m → (at v m).had ≡ true → n ≡ message_word w → MessageFits w → w.state ≡ state.Out
+    → let word : ℕ = message_word (rest_word cpu (at v m).round) in Tells key s told id v hands m (dropped (at v m)) (deed.drops cpu m (message_word w) word (mail_at told.rule.mails m).rec) word (takes (slot_at m) (mail_at told.rule.mails m).rec))
 
 -- a request to abort: the origin sets a bit of the word of a message that is away
-abbrev pub RequestsAreEvents : Type 0
-RequestsAreEvents = (key : Layout) (mails : List Mail) (s : State Rec View) (id : ℕ) (v : View) (cpu : CpuId) (m : ℕ) → IsAtMessage key mails s id v cpu m
-    → IsOwn v cpu.0 m → (at v m).away ≡ true
-    → LeadsTo key mails (Abort cpu (record { 0 = m })) (table_after s id m v (bit_or (word_in s m) 4) s.homes (requested (at v m)) (operation.Or 4) (word_in s m))
+abbrev pub OrIsAbort : Type 0
+OrIsAbort = AtSeat (λ key s told id v cpu m n. (hands : List (ℕ × Rec)) → IsOwn v cpu.0 m → (at v m).away ≡ true → Tells key s told id v hands m (requested (at v m)) (deed.requests cpu m n) (bit_or n 4) keeps)
 
--- a seat that is made, cut off or taken back changes nothing
-abbrev pub SeatingChangesNothing : Type 0
-SeatingChangesNothing = (key : Layout) (mails : List Mail) (s : State Rec View) (id : ℕ) (v : View) → IsBook key mails s → get_elem? s.views id ≡ some v
-    → ((made back : ℕ) → v.kind ≡ Clerk made back → v.entries ≡ [] → made < v.cpus → IsBook key mails record { words = s.words; homes = s.homes; views = slice_set s.views id (clerk_left v) ++ seat_right v ∷ [] })
-    × ((cpu : CpuId) → v.kind ≡ Of cpu → IsBook key mails record { words = s.words; homes = s.homes; views = slice_set s.views id (spent_left v) ++ whole_right v ∷ [] })
-    × ((other : ℕ) (w : View) (made back : ℕ) (cpu : CpuId) → v.kind ≡ Clerk made back → w.kind ≡ Of cpu → other ≢ id → get_elem? (slice_set s.views id (clerk_both v w)) other ≡ some w → IsBook key mails record { words = s.words; homes = s.homes; views = slice_set (slice_set s.views id (clerk_both v w)) other spent_view })
+-- a seat that is made, cut off or taken back is no deed
+abbrev pub SeatingIsNoDeed : Type 0
+SeatingIsNoDeed = (key : Layout) (s : State Rec View) (told : Told key s) (id : ℕ) (v : View) → get_elem? s.views id ≡ some v
+    → ((made back : ℕ) → v.kind ≡ Clerk made back → v.entries ≡ [] → made < v.cpus → IsSame key s record { words = s.words; homes = s.homes; views = slice_set s.views id (clerk_left v) ++ seat_right v ∷ [] } told)
+    × ((cpu : CpuId) → v.kind ≡ Of cpu → IsSame key s record { words = s.words; homes = s.homes; views = slice_set s.views id (spent_left v) ++ whole_right v ∷ [] } told)
+    × ((other : ℕ) (w : View) (made back : ℕ) (cpu : CpuId) → v.kind ≡ Clerk made back → w.kind ≡ Of cpu → other ≢ id → get_elem? (slice_set s.views id (clerk_both v w)) other ≡ some w
+    → IsSame key s record { words = s.words; homes = s.homes; views = slice_set (slice_set s.views id (clerk_both v w)) other spent_view } told)
+
+-- a step of a seat's view that keeps whose it is and the chapters
+pub record IsStepOfSeat (v w : View) (cpu : CpuId) (past : List Deed) : Type 0 where
+  pub kind : v.kind ≡ Of cpu
+  pub same : w.kind ≡ v.kind
+  pub chapters : w.chapters ≡ v.chapters
+  pub past_is : w.past ≡ past
+
+-- whatever play a seat makes: what it notes is what it did. After a step of the table by which its past has one deed more, the
+-- history has that deed more, the deed is done between the messages before and after, and the word of each message that the deed has
+-- a step on was met and left as the step says
+abbrev pub NotedIsDone : Type 0
+NotedIsDone = (key : Layout) (s : State Rec View) (told : Told key s) (id : ℕ) (v w : View) (cpu : CpuId) (between : List Deed) (d : Deed) (i n : ℕ) (hands : List (ℕ × Rec)) (act : Act Rec) (after : Told key (stepped s i n id hands w act))
+    → get_elem? s.views id ≡ some v → IsStepOfSeat v w cpu (v.past ++ (between ++ d ∷ [])) → AreOthers cpu.0 between → d.cpu ≡ cpu
+    → IsNext key s (stepped s i n id hands w act) told d after
+    × ((step : WordStep) → d.steps ≡ step ∷ [] → (step.at < length key.specs.items) × IsStepOver (slice_index s.words (word_at step.at)) (slice_index (slice_set s.words i n) (word_at step.at)) step)
+
+-- and no change goes unnoted: after a step of the table by which a seat notes no deed, each message and its word are as before
+abbrev pub UnnotedChangesNothing : Type 0
+UnnotedChangesNothing = (key : Layout) (s : State Rec View) (told : Told key s) (id : ℕ) (v w : View) (cpu : CpuId) (i n : ℕ) (hands : List (ℕ × Rec)) (act : Act Rec) (after : Told key (stepped s i n id hands w act))
+    → get_elem? s.views id ≡ some v → IsStepOfSeat v w cpu v.past
+    → (after.rule.mails ≡ told.rule.mails) × (after.chronicle.history ≡ told.chronicle.history)
+    × ((m : ℕ) → m < length key.specs.items → (slice_index (slice_set s.words i n) (word_at m) ≡ slice_index s.words (word_at m)) × (get_elem? (homes_after s.homes hands act) (slot_at m) ≡ get_elem? s.homes (slot_at m)))

@@ -2,6 +2,9 @@ pub mod Views
 pub mod Book
 pub mod Hands
 pub mod Steps
+pub mod Deeds
+pub mod Told
+pub mod Records
 pub mod Plays
 pub mod Calls
 pub mod Desks

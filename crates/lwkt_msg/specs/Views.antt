@@ -1,6 +1,7 @@
 use Rattle.std.specs.Prelude.{◌≡◌, ℕ, ◌+◌, ◌*◌, ◌≤◌, ◌==◌, ◌||◌, Bool, true, false, List, [], ◌∷◌, ◌++◌, length, slice_index_or, if◌then◌else◌}
 use Rattle.std.proofs.Common.{zero, suc}
 use Rattle.lwkt_base.specs.declared.names.CpuId.{CpuId}
+use Rattle.lwkt_base.specs.declared.names.MsgId.{MsgId}
 use Rattle.lwkt_base.specs.declared.records.Call.{Call}
 use Rattle.lwkt_base.specs.declared.records.Rec.{Rec}
 use Rattle.lwkt_base.specs.declared.records.Flags.{Flags}
@@ -8,9 +9,12 @@ use Rattle.lwkt_base.specs.declared.openings.MsgSpec.{MsgSpec}
 use Rattle.lwkt_base.specs.declared.message_words.MsgWord.{MsgWord}
 use Rattle.lwkt_base.specs.declared.message_words.MsgState.{MsgState}
 use Rattle.lwkt_base.specs.declared.message_words.MsgState.TheVariants.{Rest, Out, With, Back}
-use Rattle.lwkt_core.specs.declared.seats.Operation.{Operation}
+use Rattle.lwkt_core.specs.declared.seats.Deed.{Deed}
+use Rattle.lwkt_core.specs.declared.seats.Chapter.{Chapter}
 use Rattle.lwkt_core.specs.declared.seats.SeatKind.{SeatKind}
 use Rattle.lwkt_core.specs.declared.seats.SeatKind.TheVariants.{Clerk, Of, Spent}
+use Rattle.lwkt_core.specs.Seating.{after_made, after_back, next_seat}
+use Rattle.lwkt_core.specs.History.{Page}
 use Rattle.lwkt_msg.specs.declared.views.Entry.{Entry}
 use Rattle.lwkt_msg.specs.declared.views.Noted.{Noted}
 use Rattle.lwkt_msg.specs.declared.views.Returned.{Returned}
@@ -46,7 +50,7 @@ answer_of rec = record { result = rec.result; error = rec.error }
 
 -- what is known of a message at the opening
 abbrev pub first_entry : MsgSpec → Entry
-first_entry spec = record { round = spec.round; call = no_call; flags = no_flags; sync = false; had = false; away = false; back = false; asked = false; taken = false; got = no_call; answer = record { result = 0; error = 0 }; sends = 0; takes = 0; drops = 0; replies = 0; reaps = 0 }
+first_entry spec = record { round = spec.round; call = no_call; target = record { 0 = 0 }; flags = no_flags; sync = false; had = false; away = false; back = false; asked = false; taken = false; got = no_call; answer = record { result = 0; error = 0 }; sends = 0; takes = 0; drops = 0; replies = 0; reaps = 0 }
 
 -- the first entry of a message among several, or else this one
 unfoldable pub entry_in : List Noted → ℕ → Entry → Entry
@@ -57,9 +61,26 @@ entry_in (x ∷ xs) m other = if x.msg == m then x.entry else entry_in xs m othe
 unfoldable pub at : View → ℕ → Entry
 at v m = entry_in v.entries m (first_entry (spec_at v.specs m))
 
--- what a seat knows after a step on a message
-abbrev pub after_step : View → ℕ → Entry → Operation → ℕ → View
-after_step v m e operation found = record v { entries = record { msg = m; entry = e } ∷ v.entries; steps = v.steps ++ record { at = m; operation = operation; found = found } ∷ [] }
+-- the processor of a seat: the clerk and a seat that was taken back have none
+abbrev pub seat_cpu : SeatKind → CpuId
+seat_cpu (Of cpu) = cpu
+seat_cpu (Clerk made back) = record { 0 = 0 }
+seat_cpu Spent = record { 0 = 0 }
+
+abbrev pub who : View → CpuId
+who v = seat_cpu v.kind
+
+-- the view with another entry for a message after a deed: since the seat's last deed others have acted
+abbrev pub noted : List Deed → View → ℕ → Entry → Deed → View
+noted between v m e d = record v { entries = record { msg = m; entry = e } ∷ v.entries; past = v.past ++ (between ++ d ∷ []) }
+
+-- a view as the history sees it
+abbrev pub page_of : View → Page
+page_of v = record { kind = v.kind; past = v.past; chapters = v.chapters }
+
+-- a message by its number
+abbrev pub named : ℕ → MsgId
+named m = record { 0 = m }
 
 -- whether a state is that of a message which was replied to
 abbrev pub shows_back : MsgState → Bool
@@ -95,7 +116,7 @@ abbrev pub handed : Entry → Entry
 handed e = record e { had = true }
 
 abbrev pub sent : MsgWord → Call → Entry → Entry
-sent w call e = record e { round = w.round; call = call; flags = flags_of w; sync = w.sync; away = true; back = false; asked = false; sends = e.sends + 1 }
+sent w call e = record e { round = w.round; call = call; target = w.target; flags = flags_of w; sync = w.sync; away = true; back = false; asked = false; sends = e.sends + 1 }
 
 abbrev pub took : Rec → Entry → Entry
 took rec e = record e { taken = true; got = call_of rec; takes = e.takes + 1 }
@@ -127,9 +148,10 @@ pub record SeesOwn (e : Entry) (w : MsgWord) : Type 0 where
   pub away_is : e.away ≡ shows_away w.state
   pub asked_is : e.asked ≡ w.aborted
   pub back_is : e.back ≡ true → shows_back w.state ≡ true
+  pub target_is : shows_away w.state ≡ true → w.target ≡ e.target
   pub flags_is : shows_away w.state ≡ true → (w.sync ≡ e.sync) × (flags_of w ≡ e.flags)
 
--- what a word shows of a message is what a view knows of it: as origin its round, whether it is away and how it was sent, and as
+-- what a word shows of a message is what a view knows of it: as origin its round, whether it is away, to whom and how it was sent, and as
 -- target whether it was taken
 pub record Sees (v : View) (m : ℕ) (w : MsgWord) : Type 0 where
   pub origin_is : w.origin ≡ (spec_at v.specs m).origin.cpu
@@ -137,25 +159,15 @@ pub record Sees (v : View) (m : ℕ) (w : MsgWord) : Type 0 where
   pub as_target : (cpu : ℕ) → Stands v.kind cpu → (at v m).taken ≡ shows_with cpu w.state w.target
 
 -- the clerk's view after a seat was made, and the view of that seat
-abbrev pub made_one : SeatKind → SeatKind
-made_one (Clerk made back) = Clerk (made + 1) back
-made_one (Of cpu) = Of cpu
-made_one Spent = Spent
-
-abbrev pub next_seat : SeatKind → SeatKind
-next_seat (Clerk made back) = Of (record { 0 = made })
-next_seat (Of cpu) = Of cpu
-next_seat Spent = Spent
-
 abbrev pub clerk_left : View → View
-clerk_left v = record v { kind = made_one v.kind }
+clerk_left v = record v { kind = after_made v.kind }
 
 abbrev pub seat_right : View → View
-seat_right v = record v { kind = next_seat v.kind; steps = [] }
+seat_right v = record v { kind = next_seat v.kind; past = []; chapters = [] }
 
 -- a view that was taken back, and one cut off whole
 abbrev pub spent_view : View
-spent_view = record { kind = Spent; cpus = 0; specs = []; entries = []; steps = [] }
+spent_view = record { kind = Spent; cpus = 0; specs = []; entries = []; past = []; chapters = [] }
 
 abbrev pub spent_left : View → View
 spent_left v = spent_view
@@ -172,11 +184,9 @@ unfoldable pub gathered : ℕ → View → View → List Noted
 gathered zero v other = []
 gathered (suc k) v other = record { msg = k; entry = added (at v k) (at other k) } ∷ gathered k v other
 
--- the clerk's view after a seat was taken back
-abbrev pub taken_back : SeatKind → SeatKind
-taken_back (Clerk made back) = Clerk made (back + 1)
-taken_back (Of cpu) = Of cpu
-taken_back Spent = Spent
+-- the clerk's view after a seat was taken back, whose past it keeps
+abbrev pub chapter_of : View → Chapter
+chapter_of v = record { cpu = who v; past = v.past }
 
 abbrev pub clerk_both : View → View → View
-clerk_both v other = record v { kind = taken_back v.kind; entries = gathered (length v.specs) v other }
+clerk_both v other = record v { kind = after_back v.kind; entries = gathered (length v.specs) v other; chapters = chapter_of other ∷ v.chapters }

@@ -3,9 +3,8 @@ ghost use Rattle.std.specs.Prelude.{◌≡◌, ◌↔◌, ℕ, ◌<◌, length, 
 ghost use Rattle.lwkt_base.specs.declared.message_words.MsgState.TheVariants as state;
 ghost use Rattle.lwkt_base.specs.MessageWord.{message_word};
 ghost use Rattle.lwkt_base.specs.declared.names.CpuId.{CpuId};
-ghost use Rattle.lwkt_msg.specs.Views.{call_of};
 ghost use Rattle.lwkt_msg.specs.Steps.{sent_word, rest_word};
-ghost use Rattle.lwkt_msg.specs.Calls.{IsForTaking, IsForReaping, HasSent, IsUnsent, TakeMeans, HasReplied, IsUnreplied, ReapMeans};
+ghost use Rattle.lwkt_msg.specs.Calls.{IsForTaking, IsForReaping, sent_rec, HasSent, IsUnsent, TakeMeans, HasReplied, IsUnreplied, ReapMeans};
 ghost use Rattle.lwkt_msg.specs.Plays.{IsLooked, IsSat, IsSameSeat};
 
 use crate::answers::{Reaped, Taken};
@@ -87,7 +86,7 @@ fn outgoing(cpu: CpuId, round: u64, sending: &Sending) -> MsgWord
 // The record of a message that is sent.
 fn written(call: Call) -> Rec
     ensures clean { (result.error ≡ 0) × (result.result ≡ 0) }
-    ensures call { call_of result ≡ call }
+    ensures is { result ≡ sent_rec call }
 {
     Rec {
         arg: call.arg,

@@ -7,6 +7,7 @@ ghost use Rattle.lwkt_base.specs.declared.message_words.MsgWord.{MsgWord};
 ghost use Rattle.lwkt_base.specs.MessageWord.{message_word, MessageFits};
 ghost use Rattle.lwkt_core.specs.declared.seats.SeatKind.TheVariants.{Clerk};
 
+use crate::places::word_of_message;
 use crate::plays::{CutOff, TakeBack};
 use crate::rules::{Place, Top};
 use crate::seats::MsgSeat;
@@ -78,7 +79,7 @@ fn read_ends(
 {
     let mut ends = ends;
     for m in 0..messages {
-        ends.push(end_of(closed.word(16 * m + 1)))?;
+        ends.push(end_of(closed.word(word_of_message(m))))?;
     }
     Ok(ends)
 }

@@ -7,6 +7,7 @@ mod calls;
 mod closings;
 pub mod laws;
 mod openings;
+mod places;
 mod plays;
 pub mod rules;
 pub mod seats;

@@ -6,6 +6,7 @@ ghost use Rattle.lwkt_msg.specs.Desks.{AreOpeningWords, IsHanding, IsClerk, IsOp
 ghost use Rattle.lwkt_msg.specs.Plays.{IsSameSeat};
 
 use crate::calls::rest;
+use crate::places::{slots_of, word_of_message, words_of};
 use crate::plays::{HandOut, MakeSeat};
 use crate::rules::{Place, Top};
 use crate::seats::MsgSeat;
@@ -51,9 +52,9 @@ pub(crate) fn opening_words(
     ensures { IfOk result (λ v. AreOpeningWords (length specs.now) specs.now v.items) }
 {
     let mut words = Vec::new(alloc);
-    words.resize(16 * specs.len() + 1, 0)?;
+    words.resize(words_of(specs.len()), 0)?;
     for (m, spec) in specs.iter().enumerate() {
-        words[16 * m + 1] = rest(spec.origin.cpu, spec.round).make();
+        words[word_of_message(m)] = rest(spec.origin.cpu, spec.round).make();
     }
     Ok(words)
 }
@@ -64,7 +65,7 @@ pub(crate) fn blank_records(alloc: Global, messages: usize) -> Result<Vec<Rec>, 
     ensures { IfOk result (λ v. v.items ≡ replicate (4 * messages) no_rec) }
 {
     let mut records = Vec::new(alloc);
-    records.resize(4 * messages, Rec::default())?;
+    records.resize(slots_of(messages), Rec::default())?;
     Ok(records)
 }
 
@@ -79,7 +80,7 @@ fn hand_out(top: &Top, place: &mut Place, cpu: CpuId, specs: &[MsgSpec])
 {
     for (m, spec) in specs.iter().enumerate() {
         if spec.origin.cpu == cpu {
-            top.load::<HandOut>(place, 16 * m + 1);
+            top.load::<HandOut>(place, word_of_message(m));
         }
     }
 }

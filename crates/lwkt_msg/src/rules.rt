@@ -3,13 +3,15 @@ use atomic_table::{Seat, Shared, Table, TableRule};
 use lwkt_base::Rec;
 use std::alloc::Global;
 
-/// The rule of the book: each message has one owner, with its record where the owner is.
+/// The rule of the book: each message has one owner, with its record where the owner is, and there is one history of what all
+/// seats have done.
 pub struct BookRule;
 
 impl TableRule<Rec, View, Layout> for BookRule {
-    ghost use Rattle.lwkt_msg.specs.Book.{Rule, first_view};
+    ghost use Rattle.lwkt_msg.specs.Book.{first_view};
+    ghost use Rattle.lwkt_msg.specs.Told.{Told};
 
-    ghost holds = { Rule };
+    ghost holds = { Told };
 
     ghost first = { first_view };
 }

@@ -4,14 +4,15 @@ ghost use Rattle.lwkt_base.specs.declared.names.CpuId.{CpuId};
 ghost use Rattle.lwkt_base.specs.declared.records.Rec.{Rec};
 ghost use Rattle.lwkt_base.specs.declared.message_words.MsgState.TheVariants as state;
 ghost use Rattle.lwkt_base.specs.MessageWord.{message_word, MessageFits};
-ghost use Rattle.lwkt_core.specs.declared.seats.Operation.TheVariants.{Store, Exchange, Add};
-ghost use Rattle.lwkt_msg.specs.Views.{call_of, at, after_step, flags_of, sent, took, answered, reaped};
-ghost use Rattle.lwkt_msg.specs.Book.{IsShownBy, IsBack, HadRecord};
+ghost use Rattle.lwkt_msg.specs.Views.{call_of, at, who, flags_of, sent, answered};
+ghost use Rattle.lwkt_msg.specs.Deeds.{sends, replies};
+ghost use Rattle.lwkt_msg.specs.Calls.{answered_rec};
 ghost use Rattle.lwkt_msg.specs.Hands.{IsOwn, IsInHand};
 ghost use Rattle.lwkt_core.specs.declared.messages.TheConstants.{LAST_ROUND};
 ghost use Rattle.lwkt_msg.specs.Steps.{sent_word, rest_word};
-ghost use Rattle.lwkt_msg.specs.Plays.{Looked, HasLost, IsSat, IsSameSeat, IsInFront};
+ghost use Rattle.lwkt_msg.specs.Plays.{IsAfter, Looked, HasWon, HasLost, HasFetched, IsSat, IsSameSeat, IsInFront};
 
+use crate::places::{slot_of_message, word_of_message};
 use crate::plays::{Look, Reap, Reply, Send, Take};
 use crate::rules::{Place, Top};
 use lwkt_base::{CpuId, MsgWord, Rec};
@@ -25,7 +26,7 @@ pub(crate) fn look(top: &Top, place: &mut Place, m: usize) -> u64
     ensures looked { Looked m place.old.me result place.new.me }
     ensures sat { (cpu : CpuId) → IsSat cpu place.old → IsSat cpu place.new }
 {
-    top.load::<Look>(place, 16 * m + 1)
+    top.load::<Look>(place, word_of_message(m))
 }
 
 // The record of a message, which lies in front.
@@ -36,7 +37,7 @@ fn front(top: &Top, place: &mut Place, m: usize) -> Rec
     ensures seat { IsSameSeat place.old place.new × (place.new.me ≡ place.old.me) }
     ensures value { IsInFront place.old m result }
 {
-    *place.slot_mut(top, 4 * m)
+    *place.slot_mut(top, slot_of_message(m))
 }
 
 // Gives the record of a message away, by the store of a send. The word is that of the message after the send.
@@ -50,11 +51,11 @@ pub(crate) fn put(top: &Top, place: &mut Place, m: usize, rec: Rec, word: MsgWor
     requires clean { (rec.error ≡ 0) × (rec.result ≡ 0) }
     requires held { (old : Rec) × IsInFront place.old m old }
     ensures seat { IsSameSeat place.old place.new }
-    ensures view { place.new.me.0 ≡ after_step place.old.me.0 m (sent word (call_of rec) (at place.old.me.0 m)) (Store (message_word word)) (message_word word) }
+    ensures view { IsAfter place.old.me.0 m (sent word (call_of rec) (at place.old.me.0 m)) (sends (who place.old.me.0) m word.target word.round (message_word word) rec) place.new.me.0 }
     ensures sat { IsSat word.origin place.new }
 {
-    top.exchange(place, 4 * m, rec);
-    top.store::<Send>(place, 16 * m + 1, word.make());
+    top.exchange(place, slot_of_message(m), rec);
+    top.store::<Send>(place, word_of_message(m), word.make());
 }
 
 // Takes a message, by an exchange of its word. The word found before is that of a message on its way to this processor.
@@ -66,9 +67,9 @@ pub(crate) fn win(top: &Top, place: &mut Place, m: usize, found: u64, word: MsgW
     requires new { IsInHand place.old.me.0 word.target.0 m → ⊥ }
     ensures seat { IsSameSeat place.old place.new }
     ensures sat { IsSat word.target place.new }
-    ensures view { MatchOption result (HasLost m found place.old.me.0 place.new.me.0) (λ rec. (rec.error ≡ 0) × (rec.result ≡ 0) × (place.new.me.0 ≡ after_step place.old.me.0 m (took rec (at place.old.me.0 m)) (Exchange found (found + 1)) found) × HadRecord place.old.me.0 m (IsShownBy found) rec) }
+    ensures view { MatchOption result (HasLost m found place.old.me.0 place.new.me.0) (λ rec. HasWon m word.round found place.old.me.0 rec place.new.me.0) }
 {
-    let seen = top.compare_exchange::<Take>(place, 16 * m + 1, found, found + 1);
+    let seen = top.compare_exchange::<Take>(place, word_of_message(m), found, found + 1);
     if seen == found {
         Some(front(top, place, m))
     } else {
@@ -85,13 +86,13 @@ pub(crate) fn answer(top: &Top, place: &mut Place, m: usize, cpu: CpuId, error: 
     requires held { (rec : Rec) × IsInFront place.old m rec × (call_of rec ≡ (at place.old.me.0 m).got) }
     ensures seat { IsSameSeat place.old place.new }
     ensures sat { IsSat cpu place.new }
-    ensures view { (found : ℕ) × (place.new.me.0 ≡ after_step place.old.me.0 m (answered error outcome (at place.old.me.0 m)) (Add 1) found) }
+    ensures view { (found : ℕ) × IsAfter place.old.me.0 m (answered error outcome (at place.old.me.0 m)) (replies (who place.old.me.0) m found (answered_rec (at place.old.me.0 m).got error outcome)) place.new.me.0 }
 {
     let mut rec = front(top, place, m);
     rec.error = error;
     rec.result = outcome;
-    top.exchange(place, 4 * m, rec);
-    top.fetch_add::<Reply>(place, 16 * m + 1, 1);
+    top.exchange(place, slot_of_message(m), rec);
+    top.fetch_add::<Reply>(place, word_of_message(m), 1);
 }
 
 // Takes the record of a message back that came back, by the store of a reap. The word is that of the message at rest.
@@ -104,10 +105,8 @@ pub(crate) fn fetch(top: &Top, place: &mut Place, m: usize, word: MsgWord) -> Re
     requires fits { (at place.old.me.0 m).round ≤ LAST_ROUND }
     ensures seat { IsSameSeat place.old place.new }
     ensures sat { IsSat word.origin place.new }
-    ensures call { call_of result ≡ (at place.old.me.0 m).call }
-    ensures had { HadRecord place.old.me.0 m IsBack result }
-    ensures view { place.new.me.0 ≡ after_step place.old.me.0 m (reaped (at place.old.me.0 m)) (Store (message_word word)) (message_word word) }
+    ensures view { HasFetched m (message_word word) place.old.me.0 result place.new.me.0 }
 {
-    top.store::<Reap>(place, 16 * m + 1, word.make());
+    top.store::<Reap>(place, word_of_message(m), word.make());
     front(top, place, m)
 }

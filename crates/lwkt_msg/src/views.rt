@@ -1,6 +1,6 @@
 //! What the book's table is made from, and what its seats know. Only proofs have values of the types but `Layout`.
-use lwkt_base::{Call, Flags, MsgSpec};
-use lwkt_core::{SeatKind, WordStep};
+use lwkt_base::{Call, CpuId, Flags, MsgSpec};
+use lwkt_core::{Chapter, Deed, SeatKind};
 
 /// What the table is told when it is made.
 #[derive(Drop)]
@@ -21,6 +21,8 @@ pub struct Entry {
     pub round: u64,
     /// As origin: the call that was sent last.
     pub call: Call,
+    /// As origin: whom the message was sent to last.
+    pub target: CpuId,
     /// As origin: what the last send allowed.
     pub flags: Flags,
     /// As origin: whether the last send was synchronous.
@@ -59,5 +61,8 @@ pub struct View {
     pub specs: [MsgSpec; 0],
     /// The first entry of a message counts; without one it is as at the opening.
     pub entries: [Noted; 0],
-    pub steps: [WordStep; 0],
+    /// Of a seat: what it has seen of the book's history, the front of it up to the seat's own last deed.
+    pub past: [Deed; 0],
+    /// Of the clerk: what the seats had seen that it has taken back.
+    pub chapters: [Chapter; 0],
 }

@@ -49,4 +49,4 @@ fetch-requires-clause-fits c =
 pub returns-clause-answer : goal.returns-clause-answer
 returns-clause-answer c =
     let is = c.if-not-is_for_reaping.ensures.0 refl in
-    reap_done c.args.place.now c.parts.new.place c.args.cpu c.args.m c.parts.result.1 c.requires.sat c.parts.ensures.looked c.args.round c.rest.result c.fetch.result c.fetch.new.place.me.0 is c.rest.ensures c.fetch.ensures.call c.fetch.ensures.had c.fetch.ensures.view
+    reap_done c.args.place.now c.parts.new.place c.args.cpu c.args.m c.parts.result.1 c.requires.sat c.parts.ensures.looked c.args.round c.rest.result c.fetch.result c.fetch.new.place.me.0 is c.rest.ensures c.fetch.ensures.view

@@ -52,7 +52,7 @@ put-requires-clause-fits c =
     let last = c.parts.ensures.looked.fits.2 in
     let not_last = c.if-word-eq-LAST_ROUND.false in
     let target_is : c.outgoing.result.target.0 ≡ c.args.sending.now.target.0 = ap (λ (w : MsgWord). w.target.0) c.outgoing.ensures in
-    let cpus_is : c.parts.new.place.me.0.cpus ≡ c.args.place.now.me.0.cpus = ap (λ (v : View). v.cpus) c.parts.ensures.looked.view_is in
+    let cpus_is : c.parts.new.place.me.0.cpus ≡ c.args.place.now.me.0.cpus = ap (λ (v : View). v.cpus) c.parts.ensures.looked.view_is.1.1 in
     let there = c.requires.target in
     (omega arith, omega arith)
 
@@ -61,4 +61,4 @@ returns-clause-answer c =
     let last = c.parts.ensures.looked.fits.2 in
     let not_last = c.if-word-eq-LAST_ROUND.false in
     send_done c.args.place.now c.parts.new.place c.args.cpu c.args.m c.parts.result.1 c.requires.sat c.parts.ensures.looked c.args.sending.now.target c.args.sending.now.call c.args.sending.now.flags c.args.sending.now.sync c.outgoing.result c.written.result c.put.new.place.me.0
-    (c.if-not-is_home.ensures.0 refl) (omega arith) c.outgoing.ensures c.written.ensures.call c.put.ensures.view
+    (c.if-not-is_home.ensures.0 refl) (omega arith) c.outgoing.ensures c.written.ensures.is c.put.ensures.view

@@ -1,8 +1,8 @@
-use Rattle.std.proofs.Common.{◌≡◌, List, [], ◌∷◌, ◌++◌, Some, refl, sym, ◌∙◌, subst}
+use Rattle.std.proofs.Common.{rules, ◌≡◌, List, [], ◌∷◌, ◌++◌, Some, refl, sym, ◌∙◌, subst}
 use Rattle.std.proofs.lemmas.List.Elements.{All-pop}
 use Rattle.lwkt_msg.specs.declared.views.View.{View}
 use Rattle.lwkt_msg.specs.Desks.{Desk, IsTaking}
-use Rattle.lwkt_msg.proofs.Closing.{taking_none, taking_more}
+use Rattle.lwkt_msg.proofs.Closing.{taking_none, taking_more, taking_all}
 use Rattle.lwkt_msg.proofs.closings.take_all.Goals as goal
 
 pub loop-seat-init : goal.loop-seat-init
@@ -21,3 +21,9 @@ loop-seat-preserved c =
       (All-pop (λ (d : Desk). d.table ≡ c.args.top.now.table_id) c.loop-seat.seats.items left (Some seat) items inv.2).0,
       subst G (sym c.take_back.ensures.view) (taking_more c.args.cpus c.args.clerk.now.me.0 c.args.seats.items left seat c.loop-seat.clerk.me.0 (subst F items inv.3)),
     )
+
+pub returns-clause-view : goal.returns-clause-view
+returns-clause-view c =
+    let none : c.loop-seat.seats.items ≡ [] = search rules in
+    let F : List Desk → Type 0 = λ xs. IsTaking c.args.cpus c.args.clerk.now.me.0 c.args.seats.items xs c.loop-seat.clerk.me.0 in
+    taking_all c.args.cpus c.args.clerk.now.me.0 c.args.seats.items c.loop-seat.clerk.me.0 (subst F none c.loop-seat.invariant.3)

@@ -1,5 +1,8 @@
-use Rattle.lwkt_msg.proofs.Picturing.{state_is_safe}
+use Rattle.lwkt_msg.proofs.Picturing.{state_is_safe, sends_at_most_once}
 use Rattle.lwkt_msg.proofs.laws.each_state_is_safe.Goals as goal
 
-pub returns : goal.returns
-returns c = state_is_safe
+pub returns-clause-safe : goal.returns-clause-safe
+returns-clause-safe c = state_is_safe
+
+pub returns-clause-once : goal.returns-clause-once
+returns-clause-once c = sends_at_most_once

@@ -1,4 +1,4 @@
-use Rattle.std.proofs.Common.{◌≡◌, ℕ, ◌+◌, ◌*◌, ◌<◌, List, length, refl, ap, sym, ◌∙◌, subst, arith}
+use Rattle.std.proofs.Common.{◌≡◌, ℕ, ◌+◌, ◌*◌, ◌<◌, List, length, ap, sym, ◌∙◌, subst, arith}
 use Rattle.std.proofs.lemmas.Bool.{eqb-true, eqb-false}
 use Rattle.atomic_table.specs.Seated.{TableId}
 use Rattle.atomic_table.specs.declared.shared.Seat.{Seat}
@@ -6,10 +6,14 @@ use Rattle.lwkt_base.specs.declared.openings.MsgSpec.{MsgSpec}
 use Rattle.lwkt_base.specs.declared.records.Rec.{Rec}
 use Rattle.lwkt_msg.specs.declared.views.Entry.{Entry}
 use Rattle.lwkt_msg.specs.declared.views.View.{View}
-use Rattle.lwkt_msg.specs.Views.{spec_at}
+use Rattle.lwkt_msg.specs.Views.{spec_at, who}
+use Rattle.lwkt_msg.specs.Deeds.{hands_out}
+use Rattle.lwkt_msg.specs.Told.{Told}
+use Rattle.lwkt_msg.specs.Plays.{IsSameSeat, hands_out as hands_it}
+use mathlib.Core.Option.{none}
+use Rattle.atomic_table.specs.Table.{step, Allows}
 use Rattle.lwkt_msg.specs.Hands.{IsOwn}
 use Rattle.lwkt_msg.specs.Desks.{IsHanding}
-use Rattle.lwkt_msg.specs.Plays.{IsSameSeat}
 use Rattle.lwkt_msg.proofs.Allowing.{hand_allowed}
 use Rattle.lwkt_msg.proofs.Handing.{handing_own, handing_other}
 use Rattle.lwkt_msg.proofs.openings.hand_out.Goals as goal
@@ -31,7 +35,10 @@ load-requires c =
     let words = h.words in
     let same = ap (λ (z : TableId). z.words) table in
     let inside : 16 * m + 1 < c.args.top.now.table_id.words = omega arith in
-    (table, inside, hand_allowed c.args.top.now.key c.loop-m.place.id c.loop-m.place.me c.args.cpu m h.kind within c.args.top.now.table_id.slots own (ap (λ (x : Entry). x.had) first) (ap (λ (x : Entry). x.away) first))
+    let z = c.args.top.now.table_id in
+    let F : ℕ → Type 0 = λ i. (i < z.words) × Allows (Told c.args.top.now.key) z.slots c.loop-m.place.id c.loop-m.place.me i (λ n. n) (hands_it (step z.slots i 0 0 none) c.loop-m.place.me) in
+    let allowed = subst F (sym c.word_of_message.ensures) (inside, hand_allowed c.args.top.now.key c.loop-m.place.id c.loop-m.place.me c.args.cpu m h.kind within c.args.top.now.table_id.slots own (ap (λ (x : Entry). x.had) first) (ap (λ (x : Entry). x.away) first)) in
+    (table, allowed.0, allowed.1)
 
 pub loop-m-preserved : goal.loop-m-preserved
 loop-m-preserved c =
@@ -46,12 +53,12 @@ loop-m-preserved c =
     elim c.if-eq.branch [
       | then-eq w ↦
           let own : IsOwn c.loop-m.place.me.0 c.args.cpu.0 m = subst F (sym specs_is) (eqb-true (spec_at c.args.specs.now m).origin.cpu.0 c.args.cpu.0 (sym c.eq.ensures ∙ w.if-eq.true)) in
-          let did = w.load.ensures.2 m refl in
+          let did = w.load.ensures.2 m w.word_of_message.ensures in
           subst G (sym w.place-is) (
             (w.load.ensures.0 ∙ inv.0.0, w.load.ensures.1 ∙ inv.0.1),
-            ap (λ (v : View). v.cpus) did.1 ∙ inv.1,
-            ap (λ (v : View). v.specs) did.1 ∙ inv.2,
-            handing_own c.loop-m.place w.load.new.seat c.args.cpu m w.load.result did.0 inv.3 within own w.load.ensures.0 did.1 did.2,
+            ap (λ (v : View). v.cpus) did.1.1.1 ∙ inv.1,
+            ap (λ (v : View). v.specs) did.1.1.1 ∙ inv.2,
+            handing_own c.loop-m.place w.load.new.seat c.args.cpu m did.1.0 (hands_out (who c.loop-m.place.me.0) m w.load.result did.0) did.0 inv.3 within own w.load.ensures.0 did.1.1.1 did.2,
           )
       | else-eq w ↦
           let other : IsOwn c.loop-m.place.me.0 c.args.cpu.0 m → ⊥

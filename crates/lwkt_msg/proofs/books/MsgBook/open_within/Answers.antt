@@ -16,5 +16,5 @@ new-requires c =
     let G : List MsgSpec → Type 0 = λ xs. AreOpeningWords (length xs) xs c.in_ok-words.words.items in
     let H : List ℕ → Type 0 = λ ws. AreOpeningWords (length key.specs.items) key.specs.items ws in
     let opened : AreOpeningWords (length key.specs.items) key.specs.items c.deref.result.now = subst H (sym words_is) (subst G (sym specs_is) c.in_ok-words.ensures) in
-    rule_opens key c.deref.result.now c.in_ok-records.records.items (subst F (sym specs_is) c.requires.within) opened.wide opened.zero_word opened.each
-    (c.in_ok-records.ensures ∙ ap (λ (xs : List MsgSpec). replicate (4 * length xs) no_rec) (sym specs_is))
+    (rule_opens key c.deref.result.now c.in_ok-records.records.items (subst F (sym specs_is) c.requires.within) opened.wide opened.zero_word opened.each
+    (c.in_ok-records.ensures ∙ ap (λ (xs : List MsgSpec). replicate (4 * length xs) no_rec) (sym specs_is))).0
