@@ -5,7 +5,6 @@ use lwkt_base::MsgId;
 use lwkt_lane::{LaneIn, LaneOut, Note, NoteKind, lane};
 use std::alloc::AllocError;
 use std::io;
-use std::sync::Wait;
 use std::time::CpuClock;
 
 // A lane for 32 notes, as the ring.
@@ -40,33 +39,29 @@ fn note(round: u64) -> Note {
     }
 }
 
-fn push_burst(rt: &impl Wait, out: &mut LaneOut, turn: u64) {
+fn push_burst(out: &mut LaneOut, turn: u64) {
     for i in 0..BURST {
-        let _ = out.push(rt, note(turn ^ i));
+        let _ = out.push(note(turn ^ i));
     }
 }
 
 // The sum of what came out.
-fn pop_burst(rt: &impl Wait, into: &mut LaneIn) -> u64 {
+fn pop_burst(into: &mut LaneIn) -> u64 {
     let mut sum = 0u64;
     for _i in 0..BURST {
-        if let Some(note) = into.pop(rt) {
+        if let Some(note) = into.pop() {
             sum = sum.wrapping_add(note.round ^ u64::from(note.msg.0));
         }
     }
     sum
 }
 
-fn lane_round<R: Wait + CpuClock>(
-    rt: &R,
-    out: &mut LaneOut,
-    into: &mut LaneIn,
-) -> io::Result<Timed> {
+fn lane_round<R: CpuClock>(rt: &R, out: &mut LaneOut, into: &mut LaneIn) -> io::Result<Timed> {
     let start = rt.thread_cpu_time()?;
     let mut sum = 0u64;
     for turn in 0..BURSTS {
-        push_burst(rt, out, turn);
-        sum = sum.wrapping_add(pop_burst(rt, into));
+        push_burst(out, turn);
+        sum = sum.wrapping_add(pop_burst(into));
     }
     end_round(rt, start, sum)
 }
@@ -116,7 +111,7 @@ fn word_round<R: CpuClock>(rt: &R, ring: &WordRing) -> io::Result<Timed> {
 }
 
 /// Times a lane beside the two rings, and prints a line for each.
-pub fn time_lanes<R: Wait + CpuClock + Print + AllocGlobal>(rt: &R) -> io::Result<()> {
+pub fn time_lanes<R: CpuClock + Print + AllocGlobal>(rt: &R) -> io::Result<()> {
     let alloc = rt.alloc();
     let (mut out, mut into) = lane(alloc, CAPACITY).map_err(|_| AllocError)?;
     let mut ring = Ring::new();

@@ -5,7 +5,6 @@ use lwkt_base::{Fault, MsgId};
 use lwkt_lane::{LaneIn, LaneOut, Note, NoteKind, lane, settle};
 use std::alloc::Global;
 use std::process::Abort;
-use std::sync::Wait;
 use std::test::Fail;
 use std::thread;
 
@@ -42,35 +41,35 @@ enum Told {
     Other,
 }
 
-fn push(rt: &impl Wait, out: &mut LaneOut, into: &LaneIn, round: u64) -> Told
+fn push(out: &mut LaneOut, into: &LaneIn, round: u64) -> Told
     requires { IsLane out.old into.now }
     ensures { IsLane out.new into.now }
 {
-    match out.push(rt, note(round)) {
+    match out.push(note(round)) {
         Ok(()) => Told::Pushed,
         Err(fault) => Told::Refused(fault),
     }
 }
 
-fn pop(rt: &impl Wait, out: &LaneOut, into: &mut LaneIn) -> Told
+fn pop(out: &LaneOut, into: &mut LaneIn) -> Told
     requires { IsLane out.now into.old }
     ensures { IsLane out.now into.new }
 {
-    match into.pop(rt) {
+    match into.pop() {
         Some(next) if next == note(next.round) => Told::Popped(next.round),
         Some(_) => Told::Other,
         None => Told::Nothing,
     }
 }
 
-fn call(rt: &impl Wait, out: &mut LaneOut, into: &mut LaneIn, ask: Ask) -> Told
+fn call(out: &mut LaneOut, into: &mut LaneIn, ask: Ask) -> Told
     requires { IsLane out.old into.old }
     ensures { IsLane out.new into.new }
 {
     match ask {
-        Ask::Room => Told::Room(out.room(rt)),
-        Ask::Push(round) => push(rt, out, into, round),
-        Ask::Pop => pop(rt, out, into),
+        Ask::Room => Told::Room(out.room()),
+        Ask::Push(round) => push(out, into, round),
+        Ask::Pop => pop(out, into),
     }
 }
 
@@ -96,17 +95,12 @@ enum Miss {
     Left,
 }
 
-fn play_lines(
-    rt: &impl Wait,
-    out: &mut LaneOut,
-    into: &mut LaneIn,
-    lines: &[Line],
-) -> Result<(), Miss>
+fn play_lines(out: &mut LaneOut, into: &mut LaneIn, lines: &[Line]) -> Result<(), Miss>
     requires { IsLane out.old into.old }
     ensures { IsLane out.new into.new }
 {
     for (at, line) in lines.iter().enumerate() {
-        let told = call(rt, out, into, line.0);
+        let told = call(out, into, line.0);
         if told != line.1 {
             return Err(Miss::Line { at, told });
         }
@@ -123,23 +117,23 @@ fn are_notes(notes: &[Note], rounds: &[u64]) -> bool {
     notes.len() == rounds.len()
 }
 
-fn play_row(rt: &impl Wait, alloc: Global, row: &Played) -> Result<(), Miss> {
+fn play_row(alloc: Global, row: &Played) -> Result<(), Miss> {
     if row.capacity < 2 || row.capacity > 32 {
         return Err(Miss::Lane);
     }
     let Ok((mut out, mut into)) = lane(alloc, row.capacity) else {
         return Err(Miss::Lane);
     };
-    play_lines(rt, &mut out, &mut into, row.lines)?;
-    match settle(rt, alloc, out, into) {
+    play_lines(&mut out, &mut into, row.lines)?;
+    match settle(alloc, out, into) {
         Ok(notes) if are_notes(&notes, row.left) => Ok(()),
         _ => Err(Miss::Left),
     }
 }
 
 // Fails where a row goes otherwise, and says where.
-fn expect<R: Abort + Wait>(rt: &R, alloc: Global, row: &Played) {
-    let found = play_row(rt, alloc, row);
+fn expect(rt: &impl Abort, alloc: Global, row: &Played) {
+    let found = play_row(alloc, row);
     assert!(rt; found.is_ok(), "{found:?}");
 }
 
@@ -217,13 +211,13 @@ fn a_note_with_room_is_not_kept_in_hand(rt: HostRuntime) {
 }
 
 // How many of the notes 0, 1, .. were pushed, and whether the last of them left the sender's hand.
-fn push_all(rt: &impl Wait, mut out: LaneOut) -> (u64, bool) {
+fn push_all(mut out: LaneOut) -> (u64, bool) {
     let mut pushed = 0;
     let mut emptied = false;
     for _ in 0..TRIES {
-        if pushed < NOTES && out.push(rt, note(pushed)).is_ok() {
+        if pushed < NOTES && out.push(note(pushed)).is_ok() {
             pushed += 1;
-        } else if pushed == NOTES && out.room(rt) {
+        } else if pushed == NOTES && out.room() {
             emptied = true;
             break;
         } else {
@@ -234,13 +228,13 @@ fn push_all(rt: &impl Wait, mut out: LaneOut) -> (u64, bool) {
 }
 
 // How many notes came as 0, 1, .., up to the first that is another.
-fn pop_all(rt: &impl Wait, mut into: LaneIn) -> u64 {
+fn pop_all(mut into: LaneIn) -> u64 {
     let mut popped = 0;
     for _ in 0..TRIES {
         if popped >= NOTES {
             break;
         }
-        match into.pop(rt) {
+        match into.pop() {
             Some(next) if next == note(popped) => popped += 1,
             Some(_) => break,
             None => thread::yield_now(),
@@ -252,8 +246,8 @@ fn pop_all(rt: &impl Wait, mut into: LaneIn) -> u64 {
 #[test]
 fn notes_cross_two_threads_in_order(rt: HostRuntime) -> Result<(), Fail> {
     let (out, into) = lane(rt.alloc(), 32)?;
-    let pusher = thread::spawn(&rt, move || push_all(&rt, out))?;
-    let popper = thread::spawn(&rt, move || pop_all(&rt, into))?;
+    let pusher = thread::spawn(&rt, move || push_all(out))?;
+    let popper = thread::spawn(&rt, move || pop_all(into))?;
     assert_eq!(rt; pusher.join(&rt), (NOTES, true));
     assert_eq!(rt; popper.join(&rt), NOTES);
     Ok(())
