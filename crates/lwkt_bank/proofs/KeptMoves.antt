@@ -257,6 +257,19 @@ tally_fits plan cpus words tok tk written added known settled tally fits a =
 more_here : {A : Type 0} (xs : List A) (x d : A) (k : ℕ) → k ≡ length xs → get_or (xs ++ x ∷ []) k d ≡ x
 more_here xs x d k is = ap (λ (n : ℕ). get_or (xs ++ x ∷ []) n d) is ∙ get_or-append_seam xs x [] d
 
+-- one that was kept more
+pub kept_longer : (xs ys : List Kept) (k : Kept) → ys ≡ xs ++ k ∷ [] → length ys ≡ length xs + 1
+kept_longer xs ys k is = let e = ap length is in let l = length-append xs (k ∷ []) in omega arith
+
+-- nothing is read yet
+pub read_none : (plans : List Plan) (cpus : ℕ) (words : List ℕ) (kept : List Kept) (closed : Closed) (count : ℕ) → closed.rows.items ≡ [] → closed.gens.items ≡ [] → closed.tallies.items ≡ [] → count ≡ 0 → AreRead plans cpus words kept closed count
+read_none plans cpus words kept closed count rows gens tallies none = record {
+  rows = ap length rows ∙ sym none;
+  gens = ap length gens ∙ sym none;
+  tallies = ap length tallies ∙ sym none;
+  each = λ tok low. absurd (omega arith);
+}
+
 -- one token more is read
 pub read_more : (plans : List Plan) (cpus : ℕ) (words : List ℕ) (kept : List Kept) (old new : Closed) (count : ℕ) (row : List ℕ) (generation : ℕ) (tallies : List ℕ) → AreRead plans cpus words kept old count
     → IsRead (plan_at plans count) cpus words kept count row generation tallies → new.rows.items ≡ old.rows.items ++ row ∷ [] → new.gens.items ≡ old.gens.items ++ generation ∷ [] → new.tallies.items ≡ old.tallies.items ++ tallies ∷ []
@@ -439,6 +452,9 @@ module _ (desk : Desk) (id : ℕ) (v : View) (words : List ℕ) (seats : List Cp
 
   pub bank_fits : ((k : ℕ) → slice_index words k < 18446744073709551616) → (tok : ℕ) → tok < length desk.key.plans.items → (plan_at desk.key.plans.items tok).law ≡ Tally → (a : ℕ) → kept_by kept tok a < 18446744073709551616
   bank_fits fits tok there tally a = kept_fits (id_of_desk desk) desk.key.cpus id v words seats kept left_here gathered_here all fits tok there tally a
+
+  pub bank_few : desk.key.cpus ≤ 8
+  bank_few = few (id_of_desk desk) desk.key.cpus id v words seats kept left_here gathered_here all
 
   pub bank_wide : length words ≡ 16 * length desk.key.plans.items + 1
   bank_wide = wide (id_of_desk desk) desk.key.cpus id v words seats kept left_here gathered_here all

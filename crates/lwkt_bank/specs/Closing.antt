@@ -1,4 +1,4 @@
-use Rattle.std.specs.Prelude.{◌≡◌, ◌≢◌, ℕ, ◌+◌, ◌<◌, ◌≤◌, ◌==◌, if◌then◌else◌, List, [], ◌++◌, length, All, Some, slice_get, slice_index, slice_index_or}
+use Rattle.std.specs.Prelude.{◌≡◌, ◌≢◌, ℕ, ◌+◌, ◌<◌, ◌≤◌, ◌==◌, if◌then◌else◌, List, [], ◌++◌, length, All, Some, slice_get, slice_index, slice_index_or, vec_capacity}
 use Rattle.lwkt_base.specs.declared.holdings.Held.TheVariants.{Nothing}
 use Rattle.lwkt_core.specs.declared.seats.SeatKind.TheVariants.{Clerk}
 use Rattle.lwkt_core.specs.Seating.{total}
@@ -73,3 +73,16 @@ pub record AreRead (plans : List Plan) (cpus : ℕ) (words : List ℕ) (kept : L
   pub gens : length closed.gens.items ≡ count
   pub tallies : length closed.tallies.items ≡ count
   pub each : (tok : ℕ) → tok < count → IsRead (plan_at plans tok) cpus words kept tok (slice_index_or closed.rows.items tok []) (slice_index closed.gens.items tok) (slice_index_or closed.tallies.items tok [])
+
+-- there is room for the closing values of so many tokens
+pub record HasRoom (closed : Closed) (tokens : ℕ) : Type 0 where
+  pub rows : tokens ≤ vec_capacity closed.rows
+  pub gens : tokens ≤ vec_capacity closed.gens
+  pub tallies : tokens ≤ vec_capacity closed.tallies
+
+-- and nothing was read yet
+pub record IsEmptyRoom (closed : Closed) (tokens : ℕ) : Type 0 where
+  pub room : HasRoom closed tokens
+  pub no_rows : closed.rows.items ≡ []
+  pub no_gens : closed.gens.items ≡ []
+  pub no_tallies : closed.tallies.items ≡ []

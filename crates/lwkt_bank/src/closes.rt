@@ -1,20 +1,22 @@
 //! The close: the closing values, from the words that are left and from what the seats had kept.
-ghost use Rattle.std.specs.Prelude.{◌≡◌, ◌≢◌, ℕ, ◌+◌, ◌*◌, ◌^◌, ◌<◌, ◌≤◌, List, [], ◌∷◌, ◌++◌, length, All, IfOk, IfErr, OnOk, slice_index, sum_by};
+ghost use Rattle.std.specs.Prelude.{◌≡◌, ◌≢◌, ℕ, ◌+◌, ◌*◌, ◌^◌, ◌<◌, ◌≤◌, List, [], ◌∷◌, ◌++◌, length, All, IfOk, IfErr, slice_index, sum_by, vec_capacity};
 ghost use mathlib.Core.Option.{some};
 ghost use lib.ListN.{get_elem?};
 ghost use Rattle.std.specs.Slots.{slots_items, slots_len, IsFull};
 ghost use Rattle.lwkt_base.specs.declared.laws.Law.TheVariants.{Tally};
 ghost use Rattle.lwkt_bank.specs.Rule.{Bench, Rule, cell_word, plan_at};
 ghost use Rattle.lwkt_bank.specs.Notes.{note_at};
-ghost use Rattle.lwkt_bank.specs.Closing.{kept_of, kept_by, IsRead, AreRead, Left, IsReady};
+ghost use Rattle.lwkt_bank.specs.Closing.{kept_of, kept_by, IsRead, AreRead, Left, IsReady, HasRoom, IsEmptyRoom};
 ghost use Rattle.lwkt_bank.specs.Seats.{id_of, id_of_desk, cpus_of};
 ghost use Rattle.lwkt_bank.specs.Gathered.{IsClosed};
 
 use crate::banks::Bank;
+use crate::blanks::Blank;
 use crate::clerks::Desk;
 use crate::closed::Closed;
 use crate::gathers::gather;
 use crate::kept::Kept;
+use crate::rooms::{blanks_for, closed_for, put, put_cells};
 use crate::rules::{BankRule, Key};
 use crate::seats::CpuSeat;
 use crate::views::{Plan, View};
@@ -23,35 +25,34 @@ use lwkt_base::{Cells, Fault, Law};
 use lwkt_core::SeatKind;
 use std::alloc::{AllocError, Global};
 
-fn copy_words(
-    alloc: Global,
-    closed: &ClosedTable<(), Global>,
-    count: usize,
-) -> Result<Vec<u64>, AllocError>
+fn copy_words(closed: &ClosedTable<(), Global>, count: usize, mut words: Vec<u64>) -> Vec<u64>
     requires full { IsFull closed.now.words }
     requires count { count ≡ slots_len closed.now.words }
-    ensures { IfOk result (λ words. words.items ≡ slots_items closed.now.words) }
+    requires none { words.items ≡ [] }
+    requires room { count ≤ vec_capacity words }
+    ensures { result.items ≡ slots_items closed.now.words }
 {
-    let mut words = Vec::new(alloc);
     for i in 0..count {
-        words.push(closed.word(i))?;
+        put(&mut words, closed.word(i));
     }
-    Ok(words)
+    words
 }
 
 /// The words of a table whose clerk's seat came back with it: those of a state of the rule that has the clerk's view.
 pub(crate) fn last_words(
-    alloc: Global,
     table: Table<(), View, Key, BankRule, Global>,
     clerk: Seat<(), View>,
-) -> Result<Vec<u64>, AllocError>
+    words: Vec<u64>,
+) -> Vec<u64>
     requires same { clerk.table_id ≡ table.shared.table_id }
     requires slots { table.shared.table_id.slots ≡ 0 }
-    ensures { IfOk result (λ words. Left table.shared.key.plans.items table.shared.key.cpus clerk.id clerk.me.0 words.items) }
+    requires none { words.items ≡ [] }
+    requires room { table.shared.table_id.words ≤ vec_capacity words }
+    ensures { Left table.shared.key.plans.items table.shared.key.cpus clerk.id clerk.me.0 result.items }
 {
     let count = table.word_count();
     let closed = table.close_with(clerk);
-    let words = copy_words(alloc, &closed, count);
+    let words = copy_words(&closed, count, words);
     closed.free();
     words
 }
@@ -81,73 +82,77 @@ fn added(kept: &[Kept], tok: usize, cpu: usize) -> u64
 }
 
 // One number for each processor: what it has added to a Tally token.
-fn tallies_of(alloc: Global, kept: &[Kept], tok: usize, cpus: usize) -> Result<Vec<u64>, AllocError>
+fn tallies_of(kept: &[Kept], tok: usize, cpus: usize, mut tallies: Vec<u64>) -> Vec<u64>
     requires room { tok < 64 }
     requires fits { (cpu : ℕ) → kept_by kept.now tok cpu < 2 ^ 64 }
-    ensures { IfOk result (λ v. (length v.items ≡ cpus) × ((cpu : ℕ) → cpu < cpus → slice_index v.items cpu ≡ kept_by kept.now tok cpu)) }
+    requires none { tallies.items ≡ [] }
+    requires wide { cpus ≤ vec_capacity tallies }
+    ensures many { length result.items ≡ cpus }
+    ensures each { (cpu : ℕ) → cpu < cpus → slice_index result.items cpu ≡ kept_by kept.now tok cpu }
 {
-    let mut tallies = Vec::new(alloc);
     for cpu in 0..cpus {
-        tallies.push(added(kept, tok, cpu))?;
+        put(&mut tallies, added(kept, tok, cpu));
     }
-    Ok(tallies)
+    tallies
 }
 
 // The cells of a token.
-fn row_of(alloc: Global, words: &[u64], tok: usize, cells: usize) -> Result<Vec<u64>, AllocError>
+fn row_of(words: &[u64], tok: usize, cells: usize, mut row: Vec<u64>) -> Vec<u64>
     requires room { tok < 64 }
     requires inside { cell_word tok cells ≤ length words.now }
-    ensures { IfOk result (λ v. (length v.items ≡ cells) × ((cell : ℕ) → cell < cells → slice_index v.items cell ≡ slice_index words.now (cell_word tok cell))) }
+    requires none { row.items ≡ [] }
+    requires wide { cells ≤ vec_capacity row }
+    ensures many { length result.items ≡ cells }
+    ensures each { (cell : ℕ) → cell < cells → slice_index result.items cell ≡ slice_index words.now (cell_word tok cell) }
 {
-    let mut row = Vec::new(alloc);
     for cell in 0..cells {
-        row.push(words[16 * tok + 2 + cell])?;
+        put(&mut row, words[16 * tok + 2 + cell]);
     }
-    Ok(row)
+    row
 }
 
-fn tallies_by_law(
-    alloc: Global,
-    plan: Plan,
-    kept: &[Kept],
-    tok: usize,
-    cpus: usize,
-) -> Result<Vec<u64>, AllocError>
+fn tallies_by_law(plan: Plan, kept: &[Kept], tok: usize, cpus: usize, tallies: Vec<u64>) -> Vec<u64>
     requires room { tok < 64 }
     requires fits { plan.law ≡ Law.Tally → (cpu : ℕ) → kept_by kept.now tok cpu < 2 ^ 64 }
-    ensures none { IfOk result (λ v. plan.law ≢ Law.Tally → v.items ≡ []) }
-    ensures each { IfOk result (λ v. plan.law ≡ Law.Tally → (length v.items ≡ cpus) × ((cpu : ℕ) → cpu < cpus → slice_index v.items cpu ≡ kept_by kept.now tok cpu)) }
+    requires none { tallies.items ≡ [] }
+    requires wide { cpus ≤ vec_capacity tallies }
+    ensures none { plan.law ≢ Law.Tally → result.items ≡ [] }
+    ensures many { plan.law ≡ Law.Tally → length result.items ≡ cpus }
+    ensures each { plan.law ≡ Law.Tally → (cpu : ℕ) → cpu < cpus → slice_index result.items cpu ≡ kept_by kept.now tok cpu }
 {
     if plan.law == Law::Tally {
-        tallies_of(alloc, kept, tok, cpus)
+        tallies_of(kept, tok, cpus, tallies)
     } else {
-        Ok(Vec::new(alloc))
+        tallies
     }
 }
 
 // Adds the closing values of the next token.
 fn close_token(
-    alloc: Global,
     closed: &mut Closed,
     plan: Plan,
     words: &[u64],
     kept: &[Kept],
     cpus: usize,
-) -> Result<(), AllocError>
+    blank: Blank,
+)
     requires count { length closed.old.gens.items < 64 }
+    requires same { (length closed.old.rows.items ≡ length closed.old.gens.items) × (length closed.old.tallies.items ≡ length closed.old.gens.items) }
+    requires room { HasRoom closed.old (length closed.old.gens.items + 1) }
     requires wide { cell_word (length closed.old.gens.items) 4 ≤ length words.now }
     requires short { plan.cells ≤ 4 }
+    requires few { cpus ≤ 8 }
     requires fits { plan.law ≡ Law.Tally → (cpu : ℕ) → kept_by kept.now (length closed.old.gens.items) cpu < 2 ^ 64 }
-    ensures { OnOk result ((row : List ℕ) × (generation : ℕ) × (tallies : List ℕ) × IsRead plan cpus words.now kept.now (length closed.old.gens.items) row generation tallies
-        × (closed.new.rows.items ≡ closed.old.rows.items ++ row ∷ []) × (closed.new.gens.items ≡ closed.old.gens.items ++ generation ∷ []) × (closed.new.tallies.items ≡ closed.old.tallies.items ++ tallies ∷ [])) }
+    ensures read { (row : List ℕ) × (generation : ℕ) × (tallies : List ℕ) × IsRead plan cpus words.now kept.now (length closed.old.gens.items) row generation tallies
+        × (closed.new.rows.items ≡ closed.old.rows.items ++ row ∷ []) × (closed.new.gens.items ≡ closed.old.gens.items ++ generation ∷ []) × (closed.new.tallies.items ≡ closed.old.tallies.items ++ tallies ∷ []) }
+    ensures room { (tokens : ℕ) → HasRoom closed.old tokens → HasRoom closed.new tokens }
 {
     let tok = closed.gens.len();
-    let row = row_of(alloc, words, tok, plan.cells)?;
-    let tallies = tallies_by_law(alloc, plan, kept, tok, cpus)?;
-    closed.rows.push(Cells::from_vec(row))?;
-    closed.gens.push(words[16 * tok + 1] / 262144)?;
-    closed.tallies.push(Cells::from_vec(tallies))?;
-    Ok(())
+    let row = row_of(words, tok, plan.cells, blank.row);
+    let tallies = tallies_by_law(plan, kept, tok, cpus, blank.tallies);
+    put_cells(&mut closed.rows, Cells::from_vec(row));
+    put(&mut closed.gens, words[16 * tok + 1] / 262144);
+    put_cells(&mut closed.tallies, Cells::from_vec(tallies));
 }
 
 fn plan_in(plans: &[Plan], tok: usize) -> Plan
@@ -159,28 +164,27 @@ fn plan_in(plans: &[Plan], tok: usize) -> Plan
 
 // The closing values of all tokens.
 fn values(
-    alloc: Global,
     plans: &[Plan],
     words: &[u64],
     kept: &[Kept],
     cpus: usize,
-) -> Result<Closed, AllocError>
+    mut blanks: Vec<Blank>,
+    mut closed: Closed,
+) -> Closed
     requires few { length plans.now ≤ 64 }
+    requires processors { cpus ≤ 8 }
     requires wide { length words.now ≡ 16 * length plans.now + 1 }
     requires short { (tok : ℕ) → (plan_at plans.now tok).cells ≤ 4 }
     requires fits { ((k : ℕ) → slice_index words.now k < 2 ^ 64) → (tok : ℕ) → tok < length plans.now → (plan_at plans.now tok).law ≡ Law.Tally → (cpu : ℕ) → kept_by kept.now tok cpu < 2 ^ 64 }
-    ensures { IfOk result (λ closed. AreRead plans.now cpus words.now kept.now closed (length plans.now)) }
+    requires blank { length blanks.items ≡ length plans.now }
+    requires room { IsEmptyRoom closed (length plans.now) }
+    ensures { AreRead plans.now cpus words.now kept.now result (length plans.now) }
 {
-    let mut closed = Closed {
-        rows: Vec::new(alloc),
-        gens: Vec::new(alloc),
-        tallies: Vec::new(alloc),
-    };
-    for tok in 0..plans.len() {
-        let plan = plan_in(plans, tok);
-        close_token(alloc, &mut closed, plan, words, kept, cpus)?;
+    while let Some(blank) = blanks.pop() {
+        let plan = plan_in(plans, closed.gens.len());
+        close_token(&mut closed, plan, words, kept, cpus, blank);
     }
-    Ok(closed)
+    closed
 }
 
 impl Desk {
@@ -190,29 +194,33 @@ impl Desk {
         requires desk { (made : ℕ) × (self.clerk.me.0.kind ≡ SeatKind.Clerk made 0) }
         ensures { IfOk result (λ closed. IsClosed (id_of_desk self) self.key.cpus seats.items closed) }
     {
-        let mut kept = Vec::with_capacity(alloc, 8)?;
+        let mut kept = Vec::with_capacity(alloc, seats.len())?;
+        let words = Vec::with_capacity(alloc, self.table.word_count())?;
+        let blanks = blanks_for(alloc, self.key.plans.len())?;
+        let closed = closed_for(alloc, self.key.plans.len())?;
         let Desk {
             table,
             mut clerk,
             key,
         } = self;
-        gather(&table, &mut clerk, seats, &mut kept)?;
-        let words = last_words(alloc, table, clerk)?;
-        values(
-            alloc,
+        gather(&table, &mut clerk, seats, &mut kept);
+        let words = last_words(table, clerk, words);
+        Ok(values(
             key.plans.as_slice(),
             words.as_slice(),
             kept.as_slice(),
             key.cpus,
-        )
+            blanks,
+            closed,
+        ))
     }
 }
 
 impl Bank {
     /// Closes the bank, with all its seats, in any order. That there are as many as processors, all of this bank, and that
     /// each holds nothing is the caller's condition. What each seat knew of a token stands: the closing generation isn't
-    /// below the one that it last saw, and if it is that one, the row has each cell that it knew. Refused with `Memory` only
-    /// if an allocation is; the bank is then given up.
+    /// below the one that it last saw, and if it is that one, the row has each cell that it knew. All memory is taken before
+    /// the first seat is taken back. Refused with `Memory` only if an allocation is; the bank is then given up.
     pub fn close(self, alloc: Global, seats: Vec<CpuSeat>) -> Result<Closed, Fault>
         requires ready { All (IsReady (id_of self)) seats.items }
         requires all { length seats.items ≡ cpus_of self }

@@ -1,5 +1,5 @@
 //! The close: the clerk takes back all seats.
-ghost use Rattle.std.specs.Prelude.{◌≡◌, ℕ, ◌+◌, ◌<◌, ◌≤◌, [], ◌∷◌, length, All, vec_len, IfOk, OnOk};
+ghost use Rattle.std.specs.Prelude.{◌≡◌, ℕ, ◌+◌, ◌<◌, ◌≤◌, [], ◌∷◌, length, All, vec_len, vec_capacity};
 ghost use Rattle.lwkt_base.specs.declared.holdings.Held.TheVariants.{Nothing};
 ghost use Rattle.lwkt_core.specs.Seating.{total};
 ghost use Rattle.lwkt_bank.specs.Views.{at, amount, joined};
@@ -9,13 +9,14 @@ ghost use Rattle.lwkt_bank.specs.Closing.{IsReady, Gathering};
 use crate::banks::Bank;
 use crate::kept::Kept;
 use crate::plays::TakeBack;
+use crate::rooms::put_kept;
 use crate::rules::{BankRule, Key};
 use crate::seats::CpuSeat;
 use crate::views::View;
 use atomic_table::{Seat, Table};
 use lwkt_base::CpuId;
 use lwkt_core::SeatKind;
-use std::alloc::{AllocError, Global};
+use std::alloc::Global;
 
 // The clerk takes back a seat that holds nothing.
 fn join(
@@ -41,12 +42,13 @@ pub(crate) fn gather(
     clerk: &mut Seat<(), View>,
     mut seats: Vec<CpuSeat>,
     kept: &mut Vec<Kept>,
-) -> Result<(), AllocError>
+)
     requires same { clerk.old.table_id ≡ table.now.shared.table_id }
     requires words { 0 < table.now.shared.table_id.words }
     requires begin { Gathering (record { table = table.now.shared.table_id; plans = table.now.shared.key.plans.items }) clerk.old.me.0 seats.items seats.items kept.old.items 0 }
+    requires room { length kept.old.items + length seats.items ≤ vec_capacity kept.old }
     ensures same { (clerk.new.table_id ≡ clerk.old.table_id) × (clerk.new.id ≡ clerk.old.id) }
-    ensures done { OnOk result (Gathering (record { table = table.now.shared.table_id; plans = table.now.shared.key.plans.items }) clerk.new.me.0 seats.items [] kept.new.items (length seats.items)) }
+    ensures done { Gathering (record { table = table.now.shared.table_id; plans = table.now.shared.key.plans.items }) clerk.new.me.0 seats.items [] kept.new.items (length seats.items) }
 {
     while let Some(seat) = seats.pop() {
         let CpuSeat {
@@ -55,7 +57,6 @@ pub(crate) fn gather(
             cpu,
         } = seat;
         join(table, clerk, other, cpu);
-        kept.push(Kept { notes, cpu })?;
+        put_kept(kept, Kept { notes, cpu });
     }
-    Ok(())
 }

@@ -1,6 +1,12 @@
 //! What the bank's rule is for, as laws.
 ghost use Rattle.lwkt_bank.specs.Laws.{RuleShowsSafety, StatesAreReached, ViewsDecide, OpeningIsDeclared, SplitIsNoDeed, JoinIsNoDeed, MadeAsTold, NothingUntold, LookIsLoad, ExchangeIsTake, ExchangeIsShare, AddIsAgain, OrIsMark, SubIsGiveOne, SubIsGiveClean, AddIsGiveWritten, CellLoadIsRead, CellStoreIsWrite, TallyStoreIsWrite, DeedsAreTold};
+ghost use Rattle.lwkt_bank.specs.Rule.{Bench};
+ghost use Rattle.lwkt_bank.specs.Told.{Told};
 ghost use Rattle.lwkt_bank.specs.Holdings.{TakingAdds, AgainAdds, GivingRemoves, OthersKeep, NothingCounts, AddedCounts};
+
+use crate::rules::{BankRule, Key};
+use crate::views::View;
+use atomic_table::TableRule;
 
 /// Every state of the table that meets the rule shows a safe machine of the model, holders and tallies by processor, and each
 /// view knows what is true of it. The kit keeps the rule between any two steps of any number of seats.
@@ -63,3 +69,14 @@ pub fn references_are_counted()
     ensures nothing { NothingCounts }
     ensures added { AddedCounts }
 {}
+
+// Asks that the rule of a table be that of the laws here.
+fn is_that_of_the_laws<R: TableRule<(), View, Key>>()
+    requires { (key : Key) (s : Bench) → (R.holds key s → Told key.plans.items key.cpus s) × (Told key.plans.items key.cpus s → R.holds key s) }
+{}
+
+/// The rule that the bank's table keeps, `BankRule`, is that of the laws here: the body asks so of it, and any other rule is
+/// refused there.
+pub fn bank_keeps_that_rule() {
+    is_that_of_the_laws::<BankRule>();
+}

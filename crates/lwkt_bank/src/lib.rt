@@ -2,6 +2,7 @@
 #![tactic(auto)]
 
 pub mod banks;
+mod blanks;
 mod cells;
 mod clerks;
 pub mod closed;
@@ -16,6 +17,7 @@ mod opens;
 mod plans;
 mod plays;
 mod rests;
+mod rooms;
 mod rows;
 pub mod rules;
 pub mod seats;

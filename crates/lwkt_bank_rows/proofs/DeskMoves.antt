@@ -9,12 +9,13 @@ use Rattle.lwkt_base.specs.declared.holdings.Held.{Held}
 use Rattle.lwkt_base.specs.declared.holdings.Held.TheVariants.{Nothing, Holds}
 use Rattle.lwkt_base.specs.Refs.{first_mode}
 use Rattle.lwkt_base.specs.Holding.{Holding, mode_of, is_held, added, removed, holding_of, holds_nothing, ListsAreHeld, AcquiringAdds, ReleasingRemoves}
-use Rattle.lwkt_core.specs.declared.seats.WordStep.{WordStep}
+use Rattle.lwkt_core.specs.declared.seats.Deed.{Deed}
 use Rattle.lwkt_bank.specs.declared.views.Entry.{Entry}
 use Rattle.lwkt_bank.specs.declared.seats.CpuSeat.{CpuSeat}
 use Rattle.lwkt_bank.specs.declared.tries.Given.{Given}
 use Rattle.lwkt_bank.specs.declared.tries.Given.TheVariants.{One, Clean, Written}
-use Rattle.lwkt_bank.specs.Views.{count_from, generation_in, looked, more, add}
+use Rattle.lwkt_bank.specs.Views.{count_from, generation_in, looked, more}
+use Rattle.lwkt_bank.specs.Deeds.{adds_one}
 use Rattle.lwkt_bank.specs.Seats.{BankId, bank_of, tokens_of, entry, holding, references, Changes, Looked, Took, Lost, Stepped, Gave}
 use Rattle.lwkt_bank.specs.Gathered.{IsNew, AreHandedOut}
 use Rattle.lwkt_bank.specs.Closing.{IsReady}
@@ -68,7 +69,7 @@ sits_kept bank s s' refs sits same kept = record {
   counted = counted_as bank s' (holding s) (same ∙ sits.of) kept ∙ sym (counted_as bank s (holding s) sits.of refl) ∙ sits.counted;
 }
 
-pub sits_changed : OthersKeep → (bank : BankId) (s s' : CpuSeat) (refs : List Ref) (tok : ℕ) (e : Entry) (made : List WordStep) → Sits bank s refs → Changes s s' tok e made → e.held ≡ holding s tok → Sits bank s' refs
+pub sits_changed : OthersKeep → (bank : BankId) (s s' : CpuSeat) (refs : List Ref) (tok : ℕ) (e : Entry) (made : List Deed) → Sits bank s refs → Changes s s' tok e made → e.held ≡ holding s tok → Sits bank s' refs
 sits_changed others bank s s' refs tok e made sits changes is = sits_kept bank s s' refs sits changes.bank (others s s' tok e made changes is)
 
 looked_if : (b : Bool) (e : Entry) (g : ℕ) → (cond b e (record e { generation = g; known = [] })).held ≡ e.held
@@ -116,7 +117,7 @@ sits_taken taking counts adds lists bank s s' refs refs' r alone generation sits
     in_list bank s' (refs ++ r ∷ []) refs' is
     (sits_more counts adds bank s s' refs r sits took.changes.bank there (taking s s' r.tok.0 generation r.mode alone free took))
 
-pub sits_again : AgainAdds → AddedCounts → AcquiringAdds → (bank : BankId) (s s' : CpuSeat) (refs refs' : List Ref) (r : Ref) → Sits bank s refs → r.tok.0 < tokens_of bank → r.mode ≡ Shared → Stepped s s' r.tok.0 (more (entry s r.tok.0)) (add r.tok.0 4) → refs' ≡ refs ++ r ∷ [] → Sits bank s' refs'
+pub sits_again : AgainAdds → AddedCounts → AcquiringAdds → (bank : BankId) (s s' : CpuSeat) (refs refs' : List Ref) (r : Ref) → Sits bank s refs → r.tok.0 < tokens_of bank → r.mode ≡ Shared → Stepped s s' r.tok.0 (more (entry s r.tok.0)) adds_one → refs' ≡ refs ++ r ∷ [] → Sits bank s' refs'
 sits_again agains counts adds bank s s' refs refs' r sits there shared stepped is =
     in_list bank s' (refs ++ r ∷ []) refs' is
     (sits_more counts adds bank s s' refs r sits stepped.changes.bank there (agains s s' r.tok.0 stepped ∙ ap (λ m. added (holding s) r.tok.0 m) (sym shared)))

@@ -7,13 +7,14 @@ use Rattle.lwkt_base.specs.declared.names.Mode.TheVariants.{Exclusive, Shared}
 use Rattle.lwkt_base.specs.declared.holdings.Held.{Held}
 use Rattle.lwkt_base.specs.declared.holdings.Held.TheVariants.{Nothing, Holds}
 use Rattle.lwkt_base.specs.Holding.{Holding, is_held, added, removed, holds_nothing, RemovingUndoesAdding}
-use Rattle.lwkt_core.specs.declared.seats.WordStep.{WordStep}
+use Rattle.lwkt_core.specs.declared.seats.Deed.{Deed}
 use Rattle.lwkt_bank.specs.declared.views.Entry.{Entry}
 use Rattle.lwkt_bank.specs.declared.views.KnownCell.{KnownCell}
 use Rattle.lwkt_bank.specs.declared.seats.CpuSeat.{CpuSeat}
 use Rattle.lwkt_bank.specs.declared.tries.Given.{Given}
 use Rattle.lwkt_bank.specs.declared.tries.Given.TheVariants.{One, Clean, Written}
-use Rattle.lwkt_bank.specs.Views.{count_from, generation_in, looked, read, less, sub}
+use Rattle.lwkt_bank.specs.Views.{count_from, generation_in, looked, read, less}
+use Rattle.lwkt_bank.specs.Deeds.{gives_one, reads}
 use Rattle.lwkt_bank.specs.Seats.{BankId, bank_of, tokens_of, entry, holding, references, Changes, Looked, Took, Lost, Stepped, Gave}
 use Rattle.lwkt_bank.specs.Holdings.{TakingAdds, GivingRemoves, OthersKeep, NothingCounts}
 use Rattle.lwkt_bank_rows.specs.Readings.{IsEmpty, HasRead, IsFresh}
@@ -27,7 +28,7 @@ looked-generation : (e : Entry) (word : ℕ) → (looked e word).generation ≡ 
 looked-generation e word = seen_if (eqb e.generation (generation_in word)) e (generation_in word) (eqb-true e.generation (generation_in word))
 
 -- a seat that holds nothing still does after a call that keeps what is held
-pub empty_kept : OthersKeep → (bank : BankId) (s s' : CpuSeat) (tok : ℕ) (e : Entry) (made : List WordStep) → IsEmpty bank s → Changes s s' tok e made → e.held ≡ holding s tok → IsEmpty bank s'
+pub empty_kept : OthersKeep → (bank : BankId) (s s' : CpuSeat) (tok : ℕ) (e : Entry) (made : List Deed) → IsEmpty bank s → Changes s s' tok e made → e.held ≡ holding s tok → IsEmpty bank s'
 empty_kept others bank s s' tok e made empty changes is = record {
   of = changes.bank ∙ empty.of;
   empty = others s s' tok e made changes is ∙ empty.empty;
@@ -49,13 +50,13 @@ empty_few nothing bank s empty =
 pub record Reads (s0 s1 s2 s3 : CpuSeat) (tok cell generation value : ℕ) (alone : Bool) (given : Given) : Type 0 where
   pub took : Took s0 s1 tok Shared alone generation
   pub value_is : value ≡ slice_index (entry s1 tok).row cell
-  pub loaded : Changes s1 s2 tok (read (entry s1 tok) cell) []
+  pub loaded : Changes s1 s2 tok (read (entry s1 tok) cell) (reads s1.cpu tok cell value ∷ [])
   pub gave : Gave s2 s3 tok given
 
 pub taken_shared : (s s' : CpuSeat) (tok generation : ℕ) (alone : Bool) → Took s s' tok Shared alone generation → holding s' tok ≡ Holds Shared 0
 taken_shared s s' tok generation alone took = ap (λ (e : Entry). e.held) took.changes.here
 
-pub loaded_shared : (s0 s1 s2 : CpuSeat) (tok cell generation : ℕ) (alone : Bool) → Took s0 s1 tok Shared alone generation → Changes s1 s2 tok (read (entry s1 tok) cell) [] → holding s2 tok ≡ Holds Shared 0
+pub loaded_shared : {deeds : List Deed} (s0 s1 s2 : CpuSeat) (tok cell generation : ℕ) (alone : Bool) → Took s0 s1 tok Shared alone generation → Changes s1 s2 tok (read (entry s1 tok) cell) deeds → holding s2 tok ≡ Holds Shared 0
 loaded_shared s0 s1 s2 tok cell generation alone took loaded = ap (λ (e : Entry). e.held) loaded.here ∙ taken_shared s0 s1 tok generation alone took
 
 pub held_shared : (held : Held) → held ≡ Holds Shared 0 → is_held held ≡ true
@@ -64,12 +65,12 @@ held_shared held is = ap is_held is
 pub not_exclusive : (held : Held) → held ≡ Holds Shared 0 → held ≡ Holds Exclusive 0 → ⊥
 not_exclusive held is isnt = cc
 
-gave_shared : (s s' : CpuSeat) (tok : ℕ) (given : Given) → holding s tok ≡ Holds Shared 0 → Gave s s' tok given → Stepped s s' tok (less (entry s tok)) (sub tok 4)
+gave_shared : (s s' : CpuSeat) (tok : ℕ) (given : Given) → holding s tok ≡ Holds Shared 0 → Gave s s' tok given → Stepped s s' tok (less (entry s tok)) gives_one
 gave_shared s s' tok One is gave = gave.1
 gave_shared s s' tok Clean is gave = absurd (not_exclusive (holding s tok) is gave.0)
 gave_shared s s' tok Written is gave = absurd (not_exclusive (holding s tok) is gave.0)
 
-given_reads : (s0 s1 s2 s3 : CpuSeat) (tok cell generation value : ℕ) (alone : Bool) (given : Given) → Reads s0 s1 s2 s3 tok cell generation value alone given → Stepped s2 s3 tok (less (entry s2 tok)) (sub tok 4)
+given_reads : (s0 s1 s2 s3 : CpuSeat) (tok cell generation value : ℕ) (alone : Bool) (given : Given) → Reads s0 s1 s2 s3 tok cell generation value alone given → Stepped s2 s3 tok (less (entry s2 tok)) gives_one
 given_reads s0 s1 s2 s3 tok cell generation value alone given r = gave_shared s2 s3 tok given (loaded_shared s0 s1 s2 tok cell generation alone r.took r.loaded) r.gave
 
 -- after it the seat holds nothing again
@@ -77,7 +78,7 @@ pub empty_read : TakingAdds → OthersKeep → GivingRemoves → RemovingUndoesA
 empty_read taking others giving undoes bank s0 s1 s2 s3 tok cell generation value alone given empty r =
     let free : holding s0 tok ≡ Nothing = ap (λ (h : Holding). h tok) empty.empty in
     let one : holding s1 ≡ added holds_nothing tok Shared = taking s0 s1 tok generation Shared alone free r.took ∙ ap (λ (h : Holding). added h tok Shared) empty.empty in
-    let two : holding s2 ≡ added holds_nothing tok Shared = others s1 s2 tok (read (entry s1 tok) cell) [] r.loaded refl ∙ one in
+    let two : holding s2 ≡ added holds_nothing tok Shared = others s1 s2 tok (read (entry s1 tok) cell) (reads s1.cpu tok cell value ∷ []) r.loaded refl ∙ one in
     record {
       of = (given_reads s0 s1 s2 s3 tok cell generation value alone given r).changes.bank ∙ r.loaded.bank ∙ r.took.changes.bank ∙ empty.of;
       empty = giving s2 s3 tok given r.gave ∙ ap (λ (h : Holding). removed h tok) two ∙ undoes holds_nothing tok Shared;

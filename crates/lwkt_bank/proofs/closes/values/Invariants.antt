@@ -1,5 +1,14 @@
-use Rattle.lwkt_bank.specs.Closing.{AreRead}
+use Rattle.std.proofs.Common.{◌≡◌, ◌+◌, length}
+use Rattle.std.specs.Prelude.{vec_len}
+use Rattle.lwkt_bank.specs.Closing.{AreRead, HasRoom}
 use Rattle.lwkt_bank.proofs.closes.values.Given as goal
 
-abbrev pub invariant-loop-tok : goal.invariant-loop-tok
-invariant-loop-tok l = AreRead l.plans l.cpus l.words l.kept l.closed l.tok
+abbrev pub invariant-loop-blank : goal.invariant-loop-blank
+invariant-loop-blank l = record {
+  read : AreRead l.plans l.cpus l.words l.kept l.closed (length l.closed.gens.items);
+  left : length l.closed.gens.items + length l.blanks.items ≡ length l.plans;
+  room : HasRoom l.closed (length l.plans);
+}
+
+abbrev pub decreases-loop-blank : goal.decreases-loop-blank
+decreases-loop-blank l = vec_len l.blanks

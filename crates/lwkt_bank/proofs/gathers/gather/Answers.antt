@@ -2,7 +2,7 @@ use Rattle.std.proofs.Common.{ap, sym, refl, ◌∙◌, ◌+◌, ◌-◌, ℕ, L
 use Rattle.lwkt_bank.specs.declared.kept.Kept.{Kept}
 use Rattle.lwkt_bank.specs.Seats.{BankId}
 use Rattle.lwkt_bank.specs.Closing.{Gathering}
-use Rattle.lwkt_bank.proofs.KeptMoves.{gathering_more}
+use Rattle.lwkt_bank.proofs.KeptMoves.{gathering_more, kept_longer}
 use Rattle.lwkt_bank.proofs.gathers.gather.Goals as goal
 
 pub loop-seat-preserved : goal.loop-seat-preserved
@@ -16,11 +16,19 @@ loop-seat-preserved c =
     let last = c.in-Some.ensures.items in
     let longer = ap length last in
     let more = length-append front (c.in-Some.seat ∷ []) in
-    let F : ℕ → Type 0 = λ b. Gathering bank c.join.new.clerk.me.0 all front c.push.new.self.items b in
+    let F : ℕ → Type 0 = λ b. Gathering bank c.join.new.clerk.me.0 all front c.put_kept.new.list.items b in
     let G : List Kept → Type 0 = λ ks. Gathering bank c.join.new.clerk.me.0 all front ks (length all - length rest + 1) in
     let step = gathering_more bank c.loop-seat.clerk.me.0 c.join.new.clerk.me.0 all rest front c.in-Some.seat c.loop-seat.kept.items _ (length all - length rest) i.so_far last (ap (λ m. m.0) c.join.ensures.2) refl refl in
     record {
       same = c.join.ensures.0 ∙ i.same;
       id = c.join.ensures.1 ∙ i.id;
-      so_far = subst F (omega arith) (subst G (sym c.in_ok-push.ensures.items) step);
+      room = (let old = i.room in let wider = c.put_kept.ensures.room in let one = kept_longer c.loop-seat.kept.items c.put_kept.new.list.items _ c.put_kept.ensures.items in omega arith);
+      so_far = subst F (omega arith) (subst G (sym c.put_kept.ensures.items) step);
     }
+
+pub put_kept-requires : goal.put_kept-requires
+put_kept-requires c =
+    let old = c.loop-seat.invariant.room in
+    let longer = ap length c.in-Some.ensures.items in
+    let more = length-append c.pop.new.self.items (c.in-Some.seat ∷ []) in
+    omega arith

@@ -1,6 +1,5 @@
 use Rattle.std.proofs.Common.{sym, ◌≡◌, ◌<◌, ℕ, List, length, subst}
-use Rattle.std.specs.Prelude.{IfOk, slice_index}
-use Rattle.std.proofs.lemmas.Result.{IfOk-weaker}
+use Rattle.std.specs.Prelude.{slice_index}
 use Rattle.lwkt_base.specs.declared.laws.Law.TheVariants.{Tally}
 use Rattle.lwkt_bank.specs.declared.views.Plan.{Plan}
 use Rattle.lwkt_bank.specs.declared.kept.Kept.{Kept}
@@ -8,8 +7,7 @@ use Rattle.lwkt_bank.specs.declared.rules.Key.{Key}
 use Rattle.lwkt_bank.specs.Rule.{plan_at}
 use Rattle.lwkt_bank.specs.Closing.{AreRead, Gathering, kept_by}
 use Rattle.lwkt_bank.specs.Seats.{id_of_desk}
-use Rattle.lwkt_bank.specs.Gathered.{IsClosed}
-use Rattle.lwkt_bank.proofs.KeptMoves.{gathering_none, bank_fits, bank_closed}
+use Rattle.lwkt_bank.proofs.KeptMoves.{gathering_none, bank_fits, bank_few, bank_closed}
 use Rattle.lwkt_bank.proofs.clerks.Desk.close_seats.Goals as goal
 
 pub gather-requires-clause-begin : goal.gather-requires-clause-begin
@@ -27,16 +25,18 @@ values-requires-clause-fits c =
     let F : List Plan → List ℕ → List Kept → Type 0 = λ ps ws ks. ((k : ℕ) → slice_index ws k < 18446744073709551616) → (tok : ℕ) → tok < length ps → (plan_at ps tok).law ≡ Tally → (cpu : ℕ) → kept_by ks tok cpu < 18446744073709551616 in
     let ps = c.as_slice.result.now in
     let ws = c.as_slice-2.result.now in
-    subst (λ ks. F ps ws ks) (sym c.as_slice-3.ensures.value) (subst (λ x. F ps x c.gather.new.kept.items) (sym c.as_slice-2.ensures.value) (subst (λ x. F x c.in_ok-words.words.items c.gather.new.kept.items) (sym c.as_slice.ensures.value)
-    (bank_fits b c.gather.new.clerk.id c.gather.new.clerk.me.0 c.in_ok-words.words.items c.args.seats.items c.gather.new.kept.items c.in_ok-words.ensures c.in_ok-gather.ensures.done c.requires.all)))
+    subst (λ ks. F ps ws ks) (sym c.as_slice-3.ensures.value) (subst (λ x. F ps x c.gather.new.kept.items) (sym c.as_slice-2.ensures.value) (subst (λ x. F x c.last_words-words.result.items c.gather.new.kept.items) (sym c.as_slice.ensures.value)
+    (bank_fits b c.gather.new.clerk.id c.gather.new.clerk.me.0 c.last_words-words.result.items c.args.seats.items c.gather.new.kept.items c.last_words-words.ensures c.gather.ensures.done c.requires.all)))
+
+pub values-requires-clause-processors : goal.values-requires-clause-processors
+values-requires-clause-processors c = bank_few c.args.self c.gather.new.clerk.id c.gather.new.clerk.me.0 c.last_words-words.result.items c.args.seats.items c.gather.new.kept.items c.last_words-words.ensures c.gather.ensures.done c.requires.all
 
 pub returns : goal.returns
 returns c =
     let b = c.args.self in
-    let F : List Plan → List ℕ → List Kept → Type 0 = λ ps ws ks. IfOk c.values.result (λ closed. AreRead ps b.key.cpus ws ks closed (length ps)) in
+    let F : List Plan → List ℕ → List Kept → Type 0 = λ ps ws ks. AreRead ps b.key.cpus ws ks c.values.result (length ps) in
     let ks = c.as_slice-3.result.now in
     let ws = c.as_slice-2.result.now in
-    let read : F b.key.plans.items c.in_ok-words.words.items c.gather.new.kept.items =
-    subst (λ x. F b.key.plans.items c.in_ok-words.words.items x) c.as_slice-3.ensures.value (subst (λ x. F b.key.plans.items x ks) c.as_slice-2.ensures.value (subst (λ x. F x ws ks) c.as_slice.ensures.value c.values.ensures)) in
-    IfOk-weaker c.values.result (λ closed. AreRead b.key.plans.items b.key.cpus c.in_ok-words.words.items c.gather.new.kept.items closed (length b.key.plans.items)) (λ closed. IsClosed (id_of_desk b) b.key.cpus c.args.seats.items closed)
-    (λ closed is. bank_closed b c.gather.new.clerk.id c.gather.new.clerk.me.0 c.in_ok-words.words.items c.args.seats.items c.gather.new.kept.items c.in_ok-words.ensures c.in_ok-gather.ensures.done c.requires.all closed is) read
+    let read : F b.key.plans.items c.last_words-words.result.items c.gather.new.kept.items =
+    subst (λ x. F b.key.plans.items c.last_words-words.result.items x) c.as_slice-3.ensures.value (subst (λ x. F b.key.plans.items x ks) c.as_slice-2.ensures.value (subst (λ x. F x ws ks) c.as_slice.ensures.value c.values.ensures)) in
+    bank_closed b c.gather.new.clerk.id c.gather.new.clerk.me.0 c.last_words-words.result.items c.args.seats.items c.gather.new.kept.items c.last_words-words.ensures c.gather.ensures.done c.requires.all c.values.result read

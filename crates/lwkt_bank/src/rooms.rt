@@ -1,0 +1,61 @@
+//! Room for what a close reads: all of it is made before the first seat is taken back.
+ghost use Rattle.std.specs.Prelude.{◌≡◌, ◌<◌, ◌≤◌, [], ◌∷◌, ◌++◌, length, IfOk, vec_capacity};
+ghost use Rattle.lwkt_bank.specs.Closing.{IsEmptyRoom};
+
+use crate::blanks::Blank;
+use crate::closed::Closed;
+use crate::kept::Kept;
+use lwkt_base::Cells;
+use std::alloc::{AllocError, Global};
+
+/// Appends a number to a list that has room.
+pub(crate) fn put(list: &mut Vec<u64>, value: u64)
+    requires { length list.old.items < vec_capacity list.old }
+    ensures items { list.new.items ≡ list.old.items ++ value ∷ [] }
+    ensures room { vec_capacity list.old ≤ vec_capacity list.new }
+{
+    let _ = list.push(value);
+}
+
+/// Appends cells to a list that has room.
+pub(crate) fn put_cells(list: &mut Vec<Cells>, cells: Cells)
+    requires { length list.old.items < vec_capacity list.old }
+    ensures items { list.new.items ≡ list.old.items ++ cells ∷ [] }
+    ensures room { vec_capacity list.old ≤ vec_capacity list.new }
+{
+    let _ = list.push(cells);
+}
+
+/// Appends what a seat had kept to a list that has room.
+pub(crate) fn put_kept(list: &mut Vec<Kept>, kept: Kept)
+    requires { length list.old.items < vec_capacity list.old }
+    ensures items { list.new.items ≡ list.old.items ++ kept ∷ [] }
+    ensures room { vec_capacity list.old ≤ vec_capacity list.new }
+{
+    let _ = list.push(kept);
+}
+
+/// Room for the rows and tallies of so many tokens.
+pub(crate) fn blanks_for(alloc: Global, tokens: usize) -> Result<Vec<Blank>, AllocError>
+    ensures { IfOk result (λ blanks. length blanks.items ≡ tokens) }
+{
+    let mut blanks = Vec::with_capacity(alloc, tokens)?;
+    for _token in 0..tokens {
+        blanks.push(Blank::new(alloc)?)?;
+    }
+    Ok(blanks)
+}
+
+/// Room for the closing values of so many tokens.
+pub(crate) fn closed_for(alloc: Global, tokens: usize) -> Result<Closed, AllocError>
+    ensures { IfOk result (λ closed. IsEmptyRoom closed tokens) }
+{
+    let rows = Vec::with_capacity(alloc, tokens)?;
+    let gens = Vec::with_capacity(alloc, tokens)?;
+    let tallies = Vec::with_capacity(alloc, tokens)?;
+    Ok(Closed {
+        rows,
+        gens,
+        tallies,
+    })
+}
