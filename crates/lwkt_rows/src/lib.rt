@@ -14,6 +14,8 @@ mod desks;
 #[cfg(test)]
 mod fixtures;
 #[cfg(test)]
+mod full_books;
+#[cfg(test)]
 mod hold_desks;
 #[cfg(test)]
 mod hold_rows;
