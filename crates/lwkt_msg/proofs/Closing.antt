@@ -13,7 +13,7 @@ use Rattle.lwkt_core.proofs.SeatingLemmas.{total-snoc}
 use Rattle.lwkt_msg.specs.declared.views.Entry.{Entry}
 use Rattle.lwkt_msg.specs.declared.views.View.{View}
 use Rattle.lwkt_msg.specs.Views.{word_at, added, at, clerk_both}
-use Rattle.lwkt_msg.specs.Desks.{Desk, IsChapter, IsTaking, HasTakenBack, AreShown, shown_end}
+use Rattle.lwkt_msg.specs.Desks.{Desk, IsChapter, IsRecalled, IsTaking, HasTakenBack, AreShown, shown_end}
 use Rattle.lwkt_msg.proofs.Splitting.{at-none, at-both}
 
 -- no seat is taken back yet
@@ -22,6 +22,7 @@ taking_none cpus v seats kind none = record {
   behind = [];
   in_order = sym (append-nil seats);
   chapters = All-nil (λ (d : Desk). IsChapter v d);
+  recalled = All-nil (λ (d : Desk). IsRecalled v d);
   back = 0;
   kind = kind;
   as_many = omega arith;
@@ -43,6 +44,7 @@ taking_more cpus v seats left seat w t = record {
   behind = seat ∷ t.behind;
   in_order = t.in_order ∙ append_assoc left (seat ∷ []) t.behind;
   chapters = All-cons (λ (d : Desk). IsChapter (clerk_both w seat.view) d) seat t.behind (0, refl) (λ k x low. let old = t.chapters k x low in (suc old.0, old.1));
+  recalled = All-cons (λ (d : Desk). IsRecalled (clerk_both w seat.view) d) seat t.behind (0, refl) (λ k x low. let old = t.recalled k x low in (suc old.0, old.1));
   back = t.back + 1;
   kind = ap after_back t.kind;
   as_many = let a = t.as_many in let b = length-append left (seat ∷ []) in omega arith;
@@ -68,6 +70,7 @@ taking_more cpus v seats left seat w t = record {
 pub taking_all : (cpus : ℕ) (v : View) (seats : List Desk) (w : View) → IsTaking cpus v seats [] w → HasTakenBack cpus v seats w
 taking_all cpus v seats w t = record {
   chapters = let F : List Desk → Type 0 = λ ds. All (λ (d : Desk). IsChapter w d) ds in subst F (sym t.in_order) t.chapters;
+  recalled = let F : List Desk → Type 0 = λ ds. All (λ (d : Desk). IsRecalled w d) ds in subst F (sym t.in_order) t.recalled;
   kind = t.kind ∙ ap (λ (n : ℕ). Clerk cpus n) (let a = t.as_many in omega arith);
   cpus_is = t.cpus_is;
   specs_is = t.specs_is;

@@ -9,21 +9,22 @@ use Rattle.lwkt_base.specs.declared.owners.Owner.TheVariants.{Rest, Out, With, B
 use Rattle.lwkt_base.specs.declared.openings.MsgSpec.{MsgSpec}
 use Rattle.lwkt_base.specs.declared.records.Rec.{Rec}
 use Rattle.lwkt_core.specs.declared.seats.SeatKind.{SeatKind}
-use Rattle.lwkt_core.specs.declared.seats.SeatKind.TheVariants.{Clerk, Spent}
+use Rattle.lwkt_core.specs.declared.seats.SeatKind.TheVariants.{Clerk, Of, Spent}
 use Rattle.lwkt_core.specs.Messages.{IsSafeMessage, origin_of}
 use Rattle.lwkt_core.specs.Seating.{total}
 use Rattle.lwkt_core.proofs.SeatingLemmas.{at_map, total-only, AreSeated-closed}
 use Rattle.lwkt_msg.specs.declared.views.Entry.{Entry}
 use Rattle.lwkt_msg.specs.declared.views.Layout.{Layout}
 use Rattle.lwkt_msg.specs.declared.views.View.{View}
-use Rattle.lwkt_msg.specs.Views.{word_at, spec_at, at, page_of}
+use Rattle.lwkt_msg.specs.Views.{word_at, spec_at, at, page_of, recalled_of}
 use Rattle.lwkt_msg.specs.Steps.{machine_of}
 use Rattle.lwkt_msg.specs.Told.{IsDone, first_mails, Told}
 use Rattle.lwkt_core.specs.History.{Passes, IsPastOf}
 use Rattle.lwkt_core.proofs.HistoryLemmas.{Passes-run, events_by-past, steps_by-past}
 use Rattle.lwkt_core.proofs.ViewLemmas.{Views-part, Views-others}
 use Rattle.lwkt_msg.proofs.Running.{done_runs}
-use Rattle.lwkt_msg.specs.Book.{Mail, parts_of, state_of, shown_target, HasNoCounts, mail_at, Rule}
+use Rattle.lwkt_msg.proofs.Recalling.{recalled-same}
+use Rattle.lwkt_msg.specs.Book.{Mail, parts_of, state_of, shown_target, Knows, HasNoCounts, mail_at, Rule}
 use Rattle.lwkt_msg.specs.Desks.{Desk, Shelf, cpu_of, past_of, IsHistory, IsClosed, AreClosed, AreShown, HasTakenBack, shown_by, shown_end}
 use Rattle.lwkt_msg.proofs.Leading.{fits_of}
 
@@ -83,6 +84,11 @@ closes book key seats v w id words ends s cpus_is specs_is v_specs all taken tol
   as_many = shown.as_many ∙ ap (λ (xs : List MsgSpec). length xs) (sym specs_is);
   mails = rule.mails;
   history = told.chronicle.history;
+  known = λ k d low m within.
+      let seat : Desk = slice_index_or seats k d in
+      let i = taken.recalled k d low in
+      let F : Entry → Type 0 = λ x. Knows (mail_at told.rule.mails m) (Of (cpu_of seat)) x in
+      subst F (recalled-same seat.view m) (told.recalls.knows id i.0 w (recalled_of seat.view) m at_id i.1 (subst (λ (xs : List MsgSpec). m < length xs) specs_is within));
   is_history = is_history book key seats v w id s cpus_is specs_is all taken told at_id;
   each = λ m d within. each m (get_or ends m d) (get_there ends m d (let a = shown.as_many in let b = ap (λ (xs : List MsgSpec). length xs) specs_is in omega arith));
 }

@@ -43,8 +43,13 @@ use Rattle.lwkt_msg.proofs.Knowing.{Changes-noted}
 use Rattle.lwkt_msg.proofs.Frames.{CountsWith, kept_step, stands_alone, seat_plan, IsBook-moved}
 use Rattle.lwkt_msg.proofs.Moves.{owned, mail_after, mail_sent, never, send_others, send_mine, take_others, take_mine, reply_others, reply_mine, reap_others, reap_mine, drop_others, drop_mine, abort_others, abort_mine, hand_others, hand_mine}
 
+-- who doesn't stand for this processor still knows what is so
+abbrev pub KeptByOthers : ℕ → Mail → Mail → Type 0
+KeptByOthers cpu mail after = (kind : SeatKind) (e : Entry) → (Stands kind cpu → ⊥) → Knows mail kind e → Knows after kind e
+
 -- a step on a message after which the table is a book again, in which this word shows it, and the event that the step is
-pub record LeadsTo (key : Layout) (mails : List Mail) (m : ℕ) (after : Mail) (event : Event) (word : ℕ) (s : State Rec View) : Type 0 where
+pub record LeadsTo (key : Layout) (mails : List Mail) (m cpu : ℕ) (after : Mail) (event : Event) (word : ℕ) (s : State Rec View) : Type 0 where
+  pub others : KeptByOthers cpu (mail_at mails m) after
   pub shows : word ≡ message_word (parts_of after)
   pub book : IsBook key (set mails m after) s
   pub happens : Happens (machine_of key.cpus mails) event (machine_of key.cpus (set mails m after))
@@ -161,9 +166,10 @@ module _ (key : Layout) (mails : List Mail) (s : State Rec View) (id : ℕ) (v :
   leads : (mail' : Mail) (event : Event) (word' : ℕ) (homes' : List (maybe.Option Rec)) (e' : Entry) (between : List Deed) (did : Deed)
       → length homes' ≡ length s.homes → ((k : ℕ) → k ≢ m → get_elem? homes' (slot_at k) ≡ get_elem? s.homes (slot_at k))
       → IsKept key.cpus (spec_at key.specs.items m) mail' word' (get_elem? homes' (slot_at m)) m (set s.views id (noted between v m e' did))
-      → place_of event ≡ AtMessage m → adds_reference event ≡ false → cpu_of event < key.cpus → MessageNeeds key.cpus mail.msg event → mail'.msg ≡ message_after mail.msg event
-      → LeadsTo key mails m mail' event word' record { words = set s.words (word_at m) word'; homes = homes'; views = set s.views id (noted between v m e' did) }
-  leads mail' event word' homes' e' between did as_deep slots now place adds by needs is = record {
+      → place_of event ≡ AtMessage m → adds_reference event ≡ false → cpu_of event < key.cpus → MessageNeeds key.cpus mail.msg event → mail'.msg ≡ message_after mail.msg event → KeptByOthers cpu.0 mail mail'
+      → LeadsTo key mails m cpu.0 mail' event word' record { words = set s.words (word_at m) word'; homes = homes'; views = set s.views id (noted between v m e' did) }
+  leads mail' event word' homes' e' between did as_deep slots now place adds by needs is others = record {
+    others = others;
     shows = now.is_word;
     book = IsBook-moved key mails s m id v (noted between v m e' did) mail' word' homes' book e (Changes-noted v m e' between did) there as_deep slots now;
     happens = happens_at key mails m mail' event in_mails place adds by needs is;
@@ -174,7 +180,7 @@ module _ (key : Layout) (mails : List Mail) (s : State Rec View) (id : ℕ) (v :
 
   -- the origin sends a message at rest
   pub send_leads : (to : CpuId) (sync : Bool) (flags : Flags) (rec : Rec) (between : List Deed) (did : Deed) → IsOwn v cpu.0 m → (at v m).away ≡ false → to.0 < key.cpus → (at v m).round < LAST_ROUND → rec.error ≡ 0 → rec.result ≡ 0
-      → LeadsTo key mails m (mail_sent mail (Send cpu msg to ((at v m).round + 1)) (sent_word cpu to ((at v m).round + 1) sync flags) rec) (Send cpu msg to ((at v m).round + 1)) (message_word (sent_word cpu to ((at v m).round + 1) sync flags)) record {
+      → LeadsTo key mails m cpu.0 (mail_sent mail (Send cpu msg to ((at v m).round + 1)) (sent_word cpu to ((at v m).round + 1) sync flags) rec) (Send cpu msg to ((at v m).round + 1)) (message_word (sent_word cpu to ((at v m).round + 1) sync flags)) record {
         words = set s.words (word_at m) (message_word (sent_word cpu to ((at v m).round + 1) sync flags));
         homes = set s.homes (slot_at m) (some rec);
         views = set s.views id (noted between v m (sent (sent_word cpu to ((at v m).round + 1) sync flags) (call_of rec) (at v m)) did);
@@ -199,7 +205,7 @@ module _ (key : Layout) (mails : List Mail) (s : State Rec View) (id : ℕ) (v :
       = λ kind x not_its known. send_others mail cpu to cpu m w rec (own_origin own) kind x not_its (subst (λ (y : Owner). Knows (owned mail y) kind x) owner_is known) in
       let now = kept_step key.cpus (spec_at key.specs.items m) mail mail' (get_or s.words (word_at m) 0) n (get_elem? s.homes (slot_at m)) (get_elem? (set s.homes (slot_at m) (some rec)) (slot_at m)) m s.views id v cpu
       (sent w (call_of rec) (at v m)) between did kept e is_seat alone safe refl refl is_word (set_here s.homes (slot_at m) (some rec) in_homes) (λ _. (no_error, no_result)) counts mine others in
-      leads mail' (Send cpu msg to w.round) n (set s.homes (slot_at m) (some rec)) (sent w (call_of rec) (at v m)) between did (length-set s.homes (slot_at m) (some rec)) (set_slots (some rec)) now refl refl cpu_there needs refl
+      leads mail' (Send cpu msg to w.round) n (set s.homes (slot_at m) (some rec)) (sent w (call_of rec) (at v m)) between did (length-set s.homes (slot_at m) (some rec)) (set_slots (some rec)) now refl refl cpu_there needs refl others
 
   -- a step that leaves the message as it is
   pub stays : (e' : Entry) (between : List Deed) (did : Deed) → e'.sends ≡ (at v m).sends → e'.takes ≡ (at v m).takes → e'.drops ≡ (at v m).drops → e'.replies ≡ (at v m).replies → e'.reaps ≡ (at v m).reaps
@@ -241,7 +247,7 @@ module _ (key : Layout) (mails : List Mail) (s : State Rec View) (id : ℕ) (v :
       (take_mine mail o cpu cpu m w.round (at v m)) (take_others mail o cpu cpu m w.round)
 
   pub take_leads : (w : MsgWord) (between : List Deed) (did : Deed) → get_or s.words (word_at m) 0 ≡ message_word w → MessageFits w → w.state ≡ state.Out → w.target ≡ cpu
-      → LeadsTo key mails m (mail_after mail (TakeMsg cpu msg w.round) mail.rec) (TakeMsg cpu msg w.round) (message_word w + 1) record { words = set s.words (word_at m) (message_word w + 1); homes = set s.homes (slot_at m) none; views = set s.views id (noted between v m (took mail.rec (at v m)) did) }
+      → LeadsTo key mails m cpu.0 (mail_after mail (TakeMsg cpu msg w.round) mail.rec) (TakeMsg cpu msg w.round) (message_word w + 1) record { words = set s.words (word_at m) (message_word w + 1); homes = set s.homes (slot_at m) none; views = set s.views id (noted between v m (took mail.rec (at v m)) did) }
   take_leads w between did is fits out to =
       let same : parts_of mail ≡ w = parts_are w is fits in
       let owner_is : mail.msg.owner ≡ Out (origin_of mail.msg.owner) cpu = sent_to mail.msg.owner cpu (ap (λ (x : MsgWord). x.state) same ∙ out) (ap (λ (x : MsgWord). x.target) same ∙ to) in
@@ -251,7 +257,8 @@ module _ (key : Layout) (mails : List Mail) (s : State Rec View) (id : ℕ) (v :
       → IsKept key.cpus (spec_at key.specs.items m) (mail_after (owned mail x) event mail.rec) (message_word w + 1) (get_elem? (set s.homes (slot_at m) none) (slot_at m)) m (set s.views id (noted between v m (took mail.rec (at v m)) did)) in
       let now = subst F (sym owner_is) (taken_kept (origin_of mail.msg.owner) w between did is round_is) kept in
       let G : Owner → Type 0 = λ x. IsOutTo cpu x in
-      leads (mail_after mail event mail.rec) event (message_word w + 1) (set s.homes (slot_at m) none) (took mail.rec (at v m)) between did (length-set s.homes (slot_at m) none) (set_slots none) now refl refl cpu_there (subst G (sym owner_is) refl, round_is) refl
+      let K : Owner → Type 0 = λ x. KeptByOthers cpu.0 (owned mail x) (mail_after (owned mail x) event mail.rec) in
+      leads (mail_after mail event mail.rec) event (message_word w + 1) (set s.homes (slot_at m) none) (took mail.rec (at v m)) between did (length-set s.homes (slot_at m) none) (set_slots none) now refl refl cpu_there (subst G (sym owner_is) refl, round_is) refl (subst K (sym owner_is) (take_others mail (origin_of mail.msg.owner) cpu cpu m w.round))
 
   -- what the slot of a message on its way holds
   pub out_slot : (w : MsgWord) → get_or s.words (word_at m) 0 ≡ message_word w → MessageFits w → w.state ≡ state.Out → (get_elem? s.homes (slot_at m) ≡ some (some mail.rec)) × (mail.rec.error ≡ 0) × (mail.rec.result ≡ 0)
@@ -278,7 +285,7 @@ module _ (key : Layout) (mails : List Mail) (s : State Rec View) (id : ℕ) (v :
       (reply_mine mail o cpu cpu m rec same_call (at v m)) (reply_others mail o cpu cpu m rec same_call)
 
   pub reply_leads : (rec : Rec) (between : List Deed) (did : Deed) → (at v m).taken ≡ true → call_of rec ≡ (at v m).got
-      → LeadsTo key mails m (mail_after mail (Reply cpu msg) rec) (Reply cpu msg) (get_or s.words (word_at m) 0 + 1) record { words = set s.words (word_at m) (get_or s.words (word_at m) 0 + 1); homes = set s.homes (slot_at m) (some rec); views = set s.views id (noted between v m (replied rec (at v m)) did) }
+      → LeadsTo key mails m cpu.0 (mail_after mail (Reply cpu msg) rec) (Reply cpu msg) (get_or s.words (word_at m) 0 + 1) record { words = set s.words (word_at m) (get_or s.words (word_at m) 0 + 1); homes = set s.homes (slot_at m) (some rec); views = set s.views id (noted between v m (replied rec (at v m)) did) }
   reply_leads rec between did taken same_call =
       let k = knows_taken in
       let is : is_taken cpu.0 mail.msg.owner ≡ true = sym k.taken_is ∙ taken in
@@ -288,7 +295,8 @@ module _ (key : Layout) (mails : List Mail) (s : State Rec View) (id : ℕ) (v :
       → IsKept key.cpus (spec_at key.specs.items m) (mail_after (owned mail x) event rec) (get_or s.words (word_at m) 0 + 1) (get_elem? (set s.homes (slot_at m) (some rec)) (slot_at m)) m (set s.views id (noted between v m (replied rec (at v m)) did)) in
       let now = subst F (sym owner_is) (replied_kept (origin_of mail.msg.owner) rec between did (same_call ∙ k.got_is is)) kept in
       let G : Owner → Type 0 = λ x. IsWith cpu x in
-      leads (mail_after mail event rec) event (get_or s.words (word_at m) 0 + 1) (set s.homes (slot_at m) (some rec)) (replied rec (at v m)) between did (length-set s.homes (slot_at m) (some rec)) (set_slots (some rec)) now refl refl cpu_there (subst G (sym owner_is) refl) refl
+      let K : Owner → Type 0 = λ x. KeptByOthers cpu.0 (owned mail x) (mail_after (owned mail x) event rec) in
+      leads (mail_after mail event rec) event (get_or s.words (word_at m) 0 + 1) (set s.homes (slot_at m) (some rec)) (replied rec (at v m)) between did (length-set s.homes (slot_at m) (some rec)) (set_slots (some rec)) now refl refl cpu_there (subst G (sym owner_is) refl) refl (subst K (sym owner_is) (reply_others mail (origin_of mail.msg.owner) cpu cpu m rec (same_call ∙ k.got_is is)))
 
   -- a message that came back is reaped by its origin
   reaped_kept : (t : CpuId) (between : List Deed) (did : Deed) → IsOwn v cpu.0 m → (at v m).round ≡ mail.msg.round
@@ -308,7 +316,7 @@ module _ (key : Layout) (mails : List Mail) (s : State Rec View) (id : ℕ) (v :
       (reap_mine mail cpu t cpu m (at v m)) (reap_others mail cpu t cpu m (own_origin own))
 
   pub reap_leads : (between : List Deed) (did : Deed) → IsOwn v cpu.0 m → (at v m).had ≡ true → (at v m).back ≡ true
-      → LeadsTo key mails m (mail_after mail (Reap cpu msg) mail.rec) (Reap cpu msg) (message_word (rest_word cpu (at v m).round)) record { words = set s.words (word_at m) (message_word (rest_word cpu (at v m).round)); homes = set s.homes (slot_at m) none; views = set s.views id (noted between v m (reaped (at v m)) did) }
+      → LeadsTo key mails m cpu.0 (mail_after mail (Reap cpu msg) mail.rec) (Reap cpu msg) (message_word (rest_word cpu (at v m).round)) record { words = set s.words (word_at m) (message_word (rest_word cpu (at v m).round)); homes = set s.homes (slot_at m) none; views = set s.views id (noted between v m (reaped (at v m)) did) }
   reap_leads between did own had seen =
       let k = knows_own own in
       let origin_same : origin_of mail.msg.owner ≡ cpu = kept.safe.home ∙ (λ i. record { 0 = own_origin own i }) in
@@ -318,7 +326,8 @@ module _ (key : Layout) (mails : List Mail) (s : State Rec View) (id : ℕ) (v :
       → IsKept key.cpus (spec_at key.specs.items m) (mail_after (owned mail x) event mail.rec) (message_word (rest_word cpu (at v m).round)) (get_elem? (set s.homes (slot_at m) none) (slot_at m)) m (set s.views id (noted between v m (reaped (at v m)) did)) in
       let now = subst F (sym owner_is) (reaped_kept (target_of mail.msg.owner) between did own k.round_is) kept (sym k.had_is ∙ had) in
       let G : Owner → Type 0 = λ x. IsBackTo cpu x in
-      leads (mail_after mail event mail.rec) event (message_word (rest_word cpu (at v m).round)) (set s.homes (slot_at m) none) (reaped (at v m)) between did (length-set s.homes (slot_at m) none) (set_slots none) now refl refl cpu_there (subst G (sym owner_is) refl) refl
+      let K : Owner → Type 0 = λ x. KeptByOthers cpu.0 (owned mail x) (mail_after (owned mail x) event mail.rec) in
+      leads (mail_after mail event mail.rec) event (message_word (rest_word cpu (at v m).round)) (set s.homes (slot_at m) none) (reaped (at v m)) between did (length-set s.homes (slot_at m) none) (set_slots none) now refl refl cpu_there (subst G (sym owner_is) refl) refl (subst K (sym owner_is) (reap_others mail cpu (target_of mail.msg.owner) cpu m (own_origin own)))
 
   -- what the slot of a message that came back holds
   pub back_slot : IsOwn v cpu.0 m → (at v m).back ≡ true → (get_elem? s.homes (slot_at m) ≡ some (some mail.rec)) × (call_of mail.rec ≡ (at v m).call)
@@ -346,7 +355,7 @@ module _ (key : Layout) (mails : List Mail) (s : State Rec View) (id : ℕ) (v :
       (drop_mine mail cpu t cpu m (at v m)) (drop_others mail cpu t cpu m (own_origin own))
 
   pub drop_leads : (w : MsgWord) (between : List Deed) (did : Deed) → IsOwn v cpu.0 m → (at v m).had ≡ true → get_or s.words (word_at m) 0 ≡ message_word w → MessageFits w → w.state ≡ state.Out
-      → LeadsTo key mails m (mail_after mail (DropMsg cpu msg) mail.rec) (DropMsg cpu msg) (message_word (rest_word cpu (at v m).round)) record { words = set s.words (word_at m) (message_word (rest_word cpu (at v m).round)); homes = set s.homes (slot_at m) none; views = set s.views id (noted between v m (dropped (at v m)) did) }
+      → LeadsTo key mails m cpu.0 (mail_after mail (DropMsg cpu msg) mail.rec) (DropMsg cpu msg) (message_word (rest_word cpu (at v m).round)) record { words = set s.words (word_at m) (message_word (rest_word cpu (at v m).round)); homes = set s.homes (slot_at m) none; views = set s.views id (noted between v m (dropped (at v m)) did) }
   drop_leads w between did own had is fits out =
       let k = knows_own own in
       let same : parts_of mail ≡ w = parts_are w is fits in
@@ -357,11 +366,12 @@ module _ (key : Layout) (mails : List Mail) (s : State Rec View) (id : ℕ) (v :
       → IsKept key.cpus (spec_at key.specs.items m) (mail_after (owned mail x) event mail.rec) (message_word (rest_word cpu (at v m).round)) (get_elem? (set s.homes (slot_at m) none) (slot_at m)) m (set s.views id (noted between v m (dropped (at v m)) did)) in
       let now = subst F (sym owner_is) (dropped_kept (target_of mail.msg.owner) between did own k.round_is) kept (sym k.had_is ∙ had) in
       let G : Owner → Type 0 = λ x. IsOutFrom cpu x in
-      leads (mail_after mail event mail.rec) event (message_word (rest_word cpu (at v m).round)) (set s.homes (slot_at m) none) (dropped (at v m)) between did (length-set s.homes (slot_at m) none) (set_slots none) now refl refl cpu_there (subst G (sym owner_is) refl) refl
+      let K : Owner → Type 0 = λ x. KeptByOthers cpu.0 (owned mail x) (mail_after (owned mail x) event mail.rec) in
+      leads (mail_after mail event mail.rec) event (message_word (rest_word cpu (at v m).round)) (set s.homes (slot_at m) none) (dropped (at v m)) between did (length-set s.homes (slot_at m) none) (set_slots none) now refl refl cpu_there (subst G (sym owner_is) refl) refl (subst K (sym owner_is) (drop_others mail cpu (target_of mail.msg.owner) cpu m (own_origin own)))
 
   -- the origin asks for a message that is away to be aborted
   pub abort_leads : (w : MsgWord) (between : List Deed) (did : Deed) → IsOwn v cpu.0 m → (at v m).away ≡ true → get_or s.words (word_at m) 0 ≡ message_word w → MessageFits w
-      → LeadsTo key mails m (mail_after mail (Abort cpu msg) mail.rec) (Abort cpu msg) (message_word (record w { aborted = true })) record { words = set s.words (word_at m) (message_word (record w { aborted = true })); homes = s.homes; views = set s.views id (noted between v m (requested (at v m)) did) }
+      → LeadsTo key mails m cpu.0 (mail_after mail (Abort cpu msg) mail.rec) (Abort cpu msg) (message_word (record w { aborted = true })) record { words = set s.words (word_at m) (message_word (record w { aborted = true })); homes = s.homes; views = set s.views id (noted between v m (requested (at v m)) did) }
   abort_leads w between did own away is fits =
       let k = knows_own own in
       let same : parts_of mail ≡ w = parts_are w is fits in
@@ -374,7 +384,7 @@ module _ (key : Layout) (mails : List Mail) (s : State Rec View) (id : ℕ) (v :
       let counts : CountsWith mail.msg mail'.msg (at v m) (requested (at v m)) = record { sends = refl; takes = refl; drops = refl; replies = refl; reaps = refl } in
       let now = kept_step key.cpus (spec_at key.specs.items m) mail mail' (get_or s.words (word_at m) 0) (message_word (record w { aborted = true })) (get_elem? s.homes (slot_at m)) (get_elem? s.homes (slot_at m)) m s.views id v cpu
       (requested (at v m)) between did kept e is_seat alone safe refl refl is_word kept.slot kept.unanswered counts (abort_mine mail cpu cpu cpu m (at v m)) (abort_others mail cpu cpu cpu m (own_origin own)) in
-      leads mail' event (message_word (record w { aborted = true })) s.homes (requested (at v m)) between did refl (λ n apart. refl) now refl refl cpu_there needs refl
+      leads mail' event (message_word (record w { aborted = true })) s.homes (requested (at v m)) between did refl (λ n apart. refl) now refl refl cpu_there needs refl (abort_others mail cpu cpu cpu m (own_origin own))
 
   -- a message at rest with the seat's processor
   pub rests : IsOwn v cpu.0 m → (at v m).away ≡ false → mail.msg.owner ≡ Rest cpu

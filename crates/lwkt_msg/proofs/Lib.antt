@@ -5,6 +5,7 @@ pub mod Bringing
 pub mod Moves
 pub mod Leading
 pub mod Carrying
+pub mod Recalling
 pub mod Telling
 pub mod Recording
 pub mod Running

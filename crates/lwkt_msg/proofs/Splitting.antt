@@ -25,6 +25,7 @@ use Rattle.lwkt_msg.specs.Book.{Mail, Knows, IsKept, mail_at, IsBook, first_view
 use Rattle.lwkt_msg.specs.Told.{IsDone, first_mails, Told, IsSame, Opens}
 use Rattle.lwkt_msg.specs.Steps.{rest_word}
 use Rattle.std.proofs.lemmas.List.Elements.{All-get_or}
+use Rattle.lwkt_msg.proofs.Recalling.{recalls_none, recalls_split, recalls_moved, recalls_joined}
 use Rattle.lwkt_msg.proofs.Moves.{never}
 
 abbrev kinds : List View → List SeatKind
@@ -157,7 +158,7 @@ pub seat_told : (key : Layout) (s : State Rec View) (told : Told key s) (id : �
     → IsSame key s record { words = s.words; homes = s.homes; views = set s.views id (clerk_left v) ++ seat_right v ∷ [] } told
 seat_told key s told id v made back e is_clerk no_entries room =
     let q = Views-split (IsDone key.cpus) page_of (first_mails key.specs.items) told.rule.mails s.views told.chronicle id v e key.cpus told.rule.book.seated made back (clerk_left v) (seat_right v) is_clerk refl refl in
-    (record { rule = record { mails = told.rule.mails; book = seat_book key told.rule.mails s id v made back told.rule.book e is_clerk no_entries room }; chronicle = q.0 }, refl, q.1)
+    (record { rule = record { mails = told.rule.mails; book = seat_book key told.rule.mails s id v made back told.rule.book e is_clerk no_entries room }; chronicle = q.0; recalls = recalls_split s.views told.rule.mails (length key.specs.items) id v e told.recalls }, refl, q.1)
 
 pub seat_splits : (key : Layout) (id : ℕ) (v : View) (made back : ℕ) → v.kind ≡ Clerk made back → v.entries ≡ [] → made < v.cpus → Splits (Told key) id v (clerk_left v) (seat_right v)
 seat_splits key id v made back is_clerk no_entries room s told e = (seat_told key s told id v made back e is_clerk no_entries room).0
@@ -267,7 +268,7 @@ whole_book key mails s id v cpu book e is_seat = record {
 pub whole_told : (key : Layout) (s : State Rec View) (told : Told key s) (id : ℕ) (v : View) (cpu : CpuId) → get_elem? s.views id ≡ some v → v.kind ≡ Of cpu → IsSame key s record { words = s.words; homes = s.homes; views = set s.views id (spent_left v) ++ whole_right v ∷ [] } told
 whole_told key s told id v cpu e is_seat =
     let q = Views-moved (IsDone key.cpus) page_of (first_mails key.specs.items) told.rule.mails s.views told.chronicle id v e (spent_left v) refl in
-    (record { rule = record { mails = told.rule.mails; book = whole_book key told.rule.mails s id v cpu told.rule.book e is_seat }; chronicle = q.0 }, refl, q.1)
+    (record { rule = record { mails = told.rule.mails; book = whole_book key told.rule.mails s id v cpu told.rule.book e is_seat }; chronicle = q.0; recalls = recalls_moved s.views told.rule.mails (length key.specs.items) id v e told.recalls }, refl, q.1)
 
 pub whole_splits : (key : Layout) (id : ℕ) (v : View) (cpu : CpuId) → v.kind ≡ Of cpu → Splits (Told key) id v (spent_left v) (whole_right v)
 whole_splits key id v cpu is_seat s told e = (whole_told key s told id v cpu e is_seat).0
@@ -361,9 +362,10 @@ pub joined_told : (key : Layout) (s : State Rec View) (told : Told key s) (id : 
     → get_elem? (set s.views id (clerk_both v w)) other ≡ some w → IsSame key s record { words = s.words; homes = s.homes; views = set (set s.views id (clerk_both v w)) other spent_view } told
 joined_told key s told id v other w made back cpu e is_clerk is_seat apart d =
     let there : get_elem? s.views other ≡ some w = sym (set_else s.views id other (clerk_both v w) apart) ∙ d in
+    let known : (m : ℕ) → m < length key.specs.items → Knows (mail_at told.rule.mails m) (Of cpu) (at w m) = λ m within. let F : SeatKind → Type 0 = λ k. Knows (mail_at told.rule.mails m) k (at w m) in subst F is_seat ((told.rule.book.each m within).each_view other w there) in
     let page_is : page_of (clerk_both v w) ≡ back_page (page_of v) cpu w.past = ap (λ (c : CpuId). back_page (page_of v) c w.past) (ap seat_cpu is_seat) in
     let q = Views-joined (IsDone key.cpus) page_of (first_mails key.specs.items) told.rule.mails s.views told.chronicle id v e key.cpus told.rule.book.seated made back other w cpu (clerk_both v w) spent_view is_clerk apart there is_seat page_is refl in
-    (record { rule = record { mails = told.rule.mails; book = joined_book key told.rule.mails s id v other w made back cpu told.rule.book e is_clerk is_seat apart d }; chronicle = q.0 }, refl, q.1)
+    (record { rule = record { mails = told.rule.mails; book = joined_book key told.rule.mails s id v other w made back cpu told.rule.book e is_clerk is_seat apart d }; chronicle = q.0; recalls = recalls_joined s.views told.rule.mails (length key.specs.items) id other made back v w cpu e is_clerk is_seat known told.recalls }, refl, q.1)
 
 pub seat_joins : (key : Layout) (id : ℕ) (v : View) (other : ℕ) (w : View) (made back : ℕ) (cpu : CpuId) → v.kind ≡ Clerk made back → w.kind ≡ Of cpu → Joins (Told key) id v other w (clerk_both v w) spent_view
 seat_joins key id v other w made back cpu is_clerk is_seat s told e apart d = (joined_told key s told id v other w made back cpu e is_clerk is_seat apart d).0
@@ -447,4 +449,4 @@ pub rule_opens : (key : Layout) (words : List ℕ) (slots : List Rec) → AreWit
     → slots ≡ replicate (4 * length key.specs.items) no_rec → Opens key (opening words slots (first_view key))
 rule_opens key words slots within wide zero_word words_are slots_are =
     let q = Views-opened (IsDone key.cpus) page_of (first_mails key.specs.items) (first_view key) refl in
-    (record { rule = record { mails = first_mails key.specs.items; book = opened_book key words slots within wide zero_word words_are slots_are }; chronicle = q.0 }, refl, q.1)
+    (record { rule = record { mails = first_mails key.specs.items; book = opened_book key words slots within wide zero_word words_are slots_are }; chronicle = q.0; recalls = recalls_none (first_view key) (first_mails key.specs.items) (length key.specs.items) refl }, refl, q.1)

@@ -34,7 +34,8 @@ use Rattle.lwkt_msg.specs.Deeds.{word_step, look_by, deed_by}
 use Rattle.lwkt_msg.specs.Deeds as deed
 use Rattle.lwkt_msg.specs.Told.{OnlyLooks, IsOperation, IsRecordOf, IsSentAs, IsHandedOut, IsDone, first_mails, Told, Tells}
 use Rattle.lwkt_msg.proofs.WordFacts.{message_word-below, requested_word}
-use Rattle.lwkt_msg.proofs.Moves.{mail_after, mail_sent}
+use Rattle.lwkt_msg.proofs.Moves.{mail_after, mail_sent, hand_others}
+use Rattle.lwkt_msg.proofs.Recalling.{recalls_after}
 use Rattle.lwkt_msg.proofs.Leading as lead
 
 -- the processor of a seat
@@ -50,18 +51,18 @@ left_lost old new met apart = rw (ne_eqb met old apart) refl
 
 -- a step that is done between two states of the messages becomes a deed, here alone
 module _ (key : Layout) (s : State Rec View) (id : ℕ) (v : View) (cpu : CpuId) (told : Told key s) (e : get_elem? s.views id ≡ some v) (is_seat : v.kind ≡ Of cpu)
-    (m : ℕ) (e' : Entry) (d : Deed) (own : d.cpu ≡ cpu) (mails' : List Mail) (done : IsDone key.cpus told.rule.mails d mails') where
-  pub deed_told : (hands : List (ℕ × Rec)) (word : ℕ) (act : Act Rec) → Valid s.homes hands act → ((past : List Deed) → IsBook key mails' (stepped s (word_at m) word id hands (noted past v m e' d) act)) → Tells key s told id v hands m e' d word act
+    (m : ℕ) (there : m < length told.rule.mails) (e' : Entry) (d : Deed) (own : d.cpu ≡ cpu) (mail' : Mail) (others : lead.KeptByOthers cpu.0 (mail_at told.rule.mails m) mail') (done : IsDone key.cpus told.rule.mails d (set told.rule.mails m mail')) where
+  pub deed_told : (hands : List (ℕ × Rec)) (word : ℕ) (act : Act Rec) → Valid s.homes hands act → ((past : List Deed) → IsBook key (set told.rule.mails m mail') (stepped s (word_at m) word id hands (noted past v m e' d) act)) → Tells key s told id v hands m e' d word act
   deed_told hands word act valid book =
       let past = Views-between (IsDone key.cpus) page_of (first_mails key.specs.items) told.rule.mails s.views told.chronicle id v e cpu is_seat in
       let F : CpuId → Type 0 = λ c. AreOthers c.0 past.0 in
-      let q = Views-noted (IsDone key.cpus) page_of (first_mails key.specs.items) told.rule.mails s.views told.chronicle id v e key.cpus told.rule.book.seated cpu mails' past.0 d (noted past.0 v m e' d) is_seat own past.1.0 done refl in
+      let q = Views-noted (IsDone key.cpus) page_of (first_mails key.specs.items) told.rule.mails s.views told.chronicle id v e key.cpus told.rule.book.seated cpu (set told.rule.mails m mail') past.0 d (noted past.0 v m e' d) is_seat own past.1.0 done refl in
       record {
         valid = valid;
         between = past.0;
         others = subst F (sym (who_is v cpu is_seat)) past.1.1;
         front = sym past.1.0;
-        after = record { rule = record { mails = mails'; book = book past.0 }; chronicle = q.0 };
+        after = record { rule = record { mails = set told.rule.mails m mail'; book = book past.0 }; chronicle = q.0; recalls = recalls_after key s id v (noted past.0 v m e' d) cpu told e is_seat refl refl refl m mail' there others };
         next = record { done = done; grown = q.1 };
       }
 
@@ -140,7 +141,7 @@ module _ (key : Layout) (s : State Rec View) (id : ℕ) (v : View) (cpu : CpuId)
       let G : ℕ → Type 0 = λ x. IsStepOver x x (word_step m operation n) in
       let K : ℕ → Type 0 = λ x. OnlyLooks operation x in
       let H : List (Option Rec) → Deed → List Deed → Type 0 = λ hs d past. IsBook key (set mails m mail) record { words = set s.words (word_at m) n; homes = hs; views = set s.views id (noted past v m e' d) } in
-      deed_told key s id v cpu told e is_seat m e' (look_by cpu (word_step m operation n) []) refl (set mails m mail)
+      deed_told key s id v cpu told e is_seat m in_mails e' (look_by cpu (word_step m operation n) []) refl mail (λ kind x not_its known. known)
       (look_done key mails m cpu operation n [] mail in_mails by (subst G is_word over) (subst K is_word only) (inl (refl, refl)))
       hands n act valid
       (λ past. subst (λ (hs : List (Option Rec)). H hs (look_by cpu (word_step m operation n) []) past) (sym same) (lead.stays key mails s id v cpu m told.rule.book e is_seat there e' past (look_by cpu (word_step m operation n) []) a b c f g mine))
@@ -152,7 +153,7 @@ module _ (key : Layout) (s : State Rec View) (id : ℕ) (v : View) (cpu : CpuId)
       let w : MsgWord = sent_word cpu to ((at v m).round + 1) sync flags in
       let d : Deed = deed.sends cpu m to w.round (message_word w) rec in
       let l = λ (past : List Deed). lead.send_leads key mails s id v cpu m told.rule.book e is_seat there to sync flags rec past d own home to_there room no_error no_result in
-      deed_told key s id v cpu told e is_seat m (sent w (call_of rec) (at v m)) d refl (set mails m (mail_sent mail (Send cpu (named m) to w.round) w rec))
+      deed_told key s id v cpu told e is_seat m in_mails (sent w (call_of rec) (at v m)) d refl (mail_sent mail (Send cpu (named m) to w.round) w rec) (l []).others
       (event_done key mails m cpu (Send cpu (named m) to w.round) (Store (message_word w)) (message_word w) (rec ∷ []) (mail_sent mail (Send cpu (named m) to w.round) w rec) in_mails by refl refl (l []).happens
       (record { found = refl; leaves = sym (l []).shows }) (message_word w, refl) refl refl tt (refl, (no_error, no_result)))
       ((slot_at m, rec) ∷ others) (message_word w) gives tt (λ past. (l past).book)
@@ -164,7 +165,7 @@ module _ (key : Layout) (s : State Rec View) (id : ℕ) (v : View) (cpu : CpuId)
       let d : Deed = deed.takes cpu m w.round (message_word w) mail.rec in
       let l = λ (past : List Deed). lead.take_leads key mails s id v cpu m told.rule.book e is_seat there w past d is fits out to in
       let met : message_word (parts_of mail) ≡ message_word w = sym is_word ∙ is in
-      deed_told key s id v cpu told e is_seat m (took mail.rec (at v m)) d refl (set mails m (mail_after mail (TakeMsg cpu (named m) w.round) mail.rec))
+      deed_told key s id v cpu told e is_seat m in_mails (took mail.rec (at v m)) d refl (mail_after mail (TakeMsg cpu (named m) w.round) mail.rec) (l []).others
       (event_done key mails m cpu (TakeMsg cpu (named m) w.round) (Exchange (message_word w) (message_word w + 1)) (message_word w) (mail.rec ∷ []) (mail_after mail (TakeMsg cpu (named m) w.round) mail.rec) in_mails by refl refl (l []).happens
       (record { found = sym met; leaves = sym (l []).shows ∙ sym (left_won (message_word w) (message_word w + 1) (message_word (parts_of mail)) met) }) (ap (λ (x : ℕ). Exchange x (x + 1)) (sym met)) refl refl (refl, refl) (refl, refl))
       hands (message_word w + 1) (takes (slot_at m) mail.rec) (lead.out_slot key mails s id v cpu m told.rule.book e is_seat there w is fits out).0 (λ past. (l past).book)
@@ -178,7 +179,7 @@ module _ (key : Layout) (s : State Rec View) (id : ℕ) (v : View) (cpu : CpuId)
       let below = message_word-below (parts_of mail) (lead.parts_fit key mails s id v cpu m told.rule.book e is_seat there) in
       let k = lead.knows_taken key mails s id v cpu m told.rule.book e is_seat there in
       let left : n + 1 ≡ (message_word (parts_of mail) + 1) % 2 ^ 64 = let h = is_word in omega arith in
-      deed_told key s id v cpu told e is_seat m (replied rec (at v m)) d refl (set mails m (mail_after mail (Reply cpu (named m)) rec))
+      deed_told key s id v cpu told e is_seat m in_mails (replied rec (at v m)) d refl (mail_after mail (Reply cpu (named m)) rec) (l []).others
       (event_done key mails m cpu (Reply cpu (named m)) (Add 1) n (rec ∷ []) (mail_after mail (Reply cpu (named m)) rec) in_mails by refl refl (l []).happens
       (record { found = is_word; leaves = sym (l []).shows ∙ left }) refl refl refl (refl, refl) (refl, call ∙ k.got_is (sym k.taken_is ∙ taken)))
       ((slot_at m, rec) ∷ others) (n + 1) gives tt (λ past. (l past).book)
@@ -190,7 +191,7 @@ module _ (key : Layout) (s : State Rec View) (id : ℕ) (v : View) (cpu : CpuId)
       let word : ℕ = message_word (rest_word cpu (at v m).round) in
       let d : Deed = deed.reaps cpu m word mail.rec in
       let l = λ (past : List Deed). lead.reap_leads key mails s id v cpu m told.rule.book e is_seat there past d own had seen in
-      deed_told key s id v cpu told e is_seat m (reaped (at v m)) d refl (set mails m (mail_after mail (Reap cpu (named m)) mail.rec))
+      deed_told key s id v cpu told e is_seat m in_mails (reaped (at v m)) d refl (mail_after mail (Reap cpu (named m)) mail.rec) (l []).others
       (event_done key mails m cpu (Reap cpu (named m)) (Store word) word (mail.rec ∷ []) (mail_after mail (Reap cpu (named m)) mail.rec) in_mails by refl refl (l []).happens
       (record { found = refl; leaves = sym (l []).shows }) (word, refl) refl refl (refl, refl) (refl, refl))
       hands word (takes (slot_at m) mail.rec) (lead.back_slot key mails s id v cpu m told.rule.book e is_seat there own seen).0 (λ past. (l past).book)
@@ -203,7 +204,7 @@ module _ (key : Layout) (s : State Rec View) (id : ℕ) (v : View) (cpu : CpuId)
       let d : Deed = deed.drops cpu m (message_word w) word mail.rec in
       let l = λ (past : List Deed). lead.drop_leads key mails s id v cpu m told.rule.book e is_seat there w past d own had is fits out in
       let met : message_word (parts_of mail) ≡ message_word w = sym is_word ∙ is in
-      deed_told key s id v cpu told e is_seat m (dropped (at v m)) d refl (set mails m (mail_after mail (DropMsg cpu (named m)) mail.rec))
+      deed_told key s id v cpu told e is_seat m in_mails (dropped (at v m)) d refl (mail_after mail (DropMsg cpu (named m)) mail.rec) (l []).others
       (event_done key mails m cpu (DropMsg cpu (named m)) (Exchange (message_word w) word) (message_word w) (mail.rec ∷ []) (mail_after mail (DropMsg cpu (named m)) mail.rec) in_mails by refl refl (l []).happens
       (record { found = sym met; leaves = sym (l []).shows ∙ sym (left_won (message_word w) word (message_word (parts_of mail)) met) }) (word, ap (λ (x : ℕ). Exchange x word) (sym met)) refl refl (refl, refl) (refl, refl))
       hands word (takes (slot_at m) mail.rec) (lead.out_slot key mails s id v cpu m told.rule.book e is_seat there w is fits out).0 (λ past. (l past).book)
@@ -217,7 +218,7 @@ module _ (key : Layout) (s : State Rec View) (id : ℕ) (v : View) (cpu : CpuId)
       let l = λ (past : List Deed). lead.abort_leads key mails s id v cpu m told.rule.book e is_seat there w past d own away is_word fits in
       let bits : message_word (record w { aborted = true }) ≡ bit_or n 4 = sym (requested_word w) ∙ ap (λ (x : ℕ). bit_or x 4) (sym is_word) in
       let F : List Deed → ℕ → Type 0 = λ past x. IsBook key (set mails m (mail_after mail (Abort cpu (named m)) mail.rec)) record { words = set s.words (word_at m) x; homes = s.homes; views = set s.views id (noted past v m (requested (at v m)) d) } in
-      deed_told key s id v cpu told e is_seat m (requested (at v m)) d refl (set mails m (mail_after mail (Abort cpu (named m)) mail.rec))
+      deed_told key s id v cpu told e is_seat m in_mails (requested (at v m)) d refl (mail_after mail (Abort cpu (named m)) mail.rec) (l []).others
       (event_done key mails m cpu (Abort cpu (named m)) (Or 4) n [] (mail_after mail (Abort cpu (named m)) mail.rec) in_mails by refl refl (l []).happens
       (record { found = is_word; leaves = sym (l []).shows ∙ sym (requested_word w) }) refl refl refl (refl, refl) (refl, refl))
       hands (bit_or n 4) keeps tt (λ past. subst (F past) bits (l past).book)
@@ -231,6 +232,6 @@ module _ (key : Layout) (s : State Rec View) (id : ℕ) (v : View) (cpu : CpuId)
       let l = λ (past : List Deed). lead.hands_out key mails s id v cpu m told.rule.book e is_seat there past d own had home in
       let k = lead.knows_own key mails s id v cpu m told.rule.book e is_seat there own in
       let rests = lead.rests key mails s id v cpu m told.rule.book e is_seat there own home in
-      deed_told key s id v cpu told e is_seat m (handed (at v m)) d refl (set mails m mail')
+      deed_told key s id v cpu told e is_seat m in_mails (handed (at v m)) d refl mail' (hand_others mail cpu cpu cpu m (lead.own_origin key mails s id v cpu m told.rule.book e is_seat there own))
       (look_done key mails m cpu operate.Load n (mail.rec ∷ []) mail' in_mails by (record { found = is_word; leaves = refl }) (inl refl) (inr (record { home = rests; at_home = sym k.had_is ∙ had; records = refl; leaves = refl })))
       hands n (takes (slot_at m) mail.rec) (l []).0 (λ past. (l past).1)

@@ -154,7 +154,7 @@ pub record Rule (key : Layout) (s : State Rec View) : Type 0 where
 
 -- what the first seat, the clerk's, knows
 abbrev pub first_view : Layout → View
-first_view key = record { kind = Clerk 0 0; cpus = key.cpus; specs = key.specs.items; entries = []; past = []; chapters = [] }
+first_view key = record { kind = Clerk 0 0; cpus = key.cpus; specs = key.specs.items; entries = []; past = []; chapters = []; recalled = [] }
 
 -- an empty record, and a message of the book at the opening
 abbrev pub no_rec : Rec

@@ -21,7 +21,7 @@ use Rattle.lwkt_core.specs.History.{Passes, AreOthers, IsPastOf, events_in, even
 use Rattle.lwkt_msg.specs.declared.views.Entry.{Entry}
 use Rattle.lwkt_msg.specs.declared.views.Layout.{Layout}
 use Rattle.lwkt_msg.specs.declared.views.View.{View}
-use Rattle.lwkt_msg.specs.Views.{word_at, spec_at, first_entry, handed, at, who}
+use Rattle.lwkt_msg.specs.Views.{word_at, spec_at, first_entry, handed, at, who, recalled_of}
 use Rattle.lwkt_base.specs.declared.owners.Owner.{Owner}
 use Rattle.lwkt_base.specs.declared.owners.Owner.TheVariants.{Rest, Out, With, Back}
 use Rattle.lwkt_base.specs.declared.message_words.MsgWord.{MsgWord}
@@ -29,7 +29,7 @@ use Rattle.lwkt_base.specs.declared.message_words.MsgState.{MsgState}
 use Rattle.lwkt_base.specs.declared.message_words.MsgState.TheVariants as state
 use Rattle.lwkt_base.specs.MessageWord.{message_word, MessageFits}
 use Rattle.lwkt_msg.specs.Hands.{AreHands}
-use Rattle.lwkt_msg.specs.Book.{Mail, mail_at}
+use Rattle.lwkt_msg.specs.Book.{Mail, Knows, mail_at}
 use Rattle.lwkt_msg.specs.Steps.{rest_word, machine_of}
 use Rattle.lwkt_msg.specs.Told.{IsDone, first_mails}
 use Rattle.lwkt_msg.specs.Plays.{IsSat}
@@ -157,13 +157,19 @@ pub record IsHistory (book : Shelf) (seats : List Desk) (mails : List Mail) (his
   pub steps : All (λ d. steps_of d ≡ steps_by (cpu_of d).0 history) seats
   pub no_others : (cpu : ℕ) → book.cpus ≤ cpu → AreOthers cpu history
 
--- the closing values are those of the messages to which the history of all seats leads
+-- what a seat knew of so many messages is so of these: as origin the round, whether the message is away and whom it was sent to, how,
+-- and with which call, and as target whether the seat had taken it, with which call, and what it replied
+abbrev pub KnewSo : List Mail → ℕ → Desk → Type 0
+KnewSo mails count d = (m : ℕ) → m < count → Knows (mail_at mails m) (Of (cpu_of d)) (entry d m)
+
+-- the closing values are those of the messages to which the history of all seats leads, and what each seat knew stands
 pub record AreClosed (book : Shelf) (seats : List Desk) (ends : List MsgEnd) : Type 0 where
   pub as_many : length ends ≡ length book.specs
   pub mails : List Mail
   pub each : (m : ℕ) (end : MsgEnd) → m < length book.specs → IsClosed book seats m (mail_at mails m).msg (slice_index_or ends m end)
   pub history : List Deed
   pub is_history : IsHistory book seats mails history
+  pub known : All (KnewSo mails (length book.specs)) seats
 
 -- a seat that is being opened, and has the records of its own messages up to this one
 pub record IsHanding (cpu : CpuId) (upto : ℕ) (place : Seat Rec View) : Type 0 where
@@ -218,11 +224,16 @@ pub record AreShown (upto : ℕ) (words : List ℕ) (ends : List MsgEnd) : Type 
 abbrev pub IsChapter : View → Desk → Type 0
 IsChapter v d = (i : ℕ) × (get_elem? v.chapters i ≡ some (record { cpu = cpu_of d; past = past_of d }))
 
+-- what a seat knew is kept by the clerk
+abbrev pub IsRecalled : View → Desk → Type 0
+IsRecalled v d = (i : ℕ) × (get_elem? v.recalled i ≡ some (recalled_of d.view))
+
 -- the clerk's view while seats are taken back, of which these are left
 pub record IsTaking (cpus : ℕ) (v : View) (seats left : List Desk) (w : View) : Type 0 where
   pub behind : List Desk
   pub in_order : seats ≡ left ++ behind
   pub chapters : All (IsChapter w) behind
+  pub recalled : All (IsRecalled w) behind
   pub back : ℕ
   pub kind : w.kind ≡ Clerk cpus back
   pub as_many : back + length left ≡ length seats
@@ -237,6 +248,7 @@ pub record IsTaking (cpus : ℕ) (v : View) (seats left : List Desk) (w : View) 
 -- the clerk's view after these seats were taken back
 pub record HasTakenBack (cpus : ℕ) (v : View) (seats : List Desk) (w : View) : Type 0 where
   pub chapters : All (IsChapter w) seats
+  pub recalled : All (IsRecalled w) seats
   pub kind : w.kind ≡ Clerk cpus (length seats)
   pub cpus_is : w.cpus ≡ v.cpus
   pub specs_is : w.specs ≡ v.specs

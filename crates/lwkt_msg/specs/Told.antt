@@ -1,4 +1,6 @@
 use Rattle.std.specs.Prelude.{◌≡◌, ◌≢◌, ◌⊎◌, ℕ, ◌+◌, ◌<◌, true, false, List, [], ◌∷◌, ◌++◌, length, map, slice_set}
+use mathlib.Core.Option.{some}
+use lib.ListN.{get_elem?}
 use Rattle.atomic_table.specs.Table.{State, Act, Valid, stepped}
 use Rattle.lwkt_base.specs.declared.openings.MsgSpec.{MsgSpec}
 use Rattle.lwkt_base.specs.declared.owners.Owner.TheVariants.{Rest}
@@ -11,15 +13,17 @@ use Rattle.lwkt_core.specs.declared.seats.Operation.{Operation}
 use Rattle.lwkt_core.specs.declared.seats.Operation.TheVariants.{Load as Loads, Store, Exchange, Add, Or}
 use Rattle.lwkt_core.specs.declared.seats.WordStep.{WordStep}
 use Rattle.lwkt_core.specs.declared.seats.Deed.{Deed}
+use Rattle.lwkt_core.specs.declared.seats.SeatKind.TheVariants.{Clerk, Of}
 use Rattle.lwkt_core.specs.Events.{cpu_of, place_of}
 use Rattle.lwkt_core.specs.Messages.{message_after}
 use Rattle.lwkt_core.specs.Machine.{Happens}
 use Rattle.lwkt_core.specs.History.{IsStepOver, AreOthers, Chronicle}
 use Rattle.lwkt_msg.specs.declared.views.Entry.{Entry}
 use Rattle.lwkt_msg.specs.declared.views.Layout.{Layout}
+use Rattle.lwkt_msg.specs.declared.views.Recalled.{Recalled}
 use Rattle.lwkt_msg.specs.declared.views.View.{View}
-use Rattle.lwkt_msg.specs.Views.{word_at, call_of, who, noted, page_of}
-use Rattle.lwkt_msg.specs.Book.{Mail, parts_of, mail_at, opened_mail, Rule}
+use Rattle.lwkt_msg.specs.Views.{word_at, call_of, who, noted, page_of, recalled_at}
+use Rattle.lwkt_msg.specs.Book.{Mail, parts_of, Knows, mail_at, opened_mail, Rule}
 use Rattle.lwkt_msg.specs.Steps.{machine_of}
 
 -- the operation, which met this word, only looks: a load, or an exchange that met another word
@@ -127,11 +131,18 @@ pub record IsDone (cpus : ℕ) (mails : List Mail) (d : Deed) (others : List Mai
 abbrev pub first_mails : List MsgSpec → List Mail
 first_mails specs = map opened_mail specs
 
+-- what the seats knew that the clerk has taken back is still so of so many messages, and each of them has its chapter
+pub record Recalls (views : List View) (mails : List Mail) (count : ℕ) : Type 0 where
+  pub chapters : (j i : ℕ) (v : View) (r : Recalled) → get_elem? views j ≡ some v → get_elem? v.recalled i ≡ some r → (made back : ℕ) × ((past : List Deed) × ((v.kind ≡ Clerk made back) × (get_elem? v.chapters i ≡ some (record { cpu = r.cpu; past = past }))))
+  pub knows : (j i : ℕ) (v : View) (r : Recalled) (m : ℕ) → get_elem? views j ≡ some v → get_elem? v.recalled i ≡ some r → m < count → Knows (mail_at mails m) (Of r.cpu) (recalled_at r m)
+
 -- the book's rule between any two steps: words, records and views show safe messages, and there is one history of the deeds of all
--- seats that leads from the messages declared to these, of which each seat has seen the front up to its own last deed
+-- seats that leads from the messages declared to these, of which each seat has seen the front up to its own last
+-- deed; what seats knew that were taken back stands
 pub record Told (key : Layout) (s : State Rec View) : Type 0 where
   pub rule : Rule key s
   pub chronicle : Chronicle (IsDone key.cpus) (first_mails key.specs.items) (map page_of s.views) rule.mails
+  pub recalls : Recalls s.views rule.mails (length key.specs.items)
 
 -- after a deed the history has that deed more, which is done between the messages shown before and after it
 pub record IsNext (key : Layout) (s s' : State Rec View) (told : Told key s) (d : Deed) (after : Told key s') : Type 0 where

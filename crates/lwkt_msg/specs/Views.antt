@@ -17,6 +17,7 @@ use Rattle.lwkt_core.specs.Seating.{after_made, after_back, next_seat}
 use Rattle.lwkt_core.specs.History.{Page}
 use Rattle.lwkt_msg.specs.declared.views.Entry.{Entry}
 use Rattle.lwkt_msg.specs.declared.views.Noted.{Noted}
+use Rattle.lwkt_msg.specs.declared.views.Recalled.{Recalled}
 use Rattle.lwkt_msg.specs.declared.views.Returned.{Returned}
 use Rattle.lwkt_msg.specs.declared.views.View.{View}
 
@@ -163,11 +164,11 @@ abbrev pub clerk_left : View → View
 clerk_left v = record v { kind = after_made v.kind }
 
 abbrev pub seat_right : View → View
-seat_right v = record v { kind = next_seat v.kind; past = []; chapters = [] }
+seat_right v = record v { kind = next_seat v.kind; past = []; chapters = []; recalled = [] }
 
 -- a view that was taken back, and one cut off whole
 abbrev pub spent_view : View
-spent_view = record { kind = Spent; cpus = 0; specs = []; entries = []; past = []; chapters = [] }
+spent_view = record { kind = Spent; cpus = 0; specs = []; entries = []; past = []; chapters = []; recalled = [] }
 
 abbrev pub spent_left : View → View
 spent_left v = spent_view
@@ -184,9 +185,16 @@ unfoldable pub gathered : ℕ → View → View → List Noted
 gathered zero v other = []
 gathered (suc k) v other = record { msg = k; entry = added (at v k) (at other k) } ∷ gathered k v other
 
--- the clerk's view after a seat was taken back, whose past it keeps
+-- what a seat knew that was taken back, and of a message
+abbrev pub recalled_of : View → Recalled
+recalled_of v = record { cpu = who v; specs = v.specs; entries = v.entries }
+
+unfoldable pub recalled_at : Recalled → ℕ → Entry
+recalled_at r m = entry_in r.entries m (first_entry (spec_at r.specs m))
+
+-- the clerk's view after a seat was taken back, whose past it keeps, and what it knew
 abbrev pub chapter_of : View → Chapter
 chapter_of v = record { cpu = who v; past = v.past }
 
 abbrev pub clerk_both : View → View → View
-clerk_both v other = record v { kind = after_back v.kind; entries = gathered (length v.specs) v other; chapters = chapter_of other ∷ v.chapters }
+clerk_both v other = record v { kind = after_back v.kind; entries = gathered (length v.specs) v other; chapters = chapter_of other ∷ v.chapters; recalled = recalled_of other ∷ v.recalled }

@@ -54,6 +54,13 @@ pub struct Noted {
     pub entry: Entry,
 }
 
+/// What a seat knew that was taken back.
+pub struct Recalled {
+    pub cpu: CpuId,
+    pub specs: [MsgSpec; 0],
+    pub entries: [Noted; 0],
+}
+
 /// What a seat at the book's table knows. A clause reads an array as a list, of any length.
 pub struct View {
     pub kind: SeatKind,
@@ -65,4 +72,6 @@ pub struct View {
     pub past: [Deed; 0],
     /// Of the clerk: what the seats had seen that it has taken back.
     pub chapters: [Chapter; 0],
+    /// Of the clerk: what these seats knew, in the same order.
+    pub recalled: [Recalled; 0],
 }

@@ -4,4 +4,6 @@
 #[cfg(test)]
 mod book_rows;
 #[cfg(test)]
+mod full_books;
+#[cfg(test)]
 mod lane_rows;
