@@ -4,3 +4,4 @@ pub mod PollMoves
 pub mod ShowMoves
 pub mod EndMoves
 pub mod RunMoves
+pub mod LawMoves

@@ -63,11 +63,11 @@ came_next slot before p a one =
     ap progress_of (asked_push slot before p ∙ ap (λ (ys : List Asked). asked_by slot before ++ ys) one) ∙ progress_push (asked_by slot before) a
 
 -- what a poll asks of its thread, and of another
-asked_here : (slot : ℕ) (q : Poll) (took : Bool) → slot_of q.thread ≡ slot → asked_in slot (record { poll = Some q; took = took }) ≡ asked q took ∷ []
-asked_here slot q took is = search rules
+asked_here : (slot : ℕ) (q : Poll) (blocked : Bool) → slot_of q.thread ≡ slot → asked_in slot (record { poll = Some q; blocked = blocked }) ≡ asked q blocked ∷ []
+asked_here slot q blocked is = search rules
 
-asked_there : (slot : ℕ) (q : Poll) (took : Bool) → (slot_of q.thread ≡ slot → ⊥) → asked_in slot (record { poll = Some q; took = took }) ≡ []
-asked_there slot q took not = search rules
+asked_there : (slot : ℕ) (q : Poll) (blocked : Bool) → (slot_of q.thread ≡ slot → ⊥) → asked_in slot (record { poll = Some q; blocked = blocked }) ≡ []
+asked_there slot q blocked not = search rules
 
 -- an element after a write, to its place and to another
 get_set : {A : Type 0} (xs : List A) (i : ℕ) (v : A) → i < length xs → slice_get (slice_set xs i v) i ≡ Some v
@@ -100,25 +100,25 @@ shows_start =
     record { room = length-replicate {A = Progress} 128 p; at = λ k inside. get_replicate 128 p k inside }
 
 -- after a turn without an ask
-pub shows_idle : (before : List Piece) (table : List Progress) (took : Bool) → Shows before table → Shows (before ++ record { poll = None; took = took } ∷ []) table
-shows_idle before table took shows = record {
+pub shows_idle : (before : List Piece) (table : List Progress) (blocked : Bool) → Shows before table → Shows (before ++ record { poll = None; blocked = blocked } ∷ []) table
+shows_idle before table blocked shows = record {
   room = shows.room;
-  at = λ k inside. shows.at k inside ∙ ap (λ (p : Progress). Some p) (sym (came_other k before (record { poll = None; took = took }) refl));
+  at = λ k inside. shows.at k inside ∙ ap (λ (p : Progress). Some p) (sym (came_other k before (record { poll = None; blocked = blocked }) refl));
 }
 
 -- after a turn that polled a thread
-pub shows_poll : (before : List Piece) (table new : List Progress) (q : Poll) (took : Bool) → Shows before table → slot_of q.thread < 128 → new ≡ slice_set table (slot_of q.thread) (progress_after (came before (slot_of q.thread)) (asked q took)) → Shows (before ++ record { poll = Some q; took = took } ∷ []) new
-shows_poll before table new q took shows inside is =
+pub shows_poll : (before : List Piece) (table new : List Progress) (q : Poll) (blocked : Bool) → Shows before table → slot_of q.thread < 128 → new ≡ slice_set table (slot_of q.thread) (progress_after (came before (slot_of q.thread)) (asked q blocked)) → Shows (before ++ record { poll = Some q; blocked = blocked } ∷ []) new
+shows_poll before table new q blocked shows inside is =
     let slot = slot_of q.thread in
-    let p : Piece = record { poll = Some q; took = took } in
-    let v : Progress = progress_after (came before slot) (asked q took) in
+    let p : Piece = record { poll = Some q; blocked = blocked } in
+    let v : Progress = progress_after (came before slot) (asked q blocked) in
     record {
       room = ap (λ (t : List Progress). length t) is ∙ length_set table slot v ∙ shows.room;
       at = λ k below. ap (λ (t : List Progress). slice_get t k) is ∙ elim (cases_eq slot k) [
         | inl same ↦ (let F : ℕ → Type 0 = λ j. slice_get (slice_set table slot v) j ≡ Some (came (before ++ p ∷ []) j) in
             let room : slot < length table = (let w = shows.room in omega arith) in
-            subst F same (get_set table slot v room ∙ ap (λ (x : Progress). Some x) (sym (came_next slot before p (asked q took) (asked_here slot q took refl)))))
-        | inr apart ↦ get_set_other table slot k v apart ∙ shows.at k below ∙ ap (λ (x : Progress). Some x) (sym (came_other k before p (asked_there k q took apart)))
+            subst F same (get_set table slot v room ∙ ap (λ (x : Progress). Some x) (sym (came_next slot before p (asked q blocked) (asked_here slot q blocked refl)))))
+        | inr apart ↦ get_set_other table slot k v apart ∙ shows.at k below ∙ ap (λ (x : Progress). Some x) (sym (came_other k before p (asked_there k q blocked apart)))
       ];
     }
 
@@ -132,7 +132,7 @@ few_in None f few = omega arith
 few_in (Some q) f few = few q
 
 asked_once : (slot : ℕ) (p : Piece) → length (asked_in slot p) ≤ 1
-asked_once slot p = few_in p.poll (λ q. if slot_of q.thread == slot then (asked q p.took ∷ []) else []) (λ q. if_few (slot_of q.thread == slot) (asked q p.took))
+asked_once slot p = few_in p.poll (λ q. if slot_of q.thread == slot then (asked q p.blocked ∷ []) else []) (λ q. if_few (slot_of q.thread == slot) (asked q p.blocked))
 
 -- a poll that fits is of one of the threads that there can be
 inside_by : (plans : List ThreadPlan) (lines : List ThreadEnd) (cpu : ℕ) (o : Option Progress) (q : Poll) → cpu < 8 → MatchOption o ⊥ (λ p. Polls plans lines cpu p q) → slot_of q.thread < 128
@@ -157,9 +157,9 @@ few_polls before table k shows few inside =
     subst F (sym (shows.at k inside)) (omega arith)
 
 -- the same, by what the check of a poll says
-pub shows_polled : (plans : List ThreadPlan) (lines : List ThreadEnd) (cpu : ℕ) (before : List Piece) (table new : List Progress) (q : Poll) (took : Bool) → cpu < 8 → Shows before table → MatchOption (slice_get table (slot_of q.thread)) ⊥ (λ p. Polls plans lines cpu p q) → MatchOption (slice_get table (slot_of q.thread)) ⊥ (λ p. new ≡ slice_set table (slot_of q.thread) (progress_after p (asked q took))) → Shows (before ++ record { poll = Some q; took = took } ∷ []) new
-shows_polled plans lines cpu before table new q took small shows right moved =
+pub shows_polled : (plans : List ThreadPlan) (lines : List ThreadEnd) (cpu : ℕ) (before : List Piece) (table new : List Progress) (q : Poll) (blocked : Bool) → cpu < 8 → Shows before table → MatchOption (slice_get table (slot_of q.thread)) ⊥ (λ p. Polls plans lines cpu p q) → MatchOption (slice_get table (slot_of q.thread)) ⊥ (λ p. new ≡ slice_set table (slot_of q.thread) (progress_after p (asked q blocked))) → Shows (before ++ record { poll = Some q; blocked = blocked } ∷ []) new
+shows_polled plans lines cpu before table new q blocked small shows right moved =
     let slot = slot_of q.thread in
     let inside : slot < 128 = inside_by plans lines cpu (slice_get table slot) q small right in
-    let F : Option Progress → Type 0 = λ o. MatchOption o ⊥ (λ p. new ≡ slice_set table slot (progress_after p (asked q took))) in
-    shows_poll before table new q took shows inside (subst F (shows.at slot inside) moved)
+    let F : Option Progress → Type 0 = λ o. MatchOption o ⊥ (λ p. new ≡ slice_set table slot (progress_after p (asked q blocked))) in
+    shows_poll before table new q blocked shows inside (subst F (shows.at slot inside) moved)

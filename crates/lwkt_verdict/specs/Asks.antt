@@ -136,21 +136,16 @@ abbrev pub is_do : Ask → Bool
 is_do (Do msg to call) = true
 is_do _ = false
 
--- whether a thread may rest whose last ask was this, with this answer or none yet, and whose part ended so: with a take, a
--- share or a further reference, or not
-abbrev pub may_rest : Ask → Option Answer → Bool → Bool
-may_rest (Get tok) answer took = not (is_refused answer) && not took
-may_rest (GetShared tok) answer took = not (is_refused answer) && not took
-may_rest (Do msg to call) answer took = not (is_refused answer)
-may_rest WaitPort answer took = true
-may_rest Yield answer took = true
-may_rest Exit answer took = true
-may_rest _ answer took = false
-
 -- whether an ask is the last one of a body
 abbrev pub is_exit : Ask → Bool
 is_exit Exit = true
 is_exit _ = false
+
+-- whether an ask can leave its thread waiting for its port or for a reply
+abbrev pub may_wait : Ask → Bool
+may_wait (Do msg to call) = true
+may_wait WaitPort = true
+may_wait _ = false
 
 -- whether an ask can block its thread and leave it to go on
 abbrev pub may_block : Ask → Bool

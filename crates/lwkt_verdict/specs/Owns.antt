@@ -1,5 +1,5 @@
 -- The events that an ask makes itself, and those that may stand in a part of a trace unasked (own).
-use Rattle.std.specs.Prelude.{◌≡◌, ℕ, ◌+◌, ◌-◌, ◌==◌, ◌&&◌, Bool, true, false, not, List, [], ◌∷◌, length, slice_get, if◌then◌else◌, Option, Some, None}
+use Rattle.std.specs.Prelude.{◌≡◌, ℕ, ◌+◌, ◌-◌, ◌==◌, ◌&&◌, nat_lt, Bool, true, false, not, List, [], ◌∷◌, length, slice_get, if◌then◌else◌, Option, Some, None}
 use Rattle.std.specs.Option.{option_map_or}
 use Rattle.lwkt_base.specs.declared.asks.Ask.{Ask}
 use Rattle.lwkt_base.specs.declared.asks.Ask.TheVariants.{Get, GetShared, TryGet, Rel, Swap, Read as ReadAsk, Write as WriteAsk, Add as AddAsk, Send as SendAsk, Do as DoAsk, Reply as ReplyAsk, Abort as AbortAsk, IsAborted, DropMsg as DropAsk, GetPort, WaitPort, Yield, Exit}
@@ -113,6 +113,17 @@ first_send (e ∷ es) = if is_send e then 0 else (first_send es + 1)
 abbrev pub own_place : Ask → List Event → ℕ
 own_place ask part = if is_do ask then first_send part else (length part - 1)
 
--- whether a part ends with a take, a share or a further reference
+-- whether a part ends with a take, a share or a further reference, as that of a reference which was had at once
 abbrev pub ends_taking : List Event → Bool
 ends_taking part = option_map_or adds_reference (slice_get part (length part - 1)) false
+
+-- whether its part shows that an ask, where it wasn't refused, blocked its thread: a blocking request for a token doesn't end
+-- with a reference, and a synchronous send has its send; a wait for the port may block, to yield and to exit do
+abbrev pub has_blocked : Ask → List Event → Bool
+has_blocked (Get tok) part = not (ends_taking part)
+has_blocked (GetShared tok) part = not (ends_taking part)
+has_blocked (DoAsk msg to call) part = nat_lt (first_send part) (length part)
+has_blocked WaitPort part = true
+has_blocked Yield part = true
+has_blocked Exit part = true
+has_blocked _ part = false

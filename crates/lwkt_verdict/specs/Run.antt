@@ -1,5 +1,6 @@
 -- A run of a script over a lawful trace (own).
-use Rattle.std.specs.Prelude.{◌≡◌, ℕ, ◌+◌, ◌-◌, ◌*◌, ◌/◌, ◌%◌, ◌<◌, ◌≤◌, ◌⊎◌, Bool, true, false, List, [], ◌∷◌, ◌++◌, length, take, drop, All, slice_get, Option, Some, None, MatchOption, is_some}
+use Rattle.std.specs.Prelude.{◌≡◌, ℕ, ◌+◌, ◌-◌, ◌*◌, ◌/◌, ◌%◌, ◌<◌, ◌≤◌, ◌⊎◌, Bool, true, false, List, [], ◌∷◌, ◌++◌, length, take, drop, All, slice_get, Option, Some, None, MatchOption, option_and_then, is_some}
+use Rattle.std.specs.Option.{option_map_or}
 use Rattle.lwkt_core.specs.declared.events.Event.{Event}
 use Rattle.lwkt_core.specs.Events.{cpu_of}
 use Rattle.lwkt_core.specs.Machine.{Machine}
@@ -11,21 +12,25 @@ use Rattle.lwkt_verdict.specs.declared.progress.Asked.{Asked}
 use Rattle.lwkt_verdict.specs.declared.progress.Progress.{Progress}
 use Rattle.lwkt_verdict.specs.declared.progress.Piece.{Piece}
 use Rattle.lwkt_verdict.specs.Asks.{may_answer}
-use Rattle.lwkt_verdict.specs.Owns.{ends_taking}
+use Rattle.lwkt_verdict.specs.Owns.{has_blocked}
 use Rattle.lwkt_verdict.specs.Parts.{after_all, GoesQuietly, IsPartOf}
 use Rattle.lwkt_verdict.specs.Threads.{slot_of, thread_of, line_of, asked_by, progress_of, MayAsk, IsLogged, Rests, Ends, has_ended}
 
--- what a turn was, where its part of the trace is this
-abbrev pub piece : Turn → List Event → Piece
-piece turn part = record { poll = turn.poll; took = ends_taking part }
+-- the poll of a turn, by its place among the polls
+abbrev pub poll_of : List Poll → Turn → Option Poll
+poll_of polls turn = option_and_then (slice_get polls) turn.poll
+
+-- what a turn was, where its poll and its part of the trace are these
+abbrev pub piece : Option Poll → List Event → Piece
+piece poll part = record { poll = poll; blocked = option_map_or (λ q. has_blocked q.ask part) poll false }
 
 -- how far a thread has come after those turns
 abbrev pub came : List Piece → ℕ → Progress
 came before slot = progress_of (asked_by slot before)
 
--- an ask and its answer, where its part ended so
+-- an ask and its answer, where its part shows that it blocked its thread, or doesn't
 abbrev pub asked : Poll → Bool → Asked
-asked q took = record { ask = q.ask; answer = q.answer; took = took }
+asked q blocked = record { ask = q.ask; answer = q.answer; blocked = blocked }
 
 -- a poll fits a thread that has come so far: the thread is one of the script's, of this processor, the ask is its next one,
 -- the ask before it has its answer, the answer of this one, if it has one, is one that the ask can have, and its entry stands
@@ -51,10 +56,10 @@ Makes m poll part = MatchOption poll (GoesQuietly m part) (λ q. IsPartOf m q.as
 
 -- a turn fits the turns before it, and its part of the trace the machine that it finds; each event of the part is of the
 -- turn's processor
-pub record Fits (plans : List ThreadPlan) (lines : List ThreadEnd) (cpu : ℕ) (m : Machine) (before : List Piece) (turn : Turn) (part : List Event) : Type 0 where
+pub record Fits (plans : List ThreadPlan) (lines : List ThreadEnd) (cpu : ℕ) (m : Machine) (before : List Piece) (poll : Option Poll) (part : List Event) : Type 0 where
   pub own : All (λ e. cpu_of e ≡ cpu) part
-  pub makes : Makes m turn.poll part
-  pub polls : MatchOption turn.poll (Idles plans cpu (came before)) (λ q. Polls plans lines cpu (came before (slot_of q.thread)) q)
+  pub makes : Makes m poll part
+  pub polls : MatchOption poll (Idles plans cpu (came before)) (λ q. Polls plans lines cpu (came before (slot_of q.thread)) q)
 
 -- the end of a run: the events of the stop may happen unasked, and each thread of the script has its line and ends as it says
 pub record Closes (plans : List ThreadPlan) (lines : List ThreadEnd) (m : Machine) (before : List Piece) (stop : List Event) : Type 0 where
@@ -62,10 +67,10 @@ pub record Closes (plans : List ThreadPlan) (lines : List ThreadEnd) (m : Machin
   pub ends : (cpu n : ℕ) → cpu < 8 → n < 16 → Ends (thread_of cpu n plans) (line_of (16 * cpu + n) lines) (came before (16 * cpu + n))
 
 -- the trace is cut in order into one part for each turn and the events of the stop; the processors take their turns in rounds
-abbrev pub Runs : List ThreadPlan → List ThreadEnd → ℕ → Machine → List Piece → List Turn → List Event → Type 0
-Runs plans lines cpus m before [] events = Closes plans lines m before events
-Runs plans lines cpus m before (turn ∷ turns) events =
-    (turn.events ≤ length events) × (Fits plans lines (length before % cpus) m before turn (take turn.events events) × Runs plans lines cpus (after_all m (take turn.events events)) (before ++ piece turn (take turn.events events) ∷ []) turns (drop turn.events events))
+abbrev pub Runs : List ThreadPlan → List ThreadEnd → List Poll → ℕ → Machine → List Piece → List Turn → List Event → Type 0
+Runs plans lines polls cpus m before [] events = Closes plans lines m before events
+Runs plans lines polls cpus m before (turn ∷ turns) events =
+    (turn.events ≤ length events) × (Fits plans lines (length before % cpus) m before (poll_of polls turn) (take turn.events events) × Runs plans lines polls cpus (after_all m (take turn.events events)) (before ++ piece (poll_of polls turn) (take turn.events events) ∷ []) turns (drop turn.events events))
 
 -- a thread and its line are both there, or neither is
 abbrev pub IsPaired : List ThreadPlan → List ThreadEnd → ℕ → ℕ → Type 0
@@ -77,21 +82,29 @@ AreListed cpus least [] = Unit {0}
 AreListed cpus least (l ∷ ls) = (least ≤ slot_of l.id) × ((l.id.cpu.0 < cpus) × ((l.id.thread < 16) × AreListed cpus (slot_of l.id + 1) ls))
 
 -- the rounds of a run end before the script's are used up: the last round has no ask, and every thread has ended
-pub record EndsEarly (cpus : ℕ) (limit : ℕ) (turns : List Turn) (lines : List ThreadEnd) : Type 0 where
+pub record EndsEarly (polls : List Poll) (cpus : ℕ) (limit : ℕ) (turns : List Turn) (lines : List ThreadEnd) : Type 0 where
   pub fewer : length turns < limit * cpus
-  pub unasked : All (λ turn. is_some turn.poll ≡ false) (drop (length turns - cpus) turns)
+  pub unasked : All (λ turn. is_some (poll_of polls turn) ≡ false) (drop (length turns - cpus) turns)
   pub ended : All (λ line. has_ended line.state ≡ true) lines
 
 -- so many turns are whole rounds of the processors, at least one; they are the script's, or fewer
-pub record AreRounds (cpus : ℕ) (limit : ℕ) (turns : List Turn) (lines : List ThreadEnd) : Type 0 where
+pub record AreRounds (polls : List Poll) (cpus : ℕ) (limit : ℕ) (turns : List Turn) (lines : List ThreadEnd) : Type 0 where
   pub processors : 0 < cpus
   pub some : 0 < length turns
   pub whole : length turns % cpus ≡ 0
-  pub enough : (length turns ≡ limit * cpus) ⊎ EndsEarly cpus limit turns lines
+  pub enough : (length turns ≡ limit * cpus) ⊎ EndsEarly polls cpus limit turns lines
 
--- the turns are a run of a script with so many rounds at most, over a trace from an opening, which ends as the lines say
-pub record IsScriptRun (plans : List ThreadPlan) (limit : ℕ) (opening : Machine) (turns : List Turn) (trace : List Event) (lines : List ThreadEnd) : Type 0 where
+-- the turns, with their polls, are a run of a script with so many rounds at most, over a trace from an opening, which ends as the lines say
+pub record IsScriptRun (plans : List ThreadPlan) (limit : ℕ) (opening : Machine) (polls : List Poll) (turns : List Turn) (trace : List Event) (lines : List ThreadEnd) : Type 0 where
   pub listed : AreListed opening.cpus 0 lines
   pub paired : (cpu n : ℕ) → cpu < 8 → n < 16 → IsPaired plans lines cpu n
-  pub rounds : AreRounds opening.cpus limit turns lines
-  pub runs : Runs plans lines opening.cpus opening [] turns trace
+  pub rounds : AreRounds polls opening.cpus limit turns lines
+  pub runs : Runs plans lines polls opening.cpus opening [] turns trace
+
+-- a law: no turn at all is no run
+abbrev pub NoTurnsAreNoRun : Type 0
+NoTurnsAreNoRun = (plans : List ThreadPlan) (limit : ℕ) (opening : Machine) (polls : List Poll) (trace : List Event) (lines : List ThreadEnd) → ¬ IsScriptRun plans limit opening polls [] trace lines
+
+-- a law: no run begins with a turn without an ask, where processor 0 has a thread
+abbrev pub RunsBeginWithAnAsk : Type 0
+RunsBeginWithAnAsk = (plans : List ThreadPlan) (limit : ℕ) (opening : Machine) (polls : List Poll) (turn : Turn) (turns : List Turn) (trace : List Event) (lines : List ThreadEnd) → is_some (thread_of 0 0 plans) ≡ true → poll_of polls turn ≡ None → ¬ IsScriptRun plans limit opening polls (turn ∷ turns) trace lines

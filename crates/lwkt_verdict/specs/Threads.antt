@@ -15,7 +15,7 @@ use Rattle.lwkt_verdict.specs.declared.turns.Poll.{Poll}
 use Rattle.lwkt_verdict.specs.declared.progress.Asked.{Asked}
 use Rattle.lwkt_verdict.specs.declared.progress.Progress.{Progress}
 use Rattle.lwkt_verdict.specs.declared.progress.Piece.{Piece}
-use Rattle.lwkt_verdict.specs.Asks.{entry_of, may_rest, is_exit, may_block}
+use Rattle.lwkt_verdict.specs.Asks.{entry_of, is_refused, is_exit, may_block, may_wait}
 
 -- a thread's number among those of all processors, 16 for each
 abbrev pub slot_of : ThreadId → ℕ
@@ -43,7 +43,7 @@ ask_at plan k = ask_in plan.repeat plan.steps.items k
 
 -- what a turn asked of a thread
 abbrev pub asked_in : ℕ → Piece → List Asked
-asked_in slot piece = option_map_or (λ q. if slot_of q.thread == slot then record { ask = q.ask; answer = q.answer; took = piece.took } ∷ [] else []) piece.poll []
+asked_in slot piece = option_map_or (λ q. if slot_of q.thread == slot then record { ask = q.ask; answer = q.answer; blocked = piece.blocked } ∷ [] else []) piece.poll []
 
 -- what some turns asked of a thread, in order
 abbrev pub asked_by : ℕ → List Piece → List Asked
@@ -78,22 +78,45 @@ MayAsk plan p ask = (ask_at plan p.polls ≡ Some ask) × MatchOption p.last (Un
 abbrev pub IsLogged : ThreadEnd → Progress → Asked → Type 0
 IsLogged line p a = MatchOption (logged_by a) (Unit {0}) (λ e. p.logged < 32 → slice_get line.log.items p.logged ≡ Some e)
 
--- a thread may rest: it was polled, and its last ask was one after which it may
-abbrev pub Rests : Progress → Type 0
-Rests p = MatchOption p.last ⊥ (λ a. may_rest a.ask a.answer a.took ≡ true)
+-- whether a thread is blocked by what it last asked: that isn't refused, and its part shows that it blocked
+abbrev pub is_blocked : Asked → Bool
+is_blocked a = not (is_refused a.answer) && a.blocked
 
--- whether a thread may end in this state whose last ask was this
-abbrev pub may_end : ThreadState → Option Ask → Bool
-may_end Ready ask = not (option_map_or is_exit ask false)
-may_end Waiting ask = not (option_map_or is_exit ask false)
-may_end Running ask = not (option_map_or is_exit ask false)
-may_end Exited ask = option_map_or is_exit ask false
-may_end (Faulted fault) ask = (number_of fault == 19 && (option_map_or is_exit ask false || option_map_or may_block ask false)) || (number_of fault == 20 && option_map_or may_block ask false)
+-- a thread may rest: it was polled, and is blocked by what it last asked
+abbrev pub Rests : Progress → Type 0
+Rests p = MatchOption p.last ⊥ (λ a. is_blocked a ≡ true)
+
+-- whether a fault of this number can have ended a thread that was blocked by this ask: a law is broken where it blocks or
+-- ends (19), a last generation is met where it would go on (20)
+abbrev pub may_fault : ℕ → Ask → Bool
+may_fault number ask = (number == 19 && (is_exit ask || may_block ask)) || (number == 20 && may_block ask)
+
+-- whether a thread may be in this state whose last ask was this: it is exited only after its last ask, and faulted, waiting or
+-- ready only where it is blocked
+abbrev pub may_end_after : ThreadState → Asked → Bool
+may_end_after Ready a = is_blocked a && may_block a.ask
+may_end_after Waiting a = is_blocked a && may_wait a.ask
+may_end_after Running a = not (is_exit a.ask)
+may_end_after Exited a = is_exit a.ask
+may_end_after (Faulted fault) a = is_blocked a && may_fault (number_of fault) a.ask
+
+-- whether a state is that of a thread that can run
+abbrev pub is_ready : ThreadState → Bool
+is_ready Ready = true
+is_ready Waiting = false
+is_ready Running = false
+is_ready Exited = false
+is_ready (Faulted fault) = false
+
+-- the same of a thread that may have been polled or not: one that never was is ready
+abbrev pub may_end : ThreadState → Option Asked → Bool
+may_end state None = is_ready state
+may_end state (Some a) = may_end_after state a
 
 -- a thread that has come so far ends as its printed line says: its last ask has no answer, the line's log has no more than
 -- the entries that were logged, and its state may come of its last ask
 abbrev pub EndsAs : ThreadEnd → Progress → Type 0
-EndsAs line p = MatchOption p.last (Unit {0}) (λ a. is_some a.answer ≡ false) × (length line.log.items ≡ p.logged) × (may_end line.state (option_map (λ a. a.ask) p.last) ≡ true)
+EndsAs line p = MatchOption p.last (Unit {0}) (λ a. is_some a.answer ≡ false) × (length line.log.items ≡ p.logged) × (may_end line.state p.last ≡ true)
 
 -- the same of a thread that the script may have or not: a line is there exactly if the thread is
 abbrev pub Ends : Option ThreadPlan → Option ThreadEnd → Progress → Type 0

@@ -1,5 +1,5 @@
 ghost use Rattle.std.specs.Prelude.{◌≡◌, ◌==◌};
-ghost use Rattle.lwkt_verdict.specs.Asks.{refusals, may_refuse, may_be_done, may_give_value, may_drop, is_reply_to, may_give_item, may_find_nothing, may_answer, is_refused, makes_event, is_do, may_rest, is_exit, may_block, value_entry, item_entry, entry_of};
+ghost use Rattle.lwkt_verdict.specs.Asks.{refusals, may_refuse, may_be_done, may_give_value, may_drop, is_reply_to, may_give_item, may_find_nothing, may_answer, is_refused, makes_event, is_do, is_exit, may_wait, may_block, value_entry, item_entry, entry_of};
 
 use lwkt_base::{Answer, Ask, Call, Entry, Item};
 
@@ -148,23 +148,18 @@ pub fn is_do(ask: Ask) -> bool
     matches!(ask, Ask::Do(..))
 }
 
-/// Whether a thread may rest whose last ask was this.
-pub fn may_rest(ask: Ask, answer: Option<Answer>, took: bool) -> bool
-    ensures { result ≡ may_rest ask answer took }
-{
-    match ask {
-        Ask::Get(_) | Ask::GetShared(_) => !is_refused(answer) && !took,
-        Ask::Do(..) => !is_refused(answer),
-        Ask::WaitPort | Ask::Yield | Ask::Exit => true,
-        _ => false,
-    }
-}
-
 /// Whether an ask is the last one of a body.
 pub fn is_exit(ask: Ask) -> bool
     ensures { result ≡ is_exit ask }
 {
     matches!(ask, Ask::Exit)
+}
+
+/// Whether an ask can leave its thread waiting for its port or for a reply.
+pub fn may_wait(ask: Ask) -> bool
+    ensures { result ≡ may_wait ask }
+{
+    matches!(ask, Ask::Do(..) | Ask::WaitPort)
 }
 
 /// Whether an ask can block its thread and leave it to go on.

@@ -1,7 +1,6 @@
 ghost use Rattle.std.specs.Prelude.{◌≡◌, ℕ, ◌<◌, ◌≤◌, ◌+◌, ◌*◌, ◌-◌, ◌^◌, ◌%◌, ◌↔◌, IsTrue, List, [], ◌∷◌, ◌++◌, length, take, All, MatchOption};
 ghost use Rattle.lwkt_core.specs.Events.{cpu_of};
 ghost use Rattle.lwkt_verdict.specs.declared.progress.Piece.{Piece};
-ghost use Rattle.lwkt_verdict.specs.Owns.{ends_taking};
 ghost use Rattle.lwkt_verdict.specs.Parts.{after_all};
 ghost use Rattle.lwkt_verdict.specs.Threads.{slot_of};
 ghost use Rattle.lwkt_verdict.specs.Run.{piece, came, Makes, Idles, Polls, Fits, Runs, Closes, IsScriptRun};
@@ -10,12 +9,12 @@ ghost use Rattle.lwkt_verdict.specs.Shows.{Shows};
 
 use crate::ends::all_end;
 use crate::homes::{Home, homes_of};
-use crate::owns::ends_taking;
+use crate::owns::has_blocked;
 use crate::parts::{goes_quietly, is_part_of};
-use crate::polls::{idles, polls};
+use crate::polls::{idles, note_poll};
 use crate::progress::Progress;
 use crate::rounds::{are_listed, are_rounds};
-use crate::turns::{ThreadEnd, ThreadPlan, Turn};
+use crate::turns::{Poll, ThreadEnd, ThreadPlan, Turn, poll_of};
 use lwkt_core::{Event, State};
 
 // Whether each event of a part is of this processor.
@@ -25,12 +24,22 @@ fn are_of(cpu: usize, part: &[Event]) -> bool
     part.iter().all(|event| usize::from(event.cpu().0) == cpu)
 }
 
+// Whether the part of a turn shows that its poll, if it has one, blocked the thread.
+fn blocked_by(poll: Option<Poll>, part: &[Event]) -> bool
+    ensures { result ≡ (piece poll part.now).blocked }
+{
+    match poll {
+        None => false,
+        Some(poll) => has_blocked(poll.ask, part),
+    }
+}
+
 // Makes the events of a turn's part happen, if they can and are what the turn can have made.
-fn makes(state: &mut State, turn: &Turn, part: &[Event]) -> bool
-    ensures right { IsTrue result ↔ Makes state.old turn.now.poll part.now }
+fn makes(state: &mut State, poll: Option<Poll>, part: &[Event]) -> bool
+    ensures right { IsTrue result ↔ Makes state.old poll part.now }
     ensures moved { IsTrue result → state.new ≡ after_all state.old part.now }
 {
-    match turn.poll {
+    match poll {
         None => goes_quietly(state, part),
         Some(poll) => is_part_of(state, poll.ask, poll.answer, part),
     }
@@ -43,18 +52,18 @@ fn asks(
     homes: &[Option<Home>],
     table: &mut [Progress],
     cpu: usize,
-    turn: &Turn,
-    took: bool,
+    poll: Option<Poll>,
+    blocked: bool,
 ) -> bool
     requires processor { cpu < 8 }
     requires homes { AreHomes plans.now lines.now homes.now }
     requires shows { (before : List Piece) × (Shows before table.old × (length before < 2 ^ 64 - 1)) }
-    ensures right { (before : List Piece) → Shows before table.old → (IsTrue result ↔ MatchOption turn.now.poll (Idles plans.now cpu (came before)) (λ q. Polls plans.now lines.now cpu (came before (slot_of q.thread)) q)) }
-    ensures moved { (before : List Piece) → Shows before table.old → IsTrue result → Shows (before ++ record { poll = turn.now.poll; took = took } ∷ []) table.new }
+    ensures right { (before : List Piece) → Shows before table.old → (IsTrue result ↔ MatchOption poll (Idles plans.now cpu (came before)) (λ q. Polls plans.now lines.now cpu (came before (slot_of q.thread)) q)) }
+    ensures moved { (before : List Piece) → Shows before table.old → IsTrue result → Shows (before ++ record { poll = poll; blocked = blocked } ∷ []) table.new }
 {
-    match &turn.poll {
+    match &poll {
         None => idles(plans, lines, homes, table, cpu),
-        Some(poll) => polls(plans, lines, homes, table, cpu, poll, took),
+        Some(poll) => note_poll(plans, lines, homes, table, cpu, poll, blocked),
     }
 }
 
@@ -66,23 +75,31 @@ fn fits(
     table: &mut [Progress],
     state: &mut State,
     cpu: usize,
-    turn: &Turn,
+    poll: Option<Poll>,
     part: &[Event],
 ) -> bool
     requires processor { cpu < 8 }
     requires homes { AreHomes plans.now lines.now homes.now }
     requires shows { (before : List Piece) × (Shows before table.old × (length before < 2 ^ 64 - 1)) }
-    ensures right { (before : List Piece) → Shows before table.old → (IsTrue result ↔ Fits plans.now lines.now cpu state.old before turn.now part.now) }
+    ensures right { (before : List Piece) → Shows before table.old → (IsTrue result ↔ Fits plans.now lines.now cpu state.old before poll part.now) }
     ensures moved { IsTrue result → state.new ≡ after_all state.old part.now }
-    ensures noted { (before : List Piece) → Shows before table.old → IsTrue result → Shows (before ++ piece turn.now part.now ∷ []) table.new }
+    ensures noted { (before : List Piece) → Shows before table.old → IsTrue result → Shows (before ++ piece poll part.now ∷ []) table.new }
 {
     if !are_of(cpu, part) {
         return false;
     }
-    if !makes(state, turn, part) {
+    if !makes(state, poll, part) {
         return false;
     }
-    asks(plans, lines, homes, table, cpu, turn, ends_taking(part))
+    asks(
+        plans,
+        lines,
+        homes,
+        table,
+        cpu,
+        poll,
+        blocked_by(poll, part),
+    )
 }
 
 // Whether what is left of a trace after the last turn is the end of a run.
@@ -108,23 +125,25 @@ fn runs(
     homes: &[Option<Home>],
     table: &mut [Progress],
     state: &mut State,
+    polls: &[Poll],
     turns: &[Turn],
     trace: &[Event],
 ) -> bool
     requires processors { 0 < state.old.cpus }
     requires homes { AreHomes plans.now lines.now homes.now }
     requires shows { Shows [] table.old }
-    ensures { IsTrue result ↔ Runs plans.now lines.now state.old.cpus state.old [] turns.now trace.now }
+    ensures { IsTrue result ↔ Runs plans.now lines.now polls.now state.old.cpus state.old [] turns.now trace.now }
 {
     let cpus = state.cpus();
     let mut rest = trace;
     for (i, turn) in turns.iter().enumerate() {
         let count = turn.events as usize;
+        let poll = poll_of(polls, turn);
         if count > rest.len() {
             return false;
         }
         let (part, later) = rest.split_at(count);
-        if !fits(plans, lines, homes, table, state, i % cpus, turn, part) {
+        if !fits(plans, lines, homes, table, state, i % cpus, poll, part) {
             return false;
         }
         rest = later;
@@ -144,37 +163,39 @@ fn is_run_from(
     plans: &[ThreadPlan],
     limit: u32,
     state: &mut State,
+    polls: &[Poll],
     turns: &[Turn],
     trace: &[Event],
     lines: &[ThreadEnd],
 ) -> bool
-    ensures { IsTrue result ↔ IsScriptRun plans.now limit state.old turns.now trace.now lines.now }
+    ensures { IsTrue result ↔ IsScriptRun plans.now limit state.old polls.now turns.now trace.now lines.now }
 {
     let cpus = state.cpus();
-    if !are_listed(cpus, lines) || !are_rounds(cpus, limit, turns, lines) {
+    if !are_listed(cpus, lines) || !are_rounds(polls, cpus, limit, turns, lines) {
         return false;
     }
     match homes_of(plans, lines) {
         None => false,
         Some(homes) => {
             let mut table = start();
-            runs(plans, lines, &homes, &mut table, state, turns, trace)
+            runs(plans, lines, &homes, &mut table, state, polls, turns, trace)
         }
     }
 }
 
-/// Whether these turns are a run of a script with these threads and so many rounds at most, over this trace from the opening,
-/// which ends as the lines of the threads say. Takes no memory; the work is in proportion to turns and events.
+/// Whether these turns, with their polls, are a run of a script with these threads and so many rounds at most, over this trace
+/// from the opening, which ends as the lines of the threads say. Takes no memory; the work is in proportion to turns and events.
 pub fn is_script_run(
     plans: &[ThreadPlan],
     limit: u32,
     opening: State,
+    polls: &[Poll],
     turns: &[Turn],
     trace: &[Event],
     lines: &[ThreadEnd],
 ) -> bool
-    ensures { IsTrue result ↔ IsScriptRun plans.now limit opening turns.now trace.now lines.now }
+    ensures { IsTrue result ↔ IsScriptRun plans.now limit opening polls.now turns.now trace.now lines.now }
 {
     let mut state = opening;
-    is_run_from(plans, limit, &mut state, turns, trace, lines)
+    is_run_from(plans, limit, &mut state, polls, turns, trace, lines)
 }

@@ -6,6 +6,7 @@ mod asks;
 mod checks;
 mod ends;
 mod homes;
+pub mod laws;
 mod owns;
 mod parts;
 mod plans;

@@ -1,6 +1,6 @@
 ghost use Rattle.std.specs.Prelude.{◌≡◌, ◌≤◌, ◌↔◌, ◌+◌, ◌==◌, IsTrue, length, Some};
 ghost use Rattle.lwkt_core.specs.Values.{first_at, cell_at};
-ghost use Rattle.lwkt_verdict.specs.Owns.{IsQuiet, agrees, is_read, is_write, is_raise, is_send_of, is_reply_of, is_abort_of, is_drop_of, is_own, is_send, first_send, own_place, ends_taking};
+ghost use Rattle.lwkt_verdict.specs.Owns.{IsQuiet, agrees, is_read, is_write, is_raise, is_send_of, is_reply_of, is_abort_of, is_drop_of, is_own, is_send, first_send, own_place, ends_taking, has_blocked};
 
 use crate::asks::is_do;
 use lwkt_base::{Answer, Ask, TokId};
@@ -192,12 +192,24 @@ pub fn own_place(ask: Ask, part: &[Event]) -> usize
     }
 }
 
-/// Whether a part ends with a take, a share or a further reference.
-pub fn ends_taking(part: &[Event]) -> bool
+// Whether a part ends with a take, a share or a further reference.
+fn ends_taking(part: &[Event]) -> bool
     ensures { result ≡ ends_taking part.now }
 {
     match part.get(part.len().saturating_sub(1)) {
         None => false,
         Some(event) => event.adds_reference(),
+    }
+}
+
+/// Whether its part shows that an ask, where it wasn't refused, blocked its thread.
+pub fn has_blocked(ask: Ask, part: &[Event]) -> bool
+    ensures { result ≡ has_blocked ask part.now }
+{
+    match ask {
+        Ask::Get(_) | Ask::GetShared(_) => !ends_taking(part),
+        Ask::Do(..) => first_send(part) < part.len(),
+        Ask::WaitPort | Ask::Yield | Ask::Exit => true,
+        _ => false,
     }
 }

@@ -40,7 +40,7 @@ fn poll_fits(
     let asked = Asked {
         ask: poll.ask,
         answer: poll.answer,
-        took: false,
+        blocked: false,
     };
     may_ask(&plans[home.plan], progress, poll.ask)
         && fits_ask(poll.ask, poll.answer)
@@ -56,21 +56,21 @@ pub fn progress_at(table: &[Progress], slot: usize) -> Progress
 }
 
 /// Whether a poll fits the turns before it; how far its thread has come is then noted.
-pub fn polls(
+pub fn note_poll(
     plans: &[ThreadPlan],
     lines: &[ThreadEnd],
     homes: &[Option<Home>],
     table: &mut [Progress],
     cpu: usize,
     poll: &Poll,
-    took: bool,
+    blocked: bool,
 ) -> bool
     requires processor { cpu < 8 }
     requires homes { AreHomes plans.now lines.now homes.now }
     requires room { length table.old ≡ 128 }
     requires few { (k : ℕ) → k < 128 → IfSome (slice_get table.old k) (λ p. p.polls < 2 ^ 64 - 1) }
     ensures right { IsTrue result ↔ MatchOption (slice_get table.old (slot_of poll.now.thread)) ⊥ (λ p. Polls plans.now lines.now cpu p poll.now) }
-    ensures moved { IsTrue result → MatchOption (slice_get table.old (slot_of poll.now.thread)) ⊥ (λ p. table.new ≡ slice_set table.old (slot_of poll.now.thread) (progress_after p (asked poll.now took))) }
+    ensures moved { IsTrue result → MatchOption (slice_get table.old (slot_of poll.now.thread)) ⊥ (λ p. table.new ≡ slice_set table.old (slot_of poll.now.thread) (progress_after p (asked poll.now blocked))) }
 {
     if usize::from(poll.thread.cpu.0) != cpu || poll.thread.thread >= 16 {
         return false;
@@ -84,7 +84,7 @@ pub fn polls(
     let asked = Asked {
         ask: poll.ask,
         answer: poll.answer,
-        took,
+        blocked,
     };
     table[slot] = progress_after(progress, asked);
     true

@@ -1,9 +1,7 @@
-ghost use Rattle.std.specs.Prelude.{◌≡◌, ◌<◌, ◌^◌, ◌-◌, ◌↔◌, IsTrue, true, false, Some, slice_get, is_some, option_map, MatchOption};
-ghost use Rattle.std.specs.Option.{option_map_or};
-ghost use Rattle.lwkt_verdict.specs.Asks.{is_exit, may_block};
-ghost use Rattle.lwkt_verdict.specs.Threads.{logged_by, progress_after, MayAsk, IsLogged, Rests, may_end, EndsAs};
+ghost use Rattle.std.specs.Prelude.{◌≡◌, ◌<◌, ◌^◌, ◌-◌, ◌↔◌, IsTrue, true, false, Some, slice_get, is_some, MatchOption};
+ghost use Rattle.lwkt_verdict.specs.Threads.{logged_by, progress_after, MayAsk, IsLogged, is_blocked, Rests, may_fault, may_end_after, may_end, EndsAs};
 
-use crate::asks::{entry_of, is_exit, may_block, may_rest};
+use crate::asks::{entry_of, is_exit, is_refused, may_block, may_wait};
 use crate::plans::is_ask_at;
 use crate::turns::{Poll, ThreadEnd, ThreadPlan};
 use lwkt_base::{Answer, Ask, Entry, ThreadState};
@@ -11,13 +9,12 @@ use lwkt_base::{Answer, Ask, Entry, ThreadState};
 /// The most entries of a log.
 pub const LOG_LIMIT: usize = 32;
 
-/// An ask of a thread, its answer, if it has one, and whether its part of the trace ended with a take, a share or a further
-/// reference.
+/// An ask of a thread, its answer, if it has one, and whether its part of the trace shows that it blocked the thread.
 #[derive(Clone, Copy, Debug, PartialEq, Eq)]
 pub struct Asked {
     pub ask: Ask,
     pub answer: Option<Answer>,
-    pub took: bool,
+    pub blocked: bool,
 }
 
 /// How far a thread has come.
@@ -44,7 +41,7 @@ impl Progress {
 #[derive(Clone, Copy, Debug, PartialEq, Eq)]
 pub struct Piece {
     pub poll: Option<Poll>,
-    pub took: bool,
+    pub blocked: bool,
 }
 
 // What an ask puts in the log by its answer.
@@ -133,57 +130,50 @@ pub fn is_logged(line: &ThreadEnd, progress: Progress, asked: Asked) -> bool
     }
 }
 
+// Whether a thread is blocked by what it last asked.
+fn is_blocked(asked: Asked) -> bool
+    ensures { result ≡ is_blocked asked }
+{
+    !is_refused(asked.answer) && asked.blocked
+}
+
 /// Whether a thread may rest.
 pub fn rests(progress: Progress) -> bool
     ensures { IsTrue result ↔ Rests progress }
 {
     match progress.last {
         None => false,
-        Some(asked) => may_rest(asked.ask, asked.answer, asked.took),
+        Some(asked) => is_blocked(asked),
     }
 }
 
-// Whether the last ask, if there was one, was the last one of a body.
-fn was_exit(last: Option<Ask>) -> bool
-    ensures { result ≡ option_map_or is_exit last false }
+// Whether a fault can have ended a thread that was blocked by this ask.
+fn may_fault(number: u8, ask: Ask) -> bool
+    ensures { result ≡ may_fault number ask }
 {
-    match last {
-        None => false,
-        Some(ask) => is_exit(ask),
-    }
+    (number == 19 && (is_exit(ask) || may_block(ask))) || (number == 20 && may_block(ask))
 }
 
-// Whether the last ask, if there was one, can have blocked its thread.
-fn was_block(last: Option<Ask>) -> bool
-    ensures { result ≡ option_map_or may_block last false }
-{
-    match last {
-        None => false,
-        Some(ask) => may_block(ask),
-    }
-}
-
-// Whether a thread may end in this state whose last ask was this.
-fn may_end(state: ThreadState, last: Option<Ask>) -> bool
-    ensures { result ≡ may_end state last }
+// Whether a thread may be in this state whose last ask was this.
+fn may_end_after(state: ThreadState, asked: Asked) -> bool
+    ensures { result ≡ may_end_after state asked }
 {
     match state {
-        ThreadState::Ready | ThreadState::Waiting | ThreadState::Running => !was_exit(last),
-        ThreadState::Exited => was_exit(last),
-        ThreadState::Faulted(fault) => {
-            (fault.number() == 19 && (was_exit(last) || was_block(last)))
-                || (fault.number() == 20 && was_block(last))
-        }
+        ThreadState::Ready => is_blocked(asked) && may_block(asked.ask),
+        ThreadState::Waiting => is_blocked(asked) && may_wait(asked.ask),
+        ThreadState::Running => !is_exit(asked.ask),
+        ThreadState::Exited => is_exit(asked.ask),
+        ThreadState::Faulted(fault) => is_blocked(asked) && may_fault(fault.number(), asked.ask),
     }
 }
 
-// The last ask, if there was one.
-fn last_ask(last: Option<Asked>) -> Option<Ask>
-    ensures { result ≡ option_map (λ a. a.ask) last }
+// Whether a thread may be in this state that was polled last with this, or never.
+fn may_end(state: ThreadState, last: Option<Asked>) -> bool
+    ensures { result ≡ may_end state last }
 {
     match last {
-        None => None,
-        Some(asked) => Some(asked.ask),
+        None => matches!(state, ThreadState::Ready),
+        Some(asked) => may_end_after(state, asked),
     }
 }
 
@@ -193,5 +183,5 @@ pub fn ends_as(line: &ThreadEnd, progress: Progress) -> bool
 {
     is_unanswered(progress.last)
         && line.log.len() == progress.logged
-        && may_end(line.state, last_ask(progress.last))
+        && may_end(line.state, progress.last)
 }

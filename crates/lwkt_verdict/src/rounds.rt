@@ -1,9 +1,9 @@
 ghost use Rattle.std.specs.Prelude.{◌≡◌, ◌<◌, ◌≤◌, ◌+◌, ◌*◌, ◌-◌, ◌↔◌, IsTrue, true, false, All, is_some};
 ghost use Rattle.lwkt_verdict.specs.Threads.{slot_of, has_ended};
-ghost use Rattle.lwkt_verdict.specs.Run.{AreListed, EndsEarly, AreRounds};
+ghost use Rattle.lwkt_verdict.specs.Run.{poll_of, AreListed, EndsEarly, AreRounds};
 
 use crate::plans::slot_of;
-use crate::turns::{ThreadEnd, Turn};
+use crate::turns::{Poll, ThreadEnd, Turn, poll_of};
 use lwkt_base::ThreadState;
 
 // Whether a line is of a thread that can be, and comes after those before it.
@@ -42,29 +42,35 @@ fn all_ended(lines: &[ThreadEnd]) -> bool
 }
 
 // Whether no turn has an ask.
-fn none_asked(turns: &[Turn]) -> bool
-    ensures { IsTrue result ↔ All (λ turn. is_some turn.poll ≡ false) turns.now }
+fn none_asked(polls: &[Poll], turns: &[Turn]) -> bool
+    ensures { IsTrue result ↔ All (λ turn. is_some (poll_of polls.now turn) ≡ false) turns.now }
 {
-    turns.iter().all(|turn| turn.poll.is_none())
+    turns.iter().all(|turn| poll_of(polls, turn).is_none())
 }
 
 // Whether the rounds end before the script's are used up.
-fn ends_early(cpus: usize, limit: u32, turns: &[Turn], lines: &[ThreadEnd]) -> bool
+fn ends_early(polls: &[Poll], cpus: usize, limit: u32, turns: &[Turn], lines: &[ThreadEnd]) -> bool
     requires { cpus ≤ 8 }
-    ensures { IsTrue result ↔ EndsEarly cpus limit turns.now lines.now }
+    ensures { IsTrue result ↔ EndsEarly polls.now cpus limit turns.now lines.now }
 {
     turns.len() < limit as usize * cpus
-        && none_asked(&turns[turns.len().saturating_sub(cpus)..])
+        && none_asked(polls, &turns[turns.len().saturating_sub(cpus)..])
         && all_ended(lines)
 }
 
 /// Whether so many turns are whole rounds, at least one, and the script's or fewer.
-pub fn are_rounds(cpus: usize, limit: u32, turns: &[Turn], lines: &[ThreadEnd]) -> bool
+pub fn are_rounds(
+    polls: &[Poll],
+    cpus: usize,
+    limit: u32,
+    turns: &[Turn],
+    lines: &[ThreadEnd],
+) -> bool
     requires { cpus ≤ 8 }
-    ensures { IsTrue result ↔ AreRounds cpus limit turns.now lines.now }
+    ensures { IsTrue result ↔ AreRounds polls.now cpus limit turns.now lines.now }
 {
     if cpus == 0 || turns.is_empty() || turns.len() % cpus != 0 {
         return false;
     }
-    turns.len() == limit as usize * cpus || ends_early(cpus, limit, turns, lines)
+    turns.len() == limit as usize * cpus || ends_early(polls, cpus, limit, turns, lines)
 }

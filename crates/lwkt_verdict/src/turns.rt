@@ -1,3 +1,6 @@
+ghost use Rattle.std.specs.Prelude.{◌≡◌};
+ghost use Rattle.lwkt_verdict.specs.Run.{poll_of};
+
 use lwkt_base::{Answer, Ask, CpuId, Entry, ThreadId, ThreadState};
 
 /// What a script says of one of its threads. The threads lie as in the script; a thread's number is its place among those
@@ -26,10 +29,22 @@ pub struct Poll {
     pub answer: Option<Answer>,
 }
 
-/// One turn of a processor: the thread that it polled, if any, and how many events of the trace are of this turn. The
-/// turn's processor is known by its place: the processors take their turns in rounds.
+/// One turn of a processor. The turn's processor is known by its place: the processors take their turns in rounds. The polls
+/// lie in a list of their own, since most turns of a long run may have none.
 #[derive(Clone, Copy, Debug, PartialEq, Eq)]
 pub struct Turn {
-    pub poll: Option<Poll>,
-    pub events: u32,
+    /// The place of the turn's poll among the polls, if it polled a thread.
+    pub poll: Option<u32>,
+    /// How many events of the trace are of this turn.
+    pub events: u16,
+}
+
+/// The poll of a turn, by its place among the polls.
+pub fn poll_of(polls: &[Poll], turn: &Turn) -> Option<Poll>
+    ensures { result ≡ poll_of polls.now turn.now }
+{
+    match turn.poll {
+        None => None,
+        Some(place) => polls.get(place as usize).copied(),
+    }
 }

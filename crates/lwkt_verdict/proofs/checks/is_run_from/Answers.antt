@@ -11,7 +11,7 @@ returns-in-Some c =
       (λ yes. record {
         listed = subst (λ k. AreListed k 0 lines) cpus (c.are_listed.ensures.0 c.if-not-are_listed.false);
         paired = homes_paired plans lines c.in-Some.homes c.in-Some.ensures;
-        rounds = subst (λ k. AreRounds k c.args.limit c.args.turns.now lines) cpus (c.are_rounds.ensures.0 c.if-not-are_rounds.false);
+        rounds = subst (λ k. AreRounds c.args.polls.now k c.args.limit c.args.turns.now lines) cpus (c.are_rounds.ensures.0 c.if-not-are_rounds.false);
         runs = c.runs.ensures.0 yes;
       }),
       (λ run. c.runs.ensures.1 run.runs),

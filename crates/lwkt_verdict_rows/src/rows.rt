@@ -1,0 +1,279 @@
+//! Rows Tally-Add, Crossed-Lists and Call-And-Reply as runs by hand: each is a run of its script, and no change at one place
+//! leaves it one.
+
+use crate::changes::{Change, make_change};
+use crate::sheets::{Sheet, first_of};
+use lwkt_base::{
+    Answer, Ask, Call, CpuId, Entry, Fault, Item, Law, MsgId, MsgSpec, ThreadState, TokId,
+};
+use lwkt_core::Event;
+use std::alloc::{AllocError, Global};
+use std::test::Fail;
+
+const DONE: Option<Answer> = Some(Answer::Done);
+
+const MESSAGE: MsgId = MsgId(0);
+
+const CALL: Call = Call { arg: 9, op: 5 };
+
+fn take(cpu: u8, tok: u8) -> Event {
+    Event::Take {
+        cpu: CpuId(cpu),
+        tok: TokId(tok),
+    }
+}
+
+fn give_clean(cpu: u8, tok: u8) -> Event {
+    Event::GiveClean {
+        cpu: CpuId(cpu),
+        tok: TokId(tok),
+    }
+}
+
+fn give_written(cpu: u8, tok: u8) -> Event {
+    Event::GiveWritten {
+        cpu: CpuId(cpu),
+        tok: TokId(tok),
+    }
+}
+
+fn write(cpu: u8, value: u64) -> Event {
+    Event::Write {
+        cpu: CpuId(cpu),
+        tok: TokId(0),
+        cell: 0,
+        value,
+    }
+}
+
+fn read(cpu: u8, value: u64) -> Event {
+    Event::Read {
+        cpu: CpuId(cpu),
+        tok: TokId(0),
+        cell: 0,
+        value,
+    }
+}
+
+// One thread adds 5 to a tally of 10.
+fn tally_add(alloc: Global) -> Result<Sheet, AllocError> {
+    let add = Ask::Add(TokId(0), 5);
+    let (get, rel) = (Ask::Get(TokId(0)), Ask::Rel(TokId(0)));
+    let mut sheet = Sheet::new(alloc, 1, 50);
+    sheet.token(alloc, Law::Tally, 10, 10)?;
+    sheet.thread(alloc, 0, &[get, add, rel], ThreadState::Exited, &[])?;
+    sheet.asks(0, get, DONE, &[take(0, 0)])?;
+    sheet.asks(0, add, DONE, &[write(0, 15)])?;
+    sheet.asks(0, rel, DONE, &[give_written(0, 0)])?;
+    sheet.asks(0, Ask::Exit, None, &[])?;
+    sheet.idles(&[])?;
+    Ok(sheet)
+}
+
+// The threads of two processors take two tokens in crossed order: their script and lines.
+fn crossed_threads(alloc: Global, sheet: &mut Sheet) -> Result<(), AllocError> {
+    sheet.token(alloc, Law::Any, 0, 0)?;
+    sheet.token(alloc, Law::Any, 0, 0)?;
+    let steps = [
+        Ask::Get(TokId(0)),
+        Ask::Get(TokId(1)),
+        Ask::Read(TokId(0), 0),
+        Ask::Write(TokId(0), 0, 8),
+        Ask::Yield,
+        Ask::Read(TokId(0), 0),
+        Ask::Rel(TokId(1)),
+        Ask::Rel(TokId(0)),
+    ];
+    let log = [Entry::Value(7), Entry::Value(8)];
+    sheet.thread(alloc, 0, &steps, ThreadState::Exited, &log)?;
+    let steps = [
+        Ask::Get(TokId(1)),
+        Ask::Get(TokId(0)),
+        Ask::Write(TokId(0), 0, 7),
+        Ask::Rel(TokId(0)),
+        Ask::Rel(TokId(1)),
+    ];
+    sheet.thread(alloc, 1, &steps, ThreadState::Exited, &[])
+}
+
+// The rounds up to that in which processor 0 has both tokens.
+fn crossed_begins(sheet: &mut Sheet) -> Result<(), AllocError> {
+    let mark = Event::Mark {
+        cpu: CpuId(0),
+        tok: TokId(1),
+    };
+    sheet.asks(0, Ask::Get(TokId(0)), DONE, &[take(0, 0)])?;
+    sheet.asks(1, Ask::Get(TokId(1)), DONE, &[take(1, 1)])?;
+    sheet.asks(0, Ask::Get(TokId(1)), DONE, &[mark, give_clean(0, 0)])?;
+    sheet.asks(1, Ask::Get(TokId(0)), DONE, &[take(1, 0)])?;
+    sheet.idles(&[])?;
+    sheet.asks(1, Ask::Write(TokId(0), 0, 7), DONE, &[write(1, 7)])?;
+    sheet.idles(&[])?;
+    sheet.asks(1, Ask::Rel(TokId(0)), DONE, &[give_written(1, 0)])?;
+    sheet.idles(&[take(0, 0), give_clean(0, 0)])?;
+    sheet.asks(1, Ask::Rel(TokId(1)), DONE, &[give_clean(1, 1)])
+}
+
+// The rounds from there on.
+fn crossed_ends(sheet: &mut Sheet) -> Result<(), AllocError> {
+    let seven = Some(Answer::Value(7));
+    let eight = Some(Answer::Value(8));
+    let look = Ask::Read(TokId(0), 0);
+    sheet.asks(0, look, seven, &[take(0, 0), take(0, 1), read(0, 7)])?;
+    sheet.asks(1, Ask::Exit, None, &[])?;
+    sheet.asks(0, Ask::Write(TokId(0), 0, 8), DONE, &[write(0, 8)])?;
+    sheet.idles(&[])?;
+    let gives = [give_clean(0, 1), give_written(0, 0)];
+    sheet.asks(0, Ask::Yield, DONE, &gives)?;
+    sheet.idles(&[])?;
+    sheet.asks(0, look, eight, &[take(0, 0), take(0, 1), read(0, 8)])?;
+    sheet.idles(&[])?;
+    sheet.asks(0, Ask::Rel(TokId(1)), DONE, &[give_clean(0, 1)])?;
+    sheet.idles(&[])?;
+    sheet.asks(0, Ask::Rel(TokId(0)), DONE, &[give_clean(0, 0)])?;
+    sheet.idles(&[])?;
+    sheet.asks(0, Ask::Exit, None, &[])?;
+    sheet.idles(&[])?;
+    sheet.idles(&[])?;
+    sheet.idles(&[])
+}
+
+fn crossed_lists(alloc: Global) -> Result<Sheet, AllocError> {
+    let mut sheet = Sheet::new(alloc, 2, 50);
+    crossed_threads(alloc, &mut sheet)?;
+    crossed_begins(&mut sheet)?;
+    crossed_ends(&mut sheet)?;
+    Ok(sheet)
+}
+
+// A thread of processor 0 calls one of processor 1, which replies.
+fn call_and_reply(alloc: Global) -> Result<Sheet, AllocError> {
+    let mut sheet = Sheet::new(alloc, 2, 50);
+    sheet.messages.push(MsgSpec {
+        round: 0,
+        origin: first_of(0),
+    })?;
+    let call = Ask::Do(MESSAGE, first_of(1), CALL);
+    let reply = Ask::Reply(MESSAGE, 7, 42);
+    let log = [Entry::Reply(MESSAGE, 7, 42), Entry::NoMessage];
+    sheet.thread(alloc, 0, &[call, Ask::GetPort], ThreadState::Exited, &log)?;
+    let log = [Entry::Request(MESSAGE, CALL)];
+    let steps = [Ask::WaitPort, reply];
+    sheet.thread(alloc, 1, &steps, ThreadState::Exited, &log)?;
+    let (cpu, msg) = (CpuId(0), MESSAGE);
+    let (to, round) = (CpuId(1), 1);
+    let sent = Event::Send {
+        cpu,
+        msg,
+        to,
+        round,
+    };
+    let taken = Event::TakeMsg {
+        cpu: to,
+        msg,
+        round,
+    };
+    let replied = Event::Reply { cpu: to, msg };
+    let reaped = Event::Reap { cpu, msg };
+    let answer = Some(Answer::Got(Item::Answered(MESSAGE, 7, 42)));
+    let request = Some(Answer::Got(Item::Request(MESSAGE, CALL)));
+    sheet.asks(0, call, answer, &[sent])?;
+    sheet.asks(1, Ask::WaitPort, request, &[taken])?;
+    sheet.idles(&[])?;
+    sheet.asks(1, reply, DONE, &[replied])?;
+    sheet.asks(0, Ask::GetPort, Some(Answer::NoMsg), &[reaped])?;
+    sheet.asks(1, Ask::Exit, None, &[])?;
+    sheet.asks(0, Ask::Exit, None, &[])?;
+    sheet.idles(&[])?;
+    sheet.idles(&[])?;
+    sheet.idles(&[])?;
+    Ok(sheet)
+}
+
+// Whether a run with a change is one of its script.
+fn still_runs(alloc: Global, made: Result<Sheet, AllocError>, how: Change) -> Result<bool, Fault> {
+    let mut sheet = made.map_err(|_| Fault::Memory)?;
+    make_change(&mut sheet, how).map_err(|_| Fault::Memory)?;
+    sheet.is_run(alloc)
+}
+
+#[test]
+fn tally_add_with_changes(rt: HostRuntime) -> Result<(), Fail> {
+    let alloc = rt.alloc();
+    let rows = [
+        (Change::Nothing, true),
+        (Change::Rounds(5), true),
+        (Change::Rounds(4), false),
+        (Change::CutOff(0, 0), false),
+        (Change::Answered(1, Some(Answer::NoMsg)), false),
+        (
+            Change::Answered(1, Some(Answer::Refused(Fault::Overflow))),
+            false,
+        ),
+        (Change::Answered(1, None), false),
+        (Change::Answered(3, DONE), false),
+        (Change::Asked(1, Ask::Add(TokId(0), 6)), false),
+        (Change::Asked(3, Ask::Yield), false),
+        (Change::Unasked(0), false),
+        (Change::Unasked(3), false),
+        (Change::LeftOut(1, 1), false),
+        (Change::LeftOut(4, 3), false),
+        (Change::Made(2, 2, read(0, 15)), false),
+        (Change::Made(0, 1, write(0, 20)), false),
+        (Change::Other(1, write(0, 16)), false),
+        (Change::Earlier(2), false),
+        (Change::Ended(0, ThreadState::Running), false),
+        (Change::Ended(0, ThreadState::Faulted(Fault::Worn)), false),
+        (Change::Ended(0, ThreadState::Faulted(Fault::Broken)), true),
+        (Change::Logged(0, Entry::Value(15)), false),
+        (Change::LineLess, false),
+    ];
+    for (how, want) in rows {
+        let runs = still_runs(alloc, tally_add(alloc), how);
+        assert_eq!(rt; runs, Ok(want), "{how:?}");
+    }
+    Ok(())
+}
+
+#[test]
+fn crossed_lists_with_changes(rt: HostRuntime) -> Result<(), Fail> {
+    let alloc = rt.alloc();
+    let rows = [
+        (Change::Nothing, true),
+        (Change::Logged(1, Entry::Value(7)), false),
+        (Change::Unlogged(0), false),
+        (Change::Answered(7, Some(Answer::Value(8))), false),
+        (Change::Unasked(10), false),
+        (Change::LeftOut(4, 5), false),
+        (Change::Other(12, read(0, 0)), false),
+        (Change::Made(12, 13, read(0, 7)), false),
+        (Change::Ended(1, ThreadState::Running), false),
+    ];
+    for (how, want) in rows {
+        let runs = still_runs(alloc, crossed_lists(alloc), how);
+        assert_eq!(rt; runs, Ok(want), "{how:?}");
+    }
+    Ok(())
+}
+
+#[test]
+fn call_and_reply_with_changes(rt: HostRuntime) -> Result<(), Fail> {
+    let alloc = rt.alloc();
+    let other = Some(Answer::Got(Item::Answered(MESSAGE, 7, 41)));
+    let refused = Some(Answer::Refused(Fault::LaneFull));
+    let rows = [
+        (Change::Nothing, true),
+        (Change::Answered(0, other), false),
+        (Change::Answered(0, refused), false),
+        (Change::Answered(0, DONE), false),
+        (Change::Asked(0, Ask::GetPort), false),
+        (Change::Earlier(1), false),
+        (Change::Unlogged(1), false),
+        (Change::Made(3, 3, take(1, 0)), false),
+    ];
+    for (how, want) in rows {
+        let runs = still_runs(alloc, call_and_reply(alloc), how);
+        assert_eq!(rt; runs, Ok(want), "{how:?}");
+    }
+    Ok(())
+}

@@ -1,0 +1,139 @@
+//! A run written down by hand: the script's threads, turns with their polls and events, and the lines at the end.
+
+use lwkt_base::{
+    Answer, Ask, Cells, CpuId, Entry, Fault, Law, MsgSpec, ThreadId, ThreadState, TokSpec,
+};
+use lwkt_core::{Event, State};
+use lwkt_verdict::{Poll, ThreadEnd, ThreadPlan, Turn, is_script_run};
+use std::alloc::{AllocError, Global};
+
+/// A run by hand.
+#[derive(Drop)]
+pub struct Sheet {
+    pub cpus: usize,
+    pub limit: u32,
+    pub tokens: Vec<TokSpec>,
+    pub messages: Vec<MsgSpec>,
+    pub plans: Vec<ThreadPlan>,
+    pub polls: Vec<Poll>,
+    pub turns: Vec<Turn>,
+    pub trace: Vec<Event>,
+    pub lines: Vec<ThreadEnd>,
+}
+
+/// The first thread of a processor.
+pub fn first_of(cpu: u8) -> ThreadId {
+    ThreadId {
+        cpu: CpuId(cpu),
+        thread: 0,
+    }
+}
+
+impl Sheet {
+    /// An empty run of a script of so many processors and rounds.
+    pub fn new(alloc: Global, cpus: usize, limit: u32) -> Self {
+        Sheet {
+            cpus,
+            limit,
+            tokens: Vec::new(alloc),
+            messages: Vec::new(alloc),
+            plans: Vec::new(alloc),
+            polls: Vec::new(alloc),
+            turns: Vec::new(alloc),
+            trace: Vec::new(alloc),
+            lines: Vec::new(alloc),
+        }
+    }
+
+    /// A token more, of one cell.
+    pub fn token(
+        &mut self,
+        alloc: Global,
+        law: Law,
+        param: u64,
+        cell: u64,
+    ) -> Result<(), AllocError> {
+        self.tokens.push(TokSpec {
+            cells: Cells::from_vec(Vec::from_slice(alloc, &[cell])?),
+            law,
+            param,
+            generation: 0,
+        })?;
+        Ok(())
+    }
+
+    /// The first thread of a processor, which makes these steps once, ends in this state and logs these entries.
+    pub fn thread(
+        &mut self,
+        alloc: Global,
+        cpu: u8,
+        steps: &[Ask],
+        state: ThreadState,
+        log: &[Entry],
+    ) -> Result<(), AllocError> {
+        self.plans.push(ThreadPlan {
+            cpu: CpuId(cpu),
+            repeat: 1,
+            steps: Vec::from_slice(alloc, steps)?,
+        })?;
+        self.lines.push(ThreadEnd {
+            id: first_of(cpu),
+            state,
+            log: Vec::from_slice(alloc, log)?,
+        })?;
+        Ok(())
+    }
+
+    // A turn more, of these events.
+    fn turn(&mut self, poll: Option<u32>, events: &[Event]) -> Result<(), AllocError> {
+        for event in events {
+            self.trace.push(*event)?;
+        }
+        self.turns.push(Turn {
+            poll,
+            events: u16::try_from(events.len()).unwrap_or(u16::MAX),
+        })?;
+        Ok(())
+    }
+
+    /// A turn more that polls the first thread of a processor.
+    pub fn asks(
+        &mut self,
+        cpu: u8,
+        ask: Ask,
+        answer: Option<Answer>,
+        events: &[Event],
+    ) -> Result<(), AllocError> {
+        let place = u32::try_from(self.polls.len()).unwrap_or(u32::MAX);
+        self.polls.push(Poll {
+            thread: first_of(cpu),
+            ask,
+            answer,
+        })?;
+        self.turn(Some(place), events)
+    }
+
+    /// A turn more that polls no thread.
+    pub fn idles(&mut self, events: &[Event]) -> Result<(), AllocError> {
+        self.turn(None, events)
+    }
+
+    /// Whether this is a run of its script.
+    pub fn is_run(&self, alloc: Global) -> Result<bool, Fault> {
+        let opening = State::open(
+            alloc,
+            self.tokens.as_slice(),
+            self.messages.as_slice(),
+            self.cpus,
+        )?;
+        Ok(is_script_run(
+            self.plans.as_slice(),
+            self.limit,
+            opening,
+            self.polls.as_slice(),
+            self.turns.as_slice(),
+            self.trace.as_slice(),
+            self.lines.as_slice(),
+        ))
+    }
+}
