@@ -1,6 +1,7 @@
 //! Bursts of notes through a lane and through rings written by hand.
 use crate::rings::{Ring, WordRing};
 use crate::rounds::{Race, Rounds, Timed, end_round};
+use crate::steps::ROUNDS;
 use lwkt_base::MsgId;
 use lwkt_lane::{LaneIn, LaneOut, Note, NoteKind, lane};
 use std::alloc::AllocError;
@@ -14,8 +15,6 @@ const CAPACITY: usize = 32;
 const BURST: u64 = 16;
 
 const BURSTS: u64 = 1000;
-
-const ROUNDS: u32 = 401;
 
 const IN_RING: Race = Race {
     what: "lane: a note pushed and popped, beside a ring",
@@ -115,19 +114,37 @@ fn word_round<R: CpuClock>(rt: &R, ring: &WordRing) -> io::Result<Timed> {
     end_round(rt, start, sum)
 }
 
+fn time_beside_ring<R: Wait + CpuClock + Print + AllocGlobal>(
+    rt: &R,
+    out: &mut LaneOut,
+    into: &mut LaneIn,
+) -> io::Result<()> {
+    let mut ring = Ring::new();
+    let mut rounds = Rounds::new(rt.alloc());
+    for _round in 0..ROUNDS {
+        let ours = lane_round(rt, out, into)?;
+        rounds.add(ours, ring_round(rt, &mut ring)?)?;
+    }
+    rounds.print_line(rt, IN_RING)
+}
+
+fn time_beside_words<R: Wait + CpuClock + Print + AllocGlobal>(
+    rt: &R,
+    out: &mut LaneOut,
+    into: &mut LaneIn,
+) -> io::Result<()> {
+    let words = WordRing::new();
+    let mut rounds = Rounds::new(rt.alloc());
+    for _round in 0..ROUNDS {
+        let ours = lane_round(rt, out, into)?;
+        rounds.add(ours, word_round(rt, &words)?)?;
+    }
+    rounds.print_line(rt, IN_WORDS)
+}
+
 /// Times a lane beside the two rings, and prints a line for each.
 pub fn time_lanes<R: Wait + CpuClock + Print + AllocGlobal>(rt: &R) -> io::Result<()> {
-    let alloc = rt.alloc();
-    let (mut out, mut into) = lane(alloc, CAPACITY).map_err(|_| AllocError)?;
-    let mut ring = Ring::new();
-    let words = WordRing::new();
-    let mut by_ring = Rounds::new(alloc);
-    let mut by_words = Rounds::new(alloc);
-    for _round in 0..ROUNDS {
-        let ours = lane_round(rt, &mut out, &mut into)?;
-        by_ring.add(ours, ring_round(rt, &mut ring)?)?;
-        by_words.add(ours, word_round(rt, &words)?)?;
-    }
-    by_ring.print_line(rt, IN_RING)?;
-    by_words.print_line(rt, IN_WORDS)
+    let (mut out, mut into) = lane(rt.alloc(), CAPACITY).map_err(|_| AllocError)?;
+    time_beside_ring(rt, &mut out, &mut into)?;
+    time_beside_words(rt, &mut out, &mut into)
 }

@@ -53,8 +53,10 @@ fn at_pair<'a>(
 {
     let list = pair(bank, first, second).map_err(refused)?;
     let trace = empty_trace(alloc)?;
-    let desk = list_desk(bank, seats, list, trace).ok_or(no_seat())?;
-    Ok(Pairs { desk, value: 0 })
+    match list_desk(bank, seats, list, trace) {
+        Some(desk) => Ok(Pairs { desk, value: 0 }),
+        None => Err(no_seat()),
+    }
 }
 
 fn crossed<'a>(
@@ -89,12 +91,17 @@ fn hands_crossed<'a>(
     Ok(runners)
 }
 
+fn race_pairs<R: Threads + Sync + Clock + Print + AllocGlobal>(
+    rt: &R,
+    ours: &mut Vec<Runner<Pairs<'_>>>,
+) -> io::Result<()> {
+    let tokens = hand_tokens(rt.alloc(), 2)?;
+    let mut plain = hands_crossed(rt.alloc(), tokens.as_slice())?;
+    race_in_turn(rt, COUNT, ours, &mut plain)?.print_line(rt, CROSSED)
+}
+
 /// Times the two threads, and prints their line.
 pub fn race_lists<R: Threads + Sync + Clock + Print + AllocGlobal>(rt: &R) -> io::Result<()> {
-    let alloc = rt.alloc();
-    let (bank, mut seats) = open(alloc, Law::Any, 2, 2).map_err(refused)?;
-    let mut ours = crossed(alloc, &bank, &mut seats)?;
-    let tokens = hand_tokens(alloc, 2)?;
-    let mut plain = hands_crossed(alloc, tokens.as_slice())?;
-    race_in_turn(rt, COUNT, &mut ours, &mut plain)?.print_line(rt, CROSSED)
+    let (bank, mut seats) = open(rt.alloc(), Law::Any, 2, 2).map_err(refused)?;
+    race_pairs(rt, &mut crossed(rt.alloc(), &bank, &mut seats)?)
 }

@@ -1,20 +1,19 @@
 //! Lists of references over a seat, beside lists written by hand.
 ghost use Rattle.std.specs.Prelude.{◌<◌, ◌≤◌, All, IfOk};
 ghost use Rattle.lwkt_bank.specs.Seats.{id_of, tokens_of};
+ghost use Rattle.lwkt_bench.specs.Idle.{IsReady};
 
-use crate::hands::hand_tokens;
+use crate::hands::{HandToken, hand_tokens};
 use crate::list_desks::{ListRounds, add_reference, empty_trace, list_desk};
 use crate::list_hands::{HandList, HandListRounds};
-use crate::rounds::{Race, Rounds};
-use crate::steps::{Steps, some_steps};
+use crate::rounds::Race;
+use crate::steps::time_in_turn;
 use crate::token_rounds::{no_seat, open, refused};
-use lwkt_bank::Bank;
+use lwkt_bank::{Bank, CpuSeat};
 use lwkt_base::{CpuId, Fault, Law, TokId, TokList};
 use std::alloc::{AllocError, Global};
 use std::io;
 use std::time::CpuClock;
-
-const ROUNDS: u32 = 401;
 
 const LIST_STEPS: u64 = 2000;
 
@@ -59,31 +58,49 @@ fn numbers(alloc: Global, count: u8) -> Result<Vec<TokId>, AllocError> {
     Ok(toks)
 }
 
-// Rounds of one thread, in turn.
-fn race_lists<R: CpuClock + Print + AllocGlobal, A: Steps, B: Steps>(
+// The next seat with a list of the first so many tokens.
+fn ours_of<'a>(
+    alloc: Global,
+    bank: &'a Bank,
+    seats: &mut Vec<CpuSeat>,
+    count: u8,
+) -> io::Result<ListRounds<'a>>
+    requires ready { IsReady (id_of bank.now) seats.old.items }
+    requires there { count ≤ tokens_of (id_of bank.now) }
+{
+    let list = first_tokens(bank, count).map_err(refused)?;
+    let trace = empty_trace(alloc)?;
+    match list_desk(bank, seats, list, trace) {
+        Some(desk) => Ok(ListRounds(desk)),
+        None => Err(no_seat()),
+    }
+}
+
+fn plain_of<'a>(
+    alloc: Global,
+    tokens: &'a [HandToken],
+    count: u8,
+) -> Result<HandListRounds<'a>, AllocError> {
+    let refs = numbers(alloc, count)?;
+    let list = HandList::new(alloc, tokens, refs.as_slice(), CpuId(0))?;
+    Ok(HandListRounds(list))
+}
+
+fn time_beside<R: CpuClock + Print + AllocGlobal>(
     rt: &R,
     race: Race,
-    ours: &mut A,
-    plain: &mut B,
+    ours: &mut ListRounds<'_>,
+    count: u8,
 ) -> io::Result<()> {
-    let mut rounds = Rounds::new(rt.alloc());
-    for _round in 0..ROUNDS {
-        let timed = some_steps(rt, race.steps, ours)?;
-        rounds.add(timed, some_steps(rt, race.steps, plain)?)?;
-    }
-    rounds.print_line(rt, race)
+    let tokens = hand_tokens(rt.alloc(), count)?;
+    let mut plain = plain_of(rt.alloc(), tokens.as_slice(), count)?;
+    time_in_turn(rt, race, ours, &mut plain)
 }
 
 fn time_list<R: CpuClock + Print + AllocGlobal>(rt: &R, race: Race, count: u8) -> io::Result<()> {
-    let alloc = rt.alloc();
-    let (bank, mut seats) = open(alloc, Law::Any, count as usize, 1).map_err(refused)?;
-    let list = first_tokens(&bank, count).map_err(refused)?;
-    let trace = empty_trace(alloc)?;
-    let desk = list_desk(&bank, &mut seats, list, trace).ok_or(no_seat())?;
-    let tokens = hand_tokens(alloc, count)?;
-    let refs = numbers(alloc, count)?;
-    let hand = HandList::new(alloc, tokens.as_slice(), refs.as_slice(), CpuId(0))?;
-    race_lists(rt, race, &mut ListRounds(desk), &mut HandListRounds(hand))
+    let (bank, mut seats) = open(rt.alloc(), Law::Any, count as usize, 1).map_err(refused)?;
+    let mut ours = ours_of(rt.alloc(), &bank, &mut seats, count)?;
+    time_beside(rt, race, &mut ours, count)
 }
 
 /// Times lists of references, and prints a line for each.

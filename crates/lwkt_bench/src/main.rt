@@ -23,6 +23,7 @@ use lane_rounds::time_lanes;
 use list_races::race_lists;
 use list_rounds::time_lists;
 use message_rounds::time_messages;
+use rounds::HEAD;
 use std::process::ExitCode;
 use std::rt::{Clock, Env};
 use std::sync::Wait;
@@ -46,7 +47,7 @@ fn is_run<R: Env + AllocGlobal>(rt: &R) -> io::Result<bool> {
 fn run<R: Threads + Sync + Wait + CpuClock + Clock + Print + AllocGlobal>(
     rt: &R,
 ) -> io::Result<()> {
-    rounds::print_head(rt)?;
+    println!(rt; "{HEAD}")?;
     time_tokens(rt)?;
     race_tokens(rt)?;
     time_lists(rt)?;

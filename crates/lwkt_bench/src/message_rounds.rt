@@ -6,7 +6,8 @@ use crate::hand_messages::{HandMessage, SharedRec, hand_sides};
 use crate::posts::Post;
 use crate::rounds::{Race, Rounds, Timed};
 use crate::sides::Side;
-use crate::steps::{STEPS, Steps, alone};
+use crate::steps::{ROUNDS, STEPS, Steps, time_in_turn};
+use crate::token_rounds::{no_seat, refused};
 use lwkt_base::{Call, CpuId, Fault, MsgSpec, Rec, ThreadId};
 use lwkt_msg::{MsgBook, MsgSeat};
 use std::alloc::Global;
@@ -16,12 +17,7 @@ use std::thread::Threads;
 use std::time::CpuClock;
 use std::{io, thread};
 
-const ROUNDS: u32 = 401;
-
-// How often two threads are timed, how many messages one sends to the other then, and how often one looks for the other's
-// step at most.
-const PAIRS: u32 = 401;
-
+// How many messages one thread sends to the other in a round, and how often one looks for the other's step at most.
 const MESSAGES: u64 = 500;
 
 const TRIES: u32 = 100_000_000;
@@ -196,18 +192,6 @@ fn spec() -> MsgSpec
     }
 }
 
-fn refused(fault: Fault) -> io::Error {
-    let kind = match fault {
-        Fault::Memory => io::ErrorKind::OutOfMemory,
-        _ => io::ErrorKind::InvalidInput,
-    };
-    kind.into()
-}
-
-fn no_seat() -> io::Error {
-    io::ErrorKind::NotFound.into()
-}
-
 // The seats of both processors, at their book.
 fn posts<'a>(book: &'a MsgBook, mut seats: Vec<MsgSeat>) -> Option<(Post<'a>, Post<'a>)>
     requires seats { AreSeats 2 book.now seats.items }
@@ -230,28 +214,21 @@ fn open(alloc: Global) -> Result<(MsgBook, Vec<MsgSeat>), Fault>
     MsgBook::open(alloc, &[spec()], 2)
 }
 
-// Rounds of one thread, in turn.
-fn race_alone<R: CpuClock + Print + AllocGlobal, A: Steps, B: Steps>(
+fn time_alone<R: CpuClock + Print + AllocGlobal, S: Side>(
     rt: &R,
-    ours: &mut A,
-    plain: &mut B,
+    ours: &mut Both<S>,
 ) -> io::Result<()> {
-    let mut rounds = Rounds::new(rt.alloc());
-    for _round in 0..ROUNDS {
-        let timed = alone(rt, ours)?;
-        rounds.add(timed, alone(rt, plain)?)?;
-    }
-    rounds.print_line(rt, IN_ONE)
+    let message = Box::new(rt.alloc(), HandMessage::new(Cell::new(Rec::default())))?;
+    let (first, second) = hand_sides(&message);
+    time_in_turn(rt, IN_ONE, ours, &mut Both::new(first, second))
 }
 
 fn time_both<R: CpuClock + Print + AllocGlobal>(rt: &R) -> io::Result<()> {
     let (book, seats) = open(rt.alloc()).map_err(refused)?;
-    let (first, second) = posts(&book, seats).ok_or(no_seat())?;
-    let message = Box::new(rt.alloc(), HandMessage::new(Cell::new(Rec::default())))?;
-    let (plain_first, plain_second) = hand_sides(&message);
-    let mut ours = Both::new(first, second);
-    let mut plain = Both::new(plain_first, plain_second);
-    race_alone(rt, &mut ours, &mut plain)
+    match posts(&book, seats) {
+        Some((first, second)) => time_alone(rt, &mut Both::new(first, second)),
+        None => Err(no_seat()),
+    }
 }
 
 // A turn of each. Which comes first changes from pair to pair, since where new threads are put may go to and fro too.
@@ -276,21 +253,28 @@ fn race_apart<R: Clock + Threads + Sync + Print + AllocGlobal, A: Side + Send, B
     plain: &mut Apart<B>,
 ) -> io::Result<()> {
     let mut rounds = Rounds::new(rt.alloc());
-    for pair in 0..PAIRS {
+    for pair in 0..ROUNDS {
         let (timed, beside) = time_pair(rt, ours, plain, pair % 2 == 1)?;
         rounds.add(timed, beside)?;
     }
     rounds.print_line(rt, IN_TWO)
 }
 
+fn time_beside<R: Clock + Threads + Sync + Print + AllocGlobal, S: Side + Send>(
+    rt: &R,
+    ours: &mut Apart<S>,
+) -> io::Result<()> {
+    let message = Box::new(rt.alloc(), HandMessage::new(SharedRec::new()))?;
+    let (first, second) = hand_sides(&message);
+    race_apart(rt, ours, &mut Apart::new(first, second))
+}
+
 fn time_apart<R: Clock + Threads + Sync + Print + AllocGlobal>(rt: &R) -> io::Result<()> {
     let (book, seats) = open(rt.alloc()).map_err(refused)?;
-    let (first, second) = posts(&book, seats).ok_or(no_seat())?;
-    let message = Box::new(rt.alloc(), HandMessage::new(SharedRec::new()))?;
-    let (plain_first, plain_second) = hand_sides(&message);
-    let mut ours = Apart::new(first, second);
-    let mut plain = Apart::new(plain_first, plain_second);
-    race_apart(rt, &mut ours, &mut plain)
+    match posts(&book, seats) {
+        Some((first, second)) => time_beside(rt, &mut Apart::new(first, second)),
+        None => Err(no_seat()),
+    }
 }
 
 /// Times rounds of one message, by one thread and by two, and prints a line for each.

@@ -112,9 +112,6 @@ fn print_hundredths<R: Print + Alloc>(rt: &R, number: u64) -> io::Result<()> {
     print!(rt; " {whole:>6}.{part:02}")
 }
 
-/// Prints the head of the table.
-pub fn print_head<R: Print + Alloc>(rt: &R) -> io::Result<()> {
-    let what = "what, nanoseconds a step";
-    let [ours, plain, ratio, goal, worst] = ["ours", "plain", "ratio", "goal", "worst"];
-    println!(rt; "{what:<46} {ours:>9} {plain:>9} {ratio:>9} {goal:>9} {worst:>9}")
-}
+/// The head of the table.
+pub const HEAD: &str =
+    "what, nanoseconds a step                            ours     plain     ratio      goal     worst";

@@ -87,27 +87,37 @@ fn hands_apart<'a>(
     Ok(runners)
 }
 
-fn race_at_one<R: Threads + Sync + Clock + Print + AllocGlobal>(rt: &R) -> io::Result<()> {
-    let alloc = rt.alloc();
-    let (bank, mut seats) = open(alloc, Law::Tally, 1, THREADS as usize).map_err(refused)?;
-    let mut ours = adding(alloc, &bank, &mut seats)?;
+fn race_at_one<R: Threads + Sync + Clock + Print + AllocGlobal>(
+    rt: &R,
+    ours: &mut Vec<Runner<Adds<'_>>>,
+) -> io::Result<()> {
     let token = HandToken::new();
-    let mut plain = hands_adding(alloc, &token)?;
-    race_in_turn(rt, COUNT, &mut ours, &mut plain)?.print_rate_line(rt, ONE_TALLY)
+    let mut plain = hands_adding(rt.alloc(), &token)?;
+    race_in_turn(rt, COUNT, ours, &mut plain)?.print_rate_line(rt, ONE_TALLY)
 }
 
-fn race_apart<R: Threads + Sync + Clock + Print + AllocGlobal>(rt: &R) -> io::Result<()> {
-    let alloc = rt.alloc();
+fn time_adding<R: Threads + Sync + Clock + Print + AllocGlobal>(rt: &R) -> io::Result<()> {
+    let (bank, mut seats) = open(rt.alloc(), Law::Tally, 1, THREADS as usize).map_err(refused)?;
+    race_at_one(rt, &mut adding(rt.alloc(), &bank, &mut seats)?)
+}
+
+fn race_apart<R: Threads + Sync + Clock + Print + AllocGlobal>(
+    rt: &R,
+    ours: &mut Vec<Runner<Sections<'_>>>,
+) -> io::Result<()> {
+    let tokens = hand_tokens(rt.alloc(), THREADS)?;
+    let mut plain = hands_apart(rt.alloc(), tokens.as_slice())?;
+    race_in_turn(rt, COUNT, ours, &mut plain)?.print_rate_line(rt, OWN_TOKENS)
+}
+
+fn time_apart<R: Threads + Sync + Clock + Print + AllocGlobal>(rt: &R) -> io::Result<()> {
     let threads = THREADS as usize;
-    let (bank, mut seats) = open(alloc, Law::Any, threads, threads).map_err(refused)?;
-    let mut ours = apart(alloc, &bank, &mut seats)?;
-    let tokens = hand_tokens(alloc, THREADS)?;
-    let mut plain = hands_apart(alloc, tokens.as_slice())?;
-    race_in_turn(rt, COUNT, &mut ours, &mut plain)?.print_rate_line(rt, OWN_TOKENS)
+    let (bank, mut seats) = open(rt.alloc(), Law::Any, threads, threads).map_err(refused)?;
+    race_apart(rt, &mut apart(rt.alloc(), &bank, &mut seats)?)
 }
 
 /// Times the threads, and prints a line for each race.
 pub fn race_tokens<R: Threads + Sync + Clock + Print + AllocGlobal>(rt: &R) -> io::Result<()> {
-    race_at_one(rt)?;
-    race_apart(rt)
+    time_adding(rt)?;
+    time_apart(rt)
 }

@@ -5,15 +5,13 @@ ghost use Rattle.lwkt_bench.specs.Idle.{IsPlainSpec, IsReady};
 
 use crate::desks::{Desk, Sections, Shares};
 use crate::hands::{HandSections, HandShares, HandToken};
-use crate::rounds::{Race, Rounds};
-use crate::steps::{STEPS, Steps, alone};
+use crate::rounds::Race;
+use crate::steps::{STEPS, time_in_turn};
 use lwkt_bank::{Bank, CpuSeat};
 use lwkt_base::{Cells, Fault, Law, TokId, TokSpec};
 use std::alloc::{AllocError, Global};
 use std::io;
 use std::time::CpuClock;
-
-const ROUNDS: u32 = 401;
 
 const SECTION: Race = Race {
     what: "section: taken, a load, a store, given back",
@@ -89,7 +87,9 @@ pub fn desk<'a>(
     requires there { tok.0 < tokens_of (id_of bank.now) }
     ensures { IsReady (id_of bank.now) seats.new.items }
 {
-    let seat = seats.pop().ok_or(no_seat())?;
+    let Some(seat) = seats.pop() else {
+        return Err(no_seat());
+    };
     let seat = Box::new(alloc, seat)?;
     Ok(Desk { seat, bank, tok })
 }
@@ -108,37 +108,16 @@ pub fn no_seat() -> io::Error {
     io::ErrorKind::NotFound.into()
 }
 
-// Rounds of one thread, in turn.
-fn race_alone<R: CpuClock + Print + AllocGlobal, A: Steps, B: Steps>(
-    rt: &R,
-    race: Race,
-    ours: &mut A,
-    plain: &mut B,
-) -> io::Result<()> {
-    let mut rounds = Rounds::new(rt.alloc());
-    for _round in 0..ROUNDS {
-        let timed = alone(rt, ours)?;
-        rounds.add(timed, alone(rt, plain)?)?;
-    }
-    rounds.print_line(rt, race)
-}
-
-fn time_sections<R: CpuClock + Print + AllocGlobal>(rt: &R) -> io::Result<()> {
-    let (bank, mut seats) = open(rt.alloc(), Law::Any, 1, 1).map_err(refused)?;
-    let first = desk(rt.alloc(), &bank, &mut seats, TokId(0))?;
+// Sections and shared references at one token.
+fn time_at<R: CpuClock + Print + AllocGlobal>(rt: &R, desk: Desk<'_>) -> io::Result<()> {
     let token = HandToken::new();
-    race_alone(rt, SECTION, &mut Sections(first), &mut HandSections(&token))
-}
-
-fn time_shares<R: CpuClock + Print + AllocGlobal>(rt: &R) -> io::Result<()> {
-    let (bank, mut seats) = open(rt.alloc(), Law::Any, 1, 1).map_err(refused)?;
-    let first = desk(rt.alloc(), &bank, &mut seats, TokId(0))?;
-    let token = HandToken::new();
-    race_alone(rt, SHARED, &mut Shares(first), &mut HandShares(&token))
+    let mut ours = Sections(desk);
+    time_in_turn(rt, SECTION, &mut ours, &mut HandSections(&token))?;
+    time_in_turn(rt, SHARED, &mut Shares(ours.0), &mut HandShares(&token))
 }
 
 /// Times sections and shared references, and prints a line for each.
 pub fn time_tokens<R: CpuClock + Print + AllocGlobal>(rt: &R) -> io::Result<()> {
-    time_sections(rt)?;
-    time_shares(rt)
+    let (bank, mut seats) = open(rt.alloc(), Law::Any, 1, 1).map_err(refused)?;
+    time_at(rt, desk(rt.alloc(), &bank, &mut seats, TokId(0))?)
 }

@@ -1,143 +1,125 @@
 //! The core against rows: openings at their limits, verdicts on traces, and events that name what is not there.
 
-use crate::fixtures::{cells, token};
+use crate::fixtures::play;
 use lwkt_base::{
     CpuId, Fault, Held, LAST_GENERATION, Law, Mode, MsgEnd, MsgId, MsgSpec, Owner, ThreadId, TokId,
-    TokSpec,
 };
 use lwkt_core::checks::{failure_is_only, failure_refutes};
 use lwkt_core::decisions::{decisions_are_events, pictures_fit};
 use lwkt_core::events::Place;
 use lwkt_core::messages::LAST_ROUND;
 use lwkt_core::{Event, Final, Message, State, Token, check};
+use lwkt_fixtures::{Opened, Row, cells, tokens};
 use std::alloc::{AllocError, Global};
-use std::test::Fail;
 
-const FIRST_CPU: CpuId = CpuId(0);
+const FIRST: CpuId = CpuId(0);
 
-const SECOND_CPU: CpuId = CpuId(1);
+const SECOND: CpuId = CpuId(1);
 
-const FIRST_TOKEN: TokId = TokId(0);
+const TOKEN: TokId = TokId(0);
 
-const FIRST_MESSAGE: MsgId = MsgId(0);
+const MESSAGE: MsgId = MsgId(0);
 
-fn message(cpu: u8, thread: u8, round: u64) -> MsgSpec {
-    MsgSpec {
-        round,
-        origin: ThreadId {
-            cpu: CpuId(cpu),
-            thread,
-        },
+// Tokens, the number of processors, and why their opening is refused.
+struct Opening(&'static [Opened], usize, Option<Fault>);
+
+impl Row for Opening {
+    fn is_right(&self, alloc: Global) -> bool {
+        match tokens(alloc, self.0) {
+            Ok(specs) => State::open(alloc, &specs, &[], self.1).err() == self.2,
+            Err(_) => false,
+        }
     }
 }
 
-// So many tokens without cells.
-fn bare_tokens(alloc: Global, count: usize) -> Result<Vec<TokSpec>, AllocError> {
-    let mut tokens = Vec::new(alloc);
-    for _i in 0..count {
-        tokens.push(token(alloc, Law::Any, 0, 0, &[])?)?;
-    }
-    Ok(tokens)
-}
+const LIMITS: Option<Fault> = Some(Fault::Limits);
 
-// Why an opening is refused, if it is.
-fn refusal(alloc: Global, tokens: &[TokSpec], messages: &[MsgSpec], cpus: usize) -> Option<Fault> {
-    State::open(alloc, tokens, messages, cpus).err()
-}
+const LAW_BROKEN: Option<Fault> = Some(Fault::LawBroken);
 
 // Row Opening-Law, and laws at their bounds.
+const OPENING_LAWS: [Opening; 15] = [
+    Opening(&[Opened(Law::Sum, 10, 0, &[5, 6])], 1, LAW_BROKEN),
+    Opening(&[Opened(Law::Sum, 11, 0, &[5, 6])], 1, None),
+    Opening(&[Opened(Law::Cap, 1, 0, &[2])], 1, LAW_BROKEN),
+    Opening(&[Opened(Law::Order, 0, 0, &[2, 1])], 1, LAW_BROKEN),
+    Opening(&[Opened(Law::Tally, 10, 0, &[9])], 1, LAW_BROKEN),
+    Opening(&[Opened(Law::Tally, 10, 0, &[10])], 1, None),
+    Opening(&[Opened(Law::Tally, 10, 0, &[])], 1, LIMITS),
+    Opening(&[Opened(Law::Tally, 10, 0, &[10, 10])], 1, LIMITS),
+    Opening(&[Opened(Law::Any, 0, 0, &[1, 2, 3, 4])], 1, None),
+    Opening(&[Opened(Law::Any, 0, 0, &[1, 2, 3, 4, 5])], 1, LIMITS),
+    Opening(&[Opened(Law::Any, 0, LAST_GENERATION, &[])], 1, None),
+    Opening(&[Opened(Law::Any, 0, 70_368_744_177_663, &[])], 1, None),
+    Opening(&[Opened(Law::Any, 0, 70_368_744_177_664, &[])], 1, LIMITS),
+    // A limit is told before a law.
+    Opening(
+        &[Opened(Law::Sum, 10, 70_368_744_177_664, &[5, 6])],
+        1,
+        LIMITS,
+    ),
+    Opening(&[Opened(Law::Sum, 0, 0, &[])], 1, None),
+];
+
 #[test]
-fn opening_law(rt: HostRuntime) -> Result<(), Fail> {
-    let alloc = rt.alloc();
-    let rows: [(Law, u64, u64, &[u64], Option<Fault>); 15] = [
-        (Law::Sum, 10, 0, &[5, 6], Some(Fault::LawBroken)),
-        (Law::Sum, 11, 0, &[5, 6], None),
-        (Law::Cap, 1, 0, &[2], Some(Fault::LawBroken)),
-        (Law::Order, 0, 0, &[2, 1], Some(Fault::LawBroken)),
-        (Law::Tally, 10, 0, &[9], Some(Fault::LawBroken)),
-        (Law::Tally, 10, 0, &[10], None),
-        (Law::Tally, 10, 0, &[], Some(Fault::Limits)),
-        (Law::Tally, 10, 0, &[10, 10], Some(Fault::Limits)),
-        (Law::Any, 0, 0, &[1, 2, 3, 4], None),
-        (Law::Any, 0, 0, &[1, 2, 3, 4, 5], Some(Fault::Limits)),
-        (Law::Any, 0, LAST_GENERATION, &[], None),
-        (Law::Any, 0, 70_368_744_177_663, &[], None),
-        (Law::Any, 0, 70_368_744_177_664, &[], Some(Fault::Limits)),
-        // A limit is told before a law.
-        (
-            Law::Sum,
-            10,
-            70_368_744_177_664,
-            &[5, 6],
-            Some(Fault::Limits),
-        ),
-        (Law::Sum, 0, 0, &[], None),
-    ];
-    for (law, param, generation, items, want) in rows {
-        let tokens = vec![in alloc; token(alloc, law, param, generation, items)?]?;
-        assert_eq!(rt;
-            refusal(alloc, &tokens, &[], 1),
-            want,
-            "{law:?} {param} {items:?}"
-        );
+fn opening_law(rt: HostRuntime) {
+    play(&rt, rt.alloc(), &OPENING_LAWS);
+}
+
+// A token without cells.
+const BARE: Opened = Opened(Law::Any, 0, 0, &[]);
+
+const TOKEN_LIMITS: [Opening; 6] = [
+    Opening(&[], 0, LIMITS),
+    Opening(&[], 1, None),
+    Opening(&[], 8, None),
+    Opening(&[], 9, LIMITS),
+    Opening(&[BARE; 64], 8, None),
+    Opening(&[BARE; 65], 8, LIMITS),
+];
+
+// The origin, its thread and the round of a message, how many such messages there are, and why their opening on two
+// processors is refused.
+struct Book(u8, u8, u64, usize, Option<Fault>);
+
+fn message(cpu: u8, thread: u8, round: u64) -> MsgSpec {
+    let cpu = CpuId(cpu);
+    let origin = ThreadId { cpu, thread };
+    MsgSpec { round, origin }
+}
+
+fn messages(alloc: Global, spec: MsgSpec, count: usize) -> Result<Vec<MsgSpec>, AllocError> {
+    let mut specs = Vec::new(alloc);
+    for _i in 0..count {
+        specs.push(spec)?;
     }
-    Ok(())
+    Ok(specs)
+}
+
+impl Row for Book {
+    fn is_right(&self, alloc: Global) -> bool {
+        let spec = message(self.0, self.1, self.2);
+        match messages(alloc, spec, self.3) {
+            Ok(specs) => State::open(alloc, &[], &specs, 2).err() == self.4,
+            Err(_) => false,
+        }
+    }
 }
 
 // Row Book-Basics-6 among them: an origin on processor 2 of 2.
-#[test]
-fn opening_limits(rt: HostRuntime) -> Result<(), Fail> {
-    let alloc = rt.alloc();
-    for (count, cpus, want) in [
-        (0, 0, Some(Fault::Limits)),
-        (0, 1, None),
-        (0, 8, None),
-        (0, 9, Some(Fault::Limits)),
-        (64, 8, None),
-        (65, 8, Some(Fault::Limits)),
-    ] {
-        let tokens = bare_tokens(alloc, count)?;
-        assert_eq!(rt;
-            refusal(alloc, &tokens, &[], cpus),
-            want,
-            "{count} tokens, {cpus} processors"
-        );
-    }
-    for (spec, count, want) in [
-        (message(1, 15, 0), 64, None),
-        (message(1, 15, 0), 65, Some(Fault::Limits)),
-        (message(2, 0, 0), 1, Some(Fault::Limits)),
-        (message(0, 16, 0), 1, Some(Fault::Limits)),
-        (message(0, 0, LAST_ROUND), 1, None),
-        (message(0, 0, 2_251_799_813_685_247), 1, None),
-        (message(0, 0, 2_251_799_813_685_248), 1, Some(Fault::Limits)),
-    ] {
-        let mut messages = Vec::new(alloc);
-        for _i in 0..count {
-            messages.push(spec)?;
-        }
-        assert_eq!(rt;
-            refusal(alloc, &[], &messages, 2),
-            want,
-            "{count} times {spec:?}"
-        );
-    }
-    Ok(())
-}
+const MESSAGE_LIMITS: [Book; 7] = [
+    Book(1, 15, 0, 64, None),
+    Book(1, 15, 0, 65, LIMITS),
+    Book(2, 0, 0, 1, LIMITS),
+    Book(0, 16, 0, 1, LIMITS),
+    Book(0, 0, LAST_ROUND, 1, None),
+    Book(0, 0, 2_251_799_813_685_247, 1, None),
+    Book(0, 0, 2_251_799_813_685_248, 1, LIMITS),
+];
 
-// What the checker says of a trace of two processors on one token.
-fn token_verdict(
-    alloc: Global,
-    spec: TokSpec,
-    events: &[Event],
-    row: &[u64],
-    generation: u64,
-    tallies: &[u64],
-) -> Result<Result<(), Fault>, Fault> {
-    let specs = vec![in alloc; spec].map_err(|_| Fault::Memory)?;
-    let opening = State::open(alloc, &specs, &[], 2)?;
-    let last = token_final(alloc, row, generation, tallies).map_err(|_| Fault::Memory)?;
-    Ok(check(opening, events, &last))
+#[test]
+fn opening_limits(rt: HostRuntime) {
+    play(&rt, rt.alloc(), &TOKEN_LIMITS);
+    play(&rt, rt.alloc(), &MESSAGE_LIMITS);
 }
 
 // The closing values of one token.
@@ -147,573 +129,813 @@ fn token_final(
     generation: u64,
     tallies: &[u64],
 ) -> Result<Final, AllocError> {
+    let rows = vec![in alloc; cells(alloc, row)?]?;
+    let gens = Vec::from_slice(alloc, &[generation])?;
+    let tallies = vec![in alloc; cells(alloc, tallies)?]?;
     Ok(Final {
-        rows: vec![in alloc; cells(alloc, row)?]?,
-        gens: vec![in alloc; generation]?,
-        tallies: vec![in alloc; cells(alloc, tallies)?]?,
+        rows,
+        gens,
+        tallies,
         messages: Vec::new(alloc),
     })
 }
 
-fn take(cpu: CpuId) -> Event {
-    Event::Take {
-        cpu,
-        tok: FIRST_TOKEN,
+// Two processors and a token, events, its closing cells, generation and tallies, and the first event that isn't lawful, or
+// the number of events.
+#[derive(Clone, Copy)]
+struct Trace(
+    Opened,
+    &'static [Event],
+    &'static [u64],
+    u64,
+    &'static [u64],
+    Option<usize>,
+);
+
+// The index at which the checker refuses a trace, if it does.
+fn refused_at(opening: State, events: &[Event], last: &Final) -> Option<usize> {
+    match check(opening, events, last) {
+        Err(Fault::Unlawful { index }) => Some(index),
+        _ => None,
     }
 }
 
-fn share(cpu: CpuId) -> Event {
-    Event::Share {
-        cpu,
-        tok: FIRST_TOKEN,
+fn open(alloc: Global, opened: Opened) -> Option<State> {
+    let specs = tokens(alloc, &[opened]).ok()?;
+    State::open(alloc, &specs, &[], 2).ok()
+}
+
+impl Row for Trace {
+    fn is_right(&self, alloc: Global) -> bool {
+        let Some(opening) = open(alloc, self.0) else {
+            return false;
+        };
+        match token_final(alloc, self.2, self.3, self.4) {
+            Ok(last) => refused_at(opening, self.1, &last) == self.5,
+            Err(_) => false,
+        }
     }
 }
 
-fn again(cpu: CpuId) -> Event {
-    Event::Again {
-        cpu,
-        tok: FIRST_TOKEN,
-    }
-}
+const FIRST_TAKES: Event = Event::Take {
+    cpu: FIRST,
+    tok: TOKEN,
+};
 
-fn give_one(cpu: CpuId) -> Event {
-    Event::GiveOne {
-        cpu,
-        tok: FIRST_TOKEN,
-    }
-}
+const FIRST_SHARES: Event = Event::Share {
+    cpu: FIRST,
+    tok: TOKEN,
+};
 
-fn give_clean(cpu: CpuId) -> Event {
-    Event::GiveClean {
-        cpu,
-        tok: FIRST_TOKEN,
-    }
-}
+const FIRST_TAKES_AGAIN: Event = Event::Again {
+    cpu: FIRST,
+    tok: TOKEN,
+};
 
-fn give_written(cpu: CpuId) -> Event {
-    Event::GiveWritten {
-        cpu,
-        tok: FIRST_TOKEN,
-    }
-}
+const FIRST_GIVES_ONE: Event = Event::GiveOne {
+    cpu: FIRST,
+    tok: TOKEN,
+};
 
-fn read(cpu: CpuId, cell: u8, value: u64) -> Event {
-    Event::Read {
-        cpu,
-        tok: FIRST_TOKEN,
-        cell,
-        value,
-    }
-}
+const FIRST_GIVES_WRITTEN: Event = Event::GiveWritten {
+    cpu: FIRST,
+    tok: TOKEN,
+};
 
-fn write(cpu: CpuId, cell: u8, value: u64) -> Event {
-    Event::Write {
-        cpu,
-        tok: FIRST_TOKEN,
-        cell,
-        value,
-    }
-}
+const SECOND_TAKES: Event = Event::Take {
+    cpu: SECOND,
+    tok: TOKEN,
+};
+
+const SECOND_SHARES: Event = Event::Share {
+    cpu: SECOND,
+    tok: TOKEN,
+};
+
+const SECOND_TAKES_AGAIN: Event = Event::Again {
+    cpu: SECOND,
+    tok: TOKEN,
+};
+
+const SECOND_GIVES_ONE: Event = Event::GiveOne {
+    cpu: SECOND,
+    tok: TOKEN,
+};
+
+const SECOND_GIVES_WRITTEN: Event = Event::GiveWritten {
+    cpu: SECOND,
+    tok: TOKEN,
+};
+
+const FIRST_GIVES_CLEAN: Event = Event::GiveClean {
+    cpu: FIRST,
+    tok: TOKEN,
+};
+
+const SECOND_LOADS: Event = Event::Load {
+    cpu: SECOND,
+    tok: TOKEN,
+};
+
+const SECOND_MARKS: Event = Event::Mark {
+    cpu: SECOND,
+    tok: TOKEN,
+};
+
+const FIRST_READS_5: Event = Event::Read {
+    cpu: FIRST,
+    tok: TOKEN,
+    cell: 0,
+    value: 5,
+};
+
+const FIRST_READS_6: Event = Event::Read {
+    cpu: FIRST,
+    tok: TOKEN,
+    cell: 0,
+    value: 6,
+};
+
+const FIRST_READS_9: Event = Event::Read {
+    cpu: FIRST,
+    tok: TOKEN,
+    cell: 0,
+    value: 9,
+};
+
+const FIRST_READS_6_IN_CELL_1: Event = Event::Read {
+    cpu: FIRST,
+    tok: TOKEN,
+    cell: 1,
+    value: 6,
+};
+
+const FIRST_WRITES_4: Event = Event::Write {
+    cpu: FIRST,
+    tok: TOKEN,
+    cell: 0,
+    value: 4,
+};
+
+const FIRST_WRITES_5: Event = Event::Write {
+    cpu: FIRST,
+    tok: TOKEN,
+    cell: 0,
+    value: 5,
+};
+
+const FIRST_WRITES_6: Event = Event::Write {
+    cpu: FIRST,
+    tok: TOKEN,
+    cell: 0,
+    value: 6,
+};
+
+const FIRST_WRITES_7: Event = Event::Write {
+    cpu: FIRST,
+    tok: TOKEN,
+    cell: 0,
+    value: 7,
+};
+
+const FIRST_WRITES_9: Event = Event::Write {
+    cpu: FIRST,
+    tok: TOKEN,
+    cell: 0,
+    value: 9,
+};
+
+const FIRST_WRITES_6_IN_CELL_1: Event = Event::Write {
+    cpu: FIRST,
+    tok: TOKEN,
+    cell: 1,
+    value: 6,
+};
+
+const SECOND_WRITES_9: Event = Event::Write {
+    cpu: SECOND,
+    tok: TOKEN,
+    cell: 0,
+    value: 9,
+};
+
+const SECOND_WRITES_15: Event = Event::Write {
+    cpu: SECOND,
+    tok: TOKEN,
+    cell: 0,
+    value: 15,
+};
+
+const PLAIN: Opened = Opened(Law::Any, 0, 0, &[0]);
+
+const CHECKER_VERDICTS: [Trace; 4] = [
+    Trace(
+        PLAIN,
+        &[FIRST_TAKES, FIRST_WRITES_7, FIRST_GIVES_WRITTEN],
+        &[7],
+        1,
+        &[],
+        None,
+    ),
+    Trace(
+        PLAIN,
+        &[FIRST_TAKES, FIRST_WRITES_7, FIRST_GIVES_WRITTEN],
+        &[7],
+        0,
+        &[],
+        Some(3),
+    ),
+    Trace(PLAIN, &[FIRST_TAKES, FIRST_WRITES_7], &[7], 0, &[], Some(2)),
+    Trace(
+        PLAIN,
+        &[
+            FIRST_TAKES,
+            SECOND_SHARES,
+            FIRST_WRITES_7,
+            FIRST_GIVES_WRITTEN,
+        ],
+        &[7],
+        1,
+        &[],
+        Some(1),
+    ),
+];
 
 #[test]
-fn checker_verdicts(rt: HostRuntime) -> Result<(), Fail> {
-    let alloc = rt.alloc();
-    let section = [
-        take(FIRST_CPU),
-        write(FIRST_CPU, 0, 7),
-        give_written(FIRST_CPU),
-    ];
-    let open = [take(FIRST_CPU), write(FIRST_CPU, 0, 7)];
-    let crowded = [
-        take(FIRST_CPU),
-        share(SECOND_CPU),
-        write(FIRST_CPU, 0, 7),
-        give_written(FIRST_CPU),
-    ];
-    let rows: [(&[Event], u64, Result<(), Fault>); 4] = [
-        (&section, 1, Ok(())),
-        (&section, 0, Err(Fault::Unlawful { index: 3 })),
-        (&open, 0, Err(Fault::Unlawful { index: 2 })),
-        (&crowded, 1, Err(Fault::Unlawful { index: 1 })),
-    ];
-    for (events, generation, want) in rows {
-        let spec = token(alloc, Law::Any, 0, 0, &[0])?;
-        assert_eq!(rt;
-            token_verdict(alloc, spec, events, &[7], generation, &[])?,
-            want,
-            "{events:?}"
-        );
+fn checker_verdicts(rt: HostRuntime) {
+    play(&rt, rt.alloc(), &CHECKER_VERDICTS);
+}
+
+// Events on a token of cells 5 and 6 that has them again at the end.
+struct Deeds(&'static [Event], Option<usize>);
+
+impl Row for Deeds {
+    fn is_right(&self, alloc: Global) -> bool {
+        let opened = Opened(Law::Any, 0, 3, &[5, 6]);
+        Trace(opened, self.0, &[5, 6], 3, &[], self.1).is_right(alloc)
     }
-    Ok(())
 }
 
 // Each event of a token once where it can happen, and where it can't.
+const TOKEN_EVENTS: [Deeds; 21] = [
+    Deeds(&[], None),
+    Deeds(&[SECOND_LOADS, SECOND_MARKS, SECOND_LOADS], None),
+    Deeds(
+        &[
+            FIRST_SHARES,
+            SECOND_SHARES,
+            FIRST_GIVES_ONE,
+            SECOND_GIVES_ONE,
+        ],
+        None,
+    ),
+    Deeds(
+        &[
+            FIRST_TAKES,
+            FIRST_TAKES_AGAIN,
+            FIRST_GIVES_ONE,
+            FIRST_GIVES_CLEAN,
+        ],
+        None,
+    ),
+    Deeds(
+        &[SECOND_MARKS, FIRST_SHARES, FIRST_READS_5, FIRST_GIVES_ONE],
+        None,
+    ),
+    Deeds(
+        &[
+            FIRST_TAKES,
+            FIRST_READS_6_IN_CELL_1,
+            SECOND_MARKS,
+            FIRST_GIVES_CLEAN,
+        ],
+        None,
+    ),
+    Deeds(
+        &[
+            FIRST_TAKES,
+            FIRST_WRITES_9,
+            FIRST_READS_9,
+            FIRST_WRITES_5,
+            FIRST_GIVES_CLEAN,
+        ],
+        None,
+    ),
+    Deeds(&[FIRST_TAKES], Some(1)),
+    Deeds(&[FIRST_SHARES], Some(1)),
+    Deeds(&[FIRST_TAKES, SECOND_TAKES], Some(1)),
+    Deeds(&[FIRST_TAKES, FIRST_TAKES], Some(1)),
+    Deeds(&[FIRST_SHARES, FIRST_TAKES], Some(1)),
+    Deeds(&[FIRST_SHARES, FIRST_SHARES], Some(1)),
+    Deeds(&[FIRST_SHARES, FIRST_WRITES_9], Some(1)),
+    Deeds(&[FIRST_TAKES_AGAIN], Some(0)),
+    Deeds(&[FIRST_TAKES, SECOND_TAKES_AGAIN], Some(1)),
+    Deeds(&[FIRST_READS_5], Some(0)),
+    Deeds(&[FIRST_TAKES, FIRST_READS_6], Some(1)),
+    Deeds(&[FIRST_TAKES, FIRST_GIVES_ONE], Some(1)),
+    Deeds(&[FIRST_TAKES, FIRST_GIVES_WRITTEN], Some(1)),
+    Deeds(&[FIRST_TAKES, FIRST_WRITES_9, FIRST_GIVES_CLEAN], Some(2)),
+];
+
 #[test]
-fn token_events(rt: HostRuntime) -> Result<(), Fail> {
-    let alloc = rt.alloc();
-    let load = Event::Load {
-        cpu: SECOND_CPU,
-        tok: FIRST_TOKEN,
-    };
-    let mark = Event::Mark {
-        cpu: SECOND_CPU,
-        tok: FIRST_TOKEN,
-    };
-    let unlawful = |index| Err(Fault::Unlawful { index });
-    let rows: [(&[Event], Result<(), Fault>); 21] = [
-        (&[], Ok(())),
-        (&[load, mark, load], Ok(())),
-        (
-            &[
-                share(FIRST_CPU),
-                share(SECOND_CPU),
-                give_one(FIRST_CPU),
-                give_one(SECOND_CPU),
-            ],
-            Ok(()),
-        ),
-        (
-            &[
-                take(FIRST_CPU),
-                again(FIRST_CPU),
-                give_one(FIRST_CPU),
-                give_clean(FIRST_CPU),
-            ],
-            Ok(()),
-        ),
-        (
-            &[
-                mark,
-                share(FIRST_CPU),
-                read(FIRST_CPU, 0, 5),
-                give_one(FIRST_CPU),
-            ],
-            Ok(()),
-        ),
-        (
-            &[
-                take(FIRST_CPU),
-                read(FIRST_CPU, 1, 6),
-                mark,
-                give_clean(FIRST_CPU),
-            ],
-            Ok(()),
-        ),
-        (
-            &[
-                take(FIRST_CPU),
-                write(FIRST_CPU, 0, 9),
-                read(FIRST_CPU, 0, 9),
-                write(FIRST_CPU, 0, 5),
-                give_clean(FIRST_CPU),
-            ],
-            Ok(()),
-        ),
-        (&[take(FIRST_CPU)], unlawful(1)),
-        (&[share(FIRST_CPU)], unlawful(1)),
-        (&[take(FIRST_CPU), take(SECOND_CPU)], unlawful(1)),
-        (&[take(FIRST_CPU), take(FIRST_CPU)], unlawful(1)),
-        (&[share(FIRST_CPU), take(FIRST_CPU)], unlawful(1)),
-        (&[share(FIRST_CPU), share(FIRST_CPU)], unlawful(1)),
-        (&[share(FIRST_CPU), write(FIRST_CPU, 0, 9)], unlawful(1)),
-        (&[again(FIRST_CPU)], unlawful(0)),
-        (&[take(FIRST_CPU), again(SECOND_CPU)], unlawful(1)),
-        (&[read(FIRST_CPU, 0, 5)], unlawful(0)),
-        (&[take(FIRST_CPU), read(FIRST_CPU, 0, 6)], unlawful(1)),
-        (&[take(FIRST_CPU), give_one(FIRST_CPU)], unlawful(1)),
-        (&[take(FIRST_CPU), give_written(FIRST_CPU)], unlawful(1)),
-        (
-            &[
-                take(FIRST_CPU),
-                write(FIRST_CPU, 0, 9),
-                give_clean(FIRST_CPU),
-            ],
-            unlawful(2),
-        ),
-    ];
-    for (events, want) in rows {
-        let spec = token(alloc, Law::Any, 0, 3, &[5, 6])?;
-        assert_eq!(rt;
-            token_verdict(alloc, spec, events, &[5, 6], 3, &[])?,
-            want,
-            "{events:?}"
-        );
-    }
-    Ok(())
+fn token_events(rt: HostRuntime) {
+    play(&rt, rt.alloc(), &TOKEN_EVENTS);
 }
+
+const TALLY: Opened = Opened(Law::Tally, 10, 0, &[10]);
+
+const ADDED: &[Event] = &[SECOND_TAKES, SECOND_WRITES_15, SECOND_GIVES_WRITTEN];
 
 // Laws and tallies at the end of a section and at the close.
+const TALLIES: [Trace; 4] = [
+    Trace(TALLY, ADDED, &[15], 1, &[0, 5], None),
+    Trace(TALLY, ADDED, &[15], 1, &[5, 0], Some(3)),
+    Trace(TALLY, ADDED, &[15], 1, &[0, 5, 0], Some(3)),
+    Trace(
+        TALLY,
+        &[SECOND_TAKES, SECOND_WRITES_9],
+        &[15],
+        1,
+        &[0, 0],
+        Some(1),
+    ),
+];
+
+const SUM: Opened = Opened(Law::Sum, 10, 0, &[5, 5]);
+
+const WORN_SUM: Opened = Opened(Law::Sum, 10, LAST_GENERATION, &[5, 5]);
+
+const MOVED: &[Event] = &[
+    FIRST_TAKES,
+    FIRST_WRITES_4,
+    FIRST_WRITES_6_IN_CELL_1,
+    FIRST_GIVES_WRITTEN,
+];
+
+// At the last generation no section begins, and a token can still be shared.
+const SUMS: [Trace; 4] = [
+    Trace(SUM, MOVED, &[4, 6], 1, &[], None),
+    Trace(
+        SUM,
+        &[FIRST_TAKES, FIRST_WRITES_4, FIRST_GIVES_WRITTEN],
+        &[4, 6],
+        1,
+        &[],
+        Some(2),
+    ),
+    Trace(WORN_SUM, MOVED, &[4, 6], LAST_GENERATION, &[], Some(0)),
+    Trace(
+        WORN_SUM,
+        &[FIRST_SHARES, FIRST_GIVES_ONE],
+        &[4, 6],
+        LAST_GENERATION,
+        &[],
+        Some(2),
+    ),
+];
+
 #[test]
-fn sections_and_tallies(rt: HostRuntime) -> Result<(), Fail> {
-    let alloc = rt.alloc();
-    let added = [
-        take(SECOND_CPU),
-        write(SECOND_CPU, 0, 15),
-        give_written(SECOND_CPU),
-    ];
-    let rows: [(&[Event], &[u64], Result<(), Fault>); 4] = [
-        (&added, &[0, 5], Ok(())),
-        (&added, &[5, 0], Err(Fault::Unlawful { index: 3 })),
-        (&added, &[0, 5, 0], Err(Fault::Unlawful { index: 3 })),
-        (
-            &[take(SECOND_CPU), write(SECOND_CPU, 0, 9)],
-            &[0, 0],
-            Err(Fault::Unlawful { index: 1 }),
-        ),
-    ];
-    for (events, tallies, want) in rows {
-        let spec = token(alloc, Law::Tally, 10, 0, &[10])?;
-        assert_eq!(rt;
-            token_verdict(alloc, spec, events, &[15], 1, tallies)?,
-            want,
-            "{events:?}"
-        );
-    }
-    let moved = [
-        take(FIRST_CPU),
-        write(FIRST_CPU, 0, 4),
-        write(FIRST_CPU, 1, 6),
-        give_written(FIRST_CPU),
-    ];
-    let worn = LAST_GENERATION;
-    // At the last generation no section begins, and a token can still be shared.
-    let rows: [(u64, &[Event], u64, Result<(), Fault>); 4] = [
-        (0, &moved, 1, Ok(())),
-        (
-            0,
-            &[
-                take(FIRST_CPU),
-                write(FIRST_CPU, 0, 4),
-                give_written(FIRST_CPU),
-            ],
-            1,
-            Err(Fault::Unlawful { index: 2 }),
-        ),
-        (worn, &moved, worn, Err(Fault::Unlawful { index: 0 })),
-        (
-            worn,
-            &[share(FIRST_CPU), give_one(FIRST_CPU)],
-            worn,
-            Err(Fault::Unlawful { index: 2 }),
-        ),
-    ];
-    for (generation, events, last, want) in rows {
-        let spec = token(alloc, Law::Sum, 10, generation, &[5, 5])?;
-        assert_eq!(rt;
-            token_verdict(alloc, spec, events, &[4, 6], last, &[])?,
-            want,
-            "{events:?}"
-        );
-    }
-    Ok(())
+fn sections_and_tallies(rt: HostRuntime) {
+    play(&rt, rt.alloc(), &TALLIES);
+    play(&rt, rt.alloc(), &SUMS);
 }
 
-fn send(to: CpuId, round: u64) -> Event {
-    Event::Send {
-        cpu: FIRST_CPU,
-        msg: FIRST_MESSAGE,
-        to,
-        round,
-    }
-}
+const SENT: Event = Event::Send {
+    cpu: FIRST,
+    msg: MESSAGE,
+    to: SECOND,
+    round: 1,
+};
 
-fn take_message(cpu: CpuId, round: u64) -> Event {
-    Event::TakeMsg {
-        cpu,
-        msg: FIRST_MESSAGE,
-        round,
-    }
-}
+const SENT_IN_ROUND_2: Event = Event::Send {
+    cpu: FIRST,
+    msg: MESSAGE,
+    to: SECOND,
+    round: 2,
+};
 
-// What the checker says of a trace of two processors on one message of 0.0 that ends so.
-fn message_verdict(
-    alloc: Global,
-    events: &[Event],
-    state: Owner,
-    round: u64,
-) -> Result<Result<(), Fault>, Fault> {
-    let opening = State::open(alloc, &[], &[message(0, 0, 0)], 2)?;
-    let messages = vec![in alloc; MsgEnd { round, state }].map_err(|_| Fault::Memory)?;
-    let last = Final {
+const SENT_TO_ITSELF: Event = Event::Send {
+    cpu: FIRST,
+    msg: MESSAGE,
+    to: FIRST,
+    round: 1,
+};
+
+const TAKEN: Event = Event::TakeMsg {
+    cpu: SECOND,
+    msg: MESSAGE,
+    round: 1,
+};
+
+const TAKEN_OF_ROUND_2: Event = Event::TakeMsg {
+    cpu: SECOND,
+    msg: MESSAGE,
+    round: 2,
+};
+
+const TAKEN_BY_ITSELF: Event = Event::TakeMsg {
+    cpu: FIRST,
+    msg: MESSAGE,
+    round: 1,
+};
+
+const REPLIED: Event = Event::Reply {
+    cpu: SECOND,
+    msg: MESSAGE,
+};
+
+const REAPED: Event = Event::Reap {
+    cpu: FIRST,
+    msg: MESSAGE,
+};
+
+const DROPPED: Event = Event::DropMsg {
+    cpu: FIRST,
+    msg: MESSAGE,
+};
+
+const ABORTED: Event = Event::Abort {
+    cpu: FIRST,
+    msg: MESSAGE,
+};
+
+// Events of two processors on one message of 0.0, the owner and the round at the end, and the first event that isn't lawful,
+// or the number of events.
+struct Post(&'static [Event], Owner, u64, Option<usize>);
+
+fn message_final(alloc: Global, round: u64, state: Owner) -> Result<Final, AllocError> {
+    Ok(Final {
         rows: Vec::new(alloc),
         gens: Vec::new(alloc),
         tallies: Vec::new(alloc),
-        messages,
-    };
-    Ok(check(opening, events, &last))
+        messages: Vec::from_slice(alloc, &[MsgEnd { round, state }])?,
+    })
 }
+
+impl Row for Post {
+    fn is_right(&self, alloc: Global) -> bool {
+        let Ok(opening) = State::open(alloc, &[], &[message(0, 0, 0)], 2) else {
+            return false;
+        };
+        match message_final(alloc, self.2, self.1) {
+            Ok(last) => refused_at(opening, self.0, &last) == self.3,
+            Err(_) => false,
+        }
+    }
+}
+
+const REST: Owner = Owner::Rest { origin: FIRST };
+
+const OUT: Owner = Owner::Out {
+    origin: FIRST,
+    target: SECOND,
+};
+
+const WITH: Owner = Owner::With {
+    origin: FIRST,
+    target: SECOND,
+};
+
+const WITH_ITSELF: Owner = Owner::With {
+    origin: FIRST,
+    target: FIRST,
+};
+
+const BACK: Owner = Owner::Back {
+    origin: FIRST,
+    target: SECOND,
+};
 
 // Rows Book-Basics-7 and Book-Basics-8, and each event of a message where it can happen, and where it can't.
+const POSTS: [Post; 19] = [
+    Post(&[SENT, TAKEN, REPLIED, REPLIED], REST, 1, Some(3)),
+    Post(&[SENT, TAKEN_OF_ROUND_2], REST, 1, Some(1)),
+    Post(&[SENT, TAKEN, DROPPED], REST, 1, Some(2)),
+    Post(&[], REST, 0, None),
+    Post(&[], REST, 1, Some(0)),
+    Post(&[SENT], OUT, 1, None),
+    Post(&[SENT], REST, 1, Some(1)),
+    Post(&[SENT, TAKEN], WITH, 1, None),
+    Post(&[SENT, ABORTED, TAKEN, REPLIED], BACK, 1, None),
+    Post(&[SENT, TAKEN, REPLIED, REAPED], REST, 1, None),
+    Post(&[SENT, DROPPED, SENT_IN_ROUND_2, DROPPED], REST, 2, None),
+    Post(&[SENT_TO_ITSELF, TAKEN_BY_ITSELF], WITH_ITSELF, 1, None),
+    Post(&[SENT_IN_ROUND_2], REST, 0, Some(0)),
+    Post(&[SENT, SENT_IN_ROUND_2], REST, 1, Some(1)),
+    Post(&[SENT, TAKEN_BY_ITSELF], REST, 1, Some(1)),
+    Post(&[SENT, TAKEN, TAKEN], REST, 1, Some(2)),
+    Post(&[SENT, REPLIED], REST, 1, Some(1)),
+    Post(&[SENT, TAKEN, REAPED], REST, 1, Some(2)),
+    Post(&[ABORTED], REST, 0, Some(0)),
+];
+
 #[test]
-fn book_basics_7_and_8(rt: HostRuntime) -> Result<(), Fail> {
-    let (origin, target) = (FIRST_CPU, SECOND_CPU);
-    let rest = Owner::Rest { origin };
-    let reply = Event::Reply {
-        cpu: SECOND_CPU,
-        msg: FIRST_MESSAGE,
-    };
-    let reap = Event::Reap {
-        cpu: FIRST_CPU,
-        msg: FIRST_MESSAGE,
-    };
-    let drop_it = Event::DropMsg {
-        cpu: FIRST_CPU,
-        msg: FIRST_MESSAGE,
-    };
-    let abort = Event::Abort {
-        cpu: FIRST_CPU,
-        msg: FIRST_MESSAGE,
-    };
-    let (sent, taken) = (send(SECOND_CPU, 1), take_message(SECOND_CPU, 1));
-    let unlawful = |index| Err(Fault::Unlawful { index });
-    let rows: [(&[Event], Owner, u64, Result<(), Fault>); 19] = [
-        (&[sent, taken, reply, reply], rest, 1, unlawful(3)),
-        (&[sent, take_message(SECOND_CPU, 2)], rest, 1, unlawful(1)),
-        (&[sent, taken, drop_it], rest, 1, unlawful(2)),
-        (&[], rest, 0, Ok(())),
-        (&[], rest, 1, unlawful(0)),
-        (&[sent], Owner::Out { origin, target }, 1, Ok(())),
-        (&[sent], rest, 1, unlawful(1)),
-        (&[sent, taken], Owner::With { origin, target }, 1, Ok(())),
-        (
-            &[sent, abort, taken, reply],
-            Owner::Back { origin, target },
-            1,
-            Ok(()),
-        ),
-        (&[sent, taken, reply, reap], rest, 1, Ok(())),
-        (
-            &[sent, drop_it, send(SECOND_CPU, 2), drop_it],
-            rest,
-            2,
-            Ok(()),
-        ),
-        (
-            &[send(FIRST_CPU, 1), take_message(FIRST_CPU, 1)],
-            Owner::With {
-                origin,
-                target: origin,
-            },
-            1,
-            Ok(()),
-        ),
-        (&[send(SECOND_CPU, 2)], rest, 0, unlawful(0)),
-        (&[sent, send(SECOND_CPU, 2)], rest, 1, unlawful(1)),
-        (&[sent, take_message(FIRST_CPU, 1)], rest, 1, unlawful(1)),
-        (&[sent, taken, taken], rest, 1, unlawful(2)),
-        (&[sent, reply], rest, 1, unlawful(1)),
-        (&[sent, taken, reap], rest, 1, unlawful(2)),
-        (&[abort], rest, 0, unlawful(0)),
-    ];
-    for (events, state, round, want) in rows {
-        assert_eq!(rt;
-            message_verdict(rt.alloc(), events, state, round)?,
-            want,
-            "{events:?}"
-        );
-    }
-    Ok(())
+fn book_basics_7_and_8(rt: HostRuntime) {
+    play(&rt, rt.alloc(), &POSTS);
 }
 
-// Two processors, of which the first holds token 0, and its message 0 at rest.
-fn held(alloc: Global) -> Result<State, Fault> {
-    let specs = vec![in alloc;
-        token(alloc, Law::Tally, 5, 3, &[5]).map_err(|_| Fault::Memory)?,
-    ].map_err(|_| Fault::Memory)?;
-    let mut state = State::open(alloc, &specs, &[message(0, 0, 7)], 2)?;
-    state.step(&take(FIRST_CPU))?;
-    state.step(&write(FIRST_CPU, 0, 6))?;
-    Ok(state)
+// Two processors, of which the first holds token 0 and has added 1 to it, and its message 0 at rest.
+fn held(alloc: Global) -> Option<State> {
+    let specs = tokens(alloc, &[Opened(Law::Tally, 5, 3, &[5])]).ok()?;
+    let mut state = State::open(alloc, &specs, &[message(0, 0, 7)], 2).ok()?;
+    state.step(&FIRST_TAKES).ok()?;
+    state.step(&FIRST_WRITES_6).ok()?;
+    Some(state)
 }
 
 // What a state shows of token 0: its cell, the cell of its first row, its generation, two tallies.
-fn shown(state: &State) -> [Option<u64>; 5] {
-    [
-        state.cell(FIRST_TOKEN, 0),
-        state.first(FIRST_TOKEN, 0),
-        state.generation(FIRST_TOKEN),
-        state.tally(FIRST_CPU, FIRST_TOKEN),
-        state.tally(SECOND_CPU, FIRST_TOKEN),
-    ]
+fn shows(state: &State, want: &[Option<u64>; 5]) -> bool {
+    state.cell(TOKEN, 0) == want[0]
+        && state.first(TOKEN, 0) == want[1]
+        && state.generation(TOKEN) == want[2]
+        && state.tally(FIRST, TOKEN) == want[3]
+        && state.tally(SECOND, TOKEN) == want[4]
 }
 
 const HELD: [Option<u64>; 5] = [Some(6), Some(5), Some(3), Some(1), Some(0)];
 
+// An event that can't happen, and changes nothing.
+struct Placeless(Event);
+
+fn is_refused(state: &mut State, event: &Event) -> bool {
+    !state.allows(event) && state.step(event) == Err(Fault::Unlawful { index: 0 })
+}
+
+// Whether the checker refuses it right after an event that can happen.
+fn is_refused_in_trace(alloc: Global, state: State, event: Event) -> bool {
+    match token_final(alloc, &[6], 4, &[1, 0]) {
+        Ok(last) => refused_at(state, &[FIRST_READS_6, event], &last) == Some(1),
+        Err(_) => false,
+    }
+}
+
+impl Row for Placeless {
+    fn is_right(&self, alloc: Global) -> bool {
+        let Some(mut state) = held(alloc) else {
+            return false;
+        };
+        is_refused(&mut state, &self.0)
+            && shows(&state, &HELD)
+            && is_refused_in_trace(alloc, state, self.0)
+    }
+}
+
+const FAR: CpuId = CpuId(8);
+
+const FAR_TOKEN: TokId = TokId(64);
+
+const FAR_MESSAGE: MsgId = MsgId(64);
+
 // Events that name a processor, token, cell or message that is not there.
-#[test]
-fn events_without_a_place(rt: HostRuntime) -> Result<(), Fail> {
-    let alloc = rt.alloc();
-    let (far, far_tok, far_msg) = (CpuId(8), TokId(64), MsgId(64));
-    for event in [
-        Event::Load {
-            cpu: far,
-            tok: FIRST_TOKEN,
-        },
-        take(far),
-        share(far),
-        again(far),
-        Event::Mark {
-            cpu: far,
-            tok: FIRST_TOKEN,
-        },
-        give_one(far),
-        give_clean(far),
-        give_written(far),
-        read(far, 0, 6),
-        write(far, 0, 7),
-        Event::Load {
-            cpu: FIRST_CPU,
-            tok: far_tok,
-        },
-        Event::Take {
-            cpu: FIRST_CPU,
-            tok: far_tok,
-        },
-        Event::Mark {
-            cpu: FIRST_CPU,
-            tok: far_tok,
-        },
-        Event::GiveWritten {
-            cpu: FIRST_CPU,
-            tok: far_tok,
-        },
-        read(FIRST_CPU, 4, 0),
-        write(FIRST_CPU, 4, 0),
-        send(far, 8),
-        Event::Send {
-            cpu: far,
-            msg: FIRST_MESSAGE,
-            to: SECOND_CPU,
-            round: 8,
-        },
-        Event::Send {
-            cpu: FIRST_CPU,
-            msg: far_msg,
-            to: SECOND_CPU,
-            round: 8,
-        },
-        take_message(far, 7),
-        Event::Reap {
-            cpu: FIRST_CPU,
-            msg: far_msg,
-        },
-        Event::Abort {
-            cpu: far,
-            msg: FIRST_MESSAGE,
-        },
-    ] {
-        let mut state = held(alloc)?;
-        let allowed = state.allows(&event);
-        assert_eq!(rt;
-            (allowed, state.step(&event)),
-            (false, Err(Fault::Unlawful { index: 0 })),
-            "{event:?}"
-        );
-        assert_eq!(rt; shown(&state).as_slice(), HELD.as_slice(), "{event:?}");
-        let last = token_final(alloc, &[6], 4, &[1, 0])?;
-        let found = check(held(alloc)?, &[read(FIRST_CPU, 0, 6), event], &last);
-        assert_eq!(rt; found, Err(Fault::Unlawful { index: 1 }), "{event:?}");
-    }
-    Ok(())
-}
-
-#[test]
-fn readers_of_a_state(rt: HostRuntime) -> Result<(), Fail> {
-    let alloc = rt.alloc();
-    let mut state = held(alloc)?;
-    let (far, far_tok) = (CpuId(2), TokId(1));
-    let absent = [
-        state.cell(FIRST_TOKEN, 1),
-        state.cell(far_tok, 0),
-        state.first(FIRST_TOKEN, 1),
-        state.first(far_tok, 0),
-        state.tally(far, FIRST_TOKEN),
-        state.tally(FIRST_CPU, far_tok),
-        state.generation(far_tok),
-    ];
-    assert_eq!(rt; absent.as_slice(), [None; 7].as_slice());
-    let mut last = token_final(alloc, &[6], 4, &[1, 0])?;
-    last.messages.push(MsgEnd {
+const PLACELESS: [Placeless; 22] = [
+    Placeless(Event::Load {
+        cpu: FAR,
+        tok: TOKEN,
+    }),
+    Placeless(Event::Take {
+        cpu: FAR,
+        tok: TOKEN,
+    }),
+    Placeless(Event::Share {
+        cpu: FAR,
+        tok: TOKEN,
+    }),
+    Placeless(Event::Again {
+        cpu: FAR,
+        tok: TOKEN,
+    }),
+    Placeless(Event::Mark {
+        cpu: FAR,
+        tok: TOKEN,
+    }),
+    Placeless(Event::GiveOne {
+        cpu: FAR,
+        tok: TOKEN,
+    }),
+    Placeless(Event::GiveClean {
+        cpu: FAR,
+        tok: TOKEN,
+    }),
+    Placeless(Event::GiveWritten {
+        cpu: FAR,
+        tok: TOKEN,
+    }),
+    Placeless(Event::Read {
+        cpu: FAR,
+        tok: TOKEN,
+        cell: 0,
+        value: 6,
+    }),
+    Placeless(Event::Write {
+        cpu: FAR,
+        tok: TOKEN,
+        cell: 0,
+        value: 7,
+    }),
+    Placeless(Event::Load {
+        cpu: FIRST,
+        tok: FAR_TOKEN,
+    }),
+    Placeless(Event::Take {
+        cpu: FIRST,
+        tok: FAR_TOKEN,
+    }),
+    Placeless(Event::Mark {
+        cpu: FIRST,
+        tok: FAR_TOKEN,
+    }),
+    Placeless(Event::GiveWritten {
+        cpu: FIRST,
+        tok: FAR_TOKEN,
+    }),
+    Placeless(Event::Read {
+        cpu: FIRST,
+        tok: TOKEN,
+        cell: 4,
+        value: 0,
+    }),
+    Placeless(Event::Write {
+        cpu: FIRST,
+        tok: TOKEN,
+        cell: 4,
+        value: 0,
+    }),
+    Placeless(Event::Send {
+        cpu: FIRST,
+        msg: MESSAGE,
+        to: FAR,
+        round: 8,
+    }),
+    Placeless(Event::Send {
+        cpu: FAR,
+        msg: MESSAGE,
+        to: SECOND,
+        round: 8,
+    }),
+    Placeless(Event::Send {
+        cpu: FIRST,
+        msg: FAR_MESSAGE,
+        to: SECOND,
+        round: 8,
+    }),
+    Placeless(Event::TakeMsg {
+        cpu: FAR,
+        msg: MESSAGE,
         round: 7,
-        state: Owner::Rest { origin: FIRST_CPU },
-    })?;
-    let give = give_written(FIRST_CPU);
-    let before = (state.closes(&last), state.allows(&give));
-    assert_eq!(rt; before, (false, true));
-    let after = (state.step(&give), state.closes(&last));
-    assert_eq!(rt; after, (Ok(()), true));
-    assert_eq!(rt;
-        shown(&state).as_slice(),
-        [Some(6), Some(6), Some(4), Some(1), Some(0)].as_slice()
-    );
-    // A token under another law has no tallies.
-    let specs = vec![in alloc; token(alloc, Law::Any, 0, 0, &[0])?]?;
-    let plain = State::open(alloc, &specs, &[], 1)?;
-    assert_eq!(rt; plain.cpus(), 1);
-    assert_eq!(rt;
-        shown(&plain).as_slice(),
-        [Some(0), Some(0), Some(0), None, None].as_slice()
-    );
-    Ok(())
+    }),
+    Placeless(Event::Reap {
+        cpu: FIRST,
+        msg: FAR_MESSAGE,
+    }),
+    Placeless(Event::Abort {
+        cpu: FAR,
+        msg: MESSAGE,
+    }),
+];
+
+#[test]
+fn events_without_a_place(rt: HostRuntime) {
+    play(&rt, rt.alloc(), &PLACELESS);
 }
 
-// What events, tokens and messages tell of themselves.
-#[test]
-fn parts_of_the_model(rt: HostRuntime) -> Result<(), Fail> {
-    let alloc = rt.alloc();
-    for (event, cpu, place, adds) in [
-        (take(SECOND_CPU), SECOND_CPU, Place::AtToken(0), true),
-        (share(FIRST_CPU), FIRST_CPU, Place::AtToken(0), true),
-        (again(SECOND_CPU), SECOND_CPU, Place::AtToken(0), true),
-        (write(FIRST_CPU, 1, 2), FIRST_CPU, Place::AtToken(0), false),
-        (send(SECOND_CPU, 1), FIRST_CPU, Place::AtMessage(0), false),
-    ] {
-        let found = (event.cpu(), event.place(), event.adds_reference());
-        assert_eq!(rt; found, (cpu, place, adds), "{event:?}");
+// Whether nothing is told of a cell, a token and a processor that aren't there.
+fn tells_no_more(state: &State) -> bool {
+    state.cell(TOKEN, 1).is_none()
+        && state.cell(TokId(1), 0).is_none()
+        && state.first(TOKEN, 1).is_none()
+        && state.first(TokId(1), 0).is_none()
+        && state.tally(CpuId(2), TOKEN).is_none()
+        && state.tally(FIRST, TokId(1)).is_none()
+        && state.generation(TokId(1)).is_none()
+}
+
+// The closing values of `held` after its section.
+fn held_final(alloc: Global) -> Option<Final> {
+    let mut last = token_final(alloc, &[6], 4, &[1, 0]).ok()?;
+    let state = REST;
+    last.messages.push(MsgEnd { round: 7, state }).ok()?;
+    Some(last)
+}
+
+const GIVEN: [Option<u64>; 5] = [Some(6), Some(6), Some(4), Some(1), Some(0)];
+
+// Whether the section ends as it must.
+fn ends(state: &mut State, last: &Final) -> bool {
+    !state.closes(last)
+        && state.allows(&FIRST_GIVES_WRITTEN)
+        && state.step(&FIRST_GIVES_WRITTEN).is_ok()
+        && state.closes(last)
+        && shows(state, &GIVEN)
+}
+
+// A token under another law has no tallies.
+const UNTALLIED: [Option<u64>; 5] = [Some(0), Some(0), Some(0), None, None];
+
+fn is_untallied(alloc: Global) -> bool {
+    match open(alloc, PLAIN) {
+        Some(state) => state.cpus() == 2 && shows(&state, &UNTALLIED),
+        None => false,
     }
-    let mut token = Token {
+}
+
+fn are_read(alloc: Global) -> bool {
+    let Some(mut state) = held(alloc) else {
+        return false;
+    };
+    match held_final(alloc) {
+        Some(last) => tells_no_more(&state) && ends(&mut state, &last),
+        None => false,
+    }
+}
+
+#[test]
+fn readers_of_a_state(rt: HostRuntime) {
+    assert!(rt; are_read(rt.alloc()) && is_untallied(rt.alloc()));
+}
+
+// An event, its processor, its place, and whether it adds a reference.
+struct Parts(Event, CpuId, Place, bool);
+
+impl Row for Parts {
+    fn is_right(&self, _alloc: Global) -> bool {
+        self.0.cpu() == self.1 && self.0.place() == self.2 && self.0.adds_reference() == self.3
+    }
+}
+
+const PARTS: [Parts; 5] = [
+    Parts(SECOND_TAKES, SECOND, Place::AtToken(0), true),
+    Parts(FIRST_SHARES, FIRST, Place::AtToken(0), true),
+    Parts(SECOND_TAKES_AGAIN, SECOND, Place::AtToken(0), true),
+    Parts(FIRST_WRITES_4, FIRST, Place::AtToken(0), false),
+    Parts(SENT, FIRST, Place::AtMessage(0), false),
+];
+
+// A token of 10 under Tally, to which the second processor has added 5.
+fn tally_token(alloc: Global) -> Result<Token, AllocError> {
+    let row = cells(alloc, &[15])?;
+    let first = cells(alloc, &[10])?;
+    Ok(Token {
         law: Law::Tally,
         param: 10,
         generation: 0,
         mark: false,
-        row: cells(alloc, &[15])?,
-        first: cells(alloc, &[10])?,
+        row,
+        first,
         holders: [Held::Nothing; 8],
         tallies: [0, 5, 0, 0, 0, 0, 0, 0],
+    })
+}
+
+const ONCE: Held = Held::Holds(Mode::Exclusive, 0);
+
+fn is_free(token: &Token) -> bool {
+    token.is_free() && token.is_open() && token.allows(&SECOND_TAKES)
+}
+
+fn is_taken(token: &Token) -> bool {
+    !token.is_free()
+        && !token.is_open()
+        && !token.allows(&FIRST_TAKES)
+        && token.allows(&SECOND_GIVES_WRITTEN)
+        && token.held_by(SECOND) == ONCE
+        && token.held_by(FAR) == Held::Nothing
+}
+
+fn is_token_told(alloc: Global) -> bool {
+    let Ok(mut token) = tally_token(alloc) else {
+        return false;
     };
-    let free = token.is_free() && token.is_open() && token.allows(&take(SECOND_CPU));
-    token.holders[1] = Held::Holds(Mode::Exclusive, 0);
-    let open = token.is_free() || token.is_open() || token.allows(&take(FIRST_CPU));
-    assert!(rt; free && !open && token.allows(&give_written(SECOND_CPU)));
-    assert_eq!(rt;
-        (token.held_by(SECOND_CPU), token.held_by(CpuId(8))),
-        (Held::Holds(Mode::Exclusive, 0), Held::Nothing)
-    );
-    assert_eq!(rt;
-        (token.tally(SECOND_CPU), token.tally(CpuId(8))),
-        (Some(5), None)
-    );
-    let message = Message {
-        origin: ThreadId {
-            cpu: FIRST_CPU,
-            thread: 0,
-        },
-        opening: 0,
-        round: 0,
-        owner: Owner::Rest { origin: FIRST_CPU },
-        asked: false,
-        sends: 0,
-        takes: 0,
-        drops: 0,
-        replies: 0,
-        reaps: 0,
-    };
-    assert!(rt;
-        message.allows(2, &send(SECOND_CPU, 1)) && !message.allows(1, &send(SECOND_CPU, 1))
-    );
+    let free = is_free(&token);
+    token.holders[1] = ONCE;
+    free && is_taken(&token) && token.tally(SECOND) == Some(5) && token.tally(FAR).is_none()
+}
+
+// A message of processor 0 at rest.
+const AT_REST: Message = Message {
+    origin: ThreadId {
+        cpu: FIRST,
+        thread: 0,
+    },
+    opening: 0,
+    round: 0,
+    owner: REST,
+    asked: false,
+    sends: 0,
+    takes: 0,
+    drops: 0,
+    replies: 0,
+    reaps: 0,
+};
+
+// What events, tokens and messages tell of themselves.
+#[test]
+fn parts_of_the_model(rt: HostRuntime) {
+    play(&rt, rt.alloc(), &PARTS);
+    assert!(rt; is_token_told(rt.alloc()));
+    let message = AT_REST;
+    assert!(rt; message.allows(2, &SENT) && !message.allows(1, &SENT));
     failure_refutes();
     failure_is_only();
     decisions_are_events();
     pictures_fit();
-    Ok(())
 }

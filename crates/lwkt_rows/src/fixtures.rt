@@ -1,10 +1,15 @@
-//! What the rows share: scripts with a change, tokens, readers and writers that fail.
+//! What the rows share: the player of tables, scripts with a change, readers and writers that fail.
 
-use lwkt_base::{Cells, Law, TokSpec};
-use std::alloc::{AllocError, Global};
+use lwkt_fixtures::{Row, first_wrong};
+use std::alloc::Global;
 use std::io;
 use std::io::{Read, Write};
-use std::test::Fail;
+use std::process::Abort;
+
+/// Fails at the first row of a table that isn't right, and names its place.
+pub fn play<T: Row>(rt: &impl Abort, alloc: Global, rows: &[T]) {
+    assert_eq!(rt; first_wrong(alloc, rows), None);
+}
 
 /// The token of `TALLY_ADD`.
 pub const TOKEN: &str = "{\"cells\":[10],\"law\":\"tally\",\"param\":10,\"gen\":0}";
@@ -17,46 +22,31 @@ pub const THREAD: &str =
 pub const TALLY_ADD: &str =
     "{\"version\":1,\"turns\":50,\"idle\":5,\"cpus\":1,\"tokens\":[{\"cells\":[10],\"law\":\"tally\",\"param\":10,\"gen\":0}],\"messages\":[],\"threads\":[{\"cpu\":0,\"repeat\":1,\"steps\":[[\"get\",0],[\"add\",0,5],[\"rel\",0]]}]}";
 
-/// TALLY_ADD with `new` where `old` stands first.
-pub fn changed(alloc: Global, old: &str, new: &str) -> Result<String, Fail> {
-    let (front, back) = TALLY_ADD.split_once(old).ok_or("the script has this text")?;
-    let mut text = String::from_str(alloc, front)?;
-    text.push_str(new)?;
-    text.push_str(back)?;
-    Ok(text)
+/// TALLY_ADD with `new` where `old` stands first. None if it doesn't, or without memory.
+pub fn changed(alloc: Global, old: &str, new: &str) -> Option<String> {
+    let (front, back) = TALLY_ADD.split_once(old)?;
+    let mut text = String::from_str(alloc, front).ok()?;
+    text.push_str(new).ok()?;
+    text.push_str(back).ok()?;
+    Some(text)
 }
 
 /// So many times the item, with commas between.
-pub fn listed(alloc: Global, item: &str, count: u32) -> Result<String, Fail> {
+pub fn listed(alloc: Global, item: &str, count: u32) -> Option<String> {
     let mut text = String::new(alloc);
     for i in 0..count {
         if i > 0 {
-            text.push_str(",")?;
+            text.push_str(",").ok()?;
         }
-        text.push_str(item)?;
+        text.push_str(item).ok()?;
     }
-    Ok(text)
+    Some(text)
 }
 
-/// Cells of these values.
-pub fn cells(alloc: Global, items: &[u64]) -> Result<Cells, AllocError> {
-    Ok(Cells::from_vec(Vec::from_slice(alloc, items)?))
-}
-
-/// A token as it is opened.
-pub fn token(
-    alloc: Global,
-    law: Law,
-    param: u64,
-    generation: u64,
-    items: &[u64],
-) -> Result<TokSpec, AllocError> {
-    Ok(TokSpec {
-        cells: cells(alloc, items)?,
-        law,
-        param,
-        generation,
-    })
+/// TALLY_ADD with so many times the item in place of the item.
+pub fn repeated(alloc: Global, item: &str, count: u32) -> Option<String> {
+    let items = listed(alloc, item, count)?;
+    changed(alloc, item, items.as_str())
 }
 
 /// Gives one byte a call, and fails at the call `bad`, the first being call 1.
@@ -67,6 +57,18 @@ pub struct OneByte<'a> {
     pub calls: usize,
     pub bad: usize,
     pub kind: io::ErrorKind,
+}
+
+impl<'a> OneByte<'a> {
+    pub fn new(text: &'a [u8], bad: usize, kind: io::ErrorKind) -> OneByte<'a> {
+        OneByte {
+            text,
+            at: 0,
+            calls: 0,
+            bad,
+            kind,
+        }
+    }
 }
 
 impl<'a> Read for OneByte<'a> {
@@ -97,6 +99,16 @@ pub struct Frail {
 }
 
 impl Frail {
+    pub fn new(alloc: Global, bad: usize, last_bad: usize, takes: usize) -> Frail {
+        Frail {
+            got: Vec::new(alloc),
+            calls: 0,
+            bad,
+            last_bad,
+            takes,
+        }
+    }
+
     fn call(&mut self) -> io::Result<()> {
         self.calls = self.calls.saturating_add(1);
         if self.bad <= self.calls && self.calls <= self.last_bad {

@@ -1,10 +1,10 @@
 //! Reports against rows, and streams that fail at each call in turn.
 
-use crate::fixtures::{Frail, OneByte};
+use crate::fixtures::{Frail, OneByte, play};
 use lwkt_base::{
-    Call, Cells, CpuId, Fault, Mode, MsgEnd, MsgId, Owner, Ref, ThreadId, ThreadState, TokId,
-    TokList,
+    Call, CpuId, Fault, Mode, MsgEnd, MsgId, Owner, Ref, ThreadId, ThreadState, TokId, TokList,
 };
+use lwkt_fixtures::{Row, cells};
 use lwkt_report::{
     Closing, Complaint, Entry, Log, Page, READ_LIMIT, ReaderSource, RunFault, Sink, ThreadLine,
     TokenLine, Verdict, WriterSink, complaint_line, read_capped, report, write_whole,
@@ -14,107 +14,188 @@ use std::io;
 use std::io::Read;
 use std::test::Fail;
 
-fn cells(alloc: Global, items: &[u64]) -> Result<Cells, AllocError> {
-    Ok(Cells::from_vec(Vec::from_slice(alloc, items)?))
-}
+// The generation and cells of a token, and under Tally what each processor has added.
+struct TokenRow(u64, &'static [u64], Option<&'static [u64]>);
 
-fn token(alloc: Global, generation: u64, items: &[u64]) -> Result<TokenLine, AllocError> {
+fn token_line(alloc: Global, row: &TokenRow) -> Result<TokenLine, AllocError> {
+    let tallies = match row.2 {
+        Some(added) => Some(cells(alloc, added)?),
+        None => None,
+    };
     Ok(TokenLine {
-        generation,
-        cells: cells(alloc, items)?,
-        tallies: None,
+        generation: row.0,
+        cells: cells(alloc, row.1)?,
+        tallies,
     })
 }
 
-fn thread(
-    alloc: Global,
-    cpu: u8,
-    state: ThreadState,
-    log: &[Entry],
-) -> Result<ThreadLine, AllocError> {
+fn token_lines(alloc: Global, rows: &[TokenRow]) -> Result<Vec<TokenLine>, AllocError> {
+    let mut lines = Vec::new(alloc);
+    for row in rows {
+        lines.push(token_line(alloc, row)?)?;
+    }
+    Ok(lines)
+}
+
+// The processor of a thread, its state, its list and its log.
+struct ThreadRow(u8, ThreadState, &'static [Ref], &'static [Entry]);
+
+fn list_of(refs: &[Ref]) -> TokList {
+    let mut list = TokList::new();
+    for r in refs {
+        let _ = list.push(*r);
+    }
+    list
+}
+
+fn thread_line(alloc: Global, row: &ThreadRow) -> Result<ThreadLine, AllocError> {
     Ok(ThreadLine {
         id: ThreadId {
-            cpu: CpuId(cpu),
+            cpu: CpuId(row.0),
             thread: 0,
         },
-        state,
-        list: TokList::new(),
-        log: Log::from_vec(Vec::from_slice(alloc, log)?),
+        state: row.1,
+        list: list_of(row.2),
+        log: Log::from_vec(Vec::from_slice(alloc, row.3)?),
     })
+}
+
+fn thread_lines(alloc: Global, rows: &[ThreadRow]) -> Result<Vec<ThreadLine>, AllocError> {
+    let mut lines = Vec::new(alloc);
+    for row in rows {
+        lines.push(thread_line(alloc, row)?)?;
+    }
+    Ok(lines)
+}
+
+// A closing, and the report of it.
+struct Reported {
+    tokens: &'static [TokenRow],
+    messages: &'static [MsgEnd],
+    threads: &'static [ThreadRow],
+    verdict: Verdict,
+    text: &'static str,
+}
+
+fn closing_of(alloc: Global, row: &Reported) -> Result<Closing, AllocError> {
+    let tokens = token_lines(alloc, row.tokens)?;
+    let messages = Vec::from_slice(alloc, row.messages)?;
+    let threads = thread_lines(alloc, row.threads)?;
+    Ok(Closing {
+        tokens,
+        messages,
+        threads,
+        verdict: row.verdict,
+    })
+}
+
+fn is_reported(alloc: Global, closing: &Closing, text: &str) -> bool {
+    match report(alloc, closing) {
+        Ok(found) => found.as_str() == text,
+        Err(_) => false,
+    }
+}
+
+impl Row for Reported {
+    fn is_right(&self, alloc: Global) -> bool {
+        match closing_of(alloc, self) {
+            Ok(closing) => is_reported(alloc, &closing, self.text),
+            Err(_) => false,
+        }
+    }
 }
 
 // Row Tally-Add.
+const TALLY_ADD: Reported = Reported {
+    tokens: &[TokenRow(1, &[15], Some(&[5]))],
+    messages: &[],
+    threads: &[ThreadRow(0, ThreadState::Exited, &[], &[])],
+    verdict: Verdict::Lawful,
+    text: "token 0 gen 1 cells 15\ntally 0 5\nthread 0.0 exited list - log -\nlawful\n",
+};
+
 #[test]
-fn reports_a_tally(rt: HostRuntime) -> Result<(), Fail> {
-    let alloc = rt.alloc();
-    let mut tally = token(alloc, 1, &[15])?;
-    tally.tallies = Some(cells(alloc, &[5])?);
-    let closing = Closing {
-        tokens: vec![in alloc; tally]?,
-        messages: Vec::new(alloc),
-        threads: vec![in alloc; thread(alloc, 0, ThreadState::Exited, &[])?]?,
-        verdict: Verdict::Lawful,
-    };
-    let text = "token 0 gen 1 cells 15\ntally 0 5\nthread 0.0 exited list - log -\nlawful\n";
-    assert_eq!(rt; report(alloc, &closing)?.as_str(), text);
-    Ok(())
+fn reports_a_tally(rt: HostRuntime) {
+    play(&rt, rt.alloc(), &[TALLY_ADD]);
 }
 
-// Row Call-And-Reply, with a refusal, a read value, a list and a message of each state beside it.
-#[test]
-fn reports_each_form(rt: HostRuntime) -> Result<(), Fail> {
-    let alloc = rt.alloc();
-    let (origin, target) = (CpuId(0), CpuId(1));
-    let mut waiting = thread(
-        alloc,
+const WAITING_LIST: &[Ref] = &[
+    Ref {
+        tok: TokId(0),
+        mode: Mode::Exclusive,
+    },
+    Ref {
+        tok: TokId(1),
+        mode: Mode::Shared,
+    },
+    Ref {
+        tok: TokId(0),
+        mode: Mode::Shared,
+    },
+];
+
+const MESSAGES: &[MsgEnd] = &[
+    MsgEnd {
+        round: 1,
+        state: Owner::Rest { origin: CpuId(0) },
+    },
+    MsgEnd {
+        round: 2,
+        state: Owner::Out {
+            origin: CpuId(0),
+            target: CpuId(1),
+        },
+    },
+    MsgEnd {
+        round: 3,
+        state: Owner::With {
+            origin: CpuId(0),
+            target: CpuId(1),
+        },
+    },
+    MsgEnd {
+        round: 2_251_799_813_685_247,
+        state: Owner::Back {
+            origin: CpuId(0),
+            target: CpuId(1),
+        },
+    },
+];
+
+const THREADS: &[ThreadRow] = &[
+    ThreadRow(
+        0,
+        ThreadState::Exited,
+        &[],
+        &[Entry::Reply(MsgId(0), 7, 42), Entry::NoMessage],
+    ),
+    ThreadRow(
+        1,
+        ThreadState::Exited,
+        &[],
+        &[Entry::Request(MsgId(0), Call { op: 5, arg: 9 })],
+    ),
+    ThreadRow(
         2,
         ThreadState::Waiting,
+        WAITING_LIST,
         &[Entry::Refused(20), Entry::Value(3)],
-    )?;
-    for (tok, mode) in [(0, Mode::Exclusive), (1, Mode::Shared), (0, Mode::Shared)] {
-        let tok = TokId(tok);
-        waiting.list.push(Ref { tok, mode })?;
-    }
-    let request = Entry::Request(MsgId(0), Call { op: 5, arg: 9 });
-    let closing = Closing {
-        tokens: vec![in alloc;
-            token(alloc, 70368744177663, &[5, 18446744073709551615])?,
-            token(alloc, 0, &[])?,
-        ]?,
-        messages: vec![in alloc;
-            MsgEnd {
-                round: 1,
-                state: Owner::Rest { origin }
-            },
-            MsgEnd {
-                round: 2,
-                state: Owner::Out { origin, target }
-            },
-            MsgEnd {
-                round: 3,
-                state: Owner::With { origin, target }
-            },
-            MsgEnd {
-                round: 2251799813685247,
-                state: Owner::Back { origin, target }
-            },
-        ]?,
-        threads: vec![in alloc;
-            thread(
-                alloc,
-                0,
-                ThreadState::Exited,
-                &[Entry::Reply(MsgId(0), 7, 42), Entry::NoMessage]
-            )?,
-            thread(alloc, 1, ThreadState::Exited, &[request])?,
-            waiting,
-            thread(alloc, 3, ThreadState::Faulted(Fault::Broken), &[])?,
-            thread(alloc, 4, ThreadState::Ready, &[])?,
-            thread(alloc, 5, ThreadState::Running, &[])?,
-        ]?,
-        verdict: Verdict::Unlawful { index: 12 },
-    };
-    let text = "token 0 gen 70368744177663 cells 5 18446744073709551615\n\
+    ),
+    ThreadRow(3, ThreadState::Faulted(Fault::Broken), &[], &[]),
+    ThreadRow(4, ThreadState::Ready, &[], &[]),
+    ThreadRow(5, ThreadState::Running, &[], &[]),
+];
+
+// Row Call-And-Reply, with a refusal, a read value, a list and a message of each state beside it.
+const EACH_FORM: Reported = Reported {
+    tokens: &[
+        TokenRow(70_368_744_177_663, &[5, 18_446_744_073_709_551_615], None),
+        TokenRow(0, &[], None),
+    ],
+    messages: MESSAGES,
+    threads: THREADS,
+    verdict: Verdict::Unlawful { index: 12 },
+    text: "token 0 gen 70368744177663 cells 5 18446744073709551615\n\
         token 1 gen 0 cells -\n\
         message 0 round 1 rest\n\
         message 1 round 2 out\n\
@@ -126,78 +207,99 @@ fn reports_each_form(rt: HostRuntime) -> Result<(), Fail> {
         thread 3.0 faulted 19 list - log -\n\
         thread 4.0 ready list - log -\n\
         thread 5.0 running list - log -\n\
-        unlawful 12\n";
-    assert_eq!(rt; report(alloc, &closing)?.as_str(), text);
-    Ok(())
+        unlawful 12\n",
+};
+
+#[test]
+fn reports_each_form(rt: HostRuntime) {
+    play(&rt, rt.alloc(), &[EACH_FORM]);
 }
 
 // Row Empty-Machine, and its like under `threads`.
+const VERDICTS: [Reported; 2] = [
+    Reported {
+        tokens: &[],
+        messages: &[],
+        threads: &[],
+        verdict: Verdict::Lawful,
+        text: "lawful\n",
+    },
+    Reported {
+        tokens: &[],
+        messages: &[],
+        threads: &[],
+        verdict: Verdict::Closed,
+        text: "closed\n",
+    },
+];
+
 #[test]
-fn reports_nothing_but_a_verdict(rt: HostRuntime) -> Result<(), Fail> {
-    let alloc = rt.alloc();
-    for (verdict, text) in [(Verdict::Lawful, "lawful\n"), (Verdict::Closed, "closed\n")] {
-        let closing = Closing {
-            tokens: Vec::new(alloc),
-            messages: Vec::new(alloc),
-            threads: Vec::new(alloc),
-            verdict,
-        };
-        assert_eq!(rt; report(alloc, &closing)?.as_str(), text);
-    }
-    Ok(())
+fn reports_nothing_but_a_verdict(rt: HostRuntime) {
+    play(&rt, rt.alloc(), &VERDICTS);
 }
+
+struct Complained(Complaint, &'static str);
+
+impl Row for Complained {
+    fn is_right(&self, _alloc: Global) -> bool {
+        complaint_line(self.0).as_str() == self.1
+    }
+}
+
+const COMPLAINTS: [Complained; 6] = [
+    Complained(Complaint::Usage, "lwkt_run: turns or threads\n"),
+    Complained(
+        Complaint::Fault(Fault::Script { place: 0 }),
+        "lwkt_run: fault 33 at 0\n",
+    ),
+    Complained(
+        Complaint::Fault(Fault::Script {
+            place: 4_294_967_295,
+        }),
+        "lwkt_run: fault 33 at 4294967295\n",
+    ),
+    Complained(Complaint::Fault(Fault::LawBroken), "lwkt_run: fault 40\n"),
+    Complained(Complaint::Fault(Fault::Memory), "lwkt_run: fault 32\n"),
+    Complained(Complaint::Stream, "lwkt_run: stream\n"),
+];
 
 #[test]
 fn complains(rt: HostRuntime) {
-    let lines = [
-        (Complaint::Usage, "lwkt_run: turns or threads\n"),
-        (
-            Complaint::Fault(Fault::Script { place: 0 }),
-            "lwkt_run: fault 33 at 0\n",
-        ),
-        (
-            Complaint::Fault(Fault::Script { place: 4294967295 }),
-            "lwkt_run: fault 33 at 4294967295\n",
-        ),
-        (Complaint::Fault(Fault::LawBroken), "lwkt_run: fault 40\n"),
-        (Complaint::Fault(Fault::Memory), "lwkt_run: fault 32\n"),
-        (Complaint::Stream, "lwkt_run: stream\n"),
-    ];
-    for (complaint, line) in lines {
-        assert_eq!(rt; complaint_line(complaint).as_str(), line);
+    play(&rt, rt.alloc(), &COMPLAINTS);
+}
+
+const READ: &[u8] = b"{\"version\":1,\"turns\":5}";
+
+// What came of reading, and whether the source says that it failed.
+fn read_one_by_one(alloc: Global, reader: &mut OneByte<'_>) -> (Result<Vec<u8>, RunFault>, bool) {
+    let mut source = ReaderSource::new(reader);
+    let outcome = read_capped(alloc, &mut source);
+    (outcome, source.failed)
+}
+
+// Whether reading is whole, or fails at this call, which isn't made again.
+fn fails_at(alloc: Global, bad: usize, kind: io::ErrorKind) -> bool {
+    let mut reader = OneByte::new(READ, bad, kind);
+    let (outcome, failed) = read_one_by_one(alloc, &mut reader);
+    let is_reached = 0 < bad && bad < 25;
+    match outcome {
+        Ok(bytes) => { !is_reached && !failed && reader.calls == 24 && bytes.as_slice() == READ }
+        Err(fault) => { is_reached && failed && reader.calls == bad && fault == RunFault::Stream }
     }
 }
 
 #[test]
-fn a_reader_that_fails_is_a_failed_stream(rt: HostRuntime) -> Result<(), Fail> {
-    let text = b"{\"version\":1,\"turns\":5}";
-    for kind in [io::ErrorKind::BrokenPipe, io::ErrorKind::Interrupted] {
-        for bad in 0..26 {
-            let mut reader = OneByte {
-                text,
-                at: 0,
-                calls: 0,
-                bad,
-                kind,
-            };
-            let mut source = ReaderSource::new(&mut reader);
-            let outcome = read_capped(rt.alloc(), &mut source);
-            let failed = source.failed;
-            match outcome {
-                Ok(bytes) => {
-                    assert_eq!(rt; bytes.as_slice(), text.as_slice());
-                    assert!(rt; !failed && (bad == 0 || bad == 25), "at call {bad}");
-                    assert_eq!(rt; reader.calls, 24);
-                }
-                Err(fault) => {
-                    assert_eq!(rt; fault, RunFault::Stream);
-                    assert!(rt; failed && 0 < bad && bad < 25, "at call {bad}");
-                    assert_eq!(rt; reader.calls, bad);
-                }
-            }
-        }
+fn a_reader_that_fails_is_a_failed_stream(rt: HostRuntime) {
+    for bad in 0..26 {
+        assert!(rt;
+            fails_at(rt.alloc(), bad, io::ErrorKind::BrokenPipe),
+            "at call {bad}"
+        );
+        assert!(rt;
+            fails_at(rt.alloc(), bad, io::ErrorKind::Interrupted),
+            "at call {bad}"
+        );
     }
-    Ok(())
 }
 
 // Gives the same bytes without an end, 1,000 a call.
@@ -218,67 +320,77 @@ impl Read for Endless {
 fn reading_stops_at_the_limit(rt: HostRuntime) -> Result<(), Fail> {
     let mut endless = Endless { given: 0 };
     let mut source = ReaderSource::new(&mut endless);
-    assert_eq!(rt; read_capped(rt.alloc(), &mut source)?.len(), READ_LIMIT);
-    assert_eq!(rt; endless.given, 1_048_577);
+    let bytes = read_capped(rt.alloc(), &mut source)?;
+    assert!(rt; bytes.len() == READ_LIMIT && endless.given == 1_048_577);
     Ok(())
 }
 
-#[test]
-fn a_front_stands_after_a_failed_write(rt: HostRuntime) -> Result<(), Fail> {
-    let text = "token 0 gen 1 cells 15\nlawful\n";
-    let last = text.len().saturating_add(1);
-    for bad in 0..last.saturating_add(2) {
-        let mut writer = Frail {
-            got: Vec::new(rt.alloc()),
-            calls: 0,
-            bad,
-            last_bad: bad,
-            takes: 1,
-        };
-        let mut sink = WriterSink::new(&mut writer);
-        let outcome = write_whole(&mut sink, text.as_bytes());
-        if bad == 0 || bad > last {
-            assert!(rt; outcome.is_ok());
-            assert_eq!(rt; writer.got.as_slice(), text.as_bytes());
-        } else {
-            assert!(rt; outcome.is_err(), "at call {bad}");
-            // The failed call is not made again; a later write, as that of the line about it, is made.
-            assert_eq!(rt; sink.put(b"x"), Ok(1));
-            assert!(rt; sink.failed, "at call {bad}");
-            assert_eq!(rt; writer.calls, bad.saturating_add(1));
-            assert_eq!(rt; writer.got.pop(), Some(b'x'));
-            assert_eq!(rt; writer.got.len(), bad.saturating_sub(1));
-            assert!(rt; text.as_bytes().starts_with(writer.got.as_slice()));
-        }
+const WRITTEN: &[u8] = b"token 0 gen 1 cells 15\nlawful\n";
+
+// Whether a further write, as that of the line about a failure, is made.
+fn takes_more(sink: &mut impl Sink) -> bool {
+    sink.put(b"x") == Ok(1)
+}
+
+// Whether writing succeeds; if not, whether a further write is made and the sink says that it has failed.
+fn write_to(writer: &mut Frail) -> (bool, bool) {
+    let mut sink = WriterSink::new(writer);
+    if write_whole(&mut sink, WRITTEN).is_ok() {
+        return (true, false);
     }
-    Ok(())
+    let more = takes_more(&mut sink);
+    (false, more && sink.failed)
+}
+
+// Whether a writer has this front, and one byte more.
+fn has_front(got: &[u8], length: usize) -> bool {
+    match got.split_last() {
+        Some((last, front)) => {
+            *last == b'x' && front.len() == length && WRITTEN.starts_with(front)
+        }
+        None => false,
+    }
+}
+
+// Whether all is written, or a front up to this call, which isn't made again.
+fn writes_to(alloc: Global, bad: usize) -> bool {
+    let mut writer = Frail::new(alloc, bad, bad, 1);
+    let (is_whole, more) = write_to(&mut writer);
+    if bad == 0 || bad > WRITTEN.len() + 1 {
+        return is_whole && writer.got.as_slice() == WRITTEN;
+    }
+    !is_whole && more && writer.calls == bad + 1 && has_front(&writer.got, bad - 1)
+}
+
+#[test]
+fn a_front_stands_after_a_failed_write(rt: HostRuntime) {
+    for bad in 0..WRITTEN.len() + 3 {
+        assert!(rt; writes_to(rt.alloc(), bad), "at call {bad}");
+    }
 }
 
 #[test]
 fn a_write_of_no_byte_is_a_failed_stream(rt: HostRuntime) {
-    let mut writer = Frail {
-        got: Vec::new(rt.alloc()),
-        calls: 0,
-        bad: 0,
-        last_bad: 0,
-        takes: 0,
-    };
-    assert!(rt; write_whole(&mut WriterSink::new(&mut writer), b"lawful\n").is_err());
-    assert_eq!(rt; writer.calls, 1);
+    let mut writer = Frail::new(rt.alloc(), 0, 0, 0);
+    let outcome = write_whole(&mut WriterSink::new(&mut writer), b"lawful\n");
+    assert!(rt; outcome.is_err() && writer.calls == 1);
 }
 
 // Proved: bytes in memory never make a failed stream, and a page takes all that it has room for.
-#[test]
-fn memory_is_no_failed_stream(rt: HostRuntime) -> Result<(), Fail> {
-    let mut source: &[u8] = b"lawful\n";
-    let text = match read_capped(rt.alloc(), &mut source) {
+fn is_copied(alloc: Global, mut source: &[u8]) -> Result<bool, Fault> {
+    let text = match read_capped(alloc, &mut source) {
         Ok(text) => text,
-        Err(RunFault::Fault(fault)) => return Err(Fail::from(fault)),
+        Err(RunFault::Fault(fault)) => return Err(fault),
         Err(RunFault::Stream) => unreachable!(),
     };
-    assert_eq!(rt; text.as_slice(), b"lawful\n".as_slice());
-    let mut page = Page::with_room(rt.alloc(), text.len())?;
+    let Ok(mut page) = Page::with_room(alloc, text.len()) else {
+        return Err(Fault::Memory);
+    };
     write_whole(&mut page, text.as_slice()).unwrap();
-    assert_eq!(rt; page.text.as_slice(), b"lawful\n".as_slice());
-    Ok(())
+    Ok(page.text.as_slice() == text.as_slice() && text.len() == 7)
+}
+
+#[test]
+fn memory_is_no_failed_stream(rt: HostRuntime) {
+    assert!(rt; is_copied(rt.alloc(), b"lawful\n") == Ok(true));
 }

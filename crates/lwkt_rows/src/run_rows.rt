@@ -1,14 +1,13 @@
 //! Whole runs of the program: rows with their output and status, wrong arguments, bad scripts and streams that fail.
 
-use crate::fixtures::{Frail, OneByte, TALLY_ADD, THREAD, TOKEN, changed, listed};
+use crate::fixtures::{Frail, OneByte, TALLY_ADD, THREAD, TOKEN, changed, play, repeated};
 use lwkt_base::Fault;
-use lwkt_report::{Page, ReaderSource, WriterSink};
+use lwkt_fixtures::Row;
+use lwkt_report::{Page, ReaderSource, Sink, Source, WriterSink};
 use lwkt_run::{End, RunFault, run_program, run_turns};
 use std::alloc::{AllocError, Global};
 use std::io;
 use std::io::Read;
-use std::process::Abort;
-use std::test::Fail;
 
 const STREAM: &[u8] = b"lwkt_run: stream\n";
 
@@ -24,275 +23,313 @@ fn words(alloc: Global, items: &[&str]) -> Result<Vec<String>, AllocError> {
     Ok(words)
 }
 
-// The status and the output of a run of the bytes under `turns`.
-fn ran(alloc: Global, script: &[u8]) -> Result<(u8, Vec<u8>), AllocError> {
+// The status of a run under `turns`; 32 stands for want of memory.
+fn run_of(alloc: Global, source: &mut impl Source, sink: &mut impl Sink) -> u8 {
+    match words(alloc, &["turns"]) {
+        Ok(turns) => run_program(alloc, &turns, source, sink),
+        Err(_) => 32,
+    }
+}
+
+// Whether a run of the bytes has this status and this output.
+fn ends_as(alloc: Global, script: &[u8], status: u8, want: &[u8]) -> bool {
     let mut source = script;
-    let mut page = Page::with_room(alloc, 0)?;
-    let turns = words(alloc, &["turns"])?;
-    let status = run_program(alloc, &turns, &mut source, &mut page);
-    Ok((status, page.text))
+    let Ok(mut page) = Page::with_room(alloc, 0) else {
+        return false;
+    };
+    run_of(alloc, &mut source, &mut page) == status && page.text.as_slice() == want
 }
 
-// A script of 50 turns on one processor.
-fn script(alloc: Global, tokens: &str, threads: &str) -> Result<String, AllocError> {
-    format!(in alloc;
-        "{{\"version\":1,\"turns\":50,\"idle\":100000000,\"cpus\":1,\"tokens\":[{tokens}],\"messages\":[],\"threads\":[{threads}]}}"
-    )
+// A script, the status of its run, and its output.
+struct Run(&'static str, u8, &'static str);
+
+impl Row for Run {
+    fn is_right(&self, alloc: Global) -> bool {
+        ends_as(alloc, self.0.as_bytes(), self.1, self.2.as_bytes())
+    }
 }
 
-// A thread that makes these steps once.
-fn thread(alloc: Global, steps: &str) -> Result<String, AllocError> {
-    format!(in alloc; "{{\"cpu\":0,\"repeat\":1,\"steps\":[{steps}]}}")
-}
+const TALLY_ADD_RUN: Run = Run(
+    TALLY_ADD,
+    0,
+    "token 0 gen 1 cells 15\ntally 0 5\nthread 0.0 exited list - log -\nlawful\n",
+);
 
-// Fails unless a run of the bytes has this status and this output.
-fn expect(
-    rt: &impl Abort,
-    alloc: Global,
-    bytes: &[u8],
-    status: u8,
-    want: &str,
-) -> Result<(), Fail> {
-    let (got, text) = ran(alloc, bytes)?;
-    assert_eq!(rt; text.as_slice(), want.as_bytes(), "{want}");
-    assert_eq!(rt; got, status, "{want}");
-    Ok(())
-}
+const EMPTY_MACHINE: Run = Run(
+    "{\"version\":1,\"turns\":5,\"idle\":5,\"cpus\":1,\"tokens\":[],\"messages\":[],\"threads\":[]}",
+    0,
+    "lawful\n",
+);
 
-// Fails unless a run of this token and this thread has this status and this output.
-fn expect_of(
-    rt: &impl Abort,
-    alloc: Global,
-    tokens: &str,
-    steps: &str,
-    status: u8,
-    want: &str,
-) -> Result<(), Fail> {
-    let text = script(alloc, tokens, thread(alloc, steps)?.as_str())?;
-    expect(rt, alloc, text.as_bytes(), status, want)
-}
+const LAW_BROKEN_AT_WAIT: Run = Run(
+    "{\"version\":1,\"turns\":50,\"idle\":100000000,\"cpus\":1,\"tokens\":[{\"cells\":[5,5],\"law\":\"sum\",\"param\":10,\"gen\":0}],\"messages\":[],\"threads\":[{\"cpu\":0,\"repeat\":1,\"steps\":[[\"get\",0],[\"write\",0,0,9],[\"wait\"]]}]}",
+    0,
+    "token 0 gen 0 cells 5 5\nthread 0.0 faulted 19 list - log -\nlawful\n",
+);
 
-#[test]
-fn empty_machine(rt: HostRuntime) -> Result<(), Fail> {
-    let text =
-        b"{\"version\":1,\"turns\":5,\"idle\":5,\"cpus\":1,\"tokens\":[],\"messages\":[],\"threads\":[]}";
-    expect(&rt, rt.alloc(), text, 0, "lawful\n")
-}
+const SWAP_REFUSALS: Run = Run(
+    "{\"version\":1,\"turns\":50,\"idle\":100000000,\"cpus\":1,\"tokens\":[{\"cells\":[],\"law\":\"any\",\"param\":0,\"gen\":0},{\"cells\":[],\"law\":\"any\",\"param\":0,\"gen\":0}],\"messages\":[],\"threads\":[{\"cpu\":0,\"repeat\":1,\"steps\":[[\"get\",0],[\"swap\"],[\"get\",0],[\"swap\"],[\"rel\",0],[\"try\",1],[\"swap\"],[\"rel\",0],[\"rel\",1]]}]}",
+    0,
+    "token 0 gen 0 cells -\ntoken 1 gen 0 cells -\nthread 0.0 exited list - log f=15 f=14\nlawful\n",
+);
 
-#[test]
-fn tally_add(rt: HostRuntime) -> Result<(), Fail> {
-    let (status, text) = ran(rt.alloc(), TALLY_ADD.as_bytes())?;
-    assert_eq!(rt; text.as_slice(), TALLY_REPORT);
-    assert_eq!(rt; status, 0);
-    Ok(())
-}
+const LAST_GENERATION: Run = Run(
+    "{\"version\":1,\"turns\":50,\"idle\":100000000,\"cpus\":1,\"tokens\":[{\"cells\":[3],\"law\":\"any\",\"param\":0,\"gen\":70368744177663}],\"messages\":[],\"threads\":[{\"cpu\":0,\"repeat\":1,\"steps\":[[\"get\",0],[\"gets\",0],[\"read\",0,0],[\"rel\",0]]}]}",
+    0,
+    "token 0 gen 70368744177663 cells 3\nthread 0.0 exited list - log f=20 v=3\nlawful\n",
+);
 
-#[test]
-fn law_broken_at_wait(rt: HostRuntime) -> Result<(), Fail> {
-    expect_of(
-        &rt,
-        rt.alloc(),
-        "{\"cells\":[5,5],\"law\":\"sum\",\"param\":10,\"gen\":0}",
-        "[\"get\",0],[\"write\",0,0,9],[\"wait\"]",
-        0,
-        "token 0 gen 0 cells 5 5\nthread 0.0 faulted 19 list - log -\nlawful\n",
-    )
-}
+const WAITING: Run = Run(
+    "{\"version\":1,\"turns\":50,\"idle\":100000000,\"cpus\":1,\"tokens\":[{\"cells\":[0],\"law\":\"any\",\"param\":0,\"gen\":0}],\"messages\":[],\"threads\":[{\"cpu\":0,\"repeat\":1,\"steps\":[[\"get\",0],[\"wait\"]]}]}",
+    2,
+    "token 0 gen 0 cells 0\nthread 0.0 waiting list 0x log -\nlawful\n",
+);
 
-#[test]
-fn swap_refusals(rt: HostRuntime) -> Result<(), Fail> {
-    expect_of(
-        &rt,
-        rt.alloc(),
-        "{\"cells\":[],\"law\":\"any\",\"param\":0,\"gen\":0},{\"cells\":[],\"law\":\"any\",\"param\":0,\"gen\":0}",
-        "[\"get\",0],[\"swap\"],[\"get\",0],[\"swap\"],[\"rel\",0],[\"try\",1],[\"swap\"],[\"rel\",0],[\"rel\",1]",
-        0,
-        "token 0 gen 0 cells -\ntoken 1 gen 0 cells -\nthread 0.0 exited list - log f=15 f=14\nlawful\n",
-    )
-}
+const TRUNCATED: Run = Run("{\"version\":1,\"turns\":5", 1, "lwkt_run: fault 33 at 0\n");
 
-#[test]
-fn last_generation(rt: HostRuntime) -> Result<(), Fail> {
-    expect_of(
-        &rt,
-        rt.alloc(),
-        "{\"cells\":[3],\"law\":\"any\",\"param\":0,\"gen\":70368744177663}",
-        "[\"get\",0],[\"gets\",0],[\"read\",0,0],[\"rel\",0]",
-        0,
-        "token 0 gen 70368744177663 cells 3\nthread 0.0 exited list - log f=20 v=3\nlawful\n",
-    )
-}
+const TOKEN_REFUSALS: Run = Run(
+    "{\"version\":1,\"turns\":50,\"idle\":100000000,\"cpus\":1,\"tokens\":[{\"cells\":[1],\"law\":\"any\",\"param\":0,\"gen\":0},{\"cells\":[18446744073709551615],\"law\":\"tally\",\"param\":18446744073709551615,\"gen\":0}],\"messages\":[],\"threads\":[{\"cpu\":0,\"repeat\":1,\"steps\":[[\"read\",9,0],[\"read\",0,3],[\"read\",0,0],[\"gets\",0],[\"write\",0,0,5],[\"rel\",0],[\"get\",1],[\"write\",1,0,5],[\"add\",1,1],[\"rel\",1],[\"rel\",1]]}]}",
+    0,
+    "token 0 gen 0 cells 1\ntoken 1 gen 0 cells 18446744073709551615\ntally 1 0\nthread 0.0 exited list - log f=16 f=17 f=13 f=18 f=22 f=21 f=13\nlawful\n",
+);
 
-#[test]
-fn waiting_and_truncated(rt: HostRuntime) -> Result<(), Fail> {
-    expect_of(
-        &rt,
-        rt.alloc(),
-        "{\"cells\":[0],\"law\":\"any\",\"param\":0,\"gen\":0}",
-        "[\"get\",0],[\"wait\"]",
-        2,
-        "token 0 gen 0 cells 0\nthread 0.0 waiting list 0x log -\nlawful\n",
-    )?;
-    let cut = b"{\"version\":1,\"turns\":5";
-    expect(&rt, rt.alloc(), cut, 1, "lwkt_run: fault 33 at 0\n")
-}
+const OPENING_LAW: Run = Run(
+    "{\"version\":1,\"turns\":50,\"idle\":100000000,\"cpus\":1,\"tokens\":[{\"cells\":[5,6],\"law\":\"sum\",\"param\":10,\"gen\":0}],\"messages\":[],\"threads\":[]}",
+    1,
+    "lwkt_run: fault 40\n",
+);
 
-#[test]
-fn token_refusals(rt: HostRuntime) -> Result<(), Fail> {
-    expect_of(
-        &rt,
-        rt.alloc(),
-        "{\"cells\":[1],\"law\":\"any\",\"param\":0,\"gen\":0},{\"cells\":[18446744073709551615],\"law\":\"tally\",\"param\":18446744073709551615,\"gen\":0}",
-        "[\"read\",9,0],[\"read\",0,3],[\"read\",0,0],[\"gets\",0],[\"write\",0,0,5],[\"rel\",0],[\"get\",1],[\"write\",1,0,5],[\"add\",1,1],[\"rel\",1],[\"rel\",1]",
-        0,
-        "token 0 gen 0 cells 1\ntoken 1 gen 0 cells 18446744073709551615\ntally 1 0\nthread 0.0 exited list - log f=16 f=17 f=13 f=18 f=22 f=21 f=13\nlawful\n",
-    )
-}
-
-#[test]
-fn opening_law(rt: HostRuntime) -> Result<(), Fail> {
-    let alloc = rt.alloc();
-    let text = script(
-        alloc,
-        "{\"cells\":[5,6],\"law\":\"sum\",\"param\":10,\"gen\":0}",
-        "",
-    )?;
-    expect(&rt, alloc, text.as_bytes(), 1, "lwkt_run: fault 40\n")
-}
-
-#[test]
-fn two_threads_one_token(rt: HostRuntime) -> Result<(), Fail> {
-    let alloc = rt.alloc();
-    let first = thread(
-        alloc,
-        "[\"get\",0],[\"write\",0,0,1],[\"yield\"],[\"read\",0,0],[\"rel\",0]",
-    )?;
-    let second = thread(
-        alloc,
-        "[\"get\",0],[\"read\",0,0],[\"write\",0,0,2],[\"rel\",0]",
-    )?;
-    let text = script(
-        alloc,
-        "{\"cells\":[0],\"law\":\"any\",\"param\":0,\"gen\":0}",
-        format!(in alloc; "{first},{second}")?.as_str(),
-    )?;
-    expect(
-        &rt,
-        alloc,
-        text.as_bytes(),
-        0,
-        "token 0 gen 2 cells 2\nthread 0.0 exited list - log v=2\nthread 0.1 exited list - log v=1\nlawful\n",
-    )
-}
+const TWO_THREADS_ONE_TOKEN: Run = Run(
+    "{\"version\":1,\"turns\":50,\"idle\":100000000,\"cpus\":1,\"tokens\":[{\"cells\":[0],\"law\":\"any\",\"param\":0,\"gen\":0}],\"messages\":[],\"threads\":[{\"cpu\":0,\"repeat\":1,\"steps\":[[\"get\",0],[\"write\",0,0,1],[\"yield\"],[\"read\",0,0],[\"rel\",0]]},{\"cpu\":0,\"repeat\":1,\"steps\":[[\"get\",0],[\"read\",0,0],[\"write\",0,0,2],[\"rel\",0]]}]}",
+    0,
+    "token 0 gen 2 cells 2\nthread 0.0 exited list - log v=2\nthread 0.1 exited list - log v=1\nlawful\n",
+);
 
 // Turns that are used up: the running thread's state and list are those before the end.
+const TURNS_USED_UP: Run = Run(
+    "{\"version\":1,\"turns\":2,\"idle\":5,\"cpus\":1,\"tokens\":[{\"cells\":[10],\"law\":\"tally\",\"param\":10,\"gen\":0}],\"messages\":[],\"threads\":[{\"cpu\":0,\"repeat\":1,\"steps\":[[\"get\",0],[\"add\",0,5],[\"rel\",0]]}]}",
+    2,
+    "token 0 gen 1 cells 15\ntally 0 5\nthread 0.0 running list 0x log -\nlawful\n",
+);
+
 #[test]
-fn turns_used_up(rt: HostRuntime) -> Result<(), Fail> {
-    let text = changed(rt.alloc(), "\"turns\":50", "\"turns\":2")?;
-    expect(
-        &rt,
-        rt.alloc(),
-        text.as_bytes(),
-        2,
-        "token 0 gen 1 cells 15\ntally 0 5\nthread 0.0 running list 0x log -\nlawful\n",
-    )
+fn empty_machine(rt: HostRuntime) {
+    play(&rt, rt.alloc(), &[EMPTY_MACHINE]);
 }
 
 #[test]
-fn ample_memory(rt: HostRuntime) -> Result<(), Fail> {
-    let alloc = rt.alloc();
-    let mut source = TALLY_ADD.as_bytes();
-    let mut page = Page::with_room(alloc, 0)?;
-    assert_eq!(rt; run_turns(alloc, &mut source, &mut page), Ok(End::Ended));
-    assert_eq!(rt; page.text.as_slice(), TALLY_REPORT);
-    let mut nothing: &[u8] = b"";
-    let refused = Err(RunFault::Fault(Fault::Script { place: 0 }));
-    assert_eq!(rt; run_turns(alloc, &mut nothing, &mut page), refused);
-    assert_eq!(rt; page.text.as_slice(), TALLY_REPORT);
-    Ok(())
+fn tally_add(rt: HostRuntime) {
+    play(&rt, rt.alloc(), &[TALLY_ADD_RUN]);
 }
 
 #[test]
-fn wrong_arguments(rt: HostRuntime) -> Result<(), Fail> {
-    let alloc = rt.alloc();
-    let rows: [&[&str]; 6] = [
-        &[],
-        &["threads"],
-        &["turns", "turns"],
-        &["turns", "threads"],
-        &[""],
-        &["turns "],
-    ];
-    for items in rows {
-        let mut reader = OneByte {
-            text: TALLY_ADD.as_bytes(),
-            at: 0,
-            calls: 0,
-            bad: 0,
-            kind: io::ErrorKind::BrokenPipe,
+fn law_broken_at_wait(rt: HostRuntime) {
+    play(&rt, rt.alloc(), &[LAW_BROKEN_AT_WAIT]);
+}
+
+#[test]
+fn swap_refusals(rt: HostRuntime) {
+    play(&rt, rt.alloc(), &[SWAP_REFUSALS]);
+}
+
+#[test]
+fn last_generation(rt: HostRuntime) {
+    play(&rt, rt.alloc(), &[LAST_GENERATION]);
+}
+
+#[test]
+fn waiting_and_truncated(rt: HostRuntime) {
+    play(&rt, rt.alloc(), &[WAITING, TRUNCATED]);
+}
+
+#[test]
+fn token_refusals(rt: HostRuntime) {
+    play(&rt, rt.alloc(), &[TOKEN_REFUSALS]);
+}
+
+#[test]
+fn opening_law(rt: HostRuntime) {
+    play(&rt, rt.alloc(), &[OPENING_LAW]);
+}
+
+#[test]
+fn two_threads_one_token(rt: HostRuntime) {
+    play(&rt, rt.alloc(), &[TWO_THREADS_ONE_TOKEN]);
+}
+
+#[test]
+fn turns_used_up(rt: HostRuntime) {
+    play(&rt, rt.alloc(), &[TURNS_USED_UP]);
+}
+
+// What `run_turns` answers for the bytes, and what it writes.
+fn turns_of(alloc: Global, script: &[u8]) -> Option<(Result<End, RunFault>, Vec<u8>)> {
+    let mut source = script;
+    let mut page = Page::with_room(alloc, 0).ok()?;
+    let outcome = run_turns(alloc, &mut source, &mut page);
+    Some((outcome, page.text))
+}
+
+fn is_ended(alloc: Global) -> bool {
+    match turns_of(alloc, TALLY_ADD.as_bytes()) {
+        Some((outcome, text)) => outcome == Ok(End::Ended) && text.as_slice() == TALLY_REPORT,
+        None => false,
+    }
+}
+
+fn is_refused(alloc: Global) -> bool {
+    match turns_of(alloc, b"") {
+        Some((outcome, text)) => {
+            outcome == Err(RunFault::Fault(Fault::Script { place: 0 })) && text.is_empty()
+        }
+        None => false,
+    }
+}
+
+#[test]
+fn ample_memory(rt: HostRuntime) {
+    assert!(rt; is_ended(rt.alloc()) && is_refused(rt.alloc()));
+}
+
+// Arguments that are refused with the line of usage, before anything is read.
+struct WrongWords(&'static [&'static str]);
+
+fn is_usage(alloc: Global, items: &[String], reader: &mut OneByte<'_>) -> bool {
+    let mut source = ReaderSource::new(reader);
+    let Ok(mut page) = Page::with_room(alloc, 0) else {
+        return false;
+    };
+    run_program(alloc, items, &mut source, &mut page) == 1
+        && page.text.as_slice() == b"lwkt_run: turns or threads\n".as_slice()
+}
+
+impl Row for WrongWords {
+    fn is_right(&self, alloc: Global) -> bool {
+        let Ok(items) = words(alloc, self.0) else {
+            return false;
         };
-        let mut source = ReaderSource::new(&mut reader);
-        let mut page = Page::with_room(alloc, 0)?;
-        let status = run_program(alloc, &words(alloc, items)?, &mut source, &mut page);
-        assert_eq!(rt; status, 1, "{items:?}");
-        assert_eq!(rt;
-            page.text.as_slice(),
-            b"lwkt_run: turns or threads\n".as_slice(),
-            "{items:?}"
-        );
-        assert_eq!(rt; reader.calls, 0, "{items:?}");
+        let mut reader = OneByte::new(TALLY_ADD.as_bytes(), 0, io::ErrorKind::BrokenPipe);
+        is_usage(alloc, &items, &mut reader) && reader.calls == 0
     }
-    Ok(())
 }
 
-// Fails unless a run of the bytes is refused at this place.
-fn expect_refusal(rt: &impl Abort, alloc: Global, bytes: &[u8], place: u32) -> Result<(), Fail> {
-    let want = format!(in alloc; "lwkt_run: fault 33 at {place}\n")?;
-    expect(rt, alloc, bytes, 1, want.as_str())
+const WRONG_ARGUMENTS: [WrongWords; 6] = [
+    WrongWords(&[]),
+    WrongWords(&["threads"]),
+    WrongWords(&["turns", "turns"]),
+    WrongWords(&["turns", "threads"]),
+    WrongWords(&[""]),
+    WrongWords(&["turns "]),
+];
+
+#[test]
+fn wrong_arguments(rt: HostRuntime) {
+    play(&rt, rt.alloc(), &WRONG_ARGUMENTS);
+}
+
+// Whether a run of the bytes is refused with this line.
+fn is_refused_with(alloc: Global, bytes: &[u8], line: &str) -> bool {
+    ends_as(alloc, bytes, 1, line.as_bytes())
+}
+
+// A text of TALLY_ADD, what stands in its place, and the line that a run then writes.
+struct BadScript(&'static str, &'static str, &'static str);
+
+impl Row for BadScript {
+    fn is_right(&self, alloc: Global) -> bool {
+        match changed(alloc, self.0, self.1) {
+            Some(text) => is_refused_with(alloc, text.as_bytes(), self.2),
+            None => false,
+        }
+    }
+}
+
+const BAD_SCRIPTS: [BadScript; 17] = [
+    BadScript("}]}", "}]}}", "lwkt_run: fault 33 at 0\n"),
+    BadScript(
+        "\"cpus\":1",
+        "\"cpus\":1,\"more\":1",
+        "lwkt_run: fault 33 at 1\n",
+    ),
+    BadScript(
+        "\"tokens\":[{",
+        "\"tokens\":{},\"more\":[{",
+        "lwkt_run: fault 33 at 1\n",
+    ),
+    BadScript(
+        "[{\"cells\":[10],\"law\":\"tally\",\"param\":10,\"gen\":0}]",
+        "{}",
+        "lwkt_run: fault 33 at 1\n",
+    ),
+    BadScript(
+        "\"version\":1",
+        "\"version\":2",
+        "lwkt_run: fault 33 at 2\n",
+    ),
+    BadScript("\"turns\":50", "\"turns\":0", "lwkt_run: fault 33 at 3\n"),
+    BadScript("\"idle\":5", "\"idle\":0", "lwkt_run: fault 33 at 4\n"),
+    BadScript("\"cpus\":1", "\"cpus\":9", "lwkt_run: fault 33 at 5\n"),
+    BadScript("\"cpus\":1", "\"cpus\":1.0", "lwkt_run: fault 33 at 5\n"),
+    BadScript(
+        "\"gen\":0",
+        "\"gen\":70368744177664",
+        "lwkt_run: fault 33 at 1000\n",
+    ),
+    BadScript("[10]", "[10,10]", "lwkt_run: fault 33 at 1000\n"),
+    BadScript(
+        "\"messages\":[]",
+        "\"messages\":[{\"of\":[1,0],\"round\":0}]",
+        "lwkt_run: fault 33 at 2000\n",
+    ),
+    BadScript(
+        "\"repeat\":1",
+        "\"repeat\":0",
+        "lwkt_run: fault 33 at 3000\n",
+    ),
+    BadScript("\"get\",0", "\"get\",256", "lwkt_run: fault 33 at 100000\n"),
+    BadScript("\"add\",0,5", "\"add\",0", "lwkt_run: fault 33 at 100001\n"),
+    BadScript("\"rel\",0", "\"lock\",0", "lwkt_run: fault 33 at 100002\n"),
+    BadScript(
+        "\"get\",0",
+        "\"send\",0,0,0,1,1,4",
+        "lwkt_run: fault 33 at 100000\n",
+    ),
+];
+
+// So many times a part of TALLY_ADD in its place, and the line that a run then writes.
+struct BadCount(&'static str, u32, &'static str);
+
+impl Row for BadCount {
+    fn is_right(&self, alloc: Global) -> bool {
+        match repeated(alloc, self.0, self.1) {
+            Some(text) => is_refused_with(alloc, text.as_bytes(), self.2),
+            None => false,
+        }
+    }
+}
+
+const BAD_COUNTS: [BadCount; 2] = [
+    BadCount(TOKEN, 65, "lwkt_run: fault 33 at 1064\n"),
+    BadCount(THREAD, 17, "lwkt_run: fault 33 at 3016\n"),
+];
+
+const AT_ITS_BEGINNING: &str = "lwkt_run: fault 33 at 0\n";
+
+// Whether each front of a script is refused at its beginning.
+fn are_fronts_refused(alloc: Global, whole: &[u8]) -> bool {
+    for length in 0..whole.len() {
+        if !is_refused_with(alloc, &whole[..length], AT_ITS_BEGINNING) {
+            return false;
+        }
+    }
+    true
 }
 
 #[test]
-fn bad_scripts(rt: HostRuntime) -> Result<(), Fail> {
-    let alloc = rt.alloc();
-    let tokens = listed(alloc, TOKEN, 65)?;
-    let threads = listed(alloc, THREAD, 17)?;
-    for (old, new, place) in [
-        ("}]}", "}]}}", 0),
-        ("\"cpus\":1", "\"cpus\":1,\"more\":1", 1),
-        ("\"tokens\":[{", "\"tokens\":{},\"more\":[{", 1),
-        (
-            "[{\"cells\":[10],\"law\":\"tally\",\"param\":10,\"gen\":0}]",
-            "{}",
-            1,
-        ),
-        ("\"version\":1", "\"version\":2", 2),
-        ("\"turns\":50", "\"turns\":0", 3),
-        ("\"idle\":5", "\"idle\":0", 4),
-        ("\"cpus\":1", "\"cpus\":9", 5),
-        ("\"cpus\":1", "\"cpus\":1.0", 5),
-        (TOKEN, tokens.as_str(), 1064),
-        ("\"gen\":0", "\"gen\":70368744177664", 1000),
-        ("[10]", "[10,10]", 1000),
-        (
-            "\"messages\":[]",
-            "\"messages\":[{\"of\":[1,0],\"round\":0}]",
-            2000,
-        ),
-        ("\"repeat\":1", "\"repeat\":0", 3000),
-        (THREAD, threads.as_str(), 3016),
-        ("\"get\",0", "\"get\",256", 100_000),
-        ("\"add\",0,5", "\"add\",0", 100_001),
-        ("\"rel\",0", "\"lock\",0", 100_002),
-        ("\"get\",0", "\"send\",0,0,0,1,1,4", 100_000),
-    ] {
-        let text = changed(alloc, old, new)?;
-        expect_refusal(&rt, alloc, text.as_bytes(), place)?;
-    }
-    let whole = TALLY_ADD.as_bytes();
-    for (i, _) in whole.iter().enumerate() {
-        expect_refusal(&rt, alloc, &whole[..i], 0)?;
-    }
-    Ok(())
+fn bad_scripts(rt: HostRuntime) {
+    play(&rt, rt.alloc(), &BAD_SCRIPTS);
+    play(&rt, rt.alloc(), &BAD_COUNTS);
+    assert!(rt; are_fronts_refused(rt.alloc(), TALLY_ADD.as_bytes()));
 }
 
 // Gives spaces without an end, one a call.
@@ -314,124 +351,118 @@ impl Read for EndlessReader {
     }
 }
 
-#[test]
-fn spaces(rt: HostRuntime) -> Result<(), Fail> {
-    let alloc = rt.alloc();
+// As many spaces as a run reads, and one more than a script may have.
+fn many_spaces(alloc: Global) -> Result<Vec<u8>, AllocError> {
     let mut bytes = Vec::new(alloc);
     for _i in 0..1_048_577 {
         bytes.push(b' ')?;
     }
-    expect_refusal(&rt, alloc, &bytes, 0)?;
-    let mut endless = EndlessReader { calls: 0 };
-    let mut source = ReaderSource::new(&mut endless);
-    let mut page = Page::with_room(alloc, 0)?;
-    let turns = words(alloc, &["turns"])?;
-    let status = run_program(alloc, &turns, &mut source, &mut page);
-    assert_eq!(rt; status, 1);
-    assert_eq!(rt;
-        page.text.as_slice(),
-        b"lwkt_run: fault 33 at 0\n".as_slice()
-    );
-    assert_eq!(rt; endless.calls, 1_048_577);
-    Ok(())
+    Ok(bytes)
 }
 
-// A reader of one byte a call, which fails at each call in turn; call 0 is none.
-#[test]
-fn failing_reads(rt: HostRuntime) -> Result<(), Fail> {
-    let alloc = rt.alloc();
-    let last = TALLY_ADD.len().saturating_add(1);
-    for bad in 0..last.saturating_add(2) {
-        let mut reader = OneByte {
-            text: TALLY_ADD.as_bytes(),
-            at: 0,
-            calls: 0,
-            bad,
-            kind: io::ErrorKind::BrokenPipe,
-        };
-        let mut source = ReaderSource::new(&mut reader);
-        let mut page = Page::with_room(alloc, 0)?;
-        let turns = words(alloc, &["turns"])?;
-        let status = run_program(alloc, &turns, &mut source, &mut page);
-        let fails = bad > 0 && bad <= last;
-        let (want, text) = if fails {
-            (3, STREAM)
-        } else {
-            (0, TALLY_REPORT)
-        };
-        assert_eq!(rt; status, want, "at call {bad}");
-        assert_eq!(rt; page.text.as_slice(), text, "at call {bad}");
-        // The failed call is not made again.
-        let calls = if fails { bad } else { last };
-        assert_eq!(rt; reader.calls, calls, "at call {bad}");
+fn are_spaces_refused(alloc: Global) -> bool {
+    match many_spaces(alloc) {
+        Ok(bytes) => is_refused_with(alloc, &bytes, AT_ITS_BEGINNING),
+        Err(_) => false,
     }
-    Ok(())
+}
+
+// Whether a run reads no more than that from a reader without an end.
+fn is_endless_refused(alloc: Global) -> bool {
+    let mut endless = EndlessReader { calls: 0 };
+    let mut source = ReaderSource::new(&mut endless);
+    let Ok(mut page) = Page::with_room(alloc, 0) else {
+        return false;
+    };
+    let status = run_of(alloc, &mut source, &mut page);
+    status == 1 && endless.calls == 1_048_577 && page.text.as_slice() == AT_ITS_BEGINNING.as_bytes()
+}
+
+#[test]
+fn spaces(rt: HostRuntime) {
+    assert!(rt; are_spaces_refused(rt.alloc()));
+    assert!(rt; is_endless_refused(rt.alloc()));
+}
+
+// The status and the output of a run of TALLY_ADD from this reader.
+fn ran_from(alloc: Global, reader: &mut OneByte<'_>) -> Option<(u8, Vec<u8>)> {
+    let mut source = ReaderSource::new(reader);
+    let mut page = Page::with_room(alloc, 0).ok()?;
+    let status = run_of(alloc, &mut source, &mut page);
+    Some((status, page.text))
+}
+
+// Whether a run from a reader that fails at this call is right; call 0 is none. The failed call is not made again.
+fn fails_from(alloc: Global, bad: usize) -> bool {
+    let last = TALLY_ADD.len() + 1;
+    let mut reader = OneByte::new(TALLY_ADD.as_bytes(), bad, io::ErrorKind::BrokenPipe);
+    let Some((status, text)) = ran_from(alloc, &mut reader) else {
+        return false;
+    };
+    if bad > 0 && bad <= last {
+        return status == 3 && reader.calls == bad && text.as_slice() == STREAM;
+    }
+    status == 0 && reader.calls == last && text.as_slice() == TALLY_REPORT
+}
+
+// A reader of one byte a call, which fails at each call in turn.
+#[test]
+fn failing_reads(rt: HostRuntime) {
+    for bad in 0..TALLY_ADD.len() + 3 {
+        assert!(rt; fails_from(rt.alloc(), bad), "at call {bad}");
+    }
 }
 
 // The status and the output of a run to a writer of one byte a call, which fails at the calls `bad` to `last_bad`.
-fn ran_to_frail(
-    alloc: Global,
-    script: &[u8],
-    bad: usize,
-    last_bad: usize,
-) -> Result<(u8, Vec<u8>), AllocError> {
+fn ran_to_frail(alloc: Global, script: &[u8], bad: usize, last_bad: usize) -> (u8, Vec<u8>) {
     let mut source = script;
-    let mut writer = Frail {
-        got: Vec::new(alloc),
-        calls: 0,
-        bad,
-        last_bad,
-        takes: 1,
-    };
+    let mut writer = Frail::new(alloc, bad, last_bad, 1);
     let mut sink = WriterSink::new(&mut writer);
-    let turns = words(alloc, &["turns"])?;
-    let status = run_program(alloc, &turns, &mut source, &mut sink);
-    Ok((status, writer.got))
+    let status = run_of(alloc, &mut source, &mut sink);
+    (status, writer.got)
+}
+
+// Whether the text is a front of the report, and then this line.
+fn is_front_and_line(text: &[u8], length: usize, line: &[u8]) -> bool {
+    text.len() >= length && TALLY_REPORT.starts_with(&text[..length]) && &text[length..] == line
+}
+
+// Whether a run to a writer that fails at this call alone is right.
+fn fails_once(alloc: Global, bad: usize) -> bool {
+    let (status, text) = ran_to_frail(alloc, TALLY_ADD.as_bytes(), bad, bad);
+    if bad > 0 && bad <= TALLY_REPORT.len() + 1 {
+        return status == 3 && is_front_and_line(&text, bad - 1, STREAM);
+    }
+    status == 0 && text.as_slice() == TALLY_REPORT
+}
+
+// Whether a run to a writer that fails from this call on is right.
+fn fails_for_good(alloc: Global, bad: usize) -> bool {
+    let (status, text) = ran_to_frail(alloc, TALLY_ADD.as_bytes(), bad, usize::MAX);
+    let want = if bad > TALLY_REPORT.len() + 1 { 0 } else { 3 };
+    status == want && TALLY_REPORT.starts_with(text.as_slice())
 }
 
 // A writer that fails at each call in turn, and then works again, or not; call 0 is none, the last is the flush.
 #[test]
-fn failing_writes(rt: HostRuntime) -> Result<(), Fail> {
-    let alloc = rt.alloc();
-    let last = TALLY_REPORT.len().saturating_add(1);
-    for bad in 0..last.saturating_add(2) {
-        let fails = bad > 0 && bad <= last;
-        let want = if fails { 3 } else { 0 };
-        let front = if fails {
-            bad.saturating_sub(1)
-        } else {
-            TALLY_REPORT.len()
-        };
-        let (status, text) = ran_to_frail(alloc, TALLY_ADD.as_bytes(), bad, bad)?;
-        assert_eq!(rt; status, want, "at call {bad}");
-        assert!(rt; text.len() >= front, "at call {bad}");
-        let line = if fails { STREAM } else { b"".as_slice() };
-        assert!(rt; TALLY_REPORT.starts_with(&text[..front]), "at call {bad}");
-        assert_eq!(rt; &text[front..], line, "at call {bad}");
-        let (status, text) = ran_to_frail(alloc, TALLY_ADD.as_bytes(), bad, usize::MAX)?;
-        assert_eq!(rt;
-            status,
-            if bad > last { 0 } else { 3 },
-            "from call {bad} on"
-        );
-        assert!(rt;
-            TALLY_REPORT.starts_with(text.as_slice()),
-            "from call {bad} on"
-        );
+fn failing_writes(rt: HostRuntime) {
+    for bad in 0..TALLY_REPORT.len() + 3 {
+        assert!(rt; fails_once(rt.alloc(), bad), "at call {bad}");
+        assert!(rt; fails_for_good(rt.alloc(), bad), "from call {bad} on");
     }
-    Ok(())
 }
 
-// Where the line in place of a report can't be written, the status stays.
+// Whether the status stays where the line in place of a report can't be written from this call on.
+fn fails_in_line(alloc: Global, bad: usize) -> bool {
+    let (status, text) = ran_to_frail(alloc, b"{", bad, usize::MAX);
+    status == 1
+        && text.len() == bad.saturating_sub(1)
+        && AT_ITS_BEGINNING.as_bytes().starts_with(text.as_slice())
+}
+
 #[test]
-fn failing_lines(rt: HostRuntime) -> Result<(), Fail> {
-    let alloc = rt.alloc();
-    let line = b"lwkt_run: fault 33 at 0\n".as_slice();
-    for bad in 1..line.len().saturating_add(2) {
-        let (status, text) = ran_to_frail(alloc, b"{", bad, usize::MAX)?;
-        assert_eq!(rt; status, 1, "from call {bad} on");
-        assert_eq!(rt; text.len(), bad.saturating_sub(1));
-        assert!(rt; line.starts_with(text.as_slice()), "from call {bad} on");
+fn failing_lines(rt: HostRuntime) {
+    for bad in 1..AT_ITS_BEGINNING.len() + 2 {
+        assert!(rt; fails_in_line(rt.alloc(), bad), "from call {bad} on");
     }
-    Ok(())
 }

@@ -1,0 +1,375 @@
+//! Seats at a bank with the lists of what they hold, and tables of calls on them.
+ghost use Rattle.std.specs.Prelude.{◌≡◌, ◌≢◌, ◌↔◌, ◌+◌, ◌<◌, true, [], ◌∷◌, ◌++◌, length, map, All, None, Some, IsTrue, IfSome, IfOk};
+ghost use Rattle.lwkt_base.specs.Refs.{first_mode};
+ghost use Rattle.lwkt_bank.specs.Seats.{id_of, tokens_of, cpus_of};
+ghost use Rattle.lwkt_bank_rows.specs.Desks.{Sits, MayGive};
+
+use lwkt_bank::banks::Bank;
+use lwkt_bank::closed::Closed;
+use lwkt_bank::laws::{calls_change_holdings, references_are_counted};
+use lwkt_bank::seats::CpuSeat;
+use lwkt_bank::tries::{Given, Try};
+use lwkt_base::list_laws::{acquiring_adds, lists_are_held, releasing_removes};
+use lwkt_base::lists::LIST_LIMIT;
+use lwkt_base::{Fault, Mode, Ref, TokId, TokList, TokSpec};
+use std::alloc::{AllocError, Global};
+
+/// A seat, and the references that it holds.
+#[derive(Drop)]
+pub struct Desk {
+    pub seat: CpuSeat,
+    pub refs: TokList,
+}
+
+/// A call on a token.
+#[derive(Clone, Copy)]
+pub enum Ask {
+    Word,
+    /// A try, and whether the list has no reference to another token.
+    Take(Mode, bool),
+    Again,
+    Mark,
+    Load(u8),
+    Store(u8, u64),
+    Add(u64),
+    Give,
+}
+
+/// What a call answered.
+#[derive(Clone, Copy, Debug, PartialEq, Eq)]
+pub enum Told {
+    Word(u64),
+    Tried(Try),
+    Value(u64),
+    Done,
+    Refused(Fault),
+    Given(Given),
+    /// There is no such seat, token or cell, or a condition of the call isn't met.
+    Unfit,
+}
+
+/// A call by the seat of this processor on this token, and the answer that is wanted.
+#[derive(Clone, Copy)]
+pub struct Line(pub usize, pub u8, pub Ask, pub Told);
+
+/// Why a table wasn't played to its end.
+#[derive(Debug, Drop)]
+pub enum Miss {
+    Fault(Fault),
+    /// Another answer than was wanted.
+    Line { at: usize, told: Told },
+    /// A seat holds a token after the last call.
+    Held,
+    /// Other closing values of this token.
+    End { tok: usize },
+}
+
+// A reference more at the end of a list that has room for it.
+fn push(refs: &mut TokList, new: Ref)
+    requires free { new.mode ≡ Mode.Exclusive → first_mode refs.old new.tok.0 ≢ Some Mode.Shared }
+    requires few { length refs.old < 32 }
+    ensures { refs.new ≡ refs.old ++ new ∷ [] }
+{
+    let _ = refs.push(new);
+}
+
+fn take(bank: &Bank, seat: &mut CpuSeat, refs: &mut TokList, new: Ref, alone: bool) -> Try
+    requires sits { Sits (id_of bank.now) seat.old refs.old }
+    requires there { new.tok.0 < tokens_of (id_of bank.now) }
+    requires free { first_mode refs.old new.tok.0 ≡ None }
+    requires few { length refs.old < 32 }
+    ensures { Sits (id_of bank.now) seat.new refs.new }
+{
+    lists_are_held();
+    acquiring_adds();
+    calls_change_holdings();
+    references_are_counted();
+    match seat.try_take(bank, new.tok, new.mode, alone) {
+        Try::Got { generation } => {
+            push(refs, new);
+            Try::Got { generation }
+        }
+        Try::Busy { word } => Try::Busy { word },
+        Try::Again => Try::Again,
+        Try::Worn => Try::Worn,
+    }
+}
+
+fn again(bank: &Bank, seat: &mut CpuSeat, refs: &mut TokList, tok: TokId)
+    requires sits { Sits (id_of bank.now) seat.old refs.old }
+    requires there { tok.0 < tokens_of (id_of bank.now) }
+    requires held { first_mode refs.old tok.0 ≢ None }
+    requires few { length refs.old < 32 }
+    ensures { Sits (id_of bank.now) seat.new refs.new }
+{
+    lists_are_held();
+    acquiring_adds();
+    calls_change_holdings();
+    references_are_counted();
+    seat.again(bank, tok);
+    let mode = Mode::Shared;
+    push(refs, Ref { tok, mode });
+}
+
+// Whether a reference may be given back.
+fn may_give(bank: &Bank, seat: &mut CpuSeat, refs: &TokList, tok: TokId) -> bool
+    requires sits { Sits (id_of bank.now) seat.old refs.now }
+    requires there { tok.0 < tokens_of (id_of bank.now) }
+    ensures sits { Sits (id_of bank.now) seat.new refs.now }
+    ensures may { result ≡ true → MayGive seat.new tok.0 }
+{
+    lists_are_held();
+    calls_change_holdings();
+    match refs.mode(tok) {
+        None => false,
+        Some(Mode::Shared) => true,
+        Some(Mode::Exclusive) => seat.lawful(bank, tok),
+    }
+}
+
+fn give(bank: &Bank, seat: &mut CpuSeat, refs: &mut TokList, tok: TokId) -> Option<Given>
+    requires sits { Sits (id_of bank.now) seat.old refs.old }
+    requires there { tok.0 < tokens_of (id_of bank.now) }
+    requires may { MayGive seat.old tok.0 }
+    ensures { Sits (id_of bank.now) seat.new refs.new }
+{
+    acquiring_adds();
+    releasing_removes();
+    calls_change_holdings();
+    references_are_counted();
+    match refs.pop(tok) {
+        Ok(_) => Some(seat.give(bank, tok)),
+        Err(_) => None,
+    }
+}
+
+fn load(bank: &Bank, seat: &mut CpuSeat, refs: &TokList, tok: TokId, cell: u8) -> Told
+    requires sits { Sits (id_of bank.now) seat.old refs.now }
+    requires there { tok.0 < tokens_of (id_of bank.now) }
+    ensures { Sits (id_of bank.now) seat.new refs.now }
+{
+    lists_are_held();
+    calls_change_holdings();
+    if refs.mode(tok).is_none() || cell as usize >= bank.cells(tok) {
+        return Told::Unfit;
+    }
+    Told::Value(seat.load(bank, tok, cell))
+}
+
+fn store(bank: &Bank, seat: &mut CpuSeat, refs: &TokList, tok: TokId, cell: u8, value: u64) -> Told
+    requires sits { Sits (id_of bank.now) seat.old refs.now }
+    requires there { tok.0 < tokens_of (id_of bank.now) }
+    ensures { Sits (id_of bank.now) seat.new refs.now }
+{
+    lists_are_held();
+    calls_change_holdings();
+    if refs.mode(tok) != Some(Mode::Exclusive) || cell as usize >= bank.cells(tok) {
+        return Told::Unfit;
+    }
+    match seat.store(bank, tok, cell, value) {
+        Ok(()) => Told::Done,
+        Err(fault) => Told::Refused(fault),
+    }
+}
+
+fn add(bank: &Bank, seat: &mut CpuSeat, refs: &TokList, tok: TokId, k: u64) -> Told
+    requires sits { Sits (id_of bank.now) seat.old refs.now }
+    requires there { tok.0 < tokens_of (id_of bank.now) }
+    ensures { Sits (id_of bank.now) seat.new refs.now }
+{
+    lists_are_held();
+    calls_change_holdings();
+    if refs.mode(tok) != Some(Mode::Exclusive) {
+        return Told::Unfit;
+    }
+    match seat.add(bank, tok, k) {
+        Ok(sum) => Told::Value(sum),
+        Err(fault) => Told::Refused(fault),
+    }
+}
+
+fn word(bank: &Bank, seat: &mut CpuSeat, refs: &TokList, tok: TokId) -> u64
+    requires sits { Sits (id_of bank.now) seat.old refs.now }
+    requires there { tok.0 < tokens_of (id_of bank.now) }
+    ensures { Sits (id_of bank.now) seat.new refs.now }
+{
+    calls_change_holdings();
+    seat.word(bank, tok)
+}
+
+fn mark(bank: &Bank, seat: &mut CpuSeat, refs: &TokList, tok: TokId) -> Told
+    requires sits { Sits (id_of bank.now) seat.old refs.now }
+    requires there { tok.0 < tokens_of (id_of bank.now) }
+    ensures { Sits (id_of bank.now) seat.new refs.now }
+{
+    calls_change_holdings();
+    seat.mark(bank, tok);
+    Told::Done
+}
+
+// A try, where the list has room for a reference and none to this token.
+fn ask_take(bank: &Bank, desk: &mut Desk, new: Ref, alone: bool) -> Told
+    requires sits { Sits (id_of bank.now) desk.old.seat desk.old.refs }
+    requires there { new.tok.0 < tokens_of (id_of bank.now) }
+    ensures { Sits (id_of bank.now) desk.new.seat desk.new.refs }
+{
+    if desk.refs.mode(new.tok).is_some() || desk.refs.len() == LIST_LIMIT {
+        return Told::Unfit;
+    }
+    Told::Tried(take(bank, &mut desk.seat, &mut desk.refs, new, alone))
+}
+
+fn ask_again(bank: &Bank, desk: &mut Desk, tok: TokId) -> Told
+    requires sits { Sits (id_of bank.now) desk.old.seat desk.old.refs }
+    requires there { tok.0 < tokens_of (id_of bank.now) }
+    ensures { Sits (id_of bank.now) desk.new.seat desk.new.refs }
+{
+    if desk.refs.mode(tok).is_none() || desk.refs.len() == LIST_LIMIT {
+        return Told::Unfit;
+    }
+    again(bank, &mut desk.seat, &mut desk.refs, tok);
+    Told::Done
+}
+
+fn ask_give(bank: &Bank, desk: &mut Desk, tok: TokId) -> Told
+    requires sits { Sits (id_of bank.now) desk.old.seat desk.old.refs }
+    requires there { tok.0 < tokens_of (id_of bank.now) }
+    ensures { Sits (id_of bank.now) desk.new.seat desk.new.refs }
+{
+    if !may_give(bank, &mut desk.seat, &desk.refs, tok) {
+        return Told::Unfit;
+    }
+    match give(bank, &mut desk.seat, &mut desk.refs, tok) {
+        Some(given) => Told::Given(given),
+        None => Told::Unfit,
+    }
+}
+
+// A call that leaves what is held.
+fn ask_kept(bank: &Bank, desk: &mut Desk, tok: TokId, ask: Ask) -> Told
+    requires sits { Sits (id_of bank.now) desk.old.seat desk.old.refs }
+    requires there { tok.0 < tokens_of (id_of bank.now) }
+    ensures { Sits (id_of bank.now) desk.new.seat desk.new.refs }
+{
+    let seat = &mut desk.seat;
+    let refs = &desk.refs;
+    match ask {
+        Ask::Word => Told::Word(word(bank, seat, refs, tok)),
+        Ask::Mark => mark(bank, seat, refs, tok),
+        Ask::Load(cell) => load(bank, seat, refs, tok, cell),
+        Ask::Store(cell, value) => store(bank, seat, refs, tok, cell, value),
+        Ask::Add(k) => add(bank, seat, refs, tok, k),
+        Ask::Take(_, _) | Ask::Again | Ask::Give => Told::Unfit,
+    }
+}
+
+/// The answer of a call. Where a condition of the call isn't met, no call is made.
+pub fn call(bank: &Bank, desk: &mut Desk, tok: TokId, ask: Ask) -> Told
+    requires { Sits (id_of bank.now) desk.old.seat desk.old.refs }
+    ensures { Sits (id_of bank.now) desk.new.seat desk.new.refs }
+{
+    if tok.0 as usize >= bank.tokens() {
+        return Told::Unfit;
+    }
+    match ask {
+        Ask::Take(mode, alone) => ask_take(bank, desk, Ref { tok, mode }, alone),
+        Ask::Again => ask_again(bank, desk, tok),
+        Ask::Give => ask_give(bank, desk, tok),
+        _ => ask_kept(bank, desk, tok, ask),
+    }
+}
+
+fn tell(bank: &Bank, desks: &mut Vec<Desk>, line: Line) -> Told
+    requires { All (λ d. Sits (id_of bank.now) d.seat d.refs) desks.old.items }
+    ensures sit { All (λ d. Sits (id_of bank.now) d.seat d.refs) desks.new.items }
+    ensures as_many { length desks.new.items ≡ length desks.old.items }
+{
+    match desks.get_mut(line.0) {
+        Some(desk) => call(bank, desk, TokId(line.1), line.2),
+        None => Told::Unfit,
+    }
+}
+
+// Makes the calls of a table, up to the first that answers otherwise than is wanted.
+fn play_lines(bank: &Bank, desks: &mut Vec<Desk>, lines: &[Line]) -> Result<(), Miss>
+    requires { All (λ d. Sits (id_of bank.now) d.seat d.refs) desks.old.items }
+    ensures sit { All (λ d. Sits (id_of bank.now) d.seat d.refs) desks.new.items }
+    ensures as_many { length desks.new.items ≡ length desks.old.items }
+{
+    for (at, line) in lines.iter().enumerate() {
+        let told = tell(bank, desks, *line);
+        if told != line.3 {
+            return Err(Miss::Line { at, told });
+        }
+    }
+    Ok(())
+}
+
+fn desks_of(alloc: Global, seats: Vec<CpuSeat>) -> Result<Vec<Desk>, AllocError>
+    ensures { IfOk result (λ desks. desks.items ≡ map (λ s. record { seat = s; refs = [] }) seats.items) }
+{
+    seats
+        .into_iter()
+        .map(|seat| Desk {
+            seat,
+            refs: TokList::new(),
+        })
+        .collect(alloc)
+}
+
+fn seats_of(alloc: Global, desks: Vec<Desk>) -> Result<Vec<CpuSeat>, AllocError>
+    ensures { IfOk result (λ seats. seats.items ≡ map (λ d. d.seat) desks.items) }
+{
+    desks.into_iter().map(|desk| desk.seat).collect(alloc)
+}
+
+fn are_empty(desks: &[Desk]) -> bool
+    ensures { IsTrue result ↔ All (λ d. d.refs ≡ []) desks.now }
+{
+    desks.iter().all(|desk| desk.refs.is_empty())
+}
+
+/// A bank of these tokens, and a desk for each processor.
+pub fn open(alloc: Global, tokens: &[TokSpec], cpus: usize) -> Result<(Bank, Vec<Desk>), Fault>
+    ensures sit { IfOk result (λ opened. All (λ d. Sits (id_of opened.0) d.seat d.refs) opened.1.items) }
+    ensures as_many { IfOk result (λ opened. length opened.1.items ≡ cpus_of opened.0) }
+{
+    references_are_counted();
+    let (bank, seats) = Bank::open(alloc, tokens, cpus)?;
+    let desks = desks_of(alloc, seats).map_err(|_| Fault::Memory)?;
+    Ok((bank, desks))
+}
+
+/// The seat of a desk that holds nothing.
+pub fn seat_of(desk: Desk) -> Option<CpuSeat>
+    ensures { IfSome result (λ s. (s ≡ desk.seat) × (desk.refs ≡ [])) }
+{
+    if !desk.refs.is_empty() {
+        return None;
+    }
+    Some(desk.seat)
+}
+
+/// The closing values of a bank whose desks hold nothing.
+pub fn close(alloc: Global, bank: Bank, desks: Vec<Desk>) -> Result<Closed, Miss>
+    requires sit { All (λ d. Sits (id_of bank) d.seat d.refs) desks.items }
+    requires as_many { length desks.items ≡ cpus_of bank }
+{
+    if !are_empty(&desks) {
+        return Err(Miss::Held);
+    }
+    let seats = seats_of(alloc, desks).map_err(|_| Miss::Fault(Fault::Memory))?;
+    bank.close(alloc, seats).map_err(Miss::Fault)
+}
+
+/// The closing values after a table of calls on a bank of these tokens.
+pub fn play(
+    alloc: Global,
+    tokens: &[TokSpec],
+    cpus: usize,
+    lines: &[Line],
+) -> Result<Closed, Miss> {
+    let (bank, mut desks) = open(alloc, tokens, cpus).map_err(Miss::Fault)?;
+    play_lines(&bank, &mut desks, lines)?;
+    close(alloc, bank, desks)
+}

@@ -1,0 +1,417 @@
+//! The message book: the worked rows as tables of calls, and two threads.
+ghost use Rattle.std.specs.Prelude.{◌≡◌, ◌≤◌, IfSome, IfOk, [], ◌∷◌};
+ghost use Rattle.lwkt_msg.specs.Desks.{AreSeats};
+
+use lwkt_base::{Call, CpuId, Fault, Flags, MsgEnd, MsgId, MsgSpec, Owner, Rec, ThreadId};
+use lwkt_msg::{MsgBook, MsgSeat, Reaped, Taken};
+use std::alloc::{AllocError, Global};
+use std::process::Abort;
+use std::thread;
+use std::thread::Threads;
+
+const TRIES: u32 = 100_000_000;
+
+const ROUNDS: u64 = 1000;
+
+const LAST_ROUND: u64 = 2_251_799_813_685_247;
+
+const FIRST_MESSAGE: MsgId = MsgId(0);
+
+const NO_FLAGS: Flags = Flags {
+    dropable: false,
+    abortable: false,
+};
+
+// A call: a send of a message, or what is done with message 0.
+#[derive(Clone, Copy)]
+enum Ask {
+    /// The message, its target and what it asks for.
+    Send(MsgId, CpuId, Call),
+    /// The round.
+    Take(u64),
+    /// The error and the result.
+    Reply(u32, u64),
+    /// The round.
+    Reap(u64),
+}
+
+// What a call answered.
+#[derive(Clone, Copy, Debug, PartialEq, Eq)]
+enum Told {
+    Sent(u64),
+    Taken(Taken),
+    Replied,
+    Reaped(Reaped),
+    Refused(Fault),
+    /// There is no message 0, or no such processor.
+    Unfit,
+}
+
+fn send(book: &MsgBook, seat: &mut MsgSeat, msg: MsgId, to: CpuId, call: Call) -> Told
+    requires { seat.old.table ≡ book.now.table }
+    ensures { seat.new.table ≡ seat.old.table }
+{
+    if to.0 as usize >= seat.cpus() {
+        return Told::Unfit;
+    }
+    match seat.send(book, msg, to, call, NO_FLAGS, false) {
+        Ok(round) => Told::Sent(round),
+        Err(fault) => Told::Refused(fault),
+    }
+}
+
+fn reply(book: &MsgBook, seat: &mut MsgSeat, error: u32, outcome: u64) -> Told
+    requires { seat.old.table ≡ book.now.table }
+    ensures { seat.new.table ≡ seat.old.table }
+{
+    match seat.reply(book, FIRST_MESSAGE, error, outcome) {
+        Ok(()) => Told::Replied,
+        Err(fault) => Told::Refused(fault),
+    }
+}
+
+// The answer of a call. Where a condition of the call isn't met, no call is made.
+fn call(book: &MsgBook, seat: &mut MsgSeat, ask: Ask) -> Told
+    requires { seat.old.table ≡ book.now.table }
+    ensures { seat.new.table ≡ seat.old.table }
+{
+    if seat.messages() == 0 {
+        return Told::Unfit;
+    }
+    match ask {
+        Ask::Send(msg, to, call) => send(book, seat, msg, to, call),
+        Ask::Take(round) => Told::Taken(seat.take(book, FIRST_MESSAGE, round)),
+        Ask::Reply(error, outcome) => reply(book, seat, error, outcome),
+        Ask::Reap(round) => Told::Reaped(seat.reap(book, FIRST_MESSAGE, round)),
+    }
+}
+
+// A book of two processors with a message of this processor in this round.
+fn opened(alloc: Global, cpu: u8, round: u64) -> Result<(MsgBook, Vec<MsgSeat>), Fault>
+    ensures two { IfOk result (λ r. r.0.cpus ≡ 2) }
+    ensures seats { IfOk result (λ r. AreSeats 2 r.0 r.1.items) }
+{
+    let cpu = CpuId(cpu);
+    let origin = ThreadId { cpu, thread: 0 };
+    MsgBook::open(alloc, &[MsgSpec { round, origin }], 2)
+}
+
+// The two seats of a book of two processors.
+fn both(mut seats: Vec<MsgSeat>, book: &MsgBook) -> Option<(MsgSeat, MsgSeat)>
+    requires { AreSeats 2 book.now seats.items }
+    ensures { IfSome result (λ p. (p.0.table ≡ book.now.table) × (p.1.table ≡ book.now.table)) }
+{
+    let second = seats.pop()?;
+    let first = seats.pop()?;
+    Some((first, second))
+}
+
+// A list of two seats.
+fn list_of(alloc: Global, first: MsgSeat, second: MsgSeat) -> Result<Vec<MsgSeat>, AllocError>
+    ensures { IfOk result (λ v. v.items ≡ first ∷ second ∷ []) }
+{
+    let mut seats = Vec::new(alloc);
+    seats.push(first)?;
+    seats.push(second)?;
+    Ok(seats)
+}
+
+// Whether the book's one message ends so.
+fn ends_as(alloc: Global, book: MsgBook, first: MsgSeat, second: MsgSeat, end: MsgEnd) -> bool
+    requires two { book.cpus ≡ 2 }
+    requires first { first.table ≡ book.table }
+    requires second { second.table ≡ book.table }
+{
+    let Ok(seats) = list_of(alloc, first, second) else {
+        return false;
+    };
+    match book.close(alloc, seats) {
+        Ok(ends) => ends.as_slice() == [end].as_slice(),
+        Err(_) => false,
+    }
+}
+
+// A call by the seat of this processor, and the answer that is wanted.
+#[derive(Clone, Copy)]
+struct Line(usize, Ask, Told);
+
+// The message's round at the opening, calls with their answers, and the message at the end.
+struct Played {
+    round: u64,
+    lines: &'static [Line],
+    end: MsgEnd,
+}
+
+// Why a table wasn't played to its end.
+#[derive(Debug, Drop)]
+enum Miss {
+    Fault(Fault),
+    /// There are other seats, messages or processors.
+    Seats,
+    /// Another answer than was wanted.
+    Line { at: usize, told: Told },
+    /// Another end.
+    End,
+}
+
+fn tell(book: &MsgBook, first: &mut MsgSeat, second: &mut MsgSeat, line: Line) -> Told
+    requires first { first.old.table ≡ book.now.table }
+    requires second { second.old.table ≡ book.now.table }
+    ensures first { first.new.table ≡ first.old.table }
+    ensures second { second.new.table ≡ second.old.table }
+{
+    if line.0 == 0 {
+        call(book, first, line.1)
+    } else {
+        call(book, second, line.1)
+    }
+}
+
+// Makes the calls of a table, up to the first that answers otherwise.
+fn play_lines(
+    book: &MsgBook,
+    first: &mut MsgSeat,
+    second: &mut MsgSeat,
+    lines: &[Line],
+) -> Result<(), Miss>
+    requires first { first.old.table ≡ book.now.table }
+    requires second { second.old.table ≡ book.now.table }
+    ensures first { first.new.table ≡ first.old.table }
+    ensures second { second.new.table ≡ second.old.table }
+{
+    for (at, line) in lines.iter().enumerate() {
+        let told = tell(book, first, second, *line);
+        if told != line.2 {
+            return Err(Miss::Line { at, told });
+        }
+    }
+    Ok(())
+}
+
+fn play_row(alloc: Global, row: &Played) -> Result<(), Miss> {
+    let (book, seats) = opened(alloc, 0, row.round).map_err(Miss::Fault)?;
+    let Some((mut first, mut second)) = both(seats, &book) else {
+        return Err(Miss::Seats);
+    };
+    if first.messages() != 1 || first.cpus() != 2 {
+        return Err(Miss::Seats);
+    }
+    play_lines(&book, &mut first, &mut second, row.lines)?;
+    if !ends_as(alloc, book, first, second, row.end) {
+        return Err(Miss::End);
+    }
+    Ok(())
+}
+
+// Fails where a row goes otherwise, and says where.
+fn expect(rt: &impl Abort, alloc: Global, row: &Played) {
+    let found = play_row(alloc, row);
+    assert!(rt; found.is_ok(), "{found:?}");
+}
+
+const ASKED: Call = Call { arg: 9, op: 5 };
+
+const STALE: Told = Told::Taken(Taken::Stale);
+
+const REST: Owner = Owner::Rest { origin: CpuId(0) };
+
+const BASICS_1_TO_4: Played = Played {
+    round: 0,
+    lines: &[
+        Line(0, Ask::Send(MsgId(0), CpuId(1), ASKED), Told::Sent(1)),
+        Line(1, Ask::Take(2), STALE),
+        Line(0, Ask::Take(1), STALE),
+        Line(
+            1,
+            Ask::Take(1),
+            Told::Taken(Taken::Took {
+                rec: Rec {
+                    arg: 9,
+                    result: 0,
+                    op: 5,
+                    error: 0,
+                },
+                aborted: false,
+            }),
+        ),
+        Line(0, Ask::Reply(1, 1), Told::Refused(Fault::NotTaken)),
+        Line(1, Ask::Reply(7, 42), Told::Replied),
+        Line(
+            0,
+            Ask::Reap(1),
+            Told::Reaped(Reaped::Done {
+                rec: Rec {
+                    arg: 9,
+                    result: 42,
+                    op: 5,
+                    error: 7,
+                },
+            }),
+        ),
+        Line(0, Ask::Reap(1), Told::Reaped(Reaped::Stale)),
+        Line(
+            1,
+            Ask::Send(MsgId(0), CpuId(0), ASKED),
+            Told::Refused(Fault::NotOwner),
+        ),
+        Line(
+            0,
+            Ask::Send(MsgId(5), CpuId(1), ASKED),
+            Told::Refused(Fault::NotOwner),
+        ),
+    ],
+    end: MsgEnd {
+        round: 1,
+        state: REST,
+    },
+};
+
+#[test]
+fn book_basics_1_to_4(rt: HostRuntime) {
+    expect(&rt, rt.alloc(), &BASICS_1_TO_4);
+}
+
+const BASICS_6: Played = Played {
+    round: LAST_ROUND,
+    lines: &[Line(
+        0,
+        Ask::Send(MsgId(0), CpuId(1), ASKED),
+        Told::Refused(Fault::RoundsOut),
+    )],
+    end: MsgEnd {
+        round: LAST_ROUND,
+        state: REST,
+    },
+};
+
+#[test]
+fn book_basics_6(rt: HostRuntime) {
+    expect(&rt, rt.alloc(), &BASICS_6);
+    assert!(rt; opened(rt.alloc(), 2, 0).err() == Some(Fault::Limits));
+}
+
+// The record of the message's reply in this round, once it is back.
+fn reply_of(book: &MsgBook, seat: &mut MsgSeat, round: u64) -> Option<Rec>
+    requires { seat.old.table ≡ book.now.table }
+    ensures { seat.new.table ≡ seat.old.table }
+{
+    for _ in 0..TRIES {
+        if let Told::Reaped(Reaped::Done { rec }) = call(book, seat, Ask::Reap(round)) {
+            return Some(rec);
+        }
+        thread::yield_now();
+    }
+    None
+}
+
+// The record of the message of this round, once it is taken.
+fn request_of(book: &MsgBook, seat: &mut MsgSeat, round: u64) -> Option<Rec>
+    requires { seat.old.table ≡ book.now.table }
+    ensures { seat.new.table ≡ seat.old.table }
+{
+    for _ in 0..TRIES {
+        if let Told::Taken(Taken::Took { rec, .. }) = call(book, seat, Ask::Take(round)) {
+            return Some(rec);
+        }
+        thread::yield_now();
+    }
+    None
+}
+
+// The record of a message whose argument is its round.
+fn record(round: u64, outcome: u64) -> Rec {
+    Rec {
+        arg: round,
+        result: outcome,
+        op: 5,
+        error: 0,
+    }
+}
+
+// Sends the message and reaps its reply, and says whether both were as they must be.
+fn converse_once(book: &MsgBook, seat: &mut MsgSeat, round: u64) -> bool
+    requires table { seat.old.table ≡ book.now.table }
+    requires small { round ≤ ROUNDS }
+    ensures { seat.new.table ≡ seat.old.table }
+{
+    let asked = Call { arg: round, op: 5 };
+    let sent = call(book, seat, Ask::Send(FIRST_MESSAGE, CpuId(1), asked));
+    sent == Told::Sent(round) && reply_of(book, seat, round) == Some(record(round, round + 1))
+}
+
+// Asks so often, and says how often all was as it must be.
+fn ask_all(book: &MsgBook, mut seat: MsgSeat) -> (MsgSeat, u64)
+    requires { seat.table ≡ book.now.table }
+    ensures { result.0.table ≡ seat.table }
+{
+    let mut good = 0;
+    for round in 1..ROUNDS + 1 {
+        if !converse_once(book, &mut seat, round) {
+            break;
+        }
+        good = round;
+    }
+    (seat, good)
+}
+
+// Takes the message and replies to it, and says whether both were as they must be.
+fn serve(book: &MsgBook, seat: &mut MsgSeat, round: u64) -> bool
+    requires table { seat.old.table ≡ book.now.table }
+    requires small { round ≤ ROUNDS }
+    ensures { seat.new.table ≡ seat.old.table }
+{
+    let request = request_of(book, seat, round);
+    let replied = call(book, seat, Ask::Reply(0, round + 1));
+    request == Some(record(round, 0)) && replied == Told::Replied
+}
+
+// Serves so often, and says how often all was as it must be.
+fn serve_all(book: &MsgBook, mut seat: MsgSeat) -> (MsgSeat, u64)
+    requires { seat.table ≡ book.now.table }
+    ensures { result.0.table ≡ seat.table }
+{
+    let mut good = 0;
+    for round in 1..ROUNDS + 1 {
+        if !serve(book, &mut seat, round) {
+            break;
+        }
+        good = round;
+    }
+    (seat, good)
+}
+
+// The seats after two threads, of which one asks and one serves, and how often each found all as it must be.
+fn converse<R: Threads + Sync>(
+    rt: &R,
+    book: &MsgBook,
+    first: MsgSeat,
+    second: MsgSeat,
+) -> ((MsgSeat, u64), (MsgSeat, u64))
+    requires first { first.table ≡ book.now.table }
+    requires second { second.table ≡ book.now.table }
+    ensures first { result.0.0.table ≡ book.now.table }
+    ensures second { result.1.0.table ≡ book.now.table }
+{
+    thread::join(rt, || ask_all(book, first), || serve_all(book, second))
+}
+
+const AFTER_ROUNDS: MsgEnd = MsgEnd {
+    round: ROUNDS,
+    state: REST,
+};
+
+fn has_conversed<R: Threads + Sync>(rt: &R, alloc: Global) -> bool {
+    let Ok((book, seats)) = opened(alloc, 0, 0) else {
+        return false;
+    };
+    let Some((first, second)) = both(seats, &book) else {
+        return false;
+    };
+    let ((first, asked), (second, served)) = converse(rt, &book, first, second);
+    asked == ROUNDS && served == ROUNDS && ends_as(alloc, book, first, second, AFTER_ROUNDS)
+}
+
+#[test]
+fn book_basics_9(rt: HostRuntime) {
+    assert!(rt; has_conversed(&rt, rt.alloc()));
+}

@@ -1,5 +1,0 @@
-use Rattle.lwkt_msg.specs.Desks.{IsSameDesk}
-use Rattle.lwkt_rows.proofs.book_rows.serve_all.Given as goal
-
-abbrev pub invariant-loop-round : goal.invariant-loop-round
-invariant-loop-round l = IsSameDesk l.fn.seat l.seat
