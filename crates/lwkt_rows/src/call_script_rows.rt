@@ -9,198 +9,187 @@ use std::alloc::Global;
 
 const STEPS: &str = "[\"get\",0],[\"add\",0,5],[\"rel\",0]";
 
-const NO_MESSAGES: &str = "\"messages\":[]";
+const NONE: &str = "\"messages\":[]";
 
 const MESSAGE: &str = "{\"of\":[0,0],\"round\":0}";
 
-// Where a script was refused.
-fn place_in(read: Result<Script, Fault>) -> Option<u32> {
+// Where a script was refused; 0 where it wasn't.
+fn place_in(read: Result<Script, Fault>) -> u32 {
     match read {
-        Err(Fault::Script { place }) => Some(place),
-        _ => None,
+        Err(Fault::Script { place }) => place,
+        _ => 0,
     }
 }
 
-// A part of TALLY_ADD, what stands in its place, where the script is refused, and where the reader for one processor
-// without messages refuses it.
-struct Changed(&'static str, &'static str, Option<u32>, Option<u32>);
+// Where `read_script` refuses the text.
+fn place_of(alloc: Global, text: &str) -> u32 {
+    place_in(read_script(alloc, text.as_bytes()))
+}
 
-impl Row for Changed {
+// What stands in a script, what in its place, and the place that `read_script` then finds, and that of the plain reader.
+struct Placed(&'static str, &'static str, u32, u32);
+
+impl Row for Placed {
     fn is_right(&self, alloc: Global) -> bool {
-        match changed(alloc, self.0, self.1) {
-            Some(text) => {
-                place_in(read_script(alloc, text.as_bytes())) == self.2
-                    && place_in(read_plain_script(alloc, text.as_bytes())) == self.3
-            }
-            None => false,
-        }
+        let Some(text) = changed(alloc, self.0, self.1) else {
+            return false;
+        };
+        place_of(alloc, text.as_str()) == self.2
+            && place_in(read_plain_script(alloc, text.as_bytes())) == self.3
     }
 }
 
-const MESSAGES: [Changed; 9] = [
-    Changed(
-        NO_MESSAGES,
+const BAD_PARTS: [Placed; 28] = [
+    Placed("\"cpus\":1", "\"cpus\":8", 0, 5),
+    Placed("\"cpus\":1", "\"cpus\":9", 5, 5),
+    Placed(
+        NONE,
         "\"messages\":[{\"of\":[0,15],\"round\":2251799813685247}]",
-        None,
-        Some(2000),
+        0,
+        2000,
     ),
-    Changed(
-        NO_MESSAGES,
+    Placed(
+        NONE,
         "\"messages\":[{\"of\":[0,16],\"round\":0}]",
-        Some(2000),
-        Some(2000),
+        2000,
+        2000,
     ),
-    Changed(
-        NO_MESSAGES,
+    Placed(
+        NONE,
         "\"messages\":[{\"of\":[1,0],\"round\":0}]",
-        Some(2000),
-        Some(2000),
+        2000,
+        2000,
     ),
-    Changed(
-        NO_MESSAGES,
-        "\"messages\":[{\"of\":[0],\"round\":0}]",
-        Some(2000),
-        Some(2000),
-    ),
-    Changed(
-        NO_MESSAGES,
+    Placed(NONE, "\"messages\":[{\"of\":[0],\"round\":0}]", 2000, 2000),
+    Placed(
+        NONE,
         "\"messages\":[{\"of\":[0,0,0],\"round\":0}]",
-        Some(2000),
-        Some(2000),
+        2000,
+        2000,
     ),
-    Changed(
-        NO_MESSAGES,
+    Placed(NONE, "\"messages\":[{\"of\":0,\"round\":0}]", 2000, 2000),
+    Placed(
+        NONE,
         "\"messages\":[{\"of\":[0,0],\"round\":2251799813685248}]",
-        Some(2000),
-        Some(2000),
+        2000,
+        2000,
     ),
-    Changed(
-        NO_MESSAGES,
+    Placed(
+        NONE,
         "\"messages\":[{\"of\":[0,0],\"round\":-0}]",
-        Some(2000),
-        Some(2000),
+        2000,
+        2000,
     ),
-    Changed(
-        NO_MESSAGES,
-        "\"messages\":[{\"of\":[0,0]}]",
-        Some(2000),
-        Some(2000),
+    Placed(NONE, "\"messages\":[{\"of\":[0,0]}]", 2000, 2000),
+    Placed(
+        NONE,
+        "\"messages\":[{\"of\":[0,0],\"round\":0},{}]",
+        2001,
+        2000,
     ),
-    Changed(
-        NO_MESSAGES,
-        "\"messages\":[{\"of\":[0,0],\"round\":0},{\"of\":0,\"round\":0}]",
-        Some(2001),
-        Some(2000),
-    ),
-];
-
-// How many messages a script has, and where it is refused.
-struct Counted(u32, Option<u32>);
-
-fn with_messages(alloc: Global, count: u32) -> Option<String> {
-    let mut list = String::from_str(alloc, "\"messages\":[").ok()?;
-    list.push_str(listed(alloc, MESSAGE, count)?.as_str()).ok()?;
-    list.push_str("]").ok()?;
-    changed(alloc, NO_MESSAGES, list.as_str())
-}
-
-impl Row for Counted {
-    fn is_right(&self, alloc: Global) -> bool {
-        match with_messages(alloc, self.0) {
-            Some(text) => place_in(read_script(alloc, text.as_bytes())) == self.1,
-            None => false,
-        }
-    }
-}
-
-#[test]
-fn bad_messages(rt: HostRuntime) {
-    play(&rt, rt.alloc(), &MESSAGES);
-    play(
-        &rt,
-        rt.alloc(),
-        &[Counted(64, None), Counted(65, Some(2064))],
-    );
-}
-
-// A step in place of the first one, and where the script is refused. The other reader knows none of them.
-struct Step(&'static str, Option<u32>);
-
-impl Row for Step {
-    fn is_right(&self, alloc: Global) -> bool {
-        Changed("\"get\",0", self.0, self.1, Some(100_000)).is_right(alloc)
-    }
-}
-
-const CALLS: [Step; 16] = [
-    Step(
+    Placed(
+        "\"get\",0",
         "\"send\",255,255,255,4294967295,18446744073709551615,3",
-        None,
+        0,
+        100_000,
     ),
-    Step("\"send\",0,0,0,1,1,4", Some(100_000)),
-    Step("\"send\",0,0,0,4294967296,1,0", Some(100_000)),
-    Step("\"send\",0,0,256,1,1,0", Some(100_000)),
-    Step("\"send\",0,0,0,1,1", Some(100_000)),
-    Step("\"send\",0,0,0,1,1,0,0", Some(100_000)),
-    Step("\"do\",0,1,0,5,9", None),
-    Step("\"do\",0,256,0,5,9", Some(100_000)),
-    Step("\"do\",0,1,0,5,9,0", Some(100_000)),
-    Step("\"do\",0,1,0,5,18446744073709551616", Some(100_000)),
-    Step("\"reply\",0,4294967295,18446744073709551615", None),
-    Step("\"reply\",0,4294967296,0", Some(100_000)),
-    Step("\"reply\",256,0,0", Some(100_000)),
-    Step("\"abort\",0", Some(100_000)),
-    Step("\"isab\",0", Some(100_000)),
-    Step("\"drop\",0", Some(100_000)),
+    Placed("\"get\",0", "\"send\",0,0,0,1,1,4", 100_000, 100_000),
+    Placed(
+        "\"get\",0",
+        "\"send\",0,0,0,4294967296,1,0",
+        100_000,
+        100_000,
+    ),
+    Placed("\"get\",0", "\"send\",0,0,256,1,1,0", 100_000, 100_000),
+    Placed("\"get\",0", "\"send\",0,0,0,1,1", 100_000, 100_000),
+    Placed("\"get\",0", "\"send\",0,0,0,1,1,0,0", 100_000, 100_000),
+    Placed("\"add\",0,5", "\"do\",0,1,0,5,9", 0, 100_001),
+    Placed("\"add\",0,5", "\"do\",0,256,0,5,9", 100_001, 100_001),
+    Placed("\"add\",0,5", "\"do\",0,1,0,5,9,0", 100_001, 100_001),
+    Placed(
+        "\"add\",0,5",
+        "\"do\",0,1,0,5,18446744073709551616",
+        100_001,
+        100_001,
+    ),
+    Placed(
+        "\"rel\",0",
+        "\"reply\",0,4294967295,18446744073709551615",
+        0,
+        100_002,
+    ),
+    Placed("\"rel\",0", "\"reply\",0,4294967296,0", 100_002, 100_002),
+    Placed("\"rel\",0", "\"reply\",256,0,0", 100_002, 100_002),
+    Placed("\"rel\",0", "\"abort\",0", 100_002, 100_002),
+    Placed("\"rel\",0", "\"isab\",0", 100_002, 100_002),
+    Placed("\"rel\",0", "\"drop\",0", 100_002, 100_002),
 ];
 
 #[test]
-fn bad_calls(rt: HostRuntime) {
-    play(&rt, rt.alloc(), &CALLS);
+fn bad_parts(rt: HostRuntime) {
+    play(&rt, rt.alloc(), &BAD_PARTS);
 }
 
-const PROCESSORS: [Changed; 4] = [
-    Changed("\"cpus\":1", "\"cpus\":1", None, None),
-    Changed("\"cpus\":1", "\"cpus\":8", None, Some(5)),
-    Changed("\"cpus\":1", "\"cpus\":9", Some(5), Some(5)),
-    Changed("\"cpus\":1", "\"cpus\":0", Some(5), Some(5)),
-];
-
-// The last thread of a script in which processor 0 has 16 threads and processor 1 has one, and where it is refused.
-struct Last(&'static str, Option<u32>);
-
-fn with_last(alloc: Global, last: &str) -> Option<String> {
-    let front =
-        "{\"version\":1,\"turns\":50,\"idle\":5,\"cpus\":2,\"tokens\":[],\"messages\":[],\"threads\":[";
+// Three texts, one behind the other.
+fn joined(alloc: Global, front: &str, middle: &str, back: &str) -> Option<String> {
     let mut text = String::from_str(alloc, front).ok()?;
-    text.push_str(listed(alloc, THREAD, 16)?.as_str()).ok()?;
-    text.push_str(",").ok()?;
-    text.push_str(OTHER).ok()?;
-    text.push_str(",").ok()?;
-    text.push_str(last).ok()?;
-    text.push_str("]}").ok()?;
+    text.push_str(middle).ok()?;
+    text.push_str(back).ok()?;
     Some(text)
 }
 
-impl Row for Last {
+// How often an item stands between two texts, and where that script is refused.
+struct Between(&'static str, u32, &'static str, &'static str, u32);
+
+impl Row for Between {
     fn is_right(&self, alloc: Global) -> bool {
-        match with_last(alloc, self.0) {
-            Some(text) => place_in(read_script(alloc, text.as_bytes())) == self.1,
+        let Some(items) = listed(alloc, self.0, self.1) else {
+            return false;
+        };
+        match joined(alloc, self.2, items.as_str(), self.3) {
+            Some(text) => place_of(alloc, text.as_str()) == self.4,
             None => false,
         }
     }
 }
 
-// A thread of processor 1 without steps.
-const OTHER: &str = "{\"cpu\":1,\"repeat\":1,\"steps\":[]}";
+// A script of two processors, to its messages and to its threads.
+const TO_MESSAGES: &str =
+    "{\"version\":1,\"turns\":50,\"idle\":5,\"cpus\":2,\"tokens\":[],\"messages\":[";
 
-// A thread's number is its place among those of its processor.
-const LASTS: [Last; 2] = [Last(OTHER, None), Last(THREAD, Some(3017))];
+const TO_THREADS: &str =
+    "{\"version\":1,\"turns\":50,\"idle\":5,\"cpus\":2,\"tokens\":[],\"messages\":[],\"threads\":[";
+
+// A thread's number is its place among those of its processor, of which there are at most 16.
+const BAD_COUNTS: [Between; 5] = [
+    Between(MESSAGE, 64, TO_MESSAGES, "],\"threads\":[]}", 0),
+    Between(MESSAGE, 65, TO_MESSAGES, "],\"threads\":[]}", 2064),
+    Between(
+        THREAD,
+        16,
+        TO_THREADS,
+        ",{\"cpu\":1,\"repeat\":1,\"steps\":[]}]}",
+        0,
+    ),
+    Between(
+        THREAD,
+        16,
+        TO_THREADS,
+        ",{\"cpu\":0,\"repeat\":1,\"steps\":[]}]}",
+        3016,
+    ),
+    Between(
+        THREAD,
+        16,
+        TO_THREADS,
+        ",{\"cpu\":1,\"repeat\":1,\"steps\":[]},{\"cpu\":0,\"repeat\":1,\"steps\":[]}]}",
+        3017,
+    ),
+];
 
 #[test]
-fn bad_processors(rt: HostRuntime) {
-    play(&rt, rt.alloc(), &PROCESSORS);
-    play(&rt, rt.alloc(), &LASTS);
+fn bad_counts(rt: HostRuntime) {
+    play(&rt, rt.alloc(), &BAD_COUNTS);
 }
 
 const TO: ThreadId = ThreadId {
@@ -210,64 +199,89 @@ const TO: ThreadId = ThreadId {
 
 const CALL: Call = Call { op: 4, arg: 5 };
 
-// A send of message 1 with these flags.
-const fn sent(dropable: bool, abortable: bool) -> Ask {
-    Ask::Send(
-        MsgId(1),
-        TO,
-        CALL,
-        Flags {
-            dropable,
-            abortable,
-        },
-    )
+const NEITHER: Flags = Flags {
+    dropable: false,
+    abortable: false,
+};
+
+const DROPABLE: Flags = Flags {
+    dropable: true,
+    abortable: false,
+};
+
+const ABORTABLE: Flags = Flags {
+    dropable: false,
+    abortable: true,
+};
+
+const BOTH: Flags = Flags {
+    dropable: true,
+    abortable: true,
+};
+
+// Whether a script has one thread with this one step.
+fn asks(script: &Script, want: Ask) -> bool {
+    match script.threads.as_slice().first() {
+        Some(thread) => thread.steps.as_slice() == [want].as_slice(),
+        None => false,
+    }
 }
 
-// The one step of a script, and what it reads as.
-struct Reads(&'static str, Ask);
+// A step, and what it reads as.
+struct Read(&'static str, Ask);
 
-impl Row for Reads {
+impl Row for Read {
     fn is_right(&self, alloc: Global) -> bool {
-        match changed(alloc, STEPS, self.0) {
-            Some(text) => match read_script(alloc, text.as_bytes()) {
-                Ok(script) => match script.threads.as_slice().first() {
-                    Some(thread) => thread.steps.as_slice() == [self.1].as_slice(),
-                    None => false,
-                },
-                Err(_) => false,
-            },
-            None => false,
+        let Some(text) = changed(alloc, STEPS, self.0) else {
+            return false;
+        };
+        match read_script(alloc, text.as_bytes()) {
+            Ok(script) => asks(&script, self.1),
+            Err(_) => false,
         }
     }
 }
 
+const EACH_CALL: [Read; 6] = [
+    Read(
+        "[\"send\",1,2,3,4,5,0]",
+        Ask::Send(MsgId(1), TO, CALL, NEITHER),
+    ),
+    Read(
+        "[\"send\",1,2,3,4,5,1]",
+        Ask::Send(MsgId(1), TO, CALL, DROPABLE),
+    ),
+    Read(
+        "[\"send\",1,2,3,4,5,2]",
+        Ask::Send(MsgId(1), TO, CALL, ABORTABLE),
+    ),
+    Read(
+        "[\"send\",1,2,3,4,5,3]",
+        Ask::Send(MsgId(1), TO, CALL, BOTH),
+    ),
+    Read("[\"do\",1,2,3,4,5]", Ask::Do(MsgId(1), TO, CALL)),
+    Read("[\"reply\",1,6,7]", Ask::Reply(MsgId(1), 6, 7)),
+];
+
 #[test]
 fn reads_each_call(rt: HostRuntime) {
-    let asks = [
-        Reads("[\"send\",1,2,3,4,5,0]", sent(false, false)),
-        Reads("[\"send\",1,2,3,4,5,1]", sent(true, false)),
-        Reads("[\"send\",1,2,3,4,5,2]", sent(false, true)),
-        Reads("[\"send\",1,2,3,4,5,3]", sent(true, true)),
-        Reads("[\"do\",1,2,3,4,5]", Ask::Do(MsgId(1), TO, CALL)),
-        Reads("[\"reply\",1,6,7]", Ask::Reply(MsgId(1), 6, 7)),
-    ];
-    play(&rt, rt.alloc(), &asks);
+    play(&rt, rt.alloc(), &EACH_CALL);
 }
 
-const CALLED: &[u8] =
-    b"{\"version\":1,\"turns\":50,\"idle\":5,\"cpus\":2,\"tokens\":[],\"messages\":[{\"of\":[1,3],\"round\":7}],\"threads\":[]}";
+const MESSAGE_OF_2_3: &[u8] =
+    b"{\"version\":1,\"turns\":50,\"idle\":5,\"cpus\":3,\"tokens\":[],\"messages\":[{\"of\":[2,3],\"round\":7}],\"threads\":[]}";
 
-#[test]
-fn reads_messages(rt: HostRuntime) -> Result<(), Fault> {
-    let script = read_script(rt.alloc(), CALLED)?;
+// Whether a script has three processors and the one message of that text.
+fn has_message(script: &Script) -> bool {
     let want = MsgSpec {
         round: 7,
-        origin: ThreadId {
-            cpu: CpuId(1),
-            thread: 3,
-        },
+        origin: TO,
     };
-    assert_eq!(rt; script.cpus, 2);
-    assert_eq!(rt; script.messages.as_slice(), [want].as_slice());
-    Ok(())
+    script.cpus == 3 && script.messages.as_slice() == [want].as_slice()
+}
+
+#[test]
+fn reads_messages(rt: HostRuntime) {
+    let script = read_script(rt.alloc(), MESSAGE_OF_2_3);
+    assert!(rt; script.is_ok_and(|script| has_message(&script)));
 }
