@@ -1,4 +1,4 @@
-use Rattle.std.proofs.Common.{zero, suc, ◌≡◌, ℕ, ◌+◌, ◌*◌, ◌/◌, ◌%◌, ◌<◌, ◌≤◌, List, [], ◌∷◌, length, refl, sym, ap, ◌∙◌, subst, arith, rules, Option, Some, None}
+use Rattle.std.proofs.Common.{zero, suc, ◌≡◌, ℕ, ◌+◌, ◌*◌, ◌/◌, ◌%◌, ◌<◌, List, [], ◌∷◌, length, refl, sym, ap, ◌∙◌, subst, arith, Option, Some, None}
 use Rattle.std.specs.Prelude.{◌↔◌, slice_get, slice_index_or, MatchOption, IfSome, is_some}
 use Rattle.lwkt_verdict.specs.declared.turns.ThreadPlan.{ThreadPlan}
 use Rattle.lwkt_verdict.specs.declared.turns.ThreadEnd.{ThreadEnd}

@@ -1,15 +1,12 @@
-use Rattle.std.proofs.Common.{◌≡◌, ℕ, ◌+◌, ◌*◌, ◌%◌, ◌<◌, List, [], ◌∷◌, take, true, false, refl, sym, ap, ◌∙◌, subst, arith, Option, Some, None}
+use Rattle.std.proofs.Common.{◌≡◌, ◌+◌, ◌*◌, ◌%◌, [], true, subst, arith, Option, Some, None}
 use Rattle.std.proofs.Math.Nat.{zero-mod}
 use Rattle.std.specs.Prelude.{is_some, MatchOption}
 use Rattle.std.proofs.lemmas.Bool.{false≢true}
-use Rattle.lwkt_core.specs.declared.events.Event.{Event}
-use Rattle.lwkt_core.specs.Machine.{Machine}
 use Rattle.lwkt_verdict.specs.declared.turns.ThreadPlan.{ThreadPlan}
-use Rattle.lwkt_verdict.specs.declared.turns.ThreadEnd.{ThreadEnd}
 use Rattle.lwkt_verdict.specs.declared.turns.Poll.{Poll}
-use Rattle.lwkt_verdict.specs.declared.turns.Turn.{Turn}
-use Rattle.lwkt_verdict.specs.Threads.{thread_of, Rests}
-use Rattle.lwkt_verdict.specs.Run.{poll_of, came, Idles, Polls, Fits, IsScriptRun, NoTurnsAreNoRun, RunsBeginWithAnAsk}
+use Rattle.lwkt_verdict.specs.Threads.{thread_of}
+use Rattle.lwkt_verdict.specs.Run.{came, Idles, Polls}
+use Rattle.lwkt_verdict.specs.Laws.{NoTurnsAreNoRun, RunsBeginWithAnAsk}
 
 pub no_turns : NoTurnsAreNoRun
 no_turns plans limit opening polls trace lines run =

@@ -5,3 +5,5 @@ pub mod ShowMoves
 pub mod EndMoves
 pub mod RunMoves
 pub mod LawMoves
+pub mod TraceMoves
+pub mod HistoryMoves

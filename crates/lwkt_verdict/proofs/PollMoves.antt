@@ -1,10 +1,10 @@
-use Rattle.std.proofs.Common.{zero, suc, ◌≡◌, ℕ, ◌+◌, ◌-◌, ◌*◌, ◌<◌, ◌≤◌, List, [], ◌∷◌, length, drop, get_or, refl, sym, ap, ◌∙◌, subst, arith, rules, Option, Some, None}
+use Rattle.std.proofs.Common.{◌≡◌, ℕ, ◌+◌, ◌*◌, List, sym, subst, Option, Some, None}
 use Rattle.std.specs.Prelude.{slice_get, MatchOption}
 use Rattle.lwkt_verdict.specs.declared.turns.ThreadPlan.{ThreadPlan}
 use Rattle.lwkt_verdict.specs.declared.turns.ThreadEnd.{ThreadEnd}
 use Rattle.lwkt_verdict.specs.declared.homes.Home.{Home}
 use Rattle.lwkt_verdict.specs.declared.progress.Progress.{Progress}
-use Rattle.lwkt_verdict.specs.Threads.{thread_of, line_of, Rests}
+use Rattle.lwkt_verdict.specs.Threads.{thread_of, Rests}
 use Rattle.lwkt_verdict.specs.Homes.{IsHome}
 use Rattle.lwkt_verdict.specs.Run.{IdlesAt}
 

@@ -1,6 +1,6 @@
-use Rattle.std.proofs.Common.{zero, suc, inl, inr, ◌≡◌, ◌⊎◌, ℕ, ◌+◌, ◌-◌, ◌*◌, ◌<◌, ◌≤◌, List, [], ◌∷◌, ◌++◌, length, refl, sym, ap, ◌∙◌, subst, arith, rules, Option, Some, None, append-nil, append_assoc, length-append, replicate}
+use Rattle.std.proofs.Common.{zero, suc, inl, inr, ◌≡◌, ℕ, ◌+◌, ◌-◌, ◌<◌, ◌≤◌, List, [], ◌∷◌, ◌++◌, length, refl, sym, ap, ◌∙◌, subst, arith, rules, Option, Some, None, append-nil, append_assoc, length-append, replicate}
 use Rattle.std.proofs.Math.ListN.{length-replicate}
-use Rattle.std.specs.Prelude.{◌==◌, Bool, min, slice_get, slice_set, true, false, if◌then◌else◌, filter_map, MatchOption, IfSome}
+use Rattle.std.specs.Prelude.{◌==◌, Bool, min, slice_get, slice_set, true, false, if◌then◌else◌, MatchOption, IfSome}
 use Rattle.std.specs.List.{cons_option}
 use Rattle.std.specs.Option.{option_map_or}
 use Rattle.std.proofs.lemmas.Bool.{cases_eq}
@@ -13,17 +13,17 @@ use Rattle.lwkt_verdict.specs.declared.turns.ThreadEnd.{ThreadEnd}
 use Rattle.lwkt_verdict.specs.declared.progress.Asked.{Asked}
 use Rattle.lwkt_verdict.specs.declared.progress.Progress.{Progress}
 use Rattle.lwkt_verdict.specs.declared.progress.Piece.{Piece}
-use Rattle.lwkt_verdict.specs.Threads.{slot_of, asked_in, asked_by, last_of, logged_by, entries_of, progress_of, progress_after}
+use Rattle.lwkt_verdict.specs.Threads.{slot_of, asked_in, asked_by, logged_by, entries_of, progress_of, progress_after}
 use Rattle.lwkt_verdict.specs.Run.{came, asked, Polls}
 use Rattle.lwkt_verdict.specs.Shows.{Shows}
 
 -- what a turn more asked of a thread
-asked_push : (slot : ℕ) (before : List Piece) (p : Piece) → asked_by slot (before ++ p ∷ []) ≡ asked_by slot before ++ asked_in slot p
+pub asked_push : (slot : ℕ) (before : List Piece) (p : Piece) → asked_by slot (before ++ p ∷ []) ≡ asked_by slot before ++ asked_in slot p
 asked_push slot [] p = append-nil (asked_in slot p)
 asked_push slot (x ∷ xs) p = ap (λ (ys : List Asked). asked_in slot x ++ ys) (asked_push slot xs p) ∙ sym (append_assoc (asked_in slot x) (asked_by slot xs) (asked_in slot p))
 
 -- the last of a list with one element more
-last_push : (xs : List Asked) (a : Asked) → slice_get (xs ++ a ∷ []) (length xs) ≡ Some a
+pub last_push : (xs : List Asked) (a : Asked) → slice_get (xs ++ a ∷ []) (length xs) ≡ Some a
 last_push [] a = refl
 last_push (x ∷ xs) a = last_push xs a
 
@@ -63,10 +63,10 @@ came_next slot before p a one =
     ap progress_of (asked_push slot before p ∙ ap (λ (ys : List Asked). asked_by slot before ++ ys) one) ∙ progress_push (asked_by slot before) a
 
 -- what a poll asks of its thread, and of another
-asked_here : (slot : ℕ) (q : Poll) (blocked : Bool) → slot_of q.thread ≡ slot → asked_in slot (record { poll = Some q; blocked = blocked }) ≡ asked q blocked ∷ []
+pub asked_here : (slot : ℕ) (q : Poll) (blocked : Bool) → slot_of q.thread ≡ slot → asked_in slot (record { poll = Some q; blocked = blocked }) ≡ asked q blocked ∷ []
 asked_here slot q blocked is = search rules
 
-asked_there : (slot : ℕ) (q : Poll) (blocked : Bool) → (slot_of q.thread ≡ slot → ⊥) → asked_in slot (record { poll = Some q; blocked = blocked }) ≡ []
+pub asked_there : (slot : ℕ) (q : Poll) (blocked : Bool) → (slot_of q.thread ≡ slot → ⊥) → asked_in slot (record { poll = Some q; blocked = blocked }) ≡ []
 asked_there slot q blocked not = search rules
 
 -- an element after a write, to its place and to another

@@ -1,5 +1,5 @@
 -- Where the threads of a script and their lines stand, as a check of a run keeps it (own).
-use Rattle.std.specs.Prelude.{◌≡◌, ℕ, ◌+◌, ◌*◌, ◌/◌, ◌%◌, ◌<◌, List, length, Option, Some, None, slice_get, slice_index_or}
+use Rattle.std.specs.Prelude.{◌≡◌, ℕ, ◌+◌, ◌*◌, ◌<◌, List, length, Option, Some, None, slice_get, slice_index_or}
 use Rattle.lwkt_verdict.specs.declared.turns.ThreadPlan.{ThreadPlan}
 use Rattle.lwkt_verdict.specs.declared.turns.ThreadEnd.{ThreadEnd}
 use Rattle.lwkt_verdict.specs.declared.homes.Home.{Home}

@@ -5,3 +5,4 @@ pub mod Threads
 pub mod Run
 pub mod Homes
 pub mod Shows
+pub mod Laws

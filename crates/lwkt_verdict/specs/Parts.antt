@@ -1,5 +1,5 @@
 -- The part of a trace that one turn made (own).
-use Rattle.std.specs.Prelude.{◌≡◌, ℕ, ◌+◌, ◌&&◌, Bool, true, false, not, List, [], ◌∷◌, take, drop, slice_get, MatchOption, ◌⊎◌, Option, is_some}
+use Rattle.std.specs.Prelude.{◌≡◌, ◌&&◌, Bool, true, false, not, List, [], ◌∷◌, take, drop, ◌⊎◌, Option, is_some}
 use Rattle.lwkt_base.specs.declared.asks.Ask.{Ask}
 use Rattle.lwkt_base.specs.declared.asks.Answer.{Answer}
 use Rattle.lwkt_core.specs.declared.events.Event.{Event}

@@ -1,5 +1,5 @@
 -- A run of a script over a lawful trace (own).
-use Rattle.std.specs.Prelude.{◌≡◌, ℕ, ◌+◌, ◌-◌, ◌*◌, ◌/◌, ◌%◌, ◌<◌, ◌≤◌, ◌⊎◌, Bool, true, false, List, [], ◌∷◌, ◌++◌, length, take, drop, All, slice_get, Option, Some, None, MatchOption, option_and_then, is_some}
+use Rattle.std.specs.Prelude.{◌≡◌, ℕ, ◌+◌, ◌-◌, ◌*◌, ◌%◌, ◌<◌, ◌≤◌, ◌⊎◌, Bool, true, false, List, [], ◌∷◌, ◌++◌, length, take, drop, All, slice_get, Option, MatchOption, option_and_then, is_some}
 use Rattle.std.specs.Option.{option_map_or}
 use Rattle.lwkt_core.specs.declared.events.Event.{Event}
 use Rattle.lwkt_core.specs.Events.{cpu_of}
@@ -100,11 +100,3 @@ pub record IsScriptRun (plans : List ThreadPlan) (limit : ℕ) (opening : Machin
   pub paired : (cpu n : ℕ) → cpu < 8 → n < 16 → IsPaired plans lines cpu n
   pub rounds : AreRounds polls opening.cpus limit turns lines
   pub runs : Runs plans lines polls opening.cpus opening [] turns trace
-
--- a law: no turn at all is no run
-abbrev pub NoTurnsAreNoRun : Type 0
-NoTurnsAreNoRun = (plans : List ThreadPlan) (limit : ℕ) (opening : Machine) (polls : List Poll) (trace : List Event) (lines : List ThreadEnd) → ¬ IsScriptRun plans limit opening polls [] trace lines
-
--- a law: no run begins with a turn without an ask, where processor 0 has a thread
-abbrev pub RunsBeginWithAnAsk : Type 0
-RunsBeginWithAnAsk = (plans : List ThreadPlan) (limit : ℕ) (opening : Machine) (polls : List Poll) (turn : Turn) (turns : List Turn) (trace : List Event) (lines : List ThreadEnd) → is_some (thread_of 0 0 plans) ≡ true → poll_of polls turn ≡ None → ¬ IsScriptRun plans limit opening polls (turn ∷ turns) trace lines

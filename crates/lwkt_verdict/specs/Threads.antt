@@ -1,17 +1,15 @@
 -- What one thread of a script asks, is answered and logs, and how it ends (own).
-use Rattle.std.specs.Prelude.{◌≡◌, ℕ, ◌+◌, ◌-◌, ◌*◌, ◌/◌, ◌%◌, ◌<◌, ◌==◌, ◌&&◌, ◌||◌, nat_lt, Bool, true, false, not, List, [], ◌∷◌, ◌++◌, length, take, min, slice_get, filter_map, Option, Some, None, MatchOption, option_map, option_and_then, is_some, if◌then◌else◌}
+use Rattle.std.specs.Prelude.{◌≡◌, ℕ, ◌+◌, ◌-◌, ◌*◌, ◌/◌, ◌%◌, ◌<◌, ◌==◌, ◌&&◌, ◌||◌, nat_lt, Bool, true, false, not, List, [], ◌∷◌, ◌++◌, length, min, slice_get, filter_map, Option, Some, None, MatchOption, option_and_then, is_some, if◌then◌else◌}
 use Rattle.std.specs.Option.{option_map_or}
 use Rattle.lwkt_base.specs.declared.names.ThreadId.{ThreadId}
 use Rattle.lwkt_base.specs.declared.threads.ThreadState.{ThreadState}
 use Rattle.lwkt_base.specs.declared.threads.ThreadState.TheVariants.{Ready, Waiting, Running, Exited, Faulted}
 use Rattle.lwkt_base.specs.declared.asks.Ask.{Ask}
 use Rattle.lwkt_base.specs.declared.asks.Ask.TheVariants.{Exit}
-use Rattle.lwkt_base.specs.declared.asks.Answer.{Answer}
 use Rattle.lwkt_base.specs.declared.entries.Entry.{Entry}
 use Rattle.lwkt_base.specs.Fault.{number_of}
 use Rattle.lwkt_verdict.specs.declared.turns.ThreadPlan.{ThreadPlan}
 use Rattle.lwkt_verdict.specs.declared.turns.ThreadEnd.{ThreadEnd}
-use Rattle.lwkt_verdict.specs.declared.turns.Poll.{Poll}
 use Rattle.lwkt_verdict.specs.declared.progress.Asked.{Asked}
 use Rattle.lwkt_verdict.specs.declared.progress.Progress.{Progress}
 use Rattle.lwkt_verdict.specs.declared.progress.Piece.{Piece}

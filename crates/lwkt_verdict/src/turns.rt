@@ -24,9 +24,9 @@ pub struct ThreadEnd {
 /// One poll of a thread: what it asked, and what this was answered, if the thread was polled again.
 #[derive(Clone, Copy, Debug, PartialEq, Eq)]
 pub struct Poll {
-    pub thread: ThreadId,
-    pub ask: Ask,
     pub answer: Option<Answer>,
+    pub ask: Ask,
+    pub thread: ThreadId,
 }
 
 /// One turn of a processor. The turn's processor is known by its place: the processors take their turns in rounds. The polls

@@ -1,7 +1,5 @@
-use Rattle.std.proofs.Common.{◌≡◌, ◌++◌, ◌∷◌, [], ℕ, ◌<◌, List, Option, Some, None, sym, subst}
+use Rattle.std.proofs.Common.{◌++◌, ◌∷◌, [], Option, sym, subst}
 use Rattle.lwkt_verdict.specs.declared.turns.Poll.{Poll}
-use Rattle.lwkt_verdict.specs.declared.progress.Piece.{Piece}
-use Rattle.lwkt_verdict.specs.Threads.{slot_of}
 use Rattle.lwkt_verdict.specs.Shows.{Shows}
 use Rattle.lwkt_verdict.proofs.ShowMoves.{few_polls, shows_idle, shows_polled}
 use Rattle.lwkt_verdict.proofs.checks.asks.Goals as goal

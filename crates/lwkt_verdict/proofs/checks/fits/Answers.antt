@@ -1,4 +1,4 @@
-use Rattle.std.proofs.Common.{◌≡◌, ◌++◌, ◌∷◌, [], Bool, sym, subst}
+use Rattle.std.proofs.Common.{◌++◌, ◌∷◌, [], Bool, subst}
 use Rattle.lwkt_verdict.specs.Shows.{Shows}
 use Rattle.lwkt_verdict.proofs.checks.fits.Goals as goal
 

@@ -1,4 +1,4 @@
-use Rattle.std.proofs.Common.{subst, ℕ}
+use Rattle.std.proofs.Common.{subst}
 use Rattle.lwkt_verdict.specs.Run.{AreListed, AreRounds}
 use Rattle.lwkt_verdict.proofs.EndMoves.{homes_paired}
 use Rattle.lwkt_verdict.proofs.checks.is_run_from.Goals as goal

@@ -1,4 +1,4 @@
-use Rattle.std.proofs.Common.{ℕ, ◌+◌, ◌*◌, ◌/◌, ◌%◌, ◌<◌, ◌≤◌, ◌≡◌, arith, le_antisymm, refl, subst}
+use Rattle.std.proofs.Common.{ℕ, ◌/◌, ◌%◌, ◌<◌, ◌≤◌, arith, refl}
 use Rattle.std.proofs.lemmas.Bool.{iff_false}
 use borrow.Author.Count.{below_more}
 use Rattle.lwkt_verdict.specs.Shows.{EndsAt}

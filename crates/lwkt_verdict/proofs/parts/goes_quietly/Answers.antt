@@ -1,7 +1,6 @@
-use Rattle.std.proofs.Common.{refl}
 use Rattle.std.proofs.lemmas.Bool.{iff_false}
 use Rattle.lwkt_verdict.specs.Parts.{after_all, GoesQuietly}
-use Rattle.lwkt_verdict.proofs.PartMoves.{quiet_on, after_on, quiet_stops, quiet_all, after_ends, never}
+use Rattle.lwkt_verdict.proofs.PartMoves.{quiet_on, after_on, quiet_stops, never}
 use Rattle.lwkt_verdict.proofs.parts.goes_quietly.Goals as goal
 
 pub returns-then-not-goes_quietly_by_one-clause-right : goal.returns-then-not-goes_quietly_by_one-clause-right

@@ -1,4 +1,4 @@
-use Rattle.std.proofs.Common.{arith, ℕ, ◌+◌, ◌*◌, sym, subst, Option}
+use Rattle.std.proofs.Common.{arith, ℕ, sym, subst, Option}
 use borrow.Author.Count.{below_more}
 use Rattle.lwkt_verdict.specs.declared.homes.Home.{Home}
 use Rattle.lwkt_verdict.specs.Homes.{IsHome}

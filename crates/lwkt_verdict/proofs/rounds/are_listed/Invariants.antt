@@ -1,4 +1,4 @@
-use Rattle.std.proofs.Common.{◌≡◌, drop}
+use Rattle.std.proofs.Common.{drop}
 use Rattle.std.specs.Prelude.{◌↔◌}
 use Rattle.lwkt_verdict.specs.Run.{AreListed}
 use Rattle.lwkt_verdict.proofs.rounds.are_listed.Given as goal

@@ -1,0 +1,226 @@
+use Rattle.std.proofs.Common.{zero, suc, inl, inr, ◌≡◌, ◌⊎◌, ℕ, ◌+◌, ◌-◌, ◌*◌, ◌%◌, ◌<◌, List, [], ◌∷◌, ◌++◌, length, take, drop, true, false, refl, sym, ap, ◌∙◌, subst, arith, Option, Some, None, append-nil, append_assoc}
+use Rattle.std.specs.Prelude.{slice_get, is_some, min, MatchOption, IfSome}
+use Rattle.std.proofs.lemmas.Bool.{cases_eq, cases_order, cases_lt}
+use Rattle.std.proofs.lemmas.List.{length_push, take_all, take-append-le}
+use Rattle.std.proofs.lemmas.List.Elements.{filter_map-append}
+use Rattle.std.specs.List.{cons_option}
+use Rattle.lwkt_base.specs.declared.entries.Entry.{Entry}
+use Rattle.lwkt_core.specs.declared.events.Event.{Event}
+use Rattle.lwkt_core.specs.Machine.{Machine}
+use Rattle.lwkt_verdict.specs.declared.turns.ThreadPlan.{ThreadPlan}
+use Rattle.lwkt_verdict.specs.declared.turns.ThreadEnd.{ThreadEnd}
+use Rattle.lwkt_verdict.specs.declared.turns.Poll.{Poll}
+use Rattle.lwkt_verdict.specs.declared.turns.Turn.{Turn}
+use Rattle.lwkt_verdict.specs.declared.progress.Asked.{Asked}
+use Rattle.lwkt_verdict.specs.declared.progress.Piece.{Piece}
+use Rattle.lwkt_verdict.specs.Parts.{after_all}
+use Rattle.lwkt_verdict.specs.Threads.{IsLogged, slot_of, thread_of, line_of, ask_at, asked_by, last_of, logged_by, entries_of, progress_of, EndsAs, Ends}
+use Rattle.lwkt_verdict.specs.Run.{poll_of, piece, came, asked, Polls, Fits, Closes, Runs}
+use Rattle.lwkt_verdict.specs.Laws.{pieces_of, asks_of, AsksAreThoseOfTheScript, AllButTheLastAreAnswered, LogsAreTheFirstEntries}
+use Rattle.lwkt_verdict.proofs.ShowMoves.{asked_push, asked_here, asked_there}
+
+-- what holds after all turns of a run, with the end of the run
+pub record Ended (plans : List ThreadPlan) (lines : List ThreadEnd) (Q : List Piece → Type 0) (all : List Piece) : Type 0 where
+  pub holds : Q all
+  pub end : Machine
+  pub stop : List Event
+  pub closes : Closes plans lines end all stop
+
+module _ (plans : List ThreadPlan) (lines : List ThreadEnd) (polls : List Poll) (cpus : ℕ) where
+  -- what each turn that fits keeps holds after all turns
+  pub through : (Q : List Piece → Type 0) → ((m : Machine) (before : List Piece) (poll : Option Poll) (part : List Event) → Q before → Fits plans lines (length before % cpus) m before poll part → Q (before ++ piece poll part ∷ [])) → (m : Machine) (before : List Piece) (turns : List Turn) (events : List Event) → Q before → Runs plans lines polls cpus m before turns events → Ended plans lines Q (before ++ pieces_of polls turns events)
+  through Q step m before [] events q closes =
+      subst (λ (all : List Piece). Ended plans lines Q all) (sym (append-nil before)) (record { holds = q; end = m; stop = events; closes = closes })
+  through Q step m before (t ∷ ts) events q runs =
+      let part : List Event = take t.events events in
+      let p : Piece = piece (poll_of polls t) part in
+      let rest : List Event = drop t.events events in
+      subst (λ (all : List Piece). Ended plans lines Q all) (append_assoc before (p ∷ []) (pieces_of polls ts rest)) (through Q step (after_all m part) (before ++ p ∷ []) ts rest (step m before (poll_of polls t) part q runs.1.0) runs.1.1)
+
+-- what a turn that fits asks of a thread: nothing, or what its poll asks, which fits the thread
+pub record Asks (plans : List ThreadPlan) (lines : List ThreadEnd) (slot : ℕ) (before : List Piece) (p : Piece) : Type 0 where
+  pub q : Poll
+  pub cpu : ℕ
+  pub here : slot_of q.thread ≡ slot
+  pub fits : Polls plans lines cpu (came before slot) q
+  pub is : asked_by slot (before ++ p ∷ []) ≡ asked_by slot before ++ asked q p.blocked ∷ []
+
+pub asks_or_not : (plans : List ThreadPlan) (lines : List ThreadEnd) (slot cpu : ℕ) (m : Machine) (before : List Piece) (poll : Option Poll) (part : List Event) → Fits plans lines cpu m before poll part → (asked_by slot (before ++ piece poll part ∷ []) ≡ asked_by slot before) ⊎ Asks plans lines slot before (piece poll part)
+asks_or_not plans lines slot cpu m before None part fits =
+    inl (asked_push slot before (piece None part) ∙ append-nil (asked_by slot before))
+asks_or_not plans lines slot cpu m before (Some q) part fits =
+    let p : Piece = piece (Some q) part in
+    elim (cases_eq (slot_of q.thread) slot) [
+      | inl same ↦ inr (record {
+        q = q;
+        cpu = cpu;
+        here = same;
+        fits = subst (λ k. Polls plans lines cpu (came before k) q) same fits.polls;
+        is = asked_push slot before p ∙ ap (λ (xs : List Asked). asked_by slot before ++ xs) (asked_here slot q p.blocked same);
+      })
+      | inr apart ↦ inl (asked_push slot before p ∙ ap (λ (xs : List Asked). asked_by slot before ++ xs) (asked_there slot q p.blocked apart) ∙ append-nil (asked_by slot before))
+    ]
+
+-- an element of a list with one more at its end
+get_push : (xs : List Asked) (a : Asked) (k : ℕ) (x : Asked) → slice_get (xs ++ a ∷ []) k ≡ Some x → (slice_get xs k ≡ Some x) ⊎ ((k ≡ length xs) × (x ≡ a))
+get_push [] a zero x is = inr (refl, cc)
+get_push [] a (suc k) x is = inl is
+get_push (y ∷ ys) a zero x is = inl is
+get_push (y ∷ ys) a (suc k) x is =
+    elim (get_push ys a k x is) [
+      | inl there ↦ inl there
+      | inr last ↦ inr (ap suc last.0, last.1)
+    ]
+
+-- what holds of an option's value, weakened; and what of it doesn't depend on the value
+match_on : {A : Type 0} (o : Option A) (P R : A → Type 0) → MatchOption o ⊥ P → ((x : A) → P x → R x) → MatchOption o ⊥ R
+match_on None P R there step = there
+match_on (Some x) P R there step = step x there
+
+match_any : {A : Type 0} (o : Option A) (P : A → Type 0) (C : Type 0) → MatchOption o ⊥ P → ((x : A) → P x → C) → C
+match_any None P C there step = absurd there
+match_any (Some x) P C there step = step x there
+
+-- what a thread asks after some turns is a front of what its plan has
+FollowsPlan : List ThreadPlan → ℕ → ℕ → List Piece → Type 0
+FollowsPlan plans cpu n before = (k : ℕ) (a : Asked) → slice_get (asked_by (16 * cpu + n) before) k ≡ Some a → MatchOption (thread_of cpu n plans) ⊥ (λ plan. ask_at plan k ≡ Some a.ask)
+
+follows_step : (plans : List ThreadPlan) (lines : List ThreadEnd) (cpu n now : ℕ) → n < 16 → (m : Machine) (before : List Piece) (poll : Option Poll) (part : List Event) → FollowsPlan plans cpu n before → Fits plans lines now m before poll part → FollowsPlan plans cpu n (before ++ piece poll part ∷ [])
+unfolding FollowsPlan
+follows_step plans lines cpu n now small m before poll part follows fits k a is =
+    let slot = 16 * cpu + n in
+    let xs : List Asked = asked_by slot before in
+    let G : ℕ → ℕ → ℕ → Asked → Type 0 = λ c t j x. MatchOption (thread_of c t plans) ⊥ (λ plan. ask_at plan j ≡ Some x.ask) in
+    elim (asks_or_not plans lines slot now m before poll part fits) [
+      | inl same ↦ follows k a (subst (λ (ys : List Asked). slice_get ys k ≡ Some a) same is)
+      | inr w ↦ (let new : Asked = asked w.q (piece poll part).blocked in
+          let there = w.fits.here in
+          let few = w.fits.numbered in
+          let here = w.here in
+          let same_cpu : w.cpu ≡ cpu = omega arith in
+          let same_n : w.q.thread.thread ≡ n = omega arith in
+          let next : G w.cpu w.q.thread.thread (length xs) new = match_on (thread_of w.cpu w.q.thread.thread plans) (λ plan. (ask_at plan (length xs) ≡ Some w.q.ask) × MatchOption (last_of xs) (Unit {0}) (λ x. is_some x.answer ≡ true)) (λ plan. ask_at plan (length xs) ≡ Some w.q.ask) w.fits.asks (λ plan may. may.0) in
+          elim (get_push xs new k a (subst (λ (ys : List Asked). slice_get ys k ≡ Some a) w.is is)) [
+            | inl old ↦ follows k a old
+            | inr last ↦ subst (λ c. G c n k a) same_cpu (subst (λ t. G w.cpu t k a) same_n (subst (λ j. G w.cpu w.q.thread.thread j a) (sym last.0) (subst (λ (x : Asked). G w.cpu w.q.thread.thread (length xs) x) (sym last.1) next)))
+          ])
+    ]
+
+-- each ask of a thread but its last has its answer
+AreAnswered : ℕ → List Piece → Type 0
+AreAnswered slot before = (k : ℕ) (a : Asked) → slice_get (asked_by slot before) k ≡ Some a → k + 1 < length (asked_by slot before) → is_some a.answer ≡ true
+
+answered_step : (plans : List ThreadPlan) (lines : List ThreadEnd) (slot now : ℕ) (m : Machine) (before : List Piece) (poll : Option Poll) (part : List Event) → AreAnswered slot before → Fits plans lines now m before poll part → AreAnswered slot (before ++ piece poll part ∷ [])
+unfolding AreAnswered
+answered_step plans lines slot now m before poll part answered fits k a is inside =
+    let xs : List Asked = asked_by slot before in
+    elim (asks_or_not plans lines slot now m before poll part fits) [
+      | inl same ↦ answered k a (subst (λ (ys : List Asked). slice_get ys k ≡ Some a) same is) (subst (λ (ys : List Asked). k + 1 < length ys) same inside)
+      | inr w ↦ (let new : Asked = asked w.q (piece poll part).blocked in
+          let more : length (xs ++ new ∷ []) ≡ length xs + 1 = length_push xs new in
+          let below : k + 1 < length (xs ++ new ∷ []) = subst (λ (ys : List Asked). k + 1 < length ys) w.is inside in
+          let last_has : MatchOption (last_of xs) (Unit {0}) (λ x. is_some x.answer ≡ true) = match_any (thread_of w.cpu w.q.thread.thread plans) (λ plan. (ask_at plan (length xs) ≡ Some w.q.ask) × MatchOption (last_of xs) (Unit {0}) (λ x. is_some x.answer ≡ true)) (MatchOption (last_of xs) (Unit {0}) (λ x. is_some x.answer ≡ true)) w.fits.asks (λ plan may. may.1) in
+          elim (get_push xs new k a (subst (λ (ys : List Asked). slice_get ys k ≡ Some a) w.is is)) [
+            | inl old ↦ elim (cases_order (k + 1) (length xs)) [
+              | inl at_last ↦ (let place : length xs - 1 ≡ k = omega arith in
+                  let F : Option Asked → Type 0 = λ o. MatchOption o (Unit {0}) (λ x. is_some x.answer ≡ true) in
+                  subst F (ap (λ j. slice_get xs j) place ∙ old) last_has)
+              | inr differ ↦ elim differ [
+                | inl less ↦ answered k a old less
+                | inr past ↦ absurd (omega arith)
+              ]
+            ]
+            | inr last ↦ (let at : k ≡ length xs = last.0 in absurd (omega arith))
+          ])
+    ]
+
+-- a list up to an element and with it
+take_get : (log : List Entry) (n : ℕ) (e : Entry) → slice_get log n ≡ Some e → take (suc n) log ≡ take n log ++ e ∷ []
+take_get [] n e is = cc
+take_get (x ∷ xs) zero e is = ap (λ (o : Entry). o ∷ []) cc
+take_get (x ∷ xs) (suc n) e is = ap (λ (ys : List Entry). x ∷ ys) (take_get xs n e is)
+
+-- a log that has the entries so far has the next one too, if there is one and it stands in its place
+log_step : (log es : List Entry) (o : Option Entry) → take (min 32 (length es)) log ≡ take 32 es → MatchOption o (Unit {0}) (λ e. min 32 (length es) < 32 → slice_get log (min 32 (length es)) ≡ Some e) → take (min 32 (length (es ++ cons_option o []))) log ≡ take 32 (es ++ cons_option o [])
+log_step log es None so_far fits =
+    subst (λ (ys : List Entry). take (min 32 (length ys)) log ≡ take 32 ys) (sym (append-nil es)) so_far
+log_step log es (Some e) so_far fits =
+    let n : ℕ = length es in
+    let more : length (es ++ e ∷ []) ≡ n + 1 = length_push es e in
+    elim (cases_lt n 32) [
+      | inl room ↦ (let same : min 32 n ≡ n = omega arith in
+          let here : slice_get log n ≡ Some e = subst (λ j. slice_get log j ≡ Some e) same (fits (omega arith)) in
+          let front : take n log ≡ es = ap (λ j. take j log) (sym same) ∙ so_far ∙ take_all 32 es (omega arith) in
+          let longer : min 32 (length (es ++ e ∷ [])) ≡ suc n = omega arith in
+          ap (λ j. take j log) longer ∙ take_get log n e here ∙ ap (λ (ys : List Entry). ys ++ e ∷ []) front ∙ sym (take_all 32 (es ++ e ∷ []) (omega arith)))
+      | inr full ↦ (let same : min 32 (length (es ++ e ∷ [])) ≡ min 32 n = omega arith in
+          ap (λ j. take j log) same ∙ so_far ∙ sym (take-append-le 32 es (e ∷ []) full))
+    ]
+
+-- a thread's line says that its last ask has no answer, where it asked something at all
+ends_open : (t : Option ThreadPlan) (l : Option ThreadEnd) (p : List Asked) (X : ThreadPlan → Type 0) → MatchOption t ⊥ X → Ends t l (progress_of p) → MatchOption (last_of p) (Unit {0}) (λ a. is_some a.answer ≡ false)
+ends_open None l p X there ends = absurd there
+ends_open (Some plan) None p X there ends = absurd ends
+ends_open (Some plan) (Some line) p X there ends = ends.0
+
+ends_line : (t : Option ThreadPlan) (line : ThreadEnd) (p : List Asked) → Ends t (Some line) (progress_of p) → EndsAs line (progress_of p)
+ends_line None line p ends = absurd ends
+ends_line (Some plan) line p ends = ends
+
+pub asks_follow : AsksAreThoseOfTheScript
+unfolding FollowsPlan
+asks_follow plans limit opening polls turns trace lines run cpu n here few =
+    (through plans lines polls opening.cpus (FollowsPlan plans cpu n) (λ m before poll part q fits. follows_step plans lines cpu n (length before % opening.cpus) few m before poll part q fits) opening [] turns trace (λ k a none. absurd cc) run.runs).holds
+
+-- after all turns each ask but the last has its answer, and the last has none
+pub all_answered : AllButTheLastAreAnswered
+unfolding AreAnswered
+all_answered plans limit opening polls turns trace lines run cpu n here few k a is =
+    let slot = 16 * cpu + n in
+    let xs : List Asked = asks_of polls turns trace cpu n in
+    let done = through plans lines polls opening.cpus (AreAnswered slot) (λ m before poll part q fits. answered_step plans lines slot (length before % opening.cpus) m before poll part q fits) opening [] turns trace (λ j x none. absurd cc) run.runs in
+    let open_end : MatchOption (last_of xs) (Unit {0}) (λ x. is_some x.answer ≡ false) = ends_open (thread_of cpu n plans) (line_of slot lines) xs (λ plan. ask_at plan k ≡ Some a.ask) (asks_follow plans limit opening polls turns trace lines run cpu n here few k a is) (done.closes.ends cpu n here few) in (
+      (λ inside. done.holds k a is inside),
+      (λ last. (let place : length xs - 1 ≡ k = omega arith in
+          let F : Option Asked → Type 0 = λ o. MatchOption o (Unit {0}) (λ x. is_some x.answer ≡ false) in
+          subst F (ap (λ j. slice_get xs j) place ∙ is) open_end)),
+    )
+
+-- a log has the entries so far
+HasLogged : List Entry → ℕ → List Piece → Type 0
+HasLogged log slot before = take (min 32 (length (entries_of (asked_by slot before)))) log ≡ take 32 (entries_of (asked_by slot before))
+
+logged_step : (plans : List ThreadPlan) (lines : List ThreadEnd) (line : ThreadEnd) (slot now : ℕ) → line_of slot lines ≡ Some line → (m : Machine) (before : List Piece) (poll : Option Poll) (part : List Event) → HasLogged line.log.items slot before → Fits plans lines now m before poll part → HasLogged line.log.items slot (before ++ piece poll part ∷ [])
+unfolding HasLogged
+logged_step plans lines line slot now is_line m before poll part so_far fits =
+    let log : List Entry = line.log.items in
+    let xs : List Asked = asked_by slot before in
+    let G : List Entry → Type 0 = λ es. take (min 32 (length es)) log ≡ take 32 es in
+    elim (asks_or_not plans lines slot now m before poll part fits) [
+      | inl same ↦ subst (λ (ys : List Asked). G (entries_of ys)) (sym same) so_far
+      | inr w ↦ (let new : Asked = asked w.q (piece poll part).blocked in
+          let there = w.fits.here in
+          let here = w.here in
+          let place : 16 * w.cpu + w.q.thread.thread ≡ slot = omega arith in
+          let L : Option ThreadEnd → Type 0 = λ o. MatchOption o ⊥ (λ l. IsLogged l (came before slot) (asked w.q false)) in
+          let stands : IsLogged line (came before slot) (asked w.q false) = subst L (ap (λ s. line_of s lines) place ∙ is_line) w.fits.logs in
+          let next : G (entries_of xs ++ cons_option (logged_by new) []) = log_step log (entries_of xs) (logged_by new) so_far stands in
+          subst (λ (ys : List Asked). G (entries_of ys)) (sym w.is) (subst G (sym (filter_map-append logged_by xs (new ∷ []))) next))
+    ]
+
+-- what holds of each value that an option can have
+with_value : {A : Type 0} (o : Option A) (R : A → Type 0) → ((x : A) → o ≡ Some x → R x) → IfSome o R
+with_value None R each = tt
+with_value (Some x) R each = each x refl
+
+pub logs_are_first : LogsAreTheFirstEntries
+unfolding HasLogged
+logs_are_first plans limit opening polls turns trace lines run cpu n here few =
+    let slot = 16 * cpu + n in
+    let xs : List Asked = asks_of polls turns trace cpu n in
+    with_value (line_of slot lines) (λ line. line.log.items ≡ take 32 (entries_of xs)) (λ line is_line. (let log : List Entry = line.log.items in
+    let done = through plans lines polls opening.cpus (HasLogged log slot) (λ m before poll part q fits. logged_step plans lines line slot (length before % opening.cpus) is_line m before poll part q fits) opening [] turns trace refl run.runs in
+    let E : Option ThreadEnd → Type 0 = λ o. Ends (thread_of cpu n plans) o (progress_of xs) in
+    let ends = ends_line (thread_of cpu n plans) line xs (subst E is_line (done.closes.ends cpu n here few)) in
+    let long : length log ≡ min 32 (length (entries_of xs)) = ends.1 in
+    sym (take_all (min 32 (length (entries_of xs))) log (omega arith)) ∙ done.holds))

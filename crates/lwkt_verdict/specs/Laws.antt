@@ -1,0 +1,54 @@
+-- What a run of a script says of its trace, its asks and its logs (own).
+use Rattle.std.specs.Prelude.{◌≡◌, ℕ, ◌+◌, ◌*◌, ◌<◌, true, false, List, [], ◌∷◌, length, take, drop, slice_get, Some, None, is_some, MatchOption, IfSome}
+use Rattle.lwkt_core.specs.declared.events.Event.{Event}
+use Rattle.lwkt_core.specs.Machine.{Machine}
+use Rattle.lwkt_core.specs.Trace.{Run}
+use Rattle.lwkt_verdict.specs.declared.turns.ThreadPlan.{ThreadPlan}
+use Rattle.lwkt_verdict.specs.declared.turns.ThreadEnd.{ThreadEnd}
+use Rattle.lwkt_verdict.specs.declared.turns.Poll.{Poll}
+use Rattle.lwkt_verdict.specs.declared.turns.Turn.{Turn}
+use Rattle.lwkt_verdict.specs.declared.progress.Asked.{Asked}
+use Rattle.lwkt_verdict.specs.declared.progress.Piece.{Piece}
+use Rattle.lwkt_verdict.specs.Threads.{thread_of, line_of, ask_at, asked_by, entries_of}
+use Rattle.lwkt_verdict.specs.Run.{poll_of, piece, IsScriptRun}
+
+-- what the turns of a run were
+abbrev pub pieces_of : List Poll → List Turn → List Event → List Piece
+pieces_of polls [] events = []
+pieces_of polls (turn ∷ turns) events = piece (poll_of polls turn) (take turn.events events) ∷ pieces_of polls turns (drop turn.events events)
+
+-- what the turns of a run asked of thread n of a processor, in order
+abbrev pub asks_of : List Poll → List Turn → List Event → ℕ → ℕ → List Asked
+asks_of polls turns trace cpu n = asked_by (16 * cpu + n) (pieces_of polls turns trace)
+
+-- what holds of each run of each script
+abbrev pub OfRuns : (List ThreadPlan → Machine → List Poll → List Turn → List Event → List ThreadEnd → Type 0) → Type 0
+OfRuns P = (plans : List ThreadPlan) (limit : ℕ) (opening : Machine) (polls : List Poll) (turns : List Turn) (trace : List Event) (lines : List ThreadEnd) → IsScriptRun plans limit opening polls turns trace lines → P plans opening polls turns trace lines
+
+-- what holds of each of the threads that there can be
+abbrev pub OfThreads : (ℕ → ℕ → Type 0) → Type 0
+OfThreads P = (cpu n : ℕ) → cpu < 8 → n < 16 → P cpu n
+
+-- a law: no turn at all is no run
+abbrev pub NoTurnsAreNoRun : Type 0
+NoTurnsAreNoRun = (plans : List ThreadPlan) (limit : ℕ) (opening : Machine) (polls : List Poll) (trace : List Event) (lines : List ThreadEnd) → ¬ IsScriptRun plans limit opening polls [] trace lines
+
+-- a law: no run begins with a turn without an ask, where processor 0 has a thread
+abbrev pub RunsBeginWithAnAsk : Type 0
+RunsBeginWithAnAsk = (plans : List ThreadPlan) (limit : ℕ) (opening : Machine) (polls : List Poll) (turn : Turn) (turns : List Turn) (trace : List Event) (lines : List ThreadEnd) → is_some (thread_of 0 0 plans) ≡ true → poll_of polls turn ≡ None → ¬ IsScriptRun plans limit opening polls (turn ∷ turns) trace lines
+
+-- a law: the events of a run's trace can happen one after another, from the opening on
+abbrev pub TracesOfRunsHappen : Type 0
+TracesOfRunsHappen = OfRuns (λ plans opening polls turns trace lines. (end : Machine) × Run opening trace end)
+
+-- a law: what a thread asks is a front of its steps, so many times over, and then Exit
+abbrev pub AsksAreThoseOfTheScript : Type 0
+AsksAreThoseOfTheScript = OfRuns (λ plans opening polls turns trace lines. OfThreads (λ cpu n. (k : ℕ) (a : Asked) → slice_get (asks_of polls turns trace cpu n) k ≡ Some a → MatchOption (thread_of cpu n plans) ⊥ (λ plan. ask_at plan k ≡ Some a.ask)))
+
+-- a law: each ask of a thread but its last has its answer, and the last has none
+abbrev pub AllButTheLastAreAnswered : Type 0
+AllButTheLastAreAnswered = OfRuns (λ plans opening polls turns trace lines. OfThreads (λ cpu n. (k : ℕ) (a : Asked) → slice_get (asks_of polls turns trace cpu n) k ≡ Some a → (k + 1 < length (asks_of polls turns trace cpu n) → is_some a.answer ≡ true) × (k + 1 ≡ length (asks_of polls turns trace cpu n) → is_some a.answer ≡ false)))
+
+-- a law: a thread's printed log is the first 32 entries of the answers to its asks
+abbrev pub LogsAreTheFirstEntries : Type 0
+LogsAreTheFirstEntries = OfRuns (λ plans opening polls turns trace lines. OfThreads (λ cpu n. IfSome (line_of (16 * cpu + n) lines) (λ line. line.log.items ≡ take 32 (entries_of (asks_of polls turns trace cpu n)))))
