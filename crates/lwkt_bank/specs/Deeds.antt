@@ -7,7 +7,7 @@ use Rattle.lwkt_core.specs.declared.events.Event.{Event}
 use Rattle.lwkt_core.specs.declared.events.Event.TheVariants.{Load, Take, Share, Again, Mark, GiveOne, GiveClean, GiveWritten, Read, Write}
 use Rattle.lwkt_core.specs.declared.seats.WordStep.{WordStep}
 use Rattle.lwkt_core.specs.declared.seats.Deed.{Deed}
-use Rattle.lwkt_bank.specs.Views.{named, load, exchange, add, sub, or}
+use Rattle.lwkt_bank.specs.Views.{one_section, named, load, exchange, add, sub, or}
 
 -- one atomic step of a processor at the bank: its event, and its step on the word of a token if it is one
 abbrev pub deed_by : CpuId → Event → List WordStep → Deed
@@ -42,7 +42,7 @@ abbrev pub gives_clean : CpuId → ℕ → ℕ → Deed
 gives_clean cpu tok found = deed_by cpu (GiveClean cpu (named tok)) (sub tok 1 found ∷ [])
 
 abbrev pub gives_written : CpuId → ℕ → ℕ → Deed
-gives_written cpu tok found = deed_by cpu (GiveWritten cpu (named tok)) (add tok 262143 found ∷ [])
+gives_written cpu tok found = deed_by cpu (GiveWritten cpu (named tok)) (add tok one_section found ∷ [])
 
 -- the deed of a step on a cell: a load of this value, and a store of it
 abbrev pub reads : CpuId → ℕ → ℕ → ℕ → Deed

@@ -19,7 +19,7 @@ use Rattle.lwkt_core.specs.Machine.{Machine, Happens}
 use Rattle.lwkt_core.specs.History.{IsStepOver, Chronicle}
 use Rattle.lwkt_bank.specs.declared.views.Plan.{Plan}
 use Rattle.lwkt_bank.specs.declared.views.View.{View}
-use Rattle.lwkt_bank.specs.Views.{page_of}
+use Rattle.lwkt_bank.specs.Views.{one_section, page_of}
 use Rattle.lwkt_bank.specs.Rule.{Bench, Rule, token_at}
 
 -- the event is a step on a cell
@@ -51,7 +51,7 @@ IsOperation (Again cpu tok) operation met = operation ≡ Add 4
 IsOperation (Mark cpu tok) operation met = operation ≡ Or 2
 IsOperation (GiveOne cpu tok) operation met = operation ≡ Sub 4
 IsOperation (GiveClean cpu tok) operation met = operation ≡ Sub 1
-IsOperation (GiveWritten cpu tok) operation met = operation ≡ Add 262143
+IsOperation (GiveWritten cpu tok) operation met = operation ≡ Add one_section
 IsOperation (Read cpu tok cell value) operation met = ⊥
 IsOperation (Write cpu tok cell value) operation met = ⊥
 IsOperation (Send cpu msg to round) operation met = ⊥

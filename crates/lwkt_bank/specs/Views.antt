@@ -42,9 +42,17 @@ held_of entries tok = (at entries tok).held
 abbrev pub amount : ℕ → List Added → ℕ
 amount cpu added = sum_by (λ a. if a.cpu.0 == cpu then a.amount else 0) added
 
+-- how much one generation is in a token word
+abbrev pub one_generation : ℕ
+one_generation = 262144
+
+-- what the end of a written section adds to a token word: a generation, less the exclusive bit
+abbrev pub one_section : ℕ
+one_section = 262143
+
 -- the generation in a token word
 abbrev pub generation_in : ℕ → ℕ
-generation_in word = word / 262144
+generation_in word = word / one_generation
 
 -- the entry after the seat has seen this generation: a new one empties the known cells
 abbrev pub seen : Entry → ℕ → Entry

@@ -16,12 +16,13 @@ use crate::clerks::Desk;
 use crate::closed::Closed;
 use crate::gathers::gather;
 use crate::kept::Kept;
+use crate::places::{generation_in, word_of_cell, word_of_token};
 use crate::rooms::{blanks_for, closed_for, put, put_cells};
 use crate::rules::{BankRule, Key};
 use crate::seats::CpuSeat;
 use crate::views::{Plan, View};
 use atomic_table::{Closed as ClosedTable, Seat, Table};
-use lwkt_base::{Cells, Fault, Law};
+use lwkt_base::{Cells, Fault, Law, TokId};
 use lwkt_core::SeatKind;
 use std::alloc::{AllocError, Global};
 
@@ -99,6 +100,7 @@ fn tallies_of(kept: &[Kept], tok: usize, cpus: usize, mut tallies: Vec<u64>) -> 
 // The cells of a token.
 fn row_of(words: &[u64], tok: usize, cells: usize, mut row: Vec<u64>) -> Vec<u64>
     requires room { tok < 64 }
+    requires few { cells ≤ 4 }
     requires inside { cell_word tok cells ≤ length words.now }
     requires none { row.items ≡ [] }
     requires wide { cells ≤ vec_capacity row }
@@ -106,7 +108,7 @@ fn row_of(words: &[u64], tok: usize, cells: usize, mut row: Vec<u64>) -> Vec<u64
     ensures each { (cell : ℕ) → cell < cells → slice_index result.items cell ≡ slice_index words.now (cell_word tok cell) }
 {
     for cell in 0..cells {
-        put(&mut row, words[16 * tok + 2 + cell]);
+        put(&mut row, words[word_of_cell(TokId(tok as u8), cell as u8)]);
     }
     row
 }
@@ -151,7 +153,8 @@ fn close_token(
     let row = row_of(words, tok, plan.cells, blank.row);
     let tallies = tallies_by_law(plan, kept, tok, cpus, blank.tallies);
     put_cells(&mut closed.rows, Cells::from_vec(row));
-    put(&mut closed.gens, words[16 * tok + 1] / 262144);
+    let word = words[word_of_token(TokId(tok as u8))];
+    put(&mut closed.gens, generation_in(word));
     put_cells(&mut closed.tallies, Cells::from_vec(tallies));
 }
 

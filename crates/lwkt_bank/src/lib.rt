@@ -14,6 +14,7 @@ mod kept;
 pub mod laws;
 mod notes;
 mod opens;
+mod places;
 mod plans;
 mod plays;
 mod rests;

@@ -5,6 +5,7 @@ ghost use Rattle.lwkt_core.specs.Opening.{IsTokenWithin, AreWithin, AllOpenLawfu
 ghost use Rattle.lwkt_bank.specs.Rule.{law_number};
 ghost use Rattle.lwkt_bank.specs.Opened.{plan_of_spec, plans_of, block, opening_words};
 
+use crate::places::GENERATION;
 use crate::views::Plan;
 use lwkt_base::{LAST_GENERATION, Law, TokSpec};
 use lwkt_core::tokens::CPU_LIMIT;
@@ -92,7 +93,7 @@ fn block_of(spec: &TokSpec) -> [u64; 16]
 {
     let [first, second, third, fourth] = four_cells(spec.cells.as_slice());
     [
-        262144 * spec.generation,
+        GENERATION * spec.generation,
         first,
         second,
         third,

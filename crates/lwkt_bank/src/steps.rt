@@ -6,11 +6,12 @@ ghost use Rattle.lwkt_base.specs.declared.holdings.Held.{Held};
 ghost use Rattle.lwkt_base.specs.declared.laws.Law.TheVariants.{Tally};
 ghost use Rattle.lwkt_core.specs.Tokens.{IsNotLastExclusive};
 ghost use Rattle.lwkt_bank.specs.Views.{at, count_from, held_of};
-ghost use Rattle.lwkt_bank.specs.Rule.{token_word, cell_word, plan_at};
+ghost use Rattle.lwkt_bank.specs.Rule.{plan_at};
 ghost use Rattle.lwkt_bank.specs.Plays.{Amid, Looks, Exchanges, AddsOne, Marks, GivesOne, GivesClean, GivesWritten, ReadsCell, StoresCell, RaisesCell};
 ghost use Rattle.lwkt_bank.specs.Seats.{IsOf, IsSame, Decides};
 
 use crate::banks::Bank;
+use crate::places::{SECTION, word_of_cell, word_of_token};
 use crate::plays::{
     AddOne, GiveClean, GiveOne, GiveWritten, Look, RaiseCell, ReadCell, SetMark, Share, StoreCell,
     Take,
@@ -18,18 +19,6 @@ use crate::plays::{
 use crate::views::View;
 use atomic_table::Seat;
 use lwkt_base::{Decision, Mode, TokId};
-
-fn word_of_token(tok: TokId) -> usize
-    ensures { result ≡ token_word tok.0 }
-{
-    16 * tok.0 as usize + 1
-}
-
-fn word_of_cell(tok: TokId, cell: u8) -> usize
-    ensures { result ≡ cell_word tok.0 cell }
-{
-    16 * tok.0 as usize + 2 + cell as usize
-}
 
 pub(crate) fn look(bank: &Bank, seat: &mut Seat<(), View>, tok: TokId) -> u64
     requires of { IsOf bank.now seat.old }
@@ -129,7 +118,7 @@ pub(crate) fn give_written(bank: &Bank, seat: &mut Seat<(), View>, tok: TokId) -
     let word = word_of_token(tok);
     bank.table
         .shared
-        .fetch_add::<GiveWritten>(seat, word, 262143)
+        .fetch_add::<GiveWritten>(seat, word, SECTION)
 }
 
 pub(crate) fn read_cell(bank: &Bank, seat: &mut Seat<(), View>, tok: TokId, cell: u8) -> u64

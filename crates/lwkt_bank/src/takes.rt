@@ -6,6 +6,7 @@ ghost use Rattle.lwkt_bank.specs.Deeds.{adds_one, marks};
 ghost use Rattle.lwkt_bank.specs.Seats.{id_of, bank_of, tokens_of, entry, holding, references, Changes, Looked, Took, Lost, Tried, Decides, Hit, Miss, Stepped};
 
 use crate::banks::Bank;
+use crate::places::generation_in;
 use crate::seats::CpuSeat;
 use crate::steps;
 use crate::tries::Try;
@@ -76,7 +77,7 @@ impl CpuSeat {
             Decision::Take(next) => {
                 if self.take_at(bank, tok, mode, word, next) {
                     Try::Got {
-                        generation: word / 262144,
+                        generation: generation_in(word),
                     }
                 } else {
                     Try::Again

@@ -1,4 +1,4 @@
-use Rattle.std.proofs.Common.{◌≡◌, ◌≢◌, ℕ, ◌+◌, ◌-◌, ◌/◌, ◌<◌, ◌≤◌, Bool, true, false, cond, eqb, List, [], ◌∷◌, ◌++◌, length, take, get_or, refl, ap, sym, ◌∙◌, subst, arith, inl, inr, append_assoc}
+use Rattle.std.proofs.Common.{◌≡◌, ◌≢◌, ℕ, ◌+◌, ◌-◌, ◌<◌, ◌≤◌, Bool, true, false, cond, eqb, List, [], ◌∷◌, ◌++◌, length, take, get_or, refl, ap, sym, ◌∙◌, subst, arith, inl, inr, append_assoc}
 use Rattle.std.specs.Prelude.{Vec}
 use Rattle.std.specs.declared.alloc.Global.{Global}
 use Rattle.std.proofs.lemmas.Bool.{eqb-true, eqb-false, cases_Bool, false≢true}
@@ -11,7 +11,7 @@ use Rattle.lwkt_core.specs.declared.seats.Deed.{Deed}
 use Rattle.lwkt_bank.specs.declared.views.Entry.{Entry}
 use Rattle.lwkt_bank.specs.declared.seats.CpuSeat.{CpuSeat}
 use Rattle.lwkt_bank.specs.Seats.{entry, holding, Changes, Looked, Lost}
-use Rattle.lwkt_bank.specs.Views.{looked}
+use Rattle.lwkt_bank.specs.Views.{generation_in, looked}
 use Rattle.lwkt_bank.specs.Deeds.{loads, loses}
 use Rattle.lwkt_core.specs.History.{steps_in}
 use Rattle.lwkt_hold.specs.declared.answers.Missed.{Missed}
@@ -76,14 +76,14 @@ looked-row_if true e g = refl
 looked-row_if false e g = refl
 
 looked-row : (e : Entry) (word : ℕ) → (looked e word).row ≡ e.row
-looked-row e word = looked-row_if (eqb e.generation (word / 262144)) e (word / 262144)
+looked-row e word = looked-row_if (eqb e.generation (generation_in word)) e (generation_in word)
 
 looked-first_if : (b : Bool) (e : Entry) (g : ℕ) → (cond b e (record e { generation = g; known = [] })).first ≡ e.first
 looked-first_if true e g = refl
 looked-first_if false e g = refl
 
 looked-first : (e : Entry) (word : ℕ) → (looked e word).first ≡ e.first
-looked-first e word = looked-first_if (eqb e.generation (word / 262144)) e (word / 262144)
+looked-first e word = looked-first_if (eqb e.generation (generation_in word)) e (generation_in word)
 
 -- a mark leaves every row as it was
 pub stepped_rows : (s s' : CpuSeat) (tok : ℕ) (made : List Deed) → Changes s s' tok (entry s tok) made → (other : ℕ) → SameRow s s' other

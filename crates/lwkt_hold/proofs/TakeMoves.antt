@@ -1,4 +1,4 @@
-use Rattle.std.proofs.Common.{◌≡◌, ◌≢◌, ℕ, ◌+◌, ◌<◌, ◌≤◌, Bool, true, false, cond, eqb, List, [], ◌∷◌, ◌++◌, ◌/◌, length, take, get_or, refl, ap, sym, ◌∙◌, subst, arith, length-take, eq-eqb, ne_eqb, inl}
+use Rattle.std.proofs.Common.{◌≡◌, ◌≢◌, ℕ, ◌+◌, ◌<◌, ◌≤◌, Bool, true, false, cond, eqb, List, [], ◌∷◌, ◌++◌, length, take, get_or, refl, ap, sym, ◌∙◌, subst, arith, length-take, eq-eqb, ne_eqb, inl}
 use Rattle.std.specs.Prelude.{filter, Vec, vec_len, vec_capacity, Some, slice_get}
 use Rattle.std.specs.List.{AllZip}
 use Rattle.std.specs.declared.alloc.Global.{Global}
@@ -20,7 +20,7 @@ use Rattle.lwkt_core.specs.declared.seats.WordStep.{WordStep}
 use Rattle.lwkt_core.specs.Events.{cpu_of}
 use Rattle.lwkt_bank.specs.declared.views.Entry.{Entry}
 use Rattle.lwkt_bank.specs.declared.seats.CpuSeat.{CpuSeat}
-use Rattle.lwkt_bank.specs.Views.{count_from, looked, taken, more, load, exchange}
+use Rattle.lwkt_bank.specs.Views.{count_from, generation_in, looked, taken, more, load, exchange}
 use Rattle.lwkt_bank.specs.Deeds.{take_event, loads, takes, loses, adds_one}
 use Rattle.lwkt_bank.specs.Seats.{bank_of, tokens_of, entry, holding, references, steps_of, Looked, Took, Lost, Stepped}
 use Rattle.lwkt_hold.specs.declared.answers.Missed.{Missed}
@@ -93,7 +93,7 @@ looked_if true e g = refl
 looked_if false e g = refl
 
 pub looked-held : (e : Entry) (word : ℕ) → (looked e word).held ≡ e.held
-looked-held e word = looked_if (eqb e.generation (word / 262144)) e (word / 262144)
+looked-held e word = looked_if (eqb e.generation (generation_in word)) e (generation_in word)
 
 -- a further reference is taken
 pub again_holds : (s s' : CpuSeat) (refs : List Ref) (at : ℕ) (d : Ref) → at < length refs → holding s ≡ holding_of (take at refs) → names (take at refs) (get_or refs at d).tok.0 ≡ true → Stepped s s' (get_or refs at d).tok.0 (more (entry s (get_or refs at d).tok.0)) adds_one → (holding s' ≡ added (holding s) (get_or refs at d).tok.0 Shared) × (holding s' ≡ holding_of (take (at + 1) refs))

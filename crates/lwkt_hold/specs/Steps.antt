@@ -5,6 +5,7 @@ use Rattle.lwkt_base.specs.declared.names.Mode.{Mode}
 use Rattle.lwkt_base.specs.declared.names.Mode.TheVariants.{Exclusive, Shared}
 use Rattle.lwkt_base.specs.Holding.{Holding, added, removed}
 use Rattle.lwkt_core.specs.declared.events.Event.{Event}
+use Rattle.lwkt_bank.specs.Views.{one_section}
 use Rattle.lwkt_core.specs.declared.events.Event.TheVariants.{Load, Take, Share, Again, Mark, GiveOne, GiveClean, GiveWritten, Read, Write, Send, TakeMsg, DropMsg, Reply, Reap, Abort}
 use Rattle.lwkt_core.specs.declared.seats.WordStep.{WordStep}
 use Rattle.lwkt_core.specs.declared.seats.Operation.{Operation}
@@ -111,7 +112,7 @@ Shows s (Again cpu tok) = (s.at ≡ tok.0) × (s.operation ≡ Add 4)
 Shows s (Mark cpu tok) = (s.at ≡ tok.0) × (s.operation ≡ Or 2)
 Shows s (GiveOne cpu tok) = (s.at ≡ tok.0) × (s.operation ≡ Sub 4)
 Shows s (GiveClean cpu tok) = (s.at ≡ tok.0) × (s.operation ≡ Sub 1)
-Shows s (GiveWritten cpu tok) = (s.at ≡ tok.0) × (s.operation ≡ Add 262143)
+Shows s (GiveWritten cpu tok) = (s.at ≡ tok.0) × (s.operation ≡ Add one_section)
 Shows s (Load cpu tok) = ⊥
 Shows s (Read cpu tok cell value) = ⊥
 Shows s (Write cpu tok cell value) = ⊥
