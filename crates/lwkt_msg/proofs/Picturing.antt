@@ -1,4 +1,4 @@
-use Rattle.std.proofs.Common.{◌≡◌, inl, inr, ℕ, zero, suc, ◌<◌, ◌≤◌, List, [], ◌∷◌, ◌++◌, length, map, set, get_or, All, refl, ap, sym, ◌∙◌, subst, arith, get_or-set_same}
+use Rattle.std.proofs.Common.{◌≡◌, inl, inr, ℕ, zero, suc, ◌<◌, ◌≤◌, List, [], ◌∷◌, ◌++◌, length, map, set, get_or, All, refl, ap, sym, ◌∙◌, subst, arith, get_or-set_same, get_or-set_other}
 use Rattle.std.proofs.lemmas.List.Elements.{All-from_get_or}
 use mathlib.Core.Option.{Option, some}
 use lib.ListN.{get_elem?, length-map}
@@ -10,21 +10,19 @@ use Rattle.lwkt_base.specs.declared.records.Rec.{Rec}
 use Rattle.lwkt_base.specs.MessageWord.{message_word}
 use Rattle.lwkt_core.specs.declared.messages.Message.{Message}
 use Rattle.lwkt_core.specs.declared.seats.Operation.TheVariants as operation
-use Rattle.lwkt_core.specs.declared.seats.WordStep.{WordStep}
-use Rattle.lwkt_core.specs.declared.seats.Deed.{Deed}
 use Rattle.lwkt_core.specs.Messages.{IsSafeMessage, in_out, in_with}
-use Rattle.lwkt_core.specs.History.{IsStepOver, Page, Chronicle}
+use Rattle.lwkt_core.specs.History.{IsStepOver, Page, Chronicle, steps_by, steps_in, events_by, events_in}
 use Rattle.lwkt_core.proofs.SeatingLemmas.{map-set, set_again, at_map}
-use Rattle.lwkt_core.proofs.HistoryLemmas.{Passes-run}
+use Rattle.lwkt_core.proofs.HistoryLemmas.{Passes-run, steps_by-grows, events_by-grows}
 use Rattle.lwkt_core.proofs.ChronicleLemmas.{Chronicle-same, Chronicle-decides}
 use Rattle.lwkt_core.proofs.ViewLemmas.{Views-between, Views-one_more, Views-was_done}
 use Rattle.lwkt_msg.specs.declared.views.Layout.{Layout}
 use Rattle.lwkt_msg.specs.declared.views.View.{View}
-use Rattle.lwkt_msg.specs.Views.{word_at, slot_at, at, looked, page_of}
+use Rattle.lwkt_msg.specs.Views.{word_at, slot_at, at, looked, seat_cpu, who, page_of}
 use Rattle.lwkt_msg.specs.Book.{Mail, parts_of, in_slot, mail_at, no_mail}
 use Rattle.lwkt_msg.specs.Steps.{machine_of}
 use Rattle.lwkt_msg.specs.Told.{IsDone, first_mails, Told}
-use Rattle.lwkt_msg.specs.Laws.{EachStateIsSafe, EachSendAtMostOnce, EachStateIsReached, ViewsDecide, OpeningIsDeclared, IsStepOfSeat, LoadIsLook, LostExchangeIsLook, HandingOutIsLook, StoreIsSend, ExchangeIsTake, AddIsReply, StoreIsReap, ExchangeIsDrop, OrIsAbort, SeatingIsNoDeed, NotedIsDone, UnnotedChangesNothing}
+use Rattle.lwkt_msg.specs.Laws.{RuleShowsSafety, EachSendAtMostOnce, StatesAreReached, ViewsDecide, OpeningIsDeclared, IsMade, LoadIsLook, LostExchangeIsLook, HandingOutIsLook, StoreIsSend, ExchangeIsTake, AddIsReply, StoreIsReap, ExchangeIsDrop, OrIsAbort, SeatingIsNoDeed, MadeAsTold, NothingUntold, DeedsAreTold}
 use Rattle.lwkt_msg.proofs.Moves.{look_mine}
 use Rattle.lwkt_msg.proofs.Splitting.{seat_told, whole_told, joined_told, rule_opens}
 use Rattle.lwkt_msg.proofs.Running.{done_runs}
@@ -40,7 +38,7 @@ msg_at mails i d h = shown mails i h
     shown (x ∷ xs) zero h = refl
     shown (x ∷ xs) (suc k) h = shown xs k (omega arith)
 
-pub state_is_safe : EachStateIsSafe
+pub state_is_safe : RuleShowsSafety
 state_is_safe key s told =
     let book = told.rule.book in
     let mails : List Mail = told.rule.mails in
@@ -87,7 +85,7 @@ sends_at_most_once key s told m there =
     let d = one_with (mail_at told.rule.mails m).msg.owner in
     (omega arith, omega arith, omega arith, omega arith)
 
-pub state_is_reached : EachStateIsReached
+pub state_is_reached : StatesAreReached
 state_is_reached key s told = (
   told.chronicle.passes,
   Passes-run (IsDone key.cpus) (λ (ms : List Mail). machine_of key.cpus ms) (done_runs key.cpus) (first_mails key.specs.items) told.chronicle.history told.rule.mails told.chronicle.passes,
@@ -139,27 +137,18 @@ seating_is_no_deed key s told id v e = (
   (λ other w made back cpu is_clerk is_seat apart d. joined_told key s told id v other w made back cpu e is_clerk is_seat apart d),
 )
 
--- the page of a view after a step of its seat
-page_after : (v w : View) (cpu : CpuId) (past : List Deed) → IsStepOfSeat v w cpu past → page_of w ≡ record { kind = v.kind; past = past; chapters = v.chapters }
-page_after v w cpu past h = λ i. record { kind = h.same i; past = h.past_is i; chapters = h.chapters i }
-
 -- a word of the table shows its message
 shows : (key : Layout) (s : State Rec View) (told : Told key s) (m : ℕ) → m < length key.specs.items → get_or s.words (word_at m) 0 ≡ message_word (parts_of (mail_at told.rule.mails m))
 shows key s told m there = (told.rule.book.each m there).is_word
 
-pub noted_is_done : NotedIsDone
-noted_is_done key s told id v w cpu between d i n hands act after e h others own =
-    let page = page_after v w cpu (v.past ++ (between ++ d ∷ [])) h in
-    let more = Views-one_more (IsDone key.cpus) page_of (first_mails key.specs.items) told.rule.mails after.rule.mails s.views told.chronicle id v w after.chronicle e key.cpus told.rule.book.seated cpu between d h.kind own others page in
-    let done = Views-was_done (IsDone key.cpus) page_of (first_mails key.specs.items) told.rule.mails after.rule.mails s.views told.chronicle id v w after.chronicle e key.cpus told.rule.book.seated cpu between d h.kind own others page (done_decides key.cpus) in
-    (record { done = done; grown = more }, λ step steps. over done step steps)
+pub noted_is_done : MadeAsTold
+noted_is_done key s told id v w cpu between d i n hands act after e is_seat own others page =
+    let more = Views-one_more (IsDone key.cpus) page_of (first_mails key.specs.items) told.rule.mails after.rule.mails s.views told.chronicle id v w after.chronicle e key.cpus told.rule.book.seated cpu between d is_seat own others page in
+    let done = Views-was_done (IsDone key.cpus) page_of (first_mails key.specs.items) told.rule.mails after.rule.mails s.views told.chronicle id v w after.chronicle e key.cpus told.rule.book.seated cpu between d is_seat own others page (done_decides key.cpus) in
+    (record { done = done; grown = more }, made done)
   where
-    words' : List ℕ
-    words' = set s.words i n
-
-    over : (done : IsDone key.cpus told.rule.mails d after.rule.mails) (step : WordStep) → d.steps ≡ step ∷ [] → (step.at < length key.specs.items) × IsStepOver (get_or s.words (word_at step.at) 0) (get_or (set s.words i n) (word_at step.at) 0) step
-    over done step steps =
-        let same : done.step ≡ step = ap (λ (xs : List WordStep). get_or xs 0 step) (sym done.steps ∙ steps) in
+    made : IsDone key.cpus told.rule.mails d after.rule.mails → IsMade (length key.specs.items) s.words (set s.words i n) d
+    made done =
         let m : ℕ = done.step.at in
         let there : m < length key.specs.items = let a = done.there in let b = told.rule.book.as_many in omega arith in
         let before = shows key s told m there in
@@ -167,12 +156,18 @@ noted_is_done key s told id v w cpu between d i n hands act after e h others own
         let left : get_or (set s.words i n) (word_at m) 0 ≡ message_word (parts_of done.after) = shows key (stepped s i n id hands w act) after m there ∙ ap (λ (x : Mail). message_word (parts_of x)) mail_is in
         let F : ℕ → Type 0 = λ x. IsStepOver x (get_or (set s.words i n) (word_at m) 0) done.step in
         let G : ℕ → Type 0 = λ x. IsStepOver (message_word (parts_of (mail_at told.rule.mails m))) x done.step in
-        let H : WordStep → Type 0 = λ t. (t.at < length key.specs.items) × IsStepOver (get_or s.words (word_at t.at) 0) (get_or (set s.words i n) (word_at t.at) 0) t in
-        subst H same (there, subst F (sym before) (subst G (sym left) done.over))
+        record {
+          step = done.step;
+          steps = done.steps;
+          there = there;
+          over = subst F (sym before) (subst G (sym left) done.over);
+          else_same = λ k within apart.
+              let same : mail_at after.rule.mails k ≡ mail_at told.rule.mails k = ap (λ (xs : List Mail). mail_at xs k) done.leaves ∙ get_or-set_other told.rule.mails m k done.after no_mail apart in
+              shows key (stepped s i n id hands w act) after k within ∙ (ap (λ (x : Mail). message_word (parts_of x)) same ∙ sym (shows key s told k within));
+        }
 
-pub unnoted_changes_nothing : UnnotedChangesNothing
-unnoted_changes_nothing key s told id v w cpu i n hands act after e h =
-    let page = page_after v w cpu v.past h in
+pub unnoted_changes_nothing : NothingUntold
+unnoted_changes_nothing key s told id v w i n hands act after e page =
     let pages : map page_of (set s.views id w) ≡ map page_of s.views
     = map-set page_of s.views id w ∙ (ap (λ (p : Page). set (map page_of s.views) id p) page ∙ set_again (map page_of s.views) id (page_of v) (at_map page_of s.views id v e)) in
     let F : List Page → Type 0 = λ ps. (q : Chronicle (IsDone key.cpus) (first_mails key.specs.items) ps after.rule.mails) × (q.history ≡ after.chronicle.history) in
@@ -190,3 +185,9 @@ unnoted_changes_nothing key s told id v w cpu i n hands act after e h =
     slot_same same m there =
         let held : Mail → Option (Option Rec) = λ x. some (in_slot x.msg.owner x.had x.rec) in
         (after.rule.book.each m there).slot ∙ (ap (λ (xs : List Mail). held (mail_at xs m)) same ∙ sym (told.rule.book.each m there).slot)
+
+pub deeds_told : DeedsAreTold
+deeds_told v w m e deeds does own =
+    let same : who w ≡ who v = ap seat_cpu does.kind in
+    let F : CpuId → Type 0 = λ c. (steps_by c.0 w.past ≡ steps_by (who v).0 v.past ++ steps_in deeds) × (events_by c.0 w.past ≡ events_by (who v).0 v.past ++ events_in deeds) in
+    subst F (sym same) (steps_by-grows (who v).0 v.past deeds w.past does.grows own, events_by-grows (who v).0 v.past deeds w.past does.grows own)

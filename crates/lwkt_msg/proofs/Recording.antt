@@ -19,13 +19,14 @@ use Rattle.lwkt_core.specs.declared.seats.Deed.{Deed}
 use Rattle.lwkt_core.specs.declared.seats.WordStep.{WordStep}
 use Rattle.lwkt_core.specs.Events.{place_of}
 use Rattle.lwkt_core.specs.Machine.{PlaceNeeds}
-use Rattle.lwkt_core.specs.Messages.{MessageNeeds, message_after, IsOutTo, IsWith}
+use Rattle.lwkt_core.specs.Messages.{MessageNeeds, message_after, IsOutTo, IsOutFrom, IsWith, IsBackTo}
 use Rattle.lwkt_core.specs.History.{Passes}
+use Rattle.lwkt_core.proofs.HistoryLemmas.{Passes-split}
 use Rattle.lwkt_msg.specs.Views.{named, call_of}
 use Rattle.lwkt_msg.specs.Book.{Mail, mail_at, no_mail, opened_mail}
 use Rattle.lwkt_msg.specs.Steps.{machine_of}
 use Rattle.lwkt_msg.specs.Told.{IsRecordOf, IsHandedOut, IsLook, IsEvent, IsDone, first_mails}
-use Rattle.lwkt_msg.specs.Records.{IsSendOf, IsReplyOf, WasSent, WasAnswered, IsPosted, HistoryTellsRecords}
+use Rattle.lwkt_msg.specs.Records.{IsSendOf, IsReplyOf, WasSent, WasAnswered, IsPosted, HistoryTellsRecords, FoundIsWhatWasPut}
 use Rattle.lwkt_msg.proofs.Leading.{shown_at}
 
 -- a list is not empty, and its first element is one
@@ -224,3 +225,59 @@ records_told cpus specs history mails passes m there =
     let in_specs : m < length specs = let l = length-map specs opened_mail in omega arith in
     let F : Owner → Type 0 = λ o. IsPosted [] m o (mail_at first m).rec in
     (posted_after cpus m [] history first mails (in_first, subst F (sym (first_owner specs m in_specs)) tt) passes).1
+
+-- a message that came back to its origin
+back_is : (cpu : CpuId) (o : Owner) → IsBackTo cpu o → (deeds : List Deed) (m : ℕ) (rec : Rec) → IsPosted deeds m o rec → WasAnswered deeds m rec
+back_is cpu (Rest o) h deeds m rec p = absurd h
+back_is cpu (Out o t) h deeds m rec p = absurd h
+back_is cpu (With o t) h deeds m rec p = absurd h
+back_is cpu (Back o t) h deeds m rec p = p
+
+from_is : (cpu : CpuId) (o : Owner) → IsOutFrom cpu o → (deeds : List Deed) (m : ℕ) (rec : Rec) → IsPosted deeds m o rec → WasSent deeds m rec
+from_is cpu (Rest o) h deeds m rec p = absurd h
+from_is cpu (Out o t) h deeds m rec p = p
+from_is cpu (With o t) h deeds m rec p = absurd h
+from_is cpu (Back o t) h deeds m rec p = absurd h
+
+-- what the event of a deed needs of its message, and does to its record
+record IsEventAt (cpus : ℕ) (mails : List Mail) (m : ℕ) (d : Deed) (event : Event) : Type 0 where
+  there : m < length mails
+  after : Rec
+  needs : MessageNeeds cpus (mail_at mails m).msg event
+  record_is : IsRecordOf event (mail_at mails m).rec after d.records
+
+event_at : (cpus m : ℕ) (mails : List Mail) (d : Deed) (others : List Mail) (event : Event) → IsDone cpus mails d others → d.events ≡ event ∷ [] → place_of event ≡ AtMessage m → IsEventAt cpus mails m d event
+event_at cpus m mails d others event done is place = ⊎_elim
+    (λ (look : IsLook (mail_at mails done.step.at) d done.step done.after). absurd (some_event event d.events look.events is))
+    (λ (did : IsEvent cpus mails done.step.at d done.step done.after).
+    let same : did.event ≡ event = same_event did.event event (sym did.events ∙ is) in
+    let at_m : done.step.at ≡ m = ap message_in (sym did.place ∙ (ap place_of same ∙ place)) in
+    let F : ℕ → Event → Type 0 = λ k e. IsEventAt cpus mails k d e in
+    let here : F done.step.at did.event = record { there = done.there; after = done.after.rec; needs = needs_at cpus mails did.event done.step.at done.there did.place did.happens.0.place; record_is = did.record_is } in
+    subst (F m) same (subst (λ (k : ℕ). F k did.event) at_m here))
+    done.what
+
+pub found_is_put : FoundIsWhatWasPut
+found_is_put cpus specs front back d mails m passes found is = (
+  (λ take.
+      let at_m = event_at cpus m mid d cut.1.1.0 (TakeMsg take.0 (named m) take.1.0) done take.1.1 refl in
+      ((mail_at mid m).rec, (sym is ∙ at_m.record_is.0, out_is take.0 (mail_at mid m).msg.owner at_m.needs.0 front m (mail_at mid m).rec (posted at_m.there)))),
+  (λ drop.
+      let at_m = event_at cpus m mid d cut.1.1.0 (DropMsg drop.0 (named m)) done drop.1 refl in
+      ((mail_at mid m).rec, (sym is ∙ at_m.record_is.0, from_is drop.0 (mail_at mid m).msg.owner at_m.needs front m (mail_at mid m).rec (posted at_m.there)))),
+  (λ reap.
+      let at_m = event_at cpus m mid d cut.1.1.0 (Reap reap.0 (named m)) done reap.1 refl in
+      ((mail_at mid m).rec, (sym is ∙ at_m.record_is.0, back_is reap.0 (mail_at mid m).msg.owner at_m.needs front m (mail_at mid m).rec (posted at_m.there)))),
+)
+  where
+    cut : (k : List Mail) × (Passes (IsDone cpus) (first_mails specs) front k × Passes (IsDone cpus) k (d ∷ back) mails)
+    cut = Passes-split (IsDone cpus) (first_mails specs) front (d ∷ back) mails passes
+
+    mid : List Mail
+    mid = cut.0
+
+    done : IsDone cpus mid d cut.1.1.0
+    done = cut.1.1.1.0
+
+    posted : m < length mid → IsPosted front m (mail_at mid m).msg.owner (mail_at mid m).rec
+    posted there = records_told cpus specs front mid cut.1.0 m there

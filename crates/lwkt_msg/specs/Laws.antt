@@ -15,20 +15,22 @@ use Rattle.lwkt_core.specs.declared.seats.Deed.{Deed}
 use Rattle.lwkt_core.specs.Machine.{IsSafe}
 use Rattle.lwkt_core.specs.Opening.{AreWithin}
 use Rattle.lwkt_core.specs.Trace.{Run}
-use Rattle.lwkt_core.specs.History.{AreOthers, IsStepOver, IsPastOf, Passes, events_in}
+use Rattle.lwkt_core.specs.History.{AreOthers, AreOwn, IsStepOver, IsPastOf, Passes, events_in, events_by, steps_in, steps_by, noted_page}
+use Rattle.lwkt_msg.specs.declared.views.Entry.{Entry}
 use Rattle.lwkt_msg.specs.declared.views.Layout.{Layout}
 use Rattle.lwkt_msg.specs.declared.views.View.{View}
-use Rattle.lwkt_msg.specs.Views.{slot_at, word_at, call_of, at, looked, handed, sent, took, replied, reaped, dropped, requested, clerk_left, seat_right, spent_left, whole_right, clerk_both, spent_view}
+use Rattle.lwkt_msg.specs.Views.{slot_at, word_at, call_of, at, who, page_of, looked, handed, sent, took, replied, reaped, dropped, requested, clerk_left, seat_right, spent_left, whole_right, clerk_both, spent_view}
 use Rattle.lwkt_msg.specs.Book.{parts_of, mail_at, IsBook, first_view, no_rec}
 use Rattle.lwkt_msg.specs.Hands.{IsOwn}
 use Rattle.lwkt_msg.specs.Steps.{sent_word, rest_word, machine_of}
 use Rattle.lwkt_msg.specs.Deeds as deed
+use Rattle.lwkt_msg.specs.Calls.{Does}
 use Rattle.lwkt_msg.specs.Desks.{AreOpeningWords}
 use Rattle.lwkt_msg.specs.Told.{IsDone, first_mails, Told, IsNext, IsSame, Opens, Tells}
 
 -- each state of a book's table shows a machine whose messages are all safe: each has one owner
-abbrev pub EachStateIsSafe : Type 0
-EachStateIsSafe = (key : Layout) (s : State Rec View) (told : Told key s) → IsBook key told.rule.mails s × IsSafe (machine_of key.cpus told.rule.mails)
+abbrev pub RuleShowsSafety : Type 0
+RuleShowsSafety = (key : Layout) (s : State Rec View) (told : Told key s) → IsBook key told.rule.mails s × IsSafe (machine_of key.cpus told.rule.mails)
 
 -- in each state each send was taken or dropped at most once, and replied to at most once; what was replied to and not reaped yet
 -- is at most one
@@ -41,8 +43,8 @@ EachSendAtMostOnce = (key : Layout) (s : State Rec View) (told : Told key s) (m 
 
 -- each state is reached by one history of deeds from the messages that were declared, whose events are a run of the model, and of
 -- which each seat has seen the front up to its own last deed
-abbrev pub EachStateIsReached : Type 0
-EachStateIsReached = (key : Layout) (s : State Rec View) (told : Told key s) →
+abbrev pub StatesAreReached : Type 0
+StatesAreReached = (key : Layout) (s : State Rec View) (told : Told key s) →
     Passes (IsDone key.cpus) (first_mails key.specs.items) told.chronicle.history told.rule.mails
     × Run (machine_of key.cpus (first_mails key.specs.items)) (events_in told.chronicle.history) (machine_of key.cpus told.rule.mails)
     × ((id : ℕ) (v : View) (cpu : CpuId) → get_elem? s.views id ≡ some v → v.kind ≡ Of cpu → IsPastOf told.chronicle.history cpu.0 v.past)
@@ -115,25 +117,29 @@ SeatingIsNoDeed = (key : Layout) (s : State Rec View) (told : Told key s) (id : 
     × ((other : ℕ) (w : View) (made back : ℕ) (cpu : CpuId) → v.kind ≡ Clerk made back → w.kind ≡ Of cpu → other ≢ id → get_elem? (slice_set s.views id (clerk_both v w)) other ≡ some w
     → IsSame key s record { words = s.words; homes = s.homes; views = slice_set (slice_set s.views id (clerk_both v w)) other spent_view } told)
 
--- a step of a seat's view that keeps whose it is and the chapters
-pub record IsStepOfSeat (v w : View) (cpu : CpuId) (past : List Deed) : Type 0 where
-  pub kind : v.kind ≡ Of cpu
-  pub same : w.kind ≡ v.kind
-  pub chapters : w.chapters ≡ v.chapters
-  pub past_is : w.past ≡ past
+-- what a deed made of the words of so many messages: its step met and left the word of its message, and every other is as it was
+pub record IsMade (count : ℕ) (words others : List ℕ) (d : Deed) : Type 0 where
+  pub step : WordStep
+  pub steps : d.steps ≡ step ∷ []
+  pub there : step.at < count
+  pub over : IsStepOver (slice_index words (word_at step.at)) (slice_index others (word_at step.at)) step
+  pub else_same : (m : ℕ) → m < count → m ≢ step.at → slice_index others (word_at m) ≡ slice_index words (word_at m)
 
--- whatever play a seat makes: what it notes is what it did. After a step of the table by which its past has one deed more, the
--- history has that deed more, the deed is done between the messages before and after, and the word of each message that the deed has
--- a step on was met and left as the step says
-abbrev pub NotedIsDone : Type 0
-NotedIsDone = (key : Layout) (s : State Rec View) (told : Told key s) (id : ℕ) (v w : View) (cpu : CpuId) (between : List Deed) (d : Deed) (i n : ℕ) (hands : List (ℕ × Rec)) (act : Act Rec) (after : Told key (stepped s i n id hands w act))
-    → get_elem? s.views id ≡ some v → IsStepOfSeat v w cpu (v.past ++ (between ++ d ∷ [])) → AreOthers cpu.0 between → d.cpu ≡ cpu
-    → IsNext key s (stepped s i n id hands w act) told d after
-    × ((step : WordStep) → d.steps ≡ step ∷ [] → (step.at < length key.specs.items) × IsStepOver (slice_index s.words (word_at step.at)) (slice_index (slice_set s.words i n) (word_at step.at)) step)
+-- whatever a play of a seat notes is what it made: in any state of the rule, where one word becomes any number, any records are taken
+-- or given back, and the seat notes any deed, after which the rule holds. Then the history has that deed more, and it is done between
+-- the messages before and after
+abbrev pub MadeAsTold : Type 0
+MadeAsTold = (key : Layout) (s : State Rec View) (told : Told key s) (id : ℕ) (v w : View) (cpu : CpuId) (between : List Deed) (d : Deed) (i n : ℕ) (hands : List (ℕ × Rec)) (act : Act Rec) (after : Told key (stepped s i n id hands w act))
+    → get_elem? s.views id ≡ some v → v.kind ≡ Of cpu → d.cpu ≡ cpu → AreOthers cpu.0 between → page_of w ≡ noted_page (page_of v) between d
+    → IsNext key s (stepped s i n id hands w act) told d after × IsMade (length key.specs.items) s.words (slice_set s.words i n) d
 
--- and no change goes unnoted: after a step of the table by which a seat notes no deed, each message and its word are as before
-abbrev pub UnnotedChangesNothing : Type 0
-UnnotedChangesNothing = (key : Layout) (s : State Rec View) (told : Told key s) (id : ℕ) (v w : View) (cpu : CpuId) (i n : ℕ) (hands : List (ℕ × Rec)) (act : Act Rec) (after : Told key (stepped s i n id hands w act))
-    → get_elem? s.views id ≡ some v → IsStepOfSeat v w cpu v.past
+-- and where it notes nothing, no message, no word of one and no slot of one has changed
+abbrev pub NothingUntold : Type 0
+NothingUntold = (key : Layout) (s : State Rec View) (told : Told key s) (id : ℕ) (v w : View) (i n : ℕ) (hands : List (ℕ × Rec)) (act : Act Rec) (after : Told key (stepped s i n id hands w act))
+    → get_elem? s.views id ≡ some v → page_of w ≡ page_of v
     → (after.rule.mails ≡ told.rule.mails) × (after.chronicle.history ≡ told.chronicle.history)
     × ((m : ℕ) → m < length key.specs.items → (slice_index (slice_set s.words i n) (word_at m) ≡ slice_index s.words (word_at m)) × (get_elem? (homes_after s.homes hands act) (slot_at m) ≡ get_elem? s.homes (slot_at m)))
+
+-- what a call's deeds tell of its seat's steps on words and of its events: they are appended, in order
+abbrev pub DeedsAreTold : Type 0
+DeedsAreTold = (v w : View) (m : ℕ) (e : Entry) (deeds : List Deed) → Does v w m e deeds → AreOwn (who v).0 deeds → (steps_by (who w).0 w.past ≡ steps_by (who v).0 v.past ++ steps_in deeds) × (events_by (who w).0 w.past ≡ events_by (who v).0 v.past ++ events_in deeds)

@@ -4,7 +4,7 @@ use Rattle.lwkt_base.specs.declared.openings.MsgSpec.{MsgSpec}
 use Rattle.lwkt_base.specs.declared.owners.Owner.{Owner}
 use Rattle.lwkt_base.specs.declared.owners.Owner.TheVariants.{Rest, Out, With, Back}
 use Rattle.lwkt_base.specs.declared.records.Rec.{Rec}
-use Rattle.lwkt_core.specs.declared.events.Event.TheVariants.{Send, Reply}
+use Rattle.lwkt_core.specs.declared.events.Event.TheVariants.{Send, TakeMsg, DropMsg, Reply, Reap}
 use Rattle.lwkt_core.specs.declared.seats.Deed.{Deed}
 use Rattle.lwkt_core.specs.History.{Passes}
 use Rattle.lwkt_msg.specs.Views.{named, call_of}
@@ -58,6 +58,24 @@ IsPosted deeds m (Back origin target) rec = WasAnswered deeds m rec
 -- so it is after any history that begins with the messages declared
 abbrev pub HistoryTellsRecords : Type 0
 HistoryTellsRecords = (cpus : ℕ) (specs : List MsgSpec) (history : List Deed) (mails : List Mail) → Passes (IsDone cpus) (first_mails specs) history mails → (m : ℕ) → m < length mails → IsPosted history m (mail_at mails m).msg.owner (mail_at mails m).rec
+
+-- a deed takes this message, drops it, or reaps it
+abbrev pub IsTakeOf : ℕ → Deed → Type 0
+IsTakeOf m d = (cpu : CpuId) × ((round : ℕ) × (d.events ≡ TakeMsg cpu (named m) round ∷ []))
+
+abbrev pub IsDropOf : ℕ → Deed → Type 0
+IsDropOf m d = (cpu : CpuId) × (d.events ≡ DropMsg cpu (named m) ∷ [])
+
+abbrev pub IsReapOf : ℕ → Deed → Type 0
+IsReapOf m d = (cpu : CpuId) × (d.events ≡ Reap cpu (named m) ∷ [])
+
+-- in a history, what a take or a drop found in the record is what the last send of the message put there, and what a reap found is
+-- that with what the one reply since put there
+abbrev pub FoundIsWhatWasPut : Type 0
+FoundIsWhatWasPut = (cpus : ℕ) (specs : List MsgSpec) (front back : List Deed) (d : Deed) (mails : List Mail) (m : ℕ) → Passes (IsDone cpus) (first_mails specs) (front ++ (d ∷ back)) mails → (found : List Rec) → d.records ≡ found
+    → (IsTakeOf m d → (rec : Rec) × ((found ≡ rec ∷ []) × WasSent front m rec))
+    × (IsDropOf m d → (rec : Rec) × ((found ≡ rec ∷ []) × WasSent front m rec))
+    × (IsReapOf m d → (rec : Rec) × ((found ≡ rec ∷ []) × WasAnswered front m rec))
 
 -- the front of a past up to the seat's last deed, and that deed, of which this is so
 abbrev pub Last : List Deed → Deed → (List Deed → Type 0) → Type 0

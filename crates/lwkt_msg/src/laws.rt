@@ -1,44 +1,47 @@
-//! What the rule of the book means in the model's words. The functions do nothing: their contracts are the laws.
+//! What the book's rule is for, as laws. The functions do nothing: their contracts are the laws.
 ghost use Rattle.atomic_table.specs.Table.{State};
 ghost use Rattle.lwkt_base.specs.declared.records.Rec.{Rec};
 ghost use Rattle.lwkt_msg.specs.declared.views.Layout.{Layout};
 ghost use Rattle.lwkt_msg.specs.declared.views.View.{View};
 ghost use Rattle.lwkt_msg.specs.Told.{Told};
-ghost use Rattle.lwkt_msg.specs.Records.{HistoryTellsRecords};
-ghost use Rattle.lwkt_msg.specs.Laws.{EachStateIsSafe, EachSendAtMostOnce, EachStateIsReached, ViewsDecide, OpeningIsDeclared, LoadIsLook, LostExchangeIsLook, HandingOutIsLook, StoreIsSend, ExchangeIsTake, AddIsReply, StoreIsReap, ExchangeIsDrop, OrIsAbort, SeatingIsNoDeed, NotedIsDone, UnnotedChangesNothing};
+ghost use Rattle.lwkt_msg.specs.Records.{FoundIsWhatWasPut, HistoryTellsRecords};
+ghost use Rattle.lwkt_msg.specs.Laws.{RuleShowsSafety, EachSendAtMostOnce, StatesAreReached, ViewsDecide, OpeningIsDeclared, LoadIsLook, LostExchangeIsLook, HandingOutIsLook, StoreIsSend, ExchangeIsTake, AddIsReply, StoreIsReap, ExchangeIsDrop, OrIsAbort, SeatingIsNoDeed, MadeAsTold, NothingUntold, DeedsAreTold};
 
 use crate::rules::BookRule;
 use crate::views::{Layout, View};
 use atomic_table::TableRule;
 use lwkt_base::Rec;
 
-// A table that keeps this rule keeps the rule of these laws.
-fn is_the_rule<P: TableRule<Rec, View, Layout>>()
-    requires { (key : Layout) (s : State Rec View) → (P.holds key s → Told key s) × (Told key s → P.holds key s) }
-{}
-
-/// The rule of these laws is the one that a book's table keeps: `BookRule` meets what this asks.
-pub fn the_table_keeps_the_rule() {
-    is_the_rule::<BookRule>();
-}
-
-/// Each state that a book's table can be in shows a safe machine of the model: every message has one owner, and each send
-/// was taken or dropped at most once and replied to at most once.
-pub fn each_state_is_safe()
-    ensures safe { EachStateIsSafe }
+/// Every state of the table that meets the rule shows a safe machine of the model: every message has one owner, and each send
+/// was taken or dropped at most once and replied to at most once. The kit keeps the rule between any two steps of any number
+/// of seats.
+pub fn rule_shows_safety()
+    ensures safe { RuleShowsSafety }
     ensures once { EachSendAtMostOnce }
 {}
 
-/// Each state is reached by one run of the model from the opening that was declared, of which each seat has seen the front
-/// up to its own last step.
-pub fn each_state_is_reached()
-    ensures reached { EachStateIsReached }
-    ensures one { ViewsDecide }
-    ensures opening { OpeningIsDeclared }
+/// Every state that meets the rule is reached from the opening by a run of the model: there is one history of the deeds of all
+/// seats, of which each seat has seen the front up to its own last deed, and words and views decide it.
+pub fn states_are_reached()
+    ensures reached { StatesAreReached }
+    ensures decided { ViewsDecide }
 {}
 
-/// Each step of a seat on a message's word is its event of the model or a look, and making or taking back a seat is no step.
-pub fn each_step_is_its_event()
+/// The table at the opening shows the messages that are declared, and no deed is done.
+pub fn opening_is_declared()
+    ensures { OpeningIsDeclared }
+{}
+
+/// Whatever a play of a seat notes is what it did to the words and records, and where it notes nothing, it has changed nothing.
+/// This is so of any play that keeps the rule, not only of those that there are.
+pub fn made_as_told()
+    ensures made { MadeAsTold }
+    ensures nothing { NothingUntold }
+{}
+
+/// Each kind of step leads from a state of the rule to one of the rule, in which the history has one deed more, that of the kind:
+/// a look, or its event. A seat that is made, cut off or taken back is no deed.
+pub fn steps_are_deeds()
     ensures loads { LoadIsLook }
     ensures lost { LostExchangeIsLook }
     ensures handing_out { HandingOutIsLook }
@@ -51,14 +54,25 @@ pub fn each_step_is_its_event()
     ensures seating { SeatingIsNoDeed }
 {}
 
-/// What a seat notes of a step is what it did, and no change goes unnoted.
-pub fn each_note_is_a_deed()
-    ensures noted { NotedIsDone }
-    ensures unnoted { UnnotedChangesNothing }
-{}
-
 /// What a take or a drop found is what the last send put there, and what a reap found is that with what the one reply since
 /// put there.
 pub fn history_tells_records()
-    ensures { HistoryTellsRecords }
+    ensures found { FoundIsWhatWasPut }
+    ensures away { HistoryTellsRecords }
 {}
+
+/// The deeds that a call's contract tells are its seat's new events and steps, in order.
+pub fn deeds_are_told()
+    ensures { DeedsAreTold }
+{}
+
+// Asks that the rule of a table be that of the laws here.
+fn is_that_of_the_laws<R: TableRule<Rec, View, Layout>>()
+    requires { (key : Layout) (s : State Rec View) → (R.holds key s → Told key s) × (Told key s → R.holds key s) }
+{}
+
+/// The rule that the book's table keeps, `BookRule`, is that of the laws here: the body asks so of it, and any other rule is
+/// refused there.
+pub fn book_keeps_that_rule() {
+    is_that_of_the_laws::<BookRule>();
+}

@@ -1,5 +1,8 @@
-use Rattle.lwkt_msg.proofs.Recording.{records_told}
+use Rattle.lwkt_msg.proofs.Recording.{records_told, found_is_put}
 use Rattle.lwkt_msg.proofs.laws.history_tells_records.Goals as goal
 
-pub returns : goal.returns
-returns c = records_told
+pub returns-clause-found : goal.returns-clause-found
+returns-clause-found c = found_is_put
+
+pub returns-clause-away : goal.returns-clause-away
+returns-clause-away c = records_told

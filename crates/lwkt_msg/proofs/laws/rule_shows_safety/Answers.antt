@@ -1,5 +1,5 @@
 use Rattle.lwkt_msg.proofs.Picturing.{state_is_safe, sends_at_most_once}
-use Rattle.lwkt_msg.proofs.laws.each_state_is_safe.Goals as goal
+use Rattle.lwkt_msg.proofs.laws.rule_shows_safety.Goals as goal
 
 pub returns-clause-safe : goal.returns-clause-safe
 returns-clause-safe c = state_is_safe

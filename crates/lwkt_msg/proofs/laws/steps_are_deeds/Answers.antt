@@ -1,5 +1,5 @@
 use Rattle.lwkt_msg.proofs.Picturing.{load_is_look, lost_exchange_is_look, handing_out_is_look, store_is_send, exchange_is_take, add_is_reply, store_is_reap, exchange_is_drop, or_is_abort, seating_is_no_deed}
-use Rattle.lwkt_msg.proofs.laws.each_step_is_its_event.Goals as goal
+use Rattle.lwkt_msg.proofs.laws.steps_are_deeds.Goals as goal
 
 pub returns-clause-loads : goal.returns-clause-loads
 returns-clause-loads c = load_is_look
