@@ -108,16 +108,22 @@ pub fn no_seat() -> io::Error {
     io::ErrorKind::NotFound.into()
 }
 
-// Sections and shared references at one token.
-fn time_at<R: CpuClock + Print + AllocGlobal>(rt: &R, desk: Desk<'_>) -> io::Result<()> {
+fn time_sections<R: CpuClock + Print + AllocGlobal>(rt: &R) -> io::Result<()> {
+    let (bank, mut seats) = open(rt.alloc(), Law::Any, 1, 1).map_err(refused)?;
+    let first = desk(rt.alloc(), &bank, &mut seats, TokId(0))?;
     let token = HandToken::new();
-    let mut ours = Sections(desk);
-    time_in_turn(rt, SECTION, &mut ours, &mut HandSections(&token))?;
-    time_in_turn(rt, SHARED, &mut Shares(ours.0), &mut HandShares(&token))
+    time_in_turn(rt, SECTION, &mut Sections(first), &mut HandSections(&token))
+}
+
+fn time_shares<R: CpuClock + Print + AllocGlobal>(rt: &R) -> io::Result<()> {
+    let (bank, mut seats) = open(rt.alloc(), Law::Any, 1, 1).map_err(refused)?;
+    let first = desk(rt.alloc(), &bank, &mut seats, TokId(0))?;
+    let token = HandToken::new();
+    time_in_turn(rt, SHARED, &mut Shares(first), &mut HandShares(&token))
 }
 
 /// Times sections and shared references, and prints a line for each.
 pub fn time_tokens<R: CpuClock + Print + AllocGlobal>(rt: &R) -> io::Result<()> {
-    let (bank, mut seats) = open(rt.alloc(), Law::Any, 1, 1).map_err(refused)?;
-    time_at(rt, desk(rt.alloc(), &bank, &mut seats, TokId(0))?)
+    time_sections(rt)?;
+    time_shares(rt)
 }
