@@ -24,11 +24,6 @@ made_in (Clerk made back) = made
 made_in (Of cpu) = 0
 made_in Spent = 0
 
-abbrev back_in : SeatKind → ℕ
-back_in (Clerk made back) = back
-back_in (Of cpu) = 0
-back_in Spent = 0
-
 not_seat : (made back : ℕ) (cpu : CpuId) → Clerk made back ≡ Of cpu → ⊥
 not_seat made back cpu e = cc
 

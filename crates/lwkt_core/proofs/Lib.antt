@@ -9,3 +9,4 @@ pub mod ChronicleLemmas
 pub mod ViewLemmas
 pub mod PictureLemmas
 pub mod SafetyLemmas
+pub mod RunLemmas

@@ -9,3 +9,4 @@ pub mod Picture
 pub mod Seating
 pub mod History
 pub mod Safety
+pub mod Headline

@@ -6,6 +6,7 @@ pub mod checks;
 pub mod decisions;
 pub mod events;
 mod finals;
+pub mod headline;
 pub mod messages;
 mod openings;
 mod rules;

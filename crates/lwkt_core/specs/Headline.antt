@@ -1,0 +1,125 @@
+use Rattle.std.specs.Prelude.{◌≡◌, ◌≢◌, ℕ, ◌+◌, ◌-◌, ◌≤◌, ◌==◌, if◌then◌else◌, Bool, true, false, ◌&&◌, ◌||◌, List, [], ◌∷◌, ◌++◌, map, All, Contains, count_by, Some, slice_get, slice_index, option_to_list}
+use Rattle.std.specs.Option.{option_map_or}
+use Rattle.lwkt_base.specs.declared.names.CpuId.{CpuId}
+use Rattle.lwkt_base.specs.declared.names.MsgId.{MsgId}
+use Rattle.lwkt_base.specs.declared.laws.Law.TheVariants.{Tally}
+use Rattle.lwkt_base.specs.Law.{MeetsLaw, IsTallied}
+use Rattle.lwkt_core.specs.declared.tokens.Token.{Token}
+use Rattle.lwkt_core.specs.declared.events.Event.{Event}
+use Rattle.lwkt_core.specs.declared.events.Event.TheVariants.{GiveWritten, Write, Send, TakeMsg, DropMsg, Reply, Reap}
+use Rattle.lwkt_core.specs.Tokens.{tally_of, IsOpen}
+use Rattle.lwkt_core.specs.Machine.{Machine, IsSafe, after}
+use Rattle.lwkt_core.specs.Trace.{Run}
+use Rattle.lwkt_core.specs.Safety.{IsCompatible, IsWriting}
+
+-- a run of these events goes through a machine: a front of them leads to it
+abbrev pub GoesThrough : Machine → List Event → Machine → Type 0
+GoesThrough m events mid = (front rest : List Event) × ((events ≡ front ++ rest) × Run m front mid)
+
+-- the token's row obeys its declared law, and the cell of a Tally token is the parameter plus what all processors have added
+abbrev pub KeepsLaw : Token → Type 0
+KeepsLaw tok = MeetsLaw tok.law tok.param tok.row × IsTallied tok.law tok.param tok.row tok.tallies
+
+-- a law: in every machine that a run goes through each token has one exclusive holder or only shared ones (token(9))
+abbrev pub RunsAreCompatible : Type 0
+RunsAreCompatible = (m : Machine) (events : List Event) (mid : Machine) → IsSafe m → GoesThrough m events mid → All IsCompatible mid.tokens
+
+-- a law: in every machine that a run goes through a token that no exclusive holder is writing keeps its declared law
+abbrev pub RunsKeepLaws : Type 0
+RunsKeepLaws = (m : Machine) (events : List Event) (mid : Machine) → IsSafe m → GoesThrough m events mid → All (λ tok. ((cpu : ℕ) → ¬ IsWriting tok cpu) → KeepsLaw tok) mid.tokens
+
+-- how much an event raises a cell of a token for a processor, and how much the events of a run do
+abbrev pub raise_of : ℕ → ℕ → Machine → Event → ℕ
+raise_of t cpu m (Write by tok cell value) = if (tok.0 == t) && (by.0 == cpu) then value - slice_index (option_map_or (λ k. k.row) (slice_get m.tokens t) []) cell else 0
+raise_of t cpu m e = 0
+
+abbrev pub raised_by : ℕ → ℕ → Machine → List Event → ℕ
+raised_by t cpu m [] = 0
+raised_by t cpu m (e ∷ events) = raise_of t cpu m e + raised_by t cpu (after m e) events
+
+-- a law: what a processor has added to a Tally token grows in a run by what its writes raise the cell
+abbrev pub TalliesAreRaises : Type 0
+TalliesAreRaises = (m : Machine) (events : List Event) (n : Machine) (t : ℕ) (tok last : Token) → IsSafe m → Run m events n → slice_get m.tokens t ≡ Some tok → slice_get n.tokens t ≡ Some last → tok.law ≡ Tally
+    → (cpu : ℕ) → tally_of last cpu ≡ tally_of tok cpu + raised_by t cpu m events
+
+-- what an event does with a message: sends it, takes it, drops it, replies to it, reaps it
+abbrev pub sends : ℕ → Event → Bool
+sends i (Send cpu msg to round) = msg.0 == i
+sends i e = false
+
+abbrev pub takes : ℕ → Event → Bool
+takes i (TakeMsg cpu msg round) = msg.0 == i
+takes i e = false
+
+abbrev pub drops : ℕ → Event → Bool
+drops i (DropMsg cpu msg) = msg.0 == i
+drops i e = false
+
+abbrev pub replies : ℕ → Event → Bool
+replies i (Reply cpu msg) = msg.0 == i
+replies i e = false
+
+abbrev pub reaps : ℕ → Event → Bool
+reaps i (Reap cpu msg) = msg.0 == i
+reaps i e = false
+
+abbrev pub takes_or_drops : ℕ → Event → Bool
+takes_or_drops i e = takes i e || drops i e
+
+abbrev pub reaps_or_drops : ℕ → Event → Bool
+reaps_or_drops i e = reaps i e || drops i e
+
+-- between any two events of one kind lies one of another
+abbrev pub LiesBetween : (Event → Bool) → (Event → Bool) → List Event → Type 0
+LiesBetween q p events = (front between rest : List Event) (e d : Event) → events ≡ front ++ (e ∷ (between ++ d ∷ rest)) → p e ≡ true → p d ≡ true → (f : Event) × (Contains between f × (q f ≡ true))
+
+-- a law: in a run a send of a message lies between any two of its takes or drops, a take between any two of its replies, and a
+-- reap or drop between any two of its sends (msgport(9); the drop is own)
+abbrev pub MessagesGoRound : Type 0
+MessagesGoRound = (m : Machine) (events : List Event) (n : Machine) (i : ℕ) → Run m events n
+    → LiesBetween (sends i) (takes_or_drops i) events × LiesBetween (takes i) (replies i) events × LiesBetween (reaps_or_drops i) (sends i) events
+
+-- a law: from one send of a message to the next it is taken or dropped at most once, and replied to at most once
+abbrev pub EachSendIsAnsweredOnce : Type 0
+EachSendIsAnsweredOnce = (m : Machine) (events : List Event) (n : Machine) (i : ℕ) (front part rest : List Event) (e : Event) → Run m events n → events ≡ front ++ (e ∷ (part ++ rest)) → sends i e ≡ true → All (λ f. sends i f ≡ false) part
+    → (count_by (takes_or_drops i) part ≤ 1) × (count_by (replies i) part ≤ 1)
+
+-- a law: a message is taken in the round in which it was last sent, by the processor that it was sent to, and that one replies
+abbrev pub AnswersAreOfTheirSend : Type 0
+AnswersAreOfTheirSend = (m : Machine) (events : List Event) (n : Machine) (front part rest : List Event) (origin to cpu : CpuId) (msg : MsgId) (round other : ℕ) (e : Event)
+    → Run m events n → events ≡ front ++ (Send origin msg to round ∷ (part ++ e ∷ rest)) → All (λ f. sends msg.0 f ≡ false) part
+    → (e ≡ TakeMsg cpu msg other → (cpu ≡ to) × (other ≡ round)) × (e ≡ Reply cpu msg → cpu ≡ to)
+
+-- a written section of a token: the generation in which it was made, the row that it began with, and the row that it left
+pub record Section : Type 0 where
+  pub generation : ℕ
+  pub before : List ℕ
+  pub left : List ℕ
+
+abbrev pub section_of : Token → Section
+section_of tok = record { generation = tok.generation; before = tok.first; left = tok.row }
+
+-- an event ends a written section of a token
+abbrev pub ends_written : ℕ → Event → Bool
+ends_written t (GiveWritten cpu tok) = tok.0 == t
+ends_written t e = false
+
+-- the written sections of a token in a run, in order
+abbrev pub sections_of : ℕ → Machine → List Event → List Section
+sections_of t m [] = []
+sections_of t m (e ∷ events) = (if ends_written t e then map section_of (option_to_list (slice_get m.tokens t)) else []) ++ sections_of t (after m e) events
+
+-- from one generation and row to another: each section is of the next generation, and begins with the row that the last one left
+abbrev pub IsChain : ℕ → List ℕ → List Section → ℕ → List ℕ → Type 0
+IsChain generation row [] end_generation end_row = (end_generation ≡ generation) × (end_row ≡ row)
+IsChain generation row (s ∷ sections) end_generation end_row = (s.generation ≡ generation) × (s.before ≡ row) × IsChain (generation + 1) s.left sections end_generation end_row
+
+-- a law: the written sections of a token in a run are a chain, and each leaves another row than it began with, and a lawful one (own)
+abbrev pub SectionsAreChain : Type 0
+SectionsAreChain = (m : Machine) (events : List Event) (n : Machine) (t : ℕ) (tok last : Token) → Run m events n → slice_get m.tokens t ≡ Some tok → slice_get n.tokens t ≡ Some last
+    → IsChain tok.generation tok.first (sections_of t m events) last.generation last.first × All (λ s. (s.left ≢ s.before) × MeetsLaw tok.law tok.param s.left) (sections_of t m events)
+
+-- a law: between written sections the row stands: where nobody holds the token exclusively, it is the row that the last one left
+abbrev pub RowsStandBetweenSections : Type 0
+RowsStandBetweenSections = (m : Machine) (events : List Event) (n : Machine) (t : ℕ) (tok last : Token) → IsSafe m → Run m events n → slice_get m.tokens t ≡ Some tok → slice_get n.tokens t ≡ Some last
+    → IsOpen tok → IsOpen last → IsChain tok.generation tok.row (sections_of t m events) last.generation last.row

@@ -1,0 +1,44 @@
+ghost use Rattle.lwkt_core.specs.Headline.{RunsAreCompatible, RunsKeepLaws, TalliesAreRaises, MessagesGoRound, EachSendIsAnsweredOnce, AnswersAreOfTheirSend, SectionsAreChain, RowsStandBetweenSections};
+
+/// The law that in every machine of a run from a safe one each token has one exclusive holder or only shared ones.
+pub fn runs_are_compatible()
+    ensures { RunsAreCompatible }
+{}
+
+/// The law that in every machine of a run from a safe one a token that no exclusive holder is writing keeps its declared law,
+/// and the cell of a Tally token is the parameter plus what all processors have added.
+pub fn runs_keep_laws()
+    ensures { RunsKeepLaws }
+{}
+
+/// The law that what a processor has added to a Tally token grows in a run by what its writes raise the cell.
+pub fn tallies_are_raises()
+    ensures { TalliesAreRaises }
+{}
+
+/// The law that in a run a send lies between any two takes or drops of a message, a take between any two replies to it, and
+/// a reap or drop between any two sends of it.
+pub fn messages_go_round()
+    ensures { MessagesGoRound }
+{}
+
+/// The law that in a run a message is taken or dropped at most once from one send of it to the next, and replied to at most once.
+pub fn each_send_is_answered_once()
+    ensures { EachSendIsAnsweredOnce }
+{}
+
+/// The law that in a run a message is taken in the round of its last send, by the processor that it was sent to, which also replies.
+pub fn answers_are_of_their_send()
+    ensures { AnswersAreOfTheirSend }
+{}
+
+/// The law that the written sections of a token in a run are a chain: each is of the next generation and begins with the row
+/// that the last one left, and leaves another, lawful row.
+pub fn sections_are_chain()
+    ensures { SectionsAreChain }
+{}
+
+/// The law that the row that a written section left stands until the next one, where nobody holds the token exclusively.
+pub fn rows_stand_between_sections()
+    ensures { RowsStandBetweenSections }
+{}
