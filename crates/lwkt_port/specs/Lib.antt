@@ -1,0 +1,5 @@
+pub mod Mails
+pub mod Lines
+pub mod Queues
+pub mod Works
+pub mod Deeds

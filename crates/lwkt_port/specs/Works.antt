@@ -1,0 +1,52 @@
+use Rattle.std.specs.Prelude.{◌≡◌, ℕ, ◌+◌, ◌≤◌, List, ◌++◌, length, All, Vec, vec_len, vec_capacity, slice_index_or, count_by, not}
+use Rattle.std.specs.declared.alloc.Global.{Global}
+use Rattle.lwkt_base.specs.declared.names.MsgId.{MsgId}
+use Rattle.lwkt_base.specs.declared.names.ThreadId.{ThreadId}
+use Rattle.lwkt_core.specs.declared.events.Event.{Event}
+use Rattle.lwkt_core.specs.declared.events.Event.TheVariants.{Load, Take, Share, Again, Mark, GiveOne, GiveClean, GiveWritten, Read, Write, Send, TakeMsg, DropMsg, Reply, Reap, Abort}
+use Rattle.lwkt_base.specs.declared.names.CpuId.{CpuId}
+use Rattle.lwkt_msg.specs.Desks.{Desk}
+use Rattle.lwkt_port.specs.declared.lines.Lane.{Lane}
+use Rattle.lwkt_port.specs.declared.mails.Mail.{Mail}
+use Rattle.lwkt_port.specs.declared.queues.Port.{Port}
+
+-- what a step on messages changes: the seat, what is kept of each message, and the trace
+pub record Work : Type 0 where
+  pub seat : Desk
+  pub mails : List Mail
+  pub trace : List Event
+
+abbrev pub work : Desk → Vec Mail Global → Vec Event Global → Work
+work seat mails trace = record { seat = seat; mails = mails.items; trace = trace.items }
+
+-- an event is one of a message, by this processor
+abbrev pub IsOfMessages : CpuId → Event → Type 0
+IsOfMessages cpu (Load c t) = ⊥
+IsOfMessages cpu (Take c t) = ⊥
+IsOfMessages cpu (Share c t) = ⊥
+IsOfMessages cpu (Again c t) = ⊥
+IsOfMessages cpu (Mark c t) = ⊥
+IsOfMessages cpu (GiveOne c t) = ⊥
+IsOfMessages cpu (GiveClean c t) = ⊥
+IsOfMessages cpu (GiveWritten c t) = ⊥
+IsOfMessages cpu (Read c t i v) = ⊥
+IsOfMessages cpu (Write c t i v) = ⊥
+IsOfMessages cpu (Send c m to r) = c ≡ cpu
+IsOfMessages cpu (TakeMsg c m r) = c ≡ cpu
+IsOfMessages cpu (DropMsg c m) = c ≡ cpu
+IsOfMessages cpu (Reply c m) = c ≡ cpu
+IsOfMessages cpu (Reap c m) = c ≡ cpu
+IsOfMessages cpu (Abort c m) = c ≡ cpu
+
+-- a trace grew by at most so many events, each one of this processor on a message, and lost no room
+pub record Grew (cpu : CpuId) (most : ℕ) (before now : Vec Event Global) : Type 0 where
+  pub made : List Event
+  pub trace_is : now.items ≡ before.items ++ made
+  pub own : All (IsOfMessages cpu) made
+  pub few : length made ≤ most
+  pub grown : vec_len now ≡ vec_len before + length made
+  pub room : vec_capacity before ≤ vec_capacity now
+
+-- how many messages are not at home
+abbrev pub away_count : List Mail → ℕ
+away_count mails = count_by (λ (mail : Mail). not mail.home) mails
