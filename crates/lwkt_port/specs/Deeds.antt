@@ -1,5 +1,7 @@
 -- The steps on messages, in words of the book: what the seat did, what is kept of the message then, and the event of the trace.
 use Rattle.std.specs.Prelude.{◌≡◌, ℕ, ◌<◌, Bool, true, false, List, [], ◌∷◌, ◌++◌, length, slice_set, Option, Some, None}
+use Rattle.lwkt_base.specs.declared.faults.Fault.{Fault}
+use Rattle.lwkt_base.specs.declared.faults.Fault.TheVariants.{RoundsOut}
 use Rattle.lwkt_base.specs.declared.names.CpuId.{CpuId}
 use Rattle.lwkt_base.specs.declared.names.MsgId.{MsgId}
 use Rattle.lwkt_base.specs.declared.records.Call.{Call}
@@ -13,7 +15,7 @@ use Rattle.lwkt_msg.specs.declared.answers.Taken.TheVariants as taken
 use Rattle.lwkt_msg.specs.declared.answers.Reaped.{Reaped}
 use Rattle.lwkt_msg.specs.declared.answers.Reaped.TheVariants as reaped_
 use Rattle.lwkt_msg.specs.Desks.{cpu_of, IsSameDesk}
-use Rattle.lwkt_msg.specs.Calls.{TakeMeans, ReapMeans, HasSent, HasReplied}
+use Rattle.lwkt_msg.specs.Calls.{TakeMeans, ReapMeans, HasSent, IsUnsent, HasReplied}
 use Rattle.lwkt_port.specs.declared.mails.Mail.{Mail}
 use Rattle.lwkt_port.specs.declared.deeds.Claim.{Claim}
 use Rattle.lwkt_port.specs.declared.deeds.Claim.TheVariants as claim
@@ -92,3 +94,11 @@ pub record Replies (msg : MsgId) (error outcome : ℕ) (w w' : Work) : Type 0 wh
   pub means : HasReplied w.seat.view w'.seat.view msg.0 error outcome
   pub mails_are : w'.mails ≡ slice_set w.mails msg.0 (replied_mail (mail_at w.mails msg.0))
   pub trace_is : w'.trace ≡ w.trace ++ Reply (cpu_of w.seat) msg ∷ []
+
+-- the message was not sent, since it is at its last round: the seat has looked at its word, and nothing else changed
+pub record IsRefused (msg : MsgId) (w w' : Work) (fault : Fault) : Type 0 where
+  pub same : IsSameDesk w.seat w'.seat
+  pub why : IsUnsent (cpu_of w.seat) w.seat.view w'.seat.view msg.0 fault
+  pub fault_is : fault ≡ RoundsOut
+  pub mails_same : w'.mails ≡ w.mails
+  pub trace_same : w'.trace ≡ w.trace

@@ -1,0 +1,2 @@
+pub mod Deeding
+pub mod Keeping
