@@ -1,6 +1,7 @@
 -- What is kept of messages fits the seat after a take, a reap, a send and a reply, and how many messages are away then.
 use Rattle.std.proofs.Common.{◌≡◌, ◌≢◌, ℕ, ◌+◌, ◌<◌, ◌≤◌, Bool, true, false, true≢false, List, [], ◌∷◌, ◌++◌, length, set, refl, ap, sym, ◌∙◌, subst, arith}
 use Rattle.std.specs.Prelude.{IsSome, Some, None, Option}
+use Rattle.lwkt_base.specs.declared.faults.Fault.TheVariants.{RoundsOut}
 use Rattle.lwkt_base.specs.declared.names.CpuId.{CpuId}
 use Rattle.lwkt_base.specs.declared.names.MsgId.{MsgId}
 use Rattle.lwkt_base.specs.declared.records.Call.{Call}
@@ -14,7 +15,7 @@ use Rattle.lwkt_msg.specs.declared.answers.Reaped.{Reaped}
 use Rattle.lwkt_msg.specs.declared.answers.Reaped.TheVariants as reaped_
 use Rattle.lwkt_msg.specs.Desks.{Desk, cpu_of, messages_of, entry, IsSameDesk}
 use Rattle.lwkt_msg.specs.Hands.{IsOwn}
-use Rattle.lwkt_msg.specs.Calls.{TakeMeans, ReapMeans, HasSent, HasReplied}
+use Rattle.lwkt_msg.specs.Calls.{TakeMeans, ReapMeans, HasSent, IsUnsent, HasReplied}
 use Rattle.lwkt_port.specs.declared.mails.Mail.{Mail}
 use Rattle.lwkt_port.specs.declared.deeds.Claim.{Claim}
 use Rattle.lwkt_port.specs.declared.deeds.Claim.TheVariants as claim
@@ -155,3 +156,9 @@ replied_keeps msg error outcome d d' mails mails' same means is there are =
 
 pub replied_away : (msg : MsgId) (mails mails' : List Mail) → mails' ≡ set mails msg.0 (replied_mail (mail_at mails msg.0)) → msg.0 < length mails → away_count mails' ≡ away_count mails
 replied_away msg mails mails' is there = ap away_count is ∙ away_same mails msg.0 (replied_mail (mail_at mails msg.0)) there refl
+
+-- a message that was not sent is looked at
+pub unsent_keeps : (msg : MsgId) (d d' : Desk) (mails : List Mail) → IsSameDesk d d' → IsUnsent (cpu_of d) d.view d'.view msg.0 RoundsOut → AreMails d mails → AreMails d' mails
+unsent_keeps msg d d' mails same why are =
+    let does = why.looked_at.does in
+    all_still d d' msg.0 mails same does.else_same (ap (λ e. e.away) does.here) (ap (λ e. e.taken) does.here) are

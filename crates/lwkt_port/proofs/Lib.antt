@@ -1,2 +1,3 @@
 pub mod Deeding
+pub mod Dispatching
 pub mod Keeping

@@ -1,6 +1,5 @@
 -- The steps on messages, in words of the book: what the seat did, what is kept of the message then, and the event of the trace.
 use Rattle.std.specs.Prelude.{◌≡◌, ℕ, ◌<◌, Bool, true, false, List, [], ◌∷◌, ◌++◌, length, slice_set, Option, Some, None}
-use Rattle.lwkt_base.specs.declared.faults.Fault.{Fault}
 use Rattle.lwkt_base.specs.declared.faults.Fault.TheVariants.{RoundsOut}
 use Rattle.lwkt_base.specs.declared.names.CpuId.{CpuId}
 use Rattle.lwkt_base.specs.declared.names.MsgId.{MsgId}
@@ -96,9 +95,8 @@ pub record Replies (msg : MsgId) (error outcome : ℕ) (w w' : Work) : Type 0 wh
   pub trace_is : w'.trace ≡ w.trace ++ Reply (cpu_of w.seat) msg ∷ []
 
 -- the message was not sent, since it is at its last round: the seat has looked at its word, and nothing else changed
-pub record IsRefused (msg : MsgId) (w w' : Work) (fault : Fault) : Type 0 where
+pub record IsRefused (msg : MsgId) (w w' : Work) : Type 0 where
   pub same : IsSameDesk w.seat w'.seat
-  pub why : IsUnsent (cpu_of w.seat) w.seat.view w'.seat.view msg.0 fault
-  pub fault_is : fault ≡ RoundsOut
+  pub why : IsUnsent (cpu_of w.seat) w.seat.view w'.seat.view msg.0 RoundsOut
   pub mails_same : w'.mails ≡ w.mails
   pub trace_same : w'.trace ≡ w.trace

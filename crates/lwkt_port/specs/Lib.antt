@@ -3,3 +3,5 @@ pub mod Lines
 pub mod Queues
 pub mod Works
 pub mod Deeds
+pub mod Posts
+pub mod Sendings

@@ -1,5 +1,5 @@
 //! The steps on one message: each with what is kept of the message then, and its event.
-ghost use Rattle.std.specs.Prelude.{◌≡◌, ◌+◌, ◌<◌, ◌≤◌, true, vec_len, vec_capacity, ◌++◌, length, IfOk, IfErr};
+ghost use Rattle.std.specs.Prelude.{◌≡◌, ◌+◌, ◌<◌, ◌≤◌, true, vec_len, vec_capacity, ◌++◌, length, IfSome, IfNone};
 ghost use Rattle.lwkt_msg.specs.Desks.{cpu_of, cpus_of, messages_of, IsSameDesk, entry};
 ghost use Rattle.lwkt_msg.specs.Calls.{IsHome};
 ghost use Rattle.lwkt_port.specs.Mails.{mail_at, AreMails};
@@ -8,7 +8,7 @@ ghost use Rattle.lwkt_port.specs.Deeds.{taken_mail, mails_taken, take_events, Ta
 
 use crate::mails::{Mail, mail_of, put_mail};
 use crate::traces::note_event;
-use lwkt_base::{Call, CpuId, Fault, Flags, MsgId, Rec, ThreadId};
+use lwkt_base::{Call, CpuId, Flags, MsgId, Rec, ThreadId};
 use lwkt_core::Event;
 use lwkt_lane::Note;
 use lwkt_msg::{MsgBook, MsgSeat, Reaped, Taken};
@@ -237,9 +237,10 @@ fn outgoing(mail: Mail, sync: bool) -> Mail
     }
 }
 
-/// What a thread sends.
+/// What a thread sends, and to which thread.
 #[derive(Clone, Copy)]
-pub(crate) struct Sending {
+pub struct Sending {
+    pub thread: u8,
     pub msg: MsgId,
     pub to: ThreadId,
     pub call: Call,
@@ -247,29 +248,30 @@ pub(crate) struct Sending {
     pub sync: bool,
 }
 
-/// Sends an own message that is at rest. Refused with `RoundsOut` at its last round, without a change.
-#[tactic(auto, using(crate::proofs::Deeding::sent_keeps))]
+/// Sends an own message that is at rest, and answers its round. None if it is at its last round.
+#[tactic(auto, using(crate::proofs::Deeding::sent_keeps, crate::proofs::Deeding::unsent_keeps))]
 pub(crate) fn send(
     book: &MsgBook,
     seat: &mut MsgSeat,
     mails: &mut Vec<Mail>,
     sending: &Sending,
     trace: &mut Vec<Event>,
-) -> Result<u64, Fault>
+) -> Option<u64>
     requires table { seat.old.table ≡ book.now.table }
     requires kept { AreMails seat.old mails.old.items }
     requires exists { sending.now.msg.0 < vec_len mails.old }
     requires target { sending.now.to.cpu.0 < cpus_of seat.old }
     requires home { (mail_at mails.old.items sending.now.msg.0).home ≡ true }
     requires room { vec_len trace.old < vec_capacity trace.old }
-    ensures sends { IfOk result (λ round. Sends sending.now.msg sending.now.to.cpu sending.now.call sending.now.flags sending.now.sync (work seat.old mails.old trace.old) (work seat.new mails.new trace.new) round) }
-    ensures refused { IfErr result (λ fault. IsRefused sending.now.msg (work seat.old mails.old trace.old) (work seat.new mails.new trace.new) fault) }
+    ensures sends { IfSome result (λ round. Sends sending.now.msg sending.now.to.cpu sending.now.call sending.now.flags sending.now.sync (work seat.old mails.old trace.old) (work seat.new mails.new trace.new) round) }
+    ensures refused { IfNone result (IsRefused sending.now.msg (work seat.old mails.old trace.old) (work seat.new mails.new trace.new)) }
     ensures kept { AreMails seat.new mails.new.items }
     ensures len { vec_len mails.new ≡ vec_len mails.old }
     ensures grew { Grew (cpu_of seat.old) 1 trace.old trace.new }
 {
     let cpu = seat.cpu();
     let Sending {
+        thread: _,
         msg,
         to,
         call,
@@ -277,16 +279,20 @@ pub(crate) fn send(
         sync,
     } = *sending;
     let m = usize::from(msg.0);
-    let round = seat.send(book, msg, to.cpu, call, flags, sync)?;
-    put_mail(mails, m, outgoing(mail_of(mails, m), sync));
-    note_event(
-        trace,
-        Event::Send {
-            cpu,
-            msg,
-            to: to.cpu,
-            round,
-        },
-    );
-    Ok(round)
+    match seat.send(book, msg, to.cpu, call, flags, sync) {
+        Ok(round) => {
+            put_mail(mails, m, outgoing(mail_of(mails, m), sync));
+            note_event(
+                trace,
+                Event::Send {
+                    cpu,
+                    msg,
+                    to: to.cpu,
+                    round,
+                },
+            );
+            Some(round)
+        }
+        Err(_fault) => None,
+    }
 }

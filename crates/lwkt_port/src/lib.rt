@@ -1,14 +1,12 @@
 //! The message ports of a processor's threads, over the processor's seat at the book and its lanes.
 #![tactic(auto)]
 
-pub mod mails;
+pub mod deeds;
 pub mod lines;
+pub mod mails;
+pub mod posts;
 pub mod queues;
-
-mod deeds;
-
-
-
+mod sendings;
 mod traces;
 
-
+pub use posts::Ports;
