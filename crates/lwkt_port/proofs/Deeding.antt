@@ -22,7 +22,7 @@ use Rattle.lwkt_port.specs.declared.deeds.Claim.TheVariants as claim
 use Rattle.lwkt_port.specs.Mails.{no_mail, mail_at, IsMail, AreMails}
 use Rattle.lwkt_port.specs.Works.{away_count}
 use Rattle.lwkt_port.specs.Deeds.{taken_mail, mails_taken, reaped_mail, mails_reaped, reap_events, sent_mail, replied_mail}
-use Rattle.lwkt_port.proofs.Keeping.{own_still, own_before, fits_still, all_still, all_put, away_same, away_less}
+use Rattle.lwkt_port.proofs.Keeping.{own_still, own_before, there_still, fits_still, all_still, all_put, away_same, away_less}
 
 -- a take leaves the origin and whether the message is at home
 taken_origin : (who : Claim) (aborted : Bool) (round : ℕ) (mail : Mail) → (taken_mail who aborted round mail).origin ≡ mail.origin
@@ -39,6 +39,7 @@ taken_home claim.Closed aborted round mail = refl
 fits_taken : (d d' : Desk) (m : ℕ) (mail mail' : Mail) → IsSameDesk d d' → (entry d' m).away ≡ (entry d m).away → (entry d' m).taken ≡ true → mail'.origin ≡ mail.origin → mail'.home ≡ mail.home → IsMail d m mail → IsMail d' m mail'
 fits_taken d d' m mail mail' same away is_taken origin home k = record {
   origin_is = origin ∙ k.origin_is ∙ ap (λ s. (spec_at s m).origin) (sym same.specs);
+  there = there_still d d' mail mail' same origin k.there;
   at_home = λ h. (own_still d d' m same (k.at_home (sym home ∙ h)).0, away ∙ (k.at_home (sym home ∙ h)).1);
   is_away = λ h own. away ∙ k.is_away (sym home ∙ h) (own_before d d' m same own);
   owed_taken = λ _. is_taken;
@@ -101,6 +102,7 @@ reaped_keeps keep note d d' mails mails' (reaped_.Done rec) same means is there 
     let O : Option ℕ → Type 0 = IsSome in
     subst F (sym is) (all_put d d' m mails mail' same means.does.else_same there record {
       origin_is = reaped_origin keep rec mail ∙ k.origin_is ∙ ap (λ s. (spec_at s m).origin) (sym same.specs);
+      there = there_still d d' mail mail' same (reaped_origin keep rec mail) k.there;
       at_home = λ h. (own_still d d' m same means.own, ap (λ e. e.away) means.does.here);
       is_away = λ h own. absurd (true≢false (sym (reaped_home keep rec mail) ∙ h));
       owed_taken = λ h. still ∙ k.owed_taken (subst O (reaped_owed keep rec mail) h);
@@ -129,6 +131,7 @@ sent_keeps msg to call flags sync round d d' mails mails' same means is there ar
     let still : (entry d' m).taken ≡ (entry d m).taken = ap (λ e. e.taken) means.does.here in
     subst F (sym is) (all_put d d' m mails (sent_mail sync mail) same means.does.else_same there record {
       origin_is = k.origin_is ∙ ap (λ s. (spec_at s m).origin) (sym same.specs);
+      there = there_still d d' mail (sent_mail sync mail) same refl k.there;
       at_home = λ h. absurd (true≢false (sym h));
       is_away = λ h own. ap (λ e. e.away) means.does.here;
       owed_taken = λ h. still ∙ k.owed_taken h;
@@ -148,6 +151,7 @@ replied_keeps msg error outcome d d' mails mails' same means is there are =
     let away : (entry d' m).away ≡ (entry d m).away = ap (λ e. e.away) means.does.here in
     subst F (sym is) (all_put d d' m mails (replied_mail mail) same means.does.else_same there record {
       origin_is = k.origin_is ∙ ap (λ s. (spec_at s m).origin) (sym same.specs);
+      there = there_still d d' mail (replied_mail mail) same refl k.there;
       at_home = λ h. (own_still d d' m same (k.at_home h).0, away ∙ (k.at_home h).1);
       is_away = λ h own. away ∙ k.is_away h (own_before d d' m same own);
       owed_taken = λ h. absurd (none_some h);

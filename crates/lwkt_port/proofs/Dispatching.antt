@@ -1,12 +1,16 @@
 -- One line of a processor's lanes changes, and the others stay: for sends and replies.
 use Rattle.std.proofs.Common.{◌≡◌, ℕ, ◌<◌, ◌≤◌, List, length, set, get_or, refl, ap, sym, ◌∙◌, subst, arith}
-use Rattle.std.specs.Prelude.{Result, Ok, Err, OnOk, IfErr, slice_index_or, slice_set}
+use Rattle.std.specs.Prelude.{Bool, true, Option, Some, is_some, Result, Ok, Err, OnOk, IfErr, slice_index_or, slice_set}
 use Rattle.lwkt_base.specs.declared.faults.Fault.{Fault}
 use Rattle.lwkt_base.specs.declared.faults.Fault.TheVariants.{LaneFull, RoundsOut}
+use Rattle.lwkt_base.specs.declared.names.MsgId.{MsgId}
+use Rattle.lwkt_msg.specs.Desks.{Desk, cpus_of, entry}
+use Rattle.lwkt_port.specs.declared.mails.Mail.{Mail}
+use Rattle.lwkt_port.specs.Mails.{mail_at, AreMails}
 use Rattle.lwkt_port.specs.declared.deeds.Sending.{Sending}
 use Rattle.lwkt_port.specs.declared.lines.Lane.{Lane}
 use Rattle.lwkt_port.specs.Posts.{Changes}
-use Rattle.lwkt_port.specs.Sendings.{MaySend, SendsOver, RefusesOver, HasSentNote, WhyUnsent}
+use Rattle.lwkt_port.specs.Sendings.{MaySend, SendsOver, RefusesOver, HasSentNote, WhyUnsent, ReplyMeans, Answers}
 use Rattle.lwkt_port.specs.Works.{Work}
 
 -- one thing of a list was changed so
@@ -28,3 +32,18 @@ refused _ s lanes old new w w' j may there was is does = absurd does
 pub not_dispatched : (r : Result (Unit {0}) Fault) (s : Sending) (lanes : List Lane) (old new : Lane) (w w' : Work) (j : ℕ) → MaySend s w.mails → j < length lanes → old ≡ slice_index_or lanes j old → j ≡ s.to.cpu.0 → IfErr r (λ f. RefusesOver s old new w w' f) → IfErr r (λ f. WhyUnsent s lanes (slice_set lanes j new) w w' f)
 not_dispatched (Ok x) s lanes old new w w' j may there was is does = does
 not_dispatched (Err e) s lanes old new w w' j may there was is does = refused e s lanes old new w w' j may there was is does
+
+-- a reply was made over one line of the lanes, or that line is full
+pub answered_over : (b : Bool) (msg : MsgId) (error outcome : ℕ) (lanes : List Lane) (old new : Lane) (w w' : Work) (j : ℕ) → j < length lanes → old ≡ slice_index_or lanes j old → j ≡ (mail_at w.mails msg.0).origin.cpu.0 → ReplyMeans msg error outcome old new w w' b → Answers msg error outcome lanes (slice_set lanes j new) w w' b
+answered_over b msg error outcome lanes old new w w' j there was is does = changed Lane (λ x y. ReplyMeans msg error outcome x y w w' b) (mail_at w.mails msg.0).origin.cpu.0 j lanes old new there was is does
+
+-- a shown message is taken
+pub shown_is_taken : (d : Desk) (mails : List Mail) (m thread : ℕ) → AreMails d mails → m < length mails → (mail_at mails m).shown ≡ Some thread → (entry d m).taken ≡ true
+shown_is_taken d mails m thread are there shown = (are.each m there).shown_taken (ap is_some shown)
+
+pub owed_is_taken : (d : Desk) (mails : List Mail) (m error : ℕ) → AreMails d mails → m < length mails → (mail_at mails m).owed ≡ Some error → (entry d m).taken ≡ true
+owed_is_taken d mails m error are there owed = (are.each m there).owed_taken (ap is_some owed)
+
+-- the line to the processor of a message's origin is there
+pub line_is_there : (d : Desk) (mails : List Mail) (m : ℕ) → AreMails d mails → m < length mails → (mail_at mails m).origin.cpu.0 < cpus_of d
+line_is_there d mails m are there = (are.each m there).there

@@ -6,7 +6,7 @@ use mathlib.Core.Logic.{dite}
 use native.Mathlib.Decide.{ℕ_discrete}
 use Rattle.lwkt_msg.specs.declared.views.Entry.{Entry}
 use Rattle.lwkt_msg.specs.declared.views.View.{View}
-use Rattle.lwkt_msg.specs.Desks.{Desk, cpu_of, messages_of, entry, seat_cpu, IsSameDesk}
+use Rattle.lwkt_msg.specs.Desks.{Desk, cpu_of, cpus_of, messages_of, entry, seat_cpu, IsSameDesk}
 use Rattle.lwkt_msg.specs.Views.{spec_at, at}
 use Rattle.lwkt_msg.specs.Hands.{IsOwn}
 use Rattle.lwkt_msg.specs.Calls.{IsHome}
@@ -21,10 +21,17 @@ own_still d d' m same own = ap (λ s. (spec_at s m).origin.cpu.0) same.specs ∙
 pub own_before : (d d' : Desk) (m : ℕ) → IsSameDesk d d' → IsOwn d'.view (cpu_of d').0 m → IsOwn d.view (cpu_of d).0 m
 own_before d d' m same own = ap (λ s. (spec_at s m).origin.cpu.0) (sym same.specs) ∙ own ∙ ap (λ k. (seat_cpu k).0) same.kind
 
+-- the processor of an origin is there as long as the seat is the same one
+pub there_still : (d d' : Desk) (mail mail' : Mail) → IsSameDesk d d' → mail'.origin ≡ mail.origin → mail.origin.cpu.0 < cpus_of d → mail'.origin.cpu.0 < cpus_of d'
+there_still d d' mail mail' same origin there =
+    let a : mail'.origin.cpu.0 ≡ mail.origin.cpu.0 = ap (λ o. o.cpu.0) origin in
+    let b : cpus_of d' ≡ cpus_of d = same.cpus in omega arith
+
 -- what is kept of a message fits as long as the seat knows the same of where it is
 pub fits_still : (d d' : Desk) (m : ℕ) (mail : Mail) → IsSameDesk d d' → (entry d' m).away ≡ (entry d m).away → (entry d' m).taken ≡ (entry d m).taken → IsMail d m mail → IsMail d' m mail
 fits_still d d' m mail same away taken k = record {
   origin_is = k.origin_is ∙ ap (λ s. (spec_at s m).origin) (sym same.specs);
+  there = there_still d d' mail mail same refl k.there;
   at_home = λ h. (own_still d d' m same (k.at_home h).0, away ∙ (k.at_home h).1);
   is_away = λ h own. away ∙ k.is_away h (own_before d d' m same own);
   owed_taken = λ h. taken ∙ k.owed_taken h;

@@ -84,3 +84,33 @@ PostRefuses s p p' trace trace' NotOwner = IsPortName (cpus_of p.seat) s.to × W
 PostRefuses s p p' trace trace' LaneFull = IsPortName (cpus_of p.seat) s.to × WhyUnsent s p.lanes p'.lanes (work_of p trace) (work_of p' trace') LaneFull × IsElseSame p p'
 PostRefuses s p p' trace trace' RoundsOut = IsPortName (cpus_of p.seat) s.to × WhyUnsent s p.lanes p'.lanes (work_of p trace) (work_of p' trace') RoundsOut × IsElseSame p p'
 PostRefuses s p p' trace trace' _ = ⊥
+
+-- a message was replied to over a line: the book's event, and one note to the thread that sent it
+pub record RepliesOver (msg : MsgId) (error outcome : ℕ) (line line' : Lane) (w w' : Work) : Type 0 where
+  pub replies : Replies msg error outcome w w'
+  pub posted : HasPosted (answer_note msg (mail_at w.mails msg.0)) line line'
+
+-- a reply was made over a line, or the line is full
+abbrev pub ReplyMeans : MsgId → ℕ → ℕ → Lane → Lane → Work → Work → Bool → Type 0
+ReplyMeans msg error outcome line line' w w' true = RepliesOver msg error outcome line line' w w'
+ReplyMeans msg error outcome line line' w w' false = IsFull line line' × (w' ≡ w)
+
+-- the thread was shown the message as a request, and hasn't replied yet
+abbrev pub IsShownTo : ℕ → MsgId → List Mail → Type 0
+IsShownTo thread msg mails = (msg.0 < length mails) × ((mail_at mails msg.0).shown ≡ Some thread)
+
+-- a reply over the line to the processor of the message's origin
+abbrev pub Answers : MsgId → ℕ → ℕ → List Lane → List Lane → Work → Work → Bool → Type 0
+Answers msg error outcome lanes lanes' w w' answer = Changes (λ a b. ReplyMeans msg error outcome a b w w' answer) (mail_at w.mails msg.0).origin.cpu.0 lanes lanes'
+
+-- a thread's call to reply did so
+pub record PostReplies (thread : ℕ) (msg : MsgId) (error outcome : ℕ) (p p' : Post) (trace trace' : Vec Event Global) : Type 0 where
+  pub shown : IsShownTo thread msg p.mails
+  pub answers : Answers msg error outcome p.lanes p'.lanes (work_of p trace) (work_of p' trace') true
+  pub else_same : IsElseSame p p'
+
+-- why a thread's call to reply was refused: it wasn't shown the message; the lane is full
+abbrev pub PostRefusesReply : ℕ → MsgId → ℕ → ℕ → Post → Post → Vec Event Global → Vec Event Global → Fault → Type 0
+PostRefusesReply thread msg error outcome p p' trace trace' NotTaken = (IsShownTo thread msg p.mails → ⊥) × (p' ≡ p) × (trace' ≡ trace)
+PostRefusesReply thread msg error outcome p p' trace trace' LaneFull = IsShownTo thread msg p.mails × Answers msg error outcome p.lanes p'.lanes (work_of p trace) (work_of p' trace') false × IsElseSame p p'
+PostRefusesReply thread msg error outcome p p' trace trace' _ = ⊥

@@ -6,6 +6,7 @@ pub mod lines;
 pub mod mails;
 pub mod posts;
 pub mod queues;
+mod replies;
 mod sendings;
 mod traces;
 
