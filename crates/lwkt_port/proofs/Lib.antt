@@ -1,3 +1,5 @@
 pub mod Deeding
 pub mod Dispatching
+pub mod Growing
 pub mod Keeping
+pub mod Serving

@@ -5,3 +5,4 @@ pub mod Works
 pub mod Deeds
 pub mod Posts
 pub mod Sendings
+pub mod Servings

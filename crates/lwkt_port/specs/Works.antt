@@ -5,7 +5,8 @@ use Rattle.lwkt_base.specs.declared.names.ThreadId.{ThreadId}
 use Rattle.lwkt_core.specs.declared.events.Event.{Event}
 use Rattle.lwkt_core.specs.declared.events.Event.TheVariants.{Load, Take, Share, Again, Mark, GiveOne, GiveClean, GiveWritten, Read, Write, Send, TakeMsg, DropMsg, Reply, Reap, Abort}
 use Rattle.lwkt_base.specs.declared.names.CpuId.{CpuId}
-use Rattle.lwkt_msg.specs.Desks.{Desk}
+use Rattle.lwkt_msg.specs.Desks.{Desk, cpu_of, IsSameDesk}
+use Rattle.lwkt_port.specs.Mails.{AreMails}
 use Rattle.lwkt_port.specs.declared.lines.Lane.{Lane}
 use Rattle.lwkt_port.specs.declared.mails.Mail.{Mail}
 use Rattle.lwkt_port.specs.declared.queues.Port.{Port}
@@ -50,3 +51,10 @@ pub record Grew (cpu : CpuId) (most : ℕ) (before now : Vec Event Global) : Typ
 -- how many messages are not at home
 abbrev pub away_count : List Mail → ℕ
 away_count mails = count_by (λ (mail : Mail). not mail.home) mails
+
+-- the seat is the same one, what is kept of its messages fits it, and the trace grew by at most so many events of its processor
+pub record Stands (most : ℕ) (seat : Desk) (mails : Vec Mail Global) (trace : Vec Event Global) (seat' : Desk) (mails' : Vec Mail Global) (trace' : Vec Event Global) : Type 0 where
+  pub kept : AreMails seat' mails'.items
+  pub same : IsSameDesk seat seat'
+  pub len : vec_len mails' ≡ vec_len mails
+  pub grew : Grew (cpu_of seat) most trace trace'

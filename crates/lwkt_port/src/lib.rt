@@ -2,6 +2,7 @@
 #![tactic(auto)]
 
 pub mod deeds;
+pub mod gets;
 pub mod lines;
 pub mod mails;
 pub mod posts;

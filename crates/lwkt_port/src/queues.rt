@@ -27,6 +27,14 @@ pub(crate) fn open_port() -> Port
     }
 }
 
+/// How many notes the queue has.
+pub(crate) fn count(port: &Port) -> usize
+    ensures count { result ≡ length (queue_of port.now) }
+    ensures few { result ≤ 64 }
+{
+    port.queue.len()
+}
+
 /// The first note of the queue.
 pub(crate) fn front(port: &Port) -> Option<Note>
     ensures { MatchOption result (queue_of port.now ≡ []) (λ note. (rest : List Note) × (queue_of port.now ≡ note ∷ rest)) }
