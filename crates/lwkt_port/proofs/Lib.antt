@@ -1,3 +1,4 @@
+pub mod Begun
 pub mod Deeding
 pub mod Dispatching
 pub mod Growing

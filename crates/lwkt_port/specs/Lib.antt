@@ -6,3 +6,4 @@ pub mod Deeds
 pub mod Posts
 pub mod Sendings
 pub mod Servings
+pub mod Openings

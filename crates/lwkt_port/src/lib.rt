@@ -5,6 +5,7 @@ pub mod deeds;
 pub mod gets;
 pub mod lines;
 pub mod mails;
+pub mod openings;
 pub mod posts;
 pub mod queues;
 mod replies;
