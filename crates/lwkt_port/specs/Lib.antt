@@ -7,3 +7,5 @@ pub mod Posts
 pub mod Sendings
 pub mod Servings
 pub mod Openings
+pub mod Chains
+pub mod Intakes

@@ -48,6 +48,9 @@ pub record Grew (cpu : CpuId) (most : ℕ) (before now : Vec Event Global) : Typ
   pub grown : vec_len now ≡ vec_len before + length made
   pub room : vec_capacity before ≤ vec_capacity now
 
+abbrev pub Grown : CpuId → Vec Event Global → Vec Event Global → Type 0
+Grown cpu before now = (most : ℕ) × Grew cpu most before now
+
 -- how many messages are not at home
 abbrev pub away_count : List Mail → ℕ
 away_count mails = count_by (λ (mail : Mail). not mail.home) mails

@@ -3,6 +3,7 @@
 
 pub mod deeds;
 pub mod gets;
+pub mod handlings;
 pub mod lines;
 pub mod mails;
 pub mod openings;

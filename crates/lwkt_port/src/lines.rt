@@ -1,6 +1,6 @@
 //! The two lanes that join a processor with another one, or with itself.
-ghost use Rattle.std.specs.Prelude.{◌≡◌, ◌++◌, ◌∷◌, [], ◌↔◌, None, IsTrue, IsSome, IfSome, Some};
-ghost use Rattle.lwkt_lane.specs.Lane.{sent, in_hand};
+ghost use Rattle.std.specs.Prelude.{◌≡◌, ◌++◌, ◌∷◌, [], ◌↔◌, None, IsTrue, IsSome, IfSome, Some, true, MatchOption};
+ghost use Rattle.lwkt_lane.specs.Lane.{sent, in_hand, received, receives_alone, all_pushed, in_lane};
 ghost use Rattle.lwkt_port.specs.Lines.{IsRoomed, HasPosted};
 
 use lwkt_lane::{LaneIn, LaneOut, Note};
@@ -28,4 +28,22 @@ pub(crate) fn post(rt: &impl Wait, line: &mut Lane, note: Note)
     ensures { HasPosted note line.old line.new }
 {
     let _ = line.out.push(rt, note);
+}
+
+/// Receives the next note.
+pub(crate) fn pop(rt: &impl Wait, line: &mut Lane) -> Option<Note>
+    ensures received { MatchOption result (received line.new.into ≡ received line.old.into) (λ note. received line.new.into ≡ received line.old.into ++ note ∷ []) }
+    ensures none { result ≡ None → receives_alone line.old.into ≡ true → received line.new.into ≡ all_pushed line.new.into }
+    ensures alone { receives_alone line.new.into ≡ receives_alone line.old.into }
+    ensures lane { in_lane line.new.into ≡ in_lane line.old.into }
+    ensures same { (line.new.out ≡ line.old.out) × (line.new.kept ≡ line.old.kept) }
+{
+    line.into.pop(rt)
+}
+
+/// Keeps a note whose port's queue is full, or none.
+pub(crate) fn keep(line: &mut Lane, note: Option<Note>)
+    ensures { line.new ≡ record line.old { kept = note } }
+{
+    line.kept = note;
 }
