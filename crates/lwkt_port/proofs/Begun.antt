@@ -16,7 +16,8 @@ use Rattle.lwkt_port.specs.declared.mails.Mail.{Mail}
 use Rattle.lwkt_port.specs.declared.queues.Port.{Port}
 use Rattle.lwkt_port.specs.Mails.{no_mail, mail_at, IsMail, AreMails}
 use Rattle.lwkt_port.specs.Openings.{new_mail, IsEmptyPort, new_line, ArePaired, AreWithin, IsFresh, AreOrigins}
-use Rattle.lwkt_port.specs.Posts.{Post, IsPost, HasNamed, KeepsNamed, NamesMessage}
+use Rattle.lwkt_port.specs.Posts.{Post, IsPost, KeepsNamed}
+use Rattle.lwkt_port.specs.Queues.{HasNamed, NamesMessage}
 use Rattle.lwkt_port.specs.Queues.{queue_of}
 
 lines_are : (outs : List LaneOut) (ins : List LaneIn) → length outs ≡ length ins → length (map new_line (zip outs ins)) ≡ length outs

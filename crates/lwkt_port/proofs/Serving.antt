@@ -13,7 +13,7 @@ use Rattle.lwkt_port.specs.declared.gets.Served.TheVariants as served
 use Rattle.lwkt_port.specs.declared.mails.Mail.{Mail}
 use Rattle.lwkt_port.specs.declared.queues.Port.{Port}
 use Rattle.lwkt_port.specs.Mails.{AreMails}
-use Rattle.lwkt_port.specs.Posts.{NamesMessage, HasNamed}
+use Rattle.lwkt_port.specs.Queues.{NamesMessage, HasNamed}
 use Rattle.lwkt_port.specs.Queues.{queue_of}
 use Rattle.lwkt_port.specs.Servings.{Serves, PassesAll, ShowsOne, LosesOne, GetMeans}
 use Rattle.lwkt_port.specs.Works.{Work, work, Grew, Stands}

@@ -25,7 +25,8 @@ use Rattle.lwkt_port.specs.Chains.{Chain}
 use Rattle.lwkt_port.specs.Deeds.{Takes, Reaps}
 use Rattle.lwkt_port.specs.Lines.{IsRoomed}
 use Rattle.lwkt_port.specs.Mails.{mail_at}
-use Rattle.lwkt_port.specs.Posts.{Post, Changes, NamesBoth, work_of}
+use Rattle.lwkt_port.specs.Posts.{Post, Changes, work_of}
+use Rattle.lwkt_port.specs.Queues.{NamesBoth}
 use Rattle.lwkt_port.specs.Queues.{queue_of, IsQueued}
 use Rattle.lwkt_port.specs.Sendings.{Answers}
 use Rattle.lwkt_port.specs.Works.{Work}

@@ -8,7 +8,7 @@ use Rattle.lwkt_port.specs.declared.mails.Mail.{Mail}
 use Rattle.lwkt_port.specs.declared.queues.Port.{Port}
 use Rattle.lwkt_core.specs.declared.events.Event.{Event}
 use Rattle.lwkt_port.specs.Mails.{AreMails}
-use Rattle.lwkt_port.specs.Queues.{queue_of}
+use Rattle.lwkt_port.specs.Queues.{NamesBoth, HasNamed}
 use Rattle.lwkt_port.specs.Works.{Work}
 
 -- what callers see of a processor's ports: its seat, its lanes to and from each processor, the ports of its threads, and what is
@@ -24,17 +24,7 @@ pub record Post : Type 0 where
 abbrev pub work_of : Post → Vec Event Global → Work
 work_of p trace = record { seat = p.seat; mails = p.mails; trace = trace.items }
 
--- a note names one of so many messages; and one of the ports too
-abbrev pub NamesMessage : ℕ → Note → Type 0
-NamesMessage n note = note.msg.0 < n
-
-abbrev pub NamesBoth : ℕ → Note → Type 0
-NamesBoth n note = (note.msg.0 < n) × (note.port < 16)
-
--- each note in a queue names a message, and each note that was kept for its lane names a message and a port
-abbrev pub HasNamed : ℕ → Port → Type 0
-HasNamed n port = All (NamesMessage n) (queue_of port)
-
+-- a note that was kept for its lane names a message and a port
 abbrev pub KeepsNamed : ℕ → Lane → Type 0
 KeepsNamed n line = IfSome line.kept (NamesBoth n)
 

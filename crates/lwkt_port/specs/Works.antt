@@ -7,6 +7,7 @@ use Rattle.lwkt_core.specs.declared.events.Event.TheVariants.{Load, Take, Share,
 use Rattle.lwkt_base.specs.declared.names.CpuId.{CpuId}
 use Rattle.lwkt_msg.specs.Desks.{Desk, cpu_of, IsSameDesk}
 use Rattle.lwkt_port.specs.Mails.{AreMails}
+use Rattle.lwkt_port.specs.Queues.{HasNamed}
 use Rattle.lwkt_port.specs.declared.lines.Lane.{Lane}
 use Rattle.lwkt_port.specs.declared.mails.Mail.{Mail}
 use Rattle.lwkt_port.specs.declared.queues.Port.{Port}
@@ -61,3 +62,24 @@ pub record Stands (most : ℕ) (seat : Desk) (mails : Vec Mail Global) (trace : 
   pub same : IsSameDesk seat seat'
   pub len : vec_len mails' ≡ vec_len mails
   pub grew : Grew (cpu_of seat) most trace trace'
+
+-- where the work on notes stands
+pub record Standing : Type 0 where
+  pub seat : Desk
+  pub mails : Vec Mail Global
+  pub trace : Vec Event Global
+  pub ports : Vec Port Global
+
+abbrev pub standing : Desk → Vec Mail Global → Vec Event Global → Vec Port Global → Standing
+standing seat mails trace ports = record { seat = seat; mails = mails; trace = trace; ports = ports }
+
+-- handling notes keeps things in order: each message that is reaped has its event in the trace, and there are no other events
+pub record Keeps (s s' : Standing) : Type 0 where
+  pub kept : AreMails s'.seat s'.mails.items
+  pub same : IsSameDesk s.seat s'.seat
+  pub len : vec_len s'.mails ≡ vec_len s.mails
+  pub ports : vec_len s'.ports ≡ 16
+  pub named : All (HasNamed (vec_len s'.mails)) s'.ports.items
+  pub grown : Grown (cpu_of s.seat) s.trace s'.trace
+  pub room : vec_capacity s.trace ≤ vec_capacity s'.trace
+  pub away : away_count s'.mails.items + vec_len s'.trace ≡ away_count s.mails.items + vec_len s.trace

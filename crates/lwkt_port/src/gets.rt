@@ -4,7 +4,7 @@ ghost use Rattle.lwkt_msg.specs.Desks.{cpu_of, cpus_of, messages_of, IsSameDesk}
 ghost use Rattle.lwkt_port.specs.Mails.{mail_at, AreMails};
 ghost use Rattle.lwkt_port.specs.Queues.{queue_of};
 ghost use Rattle.lwkt_port.specs.Works.{work, Grew, away_count};
-ghost use Rattle.lwkt_port.specs.Posts.{NamesMessage, HasNamed};
+ghost use Rattle.lwkt_port.specs.Queues.{NamesMessage, HasNamed};
 ghost use Rattle.lwkt_port.specs.Servings.{served_request, served_answer, Serves, GetMeans, PostGets};
 
 use crate::deeds;

@@ -3,8 +3,9 @@ ghost use Rattle.std.specs.Prelude.{◌≡◌, ◌↔◌, ◌+◌, ◌<◌, ◌�
 ghost use Rattle.lwkt_lane.specs.Lane.{received, receives_alone, all_pushed, in_lane};
 ghost use Rattle.lwkt_msg.specs.Desks.{cpu_of, cpus_of, messages_of, IsSameDesk};
 ghost use Rattle.lwkt_port.specs.Mails.{mail_at, AreMails};
-ghost use Rattle.lwkt_port.specs.Works.{work, Grew, Grown, away_count};
-ghost use Rattle.lwkt_port.specs.Posts.{NamesBoth, HasNamed, KeepsNamed};
+ghost use Rattle.lwkt_port.specs.Works.{work, Grew, away_count, standing, Keeps};
+ghost use Rattle.lwkt_port.specs.Posts.{KeepsNamed};
+ghost use Rattle.lwkt_port.specs.Queues.{NamesBoth, HasNamed};
 ghost use Rattle.lwkt_port.specs.Intakes.{desks, IsSyncAnswer, Handles, Pops, Empties};
 
 use crate::deeds;
@@ -81,4 +82,71 @@ fn handle(
         return None;
     }
     Some(Fate::Queued)
+}
+
+// Pops at most so many notes from a lane that keeps none, and handles them; one that finds its port's queue full is kept, and is
+// the last. Answers how many were popped.
+fn pop_all(
+    rt: &impl Wait,
+    book: &MsgBook,
+    seat: &mut MsgSeat,
+    mails: &mut Vec<Mail>,
+    line: &mut Lane,
+    ports: &mut Vec<Port>,
+    most: usize,
+    trace: &mut Vec<Event>,
+) -> usize
+    requires table { seat.old.table ≡ book.now.table }
+    requires kept { AreMails seat.old mails.old.items }
+    requires ports { vec_len ports.old ≡ 16 }
+    requires named { All (HasNamed (vec_len mails.old)) ports.old.items }
+    requires room { away_count mails.old.items + vec_len trace.old < vec_capacity trace.old }
+    requires none { line.old.kept ≡ None }
+    ensures pops { Pops most result line.old line.new (desks (work seat.old mails.old trace.old) ports.old) (desks (work seat.new mails.new trace.new) ports.new) }
+    ensures keeps { Keeps (standing seat.old mails.old trace.old ports.old) (standing seat.new mails.new trace.new ports.new) }
+    ensures line { KeepsNamed (vec_len mails.new) line.new }
+{
+    for popped in 0..most {
+        let Some(note) = pop(rt, line) else {
+            return popped;
+        };
+        let Some(_fate) = handle(book, seat, mails, ports, note, trace) else {
+            keep(line, Some(note));
+            return popped + 1;
+        };
+    }
+    most
+}
+
+/// Empties the lane from a processor, as far as the limit and the queues of its notes' ports allow, the note that was kept
+/// first. Answers how many notes were popped.
+pub(crate) fn empty(
+    rt: &impl Wait,
+    book: &MsgBook,
+    seat: &mut MsgSeat,
+    mails: &mut Vec<Mail>,
+    line: &mut Lane,
+    ports: &mut Vec<Port>,
+    most: usize,
+    trace: &mut Vec<Event>,
+) -> usize
+    requires table { seat.old.table ≡ book.now.table }
+    requires kept { AreMails seat.old mails.old.items }
+    requires ports { vec_len ports.old ≡ 16 }
+    requires named { All (HasNamed (vec_len mails.old)) ports.old.items }
+    requires room { away_count mails.old.items + vec_len trace.old < vec_capacity trace.old }
+    requires line { KeepsNamed (vec_len mails.old) line.old }
+    ensures empties { Empties most result line.old line.new (desks (work seat.old mails.old trace.old) ports.old) (desks (work seat.new mails.new trace.new) ports.new) }
+    ensures within { result ≤ most }
+    ensures keeps { Keeps (standing seat.old mails.old trace.old ports.old) (standing seat.new mails.new trace.new ports.new) }
+    ensures line { KeepsNamed (vec_len mails.new) line.new }
+{
+    let Some(note) = line.kept else {
+        return pop_all(rt, book, seat, mails, line, ports, most, trace);
+    };
+    let Some(_fate) = handle(book, seat, mails, ports, note, trace) else {
+        return 0;
+    };
+    keep(line, None);
+    pop_all(rt, book, seat, mails, line, ports, most, trace)
 }
