@@ -1,6 +1,6 @@
 -- One line of a processor's lanes changes, and the others stay: for sends and replies.
 use Rattle.std.proofs.Common.{◌≡◌, ℕ, ◌<◌, ◌≤◌, List, length, set, get_or, refl, ap, sym, ◌∙◌, subst, arith}
-use Rattle.std.specs.Prelude.{Bool, true, Option, Some, is_some, Result, Ok, Err, OnOk, IfErr, slice_index_or, slice_set}
+use Rattle.std.specs.Prelude.{Bool, true, All, IfSome, Option, Some, is_some, Result, Ok, Err, OnOk, IfErr, slice_index_or, slice_set}
 use Rattle.lwkt_base.specs.declared.faults.Fault.{Fault}
 use Rattle.lwkt_base.specs.declared.faults.Fault.TheVariants.{LaneFull, RoundsOut}
 use Rattle.lwkt_base.specs.declared.names.MsgId.{MsgId}
@@ -9,7 +9,10 @@ use Rattle.lwkt_port.specs.declared.mails.Mail.{Mail}
 use Rattle.lwkt_port.specs.Mails.{mail_at, AreMails}
 use Rattle.lwkt_port.specs.declared.deeds.Sending.{Sending}
 use Rattle.lwkt_port.specs.declared.lines.Lane.{Lane}
-use Rattle.lwkt_port.specs.Posts.{Changes}
+use Rattle.lwkt_lane.specs.declared.notes.Note.{Note}
+use Rattle.std.proofs.lemmas.List.Elements.{All-set, All-get_or}
+use Rattle.lwkt_port.specs.Posts.{Changes, KeepsNamed}
+use Rattle.lwkt_port.specs.Queues.{NamesBoth}
 use Rattle.lwkt_port.specs.Sendings.{MaySend, SendsOver, RefusesOver, HasSentNote, WhyUnsent, ReplyMeans, Answers}
 use Rattle.lwkt_port.specs.Works.{Work}
 
@@ -47,3 +50,16 @@ owed_is_taken d mails m error are there owed = (are.each m there).owed_taken (ap
 -- the line to the processor of a message's origin is there
 pub line_is_there : (d : Desk) (mails : List Mail) (m : ℕ) → AreMails d mails → m < length mails → (mail_at mails m).origin.cpu.0 < cpus_of d
 line_is_there d mails m are there = (are.each m there).there
+
+-- the notes that lines keep name messages and ports, after one line was changed
+pub line_kept : (n : ℕ) (lanes : List Lane) (j : ℕ) (old new : Lane) → j < length lanes → old ≡ slice_index_or lanes j old → new.kept ≡ old.kept → All (KeepsNamed n) lanes → All (KeepsNamed n) (slice_set lanes j new)
+line_kept n lanes j old new there was kept all =
+    let F : Lane → Type 0 = KeepsNamed n in
+    let O : Option Note → Type 0 = λ o. IfSome o (NamesBoth n) in
+    let before : KeepsNamed n old = subst F (sym was) (All-get_or (KeepsNamed n) lanes j old there all) in
+    All-set (KeepsNamed n) lanes j new (subst O (sym kept) before) all
+
+pub line_named : (n n' : ℕ) (lanes : List Lane) (j : ℕ) (new : Lane) → n' ≡ n → All (KeepsNamed n) lanes → KeepsNamed n' new → All (KeepsNamed n') (slice_set lanes j new)
+line_named n n' lanes j new same all named =
+    let F : ℕ → Type 0 = λ k. All (KeepsNamed k) lanes in
+    All-set (KeepsNamed n') lanes j new named (subst F (sym same) all)

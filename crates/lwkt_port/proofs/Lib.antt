@@ -1,4 +1,5 @@
 pub mod Begun
+pub mod Chaining
 pub mod Deeding
 pub mod Dispatching
 pub mod Emptying

@@ -36,6 +36,9 @@ pub record Payer : Type 0 where
   pub work : Work
   pub lanes : List Lane
 
+abbrev pub payer : Work → Vec Lane Global → Payer
+payer w lanes = record { work = w; lanes = lanes.items }
+
 -- the reply that is owed to a message, if one is: it is made, or its lane is full
 abbrev pub PaysOwed : Option ℕ → ℕ → Payer → Payer → Type 0
 PaysOwed None m x y = y ≡ x
@@ -101,6 +104,9 @@ pub record Intake : Type 0 where
   pub ports : List Port
   pub count : ℕ
 
+abbrev pub intake : Work → Vec Lane Global → Vec Port Global → ℕ → Intake
+intake w lanes ports count = record { work = w; lanes = lanes.items; ports = ports.items; count = count }
+
 abbrev pub desks_of : Intake → Desks
 desks_of x = record { work = x.work; ports = x.ports }
 
@@ -150,6 +156,9 @@ pub record Clearing : Type 0 where
   pub work : Work
   pub ports : List Port
   pub left : ℕ
+
+abbrev pub clearing : Work → Vec Port Global → ℕ → Clearing
+clearing w ports left = record { work = w; ports = ports.items; left = left }
 
 abbrev pub ClearsAt : ℕ → Clearing → Clearing → Type 0
 ClearsAt port x y = (k : ℕ) × Changes (λ a b. ClearsPort x.left k a b x.work y.work) port x.ports y.ports × (y.left + k ≡ x.left)
