@@ -57,6 +57,7 @@ opened cpu p outs ins origins seat fresh are within paired ports empty mails =
       few = within.few;
       mails_are = record {
         as_many = many ∙ within.origins_are;
+        few = omega (arith, many, within.origins_are, seat.within.message_limit);
         each = λ m lt.
             let inside : m < length origins = omega arith in
             let exists : m < messages_of p.seat = omega (arith, within.origins_are) in

@@ -47,3 +47,6 @@ stands_then a b d d' d'' m m' m'' t t' t'' s kept same len grew =
       len = len ∙ s.len;
       grew = grew_then (cpu_of d) a b t t' t'' s.grew g;
     }
+
+pub stands_is : (a b : ℕ) (d d' : Desk) (m m' : Vec Mail Global) (t t' : Vec Event Global) → a ≤ b → Stands a d m t d' m' t' → Stands b d m t d' m' t'
+stands_is a b d d' m m' t t' fewer s = record { kept = s.kept; same = s.same; len = s.len; grew = grew_few (cpu_of d) a b t t' s.grew (omega (arith, s.grew.grown, s.grew.few)) }

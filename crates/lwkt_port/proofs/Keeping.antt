@@ -42,6 +42,7 @@ fits_still d d' m mail same away taken k = record {
 pub all_still : (d d' : Desk) (m : ℕ) (mails : List Mail) → IsSameDesk d d' → ((k : ℕ) → k ≢ m → entry d' k ≡ entry d k) → (entry d' m).away ≡ (entry d m).away → (entry d' m).taken ≡ (entry d m).taken → AreMails d mails → AreMails d' mails
 all_still d d' m mails same others away taken are = record {
   as_many = are.as_many ∙ ap length (sym same.specs);
+  few = are.few;
   each = λ k within. dite (ℕ_discrete k m)
       (λ is. fits_still d d' k (mail_at mails k) same (ap (λ n. (entry d' n).away) is ∙ away ∙ ap (λ n. (entry d n).away) (sym is)) (ap (λ n. (entry d' n).taken) is ∙ taken ∙ ap (λ n. (entry d n).taken) (sym is)) (are.each k within))
       (λ apart. fits_still d d' k (mail_at mails k) same (ap (λ e. e.away) (others k apart)) (ap (λ e. e.taken) (others k apart)) (are.each k within));
@@ -51,6 +52,7 @@ all_still d d' m mails same others away taken are = record {
 pub all_put : (d d' : Desk) (m : ℕ) (mails : List Mail) (mail : Mail) → IsSameDesk d d' → ((k : ℕ) → k ≢ m → entry d' k ≡ entry d k) → m < length mails → IsMail d' m mail → AreMails d mails → AreMails d' (set mails m mail)
 all_put d d' m mails mail same others there fits are = record {
   as_many = length-set mails m mail ∙ are.as_many ∙ ap length (sym same.specs);
+  few = let e : length (set mails m mail) ≡ length mails = length-set mails m mail in omega (arith, are.few);
   each = λ k within. dite (ℕ_discrete k m)
       (λ is. let F : ℕ × Mail → Type 0 = λ x. IsMail d' x.0 x.1 in subst F (λ i. (sym is i, (sym (get_or-set_same mails m mail no_mail there) ∙ ap (λ n. mail_at (set mails m mail) n) (sym is)) i)) fits)
       (λ apart.

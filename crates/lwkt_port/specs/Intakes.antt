@@ -163,20 +163,34 @@ clearing w ports left = record { work = w; ports = ports.items; left = left }
 abbrev pub ClearsAt : ℕ → Clearing → Clearing → Type 0
 ClearsAt port x y = (k : ℕ) × Changes (λ a b. ClearsPort x.left k a b x.work y.work) port x.ports y.ports × (y.left + k ≡ x.left)
 
--- the notes that came in are taken in: first each sending end moves its note in hand on; then the owed replies go out, by message
--- number; then the lanes are emptied, by rising sender, one after another, as far as the limit allows; then the closed ports are
--- cleared, by rising number, of at most 16 notes
-pub record TakesIn (limit : ℕ) (p p' : Post) (trace trace' : Vec Event Global) (count : ℕ) : Type 0 where
+-- all that taking notes in changes
+pub record Hall : Type 0 where
+  pub work : Work
+  pub lanes : List Lane
+  pub ports : List Port
+
+abbrev pub hall : Work → Vec Lane Global → Vec Port Global → Hall
+hall w lanes ports = record { work = w; lanes = lanes.items; ports = ports.items }
+
+abbrev pub hall_of : Post → Vec Event Global → Hall
+hall_of p trace = record { work = work_of p trace; lanes = p.lanes; ports = p.ports }
+
+-- the notes that came over the lanes are taken in: first each sending end moves its note in hand on; then the owed replies go out,
+-- by message number; then the lanes are emptied, by rising sender, one after another, as far as the limit allows; then the closed
+-- ports are cleared, by rising number, of at most 16 notes
+pub record TakesIn (limit : ℕ) (x y : Hall) (count : ℕ) : Type 0 where
   pub roomed : List Lane
   pub paid : Payer
-  pub taken : Intake
-  pub cleared : Clearing
-  pub rooms : Chain (List Lane) (λ i x y. Changes IsRoomed i x y) (length p.lanes) p.lanes roomed
-  pub owed : Chain Payer Pays (length p.mails) (record { work = work_of p trace; lanes = roomed }) paid
-  pub notes : Chain Intake (EmptiesFrom limit) (length p.lanes) (record { work = paid.work; lanes = paid.lanes; ports = p.ports; count = 0 }) taken
-  pub closed : Chain Clearing ClearsAt 16 (record { work = taken.work; ports = taken.ports; left = 16 }) cleared
-  pub lanes_are : p'.lanes ≡ taken.lanes
-  pub ports_are : p'.ports ≡ cleared.ports
-  pub work_is : work_of p' trace' ≡ cleared.work
-  pub count_is : count ≡ taken.count
+  pub emptied : Intake
+  pub left : ℕ
+  pub rooms : Chain (List Lane) (λ i a b. Changes IsRoomed i a b) (length x.lanes) x.lanes roomed
+  pub owed : Chain Payer Pays (length x.work.mails) (record { work = x.work; lanes = roomed }) paid
+  pub notes : Chain Intake (EmptiesFrom limit) (length paid.lanes) (record { work = paid.work; lanes = paid.lanes; ports = x.ports; count = 0 }) emptied
+  pub closed : Chain Clearing ClearsAt 16 (record { work = emptied.work; ports = emptied.ports; left = 16 }) (record { work = y.work; ports = y.ports; left = left })
+  pub lanes_are : y.lanes ≡ emptied.lanes
+  pub count_is : count ≡ emptied.count
+
+-- a processor's call to take in did so
+pub record PostTakesIn (limit : ℕ) (p p' : Post) (trace trace' : Vec Event Global) (count : ℕ) : Type 0 where
+  pub takes : TakesIn limit (hall_of p trace) (hall_of p' trace') count
   pub threads_same : p'.threads ≡ p.threads

@@ -1,4 +1,4 @@
-use Rattle.std.specs.Prelude.{◌≡◌, ℕ, ◌<◌, Bool, true, false, List, length, slice_index_or, Option, Some, None, IsSome}
+use Rattle.std.specs.Prelude.{◌≡◌, ℕ, ◌<◌, ◌≤◌, Bool, true, false, List, length, slice_index_or, Option, Some, None, IsSome}
 use Rattle.lwkt_base.specs.declared.names.ThreadId.{ThreadId}
 use Rattle.lwkt_base.specs.declared.records.Rec.{Rec}
 use Rattle.lwkt_msg.specs.Desks.{Desk, cpu_of, cpus_of, messages_of, entry}
@@ -27,4 +27,5 @@ pub record IsMail (d : Desk) (m : ℕ) (mail : Mail) : Type 0 where
 -- the same of all messages of the book
 pub record AreMails (d : Desk) (mails : List Mail) : Type 0 where
   pub as_many : length mails ≡ messages_of d
+  pub few : length mails ≤ 64
   pub each : (m : ℕ) → m < length mails → IsMail d m (mail_at mails m)

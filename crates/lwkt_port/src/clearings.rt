@@ -1,5 +1,5 @@
 //! The notes of closed ports.
-ghost use Rattle.std.specs.Prelude.{◌≡◌, ◌+◌, ◌-◌, ◌<◌, ◌≤◌, length, All, vec_len, vec_capacity};
+ghost use Rattle.std.specs.Prelude.{◌≡◌, ℕ, ◌+◌, ◌-◌, ◌<◌, ◌≤◌, length, All, vec_len, vec_capacity};
 ghost use Rattle.lwkt_msg.specs.Desks.{cpu_of, IsSameDesk};
 ghost use Rattle.lwkt_port.specs.Chains.{Chain};
 ghost use Rattle.lwkt_port.specs.Mails.{AreMails};
@@ -63,7 +63,7 @@ fn clear_queue(
     requires few { most ≤ 16 }
     requires room { vec_len trace.old + 1 + most ≤ vec_capacity trace.old }
     ensures clears { ClearsQueue most result (queue_of port.old) (queue_of port.new) (work seat.old mails.old trace.old) (work seat.new mails.new trace.new) }
-    ensures stands { Stands result seat.old mails.old trace.old seat.new mails.new trace.new }
+    ensures stands { Stands (result + 1) seat.old mails.old trace.old seat.new mails.new trace.new }
     ensures named { HasNamed (vec_len mails.new) port.new }
     ensures closed { port.new.closed ≡ port.old.closed }
 {
@@ -95,11 +95,57 @@ fn clear(
     requires room { vec_len trace.old + 1 + most ≤ vec_capacity trace.old }
     ensures clears { ClearsPort most result port.old port.new (work seat.old mails.old trace.old) (work seat.new mails.new trace.new) }
     ensures within { result ≤ most }
-    ensures stands { Stands result seat.old mails.old trace.old seat.new mails.new trace.new }
+    ensures stands { Stands (result + 1) seat.old mails.old trace.old seat.new mails.new trace.new }
     ensures named { HasNamed (vec_len mails.new) port.new }
 {
     if !port.closed {
         return 0;
     }
     clear_queue(book, seat, mails, port, most, trace)
+}
+
+// Clears the closed ports, by rising number.
+fn clear_each(
+    book: &MsgBook,
+    seat: &mut MsgSeat,
+    mails: &mut Vec<Mail>,
+    ports: &mut Vec<Port>,
+    trace: &mut Vec<Event>,
+) -> usize
+    requires table { seat.old.table ≡ book.now.table }
+    requires kept { AreMails seat.old mails.old.items }
+    requires ports { vec_len ports.old ≡ 16 }
+    requires named { All (HasNamed (vec_len mails.old)) ports.old.items }
+    requires room { vec_len trace.old + 64 ≤ vec_capacity trace.old }
+    ensures clears { Chain Clearing ClearsAt 16 (clearing (work seat.old mails.old trace.old) ports.old 16) (clearing (work seat.new mails.new trace.new) ports.new result) }
+    ensures stands { Stands 32 seat.old mails.old trace.old seat.new mails.new trace.new }
+    ensures ports { vec_len ports.new ≡ 16 }
+    ensures named { All (HasNamed (vec_len mails.new)) ports.new.items }
+{
+    let mut left = CLEARED_AT_ONCE;
+    for at in 0..16 {
+        left -= clear(book, seat, mails, &mut ports[at], left, trace);
+    }
+    left
+}
+
+/// Clears the closed ports, of at most 16 notes.
+pub(crate) fn clear_all(
+    book: &MsgBook,
+    seat: &mut MsgSeat,
+    mails: &mut Vec<Mail>,
+    ports: &mut Vec<Port>,
+    trace: &mut Vec<Event>,
+)
+    requires table { seat.old.table ≡ book.now.table }
+    requires kept { AreMails seat.old mails.old.items }
+    requires ports { vec_len ports.old ≡ 16 }
+    requires named { All (HasNamed (vec_len mails.old)) ports.old.items }
+    requires room { vec_len trace.old + 64 ≤ vec_capacity trace.old }
+    ensures clears { (left : ℕ) × Chain Clearing ClearsAt 16 (clearing (work seat.old mails.old trace.old) ports.old 16) (clearing (work seat.new mails.new trace.new) ports.new left) }
+    ensures stands { Stands 32 seat.old mails.old trace.old seat.new mails.new trace.new }
+    ensures ports { vec_len ports.new ≡ 16 }
+    ensures named { All (HasNamed (vec_len mails.new)) ports.new.items }
+{
+    let _left = clear_each(book, seat, mails, ports, trace);
 }

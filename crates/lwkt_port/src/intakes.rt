@@ -8,11 +8,13 @@ ghost use Rattle.lwkt_port.specs.Mails.{mail_at, AreMails};
 ghost use Rattle.lwkt_port.specs.Posts.{Changes, KeepsNamed};
 ghost use Rattle.lwkt_port.specs.Queues.{HasNamed};
 ghost use Rattle.lwkt_port.specs.Works.{work, Grew, away_count, standing, Keeps, Stands};
-ghost use Rattle.lwkt_port.specs.Intakes.{Payer, payer, Pays, Intake, intake, EmptiesFrom};
+ghost use Rattle.lwkt_port.specs.Intakes.{Payer, payer, Pays, Intake, intake, EmptiesFrom, hall, TakesIn, PostTakesIn};
 
+use crate::clearings::clear_all;
 use crate::handlings::empty;
 use crate::lines::{Lane, has_room};
 use crate::mails::{Mail, mail_of};
+use crate::posts::Ports;
 use crate::queues::Port;
 use crate::replies::answer;
 use lwkt_base::MsgId;
@@ -136,4 +138,71 @@ fn empty_all(
         );
     }
     count
+}
+
+// Takes the notes in that came over the lanes.
+fn take_in(
+    rt: &impl Wait,
+    book: &MsgBook,
+    seat: &mut MsgSeat,
+    lanes: &mut Vec<Lane>,
+    mails: &mut Vec<Mail>,
+    ports: &mut Vec<Port>,
+    limit: usize,
+    trace: &mut Vec<Event>,
+) -> usize
+    requires table { seat.old.table ≡ book.now.table }
+    requires kept { AreMails seat.old mails.old.items }
+    requires ports { vec_len ports.old ≡ 16 }
+    requires named { All (HasNamed (vec_len mails.old)) ports.old.items }
+    requires lanes { vec_len lanes.old ≡ cpus_of seat.old }
+    requires keep { All (KeepsNamed (vec_len mails.old)) lanes.old.items }
+    requires room { vec_len trace.old + 256 ≤ vec_capacity trace.old }
+    ensures takes { TakesIn limit (hall (work seat.old mails.old trace.old) lanes.old ports.old) (hall (work seat.new mails.new trace.new) lanes.new ports.new) result }
+    ensures within { result ≤ limit }
+    ensures stands { Stands 256 seat.old mails.old trace.old seat.new mails.new trace.new }
+    ensures ports { vec_len ports.new ≡ 16 }
+    ensures named { All (HasNamed (vec_len mails.new)) ports.new.items }
+    ensures lanes { vec_len lanes.new ≡ vec_len lanes.old }
+    ensures keep { All (KeepsNamed (vec_len mails.new)) lanes.new.items }
+{
+    make_room(rt, lanes);
+    pay_all(rt, book, seat, lanes, mails, trace);
+    let count = empty_all(rt, book, seat, lanes, mails, ports, limit, trace);
+    clear_all(book, seat, mails, ports, trace);
+    count
+}
+
+impl Ports {
+    /// Takes notes in that came over the lanes, and answers how many, at most `limit`: each is put into the queue of its
+    /// thread's port, and a synchronous answer is taken back and kept for `done`. A note that finds its port's queue full
+    /// is kept, and holds up its own lane and no other. Before that the notes in hand of the sending ends move on and owed
+    /// replies go out, as lanes have room; after it the ports of ended threads are cleared, of at most 16 notes. In
+    /// msgport(9) an inter-processor message puts each note into its port; here a processor asks for them.
+    ///
+    /// That the trace has room for 256 events is the caller's condition.
+    pub fn take_in(
+        &mut self,
+        rt: &impl Wait,
+        book: &MsgBook,
+        limit: usize,
+        trace: &mut Vec<Event>,
+    ) -> usize
+        requires table { self.old.seat.table ≡ book.now.table }
+        requires room { vec_len trace.old + 256 ≤ vec_capacity trace.old }
+        ensures takes { PostTakesIn limit self.old self.new trace.old trace.new result }
+        ensures within { result ≤ limit }
+        ensures grew { Grew (cpu_of self.old.seat) 256 trace.old trace.new }
+    {
+        take_in(
+            rt,
+            book,
+            &mut self.seat,
+            &mut self.lanes,
+            &mut self.mails,
+            &mut self.ports,
+            limit,
+            trace,
+        )
+    }
 }
