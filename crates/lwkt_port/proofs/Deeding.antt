@@ -52,7 +52,7 @@ taken_keeps who note d d' mails mails' (taken.Took rec aborted) same means is th
     let mail : Mail = mail_at mails m in
     let F : List Mail → Type 0 = AreMails d' in
     subst F (sym is) (all_put d d' m mails (taken_mail who aborted note.round mail) same means.does.else_same there
-        (fits_taken d d' m mail (taken_mail who aborted note.round mail) same (ap (λ e. e.away) means.does.here) (ap (λ e. e.taken) means.does.here) (taken_origin who aborted note.round mail) (taken_home who aborted note.round mail) (are.each m there)) are)
+    (fits_taken d d' m mail (taken_mail who aborted note.round mail) same (ap (λ e. e.away) means.does.here) (ap (λ e. e.taken) means.does.here) (taken_origin who aborted note.round mail) (taken_home who aborted note.round mail) (are.each m there)) are)
 taken_keeps who note d d' mails mails' taken.Stale same means is there are =
     let F : List Mail → Type 0 = AreMails d' in
     let does = means.looked_at.does in

@@ -56,9 +56,9 @@ all_put d d' m mails mail same others there fits are = record {
   each = λ k within. dite (ℕ_discrete k m)
       (λ is. let F : ℕ × Mail → Type 0 = λ x. IsMail d' x.0 x.1 in subst F (λ i. (sym is i, (sym (get_or-set_same mails m mail no_mail there) ∙ ap (λ n. mail_at (set mails m mail) n) (sym is)) i)) fits)
       (λ apart.
-          let old : IsMail d k (mail_at mails k) = are.each k (let e : length (set mails m mail) ≡ length mails = length-set mails m mail in omega arith) in
-          let F : Mail → Type 0 = λ x. IsMail d' k x in
-          subst F (sym (get_or-set_other mails m k mail no_mail apart)) (fits_still d d' k (mail_at mails k) same (ap (λ e. e.away) (others k apart)) (ap (λ e. e.taken) (others k apart)) old));
+      let old : IsMail d k (mail_at mails k) = are.each k (let e : length (set mails m mail) ≡ length mails = length-set mails m mail in omega arith) in
+      let F : Mail → Type 0 = λ x. IsMail d' k x in
+      subst F (sym (get_or-set_other mails m k mail no_mail apart)) (fits_still d d' k (mail_at mails k) same (ap (λ e. e.away) (others k apart)) (ap (λ e. e.taken) (others k apart)) old));
 }
 
 -- how many messages are away, after something else is kept of one

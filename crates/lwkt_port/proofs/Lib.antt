@@ -5,5 +5,6 @@ pub mod Deeding
 pub mod Dispatching
 pub mod Emptying
 pub mod Growing
+pub mod Intaking
 pub mod Keeping
 pub mod Serving
