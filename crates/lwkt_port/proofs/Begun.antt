@@ -1,5 +1,5 @@
 -- The ports as they are opened are in order.
-use Rattle.std.proofs.Common.{◌≡◌, ℕ, ◌+◌, ◌<◌, ◌≤◌, ◌==◌, Bool, true, false, true≢false, List, [], ◌∷◌, length, map, get_or, refl, ap, sym, ◌∙◌, subst, arith, eq-eqb}
+use Rattle.std.proofs.Common.{◌≡◌, ℕ, ◌+◌, ◌<◌, ◌≤◌, ◌==◌, Bool, true, false, cond, true≢false, List, [], ◌∷◌, length, map, get_or, refl, ap, sym, ◌∙◌, subst, arith, eq-eqb}
 use Rattle.std.proofs.lemmas.Bool.{eqb-true}
 use Rattle.std.proofs.lemmas.List.{length-map, get_or-map}
 use Rattle.std.proofs.lemmas.List.Elements.{All-nil, All-cons}
@@ -10,7 +10,8 @@ use Rattle.lwkt_lane.specs.declared.ins.LaneIn.{LaneIn}
 use Rattle.lwkt_lane.specs.declared.outs.LaneOut.{LaneOut}
 use Rattle.lwkt_lane.specs.declared.notes.Note.{Note}
 use Rattle.lwkt_msg.specs.Desks.{Desk, cpu_of, cpus_of, messages_of, entry, seat_cpu, IsSeatOf}
-use Rattle.lwkt_msg.specs.Views.{spec_at}
+use Rattle.lwkt_base.specs.declared.openings.MsgSpec.{MsgSpec}
+use Rattle.lwkt_msg.specs.Views.{no_spec, spec_at, first_entry, handed}
 use Rattle.lwkt_port.specs.declared.lines.Lane.{Lane}
 use Rattle.lwkt_port.specs.declared.mails.Mail.{Mail}
 use Rattle.lwkt_port.specs.declared.queues.Port.{Port}
@@ -33,15 +34,22 @@ lines_keep n (x ∷ xs) (y ∷ ys) = All-cons (KeepsNamed n) (new_line (x, y)) (
 no_thread : ThreadId
 no_thread = record { cpu = record { 0 = 0 }; thread = 0 }
 
+-- at the opening no message is away
+home_first : (spec : MsgSpec) (own : Bool) → (cond own (handed (first_entry spec)) (first_entry spec)).away ≡ false
+home_first spec true = refl
+home_first spec false = refl
+
 -- what is kept of a message at the opening fits the seat
 new_fits : (cpu : CpuId) (d : Desk) (m : ℕ) (o : ThreadId) → IsSeatOf cpu d → IsFresh d → m < messages_of d → o ≡ (spec_at d.view.specs m).origin → IsMail d m (new_mail cpu o)
 new_fits cpu d m o seat fresh within is =
     let mine : (cpu_of d).0 ≡ cpu.0 = ap (λ k. (seat_cpu k).0) seat.kind in
     let at : o.cpu.0 ≡ (spec_at d.view.specs m).origin.cpu.0 = ap (λ t. t.cpu.0) is in
-    let there : (spec_at d.view.specs m).origin.cpu.0 < cpus_of d = seat.origins m within in record {
+    let there : (spec_at d.view.specs m).origin.cpu.0 < cpus_of d = seat.origins m within in
+    let spec : MsgSpec = spec_at d.view.specs m in
+    let home : (entry d m).away ≡ false = ap (λ e. e.away) (fresh m within) ∙ home_first spec (spec.origin.cpu.0 == (cpu_of d).0) in record {
       origin_is = is;
       there = omega arith;
-      at_home = λ h. (sym at ∙ eqb-true o.cpu.0 cpu.0 h ∙ sym mine, fresh.home m within);
+      at_home = λ h. (sym at ∙ eqb-true o.cpu.0 cpu.0 h ∙ sym mine, home);
       is_away = λ h own. absurd (true≢false (sym (eq-eqb o.cpu.0 cpu.0 (at ∙ own ∙ mine)) ∙ h));
       owed_taken = λ h. absurd (true≢false (sym h));
       shown_taken = λ h. absurd (true≢false (sym h));
@@ -64,7 +72,8 @@ opened cpu p outs ins origins seat fresh are within paired ports empty mails =
             let F : Mail → Type 0 = IsMail p.seat m in
             let o : ThreadId = get_or origins m no_thread in
             let at : mail_at p.mails m ≡ new_mail cpu o = ap (λ l. mail_at l m) mails ∙ get_or-map (new_mail cpu) origins m no_thread no_mail inside in
-            subst F (sym at) (new_fits cpu p.seat m o seat fresh exists (are m no_thread exists inside));
+            let origin : o ≡ (spec_at p.seat.view.specs m).origin = ap (λ l. get_or l m no_thread) (are within.origins_are) ∙ get_or-map (λ (spec : MsgSpec). spec.origin) p.seat.view.specs m no_spec no_thread exists in
+            subst F (sym at) (new_fits cpu p.seat m o seat fresh exists origin);
       };
       queued = λ k d lt. let Q : List Note → Type 0 = All (NamesMessage n) in subst Q (sym (empty k d lt).0) (All-nil (NamesMessage n));
       kept = subst L (sym paired) (lines_keep n outs ins);

@@ -2,9 +2,10 @@
 use Rattle.std.specs.Prelude.{◌≡◌, ℕ, ◌<◌, ◌≤◌, ◌==◌, Bool, true, false, List, [], length, map, zip, None, slice_index_or, All}
 use Rattle.lwkt_base.specs.declared.names.CpuId.{CpuId}
 use Rattle.lwkt_base.specs.declared.names.ThreadId.{ThreadId}
+use Rattle.lwkt_base.specs.declared.openings.MsgSpec.{MsgSpec}
 use Rattle.lwkt_lane.specs.declared.ins.LaneIn.{LaneIn}
 use Rattle.lwkt_lane.specs.declared.outs.LaneOut.{LaneOut}
-use Rattle.lwkt_msg.specs.Desks.{Desk, cpu_of, cpus_of, messages_of, entry}
+use Rattle.lwkt_msg.specs.Desks.{Desk, cpu_of, cpus_of, messages_of, entry, opened_entry}
 use Rattle.lwkt_msg.specs.Hands.{IsOwn}
 use Rattle.lwkt_msg.specs.Views.{spec_at}
 use Rattle.lwkt_port.specs.declared.lines.Lane.{Lane}
@@ -35,14 +36,13 @@ pub record AreWithin (seat : Desk) (outs : List LaneOut) (ins : List LaneIn) (or
   pub ins_are : length ins ≡ cpus_of seat
   pub origins_are : length origins ≡ messages_of seat
 
--- the seat has all its own messages at rest, and has taken none
-pub record IsFresh (seat : Desk) : Type 0 where
-  pub home : (m : ℕ) → m < messages_of seat → (entry seat m).away ≡ false
-  pub none_taken : (m : ℕ) → m < messages_of seat → (entry seat m).taken ≡ false
+-- the seat is as the book's opening gave it: it has its own messages at rest, and has taken none
+abbrev pub IsFresh : Desk → Type 0
+IsFresh seat = (m : ℕ) → m < messages_of seat → entry seat m ≡ opened_entry (cpu_of seat).0 (spec_at seat.view.specs m)
 
 -- the threads that the messages of the seat's book belong to
 abbrev pub AreOrigins : Desk → List ThreadId → Type 0
-AreOrigins seat origins = (m : ℕ) (d : ThreadId) → m < messages_of seat → m < length origins → slice_index_or origins m d ≡ (spec_at seat.view.specs m).origin
+AreOrigins seat origins = length origins ≡ messages_of seat → origins ≡ map (λ (spec : MsgSpec). spec.origin) seat.view.specs
 
 -- a processor's ports that were just opened
 pub record IsOpenedPost (cpu : CpuId) (seat : Desk) (outs : List LaneOut) (ins : List LaneIn) (origins : List ThreadId) (threads : ℕ) (p : Post) : Type 0 where

@@ -2,7 +2,7 @@ use Rattle.std.specs.Prelude.{◌≡◌, ℕ, ◌<◌, ◌≤◌, Bool, true, fa
 use Rattle.std.specs.declared.alloc.Global.{Global}
 use Rattle.lwkt_base.specs.declared.names.ThreadId.{ThreadId}
 use Rattle.lwkt_lane.specs.declared.notes.Note.{Note}
-use Rattle.lwkt_msg.specs.Desks.{Desk, cpus_of, messages_of}
+use Rattle.lwkt_msg.specs.Desks.{Desk, cpus_of, messages_of, IsSameDesk}
 use Rattle.lwkt_port.specs.declared.lines.Lane.{Lane}
 use Rattle.lwkt_port.specs.declared.mails.Mail.{Mail}
 use Rattle.lwkt_port.specs.declared.queues.Port.{Port}
@@ -45,3 +45,8 @@ pub record Changes {A : Type 0} (R : A → A → Type 0) (i : ℕ) (xs ys : List
   pub was : slice_index_or xs i old ≡ old
   pub now : ys ≡ slice_set xs i new
   pub does : R old new
+
+-- the ports are still those that they were: over the same seat, for as many threads
+pub record IsSamePost (p p' : Post) : Type 0 where
+  pub seat : IsSameDesk p.seat p'.seat
+  pub threads : p'.threads ≡ p.threads

@@ -1,6 +1,7 @@
 //! A thread looks at its port.
 ghost use Rattle.std.specs.Prelude.{◌≡◌, ◌+◌, ◌<◌, ◌≤◌, true, [], ◌∷◌, length, All, vec_len, vec_capacity};
 ghost use Rattle.lwkt_msg.specs.Desks.{cpu_of, cpus_of, messages_of, IsSameDesk};
+ghost use Rattle.lwkt_port.specs.Posts.{IsSamePost};
 ghost use Rattle.lwkt_port.specs.Mails.{mail_at, AreMails};
 ghost use Rattle.lwkt_port.specs.Queues.{queue_of};
 ghost use Rattle.lwkt_port.specs.Works.{work, Grew, away_count};
@@ -142,6 +143,7 @@ impl Ports {
         requires exists { thread < self.old.threads }
         requires room { vec_len trace.old + 128 ≤ vec_capacity trace.old }
         ensures gets { PostGets thread self.old self.new trace.old trace.new result }
+        ensures same { IsSamePost self.old self.new }
         ensures grew { Grew (cpu_of self.old.seat) 128 trace.old trace.new }
     {
         serve(

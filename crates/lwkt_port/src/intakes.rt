@@ -5,7 +5,7 @@ ghost use Rattle.lwkt_port.specs.declared.lines.Lane.{Lane};
 ghost use Rattle.lwkt_port.specs.Chains.{Chain};
 ghost use Rattle.lwkt_port.specs.Lines.{IsRoomed};
 ghost use Rattle.lwkt_port.specs.Mails.{mail_at, AreMails};
-ghost use Rattle.lwkt_port.specs.Posts.{Changes, KeepsNamed};
+ghost use Rattle.lwkt_port.specs.Posts.{Changes, KeepsNamed, IsSamePost};
 ghost use Rattle.lwkt_port.specs.Queues.{HasNamed};
 ghost use Rattle.lwkt_port.specs.Works.{work, Grew, away_count, standing, Keeps, Stands};
 ghost use Rattle.lwkt_port.specs.Intakes.{Payer, payer, Pays, Intake, intake, EmptiesFrom, hall, TakesIn, PostTakesIn};
@@ -192,6 +192,7 @@ impl Ports {
         requires room { vec_len trace.old + 256 ≤ vec_capacity trace.old }
         ensures takes { PostTakesIn limit self.old self.new trace.old trace.new result }
         ensures within { result ≤ limit }
+        ensures same { IsSamePost self.old self.new }
         ensures grew { Grew (cpu_of self.old.seat) 256 trace.old trace.new }
     {
         take_in(

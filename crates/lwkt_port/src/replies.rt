@@ -1,9 +1,9 @@
 //! A thread replies to a message, and is given the reply that it waited for.
 ghost use Rattle.std.specs.Prelude.{◌≡◌, ◌↔◌, ◌+◌, ◌<◌, ◌≤◌, true, length, slice_set, All, vec_len, vec_capacity, None, IsTrue, OnOk, IfErr};
-ghost use Rattle.lwkt_msg.specs.Desks.{cpu_of, cpus_of, entry, IsSameDesk};
+ghost use Rattle.lwkt_msg.specs.Desks.{cpu_of, cpus_of, messages_of, entry, IsSameDesk};
 ghost use Rattle.lwkt_port.specs.Mails.{mail_at, AreMails};
 ghost use Rattle.lwkt_port.specs.Works.{work, Grew, away_count};
-ghost use Rattle.lwkt_port.specs.Posts.{KeepsNamed};
+ghost use Rattle.lwkt_port.specs.Posts.{KeepsNamed, IsSamePost};
 ghost use Rattle.lwkt_port.specs.Sendings.{answer_note, ReplyMeans, Answers, IsShownTo, PostReplies, PostRefusesReply};
 
 use crate::deeds;
@@ -140,6 +140,7 @@ impl Ports {
         requires room { vec_len trace.old + 256 ≤ vec_capacity trace.old }
         ensures replied { OnOk result (PostReplies thread msg error outcome self.old self.new trace.old trace.new) }
         ensures refused { IfErr result (λ fault. PostRefusesReply thread msg error outcome self.old self.new trace.old trace.new fault) }
+        ensures same { IsSamePost self.old self.new }
         ensures grew { Grew (cpu_of self.old.seat) 1 trace.old trace.new }
     {
         if !is_shown_to(&self.mails, thread, msg) {
@@ -165,8 +166,9 @@ impl Ports {
     /// the message discards a reply that was not given. In msgport(9) lwkt_domsg itself waits for the reply, by
     /// lwkt_waitmsg. That there is such a message is the caller's condition.
     pub fn done(&mut self, msg: MsgId) -> Option<Rec>
-        requires { msg.0 < length self.old.mails }
+        requires { msg.0 < messages_of self.old.seat }
         ensures reply { result ≡ (mail_at self.old.mails msg.0).done }
+        ensures same { IsSamePost self.old self.new }
         ensures given { self.new ≡ record self.old { mails = slice_set self.old.mails msg.0 (record (mail_at self.old.mails msg.0) { done = None }) } }
     {
         let m = usize::from(msg.0);

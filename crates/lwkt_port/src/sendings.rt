@@ -6,7 +6,7 @@ ghost use Rattle.lwkt_port.specs.Lines.{IsRoomed};
 ghost use Rattle.lwkt_port.specs.Mails.{mail_at, AreMails};
 ghost use Rattle.lwkt_port.specs.Works.{work, Grew};
 ghost use Rattle.lwkt_port.specs.Sendings.{IsPortName, MaySend, SendsOver, RefusesOver, HasSentNote, WhyUnsent, PostSends, PostRefuses};
-ghost use Rattle.lwkt_port.specs.Posts.{KeepsNamed};
+ghost use Rattle.lwkt_port.specs.Posts.{KeepsNamed, IsSamePost};
 
 use crate::deeds;
 use crate::deeds::Sending;
@@ -124,6 +124,7 @@ impl Ports {
         requires room { vec_len trace.old < vec_capacity trace.old }
         ensures sent { OnOk result (PostSends sending.now self.old self.new trace.old trace.new) }
         ensures refused { IfErr result (λ fault. PostRefuses sending.now self.old self.new trace.old trace.new fault) }
+        ensures same { IsSamePost self.old self.new }
         ensures grew { Grew (cpu_of self.old.seat) 1 trace.old trace.new }
     {
         dispatch(
@@ -162,6 +163,7 @@ impl Ports {
         requires room { vec_len trace.old + 256 ≤ vec_capacity trace.old }
         ensures sent { OnOk result (PostSends (record { thread = thread; msg = msg; to = to; call = call; flags = flags; sync = false }) self.old self.new trace.old trace.new) }
         ensures refused { IfErr result (λ fault. PostRefuses (record { thread = thread; msg = msg; to = to; call = call; flags = flags; sync = false }) self.old self.new trace.old trace.new fault) }
+        ensures same { IsSamePost self.old self.new }
         ensures grew { Grew (cpu_of self.old.seat) 1 trace.old trace.new }
     {
         if !is_port_name(&self.seat, to) {
@@ -198,6 +200,7 @@ impl Ports {
         requires room { vec_len trace.old + 256 ≤ vec_capacity trace.old }
         ensures sent { OnOk result (PostSends (record { thread = thread; msg = msg; to = to; call = call; flags = no_flags; sync = true }) self.old self.new trace.old trace.new) }
         ensures refused { IfErr result (λ fault. PostRefuses (record { thread = thread; msg = msg; to = to; call = call; flags = no_flags; sync = true }) self.old self.new trace.old trace.new fault) }
+        ensures same { IsSamePost self.old self.new }
         ensures grew { Grew (cpu_of self.old.seat) 1 trace.old trace.new }
     {
         if !is_port_name(&self.seat, to) {
