@@ -1,8 +1,10 @@
 //! The worked rows, and what becomes of full lanes and full queues.
 ghost use Rattle.std.specs.Prelude.{◌≡◌, ◌<◌, length};
 
-use crate::stations::{Ask, Line, NO_FLAGS, Told, open, run};
+use crate::stations::{Ask, Line, NO_FLAGS, Told, both, listed, open, open_ports, play, run};
 use lwkt_base::{Call, CpuId, Fault, Item, MsgId, MsgSpec, Rec, ThreadId};
+use lwkt_lane::{Note, NoteKind, lane};
+use lwkt_msg::MsgBook;
 use std::test::Fail;
 
 // A message of thread 0 of the first processor.
@@ -142,5 +144,60 @@ fn a_later_send_discards_the_reply(rt: HostRuntime) -> Result<(), Fail> {
         first(Ask::Done(0), Told::Given(None)),
     ];
     run(&rt, rt.alloc(), &mut pair, 1, &lines)?;
+    Ok(())
+}
+
+const fn note(m: u8, round: u64, port: u8) -> Note {
+    Note {
+        round,
+        msg: MsgId(m),
+        port,
+        kind: NoteKind::Request,
+    }
+}
+
+// Thread 0's queue is full of stale notes: the next one holds up what comes behind it, but not the other lane. A note that
+// names no message does nothing.
+#[test]
+fn a_full_queue_holds_up_one_lane(rt: HostRuntime) -> Result<(), Fail> {
+    let alloc = rt.alloc();
+    let specs = [OWN; 2];
+    let (book, seats) = MsgBook::open(alloc, &specs, 2)?;
+    let (mut sender, seat) = both(seats, &book).ok_or("two seats")?;
+    let (mut slow, in_slow) = lane(alloc, 32)?;
+    let (mut quick, in_quick) = lane(alloc, 32)?;
+    let (out_slow, _) = lane(alloc, 32)?;
+    let (out_quick, _) = lane(alloc, 32)?;
+    let outs = listed(alloc, out_slow, out_quick)?;
+    let ins = listed(alloc, in_slow, in_quick)?;
+    let mut ports = open_ports(alloc, seat, &book, &specs, outs, ins)?;
+    for m in 0..2 {
+        let call = Call { arg: 1, op: 1 };
+        sender.send(&book, MsgId(m), CpuId(1), call, NO_FLAGS, false)?;
+    }
+    slow.push(&rt, note(200, 1, 0))?;
+    let foreign = play(&rt, alloc, &book, &mut ports, 2, Ask::TakeIn(16))?;
+    assert_eq!(rt; foreign, Told::Popped(1));
+    for _stale in 0..64 {
+        slow.push(&rt, note(0, 9, 0))?;
+        let told = play(&rt, alloc, &book, &mut ports, 2, Ask::TakeIn(16))?;
+        assert_eq!(rt; told, Told::Popped(1));
+    }
+    slow.push(&rt, note(0, 9, 0))?;
+    slow.push(&rt, note(1, 1, 1))?;
+    quick.push(&rt, note(0, 1, 1))?;
+    let lines = [
+        (Ask::TakeIn(16), Told::Popped(2)),
+        (Ask::Get(1), request(0, 1, 1)),
+        (Ask::Get(1), Told::Got(None)),
+        (Ask::TakeIn(16), Told::Popped(0)),
+        (Ask::Get(0), Told::Got(None)),
+        (Ask::TakeIn(16), Told::Popped(1)),
+        (Ask::Get(1), request(1, 1, 1)),
+    ];
+    for (ask, wanted) in lines {
+        let told = play(&rt, alloc, &book, &mut ports, 2, ask)?;
+        assert_eq!(rt; told, wanted);
+    }
     Ok(())
 }

@@ -127,7 +127,7 @@ fn origins_of(alloc: Global, specs: &[MsgSpec]) -> Result<Vec<ThreadId>, AllocEr
     specs.iter().map(|spec| spec.origin).collect(alloc)
 }
 
-// The ports of a processor whose threads are two, over a seat that was just opened.
+/// The ports of a processor whose threads are two, over a seat that was just opened.
 pub fn open_ports(
     alloc: Global,
     seat: MsgSeat,
@@ -155,8 +155,8 @@ pub struct Pair {
     pub second: Ports,
 }
 
-// The two seats of a book of two processors.
-fn both(mut seats: Vec<MsgSeat>, book: &MsgBook) -> Option<(MsgSeat, MsgSeat)>
+/// The two seats of a book of two processors.
+pub fn both(mut seats: Vec<MsgSeat>, book: &MsgBook) -> Option<(MsgSeat, MsgSeat)>
     requires { AreSeats 2 book.now seats.items }
     ensures { IfSome result (λ p. IsOpened 0 book.now p.0 × IsOpened 1 book.now p.1) }
 {
@@ -165,8 +165,8 @@ fn both(mut seats: Vec<MsgSeat>, book: &MsgBook) -> Option<(MsgSeat, MsgSeat)>
     Some((first, second))
 }
 
-// Two ends in a list.
-fn listed<T: Drop>(alloc: Global, first: T, second: T) -> Result<Vec<T>, Fault> {
+/// Two ends in a list.
+pub fn listed<T: Drop>(alloc: Global, first: T, second: T) -> Result<Vec<T>, Fault> {
     let mut list = Vec::with_capacity(alloc, 2).map_err(|_| Fault::Memory)?;
     list.push(first).map_err(|_| Fault::Memory)?;
     list.push(second).map_err(|_| Fault::Memory)?;

@@ -13,20 +13,21 @@ use std::thread;
 
 const TRIES: u32 = 100_000_000;
 
-const ROUNDS: u64 = 1000;
+const ROUNDS: u32 = 1000;
 
 // Sends the message, and waits for its reply: whether it is the one that is wanted.
-fn ask(rt: &impl Wait, alloc: Global, book: &MsgBook, ports: &mut Ports, round: u64) -> bool
+fn ask(rt: &impl Wait, alloc: Global, book: &MsgBook, ports: &mut Ports, round: u32) -> bool
     requires { Sits book.now 1 ports.old }
     ensures { Sits book.now 1 ports.new }
 {
+    let arg = u64::from(round);
     let wanted = Rec {
-        arg: round,
-        result: round + 1,
+        arg,
+        result: arg + 1,
         op: 5,
         error: 0,
     };
-    let sending = Ask::SendSync(0, 0, 1, 0, 5, round);
+    let sending = Ask::SendSync(0, 0, 1, 0, 5, arg);
     if play(rt, alloc, book, ports, 1, sending) != Ok(Told::Done) {
         return false;
     }
@@ -41,7 +42,7 @@ fn ask(rt: &impl Wait, alloc: Global, book: &MsgBook, ports: &mut Ports, round: 
 }
 
 // How many rounds of asking went well.
-fn ask_all(rt: &impl Wait, alloc: Global, book: &MsgBook, mut ports: Ports) -> u64
+fn ask_all(rt: &impl Wait, alloc: Global, book: &MsgBook, mut ports: Ports) -> u32
     requires { Sits book.now 1 ports }
 {
     let mut asked = 0;
@@ -55,16 +56,17 @@ fn ask_all(rt: &impl Wait, alloc: Global, book: &MsgBook, mut ports: Ports) -> u
 }
 
 // Waits for a request, and replies to it: whether it is the one that is wanted.
-fn serve(rt: &impl Wait, alloc: Global, book: &MsgBook, ports: &mut Ports, round: u64) -> bool
+fn serve(rt: &impl Wait, alloc: Global, book: &MsgBook, ports: &mut Ports, round: u32) -> bool
     requires { Sits book.now 1 ports.old }
     ensures { Sits book.now 1 ports.new }
 {
-    let call = Call { arg: round, op: 5 };
+    let arg = u64::from(round);
+    let call = Call { arg, op: 5 };
     let wanted = Item::Request(MsgId(0), call);
     for _try in 0..TRIES {
         let _ = play(rt, alloc, book, ports, 1, Ask::TakeIn(16));
         if let Ok(Told::Got(Some(item))) = play(rt, alloc, book, ports, 1, Ask::Get(0)) {
-            let reply = Ask::Reply(0, 0, 0, round + 1);
+            let reply = Ask::Reply(0, 0, 0, arg + 1);
             return item == wanted && play(rt, alloc, book, ports, 1, reply) == Ok(Told::Done);
         }
         thread::yield_now();
@@ -73,7 +75,7 @@ fn serve(rt: &impl Wait, alloc: Global, book: &MsgBook, ports: &mut Ports, round
 }
 
 // How many requests were served well.
-fn serve_all(rt: &impl Wait, alloc: Global, book: &MsgBook, mut ports: Ports) -> u64
+fn serve_all(rt: &impl Wait, alloc: Global, book: &MsgBook, mut ports: Ports) -> u32
     requires { Sits book.now 1 ports }
 {
     let mut served = 0;
