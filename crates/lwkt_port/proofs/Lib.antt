@@ -7,4 +7,5 @@ pub mod Emptying
 pub mod Growing
 pub mod Intaking
 pub mod Keeping
+pub mod Lawful
 pub mod Serving

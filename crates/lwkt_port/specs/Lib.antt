@@ -9,3 +9,4 @@ pub mod Servings
 pub mod Openings
 pub mod Chains
 pub mod Intakes
+pub mod Laws

@@ -6,6 +6,7 @@ pub mod deeds;
 pub mod gets;
 pub mod handlings;
 mod intakes;
+pub mod laws;
 pub mod lines;
 pub mod mails;
 pub mod openings;
