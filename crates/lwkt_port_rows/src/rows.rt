@@ -1,10 +1,17 @@
 //! The worked rows, and what becomes of full lanes and full queues.
-ghost use Rattle.std.specs.Prelude.{◌≡◌, ◌<◌, length};
+ghost use Rattle.std.specs.Prelude.{◌≡◌, ◌<◌, IfOk};
+ghost use Rattle.lwkt_msg.specs.Desks.{cpus_of};
+ghost use Rattle.lwkt_port_rows.specs.Stations.{Sits};
 
-use crate::stations::{Ask, Line, NO_FLAGS, Told, both, listed, open, open_ports, play, run};
+use crate::stations::{
+    Ask, Line, NO_FLAGS, Told, both, listed, open, open_ports, play, play_all, run,
+};
 use lwkt_base::{Call, CpuId, Fault, Item, MsgId, MsgSpec, Rec, ThreadId};
-use lwkt_lane::{Note, NoteKind, lane};
-use lwkt_msg::MsgBook;
+use lwkt_lane::{LaneOut, Note, NoteKind, lane};
+use lwkt_msg::{MsgBook, MsgSeat};
+use lwkt_port::Ports;
+use std::alloc::Global;
+use std::sync::Wait;
 use std::test::Fail;
 
 // A message of thread 0 of the first processor.
@@ -156,6 +163,39 @@ const fn note(m: u8, round: u64, port: u8) -> Note {
     }
 }
 
+// Sends the two messages of the first processor to the second one.
+fn send_both(book: &MsgBook, sender: &mut MsgSeat) -> Result<(), Fault>
+    requires table { sender.old.table ≡ book.now.table }
+    requires there { 1 < cpus_of sender.old }
+    ensures { sender.new.table ≡ book.now.table }
+{
+    for m in 0..2 {
+        let call = Call { arg: 1, op: 1 };
+        sender.send(book, MsgId(m), CpuId(1), call, NO_FLAGS, false)?;
+    }
+    Ok(())
+}
+
+// Fills the queue of thread 0 with stale notes, one at a time: whether each was taken in.
+fn fill(
+    rt: &impl Wait,
+    alloc: Global,
+    book: &MsgBook,
+    ports: &mut Ports,
+    out: &mut LaneOut,
+) -> Result<bool, Fault>
+    requires { Sits book.now 2 ports.old }
+    ensures { IfOk result (λ _. Sits book.now 2 ports.new) }
+{
+    for _stale in 0..64 {
+        out.push(rt, note(0, 9, 0))?;
+        if play(rt, alloc, book, ports, 2, Ask::TakeIn(16))? != Told::Popped(1) {
+            return Ok(false);
+        }
+    }
+    Ok(true)
+}
+
 // Thread 0's queue is full of stale notes: the next one holds up what comes behind it, but not the other lane. A note that
 // names no message does nothing.
 #[test]
@@ -171,18 +211,11 @@ fn a_full_queue_holds_up_one_lane(rt: HostRuntime) -> Result<(), Fail> {
     let outs = listed(alloc, out_slow, out_quick)?;
     let ins = listed(alloc, in_slow, in_quick)?;
     let mut ports = open_ports(alloc, seat, &book, &specs, outs, ins)?;
-    for m in 0..2 {
-        let call = Call { arg: 1, op: 1 };
-        sender.send(&book, MsgId(m), CpuId(1), call, NO_FLAGS, false)?;
-    }
+    send_both(&book, &mut sender)?;
     slow.push(&rt, note(200, 1, 0))?;
-    let foreign = play(&rt, alloc, &book, &mut ports, 2, Ask::TakeIn(16))?;
-    assert_eq!(rt; foreign, Told::Popped(1));
-    for _stale in 0..64 {
-        slow.push(&rt, note(0, 9, 0))?;
-        let told = play(&rt, alloc, &book, &mut ports, 2, Ask::TakeIn(16))?;
-        assert_eq!(rt; told, Told::Popped(1));
-    }
+    let foreign = [(Ask::TakeIn(16), Told::Popped(1))];
+    play_all(&rt, alloc, &book, &mut ports, 2, &foreign)?;
+    assert!(rt; fill(&rt, alloc, &book, &mut ports, &mut slow)?);
     slow.push(&rt, note(0, 9, 0))?;
     slow.push(&rt, note(1, 1, 1))?;
     quick.push(&rt, note(0, 1, 1))?;
@@ -195,9 +228,6 @@ fn a_full_queue_holds_up_one_lane(rt: HostRuntime) -> Result<(), Fail> {
         (Ask::TakeIn(16), Told::Popped(1)),
         (Ask::Get(1), request(1, 1, 1)),
     ];
-    for (ask, wanted) in lines {
-        let told = play(&rt, alloc, &book, &mut ports, 2, ask)?;
-        assert_eq!(rt; told, wanted);
-    }
+    play_all(&rt, alloc, &book, &mut ports, 2, &lines)?;
     Ok(())
 }

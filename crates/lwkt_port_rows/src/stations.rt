@@ -200,7 +200,29 @@ pub fn open(alloc: Global, specs: &[MsgSpec], capacity: usize) -> Result<Pair, F
     })
 }
 
-/// Plays a table of calls.
+/// Plays a table of calls on the ports of one processor.
+pub fn play_all(
+    rt: &impl Wait,
+    alloc: Global,
+    book: &MsgBook,
+    ports: &mut Ports,
+    messages: usize,
+    lines: &[(Ask, Told)],
+) -> Result<(), Miss>
+    requires { Sits book.now messages ports.old }
+    ensures { Sits book.now messages ports.new }
+{
+    for (at, (ask, wanted)) in lines.iter().enumerate() {
+        match play(rt, alloc, book, ports, messages, *ask) {
+            Ok(told) if told == *wanted => {}
+            Ok(told) => return Err(Miss::Line { at, told }),
+            Err(fault) => return Err(Miss::Fault(fault)),
+        }
+    }
+    Ok(())
+}
+
+/// Plays a table of calls by both processors.
 pub fn run(
     rt: &impl Wait,
     alloc: Global,
