@@ -1,0 +1,60 @@
+-- What the ports are for, as laws above the relations of the calls.
+use Rattle.std.specs.Prelude.{◌≡◌, ◌≢◌, ◌⊎◌, ℕ, ◌<◌, List, [], ◌∷◌, ◌++◌, length, Option, Some, None, Result, MatchOption, option_to_list}
+use Rattle.lwkt_base.specs.declared.asks.Item.{Item}
+use Rattle.lwkt_base.specs.declared.asks.Item.TheVariants as item
+use Rattle.lwkt_base.specs.declared.faults.Fault.{Fault}
+use Rattle.lwkt_base.specs.declared.names.CpuId.{CpuId}
+use Rattle.lwkt_base.specs.declared.names.MsgId.{MsgId}
+use Rattle.lwkt_base.specs.declared.records.Call.{Call}
+use Rattle.lwkt_core.specs.declared.seats.SeatKind.TheVariants.{Of}
+use Rattle.lwkt_lane.specs.declared.notes.Note.{Note}
+use Rattle.lwkt_lane.specs.declared.notes.NoteKind.TheVariants.{Request}
+use Rattle.lwkt_lane.specs.Lane.{received}
+use Rattle.lwkt_port.specs.declared.gets.Served.{Served}
+use Rattle.lwkt_port.specs.declared.gets.Served.TheVariants as served
+use Rattle.lwkt_port.specs.declared.lines.Lane.{Lane}
+use Rattle.lwkt_port.specs.Intakes.{Desks, Handles, HandlesAll, Empties}
+use Rattle.lwkt_port.specs.Mails.{mail_at, AreMails}
+use Rattle.lwkt_port.specs.Servings.{Serves, GetMeans}
+use Rattle.lwkt_port.specs.Works.{Work}
+
+-- what a lane kept and what was popped from it, in this order, is what was reaped, queued, found stale or foreign, in order, and then
+-- what it keeps now
+pub record LosesNone (count : ℕ) (line line' : Lane) (x y : Desks) : Type 0 where
+  pub popped : List Note
+  pub done : List Note
+  pub between : Desks
+  pub received_is : received line'.into ≡ received line.into ++ popped
+  pub as_many : length popped ≡ count
+  pub flow : option_to_list line.kept ++ popped ≡ done ++ option_to_list line'.kept
+  pub handled : HandlesAll done x between
+  pub last : MatchOption line'.kept (y ≡ between) (λ note. Handles note between y None)
+
+abbrev pub LanesLoseNone : Type 0
+LanesLoseNone = (most count : ℕ) (line line' : Lane) (x y : Desks) → Empties most count line line' x y → LosesNone count line line' x y
+
+-- each of these notes left a queue: its request was stale or taken, its answer was stale or reaped
+abbrev pub AllLeave : ℕ → List Note → Work → Work → Type 0
+AllLeave thread [] w w' = w' ≡ w
+AllLeave thread (note ∷ notes) w w' = (v : Work) × (outcome : Served) × (outcome ≢ served.Lost) × Serves thread note w v outcome × AllLeave thread notes v w'
+
+-- a thread that looks at its queue takes notes off its front: each as stale, taken or reaped; one whose take was lost stays
+pub record LeavesFront (thread : ℕ) (queue queue' : List Note) (w w' : Work) : Type 0 where
+  pub gone : List Note
+  pub between : Work
+  pub queue_is : queue ≡ gone ++ queue'
+  pub leave : AllLeave thread gone w between
+  pub rest : (w' ≡ between) ⊎ ((note : Note) × (others : List Note) × (queue' ≡ note ∷ others) × Serves thread note between w' served.Lost)
+
+abbrev pub NotesLeaveServed : Type 0
+NotesLeaveServed = (thread : ℕ) (queue queue' : List Note) (w w' : Work) (answer : Result (Option Item) Fault) → GetMeans thread queue queue' w w' answer → LeavesFront thread queue queue' w w'
+
+-- a request that a thread is shown was taken by it just now: before that it was shown to nobody, and then it is shown to this thread
+pub record IsShownOnce (thread : ℕ) (note : Note) (w w' : Work) (msg : MsgId) : Type 0 where
+  pub is_request : note.kind ≡ Request
+  pub message_is : msg ≡ note.msg
+  pub to_nobody : (mail_at w.mails msg.0).shown ≡ None
+  pub to_thread : (mail_at w'.mails msg.0).shown ≡ Some thread
+
+abbrev pub RequestsAreShownOnce : Type 0
+RequestsAreShownOnce = (cpu : CpuId) (thread : ℕ) (note : Note) (w w' : Work) (msg : MsgId) (call : Call) → w.seat.view.kind ≡ Of cpu → AreMails w.seat w.mails → note.msg.0 < length w.mails → Serves thread note w w' (served.Shown (item.Request msg call)) → IsShownOnce thread note w w' msg

@@ -1,0 +1,5 @@
+use Rattle.lwkt_port_rows.specs.Stations.{Sits}
+use Rattle.lwkt_port_rows.proofs.rows.fill.Given as goal
+
+abbrev pub invariant-loop-stale : goal.invariant-loop-stale
+invariant-loop-stale g l = Sits l.book 2 l.ports
