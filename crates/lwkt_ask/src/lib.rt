@@ -1,0 +1,12 @@
+//! What a thread's body may ask for, and each ask performed: as the call that it makes on the processor's hold.
+#![tactic(auto)]
+
+pub mod bodies;
+
+mod leaves;
+pub mod nexts;
+
+
+pub use bodies::Body;
+pub use nexts::Next;
+
