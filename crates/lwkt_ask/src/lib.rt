@@ -2,11 +2,11 @@
 #![tactic(auto)]
 
 pub mod bodies;
-
+mod calls;
 mod leaves;
 pub mod nexts;
-
+pub mod performs;
 
 pub use bodies::Body;
 pub use nexts::Next;
-
+pub use performs::perform;
