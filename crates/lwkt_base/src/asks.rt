@@ -1,6 +1,6 @@
 use crate::faults::Fault;
-use crate::names::{MsgId, TokId};
-use crate::records::Call;
+use crate::names::{MsgId, ThreadId, TokId};
+use crate::records::{Call, Flags, Rec};
 
 /// What a thread's body asks for when it is polled.
 #[derive(Clone, Copy, Debug, PartialEq, Eq)]
@@ -21,6 +21,18 @@ pub enum Ask {
     Write(TokId, u8, u64),
     /// An addition to the one cell of a Tally token that is held exclusively.
     Add(TokId, u64),
+    /// A message of the thread's own sent to a thread's port, with what it asks for and what its origin may do with it.
+    Send(MsgId, ThreadId, Call, Flags),
+    /// The same, blocking until it is replied to.
+    Do(MsgId, ThreadId, Call),
+    /// A reply to a message that the thread's port had as a request: its error and its result.
+    Reply(MsgId, u32, u64),
+    /// A request that a message of the thread's own be aborted.
+    Abort(MsgId),
+    /// Whether a message that the thread's port had as a request is to be aborted.
+    IsAborted(MsgId),
+    /// A message of the thread's own taken back before it is taken.
+    DropMsg(MsgId),
     /// The next item of the thread's port, if there is one.
     GetPort,
     /// The next item of the thread's port, blocking until there is one.
@@ -47,8 +59,10 @@ pub enum Answer {
     Begin,
     /// The ask was done.
     Done,
-    /// The value that was read.
+    /// The value that was read; of a question whether a message is to be aborted 0 or 1.
     Value(u64),
+    /// The message that was taken back before it was taken, and its record.
+    Dropped(MsgId, Rec),
     /// The item that the port had.
     Got(Item),
     /// The port has no item.

@@ -3,6 +3,7 @@
 
 pub mod asks;
 pub mod cells;
+pub mod entries;
 pub mod faults;
 pub mod holdings;
 pub mod laws;
@@ -18,6 +19,7 @@ pub mod words;
 
 pub use asks::{Answer, Ask, Item};
 pub use cells::Cells;
+pub use entries::Entry;
 pub use faults::Fault;
 pub use holdings::Held;
 pub use laws::Law;

@@ -1,4 +1,4 @@
-use Rattle.std.specs.Prelude.{ℕ, ◌+◌, List, [], ◌∷◌, ◌++◌, Option, None, Some, codes}
+use Rattle.std.specs.Prelude.{ℕ, ◌+◌, true, false, List, [], ◌∷◌, ◌++◌, Option, None, Some, codes}
 use Rattle.std.specs.Fmt.{decimal}
 use Rattle.std.specs.List.{flat_map}
 use Rattle.lwkt_base.specs.declared.names.Mode.{Mode}
@@ -13,8 +13,8 @@ use Rattle.lwkt_base.specs.Fault.{number_of}
 use Rattle.lwkt_report.specs.declared.closings.Closing.{Closing}
 use Rattle.lwkt_report.specs.declared.closings.TokenLine.{TokenLine}
 use Rattle.lwkt_report.specs.declared.closings.ThreadLine.{ThreadLine}
-use Rattle.lwkt_report.specs.declared.logs.Entry.{Entry}
-use Rattle.lwkt_report.specs.declared.logs.Entry.TheVariants.{Value, Request, Reply, NoMessage, Refused}
+use Rattle.lwkt_base.specs.declared.entries.Entry.{Entry}
+use Rattle.lwkt_base.specs.declared.entries.Entry.TheVariants.{Value, Aborted, Request, Reply, NoMessage, Dropped, Refused}
 use Rattle.lwkt_report.specs.declared.closings.Verdict.{Verdict}
 use Rattle.lwkt_report.specs.declared.closings.Verdict.TheVariants.{Closed, Lawful, Unlawful}
 
@@ -77,12 +77,15 @@ mode_text Shared = codes "s"
 abbrev pub ref_text : Ref → List ℕ
 ref_text r = decimal r.tok.0 ++ mode_text r.mode
 
--- an entry of a log: `v=VALUE`, `q=MSG:OP:ARG`, `r=MSG:ERROR:RESULT`, `n` or `f=NUMBER`
+-- an entry of a log: `v=VALUE`, `a=0` or `a=1`, `q=MSG:OP:ARG`, `r=MSG:ERROR:RESULT`, `n`, `d=MSG:OP:ARG` or `f=NUMBER`
 abbrev pub entry_text : Entry → List ℕ
 entry_text (Value value) = codes "v=" ++ decimal value
+entry_text (Aborted false) = codes "a=0"
+entry_text (Aborted true) = codes "a=1"
 entry_text (Request message call) = codes "q=" ++ decimal message.0 ++ codes ":" ++ decimal call.op ++ codes ":" ++ decimal call.arg
 entry_text (Reply message error outcome) = codes "r=" ++ decimal message.0 ++ codes ":" ++ decimal error ++ codes ":" ++ decimal outcome
 entry_text NoMessage = codes "n"
+entry_text (Dropped message call) = codes "d=" ++ decimal message.0 ++ codes ":" ++ decimal call.op ++ codes ":" ++ decimal call.arg
 entry_text (Refused number) = codes "f=" ++ decimal number
 
 -- `thread P.T STATE list L log E`

@@ -13,7 +13,8 @@ pub mod streams;
 
 pub use closings::{Closing, ThreadLine, TokenLine, Verdict};
 pub use complaints::{Complaint, complaint_line};
-pub use logs::{Entry, Log};
+pub use logs::Log;
+pub use lwkt_base::Entry;
 pub use reports::report;
 pub use sinks::{Page, Sink, WriterSink, write_whole};
 pub use sources::{READ_LIMIT, ReaderSource, Source, read_capped};

@@ -1,22 +1,7 @@
 ghost use Rattle.std.specs.Prelude.{◌≡◌};
 
-use lwkt_base::{Call, MsgId};
+use lwkt_base::Entry;
 use std::marker::Model;
-
-/// What a script thread was given as an answer and keeps in its log.
-#[derive(Clone, Copy, Debug, PartialEq, Eq)]
-pub enum Entry {
-    /// The value of a cell.
-    Value(u64),
-    /// A request that its port had: the message and what it asks for.
-    Request(MsgId, Call),
-    /// A reply to a message of its own: the message, its error and its result.
-    Reply(MsgId, u32, u64),
-    /// Its port had nothing.
-    NoMessage,
-    /// A refusal: the fault's number, 10 to 40.
-    Refused(u8),
-}
 
 /// What a thread's log has, the earliest entry first. Made from a vector, and given back as one, without taking memory.
 #[derive(Debug, Drop)]
@@ -26,7 +11,7 @@ pub struct Log {
 
 impl Model for Log {
     ghost use Rattle.std.specs.Prelude.{List};
-    ghost use Rattle.lwkt_report.specs.declared.logs.Entry.{Entry};
+    ghost use Rattle.lwkt_base.specs.declared.entries.Entry.{Entry};
 
     ghost Value = { List Entry };
 

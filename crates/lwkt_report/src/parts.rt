@@ -2,8 +2,7 @@ ghost use Rattle.std.specs.Prelude.{◌≡◌, ◌++◌, ℕ, List, OnOk, string
 ghost use Rattle.std.specs.Fmt.{decimal};
 ghost use Rattle.lwkt_report.specs.Report.{ref_text, entry_text, state_text, owner_text, mode_text};
 
-use crate::logs::Entry;
-use lwkt_base::{Mode, Owner, Ref, ThreadState};
+use lwkt_base::{Entry, Mode, Owner, Ref, ThreadState};
 use std::alloc::AllocError;
 
 /// What stands in a report as one part of a line.
@@ -77,6 +76,7 @@ impl Shown for Entry {
     fn show(&self, out: &mut String) -> Result<(), AllocError> {
         match self {
             Entry::Value(value) => write!(out, "v={value}"),
+            Entry::Aborted(asked) => out.push_str(if *asked { "a=1" } else { "a=0" }),
             Entry::Request(message, call) => {
                 write!(out, "q={}:{}:{}", message.0, call.op, call.arg)
             }
@@ -84,6 +84,9 @@ impl Shown for Entry {
                 write!(out, "r={}:{}:{}", message.0, error, outcome)
             }
             Entry::NoMessage => out.push_str("n"),
+            Entry::Dropped(message, call) => {
+                write!(out, "d={}:{}:{}", message.0, call.op, call.arg)
+            }
             Entry::Refused(number) => write!(out, "f={number}"),
         }
     }

@@ -1,4 +1,4 @@
-use lwkt_base::{Answer, Ask, Fault, Item};
+use lwkt_base::{Answer, Ask, Call, Item, Rec};
 use lwkt_report::Entry;
 use std::alloc::{AllocError, Global};
 
@@ -62,6 +62,10 @@ fn entry_of(answer: Answer) -> Option<Entry> {
     match answer {
         Answer::Begin | Answer::Done => None,
         Answer::Value(value) => Some(Entry::Value(value)),
+        Answer::Dropped(msg, rec) => {
+            let Rec { op, arg, .. } = rec;
+            Some(Entry::Dropped(msg, Call { op, arg }))
+        }
         Answer::Got(Item::Request(msg, call)) => Some(Entry::Request(msg, call)),
         Answer::Got(Item::Answered(msg, error, outcome)) => Some(Entry::Reply(msg, error, outcome)),
         Answer::NoMsg => Some(Entry::NoMessage),

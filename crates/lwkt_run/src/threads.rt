@@ -79,6 +79,11 @@ impl Thread {
             Ask::Read(tok, cell) => self.read(desk, tok, cell)?,
             Ask::Write(tok, cell, value) => self.write(desk, tok, cell, value)?,
             Ask::Add(tok, more) => self.add(desk, tok, more)?,
+            // the plain machine has no messages
+            Ask::Send(..) | Ask::Do(..) | Ask::Abort(_) | Ask::DropMsg(_) => {
+                Answer::Refused(Fault::NotOwner)
+            }
+            Ask::Reply(..) | Ask::IsAborted(_) => Answer::Refused(Fault::NotTaken),
             Ask::GetPort => Answer::NoMsg,
             Ask::WaitPort => return Ok(Outcome::Blocks(ThreadState::Waiting)),
             Ask::Yield => return Ok(Outcome::Blocks(ThreadState::Ready)),
