@@ -5,7 +5,9 @@ use Rattle.lwkt_base.specs.declared.names.Mode.TheVariants.{Shared}
 use Rattle.lwkt_base.specs.declared.names.Ref.{Ref}
 use Rattle.lwkt_base.specs.declared.faults.Fault.{Fault}
 use Rattle.lwkt_base.specs.declared.asks.Ask.{Ask}
-use Rattle.lwkt_base.specs.declared.asks.Ask.TheVariants.{Get, GetShared, TryGet, Rel, Swap, Read, Write, Add, GetPort, WaitPort, Yield, Exit}
+use Rattle.lwkt_base.specs.declared.asks.Ask.TheVariants.{Get, GetShared, TryGet, Rel, Swap, Read, Write, Add, Send, Do, Reply, Abort, IsAborted, DropMsg, GetPort, WaitPort, Yield, Exit}
+use Rattle.lwkt_base.specs.declared.faults.Fault.TheVariants.{NotOwner, NotTaken}
+use Rattle.lwkt_base.specs.declared.asks.Answer.{Answer}
 use Rattle.lwkt_base.specs.declared.asks.Answer.TheVariants.{Done, NoMsg, Refused}
 use Rattle.lwkt_core.specs.declared.events.Event.{Event}
 use Rattle.lwkt_bank.specs.declared.seats.CpuSeat.{CpuSeat}
@@ -38,6 +40,10 @@ pub record Gets (bank : BankId) (a b : CpuSeat) (refs now : List Ref) (new : Ref
   pub acquires : Acquires bank a mid refs now new t v result
   pub goes_on : GoesOn mid b refs now v u next result
 
+-- an ask that is answered, and changes nothing
+abbrev pub Answers : CpuSeat → CpuSeat → List Ref → List Ref → Vec Event Global → Vec Event Global → Next → Answer → Type 0
+Answers a b refs now t u next answer = (b ≡ a) × (now ≡ refs) × (u ≡ t) × (next ≡ Runs answer)
+
 -- an ask and what comes next: from one seat, list and trace to the next, ask by ask, by the call that it makes (token(9); own)
 abbrev pub Performs : BankId → CpuSeat → CpuSeat → List Ref → List Ref → Vec Event Global → Vec Event Global → Ask → Next → Type 0
 Performs bank a b refs now t u (Get tok) next = Gets bank a b refs now (exclusive tok) t u next
@@ -48,7 +54,13 @@ Performs bank a b refs now t u Swap next = (result : Result (Unit {0}) Fault) ×
 Performs bank a b refs now t u (Read tok cell) next = (result : Result ℕ Fault) × (Reads bank a b refs tok cell t u result × (now ≡ refs) × (next ≡ Runs (value_or result)))
 Performs bank a b refs now t u (Write tok cell value) next = (result : Result (Unit {0}) Fault) × (Stores bank a b refs tok cell value t u result × (now ≡ refs) × (next ≡ Runs (done_or result)))
 Performs bank a b refs now t u (Add tok k) next = (result : Result (Unit {0}) Fault) × (Adds bank a b refs tok k t u result × (now ≡ refs) × (next ≡ Runs (done_or result)))
-Performs bank a b refs now t u GetPort next = (b ≡ a) × (now ≡ refs) × (u ≡ t) × (next ≡ Runs NoMsg)
+Performs bank a b refs now t u (Send msg to call flags) next = Answers a b refs now t u next (Refused NotOwner)
+Performs bank a b refs now t u (Do msg to call) next = Answers a b refs now t u next (Refused NotOwner)
+Performs bank a b refs now t u (Reply msg error outcome) next = Answers a b refs now t u next (Refused NotTaken)
+Performs bank a b refs now t u (Abort msg) next = Answers a b refs now t u next (Refused NotOwner)
+Performs bank a b refs now t u (IsAborted msg) next = Answers a b refs now t u next (Refused NotTaken)
+Performs bank a b refs now t u (DropMsg msg) next = Answers a b refs now t u next (Refused NotOwner)
+Performs bank a b refs now t u GetPort next = Answers a b refs now t u next NoMsg
 Performs bank a b refs now t u WaitPort next = (now ≡ refs) × GivesUp a b refs (length refs) t u AwaitsItem next
 Performs bank a b refs now t u Yield next = (now ≡ refs) × GivesUp a b refs (length refs) t u (Readies Done) next
 Performs bank a b refs now t u Exit next = (now ≡ refs) × GivesUp a b refs (length refs) t u Exits next

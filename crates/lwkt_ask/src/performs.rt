@@ -12,7 +12,7 @@ use crate::calls::{add, get, read, rel, swap, try_get, write};
 use crate::leaves::leave;
 use crate::nexts::Next;
 use lwkt_bank::Bank;
-use lwkt_base::{Answer, Ask, Mode, Ref, TokId, TokList};
+use lwkt_base::{Answer, Ask, Fault, Mode, Ref, TokId, TokList};
 use lwkt_core::Event;
 use lwkt_hold::Hold;
 
@@ -32,6 +32,12 @@ fn shared(tok: TokId) -> Ref
         tok,
         mode: Mode::Shared,
     }
+}
+
+fn refused(fault: Fault) -> Next
+    ensures { result ≡ Next.Runs (Answer.Refused fault) }
+{
+    Next::Runs(Answer::Refused(fault))
 }
 
 /// Performs the ask of a running thread, whose list is held, and says what comes next for the thread. That the trace has
@@ -62,6 +68,9 @@ pub fn perform(
             Next::Runs(write(hold, bank, list, tok, cell, value, trace))
         }
         Ask::Add(tok, k) => Next::Runs(add(hold, bank, list, tok, k, trace)),
+        // no message is at hand yet, and no port has an item
+        Ask::Send(..) | Ask::Do(..) | Ask::Abort(_) | Ask::DropMsg(_) => refused(Fault::NotOwner),
+        Ask::Reply(..) | Ask::IsAborted(_) => refused(Fault::NotTaken),
         Ask::GetPort => Next::Runs(Answer::NoMsg),
         Ask::WaitPort => leave(hold, bank, list, Next::AwaitsItem, trace),
         Ask::Yield => leave(hold, bank, list, Next::Readies(Answer::Done), trace),

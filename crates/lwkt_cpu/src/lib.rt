@@ -1,13 +1,11 @@
-// A library with one function.
+//! A processor: its threads, and the turns in which one of them at a time runs while its whole list is held.
 #![tactic(auto)]
 
-ghost use Rattle.std.specs.Prelude.{◌≡◌};
-ghost use Rattle.lwkt_cpu.specs.Echo.{echo_of};
+pub mod answers;
+mod ends;
+pub mod phases;
+mod searches;
+pub mod threads;
 
-// The `ensures` clause is the contract: what `echo` returns is `echo_of` of its argument, a definition
-// in `specs/Echo.antt`, which a caller's clause can cite too.
-pub fn echo(x: usize) -> usize
-    ensures { result ≡ echo_of x }
-{
-    x
-}
+pub use answers::{Status, Turned};
+pub use lwkt_ask::Body;

@@ -28,3 +28,9 @@ returns-in-Yield-clause-ran c = let l = c.leave-in-Yield in ran_left c.args.list
 
 pub returns-in-Exit-clause-ran : goal.returns-in-Exit-clause-ran
 returns-in-Exit-clause-ran c = let l = c.leave-in-Exit in ran_left c.args.list.now (kept_list l.result c.args.list.now) 160 c.args.hold.now.seat l.new.hold.seat c.args.trace.now l.new.trace (omega arith) l.ensures.ran
+
+pub returns-in-Send-clause-ran : goal.returns-in-Send-clause-ran
+returns-in-Send-clause-ran c = ran_still (IsBetween c.args.list.now (kept_list c.refused.result c.args.list.now)) 162 c.args.hold.now.seat c.args.trace.now
+
+pub returns-in-Reply-clause-ran : goal.returns-in-Reply-clause-ran
+returns-in-Reply-clause-ran c = ran_still (IsBetween c.args.list.now (kept_list c.refused-in-Reply.result c.args.list.now)) 162 c.args.hold.now.seat c.args.trace.now
