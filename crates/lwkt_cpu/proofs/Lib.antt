@@ -1,1 +1,2 @@
-
+pub mod PlaceMoves
+pub mod SearchMoves

@@ -57,6 +57,7 @@ pub(crate) fn scan<B>(
 ) -> Option<usize>
     requires of { bank_of (seat_of hold.old) ≡ id_of bank.now }
     requires there { AreThere (seat_of hold.old) threads.old }
+    requires rising { from ≤ to }
     requires within { to ≤ length threads.old }
     requires empty { holding (seat_of hold.old) ≡ holds_nothing }
     requires room { vec_len trace.old + 64 * (to - from) ≤ vec_capacity trace.old }
