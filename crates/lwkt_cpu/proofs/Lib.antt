@@ -1,2 +1,3 @@
 pub mod PlaceMoves
 pub mod SearchMoves
+pub mod RestMoves

@@ -14,7 +14,7 @@ use Rattle.lwkt_cpu.specs.declared.threads.Thread.{Thread}
 use Rattle.lwkt_cpu.specs.Searches.{ended_by}
 
 -- a thread after what came next for it, and whether it goes on running
-abbrev pub became : {B : Type 0} → Thread B → Next → Thread B
+abbrev pub became : Thread → Next → Thread
 became t (Runs answer) = record t { last = answer }
 became t (Readies answer) = record t { last = answer }
 became t AwaitsItem = record t { phase = Awaits }
@@ -28,14 +28,13 @@ goes_on AwaitsItem = false
 goes_on Exits = false
 goes_on (Faults fault) = false
 
--- a thread's body is polled once, with the answer kept for it, and its ask is performed; the answer to it is kept for the next
--- poll of this body
-pub record Polls {B : Type 0} (polled : B → Answer → Ask → B → Type 0) (bank : BankId) (a b : CpuSeat) (old new : Thread B) (t u : Vec Event Global) (runs : Bool) : Type 0 where
+-- a thread's body is polled once, with the answer kept for the thread, and its ask is performed; the answer to it is kept for the
+-- thread's next poll
+pub record Polls {B : Type 0} (polled : B → Answer → Ask → B → Type 0) (bank : BankId) (a b : CpuSeat) (body next_body : B) (old new : Thread) (t u : Vec Event Global) (runs : Bool) : Type 0 where
   pub ask : Ask
   pub next : Next
-  pub body : B
   pub list : List Ref
-  pub polled_once : polled old.body old.last ask body
+  pub polled_once : polled body old.last ask next_body
   pub performs : Performs bank a b old.list list t u ask next
-  pub becomes : new ≡ became (record old { body = body; list = list }) next
+  pub becomes : new ≡ became (record old { list = list }) next
   pub runs_on : runs ≡ goes_on next

@@ -9,7 +9,7 @@ use lwkt_ask::Next;
 use lwkt_base::TokList;
 
 /// Ends a thread: its list is empty from now on.
-pub(crate) fn end<B>(thread: &mut Thread<B>, phase: Phase)
+pub(crate) fn end(thread: &mut Thread, phase: Phase)
     ensures { thread.new ≡ ended_by phase thread.old }
 {
     thread.list = TokList::new();
@@ -17,7 +17,7 @@ pub(crate) fn end<B>(thread: &mut Thread<B>, phase: Phase)
 }
 
 /// What comes next for a thread comes; says whether it goes on running.
-pub(crate) fn go_on<B>(thread: &mut Thread<B>, next: Next) -> bool
+pub(crate) fn go_on(thread: &mut Thread, next: Next) -> bool
     ensures becomes { thread.new ≡ became thread.old next }
     ensures runs { result ≡ goes_on next }
 {

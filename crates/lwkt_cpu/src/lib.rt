@@ -2,10 +2,14 @@
 #![tactic(auto)]
 
 pub mod answers;
+pub mod cpus;
 mod ends;
 pub mod phases;
+mod polls;
 mod searches;
 pub mod threads;
+pub mod turns;
 
 pub use answers::{Status, Turned};
+pub use cpus::Cpu;
 pub use lwkt_ask::Body;

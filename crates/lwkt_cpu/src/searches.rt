@@ -17,10 +17,10 @@ use lwkt_core::Event;
 use lwkt_hold::{Hold, Missed, Resumed};
 
 /// Tries one thread: says whether it can run and its whole list is held now. One that was refused at a last generation ends.
-pub(crate) fn try_one<B>(
+pub(crate) fn try_one(
     hold: &mut Hold,
     bank: &Bank,
-    thread: &mut Thread<B>,
+    thread: &mut Thread,
     trace: &mut Vec<Event>,
 ) -> bool
     requires of { bank_of (seat_of hold.old) ≡ id_of bank.now }
@@ -47,10 +47,10 @@ pub(crate) fn try_one<B>(
 }
 
 /// Tries the threads from one number on and below another; the first that can run and whose list could be held.
-pub(crate) fn scan<B>(
+pub(crate) fn scan(
     hold: &mut Hold,
     bank: &Bank,
-    threads: &mut [Thread<B>],
+    threads: &mut [Thread],
     from: usize,
     to: usize,
     trace: &mut Vec<Event>,
@@ -74,10 +74,10 @@ pub(crate) fn scan<B>(
 }
 
 /// Finds the first thread from the cursor on, round once, that can run and whose list could be held.
-pub(crate) fn find<B>(
+pub(crate) fn find(
     hold: &mut Hold,
     bank: &Bank,
-    threads: &mut [Thread<B>],
+    threads: &mut [Thread],
     cursor: usize,
     trace: &mut Vec<Event>,
 ) -> Option<usize>

@@ -6,20 +6,20 @@ use Rattle.lwkt_cpu.proofs.SearchMoves.{searches_keeps, is_in_or_not, there_kept
 use Rattle.lwkt_cpu.proofs.searches.find.Goals as goal
 
 pub scan-requires-in-None-clause-there : goal.scan-requires-in-None-clause-there
-scan-requires-in-None-clause-there g c =
+scan-requires-in-None-clause-there c =
     let s = c.scan in
     let a = c.args.hold.now.seat in
     let x = s.ensures.none c.in-None.is in
     there_kept a s.new.hold.seat c.args.threads.now s.new.threads s.ensures.ran.bank (searches_keeps a s.new.hold.seat c.args.threads.now s.new.threads (IsIn c.args.cursor (length c.args.threads.now)) (is_in_or_not c.args.cursor (length c.args.threads.now)) x.1) c.requires.there
 
 pub returns-in-Some-clause-finds : goal.returns-in-Some-clause-finds
-returns-in-Some-clause-finds g c =
+returns-in-Some-clause-finds c =
     let s = c.scan in
     let x = s.ensures.some c.in-Some.at c.in-Some.is in
     found_first c.args.hold.now.seat s.new.hold.seat c.args.threads.now s.new.threads c.args.cursor c.in-Some.at x.0 x.1 x.2
 
 pub returns-in-None-clause-ran : goal.returns-in-None-clause-ran
-returns-in-None-clause-ran g c =
+returns-in-None-clause-ran c =
     let s = c.scan in
     let r = c.scan-in-None in
     let a = c.args.hold.now.seat in
@@ -35,7 +35,7 @@ returns-in-None-clause-ran g c =
     (ran_weaker Q P (64 * (c.args.cursor - 0)) (64 * (c.args.cursor - 0)) s.new.hold.seat r.new.hold.seat s.new.trace r.new.trace (λ h p. kept_one c.args.threads.now s.new.threads h keeps p) (omega arith) r.ensures.ran))
 
 pub returns-in-None-clause-finds : goal.returns-in-None-clause-finds
-returns-in-None-clause-finds g c =
+returns-in-None-clause-finds c =
     let s = c.scan in
     let r = c.scan-in-None in
     let n = length c.args.threads.now in

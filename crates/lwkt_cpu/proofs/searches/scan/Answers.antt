@@ -9,14 +9,14 @@ use Rattle.lwkt_cpu.proofs.SearchMoves.{front_of_one, searches_none, searches_mo
 use Rattle.lwkt_cpu.proofs.searches.scan.Goals as goal
 
 pub loop-at-init : goal.loop-at-init
-loop-at-init g c = record {
+loop-at-init c = record {
   ran = ran_still (IsOfOne c.args.threads.now) (64 * (c.args.from - c.args.from)) c.args.hold.now.seat c.args.trace.now;
   empty = c.requires.empty;
   searched = searches_none c.args.hold.now.seat c.args.threads.now c.args.from;
 }
 
 pub try_one-requires-clause-there : goal.try_one-requires-clause-there
-try_one-requires-clause-there g c =
+try_one-requires-clause-there c =
     let l = c.loop-at in
     let old = get_or l.threads l.at c.index-threads-at.result in
     let within : l.at < length l.threads = omega (arith, c.loop-at-test.true, c.requires.within, l.auto.threads) in
@@ -24,7 +24,7 @@ try_one-requires-clause-there g c =
     there_at c.args.hold.now.seat l.hold.seat c.args.threads.now l.at old l.invariant.ran.bank (untried c.args.hold.now.seat l.hold.seat c.args.threads.now l.threads c.args.from l.at old l.invariant.searched is) c.requires.there
 
 pub returns-then-try_one-clause-ran : goal.returns-then-try_one-clause-ran
-returns-then-try_one-clause-ran g c =
+returns-then-try_one-clause-ran c =
     let l = c.loop-at in
     let old = get_or l.threads l.at c.index-threads-at.result in
     let within : l.at < length l.threads = omega (arith, c.loop-at-test.true, c.requires.within, l.auto.threads) in
@@ -35,7 +35,7 @@ returns-then-try_one-clause-ran g c =
     tried_ran c.args.hold.now.seat l.hold.seat c.try_one.new.hold.seat c.args.trace.now l.trace c.try_one.new.trace c.args.threads.now l.at old (64 * (l.at - c.args.from)) (64 * (c.args.to - c.args.from)) (omega arith) was l.invariant.ran c.try_one.ensures.ran
 
 pub returns-then-try_one-clause-some : goal.returns-then-try_one-clause-some
-returns-then-try_one-clause-some g c =
+returns-then-try_one-clause-some c =
     let l = c.loop-at in
     let d = c.index-threads-at.result in
     let old = get_or l.threads l.at d in
@@ -45,7 +45,7 @@ returns-then-try_one-clause-some g c =
     found_at Q 64 c.args.hold.now.seat l.hold.seat c.try_one.new.hold.seat l.trace c.try_one.new.trace c.args.threads.now l.threads c.args.from c.args.to l.at d c.try_one.new.thread l.auto.at c.loop-at-test.true within c.try_one.ensures.ran l.invariant.searched y.0 y.1 y.2
 
 pub loop-at-preserved : goal.loop-at-preserved
-loop-at-preserved g c =
+loop-at-preserved c =
     let l = c.loop-at in
     let old = get_or l.threads l.at c.index-threads-at.result in
     let within : l.at < length l.threads = omega (arith, c.loop-at-test.true, c.requires.within, l.auto.threads) in
@@ -62,7 +62,7 @@ loop-at-preserved g c =
     }
 
 pub returns-clause-none : goal.returns-clause-none
-returns-clause-none g c =
+returns-clause-none c =
     let l = c.loop-at in
     let last : l.at ≡ c.args.to = omega (arith, c.loop-at-test.false, l.auto.at-end c.requires.rising) in
     let F : ℕ → Type 0 = λ k. Searches c.args.hold.now.seat l.hold.seat c.args.threads.now l.threads (IsIn c.args.from k) in
