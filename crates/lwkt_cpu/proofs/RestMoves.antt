@@ -1,5 +1,5 @@
 use Rattle.std.proofs.Common.{◌≡◌, ◌≢◌, ℕ, ◌+◌, ◌<◌, ◌≤◌, Bool, true, false, eqb, List, [], ◌++◌, length, take, drop, set, get_or, refl, ap, sym, ◌∙◌, subst, arith, inl, inr, Option, Some, None}
-use Rattle.std.specs.Prelude.{◌⊎◌, Vec, All, IsSomeAnd, IfSome, slice_get}
+use Rattle.std.specs.Prelude.{◌⊎◌, Vec, vec_len, vec_capacity, All, IsSomeAnd, IfSome, slice_get}
 use Rattle.std.specs.declared.alloc.Global.{Global}
 use Rattle.std.proofs.lemmas.Bool.{cases_lt, eqb-true, eqb-false, cases_Bool}
 use Rattle.std.proofs.lemmas.List.{take_at, length-set}
@@ -16,11 +16,11 @@ use Rattle.lwkt_hold.specs.Runs.{Ran}
 use Rattle.lwkt_hold.proofs.RunMoves.{ran_then, ran_weaker, ran_with_room}
 use Rattle.lwkt_cpu.specs.declared.phases.Phase.TheVariants.{Live}
 use Rattle.lwkt_cpu.specs.declared.threads.Thread.{Thread}
-use Rattle.lwkt_cpu.specs.Processors.{has_ended, IsSettled, HoldsFor, IsAtRest, AreThere, processor_of}
+use Rattle.lwkt_cpu.specs.Processors.{has_ended, IsSettled, HoldsFor, IsAtRest, Processor, processor_of}
 use Rattle.lwkt_cpu.specs.Searches.{Searches, IsIn, ComesBefore, IsUp, Finds, IsOfOne, ended_by}
-use Rattle.lwkt_cpu.specs.Turning.{cursor_after, IsOfThread}
+use Rattle.lwkt_cpu.specs.Turning.{cursor_after, Chooses, IsOfThread}
 use Rattle.lwkt_cpu.proofs.PlaceMoves.{get_set_same, get_set_other, some_same}
-use Rattle.lwkt_cpu.proofs.SearchMoves.{Keeps, searches_keeps, is_in_or_not, up_at, front_of_one}
+use Rattle.lwkt_cpu.proofs.SearchMoves.{Keeps, searches_keeps, kept_one, is_in_or_not, front_of_one}
 
 -- a vector whose elements were lent as a slice
 pub refilled : (news items : List Thread) (n : ℕ) → length news ≡ n → take n (news ++ drop (length news) items) ≡ news
@@ -154,3 +154,24 @@ ran_over olds threads news s a b t u same here ran =
     let F : List Thread → Type 0 = λ xs. Ran (IsOfThread xs news) 162 s b t u in
     let G : CpuSeat → Type 0 = λ x. Ran (IsOfThread threads news) 162 x b t u in
     subst G here (subst F same ran)
+
+-- a front of a list after the choice of a thread is one of a list before it
+pub chosen_one : {B : Type 0} (old mid : Processor B) (t v : Vec Event Global) (running found : Option ℕ) → Chooses old mid t v running found → (h : Holding) → IsOfOne mid.threads h → IsOfOne old.threads h
+chosen_one {B} old mid t v (Some place) found c h one = let F : List Thread → Type 0 = λ xs. IsOfOne xs h in subst F (ap (λ (p : Processor B). p.threads) c.1) one
+chosen_one old mid t v None found c h one = kept_one old.threads mid.threads h (finds_keeps old.seat mid.seat old.threads mid.threads old.cursor found c.0) one
+
+-- the events of a whole turn
+pub turn_ran : {B : Type 0} (old mid new : Processor B) (t r v u : Vec Event Global) (running found : Option ℕ) → r.items ≡ t.items → vec_len r ≡ vec_len t → vec_capacity t ≤ vec_capacity r → Chooses old mid r v running found → Ran (IsOfOne old.threads) 1024 old.seat mid.seat r v → Ran (IsOfThread mid.threads new.threads) 162 mid.seat new.seat v u → Ran (IsOfThread old.threads new.threads) 4096 old.seat new.seat t u
+turn_ran old mid new t r v u running found same long wider c first second =
+    let P : Holding → Type 0 = IsOfThread old.threads new.threads in
+    ran_with_room P 4096 old.seat new.seat t r u same long wider
+    (ran_weaker P P 1186 4096 old.seat new.seat r u (λ h p. p) (omega arith)
+    (ran_then P 1024 162 old.seat mid.seat new.seat r v u
+    (ran_weaker (IsOfOne old.threads) P 1024 1024 old.seat mid.seat r v (λ h p. inl p) (omega arith) first)
+    (ran_weaker (IsOfThread mid.threads new.threads) P 162 162 mid.seat new.seat v u (λ h p. elim p [ inl one ↦ inl (chosen_one old mid r v running found c h one) | inr one ↦ inr one ]) (omega arith) second)))
+
+pub search_ran : {B : Type 0} (old new : Processor B) (t r u : Vec Event Global) → r.items ≡ t.items → vec_len r ≡ vec_len t → vec_capacity t ≤ vec_capacity r → Ran (IsOfOne old.threads) 1024 old.seat new.seat r u → Ran (IsOfThread old.threads new.threads) 4096 old.seat new.seat t u
+search_ran old new t r u same long wider first =
+    let P : Holding → Type 0 = IsOfThread old.threads new.threads in
+    ran_with_room P 4096 old.seat new.seat t r u same long wider
+    (ran_weaker (IsOfOne old.threads) P 1024 4096 old.seat new.seat r u (λ h p. inl p) (omega arith) first)
