@@ -123,7 +123,7 @@ up_there s threads running place t is held at =
     subst G at (subst F is held)
 
 -- a processor one of whose threads was polled is at rest
-set_settled : (a b : CpuSeat) (threads : List Thread) (place : ℕ) (now : Thread) → place < length threads → bank_of b ≡ bank_of a → IsSettled b now → ((k : ℕ) (t : Thread) → slice_get threads k ≡ Some t → IsSettled a t) → (k : ℕ) (t : Thread) → slice_get (set threads place now) k ≡ Some t → IsSettled b t
+pub set_settled : (a b : CpuSeat) (threads : List Thread) (place : ℕ) (now : Thread) → place < length threads → bank_of b ≡ bank_of a → IsSettled b now → ((k : ℕ) (t : Thread) → slice_get threads k ≡ Some t → IsSettled a t) → (k : ℕ) (t : Thread) → slice_get (set threads place now) k ≡ Some t → IsSettled b t
 set_settled a b threads place now within same here settled k t at = elim (cases_Bool (eqb k place)) [
   | inl is ↦
       let F : Thread → Type 0 = λ x. IsSettled b x in

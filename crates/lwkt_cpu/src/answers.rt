@@ -17,3 +17,11 @@ pub struct Status<'a> {
     pub state: ThreadState,
     pub list: &'a [Ref],
 }
+
+/// What driving a processor answers: its turns that ran a thread, those that didn't, and whether every thread had ended.
+#[derive(Clone, Copy, Debug, Default, PartialEq, Eq)]
+pub struct Drove {
+    pub ran: u64,
+    pub idle: u64,
+    pub all_exited: bool,
+}

@@ -3,13 +3,15 @@
 
 pub mod answers;
 pub mod cpus;
+pub mod drives;
 mod ends;
 pub mod phases;
 mod polls;
 mod searches;
+pub mod stops;
 pub mod threads;
 pub mod turns;
 
-pub use answers::{Status, Turned};
+pub use answers::{Drove, Status, Turned};
 pub use cpus::Cpu;
 pub use lwkt_ask::Body;

@@ -16,7 +16,7 @@ use lwkt_base::Fault;
 use lwkt_core::Event;
 
 /// The room that a turn makes in its trace.
-const TURN_EVENTS: usize = 4096;
+pub(crate) const TURN_EVENTS: usize = 4096;
 
 // Where the next search begins.
 fn past(cursor: usize, found: Option<usize>) -> usize
