@@ -1,5 +1,5 @@
 use Rattle.std.proofs.Common.{◌≡◌, ◌≢◌, ℕ, ◌+◌, ◌<◌, ◌≤◌, true, false, List, [], ◌∷◌, ◌++◌, length, refl, ap, sym, ◌∙◌, subst, arith, inl, inr, length-append}
-use Rattle.std.specs.Prelude.{All, fold, Vec}
+use Rattle.std.specs.Prelude.{All, fold, Vec, Result, Ok, Err, OnErr}
 use Rattle.std.specs.declared.alloc.Global.{Global}
 use Rattle.std.proofs.lemmas.List.Elements.{All-nil, All-append, All-from_recursion}
 use Rattle.std.proofs.lemmas.List.Sums.{fold-append}
@@ -12,7 +12,7 @@ use Rattle.lwkt_cpu.specs.declared.answers.Turned.TheVariants.{Ran, Idle, AllExi
 use Rattle.lwkt_cpu.specs.declared.answers.Drove.{Drove}
 use Rattle.lwkt_cpu.specs.Processors.{Processor}
 use Rattle.lwkt_cpu.specs.Turning.{MakesTurn}
-use Rattle.lwkt_cpu.specs.Driving.{Made, counted, none_driven, Drives}
+use Rattle.lwkt_cpu.specs.Driving.{Made, counted, none_driven, Drives, DrivesShort}
 
 -- a turn more, after others
 pub made_more : {B : Type 0} (polled : B → Answer → Ask → B → Type 0) (bank : BankId) (old mid new : Processor B) (t v u : Vec Event Global) (turns : List Turned) (turned : Turned) → Made polled bank old mid t v turns → MakesTurn polled bank mid new v u turned → Made polled bank old new t u (turns ++ turned ∷ [])
@@ -67,3 +67,17 @@ drives_over polled bank old mid new t v u drove next turned count limit less las
   counts = is ∙ counts_more drove d.turns turned d.counts;
   stops = inr (d.turns, (d.going, ap (λ x. d.turns ++ x ∷ []) last, omega (arith, length-append d.turns (turned ∷ []), d.long, less)));
 }
+
+-- a turn was refused: those made so far stand
+pub short : {B : Type 0} (polled : B → Answer → Ask → B → Type 0) (bank : BankId) (old mid new : Processor B) (t v u : Vec Event Global) (drove : Drove) (count : ℕ) → IsDriven polled bank old mid t v drove count → new ≡ mid → u.items ≡ v.items → DrivesShort polled bank old new t u
+short {B} polled bank old mid new t v u drove count d same is = record {
+  turns = d.turns;
+  v = v;
+  made = let F : Processor B → Type 0 = λ p. Made polled bank old p t v d.turns in subst F (sym same) d.made;
+  same = is;
+}
+
+-- of a refusal, whichever it is
+pub on_err : {A E : Type 0} (r : Result A E) (P : Type 0) → P → OnErr r P
+on_err (Ok x) P p = tt
+on_err (Err e) P p = p

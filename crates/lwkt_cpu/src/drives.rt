@@ -1,5 +1,5 @@
 //! Many turns of a processor.
-ghost use Rattle.std.specs.Prelude.{◌≡◌, ◌+◌, ◌<◌, ◌^◌, IfOk, OnErr, Err};
+ghost use Rattle.std.specs.Prelude.{◌≡◌, ◌≢◌, true, false, ◌+◌, ◌<◌, ◌^◌, IfOk, OnErr, Err};
 ghost use Rattle.lwkt_bank.specs.Seats.{id_of, bank_of};
 ghost use Rattle.lwkt_cpu.specs.Driving.{counted, Drives, DrivesShort};
 
@@ -39,6 +39,14 @@ fn count(drove: Drove, turned: Turned) -> Drove
     }
 }
 
+// Whether a turn said that every thread has ended.
+fn is_last(turned: Turned) -> bool
+    ensures yes { result ≡ true → turned ≡ Turned.AllExited }
+    ensures no { result ≡ false → turned ≢ Turned.AllExited }
+{
+    matches!(turned, Turned::AllExited)
+}
+
 impl<B: Body> Cpu<B> {
     /// Makes turns: so many, or up to the first at which every thread has ended. That seat and bank belong together is the
     /// caller's condition.
@@ -59,7 +67,7 @@ impl<B: Body> Cpu<B> {
         for made in 0..limit {
             let turned = self.turn(bank, trace)?;
             drove = count(drove, turned);
-            if turned == Turned::AllExited {
+            if is_last(turned) {
                 return Ok(drove);
             }
         }

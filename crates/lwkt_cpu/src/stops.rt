@@ -5,7 +5,7 @@ ghost use Rattle.lwkt_bank.specs.Seats.{id_of, bank_of, holding};
 ghost use Rattle.lwkt_hold.specs.Runs.{Ran};
 ghost use Rattle.lwkt_cpu.specs.Processors.{AllOver};
 ghost use Rattle.lwkt_cpu.specs.Searches.{IsOfOne};
-ghost use Rattle.lwkt_cpu.specs.Stopping.{stopped, AreStopped, Halts, Stops};
+ghost use Rattle.lwkt_cpu.specs.Stopping.{stopped, AreStopped, Halts, HaltsRunning, Stops};
 
 use crate::cpus::Cpu;
 use crate::ends::{end, go_on};
@@ -50,6 +50,21 @@ impl<B> Cpu<B> {
         self.running = None;
     }
 
+    // The thread that runs halts, if any does.
+    fn halt_running(&mut self, bank: &Bank, trace: &mut Vec<Event>)
+        requires of { bank_of self.old.seat ≡ id_of bank.now }
+        requires room { vec_len trace.old + 512 ≤ vec_capacity trace.old }
+        ensures halts { HaltsRunning self.old self.new trace.old trace.new self.old.running }
+        ensures ran { Ran (IsOfOne self.old.threads) 162 self.old.seat self.new.seat trace.old trace.new }
+        ensures none { self.new.running ≡ None }
+        ensures bodies { self.new.bodies ≡ self.old.bodies }
+    {
+        match self.running {
+            Some(place) => self.halt(bank, place, trace),
+            None => {}
+        }
+    }
+
     // Every thread that hasn't ended ends.
     fn end_all(&mut self)
         requires { self.old.running ≡ None }
@@ -77,18 +92,9 @@ impl<B> Cpu<B> {
         if trace.reserve(TURN_EVENTS).is_err() {
             return Err(Fault::Memory);
         }
-        if let Some(place) = self.running() {
-            self.halt(bank, place, trace);
-        }
+        self.halt_running(bank, trace);
         self.end_all();
         Ok(())
-    }
-
-    // The thread that runs.
-    fn running(&self) -> Option<usize>
-        ensures { result ≡ self.now.running }
-    {
-        self.running
     }
 
     /// Gives back the seat, which holds nothing, and the bodies, each as its last poll left it. That every thread has ended is
