@@ -1,1 +1,2 @@
 pub mod AskMoves
+pub mod BoxMoves

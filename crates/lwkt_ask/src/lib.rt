@@ -2,6 +2,7 @@
 #![tactic(auto)]
 
 pub mod bodies;
+pub mod boxed;
 mod calls;
 mod leaves;
 pub mod nexts;
