@@ -23,7 +23,6 @@ use Rattle.lwkt_ask.specs.declared.nexts.Next.{Next}
 use Rattle.lwkt_ask.specs.declared.nexts.Next.TheVariants.{Readies}
 use Rattle.lwkt_ask.specs.Leaving.{GivesUp}
 use Rattle.lwkt_hold.proofs.RunMoves.{ran_then, ran_weaker}
-use Rattle.lwkt_hold.proofs.ReadMoves.{ran_still}
 
 -- a run within the fronts of one list, as one within those of two, of at most 162 events
 pub ran_left : (refs others : List Ref) (m : ℕ) (a b : CpuSeat) (t u : Vec Event Global) → m ≤ 162 → Ran (IsFront refs) m a b t u → Ran (IsBetween refs others) 162 a b t u

@@ -1,4 +1,4 @@
-use Rattle.std.proofs.Common.{◌≡◌, ◌≢◌, ℕ, ◌+◌, ◌<◌, ◌≤◌, Bool, true, false, eqb, List, [], ◌++◌, length, take, drop, set, get_or, refl, ap, sym, ◌∙◌, subst, arith, inl, inr, Option, Some, None}
+use Rattle.std.proofs.Common.{◌≡◌, ℕ, ◌<◌, ◌≤◌, eqb, List, [], ◌++◌, length, take, drop, set, get_or, refl, ap, sym, ◌∙◌, subst, arith, inl, inr, Option, Some, None}
 use Rattle.std.specs.Prelude.{◌⊎◌, Vec, vec_len, vec_capacity, All, IsSomeAnd, IfSome, slice_get}
 use Rattle.std.specs.declared.alloc.Global.{Global}
 use Rattle.std.proofs.lemmas.Bool.{cases_lt, eqb-true, eqb-false, cases_Bool}
@@ -7,17 +7,17 @@ use Rattle.std.proofs.lemmas.List.Elements.{All-nil}
 use Rattle.std.proofs.lemmas.Option.{slice_get-get_or, slice_get_within}
 use Rattle.lwkt_base.specs.declared.names.Ref.{Ref}
 use Rattle.lwkt_base.specs.Refs.{IsLawful}
-use Rattle.lwkt_base.specs.Holding.{Holding, holding_of, holds_nothing}
+use Rattle.lwkt_base.specs.Holding.{Holding, holding_of}
 use Rattle.lwkt_core.specs.declared.events.Event.{Event}
 use Rattle.lwkt_bank.specs.declared.seats.CpuSeat.{CpuSeat}
 use Rattle.lwkt_bank.specs.Seats.{BankId, bank_of, tokens_of, holding}
-use Rattle.lwkt_hold.specs.Fronts.{IsFront, IsBetween}
+use Rattle.lwkt_hold.specs.Fronts.{IsBetween}
 use Rattle.lwkt_hold.specs.Runs.{Ran}
 use Rattle.lwkt_hold.proofs.RunMoves.{ran_then, ran_weaker, ran_with_room}
 use Rattle.lwkt_cpu.specs.declared.phases.Phase.TheVariants.{Live}
 use Rattle.lwkt_cpu.specs.declared.threads.Thread.{Thread}
-use Rattle.lwkt_cpu.specs.Processors.{has_ended, IsSettled, HoldsFor, IsAtRest, Processor, processor_of}
-use Rattle.lwkt_cpu.specs.Searches.{Searches, IsIn, ComesBefore, IsUp, Finds, IsOfOne, ended_by}
+use Rattle.lwkt_cpu.specs.Processors.{IsSettled, HoldsFor, IsAtRest, Processor, processor_of}
+use Rattle.lwkt_cpu.specs.Searches.{ComesBefore, Finds, IsOfOne}
 use Rattle.lwkt_cpu.specs.Turning.{cursor_after, Chooses, IsOfThread}
 use Rattle.lwkt_cpu.proofs.PlaceMoves.{get_set_same, get_set_other, some_same}
 use Rattle.lwkt_cpu.proofs.SearchMoves.{Keeps, searches_keeps, kept_one, is_in_or_not, front_of_one}

@@ -1,4 +1,4 @@
-use Rattle.std.proofs.Common.{◌≡◌, ◌≢◌, ℕ, ◌+◌, ◌-◌, ◌*◌, ◌<◌, ◌≤◌, List, [], length, set, get_or, refl, ap, sym, ◌∙◌, subst, arith, inl, inr, Option, Some, None}
+use Rattle.std.proofs.Common.{◌≡◌, ℕ, ◌+◌, ◌<◌, ◌≤◌, List, [], length, set, get_or, refl, ap, sym, ◌∙◌, subst, arith, inl, inr, Option, Some, None}
 use Rattle.std.specs.Prelude.{◌⊎◌, All, Vec, IsSomeAnd, slice_get}
 use Rattle.std.specs.declared.alloc.Global.{Global}
 use Rattle.std.proofs.lemmas.Bool.{cases_lt}
@@ -11,18 +11,16 @@ use Rattle.lwkt_base.specs.declared.faults.Fault.TheVariants.{Worn as WornOut}
 use Rattle.lwkt_core.specs.declared.events.Event.{Event}
 use Rattle.lwkt_bank.specs.declared.seats.CpuSeat.{CpuSeat}
 use Rattle.lwkt_bank.specs.Seats.{BankId, bank_of, tokens_of, holding}
-use Rattle.lwkt_hold.specs.declared.answers.Missed.{Missed}
 use Rattle.lwkt_hold.specs.declared.answers.Missed.TheVariants.{Worn}
 use Rattle.lwkt_hold.specs.Fronts.{IsFront}
 use Rattle.lwkt_hold.specs.Runs.{Ran}
-use Rattle.lwkt_hold.specs.Misses.{Misses}
 use Rattle.lwkt_hold.proofs.RunMoves.{ran_none, ran_then, ran_weaker}
 use Rattle.lwkt_hold.proofs.ListMoves.{misses_between}
 use Rattle.lwkt_hold.proofs.ReadMoves.{front_none}
 use Rattle.lwkt_cpu.specs.declared.phases.Phase.TheVariants.{Live, Faulted}
 use Rattle.lwkt_cpu.specs.declared.threads.Thread.{Thread}
 use Rattle.lwkt_cpu.specs.Processors.{AreThere}
-use Rattle.lwkt_cpu.specs.Searches.{IsRefused, Skips, Searches, IsIn, ComesBefore, IsUp, Finds, IsOfOne, ended_by}
+use Rattle.lwkt_cpu.specs.Searches.{Skips, Searches, IsIn, ComesBefore, IsUp, Finds, IsOfOne, ended_by}
 use Rattle.lwkt_cpu.proofs.PlaceMoves.{get_set_same, get_set_other, get_there, some_same}
 
 -- a front of a list that some thread has
@@ -109,17 +107,22 @@ Keeps olds news = (k : ℕ) (new : Thread) → slice_get news k ≡ Some new →
 pub searches_keeps : (a b : CpuSeat) (olds news : List Thread) (T : ℕ → Type 0) → ((k : ℕ) → T k ⊎ ¬ T k) → Searches a b olds news T → Keeps olds news
 searches_keeps a b olds news T cases s = λ k new at.
     let short : k < length olds = omega (arith, slice_get_within news k new at, s.as_many) in
-    let old = get_there olds k short in
-    (old.0, (old.1, elim (cases k) [
-      | inl is ↦
-          let x = s.tried k is old.0 old.1 in
-          let same : x.0 ≡ new = some_same x.0 new (slice_get news k) x.1.0 at in
-          elim x.1.1 [
-            | inl still ↦ inl (sym same ∙ still.1)
-            | inr live ↦ elim live [ inl refused ↦ inl (sym same ∙ refused.1) | inr worn ↦ inr (sym same ∙ worn.1) ]
-          ]
-      | inr away ↦ inl (some_same new old.0 (slice_get news k) at (s.others k away ∙ old.1))
-    ]))
+    let old = get_there olds k short in (
+      old.0,
+      (
+        old.1,
+        elim (cases k) [
+          | inl is ↦
+              let x = s.tried k is old.0 old.1 in
+              let same : x.0 ≡ new = some_same x.0 new (slice_get news k) x.1.0 at in
+              elim x.1.1 [
+                | inl still ↦ inl (sym same ∙ still.1)
+                | inr live ↦ elim live [ inl refused ↦ inl (sym same ∙ refused.1) | inr worn ↦ inr (sym same ∙ worn.1) ]
+              ]
+          | inr away ↦ inl (some_same new old.0 (slice_get news k) at (s.others k away ∙ old.1))
+        ],
+      ),
+    )
 
 pub is_in_or_not : (low high k : ℕ) → IsIn low high k ⊎ ¬ IsIn low high k
 is_in_or_not low high k = elim (cases_lt k low) [

@@ -1,9 +1,9 @@
-use Rattle.std.proofs.Common.{◌≡◌, ◌≢◌, ℕ, ◌+◌, ◌<◌, ◌≤◌, zero, suc, Bool, true, false, List, [], ◌∷◌, length, set, get_or, refl, ap, sym, ◌∙◌, subst, arith, inl, inr, Option, Some, None}
-use Rattle.std.specs.Prelude.{◌⊎◌, Vec, IsSomeAnd, option_map, slice_get}
+use Rattle.std.proofs.Common.{◌≡◌, ℕ, ◌+◌, ◌<◌, ◌≤◌, zero, suc, Bool, true, false, List, [], ◌∷◌, length, set, get_or, refl, ap, sym, ◌∙◌, subst, arith, inl, inr, Option, Some, None}
+use Rattle.std.specs.Prelude.{Vec, IsSomeAnd, option_map, slice_get}
 use Rattle.std.specs.declared.alloc.Global.{Global}
-use Rattle.std.proofs.lemmas.Bool.{cases_lt, cases_Bool, false≢true}
+use Rattle.std.proofs.lemmas.Bool.{cases_lt, false≢true}
 use Rattle.std.proofs.lemmas.List.{length-set}
-use Rattle.std.proofs.lemmas.Option.{slice_get-get_or, slice_get_within}
+use Rattle.std.proofs.lemmas.Option.{slice_get-get_or}
 use Rattle.lwkt_base.specs.declared.names.Ref.{Ref}
 use Rattle.lwkt_base.specs.Holding.{Holding, holding_of, holds_nothing}
 use Rattle.lwkt_core.specs.declared.events.Event.{Event}
@@ -11,7 +11,7 @@ use Rattle.lwkt_bank.specs.declared.seats.CpuSeat.{CpuSeat}
 use Rattle.lwkt_bank.specs.Seats.{bank_of, holding}
 use Rattle.lwkt_hold.specs.declared.answers.Blocked.{Blocked}
 use Rattle.lwkt_hold.specs.declared.answers.Blocked.TheVariants.{Clean, Restored}
-use Rattle.lwkt_hold.specs.Fronts.{IsFront, IsBetween}
+use Rattle.lwkt_hold.specs.Fronts.{IsBetween}
 use Rattle.lwkt_hold.specs.Runs.{Ran}
 use Rattle.lwkt_hold.proofs.RunMoves.{ran_weaker}
 use Rattle.lwkt_hold.proofs.ReadMoves.{front_none}
@@ -19,15 +19,15 @@ use Rattle.lwkt_ask.specs.declared.nexts.Next.{Next}
 use Rattle.lwkt_ask.specs.declared.nexts.Next.TheVariants.{Exits}
 use Rattle.lwkt_ask.specs.Nexts.{kept_list, HoldsAfter, unless_broken}
 use Rattle.lwkt_cpu.specs.declared.phases.Phase.{Phase}
-use Rattle.lwkt_cpu.specs.declared.phases.Phase.TheVariants.{Live, AwaitsItem, Exited, Faulted}
+use Rattle.lwkt_cpu.specs.declared.phases.Phase.TheVariants.{Live, Exited}
 use Rattle.lwkt_cpu.specs.declared.threads.Thread.{Thread}
 use Rattle.lwkt_cpu.specs.Processors.{has_ended, IsSettled, HoldsFor, IsAtRest, AllOver, processor_of}
 use Rattle.lwkt_cpu.specs.Searches.{IsOfOne, ended_by}
 use Rattle.lwkt_cpu.specs.Polling.{became}
 use Rattle.lwkt_cpu.specs.Stopping.{stopped, AreStopped}
-use Rattle.lwkt_cpu.proofs.PlaceMoves.{get_set_same, get_set_other, get_there, some_same}
+use Rattle.lwkt_cpu.proofs.PlaceMoves.{get_set_same, get_set_other, some_same}
 use Rattle.lwkt_cpu.proofs.SearchMoves.{front_of_one}
-use Rattle.lwkt_cpu.proofs.RestMoves.{settled_later, settled_none, set_settled}
+use Rattle.lwkt_cpu.proofs.RestMoves.{settled_none, set_settled}
 
 -- the threads below a number were stopped, and the others not yet
 abbrev pub AreStoppedBelow : ℕ → List Thread → List Thread → Type 0

@@ -1,4 +1,4 @@
-use Rattle.std.specs.Prelude.{ℕ, List, [], replicate}
+use Rattle.std.specs.Prelude.{[]}
 use Rattle.lwkt_base.specs.declared.asks.Answer.TheVariants.{Begin}
 use Rattle.lwkt_cpu.specs.declared.phases.Phase.TheVariants.{Live}
 use Rattle.lwkt_cpu.specs.declared.threads.Thread.{Thread}

@@ -1,4 +1,4 @@
-use Rattle.std.specs.Prelude.{◌≡◌, ℕ, Bool, true, false, List, Vec}
+use Rattle.std.specs.Prelude.{◌≡◌, Bool, true, false, List, Vec}
 use Rattle.std.specs.declared.alloc.Global.{Global}
 use Rattle.lwkt_base.specs.declared.names.Ref.{Ref}
 use Rattle.lwkt_base.specs.declared.asks.Ask.{Ask}

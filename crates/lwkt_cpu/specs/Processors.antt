@@ -1,9 +1,8 @@
-use Rattle.std.specs.Prelude.{◌≡◌, ℕ, ◌+◌, ◌<◌, ◌≤◌, ◌==◌, if◌then◌else◌, Bool, true, false, List, [], length, All, IsSomeAnd, Option, Some, None, slice_get}
-use Rattle.lwkt_base.specs.declared.names.Ref.{Ref}
+use Rattle.std.specs.Prelude.{◌≡◌, ℕ, ◌<◌, ◌≤◌, ◌==◌, if◌then◌else◌, Bool, true, false, List, [], length, All, IsSomeAnd, Option, Some, None, slice_get}
 use Rattle.lwkt_base.specs.declared.threads.ThreadState.{ThreadState}
 use Rattle.lwkt_base.specs.declared.threads.ThreadState.TheVariants.{Ready, Waiting, Running, Exited as HasExited, Faulted as WasFaulted}
 use Rattle.lwkt_base.specs.Refs.{IsLawful}
-use Rattle.lwkt_base.specs.Holding.{Holding, holding_of, holds_nothing}
+use Rattle.lwkt_base.specs.Holding.{holding_of, holds_nothing}
 use Rattle.lwkt_bank.specs.declared.seats.CpuSeat.{CpuSeat}
 use Rattle.lwkt_bank.specs.Seats.{bank_of, tokens_of, holding}
 use Rattle.lwkt_cpu.specs.declared.phases.Phase.{Phase}

@@ -2,7 +2,6 @@ use Rattle.std.specs.Prelude.{◌≡◌, ℕ, ◌≤◌, List, replicate, length
 use Rattle.lwkt_base.specs.Refs.{IsLawful}
 use Rattle.lwkt_bank.specs.declared.seats.CpuSeat.{CpuSeat}
 use Rattle.lwkt_cpu.specs.declared.answers.Status.{Status}
-use Rattle.lwkt_cpu.specs.declared.threads.Thread.{Thread}
 use Rattle.lwkt_cpu.specs.Fresh.{fresh}
 use Rattle.lwkt_cpu.specs.Processors.{Processor, state_of, is_running}
 

@@ -3,14 +3,13 @@ use Rattle.std.specs.declared.alloc.Global.{Global}
 use Rattle.lwkt_base.specs.Holding.{holds_nothing}
 use Rattle.lwkt_core.specs.declared.events.Event.{Event}
 use Rattle.lwkt_bank.specs.Seats.{holding}
-use Rattle.lwkt_hold.specs.Runs.{Ran}
 use Rattle.lwkt_ask.specs.declared.nexts.Next.{Next}
 use Rattle.lwkt_ask.specs.declared.nexts.Next.TheVariants.{Exits}
 use Rattle.lwkt_ask.specs.Leaving.{GivesUp}
 use Rattle.lwkt_cpu.specs.declared.phases.Phase.TheVariants.{Exited}
 use Rattle.lwkt_cpu.specs.declared.threads.Thread.{Thread}
 use Rattle.lwkt_cpu.specs.Processors.{Processor, has_ended, AllOver}
-use Rattle.lwkt_cpu.specs.Searches.{ended_by, IsOfOne}
+use Rattle.lwkt_cpu.specs.Searches.{ended_by}
 use Rattle.lwkt_cpu.specs.Polling.{became}
 
 -- a thread after a stop: one that has ended stays as it is, and any other exits

@@ -37,7 +37,8 @@ pub(crate) fn try_one(
     match hold.resume(bank, &thread.list, trace) {
         Resumed::All => true,
         Resumed::Passed {
-            why: Missed::Worn, ..
+            why: Missed::Worn,
+            ..
         } => {
             end(thread, Phase::Faulted(Fault::Worn));
             false

@@ -1,16 +1,14 @@
-use Rattle.std.proofs.Common.{◌≡◌, ◌-◌, ◌≤◌, ◌+◌, length, refl, ap, sym, ◌∙◌, subst, arith, Ok, Err}
+use Rattle.std.proofs.Common.{◌≡◌, ◌-◌, length, refl, ap, sym, ◌∙◌, subst, arith, Ok}
 use Rattle.lwkt_base.specs.Holding.{holding_of}
 use Rattle.lwkt_bank.specs.Seats.{bank_of, tokens_of, holding}
 use Rattle.lwkt_hold.specs.declared.answers.Acquired.{Acquired}
-use Rattle.lwkt_hold.specs.declared.answers.Acquired.TheVariants.{Got, MustSwitch}
 use Rattle.lwkt_base.specs.declared.faults.Fault.{Fault}
 use Rattle.std.specs.Prelude.{Result}
 use Rattle.lwkt_base.specs.declared.asks.Answer.TheVariants.{Done, Refused}
-use Rattle.lwkt_ask.specs.declared.nexts.Next.{Next}
 use Rattle.lwkt_ask.specs.declared.nexts.Next.TheVariants.{Runs}
 use Rattle.lwkt_ask.specs.Table.{GoesOn}
 use Rattle.lwkt_ask.specs.Nexts.{kept_list}
-use Rattle.lwkt_ask.proofs.AskMoves.{given_up_at, ran_right, ran_left, ran_switched, front_is, one_more, there_pushed, there_same, err_ends}
+use Rattle.lwkt_ask.proofs.AskMoves.{given_up_at, ran_right, ran_switched, front_is, one_more, there_pushed, err_ends}
 use Rattle.lwkt_ask.proofs.calls.get.Goals as goal
 
 pub overflow_sub-held : goal.overflow_sub-held

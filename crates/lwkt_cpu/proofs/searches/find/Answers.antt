@@ -1,7 +1,7 @@
-use Rattle.std.proofs.Common.{◌≡◌, ℕ, ◌+◌, ◌-◌, ◌*◌, ◌≤◌, length, refl, ap, subst, arith}
+use Rattle.std.proofs.Common.{◌+◌, ◌-◌, ◌*◌, ◌≤◌, length, arith}
 use Rattle.lwkt_base.specs.Holding.{Holding}
 use Rattle.lwkt_hold.proofs.RunMoves.{ran_then, ran_weaker}
-use Rattle.lwkt_cpu.specs.Searches.{Searches, IsIn, IsOfOne}
+use Rattle.lwkt_cpu.specs.Searches.{IsIn, IsOfOne}
 use Rattle.lwkt_cpu.proofs.SearchMoves.{searches_keeps, is_in_or_not, there_kept, kept_one, found_first, found_round}
 use Rattle.lwkt_cpu.proofs.searches.find.Goals as goal
 

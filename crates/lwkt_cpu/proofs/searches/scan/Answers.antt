@@ -1,11 +1,11 @@
-use Rattle.std.proofs.Common.{◌≡◌, ℕ, ◌+◌, ◌-◌, ◌*◌, ◌≤◌, ◌<◌, length, set, get_or, refl, ap, sym, ◌∙◌, subst, arith, Option, Some, None}
+use Rattle.std.proofs.Common.{◌≡◌, ℕ, ◌+◌, ◌-◌, ◌*◌, ◌≤◌, ◌<◌, length, get_or, subst, arith, Some}
 use Rattle.std.specs.Prelude.{slice_get}
 use Rattle.std.proofs.lemmas.Option.{slice_get-get_or}
 use Rattle.lwkt_base.specs.Holding.{Holding}
 use Rattle.lwkt_hold.specs.Fronts.{IsFront}
 use Rattle.lwkt_hold.proofs.ReadMoves.{ran_still}
 use Rattle.lwkt_cpu.specs.Searches.{Searches, IsIn, IsOfOne}
-use Rattle.lwkt_cpu.proofs.SearchMoves.{front_of_one, searches_none, searches_more, tried_ran, untried, there_at, found_at}
+use Rattle.lwkt_cpu.proofs.SearchMoves.{searches_none, searches_more, tried_ran, untried, there_at, found_at}
 use Rattle.lwkt_cpu.proofs.searches.scan.Goals as goal
 
 pub loop-at-init : goal.loop-at-init

@@ -1,6 +1,4 @@
-use Rattle.std.proofs.Common.{◌≡◌, ℕ, ◌≤◌, List, length, take, drop, ◌++◌, ap, sym, ◌∙◌, subst, arith, Option}
-use Rattle.std.specs.Prelude.{All}
-use Rattle.lwkt_bank.specs.Seats.{holding}
+use Rattle.std.proofs.Common.{◌≡◌, List, length, sym, ◌∙◌, subst}
 use Rattle.lwkt_hold.proofs.ReadMoves.{ran_still}
 use Rattle.lwkt_cpu.specs.declared.threads.Thread.{Thread}
 use Rattle.lwkt_cpu.specs.Processors.{IsAtRest, AreThere, processor_of}

@@ -1,5 +1,3 @@
-use Rattle.std.proofs.Common.{◌∙◌, ap, refl, arith}
-use Rattle.std.specs.Prelude.{Vec}
 use Rattle.lwkt_bank.specs.Seats.{id_of}
 use Rattle.lwkt_cpu.proofs.DriveMoves.{driven_more, drives_over, on_err, short}
 use Rattle.lwkt_cpu.specs.Driving.{DrivesShort}

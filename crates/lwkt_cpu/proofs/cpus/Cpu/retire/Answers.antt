@@ -1,4 +1,4 @@
-use Rattle.std.proofs.Common.{◌≡◌, ap, sym, ◌∙◌, subst, List}
+use Rattle.std.proofs.Common.{ap, sym, ◌∙◌, subst, List}
 use Rattle.lwkt_bank.specs.Seats.{holding}
 use Rattle.lwkt_cpu.specs.declared.threads.Thread.{Thread}
 use Rattle.lwkt_cpu.specs.Processors.{Processor, AllOver}

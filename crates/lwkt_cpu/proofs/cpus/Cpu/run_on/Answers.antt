@@ -1,12 +1,7 @@
-use Rattle.std.proofs.Common.{◌≡◌, ◌<◌, true, false, length, set, refl, ap, sym, ◌∙◌, subst, arith, Option, Some, None, if◌then◌else◌, Bool}
-use Rattle.std.specs.Prelude.{slice_get}
-use Rattle.lwkt_bank.specs.Seats.{id_of, holding}
-use Rattle.lwkt_base.specs.Holding.{holding_of}
-use Rattle.lwkt_cpu.specs.declared.threads.Thread.{Thread}
-use Rattle.lwkt_cpu.specs.declared.phases.Phase.TheVariants.{Live}
-use Rattle.lwkt_cpu.specs.Processors.{Processor, IsSettled, IsAtRest, HoldsFor, processor_of}
-use Rattle.lwkt_cpu.specs.Searches.{IsOfOne}
-use Rattle.lwkt_cpu.specs.Turning.{RunsOne, IsOfThread}
+use Rattle.std.proofs.Common.{◌≡◌, ◌<◌, length, set, refl, ap, sym, ◌∙◌, subst, arith, Option, Some, None, if◌then◌else◌, Bool}
+use Rattle.lwkt_bank.specs.Seats.{id_of}
+use Rattle.lwkt_cpu.specs.Processors.{Processor, HoldsFor, processor_of}
+use Rattle.lwkt_cpu.specs.Turning.{RunsOne}
 use Rattle.lwkt_cpu.proofs.PlaceMoves.{get_set_same}
 use Rattle.lwkt_cpu.proofs.SearchMoves.{up_at}
 use Rattle.lwkt_cpu.proofs.RestMoves.{thread_at, placed, up_there, rest_polled, ran_polled, ran_over}
