@@ -1,5 +1,5 @@
 //! Four threads, each driving a processor of its own.
-ghost use Rattle.std.specs.Prelude.{All};
+ghost use Rattle.std.specs.Prelude.{◌≡◌, All};
 ghost use Rattle.lwkt_bank.specs.Seats.{id_of};
 ghost use Rattle.lwkt_cpu_rows.specs.Free.{IsFree};
 
@@ -108,7 +108,7 @@ fn four<'a>(
     ensures { All (IsFree (id_of bank.now)) seats.new.items }
 {
     let mut drivers = Vec::new(alloc);
-    for _ in 0..4 {
+    for made in 0..4 {
         let bodies = adders(alloc).map_err(|_| Fault::Memory)?;
         let driver = next_driver(alloc, bank, seats, bodies)?;
         drivers.push(driver).map_err(|_| Fault::Memory)?;
