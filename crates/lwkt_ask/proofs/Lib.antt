@@ -1,0 +1,2 @@
+pub mod AskMoves
+pub mod BoxMoves

@@ -1,0 +1,36 @@
+use Rattle.std.proofs.Common.{arith}
+use Rattle.lwkt_hold.specs.Fronts.{IsBetween}
+use Rattle.lwkt_hold.proofs.ReadMoves.{ran_still}
+use Rattle.lwkt_ask.specs.Nexts.{kept_list}
+use Rattle.lwkt_ask.proofs.AskMoves.{ran_left}
+use Rattle.lwkt_ask.proofs.performs.perform.Goals as goal
+
+pub returns-in-Swap-clause-ran : goal.returns-in-Swap-clause-ran
+returns-in-Swap-clause-ran c = ran_still (IsBetween c.args.list.now c.swap.new.list) 162 c.args.hold.now.seat c.args.trace.now
+
+pub returns-in-Read-clause-ran : goal.returns-in-Read-clause-ran
+returns-in-Read-clause-ran c = ran_left c.args.list.now c.args.list.now 1 c.args.hold.now.seat c.read.new.hold.seat c.args.trace.now c.read.new.trace (omega arith) c.read.ensures.ran
+
+pub returns-in-Write-clause-ran : goal.returns-in-Write-clause-ran
+returns-in-Write-clause-ran c = ran_left c.args.list.now c.args.list.now 1 c.args.hold.now.seat c.write.new.hold.seat c.args.trace.now c.write.new.trace (omega arith) c.write.ensures.ran
+
+pub returns-in-Add-clause-ran : goal.returns-in-Add-clause-ran
+returns-in-Add-clause-ran c = ran_left c.args.list.now c.args.list.now 1 c.args.hold.now.seat c.add.new.hold.seat c.args.trace.now c.add.new.trace (omega arith) c.add.ensures.ran
+
+pub returns-in-GetPort-clause-ran : goal.returns-in-GetPort-clause-ran
+returns-in-GetPort-clause-ran c = ran_still (IsBetween c.args.list.now c.args.list.now) 162 c.args.hold.now.seat c.args.trace.now
+
+pub returns-in-WaitPort-clause-ran : goal.returns-in-WaitPort-clause-ran
+returns-in-WaitPort-clause-ran c = ran_left c.args.list.now (kept_list c.leave.result c.args.list.now) 160 c.args.hold.now.seat c.leave.new.hold.seat c.args.trace.now c.leave.new.trace (omega arith) c.leave.ensures.ran
+
+pub returns-in-Yield-clause-ran : goal.returns-in-Yield-clause-ran
+returns-in-Yield-clause-ran c = let l = c.leave-in-Yield in ran_left c.args.list.now (kept_list l.result c.args.list.now) 160 c.args.hold.now.seat l.new.hold.seat c.args.trace.now l.new.trace (omega arith) l.ensures.ran
+
+pub returns-in-Exit-clause-ran : goal.returns-in-Exit-clause-ran
+returns-in-Exit-clause-ran c = let l = c.leave-in-Exit in ran_left c.args.list.now (kept_list l.result c.args.list.now) 160 c.args.hold.now.seat l.new.hold.seat c.args.trace.now l.new.trace (omega arith) l.ensures.ran
+
+pub returns-in-Send-clause-ran : goal.returns-in-Send-clause-ran
+returns-in-Send-clause-ran c = ran_still (IsBetween c.args.list.now (kept_list c.refused.result c.args.list.now)) 162 c.args.hold.now.seat c.args.trace.now
+
+pub returns-in-Reply-clause-ran : goal.returns-in-Reply-clause-ran
+returns-in-Reply-clause-ran c = ran_still (IsBetween c.args.list.now (kept_list c.refused-in-Reply.result c.args.list.now)) 162 c.args.hold.now.seat c.args.trace.now

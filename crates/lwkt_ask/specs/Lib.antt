@@ -1,0 +1,4 @@
+pub mod Nexts
+pub mod Calls
+pub mod Leaving
+pub mod Table

@@ -1,0 +1,41 @@
+use Rattle.std.specs.Prelude.{◌≡◌, ℕ, List, [], Result, Ok, Err}
+use Rattle.lwkt_base.specs.declared.names.Ref.{Ref}
+use Rattle.lwkt_base.specs.declared.faults.Fault.{Fault}
+use Rattle.lwkt_base.specs.declared.faults.Fault.TheVariants.{Broken}
+use Rattle.lwkt_base.specs.declared.asks.Answer.{Answer}
+use Rattle.lwkt_base.specs.declared.asks.Answer.TheVariants.{Done, Value, Refused}
+use Rattle.lwkt_base.specs.Holding.{Holding, holding_of, holds_nothing}
+use Rattle.lwkt_hold.specs.declared.answers.Blocked.{Blocked}
+use Rattle.lwkt_hold.specs.declared.answers.Blocked.TheVariants.{Clean, Restored}
+use Rattle.lwkt_ask.specs.declared.nexts.Next.{Next}
+use Rattle.lwkt_ask.specs.declared.nexts.Next.TheVariants.{Runs, Readies, AwaitsItem, Exits, Faults}
+
+-- the list of a thread after its ask: one that ends has an empty list (own)
+abbrev pub kept_list : Next → List Ref → List Ref
+kept_list (Runs answer) refs = refs
+kept_list (Readies answer) refs = refs
+kept_list AwaitsItem refs = refs
+kept_list Exits refs = []
+kept_list (Faults fault) refs = []
+
+-- what a processor holds after an ask: the list of a thread that goes on running, else nothing (token(9))
+abbrev pub HoldsAfter : Next → Holding → List Ref → Type 0
+HoldsAfter (Runs answer) holding refs = holding ≡ holding_of refs
+HoldsAfter (Readies answer) holding refs = holding ≡ holds_nothing
+HoldsAfter AwaitsItem holding refs = holding ≡ holds_nothing
+HoldsAfter Exits holding refs = holding ≡ holds_nothing
+HoldsAfter (Faults fault) holding refs = holding ≡ holds_nothing
+
+-- the answer for a call that answers nothing, and for one that answers a value
+abbrev pub done_or : Result (Unit {0}) Fault → Answer
+done_or (Ok u) = Done
+done_or (Err fault) = Refused fault
+
+abbrev pub value_or : Result ℕ Fault → Answer
+value_or (Ok value) = Value value
+value_or (Err fault) = Refused fault
+
+-- what comes after everything was given up: a thread whose section had broken its law ends (own)
+abbrev pub unless_broken : Next → Blocked → Next
+unless_broken next Clean = next
+unless_broken next (Restored tok) = Faults Broken

@@ -1,0 +1,66 @@
+use Rattle.std.specs.Prelude.{◌≡◌, List, length, Result, Ok, Err, ℕ, Vec}
+use Rattle.std.specs.declared.alloc.Global.{Global}
+use Rattle.lwkt_base.specs.declared.names.TokId.{TokId}
+use Rattle.lwkt_base.specs.declared.names.Mode.TheVariants.{Shared}
+use Rattle.lwkt_base.specs.declared.names.Ref.{Ref}
+use Rattle.lwkt_base.specs.declared.faults.Fault.{Fault}
+use Rattle.lwkt_base.specs.declared.asks.Ask.{Ask}
+use Rattle.lwkt_base.specs.declared.asks.Ask.TheVariants.{Get, GetShared, TryGet, Rel, Swap, Read, Write, Add, Send, Do, Reply, Abort, IsAborted, DropMsg, GetPort, WaitPort, Yield, Exit}
+use Rattle.lwkt_base.specs.declared.faults.Fault.TheVariants.{NotOwner, NotTaken}
+use Rattle.lwkt_base.specs.declared.asks.Answer.{Answer}
+use Rattle.lwkt_base.specs.declared.asks.Answer.TheVariants.{Done, NoMsg, Refused}
+use Rattle.lwkt_core.specs.declared.events.Event.{Event}
+use Rattle.lwkt_bank.specs.declared.seats.CpuSeat.{CpuSeat}
+use Rattle.lwkt_bank.specs.Seats.{BankId}
+use Rattle.lwkt_hold.specs.declared.answers.Acquired.{Acquired}
+use Rattle.lwkt_hold.specs.declared.answers.Acquired.TheVariants.{Got, MustSwitch}
+use Rattle.lwkt_hold.specs.Misses.{exclusive}
+use Rattle.lwkt_ask.specs.declared.nexts.Next.{Next}
+use Rattle.lwkt_ask.specs.declared.nexts.Next.TheVariants.{Runs, Readies, AwaitsItem, Exits}
+use Rattle.lwkt_ask.specs.Nexts.{done_or, value_or}
+use Rattle.lwkt_ask.specs.Calls.{Acquires, Tries, Rels, Swaps, Reads, Stores, Adds}
+use Rattle.lwkt_ask.specs.Leaving.{GivesUp}
+
+-- a shared reference to the token
+abbrev pub shared : TokId → Ref
+shared tok = record { tok = tok; mode = Shared }
+
+-- what follows on an answer for a reference: the thread goes on, with the reference or refused, or it gives up what it held
+-- before and is ready, its answer being Done once it is resumed
+abbrev pub GoesOn : CpuSeat → CpuSeat → List Ref → List Ref → Vec Event Global → Vec Event Global → Next → Result Acquired Fault → Type 0
+GoesOn mid b refs now v u next (Ok Got) = (b ≡ mid) × (u ≡ v) × (next ≡ Runs Done)
+GoesOn mid b refs now v u next (Ok (MustSwitch why)) = GivesUp mid b now (length refs) v u (Readies Done) next
+GoesOn mid b refs now v u next (Err fault) = (b ≡ mid) × (u ≡ v) × (next ≡ Runs (Refused fault))
+
+-- an ask for a reference
+pub record Gets (bank : BankId) (a b : CpuSeat) (refs now : List Ref) (new : Ref) (t u : Vec Event Global) (next : Next) : Type 0 where
+  pub mid : CpuSeat
+  pub v : Vec Event Global
+  pub result : Result Acquired Fault
+  pub acquires : Acquires bank a mid refs now new t v result
+  pub goes_on : GoesOn mid b refs now v u next result
+
+-- an ask that is answered, and changes nothing
+abbrev pub Answers : CpuSeat → CpuSeat → List Ref → List Ref → Vec Event Global → Vec Event Global → Next → Answer → Type 0
+Answers a b refs now t u next answer = (b ≡ a) × (now ≡ refs) × (u ≡ t) × (next ≡ Runs answer)
+
+-- an ask and what comes next: from one seat, list and trace to the next, ask by ask, by the call that it makes (token(9); own)
+abbrev pub Performs : BankId → CpuSeat → CpuSeat → List Ref → List Ref → Vec Event Global → Vec Event Global → Ask → Next → Type 0
+Performs bank a b refs now t u (Get tok) next = Gets bank a b refs now (exclusive tok) t u next
+Performs bank a b refs now t u (GetShared tok) next = Gets bank a b refs now (shared tok) t u next
+Performs bank a b refs now t u (TryGet tok) next = (result : Result (Unit {0}) Fault) × (Tries bank a b refs now tok t u result × (next ≡ Runs (done_or result)))
+Performs bank a b refs now t u (Rel tok) next = (result : Result (Unit {0}) Fault) × (Rels a b refs now tok t u result × (next ≡ Runs (done_or result)))
+Performs bank a b refs now t u Swap next = (result : Result (Unit {0}) Fault) × (Swaps refs now result × (b ≡ a) × (u ≡ t) × (next ≡ Runs (done_or result)))
+Performs bank a b refs now t u (Read tok cell) next = (result : Result ℕ Fault) × (Reads bank a b refs tok cell t u result × (now ≡ refs) × (next ≡ Runs (value_or result)))
+Performs bank a b refs now t u (Write tok cell value) next = (result : Result (Unit {0}) Fault) × (Stores bank a b refs tok cell value t u result × (now ≡ refs) × (next ≡ Runs (done_or result)))
+Performs bank a b refs now t u (Add tok k) next = (result : Result (Unit {0}) Fault) × (Adds bank a b refs tok k t u result × (now ≡ refs) × (next ≡ Runs (done_or result)))
+Performs bank a b refs now t u (Send msg to call flags) next = Answers a b refs now t u next (Refused NotOwner)
+Performs bank a b refs now t u (Do msg to call) next = Answers a b refs now t u next (Refused NotOwner)
+Performs bank a b refs now t u (Reply msg error outcome) next = Answers a b refs now t u next (Refused NotTaken)
+Performs bank a b refs now t u (Abort msg) next = Answers a b refs now t u next (Refused NotOwner)
+Performs bank a b refs now t u (IsAborted msg) next = Answers a b refs now t u next (Refused NotTaken)
+Performs bank a b refs now t u (DropMsg msg) next = Answers a b refs now t u next (Refused NotOwner)
+Performs bank a b refs now t u GetPort next = Answers a b refs now t u next NoMsg
+Performs bank a b refs now t u WaitPort next = (now ≡ refs) × GivesUp a b refs (length refs) t u AwaitsItem next
+Performs bank a b refs now t u Yield next = (now ≡ refs) × GivesUp a b refs (length refs) t u (Readies Done) next
+Performs bank a b refs now t u Exit next = (now ≡ refs) × GivesUp a b refs (length refs) t u Exits next

@@ -1,0 +1,167 @@
+//! The asks about tokens, each as the call on the hold that it makes.
+ghost use Rattle.std.specs.Prelude.{◌≡◌, ℕ, ◌+◌, ◌<◌, ◌≤◌, length, All, Result, vec_len, vec_capacity};
+ghost use Rattle.lwkt_base.specs.Holding.{holding_of};
+ghost use Rattle.lwkt_base.specs.declared.faults.Fault.{Fault};
+ghost use Rattle.lwkt_bank.specs.Seats.{id_of, bank_of, tokens_of, holding};
+ghost use Rattle.lwkt_hold.specs.Holds.{seat_of};
+ghost use Rattle.lwkt_hold.specs.Fronts.{IsFront, IsBetween};
+ghost use Rattle.lwkt_hold.specs.Runs.{Ran};
+ghost use Rattle.lwkt_ask.specs.Nexts.{kept_list, HoldsAfter, done_or, value_or};
+ghost use Rattle.lwkt_ask.specs.Calls.{Tries, Rels, Swaps, Reads, Stores, Adds};
+ghost use Rattle.lwkt_ask.specs.Table.{Gets};
+
+use crate::leaves::give_up;
+use crate::nexts::Next;
+use lwkt_bank::Bank;
+use lwkt_base::{Answer, Fault, Ref, TokId, TokList};
+use lwkt_core::Event;
+use lwkt_hold::{Acquired, Hold};
+
+// The answer for a call that answers nothing.
+fn done(told: Result<(), Fault>) -> Answer
+    ensures { result ≡ done_or told }
+{
+    match told {
+        Ok(()) => Answer::Done,
+        Err(fault) => Answer::Refused(fault),
+    }
+}
+
+/// Asks for a reference. Where it is missed, the references before it are given up, and the thread is ready.
+pub(crate) fn get(
+    hold: &mut Hold,
+    bank: &Bank,
+    list: &mut TokList,
+    new: Ref,
+    trace: &mut Vec<Event>,
+) -> Next
+    requires of { bank_of (seat_of hold.old) ≡ id_of bank.now }
+    requires held { holding (seat_of hold.old) ≡ holding_of list.old }
+    requires room { vec_len trace.old + 512 ≤ vec_capacity trace.old }
+    ensures ran { Ran (IsBetween list.old (kept_list result list.new)) 162 (seat_of hold.old) (seat_of hold.new) trace.old trace.new }
+    ensures held { HoldsAfter result (holding (seat_of hold.new)) list.new }
+    ensures there { All (λ r. r.tok.0 < tokens_of (bank_of (seat_of hold.old))) list.old → All (λ r. r.tok.0 < tokens_of (bank_of (seat_of hold.old))) list.new }
+    ensures gets { Gets (id_of bank.now) (seat_of hold.old) (seat_of hold.new) list.old list.new new trace.old trace.new result }
+{
+    match hold.get(bank, list, new, trace) {
+        Ok(Acquired::Got) => Next::Runs(Answer::Done),
+        Ok(Acquired::MustSwitch { .. }) => {
+            let held = list.len() - 1;
+            give_up(hold, bank, list, held, Next::Readies(Answer::Done), trace)
+        }
+        Err(fault) => Next::Runs(Answer::Refused(fault)),
+    }
+}
+
+/// Asks for an exclusive reference without blocking.
+pub(crate) fn try_get(
+    hold: &mut Hold,
+    bank: &Bank,
+    list: &mut TokList,
+    tok: TokId,
+    trace: &mut Vec<Event>,
+) -> Answer
+    requires of { bank_of (seat_of hold.old) ≡ id_of bank.now }
+    requires held { holding (seat_of hold.old) ≡ holding_of list.old }
+    requires room { vec_len trace.old + 512 ≤ vec_capacity trace.old }
+    ensures ran { Ran (IsBetween list.old list.new) 162 (seat_of hold.old) (seat_of hold.new) trace.old trace.new }
+    ensures held { holding (seat_of hold.new) ≡ holding_of list.new }
+    ensures there { All (λ r. r.tok.0 < tokens_of (bank_of (seat_of hold.old))) list.old → All (λ r. r.tok.0 < tokens_of (bank_of (seat_of hold.old))) list.new }
+    ensures tries { (told : Result (Unit {0}) Fault) × (Tries (id_of bank.now) (seat_of hold.old) (seat_of hold.new) list.old list.new tok trace.old trace.new told × (result ≡ done_or told)) }
+{
+    let told = hold.try_get(bank, list, tok, trace);
+    done(told)
+}
+
+/// Gives the last reference back.
+pub(crate) fn rel(
+    hold: &mut Hold,
+    bank: &Bank,
+    list: &mut TokList,
+    tok: TokId,
+    trace: &mut Vec<Event>,
+) -> Answer
+    requires of { bank_of (seat_of hold.old) ≡ id_of bank.now }
+    requires held { holding (seat_of hold.old) ≡ holding_of list.old }
+    requires room { vec_len trace.old + 512 ≤ vec_capacity trace.old }
+    ensures ran { Ran (IsBetween list.old list.new) 162 (seat_of hold.old) (seat_of hold.new) trace.old trace.new }
+    ensures held { holding (seat_of hold.new) ≡ holding_of list.new }
+    ensures there { All (λ r. r.tok.0 < tokens_of (bank_of (seat_of hold.old))) list.old → All (λ r. r.tok.0 < tokens_of (bank_of (seat_of hold.old))) list.new }
+    ensures rels { (told : Result (Unit {0}) Fault) × (Rels (seat_of hold.old) (seat_of hold.new) list.old list.new tok trace.old trace.new told × (result ≡ done_or told)) }
+{
+    let told = hold.rel(bank, list, tok, trace);
+    done(told)
+}
+
+/// Exchanges the two last references.
+pub(crate) fn swap(list: &mut TokList) -> Answer
+    ensures held { holding_of list.new ≡ holding_of list.old }
+    ensures there { (n : ℕ) → All (λ r. r.tok.0 < n) list.old → All (λ r. r.tok.0 < n) list.new }
+    ensures swaps { (told : Result (Unit {0}) Fault) × (Swaps list.old list.new told × (result ≡ done_or told)) }
+{
+    let told = list.swap();
+    done(told)
+}
+
+/// Reads a cell.
+pub(crate) fn read(
+    hold: &mut Hold,
+    bank: &Bank,
+    list: &TokList,
+    tok: TokId,
+    cell: u8,
+    trace: &mut Vec<Event>,
+) -> Answer
+    requires of { bank_of (seat_of hold.old) ≡ id_of bank.now }
+    requires held { holding (seat_of hold.old) ≡ holding_of list.now }
+    requires room { vec_len trace.old + 512 ≤ vec_capacity trace.old }
+    ensures ran { Ran (IsFront list.now) 1 (seat_of hold.old) (seat_of hold.new) trace.old trace.new }
+    ensures held { holding (seat_of hold.new) ≡ holding_of list.now }
+    ensures reads { (told : Result ℕ Fault) × (Reads (id_of bank.now) (seat_of hold.old) (seat_of hold.new) list.now tok cell trace.old trace.new told × (result ≡ value_or told)) }
+{
+    match hold.read(bank, list, tok, cell, trace) {
+        Ok(value) => Answer::Value(value),
+        Err(fault) => Answer::Refused(fault),
+    }
+}
+
+/// Stores a value in a cell.
+pub(crate) fn write(
+    hold: &mut Hold,
+    bank: &Bank,
+    list: &TokList,
+    tok: TokId,
+    cell: u8,
+    value: u64,
+    trace: &mut Vec<Event>,
+) -> Answer
+    requires of { bank_of (seat_of hold.old) ≡ id_of bank.now }
+    requires held { holding (seat_of hold.old) ≡ holding_of list.now }
+    requires room { vec_len trace.old + 512 ≤ vec_capacity trace.old }
+    ensures ran { Ran (IsFront list.now) 1 (seat_of hold.old) (seat_of hold.new) trace.old trace.new }
+    ensures held { holding (seat_of hold.new) ≡ holding_of list.now }
+    ensures stores { (told : Result (Unit {0}) Fault) × (Stores (id_of bank.now) (seat_of hold.old) (seat_of hold.new) list.now tok cell value trace.old trace.new told × (result ≡ done_or told)) }
+{
+    let told = hold.write(bank, list, tok, cell, value, trace);
+    done(told)
+}
+
+/// Adds to the cell of a Tally token.
+pub(crate) fn add(
+    hold: &mut Hold,
+    bank: &Bank,
+    list: &TokList,
+    tok: TokId,
+    k: u64,
+    trace: &mut Vec<Event>,
+) -> Answer
+    requires of { bank_of (seat_of hold.old) ≡ id_of bank.now }
+    requires held { holding (seat_of hold.old) ≡ holding_of list.now }
+    requires room { vec_len trace.old + 512 ≤ vec_capacity trace.old }
+    ensures ran { Ran (IsFront list.now) 1 (seat_of hold.old) (seat_of hold.new) trace.old trace.new }
+    ensures held { holding (seat_of hold.new) ≡ holding_of list.now }
+    ensures adds { (told : Result (Unit {0}) Fault) × (Adds (id_of bank.now) (seat_of hold.old) (seat_of hold.new) list.now tok k trace.old trace.new told × (result ≡ done_or told)) }
+{
+    let told = hold.add(bank, list, tok, k, trace);
+    done(told)
+}

@@ -1,0 +1,16 @@
+use lwkt_base::{Answer, Fault};
+
+/// What comes next for a thread whose ask was performed.
+#[derive(Clone, Copy, Debug, PartialEq, Eq)]
+pub enum Next {
+    /// It goes on running, with this answer.
+    Runs(Answer),
+    /// It has given up its tokens and is ready; once it is resumed, it has this answer.
+    Readies(Answer),
+    /// It has given up its tokens and waits for an item at its port.
+    AwaitsItem,
+    /// It has ended by itself.
+    Exits,
+    /// It was ended by this fault.
+    Faults(Fault),
+}

@@ -1,0 +1,5 @@
+pub mod PlaceMoves
+pub mod SearchMoves
+pub mod RestMoves
+pub mod StopMoves
+pub mod DriveMoves

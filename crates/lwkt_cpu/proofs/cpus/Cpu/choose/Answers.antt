@@ -1,0 +1,25 @@
+use Rattle.std.proofs.Common.{◌≡◌, List, length, sym, ◌∙◌, subst}
+use Rattle.lwkt_hold.proofs.ReadMoves.{ran_still}
+use Rattle.lwkt_cpu.specs.declared.threads.Thread.{Thread}
+use Rattle.lwkt_cpu.specs.Processors.{IsAtRest, AreThere, processor_of}
+use Rattle.lwkt_cpu.specs.Searches.{Finds, IsOfOne}
+use Rattle.lwkt_cpu.proofs.RestMoves.{refilled, finds_many, rest_found}
+use Rattle.lwkt_cpu.proofs.cpus.Cpu.choose.Goals as goal
+
+pub returns-in-Some-clause-ran : goal.returns-in-Some-clause-ran
+returns-in-Some-clause-ran g c = ran_still (IsOfOne c.args.self.now.threads) 1024 c.args.self.now.seat c.args.trace.now
+
+pub find-found-requires-clause-there : goal.find-found-requires-clause-there
+find-found-requires-clause-there g c =
+    let F : List Thread → Type 0 = λ xs. AreThere c.self.inside.hold.seat xs in
+    subst F (sym c.deref_mut.ensures.value) (λ k t at. (c.self.invariant.settled k t at).there)
+
+pub invariant_of-self : goal.invariant_of-self
+invariant_of-self g c =
+    let i = c.self.inside in
+    let f = c.find-found in
+    let F : List Thread → Type 0 = λ xs. IsAtRest {B = g.row.B.Denot} (processor_of f.new.hold.seat i.bodies.items xs f.result c.past-self-inside.result) in
+    let G : List Thread → Type 0 = λ xs. Finds i.hold.seat f.new.hold.seat xs f.new.threads i.cursor f.result in
+    let long : length f.new.threads ≡ i.threads.len = finds_many i.hold.seat f.new.hold.seat c.deref_mut.result.now f.new.threads i.cursor f.result f.ensures.finds ∙ c.deref_mut.ensures.len in
+    subst F (sym (refilled f.new.threads i.threads.items i.threads.len long))
+    (rest_found {B = g.row.B.Denot} i.hold.seat f.new.hold.seat i.bodies.items i.threads.items f.new.threads i.running i.cursor c.past-self-inside.result f.result c.self.invariant f.ensures.ran.bank (subst G c.deref_mut.ensures.value f.ensures.finds) c.past-self-inside.ensures)

@@ -1,0 +1,20 @@
+use Rattle.lwkt_bank.specs.Seats.{id_of}
+use Rattle.lwkt_cpu.proofs.DriveMoves.{driven_more, drives_over, on_err, short}
+use Rattle.lwkt_cpu.specs.Driving.{DrivesShort}
+use Rattle.lwkt_cpu.proofs.cpus.Cpu.drive.Goals as goal
+
+pub returns-in_err-turned-clause-err : goal.returns-in_err-turned-clause-err
+returns-in_err-turned-clause-err g c =
+    let l = c.loop-made in
+    on_err c.from_residual.result (DrivesShort {B = g.row.B.Denot} g.B.Body.polled (id_of c.args.bank.now) c.args.self.now c.turn.new.self c.args.trace.now c.turn.new.trace)
+    (short {B = g.row.B.Denot} g.B.Body.polled (id_of c.args.bank.now) c.args.self.now l.self c.turn.new.self c.args.trace.now l.trace c.turn.new.trace l.drove l.made l.invariant c.in_err-turned.ensures.err.0 c.in_err-turned.ensures.err.1)
+
+pub returns-then-is_last-clause-ok : goal.returns-then-is_last-clause-ok
+returns-then-is_last-clause-ok g c =
+    let l = c.loop-made in
+    drives_over {B = g.row.B.Denot} g.B.Body.polled (id_of c.args.bank.now) c.args.self.now l.self c.turn.new.self c.args.trace.now l.trace c.turn.new.trace l.drove c.count-drove.result c.in_ok-turned.turned l.made c.args.limit c.loop-made-test.true (c.is_last.ensures.yes c.if-is_last.true) c.count-drove.ensures l.invariant c.in_ok-turned.ensures.ok
+
+pub loop-made-preserved : goal.loop-made-preserved
+loop-made-preserved g c =
+    let l = c.loop-made in
+    driven_more {B = g.row.B.Denot} g.B.Body.polled (id_of c.args.bank.now) c.args.self.now l.self c.turn.new.self c.args.trace.now l.trace c.turn.new.trace l.drove c.count-drove.result c.in_ok-turned.turned l.made l.invariant c.in_ok-turned.ensures.ok (c.is_last.ensures.no c.if-is_last.false) c.in_ok-turned.ensures.of c.count-drove.ensures

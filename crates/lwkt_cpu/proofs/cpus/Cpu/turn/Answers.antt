@@ -1,0 +1,48 @@
+use Rattle.std.proofs.Common.{ℕ, sym, ◌∙◌, subst, Option}
+use Rattle.std.proofs.lemmas.Bool.{false≢true}
+use Rattle.lwkt_cpu.specs.Turning.{Chooses}
+use Rattle.lwkt_cpu.proofs.RestMoves.{turn_ran, search_ran}
+use Rattle.lwkt_cpu.proofs.cpus.Cpu.turn.Goals as goal
+
+pub returns-in-Some-clause-ok : goal.returns-in-Some-clause-ok
+returns-in-Some-clause-ok g c =
+    let old = c.args.self.now in
+    let mid = c.choose.new.self in
+    let new = c.run_on.new.self in
+    let r = c.reserve.new.self in
+    let e = c.reserve.ensures in
+    let F : Option ℕ → Type 0 = λ o. Chooses {B = g.row.B.Denot} old mid r c.choose.new.trace old.running o in
+    record {
+      room = r;
+      same = e.items;
+      turns = (mid, (c.choose.new.trace, (subst F c.in-Some.is c.choose.ensures.chooses, c.run_on.ensures.runs_one)));
+      ran = turn_ran {B = g.row.B.Denot} old mid new c.args.trace.now r c.choose.new.trace c.run_on.new.trace old.running c.choose.result e.items e.len e.capacity c.choose.ensures.chooses c.choose.ensures.ran c.run_on.ensures.ran;
+    }
+
+pub returns-in-None-clause-ok : goal.returns-in-None-clause-ok
+returns-in-None-clause-ok g c =
+    let old = c.args.self.now in
+    let new = c.choose.new.self in
+    let r = c.reserve.new.self in
+    let e = c.reserve.ensures in
+    let F : Option ℕ → Type 0 = λ o. Chooses {B = g.row.B.Denot} old new r c.choose.new.trace old.running o in
+    record {
+      room = r;
+      same = e.items;
+      turns = (subst F c.in-None.is c.choose.ensures.chooses, c.all_over.ensures.0 c.if-all_over.true);
+      ran = search_ran {B = g.row.B.Denot} old new c.args.trace.now r c.choose.new.trace e.items e.len e.capacity c.choose.ensures.ran;
+    }
+
+pub returns-in-None-2-clause-ok : goal.returns-in-None-2-clause-ok
+returns-in-None-2-clause-ok g c =
+    let old = c.args.self.now in
+    let new = c.choose.new.self in
+    let r = c.reserve.new.self in
+    let e = c.reserve.ensures in
+    let F : Option ℕ → Type 0 = λ o. Chooses {B = g.row.B.Denot} old new r c.choose.new.trace old.running o in
+    record {
+      room = r;
+      same = e.items;
+      turns = (subst F c.in-None.is c.choose.ensures.chooses, λ over. false≢true (sym c.if-all_over.false ∙ c.all_over.ensures.1 over));
+      ran = search_ran {B = g.row.B.Denot} old new c.args.trace.now r c.choose.new.trace e.items e.len e.capacity c.choose.ensures.ran;
+    }

@@ -1,0 +1,69 @@
+use Rattle.std.proofs.Common.{◌≡◌, ℕ, ◌+◌, ◌-◌, ◌*◌, ◌≤◌, ◌<◌, length, get_or, subst, arith, Some}
+use Rattle.std.specs.Prelude.{slice_get}
+use Rattle.std.proofs.lemmas.Option.{slice_get-get_or}
+use Rattle.lwkt_base.specs.Holding.{Holding}
+use Rattle.lwkt_hold.specs.Fronts.{IsFront}
+use Rattle.lwkt_hold.proofs.ReadMoves.{ran_still}
+use Rattle.lwkt_cpu.specs.Searches.{Searches, IsIn, IsOfOne}
+use Rattle.lwkt_cpu.proofs.SearchMoves.{searches_none, searches_more, tried_ran, untried, there_at, found_at}
+use Rattle.lwkt_cpu.proofs.searches.scan.Goals as goal
+
+pub loop-at-init : goal.loop-at-init
+loop-at-init c = record {
+  ran = ran_still (IsOfOne c.args.threads.now) (64 * (c.args.from - c.args.from)) c.args.hold.now.seat c.args.trace.now;
+  empty = c.requires.empty;
+  searched = searches_none c.args.hold.now.seat c.args.threads.now c.args.from;
+}
+
+pub try_one-requires-clause-there : goal.try_one-requires-clause-there
+try_one-requires-clause-there c =
+    let l = c.loop-at in
+    let old = get_or l.threads l.at c.index-threads-at.result in
+    let within : l.at < length l.threads = omega (arith, c.loop-at-test.true, c.requires.within, l.auto.threads) in
+    let is : slice_get l.threads l.at ≡ Some old = slice_get-get_or l.threads l.at c.index-threads-at.result within in
+    there_at c.args.hold.now.seat l.hold.seat c.args.threads.now l.at old l.invariant.ran.bank (untried c.args.hold.now.seat l.hold.seat c.args.threads.now l.threads c.args.from l.at old l.invariant.searched is) c.requires.there
+
+pub returns-then-try_one-clause-ran : goal.returns-then-try_one-clause-ran
+returns-then-try_one-clause-ran c =
+    let l = c.loop-at in
+    let old = get_or l.threads l.at c.index-threads-at.result in
+    let within : l.at < length l.threads = omega (arith, c.loop-at-test.true, c.requires.within, l.auto.threads) in
+    let is : slice_get l.threads l.at ≡ Some old = slice_get-get_or l.threads l.at c.index-threads-at.result within in
+    let was = untried c.args.hold.now.seat l.hold.seat c.args.threads.now l.threads c.args.from l.at old l.invariant.searched is in
+    let low : c.args.from ≤ l.at = l.auto.at in
+    let high : l.at < c.args.to = c.loop-at-test.true in
+    tried_ran c.args.hold.now.seat l.hold.seat c.try_one.new.hold.seat c.args.trace.now l.trace c.try_one.new.trace c.args.threads.now l.at old (64 * (l.at - c.args.from)) (64 * (c.args.to - c.args.from)) (omega arith) was l.invariant.ran c.try_one.ensures.ran
+
+pub returns-then-try_one-clause-some : goal.returns-then-try_one-clause-some
+returns-then-try_one-clause-some c =
+    let l = c.loop-at in
+    let d = c.index-threads-at.result in
+    let old = get_or l.threads l.at d in
+    let within : l.at < length l.threads = omega (arith, c.loop-at-test.true, c.requires.within, l.auto.threads) in
+    let y = c.try_one.ensures.yes c.if-try_one.true in
+    let Q : Holding → Type 0 = IsFront old.list in
+    found_at Q 64 c.args.hold.now.seat l.hold.seat c.try_one.new.hold.seat l.trace c.try_one.new.trace c.args.threads.now l.threads c.args.from c.args.to l.at d c.try_one.new.thread l.auto.at c.loop-at-test.true within c.try_one.ensures.ran l.invariant.searched y.0 y.1 y.2
+
+pub loop-at-preserved : goal.loop-at-preserved
+loop-at-preserved c =
+    let l = c.loop-at in
+    let old = get_or l.threads l.at c.index-threads-at.result in
+    let within : l.at < length l.threads = omega (arith, c.loop-at-test.true, c.requires.within, l.auto.threads) in
+    let is : slice_get l.threads l.at ≡ Some old = slice_get-get_or l.threads l.at c.index-threads-at.result within in
+    let was = untried c.args.hold.now.seat l.hold.seat c.args.threads.now l.threads c.args.from l.at old l.invariant.searched is in
+    let low : c.args.from ≤ l.at = l.auto.at in
+    let n = c.try_one.ensures.no c.if-try_one.false in
+    let P : Holding → Type 0 = IsOfOne c.args.threads.now in
+    let Q : Holding → Type 0 = IsFront old.list in
+    record {
+      ran = tried_ran c.args.hold.now.seat l.hold.seat c.try_one.new.hold.seat c.args.trace.now l.trace c.try_one.new.trace c.args.threads.now l.at old (64 * (l.at - c.args.from)) (64 * (l.at + 1 - c.args.from)) (omega arith) was l.invariant.ran c.try_one.ensures.ran;
+      empty = n.0;
+      searched = searches_more P Q (64 * (l.at - c.args.from)) 64 c.args.hold.now.seat l.hold.seat c.try_one.new.hold.seat c.args.trace.now l.trace c.try_one.new.trace c.args.threads.now l.threads c.args.from l.at old c.try_one.new.thread low is l.invariant.ran c.try_one.ensures.ran l.invariant.searched n.1;
+    }
+
+pub returns-clause-none : goal.returns-clause-none
+returns-clause-none c =
+    let l = c.loop-at in
+    let last : l.at ≡ c.args.to = omega (arith, c.loop-at-test.false, l.auto.at-end c.requires.rising) in
+    let F : ℕ → Type 0 = λ k. Searches c.args.hold.now.seat l.hold.seat c.args.threads.now l.threads (IsIn c.args.from k) in
+    λ is. (l.invariant.empty, subst F last l.invariant.searched)

@@ -1,0 +1,68 @@
+use Rattle.std.specs.Prelude.{◌≡◌, ℕ, ◌<◌, ◌≤◌, ◌==◌, if◌then◌else◌, Bool, true, false, List, [], length, All, IsSomeAnd, Option, Some, None, slice_get}
+use Rattle.lwkt_base.specs.declared.threads.ThreadState.{ThreadState}
+use Rattle.lwkt_base.specs.declared.threads.ThreadState.TheVariants.{Ready, Waiting, Running, Exited as HasExited, Faulted as WasFaulted}
+use Rattle.lwkt_base.specs.Refs.{IsLawful}
+use Rattle.lwkt_base.specs.Holding.{holding_of, holds_nothing}
+use Rattle.lwkt_bank.specs.declared.seats.CpuSeat.{CpuSeat}
+use Rattle.lwkt_bank.specs.Seats.{bank_of, tokens_of, holding}
+use Rattle.lwkt_cpu.specs.declared.phases.Phase.{Phase}
+use Rattle.lwkt_cpu.specs.declared.phases.Phase.TheVariants.{Live, AwaitsItem, Exited, Faulted}
+use Rattle.lwkt_cpu.specs.declared.threads.Thread.{Thread}
+
+-- a processor: its seat, the bodies and the threads by number, the one that runs if any does, and where the search for the next
+-- begins
+pub record Processor (B : Type 0) : Type 0 where
+  pub seat : CpuSeat
+  pub bodies : List B
+  pub threads : List Thread
+  pub running : Option ℕ
+  pub cursor : ℕ
+
+-- whether a thread has ended
+abbrev pub has_ended : Phase → Bool
+has_ended Live = false
+has_ended AwaitsItem = false
+has_ended Exited = true
+has_ended (Faulted fault) = true
+
+-- what a thread is doing, by whether it runs
+abbrev pub state_of : Bool → Phase → ThreadState
+state_of runs Live = if runs then Running else Ready
+state_of runs AwaitsItem = Waiting
+state_of runs Exited = HasExited
+state_of runs (Faulted fault) = WasFaulted fault
+
+abbrev pub is_running : Option ℕ → ℕ → Bool
+is_running None k = false
+is_running (Some i) k = i == k
+
+-- a thread between two turns: its list is lawful, its list's tokens exist, and one that has ended has an empty list
+pub record IsSettled (s : CpuSeat) (t : Thread) : Type 0 where
+  pub lawful : IsLawful t.list
+  pub there : All (λ r. r.tok.0 < tokens_of (bank_of s)) t.list
+  pub ended : has_ended t.phase ≡ true → t.list ≡ []
+
+-- a seat holds the list of the thread that runs, in its modes, or nothing if none runs
+abbrev pub HoldsFor : CpuSeat → List Thread → Option ℕ → Type 0
+HoldsFor s threads None = holding s ≡ holds_nothing
+HoldsFor s threads (Some k) = IsSomeAnd (slice_get threads k) (λ t. (t.phase ≡ Live) × (holding s ≡ holding_of t.list))
+
+-- a processor between two turns (own): at most one thread runs, every list is lawful, and the holding is that of the running
+-- thread's list, or nothing
+pub record IsAtRest {B : Type 0} (p : Processor B) : Type 0 where
+  pub few : length p.threads ≤ 16
+  pub as_many : length p.bodies ≡ length p.threads
+  pub within : p.cursor ≤ length p.threads
+  pub settled : (k : ℕ) (t : Thread) → slice_get p.threads k ≡ Some t → IsSettled p.seat t
+  pub held : HoldsFor p.seat p.threads p.running
+
+-- every thread has ended
+abbrev pub AllOver : List Thread → Type 0
+AllOver threads = (k : ℕ) (t : Thread) → slice_get threads k ≡ Some t → has_ended t.phase ≡ true
+
+-- the tokens of each thread's list exist
+abbrev pub AreThere : CpuSeat → List Thread → Type 0
+AreThere s threads = (k : ℕ) (t : Thread) → slice_get threads k ≡ Some t → All (λ r. r.tok.0 < tokens_of (bank_of s)) t.list
+
+abbrev pub processor_of : {B : Type 0} → CpuSeat → List B → List Thread → Option ℕ → ℕ → Processor B
+processor_of seat bodies threads running cursor = record { seat = seat; bodies = bodies; threads = threads; running = running; cursor = cursor }

@@ -1,0 +1,123 @@
+//! A processor: its seat under a hold, and its threads.
+ghost use Rattle.std.specs.Prelude.{◌≡◌, ◌⊎◌, ◌<◌, ◌≤◌, Bool, List, [], length, replicate, IfOk, IfSome, IsSomeAnd, OnErr, Err, Some, None, option_map, slice_get, vec_len};
+ghost use Rattle.lwkt_base.specs.Holding.{holds_nothing};
+ghost use Rattle.lwkt_base.specs.Refs.{IsLawful};
+ghost use Rattle.lwkt_bank.specs.Seats.{holding};
+ghost use Rattle.lwkt_cpu.specs.Fresh.{fresh};
+
+use crate::answers::Status;
+use crate::phases::Phase;
+use crate::threads::Thread;
+use lwkt_bank::CpuSeat;
+use lwkt_base::{Answer, CpuId, Fault, ThreadState, TokList};
+use lwkt_hold::Hold;
+use std::alloc::Global;
+use std::marker::Model;
+
+/// The most threads of a processor.
+pub const THREAD_LIMIT: usize = 16;
+
+/// A processor with its threads. It is always at rest between two calls: at most one thread runs, every list is lawful, and
+/// the seat holds exactly the list of the running thread, in its modes, or nothing.
+#[derive(Drop)]
+pub struct Cpu<B> {
+    pub(crate) hold: Hold,
+    pub(crate) bodies: Vec<B>,
+    pub(crate) threads: Vec<Thread>,
+    pub(crate) running: Option<usize>,
+    pub(crate) cursor: usize,
+}
+
+impl<B> Model for Cpu<B> {
+    ghost use Rattle.lwkt_hold.specs.Holds.{seat_of};
+    ghost use Rattle.lwkt_cpu.specs.Processors.{Processor, processor_of, IsAtRest};
+
+    ghost Value = { Processor B };
+
+    ghost view = { λ c. processor_of (seat_of c.hold) c.bodies.items c.threads.items c.running c.cursor };
+
+    ghost invariant = { λ c. IsAtRest (processor_of (seat_of c.hold) c.bodies.items c.threads.items c.running c.cursor) };
+}
+
+// So many threads, each ready and never polled.
+fn fresh_threads(alloc: Global, count: usize) -> Result<Vec<Thread>, Fault>
+    ensures ok { IfOk result (λ threads. threads.items ≡ replicate count fresh) }
+    ensures only { OnErr result (result ≡ Err Fault.Memory) }
+{
+    let mut threads = Vec::new(alloc);
+    for made in 0..count {
+        let thread = Thread {
+            list: TokList::new(),
+            last: Answer::Begin,
+            phase: Phase::Live,
+        };
+        threads.push(thread).map_err(|_| Fault::Memory)?;
+    }
+    Ok(threads)
+}
+
+impl<B> Cpu<B> {
+    ghost use Rattle.lwkt_cpu.specs.Processors.{IsAtRest};
+    ghost use Rattle.lwkt_cpu.specs.Shown.{IsNew, ShowsThread};
+
+    /// A processor over this seat, with a ready thread for each body. That the seat is this processor's and holds nothing are
+    /// the caller's conditions.
+    ///
+    /// Refused with `Memory`, or with `Limits` if there are more than 16 bodies.
+    pub fn new(alloc: Global, id: CpuId, seat: CpuSeat, bodies: Vec<B>) -> Result<Self, Fault>
+    where
+        B: Drop,
+        requires mine { seat.cpu ≡ id }
+        requires empty { holding seat ≡ holds_nothing }
+        ensures ok { IfOk result (λ cpu. IsNew seat bodies.items cpu) }
+        ensures only { OnErr result ((result ≡ Err Fault.Memory) ⊎ ((result ≡ Err Fault.Limits) × (16 < vec_len bodies))) }
+    {
+        let _ = id;
+        let count = bodies.len();
+        let threads = fresh_threads(alloc, count)?;
+        if count > THREAD_LIMIT {
+            return Err(Fault::Limits);
+        }
+        Ok(Cpu {
+            hold: Hold::new(seat),
+            bodies,
+            threads,
+            running: None,
+            cursor: 0,
+        })
+    }
+
+    /// How many threads there are. The processor is at rest.
+    pub fn threads(&self) -> usize
+        ensures value { result ≡ length self.now.threads }
+        ensures at_rest { IsAtRest self.now }
+    {
+        self.threads.len()
+    }
+
+    /// What thread `i` is doing, and its references.
+    pub fn thread(&self, i: usize) -> Option<Status<'_>>
+        ensures { ShowsThread self.now i result }
+    {
+        let thread = self.threads.get(i)?;
+        let state = match thread.phase {
+            Phase::Live if self.running == Some(i) => ThreadState::Running,
+            Phase::Live => ThreadState::Ready,
+            Phase::AwaitsItem => ThreadState::Waiting,
+            Phase::Exited => ThreadState::Exited,
+            Phase::Faulted(fault) => ThreadState::Faulted(fault),
+        };
+        Some(Status {
+            state,
+            list: thread.list.refs(),
+        })
+    }
+
+    /// The body of thread `i`, as its last poll left it.
+    pub fn body(&self, i: usize) -> Option<&B>
+        ensures some { IfSome result (λ body. slice_get self.now.bodies i ≡ Some body.now) }
+        ensures none { result ≡ None → length self.now.threads ≤ i }
+    {
+        self.bodies.get(i)
+    }
+}

@@ -1,0 +1,76 @@
+//! Many turns of a processor.
+ghost use Rattle.std.specs.Prelude.{◌≡◌, ◌≢◌, true, false, ◌+◌, ◌<◌, ◌^◌, IfOk, OnErr, Err};
+ghost use Rattle.lwkt_bank.specs.Seats.{id_of, bank_of};
+ghost use Rattle.lwkt_cpu.specs.Driving.{counted, Drives, DrivesShort};
+
+use crate::answers::{Drove, Turned};
+use crate::cpus::Cpu;
+use lwkt_ask::Body;
+use lwkt_bank::Bank;
+use lwkt_base::Fault;
+use lwkt_core::Event;
+
+// One turn more, counted by its answer.
+fn count(drove: Drove, turned: Turned) -> Drove
+    requires { drove.ran + drove.idle + 1 < 2 ^ 64 }
+    ensures { result ≡ counted drove turned }
+{
+    let Drove {
+        ran,
+        idle,
+        all_exited,
+    } = drove;
+    match turned {
+        Turned::Ran { .. } => Drove {
+            ran: ran + 1,
+            idle,
+            all_exited,
+        },
+        Turned::Idle => Drove {
+            ran,
+            idle: idle + 1,
+            all_exited,
+        },
+        Turned::AllExited => Drove {
+            ran,
+            idle: idle + 1,
+            all_exited: true,
+        },
+    }
+}
+
+// Whether a turn said that every thread has ended.
+fn is_last(turned: Turned) -> bool
+    ensures yes { result ≡ true → turned ≡ Turned.AllExited }
+    ensures no { result ≡ false → turned ≢ Turned.AllExited }
+{
+    matches!(turned, Turned::AllExited)
+}
+
+impl<B: Body> Cpu<B> {
+    /// Makes turns: so many, or up to the first at which every thread has ended. That seat and bank belong together is the
+    /// caller's condition.
+    ///
+    /// Refused with `Memory` as `turn` is; the turns made so far stand.
+    pub fn drive(&mut self, bank: &Bank, limit: u64, trace: &mut Vec<Event>) -> Result<Drove, Fault>
+        requires { bank_of self.old.seat ≡ id_of bank.now }
+        ensures ok { IfOk result (λ drove. Drives B.polled (id_of bank.now) self.old self.new trace.old trace.new limit drove) }
+        ensures err { OnErr result (DrivesShort B.polled (id_of bank.now) self.old self.new trace.old trace.new) }
+        ensures only { OnErr result (result ≡ Err Fault.Memory) }
+        ensures of { bank_of self.new.seat ≡ bank_of self.old.seat }
+    {
+        let mut drove = Drove {
+            ran: 0,
+            idle: 0,
+            all_exited: false,
+        };
+        for made in 0..limit {
+            let turned = self.turn(bank, trace)?;
+            drove = count(drove, turned);
+            if is_last(turned) {
+                return Ok(drove);
+            }
+        }
+        Ok(drove)
+    }
+}

@@ -1,0 +1,17 @@
+//! A processor: its threads, and the turns in which one of them at a time runs while its whole list is held.
+#![tactic(auto)]
+
+pub mod answers;
+pub mod cpus;
+pub mod drives;
+mod ends;
+pub mod phases;
+mod polls;
+mod searches;
+pub mod stops;
+pub mod threads;
+pub mod turns;
+
+pub use answers::{Drove, Status, Turned};
+pub use cpus::Cpu;
+pub use lwkt_ask::Body;

@@ -1,0 +1,99 @@
+//! The search for a thread to run: the first one from the cursor on, round once, whose whole list can be held.
+ghost use Rattle.std.specs.Prelude.{◌≡◌, ℕ, ◌+◌, ◌-◌, ◌*◌, ◌<◌, ◌≤◌, true, false, length, All, Some, None, slice_get, vec_len, vec_capacity};
+ghost use Rattle.lwkt_base.specs.Holding.{holding_of, holds_nothing};
+ghost use Rattle.lwkt_bank.specs.Seats.{id_of, bank_of, tokens_of, holding};
+ghost use Rattle.lwkt_hold.specs.Holds.{seat_of};
+ghost use Rattle.lwkt_hold.specs.Fronts.{IsFront};
+ghost use Rattle.lwkt_hold.specs.Runs.{Ran};
+ghost use Rattle.lwkt_cpu.specs.Searches.{Skips, Searches, IsIn, IsUp, Finds, IsOfOne};
+ghost use Rattle.lwkt_cpu.specs.Processors.{AreThere};
+
+use crate::ends::end;
+use crate::phases::Phase;
+use crate::threads::Thread;
+use lwkt_bank::Bank;
+use lwkt_base::Fault;
+use lwkt_core::Event;
+use lwkt_hold::{Hold, Missed, Resumed};
+
+/// Tries one thread: says whether it can run and its whole list is held now. One that was refused at a last generation ends.
+pub(crate) fn try_one(
+    hold: &mut Hold,
+    bank: &Bank,
+    thread: &mut Thread,
+    trace: &mut Vec<Event>,
+) -> bool
+    requires of { bank_of (seat_of hold.old) ≡ id_of bank.now }
+    requires there { All (λ r. r.tok.0 < tokens_of (bank_of (seat_of hold.old))) thread.old.list }
+    requires empty { holding (seat_of hold.old) ≡ holds_nothing }
+    requires room { vec_len trace.old + 64 ≤ vec_capacity trace.old }
+    ensures ran { Ran (IsFront thread.old.list) 64 (seat_of hold.old) (seat_of hold.new) trace.old trace.new }
+    ensures yes { result ≡ true → (thread.new ≡ thread.old) × (thread.old.phase ≡ Phase.Live) × (holding (seat_of hold.new) ≡ holding_of thread.old.list) }
+    ensures no { result ≡ false → (holding (seat_of hold.new) ≡ holds_nothing) × Skips (seat_of hold.old) (seat_of hold.new) thread.old thread.new }
+{
+    if thread.phase != Phase::Live {
+        return false;
+    }
+    match hold.resume(bank, &thread.list, trace) {
+        Resumed::All => true,
+        Resumed::Passed {
+            why: Missed::Worn,
+            ..
+        } => {
+            end(thread, Phase::Faulted(Fault::Worn));
+            false
+        }
+        Resumed::Passed { .. } => false,
+    }
+}
+
+/// Tries the threads from one number on and below another; the first that can run and whose list could be held.
+pub(crate) fn scan(
+    hold: &mut Hold,
+    bank: &Bank,
+    threads: &mut [Thread],
+    from: usize,
+    to: usize,
+    trace: &mut Vec<Event>,
+) -> Option<usize>
+    requires of { bank_of (seat_of hold.old) ≡ id_of bank.now }
+    requires there { AreThere (seat_of hold.old) threads.old }
+    requires rising { from ≤ to }
+    requires within { to ≤ length threads.old }
+    requires empty { holding (seat_of hold.old) ≡ holds_nothing }
+    requires room { vec_len trace.old + 64 * (to - from) ≤ vec_capacity trace.old }
+    ensures ran { Ran (IsOfOne threads.old) (64 * (to - from)) (seat_of hold.old) (seat_of hold.new) trace.old trace.new }
+    ensures some { (place : ℕ) → result ≡ Some place → IsIn from to place × IsUp (seat_of hold.new) threads.new place × Searches (seat_of hold.old) (seat_of hold.new) threads.old threads.new (IsIn from place) }
+    ensures none { result ≡ None → (holding (seat_of hold.new) ≡ holds_nothing) × Searches (seat_of hold.old) (seat_of hold.new) threads.old threads.new (IsIn from to) }
+{
+    for at in from..to {
+        if try_one(hold, bank, &mut threads[at], trace) {
+            return Some(at);
+        }
+    }
+    None
+}
+
+/// Finds the first thread from the cursor on, round once, that can run and whose list could be held.
+pub(crate) fn find(
+    hold: &mut Hold,
+    bank: &Bank,
+    threads: &mut [Thread],
+    cursor: usize,
+    trace: &mut Vec<Event>,
+) -> Option<usize>
+    requires of { bank_of (seat_of hold.old) ≡ id_of bank.now }
+    requires there { AreThere (seat_of hold.old) threads.old }
+    requires few { length threads.old ≤ 16 }
+    requires within { cursor ≤ length threads.old }
+    requires empty { holding (seat_of hold.old) ≡ holds_nothing }
+    requires room { vec_len trace.old + 1024 ≤ vec_capacity trace.old }
+    ensures ran { Ran (IsOfOne threads.old) 1024 (seat_of hold.old) (seat_of hold.new) trace.old trace.new }
+    ensures finds { Finds (seat_of hold.old) (seat_of hold.new) threads.old threads.new cursor result }
+{
+    let count = threads.len();
+    match scan(hold, bank, threads, cursor, count, trace) {
+        Some(at) => Some(at),
+        None => scan(hold, bank, threads, 0, cursor, trace),
+    }
+}

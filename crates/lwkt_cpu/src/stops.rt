@@ -1,0 +1,117 @@
+//! The end of a processor: every thread ends, and seat and bodies are given back.
+ghost use Rattle.std.specs.Prelude.{◌≡◌, ℕ, ◌+◌, ◌≤◌, OnOk, OnErr, Some, None, Err, vec_len, vec_capacity};
+ghost use Rattle.lwkt_base.specs.Holding.{holds_nothing};
+ghost use Rattle.lwkt_bank.specs.Seats.{id_of, bank_of, holding};
+ghost use Rattle.lwkt_hold.specs.Runs.{Ran};
+ghost use Rattle.lwkt_cpu.specs.Processors.{AllOver};
+ghost use Rattle.lwkt_cpu.specs.Searches.{IsOfOne};
+ghost use Rattle.lwkt_cpu.specs.Stopping.{stopped, AreStopped, Halts, HaltsRunning, Stops};
+
+use crate::cpus::Cpu;
+use crate::ends::{end, go_on};
+use crate::phases::Phase;
+use crate::threads::Thread;
+use crate::turns::TURN_EVENTS;
+use lwkt_ask::perform;
+use lwkt_bank::{Bank, CpuSeat};
+use lwkt_base::{Ask, Fault};
+use lwkt_core::Event;
+
+// Ends a thread that hasn't ended.
+fn stop_one(thread: &mut Thread)
+    ensures { thread.new ≡ stopped thread.old }
+{
+    if !thread.phase.has_ended() {
+        end(thread, Phase::Exited);
+    }
+}
+
+// Ends every thread that hasn't ended.
+fn stop_all(threads: &mut [Thread])
+    ensures { AreStopped threads.old threads.new }
+{
+    for at in 0..threads.len() {
+        stop_one(&mut threads[at]);
+    }
+}
+
+impl<B> Cpu<B> {
+    // The thread that runs gives up everything and ends.
+    fn halt(&mut self, bank: &Bank, place: usize, trace: &mut Vec<Event>)
+        requires of { bank_of self.old.seat ≡ id_of bank.now }
+        requires runs { self.old.running ≡ Some place }
+        requires room { vec_len trace.old + 512 ≤ vec_capacity trace.old }
+        ensures halts { Halts self.old self.new trace.old trace.new place }
+        ensures ran { Ran (IsOfOne self.old.threads) 162 self.old.seat self.new.seat trace.old trace.new }
+    {
+        let thread = &mut self.threads[place];
+        let next = perform(&mut self.hold, bank, &mut thread.list, Ask::Exit, trace);
+        go_on(thread, next);
+        self.running = None;
+    }
+
+    // The thread that runs halts, if any does.
+    fn halt_running(&mut self, bank: &Bank, trace: &mut Vec<Event>)
+        requires of { bank_of self.old.seat ≡ id_of bank.now }
+        requires room { vec_len trace.old + 512 ≤ vec_capacity trace.old }
+        ensures halts { HaltsRunning self.old self.new trace.old trace.new self.old.running }
+        ensures ran { Ran (IsOfOne self.old.threads) 162 self.old.seat self.new.seat trace.old trace.new }
+        ensures none { self.new.running ≡ None }
+        ensures bodies { self.new.bodies ≡ self.old.bodies }
+    {
+        match self.running {
+            Some(place) => self.halt(bank, place, trace),
+            None => {}
+        }
+    }
+
+    // Every thread that hasn't ended ends.
+    fn end_all(&mut self)
+        requires { self.old.running ≡ None }
+        ensures threads { AreStopped self.old.threads self.new.threads }
+        ensures over { AllOver self.new.threads }
+        ensures seat { self.new.seat ≡ self.old.seat }
+        ensures bodies { self.new.bodies ≡ self.old.bodies }
+        ensures none { self.new.running ≡ None }
+        ensures empty { holding self.new.seat ≡ holds_nothing }
+    {
+        stop_all(&mut self.threads);
+    }
+
+    /// Stops the processor: the running thread gives up everything, and every thread that hasn't ended ends, by itself or,
+    /// where a section had broken its law, by that fault. That seat and bank belong together is the caller's condition.
+    ///
+    /// Refused with `Memory` where the trace can't be given room for 4,096 events; nothing has changed then.
+    pub fn stop(&mut self, bank: &Bank, trace: &mut Vec<Event>) -> Result<(), Fault>
+        requires { bank_of self.old.seat ≡ id_of bank.now }
+        ensures ok { OnOk result (Stops self.old self.new trace.old trace.new) }
+        ensures err { OnErr result ((self.new ≡ self.old) × (trace.new.items ≡ trace.old.items)) }
+        ensures only { OnErr result (result ≡ Err Fault.Memory) }
+        ensures ran { Ran (IsOfOne self.old.threads) 162 self.old.seat self.new.seat trace.old trace.new }
+    {
+        if trace.reserve(TURN_EVENTS).is_err() {
+            return Err(Fault::Memory);
+        }
+        self.halt_running(bank, trace);
+        self.end_all();
+        Ok(())
+    }
+
+    /// Gives back the seat, which holds nothing, and the bodies, each as its last poll left it. That every thread has ended is
+    /// the caller's condition.
+    pub fn retire(self) -> (CpuSeat, Vec<B>)
+        requires { AllOver self.threads }
+        ensures seat { result.0 ≡ self.seat }
+        ensures bodies { result.1.items ≡ self.bodies }
+        ensures empty { holding result.0 ≡ holds_nothing }
+    {
+        let Cpu {
+            hold,
+            bodies,
+            threads: _,
+            running: _,
+            cursor: _,
+        } = self;
+        (hold.into_seat(), bodies)
+    }
+}

@@ -1,0 +1,9 @@
+use Rattle.std.specs.Prelude.{◌≡◌}
+use Rattle.lwkt_base.specs.Holding.{holds_nothing}
+use Rattle.lwkt_bank.specs.declared.seats.CpuSeat.{CpuSeat}
+use Rattle.lwkt_bank.specs.Seats.{BankId, bank_of, holding}
+
+-- a seat of this bank, which holds nothing
+pub record IsFree (bank : BankId) (s : CpuSeat) : Type 0 where
+  pub of : bank_of s ≡ bank
+  pub empty : holding s ≡ holds_nothing

@@ -1,0 +1,11 @@
+//! Processors: worked rows and other examples that no contract can say, as tests over the crates below.
+#![tactic(auto)]
+
+#[cfg(test)]
+mod cpu_rows;
+#[cfg(test)]
+mod drivers;
+#[cfg(test)]
+mod scripts;
+#[cfg(test)]
+mod thread_rows;
