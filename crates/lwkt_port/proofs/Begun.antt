@@ -1,9 +1,9 @@
 -- The ports as they are opened are in order.
-use Rattle.std.proofs.Common.{◌≡◌, ℕ, ◌+◌, ◌<◌, ◌≤◌, ◌==◌, Bool, true, false, cond, true≢false, List, [], ◌∷◌, length, map, get_or, refl, ap, sym, ◌∙◌, subst, arith, eq-eqb}
+use Rattle.std.proofs.Common.{◌≡◌, ℕ, ◌<◌, ◌==◌, Bool, true, false, cond, true≢false, List, [], ◌∷◌, length, map, get_or, refl, ap, sym, ◌∙◌, subst, arith, eq-eqb}
 use Rattle.std.proofs.lemmas.Bool.{eqb-true}
 use Rattle.std.proofs.lemmas.List.{length-map, get_or-map}
 use Rattle.std.proofs.lemmas.List.Elements.{All-nil, All-cons}
-use Rattle.std.specs.Prelude.{All, zip, None, Some, IsSome, Option}
+use Rattle.std.specs.Prelude.{All, zip}
 use Rattle.lwkt_base.specs.declared.names.CpuId.{CpuId}
 use Rattle.lwkt_base.specs.declared.names.ThreadId.{ThreadId}
 use Rattle.lwkt_lane.specs.declared.ins.LaneIn.{LaneIn}
@@ -14,12 +14,10 @@ use Rattle.lwkt_base.specs.declared.openings.MsgSpec.{MsgSpec}
 use Rattle.lwkt_msg.specs.Views.{no_spec, spec_at, first_entry, handed}
 use Rattle.lwkt_port.specs.declared.lines.Lane.{Lane}
 use Rattle.lwkt_port.specs.declared.mails.Mail.{Mail}
-use Rattle.lwkt_port.specs.declared.queues.Port.{Port}
-use Rattle.lwkt_port.specs.Mails.{no_mail, mail_at, IsMail, AreMails}
+use Rattle.lwkt_port.specs.Mails.{no_mail, mail_at, IsMail}
 use Rattle.lwkt_port.specs.Openings.{new_mail, IsEmptyPort, new_line, ArePaired, AreWithin, IsFresh, AreOrigins}
 use Rattle.lwkt_port.specs.Posts.{Post, IsPost, KeepsNamed}
-use Rattle.lwkt_port.specs.Queues.{HasNamed, NamesMessage}
-use Rattle.lwkt_port.specs.Queues.{queue_of}
+use Rattle.lwkt_port.specs.Queues.{NamesMessage}
 
 lines_are : (outs : List LaneOut) (ins : List LaneIn) → length outs ≡ length ins → length (map new_line (zip outs ins)) ≡ length outs
 lines_are [] ins e = refl

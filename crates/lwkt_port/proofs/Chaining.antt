@@ -1,5 +1,5 @@
 -- One step more makes a longer chain.
-use Rattle.std.proofs.Common.{◌≡◌, ℕ, ◌+◌, zero, suc, refl, ap, sym, ◌∙◌, subst, arith}
+use Rattle.std.proofs.Common.{◌≡◌, ℕ, ◌+◌, suc, refl, subst, arith}
 use Rattle.lwkt_port.specs.Chains.{Chain}
 
 pub chain_none : (A : Type 0) (Step : ℕ → A → A → Type 0) (x : A) → Chain A Step 0 x x

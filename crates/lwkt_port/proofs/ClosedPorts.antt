@@ -1,7 +1,7 @@
 -- A closed port is cleared, a note at a time.
-use Rattle.std.proofs.Common.{◌≡◌, ℕ, ◌+◌, ◌-◌, ◌<◌, ◌≤◌, true, false, List, [], ◌∷◌, ◌++◌, length, refl, ap, sym, ◌∙◌, subst, arith, append_assoc, length-append, inl, inr}
-use Rattle.std.proofs.lemmas.List.Elements.{All-set, All-get_or}
-use Rattle.std.specs.Prelude.{Vec, vec_len, vec_capacity, All, slice_index_or, slice_set}
+use Rattle.std.proofs.Common.{◌≡◌, ℕ, ◌+◌, ◌<◌, true, false, List, [], ◌∷◌, ◌++◌, length, refl, ap, sym, ◌∙◌, subst, arith, append_assoc, length-append, inr}
+use Rattle.std.proofs.lemmas.List.Elements.{All-set}
+use Rattle.std.specs.Prelude.{Vec, vec_len, All, slice_set}
 use Rattle.std.specs.declared.alloc.Global.{Global}
 use Rattle.lwkt_core.specs.declared.events.Event.{Event}
 use Rattle.lwkt_lane.specs.declared.notes.Note.{Note}
@@ -12,7 +12,7 @@ use Rattle.lwkt_port.specs.Intakes.{Clears, ClearsAll, ClearsQueue}
 use Rattle.lwkt_port.specs.Mails.{AreMails}
 use Rattle.lwkt_port.specs.Queues.{queue_of, HasNamed}
 use Rattle.lwkt_port.specs.Works.{Work, work, Grew, Stands}
-use Rattle.lwkt_port.proofs.Growing.{stands_none, stands_then}
+use Rattle.lwkt_port.proofs.Growing.{stands_then}
 use Rattle.lwkt_port.proofs.Serving.{named_tail}
 
 -- one more note was taken off

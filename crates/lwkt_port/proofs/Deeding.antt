@@ -1,6 +1,6 @@
 -- What is kept of messages fits the seat after a take, a reap, a send and a reply, and how many messages are away then.
-use Rattle.std.proofs.Common.{◌≡◌, ◌≢◌, ℕ, ◌+◌, ◌<◌, ◌≤◌, Bool, true, false, true≢false, List, [], ◌∷◌, ◌++◌, length, set, refl, ap, sym, ◌∙◌, subst, arith}
-use Rattle.std.specs.Prelude.{IsSome, Some, None, Option}
+use Rattle.std.proofs.Common.{◌≡◌, ℕ, ◌+◌, ◌<◌, Bool, true, false, true≢false, List, length, set, refl, ap, sym, ◌∙◌, subst, arith}
+use Rattle.std.specs.Prelude.{IsSome, None, Option}
 use Rattle.lwkt_base.specs.declared.faults.Fault.TheVariants.{RoundsOut}
 use Rattle.lwkt_base.specs.declared.names.CpuId.{CpuId}
 use Rattle.lwkt_base.specs.declared.names.MsgId.{MsgId}
@@ -13,16 +13,15 @@ use Rattle.lwkt_msg.specs.declared.answers.Taken.{Taken}
 use Rattle.lwkt_msg.specs.declared.answers.Taken.TheVariants as taken
 use Rattle.lwkt_msg.specs.declared.answers.Reaped.{Reaped}
 use Rattle.lwkt_msg.specs.declared.answers.Reaped.TheVariants as reaped_
-use Rattle.lwkt_msg.specs.Desks.{Desk, cpu_of, messages_of, entry, IsSameDesk}
-use Rattle.lwkt_msg.specs.Hands.{IsOwn}
+use Rattle.lwkt_msg.specs.Desks.{Desk, cpu_of, entry, IsSameDesk}
 use Rattle.lwkt_msg.specs.Calls.{TakeMeans, ReapMeans, HasSent, IsUnsent, HasReplied}
 use Rattle.lwkt_port.specs.declared.mails.Mail.{Mail}
 use Rattle.lwkt_port.specs.declared.deeds.Claim.{Claim}
 use Rattle.lwkt_port.specs.declared.deeds.Claim.TheVariants as claim
-use Rattle.lwkt_port.specs.Mails.{no_mail, mail_at, IsMail, AreMails}
+use Rattle.lwkt_port.specs.Mails.{mail_at, IsMail, AreMails}
 use Rattle.lwkt_port.specs.Works.{away_count}
 use Rattle.lwkt_port.specs.Deeds.{taken_mail, mails_taken, reaped_mail, mails_reaped, reap_events, sent_mail, replied_mail}
-use Rattle.lwkt_port.proofs.Keeping.{own_still, own_before, there_still, fits_still, all_still, all_put, away_same, away_less}
+use Rattle.lwkt_port.proofs.Keeping.{own_still, own_before, there_still, all_still, all_put, away_same, away_less}
 
 -- a take leaves the origin and whether the message is at home
 taken_origin : (who : Claim) (aborted : Bool) (round : ℕ) (mail : Mail) → (taken_mail who aborted round mail).origin ≡ mail.origin

@@ -1,5 +1,5 @@
 -- One line of a processor's lanes changes, and the others stay: for sends and replies.
-use Rattle.std.proofs.Common.{◌≡◌, ℕ, ◌<◌, ◌≤◌, List, length, set, get_or, refl, ap, sym, ◌∙◌, subst, arith}
+use Rattle.std.proofs.Common.{◌≡◌, ℕ, ◌<◌, List, length, refl, ap, sym, subst}
 use Rattle.std.specs.Prelude.{Bool, true, All, IfSome, Option, Some, is_some, Result, Ok, Err, OnOk, IfErr, slice_index_or, slice_set}
 use Rattle.lwkt_base.specs.declared.faults.Fault.{Fault}
 use Rattle.lwkt_base.specs.declared.faults.Fault.TheVariants.{LaneFull, RoundsOut}

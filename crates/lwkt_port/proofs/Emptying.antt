@@ -1,17 +1,17 @@
 -- A lane is emptied, a note at a time.
-use Rattle.std.proofs.Common.{◌≡◌, ◌≢◌, ℕ, ◌+◌, ◌<◌, ◌≤◌, true, List, [], ◌∷◌, ◌++◌, length, refl, ap, sym, ◌∙◌, subst, arith, append_assoc, length-append}
+use Rattle.std.proofs.Common.{◌≡◌, ℕ, ◌+◌, ◌<◌, true, List, [], ◌∷◌, ◌++◌, length, refl, ap, sym, ◌∙◌, subst, arith, append_assoc, length-append}
 use Rattle.std.proofs.lemmas.List.{append-nil}
-use Rattle.std.specs.Prelude.{Vec, vec_len, vec_capacity, All, Option, Some, None, MatchOption, option_to_list}
+use Rattle.std.specs.Prelude.{vec_len, All, Option, Some, None, MatchOption, option_to_list}
 use Rattle.lwkt_base.specs.declared.names.CpuId.{CpuId}
 use Rattle.lwkt_lane.specs.declared.notes.Note.{Note}
 use Rattle.lwkt_lane.specs.Lane.{received, receives_alone, all_pushed, in_lane}
-use Rattle.lwkt_msg.specs.Desks.{Desk, cpu_of, seat_cpu, IsSameDesk}
+use Rattle.lwkt_msg.specs.Desks.{cpu_of, seat_cpu, IsSameDesk}
 use Rattle.lwkt_port.specs.declared.handlings.Fate.{Fate}
 use Rattle.lwkt_port.specs.declared.lines.Lane.{Lane}
 use Rattle.lwkt_port.specs.Intakes.{Desks, desks, Handles, HandlesAll, Pops}
 use Rattle.lwkt_port.specs.Mails.{AreMails}
 use Rattle.lwkt_port.specs.Queues.{HasNamed}
-use Rattle.lwkt_port.specs.Works.{work, Grew, Grown, away_count, Standing, Keeps}
+use Rattle.lwkt_port.specs.Works.{work, Grew, away_count, Standing, Keeps}
 use Rattle.lwkt_port.proofs.Growing.{grew_none, grew_then, same_none, same_then}
 
 abbrev pub desks_at : Standing → Desks

@@ -1,14 +1,14 @@
 -- Taking notes in makes at most 256 events: one for each reply that is owed, one for each message that is away and reaped, and
 -- those of the closed ports.
-use Rattle.std.proofs.Common.{◌≡◌, ℕ, ◌+◌, ◌≤◌, List, length, refl, ap, sym, ◌∙◌, arith}
+use Rattle.std.proofs.Common.{◌≡◌, ◌+◌, ◌≤◌, List, arith}
 use Rattle.std.proofs.lemmas.List.Sums.{count_by-le-length}
-use Rattle.std.specs.Prelude.{Vec, vec_len, vec_capacity, not}
+use Rattle.std.specs.Prelude.{Vec, not}
 use Rattle.std.specs.declared.alloc.Global.{Global}
 use Rattle.lwkt_core.specs.declared.events.Event.{Event}
 use Rattle.lwkt_msg.specs.Desks.{Desk, cpu_of}
 use Rattle.lwkt_port.specs.declared.mails.Mail.{Mail}
 use Rattle.lwkt_port.specs.Mails.{AreMails}
-use Rattle.lwkt_port.specs.Works.{away_count, Grew, Stands, Standing, standing, Keeps}
+use Rattle.lwkt_port.specs.Works.{away_count, Grew, Stands, Standing, Keeps}
 use Rattle.lwkt_port.proofs.Growing.{grew_few, stands_then, stands_is}
 
 -- no more messages are away than there are

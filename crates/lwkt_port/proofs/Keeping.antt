@@ -1,15 +1,12 @@
 -- What is kept of messages fits the seat again after each step on one of them.
-use Rattle.std.proofs.Common.{◌≡◌, ◌≢◌, inl, inr, ℕ, ◌+◌, ◌<◌, ◌≤◌, Bool, true, false, true≢false, cond, List, [], ◌∷◌, ◌++◌, length, set, refl, ap, sym, ◌∙◌, subst, arith, get_or, length-set, get_or-set_same, get_or-set_other}
-use Rattle.std.specs.Prelude.{IsSome, Some, None, Option, count_by, not, vec_len, vec_capacity}
+use Rattle.std.proofs.Common.{◌≡◌, ◌≢◌, ℕ, ◌+◌, ◌<◌, true, false, cond, List, length, set, refl, ap, sym, ◌∙◌, subst, arith, length-set, get_or-set_same, get_or-set_other}
+use Rattle.std.specs.Prelude.{not}
 use Rattle.std.proofs.lemmas.List.Sums.{sum_by-set}
 use mathlib.Core.Logic.{dite}
 use native.Mathlib.Decide.{ℕ_discrete}
-use Rattle.lwkt_msg.specs.declared.views.Entry.{Entry}
-use Rattle.lwkt_msg.specs.declared.views.View.{View}
-use Rattle.lwkt_msg.specs.Desks.{Desk, cpu_of, cpus_of, messages_of, entry, seat_cpu, IsSameDesk}
-use Rattle.lwkt_msg.specs.Views.{spec_at, at}
+use Rattle.lwkt_msg.specs.Desks.{Desk, cpu_of, cpus_of, entry, seat_cpu, IsSameDesk}
+use Rattle.lwkt_msg.specs.Views.{spec_at}
 use Rattle.lwkt_msg.specs.Hands.{IsOwn}
-use Rattle.lwkt_msg.specs.Calls.{IsHome}
 use Rattle.lwkt_port.specs.declared.mails.Mail.{Mail}
 use Rattle.lwkt_port.specs.Mails.{no_mail, mail_at, IsMail, AreMails}
 use Rattle.lwkt_port.specs.Works.{away_count}

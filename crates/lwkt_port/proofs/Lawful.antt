@@ -1,10 +1,8 @@
 -- The laws of ports.
-use Rattle.std.proofs.Common.{◌≡◌, ◌≢◌, ◌⊎◌, ⊎_elim, ℕ, ◌+◌, ◌<◌, Bool, true, false, true≢false, List, [], ◌∷◌, ◌++◌, length, set, refl, ap, sym, ◌∙◌, subst, arith, append_assoc, inl, inr, get_or-set_same}
+use Rattle.std.proofs.Common.{◌≡◌, ◌≢◌, ⊎_elim, ℕ, ◌<◌, true, false, true≢false, List, [], ◌∷◌, ◌++◌, length, refl, ap, sym, ◌∙◌, subst, append_assoc, inl, inr, get_or-set_same}
 use Rattle.std.proofs.lemmas.List.{append-nil}
-use Rattle.std.specs.Prelude.{Option, Some, None, Result, Ok, Err, IsSome, is_some, MatchOption, option_to_list}
-use Rattle.lwkt_base.specs.declared.asks.Item.{Item}
+use Rattle.std.specs.Prelude.{Option, Some, None, Ok, Err, IsSome, MatchOption, option_to_list}
 use Rattle.lwkt_base.specs.declared.asks.Item.TheVariants as item
-use Rattle.lwkt_base.specs.declared.faults.Fault.{Fault}
 use Rattle.lwkt_base.specs.declared.faults.Fault.TheVariants.{Again}
 use Rattle.lwkt_base.specs.declared.names.CpuId.{CpuId}
 use Rattle.lwkt_base.specs.declared.names.MsgId.{MsgId}
@@ -30,10 +28,10 @@ use Rattle.lwkt_port.specs.declared.handlings.Fate.{Fate}
 use Rattle.lwkt_port.specs.declared.lines.Lane.{Lane}
 use Rattle.lwkt_port.specs.declared.mails.Mail.{Mail}
 use Rattle.lwkt_port.specs.Deeds.{Takes, taken_mail}
-use Rattle.lwkt_port.specs.Intakes.{Desks, Handles, HandlesAll, EmptiesKept, Empties, Pops}
-use Rattle.lwkt_port.specs.Laws.{LosesNone, LanesLoseNone, AllLeave, LeavesFront, NotesLeaveServed, IsShownOnce, RequestsAreShownOnce}
-use Rattle.lwkt_port.specs.Mails.{no_mail, mail_at, IsMail, AreMails}
-use Rattle.lwkt_port.specs.Servings.{served_request, served_answer, ServesAs, Serves, PassesAll, GetMeans}
+use Rattle.lwkt_port.specs.Intakes.{Desks, Handles, EmptiesKept, Pops}
+use Rattle.lwkt_port.specs.Laws.{LosesNone, LanesLoseNone, AllLeave, NotesLeaveServed, IsShownOnce, RequestsAreShownOnce}
+use Rattle.lwkt_port.specs.Mails.{no_mail, mail_at, AreMails}
+use Rattle.lwkt_port.specs.Servings.{served_request, served_answer, ServesAs, Serves, PassesAll}
 use Rattle.lwkt_port.specs.Works.{Work}
 
 -- a lane without a kept note

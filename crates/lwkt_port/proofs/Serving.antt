@@ -1,11 +1,8 @@
 -- A thread is served from its queue, a note at a time.
-use Rattle.std.proofs.Common.{◌≡◌, ℕ, ◌+◌, ◌<◌, ◌≤◌, List, [], ◌∷◌, ◌++◌, length, refl, ap, sym, ◌∙◌, subst, arith, append_assoc, length-append}
-use Rattle.std.proofs.lemmas.List.{append-nil}
+use Rattle.std.proofs.Common.{◌≡◌, ℕ, ◌+◌, ◌<◌, List, [], ◌∷◌, ◌++◌, length, refl, ap, sym, ◌∙◌, subst, arith, append_assoc, length-append}
 use Rattle.std.proofs.lemmas.List.Elements.{All-head, All-tail}
-use Rattle.std.specs.Prelude.{Vec, vec_len, vec_capacity, All, Result, Ok, Err, Option, Some, None}
+use Rattle.std.specs.Prelude.{Vec, vec_len, All}
 use Rattle.std.specs.declared.alloc.Global.{Global}
-use Rattle.lwkt_base.specs.declared.asks.Item.{Item}
-use Rattle.lwkt_base.specs.declared.faults.Fault.{Fault}
 use Rattle.lwkt_core.specs.declared.events.Event.{Event}
 use Rattle.lwkt_lane.specs.declared.notes.Note.{Note}
 use Rattle.lwkt_msg.specs.Desks.{Desk, cpu_of, IsSameDesk}
@@ -15,9 +12,9 @@ use Rattle.lwkt_port.specs.declared.queues.Port.{Port}
 use Rattle.lwkt_port.specs.Mails.{AreMails}
 use Rattle.lwkt_port.specs.Queues.{NamesMessage, HasNamed}
 use Rattle.lwkt_port.specs.Queues.{queue_of}
-use Rattle.lwkt_port.specs.Servings.{Serves, PassesAll, ShowsOne, LosesOne, GetMeans}
+use Rattle.lwkt_port.specs.Servings.{Serves, PassesAll}
 use Rattle.lwkt_port.specs.Works.{Work, work, Grew, Stands}
-use Rattle.lwkt_port.proofs.Growing.{stands_none, stands_then}
+use Rattle.lwkt_port.proofs.Growing.{stands_then}
 
 -- one more note was passed over
 pub passes_more : (thread : ℕ) (notes : List Note) (note : Note) (w v u : Work) → PassesAll thread notes w v → Serves thread note v u served.Passed → PassesAll thread (notes ++ note ∷ []) w u

@@ -1,5 +1,5 @@
 -- The steps on messages, in words of the book: what the seat did, what is kept of the message then, and the event of the trace.
-use Rattle.std.specs.Prelude.{◌≡◌, ℕ, ◌<◌, Bool, true, false, List, [], ◌∷◌, ◌++◌, length, slice_set, Option, Some, None}
+use Rattle.std.specs.Prelude.{◌≡◌, ℕ, Bool, true, false, List, [], ◌∷◌, ◌++◌, slice_set, Some, None}
 use Rattle.lwkt_base.specs.declared.faults.Fault.TheVariants.{RoundsOut}
 use Rattle.lwkt_base.specs.declared.names.CpuId.{CpuId}
 use Rattle.lwkt_base.specs.declared.names.MsgId.{MsgId}

@@ -1,6 +1,6 @@
-use Rattle.std.specs.Prelude.{◌≡◌, ◌⊎◌, List, [], ◌∷◌, ◌++◌, None}
+use Rattle.std.specs.Prelude.{◌≡◌, ◌⊎◌, [], ◌∷◌, ◌++◌, None}
 use Rattle.lwkt_lane.specs.declared.notes.Note.{Note}
-use Rattle.lwkt_lane.specs.Lane.{sent, in_hand, sends_alone, out_lane}
+use Rattle.lwkt_lane.specs.Lane.{sent, in_hand, out_lane}
 use Rattle.lwkt_port.specs.declared.lines.Lane.{Lane}
 
 -- at most the note in hand of a line went on into the queue

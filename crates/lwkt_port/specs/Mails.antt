@@ -1,6 +1,4 @@
-use Rattle.std.specs.Prelude.{◌≡◌, ℕ, ◌<◌, ◌≤◌, Bool, true, false, List, length, slice_index_or, Option, Some, None, IsSome}
-use Rattle.lwkt_base.specs.declared.names.ThreadId.{ThreadId}
-use Rattle.lwkt_base.specs.declared.records.Rec.{Rec}
+use Rattle.std.specs.Prelude.{◌≡◌, ℕ, ◌<◌, ◌≤◌, true, false, List, length, slice_index_or, None, IsSome}
 use Rattle.lwkt_msg.specs.Desks.{Desk, cpu_of, cpus_of, messages_of, entry}
 use Rattle.lwkt_msg.specs.Views.{spec_at}
 use Rattle.lwkt_msg.specs.Hands.{IsOwn}

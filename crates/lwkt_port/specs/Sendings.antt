@@ -1,9 +1,8 @@
 -- What a send and a reply of a thread do (lwkt_sendmsg, lwkt_domsg and lwkt_replymsg of msgport(9); the numbers of refusals are own).
-use Rattle.std.specs.Prelude.{◌≡◌, ℕ, ◌<◌, Bool, true, false, List, length, Option, Some, None, IsSome, Vec}
+use Rattle.std.specs.Prelude.{◌≡◌, ℕ, ◌<◌, Bool, true, false, List, length, Some, None, IsSome, Vec}
 use Rattle.std.specs.declared.alloc.Global.{Global}
 use Rattle.lwkt_base.specs.declared.faults.Fault.{Fault}
 use Rattle.lwkt_base.specs.declared.faults.Fault.TheVariants.{NoPort, SelfDo, NotOwner, LaneFull, RoundsOut, NotTaken}
-use Rattle.lwkt_base.specs.declared.names.CpuId.{CpuId}
 use Rattle.lwkt_base.specs.declared.names.MsgId.{MsgId}
 use Rattle.lwkt_base.specs.declared.names.ThreadId.{ThreadId}
 use Rattle.lwkt_core.specs.declared.events.Event.{Event}
@@ -46,10 +45,10 @@ pub record SendsOver (s : Sending) (line line' : Lane) (w w' : Work) : Type 0 wh
   pub sends : Sends s.msg s.to.cpu s.call s.flags s.sync w w' round
   pub posted : HasPosted (request_note s round) line line'
 
--- why a message was not sent over a line: the line is full, or the message is at its last round
+-- why a message was not sent over a line: the line is full; it has room, and the message is at its last round
 abbrev pub RefusesOver : Sending → Lane → Lane → Work → Work → Fault → Type 0
 RefusesOver s line line' w w' LaneFull = IsFull line line' × (w' ≡ w)
-RefusesOver s line line' w w' RoundsOut = IsRoomed line line' × IsRefused s.msg w w'
+RefusesOver s line line' w w' RoundsOut = IsRoomed line line' × (in_hand line'.out ≡ None) × IsRefused s.msg w w'
 RefusesOver s line line' w w' _ = ⊥
 
 -- a message was sent by its thread: the book's event, and one note over the lane to the target
@@ -69,20 +68,32 @@ pub record IsElseSame (p p' : Post) : Type 0 where
   pub ports_same : p'.ports ≡ p.ports
   pub threads_same : p'.threads ≡ p.threads
 
+-- a thread would wait for its own answer
+abbrev pub IsSelfDo : Sending → Post → Type 0
+IsSelfDo s p = (s.sync ≡ true) × (s.to ≡ record { cpu = cpu_of p.seat; thread = s.thread })
+
 -- a thread's call to send did so
 pub record PostSends (s : Sending) (p p' : Post) (trace trace' : Vec Event Global) : Type 0 where
   pub there : IsPortName (cpus_of p.seat) s.to
+  pub to_other : IsSelfDo s p → ⊥
   pub sent : HasSentNote s p.lanes p'.lanes (work_of p trace) (work_of p' trace')
   pub else_same : IsElseSame p p'
 
--- why a thread's call to send was refused, in the order of the checks: there is no such port; a thread can't wait for its own
+-- a thread's call to send came to the message, and was refused for this
+pub record PostRefusesMessage (s : Sending) (p p' : Post) (trace trace' : Vec Event Global) (fault : Fault) : Type 0 where
+  pub there : IsPortName (cpus_of p.seat) s.to
+  pub to_other : IsSelfDo s p → ⊥
+  pub why : WhyUnsent s p.lanes p'.lanes (work_of p trace) (work_of p' trace') fault
+  pub else_same : IsElseSame p p'
+
+-- why a thread's call to send was refused, in the order of the checks: there is no such port; the thread would wait for its own
 -- answer; and as above
 abbrev pub PostRefuses : Sending → Post → Post → Vec Event Global → Vec Event Global → Fault → Type 0
 PostRefuses s p p' trace trace' NoPort = (IsPortName (cpus_of p.seat) s.to → ⊥) × (p' ≡ p) × (trace' ≡ trace)
-PostRefuses s p p' trace trace' SelfDo = IsPortName (cpus_of p.seat) s.to × (s.sync ≡ true) × (s.to ≡ record { cpu = cpu_of p.seat; thread = s.thread }) × (p' ≡ p) × (trace' ≡ trace)
-PostRefuses s p p' trace trace' NotOwner = IsPortName (cpus_of p.seat) s.to × WhyUnsent s p.lanes p'.lanes (work_of p trace) (work_of p' trace') NotOwner × IsElseSame p p'
-PostRefuses s p p' trace trace' LaneFull = IsPortName (cpus_of p.seat) s.to × WhyUnsent s p.lanes p'.lanes (work_of p trace) (work_of p' trace') LaneFull × IsElseSame p p'
-PostRefuses s p p' trace trace' RoundsOut = IsPortName (cpus_of p.seat) s.to × WhyUnsent s p.lanes p'.lanes (work_of p trace) (work_of p' trace') RoundsOut × IsElseSame p p'
+PostRefuses s p p' trace trace' SelfDo = IsPortName (cpus_of p.seat) s.to × IsSelfDo s p × (p' ≡ p) × (trace' ≡ trace)
+PostRefuses s p p' trace trace' NotOwner = PostRefusesMessage s p p' trace trace' NotOwner
+PostRefuses s p p' trace trace' LaneFull = PostRefusesMessage s p p' trace trace' LaneFull
+PostRefuses s p p' trace trace' RoundsOut = PostRefusesMessage s p p' trace trace' RoundsOut
 PostRefuses s p p' trace trace' _ = ⊥
 
 -- a message was replied to over a line: the book's event, and one note to the thread that sent it

@@ -1,5 +1,5 @@
 -- How a thread is served from its port (lwkt_getport and lwkt_waitport of msgport(9)).
-use Rattle.std.specs.Prelude.{◌≡◌, ℕ, ◌<◌, Bool, true, false, List, [], ◌∷◌, ◌++◌, length, Option, Some, None, Result, Ok, Err, Vec}
+use Rattle.std.specs.Prelude.{◌≡◌, ℕ, true, false, List, [], ◌∷◌, ◌++◌, Option, Some, None, Result, Ok, Err, Vec}
 use Rattle.std.specs.declared.alloc.Global.{Global}
 use Rattle.lwkt_base.specs.declared.asks.Item.{Item}
 use Rattle.lwkt_base.specs.declared.asks.Item.TheVariants as item
@@ -15,11 +15,9 @@ use Rattle.lwkt_msg.specs.declared.answers.Taken.TheVariants as taken
 use Rattle.lwkt_msg.specs.declared.answers.Reaped.{Reaped}
 use Rattle.lwkt_msg.specs.declared.answers.Reaped.TheVariants as reaped_
 use Rattle.lwkt_msg.specs.Views.{call_of}
-use Rattle.lwkt_port.specs.declared.deeds.Claim.{Claim}
 use Rattle.lwkt_port.specs.declared.deeds.Claim.TheVariants as claim
 use Rattle.lwkt_port.specs.declared.gets.Served.{Served}
 use Rattle.lwkt_port.specs.declared.gets.Served.TheVariants as served
-use Rattle.lwkt_port.specs.declared.queues.Port.{Port}
 use Rattle.lwkt_port.specs.Deeds.{Takes, Reaps}
 use Rattle.lwkt_port.specs.Posts.{Post, Changes, work_of}
 use Rattle.lwkt_port.specs.Queues.{queue_of}

@@ -1,14 +1,11 @@
-use Rattle.std.specs.Prelude.{◌≡◌, ℕ, ◌+◌, ◌≤◌, List, ◌++◌, length, All, Vec, vec_len, vec_capacity, slice_index_or, count_by, not}
+use Rattle.std.specs.Prelude.{◌≡◌, ℕ, ◌+◌, ◌≤◌, List, ◌++◌, length, All, Vec, vec_len, vec_capacity, count_by, not}
 use Rattle.std.specs.declared.alloc.Global.{Global}
-use Rattle.lwkt_base.specs.declared.names.MsgId.{MsgId}
-use Rattle.lwkt_base.specs.declared.names.ThreadId.{ThreadId}
 use Rattle.lwkt_core.specs.declared.events.Event.{Event}
 use Rattle.lwkt_core.specs.declared.events.Event.TheVariants.{Load, Take, Share, Again, Mark, GiveOne, GiveClean, GiveWritten, Read, Write, Send, TakeMsg, DropMsg, Reply, Reap, Abort}
 use Rattle.lwkt_base.specs.declared.names.CpuId.{CpuId}
 use Rattle.lwkt_msg.specs.Desks.{Desk, cpu_of, IsSameDesk}
 use Rattle.lwkt_port.specs.Mails.{AreMails}
 use Rattle.lwkt_port.specs.Queues.{HasNamed}
-use Rattle.lwkt_port.specs.declared.lines.Lane.{Lane}
 use Rattle.lwkt_port.specs.declared.mails.Mail.{Mail}
 use Rattle.lwkt_port.specs.declared.queues.Port.{Port}
 

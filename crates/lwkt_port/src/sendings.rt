@@ -5,7 +5,7 @@ ghost use Rattle.lwkt_msg.specs.Views.{no_flags};
 ghost use Rattle.lwkt_port.specs.Lines.{IsRoomed};
 ghost use Rattle.lwkt_port.specs.Mails.{mail_at, AreMails};
 ghost use Rattle.lwkt_port.specs.Works.{work, Grew};
-ghost use Rattle.lwkt_port.specs.Sendings.{IsPortName, MaySend, SendsOver, RefusesOver, HasSentNote, WhyUnsent, PostSends, PostRefuses};
+ghost use Rattle.lwkt_port.specs.Sendings.{IsPortName, MaySend, SendsOver, RefusesOver, HasSentNote, WhyUnsent, IsSelfDo, PostSends, PostRefuses};
 ghost use Rattle.lwkt_port.specs.Posts.{KeepsNamed, IsSamePost};
 
 use crate::deeds;
@@ -121,6 +121,7 @@ impl Ports {
     ) -> Result<(), Fault>
         requires table { self.old.seat.table ≡ book.now.table }
         requires there { IsPortName (cpus_of self.old.seat) sending.now.to }
+        requires to_other { IsSelfDo sending.now self.old → ⊥ }
         requires room { vec_len trace.old < vec_capacity trace.old }
         ensures sent { OnOk result (PostSends sending.now self.old self.new trace.old trace.new) }
         ensures refused { IfErr result (λ fault. PostRefuses sending.now self.old self.new trace.old trace.new fault) }

@@ -1,8 +1,7 @@
-use Rattle.std.proofs.Common.{◌≡◌, ◌+◌, ◌-◌, ◌<◌, ◌≤◌, ℕ, length, refl, rules, arith, vec_len, slice_set, subst}
-use Rattle.std.specs.Prelude.{All}
+use Rattle.std.proofs.Common.{◌≡◌, ◌+◌, ◌-◌, ◌<◌, ℕ, length, refl, rules, arith, vec_len, slice_set}
 use Rattle.lwkt_port.specs.declared.queues.Port.{Port}
 use Rattle.lwkt_port.specs.Intakes.{Clearing, clearing, ClearsPort, ClearsAt}
-use Rattle.lwkt_port.specs.Works.{work, Stands}
+use Rattle.lwkt_port.specs.Works.{work}
 use Rattle.lwkt_port.proofs.Chaining.{chain_none, chain_more}
 use Rattle.lwkt_port.proofs.ClosedPorts.{ports_named}
 use Rattle.lwkt_port.proofs.Dispatching.{changed}

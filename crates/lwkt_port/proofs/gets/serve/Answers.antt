@@ -1,5 +1,5 @@
-use Rattle.std.proofs.Common.{rules, ◌≡◌, ◌+◌, vec_len, ◌∷◌, ◌<◌, ◌≤◌, arith, ap, sym, ◌∙◌}
-use Rattle.lwkt_msg.specs.Desks.{Desk, cpu_of}
+use Rattle.std.proofs.Common.{◌+◌, vec_len, arith}
+use Rattle.lwkt_msg.specs.Desks.{cpu_of}
 use Rattle.lwkt_port.proofs.Serving.{named_head, named_tail, serving_more}
 use Rattle.lwkt_port.proofs.Growing.{grew_few, stands_then}
 use Rattle.lwkt_port.specs.Works.{Stands}

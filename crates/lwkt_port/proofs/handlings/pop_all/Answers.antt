@@ -1,7 +1,5 @@
-use Rattle.std.proofs.Common.{rules, vec_len}
-use Rattle.lwkt_port.specs.Intakes.{desks, Handles}
-use Rattle.lwkt_port.specs.Works.{work, Standing, standing, Keeps}
-use Rattle.lwkt_port.proofs.Emptying.{HasPopped, IsPopping, keeps_none, keeps_one, popping_none, popping_more, popped_full}
+use Rattle.lwkt_port.specs.Works.{Standing, standing}
+use Rattle.lwkt_port.proofs.Emptying.{HasPopped, keeps_none, keeps_one, popping_none, popping_more, popped_full}
 use Rattle.lwkt_port.proofs.handlings.pop_all.Goals as goal
 
 pub loop-popped-init : goal.loop-popped-init

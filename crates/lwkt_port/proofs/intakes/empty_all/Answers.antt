@@ -1,4 +1,4 @@
-use Rattle.std.proofs.Common.{◌≡◌, ◌+◌, ◌-◌, ◌<◌, ◌≤◌, ℕ, List, length, refl, rules, arith, vec_len, slice_set}
+use Rattle.std.proofs.Common.{◌+◌, ◌-◌, ◌<◌, length, refl, rules, arith, vec_len, slice_set}
 use Rattle.lwkt_port.specs.declared.lines.Lane.{Lane}
 use Rattle.lwkt_port.specs.Intakes.{Intake, intake, desks_of, Empties, EmptiesFrom}
 use Rattle.lwkt_port.specs.Works.{work, Standing, standing}

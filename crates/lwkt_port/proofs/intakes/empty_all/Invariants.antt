@@ -1,4 +1,4 @@
-use Rattle.std.proofs.Common.{◌≡◌, ◌≤◌, ℕ, List, vec_len}
+use Rattle.std.proofs.Common.{◌≡◌, ◌≤◌, vec_len}
 use Rattle.std.specs.Prelude.{All}
 use Rattle.lwkt_port.specs.Chains.{Chain}
 use Rattle.lwkt_port.specs.Intakes.{Intake, intake, EmptiesFrom}

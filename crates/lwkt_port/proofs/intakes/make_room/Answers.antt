@@ -1,4 +1,4 @@
-use Rattle.std.proofs.Common.{◌≡◌, ◌<◌, ℕ, List, length, refl, rules}
+use Rattle.std.proofs.Common.{◌<◌, ℕ, List, length, refl, rules}
 use Rattle.lwkt_port.specs.declared.lines.Lane.{Lane}
 use Rattle.lwkt_port.specs.Lines.{IsRoomed}
 use Rattle.lwkt_port.specs.Posts.{Changes}

@@ -1,4 +1,4 @@
-use Rattle.std.proofs.Common.{◌≡◌, ◌∙◌, refl}
+use Rattle.std.proofs.Common.{◌∙◌, refl}
 use Rattle.lwkt_port.specs.Intakes.{Payer, payer, Pays}
 use Rattle.lwkt_port.specs.Works.{work}
 use Rattle.lwkt_port.proofs.Chaining.{chain_none, chain_more}
