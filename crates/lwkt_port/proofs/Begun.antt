@@ -9,9 +9,9 @@ use Rattle.lwkt_base.specs.declared.names.ThreadId.{ThreadId}
 use Rattle.lwkt_lane.specs.declared.ins.LaneIn.{LaneIn}
 use Rattle.lwkt_lane.specs.declared.outs.LaneOut.{LaneOut}
 use Rattle.lwkt_lane.specs.declared.notes.Note.{Note}
-use Rattle.lwkt_msg.specs.Desks.{Desk, cpu_of, cpus_of, messages_of, entry, seat_cpu, IsSeatOf}
+use Rattle.lwkt_msg.specs.Desks.{Desk, cpu_of, cpus_of, messages_of, entry, IsSeatOf}
 use Rattle.lwkt_base.specs.declared.openings.MsgSpec.{MsgSpec}
-use Rattle.lwkt_msg.specs.Views.{no_spec, spec_at, first_entry, handed}
+use Rattle.lwkt_msg.specs.Views.{seat_cpu, no_spec, spec_at, first_entry, handed}
 use Rattle.lwkt_port.specs.declared.lines.Lane.{Lane}
 use Rattle.lwkt_port.specs.declared.mails.Mail.{Mail}
 use Rattle.lwkt_port.specs.Mails.{no_mail, mail_at, IsMail}

@@ -4,8 +4,9 @@ use Rattle.std.proofs.lemmas.List.{append-nil}
 use Rattle.std.specs.Prelude.{vec_len, All, Option, Some, None, MatchOption, option_to_list}
 use Rattle.lwkt_base.specs.declared.names.CpuId.{CpuId}
 use Rattle.lwkt_lane.specs.declared.notes.Note.{Note}
-use Rattle.lwkt_lane.specs.Lane.{received, receives_alone, all_pushed, in_lane}
-use Rattle.lwkt_msg.specs.Desks.{cpu_of, seat_cpu, IsSameDesk}
+use Rattle.lwkt_lane.specs.Lane.{received, seen, in_lane}
+use Rattle.lwkt_msg.specs.Views.{seat_cpu}
+use Rattle.lwkt_msg.specs.Desks.{cpu_of, IsSameDesk}
 use Rattle.lwkt_port.specs.declared.handlings.Fate.{Fate}
 use Rattle.lwkt_port.specs.declared.lines.Lane.{Lane}
 use Rattle.lwkt_port.specs.Intakes.{Desks, desks, Handles, HandlesAll, Pops}
@@ -53,16 +54,14 @@ pub record IsPopping (turn : ℕ) (line : Lane) (s : Standing) (line' : Lane) (s
   pub none : line'.kept ≡ None
   pub out_same : line'.out ≡ line.out
   pub lane_same : in_lane line'.into ≡ in_lane line.into
-  pub alone_same : receives_alone line'.into ≡ receives_alone line.into
   pub keeps : Keeps s s'
 
 pub popping_none : (line : Lane) (s : Standing) → line.kept ≡ None → Keeps s s → IsPopping 0 line s line s
-popping_none line s none keeps = record { popped = []; as_many = refl; received_is = sym (append-nil (received line.into)); handles = refl; none = none; out_same = refl; lane_same = refl; alone_same = refl; keeps = keeps }
+popping_none line s none keeps = record { popped = []; as_many = refl; received_is = sym (append-nil (received line.into)); handles = refl; none = none; out_same = refl; lane_same = refl; keeps = keeps }
 
 -- what a pop of a note leaves of a line
 pub record HasPopped (note : Note) (line line' : Lane) : Type 0 where
   pub received_is : received line'.into ≡ received line.into ++ note ∷ []
-  pub alone : receives_alone line'.into ≡ receives_alone line.into
   pub lane : in_lane line'.into ≡ in_lane line.into
   pub out_same : line'.out ≡ line.out
   pub kept_same : line'.kept ≡ line.kept
@@ -76,7 +75,6 @@ popping_more turn line s line1 s1 line2 s2 note how i pop handles keeps = record
   none = pop.kept_same ∙ i.none;
   out_same = pop.out_same ∙ i.out_same;
   lane_same = pop.lane ∙ i.lane_same;
-  alone_same = pop.alone ∙ i.alone_same;
   keeps = keeps_then s s1 s2 i.keeps keeps;
 }
 
@@ -87,7 +85,7 @@ flow_nothing : (popped : List Note) (o : Option Note) → o ≡ None → popped 
 flow_nothing popped o is = sym (append-nil popped) ∙ ap (λ p. popped ++ option_to_list p) (sym is)
 
 -- the lane had no more notes
-pub popped_empty : (most turn : ℕ) (line : Lane) (s : Standing) (line1 : Lane) (s1 : Standing) (line2 : Lane) → turn < most → IsPopping turn line s line1 s1 → received line2.into ≡ received line1.into → (receives_alone line1.into ≡ true → received line2.into ≡ all_pushed line2.into) → in_lane line2.into ≡ in_lane line1.into → line2.out ≡ line1.out → line2.kept ≡ line1.kept → Pops most turn line line2 (desks_at s) (desks_at s1)
+pub popped_empty : (most turn : ℕ) (line : Lane) (s : Standing) (line1 : Lane) (s1 : Standing) (line2 : Lane) → turn < most → IsPopping turn line s line1 s1 → received line2.into ≡ received line1.into → seen line2.into ≡ [] → in_lane line2.into ≡ in_lane line1.into → line2.out ≡ line1.out → line2.kept ≡ line1.kept → Pops most turn line line2 (desks_at s) (desks_at s1)
 popped_empty most turn line s line1 s1 line2 within i received_same empty lane out kept = record {
   popped = i.popped;
   done = i.popped;
@@ -98,7 +96,7 @@ popped_empty most turn line s line1 s1 line2 within i received_same empty lane o
   flow = flow_nothing i.popped line2.kept (kept ∙ i.none);
   handles = i.handles;
   last = kept_nothing line2.kept (desks_at s1) (desks_at s1) (kept ∙ i.none) refl;
-  emptied = λ _ _ alone. empty (i.alone_same ∙ alone);
+  emptied = λ _ _. empty;
   out_same = out ∙ i.out_same;
   lane_same = lane ∙ i.lane_same;
 }
@@ -115,7 +113,7 @@ popped_most most turn line s line1 s1 is i = record {
   flow = flow_nothing i.popped line1.kept i.none;
   handles = i.handles;
   last = kept_nothing line1.kept (desks_at s1) (desks_at s1) i.none refl;
-  emptied = λ fewer _ alone. absurd (omega arith);
+  emptied = λ fewer _. absurd (omega arith);
   out_same = i.out_same;
   lane_same = i.lane_same;
 }
@@ -134,7 +132,7 @@ popped_full most turn line s line1 s1 line2 line3 s2 note within i pop handles i
       flow = refl;
       handles = i.handles;
       last = handles;
-      emptied = λ _ none _. absurd (let e : Some note ≡ None = none in cc);
+      emptied = λ _ none. absurd (let e : Some note ≡ None = none in cc);
       out_same = pop.out_same ∙ i.out_same;
       lane_same = pop.lane ∙ i.lane_same;
     }

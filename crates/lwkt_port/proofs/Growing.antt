@@ -6,7 +6,8 @@ use Rattle.std.specs.Prelude.{Vec, vec_len}
 use Rattle.std.specs.declared.alloc.Global.{Global}
 use Rattle.lwkt_base.specs.declared.names.CpuId.{CpuId}
 use Rattle.lwkt_core.specs.declared.events.Event.{Event}
-use Rattle.lwkt_msg.specs.Desks.{Desk, cpu_of, seat_cpu, IsSameDesk}
+use Rattle.lwkt_msg.specs.Views.{seat_cpu}
+use Rattle.lwkt_msg.specs.Desks.{Desk, cpu_of, IsSameDesk}
 use Rattle.lwkt_port.specs.declared.mails.Mail.{Mail}
 use Rattle.lwkt_port.specs.Mails.{AreMails}
 use Rattle.lwkt_port.specs.Works.{IsOfMessages, Grew, Stands}

@@ -4,8 +4,8 @@ use Rattle.std.specs.Prelude.{not}
 use Rattle.std.proofs.lemmas.List.Sums.{sum_by-set}
 use mathlib.Core.Logic.{dite}
 use native.Mathlib.Decide.{ℕ_discrete}
-use Rattle.lwkt_msg.specs.Desks.{Desk, cpu_of, cpus_of, entry, seat_cpu, IsSameDesk}
-use Rattle.lwkt_msg.specs.Views.{spec_at}
+use Rattle.lwkt_msg.specs.Desks.{Desk, cpu_of, cpus_of, entry, IsSameDesk}
+use Rattle.lwkt_msg.specs.Views.{seat_cpu, spec_at}
 use Rattle.lwkt_msg.specs.Hands.{IsOwn}
 use Rattle.lwkt_port.specs.declared.mails.Mail.{Mail}
 use Rattle.lwkt_port.specs.Mails.{no_mail, mail_at, IsMail, AreMails}

@@ -6,7 +6,7 @@ use Rattle.lwkt_core.specs.declared.events.Event.{Event}
 use Rattle.lwkt_lane.specs.declared.notes.Note.{Note}
 use Rattle.lwkt_lane.specs.declared.notes.NoteKind.{NoteKind}
 use Rattle.lwkt_lane.specs.declared.notes.NoteKind.TheVariants.{Request, Answer}
-use Rattle.lwkt_lane.specs.Lane.{received, receives_alone, all_pushed, in_lane}
+use Rattle.lwkt_lane.specs.Lane.{received, seen, in_lane}
 use Rattle.lwkt_msg.specs.declared.answers.Taken.{Taken}
 use Rattle.lwkt_msg.specs.declared.answers.Taken.TheVariants as taken
 use Rattle.lwkt_msg.specs.declared.answers.Reaped.{Reaped}
@@ -82,7 +82,7 @@ pub record Pops (most count : ℕ) (line line' : Lane) (x y : Desks) : Type 0 wh
   pub flow : popped ≡ done ++ option_to_list line'.kept
   pub handles : HandlesAll done x between
   pub last : MatchOption line'.kept (y ≡ between) (λ note. Handles note between y None)
-  pub emptied : count < most → line'.kept ≡ None → receives_alone line.into ≡ true → received line'.into ≡ all_pushed line'.into
+  pub emptied : count < most → line'.kept ≡ None → seen line'.into ≡ []
   pub out_same : line'.out ≡ line.out
   pub lane_same : in_lane line'.into ≡ in_lane line.into
 

@@ -1,6 +1,6 @@
 //! One note that came over a lane, and one lane.
 ghost use Rattle.std.specs.Prelude.{◌≡◌, ◌↔◌, ◌+◌, ◌<◌, ◌≤◌, true, length, All, None, Some, IsTrue, MatchOption, vec_len, vec_capacity};
-ghost use Rattle.lwkt_lane.specs.Lane.{received, receives_alone, all_pushed, in_lane};
+ghost use Rattle.lwkt_lane.specs.Lane.{received, in_lane};
 ghost use Rattle.lwkt_msg.specs.Desks.{cpu_of, cpus_of, messages_of, IsSameDesk};
 ghost use Rattle.lwkt_port.specs.Mails.{mail_at, AreMails};
 ghost use Rattle.lwkt_port.specs.Works.{work, Grew, away_count, standing, Keeps};
@@ -15,7 +15,6 @@ use crate::queues::{Port, enqueue};
 use lwkt_core::Event;
 use lwkt_lane::{Note, NoteKind};
 use lwkt_msg::{MsgBook, MsgSeat, Reaped};
-use std::sync::Wait;
 
 /// What became of a note that came over a lane.
 #[derive(Clone, Copy, Debug, PartialEq, Eq)]
@@ -87,7 +86,6 @@ fn handle(
 // Pops at most so many notes from a lane that keeps none, and handles them; one that finds its port's queue full is kept, and is
 // the last. Answers how many were popped.
 fn pop_all(
-    rt: &impl Wait,
     book: &MsgBook,
     seat: &mut MsgSeat,
     mails: &mut Vec<Mail>,
@@ -107,7 +105,7 @@ fn pop_all(
     ensures line { KeepsNamed (vec_len mails.new) line.new }
 {
     for popped in 0..most {
-        let Some(note) = pop(rt, line) else {
+        let Some(note) = pop(line) else {
             return popped;
         };
         let Some(_fate) = handle(book, seat, mails, ports, note, trace) else {
@@ -121,7 +119,6 @@ fn pop_all(
 /// Empties the lane from a processor, as far as the limit and the queues of its notes' ports allow, the note that was kept
 /// first. Answers how many notes were popped.
 pub(crate) fn empty(
-    rt: &impl Wait,
     book: &MsgBook,
     seat: &mut MsgSeat,
     mails: &mut Vec<Mail>,
@@ -142,11 +139,11 @@ pub(crate) fn empty(
     ensures line { KeepsNamed (vec_len mails.new) line.new }
 {
     let Some(note) = line.kept else {
-        return pop_all(rt, book, seat, mails, line, ports, most, trace);
+        return pop_all(book, seat, mails, line, ports, most, trace);
     };
     let Some(_fate) = handle(book, seat, mails, ports, note, trace) else {
         return 0;
     };
     keep(line, None);
-    pop_all(rt, book, seat, mails, line, ports, most, trace)
+    pop_all(book, seat, mails, line, ports, most, trace)
 }

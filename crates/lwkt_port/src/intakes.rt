@@ -20,23 +20,21 @@ use crate::replies::answer;
 use lwkt_base::MsgId;
 use lwkt_core::Event;
 use lwkt_msg::{MsgBook, MsgSeat};
-use std::sync::Wait;
 
 // Moves the note in hand of each sending end on.
-fn make_room(rt: &impl Wait, lanes: &mut Vec<Lane>)
+fn make_room(lanes: &mut Vec<Lane>)
     ensures rooms { Chain (List Lane) (λ i x y. Changes IsRoomed i x y) (vec_len lanes.old) lanes.old.items lanes.new.items }
     ensures len { vec_len lanes.new ≡ vec_len lanes.old }
     ensures named { (n : ℕ) → All (KeepsNamed n) lanes.old.items → All (KeepsNamed n) lanes.new.items }
 {
     let count = lanes.len();
     for at in 0..count {
-        let _ = has_room(rt, &mut lanes[at]);
+        let _ = has_room(&mut lanes[at]);
     }
 }
 
 // Makes the reply that is owed to a message, if one is and its lane has room.
 fn pay(
-    rt: &impl Wait,
     book: &MsgBook,
     seat: &mut MsgSeat,
     lanes: &mut Vec<Lane>,
@@ -61,7 +59,7 @@ fn pay(
 {
     let mail = mail_of(mails, usize::from(msg.0));
     if let Some(error) = mail.owed {
-        let _ = answer(rt, book, seat, lanes, mails, msg, error, 0, trace);
+        let _ = answer(book, seat, lanes, mails, msg, error, 0, trace);
     }
 }
 
@@ -75,7 +73,6 @@ fn count_messages(seat: &MsgSeat) -> u8
 
 // Makes the replies that are owed, as lanes have room.
 fn pay_all(
-    rt: &impl Wait,
     book: &MsgBook,
     seat: &mut MsgSeat,
     lanes: &mut Vec<Lane>,
@@ -95,13 +92,12 @@ fn pay_all(
 {
     let count = count_messages(seat);
     for m in 0..count {
-        pay(rt, book, seat, lanes, mails, MsgId(m), trace);
+        pay(book, seat, lanes, mails, MsgId(m), trace);
     }
 }
 
 // Empties the lanes, one after another, as far as the limit allows. Answers how many notes were popped.
 fn empty_all(
-    rt: &impl Wait,
     book: &MsgBook,
     seat: &mut MsgSeat,
     lanes: &mut Vec<Lane>,
@@ -126,23 +122,13 @@ fn empty_all(
     let senders = lanes.len();
     for sender in 0..senders {
         let most = limit - count;
-        count += empty(
-            rt,
-            book,
-            seat,
-            mails,
-            &mut lanes[sender],
-            ports,
-            most,
-            trace,
-        );
+        count += empty(book, seat, mails, &mut lanes[sender], ports, most, trace);
     }
     count
 }
 
 // Takes the notes in that came over the lanes.
 fn take_in(
-    rt: &impl Wait,
     book: &MsgBook,
     seat: &mut MsgSeat,
     lanes: &mut Vec<Lane>,
@@ -166,9 +152,9 @@ fn take_in(
     ensures lanes { vec_len lanes.new ≡ vec_len lanes.old }
     ensures keep { All (KeepsNamed (vec_len mails.new)) lanes.new.items }
 {
-    make_room(rt, lanes);
-    pay_all(rt, book, seat, lanes, mails, trace);
-    let count = empty_all(rt, book, seat, lanes, mails, ports, limit, trace);
+    make_room(lanes);
+    pay_all(book, seat, lanes, mails, trace);
+    let count = empty_all(book, seat, lanes, mails, ports, limit, trace);
     clear_all(book, seat, mails, ports, trace);
     count
 }
@@ -181,13 +167,7 @@ impl Ports {
     /// msgport(9) an inter-processor message puts each note into its port; here a processor asks for them.
     ///
     /// That the trace has room for 256 events is the caller's condition.
-    pub fn take_in(
-        &mut self,
-        rt: &impl Wait,
-        book: &MsgBook,
-        limit: usize,
-        trace: &mut Vec<Event>,
-    ) -> usize
+    pub fn take_in(&mut self, book: &MsgBook, limit: usize, trace: &mut Vec<Event>) -> usize
         requires table { self.old.seat.table ≡ book.now.table }
         requires room { vec_len trace.old + 256 ≤ vec_capacity trace.old }
         ensures takes { PostTakesIn limit self.old self.new trace.old trace.new result }
@@ -196,7 +176,6 @@ impl Ports {
         ensures grew { Grew (cpu_of self.old.seat) 256 trace.old trace.new }
     {
         take_in(
-            rt,
             book,
             &mut self.seat,
             &mut self.lanes,

@@ -14,7 +14,6 @@ use lwkt_base::{Fault, MsgId, Rec};
 use lwkt_core::Event;
 use lwkt_lane::{Note, NoteKind};
 use lwkt_msg::{MsgBook, MsgSeat};
-use std::sync::Wait;
 
 // The note that tells of an answer.
 fn answer_of(msg: MsgId, mail: &Mail) -> Note
@@ -30,7 +29,6 @@ fn answer_of(msg: MsgId, mail: &Mail) -> Note
 
 // Replies to a message over a line. False if the line is full.
 fn reply_over(
-    rt: &impl Wait,
     book: &MsgBook,
     seat: &mut MsgSeat,
     line: &mut Lane,
@@ -53,19 +51,18 @@ fn reply_over(
     ensures grew { Grew (cpu_of seat.old) 1 trace.old trace.new }
     ensures away { away_count mails.new.items ≡ away_count mails.old.items }
 {
-    if !has_room(rt, line) {
+    if !has_room(line) {
         return false;
     }
     let note = answer_of(msg, &mail_of(mails, usize::from(msg.0)));
     deeds::reply(book, seat, mails, msg, error, outcome, trace);
-    post(rt, line, note);
+    post(line, note);
     true
 }
 
 /// Replies to a message that this processor has taken, over the lane to the message's origin. False if that lane is full.
 #[tactic(auto, using(crate::proofs::Dispatching::answered_over, crate::proofs::Dispatching::line_is_there))]
 pub(crate) fn answer(
-    rt: &impl Wait,
     book: &MsgBook,
     seat: &mut MsgSeat,
     lanes: &mut Vec<Lane>,
@@ -94,7 +91,6 @@ pub(crate) fn answer(
     let mail = mail_of(mails, usize::from(msg.0));
     let at = usize::from(mail.origin.cpu.0);
     reply_over(
-        rt,
         book,
         seat,
         &mut lanes[at],
@@ -128,7 +124,6 @@ impl Ports {
     #[tactic(auto, using(crate::proofs::Dispatching::shown_is_taken))]
     pub fn reply(
         &mut self,
-        rt: &impl Wait,
         book: &MsgBook,
         thread: u8,
         msg: MsgId,
@@ -147,7 +142,6 @@ impl Ports {
             return Err(Fault::NotTaken);
         }
         if !answer(
-            rt,
             book,
             &mut self.seat,
             &mut self.lanes,

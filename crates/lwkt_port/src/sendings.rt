@@ -17,7 +17,6 @@ use lwkt_base::{Call, CpuId, Fault, Flags, MsgId, ThreadId};
 use lwkt_core::Event;
 use lwkt_lane::{Note, NoteKind};
 use lwkt_msg::{MsgBook, MsgSeat};
-use std::sync::Wait;
 
 // Whether there may be such a port.
 fn is_port_name(seat: &MsgSeat, to: ThreadId) -> bool
@@ -40,7 +39,6 @@ fn may_send(mails: &Vec<Mail>, sending: &Sending) -> bool
 
 // Sends a message over the line to its target.
 fn send_over(
-    rt: &impl Wait,
     book: &MsgBook,
     seat: &mut MsgSeat,
     line: &mut Lane,
@@ -61,7 +59,7 @@ fn send_over(
     ensures len { vec_len mails.new ≡ vec_len mails.old }
     ensures grew { Grew (cpu_of seat.old) 1 trace.old trace.new }
 {
-    if !has_room(rt, line) {
+    if !has_room(line) {
         return Err(Fault::LaneFull);
     }
     let Some(round) = deeds::send(book, seat, mails, sending, trace) else {
@@ -73,14 +71,13 @@ fn send_over(
         port: sending.to.thread,
         kind: NoteKind::Request,
     };
-    post(rt, line, note);
+    post(line, note);
     Ok(())
 }
 
 // Sends a message of a thread.
 #[tactic(auto, using(crate::proofs::Dispatching::dispatched, crate::proofs::Dispatching::not_dispatched))]
 fn dispatch(
-    rt: &impl Wait,
     book: &MsgBook,
     seat: &mut MsgSeat,
     lanes: &mut Vec<Lane>,
@@ -107,14 +104,13 @@ fn dispatch(
         return Err(Fault::NotOwner);
     }
     let at = usize::from(sending.to.cpu.0);
-    send_over(rt, book, seat, &mut lanes[at], mails, sending, trace)
+    send_over(book, seat, &mut lanes[at], mails, sending, trace)
 }
 
 impl Ports {
     // Sends a message of a thread to a port that may be there.
     fn dispatch(
         &mut self,
-        rt: &impl Wait,
         book: &MsgBook,
         sending: &Sending,
         trace: &mut Vec<Event>,
@@ -129,7 +125,6 @@ impl Ports {
         ensures grew { Grew (cpu_of self.old.seat) 1 trace.old trace.new }
     {
         dispatch(
-            rt,
             book,
             &mut self.seat,
             &mut self.lanes,
@@ -151,7 +146,6 @@ impl Ports {
     /// That the trace has room for 256 events is the caller's condition.
     pub fn send(
         &mut self,
-        rt: &impl Wait,
         book: &MsgBook,
         thread: u8,
         msg: MsgId,
@@ -178,7 +172,7 @@ impl Ports {
             flags,
             sync: false,
         };
-        self.dispatch(rt, book, &sending, trace)
+        self.dispatch(book, &sending, trace)
     }
 
     /// Sends a message of a thread to a thread's port, for the thread to wait for the reply, as lwkt_domsg(9) does. The
@@ -189,7 +183,6 @@ impl Ports {
     /// That the trace has room for 256 events is the caller's condition.
     pub fn send_sync(
         &mut self,
-        rt: &impl Wait,
         book: &MsgBook,
         thread: u8,
         msg: MsgId,
@@ -226,6 +219,6 @@ impl Ports {
             flags,
             sync: true,
         };
-        self.dispatch(rt, book, &sending, trace)
+        self.dispatch(book, &sending, trace)
     }
 }

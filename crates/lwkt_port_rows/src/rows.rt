@@ -11,7 +11,6 @@ use lwkt_lane::{LaneOut, Note, NoteKind, lane};
 use lwkt_msg::{MsgBook, MsgSeat};
 use lwkt_port::Ports;
 use std::alloc::Global;
-use std::sync::Wait;
 use std::test::Fail;
 
 // A message of thread 0 of the first processor.
@@ -76,7 +75,7 @@ fn lanes_and_ports_1_to_3(rt: HostRuntime) -> Result<(), Fail> {
         first(Ask::Done(0), given(6, 1, 0, 1)),
         first(Ask::Done(0), Told::Given(None)),
     ];
-    run(&rt, rt.alloc(), &mut pair, 1, &lines)?;
+    run(rt.alloc(), &mut pair, 1, &lines)?;
     Ok(())
 }
 
@@ -94,7 +93,7 @@ fn lanes_and_ports_4(rt: HostRuntime) -> Result<(), Fail> {
         first(Ask::Send(1, 0, 1, 0, 1, 1), Told::Refused(Fault::NotOwner)),
         second(Ask::Send(0, 0, 0, 0, 1, 1), Told::Refused(Fault::NotOwner)),
     ];
-    run(&rt, rt.alloc(), &mut pair, 1, &lines)?;
+    run(rt.alloc(), &mut pair, 1, &lines)?;
     Ok(())
 }
 
@@ -103,7 +102,7 @@ fn lanes_and_ports_5(rt: HostRuntime) -> Result<(), Fail> {
     let mut pair = open(rt.alloc(), &[OWN; 33], 32)?;
     for m in 0..32u8 {
         let line = first(Ask::Send(0, m, 1, 0, 1, 1), Told::Done);
-        run(&rt, rt.alloc(), &mut pair, 33, &[line])?;
+        run(rt.alloc(), &mut pair, 33, &[line])?;
     }
     let lines = [
         first(Ask::Send(0, 32, 1, 0, 1, 1), Told::Refused(Fault::LaneFull)),
@@ -112,7 +111,7 @@ fn lanes_and_ports_5(rt: HostRuntime) -> Result<(), Fail> {
         first(Ask::TakeIn(16), Told::Popped(1)),
         first(Ask::Get(1), request(32, 2, 2)),
     ];
-    run(&rt, rt.alloc(), &mut pair, 33, &lines)?;
+    run(rt.alloc(), &mut pair, 33, &lines)?;
     Ok(())
 }
 
@@ -133,7 +132,7 @@ fn two_lanes_are_full_at_once(rt: HostRuntime) -> Result<(), Fail> {
         first(Ask::TakeIn(1), Told::Popped(1)),
         first(Ask::Send(0, 5, 0, 1, 1, 1), Told::Done),
     ];
-    run(&rt, rt.alloc(), &mut pair, 6, &lines)?;
+    run(rt.alloc(), &mut pair, 6, &lines)?;
     Ok(())
 }
 
@@ -150,7 +149,7 @@ fn a_later_send_discards_the_reply(rt: HostRuntime) -> Result<(), Fail> {
         first(Ask::Send(0, 0, 1, 0, 7, 2), Told::Done),
         first(Ask::Done(0), Told::Given(None)),
     ];
-    run(&rt, rt.alloc(), &mut pair, 1, &lines)?;
+    run(rt.alloc(), &mut pair, 1, &lines)?;
     Ok(())
 }
 
@@ -177,19 +176,13 @@ fn send_both(book: &MsgBook, sender: &mut MsgSeat) -> Result<(), Fault>
 }
 
 // Fills the queue of thread 0 with stale notes, one at a time: whether each was taken in.
-fn fill(
-    rt: &impl Wait,
-    alloc: Global,
-    book: &MsgBook,
-    ports: &mut Ports,
-    out: &mut LaneOut,
-) -> Result<bool, Fault>
+fn fill(alloc: Global, book: &MsgBook, ports: &mut Ports, out: &mut LaneOut) -> Result<bool, Fault>
     requires { Sits book.now 2 ports.old }
     ensures { IfOk result (λ _. Sits book.now 2 ports.new) }
 {
     for _stale in 0..64 {
-        out.push(rt, note(0, 9, 0))?;
-        if play(rt, alloc, book, ports, 2, Ask::TakeIn(16))? != Told::Popped(1) {
+        out.push(note(0, 9, 0))?;
+        if play(alloc, book, ports, 2, Ask::TakeIn(16))? != Told::Popped(1) {
             return Ok(false);
         }
     }
@@ -212,13 +205,13 @@ fn a_full_queue_holds_up_one_lane(rt: HostRuntime) -> Result<(), Fail> {
     let ins = listed(alloc, in_slow, in_quick)?;
     let mut ports = open_ports(alloc, seat, &book, &specs, outs, ins)?;
     send_both(&book, &mut sender)?;
-    slow.push(&rt, note(200, 1, 0))?;
+    slow.push(note(200, 1, 0))?;
     let foreign = [(Ask::TakeIn(16), Told::Popped(1))];
-    play_all(&rt, alloc, &book, &mut ports, 2, &foreign)?;
-    assert!(rt; fill(&rt, alloc, &book, &mut ports, &mut slow)?);
-    slow.push(&rt, note(0, 9, 0))?;
-    slow.push(&rt, note(1, 1, 1))?;
-    quick.push(&rt, note(0, 1, 1))?;
+    play_all(alloc, &book, &mut ports, 2, &foreign)?;
+    assert!(rt; fill(alloc, &book, &mut ports, &mut slow)?);
+    slow.push(note(0, 9, 0))?;
+    slow.push(note(1, 1, 1))?;
+    quick.push(note(0, 1, 1))?;
     let lines = [
         (Ask::TakeIn(16), Told::Popped(2)),
         (Ask::Get(1), request(0, 1, 1)),
@@ -228,6 +221,6 @@ fn a_full_queue_holds_up_one_lane(rt: HostRuntime) -> Result<(), Fail> {
         (Ask::TakeIn(16), Told::Popped(1)),
         (Ask::Get(1), request(1, 1, 1)),
     ];
-    play_all(&rt, alloc, &book, &mut ports, 2, &lines)?;
+    play_all(alloc, &book, &mut ports, 2, &lines)?;
     Ok(())
 }

@@ -10,7 +10,6 @@ use lwkt_lane::{LaneIn, LaneOut, lane};
 use lwkt_msg::{MsgBook, MsgSeat};
 use lwkt_port::Ports;
 use std::alloc::{AllocError, Global};
-use std::sync::Wait;
 
 pub const NO_FLAGS: Flags = Flags {
     dropable: false,
@@ -67,7 +66,6 @@ fn done(answer: Result<(), Fault>) -> Told {
 
 /// Makes a call. `messages` is how many messages the book has.
 pub fn play(
-    rt: &impl Wait,
     alloc: Global,
     book: &MsgBook,
     ports: &mut Ports,
@@ -85,7 +83,7 @@ pub fn play(
                 thread: target,
             };
             let call = Call { arg, op };
-            done(ports.send(rt, book, thread, MsgId(m), to, call, NO_FLAGS, &mut trace))
+            done(ports.send(book, thread, MsgId(m), to, call, NO_FLAGS, &mut trace))
         }
         Ask::SendSync(thread, m, cpu, target, op, arg) => {
             let to = ThreadId {
@@ -93,9 +91,9 @@ pub fn play(
                 thread: target,
             };
             let call = Call { arg, op };
-            done(ports.send_sync(rt, book, thread, MsgId(m), to, call, &mut trace))
+            done(ports.send_sync(book, thread, MsgId(m), to, call, &mut trace))
         }
-        Ask::TakeIn(limit) => Told::Popped(ports.take_in(rt, book, limit, &mut trace)),
+        Ask::TakeIn(limit) => Told::Popped(ports.take_in(book, limit, &mut trace)),
         Ask::Get(thread) => {
             if usize::from(thread) < ports.threads() {
                 match ports.get(book, thread, &mut trace) {
@@ -107,7 +105,7 @@ pub fn play(
             }
         }
         Ask::Reply(thread, m, error, outcome) => {
-            done(ports.reply(rt, book, thread, MsgId(m), error, outcome, &mut trace))
+            done(ports.reply(book, thread, MsgId(m), error, outcome, &mut trace))
         }
         Ask::Done(m) => {
             if usize::from(m) < messages {
@@ -202,7 +200,6 @@ pub fn open(alloc: Global, specs: &[MsgSpec], capacity: usize) -> Result<Pair, F
 
 /// Plays a table of calls on the ports of one processor.
 pub fn play_all(
-    rt: &impl Wait,
     alloc: Global,
     book: &MsgBook,
     ports: &mut Ports,
@@ -213,7 +210,7 @@ pub fn play_all(
     ensures { Sits book.now messages ports.new }
 {
     for (at, (ask, wanted)) in lines.iter().enumerate() {
-        match play(rt, alloc, book, ports, messages, *ask) {
+        match play(alloc, book, ports, messages, *ask) {
             Ok(told) if told == *wanted => {}
             Ok(told) => return Err(Miss::Line { at, told }),
             Err(fault) => return Err(Miss::Fault(fault)),
@@ -223,13 +220,7 @@ pub fn play_all(
 }
 
 /// Plays a table of calls by both processors.
-pub fn run(
-    rt: &impl Wait,
-    alloc: Global,
-    pair: &mut Pair,
-    messages: usize,
-    lines: &[Line],
-) -> Result<(), Miss>
+pub fn run(alloc: Global, pair: &mut Pair, messages: usize, lines: &[Line]) -> Result<(), Miss>
     requires first { Sits pair.old.book messages pair.old.first }
     requires second { Sits pair.old.book messages pair.old.second }
     ensures first { Sits pair.new.book messages pair.new.first }
@@ -237,9 +228,9 @@ pub fn run(
 {
     for (at, line) in lines.iter().enumerate() {
         let answer = if line.second {
-            play(rt, alloc, &pair.book, &mut pair.second, messages, line.ask)
+            play(alloc, &pair.book, &mut pair.second, messages, line.ask)
         } else {
-            play(rt, alloc, &pair.book, &mut pair.first, messages, line.ask)
+            play(alloc, &pair.book, &mut pair.first, messages, line.ask)
         };
         match answer {
             Ok(told) if told == line.told => {}

@@ -7,7 +7,6 @@ use lwkt_base::{Call, CpuId, Item, MsgId, MsgSpec, Rec, ThreadId};
 use lwkt_msg::MsgBook;
 use lwkt_port::Ports;
 use std::alloc::Global;
-use std::sync::Wait;
 use std::test::Fail;
 use std::thread;
 
@@ -16,7 +15,7 @@ const TRIES: u32 = 100_000_000;
 const ROUNDS: u32 = 1000;
 
 // Sends the message, and waits for its reply: whether it is the one that is wanted.
-fn ask(rt: &impl Wait, alloc: Global, book: &MsgBook, ports: &mut Ports, round: u32) -> bool
+fn ask(alloc: Global, book: &MsgBook, ports: &mut Ports, round: u32) -> bool
     requires { Sits book.now 1 ports.old }
     ensures { Sits book.now 1 ports.new }
 {
@@ -28,12 +27,12 @@ fn ask(rt: &impl Wait, alloc: Global, book: &MsgBook, ports: &mut Ports, round: 
         error: 0,
     };
     let sending = Ask::SendSync(0, 0, 1, 0, 5, arg);
-    if play(rt, alloc, book, ports, 1, sending) != Ok(Told::Done) {
+    if play(alloc, book, ports, 1, sending) != Ok(Told::Done) {
         return false;
     }
     for _try in 0..TRIES {
-        let _ = play(rt, alloc, book, ports, 1, Ask::TakeIn(16));
-        if let Ok(Told::Given(Some(rec))) = play(rt, alloc, book, ports, 1, Ask::Done(0)) {
+        let _ = play(alloc, book, ports, 1, Ask::TakeIn(16));
+        if let Ok(Told::Given(Some(rec))) = play(alloc, book, ports, 1, Ask::Done(0)) {
             return rec == wanted;
         }
         thread::yield_now();
@@ -42,12 +41,12 @@ fn ask(rt: &impl Wait, alloc: Global, book: &MsgBook, ports: &mut Ports, round: 
 }
 
 // How many rounds of asking went well.
-fn ask_all(rt: &impl Wait, alloc: Global, book: &MsgBook, mut ports: Ports) -> u32
+fn ask_all(alloc: Global, book: &MsgBook, mut ports: Ports) -> u32
     requires { Sits book.now 1 ports }
 {
     let mut asked = 0;
     for round in 0..ROUNDS {
-        if !ask(rt, alloc, book, &mut ports, round) {
+        if !ask(alloc, book, &mut ports, round) {
             break;
         }
         asked += 1;
@@ -56,7 +55,7 @@ fn ask_all(rt: &impl Wait, alloc: Global, book: &MsgBook, mut ports: Ports) -> u
 }
 
 // Waits for a request, and replies to it: whether it is the one that is wanted.
-fn serve(rt: &impl Wait, alloc: Global, book: &MsgBook, ports: &mut Ports, round: u32) -> bool
+fn serve(alloc: Global, book: &MsgBook, ports: &mut Ports, round: u32) -> bool
     requires { Sits book.now 1 ports.old }
     ensures { Sits book.now 1 ports.new }
 {
@@ -64,10 +63,10 @@ fn serve(rt: &impl Wait, alloc: Global, book: &MsgBook, ports: &mut Ports, round
     let call = Call { arg, op: 5 };
     let wanted = Item::Request(MsgId(0), call);
     for _try in 0..TRIES {
-        let _ = play(rt, alloc, book, ports, 1, Ask::TakeIn(16));
-        if let Ok(Told::Got(Some(item))) = play(rt, alloc, book, ports, 1, Ask::Get(0)) {
+        let _ = play(alloc, book, ports, 1, Ask::TakeIn(16));
+        if let Ok(Told::Got(Some(item))) = play(alloc, book, ports, 1, Ask::Get(0)) {
             let reply = Ask::Reply(0, 0, 0, arg + 1);
-            return item == wanted && play(rt, alloc, book, ports, 1, reply) == Ok(Told::Done);
+            return item == wanted && play(alloc, book, ports, 1, reply) == Ok(Told::Done);
         }
         thread::yield_now();
     }
@@ -75,12 +74,12 @@ fn serve(rt: &impl Wait, alloc: Global, book: &MsgBook, ports: &mut Ports, round
 }
 
 // How many requests were served well.
-fn serve_all(rt: &impl Wait, alloc: Global, book: &MsgBook, mut ports: Ports) -> u32
+fn serve_all(alloc: Global, book: &MsgBook, mut ports: Ports) -> u32
     requires { Sits book.now 1 ports }
 {
     let mut served = 0;
     for round in 0..ROUNDS {
-        if !serve(rt, alloc, book, &mut ports, round) {
+        if !serve(alloc, book, &mut ports, round) {
             break;
         }
         served += 1;
@@ -105,8 +104,8 @@ fn two_threads_over_ports(rt: HostRuntime) -> Result<(), Fail> {
     let alloc = rt.alloc();
     let (asked, served) = thread::join(
         &rt,
-        || ask_all(&rt, alloc, &book, first),
-        || serve_all(&rt, alloc, &book, second),
+        || ask_all(alloc, &book, first),
+        || serve_all(alloc, &book, second),
     );
     assert_eq!(rt; asked, ROUNDS);
     assert_eq!(rt; served, ROUNDS);

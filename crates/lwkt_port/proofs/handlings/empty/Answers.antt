@@ -3,7 +3,7 @@ use Rattle.lwkt_port.proofs.Emptying.{keeps_one, keeps_then}
 use Rattle.lwkt_port.proofs.handlings.empty.Goals as goal
 
 pub returns-clause-keeps : goal.returns-clause-keeps
-returns-clause-keeps g c =
+returns-clause-keeps c =
     let h = c.in-Some-handle.ensures in
     let s : Standing = standing c.args.seat.now c.args.mails.now c.args.trace.now c.args.ports.now in
     let s1 : Standing = standing c.handle.new.seat c.handle.new.mails c.handle.new.trace c.handle.new.ports in

@@ -8,7 +8,7 @@ use Rattle.lwkt_port.proofs.Emptying.{keeps_none, keeps_then}
 use Rattle.lwkt_port.proofs.intakes.empty_all.Goals as goal
 
 pub loop-sender-init : goal.loop-sender-init
-loop-sender-init g c = record {
+loop-sender-init c = record {
   notes = chain_none Intake (EmptiesFrom c.args.limit) (intake (work c.args.seat.now c.args.mails.now c.args.trace.now) c.args.lanes.now c.args.ports.now 0);
   within = omega arith;
   keeps = keeps_none (standing c.args.seat.now c.args.mails.now c.args.trace.now c.args.ports.now) c.requires.kept c.requires.ports c.requires.named;
@@ -17,7 +17,7 @@ loop-sender-init g c = record {
 }
 
 pub loop-sender-preserved : goal.loop-sender-preserved
-loop-sender-preserved g c =
+loop-sender-preserved c =
     let l = c.loop-sender in
     let e = c.empty-count.ensures in
     let there : l.sender < length l.lanes.items = search rules in

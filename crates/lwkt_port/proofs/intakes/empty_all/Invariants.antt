@@ -7,7 +7,7 @@ use Rattle.lwkt_port.specs.Works.{work, standing, Keeps}
 use Rattle.lwkt_port.proofs.intakes.empty_all.Given as goal
 
 abbrev pub invariant-loop-sender : goal.invariant-loop-sender
-invariant-loop-sender g l = record {
+invariant-loop-sender l = record {
   notes : Chain Intake (EmptiesFrom l.limit) l.sender (intake (work l.initial.seat l.initial.mails l.initial.trace) l.initial.lanes l.initial.ports 0) (intake (work l.seat l.mails l.trace) l.lanes l.ports l.count);
   within : l.count ≤ l.limit;
   keeps : Keeps (standing l.initial.seat l.initial.mails l.initial.trace l.initial.ports) (standing l.seat l.mails l.trace l.ports);

@@ -7,10 +7,10 @@ use Rattle.lwkt_port.proofs.Dispatching.{changed, line_kept}
 use Rattle.lwkt_port.proofs.intakes.make_room.Goals as goal
 
 pub loop-at-init : goal.loop-at-init
-loop-at-init g c = record { rooms = chain_none (List Lane) (λ i x y. Changes IsRoomed i x y) c.args.lanes.now.items; len = refl; named = λ n h. h }
+loop-at-init c = record { rooms = chain_none (List Lane) (λ i x y. Changes IsRoomed i x y) c.args.lanes.now.items; len = refl; named = λ n h. h }
 
 pub loop-at-preserved : goal.loop-at-preserved
-loop-at-preserved g c =
+loop-at-preserved c =
     let l = c.loop-at in
     let there : l.at < length l.lanes.items = search rules in
     let Step : ℕ → List Lane → List Lane → Type 0 = λ i x y. Changes IsRoomed i x y in

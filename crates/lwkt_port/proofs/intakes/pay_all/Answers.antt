@@ -6,7 +6,7 @@ use Rattle.lwkt_port.proofs.Growing.{stands_none, stands_then}
 use Rattle.lwkt_port.proofs.intakes.pay_all.Goals as goal
 
 pub loop-m-init : goal.loop-m-init
-loop-m-init g c = record {
+loop-m-init c = record {
   pays = chain_none Payer Pays (payer (work c.args.seat.now c.args.mails.now c.args.trace.now) c.args.lanes.now);
   stands = stands_none c.args.seat.now c.args.mails.now c.args.trace.now c.requires.kept;
   lanes = refl;
@@ -15,7 +15,7 @@ loop-m-init g c = record {
 }
 
 pub loop-m-preserved : goal.loop-m-preserved
-loop-m-preserved g c =
+loop-m-preserved c =
     let l = c.loop-m in
     let e = c.pay.ensures in record {
       pays = chain_more Payer Pays l.m (payer (work c.args.seat.now c.args.mails.now c.args.trace.now) c.args.lanes.now) (payer (work l.seat l.mails l.trace) l.lanes) (payer (work c.pay.new.seat c.pay.new.mails c.pay.new.trace) c.pay.new.lanes) l.invariant.pays e.pays;

@@ -7,7 +7,7 @@ use Rattle.lwkt_port.specs.Works.{work, Stands, away_count}
 use Rattle.lwkt_port.proofs.intakes.pay_all.Given as goal
 
 abbrev pub invariant-loop-m : goal.invariant-loop-m
-invariant-loop-m g l = record {
+invariant-loop-m l = record {
   pays : Chain Payer Pays l.m (payer (work l.initial.seat l.initial.mails l.initial.trace) l.initial.lanes) (payer (work l.seat l.mails l.trace) l.lanes);
   stands : Stands l.m l.initial.seat l.initial.mails l.initial.trace l.seat l.mails l.trace;
   lanes : vec_len l.lanes ≡ vec_len l.initial.lanes;

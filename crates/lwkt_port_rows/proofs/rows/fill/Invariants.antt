@@ -2,4 +2,4 @@ use Rattle.lwkt_port_rows.specs.Stations.{Sits}
 use Rattle.lwkt_port_rows.proofs.rows.fill.Given as goal
 
 abbrev pub invariant-loop-stale : goal.invariant-loop-stale
-invariant-loop-stale g l = Sits l.book 2 l.ports
+invariant-loop-stale l = Sits l.book 2 l.ports

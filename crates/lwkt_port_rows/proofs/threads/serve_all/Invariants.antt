@@ -3,4 +3,4 @@ use Rattle.lwkt_port_rows.specs.Stations.{Sits}
 use Rattle.lwkt_port_rows.proofs.threads.serve_all.Given as goal
 
 abbrev pub invariant-loop-round : goal.invariant-loop-round
-invariant-loop-round g l = Sits l.book 1 l.ports × (l.served ≤ l.round)
+invariant-loop-round l = Sits l.book 1 l.ports × (l.served ≤ l.round)
