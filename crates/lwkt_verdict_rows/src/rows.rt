@@ -1,5 +1,5 @@
-//! Rows Tally-Add, Crossed-Lists and Call-And-Reply as runs by hand: each is a run of its script, and no change at one place
-//! leaves it one.
+//! Rows Tally-Add, Crossed-Lists and Call-And-Reply as runs by hand: each is a run of its script. Of the changes at one place
+//! two leave it one: as many rounds as it has, and a law that was broken at its end.
 
 use crate::changes::{Change, make_change};
 use crate::sheets::{Sheet, first_of};
@@ -7,6 +7,11 @@ use lwkt_base::{
     Answer, Ask, Call, CpuId, Entry, Fault, Item, Law, MsgId, MsgSpec, ThreadState, TokId,
 };
 use lwkt_core::Event;
+use lwkt_verdict::laws::{
+    all_but_the_last_are_answered, asks_are_those_of_the_script, logs_are_the_first_entries,
+    no_turns_are_no_run, runs_begin_with_an_ask, traces_of_runs_happen,
+};
+use lwkt_verdict::turns::poll_of;
 use std::alloc::{AllocError, Global};
 use std::test::Fail;
 
@@ -195,6 +200,28 @@ fn still_runs(alloc: Global, made: Result<Sheet, AllocError>, how: Change) -> Re
     let mut sheet = made.map_err(|_| Fault::Memory)?;
     make_change(&mut sheet, how).map_err(|_| Fault::Memory)?;
     sheet.is_run(alloc)
+}
+
+#[test]
+fn laws_and_polls(rt: HostRuntime) -> Result<(), Fail> {
+    no_turns_are_no_run();
+    runs_begin_with_an_ask();
+    traces_of_runs_happen();
+    asks_are_those_of_the_script();
+    all_but_the_last_are_answered();
+    logs_are_the_first_entries();
+    let sheet = crossed_lists(rt.alloc())?;
+    let asked: [(usize, Option<Ask>); 3] = [
+        (0, Some(Ask::Get(TokId(0)))),
+        (1, Some(Ask::Get(TokId(1)))),
+        (4, None),
+    ];
+    for (place, want) in asked {
+        let turn = sheet.turns.get(place).ok_or("the run has this turn")?;
+        let poll = poll_of(sheet.polls.as_slice(), turn);
+        assert_eq!(rt; poll.map(|poll| poll.ask), want, "turn {place}");
+    }
+    Ok(())
 }
 
 #[test]
