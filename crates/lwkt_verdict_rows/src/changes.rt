@@ -1,7 +1,7 @@
 //! Changes of a run at one place.
 
 use crate::sheets::Sheet;
-use lwkt_base::{Answer, Ask, Entry, ThreadState};
+use lwkt_base::{Answer, Ask, Entry, ThreadId, ThreadState};
 use lwkt_core::Event;
 use std::alloc::AllocError;
 
@@ -13,6 +13,8 @@ pub enum Change {
     Answered(usize, Option<Answer>),
     /// A poll asks this.
     Asked(usize, Ask),
+    /// A poll is of this thread.
+    Polled(usize, ThreadId),
     /// A turn has no poll.
     Unasked(usize),
     /// A turn isn't there, and neither are its events, of which so many come before it.
@@ -105,6 +107,11 @@ pub fn make_change(sheet: &mut Sheet, change: Change) -> Result<(), AllocError> 
         Change::Asked(poll, ask) => {
             if let Some(there) = sheet.polls.get_mut(poll) {
                 there.ask = ask;
+            }
+        }
+        Change::Polled(poll, thread) => {
+            if let Some(there) = sheet.polls.get_mut(poll) {
+                there.thread = thread;
             }
         }
         Change::Unasked(turn) => {

@@ -1,18 +1,28 @@
-//! Rows Tally-Add, Crossed-Lists and Call-And-Reply as runs by hand: each is a run of its script, and no change at one place
-//! leaves it one.
+//! Rows Tally-Add, Two-Threads-One-Token, Crossed-Lists and Call-And-Reply as runs by hand: each is a run of its script. Of the changes at one place
+//! two leave it one: as many rounds as it has, and a law that was broken at its end.
 
 use crate::changes::{Change, make_change};
 use crate::sheets::{Sheet, first_of};
 use lwkt_base::{
-    Answer, Ask, Call, CpuId, Entry, Fault, Item, Law, MsgId, MsgSpec, ThreadState, TokId,
+    Answer, Ask, Call, CpuId, Entry, Fault, Item, Law, MsgId, MsgSpec, ThreadId, ThreadState, TokId,
 };
 use lwkt_core::Event;
+use lwkt_verdict::laws::{
+    all_but_the_last_are_answered, asks_are_those_of_the_script, logs_are_the_first_entries,
+    no_turns_are_no_run, runs_begin_with_an_ask, traces_of_runs_happen,
+};
+use lwkt_verdict::turns::poll_of;
 use std::alloc::{AllocError, Global};
 use std::test::Fail;
 
 const DONE: Option<Answer> = Some(Answer::Done);
 
 const MESSAGE: MsgId = MsgId(0);
+
+const SECOND: ThreadId = ThreadId {
+    cpu: CpuId(0),
+    thread: 1,
+};
 
 const CALL: Call = Call { arg: 9, op: 5 };
 
@@ -61,11 +71,17 @@ fn tally_add(alloc: Global) -> Result<Sheet, AllocError> {
     let (get, rel) = (Ask::Get(TokId(0)), Ask::Rel(TokId(0)));
     let mut sheet = Sheet::new(alloc, 1, 50);
     sheet.token(alloc, Law::Tally, 10, 10)?;
-    sheet.thread(alloc, 0, &[get, add, rel], ThreadState::Exited, &[])?;
-    sheet.asks(0, get, DONE, &[take(0, 0)])?;
-    sheet.asks(0, add, DONE, &[write(0, 15)])?;
-    sheet.asks(0, rel, DONE, &[give_written(0, 0)])?;
-    sheet.asks(0, Ask::Exit, None, &[])?;
+    sheet.thread(
+        alloc,
+        first_of(0),
+        &[get, add, rel],
+        ThreadState::Exited,
+        &[],
+    )?;
+    sheet.asks(first_of(0), get, DONE, &[take(0, 0)])?;
+    sheet.asks(first_of(0), add, DONE, &[write(0, 15)])?;
+    sheet.asks(first_of(0), rel, DONE, &[give_written(0, 0)])?;
+    sheet.asks(first_of(0), Ask::Exit, None, &[])?;
     sheet.idles(&[])?;
     Ok(sheet)
 }
@@ -85,7 +101,7 @@ fn crossed_threads(alloc: Global, sheet: &mut Sheet) -> Result<(), AllocError> {
         Ask::Rel(TokId(0)),
     ];
     let log = [Entry::Value(7), Entry::Value(8)];
-    sheet.thread(alloc, 0, &steps, ThreadState::Exited, &log)?;
+    sheet.thread(alloc, first_of(0), &steps, ThreadState::Exited, &log)?;
     let steps = [
         Ask::Get(TokId(1)),
         Ask::Get(TokId(0)),
@@ -93,7 +109,7 @@ fn crossed_threads(alloc: Global, sheet: &mut Sheet) -> Result<(), AllocError> {
         Ask::Rel(TokId(0)),
         Ask::Rel(TokId(1)),
     ];
-    sheet.thread(alloc, 1, &steps, ThreadState::Exited, &[])
+    sheet.thread(alloc, first_of(1), &steps, ThreadState::Exited, &[])
 }
 
 // The rounds up to that in which processor 0 has both tokens.
@@ -102,16 +118,26 @@ fn crossed_begins(sheet: &mut Sheet) -> Result<(), AllocError> {
         cpu: CpuId(0),
         tok: TokId(1),
     };
-    sheet.asks(0, Ask::Get(TokId(0)), DONE, &[take(0, 0)])?;
-    sheet.asks(1, Ask::Get(TokId(1)), DONE, &[take(1, 1)])?;
-    sheet.asks(0, Ask::Get(TokId(1)), DONE, &[mark, give_clean(0, 0)])?;
-    sheet.asks(1, Ask::Get(TokId(0)), DONE, &[take(1, 0)])?;
+    sheet.asks(first_of(0), Ask::Get(TokId(0)), DONE, &[take(0, 0)])?;
+    sheet.asks(first_of(1), Ask::Get(TokId(1)), DONE, &[take(1, 1)])?;
+    sheet.asks(
+        first_of(0),
+        Ask::Get(TokId(1)),
+        DONE,
+        &[mark, give_clean(0, 0)],
+    )?;
+    sheet.asks(first_of(1), Ask::Get(TokId(0)), DONE, &[take(1, 0)])?;
     sheet.idles(&[])?;
-    sheet.asks(1, Ask::Write(TokId(0), 0, 7), DONE, &[write(1, 7)])?;
+    sheet.asks(
+        first_of(1),
+        Ask::Write(TokId(0), 0, 7),
+        DONE,
+        &[write(1, 7)],
+    )?;
     sheet.idles(&[])?;
-    sheet.asks(1, Ask::Rel(TokId(0)), DONE, &[give_written(1, 0)])?;
+    sheet.asks(first_of(1), Ask::Rel(TokId(0)), DONE, &[give_written(1, 0)])?;
     sheet.idles(&[take(0, 0), give_clean(0, 0)])?;
-    sheet.asks(1, Ask::Rel(TokId(1)), DONE, &[give_clean(1, 1)])
+    sheet.asks(first_of(1), Ask::Rel(TokId(1)), DONE, &[give_clean(1, 1)])
 }
 
 // The rounds from there on.
@@ -119,20 +145,35 @@ fn crossed_ends(sheet: &mut Sheet) -> Result<(), AllocError> {
     let seven = Some(Answer::Value(7));
     let eight = Some(Answer::Value(8));
     let look = Ask::Read(TokId(0), 0);
-    sheet.asks(0, look, seven, &[take(0, 0), take(0, 1), read(0, 7)])?;
-    sheet.asks(1, Ask::Exit, None, &[])?;
-    sheet.asks(0, Ask::Write(TokId(0), 0, 8), DONE, &[write(0, 8)])?;
+    sheet.asks(
+        first_of(0),
+        look,
+        seven,
+        &[take(0, 0), take(0, 1), read(0, 7)],
+    )?;
+    sheet.asks(first_of(1), Ask::Exit, None, &[])?;
+    sheet.asks(
+        first_of(0),
+        Ask::Write(TokId(0), 0, 8),
+        DONE,
+        &[write(0, 8)],
+    )?;
     sheet.idles(&[])?;
     let gives = [give_clean(0, 1), give_written(0, 0)];
-    sheet.asks(0, Ask::Yield, DONE, &gives)?;
+    sheet.asks(first_of(0), Ask::Yield, DONE, &gives)?;
     sheet.idles(&[])?;
-    sheet.asks(0, look, eight, &[take(0, 0), take(0, 1), read(0, 8)])?;
+    sheet.asks(
+        first_of(0),
+        look,
+        eight,
+        &[take(0, 0), take(0, 1), read(0, 8)],
+    )?;
     sheet.idles(&[])?;
-    sheet.asks(0, Ask::Rel(TokId(1)), DONE, &[give_clean(0, 1)])?;
+    sheet.asks(first_of(0), Ask::Rel(TokId(1)), DONE, &[give_clean(0, 1)])?;
     sheet.idles(&[])?;
-    sheet.asks(0, Ask::Rel(TokId(0)), DONE, &[give_clean(0, 0)])?;
+    sheet.asks(first_of(0), Ask::Rel(TokId(0)), DONE, &[give_clean(0, 0)])?;
     sheet.idles(&[])?;
-    sheet.asks(0, Ask::Exit, None, &[])?;
+    sheet.asks(first_of(0), Ask::Exit, None, &[])?;
     sheet.idles(&[])?;
     sheet.idles(&[])?;
     sheet.idles(&[])
@@ -156,10 +197,16 @@ fn call_and_reply(alloc: Global) -> Result<Sheet, AllocError> {
     let call = Ask::Do(MESSAGE, first_of(1), CALL);
     let reply = Ask::Reply(MESSAGE, 7, 42);
     let log = [Entry::Reply(MESSAGE, 7, 42), Entry::NoMessage];
-    sheet.thread(alloc, 0, &[call, Ask::GetPort], ThreadState::Exited, &log)?;
+    sheet.thread(
+        alloc,
+        first_of(0),
+        &[call, Ask::GetPort],
+        ThreadState::Exited,
+        &log,
+    )?;
     let log = [Entry::Request(MESSAGE, CALL)];
     let steps = [Ask::WaitPort, reply];
-    sheet.thread(alloc, 1, &steps, ThreadState::Exited, &log)?;
+    sheet.thread(alloc, first_of(1), &steps, ThreadState::Exited, &log)?;
     let (cpu, msg) = (CpuId(0), MESSAGE);
     let (to, round) = (CpuId(1), 1);
     let sent = Event::Send {
@@ -177,15 +224,57 @@ fn call_and_reply(alloc: Global) -> Result<Sheet, AllocError> {
     let reaped = Event::Reap { cpu, msg };
     let answer = Some(Answer::Got(Item::Answered(MESSAGE, 7, 42)));
     let request = Some(Answer::Got(Item::Request(MESSAGE, CALL)));
-    sheet.asks(0, call, answer, &[sent])?;
-    sheet.asks(1, Ask::WaitPort, request, &[taken])?;
+    sheet.asks(first_of(0), call, answer, &[sent])?;
+    sheet.asks(first_of(1), Ask::WaitPort, request, &[taken])?;
     sheet.idles(&[])?;
-    sheet.asks(1, reply, DONE, &[replied])?;
-    sheet.asks(0, Ask::GetPort, Some(Answer::NoMsg), &[reaped])?;
-    sheet.asks(1, Ask::Exit, None, &[])?;
-    sheet.asks(0, Ask::Exit, None, &[])?;
+    sheet.asks(first_of(1), reply, DONE, &[replied])?;
+    sheet.asks(first_of(0), Ask::GetPort, Some(Answer::NoMsg), &[reaped])?;
+    sheet.asks(first_of(1), Ask::Exit, None, &[])?;
+    sheet.asks(first_of(0), Ask::Exit, None, &[])?;
     sheet.idles(&[])?;
     sheet.idles(&[])?;
+    sheet.idles(&[])?;
+    Ok(sheet)
+}
+
+// Two threads of one processor take turns with one token.
+fn two_threads(alloc: Global) -> Result<Sheet, AllocError> {
+    let (get, rel, look) = (
+        Ask::Get(TokId(0)),
+        Ask::Rel(TokId(0)),
+        Ask::Read(TokId(0), 0),
+    );
+    let (one, two) = (Ask::Write(TokId(0), 0, 1), Ask::Write(TokId(0), 0, 2));
+    let mut sheet = Sheet::new(alloc, 1, 50);
+    sheet.token(alloc, Law::Any, 0, 0)?;
+    let steps = [get, one, Ask::Yield, look, rel];
+    sheet.thread(
+        alloc,
+        first_of(0),
+        &steps,
+        ThreadState::Exited,
+        &[Entry::Value(2)],
+    )?;
+    let steps = [get, look, two, rel];
+    sheet.thread(
+        alloc,
+        SECOND,
+        &steps,
+        ThreadState::Exited,
+        &[Entry::Value(1)],
+    )?;
+    sheet.asks(first_of(0), get, DONE, &[take(0, 0)])?;
+    sheet.asks(first_of(0), one, DONE, &[write(0, 1)])?;
+    sheet.asks(first_of(0), Ask::Yield, DONE, &[give_written(0, 0)])?;
+    sheet.asks(SECOND, get, DONE, &[take(0, 0)])?;
+    sheet.asks(SECOND, look, Some(Answer::Value(1)), &[read(0, 1)])?;
+    sheet.asks(SECOND, two, DONE, &[write(0, 2)])?;
+    sheet.asks(SECOND, rel, DONE, &[give_written(0, 0)])?;
+    sheet.asks(SECOND, Ask::Exit, None, &[])?;
+    let seen = Some(Answer::Value(2));
+    sheet.asks(first_of(0), look, seen, &[take(0, 0), read(0, 2)])?;
+    sheet.asks(first_of(0), rel, DONE, &[give_clean(0, 0)])?;
+    sheet.asks(first_of(0), Ask::Exit, None, &[])?;
     sheet.idles(&[])?;
     Ok(sheet)
 }
@@ -195,6 +284,28 @@ fn still_runs(alloc: Global, made: Result<Sheet, AllocError>, how: Change) -> Re
     let mut sheet = made.map_err(|_| Fault::Memory)?;
     make_change(&mut sheet, how).map_err(|_| Fault::Memory)?;
     sheet.is_run(alloc)
+}
+
+#[test]
+fn laws_and_polls(rt: HostRuntime) -> Result<(), Fail> {
+    no_turns_are_no_run();
+    runs_begin_with_an_ask();
+    traces_of_runs_happen();
+    asks_are_those_of_the_script();
+    all_but_the_last_are_answered();
+    logs_are_the_first_entries();
+    let sheet = crossed_lists(rt.alloc())?;
+    let asked: [(usize, Option<Ask>); 3] = [
+        (0, Some(Ask::Get(TokId(0)))),
+        (1, Some(Ask::Get(TokId(1)))),
+        (4, None),
+    ];
+    for (place, want) in asked {
+        let turn = sheet.turns.get(place).ok_or("the run has this turn")?;
+        let poll = poll_of(sheet.polls.as_slice(), turn);
+        assert_eq!(rt; poll.map(|poll| poll.ask), want, "turn {place}");
+    }
+    Ok(())
 }
 
 #[test]
@@ -230,6 +341,25 @@ fn tally_add_with_changes(rt: HostRuntime) -> Result<(), Fail> {
     ];
     for (how, want) in rows {
         let runs = still_runs(alloc, tally_add(alloc), how);
+        assert_eq!(rt; runs, Ok(want), "{how:?}");
+    }
+    Ok(())
+}
+
+#[test]
+fn two_threads_with_changes(rt: HostRuntime) -> Result<(), Fail> {
+    let alloc = rt.alloc();
+    let rows = [
+        (Change::Nothing, true),
+        (Change::Polled(3, first_of(0)), false),
+        (Change::Polled(7, first_of(0)), false),
+        (Change::Unasked(7), false),
+        (Change::Answered(4, Some(Answer::Value(2))), false),
+        (Change::Unlogged(1), false),
+        (Change::LineLess, false),
+    ];
+    for (how, want) in rows {
+        let runs = still_runs(alloc, two_threads(alloc), how);
         assert_eq!(rt; runs, Ok(want), "{how:?}");
     }
     Ok(())

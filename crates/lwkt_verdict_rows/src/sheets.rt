@@ -62,22 +62,22 @@ impl Sheet {
         Ok(())
     }
 
-    /// The first thread of a processor, which makes these steps once, ends in this state and logs these entries.
+    /// A thread more, which makes these steps once, ends in this state and logs these entries.
     pub fn thread(
         &mut self,
         alloc: Global,
-        cpu: u8,
+        id: ThreadId,
         steps: &[Ask],
         state: ThreadState,
         log: &[Entry],
     ) -> Result<(), AllocError> {
         self.plans.push(ThreadPlan {
-            cpu: CpuId(cpu),
+            cpu: id.cpu,
             repeat: 1,
             steps: Vec::from_slice(alloc, steps)?,
         })?;
         self.lines.push(ThreadEnd {
-            id: first_of(cpu),
+            id,
             state,
             log: Vec::from_slice(alloc, log)?,
         })?;
@@ -96,17 +96,17 @@ impl Sheet {
         Ok(())
     }
 
-    /// A turn more that polls the first thread of a processor.
+    /// A turn more that polls a thread.
     pub fn asks(
         &mut self,
-        cpu: u8,
+        thread: ThreadId,
         ask: Ask,
         answer: Option<Answer>,
         events: &[Event],
     ) -> Result<(), AllocError> {
         let place = u32::try_from(self.polls.len()).unwrap_or(u32::MAX);
         self.polls.push(Poll {
-            thread: first_of(cpu),
+            thread,
             ask,
             answer,
         })?;
