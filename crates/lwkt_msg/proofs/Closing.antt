@@ -12,7 +12,7 @@ use Rattle.lwkt_core.specs.Seating.{total, after_back}
 use Rattle.lwkt_core.proofs.SeatingLemmas.{total-snoc}
 use Rattle.lwkt_msg.specs.declared.views.Entry.{Entry}
 use Rattle.lwkt_msg.specs.declared.views.View.{View}
-use Rattle.lwkt_msg.specs.Views.{word_at, added, at, clerk_both}
+use Rattle.lwkt_msg.specs.Views.{word_at, added, at, joined}
 use Rattle.lwkt_msg.specs.Desks.{Desk, IsChapter, IsRecalled, IsTaking, HasTakenBack, AreShown, shown_end}
 use Rattle.lwkt_msg.proofs.Splitting.{at-none, at-both}
 
@@ -39,12 +39,12 @@ taking_none cpus v seats kind none = record {
     nothing n all is = omega arith
 
 -- one seat more is taken back
-pub taking_more : (cpus : ℕ) (v : View) (seats left : List Desk) (seat : Desk) (w : View) → IsTaking cpus v seats (left ++ seat ∷ []) w → IsTaking cpus v seats left (clerk_both w seat.view)
+pub taking_more : (cpus : ℕ) (v : View) (seats left : List Desk) (seat : Desk) (w : View) → IsTaking cpus v seats (left ++ seat ∷ []) w → IsTaking cpus v seats left (joined w seat.view)
 taking_more cpus v seats left seat w t = record {
   behind = seat ∷ t.behind;
   in_order = t.in_order ∙ append_assoc left (seat ∷ []) t.behind;
-  chapters = All-cons (λ (d : Desk). IsChapter (clerk_both w seat.view) d) seat t.behind (0, refl) (λ k x low. let old = t.chapters k x low in (suc old.0, old.1));
-  recalled = All-cons (λ (d : Desk). IsRecalled (clerk_both w seat.view) d) seat t.behind (0, refl) (λ k x low. let old = t.recalled k x low in (suc old.0, old.1));
+  chapters = All-cons (λ (d : Desk). IsChapter (joined w seat.view) d) seat t.behind (0, refl) (λ k x low. let old = t.chapters k x low in (suc old.0, old.1));
+  recalled = All-cons (λ (d : Desk). IsRecalled (joined w seat.view) d) seat t.behind (0, refl) (λ k x low. let old = t.recalled k x low in (suc old.0, old.1));
   back = t.back + 1;
   kind = ap after_back t.kind;
   as_many = let a = t.as_many in let b = length-append left (seat ∷ []) in omega arith;
@@ -58,12 +58,12 @@ taking_more cpus v seats left seat w t = record {
 }
   where
     moved : (f : Entry → ℕ) (m : ℕ) → m < length v.specs → ((a b : Entry) → f (added a b) ≡ f a + f b) → f (at w m) + total (λ (d : Desk). f (at d.view m)) (left ++ seat ∷ []) ≡ total (λ (d : Desk). f (at d.view m)) seats
-        → f (at (clerk_both w seat.view) m) + total (λ (d : Desk). f (at d.view m)) left ≡ total (λ (d : Desk). f (at d.view m)) seats
+        → f (at (joined w seat.view) m) + total (λ (d : Desk). f (at d.view m)) left ≡ total (λ (d : Desk). f (at d.view m)) seats
     moved f m within adds before =
         let long = ap (λ (xs : List MsgSpec). length xs) t.specs_is in
         let within' : m < length w.specs = omega arith in
         let a = total-snoc (λ (d : Desk). f (at d.view m)) left seat in
-        let b : f (at (clerk_both w seat.view) m) ≡ f (at w m) + f (at seat.view m) = ap f (at-both w seat.view m within') ∙ adds (at w m) (at seat.view m) in
+        let b : f (at (joined w seat.view) m) ≡ f (at w m) + f (at seat.view m) = ap f (at-both w seat.view m within') ∙ adds (at w m) (at seat.view m) in
         omega arith
 
 -- all seats are taken back

@@ -13,7 +13,7 @@ use Rattle.lwkt_core.specs.Seating.{next_seat}
 use Rattle.lwkt_core.specs.Opening.{AreWithin}
 use Rattle.lwkt_msg.specs.declared.views.Entry.{Entry}
 use Rattle.lwkt_msg.specs.declared.views.View.{View}
-use Rattle.lwkt_msg.specs.Views.{seat_right, slot_at, spec_at, first_entry, at, noted, handed}
+use Rattle.lwkt_msg.specs.Views.{new_seat, slot_at, spec_at, first_entry, at, noted, handed}
 use Rattle.lwkt_msg.specs.Hands.{IsOwn, IsInHand, AreHands}
 use Rattle.lwkt_msg.specs.Plays.{IsSat}
 use Rattle.lwkt_msg.specs.Desks.{opened_entry, IsHanding, IsClerk}
@@ -104,7 +104,7 @@ handing_done place cpu h = record {
     has spec is = rw (eq-eqb spec.origin.cpu.0 cpu.0 is) refl
 
 -- a seat that was just made has no record in hand
-pub handing_fresh : (clerk place : Seat Rec View) (cpu : CpuId) (cpus : ℕ) (specs : List MsgSpec) → IsClerk cpu.0 cpus specs clerk → cpu.0 < cpus → place.table_id ≡ clerk.table_id → place.me ≡ (seat_right clerk.me.0, []) → IsHanding cpu 0 place
+pub handing_fresh : (clerk place : Seat Rec View) (cpu : CpuId) (cpus : ℕ) (specs : List MsgSpec) → IsClerk cpu.0 cpus specs clerk → cpu.0 < cpus → place.table_id ≡ clerk.table_id → place.me ≡ (new_seat clerk.me.0, []) → IsHanding cpu 0 place
 handing_fresh clerk place cpu cpus specs k room same me_is =
     let words_same = ap (λ (z : TableId). z.words) same in
     let slots_same = ap (λ (z : TableId). z.slots) same in
@@ -116,7 +116,7 @@ handing_fresh clerk place cpu cpus specs k room same me_is =
     let c = k.few in
     let d = k.few_cpus in
     let f = k.cpus_is in
-    let v : View = seat_right clerk.me.0 in
+    let v : View = new_seat clerk.me.0 in
     let F : Me Rec View → Type 0 = λ x. AreHands x.0 cpu.0 x.1 in
     let T : View → Type 0 = λ x. (m : ℕ) → 0 ≤ m → at x m ≡ first_entry (spec_at x.specs m) in
     let blank : (m : ℕ) → at v m ≡ first_entry (spec_at v.specs m) = λ m. at-none v m k.none_noted in

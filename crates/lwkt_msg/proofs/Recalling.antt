@@ -15,7 +15,7 @@ use Rattle.lwkt_msg.specs.declared.views.Entry.{Entry}
 use Rattle.lwkt_msg.specs.declared.views.Layout.{Layout}
 use Rattle.lwkt_msg.specs.declared.views.Recalled.{Recalled}
 use Rattle.lwkt_msg.specs.declared.views.View.{View}
-use Rattle.lwkt_msg.specs.Views.{at, seat_cpu, page_of, recalled_of, recalled_at, clerk_left, seat_right, clerk_both, spent_view}
+use Rattle.lwkt_msg.specs.Views.{at, seat_cpu, page_of, recalled_of, recalled_at, clerk_after, new_seat, joined, spent_view}
 use Rattle.lwkt_msg.specs.Book.{Mail, Knows, mail_at, no_mail}
 use Rattle.lwkt_msg.specs.Told.{Recalls, Told}
 use Rattle.lwkt_msg.proofs.Leading.{KeptByOthers}
@@ -100,16 +100,16 @@ module _ (views views' : List View) (mails : List Mail) (count : ℕ) (old : Rec
   }
 
 -- the clerk makes a seat
-pub recalls_split : (views : List View) (mails : List Mail) (count id : ℕ) (v : View) → get_elem? views id ≡ some v → Recalls views mails count → Recalls (set views id (clerk_left v) ++ seat_right v ∷ []) mails count
-recalls_split views mails count id v e old = recalls_kept views (set views id (clerk_left v) ++ seat_right v ∷ []) mails count old (λ j x d i r at_i.
+pub recalls_split : (views : List View) (mails : List Mail) (count id : ℕ) (v : View) → get_elem? views id ≡ some v → Recalls views mails count → Recalls (set views id (clerk_after v) ++ new_seat v ∷ []) mails count
+recalls_split views mails count id v e old = recalls_kept views (set views id (clerk_after v) ++ new_seat v ∷ []) mails count old (λ j x d i r at_i.
     ⊎_elim
-    (λ (was : get_elem? (set views id (clerk_left v)) j ≡ some x). ⊎_elim
-    (λ (here : (j ≡ id) × (clerk_left v ≡ x)).
+    (λ (was : get_elem? (set views id (clerk_after v)) j ≡ some x). ⊎_elim
+    (λ (here : (j ≡ id) × (clerk_after v ≡ x)).
     (id, (v, (e, ap (λ (y : View). y.chapters) here.1, ap (λ (y : View). y.recalled) here.1, λ made back is. (made + 1, back, sym (ap (λ (y : View). y.kind) here.1) ∙ ap after_made is)))))
     (λ (other : (j ≢ id) × (get_elem? views j ≡ some x)). (j, (x, (other.1, refl, refl, λ made back is. (made, back, is)))))
-    (at_set views id j (clerk_left v) x was))
-    (λ (new : (j ≡ length (set views id (clerk_left v))) × (seat_right v ≡ x)). absurd (nothing_recalled r i x.recalled (ap (λ (y : View). y.recalled) (sym new.1)) at_i))
-    (at_snoc (set views id (clerk_left v)) (seat_right v) x j d))
+    (at_set views id j (clerk_after v) x was))
+    (λ (new : (j ≡ length (set views id (clerk_after v))) × (new_seat v ≡ x)). absurd (nothing_recalled r i x.recalled (ap (λ (y : View). y.recalled) (sym new.1)) at_i))
+    (at_snoc (set views id (clerk_after v)) (new_seat v) x j d))
 
 -- a view is cut off whole
 pub recalls_moved : (views : List View) (mails : List Mail) (count id : ℕ) (v : View) → get_elem? views id ≡ some v → Recalls views mails count → Recalls (set views id spent_view ++ v ∷ []) mails count
@@ -131,22 +131,22 @@ data Which (views : List View) (both : View) (j : ℕ) (x : View) : Type 0 where
 
 -- the clerk takes a seat back, and keeps what it knew
 pub recalls_joined : (views : List View) (mails : List Mail) (count id other made back : ℕ) (v w : View) (cpu : CpuId) → get_elem? views id ≡ some v → v.kind ≡ Clerk made back → w.kind ≡ Of cpu → ((m : ℕ) → m < count → Knows (mail_at mails m) (Of cpu) (at w m))
-    → Recalls views mails count → Recalls (set (set views id (clerk_both v w)) other spent_view) mails count
+    → Recalls views mails count → Recalls (set (set views id (joined v w)) other spent_view) mails count
 recalls_joined views mails count id other made back v w cpu e is_clerk is_seat known old = record {
   chapters = λ j i x r d at_i. chapter j i x r (which j x d) at_i;
   knows = λ j i x r m d at_i within. knows j i x r m (which j x d) at_i within;
 }
   where
-    which : (j : ℕ) (x : View) → get_elem? (set (set views id (clerk_both v w)) other spent_view) j ≡ some x → Which views (clerk_both v w) j x
+    which : (j : ℕ) (x : View) → get_elem? (set (set views id (joined v w)) other spent_view) j ≡ some x → Which views (joined v w) j x
     which j x d = ⊎_elim
         (λ (here : (j ≡ other) × (spent_view ≡ x)). spent here.1)
-        (λ (was : (j ≢ other) × (get_elem? (set views id (clerk_both v w)) j ≡ some x)). ⊎_elim
-        (λ (desk : (j ≡ id) × (clerk_both v w ≡ x)). clerk desk.1)
+        (λ (was : (j ≢ other) × (get_elem? (set views id (joined v w)) j ≡ some x)). ⊎_elim
+        (λ (desk : (j ≡ id) × (joined v w ≡ x)). clerk desk.1)
         (λ (else_ : (j ≢ id) × (get_elem? views j ≡ some x)). older else_.1)
-        (at_set views id j (clerk_both v w) x was.1))
-        (at_set (set views id (clerk_both v w)) other j spent_view x d)
+        (at_set views id j (joined v w) x was.1))
+        (at_set (set views id (joined v w)) other j spent_view x d)
 
-    kept : (i : ℕ) (r : Recalled) → get_elem? (clerk_both v w).recalled i ≡ some r → (made back : ℕ) × ((past : List Deed) × (((clerk_both v w).kind ≡ Clerk made back) × (get_elem? (clerk_both v w).chapters i ≡ some (record { cpu = r.cpu; past = past }))))
+    kept : (i : ℕ) (r : Recalled) → get_elem? (joined v w).recalled i ≡ some r → (made back : ℕ) × ((past : List Deed) × (((joined v w).kind ≡ Clerk made back) × (get_elem? (joined v w).chapters i ≡ some (record { cpu = r.cpu; past = past }))))
     kept zero r at_i =
         let is : recalled_of w ≡ r = some-injective (recalled_of w) r at_i in
         (made, back + 1, (w.past, (ap after_back is_clerk, ap (λ (c : CpuId). let z : Chapter = record { cpu = c; past = w.past } in some z) (ap (λ (y : Recalled). y.cpu) is))))
@@ -154,7 +154,7 @@ recalls_joined views mails count id other made back v w cpu e is_clerk is_seat k
         let has = old.chapters id i v r e at_i in
         (made, back + 1, (has.2.0, (ap after_back is_clerk, has.2.1.1)))
 
-    known_of : (i : ℕ) (r : Recalled) (m : ℕ) → get_elem? (clerk_both v w).recalled i ≡ some r → m < count → Knows (mail_at mails m) (Of r.cpu) (recalled_at r m)
+    known_of : (i : ℕ) (r : Recalled) (m : ℕ) → get_elem? (joined v w).recalled i ≡ some r → m < count → Knows (mail_at mails m) (Of r.cpu) (recalled_at r m)
     known_of zero r m at_i within =
         let is : recalled_of w ≡ r = some-injective (recalled_of w) r at_i in
         let F : Recalled → Type 0 = λ y. Knows (mail_at mails m) (Of y.cpu) (recalled_at y m) in
@@ -163,14 +163,14 @@ recalls_joined views mails count id other made back v w cpu e is_clerk is_seat k
         subst F is (subst G (sym (ap seat_cpu is_seat)) (subst H (sym (recalled-same w m)) (known m within)))
     known_of (suc i) r m at_i within = old.knows id i v r m e at_i within
 
-    chapter : (j i : ℕ) (x : View) (r : Recalled) → Which views (clerk_both v w) j x → get_elem? x.recalled i ≡ some r → (made back : ℕ) × ((past : List Deed) × ((x.kind ≡ Clerk made back) × (get_elem? x.chapters i ≡ some (record { cpu = r.cpu; past = past }))))
+    chapter : (j i : ℕ) (x : View) (r : Recalled) → Which views (joined v w) j x → get_elem? x.recalled i ≡ some r → (made back : ℕ) × ((past : List Deed) × ((x.kind ≡ Clerk made back) × (get_elem? x.chapters i ≡ some (record { cpu = r.cpu; past = past }))))
     chapter j i x r (spent is) at_i = absurd (nothing_recalled r i x.recalled (ap (λ (y : View). y.recalled) (sym is)) at_i)
     chapter j i x r (clerk is) at_i =
         let F : View → Type 0 = λ y. get_elem? y.recalled i ≡ some r → (made back : ℕ) × ((past : List Deed) × ((y.kind ≡ Clerk made back) × (get_elem? y.chapters i ≡ some (record { cpu = r.cpu; past = past })))) in
         subst F is (kept i r) at_i
     chapter j i x r (older d) at_i = old.chapters j i x r d at_i
 
-    knows : (j i : ℕ) (x : View) (r : Recalled) (m : ℕ) → Which views (clerk_both v w) j x → get_elem? x.recalled i ≡ some r → m < count → Knows (mail_at mails m) (Of r.cpu) (recalled_at r m)
+    knows : (j i : ℕ) (x : View) (r : Recalled) (m : ℕ) → Which views (joined v w) j x → get_elem? x.recalled i ≡ some r → m < count → Knows (mail_at mails m) (Of r.cpu) (recalled_at r m)
     knows j i x r m (spent is) at_i within = absurd (nothing_recalled r i x.recalled (ap (λ (y : View). y.recalled) (sym is)) at_i)
     knows j i x r m (clerk is) at_i within =
         let F : View → Type 0 = λ y. get_elem? y.recalled i ≡ some r → Knows (mail_at mails m) (Of r.cpu) (recalled_at r m) in

@@ -258,16 +258,16 @@ event_at cpus m mails d others event done is place = ⊎_elim
     done.what
 
 pub found_is_put : FoundIsWhatWasPut
-found_is_put cpus specs front back d mails m passes found is = (
+found_is_put cpus specs front back d mails m passes = (
   (λ take.
       let at_m = event_at cpus m mid d cut.1.1.0 (TakeMsg take.0 (named m) take.1.0) done take.1.1 refl in
-      ((mail_at mid m).rec, (sym is ∙ at_m.record_is.0, out_is take.0 (mail_at mid m).msg.owner at_m.needs.0 front m (mail_at mid m).rec (posted at_m.there)))),
+      ((mail_at mid m).rec, (at_m.record_is.0, out_is take.0 (mail_at mid m).msg.owner at_m.needs.0 front m (mail_at mid m).rec (posted at_m.there)))),
   (λ drop.
       let at_m = event_at cpus m mid d cut.1.1.0 (DropMsg drop.0 (named m)) done drop.1 refl in
-      ((mail_at mid m).rec, (sym is ∙ at_m.record_is.0, from_is drop.0 (mail_at mid m).msg.owner at_m.needs front m (mail_at mid m).rec (posted at_m.there)))),
+      ((mail_at mid m).rec, (at_m.record_is.0, from_is drop.0 (mail_at mid m).msg.owner at_m.needs front m (mail_at mid m).rec (posted at_m.there)))),
   (λ reap.
       let at_m = event_at cpus m mid d cut.1.1.0 (Reap reap.0 (named m)) done reap.1 refl in
-      ((mail_at mid m).rec, (sym is ∙ at_m.record_is.0, back_is reap.0 (mail_at mid m).msg.owner at_m.needs front m (mail_at mid m).rec (posted at_m.there)))),
+      ((mail_at mid m).rec, (at_m.record_is.0, back_is reap.0 (mail_at mid m).msg.owner at_m.needs front m (mail_at mid m).rec (posted at_m.there)))),
 )
   where
     cut : (k : List Mail) × (Passes (IsDone cpus) (first_mails specs) front k × Passes (IsDone cpus) k (d ∷ back) mails)

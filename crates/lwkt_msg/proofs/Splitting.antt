@@ -20,7 +20,7 @@ use Rattle.lwkt_msg.specs.declared.views.Entry.{Entry}
 use Rattle.lwkt_msg.specs.declared.views.Layout.{Layout}
 use Rattle.lwkt_msg.specs.declared.views.Noted.{Noted}
 use Rattle.lwkt_msg.specs.declared.views.View.{View}
-use Rattle.lwkt_msg.specs.Views.{word_at, slot_at, spec_at, at, entry_in, first_entry, no_spec, seat_cpu, page_of, clerk_left, seat_right, spent_view, spent_left, whole_right, added, gathered, clerk_both}
+use Rattle.lwkt_msg.specs.Views.{word_at, slot_at, spec_at, at, entry_in, first_entry, no_spec, seat_cpu, page_of, clerk_after, new_seat, spent_view, spent_left, whole_right, added, gathered, joined}
 use Rattle.lwkt_msg.specs.Book.{Mail, Knows, IsKept, mail_at, IsBook, first_view, no_rec, opened_mail}
 use Rattle.lwkt_msg.specs.Told.{IsDone, first_mails, Told, IsSame, Opens}
 use Rattle.lwkt_msg.specs.Steps.{rest_word}
@@ -59,7 +59,7 @@ kept_over cpus spec mail word home m views views' kept same each = record {
 
 -- the clerk makes the seat of the next processor
 pub seat_book : (key : Layout) (mails : List Mail) (s : State Rec View) (id : ℕ) (v : View) (made back : ℕ) → IsBook key mails s → get_elem? s.views id ≡ some v → v.kind ≡ Clerk made back → v.entries ≡ [] → made < v.cpus
-    → IsBook key mails record { words = s.words; homes = s.homes; views = set s.views id (clerk_left v) ++ seat_right v ∷ [] }
+    → IsBook key mails record { words = s.words; homes = s.homes; views = set s.views id (clerk_after v) ++ new_seat v ∷ [] }
 seat_book key mails s id v made back book e is_clerk no_entries room = record {
   within = book.within;
   as_many = book.as_many;
@@ -78,10 +78,10 @@ seat_book key mails s id v made back book e is_clerk no_entries room = record {
 }
   where
     left : View
-    left = clerk_left v
+    left = clerk_after v
 
     right : View
-    right = seat_right v
+    right = new_seat v
 
     plan : (v.cpus ≡ key.cpus) × (v.specs ≡ key.specs.items)
     plan = book.plans id v e (λ gone. let h : Clerk made back ≡ Spent = sym is_clerk ∙ gone in absurd cc)
@@ -155,12 +155,12 @@ seat_book key mails s id v made back book e is_clerk no_entries room = record {
 
 -- which is no deed
 pub seat_told : (key : Layout) (s : State Rec View) (told : Told key s) (id : ℕ) (v : View) (made back : ℕ) → get_elem? s.views id ≡ some v → v.kind ≡ Clerk made back → v.entries ≡ [] → made < v.cpus
-    → IsSame key s record { words = s.words; homes = s.homes; views = set s.views id (clerk_left v) ++ seat_right v ∷ [] } told
+    → IsSame key s record { words = s.words; homes = s.homes; views = set s.views id (clerk_after v) ++ new_seat v ∷ [] } told
 seat_told key s told id v made back e is_clerk no_entries room =
-    let q = Views-split (IsDone key.cpus) page_of (first_mails key.specs.items) told.rule.mails s.views told.chronicle id v e key.cpus told.rule.book.seated made back (clerk_left v) (seat_right v) is_clerk refl refl in
+    let q = Views-split (IsDone key.cpus) page_of (first_mails key.specs.items) told.rule.mails s.views told.chronicle id v e key.cpus told.rule.book.seated made back (clerk_after v) (new_seat v) is_clerk refl refl in
     (record { rule = record { mails = told.rule.mails; book = seat_book key told.rule.mails s id v made back told.rule.book e is_clerk no_entries room }; chronicle = q.0; recalls = recalls_split s.views told.rule.mails (length key.specs.items) id v e told.recalls }, refl, q.1)
 
-pub seat_splits : (key : Layout) (id : ℕ) (v : View) (made back : ℕ) → v.kind ≡ Clerk made back → v.entries ≡ [] → made < v.cpus → Splits (Told key) id v (clerk_left v) (seat_right v)
+pub seat_splits : (key : Layout) (id : ℕ) (v : View) (made back : ℕ) → v.kind ≡ Clerk made back → v.entries ≡ [] → made < v.cpus → Splits (Told key) id v (clerk_after v) (new_seat v)
 seat_splits key id v made back is_clerk no_entries room s told e = (seat_told key s told id v made back e is_clerk no_entries room).0
 
 -- a seat's view is cut off whole, and leaves a spent one
@@ -281,13 +281,13 @@ in_gathered (suc k) v other m d h = dite (ℕ_discrete k m)
     (λ same. rw (eq-eqb k m same) (ap (λ (i : ℕ). added (at v i) (at other i)) same))
     (λ apart. rw (ne_eqb k m apart) (in_gathered k v other m d (omega arith)))
 
-pub at-both : (v other : View) (m : ℕ) → m < length v.specs → at (clerk_both v other) m ≡ added (at v m) (at other m)
+pub at-both : (v other : View) (m : ℕ) → m < length v.specs → at (joined v other) m ≡ added (at v m) (at other m)
 unfolding at
 at-both v other m within = in_gathered (length v.specs) v other m (first_entry (spec_at v.specs m)) within
 
 -- the clerk takes a seat back
-pub joined_book : (key : Layout) (mails : List Mail) (s : State Rec View) (id : ℕ) (v : View) (other : ℕ) (w : View) (made back : ℕ) (cpu : CpuId) → IsBook key mails s → get_elem? s.views id ≡ some v → v.kind ≡ Clerk made back → w.kind ≡ Of cpu → other ≢ id → get_elem? (set s.views id (clerk_both v w)) other ≡ some w
-    → IsBook key mails record { words = s.words; homes = s.homes; views = set (set s.views id (clerk_both v w)) other spent_view }
+pub joined_book : (key : Layout) (mails : List Mail) (s : State Rec View) (id : ℕ) (v : View) (other : ℕ) (w : View) (made back : ℕ) (cpu : CpuId) → IsBook key mails s → get_elem? s.views id ≡ some v → v.kind ≡ Clerk made back → w.kind ≡ Of cpu → other ≢ id → get_elem? (set s.views id (joined v w)) other ≡ some w
+    → IsBook key mails record { words = s.words; homes = s.homes; views = set (set s.views id (joined v w)) other spent_view }
 joined_book key mails s id v other w made back cpu book e is_clerk is_seat apart d = record {
   within = book.within;
   as_many = book.as_many;
@@ -313,7 +313,7 @@ joined_book key mails s id v other w made back cpu book e is_clerk is_seat apart
 }
   where
     both : View
-    both = clerk_both v w
+    both = joined v w
 
     both_kind : both.kind ≡ Clerk made (back + 1)
     both_kind = ap after_back is_clerk
@@ -359,15 +359,15 @@ joined_book key mails s id v other w made back cpu book e is_clerk is_seat apart
         (at_set (set s.views id both) other j spent_view x f)
 
 pub joined_told : (key : Layout) (s : State Rec View) (told : Told key s) (id : ℕ) (v : View) (other : ℕ) (w : View) (made back : ℕ) (cpu : CpuId) → get_elem? s.views id ≡ some v → v.kind ≡ Clerk made back → w.kind ≡ Of cpu → other ≢ id
-    → get_elem? (set s.views id (clerk_both v w)) other ≡ some w → IsSame key s record { words = s.words; homes = s.homes; views = set (set s.views id (clerk_both v w)) other spent_view } told
+    → get_elem? (set s.views id (joined v w)) other ≡ some w → IsSame key s record { words = s.words; homes = s.homes; views = set (set s.views id (joined v w)) other spent_view } told
 joined_told key s told id v other w made back cpu e is_clerk is_seat apart d =
-    let there : get_elem? s.views other ≡ some w = sym (set_else s.views id other (clerk_both v w) apart) ∙ d in
+    let there : get_elem? s.views other ≡ some w = sym (set_else s.views id other (joined v w) apart) ∙ d in
     let known : (m : ℕ) → m < length key.specs.items → Knows (mail_at told.rule.mails m) (Of cpu) (at w m) = λ m within. let F : SeatKind → Type 0 = λ k. Knows (mail_at told.rule.mails m) k (at w m) in subst F is_seat ((told.rule.book.each m within).each_view other w there) in
-    let page_is : page_of (clerk_both v w) ≡ back_page (page_of v) cpu w.past = ap (λ (c : CpuId). back_page (page_of v) c w.past) (ap seat_cpu is_seat) in
-    let q = Views-joined (IsDone key.cpus) page_of (first_mails key.specs.items) told.rule.mails s.views told.chronicle id v e key.cpus told.rule.book.seated made back other w cpu (clerk_both v w) spent_view is_clerk apart there is_seat page_is refl in
+    let page_is : page_of (joined v w) ≡ back_page (page_of v) cpu w.past = ap (λ (c : CpuId). back_page (page_of v) c w.past) (ap seat_cpu is_seat) in
+    let q = Views-joined (IsDone key.cpus) page_of (first_mails key.specs.items) told.rule.mails s.views told.chronicle id v e key.cpus told.rule.book.seated made back other w cpu (joined v w) spent_view is_clerk apart there is_seat page_is refl in
     (record { rule = record { mails = told.rule.mails; book = joined_book key told.rule.mails s id v other w made back cpu told.rule.book e is_clerk is_seat apart d }; chronicle = q.0; recalls = recalls_joined s.views told.rule.mails (length key.specs.items) id other made back v w cpu e is_clerk is_seat known told.recalls }, refl, q.1)
 
-pub seat_joins : (key : Layout) (id : ℕ) (v : View) (other : ℕ) (w : View) (made back : ℕ) (cpu : CpuId) → v.kind ≡ Clerk made back → w.kind ≡ Of cpu → Joins (Told key) id v other w (clerk_both v w) spent_view
+pub seat_joins : (key : Layout) (id : ℕ) (v : View) (other : ℕ) (w : View) (made back : ℕ) (cpu : CpuId) → v.kind ≡ Clerk made back → w.kind ≡ Of cpu → Joins (Told key) id v other w (joined v w) spent_view
 seat_joins key id v other w made back cpu is_clerk is_seat s told e apart d = (joined_told key s told id v other w made back cpu e is_clerk is_seat apart d).0
 
 -- the opened messages, by their numbers

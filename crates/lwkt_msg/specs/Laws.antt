@@ -19,7 +19,7 @@ use Rattle.lwkt_core.specs.History.{AreOthers, AreOwn, IsStepOver, IsPastOf, Pas
 use Rattle.lwkt_msg.specs.declared.views.Entry.{Entry}
 use Rattle.lwkt_msg.specs.declared.views.Layout.{Layout}
 use Rattle.lwkt_msg.specs.declared.views.View.{View}
-use Rattle.lwkt_msg.specs.Views.{slot_at, word_at, call_of, at, who, page_of, looked, handed, sent, took, replied, reaped, dropped, requested, clerk_left, seat_right, spent_left, whole_right, clerk_both, spent_view}
+use Rattle.lwkt_msg.specs.Views.{slot_at, word_at, call_of, at, who, page_of, looked, handed, sent, took, replied, reaped, dropped, requested, clerk_after, new_seat, spent_left, whole_right, joined, spent_view}
 use Rattle.lwkt_msg.specs.Book.{parts_of, mail_at, IsBook, first_view, no_rec}
 use Rattle.lwkt_msg.specs.Hands.{IsOwn}
 use Rattle.lwkt_msg.specs.Steps.{sent_word, rest_word, machine_of}
@@ -112,10 +112,10 @@ OrIsAbort = AtSeat (λ key s told id v cpu m n. (hands : List (ℕ × Rec)) → 
 -- a seat that is made, cut off or taken back is no deed
 abbrev pub SeatingIsNoDeed : Type 0
 SeatingIsNoDeed = (key : Layout) (s : State Rec View) (told : Told key s) (id : ℕ) (v : View) → get_elem? s.views id ≡ some v
-    → ((made back : ℕ) → v.kind ≡ Clerk made back → v.entries ≡ [] → made < v.cpus → IsSame key s record { words = s.words; homes = s.homes; views = slice_set s.views id (clerk_left v) ++ seat_right v ∷ [] } told)
+    → ((made back : ℕ) → v.kind ≡ Clerk made back → v.entries ≡ [] → made < v.cpus → IsSame key s record { words = s.words; homes = s.homes; views = slice_set s.views id (clerk_after v) ++ new_seat v ∷ [] } told)
     × ((cpu : CpuId) → v.kind ≡ Of cpu → IsSame key s record { words = s.words; homes = s.homes; views = slice_set s.views id (spent_left v) ++ whole_right v ∷ [] } told)
-    × ((other : ℕ) (w : View) (made back : ℕ) (cpu : CpuId) → v.kind ≡ Clerk made back → w.kind ≡ Of cpu → other ≢ id → get_elem? (slice_set s.views id (clerk_both v w)) other ≡ some w
-    → IsSame key s record { words = s.words; homes = s.homes; views = slice_set (slice_set s.views id (clerk_both v w)) other spent_view } told)
+    × ((other : ℕ) (w : View) (made back : ℕ) (cpu : CpuId) → v.kind ≡ Clerk made back → w.kind ≡ Of cpu → other ≢ id → get_elem? (slice_set s.views id (joined v w)) other ≡ some w
+    → IsSame key s record { words = s.words; homes = s.homes; views = slice_set (slice_set s.views id (joined v w)) other spent_view } told)
 
 -- what a deed made of the words of so many messages: its step met and left the word of its message, and every other is as it was
 pub record IsMade (count : ℕ) (words others : List ℕ) (d : Deed) : Type 0 where

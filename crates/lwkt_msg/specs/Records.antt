@@ -72,10 +72,10 @@ IsReapOf m d = (cpu : CpuId) × (d.events ≡ Reap cpu (named m) ∷ [])
 -- in a history, what a take or a drop found in the record is what the last send of the message put there, and what a reap found is
 -- that with what the one reply since put there
 abbrev pub FoundIsWhatWasPut : Type 0
-FoundIsWhatWasPut = (cpus : ℕ) (specs : List MsgSpec) (front back : List Deed) (d : Deed) (mails : List Mail) (m : ℕ) → Passes (IsDone cpus) (first_mails specs) (front ++ (d ∷ back)) mails → (found : List Rec) → d.records ≡ found
-    → (IsTakeOf m d → (rec : Rec) × ((found ≡ rec ∷ []) × WasSent front m rec))
-    × (IsDropOf m d → (rec : Rec) × ((found ≡ rec ∷ []) × WasSent front m rec))
-    × (IsReapOf m d → (rec : Rec) × ((found ≡ rec ∷ []) × WasAnswered front m rec))
+FoundIsWhatWasPut = (cpus : ℕ) (specs : List MsgSpec) (front back : List Deed) (d : Deed) (mails : List Mail) (m : ℕ) → Passes (IsDone cpus) (first_mails specs) (front ++ (d ∷ back)) mails
+    → (IsTakeOf m d → (rec : Rec) × ((d.records ≡ rec ∷ []) × WasSent front m rec))
+    × (IsDropOf m d → (rec : Rec) × ((d.records ≡ rec ∷ []) × WasSent front m rec))
+    × (IsReapOf m d → (rec : Rec) × ((d.records ≡ rec ∷ []) × WasAnswered front m rec))
 
 -- the front of a past up to the seat's last deed, and that deed, of which this is so
 abbrev pub Last : List Deed → Deed → (List Deed → Type 0) → Type 0

@@ -160,11 +160,11 @@ pub record Sees (v : View) (m : ℕ) (w : MsgWord) : Type 0 where
   pub as_target : (cpu : ℕ) → Stands v.kind cpu → (at v m).taken ≡ shows_with cpu w.state w.target
 
 -- the clerk's view after a seat was made, and the view of that seat
-abbrev pub clerk_left : View → View
-clerk_left v = record v { kind = after_made v.kind }
+abbrev pub clerk_after : View → View
+clerk_after v = record v { kind = after_made v.kind }
 
-abbrev pub seat_right : View → View
-seat_right v = record v { kind = next_seat v.kind; past = []; chapters = []; recalled = [] }
+abbrev pub new_seat : View → View
+new_seat v = record v { kind = next_seat v.kind; past = []; chapters = []; recalled = [] }
 
 -- a view that was taken back, and one cut off whole
 abbrev pub spent_view : View
@@ -196,5 +196,5 @@ recalled_at r m = entry_in r.entries m (first_entry (spec_at r.specs m))
 abbrev pub chapter_of : View → Chapter
 chapter_of v = record { cpu = who v; past = v.past }
 
-abbrev pub clerk_both : View → View → View
-clerk_both v other = record v { kind = after_back v.kind; entries = gathered (length v.specs) v other; chapters = chapter_of other ∷ v.chapters; recalled = recalled_of other ∷ v.recalled }
+abbrev pub joined : View → View → View
+joined v other = record v { kind = after_back v.kind; entries = gathered (length v.specs) v other; chapters = chapter_of other ∷ v.chapters; recalled = recalled_of other ∷ v.recalled }

@@ -2,7 +2,7 @@
 ghost use Rattle.std.specs.Prelude.{◌≡◌, ℕ, ◌+◌, ◌*◌, ◌<◌, ◌≤◌, [], length, IfOk, All};
 ghost use Rattle.std.specs.Slots.{slots_items, slots_len, IsFull};
 ghost use Rattle.lwkt_msg.specs.Desks.{shown_owner, shown_end, AreShown, HasTakenBack};
-ghost use Rattle.lwkt_msg.specs.Views.{clerk_both};
+ghost use Rattle.lwkt_msg.specs.Views.{joined};
 ghost use Rattle.lwkt_base.specs.declared.message_words.MsgWord.{MsgWord};
 ghost use Rattle.lwkt_base.specs.MessageWord.{message_word, MessageFits};
 ghost use Rattle.lwkt_core.specs.declared.seats.SeatKind.TheVariants.{Clerk};
@@ -45,7 +45,7 @@ fn take_back(top: &Top, clerk: &mut Place, seat: MsgSeat)
     requires table { (clerk.old.table_id ≡ top.now.table_id) × (seat.table ≡ top.now.table_id) × (0 < top.now.table_id.words) }
     requires clerk { (made : ℕ) × (back : ℕ) × (clerk.old.me.0.kind ≡ Clerk made back) }
     ensures seat { (clerk.new.table_id ≡ clerk.old.table_id) × (clerk.new.id ≡ clerk.old.id) }
-    ensures view { clerk.new.me.0 ≡ clerk_both clerk.old.me.0 seat.view }
+    ensures view { clerk.new.me.0 ≡ joined clerk.old.me.0 seat.view }
 {
     let mut place = seat.into_place();
     let whole = top.split_seat::<CutOff>(&mut place);

@@ -1,6 +1,6 @@
 //! What each step on the book's table tells, and how views are cut and put together.
 ghost use Rattle.lwkt_msg.specs.Plays.{looks, sends, takes_it, replies, reaps, hands_out};
-ghost use Rattle.lwkt_msg.specs.Views.{clerk_left, seat_right, spent_left, whole_right, clerk_both, spent_view};
+ghost use Rattle.lwkt_msg.specs.Views.{clerk_after, new_seat, spent_left, whole_right, joined, spent_view};
 
 use crate::views::View;
 use atomic_table::{Join, Play, Split};
@@ -48,9 +48,9 @@ impl Play<Rec, View> for Reap {
 pub(crate) struct MakeSeat;
 
 impl Split<View> for MakeSeat {
-    ghost left = { clerk_left };
+    ghost left = { clerk_after };
 
-    ghost right = { seat_right };
+    ghost right = { new_seat };
 }
 
 /// A seat's view is cut off from the records that it has in hand.
@@ -66,7 +66,7 @@ impl Split<View> for CutOff {
 pub(crate) struct TakeBack;
 
 impl Join<View> for TakeBack {
-    ghost both = { clerk_both };
+    ghost both = { joined };
 
     ghost spent = { spent_view };
 }
