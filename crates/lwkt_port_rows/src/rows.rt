@@ -95,6 +95,9 @@ fn lanes_and_ports_4(rt: HostRuntime) -> Result<(), Fail> {
         second(Ask::Send(0, 0, 0, 0, 1, 1), Told::Refused(Fault::NotOwner)),
     ];
     run(&rt, rt.alloc(), &mut pair, 1, &lines)?;
+    let Pair { first, .. } = pair;
+    assert_eq!(rt; first.threads(), 2);
+    assert_eq!(rt; first.retire().messages(), 1);
     Ok(())
 }
 
