@@ -91,7 +91,6 @@ fn are_within(
 }
 
 impl Ports {
-    #[tactic(auto, using(crate::proofs::Begun::opened))]
     /// Opens the ports of a processor's threads, each without an item, over the processor's seat at the book, the sending
     /// ends of the lanes to each processor, and the receiving ends of those from each. `origins` are the threads that the
     /// messages belong to. In msgport(9) each thread has a port that lwkt_initport_thread makes; here they are made
@@ -102,6 +101,7 @@ impl Ports {
     ///
     /// That the seat is this processor's as the book's opening gave it, and that the origins are those of the book, are
     /// the caller's conditions.
+    #[tactic(auto, using(crate::proofs::Begun::opened))]
     pub fn new(
         alloc: Global,
         cpu: CpuId,

@@ -4,7 +4,7 @@ ghost use Rattle.lwkt_msg.specs.Desks.{cpus_of};
 ghost use Rattle.lwkt_port_rows.specs.Stations.{Sits};
 
 use crate::stations::{
-    Ask, Line, NO_FLAGS, Told, both, listed, open, open_ports, play, play_all, run,
+    Ask, Line, NO_FLAGS, Pair, Told, both, listed, open, open_ports, play, play_all, run,
 };
 use lwkt_base::{Call, CpuId, Fault, Item, MsgId, MsgSpec, Rec, ThreadId};
 use lwkt_lane::{LaneOut, Note, NoteKind, lane};
@@ -94,6 +94,9 @@ fn lanes_and_ports_4(rt: HostRuntime) -> Result<(), Fail> {
         second(Ask::Send(0, 0, 0, 0, 1, 1), Told::Refused(Fault::NotOwner)),
     ];
     run(rt.alloc(), &mut pair, 1, &lines)?;
+    let Pair { first, .. } = pair;
+    assert_eq!(rt; first.threads(), 2);
+    assert_eq!(rt; first.retire().messages(), 1);
     Ok(())
 }
 
