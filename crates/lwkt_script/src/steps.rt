@@ -10,8 +10,8 @@ use lwkt_base::{Ask, Fault, TokId};
 use serde_json::Value;
 use std::alloc::Global;
 
-// Item i of a step as the number of a token or a cell.
-fn small_at(value: &Value, i: usize) -> Option<u8>
+/// Item i of a list as the number of a token or a cell.
+pub fn small_at(value: &Value, i: usize) -> Option<u8>
     ensures { result ≡ small_at i (view value.now) }
 {
     match number(value.get(i)?, 0, 255) {
@@ -68,8 +68,8 @@ fn with_cell(word: &str, tok: u8, cell: u8, n: u64) -> Option<Ask>
     }
 }
 
-// The whole number that item i of a step is.
-fn whole_at(value: &Value, i: usize) -> Option<u64>
+/// The whole number that item i of a list is.
+pub fn whole_at(value: &Value, i: usize) -> Option<u64>
     ensures { result ≡ whole_at i (view value.now) }
 {
     value.get(i)?.as_u64()
