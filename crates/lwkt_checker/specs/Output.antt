@@ -1,0 +1,31 @@
+-- What the program reads, writes and answers (own).
+use Rattle.std.specs.Prelude.{◌≡◌, ◌⊎◌, ℕ, List, Bool, true, false, take, Option, IfSome, Result, Ok, Err}
+use Rattle.std.specs.Io.KnownBytes.{Appends, Keeps}
+use Rattle.lwkt_base.specs.declared.faults.Fault.TheVariants.{Memory}
+use Rattle.lwkt_report.specs.declared.streams.RunFault.{RunFault}
+use Rattle.lwkt_report.specs.declared.streams.RunFault.TheVariants.{Fault, Stream}
+use Rattle.lwkt_report.specs.Stream.{AppendsFront}
+use Rattle.lwkt_checker.specs.Judgement.{HasFinding, Refuses}
+
+-- these are the bytes that are read of a source that has so many left, where that is known
+abbrev pub AreRead : Option (List ℕ) → List ℕ → Type 0
+AreRead left bytes = IfSome left (λ all. bytes ≡ take 268435457 all)
+
+-- what a check says by its answer, of what was left to read and of what was written before and after it: what was found of
+-- the trace that was read; or nothing written, and why; or, where a stream failed, a front of it
+abbrev pub Tells : Option (List ℕ) → Option (List ℕ) → Option (List ℕ) → Result Bool RunFault → Type 0
+Tells left old new (Ok lawful) = (bytes : List ℕ) × (AreRead left bytes × ((text : List ℕ) × (HasFinding bytes lawful text × Appends old new text)))
+Tells left old new (Err (Fault fault)) = Keeps old new × ((bytes : List ℕ) × (AreRead left bytes × Refuses bytes fault))
+Tells left old new (Err Stream) = Keeps old new ⊎ ((bytes : List ℕ) × (AreRead left bytes × ((lawful : Bool) × ((text : List ℕ) × (HasFinding bytes lawful text × AppendsFront old new text)))))
+
+-- the exit status of the program
+abbrev pub status_of : Result Bool RunFault → ℕ
+status_of (Ok true) = 0
+status_of (Ok false) = 4
+status_of (Err (Fault Memory)) = 3
+status_of (Err (Fault _)) = 1
+status_of (Err Stream) = 3
+
+-- what the program does where it has no arguments: it checks, and answers the status
+abbrev pub ChecksAs : Option (List ℕ) → Option (List ℕ) → Option (List ℕ) → ℕ → Type 0
+ChecksAs left old new status = (outcome : Result Bool RunFault) × (Tells left old new outcome × (status ≡ status_of outcome))

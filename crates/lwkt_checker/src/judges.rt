@@ -1,0 +1,115 @@
+ghost use Rattle.std.specs.Prelude.{◌≡◌, IfOk, IfErr, string_bytes};
+ghost use Rattle.lwkt_checker.specs.Judgement.{opening_of, AreClosing, Ends, Finds, IsFound, Declines, finding_text};
+
+use crate::differences::difference;
+use crate::lacks::reason;
+use lwkt_base::Fault;
+use lwkt_core::{Event, Final, State, play};
+use lwkt_trace::{Closing, Trace};
+use std::alloc::{AllocError, Global};
+
+/// What a trace was found to be.
+#[derive(Debug, Drop)]
+pub enum Finding {
+    /// The events can happen one after another, and end with the closing values, where there are any.
+    Lawful,
+    /// The index of the first event that can't happen, or the number of events if only the close differs; and a line that
+    /// says which need isn't met, or which value differs.
+    Unlawful { index: usize, why: String },
+}
+
+// The opening state of a trace.
+fn opened(alloc: Global, trace: &Trace) -> Result<State, Fault>
+    ensures ok { IfOk result (λ state. state ≡ opening_of trace.now) }
+    ensures refused { IfErr result (λ fault. Declines trace.now fault) }
+{
+    State::open(
+        alloc,
+        trace.tokens.as_slice(),
+        trace.messages.as_slice(),
+        usize::from(trace.cpus),
+    )
+}
+
+// The closing values as the model has them.
+fn last_of(last: Option<Closing>) -> Option<Final>
+    ensures { AreClosing last result }
+{
+    match last {
+        None => None,
+        Some(closing) => Some(closing.into_final()),
+    }
+}
+
+// What is found where all events have happened.
+fn closed(
+    alloc: Global,
+    state: &State,
+    events: &[Event],
+    last: &Option<Final>,
+) -> Result<Finding, AllocError>
+    ensures { IfOk result (λ finding. Ends state.now events.now last.now finding) }
+{
+    match last {
+        None => Ok(Finding::Lawful),
+        Some(last) => {
+            if state.closes(last) {
+                return Ok(Finding::Lawful);
+            }
+            Ok(Finding::Unlawful {
+                index: events.len(),
+                why: difference(alloc, state, last)?,
+            })
+        }
+    }
+}
+
+// What events and closing values are found to be, from an opening state.
+fn found(
+    alloc: Global,
+    opening: State,
+    events: &[Event],
+    last: &Option<Final>,
+) -> Result<Finding, AllocError>
+    ensures { IfOk result (λ finding. Finds opening events.now last.now finding) }
+{
+    let mut state = opening;
+    match play(&mut state, events) {
+        Ok(()) => closed(alloc, &state, events, last),
+        Err(index) => Ok(Finding::Unlawful {
+            index,
+            why: reason(alloc, &state, index, &events[index])?,
+        }),
+    }
+}
+
+/// What a trace is: lawful, or the index at which it fails and why.
+///
+/// Refused with `Limits` or `LawBroken` for its opening, and with `Memory` if an allocation is.
+pub fn judge(alloc: Global, trace: Trace) -> Result<Finding, Fault>
+    ensures ok { IfOk result (λ finding. IsFound trace finding) }
+    ensures refused { IfErr result (λ fault. Declines trace fault) }
+{
+    let opening = opened(alloc, &trace)?;
+    let Trace { events, last, .. } = trace;
+    let last = last_of(last);
+    match found(alloc, opening, events.as_slice(), &last) {
+        Ok(finding) => Ok(finding),
+        Err(_) => Err(Fault::Memory),
+    }
+}
+
+/// The text of a finding: `lawful`, or `unlawful INDEX` and the line that says why.
+pub fn finding_text(alloc: Global, finding: &Finding) -> Result<String, AllocError>
+    ensures { IfOk result (λ text. string_bytes text ≡ finding_text finding.now) }
+{
+    let mut out = String::new(alloc);
+    match finding {
+        Finding::Lawful => out.push_str("lawful\n")?,
+        Finding::Unlawful { index, why } => {
+            write!(out, "unlawful {index}\n")?;
+            out.push_str(why)?;
+        }
+    }
+    Ok(out)
+}
