@@ -23,6 +23,24 @@ pub fn play(state: &mut State, events: &[Event]) -> Result<(), usize>
     Ok(())
 }
 
+/// Makes the events happen one after another, and looks whether the state that they lead to closes with these values.
+///
+/// Refused with the index of the first event that can't happen, or with the number of events if only the close differs: a
+/// token still held, or other values. The state is then the one before that event, or the one at the end.
+pub fn play_to_close(state: &mut State, events: &[Event], last: &Final) -> Result<(), usize>
+    ensures lawful { OnOk result (IsLawfulTrace state.old events.now last.now) }
+    ensures failed { IfErr result (λ index. FailsAt state.old events.now last.now index) }
+{
+    match play(state, events) {
+        Ok(()) => {}
+        Err(index) => return Err(index),
+    }
+    if !state.closes(last) {
+        return Err(events.len());
+    }
+    Ok(())
+}
+
 /// Whether the events are a lawful trace from the opening to the closing values.
 ///
 /// If not, `Unlawful` with the index of the first event that can't happen, or with the number of events if only the
@@ -32,16 +50,10 @@ pub fn check(opening: State, events: &[Event], last: &Final) -> Result<(), Fault
     ensures refused { IfErr result (λ f. (index : ℕ) × ((f ≡ Fault.Unlawful index) × FailsAt opening events.now last.now index)) }
 {
     let mut state = opening;
-    match play(&mut state, events) {
-        Ok(()) => {}
-        Err(index) => return Err(Fault::Unlawful { index }),
+    match play_to_close(&mut state, events, last) {
+        Ok(()) => Ok(()),
+        Err(index) => Err(Fault::Unlawful { index }),
     }
-    if !state.closes(last) {
-        return Err(Fault::Unlawful {
-            index: events.len(),
-        });
-    }
-    Ok(())
 }
 
 /// Whether the events can happen one after another from the opening, whatever the closing values.

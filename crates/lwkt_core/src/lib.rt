@@ -16,7 +16,7 @@ pub mod seats;
 pub mod states;
 pub mod tokens;
 
-pub use checks::{check, check_events, play};
+pub use checks::{check, check_events, play, play_to_close};
 pub use events::Event;
 pub use finals::Final;
 pub use lacks::Lack;
