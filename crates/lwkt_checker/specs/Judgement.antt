@@ -1,5 +1,5 @@
 -- What a trace is found to be (own).
-use Rattle.std.specs.Prelude.{◌≡◌, ℕ, List, length, Bool, true, false, ◌++◌, ◌∷◌, codes, string_bytes, Option, None, Some, Ok, Err}
+use Rattle.std.specs.Prelude.{◌≡◌, ℕ, List, Bool, true, false, ◌++◌, ◌∷◌, codes, string_bytes, Option, None, Some, Ok, Err}
 use Rattle.std.specs.Fmt.{decimal}
 use Rattle.lwkt_base.specs.declared.faults.Fault.{Fault as Refusal}
 use Rattle.lwkt_base.specs.declared.faults.Fault.TheVariants.{Script as ScriptFault, Memory, Limits, LawBroken}
@@ -7,7 +7,7 @@ use Rattle.lwkt_core.specs.declared.events.Event.{Event}
 use Rattle.lwkt_core.specs.declared.finals.Final.{Final}
 use Rattle.lwkt_core.specs.Machine.{Machine}
 use Rattle.lwkt_core.specs.Opening.{opening, AreWithin, AllOpenLawfully}
-use Rattle.lwkt_core.specs.Trace.{Closes, CanHappen, IsLawfulTrace, StopsAt, FailsAt}
+use Rattle.lwkt_core.specs.Trace.{CanHappen, IsLawfulTrace, StopsAt, FailsAt}
 use Rattle.lwkt_trace.specs.declared.traces.Closing.{Closing}
 use Rattle.lwkt_trace.specs.declared.traces.Trace.{Trace}
 use Rattle.lwkt_trace.specs.Format.{trace_of}
@@ -39,13 +39,6 @@ Finds m events None Lawful = CanHappen m events
 Finds m events (Some last) Lawful = IsLawfulTrace m events last
 Finds m events None (Unlawful index why) = (mid : Machine) × StopsAt m events index mid
 Finds m events (Some last) (Unlawful index why) = FailsAt m events last index
-
--- what a finding says of the machine at the end of so many events
-abbrev pub Ends : Machine → List Event → Option Final → Finding → Type 0
-Ends m events None Lawful = Unit {0}
-Ends m events (Some last) Lawful = Closes m last
-Ends m events None (Unlawful index why) = ⊥
-Ends m events (Some last) (Unlawful index why) = (index ≡ length events) × (¬ Closes m last)
 
 -- the finding is true of the trace
 abbrev pub IsFound : Trace → Finding → Type 0

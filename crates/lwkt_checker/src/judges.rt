@@ -1,10 +1,10 @@
-ghost use Rattle.std.specs.Prelude.{◌≡◌, IfOk, IfErr, string_bytes};
-ghost use Rattle.lwkt_checker.specs.Judgement.{opening_of, AreClosing, Ends, Finds, IsFound, Declines, finding_text};
+ghost use Rattle.std.specs.Prelude.{◌≡◌, None, Some, IfOk, IfErr, string_bytes};
+ghost use Rattle.lwkt_checker.specs.Judgement.{opening_of, AreClosing, Finds, IsFound, Declines, finding_text};
 
 use crate::differences::difference;
 use crate::lacks::reason;
 use lwkt_base::Fault;
-use lwkt_core::{Event, Final, State, play};
+use lwkt_core::{Event, Final, State, play, play_to_close};
 use lwkt_trace::{Closing, Trace};
 use std::alloc::{AllocError, Global};
 
@@ -41,26 +41,50 @@ fn last_of(last: Option<Closing>) -> Option<Final>
     }
 }
 
-// What is found where all events have happened.
-fn closed(
+// What is said of the state in which events fail at an index.
+fn why_of(
     alloc: Global,
     state: &State,
     events: &[Event],
-    last: &Option<Final>,
-) -> Result<Finding, AllocError>
-    ensures { IfOk result (λ finding. Ends state.now events.now last.now finding) }
+    index: usize,
+    last: &Final,
+) -> Result<String, AllocError> {
+    match events.get(index) {
+        Some(event) => reason(alloc, state, index, event),
+        None => difference(alloc, state, last),
+    }
+}
+
+// What events alone are found to be, from an opening state.
+fn found_alone(alloc: Global, opening: State, events: &[Event]) -> Result<Finding, AllocError>
+    ensures { IfOk result (λ finding. Finds opening events.now None finding) }
 {
-    match last {
-        None => Ok(Finding::Lawful),
-        Some(last) => {
-            if state.closes(last) {
-                return Ok(Finding::Lawful);
-            }
-            Ok(Finding::Unlawful {
-                index: events.len(),
-                why: difference(alloc, state, last)?,
-            })
-        }
+    let mut state = opening;
+    match play(&mut state, events) {
+        Ok(()) => Ok(Finding::Lawful),
+        Err(index) => Ok(Finding::Unlawful {
+            index,
+            why: reason(alloc, &state, index, &events[index])?,
+        }),
+    }
+}
+
+// What events with closing values are found to be, from an opening state.
+fn found_closing(
+    alloc: Global,
+    opening: State,
+    events: &[Event],
+    last: &Final,
+) -> Result<Finding, AllocError>
+    ensures { IfOk result (λ finding. Finds opening events.now (Some last.now) finding) }
+{
+    let mut state = opening;
+    match play_to_close(&mut state, events, last) {
+        Ok(()) => Ok(Finding::Lawful),
+        Err(index) => Ok(Finding::Unlawful {
+            index,
+            why: why_of(alloc, &state, events, index, last)?,
+        }),
     }
 }
 
@@ -73,13 +97,9 @@ fn found(
 ) -> Result<Finding, AllocError>
     ensures { IfOk result (λ finding. Finds opening events.now last.now finding) }
 {
-    let mut state = opening;
-    match play(&mut state, events) {
-        Ok(()) => closed(alloc, &state, events, last),
-        Err(index) => Ok(Finding::Unlawful {
-            index,
-            why: reason(alloc, &state, index, &events[index])?,
-        }),
+    match last {
+        None => found_alone(alloc, opening, events),
+        Some(last) => found_closing(alloc, opening, events, last),
     }
 }
 
