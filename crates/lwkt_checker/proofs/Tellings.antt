@@ -1,12 +1,13 @@
-use Rattle.std.proofs.Common.{inl, inr, ◌≡◌, ◌⊎◌, ℕ, List, [], Bool, take, refl, rules, Option, None, Some, Err, Ok, sym, subst}
+use Rattle.std.proofs.Common.{Result, inl, inr, ◌≡◌, ◌⊎◌, ℕ, List, [], Bool, take, refl, rules, Option, None, Some, Err, Ok, sym, subst}
 use Rattle.std.specs.Io.KnownBytes.{Appends, Keeps}
 use Rattle.lwkt_base.specs.declared.faults.Fault.{Fault as Refusal}
 use Rattle.lwkt_base.specs.declared.faults.Fault.TheVariants.{Memory}
 use Rattle.lwkt_report.specs.declared.streams.RunFault.{RunFault}
 use Rattle.lwkt_report.specs.declared.streams.RunFault.TheVariants.{Fault, Stream}
 use Rattle.lwkt_report.specs.Stream.{AppendsFront}
+use Rattle.lwkt_checker.specs.declared.programs.Complaint.{Complaint}
 use Rattle.lwkt_checker.specs.Judgement.{HasFinding, Refuses}
-use Rattle.lwkt_checker.specs.Output.{AreRead, Tells}
+use Rattle.lwkt_checker.specs.Output.{AreRead, Tells, complaint_of, fault_line, IsSaid, Complains}
 
 -- what was written stays what it is
 keeps_itself : (o : Option (List ℕ)) → Keeps o o
@@ -40,3 +41,8 @@ tells_done left old new bytes read text written lawful same same_text are found 
 pub tells_front : (left old new : Option (List ℕ)) (bytes read text written : List ℕ) (lawful : Bool) → read ≡ bytes → written ≡ text → AreRead left bytes → HasFinding read lawful text → AppendsFront old new written → Tells left old new (Err Stream)
 tells_front left old new bytes read text written lawful same same_text are found front =
     inr (bytes, (are, (lawful, (text, (subst (λ b. HasFinding b lawful text) same found, subst (λ t. AppendsFront old new t) same_text front)))))
+
+-- a line that is said where a check can't be made
+pub complains : (failed : Bool) (old new : Option (List ℕ)) (outcome : Result Bool RunFault) (fault : RunFault) (complaint : Complaint) → outcome ≡ Err fault → complaint ≡ complaint_of fault → IsSaid failed old new (fault_line complaint) → Complains failed old new outcome
+complains failed old new outcome fault complaint is same said =
+    subst (λ (o : Result Bool RunFault). Complains failed old new o) (sym is) (subst (λ (k : Complaint). IsSaid failed old new (fault_line k)) same said)

@@ -1,6 +1,6 @@
 ghost use Rattle.std.specs.Prelude.{◌≡◌, ◌≢◌, ◌⊎◌, ◌≤◌, [], length, Err, IsTrue, IfOk, IfErr, string_bytes};
 ghost use Rattle.lwkt_checker.specs.Judgement.{HasFinding, Refuses};
-ghost use Rattle.lwkt_checker.specs.Output.{Tells, status_of, ChecksAs};
+ghost use Rattle.lwkt_checker.specs.Output.{Tells, status_of, complaint_of, fault_line, IsSaid, Complains, ChecksAs};
 
 use crate::judges::{Finding, finding_text, judge};
 use arrayvec::ArrayString;
@@ -21,7 +21,9 @@ pub enum Complaint {
     Stream,
 }
 
-fn fault_text(fault: Fault) -> ArrayString<48> {
+fn fault_text(fault: Fault) -> ArrayString<48>
+    ensures { result.bytes ≡ fault_line (Complaint.Fault fault) }
+{
     let mut digits = Buffer::new();
     let mut line = ArrayString::new();
     line.push_str("lwkt_check: fault ");
@@ -36,6 +38,7 @@ fn fault_text(fault: Fault) -> ArrayString<48> {
 
 fn fixed(text: &str) -> ArrayString<48>
     requires { length text.now ≤ 48 }
+    ensures { result.bytes ≡ text.now }
 {
     let mut line = ArrayString::new();
     line.push_str(text);
@@ -43,7 +46,9 @@ fn fixed(text: &str) -> ArrayString<48>
 }
 
 /// The line that the program says, ended by a line feed. It takes no memory.
-pub fn complaint_line(complaint: Complaint) -> ArrayString<48> {
+pub fn complaint_line(complaint: Complaint) -> ArrayString<48>
+    ensures { result.bytes ≡ fault_line complaint }
+{
     match complaint {
         Complaint::Usage => fixed("lwkt_check: no arguments are wanted\n"),
         Complaint::Fault(fault) => fault_text(fault),
@@ -114,10 +119,32 @@ fn status_of(outcome: &Result<bool, RunFault>) -> u8
     }
 }
 
-// Writes a line to where errors go, if it takes it.
-fn complain<E: Sink>(errors: &mut E, complaint: Complaint) {
+// Writes a line to where errors go. If that fails, a front of it stands.
+fn complain<E: Sink>(errors: &mut E, complaint: Complaint)
+    ensures { IsSaid (E.has_failed errors.new) (E.contents errors.old) (E.contents errors.new) (fault_line complaint) }
+{
     let line = complaint_line(complaint);
     let _ = write_whole(errors, line.as_bytes());
+}
+
+// What is said in place of a finding.
+fn complaint_of(fault: RunFault) -> Complaint
+    ensures { result ≡ complaint_of fault }
+{
+    match fault {
+        RunFault::Fault(fault) => Complaint::Fault(fault),
+        RunFault::Stream => Complaint::Stream,
+    }
+}
+
+// Writes the line that an outcome asks for: none beside a finding.
+fn close<E: Sink>(errors: &mut E, outcome: &Result<bool, RunFault>)
+    ensures { Complains (E.has_failed errors.new) (E.contents errors.old) (E.contents errors.new) outcome.now }
+{
+    match *outcome {
+        Ok(_) => {}
+        Err(fault) => complain(errors, complaint_of(fault)),
+    }
 }
 
 /// The whole program: its arguments without its own name, what it reads, what it writes, and where its errors go. The
@@ -132,8 +159,8 @@ pub fn run_checker<S: Source, K: Sink, E: Sink>(
     sink: &mut K,
     errors: &mut E,
 ) -> u8
-    ensures checks { words.now ≡ [] → ChecksAs (S.left source.old) (K.contents sink.old) (K.contents sink.new) result }
-    ensures usage { words.now ≢ [] → result ≡ 1 }
+    ensures checks { words.now ≡ [] → ChecksAs (S.left source.old) (K.contents sink.old) (K.contents sink.new) (E.has_failed errors.new) (E.contents errors.old) (E.contents errors.new) result }
+    ensures usage { words.now ≢ [] → (result ≡ 1) × IsSaid (E.has_failed errors.new) (E.contents errors.old) (E.contents errors.new) (fault_line Complaint.Usage) }
     ensures unread { words.now ≢ [] → source.new ≡ source.old }
     ensures unwritten { words.now ≢ [] → sink.new ≡ sink.old }
 {
@@ -142,10 +169,6 @@ pub fn run_checker<S: Source, K: Sink, E: Sink>(
         return 1;
     }
     let outcome = check_stream(alloc, source, sink);
-    match outcome {
-        Ok(_) => {}
-        Err(RunFault::Fault(fault)) => complain(errors, Complaint::Fault(fault)),
-        Err(RunFault::Stream) => complain(errors, Complaint::Stream),
-    }
+    close(errors, &outcome);
     status_of(&outcome)
 }
