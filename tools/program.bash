@@ -1,7 +1,8 @@
-# The program's sources, their digest, and the stamp beside the program that names both. Read by lwkt_run, check and
-# tools/build, with the tree in `top`. The stamp's first line is the digest; the paths of the sources follow. Its time is
-# that of the sources: what is newer has changed since.
-program=$top/crates/lwkt/out/lwkt_run
+# A program's sources, their digest, and the stamp beside the program that names both. Read by lwkt_run, lwkt_check, check
+# and tools/build, with the tree in `top`, the program's crate in `program_crate` and its name in `program_name`. The
+# stamp's first line is the digest; the paths of the sources follow. Its time is that of the sources: what is newer has
+# changed since.
+program=$top/crates/$program_crate/out/$program_name
 stamp=$program.stamp
 
 declare -A below=() line_of=()
@@ -30,7 +31,7 @@ read_crates() {
         line_of[$name]=$line
     done <"$1/crates.txt"
     crates=()
-    add_crate lwkt
+    add_crate "$program_crate"
 }
 
 # The folders of the crates' sources under the folder $1, which are there.
@@ -79,7 +80,7 @@ is_same() {
 lacking() {
     if ! command -v rt >/dev/null; then
         echo "rt, the command of the Rattle kit, isn't on the PATH"
-    elif [[ ! -w $top/crates/lwkt || -d $top/crates/lwkt/out && ! -w $top/crates/lwkt/out ]]; then
+    elif [[ ! -w ${program%/*/*} || -d ${program%/*} && ! -w ${program%/*} ]]; then
         echo "this tree can't be written"
     fi
 }

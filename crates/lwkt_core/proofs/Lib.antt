@@ -1,5 +1,6 @@
 pub mod TokenMoves
 pub mod MessageMoves
+pub mod LackLemmas
 pub mod MachineMoves
 pub mod OpeningLemmas
 pub mod TraceLemmas

@@ -1,5 +1,5 @@
 use Rattle.std.proofs.Common.{zero, suc, inl, inr, ◌≡◌, ◌<◌, ◌≤◌, ◌+◌, ℕ, List, [], ◌∷◌, ◌++◌, length, get_or, take, refl, ap, sym, ◌∙◌, subst, arith, Option, Some, None}
-use Rattle.std.specs.Prelude.{slice_get, MatchOption}
+use Rattle.std.specs.Prelude.{slice_get, IfSome, MatchOption}
 use Rattle.std.proofs.lemmas.Bool.{cases_order}
 use Rattle.std.proofs.lemmas.List.{take_more, take-take, take_all, length-take-le}
 use Rattle.std.proofs.lemmas.Option.{slice_get-get_or, slice_get_past}
@@ -7,7 +7,7 @@ use Rattle.std.proofs.lemmas.List.{get_or-take}
 use Rattle.lwkt_core.specs.declared.events.Event.{Event}
 use Rattle.lwkt_core.specs.declared.finals.Final.{Final}
 use Rattle.lwkt_core.specs.Machine.{Machine, Needs, Happens}
-use Rattle.lwkt_core.specs.Trace.{Run, Closes, FailsAt, FailureRefutes, FailureIsOnly}
+use Rattle.lwkt_core.specs.Trace.{Run, Closes, StopsAt, FailsAt, StopRefutes, FailureRefutes, FailureIsOnly}
 
 -- a run goes on by one event
 pub Run-push : (m : Machine) (events : List Event) (n : Machine) (e : Event) (k : Machine) → Run m events n → Happens n e k → Run m (events ++ e ∷ []) k
@@ -28,15 +28,31 @@ some_at : (events : List Event) (i : ℕ) → i < length events → (e : Event) 
 some_at [] i inside = absurd (omega arith)
 some_at (e ∷ events) i inside = (get_or (e ∷ events) i e, slice_get-get_or (e ∷ events) i e inside)
 
--- a trace fails at an event that can't happen
-pub FailsAt-event : (m : Machine) (events : List Event) (last : Final) (i : ℕ) (mid : Machine) (e : Event) → i < length events → Run m (take i events) mid → get_or events i e ≡ e → (Needs mid e → ⊥) → FailsAt m events last i
-FailsAt-event m events last i mid e inside run is not_needs = record {
-  within = omega arith;
-  mid = mid;
+-- events stop at one that can't happen
+pub StopsAt-event : (m : Machine) (events : List Event) (i : ℕ) (mid : Machine) (e : Event) → i < length events → Run m (take i events) mid → (Needs mid (get_or events i e) → ⊥) → StopsAt m events i mid
+StopsAt-event m events i mid e inside run not_needs = record {
+  inside = inside;
   before = run;
-  fails = (let F : Option Event → Type 0 = λ o. MatchOption o (¬ Closes mid last) (λ x. ¬ Needs mid x) in
-      subst F (sym (slice_get-get_or events i e inside)) (subst (λ (x : Event). ¬ Needs mid x) (sym is) not_needs));
+  fails = (let F : Option Event → Type 0 = λ o. IfSome o (λ x. ¬ Needs mid x) in subst F (sym (slice_get-get_or events i e inside)) not_needs);
 }
+
+-- what fails is an event, or the close
+event_fails : (o : Option Event) (mid : Machine) (last : Final) (e : Event) → o ≡ Some e → IfSome o (λ x. ¬ Needs mid x) → MatchOption o (¬ Closes mid last) (λ x. ¬ Needs mid x)
+event_fails o mid last e is fails =
+    let F : Option Event → Type 0 = λ p. MatchOption p (¬ Closes mid last) (λ x. ¬ Needs mid x) in
+    let G : Option Event → Type 0 = λ p. IfSome p (λ x. ¬ Needs mid x) in
+    subst F (sym is) (subst G is fails)
+
+-- a trace fails where its events stop
+pub FailsAt-stop : (m : Machine) (events : List Event) (last : Final) (i : ℕ) (mid : Machine) → StopsAt m events i mid → FailsAt m events last i
+FailsAt-stop m events last i mid stop =
+    let found = some_at events i stop.inside in
+    record {
+      within = (let w = stop.inside in omega arith);
+      mid = mid;
+      before = stop.before;
+      fails = event_fails (slice_get events i) mid last found.0 found.1 stop.fails;
+    }
 
 -- a trace fails at its end
 pub FailsAt-close : (m : Machine) (events : List Event) (last : Final) (mid : Machine) → Run m events mid → (Closes mid last → ⊥) → FailsAt m events last (length events)
@@ -56,6 +72,16 @@ clash (Some e) mid end last needs fails closes = fails needs
 pub refutes : FailureRefutes
 refutes m events last index fails trace =
     clash (slice_get events index) fails.mid trace.0 last (run_at m events trace.0 index fails.mid trace.1.0 fails.before) fails.fails trace.1.1
+
+-- an event that fails in the middle of a run contradicts it
+stop_clash : (o : Option Event) (mid end : Machine) (e : Event) → o ≡ Some e → MatchOption o (mid ≡ end) (λ x. Needs mid x) → IfSome o (λ x. ¬ Needs mid x) → ⊥
+stop_clash None mid end e is needs fails = absurd (cc)
+stop_clash (Some x) mid end e is needs fails = fails needs
+
+pub stop_is_end : StopRefutes
+stop_is_end m events index mid stop run =
+    let found = some_at events index stop.inside in
+    stop_clash (slice_get events index) mid run.0 found.0 found.1 (run_at m events run.0 index mid run.1 stop.before) stop.fails
 
 -- a trace doesn't fail before another index at which it fails
 not_before : (m : Machine) (events : List Event) (last : Final) (j k : ℕ) → FailsAt m events last j → FailsAt m events last k → j < k → ⊥

@@ -2,6 +2,7 @@ pub mod Events
 pub mod Tokens
 pub mod Messages
 pub mod Machine
+pub mod Lacks
 pub mod Opening
 pub mod Trace
 pub mod Values

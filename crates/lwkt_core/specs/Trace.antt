@@ -1,4 +1,4 @@
-use Rattle.std.specs.Prelude.{◌≡◌, ℕ, ◌≤◌, List, [], ◌∷◌, length, map, All, take, MatchOption, slice_get}
+use Rattle.std.specs.Prelude.{◌≡◌, ℕ, ◌<◌, ◌≤◌, List, [], ◌∷◌, length, map, All, take, IfSome, MatchOption, slice_get}
 use Rattle.lwkt_base.specs.declared.laws.Law.{Law}
 use Rattle.lwkt_base.specs.declared.laws.Law.TheVariants.{Any, Sum, Order, Cap, Tally}
 use Rattle.lwkt_base.specs.declared.owners.MsgEnd.{MsgEnd}
@@ -33,9 +33,19 @@ abbrev pub Run : Machine → List Event → Machine → Type 0
 Run m [] n = n ≡ m
 Run m (e ∷ events) n = (mid : Machine) × (Happens m e mid × Run mid events n)
 
+-- the events can happen one after another, from a machine (own)
+abbrev pub CanHappen : Machine → List Event → Type 0
+CanHappen m events = (end : Machine) × Run m events end
+
 -- a list of events is a lawful trace from a machine to closing values (own)
 abbrev pub IsLawfulTrace : Machine → List Event → Final → Type 0
 IsLawfulTrace m events last = (end : Machine) × (Run m events end × Closes end last)
+
+-- the event of this index is the first that can't happen, and this is the machine in which it can't
+pub record StopsAt (m : Machine) (events : List Event) (index : ℕ) (mid : Machine) : Type 0 where
+  pub inside : index < length events
+  pub before : Run m (take index events) mid
+  pub fails : IfSome (slice_get events index) (λ e. ¬ Needs mid e)
 
 -- the event of this index is the first that can't happen, or the index is the number of events and only the close differs
 pub record FailsAt (m : Machine) (events : List Event) (last : Final) (index : ℕ) : Type 0 where
@@ -51,3 +61,7 @@ FailureRefutes = (m : Machine) (events : List Event) (last : Final) (index : ℕ
 -- a law: a trace fails at one index only
 abbrev pub FailureIsOnly : Type 0
 FailureIsOnly = (m : Machine) (events : List Event) (last : Final) (index other : ℕ) → FailsAt m events last index → FailsAt m events last other → index ≡ other
+
+-- a law: where events stop, they can't all happen
+abbrev pub StopRefutes : Type 0
+StopRefutes = (m : Machine) (events : List Event) (index : ℕ) (mid : Machine) → StopsAt m events index mid → ¬ CanHappen m events

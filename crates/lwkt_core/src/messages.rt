@@ -43,7 +43,7 @@ impl Message {
     }
 
     // Whether the message was sent to the processor, and not taken yet.
-    fn is_out_to(&self, cpu: CpuId) -> bool
+    pub(crate) fn is_out_to(&self, cpu: CpuId) -> bool
         ensures { IsTrue result ↔ IsOutTo cpu self.now.owner }
     {
         match self.owner {

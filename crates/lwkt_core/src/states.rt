@@ -1,11 +1,12 @@
-ghost use Rattle.std.specs.Prelude.{◌≡◌, ◌≢◌, ◌⊎◌, ◌↔◌, ◌<◌, ◌≤◌, ℕ, List, length, map, Option, Some, None, Ok, Err, IsTrue, OnOk, OnErr, IfOk, IfErr};
+ghost use Rattle.std.specs.Prelude.{◌≡◌, ◌≢◌, ◌⊎◌, ◌↔◌, ◌<◌, ◌≤◌, ℕ, List, length, map, Option, Some, None, Ok, Err, IsTrue, MatchOption, IfSome, OnOk, OnErr, IfOk, IfErr, option_map, slice_get};
 
 use crate::events::{Event, Place};
 use crate::finals::Final;
+use crate::lacks::Lack;
 use crate::messages::Message;
 use crate::tokens::Token;
-use crate::{finals, openings, rules};
-use lwkt_base::{CpuId, Fault, MsgSpec, TokId, TokSpec};
+use crate::{finals, lacks, openings, rules};
+use lwkt_base::{CpuId, Fault, MsgId, MsgSpec, TokId, TokSpec};
 use std::alloc::Global;
 use std::marker::Model;
 
@@ -29,8 +30,9 @@ impl Model for State {
 }
 
 impl State {
-    ghost use Rattle.lwkt_core.specs.Machine.{IsSafe, Needs, Happens};
+    ghost use Rattle.lwkt_core.specs.Machine.{IsSafe, Needs, Happens, references_of};
     ghost use Rattle.lwkt_core.specs.Opening.{opening, AreWithin, AllOpenLawfully};
+    ghost use Rattle.lwkt_core.specs.Lacks.{Lacks};
     ghost use Rattle.lwkt_core.specs.Trace.{Closes};
     ghost use Rattle.lwkt_core.specs.Values.{cell_at, first_at, generation_at, tally_at};
 
@@ -110,6 +112,27 @@ impl State {
         self.tokens.get(tok.0 as usize)?.tally(cpu)
     }
 
+    // Whether the processor may have a reference more.
+    fn has_room(&self, cpu: CpuId) -> bool
+        ensures { IsTrue result ↔ (references_of self.now.tokens cpu.0 < 32) }
+    {
+        rules::references_of(&self.tokens, cpu) < 32
+    }
+
+    /// The token of a number, if there is one.
+    pub fn token(&self, tok: TokId) -> Option<&Token>
+        ensures { option_map (λ t. t.now) result ≡ slice_get self.now.tokens tok.0 }
+    {
+        self.tokens.get(tok.0 as usize)
+    }
+
+    /// The message of a number, if there is one.
+    pub fn message(&self, msg: MsgId) -> Option<&Message>
+        ensures { option_map (λ m. m.now) result ≡ slice_get self.now.messages msg.0 }
+    {
+        self.messages.get(msg.0 as usize)
+    }
+
     /// Whether the event can happen.
     pub fn allows(&self, event: &Event) -> bool
         ensures { IsTrue result ↔ Needs self.now event.now }
@@ -125,6 +148,34 @@ impl State {
             Place::AtToken(place) => rules::token_allows(&self.tokens, place, event),
             Place::AtMessage(place) => {
                 rules::message_allows(self.cpus, &self.messages, place, event)
+            }
+        }
+    }
+
+    /// The first need of the event that isn't met, or none exactly if the event can happen.
+    #[tactic(auto, using(crate::proofs::LackLemmas::told_exactly))]
+    pub fn lack(&self, event: &Event) -> Option<Lack>
+        ensures can_happen { (result ≡ None) ↔ Needs self.now event.now }
+        ensures lack { IfSome result (λ lack. Lacks self.now event.now lack) }
+    {
+        self.told(event)
+    }
+
+    // What is told of the event's needs.
+    fn told(&self, event: &Event) -> Option<Lack>
+        ensures { MatchOption result (Needs self.now event.now) (λ lack. Lacks self.now event.now lack) }
+    {
+        let cpu = event.cpu();
+        if cpu.0 as usize >= self.cpus {
+            return Some(Lack::NoProcessor);
+        }
+        if event.adds_reference() && !self.has_room(cpu) {
+            return Some(Lack::TooManyReferences);
+        }
+        match event.place() {
+            Place::AtToken(place) => lacks::token_lack(&self.tokens, place, event),
+            Place::AtMessage(place) => {
+                lacks::message_lack(self.cpus, &self.messages, place, event)
             }
         }
     }

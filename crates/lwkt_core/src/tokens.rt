@@ -68,28 +68,28 @@ impl Token {
     }
 
     // Whether the row is that of the beginning of the section.
-    fn is_clean(&self) -> bool
+    pub(crate) fn is_clean(&self) -> bool
         ensures { IsTrue result ↔ (self.now.row ≡ self.now.first) }
     {
         self.row.as_slice() == self.first.as_slice()
     }
 
     // Whether the row obeys the law of a section.
-    fn is_lawful(&self) -> bool
+    pub(crate) fn is_lawful(&self) -> bool
         ensures { IsTrue result ↔ MeetsLaw self.now.law self.now.param self.now.row }
     {
         self.law.holds_of_section(self.row.as_slice(), self.param)
     }
 
     // Whether the processor holds exactly one reference, an exclusive one.
-    fn is_last_exclusive(&self, cpu: CpuId) -> bool
+    pub(crate) fn is_last_exclusive(&self, cpu: CpuId) -> bool
         ensures { IsTrue result ↔ (held_by self.now cpu.0 ≡ Held.Holds Mode.Exclusive 0) }
     {
         matches!(self.held_by(cpu), Held::Holds(Mode::Exclusive, 0))
     }
 
     // Whether a reference can be given back that doesn't end an exclusive holding.
-    fn may_give_one(&self, cpu: CpuId) -> bool
+    pub(crate) fn may_give_one(&self, cpu: CpuId) -> bool
         ensures { IsTrue result ↔ IsNotLastExclusive (held_by self.now cpu.0) }
     {
         match self.held_by(cpu) {
@@ -100,14 +100,14 @@ impl Token {
     }
 
     // Whether the cell exists and has this value.
-    fn has_value(&self, cell: u8, value: u64) -> bool
+    pub(crate) fn has_value(&self, cell: u8, value: u64) -> bool
         ensures { IsTrue result ↔ (slice_get self.now.row cell ≡ Some value) }
     {
         self.row.as_slice().get(cell as usize).copied() == Some(value)
     }
 
     // Whether the cell exists and the law lets this value be stored in it.
-    fn may_store(&self, cell: u8, value: u64) -> bool
+    pub(crate) fn may_store(&self, cell: u8, value: u64) -> bool
         ensures { IsTrue result ↔ ((cell < length self.now.row) × MayWrite self.now.law (slice_index self.now.row cell) value) }
     {
         match self.row.as_slice().get(cell as usize).copied() {

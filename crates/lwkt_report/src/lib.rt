@@ -17,5 +17,5 @@ pub use logs::Log;
 pub use lwkt_base::Entry;
 pub use reports::report;
 pub use sinks::{Page, Sink, WriterSink, write_whole};
-pub use sources::{READ_LIMIT, ReaderSource, Source, read_capped};
+pub use sources::{READ_LIMIT, ReaderSource, Source, read_capped, read_up_to};
 pub use streams::{RunFault, StreamError};

@@ -107,6 +107,35 @@ fn pull_into<S: Source>(
     Ok(count)
 }
 
+/// The bytes of the source to its end, or the first `most` of them; no more are then read.
+///
+/// Refused with `Stream` if a pull failed, which is not made again, and with `Memory` if an allocation was refused.
+pub fn read_up_to<S: Source>(
+    alloc: Global,
+    source: &mut S,
+    most: usize,
+) -> Result<Vec<u8>, RunFault>
+    requires { 0 < most }
+    ensures bytes { IfOk result (λ bytes. IfSome (S.left source.old) (λ left. bytes.items ≡ take most left)) }
+    ensures rest { IfOk result (λ bytes. Consumes (S.left source.old) (S.left source.new) bytes.items) }
+    ensures within { IfOk result (λ bytes. vec_len bytes ≤ most) }
+    ensures ok { OnOk result (S.has_failed source.new ≡ S.has_failed source.old) }
+    ensures stream { result ≡ Err RunFault.Stream → IsTrue (S.has_failed source.new) }
+    ensures memory { result ≡ Err (RunFault.Fault Fault.Memory) → S.has_failed source.new ≡ S.has_failed source.old }
+    ensures only { OnErr result ((result ≡ Err RunFault.Stream) ⊎ (result ≡ Err (RunFault.Fault Fault.Memory))) }
+{
+    let mut room = [0; CHUNK];
+    let mut bytes = Vec::new(alloc);
+    for _turn in 0..most {
+        let size = CHUNK.min(most - bytes.len());
+        let count = pull_into(source, &mut room[..size], &mut bytes)?;
+        if count == 0 || bytes.len() == most {
+            break;
+        }
+    }
+    Ok(bytes)
+}
+
 /// The bytes of the source to its end, or the first 1,048,577 of them; no more are then read.
 ///
 /// Refused with `Stream` if a pull failed, which is not made again, and with `Memory` if an allocation was refused.
@@ -119,14 +148,5 @@ pub fn read_capped<S: Source>(alloc: Global, source: &mut S) -> Result<Vec<u8>, 
     ensures memory { result ≡ Err (RunFault.Fault Fault.Memory) → S.has_failed source.new ≡ S.has_failed source.old }
     ensures only { OnErr result ((result ≡ Err RunFault.Stream) ⊎ (result ≡ Err (RunFault.Fault Fault.Memory))) }
 {
-    let mut room = [0; CHUNK];
-    let mut bytes = Vec::new(alloc);
-    for _turn in 0..READ_LIMIT {
-        let most = CHUNK.min(READ_LIMIT - bytes.len());
-        let count = pull_into(source, &mut room[..most], &mut bytes)?;
-        if count == 0 || bytes.len() == READ_LIMIT {
-            break;
-        }
-    }
-    Ok(bytes)
+    read_up_to(alloc, source, READ_LIMIT)
 }

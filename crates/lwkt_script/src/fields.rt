@@ -8,7 +8,7 @@ ghost use Rattle.lwkt_script.specs.Outcome.{Gives, part};
 use lwkt_base::Fault;
 use serde_json::Value;
 
-// Whether the value is an object with so many members.
+/// Whether the value is an object with so many members.
 #[tactic(auto, using(crate::proofs::Counts::members_counted))]
 pub fn has_members(value: &Value, count: usize) -> bool
     ensures { result ≡ has_members count (view value.now) }
@@ -19,7 +19,7 @@ pub fn has_members(value: &Value, count: usize) -> bool
     }
 }
 
-// How many items the value has, if it is a list.
+/// How many items the value has, if it is a list.
 #[tactic(auto, using(crate::proofs::Counts::items_counted))]
 pub fn item_count(value: &Value) -> Option<usize>
     ensures { result ≡ item_count (view value.now) }
@@ -30,14 +30,14 @@ pub fn item_count(value: &Value) -> Option<usize>
     }
 }
 
-// Whether the value is an object with a member of this name.
+/// Whether the value is an object with a member of this name.
 pub fn has(value: &Value, name: &str) -> bool
     ensures { result ≡ is_some (get name.now (view value.now)) }
 {
     value.get(name).is_some()
 }
 
-// The value as a whole number within these limits.
+/// The value as a whole number within these limits.
 pub fn number(value: &Value, low: u64, high: u64) -> Option<u64>
     ensures exact { result ≡ number low high (view value.now) }
     ensures within { IfSome result (λ n. (low ≤ n) × (n ≤ high)) }
@@ -48,14 +48,14 @@ pub fn number(value: &Value, low: u64, high: u64) -> Option<u64>
     }
 }
 
-// The member of this name as a whole number within these limits.
+/// The member of this name as a whole number within these limits.
 pub fn number_in(value: &Value, name: &str, low: u64, high: u64) -> Option<u64>
     ensures { result ≡ number_in name.now low high (view value.now) }
 {
     number(value.get(name)?, low, high)
 }
 
-// The member of this name as a whole number within these limits, as part of what stands at a place.
+/// The member of this name as a whole number within these limits, as part of what stands at a place.
 pub fn number_at(place: u32, value: &Value, name: &str, low: u64, high: u64) -> Result<u64, Fault>
     ensures exact { Gives (λ n. n) result (part place (number_in name.now low high (view value.now))) }
     ensures within { IfOk result (λ n. (low ≤ n) × (n ≤ high)) }
@@ -66,7 +66,7 @@ pub fn number_at(place: u32, value: &Value, name: &str, low: u64, high: u64) -> 
     }
 }
 
-// The member of this name as a list, as part of what stands at a place.
+/// The member of this name as a list, as part of what stands at a place.
 pub fn list_at<'v>(place: u32, value: &'v Value, name: &str) -> Result<&'v Vec<Value>, Fault>
     ensures { Gives (λ v. items_view v.now.items) result (part place (list_in name.now (view value.now))) }
 {

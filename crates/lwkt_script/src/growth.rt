@@ -2,7 +2,7 @@ ghost use Rattle.std.specs.Prelude.{◌≡◌, ◌∷◌, [], ◌++◌, OnOk, On
 
 use lwkt_base::Fault;
 
-// Puts an item at the end of a list.
+/// Puts an item at the end of a list.
 pub fn push<T: Drop>(list: &mut Vec<T>, item: T) -> Result<(), Fault>
     ensures ok { OnOk result (list.new.items ≡ list.old.items ++ item ∷ []) }
     ensures err { OnErr result (result ≡ Err Fault.Memory) }

@@ -42,8 +42,9 @@ fn origin_in(cpus: u8, value: &Value) -> Option<ThreadId>
     thread_of(cpus, value.get("of")?)
 }
 
+/// A message, which stands at a place: the thread that it is of, and its round.
 #[tactic(auto, unfolding(crate::specs::Format::message_at))]
-fn message_at(cpus: u8, place: u32, value: &Value) -> Result<MsgSpec, Fault>
+pub fn message_at(cpus: u8, place: u32, value: &Value) -> Result<MsgSpec, Fault>
     requires { 0 < cpus }
     ensures exact { Gives (λ m. m) result (message_at cpus place (view value.now)) }
     ensures within { IfOk result (IsMessage cpus) }
@@ -73,6 +74,7 @@ fn message(profile: Profile, cpus: u8, before: &[MsgSpec], value: &Value) -> Res
     message_at(cpus, 2000 + before.len() as u32, value)
 }
 
+/// The messages of a script, or the place of the first bad one.
 pub fn messages_of(
     alloc: Global,
     profile: Profile,

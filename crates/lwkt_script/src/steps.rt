@@ -11,7 +11,7 @@ use lwkt_base::{Ask, Call, CpuId, Fault, Flags, MsgId, ThreadId, TokId};
 use serde_json::Value;
 use std::alloc::Global;
 
-// What a step sends: a message, the thread that it goes to, and the call.
+/// What a step sends: a message, the thread that it goes to, and the call.
 #[derive(Clone, Copy)]
 pub struct Sending {
     msg: MsgId,
@@ -19,8 +19,8 @@ pub struct Sending {
     call: Call,
 }
 
-// Item i of a step as the number of a token, a cell, a message, a processor or a thread.
-fn small_at(value: &Value, i: usize) -> Option<u8>
+/// Item i of a list as the number of a token, a cell, a message, a processor or a thread.
+pub fn small_at(value: &Value, i: usize) -> Option<u8>
     ensures { result ≡ small_at i (view value.now) }
 {
     match number(value.get(i)?, 0, 255) {
@@ -143,8 +143,8 @@ fn with_flags(word: &str, sending: Sending, flags: Flags) -> Option<Ask>
     }
 }
 
-// The whole number that item i of a step is.
-fn whole_at(value: &Value, i: usize) -> Option<u64>
+/// The whole number that item i of a list is.
+pub fn whole_at(value: &Value, i: usize) -> Option<u64>
     ensures { result ≡ whole_at i (view value.now) }
 {
     value.get(i)?.as_u64()

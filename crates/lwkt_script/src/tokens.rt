@@ -44,7 +44,8 @@ fn allows(law: Law, count: usize) -> bool
     }
 }
 
-fn cells_of(alloc: Global, place: u32, items: &[Value]) -> Result<Vec<u64>, Fault>
+/// Any whole numbers of 64 bits, as part of what stands at a place.
+pub fn cells_of(alloc: Global, place: u32, items: &[Value]) -> Result<Vec<u64>, Fault>
     ensures exact { Gives (λ v. v.items) result (each (cell place) [] (items_view items.now)) }
     ensures count { IfOk result (λ v. length v.items ≡ length items.now) }
 {
@@ -95,6 +96,7 @@ fn token(alloc: Global, before: &[TokSpec], value: &Value) -> Result<TokSpec, Fa
     token_at(alloc, 1000 + before.len() as u32, value)
 }
 
+/// Tokens by their numbers, at most 64, or the place of the first bad one.
 pub fn tokens_of(alloc: Global, items: &[Value]) -> Result<Vec<TokSpec>, Fault>
     ensures exact { Gives (λ v. v.items) result (each token [] (items_view items.now)) }
     ensures within { IfOk result (λ v. (length v.items ≤ 64) × All IsToken v.items) }

@@ -1,0 +1,135 @@
+ghost use Rattle.std.specs.Prelude.{◌≡◌, None, Some, IfOk, IfErr, string_bytes};
+ghost use Rattle.lwkt_checker.specs.Judgement.{opening_of, AreClosing, Finds, IsFound, Declines, finding_text};
+
+use crate::differences::difference;
+use crate::lacks::reason;
+use lwkt_base::Fault;
+use lwkt_core::{Event, Final, State, play, play_to_close};
+use lwkt_trace::{Closing, Trace};
+use std::alloc::{AllocError, Global};
+
+/// What a trace was found to be.
+#[derive(Debug, Drop)]
+pub enum Finding {
+    /// The events can happen one after another, and end with the closing values, where there are any.
+    Lawful,
+    /// The index of the first event that can't happen, or the number of events if only the close differs; and a line that
+    /// says which need isn't met, or which value differs.
+    Unlawful { index: usize, why: String },
+}
+
+// The opening state of a trace.
+fn opened(alloc: Global, trace: &Trace) -> Result<State, Fault>
+    ensures ok { IfOk result (λ state. state ≡ opening_of trace.now) }
+    ensures refused { IfErr result (λ fault. Declines trace.now fault) }
+{
+    State::open(
+        alloc,
+        trace.tokens.as_slice(),
+        trace.messages.as_slice(),
+        usize::from(trace.cpus),
+    )
+}
+
+// The closing values as the model has them.
+fn last_of(last: Option<Closing>) -> Option<Final>
+    ensures { AreClosing last result }
+{
+    match last {
+        None => None,
+        Some(closing) => Some(closing.into_final()),
+    }
+}
+
+// What is said of the state in which events fail at an index.
+fn why_of(
+    alloc: Global,
+    state: &State,
+    events: &[Event],
+    index: usize,
+    last: &Final,
+) -> Result<String, AllocError> {
+    match events.get(index) {
+        Some(event) => reason(alloc, state, index, event),
+        None => difference(alloc, state, last),
+    }
+}
+
+// What events alone are found to be, from an opening state.
+fn found_alone(alloc: Global, opening: State, events: &[Event]) -> Result<Finding, AllocError>
+    ensures { IfOk result (λ finding. Finds opening events.now None finding) }
+{
+    let mut state = opening;
+    match play(&mut state, events) {
+        Ok(()) => Ok(Finding::Lawful),
+        Err(index) => Ok(Finding::Unlawful {
+            index,
+            why: reason(alloc, &state, index, &events[index])?,
+        }),
+    }
+}
+
+// What events with closing values are found to be, from an opening state.
+fn found_closing(
+    alloc: Global,
+    opening: State,
+    events: &[Event],
+    last: &Final,
+) -> Result<Finding, AllocError>
+    ensures { IfOk result (λ finding. Finds opening events.now (Some last.now) finding) }
+{
+    let mut state = opening;
+    match play_to_close(&mut state, events, last) {
+        Ok(()) => Ok(Finding::Lawful),
+        Err(index) => Ok(Finding::Unlawful {
+            index,
+            why: why_of(alloc, &state, events, index, last)?,
+        }),
+    }
+}
+
+// What events and closing values are found to be, from an opening state.
+fn found(
+    alloc: Global,
+    opening: State,
+    events: &[Event],
+    last: &Option<Final>,
+) -> Result<Finding, AllocError>
+    ensures { IfOk result (λ finding. Finds opening events.now last.now finding) }
+{
+    match last {
+        None => found_alone(alloc, opening, events),
+        Some(last) => found_closing(alloc, opening, events, last),
+    }
+}
+
+/// What a trace is: lawful, or the index at which it fails and why.
+///
+/// Refused with `Limits` or `LawBroken` for its opening, and with `Memory` if an allocation is.
+pub fn judge(alloc: Global, trace: Trace) -> Result<Finding, Fault>
+    ensures ok { IfOk result (λ finding. IsFound trace finding) }
+    ensures refused { IfErr result (λ fault. Declines trace fault) }
+{
+    let opening = opened(alloc, &trace)?;
+    let Trace { events, last, .. } = trace;
+    let last = last_of(last);
+    match found(alloc, opening, events.as_slice(), &last) {
+        Ok(finding) => Ok(finding),
+        Err(_) => Err(Fault::Memory),
+    }
+}
+
+/// The text of a finding: `lawful`, or `unlawful INDEX` and the line that says why.
+pub fn finding_text(alloc: Global, finding: &Finding) -> Result<String, AllocError>
+    ensures { IfOk result (λ text. string_bytes text ≡ finding_text finding.now) }
+{
+    let mut out = String::new(alloc);
+    match finding {
+        Finding::Lawful => out.push_str("lawful\n")?,
+        Finding::Unlawful { index, why } => {
+            write!(out, "unlawful {index}\n")?;
+            out.push_str(why)?;
+        }
+    }
+    Ok(out)
+}

@@ -1,0 +1,123 @@
+use crate::holdings::show_holders;
+use crate::words::{Subject, law_name, show_event, show_numbers, show_owner, subject_of};
+use lwkt_core::{Event, Lack, Message, State, Token};
+use std::alloc::{AllocError, Global};
+
+// Appends the row and the first row of a token.
+fn show_rows(out: &mut String, token: &Token) -> Result<(), AllocError> {
+    out.push_str("the row is")?;
+    show_numbers(out, token.row.as_slice())?;
+    out.push_str(" and was at the beginning of the section")?;
+    show_numbers(out, token.first.as_slice())
+}
+
+// Appends the value of the cell that an event is at.
+fn show_cell(out: &mut String, token: &Token, event: &Event) -> Result<(), AllocError> {
+    match *event {
+        Event::Read { cell, .. } | Event::Write { cell, .. } => {
+            match token.row.as_slice().get(cell as usize) {
+                Some(value) => write!(out, "the cell has {value}"),
+                None => write!(out, "it has {} cells", token.row.as_slice().len()),
+            }
+        }
+        _ => Ok(()),
+    }
+}
+
+// Appends the law of a token, and the row that breaks it.
+fn show_broken(out: &mut String, token: &Token) -> Result<(), AllocError> {
+    out.push_str("the row")?;
+    show_numbers(out, token.row.as_slice())?;
+    write!(
+        out,
+        " breaks the law {} {}",
+        law_name(token.law),
+        token.param
+    )
+}
+
+// Appends why a token doesn't meet a need of an event.
+fn show_token_lack(
+    out: &mut String,
+    token: &Token,
+    event: &Event,
+    lack: Lack,
+) -> Result<(), AllocError> {
+    match lack {
+        Lack::LastGeneration => write!(out, "its generation {} is the last", token.generation),
+        Lack::LastExclusive => out.push_str("it is the last reference of an exclusive holding"),
+        Lack::FurtherReferences => write!(
+            out,
+            "{} references are held",
+            token.held_by(event.cpu()).references()
+        ),
+        Lack::RowChanged | Lack::RowUnchanged => show_rows(out, token),
+        Lack::LawBroken => show_broken(out, token),
+        Lack::NoCell | Lack::OtherValue => show_cell(out, token, event),
+        Lack::LessThanBefore => {
+            show_cell(out, token, event)?;
+            out.push_str(", and a tally is only raised")
+        }
+        _ => show_holders(out, token),
+    }
+}
+
+// Appends why a message doesn't meet a need of an event.
+fn show_message_lack(
+    out: &mut String,
+    message: &Message,
+    cpus: usize,
+    lack: Lack,
+) -> Result<(), AllocError> {
+    if lack == Lack::NoTarget {
+        return write!(out, "there are {cpus} processors");
+    }
+    show_owner(out, message.owner)?;
+    write!(out, ", round {}", message.round)
+}
+
+// Appends why what an event is at doesn't meet a need of it.
+fn show_place_lack(
+    out: &mut String,
+    state: &State,
+    event: &Event,
+    lack: Lack,
+) -> Result<(), AllocError> {
+    match subject_of(event) {
+        Subject::Token(tok) => match state.token(tok) {
+            Some(token) => show_token_lack(out, token, event, lack),
+            None => out.push_str("no such token"),
+        },
+        Subject::Message(msg) => match state.message(msg) {
+            Some(message) => show_message_lack(out, message, state.cpus(), lack),
+            None => out.push_str("no such message"),
+        },
+    }
+}
+
+// Appends which need of an event isn't met.
+fn show_lack(out: &mut String, state: &State, event: &Event, lack: Lack) -> Result<(), AllocError> {
+    match lack {
+        Lack::NoProcessor => write!(out, "there are {} processors", state.cpus()),
+        Lack::TooManyReferences => out.push_str("the processor has 32 references"),
+        _ => show_place_lack(out, state, event, lack),
+    }
+}
+
+/// The line that says which need of the event of an index isn't met in a state.
+pub fn reason(
+    alloc: Global,
+    state: &State,
+    index: usize,
+    event: &Event,
+) -> Result<String, AllocError> {
+    let mut out = String::new(alloc);
+    write!(out, "event {index}: ")?;
+    show_event(&mut out, event)?;
+    out.push_str(": ")?;
+    if let Some(lack) = state.lack(event) {
+        show_lack(&mut out, state, event, lack)?;
+    }
+    out.push_str("\n")?;
+    Ok(out)
+}

@@ -1,0 +1,13 @@
+//! Checks a trace of another implementation: whether its events can happen one after another from its opening, and end
+//! with its closing values; and if not, which need isn't met.
+#![tactic(auto)]
+
+mod differences;
+mod holdings;
+mod judges;
+mod lacks;
+mod programs;
+mod words;
+
+pub use judges::{Finding, judge};
+pub use programs::{Complaint, check_stream, complaint_line, run_checker};

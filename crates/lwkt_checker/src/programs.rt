@@ -1,0 +1,174 @@
+ghost use Rattle.std.specs.Prelude.{◌≡◌, ◌≢◌, ◌⊎◌, ◌≤◌, [], length, Err, IsTrue, IfOk, IfErr, string_bytes};
+ghost use Rattle.lwkt_checker.specs.Judgement.{HasFinding, Refuses};
+ghost use Rattle.lwkt_checker.specs.Output.{Tells, status_of, complaint_of, fault_line, IsSaid, Complains, ChecksAs};
+
+use crate::judges::{Finding, finding_text, judge};
+use arrayvec::ArrayString;
+use itoa::Buffer;
+use lwkt_base::Fault;
+use lwkt_report::{RunFault, Sink, Source, read_up_to, write_whole};
+use lwkt_trace::{LENGTH_LIMIT, read_trace};
+use std::alloc::Global;
+
+/// What the program says where it can't check.
+#[derive(Clone, Copy, Debug, PartialEq, Eq)]
+pub enum Complaint {
+    /// There are arguments.
+    Usage,
+    /// The trace or memory is at fault.
+    Fault(Fault),
+    /// The reader or the writer failed.
+    Stream,
+}
+
+fn fault_text(fault: Fault) -> ArrayString<48>
+    ensures { result.bytes ≡ fault_line (Complaint.Fault fault) }
+{
+    let mut digits = Buffer::new();
+    let mut line = ArrayString::new();
+    line.push_str("lwkt_check: fault ");
+    line.push_str(digits.format(fault.number()));
+    if let Fault::Script { place } = fault {
+        line.push_str(" at ");
+        line.push_str(digits.format(place));
+    }
+    line.push_str("\n");
+    line
+}
+
+fn fixed(text: &str) -> ArrayString<48>
+    requires { length text.now ≤ 48 }
+    ensures { result.bytes ≡ text.now }
+{
+    let mut line = ArrayString::new();
+    line.push_str(text);
+    line
+}
+
+/// The line that the program says, ended by a line feed. It takes no memory.
+pub fn complaint_line(complaint: Complaint) -> ArrayString<48>
+    ensures { result.bytes ≡ fault_line complaint }
+{
+    match complaint {
+        Complaint::Usage => fixed("lwkt_check: no arguments are wanted\n"),
+        Complaint::Fault(fault) => fault_text(fault),
+        Complaint::Stream => fixed("lwkt_check: stream\n"),
+    }
+}
+
+// What was found of a trace: the text to write, and whether it is lawful.
+#[derive(Drop)]
+struct Done {
+    text: String,
+    lawful: bool,
+}
+
+// Checks the trace that the bytes are, to the text of what is found.
+fn done_of_bytes(alloc: Global, bytes: &[u8]) -> Result<Done, Fault>
+    ensures ok { IfOk result (λ done. HasFinding bytes.now done.lawful (string_bytes done.text)) }
+    ensures refused { IfErr result (λ fault. Refuses bytes.now fault) }
+{
+    let trace = read_trace(alloc, bytes)?;
+    let finding = judge(alloc, trace)?;
+    match finding_text(alloc, &finding) {
+        Ok(text) => Ok(Done {
+            text,
+            lawful: matches!(finding, Finding::Lawful),
+        }),
+        Err(_) => Err(Fault::Memory),
+    }
+}
+
+/// Reads a trace to its end, or to 268435457 bytes, checks it, and writes what was found of it, which is whole in memory
+/// before its first byte is written. The answer is whether it is lawful.
+///
+/// Refused with `Fault` and nothing written: `Script` with the place of its first bad part, `Limits` or `LawBroken` for its
+/// opening, `Memory` for a refused allocation; with `Stream` only if a call of the source or the sink failed, and then a
+/// front of the text stands.
+pub fn check_stream<S: Source, K: Sink>(
+    alloc: Global,
+    source: &mut S,
+    sink: &mut K,
+) -> Result<bool, RunFault>
+    ensures tells { Tells (S.left source.old) (K.contents sink.old) (K.contents sink.new) result }
+    ensures stream { result ≡ Err RunFault.Stream → IsTrue (S.has_failed source.new) ⊎ IsTrue (K.has_failed sink.new) }
+{
+    let bytes = match read_up_to(alloc, source, LENGTH_LIMIT + 1) {
+        Ok(bytes) => bytes,
+        Err(fault) => return Err(fault),
+    };
+    let done = match done_of_bytes(alloc, &bytes) {
+        Ok(done) => done,
+        Err(fault) => return Err(RunFault::Fault(fault)),
+    };
+    match write_whole(sink, done.text.as_bytes()) {
+        Ok(()) => Ok(done.lawful),
+        Err(_) => Err(RunFault::Stream),
+    }
+}
+
+// The exit status of an outcome.
+fn status_of(outcome: &Result<bool, RunFault>) -> u8
+    ensures { result ≡ status_of outcome.now }
+{
+    match outcome {
+        Ok(true) => 0,
+        Ok(false) => 4,
+        Err(RunFault::Fault(Fault::Memory)) | Err(RunFault::Stream) => 3,
+        Err(RunFault::Fault(_)) => 1,
+    }
+}
+
+// Writes a line to where errors go. If that fails, a front of it stands.
+fn complain<E: Sink>(errors: &mut E, complaint: Complaint)
+    ensures { IsSaid (E.has_failed errors.new) (E.contents errors.old) (E.contents errors.new) (fault_line complaint) }
+{
+    let line = complaint_line(complaint);
+    let _ = write_whole(errors, line.as_bytes());
+}
+
+// What is said in place of a finding.
+fn complaint_of(fault: RunFault) -> Complaint
+    ensures { result ≡ complaint_of fault }
+{
+    match fault {
+        RunFault::Fault(fault) => Complaint::Fault(fault),
+        RunFault::Stream => Complaint::Stream,
+    }
+}
+
+// Writes the line that an outcome asks for: none beside a finding.
+fn close<E: Sink>(errors: &mut E, outcome: &Result<bool, RunFault>)
+    ensures { Complains (E.has_failed errors.new) (E.contents errors.old) (E.contents errors.new) outcome.now }
+{
+    match *outcome {
+        Ok(_) => {}
+        Err(fault) => complain(errors, complaint_of(fault)),
+    }
+}
+
+/// The whole program: its arguments without its own name, what it reads, what it writes, and where its errors go. The
+/// answer is its exit status: 0 lawful; 4 unlawful; 1 arguments, or a trace or opening that was refused; 3 want of memory,
+/// or a stream that failed. With 1 and 3 one line goes to where errors go.
+///
+/// The arguments are looked at before anything is read.
+pub fn run_checker<S: Source, K: Sink, E: Sink>(
+    alloc: Global,
+    words: &[String],
+    source: &mut S,
+    sink: &mut K,
+    errors: &mut E,
+) -> u8
+    ensures checks { words.now ≡ [] → ChecksAs (S.left source.old) (K.contents sink.old) (K.contents sink.new) (E.has_failed errors.new) (E.contents errors.old) (E.contents errors.new) result }
+    ensures usage { words.now ≢ [] → (result ≡ 1) × IsSaid (E.has_failed errors.new) (E.contents errors.old) (E.contents errors.new) (fault_line Complaint.Usage) }
+    ensures unread { words.now ≢ [] → source.new ≡ source.old }
+    ensures unwritten { words.now ≢ [] → sink.new ≡ sink.old }
+{
+    if !words.is_empty() {
+        complain(errors, Complaint::Usage);
+        return 1;
+    }
+    let outcome = check_stream(alloc, source, sink);
+    close(errors, &outcome);
+    status_of(&outcome)
+}

@@ -1,0 +1,82 @@
+-- Which of an event's needs isn't met (own).
+use Rattle.std.specs.Prelude.{◌≡◌, ◌≢◌, ◌⊎◌, ℕ, ◌+◌, ◌<◌, ◌≤◌, true, length, Option, Some, slice_get, slice_index, MatchOption}
+use Rattle.lwkt_base.specs.declared.names.Mode.TheVariants.{Exclusive}
+use Rattle.lwkt_base.specs.declared.holdings.Held.TheVariants.{Nothing, Holds}
+use Rattle.lwkt_base.specs.declared.owners.Owner.TheVariants.{Rest}
+use Rattle.lwkt_base.specs.declared.words.TheConstants.{LAST_GENERATION}
+use Rattle.lwkt_base.specs.Law.{MeetsLaw}
+use Rattle.lwkt_core.specs.declared.tokens.Token.{Token}
+use Rattle.lwkt_core.specs.declared.messages.Message.{Message}
+use Rattle.lwkt_core.specs.declared.messages.TheConstants.{LAST_ROUND}
+use Rattle.lwkt_core.specs.declared.lacks.Lack.{Lack}
+use Rattle.lwkt_core.specs.declared.lacks.Lack.TheVariants.{NoProcessor, NoToken, NoMessage, TooManyReferences, Held, HeldExclusively, HeldAlready, LastGeneration, NotHeld, NotHeldExclusively, LastExclusive, FurtherReferences, RowChanged, RowUnchanged, LawBroken, NoCell, OtherValue, LessThanBefore, NotAtRest, NoTarget, LastRound, OtherRound, NotOut, NotTaken, NotReplied, NotAway}
+use Rattle.lwkt_core.specs.declared.events.Event.{Event}
+use Rattle.lwkt_core.specs.declared.events.Event.TheVariants.{Load, Take, Share, Again, Mark, GiveOne, GiveClean, GiveWritten, Read, Write, Send, TakeMsg, DropMsg, Reply, Reap, Abort}
+use Rattle.lwkt_core.specs.declared.events.Place.{Place}
+use Rattle.lwkt_core.specs.declared.events.Place.TheVariants.{AtToken, AtMessage}
+use Rattle.lwkt_core.specs.Events.{cpu_of, place_of, adds_reference}
+use Rattle.lwkt_core.specs.Tokens.{held_by, IsFree, IsOpen, IsHolder, IsExclusiveHolder, IsNotLastExclusive, MayWrite, TokenNeeds}
+use Rattle.lwkt_core.specs.Messages.{IsOutTo, IsOutFrom, IsWith, IsBackTo, MayBeAborted, MessageNeeds}
+use Rattle.lwkt_core.specs.Machine.{Machine, references_of, Needs}
+
+-- the lack is the one of this name, and the need that it names isn't met
+abbrev pub Fails : Lack → Lack → Type 0 → Type 0
+Fails lack name Need = (lack ≡ name) × (¬ Need)
+
+-- which of an event's needs of its token isn't met; a message's event has no token
+abbrev pub TokenLacks : Token → Event → Lack → Type 0
+TokenLacks tok (Load cpu t) lack = ⊥
+TokenLacks tok (Take cpu t) lack = Fails lack Held (IsFree tok) ⊎ Fails lack LastGeneration (tok.generation < LAST_GENERATION)
+TokenLacks tok (Share cpu t) lack = Fails lack HeldExclusively (IsOpen tok) ⊎ Fails lack HeldAlready (held_by tok cpu.0 ≡ Nothing)
+TokenLacks tok (Again cpu t) lack = Fails lack NotHeld (IsHolder tok cpu.0)
+TokenLacks tok (Mark cpu t) lack = ⊥
+TokenLacks tok (GiveOne cpu t) lack = Fails lack NotHeld (IsHolder tok cpu.0) ⊎ Fails lack LastExclusive (IsNotLastExclusive (held_by tok cpu.0))
+TokenLacks tok (GiveClean cpu t) lack = Fails lack NotHeldExclusively (IsExclusiveHolder tok cpu.0) ⊎ (Fails lack FurtherReferences (held_by tok cpu.0 ≡ Holds Exclusive 0) ⊎ Fails lack RowChanged (tok.row ≡ tok.first))
+TokenLacks tok (GiveWritten cpu t) lack = Fails lack NotHeldExclusively (IsExclusiveHolder tok cpu.0) ⊎ (Fails lack FurtherReferences (held_by tok cpu.0 ≡ Holds Exclusive 0) ⊎ (Fails lack RowUnchanged (tok.row ≢ tok.first) ⊎ Fails lack LawBroken (MeetsLaw tok.law tok.param tok.row)))
+TokenLacks tok (Read cpu t cell value) lack = Fails lack NotHeld (IsHolder tok cpu.0) ⊎ (Fails lack NoCell (cell < length tok.row) ⊎ Fails lack OtherValue (slice_get tok.row cell ≡ Some value))
+TokenLacks tok (Write cpu t cell value) lack = Fails lack NotHeldExclusively (IsExclusiveHolder tok cpu.0) ⊎ (Fails lack NoCell (cell < length tok.row) ⊎ Fails lack LessThanBefore (MayWrite tok.law (slice_index tok.row cell) value))
+TokenLacks tok (Send cpu msg to round) lack = lack ≡ NoToken
+TokenLacks tok (TakeMsg cpu msg round) lack = lack ≡ NoToken
+TokenLacks tok (DropMsg cpu msg) lack = lack ≡ NoToken
+TokenLacks tok (Reply cpu msg) lack = lack ≡ NoToken
+TokenLacks tok (Reap cpu msg) lack = lack ≡ NoToken
+TokenLacks tok (Abort cpu msg) lack = lack ≡ NoToken
+
+-- which of an event's needs of its message isn't met; a token's event has no message
+abbrev pub MessageLacks : ℕ → Message → Event → Lack → Type 0
+MessageLacks cpus msg (Send cpu m to round) lack = Fails lack NotAtRest (msg.owner ≡ Rest cpu) ⊎ (Fails lack NoTarget (to.0 < cpus) ⊎ (Fails lack LastRound (round ≤ LAST_ROUND) ⊎ Fails lack OtherRound (round ≡ msg.round + 1)))
+MessageLacks cpus msg (TakeMsg cpu m round) lack = Fails lack NotOut (IsOutTo cpu msg.owner) ⊎ Fails lack OtherRound (round ≡ msg.round)
+MessageLacks cpus msg (DropMsg cpu m) lack = Fails lack NotOut (IsOutFrom cpu msg.owner)
+MessageLacks cpus msg (Reply cpu m) lack = Fails lack NotTaken (IsWith cpu msg.owner)
+MessageLacks cpus msg (Reap cpu m) lack = Fails lack NotReplied (IsBackTo cpu msg.owner)
+MessageLacks cpus msg (Abort cpu m) lack = Fails lack NotAway (MayBeAborted cpu msg.owner)
+MessageLacks cpus msg (Load cpu t) lack = lack ≡ NoMessage
+MessageLacks cpus msg (Take cpu t) lack = lack ≡ NoMessage
+MessageLacks cpus msg (Share cpu t) lack = lack ≡ NoMessage
+MessageLacks cpus msg (Again cpu t) lack = lack ≡ NoMessage
+MessageLacks cpus msg (Mark cpu t) lack = lack ≡ NoMessage
+MessageLacks cpus msg (GiveOne cpu t) lack = lack ≡ NoMessage
+MessageLacks cpus msg (GiveClean cpu t) lack = lack ≡ NoMessage
+MessageLacks cpus msg (GiveWritten cpu t) lack = lack ≡ NoMessage
+MessageLacks cpus msg (Read cpu t cell value) lack = lack ≡ NoMessage
+MessageLacks cpus msg (Write cpu t cell value) lack = lack ≡ NoMessage
+
+-- what isn't met at a place: there is nothing of its number, or what it has doesn't meet a need
+abbrev pub PlaceLacks : Machine → Event → Place → Lack → Type 0
+PlaceLacks m e (AtToken i) lack = MatchOption (slice_get m.tokens i) (lack ≡ NoToken) (λ tok. TokenLacks tok e lack)
+PlaceLacks m e (AtMessage i) lack = MatchOption (slice_get m.messages i) (lack ≡ NoMessage) (λ msg. MessageLacks m.cpus msg e lack)
+
+-- which of an event's needs isn't met
+abbrev pub Lacks : Machine → Event → Lack → Type 0
+Lacks m e lack = Fails lack NoProcessor (cpu_of e < m.cpus) ⊎ (Fails lack TooManyReferences (adds_reference e ≡ true → references_of m.tokens (cpu_of e) < 32) ⊎ PlaceLacks m e (place_of e) lack)
+
+-- what is told of an event's needs of its token, or of its message: nothing where they are met, or which isn't
+abbrev pub TellsOfToken : Token → Event → Option Lack → Type 0
+TellsOfToken tok e told = MatchOption told (TokenNeeds tok e) (λ lack. TokenLacks tok e lack)
+
+abbrev pub TellsOfMessage : ℕ → Message → Event → Option Lack → Type 0
+TellsOfMessage cpus msg e told = MatchOption told (MessageNeeds cpus msg e) (λ lack. MessageLacks cpus msg e lack)
+
+-- a law: an event that lacks something can't happen
+abbrev pub LackRefutes : Type 0
+LackRefutes = (m : Machine) (e : Event) (lack : Lack) → Lacks m e lack → ¬ Needs m e

@@ -1,0 +1,2 @@
+pub mod EachItem
+pub mod TraceTexts

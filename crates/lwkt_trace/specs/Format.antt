@@ -1,0 +1,95 @@
+-- A trace, version 1 (own): what it says, and the place of its first bad part.
+use Rattle.std.specs.Prelude.{ℕ, ◌+◌, ◌&&◌, nat_lt, nat_le, List, [], length, codes, Bool, is_some, if◌then◌else◌, Option, Some, None, Result, Ok, Err}
+use Rattle.std.specs.Str.{is_utf8}
+use Rattle.serde_json.specs.Data.{Data}
+use Rattle.serde_json.specs.Find.{get, as_null, as_array}
+use Rattle.serde_json.specs.Read.{read}
+use Rattle.lwkt_base.specs.declared.openings.MsgSpec.{MsgSpec}
+use Rattle.lwkt_base.specs.declared.owners.MsgEnd.{MsgEnd}
+use Rattle.lwkt_core.specs.declared.events.Event.{Event}
+use Rattle.lwkt_script.specs.Field.{has_members, whole, number_in, list_in}
+use Rattle.lwkt_script.specs.Format.{cell, token, message_at}
+use Rattle.lwkt_script.specs.Outcome.{◌>>=◌, ◌>>◌, part, demand, each}
+use Rattle.lwkt_trace.specs.declared.traces.Closing.{Closing}
+use Rattle.lwkt_trace.specs.declared.traces.Trace.{Trace}
+use Rattle.lwkt_trace.specs.Words.{event_of, end_of}
+
+-- the message after those: there are at most 64
+abbrev pub message : ℕ → List MsgSpec → Data → Result MsgSpec ℕ
+message cpus before d = do
+  demand 2064 (nat_lt (length before) 64)
+  message_at cpus (2000 + length before) d
+
+-- the event after those, of which there are at most 50000000
+abbrev pub event : List Event → Data → Result Event ℕ
+event before d = do
+  demand 51000000 (nat_lt (length before) 50000000)
+  part (1000000 + length before) (event_of d)
+
+-- a list of whole numbers that stands at a place
+abbrev pub numbers : ℕ → Data → Result (List ℕ) ℕ
+numbers place d = part place (as_array d) >>= each (cell place) []
+
+-- the row after those: there are at most 64
+abbrev pub row : List (List ℕ) → Data → Result (List ℕ) ℕ
+row before d = do
+  demand 3064 (nat_lt (length before) 64)
+  numbers (3000 + length before) d
+
+-- the tallies after those: there are at most 64 lists of them
+abbrev pub tally : List (List ℕ) → Data → Result (List ℕ) ℕ
+tally before d = do
+  demand 4064 (nat_lt (length before) 64)
+  numbers (4000 + length before) d
+
+-- the end of a message after those: there are at most 64
+abbrev pub end : List MsgEnd → Data → Result MsgEnd ℕ
+end before d = do
+  demand 5064 (nat_lt (length before) 64)
+  part (5000 + length before) (end_of d)
+
+-- the closing values: the shape of the whole first, then the parts in their order
+unfoldable pub closing_at : Data → Result Closing ℕ
+closing_at d = do
+  demand 4 (has_members 4 d)
+  row_items ← part 4 (list_in (codes "rows") d)
+  gen_items ← part 4 (list_in (codes "gens") d)
+  tally_items ← part 4 (list_in (codes "tallies") d)
+  end_items ← part 4 (list_in (codes "messages") d)
+  rows ← each row [] row_items
+  gens ← each (cell 5) [] gen_items
+  tallies ← each tally [] tally_items
+  ends ← each end [] end_items
+  Ok (record { rows = rows; gens = gens; tallies = tallies; messages = ends })
+
+-- what is there
+abbrev pub there : {A : Type 0} → A → Result (Option A) ℕ
+there x = Ok (Some x)
+
+-- the closing values, or null for none
+abbrev pub closing : Data → Result (Option Closing) ℕ
+closing d = if is_some (as_null d) then Ok None else (closing_at d >>= there)
+
+-- an object with exactly the six members
+abbrev pub is_whole : Data → Bool
+is_whole d = has_members 6 d && is_some (get (codes "version") d) && is_some (get (codes "cpus") d) && is_some (get (codes "last") d)
+
+-- a trace: the shape of the whole first, then the parts in their order
+unfoldable pub trace : Data → Result Trace ℕ
+trace d = do
+  demand 1 (is_whole d)
+  token_items ← part 1 (list_in (codes "tokens") d)
+  message_items ← part 1 (list_in (codes "messages") d)
+  event_items ← part 1 (list_in (codes "events") d)
+  last_part ← part 1 (get (codes "last") d)
+  version ← part 2 (number_in (codes "version") 1 1 d)
+  cpus ← part 3 (number_in (codes "cpus") 1 8 d)
+  tokens ← each token [] token_items
+  messages ← each (message cpus) [] message_items
+  events ← each event [] event_items
+  last ← closing last_part
+  Ok (record { cpus = cpus; tokens = tokens; messages = messages; events = events; last = last })
+
+-- the trace that the bytes are: at most 268435456 of them, and one JSON text
+unfoldable pub trace_of : List ℕ → Result Trace ℕ
+trace_of bytes = part 0 (if nat_le (length bytes) 268435456 && is_utf8 bytes then read bytes else None) >>= trace

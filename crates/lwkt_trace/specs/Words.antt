@@ -1,0 +1,95 @@
+-- The events of a trace and the ends of messages, by their words and how many items they have (own).
+use Rattle.std.specs.Prelude.{ℕ, ◌==◌, List, codes, bytes_eq, if◌then◌else◌, Option, Some, None, option_and_then}
+use Rattle.serde_json.specs.Data.{Data}
+use Rattle.serde_json.specs.Find.{at, as_str}
+use Rattle.lwkt_base.specs.declared.names.CpuId.{CpuId}
+use Rattle.lwkt_base.specs.declared.names.TokId.{TokId}
+use Rattle.lwkt_base.specs.declared.names.MsgId.{MsgId}
+use Rattle.lwkt_base.specs.declared.owners.Owner.TheVariants.{Rest, Out, With, Back}
+use Rattle.lwkt_base.specs.declared.owners.MsgEnd.{MsgEnd}
+use Rattle.lwkt_core.specs.declared.events.Event.{Event}
+use Rattle.lwkt_core.specs.declared.events.Event.TheVariants.{Load, Take, Share, Again, Mark, GiveOne, GiveClean, GiveWritten, Read, Write, Send, TakeMsg, DropMsg, Reply, Reap, Abort}
+use Rattle.lwkt_script.specs.Field.{item_count}
+use Rattle.lwkt_script.specs.Step.{◌>>=◌, small_at, whole_at}
+
+-- a processor, a token and a message by their numbers
+abbrev pub cpu_id : ℕ → CpuId
+cpu_id n = record { 0 = n }
+
+abbrev pub tok_id : ℕ → TokId
+tok_id n = record { 0 = n }
+
+abbrev pub msg_id : ℕ → MsgId
+msg_id n = record { 0 = n }
+
+-- the event of a word with a processor and a token
+abbrev pub with_token : List ℕ → ℕ → ℕ → Option Event
+with_token word cpu tok =
+    if bytes_eq word (codes "load") then Some (Load (cpu_id cpu) (tok_id tok)) else (
+    if bytes_eq word (codes "take") then Some (Take (cpu_id cpu) (tok_id tok)) else (
+    if bytes_eq word (codes "share") then Some (Share (cpu_id cpu) (tok_id tok)) else (
+    if bytes_eq word (codes "again") then Some (Again (cpu_id cpu) (tok_id tok)) else (
+    if bytes_eq word (codes "mark") then Some (Mark (cpu_id cpu) (tok_id tok)) else (
+    if bytes_eq word (codes "give_one") then Some (GiveOne (cpu_id cpu) (tok_id tok)) else (
+    if bytes_eq word (codes "give_clean") then Some (GiveClean (cpu_id cpu) (tok_id tok)) else (
+    if bytes_eq word (codes "give_written") then Some (GiveWritten (cpu_id cpu) (tok_id tok)) else None)))))))
+
+-- the event of a word with a processor and a message
+abbrev pub with_message : List ℕ → ℕ → ℕ → Option Event
+with_message word cpu msg =
+    if bytes_eq word (codes "drop") then Some (DropMsg (cpu_id cpu) (msg_id msg)) else (
+    if bytes_eq word (codes "reply") then Some (Reply (cpu_id cpu) (msg_id msg)) else (
+    if bytes_eq word (codes "reap") then Some (Reap (cpu_id cpu) (msg_id msg)) else (
+    if bytes_eq word (codes "abort") then Some (Abort (cpu_id cpu) (msg_id msg)) else None)))
+
+-- the first of two that is there
+abbrev pub or_else : {A : Type 0} → Option A → Option A → Option A
+or_else (Some x) other = Some x
+or_else None other = other
+
+-- the event of a word with a processor and the number of what it is at
+abbrev pub with_place : List ℕ → ℕ → ℕ → Option Event
+with_place word cpu place = or_else (with_token word cpu place) (with_message word cpu place)
+
+-- the event of a word with a processor, a message and a round
+abbrev pub with_round : List ℕ → ℕ → ℕ → ℕ → Option Event
+with_round word cpu msg round = if bytes_eq word (codes "take_msg") then Some (TakeMsg (cpu_id cpu) (msg_id msg) round) else None
+
+-- the event of a word with a processor, a token, a cell and a value, or a message, a target and a round
+abbrev pub with_value : List ℕ → ℕ → ℕ → ℕ → ℕ → Option Event
+with_value word cpu place part value =
+    if bytes_eq word (codes "read") then Some (Read (cpu_id cpu) (tok_id place) part value) else (
+    if bytes_eq word (codes "write") then Some (Write (cpu_id cpu) (tok_id place) part value) else (
+    if bytes_eq word (codes "send") then Some (Send (cpu_id cpu) (msg_id place) (cpu_id part) value) else None))
+
+-- the event of a word with so many items in all
+abbrev pub happened : List ℕ → ℕ → Data → Option Event
+happened word count d =
+    if count == 3 then (small_at 1 d >>= λ cpu. small_at 2 d >>= λ place. with_place word cpu place) else (
+    if count == 4 then (small_at 1 d >>= λ cpu. small_at 2 d >>= λ msg. whole_at 3 d >>= λ round. with_round word cpu msg round) else (
+    if count == 5 then (small_at 1 d >>= λ cpu. small_at 2 d >>= λ place. small_at 3 d >>= λ part. whole_at 4 d >>= λ value. with_value word cpu place part value) else None))
+
+-- an event: a word, and the numbers that go with it
+abbrev pub event_of : Data → Option Event
+event_of d = item_count d >>= λ count. (at 0 d >>= as_str) >>= λ word. happened word count d
+
+-- a message's end by a word, its origin and its round
+abbrev pub at_rest : List ℕ → ℕ → ℕ → Option MsgEnd
+at_rest word origin round = if bytes_eq word (codes "rest") then Some (record { round = round; state = Rest (cpu_id origin) }) else None
+
+-- a message's end by a word, its origin, its target and its round
+abbrev pub at_other : List ℕ → ℕ → ℕ → ℕ → Option MsgEnd
+at_other word origin target round =
+    if bytes_eq word (codes "out") then Some (record { round = round; state = Out (cpu_id origin) (cpu_id target) }) else (
+    if bytes_eq word (codes "with") then Some (record { round = round; state = With (cpu_id origin) (cpu_id target) }) else (
+    if bytes_eq word (codes "back") then Some (record { round = round; state = Back (cpu_id origin) (cpu_id target) }) else None))
+
+-- the end of a word with so many items in all
+abbrev pub ended : List ℕ → ℕ → Data → Option MsgEnd
+ended word count d =
+    if count == 3 then (small_at 1 d >>= λ origin. whole_at 2 d >>= λ round. at_rest word origin round) else (
+    if count == 4 then (small_at 1 d >>= λ origin. small_at 2 d >>= λ target. whole_at 3 d >>= λ round. at_other word origin target round) else None)
+
+-- a message's end: a word, and the numbers that go with it
+abbrev pub end_of : Data → Option MsgEnd
+end_of d = item_count d >>= λ count. (at 0 d >>= as_str) >>= λ word. ended word count d

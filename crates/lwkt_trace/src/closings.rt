@@ -1,0 +1,194 @@
+ghost use Rattle.std.specs.Prelude.{◌≡◌, []};
+ghost use Rattle.serde_json.specs.View.{view, items_view};
+ghost use Rattle.lwkt_script.specs.Outcome.{Gives, each};
+ghost use Rattle.lwkt_trace.specs.Words.{at_rest, at_other, ended, end_of};
+ghost use Rattle.lwkt_trace.specs.Format.{numbers, row, tally, end, closing_at, closing};
+
+use crate::traces::Closing;
+use lwkt_base::{Cells, CpuId, Fault, MsgEnd, Owner};
+use lwkt_script::Parts;
+use lwkt_script::fields::{has_members, item_count, list_at};
+use lwkt_script::growth::push;
+use lwkt_script::steps::{small_at, whole_at};
+use lwkt_script::tokens::cells_of;
+use serde_json::Value;
+use std::alloc::Global;
+
+// The most rows, lists of tallies and ends of messages.
+const LIMIT: usize = 64;
+
+// A message's end by a word, its origin and its round.
+fn at_rest(word: &str, origin: u8, round: u64) -> Option<MsgEnd>
+    ensures { result ≡ at_rest word.now origin round }
+{
+    match word {
+        "rest" => Some(MsgEnd {
+            round,
+            state: Owner::Rest {
+                origin: CpuId(origin),
+            },
+        }),
+        _ => None,
+    }
+}
+
+// A message's end by a word, its origin, its target and its round.
+fn at_other(word: &str, origin: u8, target: u8, round: u64) -> Option<MsgEnd>
+    ensures { result ≡ at_other word.now origin target round }
+{
+    let origin = CpuId(origin);
+    let target = CpuId(target);
+    match word {
+        "out" => Some(MsgEnd {
+            round,
+            state: Owner::Out { origin, target },
+        }),
+        "with" => Some(MsgEnd {
+            round,
+            state: Owner::With { origin, target },
+        }),
+        "back" => Some(MsgEnd {
+            round,
+            state: Owner::Back { origin, target },
+        }),
+        _ => None,
+    }
+}
+
+// The end of a word with so many items in all.
+fn ended(word: &str, count: usize, value: &Value) -> Option<MsgEnd>
+    ensures { result ≡ ended word.now count (view value.now) }
+{
+    match count {
+        3 => at_rest(word, small_at(value, 1)?, whole_at(value, 2)?),
+        4 => at_other(
+            word,
+            small_at(value, 1)?,
+            small_at(value, 2)?,
+            whole_at(value, 3)?,
+        ),
+        _ => None,
+    }
+}
+
+// The end that a list stands for.
+fn end_of(value: &Value) -> Option<MsgEnd>
+    ensures { result ≡ end_of (view value.now) }
+{
+    let count = item_count(value)?;
+    ended(value.get(0usize)?.as_str()?, count, value)
+}
+
+// A list of whole numbers.
+fn numbers(alloc: Global, place: u32, value: &Value) -> Result<Cells, Fault>
+    ensures { Gives (λ c. c) result (numbers place (view value.now)) }
+{
+    match value.as_array() {
+        Some(items) => Ok(Cells::from_vec(cells_of(alloc, place, items.as_slice())?)),
+        None => Err(Fault::Script { place }),
+    }
+}
+
+// The row after those.
+fn row(alloc: Global, before: &[Cells], value: &Value) -> Result<Cells, Fault>
+    ensures { Gives (λ c. c) result (row before.now (view value.now)) }
+{
+    if before.len() >= LIMIT {
+        return Err(Fault::Script { place: 3064 });
+    }
+    numbers(alloc, 3000 + before.len() as u32, value)
+}
+
+// The tallies after those.
+fn tally(alloc: Global, before: &[Cells], value: &Value) -> Result<Cells, Fault>
+    ensures { Gives (λ c. c) result (tally before.now (view value.now)) }
+{
+    if before.len() >= LIMIT {
+        return Err(Fault::Script { place: 4064 });
+    }
+    numbers(alloc, 4000 + before.len() as u32, value)
+}
+
+// The end of a message after those.
+fn end(before: &[MsgEnd], value: &Value) -> Result<MsgEnd, Fault>
+    ensures { Gives (λ e. e) result (end before.now (view value.now)) }
+{
+    if before.len() >= LIMIT {
+        return Err(Fault::Script { place: 5064 });
+    }
+    match end_of(value) {
+        Some(end) => Ok(end),
+        None => Err(Fault::Script {
+            place: 5000 + before.len() as u32,
+        }),
+    }
+}
+
+fn rows_of(alloc: Global, items: &[Value]) -> Result<Vec<Cells>, Fault>
+    ensures { Gives (λ v. v.items) result (each row [] (items_view items.now)) }
+{
+    let mut rows = Vec::new(alloc);
+    for item in items {
+        let next = row(alloc, rows.as_slice(), item)?;
+        push(&mut rows, next)?;
+    }
+    Ok(rows)
+}
+
+fn tallies_of(alloc: Global, items: &[Value]) -> Result<Vec<Cells>, Fault>
+    ensures { Gives (λ v. v.items) result (each tally [] (items_view items.now)) }
+{
+    let mut tallies = Vec::new(alloc);
+    for item in items {
+        let next = tally(alloc, tallies.as_slice(), item)?;
+        push(&mut tallies, next)?;
+    }
+    Ok(tallies)
+}
+
+fn ends_of(alloc: Global, items: &[Value]) -> Result<Vec<MsgEnd>, Fault>
+    ensures { Gives (λ v. v.items) result (each end [] (items_view items.now)) }
+{
+    let mut ends = Vec::new(alloc);
+    for item in items {
+        let next = end(ends.as_slice(), item)?;
+        push(&mut ends, next)?;
+    }
+    Ok(ends)
+}
+
+#[tactic(auto, unfolding(crate::specs::Format::closing_at))]
+fn closing_at(alloc: Global, value: &Value) -> Result<Closing, Fault>
+    ensures { Gives (λ c. c) result (closing_at (view value.now)) }
+{
+    if !has_members(value, 4) {
+        return Err(Fault::Script { place: 4 });
+    }
+    let row_items = list_at(4, value, "rows")?;
+    let gen_items = list_at(4, value, "gens")?;
+    let tally_items = list_at(4, value, "tallies")?;
+    let end_items = list_at(4, value, "messages")?;
+    let rows = rows_of(alloc, row_items.as_slice())?;
+    let gens = cells_of(alloc, 5, gen_items.as_slice())?;
+    let tallies = tallies_of(alloc, tally_items.as_slice())?;
+    let ends = ends_of(alloc, end_items.as_slice())?;
+    Ok(Closing {
+        rows: Parts::from_vec(rows),
+        gens: Cells::from_vec(gens),
+        tallies: Parts::from_vec(tallies),
+        messages: Parts::from_vec(ends),
+    })
+}
+
+// The closing values, or none where there is null.
+pub fn closing(alloc: Global, value: &Value) -> Result<Option<Closing>, Fault>
+    ensures { Gives (λ c. c) result (closing (view value.now)) }
+{
+    if value.is_null() {
+        return Ok(None);
+    }
+    match closing_at(alloc, value) {
+        Ok(closing) => Ok(Some(closing)),
+        Err(fault) => Err(fault),
+    }
+}

@@ -1,0 +1,159 @@
+ghost use Rattle.std.specs.Prelude.{◌≡◌, []};
+ghost use Rattle.serde_json.specs.View.{view, items_view};
+ghost use Rattle.lwkt_script.specs.Outcome.{Gives, each};
+ghost use Rattle.lwkt_trace.specs.Words.{with_token, with_message, with_place, with_round, with_value, happened, event_of};
+ghost use Rattle.lwkt_trace.specs.Format.{event};
+
+use lwkt_base::{CpuId, Fault, MsgId, TokId};
+use lwkt_core::Event;
+use lwkt_script::fields::item_count;
+use lwkt_script::growth::push;
+use lwkt_script::steps::{small_at, whole_at};
+use serde_json::Value;
+use std::alloc::Global;
+
+const EVENT_LIMIT: usize = 50_000_000;
+
+// The event of a word with a processor and a token.
+fn with_token(word: &str, cpu: u8, tok: u8) -> Option<Event>
+    ensures { result ≡ with_token word.now cpu tok }
+{
+    let cpu = CpuId(cpu);
+    let tok = TokId(tok);
+    match word {
+        "load" => Some(Event::Load { cpu, tok }),
+        "take" => Some(Event::Take { cpu, tok }),
+        "share" => Some(Event::Share { cpu, tok }),
+        "again" => Some(Event::Again { cpu, tok }),
+        "mark" => Some(Event::Mark { cpu, tok }),
+        "give_one" => Some(Event::GiveOne { cpu, tok }),
+        "give_clean" => Some(Event::GiveClean { cpu, tok }),
+        "give_written" => Some(Event::GiveWritten { cpu, tok }),
+        _ => None,
+    }
+}
+
+// The event of a word with a processor and a message.
+fn with_message(word: &str, cpu: u8, msg: u8) -> Option<Event>
+    ensures { result ≡ with_message word.now cpu msg }
+{
+    let cpu = CpuId(cpu);
+    let msg = MsgId(msg);
+    match word {
+        "drop" => Some(Event::DropMsg { cpu, msg }),
+        "reply" => Some(Event::Reply { cpu, msg }),
+        "reap" => Some(Event::Reap { cpu, msg }),
+        "abort" => Some(Event::Abort { cpu, msg }),
+        _ => None,
+    }
+}
+
+// The event of a word with a processor and the number of what it is at.
+fn with_place(word: &str, cpu: u8, place: u8) -> Option<Event>
+    ensures { result ≡ with_place word.now cpu place }
+{
+    match with_token(word, cpu, place) {
+        Some(event) => Some(event),
+        None => with_message(word, cpu, place),
+    }
+}
+
+// The event of a word with a processor, a message and a round.
+fn with_round(word: &str, cpu: u8, msg: u8, round: u64) -> Option<Event>
+    ensures { result ≡ with_round word.now cpu msg round }
+{
+    match word {
+        "take_msg" => Some(Event::TakeMsg {
+            cpu: CpuId(cpu),
+            msg: MsgId(msg),
+            round,
+        }),
+        _ => None,
+    }
+}
+
+// The event of a word with a processor, a token, a cell and a value, or a message, a target and a round.
+fn with_value(word: &str, cpu: u8, place: u8, part: u8, value: u64) -> Option<Event>
+    ensures { result ≡ with_value word.now cpu place part value }
+{
+    let cpu = CpuId(cpu);
+    match word {
+        "read" => Some(Event::Read {
+            cpu,
+            tok: TokId(place),
+            cell: part,
+            value,
+        }),
+        "write" => Some(Event::Write {
+            cpu,
+            tok: TokId(place),
+            cell: part,
+            value,
+        }),
+        "send" => Some(Event::Send {
+            cpu,
+            msg: MsgId(place),
+            to: CpuId(part),
+            round: value,
+        }),
+        _ => None,
+    }
+}
+
+// The event of a word with so many items in all.
+fn happened(word: &str, count: usize, value: &Value) -> Option<Event>
+    ensures { result ≡ happened word.now count (view value.now) }
+{
+    match count {
+        3 => with_place(word, small_at(value, 1)?, small_at(value, 2)?),
+        4 => with_round(
+            word,
+            small_at(value, 1)?,
+            small_at(value, 2)?,
+            whole_at(value, 3)?,
+        ),
+        5 => with_value(
+            word,
+            small_at(value, 1)?,
+            small_at(value, 2)?,
+            small_at(value, 3)?,
+            whole_at(value, 4)?,
+        ),
+        _ => None,
+    }
+}
+
+// The event that a list stands for.
+fn event_of(value: &Value) -> Option<Event>
+    ensures { result ≡ event_of (view value.now) }
+{
+    let count = item_count(value)?;
+    happened(value.get(0usize)?.as_str()?, count, value)
+}
+
+// The event after those.
+fn event(before: &[Event], value: &Value) -> Result<Event, Fault>
+    ensures { Gives (λ e. e) result (event before.now (view value.now)) }
+{
+    if before.len() >= EVENT_LIMIT {
+        return Err(Fault::Script { place: 51_000_000 });
+    }
+    match event_of(value) {
+        Some(event) => Ok(event),
+        None => Err(Fault::Script {
+            place: 1_000_000 + before.len() as u32,
+        }),
+    }
+}
+
+// The events of a trace.
+pub fn events_of(alloc: Global, items: &[Value]) -> Result<Vec<Event>, Fault>
+    ensures { Gives (λ v. v.items) result (each event [] (items_view items.now)) }
+{
+    let mut events = Vec::new(alloc);
+    for item in items {
+        let next = event(events.as_slice(), item)?;
+        push(&mut events, next)?;
+    }
+    Ok(events)
+}

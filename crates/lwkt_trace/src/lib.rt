@@ -1,0 +1,11 @@
+//! Reads a trace: the tokens and messages at the opening, the events of the processors, and the closing values.
+#![tactic(auto)]
+
+mod closings;
+mod events;
+mod openings;
+mod readers;
+mod traces;
+
+pub use readers::{LENGTH_LIMIT, read_trace};
+pub use traces::{Closing, Trace};

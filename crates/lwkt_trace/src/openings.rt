@@ -1,0 +1,36 @@
+ghost use Rattle.std.specs.Prelude.{◌<◌, []};
+ghost use Rattle.serde_json.specs.View.{view, items_view};
+ghost use Rattle.lwkt_script.specs.Outcome.{Gives, each};
+ghost use Rattle.lwkt_trace.specs.Format.{message};
+
+use lwkt_base::{Fault, MsgSpec};
+use lwkt_script::growth::push;
+use lwkt_script::messages::message_at;
+use serde_json::Value;
+use std::alloc::Global;
+
+const MESSAGE_LIMIT: usize = 64;
+
+// The message after those.
+fn message(cpus: u8, before: &[MsgSpec], value: &Value) -> Result<MsgSpec, Fault>
+    requires { 0 < cpus }
+    ensures { Gives (λ m. m) result (message cpus before.now (view value.now)) }
+{
+    if before.len() >= MESSAGE_LIMIT {
+        return Err(Fault::Script { place: 2064 });
+    }
+    message_at(cpus, 2000 + before.len() as u32, value)
+}
+
+// The messages of a trace.
+pub fn messages_of(alloc: Global, cpus: u8, items: &[Value]) -> Result<Vec<MsgSpec>, Fault>
+    requires { 0 < cpus }
+    ensures { Gives (λ v. v.items) result (each (message cpus) [] (items_view items.now)) }
+{
+    let mut messages = Vec::new(alloc);
+    for item in items {
+        let next = message(cpus, messages.as_slice(), item)?;
+        push(&mut messages, next)?;
+    }
+    Ok(messages)
+}

@@ -1,0 +1,96 @@
+ghost use Rattle.std.specs.Prelude.{◌≡◌, ◌<◌, ◌≤◌, length, Err};
+ghost use Rattle.serde_json.specs.View.{view};
+ghost use Rattle.lwkt_script.specs.Outcome.{Gives};
+ghost use Rattle.lwkt_trace.specs.Format.{is_whole, trace, trace_of};
+
+use crate::closings::closing;
+use crate::events::events_of;
+use crate::openings::messages_of;
+use crate::traces::Trace;
+use lwkt_base::Fault;
+use lwkt_script::Parts;
+use lwkt_script::fields::{has, has_members, list_at, number_at};
+use lwkt_script::tokens::tokens_of;
+use serde_json::Value;
+use std::alloc::Global;
+
+/// The most bytes of a trace.
+pub const LENGTH_LIMIT: usize = 268_435_456;
+
+const CPU_LIMIT: u64 = 8;
+
+// Whether the value is an object with exactly the six members.
+fn is_whole(value: &Value) -> bool
+    ensures { result ≡ is_whole (view value.now) }
+{
+    has_members(value, 6) && has(value, "version") && has(value, "cpus") && has(value, "last")
+}
+
+#[tactic(auto, unfolding(crate::specs::Format::trace))]
+fn trace(alloc: Global, value: &Value) -> Result<Trace, Fault>
+    ensures { Gives (λ t. t) result (trace (view value.now)) }
+{
+    if !is_whole(value) {
+        return Err(Fault::Script { place: 1 });
+    }
+    let token_items = list_at(1, value, "tokens")?;
+    let message_items = list_at(1, value, "messages")?;
+    let event_items = list_at(1, value, "events")?;
+    let Some(last_part) = value.get("last") else {
+        return Err(Fault::Script { place: 1 });
+    };
+    number_at(2, value, "version", 1, 1)?;
+    let cpus = number_at(3, value, "cpus", 1, CPU_LIMIT)? as u8;
+    let tokens = tokens_of(alloc, token_items.as_slice())?;
+    let messages = messages_of(alloc, cpus, message_items.as_slice())?;
+    let events = events_of(alloc, event_items.as_slice())?;
+    let last = closing(alloc, last_part)?;
+    Ok(Trace {
+        cpus,
+        tokens: Parts::from_vec(tokens),
+        messages: Parts::from_vec(messages),
+        events: Parts::from_vec(events),
+        last,
+    })
+}
+
+/// Reads a trace of version 1: one JSON text of at most 268435456 bytes.
+///
+/// Refused with `Script` and the place of the first bad part, and with `Memory` only where an allocation was refused;
+/// there is no other fault. The places, in the order in which the parts are looked at, numbers counting from 0:
+///
+/// - 0: the text is too long, or no JSON text (nested at most 127 deep).
+/// - 1: it is no object with exactly `version`, `cpus`, `tokens`, `messages`, `events` and `last`, or one of `tokens`,
+///   `messages` and `events` is no list.
+/// - 2, 3: `version` isn't 1, `cpus` isn't 1 to 8.
+/// - 1000 + n: token n, which is 64 where there are more than 64.
+/// - 2000 + n: message n, which is 64 where there are more than 64.
+/// - 1000000 + n: event n, which is 50000000 where there are more than that.
+/// - 4: `last` is neither null nor an object with exactly the lists `rows`, `gens`, `tallies` and `messages`.
+/// - 3000 + n: row n; 5: `gens`; 4000 + n: the tallies of token n; 5000 + n: the end of message n. With more than 64 of
+///   them n is 64.
+///
+/// Of a member that stands twice the last one counts. A number with a fraction or an exponent, -0, and a number of
+/// more than 64 bits are no whole numbers.
+#[tactic(auto, unfolding(crate::specs::Format::trace_of))]
+pub fn read_trace(alloc: Global, bytes: &[u8]) -> Result<Trace, Fault>
+    // The trace that the bytes are, or the place of their first bad part.
+    ensures exact { Gives (λ t. t) result (trace_of bytes.now) }
+
+    // No memory is taken for no bytes or for too many.
+    ensures memory { result ≡ Err Fault.Memory → (0 < length bytes.now) × (length bytes.now ≤ 268435456) }
+{
+    if bytes.len() > LENGTH_LIMIT {
+        return Err(Fault::Script { place: 0 });
+    }
+    match Value::from_slice(alloc, bytes) {
+        Ok(value) => trace(alloc, &value),
+        Err(e) => {
+            if e.is_memory() {
+                Err(Fault::Memory)
+            } else {
+                Err(Fault::Script { place: 0 })
+            }
+        }
+    }
+}

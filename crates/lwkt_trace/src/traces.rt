@@ -1,0 +1,50 @@
+ghost use Rattle.std.specs.Prelude.{◌≡◌};
+
+use lwkt_base::{Cells, MsgEnd, MsgSpec, TokSpec};
+use lwkt_core::{Event, Final};
+use lwkt_script::Parts;
+
+/// The closing values of a trace.
+#[derive(Debug, Drop)]
+pub struct Closing {
+    /// Each token's cells.
+    pub rows: Parts<Cells>,
+    /// Each token's generation.
+    pub gens: Cells,
+    /// Each token's tallies.
+    pub tallies: Parts<Cells>,
+    /// Each message's owner state and round.
+    pub messages: Parts<MsgEnd>,
+}
+
+impl Closing {
+    /// The closing values as the model has them. Takes no memory.
+    pub fn into_final(self) -> Final
+        ensures rows { result.rows.items ≡ self.rows }
+        ensures gens { result.gens.items ≡ self.gens }
+        ensures tallies { result.tallies.items ≡ self.tallies }
+        ensures messages { result.messages.items ≡ self.messages }
+    {
+        Final {
+            rows: self.rows.into_vec(),
+            gens: self.gens.into_vec(),
+            tallies: self.tallies.into_vec(),
+            messages: self.messages.into_vec(),
+        }
+    }
+}
+
+/// A trace, read.
+#[derive(Debug, Drop)]
+pub struct Trace {
+    /// How many processors there are, 1 to 8.
+    pub cpus: u8,
+    /// At most 64 tokens, by their numbers.
+    pub tokens: Parts<TokSpec>,
+    /// At most 64 messages, by their numbers.
+    pub messages: Parts<MsgSpec>,
+    /// The events, in order.
+    pub events: Parts<Event>,
+    /// The closing values, or none where they were left out.
+    pub last: Option<Closing>,
+}
