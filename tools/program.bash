@@ -5,7 +5,7 @@
 program=$top/crates/$program_crate/out/$program_name
 stamp=$program.stamp
 
-declare -A below=() line_of=()
+declare -gA below=() line_of=()
 crates=()
 
 # A crate after those that it stands on.
