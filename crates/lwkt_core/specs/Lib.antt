@@ -7,4 +7,5 @@ pub mod Trace
 pub mod Values
 pub mod Picture
 pub mod Seating
+pub mod History
 pub mod Safety

@@ -18,6 +18,6 @@ pub use checks::check;
 pub use events::Event;
 pub use finals::Final;
 pub use messages::Message;
-pub use seats::{Operation, SeatKind, WordStep};
+pub use seats::{Chapter, Deed, Operation, SeatKind, WordStep};
 pub use states::State;
 pub use tokens::Token;

@@ -1,4 +1,5 @@
-use lwkt_base::CpuId;
+use crate::events::Event;
+use lwkt_base::{CpuId, Rec};
 
 /// Whose view of a table of seats a view is. Bank and book split one seat off for each processor at their opening, and
 /// join them at their close. Only proofs have values of it.
@@ -34,4 +35,22 @@ pub struct WordStep {
     pub operation: Operation,
     /// The word that the step found; of a store, the word stored.
     pub found: u64,
+}
+
+/// One atomic step of a seat, as the history of its table has it. Only proofs have values of it. A clause reads an array as a
+/// list, of any length.
+pub struct Deed {
+    pub cpu: CpuId,
+    /// Its event of the model. A look at the word of a message has none.
+    pub events: [Event; 0],
+    /// The step on the word. A step on a cell has none.
+    pub steps: [WordStep; 0],
+    /// The record that a step on a message put into it, or found there.
+    pub records: [Rec; 0],
+}
+
+/// What a seat that was taken back had seen of its table's history, up to its last step. Only proofs have values of it.
+pub struct Chapter {
+    pub cpu: CpuId,
+    pub past: [Deed; 0],
 }

@@ -9,6 +9,7 @@ use Rattle.lwkt_base.specs.declared.names.CpuId.{CpuId}
 use Rattle.lwkt_base.specs.declared.openings.MsgSpec.{MsgSpec}
 use Rattle.lwkt_base.specs.declared.records.Rec.{Rec}
 use Rattle.lwkt_core.specs.declared.seats.Operation.TheVariants.{Load}
+use Rattle.lwkt_core.specs.Opening.{AreWithin}
 use Rattle.lwkt_msg.specs.declared.views.Entry.{Entry}
 use Rattle.lwkt_msg.specs.declared.views.View.{View}
 use Rattle.lwkt_msg.specs.Views.{next_seat, seat_right, slot_at, spec_at, first_entry, at, after_step, handed}
@@ -52,6 +53,7 @@ handing_own place place' cpu m found rec h within own same view_is hands_are =
       few = omega arith;
       cpus = omega arith;
       there = omega arith;
+      within = subst (λ (x : View). AreWithin x.cpus [] x.specs) (sym view_is) h.within;
       hands = subst F (λ i. (sym view_is i, sym hands_are i)) now;
       done = subst D (sym view_is) (λ k below. dite (ℕ_discrete k m)
           (λ is. let G : ℕ → Type 0 = λ n. at w n ≡ opened_entry cpu.0 (spec_at v.specs n) in
@@ -72,6 +74,7 @@ handing_other place cpu m h other = record {
   few = h.few;
   cpus = h.cpus;
   there = h.there;
+  within = h.within;
   hands = h.hands;
   done = λ k below. dite (ℕ_discrete k m)
       (λ is. let G : ℕ → Type 0 = λ n. at place.me.0 n ≡ opened_entry cpu.0 (spec_at place.me.0.specs n) in subst G (sym is) (h.todo m (omega arith) ∙ blank (spec_at place.me.0.specs m) other))
@@ -91,6 +94,7 @@ handing_done place cpu h = record {
   few = h.few;
   cpus = h.cpus;
   there = h.there;
+  within = h.within;
   had = λ m within own. ap (λ (x : Entry). x.had) (h.done m within) ∙ has (spec_at place.me.0.specs m) own;
   hands = h.hands;
 }
@@ -122,6 +126,7 @@ handing_fresh clerk place cpu cpus specs k room same me_is =
       few = omega arith;
       cpus = omega arith;
       there = omega arith;
+      within = subst (λ (x : Me Rec View). AreWithin x.0.cpus [] x.0.specs) (sym me_is) (subst (λ (n : ℕ). AreWithin n [] clerk.me.0.specs) (sym k.cpus_is) (subst (λ (xs : List MsgSpec). AreWithin cpus [] xs) (sym k.specs_is) k.within));
       hands = subst F (sym me_is) record {
         apart = record { one = λ i j slot rec other x y. absurd (some-ne-none (slot, rec) (sym x)) };
         all = λ slot rec has. absurd (some-ne-none (slot, rec) (sym has.1));

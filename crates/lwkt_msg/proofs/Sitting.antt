@@ -1,4 +1,4 @@
-use Rattle.std.proofs.Common.{◌≡◌, ◌⊎◌, ℕ, ◌+◌, ◌*◌, ◌<◌, true, false, List, ◌∷◌, length, refl, ap, sym, ◌∙◌, subst, arith}
+use Rattle.std.proofs.Common.{◌≡◌, ◌⊎◌, ℕ, ◌+◌, ◌*◌, ◌<◌, true, false, List, [], ◌∷◌, length, refl, ap, sym, ◌∙◌, subst, arith}
 use Rattle.atomic_table.specs.Table.{Me, rest}
 use Rattle.atomic_table.specs.Seated.{TableId}
 use Rattle.atomic_table.specs.declared.shared.Seat.{Seat}
@@ -6,6 +6,7 @@ use Rattle.lwkt_base.specs.declared.names.CpuId.{CpuId}
 use Rattle.lwkt_base.specs.declared.records.Rec.{Rec}
 use Rattle.lwkt_core.specs.declared.seats.Operation.{Operation}
 use Rattle.lwkt_core.specs.declared.seats.Operation.TheVariants as operation
+use Rattle.lwkt_core.specs.Opening.{AreWithin}
 use Rattle.lwkt_msg.specs.declared.views.Entry.{Entry}
 use Rattle.lwkt_msg.specs.declared.views.View.{View}
 use Rattle.lwkt_msg.specs.Views.{slot_at, call_of, at, after_step, looked}
@@ -38,6 +39,7 @@ sat_after place place' cpu m e' op found sat same view_is had hands =
       few = omega arith;
       cpus = omega arith;
       there = omega arith;
+      within = subst (λ (x : View). AreWithin x.cpus [] x.specs) (sym view_is) sat.within;
       had = subst H (sym view_is) (λ k within own. still k within own);
       hands = subst F (sym view_is) hands;
     }
@@ -101,6 +103,7 @@ sat_moved place place' cpu sat same me =
       few = omega arith;
       cpus = omega arith;
       there = omega arith;
+      within = subst (λ (x : Me Rec View). AreWithin x.0.cpus [] x.0.specs) (sym me) sat.within;
       had = let H : Me Rec View → Type 0 = λ x. (k : ℕ) → k < length x.0.specs → IsOwn x.0 cpu.0 k → (at x.0 k).had ≡ true in subst H (sym me) sat.had;
       hands = subst F (sym me) sat.hands;
     }

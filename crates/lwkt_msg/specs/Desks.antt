@@ -12,6 +12,7 @@ use Rattle.lwkt_core.specs.declared.messages.Message.{Message}
 use Rattle.lwkt_core.specs.declared.seats.SeatKind.{SeatKind}
 use Rattle.lwkt_core.specs.declared.seats.SeatKind.TheVariants.{Clerk, Of, Spent}
 use Rattle.lwkt_core.specs.Messages.{IsSafeMessage}
+use Rattle.lwkt_core.specs.Opening.{AreWithin}
 use Rattle.lwkt_core.specs.Seating.{total}
 use Rattle.lwkt_core.specs.Trace.{end_of}
 use Rattle.lwkt_msg.specs.declared.views.Entry.{Entry}
@@ -80,6 +81,14 @@ messages_of d = length d.view.specs
 abbrev pub cpus_of : Desk → ℕ
 cpus_of d = d.view.cpus
 
+-- the seat of a processor, at a book that was opened within the limits: the processor is one of the book's, and so is that of
+-- each message's origin
+pub record IsSeatOf (cpu : CpuId) (d : Desk) : Type 0 where
+  pub kind : d.view.kind ≡ Of cpu
+  pub there : cpu.0 < cpus_of d
+  pub within : AreWithin (cpus_of d) [] d.view.specs
+  pub origins : (m : ℕ) → m < messages_of d → (spec_at d.view.specs m).origin.cpu.0 < cpus_of d
+
 -- the seat is still the one that it was: of the same processor, at the same table
 pub record IsSameDesk (d d' : Desk) : Type 0 where
   pub table : d'.table ≡ d.table
@@ -141,6 +150,7 @@ pub record IsHanding (cpu : CpuId) (upto : ℕ) (place : Seat Rec View) : Type 0
   pub few : length place.me.0.specs ≤ 64
   pub cpus : place.me.0.cpus ≤ 8
   pub there : cpu.0 < place.me.0.cpus
+  pub within : AreWithin place.me.0.cpus [] place.me.0.specs
   pub hands : AreHands place.me.0 cpu.0 place.me.1
   pub done : (m : ℕ) → m < upto → at place.me.0 m ≡ opened_entry cpu.0 (spec_at place.me.0.specs m)
   pub todo : (m : ℕ) → upto ≤ m → at place.me.0 m ≡ first_entry (spec_at place.me.0.specs m)
@@ -155,6 +165,7 @@ pub record IsClerk (made cpus : ℕ) (specs : List MsgSpec) (place : Seat Rec Vi
   pub slots : place.table_id.slots ≡ 4 * length specs
   pub few : length specs ≤ 64
   pub few_cpus : cpus ≤ 8
+  pub within : AreWithin cpus [] specs
 
 -- the words of a table that is opened with these messages
 pub record AreOpeningWords (upto : ℕ) (specs : List MsgSpec) (words : List ℕ) : Type 0 where

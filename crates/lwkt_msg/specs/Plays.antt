@@ -1,4 +1,4 @@
-use Rattle.std.specs.Prelude.{◌≡◌, ◌≢◌, ℕ, ◌+◌, ◌*◌, ◌<◌, ◌≤◌, true, List, ◌∷◌, length}
+use Rattle.std.specs.Prelude.{◌≡◌, ◌≢◌, ℕ, ◌+◌, ◌*◌, ◌<◌, ◌≤◌, true, List, [], ◌∷◌, length}
 use Rattle.atomic_table.specs.Table.{Me, Step}
 use Rattle.atomic_table.specs.declared.shared.Seat.{Seat}
 use Rattle.lwkt_base.specs.declared.names.CpuId.{CpuId}
@@ -7,6 +7,7 @@ use Rattle.lwkt_base.specs.declared.message_words.MsgWord.{MsgWord}
 use Rattle.lwkt_base.specs.MessageWord.{message_word, MessageFits}
 use Rattle.lwkt_core.specs.declared.seats.Operation.TheVariants.{Load, Store, Exchange, Add}
 use Rattle.lwkt_core.specs.declared.seats.SeatKind.TheVariants.{Of}
+use Rattle.lwkt_core.specs.Opening.{AreWithin}
 use Rattle.lwkt_msg.specs.declared.views.View.{View}
 use Rattle.lwkt_msg.specs.Views.{word_at, slot_at, call_of, at, after_step, looked, handed, sent, took, replied, reaped, Sees}
 use Rattle.lwkt_msg.specs.Book.{IsShownBy, IsBack, HadRecord}
@@ -69,6 +70,7 @@ pub record IsSat (cpu : CpuId) (place : Seat Rec View) : Type 0 where
   pub few : length place.me.0.specs ≤ 64
   pub cpus : place.me.0.cpus ≤ 8
   pub there : cpu.0 < place.me.0.cpus
+  pub within : AreWithin place.me.0.cpus [] place.me.0.specs
   pub had : (m : ℕ) → m < length place.me.0.specs → IsOwn place.me.0 cpu.0 m → (at place.me.0 m).had ≡ true
   pub hands : AreHands place.me.0 cpu.0 place.me.1
 

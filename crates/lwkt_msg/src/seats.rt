@@ -30,7 +30,7 @@ impl Model for MsgSeat {
 impl MsgSeat {
     ghost use Rattle.lwkt_base.specs.declared.faults.Fault.TheVariants.{NotOwner, NotTaken};
     ghost use Rattle.lwkt_base.specs.declared.names.CpuId.{CpuId};
-    ghost use Rattle.lwkt_msg.specs.Desks.{desk, cpu_of, cpus_of, messages_of, IsMsgSeat, IsSameDesk};
+    ghost use Rattle.lwkt_msg.specs.Desks.{desk, cpu_of, cpus_of, messages_of, IsMsgSeat, IsSeatOf, IsSameDesk};
     ghost use Rattle.lwkt_msg.specs.Plays.{IsSat};
     ghost use Rattle.lwkt_msg.specs.Calls.{HasSent, IsUnsent, TakeMeans, HasReplied, IsUnreplied, ReapMeans};
 
@@ -59,6 +59,14 @@ impl MsgSeat {
             cpu: _,
         } = self;
         place
+    }
+
+    /// Whose seat it is.
+    pub fn cpu(&self) -> CpuId
+        ensures is { result ≡ cpu_of self.now }
+        ensures seat { IsSeatOf result self.now }
+    {
+        self.cpu
     }
 
     /// How many messages the book has, 0 to 64.

@@ -1,0 +1,140 @@
+-- A lane is emptied, a note at a time.
+use Rattle.std.proofs.Common.{◌≡◌, ◌≢◌, ℕ, ◌+◌, ◌<◌, ◌≤◌, true, List, [], ◌∷◌, ◌++◌, length, refl, ap, sym, ◌∙◌, subst, arith, append_assoc, length-append}
+use Rattle.std.proofs.lemmas.List.{append-nil}
+use Rattle.std.specs.Prelude.{Vec, vec_len, vec_capacity, All, Option, Some, None, MatchOption, option_to_list}
+use Rattle.lwkt_base.specs.declared.names.CpuId.{CpuId}
+use Rattle.lwkt_lane.specs.declared.notes.Note.{Note}
+use Rattle.lwkt_lane.specs.Lane.{received, receives_alone, all_pushed, in_lane}
+use Rattle.lwkt_msg.specs.Desks.{Desk, cpu_of, seat_cpu, IsSameDesk}
+use Rattle.lwkt_port.specs.declared.handlings.Fate.{Fate}
+use Rattle.lwkt_port.specs.declared.lines.Lane.{Lane}
+use Rattle.lwkt_port.specs.Intakes.{Desks, desks, Handles, HandlesAll, Pops}
+use Rattle.lwkt_port.specs.Mails.{AreMails}
+use Rattle.lwkt_port.specs.Queues.{HasNamed}
+use Rattle.lwkt_port.specs.Works.{work, Grew, Grown, away_count, Standing, Keeps}
+use Rattle.lwkt_port.proofs.Growing.{grew_none, grew_then, same_none, same_then}
+
+abbrev pub desks_at : Standing → Desks
+desks_at s = desks (work s.seat s.mails s.trace) s.ports
+
+pub keeps_none : (s : Standing) → AreMails s.seat s.mails.items → vec_len s.ports ≡ 16 → All (HasNamed (vec_len s.mails)) s.ports.items → Keeps s s
+keeps_none s are ports named = record { kept = are; same = same_none s.seat; len = refl; ports = ports; named = named; grown = (0, grew_none (cpu_of s.seat) s.trace); room = omega arith; away = refl }
+
+pub keeps_then : (s s' s'' : Standing) → Keeps s s' → Keeps s' s'' → Keeps s s''
+keeps_then s s' s'' k l =
+    let F : CpuId → Type 0 = λ c. Grew c l.grown.0 s'.trace s''.trace in
+    let g : Grew (cpu_of s.seat) l.grown.0 s'.trace s''.trace = subst F (ap seat_cpu k.same.kind) l.grown.1 in record {
+      kept = l.kept;
+      same = same_then s.seat s'.seat s''.seat k.same l.same;
+      len = l.len ∙ k.len;
+      ports = l.ports;
+      named = l.named;
+      grown = (k.grown.0 + l.grown.0, grew_then (cpu_of s.seat) k.grown.0 l.grown.0 s.trace s'.trace s''.trace k.grown.1 g);
+      room = omega (arith, k.room, l.room);
+      away = l.away ∙ k.away;
+    }
+
+-- handling one note keeps things in order
+pub keeps_one : (s s' : Standing) → AreMails s'.seat s'.mails.items → IsSameDesk s.seat s'.seat → vec_len s'.mails ≡ vec_len s.mails → vec_len s'.ports ≡ 16 → All (HasNamed (vec_len s'.mails)) s'.ports.items → Grew (cpu_of s.seat) 1 s.trace s'.trace → away_count s'.mails.items + vec_len s'.trace ≡ away_count s.mails.items + vec_len s.trace → Keeps s s'
+keeps_one s s' kept same len ports named grew away = record { kept = kept; same = same; len = len; ports = ports; named = named; grown = (1, grew); room = grew.room; away = away }
+
+-- one more note was handled
+pub handles_more : (notes : List Note) (note : Note) (how : Fate) (x y z : Desks) → HandlesAll notes x y → Handles note y z (Some how) → HandlesAll (notes ++ note ∷ []) x z
+handles_more [] note how x y z is h =
+    let F : Desks → Type 0 = λ d. Handles note d z (Some how) in (z, how, subst F is h, refl)
+handles_more (n ∷ notes) note how x y z p h = (p.0, p.1, p.2, handles_more notes note how p.0 y z p.3 h)
+
+-- so many notes were popped from a lane and handled
+pub record IsPopping (turn : ℕ) (line : Lane) (s : Standing) (line' : Lane) (s' : Standing) : Type 0 where
+  pub popped : List Note
+  pub as_many : length popped ≡ turn
+  pub received_is : received line'.into ≡ received line.into ++ popped
+  pub handles : HandlesAll popped (desks_at s) (desks_at s')
+  pub none : line'.kept ≡ None
+  pub out_same : line'.out ≡ line.out
+  pub lane_same : in_lane line'.into ≡ in_lane line.into
+  pub alone_same : receives_alone line'.into ≡ receives_alone line.into
+  pub keeps : Keeps s s'
+
+pub popping_none : (line : Lane) (s : Standing) → line.kept ≡ None → Keeps s s → IsPopping 0 line s line s
+popping_none line s none keeps = record { popped = []; as_many = refl; received_is = sym (append-nil (received line.into)); handles = refl; none = none; out_same = refl; lane_same = refl; alone_same = refl; keeps = keeps }
+
+-- what a pop of a note leaves of a line
+pub record HasPopped (note : Note) (line line' : Lane) : Type 0 where
+  pub received_is : received line'.into ≡ received line.into ++ note ∷ []
+  pub alone : receives_alone line'.into ≡ receives_alone line.into
+  pub lane : in_lane line'.into ≡ in_lane line.into
+  pub out_same : line'.out ≡ line.out
+  pub kept_same : line'.kept ≡ line.kept
+
+pub popping_more : (turn : ℕ) (line : Lane) (s : Standing) (line1 : Lane) (s1 : Standing) (line2 : Lane) (s2 : Standing) (note : Note) (how : Fate) → IsPopping turn line s line1 s1 → HasPopped note line1 line2 → Handles note (desks_at s1) (desks_at s2) (Some how) → Keeps s1 s2 → IsPopping (turn + 1) line s line2 s2
+popping_more turn line s line1 s1 line2 s2 note how i pop handles keeps = record {
+  popped = i.popped ++ note ∷ [];
+  as_many = omega (arith, length-append i.popped (note ∷ []), i.as_many);
+  received_is = pop.received_is ∙ ap (λ l. l ++ note ∷ []) i.received_is ∙ append_assoc (received line.into) i.popped (note ∷ []);
+  handles = handles_more i.popped note how (desks_at s) (desks_at s1) (desks_at s2) i.handles handles;
+  none = pop.kept_same ∙ i.none;
+  out_same = pop.out_same ∙ i.out_same;
+  lane_same = pop.lane ∙ i.lane_same;
+  alone_same = pop.alone ∙ i.alone_same;
+  keeps = keeps_then s s1 s2 i.keeps keeps;
+}
+
+kept_nothing : (o : Option Note) (x y : Desks) → o ≡ None → y ≡ x → MatchOption o (y ≡ x) (λ note. Handles note x y None)
+kept_nothing o x y is same = let F : Option Note → Type 0 = λ p. MatchOption p (y ≡ x) (λ note. Handles note x y None) in subst F (sym is) same
+
+flow_nothing : (popped : List Note) (o : Option Note) → o ≡ None → popped ≡ popped ++ option_to_list o
+flow_nothing popped o is = sym (append-nil popped) ∙ ap (λ p. popped ++ option_to_list p) (sym is)
+
+-- the lane had no more notes
+pub popped_empty : (most turn : ℕ) (line : Lane) (s : Standing) (line1 : Lane) (s1 : Standing) (line2 : Lane) → turn < most → IsPopping turn line s line1 s1 → received line2.into ≡ received line1.into → (receives_alone line1.into ≡ true → received line2.into ≡ all_pushed line2.into) → in_lane line2.into ≡ in_lane line1.into → line2.out ≡ line1.out → line2.kept ≡ line1.kept → Pops most turn line line2 (desks_at s) (desks_at s1)
+popped_empty most turn line s line1 s1 line2 within i received_same empty lane out kept = record {
+  popped = i.popped;
+  done = i.popped;
+  between = desks_at s1;
+  received_is = received_same ∙ i.received_is;
+  as_many = i.as_many;
+  within = omega arith;
+  flow = flow_nothing i.popped line2.kept (kept ∙ i.none);
+  handles = i.handles;
+  last = kept_nothing line2.kept (desks_at s1) (desks_at s1) (kept ∙ i.none) refl;
+  emptied = λ _ _ alone. empty (i.alone_same ∙ alone);
+  out_same = out ∙ i.out_same;
+  lane_same = lane ∙ i.lane_same;
+}
+
+-- as many were popped as are allowed
+pub popped_most : (most turn : ℕ) (line : Lane) (s : Standing) (line1 : Lane) (s1 : Standing) → turn ≡ most → IsPopping turn line s line1 s1 → Pops most most line line1 (desks_at s) (desks_at s1)
+popped_most most turn line s line1 s1 is i = record {
+  popped = i.popped;
+  done = i.popped;
+  between = desks_at s1;
+  received_is = i.received_is;
+  as_many = i.as_many ∙ is;
+  within = omega arith;
+  flow = flow_nothing i.popped line1.kept i.none;
+  handles = i.handles;
+  last = kept_nothing line1.kept (desks_at s1) (desks_at s1) i.none refl;
+  emptied = λ fewer _ alone. absurd (omega arith);
+  out_same = i.out_same;
+  lane_same = i.lane_same;
+}
+
+-- the last note found its port's queue full
+pub popped_full : (most turn : ℕ) (line : Lane) (s : Standing) (line1 : Lane) (s1 : Standing) (line2 line3 : Lane) (s2 : Standing) (note : Note) → turn < most → IsPopping turn line s line1 s1 → HasPopped note line1 line2 → Handles note (desks_at s1) (desks_at s2) None → line3 ≡ record line2 { kept = Some note } → Pops most (turn + 1) line line3 (desks_at s) (desks_at s2)
+popped_full most turn line s line1 s1 line2 line3 s2 note within i pop handles is =
+    let F : Lane → Type 0 = λ l. Pops most (turn + 1) line l (desks_at s) (desks_at s2) in
+    subst F (sym is) record {
+      popped = i.popped ++ note ∷ [];
+      done = i.popped;
+      between = desks_at s1;
+      received_is = pop.received_is ∙ ap (λ l. l ++ note ∷ []) i.received_is ∙ append_assoc (received line.into) i.popped (note ∷ []);
+      as_many = omega (arith, length-append i.popped (note ∷ []), i.as_many);
+      within = omega arith;
+      flow = refl;
+      handles = i.handles;
+      last = handles;
+      emptied = λ _ none _. absurd (let e : Some note ≡ None = none in cc);
+      out_same = pop.out_same ∙ i.out_same;
+      lane_same = pop.lane ∙ i.lane_same;
+    }

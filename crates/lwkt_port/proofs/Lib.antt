@@ -1,0 +1,10 @@
+pub mod Begun
+pub mod Chaining
+pub mod ClosedPorts
+pub mod Deeding
+pub mod Dispatching
+pub mod Emptying
+pub mod Growing
+pub mod Intaking
+pub mod Keeping
+pub mod Serving

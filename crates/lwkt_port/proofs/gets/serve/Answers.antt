@@ -1,0 +1,30 @@
+use Rattle.std.proofs.Common.{rules, ◌≡◌, ◌+◌, vec_len, ◌∷◌, ◌<◌, ◌≤◌, arith, ap, sym, ◌∙◌}
+use Rattle.lwkt_msg.specs.Desks.{Desk, cpu_of}
+use Rattle.lwkt_port.proofs.Serving.{named_head, named_tail, serving_more}
+use Rattle.lwkt_port.proofs.Growing.{grew_few, stands_then}
+use Rattle.lwkt_port.specs.Works.{Stands}
+use Rattle.lwkt_port.proofs.gets.serve.Goals as goal
+
+pub serve_note-requires-clause-exists : goal.serve_note-requires-clause-exists
+serve_note-requires-clause-exists c = let r = c.in-Some.ensures in named_head (vec_len c.loop-turn.mails) c.loop-turn.port c.in-Some.note r.0 r.1 c.loop-turn.invariant.named
+
+pub returns-in-Shown-clause-named : goal.returns-in-Shown-clause-named
+returns-in-Shown-clause-named c =
+    let r = c.in-Some.ensures in
+    let left = c.drop_front-in-Shown.ensures c.in-Some.note r.0 r.1 in
+    let e = c.in-Shown.ensures in
+    named_tail (vec_len c.loop-turn.mails) (vec_len c.serve_note.new.mails) c.loop-turn.port c.drop_front-in-Shown.new.port c.in-Some.note r.0 r.1 left.0 e.len c.loop-turn.invariant.named
+
+pub returns-in-Shown-clause-grew : goal.returns-in-Shown-clause-grew
+returns-in-Shown-clause-grew c =
+    let l = c.loop-turn in
+    let e = c.in-Shown.ensures in
+    let s : Stands (l._turn + 1) c.args.seat.now c.args.mails.now c.args.trace.now c.serve_note.new.seat c.serve_note.new.mails c.serve_note.new.trace = stands_then l._turn 1 c.args.seat.now l.seat c.serve_note.new.seat c.args.mails.now l.mails c.serve_note.new.mails c.args.trace.now l.trace c.serve_note.new.trace l.invariant.stands e.kept e.same e.len e.grew in
+    grew_few (cpu_of c.args.seat.now) (l._turn + 1) 64 c.args.trace.now c.serve_note.new.trace s.grew (omega (arith, s.grew.grown, s.grew.few, c.count-notes.ensures.few, c.loop-turn-test.true))
+
+pub loop-turn-preserved : goal.loop-turn-preserved
+loop-turn-preserved c =
+    let l = c.loop-turn in
+    let r = c.in-Some.ensures in
+    let e = c.in-Passed.ensures in
+    serving_more c.args.thread l._turn c.args.seat.now c.args.mails.now c.args.trace.now c.args.port.now l.seat l.mails l.trace l.port c.serve_note.new.seat c.serve_note.new.mails c.serve_note.new.trace c.drop_front.new.port c.in-Some.note r.0 l.invariant r.1 (c.drop_front.ensures c.in-Some.note r.0 r.1) e.serves e.kept e.same e.len e.grew

@@ -1,0 +1,52 @@
+use Rattle.std.specs.Prelude.{◌≡◌, ℕ, ◌<◌, ◌≤◌, Bool, true, false, List, [], ◌∷◌, length, slice_index_or, slice_set, All, IfSome, Option, None, Vec}
+use Rattle.std.specs.declared.alloc.Global.{Global}
+use Rattle.lwkt_base.specs.declared.names.ThreadId.{ThreadId}
+use Rattle.lwkt_lane.specs.declared.notes.Note.{Note}
+use Rattle.lwkt_msg.specs.Desks.{Desk, cpus_of, messages_of, IsSameDesk}
+use Rattle.lwkt_port.specs.declared.lines.Lane.{Lane}
+use Rattle.lwkt_port.specs.declared.mails.Mail.{Mail}
+use Rattle.lwkt_port.specs.declared.queues.Port.{Port}
+use Rattle.lwkt_core.specs.declared.events.Event.{Event}
+use Rattle.lwkt_port.specs.Mails.{AreMails}
+use Rattle.lwkt_port.specs.Queues.{NamesBoth, HasNamed}
+use Rattle.lwkt_port.specs.Works.{Work}
+
+-- what callers see of a processor's ports: its seat, its lanes to and from each processor, the ports of its threads, and what is
+-- kept of each message
+pub record Post : Type 0 where
+  pub seat : Desk
+  pub lanes : List Lane
+  pub ports : List Port
+  pub mails : List Mail
+  pub threads : ℕ
+
+-- what a step on messages changes of it, with the trace
+abbrev pub work_of : Post → Vec Event Global → Work
+work_of p trace = record { seat = p.seat; mails = p.mails; trace = trace.items }
+
+-- a note that was kept for its lane names a message and a port
+abbrev pub KeepsNamed : ℕ → Lane → Type 0
+KeepsNamed n line = IfSome line.kept (NamesBoth n)
+
+-- a processor's ports are in order: lanes to and from each processor, 16 ports, and what is kept of each message fits the seat
+pub record IsPost (p : Post) : Type 0 where
+  pub lanes_are : length p.lanes ≡ cpus_of p.seat
+  pub ports_are : length p.ports ≡ 16
+  pub few : p.threads ≤ 16
+  pub mails_are : AreMails p.seat p.mails
+  pub queued : All (HasNamed (length p.mails)) p.ports
+  pub kept : All (KeepsNamed (length p.mails)) p.lanes
+
+-- one of the things of a list changed like this, and no other
+pub record Changes {A : Type 0} (R : A → A → Type 0) (i : ℕ) (xs ys : List A) : Type 0 where
+  pub old : A
+  pub new : A
+  pub there : i < length xs
+  pub was : slice_index_or xs i old ≡ old
+  pub now : ys ≡ slice_set xs i new
+  pub does : R old new
+
+-- the ports are still those that they were: over the same seat, for as many threads
+pub record IsSamePost (p p' : Post) : Type 0 where
+  pub seat : IsSameDesk p.seat p'.seat
+  pub threads : p'.threads ≡ p.threads

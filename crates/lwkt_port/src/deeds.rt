@@ -1,0 +1,298 @@
+//! The steps on one message: each with what is kept of the message then, and its event.
+ghost use Rattle.std.specs.Prelude.{◌≡◌, ◌+◌, ◌<◌, ◌≤◌, true, vec_len, vec_capacity, ◌++◌, length, IfSome, IfNone};
+ghost use Rattle.lwkt_msg.specs.Desks.{cpu_of, cpus_of, messages_of, IsSameDesk, entry};
+ghost use Rattle.lwkt_msg.specs.Calls.{IsHome};
+ghost use Rattle.lwkt_port.specs.Mails.{mail_at, AreMails};
+ghost use Rattle.lwkt_port.specs.Works.{work, Grew, away_count};
+ghost use Rattle.lwkt_port.specs.Deeds.{taken_mail, mails_taken, take_events, Takes, reaped_mail, mails_reaped, reap_events, Reaps, replied_mail, Replies, sent_mail, Sends, IsRefused};
+
+use crate::mails::{Mail, mail_of, put_mail};
+use crate::traces::note_event;
+use lwkt_base::{Call, CpuId, Flags, MsgId, Rec, ThreadId};
+use lwkt_core::Event;
+use lwkt_lane::Note;
+use lwkt_msg::{MsgBook, MsgSeat, Reaped, Taken};
+
+/// For whom a request is taken.
+#[derive(Clone, Copy, Debug, PartialEq, Eq)]
+pub enum Claim {
+    /// The thread of the port.
+    Thread(u8),
+    /// The port's thread has ended.
+    Closed,
+}
+
+/// The error of a reply to a request that was aborted before a thread saw it: EINTR.
+pub const ABORTED: u32 = 4;
+
+/// The error of a reply to a request at a closed port.
+pub const NO_PORT: u32 = 30;
+
+// What is kept of a message that was taken.
+fn claimed(mail: Mail, who: Claim, aborted: bool, round: u64) -> Mail
+    ensures { result ≡ taken_mail who aborted round mail }
+{
+    match who {
+        Claim::Closed => Mail {
+            round,
+            owed: Some(NO_PORT),
+            ..mail
+        },
+        Claim::Thread(_) if aborted => Mail {
+            round,
+            owed: Some(ABORTED),
+            ..mail
+        },
+        Claim::Thread(thread) => Mail {
+            round,
+            shown: Some(thread),
+            ..mail
+        },
+    }
+}
+
+// Keeps what a take answered.
+fn keep_taken(mails: &mut Vec<Mail>, who: Claim, note: Note, answer: Taken)
+    requires { note.msg.0 < vec_len mails.old }
+    ensures items { mails.new.items ≡ mails_taken who note answer mails.old.items }
+    ensures len { vec_len mails.new ≡ vec_len mails.old }
+{
+    let m = usize::from(note.msg.0);
+    match answer {
+        Taken::Took { aborted, .. } => {
+            let mail = mail_of(mails, m);
+            put_mail(mails, m, claimed(mail, who, aborted, note.round));
+        }
+        Taken::Stale | Taken::Again => {}
+    }
+}
+
+// The event of a take, at the end of the trace.
+fn tell_taken(trace: &mut Vec<Event>, cpu: CpuId, note: Note, answer: Taken)
+    requires { vec_len trace.old < vec_capacity trace.old }
+    ensures items { trace.new.items ≡ trace.old.items ++ take_events cpu note answer }
+    ensures grew { Grew cpu 1 trace.old trace.new }
+{
+    match answer {
+        Taken::Took { .. } => {
+            let Note { msg, round, .. } = note;
+            note_event(trace, Event::TakeMsg { cpu, msg, round });
+        }
+        Taken::Stale | Taken::Again => {}
+    }
+}
+
+/// Takes the message of a note, if it is in the note's round and on its way to this processor.
+#[tactic(auto, using(crate::proofs::Deeding::taken_keeps, crate::proofs::Deeding::taken_away))]
+pub(crate) fn take(
+    book: &MsgBook,
+    seat: &mut MsgSeat,
+    mails: &mut Vec<Mail>,
+    who: Claim,
+    note: Note,
+    trace: &mut Vec<Event>,
+) -> Taken
+    requires table { seat.old.table ≡ book.now.table }
+    requires kept { AreMails seat.old mails.old.items }
+    requires exists { note.msg.0 < vec_len mails.old }
+    requires room { vec_len trace.old < vec_capacity trace.old }
+    ensures takes { Takes who note (work seat.old mails.old trace.old) (work seat.new mails.new trace.new) result }
+    ensures kept { AreMails seat.new mails.new.items }
+    ensures len { vec_len mails.new ≡ vec_len mails.old }
+    ensures grew { Grew (cpu_of seat.old) 1 trace.old trace.new }
+    ensures away { away_count mails.new.items ≡ away_count mails.old.items }
+{
+    let cpu = seat.cpu();
+    let answer = seat.take(book, note.msg, note.round);
+    keep_taken(mails, who, note, answer);
+    tell_taken(trace, cpu, note, answer);
+    answer
+}
+
+// What is kept of a message that was reaped.
+fn returned(mail: Mail, keep: bool, rec: Rec) -> Mail
+    ensures { result ≡ reaped_mail keep rec mail }
+{
+    if keep {
+        return Mail {
+            home: true,
+            done: Some(rec),
+            ..mail
+        };
+    }
+    Mail { home: true, ..mail }
+}
+
+// Keeps what a reap answered.
+fn keep_reaped(mails: &mut Vec<Mail>, keep: bool, note: Note, answer: Reaped)
+    requires { note.msg.0 < vec_len mails.old }
+    ensures items { mails.new.items ≡ mails_reaped keep note answer mails.old.items }
+    ensures len { vec_len mails.new ≡ vec_len mails.old }
+{
+    let m = usize::from(note.msg.0);
+    match answer {
+        Reaped::Done { rec } => {
+            let mail = mail_of(mails, m);
+            put_mail(mails, m, returned(mail, keep, rec));
+        }
+        Reaped::Stale => {}
+    }
+}
+
+// The event of a reap, at the end of the trace.
+fn tell_reaped(trace: &mut Vec<Event>, cpu: CpuId, note: Note, answer: Reaped)
+    requires { vec_len trace.old < vec_capacity trace.old }
+    ensures items { trace.new.items ≡ trace.old.items ++ reap_events cpu note answer }
+    ensures len { vec_len trace.new ≡ vec_len trace.old + length (reap_events cpu note answer) }
+    ensures grew { Grew cpu 1 trace.old trace.new }
+{
+    match answer {
+        Reaped::Done { .. } => note_event(trace, Event::Reap { cpu, msg: note.msg }),
+        Reaped::Stale => {}
+    }
+}
+
+/// Takes the message of a note back, if it is in the note's round and was replied to. `keep` says that its record is kept
+/// for the thread that waits for it.
+#[tactic(auto, using(crate::proofs::Deeding::reaped_keeps, crate::proofs::Deeding::reaped_away))]
+pub(crate) fn reap(
+    book: &MsgBook,
+    seat: &mut MsgSeat,
+    mails: &mut Vec<Mail>,
+    keep: bool,
+    note: Note,
+    trace: &mut Vec<Event>,
+) -> Reaped
+    requires table { seat.old.table ≡ book.now.table }
+    requires kept { AreMails seat.old mails.old.items }
+    requires exists { note.msg.0 < vec_len mails.old }
+    requires room { vec_len trace.old < vec_capacity trace.old }
+    ensures reaps { Reaps keep note (work seat.old mails.old trace.old) (work seat.new mails.new trace.new) result }
+    ensures kept { AreMails seat.new mails.new.items }
+    ensures len { vec_len mails.new ≡ vec_len mails.old }
+    ensures grew { Grew (cpu_of seat.old) 1 trace.old trace.new }
+    ensures away { away_count mails.new.items + vec_len trace.new ≡ away_count mails.old.items + vec_len trace.old }
+{
+    let cpu = seat.cpu();
+    let answer = seat.reap(book, note.msg, note.round);
+    keep_reaped(mails, keep, note, answer);
+    tell_reaped(trace, cpu, note, answer);
+    answer
+}
+
+// What is kept of a message that was replied to.
+fn settled(mail: Mail) -> Mail
+    ensures { result ≡ replied_mail mail }
+{
+    Mail {
+        owed: None,
+        shown: None,
+        ..mail
+    }
+}
+
+/// Replies to a message that this processor has taken.
+#[tactic(auto, using(crate::proofs::Deeding::replied_keeps, crate::proofs::Deeding::replied_away))]
+pub(crate) fn reply(
+    book: &MsgBook,
+    seat: &mut MsgSeat,
+    mails: &mut Vec<Mail>,
+    msg: MsgId,
+    error: u32,
+    outcome: u64,
+    trace: &mut Vec<Event>,
+)
+    requires table { seat.old.table ≡ book.now.table }
+    requires kept { AreMails seat.old mails.old.items }
+    requires exists { msg.0 < vec_len mails.old }
+    requires taken { (entry seat.old msg.0).taken ≡ true }
+    requires room { vec_len trace.old < vec_capacity trace.old }
+    ensures replies { Replies msg error outcome (work seat.old mails.old trace.old) (work seat.new mails.new trace.new) }
+    ensures kept { AreMails seat.new mails.new.items }
+    ensures len { vec_len mails.new ≡ vec_len mails.old }
+    ensures grew { Grew (cpu_of seat.old) 1 trace.old trace.new }
+    ensures away { away_count mails.new.items ≡ away_count mails.old.items }
+{
+    let cpu = seat.cpu();
+    let m = usize::from(msg.0);
+    match seat.reply(book, msg, error, outcome) {
+        Ok(()) => {
+            put_mail(mails, m, settled(mail_of(mails, m)));
+            note_event(trace, Event::Reply { cpu, msg });
+        }
+        // The seat has taken the message, so this can't be.
+        Err(_fault) => {}
+    }
+}
+
+// What is kept of a message that was sent.
+fn outgoing(mail: Mail, sync: bool) -> Mail
+    ensures { result ≡ sent_mail sync mail }
+{
+    Mail {
+        home: false,
+        done: None,
+        sync,
+        ..mail
+    }
+}
+
+/// What a thread sends, and to which thread.
+#[derive(Clone, Copy)]
+pub struct Sending {
+    pub thread: u8,
+    pub msg: MsgId,
+    pub to: ThreadId,
+    pub call: Call,
+    pub flags: Flags,
+    pub sync: bool,
+}
+
+/// Sends an own message that is at rest, and answers its round. None if it is at its last round.
+#[tactic(auto, using(crate::proofs::Deeding::sent_keeps, crate::proofs::Deeding::unsent_keeps))]
+pub(crate) fn send(
+    book: &MsgBook,
+    seat: &mut MsgSeat,
+    mails: &mut Vec<Mail>,
+    sending: &Sending,
+    trace: &mut Vec<Event>,
+) -> Option<u64>
+    requires table { seat.old.table ≡ book.now.table }
+    requires kept { AreMails seat.old mails.old.items }
+    requires exists { sending.now.msg.0 < vec_len mails.old }
+    requires target { sending.now.to.cpu.0 < cpus_of seat.old }
+    requires home { (mail_at mails.old.items sending.now.msg.0).home ≡ true }
+    requires room { vec_len trace.old < vec_capacity trace.old }
+    ensures sends { IfSome result (λ round. Sends sending.now.msg sending.now.to.cpu sending.now.call sending.now.flags sending.now.sync (work seat.old mails.old trace.old) (work seat.new mails.new trace.new) round) }
+    ensures refused { IfNone result (IsRefused sending.now.msg (work seat.old mails.old trace.old) (work seat.new mails.new trace.new)) }
+    ensures kept { AreMails seat.new mails.new.items }
+    ensures len { vec_len mails.new ≡ vec_len mails.old }
+    ensures grew { Grew (cpu_of seat.old) 1 trace.old trace.new }
+{
+    let cpu = seat.cpu();
+    let Sending {
+        thread: _,
+        msg,
+        to,
+        call,
+        flags,
+        sync,
+    } = *sending;
+    let m = usize::from(msg.0);
+    match seat.send(book, msg, to.cpu, call, flags, sync) {
+        Ok(round) => {
+            put_mail(mails, m, outgoing(mail_of(mails, m), sync));
+            note_event(
+                trace,
+                Event::Send {
+                    cpu,
+                    msg,
+                    to: to.cpu,
+                    round,
+                },
+            );
+            Some(round)
+        }
+        Err(_fault) => None,
+    }
+}

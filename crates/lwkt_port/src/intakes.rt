@@ -1,0 +1,209 @@
+//! The notes that came over the lanes are taken in.
+ghost use Rattle.std.specs.Prelude.{◌≡◌, ℕ, ◌+◌, ◌-◌, ◌<◌, ◌≤◌, List, length, All, vec_len, vec_capacity};
+ghost use Rattle.lwkt_msg.specs.Desks.{cpu_of, cpus_of, messages_of, IsSameDesk};
+ghost use Rattle.lwkt_port.specs.declared.lines.Lane.{Lane};
+ghost use Rattle.lwkt_port.specs.Chains.{Chain};
+ghost use Rattle.lwkt_port.specs.Lines.{IsRoomed};
+ghost use Rattle.lwkt_port.specs.Mails.{mail_at, AreMails};
+ghost use Rattle.lwkt_port.specs.Posts.{Changes, KeepsNamed, IsSamePost};
+ghost use Rattle.lwkt_port.specs.Queues.{HasNamed};
+ghost use Rattle.lwkt_port.specs.Works.{work, Grew, away_count, standing, Keeps, Stands};
+ghost use Rattle.lwkt_port.specs.Intakes.{Payer, payer, Pays, Intake, intake, EmptiesFrom, hall, TakesIn, PostTakesIn};
+
+use crate::clearings::clear_all;
+use crate::handlings::empty;
+use crate::lines::{Lane, has_room};
+use crate::mails::{Mail, mail_of};
+use crate::posts::Ports;
+use crate::queues::Port;
+use crate::replies::answer;
+use lwkt_base::MsgId;
+use lwkt_core::Event;
+use lwkt_msg::{MsgBook, MsgSeat};
+use std::sync::Wait;
+
+// Moves the note in hand of each sending end on.
+fn make_room(rt: &impl Wait, lanes: &mut Vec<Lane>)
+    ensures rooms { Chain (List Lane) (λ i x y. Changes IsRoomed i x y) (vec_len lanes.old) lanes.old.items lanes.new.items }
+    ensures len { vec_len lanes.new ≡ vec_len lanes.old }
+    ensures named { (n : ℕ) → All (KeepsNamed n) lanes.old.items → All (KeepsNamed n) lanes.new.items }
+{
+    let count = lanes.len();
+    for at in 0..count {
+        let _ = has_room(rt, &mut lanes[at]);
+    }
+}
+
+// Makes the reply that is owed to a message, if one is and its lane has room.
+fn pay(
+    rt: &impl Wait,
+    book: &MsgBook,
+    seat: &mut MsgSeat,
+    lanes: &mut Vec<Lane>,
+    mails: &mut Vec<Mail>,
+    msg: MsgId,
+    trace: &mut Vec<Event>,
+)
+    requires table { seat.old.table ≡ book.now.table }
+    requires kept { AreMails seat.old mails.old.items }
+    requires exists { msg.0 < vec_len mails.old }
+    requires lanes { vec_len lanes.old ≡ cpus_of seat.old }
+    requires named { All (KeepsNamed (vec_len mails.old)) lanes.old.items }
+    requires room { vec_len trace.old < vec_capacity trace.old }
+    ensures pays { Pays msg.0 (payer (work seat.old mails.old trace.old) lanes.old) (payer (work seat.new mails.new trace.new) lanes.new) }
+    ensures kept { AreMails seat.new mails.new.items }
+    ensures same { IsSameDesk seat.old seat.new }
+    ensures len { vec_len mails.new ≡ vec_len mails.old }
+    ensures lanes { vec_len lanes.new ≡ vec_len lanes.old }
+    ensures named { All (KeepsNamed (vec_len mails.new)) lanes.new.items }
+    ensures grew { Grew (cpu_of seat.old) 1 trace.old trace.new }
+    ensures away { away_count mails.new.items ≡ away_count mails.old.items }
+{
+    let mail = mail_of(mails, usize::from(msg.0));
+    if let Some(error) = mail.owed {
+        let _ = answer(rt, book, seat, lanes, mails, msg, error, 0, trace);
+    }
+}
+
+// How many messages there are.
+fn count_messages(seat: &MsgSeat) -> u8
+    ensures count { result ≡ messages_of seat.now }
+    ensures few { result ≤ 64 }
+{
+    seat.messages() as u8
+}
+
+// Makes the replies that are owed, as lanes have room.
+fn pay_all(
+    rt: &impl Wait,
+    book: &MsgBook,
+    seat: &mut MsgSeat,
+    lanes: &mut Vec<Lane>,
+    mails: &mut Vec<Mail>,
+    trace: &mut Vec<Event>,
+)
+    requires table { seat.old.table ≡ book.now.table }
+    requires kept { AreMails seat.old mails.old.items }
+    requires lanes { vec_len lanes.old ≡ cpus_of seat.old }
+    requires named { All (KeepsNamed (vec_len mails.old)) lanes.old.items }
+    requires room { vec_len trace.old + 64 ≤ vec_capacity trace.old }
+    ensures pays { Chain Payer Pays (vec_len mails.old) (payer (work seat.old mails.old trace.old) lanes.old) (payer (work seat.new mails.new trace.new) lanes.new) }
+    ensures stands { Stands 64 seat.old mails.old trace.old seat.new mails.new trace.new }
+    ensures lanes { vec_len lanes.new ≡ vec_len lanes.old }
+    ensures named { All (KeepsNamed (vec_len mails.new)) lanes.new.items }
+    ensures away { away_count mails.new.items ≡ away_count mails.old.items }
+{
+    let count = count_messages(seat);
+    for m in 0..count {
+        pay(rt, book, seat, lanes, mails, MsgId(m), trace);
+    }
+}
+
+// Empties the lanes, one after another, as far as the limit allows. Answers how many notes were popped.
+fn empty_all(
+    rt: &impl Wait,
+    book: &MsgBook,
+    seat: &mut MsgSeat,
+    lanes: &mut Vec<Lane>,
+    mails: &mut Vec<Mail>,
+    ports: &mut Vec<Port>,
+    limit: usize,
+    trace: &mut Vec<Event>,
+) -> usize
+    requires table { seat.old.table ≡ book.now.table }
+    requires kept { AreMails seat.old mails.old.items }
+    requires ports { vec_len ports.old ≡ 16 }
+    requires named { All (HasNamed (vec_len mails.old)) ports.old.items }
+    requires lanes { All (KeepsNamed (vec_len mails.old)) lanes.old.items }
+    requires room { away_count mails.old.items + vec_len trace.old < vec_capacity trace.old }
+    ensures notes { Chain Intake (EmptiesFrom limit) (vec_len lanes.old) (intake (work seat.old mails.old trace.old) lanes.old ports.old 0) (intake (work seat.new mails.new trace.new) lanes.new ports.new result) }
+    ensures within { result ≤ limit }
+    ensures keeps { Keeps (standing seat.old mails.old trace.old ports.old) (standing seat.new mails.new trace.new ports.new) }
+    ensures len { vec_len lanes.new ≡ vec_len lanes.old }
+    ensures lanes { All (KeepsNamed (vec_len mails.new)) lanes.new.items }
+{
+    let mut count = 0;
+    let senders = lanes.len();
+    for sender in 0..senders {
+        let most = limit - count;
+        count += empty(
+            rt,
+            book,
+            seat,
+            mails,
+            &mut lanes[sender],
+            ports,
+            most,
+            trace,
+        );
+    }
+    count
+}
+
+// Takes the notes in that came over the lanes.
+fn take_in(
+    rt: &impl Wait,
+    book: &MsgBook,
+    seat: &mut MsgSeat,
+    lanes: &mut Vec<Lane>,
+    mails: &mut Vec<Mail>,
+    ports: &mut Vec<Port>,
+    limit: usize,
+    trace: &mut Vec<Event>,
+) -> usize
+    requires table { seat.old.table ≡ book.now.table }
+    requires kept { AreMails seat.old mails.old.items }
+    requires ports { vec_len ports.old ≡ 16 }
+    requires named { All (HasNamed (vec_len mails.old)) ports.old.items }
+    requires lanes { vec_len lanes.old ≡ cpus_of seat.old }
+    requires keep { All (KeepsNamed (vec_len mails.old)) lanes.old.items }
+    requires room { vec_len trace.old + 256 ≤ vec_capacity trace.old }
+    ensures takes { TakesIn limit (hall (work seat.old mails.old trace.old) lanes.old ports.old) (hall (work seat.new mails.new trace.new) lanes.new ports.new) result }
+    ensures within { result ≤ limit }
+    ensures stands { Stands 256 seat.old mails.old trace.old seat.new mails.new trace.new }
+    ensures ports { vec_len ports.new ≡ 16 }
+    ensures named { All (HasNamed (vec_len mails.new)) ports.new.items }
+    ensures lanes { vec_len lanes.new ≡ vec_len lanes.old }
+    ensures keep { All (KeepsNamed (vec_len mails.new)) lanes.new.items }
+{
+    make_room(rt, lanes);
+    pay_all(rt, book, seat, lanes, mails, trace);
+    let count = empty_all(rt, book, seat, lanes, mails, ports, limit, trace);
+    clear_all(book, seat, mails, ports, trace);
+    count
+}
+
+impl Ports {
+    /// Takes notes in that came over the lanes, and answers how many, at most `limit`: each is put into the queue of its
+    /// thread's port, and a synchronous answer is taken back and kept for `done`. A note that finds its port's queue full
+    /// is kept, and holds up its own lane and no other. Before that the notes in hand of the sending ends move on and owed
+    /// replies go out, as lanes have room; after it the ports of ended threads are cleared, of at most 16 notes. In
+    /// msgport(9) an inter-processor message puts each note into its port; here a processor asks for them.
+    ///
+    /// That the trace has room for 256 events is the caller's condition.
+    pub fn take_in(
+        &mut self,
+        rt: &impl Wait,
+        book: &MsgBook,
+        limit: usize,
+        trace: &mut Vec<Event>,
+    ) -> usize
+        requires table { self.old.seat.table ≡ book.now.table }
+        requires room { vec_len trace.old + 256 ≤ vec_capacity trace.old }
+        ensures takes { PostTakesIn limit self.old self.new trace.old trace.new result }
+        ensures within { result ≤ limit }
+        ensures same { IsSamePost self.old self.new }
+        ensures grew { Grew (cpu_of self.old.seat) 256 trace.old trace.new }
+    {
+        take_in(
+            rt,
+            book,
+            &mut self.seat,
+            &mut self.lanes,
+            &mut self.mails,
+            &mut self.ports,
+            limit,
+            trace,
+        )
+    }
+}

@@ -1,0 +1,18 @@
+//! The message ports of a processor's threads, over the processor's seat at the book and its lanes.
+#![tactic(auto)]
+
+mod clearings;
+pub mod deeds;
+pub mod gets;
+pub mod handlings;
+mod intakes;
+pub mod lines;
+pub mod mails;
+pub mod openings;
+pub mod posts;
+pub mod queues;
+mod replies;
+mod sendings;
+mod traces;
+
+pub use posts::Ports;

@@ -1,0 +1,49 @@
+//! The two lanes that join a processor with another one, or with itself.
+ghost use Rattle.std.specs.Prelude.{◌≡◌, ◌++◌, ◌∷◌, [], ◌↔◌, None, IsTrue, IsSome, IfSome, Some, true, MatchOption};
+ghost use Rattle.lwkt_lane.specs.Lane.{sent, in_hand, received, receives_alone, all_pushed, in_lane};
+ghost use Rattle.lwkt_port.specs.Lines.{IsRoomed, HasPosted};
+
+use lwkt_lane::{LaneIn, LaneOut, Note};
+use std::sync::Wait;
+
+/// The lane to a processor, the lane from it, and a note of the latter whose port's queue was full.
+#[derive(Drop)]
+pub struct Lane {
+    pub(crate) out: LaneOut,
+    pub(crate) into: LaneIn,
+    pub(crate) kept: Option<Note>,
+}
+
+/// Moves a note in hand on if there is room, and says whether the next one can be sent.
+pub(crate) fn has_room(rt: &impl Wait, line: &mut Lane) -> bool
+    ensures roomed { IsRoomed line.old line.new }
+    ensures value { IsTrue result ↔ (in_hand line.new.out ≡ None) }
+{
+    line.out.room(rt)
+}
+
+/// Sends a note over a lane that has room for it.
+pub(crate) fn post(rt: &impl Wait, line: &mut Lane, note: Note)
+    requires { in_hand line.old.out ≡ None }
+    ensures { HasPosted note line.old line.new }
+{
+    let _ = line.out.push(rt, note);
+}
+
+/// Receives the next note.
+pub(crate) fn pop(rt: &impl Wait, line: &mut Lane) -> Option<Note>
+    ensures received { MatchOption result (received line.new.into ≡ received line.old.into) (λ note. received line.new.into ≡ received line.old.into ++ note ∷ []) }
+    ensures none { result ≡ None → receives_alone line.old.into ≡ true → received line.new.into ≡ all_pushed line.new.into }
+    ensures alone { receives_alone line.new.into ≡ receives_alone line.old.into }
+    ensures lane { in_lane line.new.into ≡ in_lane line.old.into }
+    ensures same { (line.new.out ≡ line.old.out) × (line.new.kept ≡ line.old.kept) }
+{
+    line.into.pop(rt)
+}
+
+/// Keeps a note whose port's queue is full, or none.
+pub(crate) fn keep(line: &mut Lane, note: Option<Note>)
+    ensures { line.new ≡ record line.old { kept = note } }
+{
+    line.kept = note;
+}

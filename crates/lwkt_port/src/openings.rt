@@ -1,0 +1,143 @@
+//! The ports as they are opened.
+ghost use Rattle.std.specs.Prelude.{◌≡◌, ◌⊎◌, ℕ, ◌<◌, ◌≤◌, [], false, length, All, IfOk, MatchResult, ◌↔◌, IsTrue, vec_len, map};
+ghost use Rattle.lwkt_base.specs.declared.faults.Fault.TheVariants.{Memory, Limits};
+ghost use Rattle.lwkt_msg.specs.Desks.{cpu_of, cpus_of, messages_of};
+ghost use Rattle.lwkt_port.specs.Mails.{mail_at, AreMails};
+ghost use Rattle.lwkt_port.specs.Openings.{new_mail, IsEmptyPort, new_line, ArePaired, AreWithin, IsFresh, AreOrigins, IsOpenedPost};
+
+use crate::lines::Lane;
+use crate::mails::Mail;
+use crate::posts::Ports;
+use crate::queues::{Port, open_port};
+use lwkt_base::{CpuId, Fault, ThreadId};
+use lwkt_lane::{LaneIn, LaneOut};
+use lwkt_msg::MsgSeat;
+use std::alloc::{AllocError, Global};
+
+/// How many ports there are, of which threads have the first ones.
+pub const PORTS: usize = 16;
+
+// What is kept of a message at the opening.
+fn mail_of(origin: ThreadId, cpu: CpuId) -> Mail
+    ensures { result ≡ new_mail cpu origin }
+{
+    Mail {
+        origin,
+        round: 0,
+        done: None,
+        owed: None,
+        shown: None,
+        home: origin.cpu == cpu,
+        sync: false,
+    }
+}
+
+// What is kept of each message at the opening.
+fn open_mails(alloc: Global, origins: &[ThreadId], cpu: CpuId) -> Result<Vec<Mail>, AllocError>
+    ensures { IfOk result (λ v. v.items ≡ map (new_mail cpu) origins.now) }
+{
+    origins
+        .iter()
+        .map(|origin| mail_of(*origin, cpu))
+        .collect(alloc)
+}
+
+// Ports without notes.
+fn open_ports(alloc: Global) -> Result<Vec<Port>, AllocError>
+    ensures { IfOk result (λ v. (length v.items ≡ 16) × All IsEmptyPort v.items) }
+{
+    let mut ports = Vec::with_capacity(alloc, PORTS)?;
+    for _port in 0..PORTS {
+        ports.push(open_port())?;
+    }
+    Ok(ports)
+}
+
+// The line of two ends.
+fn line_of(out: LaneOut, into: LaneIn) -> Lane
+    ensures { result ≡ new_line (out, into) }
+{
+    Lane {
+        out,
+        into,
+        kept: None,
+    }
+}
+
+// The two lanes that join the processor with each one.
+fn pair(alloc: Global, outs: Vec<LaneOut>, ins: Vec<LaneIn>) -> Result<Vec<Lane>, AllocError>
+    ensures { IfOk result (λ v. ArePaired outs.items ins.items v.items) }
+{
+    outs.into_iter()
+        .zip(ins)
+        .map(|(out, into)| line_of(out, into))
+        .collect(alloc)
+}
+
+// Whether the limits are kept.
+fn are_within(
+    seat: &MsgSeat,
+    outs: &Vec<LaneOut>,
+    ins: &Vec<LaneIn>,
+    origins: &[ThreadId],
+    threads: usize,
+) -> bool
+    ensures { IsTrue result ↔ AreWithin seat.now outs.now.items ins.now.items origins.now threads }
+{
+    threads <= PORTS
+        && outs.len() == seat.cpus()
+        && ins.len() == seat.cpus()
+        && origins.len() == seat.messages()
+}
+
+impl Ports {
+    #[tactic(auto, using(crate::proofs::Begun::opened))]
+    /// Opens the ports of a processor's threads, each without an item, over the processor's seat at the book, the sending
+    /// ends of the lanes to each processor, and the receiving ends of those from each. `origins` are the threads that the
+    /// messages belong to. In msgport(9) each thread has a port that lwkt_initport_thread makes; here they are made
+    /// together.
+    ///
+    /// `Memory`: an allocation was refused. `Limits`: there are more than 16 threads, or not one lane each way for each
+    /// processor and one origin for each message. What was handed over is then dropped.
+    ///
+    /// That the seat is this processor's as the book's opening gave it, and that the origins are those of the book, are
+    /// the caller's conditions.
+    pub fn new(
+        alloc: Global,
+        cpu: CpuId,
+        seat: MsgSeat,
+        outs: Vec<LaneOut>,
+        ins: Vec<LaneIn>,
+        origins: &[ThreadId],
+        threads: usize,
+    ) -> Result<Ports, Fault>
+        requires mine { cpu ≡ cpu_of seat }
+        requires fresh { IsFresh seat }
+        requires origins { AreOrigins seat origins.now }
+        ensures { MatchResult result
+            (λ p. AreWithin seat outs.items ins.items origins.now threads × IsOpenedPost cpu seat outs.items ins.items origins.now threads p)
+            (λ fault. (fault ≡ Memory) ⊎ ((fault ≡ Limits) × (AreWithin seat outs.items ins.items origins.now threads → ⊥))) }
+    {
+        let own = seat.cpu();
+        let within = are_within(&seat, &outs, &ins, origins, threads);
+        let Ok(lanes) = pair(alloc, outs, ins) else {
+            return Err(Fault::Memory);
+        };
+        let Ok(ports) = open_ports(alloc) else {
+            return Err(Fault::Memory);
+        };
+        let Ok(mails) = open_mails(alloc, origins, own) else {
+            return Err(Fault::Memory);
+        };
+        if !within {
+            return Err(Fault::Limits);
+        }
+        Ok(Ports {
+            seat,
+            lanes,
+            ports,
+            mails,
+            threads,
+        })
+    }
+}

@@ -1,0 +1,179 @@
+//! A thread replies to a message, and is given the reply that it waited for.
+ghost use Rattle.std.specs.Prelude.{◌≡◌, ◌↔◌, ◌+◌, ◌<◌, ◌≤◌, true, length, slice_set, All, vec_len, vec_capacity, None, IsTrue, OnOk, IfErr};
+ghost use Rattle.lwkt_msg.specs.Desks.{cpu_of, cpus_of, messages_of, entry, IsSameDesk};
+ghost use Rattle.lwkt_port.specs.Mails.{mail_at, AreMails};
+ghost use Rattle.lwkt_port.specs.Works.{work, Grew, away_count};
+ghost use Rattle.lwkt_port.specs.Posts.{KeepsNamed, IsSamePost};
+ghost use Rattle.lwkt_port.specs.Sendings.{answer_note, ReplyMeans, Answers, IsShownTo, PostReplies, PostRefusesReply};
+
+use crate::deeds;
+use crate::lines::{Lane, has_room, post};
+use crate::mails::{Mail, mail_of, put_mail};
+use crate::posts::Ports;
+use lwkt_base::{Fault, MsgId, Rec};
+use lwkt_core::Event;
+use lwkt_lane::{Note, NoteKind};
+use lwkt_msg::{MsgBook, MsgSeat};
+use std::sync::Wait;
+
+// The note that tells of an answer.
+fn answer_of(msg: MsgId, mail: &Mail) -> Note
+    ensures { result ≡ answer_note msg mail.now }
+{
+    Note {
+        round: mail.round,
+        msg,
+        port: mail.origin.thread,
+        kind: NoteKind::Answer,
+    }
+}
+
+// Replies to a message over a line. False if the line is full.
+fn reply_over(
+    rt: &impl Wait,
+    book: &MsgBook,
+    seat: &mut MsgSeat,
+    line: &mut Lane,
+    mails: &mut Vec<Mail>,
+    msg: MsgId,
+    error: u32,
+    outcome: u64,
+    trace: &mut Vec<Event>,
+) -> bool
+    requires table { seat.old.table ≡ book.now.table }
+    requires kept { AreMails seat.old mails.old.items }
+    requires exists { msg.0 < vec_len mails.old }
+    requires taken { (entry seat.old msg.0).taken ≡ true }
+    requires room { vec_len trace.old < vec_capacity trace.old }
+    ensures means { ReplyMeans msg error outcome line.old line.new (work seat.old mails.old trace.old) (work seat.new mails.new trace.new) result }
+    ensures kept { AreMails seat.new mails.new.items }
+    ensures same { IsSameDesk seat.old seat.new }
+    ensures line { line.new.kept ≡ line.old.kept }
+    ensures len { vec_len mails.new ≡ vec_len mails.old }
+    ensures grew { Grew (cpu_of seat.old) 1 trace.old trace.new }
+    ensures away { away_count mails.new.items ≡ away_count mails.old.items }
+{
+    if !has_room(rt, line) {
+        return false;
+    }
+    let note = answer_of(msg, &mail_of(mails, usize::from(msg.0)));
+    deeds::reply(book, seat, mails, msg, error, outcome, trace);
+    post(rt, line, note);
+    true
+}
+
+/// Replies to a message that this processor has taken, over the lane to the message's origin. False if that lane is full.
+#[tactic(auto, using(crate::proofs::Dispatching::answered_over, crate::proofs::Dispatching::line_is_there))]
+pub(crate) fn answer(
+    rt: &impl Wait,
+    book: &MsgBook,
+    seat: &mut MsgSeat,
+    lanes: &mut Vec<Lane>,
+    mails: &mut Vec<Mail>,
+    msg: MsgId,
+    error: u32,
+    outcome: u64,
+    trace: &mut Vec<Event>,
+) -> bool
+    requires table { seat.old.table ≡ book.now.table }
+    requires kept { AreMails seat.old mails.old.items }
+    requires exists { msg.0 < vec_len mails.old }
+    requires taken { (entry seat.old msg.0).taken ≡ true }
+    requires lanes { vec_len lanes.old ≡ cpus_of seat.old }
+    requires named { All (KeepsNamed (vec_len mails.old)) lanes.old.items }
+    requires room { vec_len trace.old < vec_capacity trace.old }
+    ensures means { Answers msg error outcome lanes.old.items lanes.new.items (work seat.old mails.old trace.old) (work seat.new mails.new trace.new) result }
+    ensures kept { AreMails seat.new mails.new.items }
+    ensures same { IsSameDesk seat.old seat.new }
+    ensures len { vec_len mails.new ≡ vec_len mails.old }
+    ensures lanes { vec_len lanes.new ≡ vec_len lanes.old }
+    ensures named { All (KeepsNamed (vec_len mails.new)) lanes.new.items }
+    ensures grew { Grew (cpu_of seat.old) 1 trace.old trace.new }
+    ensures away { away_count mails.new.items ≡ away_count mails.old.items }
+{
+    let mail = mail_of(mails, usize::from(msg.0));
+    let at = usize::from(mail.origin.cpu.0);
+    reply_over(
+        rt,
+        book,
+        seat,
+        &mut lanes[at],
+        mails,
+        msg,
+        error,
+        outcome,
+        trace,
+    )
+}
+
+// Whether the thread was shown the message as a request, and hasn't replied yet.
+fn is_shown_to(mails: &Vec<Mail>, thread: u8, msg: MsgId) -> bool
+    ensures { IsTrue result ↔ IsShownTo thread msg mails.now.items }
+{
+    let m = usize::from(msg.0);
+    if m >= mails.len() {
+        return false;
+    }
+    mail_of(mails, m).shown == Some(thread)
+}
+
+impl Ports {
+    /// Replies to a message that `get` has shown to the thread, as lwkt_replymsg(9) does. What differs: a full lane
+    /// refuses the reply, and the message stays with the thread.
+    ///
+    /// `NotTaken`: the thread wasn't shown the message, or it has replied already, or there is no such message.
+    /// `LaneFull`: the lane to the processor of the message's origin has no room. A refusal makes neither event nor note.
+    ///
+    /// That the trace has room for 256 events is the caller's condition.
+    #[tactic(auto, using(crate::proofs::Dispatching::shown_is_taken))]
+    pub fn reply(
+        &mut self,
+        rt: &impl Wait,
+        book: &MsgBook,
+        thread: u8,
+        msg: MsgId,
+        error: u32,
+        outcome: u64,
+        trace: &mut Vec<Event>,
+    ) -> Result<(), Fault>
+        requires table { self.old.seat.table ≡ book.now.table }
+        requires room { vec_len trace.old + 256 ≤ vec_capacity trace.old }
+        ensures replied { OnOk result (PostReplies thread msg error outcome self.old self.new trace.old trace.new) }
+        ensures refused { IfErr result (λ fault. PostRefusesReply thread msg error outcome self.old self.new trace.old trace.new fault) }
+        ensures same { IsSamePost self.old self.new }
+        ensures grew { Grew (cpu_of self.old.seat) 1 trace.old trace.new }
+    {
+        if !is_shown_to(&self.mails, thread, msg) {
+            return Err(Fault::NotTaken);
+        }
+        if !answer(
+            rt,
+            book,
+            &mut self.seat,
+            &mut self.lanes,
+            &mut self.mails,
+            msg,
+            error,
+            outcome,
+            trace,
+        ) {
+            return Err(Fault::LaneFull);
+        }
+        Ok(())
+    }
+
+    /// Gives the record of the reply to a synchronous send of the message, once; None if there is none. A later send of
+    /// the message discards a reply that was not given. In msgport(9) lwkt_domsg itself waits for the reply, by
+    /// lwkt_waitmsg. That there is such a message is the caller's condition.
+    pub fn done(&mut self, msg: MsgId) -> Option<Rec>
+        requires { msg.0 < messages_of self.old.seat }
+        ensures reply { result ≡ (mail_at self.old.mails msg.0).done }
+        ensures same { IsSamePost self.old self.new }
+        ensures given { self.new ≡ record self.old { mails = slice_set self.old.mails msg.0 (record (mail_at self.old.mails msg.0) { done = None }) } }
+    {
+        let m = usize::from(msg.0);
+        let mail = mail_of(&self.mails, m);
+        put_mail(&mut self.mails, m, Mail { done: None, ..mail });
+        mail.done
+    }
+}

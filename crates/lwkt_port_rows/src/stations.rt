@@ -1,0 +1,229 @@
+//! A book and the ports of two processors, and tables of calls on them.
+ghost use Rattle.std.specs.Prelude.{◌≡◌, ℕ, ◌<◌, ◌≤◌, length, map, IfOk, IfSome};
+ghost use Rattle.lwkt_msg.specs.Desks.{AreSeats, IsOpened, messages_of, cpus_of};
+ghost use Rattle.lwkt_base.specs.declared.openings.MsgSpec.{MsgSpec};
+ghost use Rattle.lwkt_port_rows.specs.Stations.{Sits};
+
+use lwkt_base::{Call, CpuId, Fault, Flags, Item, MsgId, MsgSpec, Rec, ThreadId};
+use lwkt_core::Event;
+use lwkt_lane::{LaneIn, LaneOut, lane};
+use lwkt_msg::{MsgBook, MsgSeat};
+use lwkt_port::Ports;
+use std::alloc::{AllocError, Global};
+use std::sync::Wait;
+
+pub const NO_FLAGS: Flags = Flags {
+    dropable: false,
+    abortable: false,
+};
+
+/// A call on the ports of a processor.
+#[derive(Clone, Copy, Debug)]
+pub enum Ask {
+    /// A thread sends a message to a thread: its number, the message, the target's processor and number, op and arg.
+    Send(u8, u8, u8, u8, u32, u64),
+    SendSync(u8, u8, u8, u8, u32, u64),
+    TakeIn(usize),
+    Get(u8),
+    /// A thread replies: its number, the message, error and result.
+    Reply(u8, u8, u32, u64),
+    Done(u8),
+}
+
+/// What a call answered.
+#[derive(Clone, Copy, Debug, PartialEq, Eq)]
+pub enum Told {
+    Done,
+    Popped(usize),
+    Got(Option<Item>),
+    Given(Option<Rec>),
+    Refused(Fault),
+    /// There is no such thread or message.
+    Unfit,
+}
+
+/// A call by the first or the second processor, and the answer that is wanted.
+#[derive(Clone, Copy, Debug)]
+pub struct Line {
+    pub second: bool,
+    pub ask: Ask,
+    pub told: Told,
+}
+
+/// Why a table wasn't played to its end.
+#[derive(Debug, Drop)]
+pub enum Miss {
+    Fault(Fault),
+    /// Another answer than was wanted.
+    Line { at: usize, told: Told },
+}
+
+fn done(answer: Result<(), Fault>) -> Told {
+    match answer {
+        Ok(()) => Told::Done,
+        Err(fault) => Told::Refused(fault),
+    }
+}
+
+/// Makes a call. `messages` is how many messages the book has.
+pub fn play(
+    rt: &impl Wait,
+    alloc: Global,
+    book: &MsgBook,
+    ports: &mut Ports,
+    messages: usize,
+    ask: Ask,
+) -> Result<Told, Fault>
+    requires { Sits book.now messages ports.old }
+    ensures { Sits book.now messages ports.new }
+{
+    let mut trace = Vec::with_capacity(alloc, 256).map_err(|_| Fault::Memory)?;
+    let told = match ask {
+        Ask::Send(thread, m, cpu, target, op, arg) => {
+            let to = ThreadId {
+                cpu: CpuId(cpu),
+                thread: target,
+            };
+            let call = Call { arg, op };
+            done(ports.send(rt, book, thread, MsgId(m), to, call, NO_FLAGS, &mut trace))
+        }
+        Ask::SendSync(thread, m, cpu, target, op, arg) => {
+            let to = ThreadId {
+                cpu: CpuId(cpu),
+                thread: target,
+            };
+            let call = Call { arg, op };
+            done(ports.send_sync(rt, book, thread, MsgId(m), to, call, &mut trace))
+        }
+        Ask::TakeIn(limit) => Told::Popped(ports.take_in(rt, book, limit, &mut trace)),
+        Ask::Get(thread) => {
+            if usize::from(thread) < ports.threads() {
+                match ports.get(book, thread, &mut trace) {
+                    Ok(item) => Told::Got(item),
+                    Err(fault) => Told::Refused(fault),
+                }
+            } else {
+                Told::Unfit
+            }
+        }
+        Ask::Reply(thread, m, error, outcome) => {
+            done(ports.reply(rt, book, thread, MsgId(m), error, outcome, &mut trace))
+        }
+        Ask::Done(m) => {
+            if usize::from(m) < messages {
+                Told::Given(ports.done(MsgId(m)))
+            } else {
+                Told::Unfit
+            }
+        }
+    };
+    Ok(told)
+}
+
+// The threads that messages belong to.
+fn origins_of(alloc: Global, specs: &[MsgSpec]) -> Result<Vec<ThreadId>, AllocError>
+    ensures { IfOk result (λ v. v.items ≡ map (λ (spec : MsgSpec). spec.origin) specs.now) }
+{
+    specs.iter().map(|spec| spec.origin).collect(alloc)
+}
+
+// The ports of a processor whose threads are two, over a seat that was just opened.
+pub fn open_ports(
+    alloc: Global,
+    seat: MsgSeat,
+    book: &MsgBook,
+    specs: &[MsgSpec],
+    outs: Vec<LaneOut>,
+    ins: Vec<LaneIn>,
+) -> Result<Ports, Fault>
+    requires opened { (cpu : ℕ) × IsOpened cpu book.now seat }
+    requires specs { book.now.specs ≡ specs.now }
+    ensures { IfOk result (λ ports. Sits book.now (length specs.now) ports) }
+{
+    let Ok(origins) = origins_of(alloc, specs) else {
+        return Err(Fault::Memory);
+    };
+    let cpu = seat.cpu();
+    Ports::new(alloc, cpu, seat, outs, ins, &origins, 2)
+}
+
+/// A book, and the ports of its two processors.
+#[derive(Drop)]
+pub struct Pair {
+    pub book: MsgBook,
+    pub first: Ports,
+    pub second: Ports,
+}
+
+// The two seats of a book of two processors.
+fn both(mut seats: Vec<MsgSeat>, book: &MsgBook) -> Option<(MsgSeat, MsgSeat)>
+    requires { AreSeats 2 book.now seats.items }
+    ensures { IfSome result (λ p. IsOpened 0 book.now p.0 × IsOpened 1 book.now p.1) }
+{
+    let second = seats.pop()?;
+    let first = seats.pop()?;
+    Some((first, second))
+}
+
+// Two ends in a list.
+fn listed<T: Drop>(alloc: Global, first: T, second: T) -> Result<Vec<T>, Fault> {
+    let mut list = Vec::with_capacity(alloc, 2).map_err(|_| Fault::Memory)?;
+    list.push(first).map_err(|_| Fault::Memory)?;
+    list.push(second).map_err(|_| Fault::Memory)?;
+    Ok(list)
+}
+
+/// A book of these messages, with two processors, joined by lanes of this capacity.
+pub fn open(alloc: Global, specs: &[MsgSpec], capacity: usize) -> Result<Pair, Fault>
+    requires least { 2 ≤ capacity }
+    requires most { capacity ≤ 32 }
+    ensures { IfOk result (λ pair. Sits pair.book (length specs.now) pair.first × Sits pair.book (length specs.now) pair.second) }
+{
+    let (book, seats) = MsgBook::open(alloc, specs, 2)?;
+    let Some((seat, other)) = both(seats, &book) else {
+        return Err(Fault::Memory);
+    };
+    let (out_same, in_same) = lane(alloc, capacity)?;
+    let (out_there, in_there) = lane(alloc, capacity)?;
+    let (out_back, in_back) = lane(alloc, capacity)?;
+    let (out_other, in_other) = lane(alloc, capacity)?;
+    let outs = listed(alloc, out_same, out_there)?;
+    let ins = listed(alloc, in_same, in_back)?;
+    let first = open_ports(alloc, seat, &book, specs, outs, ins)?;
+    let outs = listed(alloc, out_back, out_other)?;
+    let ins = listed(alloc, in_there, in_other)?;
+    let second = open_ports(alloc, other, &book, specs, outs, ins)?;
+    Ok(Pair {
+        book,
+        first,
+        second,
+    })
+}
+
+/// Plays a table of calls.
+pub fn run(
+    rt: &impl Wait,
+    alloc: Global,
+    pair: &mut Pair,
+    messages: usize,
+    lines: &[Line],
+) -> Result<(), Miss>
+    requires first { Sits pair.old.book messages pair.old.first }
+    requires second { Sits pair.old.book messages pair.old.second }
+    ensures first { Sits pair.new.book messages pair.new.first }
+    ensures second { Sits pair.new.book messages pair.new.second }
+{
+    for (at, line) in lines.iter().enumerate() {
+        let answer = if line.second {
+            play(rt, alloc, &pair.book, &mut pair.second, messages, line.ask)
+        } else {
+            play(rt, alloc, &pair.book, &mut pair.first, messages, line.ask)
+        };
+        match answer {
+            Ok(told) if told == line.told => {}
+            Ok(told) => return Err(Miss::Line { at, told }),
+            Err(fault) => return Err(Miss::Fault(fault)),
+        }
+    }
+    Ok(())
+}
