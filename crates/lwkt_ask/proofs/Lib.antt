@@ -1,2 +1,3 @@
 pub mod AskMoves
 pub mod BoxMoves
+pub mod MailMoves

@@ -1,4 +1,5 @@
 pub mod Nexts
 pub mod Calls
 pub mod Leaving
+pub mod Mailing
 pub mod Table

@@ -8,13 +8,14 @@ use Rattle.lwkt_base.specs.Holding.{Holding, holding_of, holds_nothing}
 use Rattle.lwkt_hold.specs.declared.answers.Blocked.{Blocked}
 use Rattle.lwkt_hold.specs.declared.answers.Blocked.TheVariants.{Clean, Restored}
 use Rattle.lwkt_ask.specs.declared.nexts.Next.{Next}
-use Rattle.lwkt_ask.specs.declared.nexts.Next.TheVariants.{Runs, Readies, AwaitsItem, Exits, Faults}
+use Rattle.lwkt_ask.specs.declared.nexts.Next.TheVariants.{Runs, Readies, AwaitsItem, AwaitsReply, Exits, Faults}
 
 -- the list of a thread after its ask: one that ends has an empty list (own)
 abbrev pub kept_list : Next → List Ref → List Ref
 kept_list (Runs answer) refs = refs
 kept_list (Readies answer) refs = refs
 kept_list AwaitsItem refs = refs
+kept_list (AwaitsReply msg) refs = refs
 kept_list Exits refs = []
 kept_list (Faults fault) refs = []
 
@@ -23,6 +24,7 @@ abbrev pub HoldsAfter : Next → Holding → List Ref → Type 0
 HoldsAfter (Runs answer) holding refs = holding ≡ holding_of refs
 HoldsAfter (Readies answer) holding refs = holding ≡ holds_nothing
 HoldsAfter AwaitsItem holding refs = holding ≡ holds_nothing
+HoldsAfter (AwaitsReply msg) holding refs = holding ≡ holds_nothing
 HoldsAfter Exits holding refs = holding ≡ holds_nothing
 HoldsAfter (Faults fault) holding refs = holding ≡ holds_nothing
 

@@ -1,4 +1,4 @@
-use Rattle.std.specs.Prelude.{◌≡◌, List, length, Result, Ok, Err, ℕ, Vec}
+use Rattle.std.specs.Prelude.{◌≡◌, List, length, Result, Ok, Err, Option, ℕ, false, true, Vec}
 use Rattle.std.specs.declared.alloc.Global.{Global}
 use Rattle.lwkt_base.specs.declared.names.TokId.{TokId}
 use Rattle.lwkt_base.specs.declared.names.Mode.TheVariants.{Shared}
@@ -20,6 +20,10 @@ use Rattle.lwkt_ask.specs.declared.nexts.Next.TheVariants.{Runs, Readies, Awaits
 use Rattle.lwkt_ask.specs.Nexts.{done_or, value_or}
 use Rattle.lwkt_ask.specs.Calls.{Acquires, Tries, Rels, Swaps, Reads, Stores, Adds}
 use Rattle.lwkt_ask.specs.Leaving.{GivesUp}
+use Rattle.lwkt_ask.specs.Mailing.{sending, plain_flags, SendsMail, RepliesMail, item_or, Does, WaitsPort}
+use Rattle.lwkt_base.specs.declared.asks.Item.{Item}
+use Rattle.lwkt_port.specs.Posts.{Post}
+use Rattle.lwkt_port.specs.Servings.{PostGets}
 
 -- a shared reference to the token
 abbrev pub shared : TokId → Ref
@@ -40,27 +44,28 @@ pub record Gets (bank : BankId) (a b : CpuSeat) (refs now : List Ref) (new : Ref
   pub acquires : Acquires bank a mid refs now new t v result
   pub goes_on : GoesOn mid b refs now v u next result
 
--- an ask that is answered, and changes nothing
-abbrev pub Answers : CpuSeat → CpuSeat → List Ref → List Ref → Vec Event Global → Vec Event Global → Next → Answer → Type 0
-Answers a b refs now t u next answer = (b ≡ a) × (now ≡ refs) × (u ≡ t) × (next ≡ Runs answer)
+-- an ask about a message that has no call yet is refused, and changes nothing
+abbrev pub Refuses : CpuSeat → CpuSeat → Post → Post → List Ref → List Ref → Vec Event Global → Vec Event Global → Next → Fault → Type 0
+Refuses a b p q refs now t u next fault = (b ≡ a) × (q ≡ p) × (now ≡ refs) × (u ≡ t) × (next ≡ Runs (Refused fault))
 
--- an ask and what comes next: from one seat, list and trace to the next, ask by ask, by the call that it makes (token(9); own)
-abbrev pub Performs : BankId → CpuSeat → CpuSeat → List Ref → List Ref → Vec Event Global → Vec Event Global → Ask → Next → Type 0
-Performs bank a b refs now t u (Get tok) next = Gets bank a b refs now (exclusive tok) t u next
-Performs bank a b refs now t u (GetShared tok) next = Gets bank a b refs now (shared tok) t u next
-Performs bank a b refs now t u (TryGet tok) next = (result : Result (Unit {0}) Fault) × (Tries bank a b refs now tok t u result × (next ≡ Runs (done_or result)))
-Performs bank a b refs now t u (Rel tok) next = (result : Result (Unit {0}) Fault) × (Rels a b refs now tok t u result × (next ≡ Runs (done_or result)))
-Performs bank a b refs now t u Swap next = (result : Result (Unit {0}) Fault) × (Swaps refs now result × (b ≡ a) × (u ≡ t) × (next ≡ Runs (done_or result)))
-Performs bank a b refs now t u (Read tok cell) next = (result : Result ℕ Fault) × (Reads bank a b refs tok cell t u result × (now ≡ refs) × (next ≡ Runs (value_or result)))
-Performs bank a b refs now t u (Write tok cell value) next = (result : Result (Unit {0}) Fault) × (Stores bank a b refs tok cell value t u result × (now ≡ refs) × (next ≡ Runs (done_or result)))
-Performs bank a b refs now t u (Add tok k) next = (result : Result (Unit {0}) Fault) × (Adds bank a b refs tok k t u result × (now ≡ refs) × (next ≡ Runs (done_or result)))
-Performs bank a b refs now t u (Send msg to call flags) next = Answers a b refs now t u next (Refused NotOwner)
-Performs bank a b refs now t u (Do msg to call) next = Answers a b refs now t u next (Refused NotOwner)
-Performs bank a b refs now t u (Reply msg error outcome) next = Answers a b refs now t u next (Refused NotTaken)
-Performs bank a b refs now t u (Abort msg) next = Answers a b refs now t u next (Refused NotOwner)
-Performs bank a b refs now t u (IsAborted msg) next = Answers a b refs now t u next (Refused NotTaken)
-Performs bank a b refs now t u (DropMsg msg) next = Answers a b refs now t u next (Refused NotOwner)
-Performs bank a b refs now t u GetPort next = Answers a b refs now t u next NoMsg
-Performs bank a b refs now t u WaitPort next = (now ≡ refs) × GivesUp a b refs (length refs) t u AwaitsItem next
-Performs bank a b refs now t u Yield next = (now ≡ refs) × GivesUp a b refs (length refs) t u (Readies Done) next
-Performs bank a b refs now t u Exit next = (now ≡ refs) × GivesUp a b refs (length refs) t u Exits next
+-- an ask of a thread and what comes next: from one seat, list and trace to the next, and from one state of the ports to the next, ask
+-- by ask, by the call that it makes (token(9), msgport(9); own)
+abbrev pub Performs : BankId → ℕ → CpuSeat → CpuSeat → Post → Post → List Ref → List Ref → Vec Event Global → Vec Event Global → Ask → Next → Type 0
+Performs bank thread a b p q refs now t u (Get tok) next = (q ≡ p) × Gets bank a b refs now (exclusive tok) t u next
+Performs bank thread a b p q refs now t u (GetShared tok) next = (q ≡ p) × Gets bank a b refs now (shared tok) t u next
+Performs bank thread a b p q refs now t u (TryGet tok) next = (q ≡ p) × ((result : Result (Unit {0}) Fault) × (Tries bank a b refs now tok t u result × (next ≡ Runs (done_or result))))
+Performs bank thread a b p q refs now t u (Rel tok) next = (q ≡ p) × ((result : Result (Unit {0}) Fault) × (Rels a b refs now tok t u result × (next ≡ Runs (done_or result))))
+Performs bank thread a b p q refs now t u Swap next = (q ≡ p) × ((result : Result (Unit {0}) Fault) × (Swaps refs now result × (b ≡ a) × (u ≡ t) × (next ≡ Runs (done_or result))))
+Performs bank thread a b p q refs now t u (Read tok cell) next = (q ≡ p) × ((result : Result ℕ Fault) × (Reads bank a b refs tok cell t u result × (now ≡ refs) × (next ≡ Runs (value_or result))))
+Performs bank thread a b p q refs now t u (Write tok cell value) next = (q ≡ p) × ((result : Result (Unit {0}) Fault) × (Stores bank a b refs tok cell value t u result × (now ≡ refs) × (next ≡ Runs (done_or result))))
+Performs bank thread a b p q refs now t u (Add tok k) next = (q ≡ p) × ((result : Result (Unit {0}) Fault) × (Adds bank a b refs tok k t u result × (now ≡ refs) × (next ≡ Runs (done_or result))))
+Performs bank thread a b p q refs now t u (Send msg to call flags) next = (b ≡ a) × (now ≡ refs) × ((result : Result (Unit {0}) Fault) × (SendsMail (sending thread msg to call flags false) p q t u result × (next ≡ Runs (done_or result))))
+Performs bank thread a b p q refs now t u (Do msg to call) next = (now ≡ refs) × Does (sending thread msg to call plain_flags true) p q a b refs t u next
+Performs bank thread a b p q refs now t u (Reply msg error outcome) next = (b ≡ a) × (now ≡ refs) × ((result : Result (Unit {0}) Fault) × (RepliesMail thread msg error outcome p q t u result × (next ≡ Runs (done_or result))))
+Performs bank thread a b p q refs now t u (Abort msg) next = Refuses a b p q refs now t u next NotOwner
+Performs bank thread a b p q refs now t u (IsAborted msg) next = Refuses a b p q refs now t u next NotTaken
+Performs bank thread a b p q refs now t u (DropMsg msg) next = Refuses a b p q refs now t u next NotOwner
+Performs bank thread a b p q refs now t u GetPort next = (b ≡ a) × (now ≡ refs) × ((result : Result (Option Item) Fault) × (PostGets thread p q t u result × (next ≡ Runs (item_or result))))
+Performs bank thread a b p q refs now t u WaitPort next = (now ≡ refs) × WaitsPort thread p q a b refs t u next
+Performs bank thread a b p q refs now t u Yield next = (q ≡ p) × (now ≡ refs) × GivesUp a b refs (length refs) t u (Readies Done) next
+Performs bank thread a b p q refs now t u Exit next = (q ≡ p) × (now ≡ refs) × GivesUp a b refs (length refs) t u Exits next

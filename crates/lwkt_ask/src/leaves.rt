@@ -64,3 +64,16 @@ pub(crate) fn leave(
     let held = list.len();
     give_up(hold, bank, list, held, meant, trace)
 }
+
+/// The ask to end: a thread that runs gives up everything. That the trace has room for 256 events is the caller's condition;
+/// no more than 160 are made.
+pub fn exit(hold: &mut Hold, bank: &Bank, list: &TokList, trace: &mut Vec<Event>) -> Next
+    requires of { bank_of (seat_of hold.old) ≡ id_of bank.now }
+    requires held { holding (seat_of hold.old) ≡ holding_of list.now }
+    requires room { vec_len trace.old + 256 ≤ vec_capacity trace.old }
+    ensures ran { Ran (IsFront list.now) 160 (seat_of hold.old) (seat_of hold.new) trace.old trace.new }
+    ensures empty { holding (seat_of hold.new) ≡ holds_nothing }
+    ensures gives_up { GivesUp (seat_of hold.old) (seat_of hold.new) list.now (length list.now) trace.old trace.new Next.Exits result }
+{
+    leave(hold, bank, list, Next::Exits, trace)
+}

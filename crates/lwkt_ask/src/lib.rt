@@ -4,10 +4,12 @@
 pub mod bodies;
 pub mod boxed;
 mod calls;
-mod leaves;
+pub mod leaves;
+mod mails;
 pub mod nexts;
 pub mod performs;
 
 pub use bodies::Body;
+pub use leaves::exit;
 pub use nexts::Next;
 pub use performs::perform;

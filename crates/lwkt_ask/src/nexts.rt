@@ -1,4 +1,4 @@
-use lwkt_base::{Answer, Fault};
+use lwkt_base::{Answer, Fault, MsgId};
 
 /// What comes next for a thread whose ask was performed.
 #[derive(Clone, Copy, Debug, PartialEq, Eq)]
@@ -9,6 +9,8 @@ pub enum Next {
     Readies(Answer),
     /// It has given up its tokens and waits for an item at its port.
     AwaitsItem,
+    /// It has given up its tokens and waits for the reply to this message of its own.
+    AwaitsReply(MsgId),
     /// It has ended by itself.
     Exits,
     /// It was ended by this fault.

@@ -5,16 +5,23 @@ ghost use Rattle.lwkt_bank.specs.Seats.{id_of, bank_of, tokens_of, holding};
 ghost use Rattle.lwkt_hold.specs.Holds.{seat_of};
 ghost use Rattle.lwkt_hold.specs.Fronts.{IsBetween};
 ghost use Rattle.lwkt_hold.specs.Runs.{Ran};
+ghost use Rattle.lwkt_base.specs.declared.names.MsgId.{MsgId};
+ghost use Rattle.lwkt_msg.specs.Desks.{cpu_of, messages_of};
+ghost use Rattle.lwkt_port.specs.Posts.{IsSamePost};
 ghost use Rattle.lwkt_ask.specs.Nexts.{kept_list, HoldsAfter};
 ghost use Rattle.lwkt_ask.specs.Table.{Performs};
 
 use crate::calls::{add, get, read, rel, swap, try_get, write};
 use crate::leaves::leave;
+use crate::mails::{get_port, reply, send, send_and_wait, wait_port};
 use crate::nexts::Next;
 use lwkt_bank::Bank;
 use lwkt_base::{Answer, Ask, Fault, Mode, Ref, TokId, TokList};
 use lwkt_core::Event;
 use lwkt_hold::Hold;
+use lwkt_msg::MsgBook;
+use lwkt_port::Ports;
+use std::sync::Wait;
 
 fn exclusive(tok: TokId) -> Ref
     ensures { (result.tok ≡ tok) × (result.mode ≡ Mode.Exclusive) }
@@ -41,21 +48,30 @@ fn refused(fault: Fault) -> Next
 }
 
 /// Performs the ask of a running thread, whose list is held, and says what comes next for the thread. That the trace has
-/// room for 512 events is the caller's condition; no ask makes more than 162.
+/// room for 512 events is the caller's condition; no ask makes more than 288.
 pub fn perform(
+    rt: &impl Wait,
     hold: &mut Hold,
+    ports: &mut Ports,
     bank: &Bank,
+    book: &MsgBook,
+    thread: u8,
     list: &mut TokList,
     ask: Ask,
     trace: &mut Vec<Event>,
 ) -> Next
     requires of { bank_of (seat_of hold.old) ≡ id_of bank.now }
+    requires table { ports.old.seat.table ≡ book.now.table }
+    requires exists { thread < ports.old.threads }
+    requires mine { cpu_of ports.old.seat ≡ (seat_of hold.old).cpu }
     requires held { holding (seat_of hold.old) ≡ holding_of list.old }
     requires room { vec_len trace.old + 512 ≤ vec_capacity trace.old }
-    ensures ran { Ran (IsBetween list.old (kept_list result list.new)) 162 (seat_of hold.old) (seat_of hold.new) trace.old trace.new }
+    ensures ran { Ran (IsBetween list.old (kept_list result list.new)) 288 (seat_of hold.old) (seat_of hold.new) trace.old trace.new }
     ensures held { HoldsAfter result (holding (seat_of hold.new)) list.new }
     ensures there { All (λ r. r.tok.0 < tokens_of (bank_of (seat_of hold.old))) list.old → All (λ r. r.tok.0 < tokens_of (bank_of (seat_of hold.old))) list.new }
-    ensures performs { Performs (id_of bank.now) (seat_of hold.old) (seat_of hold.new) list.old list.new trace.old trace.new ask result }
+    ensures performs { Performs (id_of bank.now) thread (seat_of hold.old) (seat_of hold.new) ports.old ports.new list.old list.new trace.old trace.new ask result }
+    ensures same { IsSamePost ports.old ports.new }
+    ensures named { (m : MsgId) → result ≡ Next.AwaitsReply m → m.0 < messages_of ports.new.seat }
 {
     match ask {
         Ask::Get(tok) => get(hold, bank, list, exclusive(tok), trace),
@@ -68,11 +84,22 @@ pub fn perform(
             Next::Runs(write(hold, bank, list, tok, cell, value, trace))
         }
         Ask::Add(tok, k) => Next::Runs(add(hold, bank, list, tok, k, trace)),
-        // no message is at hand yet, and no port has an item
-        Ask::Send(..) | Ask::Do(..) | Ask::Abort(_) | Ask::DropMsg(_) => refused(Fault::NotOwner),
-        Ask::Reply(..) | Ask::IsAborted(_) => refused(Fault::NotTaken),
-        Ask::GetPort => Next::Runs(Answer::NoMsg),
-        Ask::WaitPort => leave(hold, bank, list, Next::AwaitsItem, trace),
+        Ask::Send(msg, to, call, flags) => {
+            Next::Runs(send(rt, ports, book, thread, msg, to, call, flags, trace))
+        }
+        Ask::Do(msg, to, call) => {
+            send_and_wait(
+                rt, hold, ports, bank, book, thread, list, msg, to, call, trace,
+            )
+        }
+        Ask::Reply(msg, error, outcome) => {
+            Next::Runs(reply(rt, ports, book, thread, msg, error, outcome, trace))
+        }
+        // drops and aborts have no call yet
+        Ask::Abort(_) | Ask::DropMsg(_) => refused(Fault::NotOwner),
+        Ask::IsAborted(_) => refused(Fault::NotTaken),
+        Ask::GetPort => Next::Runs(get_port(ports, book, thread, trace)),
+        Ask::WaitPort => wait_port(hold, ports, bank, book, thread, list, trace),
         Ask::Yield => leave(hold, bank, list, Next::Readies(Answer::Done), trace),
         Ask::Exit => leave(hold, bank, list, Next::Exits, trace),
     }

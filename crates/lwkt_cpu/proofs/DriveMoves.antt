@@ -32,9 +32,10 @@ pub record IsDriven {B : Type 0} (polled : B → Answer → Ask → B → Type 0
   pub long : length turns ≡ count
   pub few : drove.ran + drove.idle ≤ count
   pub bank_same : bank_of new.seat ≡ bank_of old.seat
+  pub table_same : new.post.seat.table ≡ old.post.seat.table
 
 pub driven_none : {B : Type 0} (polled : B → Answer → Ask → B → Type 0) (bank : BankId) (old : Processor B) (t : Vec Event Global) → IsDriven polled bank old old t t none_driven 0
-driven_none polled bank old t = record { turns = []; made = (refl, refl); counts = refl; going = All-nil (λ turned. turned ≢ AllExited); long = refl; few = omega arith; bank_same = refl }
+driven_none polled bank old t = record { turns = []; made = (refl, refl); counts = refl; going = All-nil (λ turned. turned ≢ AllExited); long = refl; few = omega arith; bank_same = refl; table_same = refl }
 
 one_more : (drove : Drove) (turned : Turned) → (counted drove turned).ran + (counted drove turned).idle ≡ drove.ran + drove.idle + 1
 one_more drove (Ran thread) = omega arith
@@ -44,8 +45,8 @@ one_more drove AllExited = omega arith
 counts_more : (drove : Drove) (turns : List Turned) (turned : Turned) → drove ≡ fold counted none_driven turns → counted drove turned ≡ fold counted none_driven (turns ++ turned ∷ [])
 counts_more drove turns turned is = ap (λ d. counted d turned) is ∙ sym (fold-append counted none_driven turns (turned ∷ []))
 
-pub driven_more : {B : Type 0} (polled : B → Answer → Ask → B → Type 0) (bank : BankId) (old mid new : Processor B) (t v u : Vec Event Global) (drove next : Drove) (turned : Turned) (count : ℕ) → IsDriven polled bank old mid t v drove count → MakesTurn polled bank mid new v u turned → turned ≢ AllExited → bank_of new.seat ≡ bank_of mid.seat → next ≡ counted drove turned → IsDriven polled bank old new t u next (count + 1)
-driven_more polled bank old mid new t v u drove next turned count d last on same is = record {
+pub driven_more : {B : Type 0} (polled : B → Answer → Ask → B → Type 0) (bank : BankId) (old mid new : Processor B) (t v u : Vec Event Global) (drove next : Drove) (turned : Turned) (count : ℕ) → IsDriven polled bank old mid t v drove count → MakesTurn polled bank mid new v u turned → turned ≢ AllExited → bank_of new.seat ≡ bank_of mid.seat → new.post.seat.table ≡ mid.post.seat.table → next ≡ counted drove turned → IsDriven polled bank old new t u next (count + 1)
+driven_more polled bank old mid new t v u drove next turned count d last on same table is = record {
   turns = d.turns ++ turned ∷ [];
   made = made_more polled bank old mid new t v u d.turns turned d.made last;
   counts = is ∙ counts_more drove d.turns turned d.counts;
@@ -53,6 +54,7 @@ driven_more polled bank old mid new t v u drove next turned count d last on same
   long = length-append d.turns (turned ∷ []) ∙ ap (λ n. n + 1) d.long;
   few = let F : Drove → Type 0 = λ x. x.ran + x.idle ≤ count + 1 in subst F (sym is) (omega (arith, one_more drove turned, d.few));
   bank_same = same ∙ d.bank_same;
+  table_same = table ∙ d.table_same;
 }
 
 -- all turns were made

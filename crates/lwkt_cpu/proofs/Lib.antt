@@ -3,3 +3,4 @@ pub mod SearchMoves
 pub mod RestMoves
 pub mod StopMoves
 pub mod DriveMoves
+pub mod WakeMoves

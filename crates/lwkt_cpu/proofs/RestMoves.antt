@@ -1,7 +1,7 @@
-use Rattle.std.proofs.Common.{◌≡◌, ℕ, ◌<◌, ◌≤◌, eqb, List, [], ◌++◌, length, take, drop, set, get_or, refl, ap, sym, ◌∙◌, subst, arith, inl, inr, Option, Some, None}
+use Rattle.std.proofs.Common.{◌≡◌, ℕ, ◌<◌, ◌≤◌, eqb, List, [], ◌++◌, length, take, drop, set, get_or, refl, ap, sym, ◌∙◌, subst, arith, inl, inr, Option, Some, None, true}
 use Rattle.std.specs.Prelude.{◌⊎◌, Vec, vec_len, vec_capacity, All, IsSomeAnd, IfSome, slice_get}
 use Rattle.std.specs.declared.alloc.Global.{Global}
-use Rattle.std.proofs.lemmas.Bool.{cases_lt, eqb-true, eqb-false, cases_Bool}
+use Rattle.std.proofs.lemmas.Bool.{cases_lt, eqb-true, eqb-false, cases_Bool, false≢true}
 use Rattle.std.proofs.lemmas.List.{take_at, length-set}
 use Rattle.std.proofs.lemmas.List.Elements.{All-nil}
 use Rattle.std.proofs.lemmas.Option.{slice_get-get_or, slice_get_within}
@@ -11,14 +11,19 @@ use Rattle.lwkt_base.specs.Holding.{Holding, holding_of}
 use Rattle.lwkt_core.specs.declared.events.Event.{Event}
 use Rattle.lwkt_bank.specs.declared.seats.CpuSeat.{CpuSeat}
 use Rattle.lwkt_bank.specs.Seats.{BankId, bank_of, tokens_of, holding}
-use Rattle.lwkt_hold.specs.Fronts.{IsBetween}
+use Rattle.lwkt_hold.specs.Fronts.{IsBetween, IsFront}
 use Rattle.lwkt_hold.specs.Runs.{Ran}
 use Rattle.lwkt_hold.proofs.RunMoves.{ran_then, ran_weaker, ran_with_room}
-use Rattle.lwkt_cpu.specs.declared.phases.Phase.TheVariants.{Live}
+use Rattle.lwkt_base.specs.declared.faults.Fault.TheVariants.{Worn as WornOut}
+use Rattle.lwkt_msg.specs.Desks.{seat_cpu, messages_of}
+use Rattle.lwkt_port.specs.Posts.{Post, IsSamePost}
+use Rattle.lwkt_cpu.specs.declared.phases.Phase.{Phase}
+use Rattle.lwkt_cpu.specs.declared.phases.Phase.TheVariants.{Live, AwaitsReply, Faulted}
 use Rattle.lwkt_cpu.specs.declared.threads.Thread.{Thread}
-use Rattle.lwkt_cpu.specs.Processors.{IsSettled, HoldsFor, IsAtRest, Processor, processor_of}
+use Rattle.lwkt_cpu.specs.Processors.{IsSettled, HoldsFor, IsAtRest, Awaits, AllAwait, Processor, processor_of, has_ended}
 use Rattle.lwkt_cpu.specs.Searches.{ComesBefore, Finds, IsOfOne}
-use Rattle.lwkt_cpu.specs.Turning.{cursor_after, Chooses, IsOfThread}
+use Rattle.lwkt_cpu.specs.Turning.{cursor_after, Chooses, IsMailed, IsOfThread}
+use Rattle.lwkt_cpu.specs.Waking.{AreWoken}
 use Rattle.lwkt_cpu.proofs.PlaceMoves.{get_set_same, get_set_other, some_same}
 use Rattle.lwkt_cpu.proofs.SearchMoves.{Keeps, searches_keeps, kept_one, is_in_or_not, front_of_one}
 
@@ -92,11 +97,31 @@ held_after : (a b : CpuSeat) (olds news : List Thread) (cursor : ℕ) (found : O
 held_after a b olds news cursor (Some place) f = f.1
 held_after a b olds news cursor None f = f.0
 
+-- a thread that has ended waits for nothing
+pub ended_awaits : (n : ℕ) (t : Thread) (p : Phase) → has_ended p ≡ true → t.phase ≡ p → Awaits n t
+ended_awaits n t p over is = λ msg waits. absurd (false≢true (ap has_ended (sym waits ∙ is) ∙ over))
+
+-- a thread that can run waits for nothing
+pub live_awaits : (n : ℕ) (t : Thread) → t.phase ≡ Live → Awaits n t
+live_awaits n t is = λ msg waits. let e : ◌≡◌ {A = Phase} Live (AwaitsReply msg) = sym is ∙ waits in cc
+
+kept_awaits : (n : ℕ) (olds news : List Thread) → Keeps olds news → AllAwait n olds → AllAwait n news
+kept_awaits n olds news keeps all = λ k t at.
+    let x = keeps k t at in
+    let F : Thread → Type 0 = λ y. Awaits n y in
+    elim x.1.1 [
+      | inl still ↦ subst F (sym still) (all k x.0 x.1.0)
+      | inr ended ↦ ended_awaits n t (Faulted WornOut) refl (ap (λ (y : Thread). y.phase) ended)
+    ]
+
 -- a processor after a search is at rest
-pub rest_found : {B : Type 0} (a b : CpuSeat) (bodies : List B) (olds news : List Thread) (running : Option ℕ) (cursor next : ℕ) (found : Option ℕ) → IsAtRest (processor_of a bodies olds running cursor) → bank_of b ≡ bank_of a → Finds a b olds news cursor found → next ≡ cursor_after cursor found → IsAtRest (processor_of b bodies news found next)
-rest_found a b bodies olds news running cursor next found rest same f is = record {
+pub rest_found : {B : Type 0} (a b : CpuSeat) (post : Post) (bodies : List B) (olds news : List Thread) (running : Option ℕ) (cursor next : ℕ) (found : Option ℕ) → IsAtRest (processor_of a post bodies olds running cursor) → bank_of b ≡ bank_of a → b.cpu ≡ a.cpu → Finds a b olds news cursor found → next ≡ cursor_after cursor found → IsAtRest (processor_of b post bodies news found next)
+rest_found a b post bodies olds news running cursor next found rest same cpu f is = record {
   few = omega (arith, rest.few, finds_many a b olds news cursor found f);
   as_many = rest.as_many ∙ sym (finds_many a b olds news cursor found f);
+  mine = rest.mine ∙ sym cpu;
+  ported = rest.ported ∙ sym (finds_many a b olds news cursor found f);
+  awaits = kept_awaits (messages_of post.seat) olds news (finds_keeps a b olds news cursor found f) rest.awaits;
   within = omega (arith, is, within_after a b olds news cursor found rest.within f);
   settled = kept_settled a b olds news same (finds_keeps a b olds news cursor found f) rest.settled;
   held = held_after a b olds news cursor found f;
@@ -122,6 +147,15 @@ up_there s threads running place t is held at =
     let G : Option Thread → Type 0 = λ o. IsSomeAnd o (λ x. (x.phase ≡ Live) × (holding s ≡ holding_of x.list)) in
     subst G at (subst F is held)
 
+pub set_awaits : (n : ℕ) (threads : List Thread) (place : ℕ) (now : Thread) → place < length threads → Awaits n now → AllAwait n threads → AllAwait n (set threads place now)
+set_awaits n threads place now within here all = λ k t at. elim (cases_Bool (eqb k place)) [
+  | inl is ↦
+      let F : Thread → Type 0 = λ x. Awaits n x in
+      let G : ℕ → Type 0 = λ i. slice_get (set threads place now) i ≡ Some t in
+      subst F (some_same now t (slice_get (set threads place now) place) (get_set_same threads place now within) (subst G (eqb-true k place is) at)) here
+  | inr away ↦ all k t (sym (get_set_other threads place k now (eqb-false k place away)) ∙ at)
+]
+
 -- a processor one of whose threads was polled is at rest
 pub set_settled : (a b : CpuSeat) (threads : List Thread) (place : ℕ) (now : Thread) → place < length threads → bank_of b ≡ bank_of a → IsSettled b now → ((k : ℕ) (t : Thread) → slice_get threads k ≡ Some t → IsSettled a t) → (k : ℕ) (t : Thread) → slice_get (set threads place now) k ≡ Some t → IsSettled b t
 set_settled a b threads place now within same here settled k t at = elim (cases_Bool (eqb k place)) [
@@ -132,27 +166,30 @@ set_settled a b threads place now within same here settled k t at = elim (cases_
   | inr away ↦ settled_later a b t same (settled k t (sym (get_set_other threads place k now (eqb-false k place away)) ∙ at))
 ]
 
-pub rest_polled : {B : Type 0} (a b : CpuSeat) (bodies : List B) (threads : List Thread) (running next : Option ℕ) (cursor place : ℕ) (body : B) (now : Thread) → IsAtRest (processor_of a bodies threads running cursor) → place < length threads → bank_of b ≡ bank_of a → IsSettled b now → HoldsFor b (set threads place now) next → IsAtRest (processor_of b (set bodies place body) (set threads place now) next cursor)
-rest_polled a b bodies threads running next cursor place body now rest within same here held = record {
+pub rest_polled : {B : Type 0} (a b : CpuSeat) (p q : Post) (bodies : List B) (threads : List Thread) (running next : Option ℕ) (cursor place : ℕ) (body : B) (now : Thread) → IsAtRest (processor_of a p bodies threads running cursor) → place < length threads → bank_of b ≡ bank_of a → b.cpu ≡ a.cpu → IsSamePost p q → Awaits (messages_of q.seat) now → IsSettled b now → HoldsFor b (set threads place now) next → IsAtRest (processor_of b q (set bodies place body) (set threads place now) next cursor)
+rest_polled a b p q bodies threads running next cursor place body now rest within same cpu posts waits here held = record {
   few = omega (arith, rest.few, length-set threads place now);
   as_many = length-set bodies place body ∙ rest.as_many ∙ sym (length-set threads place now);
+  mine = ap seat_cpu posts.seat.kind ∙ rest.mine ∙ sym cpu;
+  ported = posts.threads ∙ rest.ported ∙ sym (length-set threads place now);
+  awaits = set_awaits (messages_of q.seat) threads place now within waits (let F : ℕ → Type 0 = λ n. AllAwait n threads in subst F (sym (ap length posts.seat.specs)) rest.awaits);
   within = omega (arith, rest.within, length-set threads place now);
   settled = set_settled a b threads place now within same here rest.settled;
   held = held;
 }
 
 -- the fronts of one thread's list, before and after its ask
-pub ran_polled : (a b : CpuSeat) (t u : Vec Event Global) (threads : List Thread) (place : ℕ) (before now : Thread) → slice_get threads place ≡ Some before → place < length threads → Ran (IsBetween before.list now.list) 162 a b t u → Ran (IsOfThread threads (set threads place now)) 162 a b t u
+pub ran_polled : (a b : CpuSeat) (t u : Vec Event Global) (threads : List Thread) (place : ℕ) (before now : Thread) → slice_get threads place ≡ Some before → place < length threads → Ran (IsBetween before.list now.list) 288 a b t u → Ran (IsOfThread threads (set threads place now)) 288 a b t u
 ran_polled a b t u threads place before now at within ran =
-    ran_weaker (IsBetween before.list now.list) (IsOfThread threads (set threads place now)) 162 162 a b t u
-    (λ h p. elim p [ inl front ↦ inl (front_of_one threads place before h at front) | inr front ↦ inr (front_of_one (set threads place now) place now h (get_set_same threads place now within) front) ])
+    ran_weaker (IsBetween before.list now.list) (IsOfThread threads (set threads place now)) 288 288 a b t u
+    (λ h p. elim p [ inl front ↦ inr (inl (front_of_one threads place before h at front)) | inr front ↦ inr (inr (front_of_one (set threads place now) place now h (get_set_same threads place now within) front)) ])
     (omega arith) ran
 
 -- a run over the threads and the seat of an equal processor
-pub ran_over : (olds threads news : List Thread) (s a b : CpuSeat) (t u : Vec Event Global) → olds ≡ threads → s ≡ a → Ran (IsOfThread olds news) 162 s b t u → Ran (IsOfThread threads news) 162 a b t u
+pub ran_over : (olds threads news : List Thread) (s a b : CpuSeat) (t u : Vec Event Global) → olds ≡ threads → s ≡ a → Ran (IsOfThread olds news) 288 s b t u → Ran (IsOfThread threads news) 288 a b t u
 ran_over olds threads news s a b t u same here ran =
-    let F : List Thread → Type 0 = λ xs. Ran (IsOfThread xs news) 162 s b t u in
-    let G : CpuSeat → Type 0 = λ x. Ran (IsOfThread threads news) 162 x b t u in
+    let F : List Thread → Type 0 = λ xs. Ran (IsOfThread xs news) 288 s b t u in
+    let G : CpuSeat → Type 0 = λ x. Ran (IsOfThread threads news) 288 x b t u in
     subst G here (subst F same ran)
 
 -- a front of a list after the choice of a thread is one of a list before it
@@ -160,18 +197,35 @@ pub chosen_one : {B : Type 0} (old mid : Processor B) (t v : Vec Event Global) (
 chosen_one {B} old mid t v (Some place) found c h one = let F : List Thread → Type 0 = λ xs. IsOfOne xs h in subst F (ap (λ (p : Processor B). p.threads) c.1) one
 chosen_one old mid t v None found c h one = kept_one old.threads mid.threads h (finds_keeps old.seat mid.seat old.threads mid.threads old.cursor found c.0) one
 
--- the events of a whole turn
-pub turn_ran : {B : Type 0} (old mid new : Processor B) (t r v u : Vec Event Global) (running found : Option ℕ) → r.items ≡ t.items → vec_len r ≡ vec_len t → vec_capacity t ≤ vec_capacity r → Chooses old mid r v running found → Ran (IsOfOne old.threads) 1024 old.seat mid.seat r v → Ran (IsOfThread mid.threads new.threads) 162 mid.seat new.seat v u → Ran (IsOfThread old.threads new.threads) 4096 old.seat new.seat t u
-turn_ran old mid new t r v u running found same long wider c first second =
-    let P : Holding → Type 0 = IsOfThread old.threads new.threads in
-    ran_with_room P 4096 old.seat new.seat t r u same long wider
-    (ran_weaker P P 1186 4096 old.seat new.seat r u (λ h p. p) (omega arith)
-    (ran_then P 1024 162 old.seat mid.seat new.seat r v u
-    (ran_weaker (IsOfOne old.threads) P 1024 1024 old.seat mid.seat r v (λ h p. inl p) (omega arith) first)
-    (ran_weaker (IsOfThread mid.threads new.threads) P 162 162 mid.seat new.seat v u (λ h p. elim p [ inl one ↦ inl (chosen_one old mid r v running found c h one) | inr one ↦ inr one ]) (omega arith) second)))
+-- a front of a list after the threads were looked after is one of a list before it
+one_at : (o : Option Thread) (P : List Ref → Type 0) → IsSomeAnd o (λ t. P t.list) → (t : Thread) × ((o ≡ Some t) × P t.list)
+one_at None P is = absurd is
+one_at (Some t) P is = (t, (refl, is))
 
-pub search_ran : {B : Type 0} (old new : Processor B) (t r u : Vec Event Global) → r.items ≡ t.items → vec_len r ≡ vec_len t → vec_capacity t ≤ vec_capacity r → Ran (IsOfOne old.threads) 1024 old.seat new.seat r u → Ran (IsOfThread old.threads new.threads) 4096 old.seat new.seat t u
-search_ran old new t r u same long wider first =
+pub woken_one : (olds mids : List Thread) (h : Holding) → AreWoken olds mids → IsOfOne mids h → IsOfOne olds h
+woken_one olds mids h woken one =
+    let y = one_at (slice_get mids one.0) (λ refs. IsFront refs h) one.1 in
+    let x = woken.1 one.0 y.0 y.1.0 in
+    let F : List Ref → Type 0 = λ refs. IsFront refs h in
+    front_of_one olds one.0 x.0 h x.1.0 (subst F (elim x.1.1 [ inl still ↦ ap (λ (t : Thread). t.list) still | inr ready ↦ ready.1 ]) y.1.1)
+
+-- the events of a whole turn
+pub turn_ran : {B : Type 0} (old met mid new : Processor B) (t r w v u : Vec Event Global) (running found : Option ℕ) → r.items ≡ t.items → vec_len r ≡ vec_len t → vec_capacity t ≤ vec_capacity r → AreWoken old.threads met.threads → Chooses met mid w v running found → Ran (IsMailed old.threads) 2304 old.seat met.seat r w → Ran (IsOfOne met.threads) 1024 met.seat mid.seat w v → Ran (IsOfThread mid.threads new.threads) 288 mid.seat new.seat v u → Ran (IsOfThread old.threads new.threads) 4096 old.seat new.seat t u
+turn_ran old met mid new t r w v u running found same long wider woken c mail first second =
     let P : Holding → Type 0 = IsOfThread old.threads new.threads in
     ran_with_room P 4096 old.seat new.seat t r u same long wider
-    (ran_weaker (IsOfOne old.threads) P 1024 4096 old.seat new.seat r u (λ h p. inl p) (omega arith) first)
+    (ran_weaker P P 3616 4096 old.seat new.seat r u (λ h p. p) (omega arith)
+    (ran_then P 2304 1312 old.seat met.seat new.seat r w u
+    (ran_weaker (IsMailed old.threads) P 2304 2304 old.seat met.seat r w (λ h p. elim p [ inl none ↦ inl none | inr one ↦ inr (inl one) ]) (omega arith) mail)
+    (ran_then P 1024 288 met.seat mid.seat new.seat w v u
+    (ran_weaker (IsOfOne met.threads) P 1024 1024 met.seat mid.seat w v (λ h p. inr (inl (woken_one old.threads met.threads h woken p))) (omega arith) first)
+    (ran_weaker (IsOfThread mid.threads new.threads) P 288 288 mid.seat new.seat v u (λ h p. elim p [ inl none ↦ inl none | inr some ↦ elim some [ inl one ↦ inr (inl (woken_one old.threads met.threads h woken (chosen_one met mid w v running found c h one))) | inr one ↦ inr (inr one) ] ]) (omega arith) second))))
+
+pub search_ran : {B : Type 0} (old met new : Processor B) (t r w u : Vec Event Global) → r.items ≡ t.items → vec_len r ≡ vec_len t → vec_capacity t ≤ vec_capacity r → AreWoken old.threads met.threads → Ran (IsMailed old.threads) 2304 old.seat met.seat r w → Ran (IsOfOne met.threads) 1024 met.seat new.seat w u → Ran (IsOfThread old.threads new.threads) 4096 old.seat new.seat t u
+search_ran old met new t r w u same long wider woken mail first =
+    let P : Holding → Type 0 = IsOfThread old.threads new.threads in
+    ran_with_room P 4096 old.seat new.seat t r u same long wider
+    (ran_weaker P P 3328 4096 old.seat new.seat r u (λ h p. p) (omega arith)
+    (ran_then P 2304 1024 old.seat met.seat new.seat r w u
+    (ran_weaker (IsMailed old.threads) P 2304 2304 old.seat met.seat r w (λ h p. elim p [ inl none ↦ inl none | inr one ↦ inr (inl one) ]) (omega arith) mail)
+    (ran_weaker (IsOfOne met.threads) P 1024 1024 met.seat new.seat w u (λ h p. inr (inl (woken_one old.threads met.threads h woken p))) (omega arith) first)))

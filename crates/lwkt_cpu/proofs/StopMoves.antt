@@ -11,10 +11,11 @@ use Rattle.lwkt_bank.specs.declared.seats.CpuSeat.{CpuSeat}
 use Rattle.lwkt_bank.specs.Seats.{bank_of, holding}
 use Rattle.lwkt_hold.specs.declared.answers.Blocked.{Blocked}
 use Rattle.lwkt_hold.specs.declared.answers.Blocked.TheVariants.{Clean, Restored}
-use Rattle.lwkt_hold.specs.Fronts.{IsBetween}
+use Rattle.lwkt_hold.specs.Fronts.{IsFront}
 use Rattle.lwkt_hold.specs.Runs.{Ran}
 use Rattle.lwkt_hold.proofs.RunMoves.{ran_weaker}
-use Rattle.lwkt_hold.proofs.ReadMoves.{front_none}
+use Rattle.lwkt_msg.specs.Desks.{messages_of}
+use Rattle.lwkt_port.specs.Posts.{Post}
 use Rattle.lwkt_ask.specs.declared.nexts.Next.{Next}
 use Rattle.lwkt_ask.specs.declared.nexts.Next.TheVariants.{Exits}
 use Rattle.lwkt_ask.specs.Nexts.{kept_list, HoldsAfter, unless_broken}
@@ -27,7 +28,7 @@ use Rattle.lwkt_cpu.specs.Polling.{became}
 use Rattle.lwkt_cpu.specs.Stopping.{stopped, AreStopped}
 use Rattle.lwkt_cpu.proofs.PlaceMoves.{get_set_same, get_set_other, some_same}
 use Rattle.lwkt_cpu.proofs.SearchMoves.{front_of_one}
-use Rattle.lwkt_cpu.proofs.RestMoves.{settled_none, set_settled}
+use Rattle.lwkt_cpu.proofs.RestMoves.{settled_none, set_settled, ended_awaits, set_awaits}
 
 -- the threads below a number were stopped, and the others not yet
 abbrev pub AreStoppedBelow : ℕ → List Thread → List Thread → Type 0
@@ -85,10 +86,13 @@ long_stopped [] (t ∷ news) all = let e : Some t ≡ None = all 0 in cc
 long_stopped (t ∷ olds) [] all = let e : None ≡ Some (stopped t) = all 0 in cc
 long_stopped (t ∷ olds) (u ∷ news) all = ap (λ n. suc n) (long_stopped olds news (λ k. all (suc k)))
 
-pub rest_stopped : {B : Type 0} (s : CpuSeat) (bodies : List B) (olds news : List Thread) (running : Option ℕ) (cursor : ℕ) → running ≡ None → AreStopped olds news → IsAtRest (processor_of s bodies olds running cursor) → IsAtRest (processor_of s bodies news running cursor)
-rest_stopped s bodies olds news running cursor none all rest = record {
+pub rest_stopped : {B : Type 0} (s : CpuSeat) (post : Post) (bodies : List B) (olds news : List Thread) (running : Option ℕ) (cursor : ℕ) → running ≡ None → AreStopped olds news → IsAtRest (processor_of s post bodies olds running cursor) → IsAtRest (processor_of s post bodies news running cursor)
+rest_stopped s post bodies olds news running cursor none all rest = record {
   few = omega (arith, rest.few, long_stopped olds news all);
   as_many = rest.as_many ∙ sym (long_stopped olds news all);
+  mine = rest.mine;
+  ported = rest.ported ∙ sym (long_stopped olds news all);
+  awaits = λ k t at. ended_awaits (messages_of post.seat) t t.phase (over_stopped olds news all k t at) refl;
   within = omega (arith, rest.within, long_stopped olds news all);
   settled = λ k t at.
       let x = from_map (slice_get olds k) t (sym (all k) ∙ at) in
@@ -106,6 +110,10 @@ pub exit_empty : (next : Next) (blocked : Blocked) (h : Holding) (refs : List Re
 exit_empty next Clean h refs is held = let F : Next → Type 0 = λ n. HoldsAfter n h refs in subst F is held
 exit_empty next (Restored tok) h refs is held = let F : Next → Type 0 = λ n. HoldsAfter n h refs in subst F is held
 
+pub became_over : (t : Thread) (next : Next) (blocked : Blocked) → next ≡ unless_broken Exits blocked → has_ended (became t next).phase ≡ true
+became_over t next Clean is = ap (λ n. has_ended (became t n).phase) is
+became_over t next (Restored tok) is = ap (λ n. has_ended (became t n).phase) is
+
 pub became_empty : (t : Thread) (next : Next) (blocked : Blocked) → next ≡ unless_broken Exits blocked → (became t next).list ≡ []
 became_empty t next Clean is = ap (λ n. (became t n).list) is
 became_empty t next (Restored tok) is = ap (λ n. (became t n).list) is
@@ -114,21 +122,20 @@ kept_empty : (next : Next) (blocked : Blocked) (refs : List Ref) → next ≡ un
 kept_empty next Clean refs is = ap (λ n. kept_list n refs) is
 kept_empty next (Restored tok) refs is = ap (λ n. kept_list n refs) is
 
-pub rest_halted : {B : Type 0} (a b : CpuSeat) (bodies : List B) (threads : List Thread) (running : Option ℕ) (cursor place : ℕ) (now : Thread) → IsAtRest (processor_of a bodies threads running cursor) → place < length threads → bank_of b ≡ bank_of a → now.list ≡ [] → holding b ≡ holds_nothing → IsAtRest (processor_of b bodies (set threads place now) None cursor)
-rest_halted a b bodies threads running cursor place now rest within same none empty = record {
+pub rest_halted : {B : Type 0} (a b : CpuSeat) (post : Post) (bodies : List B) (threads : List Thread) (running : Option ℕ) (cursor place : ℕ) (now : Thread) → IsAtRest (processor_of a post bodies threads running cursor) → place < length threads → bank_of b ≡ bank_of a → b.cpu ≡ a.cpu → has_ended now.phase ≡ true → now.list ≡ [] → holding b ≡ holds_nothing → IsAtRest (processor_of b post bodies (set threads place now) None cursor)
+rest_halted a b post bodies threads running cursor place now rest within same cpu over none empty = record {
   few = omega (arith, rest.few, length-set threads place now);
   as_many = rest.as_many ∙ sym (length-set threads place now);
+  mine = rest.mine ∙ sym cpu;
+  ported = rest.ported ∙ sym (length-set threads place now);
+  awaits = set_awaits (messages_of post.seat) threads place now within (ended_awaits (messages_of post.seat) now now.phase over refl) rest.awaits;
   within = omega (arith, rest.within, length-set threads place now);
   settled = set_settled a b threads place now within same (settled_none b now none) rest.settled;
   held = empty;
 }
 
-pub ran_halted : (a b : CpuSeat) (t u : Vec Event Global) (threads : List Thread) (place : ℕ) (before : Thread) (next : Next) (blocked : Blocked) (list : List Ref) → slice_get threads place ≡ Some before → next ≡ unless_broken Exits blocked → Ran (IsBetween before.list (kept_list next list)) 162 a b t u → Ran (IsOfOne threads) 162 a b t u
-ran_halted a b t u threads place before next blocked list at is ran =
-    let F : List Ref → Type 0 = λ xs. Ran (IsBetween before.list xs) 162 a b t u in
-    ran_weaker (IsBetween before.list []) (IsOfOne threads) 162 162 a b t u
-    (λ h p. elim p [ inl front ↦ front_of_one threads place before h at front | inr front ↦ front_of_one threads place before h at (front_none before.list h front) ])
-    (omega arith) (subst F (kept_empty next blocked list is) ran)
+pub ran_halted : (a b : CpuSeat) (t u : Vec Event Global) (threads : List Thread) (place : ℕ) (before : Thread) → slice_get threads place ≡ Some before → Ran (IsFront before.list) 160 a b t u → Ran (IsOfOne threads) 162 a b t u
+ran_halted a b t u threads place before at ran = ran_weaker (IsFront before.list) (IsOfOne threads) 160 162 a b t u (λ h front. front_of_one threads place before h at front) (omega arith) ran
 
 -- where every thread has ended nothing is held
 live_ended : (p : Phase) → p ≡ Live → has_ended p ≡ true → ⊥

@@ -1,4 +1,4 @@
-use Rattle.std.specs.Prelude.{◌≡◌, Bool, true, false, List, Vec}
+use Rattle.std.specs.Prelude.{◌≡◌, Bool, true, false, List, Vec, ℕ}
 use Rattle.std.specs.declared.alloc.Global.{Global}
 use Rattle.lwkt_base.specs.declared.names.Ref.{Ref}
 use Rattle.lwkt_base.specs.declared.asks.Ask.{Ask}
@@ -6,10 +6,11 @@ use Rattle.lwkt_base.specs.declared.asks.Answer.{Answer}
 use Rattle.lwkt_core.specs.declared.events.Event.{Event}
 use Rattle.lwkt_bank.specs.declared.seats.CpuSeat.{CpuSeat}
 use Rattle.lwkt_bank.specs.Seats.{BankId}
+use Rattle.lwkt_port.specs.Posts.{Post}
 use Rattle.lwkt_ask.specs.declared.nexts.Next.{Next}
-use Rattle.lwkt_ask.specs.declared.nexts.Next.TheVariants.{Runs, Readies, AwaitsItem, Exits, Faults}
+use Rattle.lwkt_ask.specs.declared.nexts.Next.TheVariants.{Runs, Readies, AwaitsItem, AwaitsReply, Exits, Faults}
 use Rattle.lwkt_ask.specs.Table.{Performs}
-use Rattle.lwkt_cpu.specs.declared.phases.Phase.TheVariants.{AwaitsItem as Awaits, Exited, Faulted}
+use Rattle.lwkt_cpu.specs.declared.phases.Phase.TheVariants.{AwaitsItem as Awaits, AwaitsReply as AwaitsFor, Exited, Faulted}
 use Rattle.lwkt_cpu.specs.declared.threads.Thread.{Thread}
 use Rattle.lwkt_cpu.specs.Searches.{ended_by}
 
@@ -18,6 +19,7 @@ abbrev pub became : Thread → Next → Thread
 became t (Runs answer) = record t { last = answer }
 became t (Readies answer) = record t { last = answer }
 became t AwaitsItem = record t { phase = Awaits }
+became t (AwaitsReply msg) = record t { phase = AwaitsFor msg }
 became t Exits = ended_by Exited t
 became t (Faults fault) = ended_by (Faulted fault) t
 
@@ -25,16 +27,17 @@ abbrev pub goes_on : Next → Bool
 goes_on (Runs answer) = true
 goes_on (Readies answer) = false
 goes_on AwaitsItem = false
+goes_on (AwaitsReply msg) = false
 goes_on Exits = false
 goes_on (Faults fault) = false
 
 -- a thread's body is polled once, with the answer kept for the thread, and its ask is performed; the answer to it is kept for the
 -- thread's next poll
-pub record Polls {B : Type 0} (polled : B → Answer → Ask → B → Type 0) (bank : BankId) (a b : CpuSeat) (body next_body : B) (old new : Thread) (t u : Vec Event Global) (runs : Bool) : Type 0 where
+pub record Polls {B : Type 0} (polled : B → Answer → Ask → B → Type 0) (bank : BankId) (number : ℕ) (a b : CpuSeat) (p q : Post) (body next_body : B) (old new : Thread) (t u : Vec Event Global) (runs : Bool) : Type 0 where
   pub ask : Ask
   pub next : Next
   pub list : List Ref
   pub polled_once : polled body old.last ask next_body
-  pub performs : Performs bank a b old.list list t u ask next
+  pub performs : Performs bank number a b p q old.list list t u ask next
   pub becomes : new ≡ became (record old { list = list }) next
   pub runs_on : runs ≡ goes_on next

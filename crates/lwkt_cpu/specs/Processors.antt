@@ -5,14 +5,18 @@ use Rattle.lwkt_base.specs.Refs.{IsLawful}
 use Rattle.lwkt_base.specs.Holding.{holding_of, holds_nothing}
 use Rattle.lwkt_bank.specs.declared.seats.CpuSeat.{CpuSeat}
 use Rattle.lwkt_bank.specs.Seats.{bank_of, tokens_of, holding}
+use Rattle.lwkt_base.specs.declared.names.MsgId.{MsgId}
+use Rattle.lwkt_msg.specs.Desks.{cpu_of, messages_of}
+use Rattle.lwkt_port.specs.Posts.{Post}
 use Rattle.lwkt_cpu.specs.declared.phases.Phase.{Phase}
-use Rattle.lwkt_cpu.specs.declared.phases.Phase.TheVariants.{Live, AwaitsItem, Exited, Faulted}
+use Rattle.lwkt_cpu.specs.declared.phases.Phase.TheVariants.{Live, AwaitsItem, AwaitsReply, Exited, Faulted}
 use Rattle.lwkt_cpu.specs.declared.threads.Thread.{Thread}
 
--- a processor: its seat, the bodies and the threads by number, the one that runs if any does, and where the search for the next
+-- a processor: its seat, its ports, the bodies and the threads by number, the one that runs if any does, and where the search for the next
 -- begins
 pub record Processor (B : Type 0) : Type 0 where
   pub seat : CpuSeat
+  pub post : Post
   pub bodies : List B
   pub threads : List Thread
   pub running : Option ℕ
@@ -22,6 +26,7 @@ pub record Processor (B : Type 0) : Type 0 where
 abbrev pub has_ended : Phase → Bool
 has_ended Live = false
 has_ended AwaitsItem = false
+has_ended (AwaitsReply msg) = false
 has_ended Exited = true
 has_ended (Faulted fault) = true
 
@@ -29,6 +34,7 @@ has_ended (Faulted fault) = true
 abbrev pub state_of : Bool → Phase → ThreadState
 state_of runs Live = if runs then Running else Ready
 state_of runs AwaitsItem = Waiting
+state_of runs (AwaitsReply msg) = Waiting
 state_of runs Exited = HasExited
 state_of runs (Faulted fault) = WasFaulted fault
 
@@ -47,11 +53,21 @@ abbrev pub HoldsFor : CpuSeat → List Thread → Option ℕ → Type 0
 HoldsFor s threads None = holding s ≡ holds_nothing
 HoldsFor s threads (Some k) = IsSomeAnd (slice_get threads k) (λ t. (t.phase ≡ Live) × (holding s ≡ holding_of t.list))
 
+-- a thread that waits for a reply waits for that to a message that is there
+abbrev pub Awaits : ℕ → Thread → Type 0
+Awaits messages t = (msg : MsgId) → t.phase ≡ AwaitsReply msg → msg.0 < messages
+
+abbrev pub AllAwait : ℕ → List Thread → Type 0
+AllAwait messages threads = (k : ℕ) (t : Thread) → slice_get threads k ≡ Some t → Awaits messages t
+
 -- a processor between two turns (own): at most one thread runs, every list is lawful, and the holding is that of the running
 -- thread's list, or nothing
 pub record IsAtRest {B : Type 0} (p : Processor B) : Type 0 where
   pub few : length p.threads ≤ 16
   pub as_many : length p.bodies ≡ length p.threads
+  pub mine : cpu_of p.post.seat ≡ p.seat.cpu
+  pub ported : p.post.threads ≡ length p.threads
+  pub awaits : AllAwait (messages_of p.post.seat) p.threads
   pub within : p.cursor ≤ length p.threads
   pub settled : (k : ℕ) (t : Thread) → slice_get p.threads k ≡ Some t → IsSettled p.seat t
   pub held : HoldsFor p.seat p.threads p.running
@@ -64,5 +80,5 @@ AllOver threads = (k : ℕ) (t : Thread) → slice_get threads k ≡ Some t → 
 abbrev pub AreThere : CpuSeat → List Thread → Type 0
 AreThere s threads = (k : ℕ) (t : Thread) → slice_get threads k ≡ Some t → All (λ r. r.tok.0 < tokens_of (bank_of s)) t.list
 
-abbrev pub processor_of : {B : Type 0} → CpuSeat → List B → List Thread → Option ℕ → ℕ → Processor B
-processor_of seat bodies threads running cursor = record { seat = seat; bodies = bodies; threads = threads; running = running; cursor = cursor }
+abbrev pub processor_of : {B : Type 0} → CpuSeat → Post → List B → List Thread → Option ℕ → ℕ → Processor B
+processor_of seat post bodies threads running cursor = record { seat = seat; post = post; bodies = bodies; threads = threads; running = running; cursor = cursor }

@@ -1,13 +1,15 @@
 use Rattle.std.specs.Prelude.{◌≡◌, ℕ, ◌≤◌, List, replicate, length, IsSomeAnd, Option, Some, None, slice_get}
 use Rattle.lwkt_base.specs.Refs.{IsLawful}
 use Rattle.lwkt_bank.specs.declared.seats.CpuSeat.{CpuSeat}
+use Rattle.lwkt_port.specs.Posts.{Post}
 use Rattle.lwkt_cpu.specs.declared.answers.Status.{Status}
 use Rattle.lwkt_cpu.specs.Fresh.{fresh}
 use Rattle.lwkt_cpu.specs.Processors.{Processor, state_of, is_running}
 
 -- a processor over a seat, with these bodies and a thread for each, none of which runs
-pub record IsNew {B : Type 0} (seat : CpuSeat) (bodies : List B) (p : Processor B) : Type 0 where
+pub record IsNew {B : Type 0} (seat : CpuSeat) (post : Post) (bodies : List B) (p : Processor B) : Type 0 where
   pub seat_is : p.seat ≡ seat
+  pub post_is : p.post ≡ post
   pub bodies_are : p.bodies ≡ bodies
   pub threads_are : p.threads ≡ replicate (length bodies) fresh
   pub none_runs : p.running ≡ None

@@ -27,6 +27,7 @@ pub record Halts {B : Type 0} (old new : Processor B) (t u : Vec Event Global) (
   pub at_before : slice_get old.threads place ≡ Some before
   pub gives_up : GivesUp old.seat new.seat before.list (length before.list) t u Exits next
   pub threads : new.threads ≡ slice_set old.threads place (became before next)
+  pub post : new.post ≡ old.post
   pub bodies : new.bodies ≡ old.bodies
   pub running : new.running ≡ None
 
@@ -42,6 +43,7 @@ pub record Stops {B : Type 0} (old new : Processor B) (t u : Vec Event Global) :
   pub mid : Processor B
   pub halts : HaltsRunning old mid room u old.running
   pub seat : new.seat ≡ mid.seat
+  pub post : new.post ≡ old.post
   pub bodies : new.bodies ≡ old.bodies
   pub threads : AreStopped mid.threads new.threads
   pub over : AllOver new.threads

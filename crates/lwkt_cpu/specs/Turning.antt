@@ -2,7 +2,7 @@ use Rattle.std.specs.Prelude.{◌≡◌, ◌⊎◌, ℕ, ◌+◌, Bool, if◌the
 use Rattle.std.specs.declared.alloc.Global.{Global}
 use Rattle.lwkt_base.specs.declared.asks.Ask.{Ask}
 use Rattle.lwkt_base.specs.declared.asks.Answer.{Answer}
-use Rattle.lwkt_base.specs.Holding.{Holding, holding_of}
+use Rattle.lwkt_base.specs.Holding.{Holding, holding_of, holds_nothing}
 use Rattle.lwkt_core.specs.declared.events.Event.{Event}
 use Rattle.lwkt_bank.specs.Seats.{BankId, holding}
 use Rattle.lwkt_hold.specs.Runs.{Ran as Runs}
@@ -13,6 +13,7 @@ use Rattle.lwkt_cpu.specs.declared.threads.Thread.{Thread}
 use Rattle.lwkt_cpu.specs.Processors.{Processor, AllOver}
 use Rattle.lwkt_cpu.specs.Searches.{Finds, IsOfOne}
 use Rattle.lwkt_cpu.specs.Polling.{Polls}
+use Rattle.lwkt_cpu.specs.Waking.{TakesMail}
 
 -- where the next search begins: past the thread that was found
 abbrev pub cursor_after : ℕ → Option ℕ → ℕ
@@ -22,7 +23,7 @@ cursor_after cursor (Some place) = place + 1
 -- the thread of a turn, by the one that runs: it goes on, and nothing was done; or the one that a search finds runs
 abbrev pub Chooses : {B : Type 0} → Processor B → Processor B → Vec Event Global → Vec Event Global → Option ℕ → Option ℕ → Type 0
 Chooses old new t u (Some place) found = (found ≡ Some place) × (new ≡ old) × (u ≡ t)
-Chooses old new t u None found = Finds old.seat new.seat old.threads new.threads old.cursor found × (new.bodies ≡ old.bodies) × (new.running ≡ found) × (new.cursor ≡ cursor_after old.cursor found)
+Chooses old new t u None found = Finds old.seat new.seat old.threads new.threads old.cursor found × (new.post ≡ old.post) × (new.bodies ≡ old.bodies) × (new.running ≡ found) × (new.cursor ≡ cursor_after old.cursor found)
 
 -- the thread of this number can run and its list is held; its body is polled and its ask performed, and no other thread or body
 -- changes; it goes on running or not
@@ -36,7 +37,7 @@ pub record RunsOne {B : Type 0} (polled : B → Answer → Ask → B → Type 0)
   pub at_body : slice_get old.bodies place ≡ Some body
   pub live : before.phase ≡ Live
   pub held : holding old.seat ≡ holding_of before.list
-  pub polls : Polls polled bank old.seat new.seat body next_body before now t u runs
+  pub polls : Polls polled bank place old.seat new.seat old.post new.post body next_body before now t u runs
   pub threads : new.threads ≡ slice_set old.threads place now
   pub bodies : new.bodies ≡ slice_set old.bodies place next_body
   pub running : new.running ≡ (if runs then Some place else None)
@@ -48,14 +49,21 @@ Turns {B} polled bank old new t u (Ran place) = (mid : Processor B) × ((v : Vec
 Turns polled bank old new t u Idle = Chooses old new t u old.running None × ¬ AllOver new.threads
 Turns polled bank old new t u AllExited = Chooses old new t u old.running None × AllOver new.threads
 
--- a holding is that of a front of some thread's list, as the lists stood at the beginning or stand at the end
-abbrev pub IsOfThread : List Thread → List Thread → Holding → Type 0
-IsOfThread olds news h = IsOfOne olds h ⊎ IsOfOne news h
+-- a holding is nothing, or that of a front of some thread's list
+abbrev pub IsMailed : List Thread → Holding → Type 0
+IsMailed threads h = (h ≡ holds_nothing) ⊎ IsOfOne threads h
 
--- a whole turn: the trace is given room for 4,096 events, and then the turn is made; each event is one of the seat's steps, and
+-- a holding is nothing, or that of a front of some thread's list, as the lists stood at the beginning or stand at the end
+abbrev pub IsOfThread : List Thread → List Thread → Holding → Type 0
+IsOfThread olds news h = (h ≡ holds_nothing) ⊎ IsOfOne olds h ⊎ IsOfOne news h
+
+-- a whole turn: the trace is given room for 4,096 events, mail is taken in, and then the turn is made; each event is one of the seat's steps, and
 -- after it the seat holds what a front of one thread's list holds
 pub record MakesTurn {B : Type 0} (polled : B → Answer → Ask → B → Type 0) (bank : BankId) (old new : Processor B) (t u : Vec Event Global) (turned : Turned) : Type 0 where
   pub room : Vec Event Global
   pub same : room.items ≡ t.items
-  pub turns : Turns polled bank old new room u turned
+  pub mid : Processor B
+  pub v : Vec Event Global
+  pub mail : TakesMail old mid room v
+  pub turns : Turns polled bank mid new v u turned
   pub ran : Runs (IsOfThread old.threads new.threads) 4096 old.seat new.seat t u

@@ -1,8 +1,9 @@
 //! A processor: its seat under a hold, and its threads.
-ghost use Rattle.std.specs.Prelude.{◌≡◌, ◌⊎◌, ◌<◌, ◌≤◌, Bool, List, [], length, replicate, IfOk, IfSome, IsSomeAnd, OnErr, Err, Some, None, option_map, slice_get, vec_len};
+ghost use Rattle.std.specs.Prelude.{◌≡◌, ◌≢◌, ◌⊎◌, ◌<◌, ◌≤◌, true, false, Bool, List, [], length, replicate, IfOk, IfSome, IsSomeAnd, OnErr, Err, Some, None, option_map, slice_get, vec_len};
 ghost use Rattle.lwkt_base.specs.Holding.{holds_nothing};
 ghost use Rattle.lwkt_base.specs.Refs.{IsLawful};
 ghost use Rattle.lwkt_bank.specs.Seats.{holding};
+ghost use Rattle.lwkt_msg.specs.Desks.{cpu_of};
 ghost use Rattle.lwkt_cpu.specs.Fresh.{fresh};
 
 use crate::answers::Status;
@@ -11,6 +12,7 @@ use crate::threads::Thread;
 use lwkt_bank::CpuSeat;
 use lwkt_base::{Answer, CpuId, Fault, ThreadState, TokList};
 use lwkt_hold::Hold;
+use lwkt_port::Ports;
 use std::alloc::Global;
 use std::marker::Model;
 
@@ -22,6 +24,7 @@ pub const THREAD_LIMIT: usize = 16;
 #[derive(Drop)]
 pub struct Cpu<B> {
     pub(crate) hold: Hold,
+    pub(crate) ports: Ports,
     pub(crate) bodies: Vec<B>,
     pub(crate) threads: Vec<Thread>,
     pub(crate) running: Option<usize>,
@@ -34,9 +37,9 @@ impl<B> Model for Cpu<B> {
 
     ghost Value = { Processor B };
 
-    ghost view = { λ c. processor_of (seat_of c.hold) c.bodies.items c.threads.items c.running c.cursor };
+    ghost view = { λ c. processor_of (seat_of c.hold) c.ports c.bodies.items c.threads.items c.running c.cursor };
 
-    ghost invariant = { λ c. IsAtRest (processor_of (seat_of c.hold) c.bodies.items c.threads.items c.running c.cursor) };
+    ghost invariant = { λ c. IsAtRest (processor_of (seat_of c.hold) c.ports c.bodies.items c.threads.items c.running c.cursor) };
 }
 
 // So many threads, each ready and never polled.
@@ -56,6 +59,17 @@ fn fresh_threads(alloc: Global, count: usize) -> Result<Vec<Thread>, Fault>
     Ok(threads)
 }
 
+// Whether there are at most so many bodies as a processor may have threads, and as many as the ports have.
+fn fits(ports: &Ports, count: usize) -> bool
+    ensures yes { result ≡ true → (count ≤ 16) × (ports.now.threads ≡ count) }
+    ensures no { result ≡ false → (16 < count) ⊎ (ports.now.threads ≢ count) }
+{
+    if count > THREAD_LIMIT {
+        return false;
+    }
+    ports.threads() == count
+}
+
 impl<B> Cpu<B> {
     ghost use Rattle.lwkt_cpu.specs.Processors.{IsAtRest};
     ghost use Rattle.lwkt_cpu.specs.Shown.{IsNew, ShowsThread};
@@ -64,22 +78,30 @@ impl<B> Cpu<B> {
     /// the caller's conditions.
     ///
     /// Refused with `Memory`, or with `Limits` if there are more than 16 bodies.
-    pub fn new(alloc: Global, id: CpuId, seat: CpuSeat, bodies: Vec<B>) -> Result<Self, Fault>
+    pub fn new(
+        alloc: Global,
+        id: CpuId,
+        seat: CpuSeat,
+        ports: Ports,
+        bodies: Vec<B>,
+    ) -> Result<Self, Fault>
     where
         B: Drop,
         requires mine { seat.cpu ≡ id }
+        requires ports { cpu_of ports.seat ≡ id }
         requires empty { holding seat ≡ holds_nothing }
-        ensures ok { IfOk result (λ cpu. IsNew seat bodies.items cpu) }
-        ensures only { OnErr result ((result ≡ Err Fault.Memory) ⊎ ((result ≡ Err Fault.Limits) × (16 < vec_len bodies))) }
+        ensures ok { IfOk result (λ cpu. IsNew seat ports bodies.items cpu) }
+        ensures only { OnErr result ((result ≡ Err Fault.Memory) ⊎ ((result ≡ Err Fault.Limits) × ((16 < vec_len bodies) ⊎ (ports.threads ≢ vec_len bodies)))) }
     {
         let _ = id;
         let count = bodies.len();
         let threads = fresh_threads(alloc, count)?;
-        if count > THREAD_LIMIT {
+        if !fits(&ports, count) {
             return Err(Fault::Limits);
         }
         Ok(Cpu {
             hold: Hold::new(seat),
+            ports,
             bodies,
             threads,
             running: None,
@@ -103,7 +125,7 @@ impl<B> Cpu<B> {
         let state = match thread.phase {
             Phase::Live if self.running == Some(i) => ThreadState::Running,
             Phase::Live => ThreadState::Ready,
-            Phase::AwaitsItem => ThreadState::Waiting,
+            Phase::AwaitsItem | Phase::AwaitsReply(_) => ThreadState::Waiting,
             Phase::Exited => ThreadState::Exited,
             Phase::Faulted(fault) => ThreadState::Faulted(fault),
         };

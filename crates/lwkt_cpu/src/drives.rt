@@ -9,6 +9,8 @@ use lwkt_ask::Body;
 use lwkt_bank::Bank;
 use lwkt_base::Fault;
 use lwkt_core::Event;
+use lwkt_msg::MsgBook;
+use std::sync::Wait;
 
 // One turn more, counted by its answer.
 fn count(drove: Drove, turned: Turned) -> Drove
@@ -52,12 +54,21 @@ impl<B: Body> Cpu<B> {
     /// caller's condition.
     ///
     /// Refused with `Memory` as `turn` is; the turns made so far stand.
-    pub fn drive(&mut self, bank: &Bank, limit: u64, trace: &mut Vec<Event>) -> Result<Drove, Fault>
-        requires { bank_of self.old.seat ≡ id_of bank.now }
+    pub fn drive(
+        &mut self,
+        rt: &impl Wait,
+        bank: &Bank,
+        book: &MsgBook,
+        limit: u64,
+        trace: &mut Vec<Event>,
+    ) -> Result<Drove, Fault>
+        requires of { bank_of self.old.seat ≡ id_of bank.now }
+        requires table { self.old.post.seat.table ≡ book.now.table }
         ensures ok { IfOk result (λ drove. Drives B.polled (id_of bank.now) self.old self.new trace.old trace.new limit drove) }
         ensures err { OnErr result (DrivesShort B.polled (id_of bank.now) self.old self.new trace.old trace.new) }
         ensures only { OnErr result (result ≡ Err Fault.Memory) }
         ensures of { bank_of self.new.seat ≡ bank_of self.old.seat }
+        ensures table { self.new.post.seat.table ≡ self.old.post.seat.table }
     {
         let mut drove = Drove {
             ran: 0,
@@ -65,7 +76,7 @@ impl<B: Body> Cpu<B> {
             all_exited: false,
         };
         for made in 0..limit {
-            let turned = self.turn(bank, trace)?;
+            let turned = self.turn(rt, bank, book, trace)?;
             drove = count(drove, turned);
             if is_last(turned) {
                 return Ok(drove);

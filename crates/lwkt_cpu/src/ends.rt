@@ -34,6 +34,10 @@ pub(crate) fn go_on(thread: &mut Thread, next: Next) -> bool
             thread.phase = Phase::AwaitsItem;
             false
         }
+        Next::AwaitsReply(msg) => {
+            thread.phase = Phase::AwaitsReply(msg);
+            false
+        }
         Next::Exits => {
             end(thread, Phase::Exited);
             false

@@ -11,6 +11,7 @@ mod searches;
 pub mod stops;
 pub mod threads;
 pub mod turns;
+mod wakes;
 
 pub use answers::{Drove, Status, Turned};
 pub use cpus::Cpu;

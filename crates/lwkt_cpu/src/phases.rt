@@ -1,6 +1,6 @@
 ghost use Rattle.std.specs.Prelude.{◌≡◌};
 
-use lwkt_base::Fault;
+use lwkt_base::{Fault, MsgId};
 
 /// What a thread is doing, whether it runs or not.
 #[derive(Clone, Copy, Debug, PartialEq, Eq)]
@@ -9,6 +9,8 @@ pub enum Phase {
     Live,
     /// It waits for an item at its port.
     AwaitsItem,
+    /// It waits for the reply to this message of its own.
+    AwaitsReply(MsgId),
     /// It has ended by itself.
     Exited,
     /// It was ended by a fault.

@@ -1,12 +1,14 @@
 //! A running thread polled: once, with the answer that is kept for it.
-ghost use Rattle.std.specs.Prelude.{◌≡◌, ◌+◌, ◌≤◌, true, false, vec_len, vec_capacity};
+ghost use Rattle.std.specs.Prelude.{◌≡◌, ◌+◌, ◌<◌, ◌≤◌, true, false, vec_len, vec_capacity};
 ghost use Rattle.lwkt_base.specs.Holding.{holding_of, holds_nothing};
 ghost use Rattle.lwkt_base.specs.Refs.{IsLawful};
 ghost use Rattle.lwkt_bank.specs.Seats.{id_of, bank_of, holding};
 ghost use Rattle.lwkt_hold.specs.Holds.{seat_of};
 ghost use Rattle.lwkt_hold.specs.Fronts.{IsBetween};
 ghost use Rattle.lwkt_hold.specs.Runs.{Ran};
-ghost use Rattle.lwkt_cpu.specs.Processors.{IsSettled};
+ghost use Rattle.lwkt_cpu.specs.Processors.{IsSettled, Awaits};
+ghost use Rattle.lwkt_msg.specs.Desks.{cpu_of, messages_of};
+ghost use Rattle.lwkt_port.specs.Posts.{IsSamePost};
 ghost use Rattle.lwkt_cpu.specs.Polling.{Polls};
 
 use crate::ends::go_on;
@@ -17,6 +19,9 @@ use lwkt_bank::Bank;
 use lwkt_base::TokList;
 use lwkt_core::Event;
 use lwkt_hold::Hold;
+use lwkt_msg::MsgBook;
+use lwkt_port::Ports;
+use std::sync::Wait;
 
 // A list of references is always a lawful one.
 fn is_lawful(list: &TokList)
@@ -28,25 +33,44 @@ fn is_lawful(list: &TokList)
 /// Polls a thread whose list is held with the answer that is kept for it, and performs its ask; says whether it goes on
 /// running.
 pub(crate) fn poll_one<B: Body>(
+    rt: &impl Wait,
     hold: &mut Hold,
+    ports: &mut Ports,
     bank: &Bank,
+    book: &MsgBook,
+    number: u8,
     body: &mut B,
     thread: &mut Thread,
     trace: &mut Vec<Event>,
 ) -> bool
     requires of { bank_of (seat_of hold.old) ≡ id_of bank.now }
+    requires table { ports.old.seat.table ≡ book.now.table }
+    requires exists { number < ports.old.threads }
+    requires mine { cpu_of ports.old.seat ≡ (seat_of hold.old).cpu }
     requires settled { IsSettled (seat_of hold.old) thread.old }
     requires live { thread.old.phase ≡ Phase.Live }
     requires held { holding (seat_of hold.old) ≡ holding_of thread.old.list }
     requires room { vec_len trace.old + 512 ≤ vec_capacity trace.old }
-    ensures polls { Polls B.polled (id_of bank.now) (seat_of hold.old) (seat_of hold.new) body.old body.new thread.old thread.new trace.old trace.new result }
-    ensures ran { Ran (IsBetween thread.old.list thread.new.list) 162 (seat_of hold.old) (seat_of hold.new) trace.old trace.new }
+    ensures polls { Polls B.polled (id_of bank.now) number (seat_of hold.old) (seat_of hold.new) ports.old ports.new body.old body.new thread.old thread.new trace.old trace.new result }
+    ensures ran { Ran (IsBetween thread.old.list thread.new.list) 288 (seat_of hold.old) (seat_of hold.new) trace.old trace.new }
     ensures up { result ≡ true → (thread.new.phase ≡ Phase.Live) × (holding (seat_of hold.new) ≡ holding_of thread.new.list) }
     ensures free { result ≡ false → holding (seat_of hold.new) ≡ holds_nothing }
     ensures settled { IsSettled (seat_of hold.new) thread.new }
+    ensures awaits { Awaits (messages_of ports.new.seat) thread.new }
+    ensures same { IsSamePost ports.old ports.new }
 {
     let ask = body.poll(thread.last);
-    let next = perform(hold, bank, &mut thread.list, ask, trace);
+    let next = perform(
+        rt,
+        hold,
+        ports,
+        bank,
+        book,
+        number,
+        &mut thread.list,
+        ask,
+        trace,
+    );
     let runs = go_on(thread, next);
     is_lawful(&thread.list);
     runs

@@ -12,10 +12,11 @@ use crate::ends::{end, go_on};
 use crate::phases::Phase;
 use crate::threads::Thread;
 use crate::turns::TURN_EVENTS;
-use lwkt_ask::perform;
+use lwkt_ask::exit;
 use lwkt_bank::{Bank, CpuSeat};
-use lwkt_base::{Ask, Fault};
+use lwkt_base::Fault;
 use lwkt_core::Event;
+use lwkt_msg::MsgSeat;
 
 // Ends a thread that hasn't ended.
 fn stop_one(thread: &mut Thread)
@@ -45,7 +46,7 @@ impl<B> Cpu<B> {
         ensures ran { Ran (IsOfOne self.old.threads) 162 self.old.seat self.new.seat trace.old trace.new }
     {
         let thread = &mut self.threads[place];
-        let next = perform(&mut self.hold, bank, &mut thread.list, Ask::Exit, trace);
+        let next = exit(&mut self.hold, bank, &thread.list, trace);
         go_on(thread, next);
         self.running = None;
     }
@@ -58,6 +59,7 @@ impl<B> Cpu<B> {
         ensures ran { Ran (IsOfOne self.old.threads) 162 self.old.seat self.new.seat trace.old trace.new }
         ensures none { self.new.running ≡ None }
         ensures bodies { self.new.bodies ≡ self.old.bodies }
+        ensures post { self.new.post ≡ self.old.post }
     {
         match self.running {
             Some(place) => self.halt(bank, place, trace),
@@ -72,6 +74,7 @@ impl<B> Cpu<B> {
         ensures over { AllOver self.new.threads }
         ensures seat { self.new.seat ≡ self.old.seat }
         ensures bodies { self.new.bodies ≡ self.old.bodies }
+        ensures post { self.new.post ≡ self.old.post }
         ensures none { self.new.running ≡ None }
         ensures empty { holding self.new.seat ≡ holds_nothing }
     {
@@ -99,19 +102,21 @@ impl<B> Cpu<B> {
 
     /// Gives back the seat, which holds nothing, and the bodies, each as its last poll left it. That every thread has ended is
     /// the caller's condition.
-    pub fn retire(self) -> (CpuSeat, Vec<B>)
+    pub fn retire(self) -> (CpuSeat, MsgSeat, Vec<B>)
         requires { AllOver self.threads }
         ensures seat { result.0 ≡ self.seat }
-        ensures bodies { result.1.items ≡ self.bodies }
+        ensures mail { result.1 ≡ self.post.seat }
+        ensures bodies { result.2.items ≡ self.bodies }
         ensures empty { holding result.0 ≡ holds_nothing }
     {
         let Cpu {
             hold,
+            ports,
             bodies,
             threads: _,
             running: _,
             cursor: _,
         } = self;
-        (hold.into_seat(), bodies)
+        (hold.into_seat(), ports.retire(), bodies)
     }
 }

@@ -4,19 +4,26 @@ ghost use Rattle.lwkt_bank.specs.Seats.{id_of, bank_of};
 ghost use Rattle.lwkt_hold.specs.Runs.{Ran};
 ghost use Rattle.lwkt_cpu.specs.Processors.{AllOver};
 ghost use Rattle.lwkt_cpu.specs.Searches.{IsOfOne};
-ghost use Rattle.lwkt_cpu.specs.Turning.{cursor_after, Chooses, RunsOne, IsOfThread, MakesTurn};
+ghost use Rattle.lwkt_cpu.specs.Turning.{cursor_after, Chooses, RunsOne, IsMailed, IsOfThread, MakesTurn};
+ghost use Rattle.lwkt_cpu.specs.Waking.{TakesMail, AreWoken};
 
 use crate::answers::Turned;
 use crate::cpus::Cpu;
 use crate::polls::poll_one;
 use crate::searches::find;
+use crate::wakes::wake_all;
 use lwkt_ask::Body;
 use lwkt_bank::Bank;
 use lwkt_base::Fault;
 use lwkt_core::Event;
+use lwkt_msg::MsgBook;
+use std::sync::Wait;
 
 /// The room that a turn makes in its trace.
 pub(crate) const TURN_EVENTS: usize = 4096;
+
+/// The notes that a turn takes in.
+const TURN_NOTES: usize = 16;
 
 // Where the next search begins.
 fn past(cursor: usize, found: Option<usize>) -> usize
@@ -35,6 +42,19 @@ impl<B> Cpu<B> {
         ensures { IsTrue result ↔ AllOver self.now.threads }
     {
         self.threads.iter().all(|thread| thread.phase.has_ended())
+    }
+
+    // Takes mail in, and looks after the threads that wait.
+    fn take_mail(&mut self, rt: &impl Wait, book: &MsgBook, trace: &mut Vec<Event>)
+        requires table { self.old.post.seat.table ≡ book.now.table }
+        requires room { vec_len trace.old + 2304 ≤ vec_capacity trace.old }
+        ensures mail { TakesMail self.old self.new trace.old trace.new }
+        ensures ran { Ran (IsMailed self.old.threads) 2304 self.old.seat self.new.seat trace.old trace.new }
+        ensures woken { AreWoken self.old.threads self.new.threads }
+        ensures table { self.new.post.seat.table ≡ self.old.post.seat.table }
+    {
+        self.ports.take_in(rt, book, TURN_NOTES, trace);
+        wake_all(&mut self.ports, book, &mut self.threads, trace);
     }
 
     // The thread of this turn: the one that runs, or the one that a search finds, which runs from now on.
@@ -59,16 +79,36 @@ impl<B> Cpu<B> {
 
 impl<B: Body> Cpu<B> {
     // Polls the thread that runs.
-    fn run_on(&mut self, bank: &Bank, place: usize, trace: &mut Vec<Event>)
+    fn run_on(
+        &mut self,
+        rt: &impl Wait,
+        bank: &Bank,
+        book: &MsgBook,
+        place: usize,
+        trace: &mut Vec<Event>,
+    )
         requires of { bank_of self.old.seat ≡ id_of bank.now }
+        requires table { self.old.post.seat.table ≡ book.now.table }
         requires runs { self.old.running ≡ Some place }
         requires room { vec_len trace.old + 512 ≤ vec_capacity trace.old }
         ensures runs_one { RunsOne B.polled (id_of bank.now) self.old self.new trace.old trace.new place }
-        ensures ran { Ran (IsOfThread self.old.threads self.new.threads) 162 self.old.seat self.new.seat trace.old trace.new }
+        ensures ran { Ran (IsOfThread self.old.threads self.new.threads) 288 self.old.seat self.new.seat trace.old trace.new }
+        ensures table { self.new.post.seat.table ≡ self.old.post.seat.table }
     {
         let body = &mut self.bodies[place];
         let thread = &mut self.threads[place];
-        if !poll_one(&mut self.hold, bank, body, thread, trace) {
+        let number = place as u8;
+        if !poll_one(
+            rt,
+            &mut self.hold,
+            &mut self.ports,
+            bank,
+            book,
+            number,
+            body,
+            thread,
+            trace,
+        ) {
             self.running = None;
         }
     }
@@ -77,19 +117,28 @@ impl<B: Body> Cpu<B> {
     /// can be held, is polled once, and its ask is performed. That seat and bank belong together is the caller's condition.
     ///
     /// Refused with `Memory` where the trace can't be given room for 4,096 events; nothing has changed then.
-    pub fn turn(&mut self, bank: &Bank, trace: &mut Vec<Event>) -> Result<Turned, Fault>
-        requires { bank_of self.old.seat ≡ id_of bank.now }
+    pub fn turn(
+        &mut self,
+        rt: &impl Wait,
+        bank: &Bank,
+        book: &MsgBook,
+        trace: &mut Vec<Event>,
+    ) -> Result<Turned, Fault>
+        requires of { bank_of self.old.seat ≡ id_of bank.now }
+        requires table { self.old.post.seat.table ≡ book.now.table }
         ensures ok { IfOk result (λ turned. MakesTurn B.polled (id_of bank.now) self.old self.new trace.old trace.new turned) }
         ensures err { OnErr result ((self.new ≡ self.old) × (trace.new.items ≡ trace.old.items)) }
         ensures only { OnErr result (result ≡ Err Fault.Memory) }
         ensures of { bank_of self.new.seat ≡ bank_of self.old.seat }
+        ensures table { self.new.post.seat.table ≡ self.old.post.seat.table }
     {
         if trace.reserve(TURN_EVENTS).is_err() {
             return Err(Fault::Memory);
         }
+        self.take_mail(rt, book, trace);
         match self.choose(bank, trace) {
             Some(place) => {
-                self.run_on(bank, place, trace);
+                self.run_on(rt, bank, book, place, trace);
                 Ok(Turned::Ran { thread: place })
             }
             None if self.all_over() => Ok(Turned::AllExited),

@@ -17,4 +17,4 @@ returns-then-is_last-clause-ok g c =
 pub loop-made-preserved : goal.loop-made-preserved
 loop-made-preserved g c =
     let l = c.loop-made in
-    driven_more {B = g.row.B.Denot} g.B.Body.polled (id_of c.args.bank.now) c.args.self.now l.self c.turn.new.self c.args.trace.now l.trace c.turn.new.trace l.drove c.count-drove.result c.in_ok-turned.turned l.made l.invariant c.in_ok-turned.ensures.ok (c.is_last.ensures.no c.if-is_last.false) c.in_ok-turned.ensures.of c.count-drove.ensures
+    driven_more {B = g.row.B.Denot} g.B.Body.polled (id_of c.args.bank.now) c.args.self.now l.self c.turn.new.self c.args.trace.now l.trace c.turn.new.trace l.drove c.count-drove.result c.in_ok-turned.turned l.made l.invariant c.in_ok-turned.ensures.ok (c.is_last.ensures.no c.if-is_last.false) c.in_ok-turned.ensures.of c.in_ok-turned.ensures.table c.count-drove.ensures

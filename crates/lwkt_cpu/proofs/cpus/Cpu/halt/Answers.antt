@@ -1,43 +1,42 @@
-use Rattle.std.proofs.Common.{◌≡◌, List, set, refl, ap, ◌∙◌, subst, Some, None}
-use Rattle.lwkt_base.specs.declared.names.Ref.{Ref}
-use Rattle.lwkt_bank.specs.Seats.{holding}
+use Rattle.std.proofs.Common.{◌≡◌, set, refl, ap, ◌∙◌, subst, Some, None}
 use Rattle.lwkt_hold.specs.Runs.{Ran}
 use Rattle.lwkt_cpu.specs.declared.threads.Thread.{Thread}
-use Rattle.lwkt_cpu.specs.Processors.{Processor, processor_of}
-use Rattle.lwkt_cpu.specs.Polling.{became}
+use Rattle.lwkt_cpu.specs.Processors.{Processor, has_ended, processor_of}
 use Rattle.lwkt_cpu.specs.Searches.{IsOfOne}
 use Rattle.lwkt_cpu.specs.Stopping.{Halts}
 use Rattle.lwkt_cpu.proofs.RestMoves.{thread_at, placed}
-use Rattle.lwkt_cpu.proofs.StopMoves.{exit_empty, became_empty, rest_halted, ran_halted}
+use Rattle.lwkt_cpu.proofs.StopMoves.{became_over, became_empty, rest_halted, ran_halted}
 use Rattle.lwkt_cpu.proofs.cpus.Cpu.halt.Goals as goal
 
 pub invariant_of-self : goal.invariant_of-self
 invariant_of-self g c =
     let i = c.self.inside in
     let place = c.args.place in
-    let p = c.perform-next in
+    let p = c.exit-next in
     let runs : i.running ≡ Some place = ap (λ (x : Processor g.row.B.Denot). x.running) c.self.view_is ∙ c.requires.runs in
     let within = placed i.hold.seat i.threads.items i.running place runs c.self.invariant.held in
-    let up = p.ensures.performs.1 in
-    rest_halted {B = g.row.B.Denot} i.hold.seat p.new.hold.seat i.bodies.items i.threads.items i.running i.cursor place c.go_on.new.thread c.self.invariant within p.ensures.ran.bank
-    (ap (λ (t : Thread). t.list) c.go_on.ensures.becomes ∙ became_empty (record c.index_mut-thread.result.now { list = p.new.list }) p.result up.blocked up.next_is)
-    (exit_empty p.result up.blocked (holding p.new.hold.seat) p.new.list up.next_is p.ensures.held)
+    let up = p.ensures.gives_up in
+    rest_halted {B = g.row.B.Denot} i.hold.seat p.new.hold.seat i.ports i.bodies.items i.threads.items i.running i.cursor place c.go_on.new.thread c.self.invariant within p.ensures.ran.bank p.ensures.ran.cpu
+    (ap (λ (t : Thread). has_ended t.phase) c.go_on.ensures.becomes ∙ became_over c.index_mut-thread.result.now p.result up.blocked up.next_is)
+    (ap (λ (t : Thread). t.list) c.go_on.ensures.becomes ∙ became_empty c.index_mut-thread.result.now p.result up.blocked up.next_is)
+    p.ensures.empty
 
 pub returns-clause-halts : goal.returns-clause-halts
 returns-clause-halts g c =
     let i = c.self.inside in
     let place = c.args.place in
-    let p = c.perform-next in
+    let p = c.exit-next in
     let before = c.index_mut-thread.result.now in
     let runs : i.running ≡ Some place = ap (λ (x : Processor g.row.B.Denot). x.running) c.self.view_is ∙ c.requires.runs in
     let within = placed i.hold.seat i.threads.items i.running place runs c.self.invariant.held in
-    let F : Processor g.row.B.Denot → Type 0 = λ x. Halts {B = g.row.B.Denot} x (processor_of p.new.hold.seat i.bodies.items (set i.threads.items place c.go_on.new.thread) None i.cursor) c.args.trace.now p.new.trace place in
+    let F : Processor g.row.B.Denot → Type 0 = λ x. Halts {B = g.row.B.Denot} x (processor_of p.new.hold.seat i.ports i.bodies.items (set i.threads.items place c.go_on.new.thread) None i.cursor) c.args.trace.now p.new.trace place in
     subst F c.self.view_is (record {
       before = before;
       next = p.result;
       at_before = thread_at i.threads.items place before within c.index_mut-thread.ensures.value;
-      gives_up = p.ensures.performs.1;
-      threads = ap (λ (t : Thread). set i.threads.items place t) (c.go_on.ensures.becomes ∙ ap (λ (xs : List Ref). became (record before { list = xs }) p.result) p.ensures.performs.0);
+      gives_up = p.ensures.gives_up;
+      threads = ap (λ (t : Thread). set i.threads.items place t) c.go_on.ensures.becomes;
+      post = refl;
       bodies = refl;
       running = refl;
     })
@@ -46,11 +45,11 @@ pub returns-clause-ran : goal.returns-clause-ran
 returns-clause-ran g c =
     let i = c.self.inside in
     let place = c.args.place in
-    let p = c.perform-next in
+    let p = c.exit-next in
     let before = c.index_mut-thread.result.now in
     let runs : i.running ≡ Some place = ap (λ (x : Processor g.row.B.Denot). x.running) c.self.view_is ∙ c.requires.runs in
     let within = placed i.hold.seat i.threads.items i.running place runs c.self.invariant.held in
     let at = thread_at i.threads.items place before within c.index_mut-thread.ensures.value in
-    let up = p.ensures.performs.1 in
+    let up = p.ensures.gives_up in
     let F : Processor g.row.B.Denot → Type 0 = λ x. Ran (IsOfOne x.threads) 162 x.seat p.new.hold.seat c.args.trace.now p.new.trace in
-    subst F c.self.view_is (ran_halted i.hold.seat p.new.hold.seat c.args.trace.now p.new.trace i.threads.items place before p.result up.blocked p.new.list at up.next_is p.ensures.ran)
+    subst F c.self.view_is (ran_halted i.hold.seat p.new.hold.seat c.args.trace.now p.new.trace i.threads.items place before at p.ensures.ran)

@@ -13,7 +13,7 @@ invariant_of-self g c =
     let e = c.poll_one.ensures in
     let p = c.poll_one.new in
     let within = placed i.hold.seat i.threads.items i.running c.args.place (ap (λ (x : Processor g.row.B.Denot). x.running) c.self.view_is ∙ c.requires.runs) c.self.invariant.held in
-    rest_polled {B = g.row.B.Denot} i.hold.seat p.hold.seat i.bodies.items i.threads.items i.running None i.cursor c.args.place p.body p.thread c.self.invariant within e.ran.bank e.settled (e.free c.if-not-poll_one.true)
+    rest_polled {B = g.row.B.Denot} i.hold.seat p.hold.seat i.ports p.ports i.bodies.items i.threads.items i.running None i.cursor c.args.place p.body p.thread c.self.invariant within e.ran.bank e.ran.cpu e.same e.awaits e.settled (e.free c.if-not-poll_one.true)
 
 pub invariant_of-self-else-not-poll_one : goal.invariant_of-self-else-not-poll_one
 invariant_of-self-else-not-poll_one g c =
@@ -25,7 +25,7 @@ invariant_of-self-else-not-poll_one g c =
     let within = placed i.hold.seat i.threads.items i.running place runs c.self.invariant.held in
     let up = e.up c.if-not-poll_one.false in
     let F : Option _ → Type 0 = λ o. HoldsFor p.hold.seat (set i.threads.items place p.thread) o in
-    rest_polled {B = g.row.B.Denot} i.hold.seat p.hold.seat i.bodies.items i.threads.items i.running i.running i.cursor place p.body p.thread c.self.invariant within e.ran.bank e.settled
+    rest_polled {B = g.row.B.Denot} i.hold.seat p.hold.seat i.ports p.ports i.bodies.items i.threads.items i.running i.running i.cursor place p.body p.thread c.self.invariant within e.ran.bank e.ran.cpu e.same e.awaits e.settled
     (subst F (sym runs) (up_at p.hold.seat (set i.threads.items place p.thread) place p.thread (get_set_same i.threads.items place p.thread within) up.0 up.1))
 
 pub returns-then-not-poll_one-clause-ran : goal.returns-then-not-poll_one-clause-ran
@@ -87,7 +87,7 @@ returns-then-not-poll_one-clause-runs_one g c =
     let p = c.poll_one.new in
     let up = up_there i.hold.seat i.threads.items i.running place c.index_mut-thread.result.now runs c.self.invariant.held at in
     let within_bodies : place < length i.bodies.items = omega (arith, within, c.self.invariant.as_many) in
-    let F : Processor g.row.B.Denot → Type 0 = λ x. RunsOne {B = g.row.B.Denot} g.B.Body.polled (id_of c.args.bank.now) x (processor_of p.hold.seat (set i.bodies.items place p.body) (set i.threads.items place p.thread) None i.cursor) c.args.trace.now p.trace place in
+    let F : Processor g.row.B.Denot → Type 0 = λ x. RunsOne {B = g.row.B.Denot} g.B.Body.polled (id_of c.args.bank.now) x (processor_of p.hold.seat p.ports (set i.bodies.items place p.body) (set i.threads.items place p.thread) None i.cursor) c.args.trace.now p.trace place in
     subst F c.self.view_is (record {
       before = c.index_mut-thread.result.now;
       now = p.thread;
@@ -115,7 +115,7 @@ returns-else-not-poll_one-clause-runs_one g c =
     let p = c.poll_one.new in
     let up = up_there i.hold.seat i.threads.items i.running place c.index_mut-thread.result.now runs c.self.invariant.held at in
     let within_bodies : place < length i.bodies.items = omega (arith, within, c.self.invariant.as_many) in
-    let F : Processor g.row.B.Denot → Type 0 = λ x. RunsOne {B = g.row.B.Denot} g.B.Body.polled (id_of c.args.bank.now) x (processor_of p.hold.seat (set i.bodies.items place p.body) (set i.threads.items place p.thread) c.self.inside.running i.cursor) c.args.trace.now p.trace place in
+    let F : Processor g.row.B.Denot → Type 0 = λ x. RunsOne {B = g.row.B.Denot} g.B.Body.polled (id_of c.args.bank.now) x (processor_of p.hold.seat p.ports (set i.bodies.items place p.body) (set i.threads.items place p.thread) c.self.inside.running i.cursor) c.args.trace.now p.trace place in
     subst F c.self.view_is (record {
       before = c.index_mut-thread.result.now;
       now = p.thread;

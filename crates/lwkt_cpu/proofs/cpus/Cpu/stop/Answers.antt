@@ -31,6 +31,7 @@ returns-clause-ok g c =
       mid = c.halt_running.new.self;
       halts = c.halt_running.ensures.halts;
       seat = e.seat;
+      post = e.post ∙ c.halt_running.ensures.post;
       bodies = e.bodies ∙ c.halt_running.ensures.bodies;
       threads = e.threads;
       over = e.over;

@@ -7,42 +7,54 @@ use Rattle.lwkt_cpu.proofs.cpus.Cpu.turn.Goals as goal
 pub returns-in-Some-clause-ok : goal.returns-in-Some-clause-ok
 returns-in-Some-clause-ok g c =
     let old = c.args.self.now in
+    let met = c.take_mail.new.self in
     let mid = c.choose.new.self in
     let new = c.run_on.new.self in
     let r = c.reserve.new.self in
     let e = c.reserve.ensures in
-    let F : Option ℕ → Type 0 = λ o. Chooses {B = g.row.B.Denot} old mid r c.choose.new.trace old.running o in
+    let F : Option ℕ → Type 0 = λ o. Chooses {B = g.row.B.Denot} met mid c.take_mail.new.trace c.choose.new.trace met.running o in
     record {
       room = r;
       same = e.items;
+      mid = met;
+      v = c.take_mail.new.trace;
+      mail = c.take_mail.ensures.mail;
       turns = (mid, (c.choose.new.trace, (subst F c.in-Some.is c.choose.ensures.chooses, c.run_on.ensures.runs_one)));
-      ran = turn_ran {B = g.row.B.Denot} old mid new c.args.trace.now r c.choose.new.trace c.run_on.new.trace old.running c.choose.result e.items e.len e.capacity c.choose.ensures.chooses c.choose.ensures.ran c.run_on.ensures.ran;
+      ran = turn_ran {B = g.row.B.Denot} old met mid new c.args.trace.now r c.take_mail.new.trace c.choose.new.trace c.run_on.new.trace met.running c.choose.result e.items e.len e.capacity c.take_mail.ensures.woken c.choose.ensures.chooses c.take_mail.ensures.ran c.choose.ensures.ran c.run_on.ensures.ran;
     }
 
 pub returns-in-None-clause-ok : goal.returns-in-None-clause-ok
 returns-in-None-clause-ok g c =
     let old = c.args.self.now in
+    let met = c.take_mail.new.self in
     let new = c.choose.new.self in
     let r = c.reserve.new.self in
     let e = c.reserve.ensures in
-    let F : Option ℕ → Type 0 = λ o. Chooses {B = g.row.B.Denot} old new r c.choose.new.trace old.running o in
+    let F : Option ℕ → Type 0 = λ o. Chooses {B = g.row.B.Denot} met new c.take_mail.new.trace c.choose.new.trace met.running o in
     record {
       room = r;
       same = e.items;
+      mid = met;
+      v = c.take_mail.new.trace;
+      mail = c.take_mail.ensures.mail;
       turns = (subst F c.in-None.is c.choose.ensures.chooses, c.all_over.ensures.0 c.if-all_over.true);
-      ran = search_ran {B = g.row.B.Denot} old new c.args.trace.now r c.choose.new.trace e.items e.len e.capacity c.choose.ensures.ran;
+      ran = search_ran {B = g.row.B.Denot} old met new c.args.trace.now r c.take_mail.new.trace c.choose.new.trace e.items e.len e.capacity c.take_mail.ensures.woken c.take_mail.ensures.ran c.choose.ensures.ran;
     }
 
 pub returns-in-None-2-clause-ok : goal.returns-in-None-2-clause-ok
 returns-in-None-2-clause-ok g c =
     let old = c.args.self.now in
+    let met = c.take_mail.new.self in
     let new = c.choose.new.self in
     let r = c.reserve.new.self in
     let e = c.reserve.ensures in
-    let F : Option ℕ → Type 0 = λ o. Chooses {B = g.row.B.Denot} old new r c.choose.new.trace old.running o in
+    let F : Option ℕ → Type 0 = λ o. Chooses {B = g.row.B.Denot} met new c.take_mail.new.trace c.choose.new.trace met.running o in
     record {
       room = r;
       same = e.items;
+      mid = met;
+      v = c.take_mail.new.trace;
+      mail = c.take_mail.ensures.mail;
       turns = (subst F c.in-None.is c.choose.ensures.chooses, λ over. false≢true (sym c.if-all_over.false ∙ c.all_over.ensures.1 over));
-      ran = search_ran {B = g.row.B.Denot} old new c.args.trace.now r c.choose.new.trace e.items e.len e.capacity c.choose.ensures.ran;
+      ran = search_ran {B = g.row.B.Denot} old met new c.args.trace.now r c.take_mail.new.trace c.choose.new.trace e.items e.len e.capacity c.take_mail.ensures.woken c.take_mail.ensures.ran c.choose.ensures.ran;
     }

@@ -1,0 +1,53 @@
+use Rattle.std.proofs.Common.{◌≡◌, refl, ap, sym, ◌∙◌, subst, arith, Option, Some, None, Ok, Err}
+use Rattle.std.specs.Prelude.{Result}
+use Rattle.lwkt_base.specs.declared.asks.Item.{Item}
+use Rattle.lwkt_base.specs.declared.asks.Answer.TheVariants.{Got}
+use Rattle.lwkt_base.specs.declared.faults.Fault.{Fault}
+use Rattle.lwkt_msg.specs.Desks.{cpu_of}
+use Rattle.lwkt_ask.specs.declared.nexts.Next.TheVariants.{Runs}
+use Rattle.lwkt_ask.specs.Mailing.{WaitsItem}
+use Rattle.lwkt_ask.proofs.MailMoves.{ran_mail_held, ran_mail_left}
+use Rattle.lwkt_ask.proofs.mails.wait_port.Goals as goal
+
+pub returns-in-Ok-Some-clause-waits : goal.returns-in-Ok-Some-clause-waits
+returns-in-Ok-Some-clause-waits c =
+    let s = c.args.hold.now.seat in
+    let F : Result (Option Item) Fault → Type 0 = λ r. WaitsItem s s c.args.list.now c.get.new.trace c.get.new.trace (Runs (Got c.in-Ok-Some.item)) r in
+    record {
+      v = c.get.new.trace;
+      result = c.get.result;
+      gets = c.get.ensures.gets;
+      goes_on = subst F (sym (c.in-Ok-Some.is ∙ ap Ok c.in-Ok-Some.field-0-is)) (refl, refl, refl);
+    }
+
+pub returns-in-Ok-Some-clause-ran : goal.returns-in-Ok-Some-clause-ran
+returns-in-Ok-Some-clause-ran c = ran_mail_held c.args.list.now (cpu_of c.args.ports.now.seat) 128 288 c.args.hold.now.seat c.args.trace.now c.get.new.trace (omega arith) c.requires.mine c.requires.held c.get.ensures.grew
+
+pub returns-in-Ok-None-clause-waits : goal.returns-in-Ok-None-clause-waits
+returns-in-Ok-None-clause-waits c =
+    let F : Result (Option Item) Fault → Type 0 = λ r. WaitsItem c.args.hold.now.seat c.leave.new.hold.seat c.args.list.now c.get.new.trace c.leave.new.trace c.leave.result r in
+    record {
+      v = c.get.new.trace;
+      result = c.get.result;
+      gets = c.get.ensures.gets;
+      goes_on = subst F (sym (c.in-Ok-None.is ∙ ap Ok c.in-Ok-None.field-0-is)) c.leave.ensures.gives_up;
+    }
+
+pub returns-in-Ok-None-clause-ran : goal.returns-in-Ok-None-clause-ran
+returns-in-Ok-None-clause-ran c = ran_mail_left c.args.list.now (cpu_of c.args.ports.now.seat) 128 c.args.hold.now.seat c.leave.new.hold.seat c.args.trace.now c.get.new.trace c.leave.new.trace (omega arith) c.requires.mine c.requires.held c.get.ensures.grew c.leave.ensures.ran
+
+pub returns-in-Err-clause-waits : goal.returns-in-Err-clause-waits
+returns-in-Err-clause-waits c =
+    let l = c.leave-in-Err in
+    let F : Result (Option Item) Fault → Type 0 = λ r. WaitsItem c.args.hold.now.seat l.new.hold.seat c.args.list.now c.get.new.trace l.new.trace l.result r in
+    record {
+      v = c.get.new.trace;
+      result = c.get.result;
+      gets = c.get.ensures.gets;
+      goes_on = subst F (sym c.in-Err.is) l.ensures.gives_up;
+    }
+
+pub returns-in-Err-clause-ran : goal.returns-in-Err-clause-ran
+returns-in-Err-clause-ran c =
+    let l = c.leave-in-Err in
+    ran_mail_left c.args.list.now (cpu_of c.args.ports.now.seat) 128 c.args.hold.now.seat l.new.hold.seat c.args.trace.now c.get.new.trace l.new.trace (omega arith) c.requires.mine c.requires.held c.get.ensures.grew l.ensures.ran

@@ -1,0 +1,160 @@
+//! The asks about messages, each as the call on the ports that it makes.
+ghost use Rattle.std.specs.Prelude.{◌≡◌, ℕ, ◌+◌, ◌<◌, ◌≤◌, false, true, length, Option, Result, vec_len, vec_capacity};
+ghost use Rattle.lwkt_base.specs.Holding.{holding_of};
+ghost use Rattle.lwkt_base.specs.declared.asks.Item.{Item};
+ghost use Rattle.lwkt_base.specs.declared.faults.Fault.{Fault};
+ghost use Rattle.lwkt_base.specs.declared.names.MsgId.{MsgId};
+ghost use Rattle.lwkt_bank.specs.Seats.{id_of, bank_of, holding};
+ghost use Rattle.lwkt_hold.specs.Holds.{seat_of};
+ghost use Rattle.lwkt_hold.specs.Fronts.{IsFront};
+ghost use Rattle.lwkt_hold.specs.Runs.{Ran};
+ghost use Rattle.lwkt_msg.specs.Desks.{cpu_of, messages_of};
+ghost use Rattle.lwkt_port.specs.Posts.{IsSamePost};
+ghost use Rattle.lwkt_port.specs.Works.{Grew};
+ghost use Rattle.lwkt_port.specs.Servings.{PostGets};
+ghost use Rattle.lwkt_ask.specs.Nexts.{HoldsAfter, done_or};
+ghost use Rattle.lwkt_ask.specs.Mailing.{sending, plain_flags, SendsMail, RepliesMail, item_or, Does, WaitsPort};
+
+use crate::calls::done;
+use crate::leaves::leave;
+use crate::nexts::Next;
+use lwkt_bank::Bank;
+use lwkt_base::{Answer, Call, Fault, Flags, Item, MsgId, ThreadId, TokList};
+use lwkt_core::Event;
+use lwkt_hold::Hold;
+use lwkt_msg::MsgBook;
+use lwkt_port::Ports;
+use std::sync::Wait;
+
+// The answer for a look at a port.
+fn shown(told: Result<Option<Item>, Fault>) -> Answer
+    ensures { result ≡ item_or told }
+{
+    match told {
+        Ok(Some(item)) => Answer::Got(item),
+        Ok(None) => Answer::NoMsg,
+        Err(fault) => Answer::Refused(fault),
+    }
+}
+
+/// Sends a message of the thread.
+pub(crate) fn send(
+    rt: &impl Wait,
+    ports: &mut Ports,
+    book: &MsgBook,
+    thread: u8,
+    msg: MsgId,
+    to: ThreadId,
+    call: Call,
+    flags: Flags,
+    trace: &mut Vec<Event>,
+) -> Answer
+    requires table { ports.old.seat.table ≡ book.now.table }
+    requires room { vec_len trace.old + 512 ≤ vec_capacity trace.old }
+    ensures sends { (told : Result (Unit {0}) Fault) × (SendsMail (sending thread msg to call flags false) ports.old ports.new trace.old trace.new told × (result ≡ done_or told)) }
+    ensures same { IsSamePost ports.old ports.new }
+    ensures grew { Grew (cpu_of ports.old.seat) 1 trace.old trace.new }
+{
+    let told = ports.send(rt, book, thread, msg, to, call, flags, trace);
+    done(told)
+}
+
+/// Sends a message of the thread, which then gives up everything and waits for the reply.
+pub(crate) fn send_and_wait(
+    rt: &impl Wait,
+    hold: &mut Hold,
+    ports: &mut Ports,
+    bank: &Bank,
+    book: &MsgBook,
+    thread: u8,
+    list: &TokList,
+    msg: MsgId,
+    to: ThreadId,
+    call: Call,
+    trace: &mut Vec<Event>,
+) -> Next
+    requires of { bank_of (seat_of hold.old) ≡ id_of bank.now }
+    requires table { ports.old.seat.table ≡ book.now.table }
+    requires mine { cpu_of ports.old.seat ≡ (seat_of hold.old).cpu }
+    requires held { holding (seat_of hold.old) ≡ holding_of list.now }
+    requires room { vec_len trace.old + 512 ≤ vec_capacity trace.old }
+    ensures does { Does (sending thread msg to call plain_flags true) ports.old ports.new (seat_of hold.old) (seat_of hold.new) list.now trace.old trace.new result }
+    ensures ran { Ran (IsFront list.now) 288 (seat_of hold.old) (seat_of hold.new) trace.old trace.new }
+    ensures held { HoldsAfter result (holding (seat_of hold.new)) list.now }
+    ensures same { IsSamePost ports.old ports.new }
+    ensures named { (m : MsgId) → result ≡ Next.AwaitsReply m → m.0 < messages_of ports.new.seat }
+{
+    let _ = ports.threads();
+    match ports.send_sync(rt, book, thread, msg, to, call, trace) {
+        Ok(()) => leave(hold, bank, list, Next::AwaitsReply(msg), trace),
+        Err(fault) => Next::Runs(Answer::Refused(fault)),
+    }
+}
+
+/// Replies to a message that the thread was shown.
+pub(crate) fn reply(
+    rt: &impl Wait,
+    ports: &mut Ports,
+    book: &MsgBook,
+    thread: u8,
+    msg: MsgId,
+    error: u32,
+    outcome: u64,
+    trace: &mut Vec<Event>,
+) -> Answer
+    requires table { ports.old.seat.table ≡ book.now.table }
+    requires room { vec_len trace.old + 512 ≤ vec_capacity trace.old }
+    ensures replies { (told : Result (Unit {0}) Fault) × (RepliesMail thread msg error outcome ports.old ports.new trace.old trace.new told × (result ≡ done_or told)) }
+    ensures same { IsSamePost ports.old ports.new }
+    ensures grew { Grew (cpu_of ports.old.seat) 1 trace.old trace.new }
+{
+    let told = ports.reply(rt, book, thread, msg, error, outcome, trace);
+    done(told)
+}
+
+/// Gives the next item of the thread's port.
+pub(crate) fn get_port(
+    ports: &mut Ports,
+    book: &MsgBook,
+    thread: u8,
+    trace: &mut Vec<Event>,
+) -> Answer
+    requires table { ports.old.seat.table ≡ book.now.table }
+    requires exists { thread < ports.old.threads }
+    requires room { vec_len trace.old + 512 ≤ vec_capacity trace.old }
+    ensures gets { (told : Result (Option Item) Fault) × (PostGets thread ports.old ports.new trace.old trace.new told × (result ≡ item_or told)) }
+    ensures same { IsSamePost ports.old ports.new }
+    ensures grew { Grew (cpu_of ports.old.seat) 128 trace.old trace.new }
+{
+    let told = ports.get(book, thread, trace);
+    shown(told)
+}
+
+/// Gives the next item of the thread's port at once; without one the thread gives up everything and waits.
+pub(crate) fn wait_port(
+    hold: &mut Hold,
+    ports: &mut Ports,
+    bank: &Bank,
+    book: &MsgBook,
+    thread: u8,
+    list: &TokList,
+    trace: &mut Vec<Event>,
+) -> Next
+    requires of { bank_of (seat_of hold.old) ≡ id_of bank.now }
+    requires table { ports.old.seat.table ≡ book.now.table }
+    requires exists { thread < ports.old.threads }
+    requires mine { cpu_of ports.old.seat ≡ (seat_of hold.old).cpu }
+    requires held { holding (seat_of hold.old) ≡ holding_of list.now }
+    requires room { vec_len trace.old + 512 ≤ vec_capacity trace.old }
+    ensures waits { WaitsPort thread ports.old ports.new (seat_of hold.old) (seat_of hold.new) list.now trace.old trace.new result }
+    ensures ran { Ran (IsFront list.now) 288 (seat_of hold.old) (seat_of hold.new) trace.old trace.new }
+    ensures held { HoldsAfter result (holding (seat_of hold.new)) list.now }
+    ensures same { IsSamePost ports.old ports.new }
+    ensures named { (m : MsgId) → result ≡ Next.AwaitsReply m → m.0 < messages_of ports.new.seat }
+{
+    match ports.get(book, thread, trace) {
+        Ok(Some(item)) => Next::Runs(Answer::Got(item)),
+        Ok(None) => leave(hold, bank, list, Next::AwaitsItem, trace),
+        Err(_) => leave(hold, bank, list, Next::AwaitsItem, trace),
+    }
+}
