@@ -24,7 +24,6 @@ use lwkt_core::Event;
 use lwkt_hold::Hold;
 use lwkt_msg::MsgBook;
 use lwkt_port::Ports;
-use std::sync::Wait;
 
 // The answer for a look at a port.
 fn shown(told: Result<Option<Item>, Fault>) -> Answer
@@ -39,7 +38,6 @@ fn shown(told: Result<Option<Item>, Fault>) -> Answer
 
 /// Sends a message of the thread.
 pub(crate) fn send(
-    rt: &impl Wait,
     ports: &mut Ports,
     book: &MsgBook,
     thread: u8,
@@ -55,13 +53,12 @@ pub(crate) fn send(
     ensures same { IsSamePost ports.old ports.new }
     ensures grew { Grew (cpu_of ports.old.seat) 1 trace.old trace.new }
 {
-    let told = ports.send(rt, book, thread, msg, to, call, flags, trace);
+    let told = ports.send(book, thread, msg, to, call, flags, trace);
     done(told)
 }
 
 /// Sends a message of the thread, which then gives up everything and waits for the reply.
 pub(crate) fn send_and_wait(
-    rt: &impl Wait,
     hold: &mut Hold,
     ports: &mut Ports,
     bank: &Bank,
@@ -85,7 +82,7 @@ pub(crate) fn send_and_wait(
     ensures named { (m : MsgId) → result ≡ Next.AwaitsReply m → m.0 < messages_of ports.new.seat }
 {
     let _ = ports.threads();
-    match ports.send_sync(rt, book, thread, msg, to, call, trace) {
+    match ports.send_sync(book, thread, msg, to, call, trace) {
         Ok(()) => leave(hold, bank, list, Next::AwaitsReply(msg), trace),
         Err(fault) => Next::Runs(Answer::Refused(fault)),
     }
@@ -93,7 +90,6 @@ pub(crate) fn send_and_wait(
 
 /// Replies to a message that the thread was shown.
 pub(crate) fn reply(
-    rt: &impl Wait,
     ports: &mut Ports,
     book: &MsgBook,
     thread: u8,
@@ -108,7 +104,7 @@ pub(crate) fn reply(
     ensures same { IsSamePost ports.old ports.new }
     ensures grew { Grew (cpu_of ports.old.seat) 1 trace.old trace.new }
 {
-    let told = ports.reply(rt, book, thread, msg, error, outcome, trace);
+    let told = ports.reply(book, thread, msg, error, outcome, trace);
     done(told)
 }
 

@@ -21,7 +21,6 @@ use lwkt_core::Event;
 use lwkt_hold::Hold;
 use lwkt_msg::MsgBook;
 use lwkt_port::Ports;
-use std::sync::Wait;
 
 fn exclusive(tok: TokId) -> Ref
     ensures { (result.tok ≡ tok) × (result.mode ≡ Mode.Exclusive) }
@@ -50,7 +49,6 @@ fn refused(fault: Fault) -> Next
 /// Performs the ask of a running thread, whose list is held, and says what comes next for the thread. That the trace has
 /// room for 512 events is the caller's condition; no ask makes more than 288.
 pub fn perform(
-    rt: &impl Wait,
     hold: &mut Hold,
     ports: &mut Ports,
     bank: &Bank,
@@ -85,7 +83,7 @@ pub fn perform(
         }
         Ask::Add(tok, k) => Next::Runs(add(hold, bank, list, tok, k, trace)),
         Ask::Send(msg, to, call, flags) => {
-            Next::Runs(send(rt, ports, book, thread, msg, to, call, flags, trace))
+            Next::Runs(send(ports, book, thread, msg, to, call, flags, trace))
         }
         Ask::Do(msg, to, call) => {
             send_and_wait(
@@ -93,7 +91,7 @@ pub fn perform(
             )
         }
         Ask::Reply(msg, error, outcome) => {
-            Next::Runs(reply(rt, ports, book, thread, msg, error, outcome, trace))
+            Next::Runs(reply(ports, book, thread, msg, error, outcome, trace))
         }
         // drops and aborts have no call yet
         Ask::Abort(_) | Ask::DropMsg(_) => refused(Fault::NotOwner),

@@ -10,7 +10,6 @@ use lwkt_bank::Bank;
 use lwkt_base::Fault;
 use lwkt_core::Event;
 use lwkt_msg::MsgBook;
-use std::sync::Wait;
 
 // One turn more, counted by its answer.
 fn count(drove: Drove, turned: Turned) -> Drove
@@ -56,7 +55,6 @@ impl<B: Body> Cpu<B> {
     /// Refused with `Memory` as `turn` is; the turns made so far stand.
     pub fn drive(
         &mut self,
-        rt: &impl Wait,
         bank: &Bank,
         book: &MsgBook,
         limit: u64,
@@ -76,7 +74,7 @@ impl<B: Body> Cpu<B> {
             all_exited: false,
         };
         for made in 0..limit {
-            let turned = self.turn(rt, bank, book, trace)?;
+            let turned = self.turn(bank, book, trace)?;
             drove = count(drove, turned);
             if is_last(turned) {
                 return Ok(drove);

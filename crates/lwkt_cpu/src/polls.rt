@@ -21,7 +21,6 @@ use lwkt_core::Event;
 use lwkt_hold::Hold;
 use lwkt_msg::MsgBook;
 use lwkt_port::Ports;
-use std::sync::Wait;
 
 // A list of references is always a lawful one.
 fn is_lawful(list: &TokList)
@@ -33,7 +32,6 @@ fn is_lawful(list: &TokList)
 /// Polls a thread whose list is held with the answer that is kept for it, and performs its ask; says whether it goes on
 /// running.
 pub(crate) fn poll_one<B: Body>(
-    rt: &impl Wait,
     hold: &mut Hold,
     ports: &mut Ports,
     bank: &Bank,
@@ -61,7 +59,6 @@ pub(crate) fn poll_one<B: Body>(
 {
     let ask = body.poll(thread.last);
     let next = perform(
-        rt,
         hold,
         ports,
         bank,

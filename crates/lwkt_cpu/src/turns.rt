@@ -17,7 +17,6 @@ use lwkt_bank::Bank;
 use lwkt_base::Fault;
 use lwkt_core::Event;
 use lwkt_msg::MsgBook;
-use std::sync::Wait;
 
 /// The room that a turn makes in its trace.
 pub(crate) const TURN_EVENTS: usize = 4096;
@@ -45,7 +44,7 @@ impl<B> Cpu<B> {
     }
 
     // Takes mail in, and looks after the threads that wait.
-    fn take_mail(&mut self, rt: &impl Wait, book: &MsgBook, trace: &mut Vec<Event>)
+    fn take_mail(&mut self, book: &MsgBook, trace: &mut Vec<Event>)
         requires table { self.old.post.seat.table ≡ book.now.table }
         requires room { vec_len trace.old + 2304 ≤ vec_capacity trace.old }
         ensures mail { TakesMail self.old self.new trace.old trace.new }
@@ -53,7 +52,7 @@ impl<B> Cpu<B> {
         ensures woken { AreWoken self.old.threads self.new.threads }
         ensures table { self.new.post.seat.table ≡ self.old.post.seat.table }
     {
-        self.ports.take_in(rt, book, TURN_NOTES, trace);
+        self.ports.take_in(book, TURN_NOTES, trace);
         wake_all(&mut self.ports, book, &mut self.threads, trace);
     }
 
@@ -79,14 +78,7 @@ impl<B> Cpu<B> {
 
 impl<B: Body> Cpu<B> {
     // Polls the thread that runs.
-    fn run_on(
-        &mut self,
-        rt: &impl Wait,
-        bank: &Bank,
-        book: &MsgBook,
-        place: usize,
-        trace: &mut Vec<Event>,
-    )
+    fn run_on(&mut self, bank: &Bank, book: &MsgBook, place: usize, trace: &mut Vec<Event>)
         requires of { bank_of self.old.seat ≡ id_of bank.now }
         requires table { self.old.post.seat.table ≡ book.now.table }
         requires runs { self.old.running ≡ Some place }
@@ -99,7 +91,6 @@ impl<B: Body> Cpu<B> {
         let thread = &mut self.threads[place];
         let number = place as u8;
         if !poll_one(
-            rt,
             &mut self.hold,
             &mut self.ports,
             bank,
@@ -119,7 +110,6 @@ impl<B: Body> Cpu<B> {
     /// Refused with `Memory` where the trace can't be given room for 4,096 events; nothing has changed then.
     pub fn turn(
         &mut self,
-        rt: &impl Wait,
         bank: &Bank,
         book: &MsgBook,
         trace: &mut Vec<Event>,
@@ -135,10 +125,10 @@ impl<B: Body> Cpu<B> {
         if trace.reserve(TURN_EVENTS).is_err() {
             return Err(Fault::Memory);
         }
-        self.take_mail(rt, book, trace);
+        self.take_mail(book, trace);
         match self.choose(bank, trace) {
             Some(place) => {
-                self.run_on(rt, bank, book, place, trace);
+                self.run_on(bank, book, place, trace);
                 Ok(Turned::Ran { thread: place })
             }
             None if self.all_over() => Ok(Turned::AllExited),

@@ -9,7 +9,7 @@ use Rattle.lwkt_ask.proofs.MailMoves.{ran_mail_held, ran_mail_left}
 use Rattle.lwkt_ask.proofs.mails.send_and_wait.Goals as goal
 
 pub returns-in-Ok-clause-does : goal.returns-in-Ok-clause-does
-returns-in-Ok-clause-does g c =
+returns-in-Ok-clause-does c =
     let m = c.send_sync in
     let F : Result (Unit {0}) Fault → Type 0 = λ r. WaitsReply c.args.hold.now.seat c.leave.new.hold.seat c.args.list.now m.new.trace c.leave.new.trace c.args.msg c.leave.result r in
     record {
@@ -20,10 +20,10 @@ returns-in-Ok-clause-does g c =
     }
 
 pub returns-in-Ok-clause-ran : goal.returns-in-Ok-clause-ran
-returns-in-Ok-clause-ran g c = ran_mail_left c.args.list.now (cpu_of c.args.ports.now.seat) 1 c.args.hold.now.seat c.leave.new.hold.seat c.args.trace.now c.send_sync.new.trace c.leave.new.trace (omega arith) c.requires.mine c.requires.held c.send_sync.ensures.grew c.leave.ensures.ran
+returns-in-Ok-clause-ran c = ran_mail_left c.args.list.now (cpu_of c.args.ports.now.seat) 1 c.args.hold.now.seat c.leave.new.hold.seat c.args.trace.now c.send_sync.new.trace c.leave.new.trace (omega arith) c.requires.mine c.requires.held c.send_sync.ensures.grew c.leave.ensures.ran
 
 pub returns-in-Err-clause-does : goal.returns-in-Err-clause-does
-returns-in-Err-clause-does g c =
+returns-in-Err-clause-does c =
     let m = c.send_sync in
     let s = c.args.hold.now.seat in
     let F : Result (Unit {0}) Fault → Type 0 = λ r. WaitsReply s s c.args.list.now m.new.trace m.new.trace c.args.msg (Runs (Refused c.in-Err.fault)) r in
@@ -35,4 +35,4 @@ returns-in-Err-clause-does g c =
     }
 
 pub returns-in-Err-clause-ran : goal.returns-in-Err-clause-ran
-returns-in-Err-clause-ran g c = ran_mail_held c.args.list.now (cpu_of c.args.ports.now.seat) 1 288 c.args.hold.now.seat c.args.trace.now c.send_sync.new.trace (omega arith) c.requires.mine c.requires.held c.send_sync.ensures.grew
+returns-in-Err-clause-ran c = ran_mail_held c.args.list.now (cpu_of c.args.ports.now.seat) 1 288 c.args.hold.now.seat c.args.trace.now c.send_sync.new.trace (omega arith) c.requires.mine c.requires.held c.send_sync.ensures.grew
