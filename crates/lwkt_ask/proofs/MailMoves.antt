@@ -2,18 +2,18 @@ use Rattle.std.proofs.Common.{◌≡◌, ℕ, suc, ◌+◌, ◌<◌, ◌≤◌, 
 use Rattle.std.specs.Prelude.{All, filter, Vec, vec_len, vec_capacity}
 use Rattle.std.specs.List.{AllZip}
 use Rattle.std.specs.declared.alloc.Global.{Global}
-use Rattle.std.proofs.lemmas.List.{append-nil}
 use Rattle.lwkt_base.specs.declared.names.Ref.{Ref}
 use Rattle.lwkt_base.specs.declared.names.CpuId.{CpuId}
 use Rattle.lwkt_base.specs.Holding.{Holding, holding_of}
 use Rattle.lwkt_core.specs.declared.events.Event.{Event}
 use Rattle.lwkt_core.specs.declared.events.Event.TheVariants.{Load, Take, Share, Again, Mark, GiveOne, GiveClean, GiveWritten, Read, Write, Send, TakeMsg, DropMsg, Reply, Reap, Abort}
 use Rattle.lwkt_core.specs.Events.{cpu_of}
+use Rattle.lwkt_core.proofs.HistoryLemmas.{own-nil}
 use Rattle.lwkt_bank.specs.declared.seats.CpuSeat.{CpuSeat}
-use Rattle.lwkt_bank.specs.Seats.{holding, steps_of}
+use Rattle.lwkt_bank.specs.Seats.{holding}
 use Rattle.lwkt_hold.specs.Fronts.{IsFront}
 use Rattle.lwkt_hold.specs.Runs.{Moves, Ran}
-use Rattle.lwkt_hold.specs.Steps.{after, is_on_word, Shows}
+use Rattle.lwkt_hold.specs.Steps.{after, is_of_token, is_on_word, Shows}
 use Rattle.lwkt_hold.proofs.RunMoves.{ran_then, ran_weaker}
 use Rattle.lwkt_hold.proofs.ReadMoves.{whole_front}
 use Rattle.lwkt_port.specs.Works.{IsOfMessages, Grew}
@@ -90,13 +90,38 @@ mail_words : (cpu : CpuId) (es : List Event) → All (IsOfMessages cpu) es → f
 mail_words cpu [] all = refl
 mail_words cpu (e ∷ es) all = mail_filter cpu e es (first_of (IsOfMessages cpu) e es all) ∙ mail_words cpu es (rest_of (IsOfMessages cpu) e es all)
 
+-- no event of a message is one of a token
+mail_plain : (cpu : CpuId) (e : Event) (es : List Event) → IsOfMessages cpu e → filter is_of_token (e ∷ es) ≡ filter is_of_token es
+mail_plain cpu (Load c t) es is = absurd is
+mail_plain cpu (Take c t) es is = absurd is
+mail_plain cpu (Share c t) es is = absurd is
+mail_plain cpu (Again c t) es is = absurd is
+mail_plain cpu (Mark c t) es is = absurd is
+mail_plain cpu (GiveOne c t) es is = absurd is
+mail_plain cpu (GiveClean c t) es is = absurd is
+mail_plain cpu (GiveWritten c t) es is = absurd is
+mail_plain cpu (Read c t i v) es is = absurd is
+mail_plain cpu (Write c t i v) es is = absurd is
+mail_plain cpu (Send c m to r) es is = refl
+mail_plain cpu (TakeMsg c m r) es is = refl
+mail_plain cpu (DropMsg c m) es is = refl
+mail_plain cpu (Reply c m) es is = refl
+mail_plain cpu (Reap c m) es is = refl
+mail_plain cpu (Abort c m) es is = refl
+
+mail_tokens : (cpu : CpuId) (es : List Event) → All (IsOfMessages cpu) es → filter is_of_token es ≡ []
+mail_tokens cpu [] all = refl
+mail_tokens cpu (e ∷ es) all = mail_plain cpu e es (first_of (IsOfMessages cpu) e es all) ∙ mail_tokens cpu es (rest_of (IsOfMessages cpu) e es all)
+
 -- a call on the ports, as a run: its events are no steps on words of tokens, and the seat stays as it is
 pub ran_mail : (P : Holding → Type 0) (cpu : CpuId) (n : ℕ) (s : CpuSeat) (t u : Vec Event Global) → cpu ≡ s.cpu → P (holding s) → Grew cpu n t u → Ran P n s s t u
 ran_mail P cpu n s t u mine p g = record {
   bank = refl;
   cpu = refl;
-  made = [];
-  steps = sym (append-nil (steps_of s));
+  deeds = [];
+  grows = refl;
+  mine = own-nil s.cpu.0;
+  tells = mail_tokens cpu g.made g.own;
   done = g.made;
   trace = g.trace_is;
   own = λ k d below. mail_own cpu _ (g.own k d below) ∙ ap (λ (x : CpuId). x.0) mine;

@@ -86,9 +86,7 @@ pub fn perform(
             Next::Runs(send(ports, book, thread, msg, to, call, flags, trace))
         }
         Ask::Do(msg, to, call) => {
-            send_and_wait(
-                rt, hold, ports, bank, book, thread, list, msg, to, call, trace,
-            )
+            send_and_wait(hold, ports, bank, book, thread, list, msg, to, call, trace)
         }
         Ask::Reply(msg, error, outcome) => {
             Next::Runs(reply(ports, book, thread, msg, error, outcome, trace))

@@ -26,7 +26,7 @@ use Rattle.lwkt_core.specs.declared.seats.Deed.{Deed}
 use Rattle.lwkt_core.specs.History.{events_in, steps_in}
 use Rattle.lwkt_bank.specs.Deeds.{reads_all, writes_all}
 use Rattle.lwkt_bank.specs.Seats.{BankId, bank_of, plan_of, entry, holding, Knowing, Restored, lawful_loads, written_over}
-use Rattle.lwkt_hold.specs.Steps.{is_counted, is_on_word, Shows, Tells}
+use Rattle.lwkt_hold.specs.Steps.{is_counted, is_of_token, is_on_word, Shows, Tells}
 use Rattle.lwkt_hold.specs.Runs.{Moves, Ran}
 use Rattle.lwkt_hold.specs.Rows.{row, first_row, MeetsItsLaw, IsBroken, SameRow, writes, GivesBack, Mends}
 use Rattle.lwkt_hold.specs.Givings.{StoresFirst}
@@ -55,6 +55,11 @@ tells_writes cpu tok cell [] = refl
 tells_writes cpu tok cell (None ∷ values) = tells_writes cpu tok (suc cell) values
 tells_writes cpu tok cell (Some value ∷ values) = inr (refl, (writes cpu tok (suc cell) values, (refl, tells_writes cpu tok (suc cell) values)))
 
+writes_of_token : (cpu : CpuId) (tok : TokId) (cell : ℕ) (values : List (Option ℕ)) → filter is_of_token (writes cpu tok cell values) ≡ writes cpu tok cell values
+writes_of_token cpu tok cell [] = refl
+writes_of_token cpu tok cell (None ∷ values) = writes_of_token cpu tok (suc cell) values
+writes_of_token cpu tok cell (Some value ∷ values) = ap (λ (es : List Event). Write cpu tok cell value ∷ es) (writes_of_token cpu tok (suc cell) values)
+
 no_steps : (cpu : CpuId) (tok cell : ℕ) (values : List (Option ℕ)) → steps_in (writes_all cpu tok cell values) ≡ []
 no_steps cpu tok cell [] = refl
 no_steps cpu tok cell (None ∷ values) = no_steps cpu tok (suc cell) values
@@ -68,7 +73,10 @@ stored_ran P s s' tok cpu values t u r at_front mine pushed longer few room = re
   deeds = writes_all s.cpu tok.0 0 values;
   grows = r.changes.grows;
   mine = r.changes.own;
-  tells = let F : CpuId → Type 0 = λ c. Tells (events_in (writes_all s.cpu tok.0 0 values)) (writes c tok 0 values) in subst F (sym mine) (tells_writes s.cpu tok 0 values);
+  tells =
+      let F : CpuId → Type 0 = λ c. Tells (events_in (writes_all s.cpu tok.0 0 values)) (writes c tok 0 values) in
+      let G : List Event → Type 0 = λ es. Tells (events_in (writes_all s.cpu tok.0 0 values)) es in
+      subst G (sym (writes_of_token cpu tok 0 values)) (subst F (sym mine) (tells_writes s.cpu tok 0 values));
   done = writes cpu tok 0 values;
   trace = pushed;
   own = let F : ℕ → Type 0 = λ k. All (λ (e : Event). cpu_of e ≡ k) (writes cpu tok 0 values) in subst F (ap (λ (x : CpuId). x.0) mine) (writes_own cpu tok 0 values);

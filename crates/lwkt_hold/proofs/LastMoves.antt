@@ -22,7 +22,7 @@ use Rattle.lwkt_base.specs.declared.names.CpuId.{CpuId}
 use Rattle.lwkt_hold.specs.Fronts.{IsFront}
 use Rattle.lwkt_hold.specs.Takings.{takes}
 use Rattle.lwkt_core.specs.History.{events_in, steps_in}
-use Rattle.lwkt_hold.specs.Steps.{is_counted, is_on_word, Shows, Tells}
+use Rattle.lwkt_hold.specs.Steps.{is_counted, is_of_token, is_on_word, Shows, Tells}
 use Rattle.lwkt_hold.specs.Runs.{Moves, Ran}
 use Rattle.lwkt_hold.proofs.HoldingMoves.{holding_of_push, removed_added}
 use Rattle.lwkt_hold.proofs.GiveMoves.{more_here, held_more}
@@ -97,7 +97,7 @@ ran_silent P Q m n a b t u silent ran =
       deeds = ran.deeds;
       grows = ran.grows;
       mine = ran.mine;
-      tells = let F : List Event → Type 0 = λ xs. Tells (events_in ran.deeds) xs in subst F none ran.tells;
+      tells = let F : List Event → Type 0 = λ xs. Tells (events_in ran.deeds) (filter is_of_token xs) in subst F none ran.tells;
       done = [];
       trace = ran.trace ∙ ap (λ xs. t.items ++ xs) none;
       own = let F : List Event → Type 0 = λ xs. All (λ e. cpu_of e ≡ a.cpu.0) xs in subst F none ran.own;

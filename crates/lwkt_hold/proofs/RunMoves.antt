@@ -18,7 +18,7 @@ use Rattle.lwkt_core.specs.Events.{cpu_of}
 use Rattle.lwkt_bank.specs.declared.views.Entry.{Entry}
 use Rattle.lwkt_bank.specs.declared.seats.CpuSeat.{CpuSeat}
 use Rattle.lwkt_bank.specs.Seats.{holding, past_of, steps_of, Changes}
-use Rattle.lwkt_hold.specs.Steps.{after, is_counted, is_on_word, is_look, Shows, Tells}
+use Rattle.lwkt_hold.specs.Steps.{after, is_counted, is_of_token, is_on_word, is_look, Shows, Tells}
 use Rattle.lwkt_hold.specs.Runs.{Moves, Ran}
 
 -- moves one after the other
@@ -92,8 +92,11 @@ ran_then P m n a b c t u v first second = record {
       let F : CpuId → Type 0 = λ k. AreOwn k.0 second.deeds in
       own-append a.cpu.0 first.deeds second.deeds first.mine (subst F first.cpu second.mine);
   tells =
-      let F : List Event → Type 0 = λ es. Tells es (first.done ++ second.done) in
-      subst F (sym (events_in-append first.deeds second.deeds)) (Tells-append (events_in first.deeds) (events_in second.deeds) first.done second.done first.tells second.tells);
+      let F : List Event → Type 0 = λ es. Tells es (filter is_of_token (first.done ++ second.done)) in
+      let G : List Event → Type 0 = λ es. Tells (events_in first.deeds ++ events_in second.deeds) es in
+      subst F (sym (events_in-append first.deeds second.deeds))
+      (subst G (sym (filter-append is_of_token first.done second.done))
+      (Tells-append (events_in first.deeds) (events_in second.deeds) (filter is_of_token first.done) (filter is_of_token second.done) first.tells second.tells));
   done = first.done ++ second.done;
   trace = second.trace ∙ ap (λ xs. xs ++ second.done) first.trace ∙ append_assoc t.items first.done second.done;
   own =
@@ -190,7 +193,7 @@ ran_quiet P s s' tok e deeds t c held untold none = record {
 }
 
 -- a call with one event
-pub ran_step : (P : Holding → Type 0) (s s' : CpuSeat) (tok : ℕ) (e : Entry) (deeds : List Deed) (ev : Event) (t u : Vec Event Global) → Changes s s' tok e deeds → u.items ≡ t.items ++ ev ∷ [] → vec_len u ≡ vec_len t + 1 → vec_capacity t ≤ vec_capacity u → cpu_of ev ≡ s.cpu.0 → Tells (events_in deeds) (ev ∷ []) → AllZip Shows (filter is_counted (steps_in deeds)) (filter is_on_word (ev ∷ [])) → holding s' ≡ after ev (holding s) → P (holding s') → Ran P 1 s s' t u
+pub ran_step : (P : Holding → Type 0) (s s' : CpuSeat) (tok : ℕ) (e : Entry) (deeds : List Deed) (ev : Event) (t u : Vec Event Global) → Changes s s' tok e deeds → u.items ≡ t.items ++ ev ∷ [] → vec_len u ≡ vec_len t + 1 → vec_capacity t ≤ vec_capacity u → cpu_of ev ≡ s.cpu.0 → Tells (events_in deeds) (filter is_of_token (ev ∷ [])) → AllZip Shows (filter is_counted (steps_in deeds)) (filter is_on_word (ev ∷ [])) → holding s' ≡ after ev (holding s) → P (holding s') → Ran P 1 s s' t u
 ran_step P s s' tok e deeds ev t u c pushed longer room own tells told moved at_front = record {
   bank = c.bank;
   cpu = c.cpu;

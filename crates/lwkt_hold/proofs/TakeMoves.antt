@@ -25,7 +25,7 @@ use Rattle.lwkt_bank.specs.Deeds.{take_event, loads, takes, loses, adds_one}
 use Rattle.lwkt_bank.specs.Seats.{bank_of, tokens_of, entry, holding, references, steps_of, Looked, Took, Lost, Stepped}
 use Rattle.lwkt_hold.specs.declared.answers.Missed.{Missed}
 use Rattle.lwkt_hold.specs.Fronts.{IsFront, is_alone, names}
-use Rattle.lwkt_hold.specs.Steps.{after, is_counted, is_on_word, is_look, Shows, taking}
+use Rattle.lwkt_hold.specs.Steps.{after, is_counted, is_of_token, is_on_word, is_look, Shows, Tells, taking}
 use Rattle.lwkt_hold.specs.Runs.{Ran}
 use Rattle.lwkt_hold.specs.Misses.{IsMiss, Misses}
 use Rattle.lwkt_hold.proofs.HoldingMoves.{holding_of_more, more_in_any_mode, count_of_list, held_named}
@@ -116,6 +116,10 @@ took_holds s s' refs at d alone g within front named took =
     let e : holding s' ≡ added (holding s) r.tok.0 r.mode = holding_changed s s' r.tok.0 (taken (entry s r.tok.0) took.word r.mode took.row) (loads s.cpu r.tok.0 took.word ∷ takes s.cpu r.tok.0 r.mode took.word took.next took.word ∷ []) (λ x. one_more x r.mode) took.changes (ap (λ x. one_more x r.mode) (sym free)) in
     (e, e ∙ ap (λ h. added h r.tok.0 r.mode) front ∙ sym (holding_of_more refs at d within))
 
+taking_of_token : (cpu : CpuId) (tok : TokId) (mode : Mode) → filter is_of_token (taking cpu tok mode ∷ []) ≡ taking cpu tok mode ∷ []
+taking_of_token cpu tok Exclusive = refl
+taking_of_token cpu tok Shared = refl
+
 pub took_ran : (s s' : CpuSeat) (refs : List Ref) (at : ℕ) (d : Ref) (alone : Bool) (g : ℕ) (cpu : CpuId) (ev : Event) (t u : Vec Event Global) → at < length refs → holding s ≡ holding_of (take at refs) → names (take at refs) (get_or refs at d).tok.0 ≡ false → Took s s' (get_or refs at d).tok.0 (get_or refs at d).mode alone g → cpu ≡ s.cpu → ev ≡ taking cpu (get_or refs at d).tok (get_or refs at d).mode → u.items ≡ t.items ++ ev ∷ [] → vec_len u ≡ vec_len t + 1 → vec_capacity t ≤ vec_capacity u → Ran (IsFront refs) 1 s s' t u
 took_ran s s' refs at d alone g cpu ev t u within front named took mine is pushed longer room =
     let r = get_or refs at d in
@@ -123,7 +127,10 @@ took_ran s s' refs at d alone g cpu ev t u within front named took mine is pushe
     let F : List WordStep → Type 0 = λ xs. AllZip Shows xs (filter is_on_word (taking cpu r.tok r.mode ∷ [])) in
     ran_step (IsFront refs) s s' r.tok.0 (taken (entry s r.tok.0) took.word r.mode took.row) (loads s.cpu r.tok.0 took.word ∷ takes s.cpu r.tok.0 r.mode took.word took.next took.word ∷ []) (taking cpu r.tok r.mode) t u took.changes (pushed ∙ ap (λ x. t.items ++ x ∷ []) is) longer room
     (cpu_of_taking cpu r.tok r.mode ∙ ap (λ (x : CpuId). x.0) mine)
-    (inl (refl, tells_one (take_event s.cpu r.tok r.mode) (taking cpu r.tok r.mode) (take_is_no_look s.cpu r.tok r.mode) (ap (λ (x : CpuId). taking x r.tok r.mode) mine ∙ same_taking s.cpu r.tok r.mode)))
+    (inl (refl,
+    (let G : List Event → Type 0 = λ es. Tells (take_event s.cpu r.tok r.mode ∷ []) es in
+    subst G (sym (taking_of_token cpu r.tok r.mode))
+    (tells_one (take_event s.cpu r.tok r.mode) (taking cpu r.tok r.mode) (take_is_no_look s.cpu r.tok r.mode) (ap (λ (x : CpuId). taking x r.tok r.mode) mine ∙ same_taking s.cpu r.tok r.mode)))))
     (subst F (sym (won r.tok.0 took.word took.next)) (shows_taking cpu r.tok r.mode took.word took.next))
     (e.0 ∙ sym (after_taking cpu r.tok r.mode (holding s))) (at + 1, e.1)
 

@@ -85,6 +85,25 @@ abbrev pub Tells : List Event → List Event → Type 0
 Tells [] told = told ≡ []
 Tells (e ∷ events) told = ((may_be_untold e ≡ true) × Tells events told) ⊎ ((is_look e ≡ false) × ((rest : List Event) × ((told ≡ e ∷ rest) × Tells events rest)))
 
+-- whether an event is one of a token
+abbrev pub is_of_token : Event → Bool
+is_of_token (Load cpu tok) = true
+is_of_token (Take cpu tok) = true
+is_of_token (Share cpu tok) = true
+is_of_token (Again cpu tok) = true
+is_of_token (Mark cpu tok) = true
+is_of_token (GiveOne cpu tok) = true
+is_of_token (GiveClean cpu tok) = true
+is_of_token (GiveWritten cpu tok) = true
+is_of_token (Read cpu tok cell value) = true
+is_of_token (Write cpu tok cell value) = true
+is_of_token (Send cpu msg to round) = false
+is_of_token (TakeMsg cpu msg round) = false
+is_of_token (DropMsg cpu msg) = false
+is_of_token (Reply cpu msg) = false
+is_of_token (Reap cpu msg) = false
+is_of_token (Abort cpu msg) = false
+
 -- whether an event is a step on the word of a token
 abbrev pub is_on_word : Event → Bool
 is_on_word (Take cpu tok) = true
