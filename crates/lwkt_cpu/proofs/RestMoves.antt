@@ -5,6 +5,7 @@ use Rattle.std.proofs.lemmas.Bool.{cases_lt, eqb-true, eqb-false, cases_Bool, fa
 use Rattle.std.proofs.lemmas.List.{take_at, length-set}
 use Rattle.std.proofs.lemmas.List.Elements.{All-nil}
 use Rattle.std.proofs.lemmas.Option.{slice_get-get_or, slice_get_within}
+use Rattle.lwkt_msg.specs.Views.{seat_cpu}
 use Rattle.lwkt_base.specs.declared.names.Ref.{Ref}
 use Rattle.lwkt_base.specs.Refs.{IsLawful}
 use Rattle.lwkt_base.specs.Holding.{Holding, holding_of}
@@ -15,7 +16,7 @@ use Rattle.lwkt_hold.specs.Fronts.{IsBetween, IsFront}
 use Rattle.lwkt_hold.specs.Runs.{Ran}
 use Rattle.lwkt_hold.proofs.RunMoves.{ran_then, ran_weaker, ran_with_room}
 use Rattle.lwkt_base.specs.declared.faults.Fault.TheVariants.{Worn as WornOut}
-use Rattle.lwkt_msg.specs.Desks.{seat_cpu, messages_of}
+use Rattle.lwkt_msg.specs.Desks.{messages_of}
 use Rattle.lwkt_port.specs.Posts.{Post, IsSamePost}
 use Rattle.lwkt_cpu.specs.declared.phases.Phase.{Phase}
 use Rattle.lwkt_cpu.specs.declared.phases.Phase.TheVariants.{Live, AwaitsReply, Faulted}

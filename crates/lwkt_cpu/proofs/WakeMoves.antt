@@ -1,3 +1,4 @@
+use Rattle.lwkt_msg.specs.Views.{seat_cpu}
 use Rattle.lwkt_cpu.specs.Fresh.{fresh}
 use Rattle.std.proofs.Common.{◌≡◌, ℕ, ◌+◌, ◌<◌, ◌≤◌, eqb, List, length, set, refl, ap, sym, ◌∙◌, subst, arith, inl, inr, Option, Some, None, zero, suc, replicate}
 use Rattle.std.specs.Prelude.{All, Vec, IsSomeAnd, slice_get}
@@ -13,7 +14,7 @@ use Rattle.lwkt_core.specs.declared.events.Event.{Event}
 use Rattle.lwkt_bank.specs.declared.seats.CpuSeat.{CpuSeat}
 use Rattle.lwkt_bank.specs.Seats.{bank_of, tokens_of, holding}
 use Rattle.lwkt_hold.proofs.ReadMoves.{whole_front}
-use Rattle.lwkt_msg.specs.Desks.{seat_cpu, cpu_of, messages_of}
+use Rattle.lwkt_msg.specs.Desks.{cpu_of, messages_of}
 use Rattle.lwkt_port.specs.Posts.{Post, IsSamePost}
 use Rattle.lwkt_port.specs.Works.{Grew}
 use Rattle.lwkt_port.proofs.Growing.{grew_then, same_none, same_then}
