@@ -1,8 +1,4 @@
 //! Bodies as lists of asks: two processors with their lists crossed, a broken law at a wait, and asks that name nothing.
-ghost use Rattle.std.specs.Prelude.{All};
-ghost use Rattle.lwkt_bank.specs.Seats.{id_of};
-ghost use Rattle.lwkt_cpu_rows.specs.Free.{IsFree};
-
 use crate::drivers::{Driver, Watch, next_driver, next_watch, open, token};
 use crate::scripts::Script;
 use lwkt_base::{
@@ -101,10 +97,10 @@ const FIRST_ANSWERS: [Answer; 9] = [
 fn crossed_lists(rt: HostRuntime) -> Result<(), Fail> {
     let alloc = rt.alloc();
     let tokens = two_tokens(alloc)?;
-    let (bank, mut seats) = open(alloc, &tokens, 3)?;
-    let mut watch = next_watch(&bank, &mut seats).ok_or("a seat to look")?;
-    let mut second = next_driver(alloc, &bank, &mut seats, one(alloc, &SECOND_ASKS)?)?;
-    let mut first = next_driver(alloc, &bank, &mut seats, one(alloc, &FIRST_ASKS)?)?;
+    let (board, mut seats) = open(alloc, &tokens, &[], 3)?;
+    let mut watch = next_watch(&board, &mut seats).ok_or("a seat to look")?;
+    let mut second = next_driver(alloc, &board, &mut seats, one(alloc, &SECOND_ASKS)?)?;
+    let mut first = next_driver(alloc, &board, &mut seats, one(alloc, &FIRST_ASKS)?)?;
     assert_eq!(rt;
         first_other(&mut first, &mut second, &mut watch, &ROUNDS)?,
         None
@@ -123,7 +119,7 @@ fn crossed_lists(rt: HostRuntime) -> Result<(), Fail> {
 fn law_broken_at_wait(rt: HostRuntime) -> Result<(), Fail> {
     let alloc = rt.alloc();
     let tokens = [token(alloc, Law::Sum, 10, &[5, 5])?];
-    let (bank, mut seats) = open(alloc, &tokens, 1)?;
+    let (board, mut seats) = open(alloc, &tokens, &[], 1)?;
     let script = Script::new(
         alloc,
         &[Ask::Get(FIRST), Ask::Write(FIRST, 0, 9), Ask::WaitPort],
@@ -131,7 +127,7 @@ fn law_broken_at_wait(rt: HostRuntime) -> Result<(), Fail> {
     let boxed: Box<dyn Body + Drop> = Box::new(alloc, script)?;
     let mut bodies = Vec::new(alloc);
     bodies.push(boxed)?;
-    let mut driver = next_driver(alloc, &bank, &mut seats, bodies)?;
+    let mut driver = next_driver(alloc, &board, &mut seats, bodies)?;
     let drove = driver.drive(50)?;
     assert!(rt; drove.ran == 3 && drove.idle == 1 && drove.all_exited);
     assert!(rt; driver.state(0) == Some(ThreadState::Faulted(Fault::Broken)));
@@ -159,52 +155,81 @@ fn law_broken_at_wait(rt: HostRuntime) -> Result<(), Fail> {
     Ok(())
 }
 
+const CALL: Call = Call { arg: 0, op: 0 };
+
+const FLAGS: Flags = Flags {
+    dropable: false,
+    abortable: false,
+};
+
+const NOWHERE: ThreadId = ThreadId {
+    cpu: CpuId(255),
+    thread: 255,
+};
+
+const HERE: ThreadId = ThreadId {
+    cpu: CpuId(0),
+    thread: 0,
+};
+
+const NO_MSG: MsgId = MsgId(255);
+
+const ASKS_OF_NOTHING: [Ask; 19] = [
+    Ask::Get(NONE),
+    Ask::GetShared(NONE),
+    Ask::TryGet(NONE),
+    Ask::Rel(NONE),
+    Ask::Swap,
+    Ask::Read(NONE, 255),
+    Ask::Write(NONE, 255, 255),
+    Ask::Add(NONE, 255),
+    Ask::Reply(NO_MSG, 255, 255),
+    Ask::Read(FIRST, 255),
+    Ask::Send(NO_MSG, NOWHERE, CALL, FLAGS),
+    Ask::Send(NO_MSG, HERE, CALL, FLAGS),
+    Ask::Do(NO_MSG, NOWHERE, CALL),
+    Ask::DropMsg(NO_MSG),
+    Ask::Abort(NO_MSG),
+    Ask::IsAborted(NO_MSG),
+    Ask::GetPort,
+    Ask::Yield,
+    Ask::WaitPort,
+];
+
+const REFUSALS: [Answer; 19] = [
+    Answer::Begin,
+    Answer::Refused(Fault::NoToken),
+    Answer::Refused(Fault::NoToken),
+    Answer::Refused(Fault::NoToken),
+    Answer::Refused(Fault::NotHeld),
+    Answer::Refused(Fault::SwapShort),
+    Answer::Refused(Fault::NoToken),
+    Answer::Refused(Fault::NoToken),
+    Answer::Refused(Fault::NoToken),
+    Answer::Refused(Fault::NotTaken),
+    Answer::Refused(Fault::NoCell),
+    Answer::Refused(Fault::NoPort),
+    Answer::Refused(Fault::NotOwner),
+    Answer::Refused(Fault::NoPort),
+    Answer::Refused(Fault::NotOwner),
+    Answer::Refused(Fault::NotOwner),
+    Answer::Refused(Fault::NotTaken),
+    Answer::NoMsg,
+    Answer::Done,
+];
+
 #[test]
 fn asks_of_nothing(rt: HostRuntime) -> Result<(), Fail> {
     let alloc = rt.alloc();
     let tokens = two_tokens(alloc)?;
-    let (bank, mut seats) = open(alloc, &tokens, 1)?;
-    let call = Call { arg: 0, op: 0 };
-    let flags = Flags {
-        dropable: false,
-        abortable: false,
-    };
-    let to = ThreadId {
-        cpu: CpuId(255),
-        thread: 255,
-    };
-    let asks = [
-        Ask::Get(NONE),
-        Ask::GetShared(NONE),
-        Ask::TryGet(NONE),
-        Ask::Rel(NONE),
-        Ask::Swap,
-        Ask::Read(NONE, 255),
-        Ask::Write(NONE, 255, 255),
-        Ask::Add(NONE, 255),
-        Ask::Reply(MsgId(255), 255, 255),
-        Ask::Read(FIRST, 255),
-        Ask::Send(MsgId(255), to, call, flags),
-    ];
-    let mut driver = next_driver(alloc, &bank, &mut seats, one(alloc, &asks)?)?;
+    let (board, mut seats) = open(alloc, &tokens, &[], 1)?;
+    let bodies = one(alloc, &ASKS_OF_NOTHING)?;
+    let mut driver = next_driver(alloc, &board, &mut seats, bodies)?;
     let drove = driver.drive(50)?;
-    assert!(rt; drove.ran == 12 && drove.all_exited);
-    let want = [
-        Answer::Begin,
-        Answer::Refused(Fault::NoToken),
-        Answer::Refused(Fault::NoToken),
-        Answer::Refused(Fault::NoToken),
-        Answer::Refused(Fault::NotHeld),
-        Answer::Refused(Fault::SwapShort),
-        Answer::Refused(Fault::NoToken),
-        Answer::Refused(Fault::NoToken),
-        Answer::Refused(Fault::NoToken),
-        Answer::Refused(Fault::NotTaken),
-        Answer::Refused(Fault::NoCell),
-        Answer::Refused(Fault::NotOwner),
-    ];
+    assert!(rt; drove.ran == 19 && drove.idle == 31 && !drove.all_exited);
     let body = driver.body(0).ok_or("a body")?;
-    assert_eq!(rt; body.answers(), want.as_slice());
+    assert_eq!(rt; body.answers(), REFUSALS.as_slice());
+    assert!(rt; driver.state(0) == Some(ThreadState::Waiting));
     assert!(rt; driver.trace().is_empty());
     Ok(())
 }

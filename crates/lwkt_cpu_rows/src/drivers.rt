@@ -1,21 +1,49 @@
-//! Processors at a bank.
-ghost use Rattle.std.specs.Prelude.{◌≡◌, All, IfOk};
+//! Processors at a bank and a book.
+ghost use Rattle.std.specs.Prelude.{◌≡◌, map, All, IfOk};
+ghost use Rattle.lwkt_base.specs.declared.openings.MsgSpec.{MsgSpec};
 ghost use Rattle.lwkt_bank.specs.Seats.{id_of, bank_of};
-ghost use Rattle.lwkt_cpu_rows.specs.Free.{IsFree};
+ghost use Rattle.lwkt_msg.specs.Desks.{cpu_of};
+ghost use Rattle.lwkt_cpu_rows.specs.Free.{IsFree, IsGiven};
 
 use lwkt_bank::{Bank, CpuSeat};
-use lwkt_base::{Cells, Fault, Law, ThreadState, TokId, TokSpec};
+use lwkt_base::{Cells, CpuId, Fault, Law, MsgSpec, ThreadId, ThreadState, TokId, TokSpec};
 use lwkt_core::Event;
 use lwkt_cpu::{Body, Cpu, Drove, Turned};
+use lwkt_lane::{LaneIn, LaneOut, lane};
+use lwkt_msg::{MsgBook, MsgSeat};
+use lwkt_port::Ports;
 use std::alloc::{AllocError, Global};
 
-/// A processor at its bank, with the events of its turns.
+// The notes that a lane has room for.
+const LANE_NOTES: usize = 32;
+
+/// A bank and a book, with the threads that its messages belong to.
+#[derive(Drop)]
+pub struct Board {
+    bank: Bank,
+    pub book: MsgBook,
+    origins: Vec<ThreadId>,
+    ghost owners: { origins.items ≡ map (λ (spec : MsgSpec). spec.origin) book.specs },
+}
+
+/// What processors are made of that weren't made yet, by their numbers: their seats, and the ends of their lanes.
+#[derive(Drop)]
+pub struct Seats {
+    seats: Vec<CpuSeat>,
+    mails: Vec<MsgSeat>,
+    outs: Vec<Vec<LaneOut>>,
+    ins: Vec<Vec<LaneIn>>,
+}
+
+/// A processor at its bank and its book, with the events of its turns.
 #[derive(Drop)]
 pub struct Driver<'a, B> {
     cpu: Cpu<B>,
     bank: &'a Bank,
+    book: &'a MsgBook,
     trace: Vec<Event>,
     ghost of: { bank_of cpu.seat ≡ id_of bank.now },
+    ghost table: { cpu.post.seat.table ≡ book.now.table },
 }
 
 /// A seat that looks at token words and holds nothing.
@@ -37,40 +65,184 @@ pub fn token(alloc: Global, law: Law, param: u64, cells: &[u64]) -> Result<TokSp
     })
 }
 
-/// A bank of these tokens, with a seat for each of so many processors.
-pub fn open(alloc: Global, specs: &[TokSpec], cpus: usize) -> Result<(Bank, Vec<CpuSeat>), Fault>
+// A bank of these tokens, with a seat for each of so many processors.
+fn open_bank(alloc: Global, specs: &[TokSpec], cpus: usize) -> Result<(Bank, Vec<CpuSeat>), Fault>
     ensures { IfOk result (λ opened. All (IsFree (id_of opened.0)) opened.1.items) }
 {
     Bank::open(alloc, specs, cpus)
 }
 
-/// The seat of the last processor that is left, to look at words.
-pub fn next_watch<'a>(bank: &'a Bank, seats: &mut Vec<CpuSeat>) -> Option<Watch<'a>>
-    requires { All (IsFree (id_of bank.now)) seats.old.items }
-    ensures { All (IsFree (id_of bank.now)) seats.new.items }
+// A book of these messages, with a seat for each of so many processors.
+fn open_book(
+    alloc: Global,
+    specs: &[MsgSpec],
+    cpus: usize,
+) -> Result<(MsgBook, Vec<MsgSeat>), Fault>
+    ensures specs { IfOk result (λ opened. opened.0.specs ≡ specs.now) }
+    ensures seats { IfOk result (λ opened. All (IsGiven opened.0) opened.1.items) }
 {
-    let seat = seats.pop()?;
-    Some(Watch { seat, bank })
+    MsgBook::open(alloc, specs, cpus)
+}
+
+// The threads that messages belong to.
+fn origins_of(alloc: Global, specs: &[MsgSpec]) -> Result<Vec<ThreadId>, AllocError>
+    ensures { IfOk result (λ v. v.items ≡ map (λ (spec : MsgSpec). spec.origin) specs.now) }
+{
+    specs.iter().map(|spec| spec.origin).collect(alloc)
+}
+
+// A list for each of so many processors, of the ends of the lanes to it.
+fn no_ends(alloc: Global, cpus: usize) -> Result<Vec<Vec<LaneIn>>, AllocError> {
+    let mut ins = Vec::new(alloc);
+    for made in 0..cpus {
+        ins.push(Vec::new(alloc))?;
+    }
+    Ok(ins)
+}
+
+// A lane, whose receiving end goes to this list.
+fn lane_to(alloc: Global, ends: &mut Vec<LaneIn>) -> Result<LaneOut, Fault> {
+    let (out, into) = lane(alloc, LANE_NOTES)?;
+    ends.push(into).map_err(|_| Fault::Memory)?;
+    Ok(out)
+}
+
+// The lanes from a processor to each one.
+fn lanes_to_all(alloc: Global, ins: &mut [Vec<LaneIn>]) -> Result<Vec<LaneOut>, Fault> {
+    let mut outs = Vec::new(alloc);
+    for to in 0..ins.len() {
+        let out = lane_to(alloc, &mut ins[to])?;
+        outs.push(out).map_err(|_| Fault::Memory)?;
+    }
+    Ok(outs)
+}
+
+// The lanes from each processor.
+fn lanes_from_all(alloc: Global, ins: &mut [Vec<LaneIn>]) -> Result<Vec<Vec<LaneOut>>, Fault> {
+    let mut outs = Vec::new(alloc);
+    for from in 0..ins.len() {
+        let row = lanes_to_all(alloc, ins)?;
+        outs.push(row).map_err(|_| Fault::Memory)?;
+    }
+    Ok(outs)
+}
+
+/// A bank of these tokens and a book of these messages, with seats for each of so many processors.
+pub fn open(
+    alloc: Global,
+    tokens: &[TokSpec],
+    messages: &[MsgSpec],
+    cpus: usize,
+) -> Result<(Board, Seats), Fault>
+    ensures seats { IfOk result (λ opened. All (IsFree (id_of opened.0.bank)) opened.1.seats.items) }
+    ensures mails { IfOk result (λ opened. All (IsGiven opened.0.book) opened.1.mails.items) }
+{
+    let (bank, seats) = open_bank(alloc, tokens, cpus)?;
+    let (book, mails) = open_book(alloc, messages, cpus)?;
+    let origins = origins_of(alloc, messages).map_err(|_| Fault::Memory)?;
+    let mut ins = no_ends(alloc, cpus).map_err(|_| Fault::Memory)?;
+    let outs = lanes_from_all(alloc, &mut ins)?;
+    let board = Board {
+        bank,
+        book,
+        origins,
+    };
+    let seats = Seats {
+        seats,
+        mails,
+        outs,
+        ins,
+    };
+    Ok((board, seats))
+}
+
+/// The seat of the last processor that is left, to look at words.
+pub fn next_watch<'a>(board: &'a Board, seats: &mut Seats) -> Option<Watch<'a>>
+    requires seats { All (IsFree (id_of board.now.bank)) seats.old.seats.items }
+    requires mails { All (IsGiven board.now.book) seats.old.mails.items }
+    ensures seats { All (IsFree (id_of board.now.bank)) seats.new.seats.items }
+    ensures mails { All (IsGiven board.now.book) seats.new.mails.items }
+{
+    let seat = seats.seats.pop()?;
+    let _ = seats.mails.pop();
+    let _ = seats.outs.pop();
+    let _ = seats.ins.pop();
+    Some(Watch {
+        seat,
+        bank: &board.bank,
+    })
+}
+
+// Ports of this processor, over a seat that was just opened.
+fn open_ports(
+    alloc: Global,
+    board: &Board,
+    id: CpuId,
+    mail: MsgSeat,
+    outs: Vec<LaneOut>,
+    ins: Vec<LaneIn>,
+    threads: usize,
+) -> Result<Ports, Fault>
+    requires { IsGiven board.now.book mail }
+    ensures table { IfOk result (λ ports. ports.seat.table ≡ board.now.book.table) }
+    ensures cpu { IfOk result (λ ports. cpu_of ports.seat ≡ id) }
+{
+    let cpu = mail.cpu();
+    if cpu != id {
+        return Err(Fault::Limits);
+    }
+    Ports::new(alloc, cpu, mail, outs, ins, &board.origins, threads)
+}
+
+// The ports of the last processor that is left, which is to be this one.
+fn next_ports(
+    alloc: Global,
+    board: &Board,
+    seats: &mut Seats,
+    id: CpuId,
+    threads: usize,
+) -> Result<Ports, Fault>
+    requires seats { All (IsFree (id_of board.now.bank)) seats.old.seats.items }
+    requires mails { All (IsGiven board.now.book) seats.old.mails.items }
+    ensures seats { All (IsFree (id_of board.now.bank)) seats.new.seats.items }
+    ensures mails { All (IsGiven board.now.book) seats.new.mails.items }
+    ensures table { IfOk result (λ ports. ports.seat.table ≡ board.now.book.table) }
+    ensures cpu { IfOk result (λ ports. cpu_of ports.seat ≡ id) }
+{
+    let Some(mail) = seats.mails.pop() else {
+        return Err(Fault::Limits);
+    };
+    let Some(outs) = seats.outs.pop() else {
+        return Err(Fault::Limits);
+    };
+    let Some(ins) = seats.ins.pop() else {
+        return Err(Fault::Limits);
+    };
+    open_ports(alloc, board, id, mail, outs, ins, threads)
 }
 
 /// The last processor that is left, with these bodies.
 pub fn next_driver<'a, B: Drop>(
     alloc: Global,
-    bank: &'a Bank,
-    seats: &mut Vec<CpuSeat>,
+    board: &'a Board,
+    seats: &mut Seats,
     bodies: Vec<B>,
 ) -> Result<Driver<'a, B>, Fault>
-    requires { All (IsFree (id_of bank.now)) seats.old.items }
-    ensures { All (IsFree (id_of bank.now)) seats.new.items }
+    requires seats { All (IsFree (id_of board.now.bank)) seats.old.seats.items }
+    requires mails { All (IsGiven board.now.book) seats.old.mails.items }
+    ensures seats { All (IsFree (id_of board.now.bank)) seats.new.seats.items }
+    ensures mails { All (IsGiven board.now.book) seats.new.mails.items }
 {
-    let Some(seat) = seats.pop() else {
+    let Some(seat) = seats.seats.pop() else {
         return Err(Fault::Limits);
     };
     let id = seat.cpu();
-    let cpu = Cpu::new(alloc, id, seat, bodies)?;
+    let ports = next_ports(alloc, board, seats, id, bodies.len())?;
+    let cpu = Cpu::new(alloc, id, seat, ports, bodies)?;
     Ok(Driver {
         cpu,
-        bank,
+        bank: &board.bank,
+        book: &board.book,
         trace: Vec::new(alloc),
     })
 }
@@ -120,11 +292,11 @@ impl<B> Driver<'_, B> {
 impl<B: Body> Driver<'_, B> {
     /// Makes a turn.
     pub fn turn(&mut self) -> Result<Turned, Fault> {
-        self.cpu.turn(self.bank, &mut self.trace)
+        self.cpu.turn(self.bank, self.book, &mut self.trace)
     }
 
     /// Makes turns.
     pub fn drive(&mut self, limit: u64) -> Result<Drove, Fault> {
-        self.cpu.drive(self.bank, limit, &mut self.trace)
+        self.cpu.drive(self.bank, self.book, limit, &mut self.trace)
     }
 }

@@ -1,11 +1,10 @@
 //! Four threads, each driving a processor of its own.
 ghost use Rattle.std.specs.Prelude.{◌≡◌, All};
 ghost use Rattle.lwkt_bank.specs.Seats.{id_of};
-ghost use Rattle.lwkt_cpu_rows.specs.Free.{IsFree};
+ghost use Rattle.lwkt_cpu_rows.specs.Free.{IsFree, IsGiven};
 
-use crate::drivers::{Driver, next_driver, open, token};
+use crate::drivers::{Board, Driver, Seats, next_driver, open, token};
 use crate::scripts::Script;
-use lwkt_bank::{Bank, CpuSeat};
 use lwkt_base::{Answer, Ask, Fault, Law, TokId};
 use lwkt_cpu::Body;
 use std::alloc::{AllocError, Global};
@@ -101,16 +100,18 @@ fn drive_by_threads<R: Threads + Sync>(rt: &R, drivers: &mut [Driver<Adder>]) {
 // Four processors, each with two threads.
 fn four<'a>(
     alloc: Global,
-    bank: &'a Bank,
-    seats: &mut Vec<CpuSeat>,
+    board: &'a Board,
+    seats: &mut Seats,
 ) -> Result<Vec<Driver<'a, Adder>>, Fault>
-    requires { All (IsFree (id_of bank.now)) seats.old.items }
-    ensures { All (IsFree (id_of bank.now)) seats.new.items }
+    requires seats { All (IsFree (id_of board.now.bank)) seats.old.seats.items }
+    requires mails { All (IsGiven board.now.book) seats.old.mails.items }
+    ensures seats { All (IsFree (id_of board.now.bank)) seats.new.seats.items }
+    ensures mails { All (IsGiven board.now.book) seats.new.mails.items }
 {
     let mut drivers = Vec::new(alloc);
     for made in 0..4 {
         let bodies = adders(alloc).map_err(|_| Fault::Memory)?;
-        let driver = next_driver(alloc, bank, seats, bodies)?;
+        let driver = next_driver(alloc, board, seats, bodies)?;
         drivers.push(driver).map_err(|_| Fault::Memory)?;
     }
     Ok(drivers)
@@ -123,8 +124,8 @@ fn four_threads_add_up(rt: HostRuntime) -> Result<(), Fail> {
         token(alloc, Law::Tally, 0, &[0])?,
         token(alloc, Law::Tally, 0, &[0])?,
     ];
-    let (bank, mut seats) = open(alloc, &tokens, 5)?;
-    let mut drivers = four(alloc, &bank, &mut seats)?;
+    let (board, mut seats) = open(alloc, &tokens, &[], 5)?;
+    let mut drivers = four(alloc, &board, &mut seats)?;
     drive_by_threads(&rt, &mut drivers);
     let asks = [
         Ask::GetShared(TokId(0)),
@@ -134,7 +135,7 @@ fn four_threads_add_up(rt: HostRuntime) -> Result<(), Fail> {
     ];
     let mut bodies = Vec::new(alloc);
     bodies.push(Script::new(alloc, &asks)?)?;
-    let mut reader = next_driver(alloc, &bank, &mut seats, bodies)?;
+    let mut reader = next_driver(alloc, &board, &mut seats, bodies)?;
     let drove = reader.drive(50)?;
     assert!(rt; drove.all_exited);
     let want = [
