@@ -127,10 +127,12 @@ took_ran s s' refs at d alone g cpu ev t u within front named took mine is pushe
     let F : List WordStep → Type 0 = λ xs. AllZip Shows xs (filter is_on_word (taking cpu r.tok r.mode ∷ [])) in
     ran_step (IsFront refs) s s' r.tok.0 (taken (entry s r.tok.0) took.word r.mode took.row) (loads s.cpu r.tok.0 took.word ∷ takes s.cpu r.tok.0 r.mode took.word took.next took.word ∷ []) (taking cpu r.tok r.mode) t u took.changes (pushed ∙ ap (λ x. t.items ++ x ∷ []) is) longer room
     (cpu_of_taking cpu r.tok r.mode ∙ ap (λ (x : CpuId). x.0) mine)
-    (inl (refl,
-    (let G : List Event → Type 0 = λ es. Tells (take_event s.cpu r.tok r.mode ∷ []) es in
-    subst G (sym (taking_of_token cpu r.tok r.mode))
-    (tells_one (take_event s.cpu r.tok r.mode) (taking cpu r.tok r.mode) (take_is_no_look s.cpu r.tok r.mode) (ap (λ (x : CpuId). taking x r.tok r.mode) mine ∙ same_taking s.cpu r.tok r.mode)))))
+    (inl (
+      refl,
+      (let G : List Event → Type 0 = λ es. Tells (take_event s.cpu r.tok r.mode ∷ []) es in
+          subst G (sym (taking_of_token cpu r.tok r.mode))
+          (tells_one (take_event s.cpu r.tok r.mode) (taking cpu r.tok r.mode) (take_is_no_look s.cpu r.tok r.mode) (ap (λ (x : CpuId). taking x r.tok r.mode) mine ∙ same_taking s.cpu r.tok r.mode))),
+    ))
     (subst F (sym (won r.tok.0 took.word took.next)) (shows_taking cpu r.tok r.mode took.word took.next))
     (e.0 ∙ sym (after_taking cpu r.tok r.mode (holding s))) (at + 1, e.1)
 
