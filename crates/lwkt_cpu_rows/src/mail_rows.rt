@@ -85,16 +85,20 @@ fn sends(alloc: Global, count: u8) -> Result<Vec<Ask>, AllocError> {
     Ok(asks)
 }
 
-// Two processors: the thread of the first sends 33 messages of its own to that of the second.
+// Two processors: the thread of the first sends 33 messages of its own to that of the second, and asks for one thing more.
 fn sender_and_target<'a>(
     alloc: Global,
     board: &'a Board,
     seats: &mut Seats,
+    more: Option<Ask>,
 ) -> Result<(Driver<'a, Script>, Driver<'a, Script>), Fault>
     requires seats { All (IsFree (id_of board.now.bank)) seats.old.seats.items }
     requires mails { All (IsGiven board.now.book) seats.old.mails.items }
 {
-    let asks = sends(alloc, 33).map_err(|_| Fault::Memory)?;
+    let mut asks = sends(alloc, 33).map_err(|_| Fault::Memory)?;
+    if let Some(ask) = more {
+        asks.push(ask).map_err(|_| Fault::Memory)?;
+    }
     let idle = one(alloc, &[]).map_err(|_| Fault::Memory)?;
     let bodies = one(alloc, &asks).map_err(|_| Fault::Memory)?;
     let second = next_driver(alloc, board, seats, idle)?;
@@ -106,7 +110,7 @@ fn sender_and_target<'a>(
 fn full_lane(rt: HostRuntime) -> Result<(), Fail> {
     let alloc = rt.alloc();
     let (board, mut seats) = open(alloc, &[], &[OWN; 33], 2)?;
-    let (mut driver, _second) = sender_and_target(alloc, &board, &mut seats)?;
+    let (mut driver, _second) = sender_and_target(alloc, &board, &mut seats, None)?;
     let drove = driver.drive(34)?;
     assert!(rt; drove.ran == 34 && driver.state(0) == Some(ThreadState::Exited));
     let body = driver.body(0).ok_or("a body")?;
@@ -114,7 +118,6 @@ fn full_lane(rt: HostRuntime) -> Result<(), Fail> {
     assert!(rt; body.answers().len() == 34);
     assert!(rt; body.answers().get(32) == Some(&Answer::Done));
     assert!(rt; body.answers().get(33) == Some(&refused));
-    // The last message was never away: it is at rest at its opening round.
     assert!(rt; driver.trace().len() == 32);
     assert!(rt;
         matches!(
@@ -122,5 +125,26 @@ fn full_lane(rt: HostRuntime) -> Result<(), Fail> {
             Some(Event::Send { msg: MsgId(31), .. })
         )
     );
+    Ok(())
+}
+
+// The message that a full lane refused is at rest at its opening round: it can be sent to another thread, for its first round.
+#[test]
+fn full_lane_keeps_the_message(rt: HostRuntime) -> Result<(), Fail> {
+    let alloc = rt.alloc();
+    let (board, mut seats) = open(alloc, &[], &[OWN; 33], 2)?;
+    let again = Ask::Send(MsgId(32), OWN.origin, CALL, FLAGS);
+    let (mut driver, _second) = sender_and_target(alloc, &board, &mut seats, Some(again))?;
+    let drove = driver.drive(33)?;
+    assert!(rt; drove.ran == 33 && driver.trace().len() == 32);
+    driver.forget();
+    driver.drive(1)?;
+    let sent = Event::Send {
+        cpu: CpuId(0),
+        msg: MsgId(32),
+        to: CpuId(0),
+        round: 1,
+    };
+    assert!(rt; driver.trace().last() == Some(&sent));
     Ok(())
 }
