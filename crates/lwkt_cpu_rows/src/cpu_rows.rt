@@ -38,8 +38,8 @@ fn first_other(
     Ok(None)
 }
 
-// One body that asks so.
-fn one(alloc: Global, asks: &[Ask]) -> Result<Vec<Script>, AllocError> {
+/// One body that asks so.
+pub fn one(alloc: Global, asks: &[Ask]) -> Result<Vec<Script>, AllocError> {
     let mut bodies = Vec::new(alloc);
     let script = Script::new(alloc, asks)?;
     bodies.push(script)?;

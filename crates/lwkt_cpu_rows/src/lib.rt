@@ -6,6 +6,8 @@ mod cpu_rows;
 #[cfg(test)]
 mod drivers;
 #[cfg(test)]
+mod mail_rows;
+#[cfg(test)]
 mod scripts;
 #[cfg(test)]
 mod thread_rows;
