@@ -1,8 +1,7 @@
 //! The program: reads a script from standard input, runs it, and writes its report to standard output.
 #![tactic(auto)]
 
-use lwkt_base::Fault;
-use lwkt_report::{Complaint, ReaderSource, Sink, WriterSink, complaint_line, write_whole};
+use lwkt_report::{Program, ReaderSource, WriterSink, refuse_arguments};
 use lwkt_run::run_program;
 use std::alloc::{AllocError, Global};
 use std::process::ExitCode;
@@ -18,17 +17,6 @@ fn words_of<R: Env + AllocGlobal>(rt: &R) -> io::Result<Vec<String>> {
     Ok(words)
 }
 
-// The line and the status where the arguments can't be told.
-fn refuse<K: Sink>(sink: &mut K, memory: bool) -> u8 {
-    let (complaint, status) = if memory {
-        (Complaint::Fault(Fault::Memory), 3)
-    } else {
-        (Complaint::Usage, 1)
-    };
-    let _ = write_whole(sink, complaint_line(complaint).as_bytes());
-    status
-}
-
 fn main(rt: HostRuntime) -> ExitCode {
     let alloc: Global = rt.alloc();
     let mut sink = WriterSink::new(rt.stdout());
@@ -37,7 +25,10 @@ fn main(rt: HostRuntime) -> ExitCode {
             let mut source = ReaderSource::new(rt.stdin());
             run_program(alloc, &words, &mut source, &mut sink)
         }
-        Err(error) => refuse(&mut sink, error.kind() == io::ErrorKind::OutOfMemory),
+        Err(error) => {
+            let memory = error.kind() == io::ErrorKind::OutOfMemory;
+            refuse_arguments(&mut sink, Program::Run, memory)
+        }
     };
     ExitCode::from(status)
 }

@@ -5,9 +5,11 @@ use Rattle.lwkt_base.specs.declared.faults.Fault.TheVariants.{Memory}
 use Rattle.lwkt_report.specs.declared.streams.RunFault.{RunFault}
 use Rattle.lwkt_report.specs.declared.streams.RunFault.TheVariants.{Fault, Stream}
 use Rattle.lwkt_report.specs.Stream.{AppendsFront}
-use Rattle.lwkt_checker.specs.declared.programs.Complaint.{Complaint}
+use Rattle.lwkt_report.specs.declared.complaints.Complaint.{Complaint}
+use Rattle.lwkt_report.specs.declared.complaints.Program.TheVariants.{Check}
+use Rattle.lwkt_report.specs.Complaint.{fault_line, complaint_of, IsSaid}
 use Rattle.lwkt_checker.specs.Judgement.{HasFinding, Refuses}
-use Rattle.lwkt_checker.specs.Output.{AreRead, Tells, complaint_of, fault_line, IsSaid, Complains}
+use Rattle.lwkt_checker.specs.Output.{AreRead, Tells, Complains}
 
 -- what was written stays what it is
 keeps_itself : (o : Option (List ℕ)) → Keeps o o
@@ -43,6 +45,6 @@ tells_front left old new bytes read text written lawful same same_text are found
     inr (bytes, (are, (lawful, (text, (subst (λ b. HasFinding b lawful text) same found, subst (λ t. AppendsFront old new t) same_text front)))))
 
 -- a line that is said where a check can't be made
-pub complains : (failed : Bool) (old new : Option (List ℕ)) (outcome : Result Bool RunFault) (fault : RunFault) (complaint : Complaint) → outcome ≡ Err fault → complaint ≡ complaint_of fault → IsSaid failed old new (fault_line complaint) → Complains failed old new outcome
+pub complains : (failed : Bool) (old new : Option (List ℕ)) (outcome : Result Bool RunFault) (fault : RunFault) (complaint : Complaint) → outcome ≡ Err fault → complaint ≡ complaint_of fault → IsSaid failed old new (fault_line Check complaint) → Complains failed old new outcome
 complains failed old new outcome fault complaint is same said =
-    subst (λ (o : Result Bool RunFault). Complains failed old new o) (sym is) (subst (λ (k : Complaint). IsSaid failed old new (fault_line k)) same said)
+    subst (λ (o : Result Bool RunFault). Complains failed old new o) (sym is) (subst (λ (k : Complaint). IsSaid failed old new (fault_line Check k)) same said)

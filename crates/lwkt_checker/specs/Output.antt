@@ -1,15 +1,12 @@
 -- What the program reads, writes and answers (own).
 use Rattle.std.specs.Prelude.{codes, [], ◌∷◌, ◌++◌, ◌≡◌, ◌⊎◌, ℕ, List, Bool, true, false, take, Option, IfSome, Result, Ok, Err}
 use Rattle.std.specs.Io.KnownBytes.{Appends, Keeps}
-use Rattle.std.specs.Fmt.{decimal}
 use Rattle.lwkt_base.specs.declared.faults.Fault.TheVariants.{Memory}
-use Rattle.lwkt_base.specs.Fault.{number_of}
-use Rattle.lwkt_report.specs.Complaint.{place_text}
+use Rattle.lwkt_report.specs.Complaint.{fault_line, complaint_of, IsSaid}
+use Rattle.lwkt_report.specs.declared.complaints.Program.TheVariants.{Check}
 use Rattle.lwkt_report.specs.declared.streams.RunFault.{RunFault}
 use Rattle.lwkt_report.specs.declared.streams.RunFault.TheVariants.{Fault, Stream}
 use Rattle.lwkt_report.specs.Stream.{AppendsFront}
-use Rattle.lwkt_checker.specs.declared.programs.Complaint.{Complaint}
-use Rattle.lwkt_checker.specs.declared.programs.Complaint.TheVariants.{Usage as UsageLine, Fault as FaultLine, Stream as StreamLine}
 use Rattle.lwkt_checker.specs.Judgement.{HasFinding, Refuses}
 
 -- these are the bytes that are read of a source that has so many left, where that is known
@@ -31,29 +28,10 @@ status_of (Err (Fault Memory)) = 3
 status_of (Err (Fault _)) = 1
 status_of (Err Stream) = 3
 
--- what is complained of
-abbrev pub complaint_text : Complaint → List ℕ
-complaint_text UsageLine = codes "no arguments are wanted"
-complaint_text (FaultLine fault) = codes "fault " ++ decimal (number_of fault) ++ place_text fault
-complaint_text StreamLine = codes "stream"
-
--- the line that the program says where it can't check, ended by a line feed
-abbrev pub fault_line : Complaint → List ℕ
-fault_line complaint = codes "lwkt_check: " ++ complaint_text complaint ++ 10 ∷ []
-
--- what is said in place of a finding
-abbrev pub complaint_of : RunFault → Complaint
-complaint_of (Fault fault) = FaultLine fault
-complaint_of Stream = StreamLine
-
--- some bytes are written: a front of them, and all of them where the sink has not failed
-abbrev pub IsSaid : Bool → Option (List ℕ) → Option (List ℕ) → List ℕ → Type 0
-IsSaid failed old new bytes = AppendsFront old new bytes × (failed ≡ false → Appends old new bytes)
-
 -- what goes to where errors go: nothing beside a finding, else the fault line
 abbrev pub Complains : Bool → Option (List ℕ) → Option (List ℕ) → Result Bool RunFault → Type 0
 Complains failed old new (Ok lawful) = Keeps old new
-Complains failed old new (Err fault) = IsSaid failed old new (fault_line (complaint_of fault))
+Complains failed old new (Err fault) = IsSaid failed old new (fault_line Check (complaint_of fault))
 
 -- what the program does where it has no arguments: it checks, complains if it can't, and answers the status
 abbrev pub ChecksAs : Option (List ℕ) → Option (List ℕ) → Option (List ℕ) → Bool → Option (List ℕ) → Option (List ℕ) → ℕ → Type 0

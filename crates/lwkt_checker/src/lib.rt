@@ -10,4 +10,4 @@ mod programs;
 mod words;
 
 pub use judges::{Finding, judge};
-pub use programs::{Complaint, check_stream, complaint_line, run_checker};
+pub use programs::{check_stream, run_checker};

@@ -1,60 +1,15 @@
-ghost use Rattle.std.specs.Prelude.{◌≡◌, ◌≢◌, ◌⊎◌, ◌≤◌, [], length, Err, IsTrue, IfOk, IfErr, string_bytes};
+ghost use Rattle.std.specs.Prelude.{◌≡◌, ◌≢◌, ◌⊎◌, [], Err, IsTrue, IfOk, IfErr, string_bytes};
 ghost use Rattle.lwkt_checker.specs.Judgement.{HasFinding, Refuses};
-ghost use Rattle.lwkt_checker.specs.Output.{Tells, status_of, complaint_of, fault_line, IsSaid, Complains, ChecksAs};
+ghost use Rattle.lwkt_report.specs.Complaint.{fault_line, IsSaid};
+ghost use Rattle.lwkt_checker.specs.Output.{Tells, status_of, Complains, ChecksAs};
 
 use crate::judges::{Finding, finding_text, judge};
-use arrayvec::ArrayString;
-use itoa::Buffer;
 use lwkt_base::Fault;
-use lwkt_report::{RunFault, Sink, Source, read_up_to, write_whole};
+use lwkt_report::{
+    Complaint, Program, RunFault, Sink, Source, complain, complaint_of, read_up_to, write_whole,
+};
 use lwkt_trace::{LENGTH_LIMIT, read_trace};
 use std::alloc::Global;
-
-/// What the program says where it can't check.
-#[derive(Clone, Copy, Debug, PartialEq, Eq)]
-pub enum Complaint {
-    /// There are arguments.
-    Usage,
-    /// The trace or memory is at fault.
-    Fault(Fault),
-    /// The reader or the writer failed.
-    Stream,
-}
-
-fn fault_text(fault: Fault) -> ArrayString<48>
-    ensures { result.bytes ≡ fault_line (Complaint.Fault fault) }
-{
-    let mut digits = Buffer::new();
-    let mut line = ArrayString::new();
-    line.push_str("lwkt_check: fault ");
-    line.push_str(digits.format(fault.number()));
-    if let Fault::Script { place } = fault {
-        line.push_str(" at ");
-        line.push_str(digits.format(place));
-    }
-    line.push_str("\n");
-    line
-}
-
-fn fixed(text: &str) -> ArrayString<48>
-    requires { length text.now ≤ 48 }
-    ensures { result.bytes ≡ text.now }
-{
-    let mut line = ArrayString::new();
-    line.push_str(text);
-    line
-}
-
-/// The line that the program says, ended by a line feed. It takes no memory.
-pub fn complaint_line(complaint: Complaint) -> ArrayString<48>
-    ensures { result.bytes ≡ fault_line complaint }
-{
-    match complaint {
-        Complaint::Usage => fixed("lwkt_check: no arguments are wanted\n"),
-        Complaint::Fault(fault) => fault_text(fault),
-        Complaint::Stream => fixed("lwkt_check: stream\n"),
-    }
-}
 
 // What was found of a trace: the text to write, and whether it is lawful.
 #[derive(Drop)]
@@ -119,31 +74,13 @@ fn status_of(outcome: &Result<bool, RunFault>) -> u8
     }
 }
 
-// Writes a line to where errors go. If that fails, a front of it stands.
-fn complain<E: Sink>(errors: &mut E, complaint: Complaint)
-    ensures { IsSaid (E.has_failed errors.new) (E.contents errors.old) (E.contents errors.new) (fault_line complaint) }
-{
-    let line = complaint_line(complaint);
-    let _ = write_whole(errors, line.as_bytes());
-}
-
-// What is said in place of a finding.
-fn complaint_of(fault: RunFault) -> Complaint
-    ensures { result ≡ complaint_of fault }
-{
-    match fault {
-        RunFault::Fault(fault) => Complaint::Fault(fault),
-        RunFault::Stream => Complaint::Stream,
-    }
-}
-
 // Writes the line that an outcome asks for: none beside a finding.
 fn close<E: Sink>(errors: &mut E, outcome: &Result<bool, RunFault>)
     ensures { Complains (E.has_failed errors.new) (E.contents errors.old) (E.contents errors.new) outcome.now }
 {
     match *outcome {
         Ok(_) => {}
-        Err(fault) => complain(errors, complaint_of(fault)),
+        Err(fault) => complain(errors, Program::Check, complaint_of(fault)),
     }
 }
 
@@ -160,12 +97,12 @@ pub fn run_checker<S: Source, K: Sink, E: Sink>(
     errors: &mut E,
 ) -> u8
     ensures checks { words.now ≡ [] → ChecksAs (S.left source.old) (K.contents sink.old) (K.contents sink.new) (E.has_failed errors.new) (E.contents errors.old) (E.contents errors.new) result }
-    ensures usage { words.now ≢ [] → (result ≡ 1) × IsSaid (E.has_failed errors.new) (E.contents errors.old) (E.contents errors.new) (fault_line Complaint.Usage) }
+    ensures usage { words.now ≢ [] → (result ≡ 1) × IsSaid (E.has_failed errors.new) (E.contents errors.old) (E.contents errors.new) (fault_line Program.Check Complaint.Usage) }
     ensures unread { words.now ≢ [] → source.new ≡ source.old }
     ensures unwritten { words.now ≢ [] → sink.new ≡ sink.old }
 {
     if !words.is_empty() {
-        complain(errors, Complaint::Usage);
+        complain(errors, Program::Check, Complaint::Usage);
         return 1;
     }
     let outcome = check_stream(alloc, source, sink);

@@ -1,9 +1,8 @@
 //! The program: reads a trace from standard input, checks it, and writes what it finds to standard output.
 #![tactic(auto)]
 
-use lwkt_base::Fault;
-use lwkt_checker::{Complaint, complaint_line, run_checker};
-use lwkt_report::{ReaderSource, Sink, WriterSink, write_whole};
+use lwkt_checker::run_checker;
+use lwkt_report::{Program, ReaderSource, WriterSink, refuse_arguments};
 use std::alloc::{AllocError, Global};
 use std::process::ExitCode;
 use std::rt::Env;
@@ -18,17 +17,6 @@ fn words_of<R: Env + AllocGlobal>(rt: &R) -> io::Result<Vec<String>> {
     Ok(words)
 }
 
-// The line and the status where the arguments can't be told.
-fn refuse<E: Sink>(errors: &mut E, memory: bool) -> u8 {
-    let (complaint, status) = if memory {
-        (Complaint::Fault(Fault::Memory), 3)
-    } else {
-        (Complaint::Usage, 1)
-    };
-    let _ = write_whole(errors, complaint_line(complaint).as_bytes());
-    status
-}
-
 fn main(rt: HostRuntime) -> ExitCode {
     let alloc: Global = rt.alloc();
     let mut errors = WriterSink::new(rt.stderr());
@@ -38,7 +26,10 @@ fn main(rt: HostRuntime) -> ExitCode {
             let mut sink = WriterSink::new(rt.stdout());
             run_checker(alloc, &words, &mut source, &mut sink, &mut errors)
         }
-        Err(error) => refuse(&mut errors, error.kind() == io::ErrorKind::OutOfMemory),
+        Err(error) => {
+            let memory = error.kind() == io::ErrorKind::OutOfMemory;
+            refuse_arguments(&mut errors, Program::Check, memory)
+        }
     };
     ExitCode::from(status)
 }

@@ -1,27 +1,59 @@
-ghost use Rattle.std.specs.Prelude.{◌≡◌, ◌≤◌, length};
-ghost use Rattle.lwkt_report.specs.Complaint.{fault_line};
+ghost use Rattle.std.specs.Prelude.{◌≡◌, ◌++◌, ◌≤◌, ◌∷◌, [], length};
+ghost use Rattle.lwkt_report.specs.Complaint.{program_name, usage_text, fault_line, complaint_of, IsSaid};
 
+use crate::sinks::{Sink, write_whole};
+use crate::streams::RunFault;
 use arrayvec::ArrayString;
 use itoa::Buffer;
 use lwkt_base::Fault;
 
-/// What the program says where there is no whole report.
+/// A program, by the name that its lines begin with.
+#[derive(Clone, Copy, Debug, PartialEq, Eq)]
+pub enum Program {
+    /// `lwkt_run`.
+    Run,
+    /// `lwkt_check`.
+    Check,
+}
+
+/// What a program says where there is no whole report.
 #[derive(Clone, Copy, Debug, PartialEq, Eq)]
 pub enum Complaint {
-    /// The arguments are not one word, `turns` or `threads`.
+    /// The arguments are not those of the program.
     Usage,
-    /// The script or memory is at fault.
+    /// What was read, or memory, is at fault.
     Fault(Fault),
     /// The reader or the writer failed.
     Stream,
 }
 
-fn fault_text(fault: Fault) -> ArrayString<40>
-    ensures { result.bytes ≡ fault_line (Complaint.Fault fault) }
+fn name_of(program: Program) -> &'static str
+    ensures name { result.now ≡ program_name program }
+    ensures short { length result.now ≤ 12 }
+{
+    match program {
+        Program::Run => "lwkt_run: ",
+        Program::Check => "lwkt_check: ",
+    }
+}
+
+fn usage_of(program: Program) -> &'static str
+    ensures text { result.now ≡ usage_text program }
+    ensures short { length result.now ≤ 24 }
+{
+    match program {
+        Program::Run => "turns or threads",
+        Program::Check => "no arguments are wanted",
+    }
+}
+
+fn fault_text(program: Program, fault: Fault) -> ArrayString<48>
+    ensures { result.bytes ≡ fault_line program (Complaint.Fault fault) }
 {
     let mut digits = Buffer::new();
     let mut line = ArrayString::new();
-    line.push_str("lwkt_run: fault ");
+    line.push_str(name_of(program));
+    line.push_str("fault ");
     line.push_str(digits.format(fault.number()));
     if let Fault::Script { place } = fault {
         line.push_str(" at ");
@@ -31,22 +63,52 @@ fn fault_text(fault: Fault) -> ArrayString<40>
     line
 }
 
-fn fixed(text: &str) -> ArrayString<40>
-    requires { length text.now ≤ 40 }
-    ensures { result.bytes ≡ text.now }
+fn fixed(program: Program, text: &str) -> ArrayString<48>
+    requires { length text.now ≤ 24 }
+    ensures { result.bytes ≡ program_name program ++ text.now ++ 10 ∷ [] }
 {
     let mut line = ArrayString::new();
+    line.push_str(name_of(program));
     line.push_str(text);
+    line.push_str("\n");
     line
 }
 
-/// The line that the program says, ended by a line feed. It takes no memory.
-pub fn complaint_line(complaint: Complaint) -> ArrayString<40>
-    ensures { result.bytes ≡ fault_line complaint }
+/// The line that a program says, ended by a line feed. It takes no memory.
+pub fn complaint_line(program: Program, complaint: Complaint) -> ArrayString<48>
+    ensures { result.bytes ≡ fault_line program complaint }
 {
     match complaint {
-        Complaint::Usage => fixed("lwkt_run: turns or threads\n"),
-        Complaint::Fault(fault) => fault_text(fault),
-        Complaint::Stream => fixed("lwkt_run: stream\n"),
+        Complaint::Usage => fixed(program, usage_of(program)),
+        Complaint::Fault(fault) => fault_text(program, fault),
+        Complaint::Stream => fixed(program, "stream"),
     }
+}
+
+/// Writes the line that a program says. If that fails, a front of it stands.
+pub fn complain<K: Sink>(sink: &mut K, program: Program, complaint: Complaint)
+    ensures { IsSaid (K.has_failed sink.new) (K.contents sink.old) (K.contents sink.new) (fault_line program complaint) }
+{
+    let line = complaint_line(program, complaint);
+    let _ = write_whole(sink, line.as_bytes());
+}
+
+/// What is said of a run that ended without a whole report.
+pub fn complaint_of(fault: RunFault) -> Complaint
+    ensures { result ≡ complaint_of fault }
+{
+    match fault {
+        RunFault::Fault(fault) => Complaint::Fault(fault),
+        RunFault::Stream => Complaint::Stream,
+    }
+}
+
+/// The line and the status where a program's arguments can't be told: 3 for want of memory, else 1.
+pub fn refuse_arguments<K: Sink>(sink: &mut K, program: Program, memory: bool) -> u8 {
+    if memory {
+        complain(sink, program, Complaint::Fault(Fault::Memory));
+        return 3;
+    }
+    complain(sink, program, Complaint::Usage);
+    1
 }

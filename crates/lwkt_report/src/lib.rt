@@ -12,7 +12,9 @@ pub mod sources;
 pub mod streams;
 
 pub use closings::{Closing, ThreadLine, TokenLine, Verdict};
-pub use complaints::{Complaint, complaint_line};
+pub use complaints::{
+    Complaint, Program, complain, complaint_line, complaint_of, refuse_arguments,
+};
 pub use logs::Log;
 pub use lwkt_base::Entry;
 pub use reports::report;

@@ -6,8 +6,8 @@ use lwkt_base::{
 };
 use lwkt_fixtures::{Row, cells};
 use lwkt_report::{
-    Closing, Complaint, Entry, Log, Page, READ_LIMIT, ReaderSource, RunFault, Sink, ThreadLine,
-    TokenLine, Verdict, WriterSink, complaint_line, read_capped, report, write_whole,
+    Closing, Complaint, Entry, Log, Page, Program, READ_LIMIT, ReaderSource, RunFault, Sink,
+    ThreadLine, TokenLine, Verdict, WriterSink, complaint_line, read_capped, report, write_whole,
 };
 use std::alloc::{AllocError, Global};
 use std::io;
@@ -242,7 +242,7 @@ struct Complained(Complaint, &'static str);
 
 impl Row for Complained {
     fn is_right(&self, _alloc: Global) -> bool {
-        complaint_line(self.0).as_str() == self.1
+        complaint_line(Program::Run, self.0).as_str() == self.1
     }
 }
 

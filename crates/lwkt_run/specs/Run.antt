@@ -16,14 +16,13 @@ use Rattle.lwkt_core.specs.Trace.{IsLawfulTrace}
 use Rattle.lwkt_report.specs.declared.closings.Closing.{Closing}
 use Rattle.lwkt_report.specs.declared.closings.Verdict.{Verdict}
 use Rattle.lwkt_report.specs.declared.closings.Verdict.TheVariants.{Closed, Lawful, Unlawful}
-use Rattle.lwkt_report.specs.declared.complaints.Complaint.{Complaint}
-use Rattle.lwkt_report.specs.declared.complaints.Complaint.TheVariants.{Fault as FaultLine, Stream as StreamLine}
+use Rattle.lwkt_report.specs.declared.complaints.Program.TheVariants.{Run as RunProgram}
 use Rattle.lwkt_report.specs.declared.streams.RunFault.{RunFault}
 use Rattle.lwkt_report.specs.declared.streams.RunFault.TheVariants.{Fault, Stream}
 use Rattle.lwkt_report.specs.declared.sources.TheConstants.{READ_LIMIT}
 use Rattle.lwkt_report.specs.Report.{report_text}
 use Rattle.lwkt_report.specs.Stream.{AppendsFront}
-use Rattle.lwkt_report.specs.Complaint.{fault_line}
+use Rattle.lwkt_report.specs.Complaint.{fault_line, complaint_of, IsSaid}
 use Rattle.lwkt_script.specs.declared.scripts.Script.{Script}
 use Rattle.lwkt_script.specs.Format.{plain_script_of}
 use Rattle.lwkt_run.specs.declared.runs.End.{End}
@@ -124,19 +123,10 @@ status_of (Err (Fault Memory)) = 3
 status_of (Err (Fault _)) = 1
 status_of (Err Stream) = 3
 
--- what is said in place of a report
-abbrev pub complaint_of : RunFault → Complaint
-complaint_of (Fault fault) = FaultLine fault
-complaint_of Stream = StreamLine
-
--- some bytes are written: a front of them, and all of them where the sink has not failed
-abbrev pub IsSaid : Bool → Option (List ℕ) → Option (List ℕ) → List ℕ → Type 0
-IsSaid failed old new bytes = AppendsFront old new bytes × (failed ≡ false → Appends old new bytes)
-
 -- what the program writes after a run: nothing more after a whole report, else the fault line
 abbrev pub Closes : Bool → Option (List ℕ) → Option (List ℕ) → Result End RunFault → Type 0
 Closes failed old new (Ok end) = Keeps old new
-Closes failed old new (Err fault) = IsSaid failed old new (fault_line (complaint_of fault))
+Closes failed old new (Err fault) = IsSaid failed old new (fault_line RunProgram (complaint_of fault))
 
 -- what the program does where its one argument is right: it runs, answers the status and writes the line
 abbrev pub RunsAs : Bool → Option (List ℕ) → Option (List ℕ) → Option (List ℕ) → ℕ → Type 0

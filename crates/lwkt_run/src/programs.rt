@@ -1,10 +1,10 @@
 ghost use Rattle.std.specs.Prelude.{◌≡◌, ◌↔◌, IsTrue};
-ghost use Rattle.lwkt_report.specs.Complaint.{fault_line};
-ghost use Rattle.lwkt_run.specs.Run.{RunsAs, IsSaid, AsksTurns, status_of, complaint_of, Closes};
+ghost use Rattle.lwkt_report.specs.Complaint.{fault_line, IsSaid};
+ghost use Rattle.lwkt_run.specs.Run.{RunsAs, AsksTurns, status_of, Closes};
 
 use crate::runs::{End, run_turns};
 use lwkt_base::Fault;
-use lwkt_report::{Complaint, RunFault, Sink, Source, complaint_line, write_whole};
+use lwkt_report::{Complaint, Program, RunFault, Sink, Source, complain, complaint_of};
 use std::alloc::Global;
 
 // The exit status of an outcome.
@@ -20,31 +20,13 @@ fn status_of(outcome: &Result<End, RunFault>) -> u8
     }
 }
 
-// Writes the line that stands in place of a report. If that fails, a front of it stands.
-fn complain<K: Sink>(sink: &mut K, complaint: Complaint)
-    ensures { IsSaid (K.has_failed sink.new) (K.contents sink.old) (K.contents sink.new) (fault_line complaint) }
-{
-    let line = complaint_line(complaint);
-    let _ = write_whole(sink, line.as_bytes());
-}
-
-// What is said in place of a report.
-fn complaint_of(fault: RunFault) -> Complaint
-    ensures { result ≡ complaint_of fault }
-{
-    match fault {
-        RunFault::Fault(fault) => Complaint::Fault(fault),
-        RunFault::Stream => Complaint::Stream,
-    }
-}
-
 // Writes the line that an outcome asks for: none after a whole report.
 fn close<K: Sink>(sink: &mut K, outcome: &Result<End, RunFault>)
     ensures { Closes (K.has_failed sink.new) (K.contents sink.old) (K.contents sink.new) outcome.now }
 {
     match *outcome {
         Ok(_) => {}
-        Err(fault) => complain(sink, complaint_of(fault)),
+        Err(fault) => complain(sink, Program::Run, complaint_of(fault)),
     }
 }
 
@@ -67,11 +49,11 @@ pub fn run_program<S: Source, K: Sink>(
     sink: &mut K,
 ) -> u8
     ensures runs { AsksTurns words.now → RunsAs (K.has_failed sink.new) (S.left source.old) (K.contents sink.old) (K.contents sink.new) result }
-    ensures usage { ¬ AsksTurns words.now → (result ≡ 1) × IsSaid (K.has_failed sink.new) (K.contents sink.old) (K.contents sink.new) (fault_line Complaint.Usage) }
+    ensures usage { ¬ AsksTurns words.now → (result ≡ 1) × IsSaid (K.has_failed sink.new) (K.contents sink.old) (K.contents sink.new) (fault_line Program.Run Complaint.Usage) }
     ensures unread { ¬ AsksTurns words.now → source.new ≡ source.old }
 {
     if !asks_turns(words) {
-        complain(sink, Complaint::Usage);
+        complain(sink, Program::Run, Complaint::Usage);
         return 1;
     }
     let outcome = run_turns(alloc, source, sink);
