@@ -12,7 +12,7 @@ use Rattle.lwkt_script.specs.Format.{cell, token, message_at}
 use Rattle.lwkt_script.specs.Outcome.{◌>>=◌, ◌>>◌, part, demand, each}
 use Rattle.lwkt_trace.specs.declared.traces.Closing.{Closing}
 use Rattle.lwkt_trace.specs.declared.traces.Trace.{Trace}
-use Rattle.lwkt_trace.specs.Words.{event_of, end_of}
+use Rattle.lwkt_trace.specs.Words.{event_of, message_end_of}
 
 -- the message after those: there are at most 64
 abbrev pub message : ℕ → List MsgSpec → Data → Result MsgSpec ℕ
@@ -46,7 +46,7 @@ tally before d = do
 abbrev pub end : List MsgEnd → Data → Result MsgEnd ℕ
 end before d = do
   demand 5064 (nat_lt (length before) 64)
-  part (5000 + length before) (end_of d)
+  part (5000 + length before) (message_end_of d)
 
 -- the closing values: the shape of the whole first, then the parts in their order
 unfoldable pub closing_at : Data → Result Closing ℕ

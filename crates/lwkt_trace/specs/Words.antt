@@ -91,5 +91,5 @@ ended word count d =
     if count == 4 then (small_at 1 d >>= λ origin. small_at 2 d >>= λ target. whole_at 3 d >>= λ round. at_other word origin target round) else None)
 
 -- a message's end: a word, and the numbers that go with it
-abbrev pub end_of : Data → Option MsgEnd
-end_of d = item_count d >>= λ count. (at 0 d >>= as_str) >>= λ word. ended word count d
+abbrev pub message_end_of : Data → Option MsgEnd
+message_end_of d = item_count d >>= λ count. (at 0 d >>= as_str) >>= λ word. ended word count d

@@ -1,7 +1,7 @@
 ghost use Rattle.std.specs.Prelude.{◌≡◌, []};
 ghost use Rattle.serde_json.specs.View.{view, items_view};
 ghost use Rattle.lwkt_script.specs.Outcome.{Gives, each};
-ghost use Rattle.lwkt_trace.specs.Words.{at_rest, at_other, ended, end_of};
+ghost use Rattle.lwkt_trace.specs.Words.{at_rest, at_other, ended, message_end_of};
 ghost use Rattle.lwkt_trace.specs.Format.{numbers, row, tally, end, closing_at, closing};
 
 use crate::traces::Closing;
@@ -72,8 +72,8 @@ fn ended(word: &str, count: usize, value: &Value) -> Option<MsgEnd>
 }
 
 // The end that a list stands for.
-fn end_of(value: &Value) -> Option<MsgEnd>
-    ensures { result ≡ end_of (view value.now) }
+fn message_end_of(value: &Value) -> Option<MsgEnd>
+    ensures { result ≡ message_end_of (view value.now) }
 {
     let count = item_count(value)?;
     ended(value.get(0usize)?.as_str()?, count, value)
@@ -116,7 +116,7 @@ fn end(before: &[MsgEnd], value: &Value) -> Result<MsgEnd, Fault>
     if before.len() >= LIMIT {
         return Err(Fault::Script { place: 5064 });
     }
-    match end_of(value) {
+    match message_end_of(value) {
         Some(end) => Ok(end),
         None => Err(Fault::Script {
             place: 5000 + before.len() as u32,

@@ -7,7 +7,7 @@ use Rattle.lwkt_verdict.specs.declared.progress.Progress.{Progress}
 use Rattle.lwkt_verdict.specs.Threads.{thread_of, line_of, EndsAs, Ends}
 use Rattle.lwkt_verdict.specs.Homes.{IsHome, AreHomes}
 use Rattle.lwkt_verdict.specs.Run.{IsPaired}
-use Rattle.lwkt_verdict.specs.Shows.{EndsAt}
+use Rattle.lwkt_verdict.specs.Progressed.{EndsAt}
 
 -- the element at an index inside a list
 some_of : {A : Type 0} (xs : List A) (i : ℕ) → i < length xs → (x : A) × (slice_get xs i ≡ Some x)

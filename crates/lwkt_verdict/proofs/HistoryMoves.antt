@@ -15,7 +15,7 @@ use Rattle.lwkt_verdict.specs.declared.progress.Asked.{Asked}
 use Rattle.lwkt_verdict.specs.declared.progress.Piece.{Piece}
 use Rattle.lwkt_verdict.specs.Parts.{after_all}
 use Rattle.lwkt_verdict.specs.Threads.{IsLogged, slot_of, thread_of, line_of, ask_at, asked_by, last_of, logged_by, entries_of, progress_of, EndsAs, Ends}
-use Rattle.lwkt_verdict.specs.Run.{poll_of, piece, came, asked, Polls, Fits, Closes, Runs}
+use Rattle.lwkt_verdict.specs.Run.{poll_of, piece, came, asked, Polls, Fits, EndsRun, Runs}
 use Rattle.lwkt_verdict.specs.Laws.{pieces_of, asks_of, AsksAreThoseOfTheScript, AllButTheLastAreAnswered, LogsAreTheFirstEntries}
 use Rattle.lwkt_verdict.proofs.ShowMoves.{asked_push, asked_here, asked_there}
 
@@ -24,7 +24,7 @@ pub record Ended (plans : List ThreadPlan) (lines : List ThreadEnd) (Q : List Pi
   pub holds : Q all
   pub end : Machine
   pub stop : List Event
-  pub closes : Closes plans lines end all stop
+  pub closes : EndsRun plans lines end all stop
 
 module _ (plans : List ThreadPlan) (lines : List ThreadEnd) (polls : List Poll) (cpus : ℕ) where
   -- what each turn that fits keeps holds after all turns

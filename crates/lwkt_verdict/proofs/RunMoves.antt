@@ -10,15 +10,15 @@ use Rattle.lwkt_verdict.specs.declared.turns.Turn.{Turn}
 use Rattle.lwkt_verdict.specs.declared.progress.Progress.{Progress}
 use Rattle.lwkt_verdict.specs.declared.progress.Piece.{Piece}
 use Rattle.lwkt_verdict.specs.Parts.{after_all}
-use Rattle.lwkt_verdict.specs.Run.{poll_of, piece, Fits, Closes, Runs}
-use Rattle.lwkt_verdict.specs.Shows.{Shows}
+use Rattle.lwkt_verdict.specs.Run.{poll_of, piece, Fits, EndsRun, Runs}
+use Rattle.lwkt_verdict.specs.Progressed.{ShowsProgress}
 
 -- a check of a run in the middle: what is to be shown holds exactly if the turns that are left go on from the machine and the
 -- turns so far, which the table shows
 pub record Goes (P : Type 0) (plans : List ThreadPlan) (lines : List ThreadEnd) (polls : List Poll) (cpus : ℕ) (m : Machine) (table : List Progress) (turns : List Turn) (i : ℕ) (rest : List Event) : Type 0 where
   pub before : List Piece
   pub counted : length before ≡ i
-  pub shows : Shows before table
+  pub shows : ShowsProgress before table
   pub whole : P ↔ Runs plans lines polls cpus m before (drop i turns) rest
 
 module _ (P : Type 0) (plans : List ThreadPlan) (lines : List ThreadEnd) (polls : List Poll) (cpus : ℕ) (m : Machine) (table : List Progress) (turns : List Turn) (i : ℕ) (rest : List Event) (d : Turn) (goes : Goes P plans lines polls cpus m table turns i rest) where
@@ -27,7 +27,7 @@ module _ (P : Type 0) (plans : List ThreadPlan) (lines : List ThreadEnd) (polls 
   next inside = subst (λ (ts : List Turn). P ↔ Runs plans lines polls cpus m goes.before ts rest) (drop_more turns i d inside) goes.whole
 
   -- a turn that fits takes the check further
-  pub goes_on : (n : Machine) (new : List Progress) → i < length turns → (get_or turns i d).events ≤ length rest → Fits plans lines (i % cpus) m goes.before (poll_of polls (get_or turns i d)) (take (get_or turns i d).events rest) → n ≡ after_all m (take (get_or turns i d).events rest) → Shows (goes.before ++ piece (poll_of polls (get_or turns i d)) (take (get_or turns i d).events rest) ∷ []) new → Goes P plans lines polls cpus n new turns (i + 1) (drop (get_or turns i d).events rest)
+  pub goes_on : (n : Machine) (new : List Progress) → i < length turns → (get_or turns i d).events ≤ length rest → Fits plans lines (i % cpus) m goes.before (poll_of polls (get_or turns i d)) (take (get_or turns i d).events rest) → n ≡ after_all m (take (get_or turns i d).events rest) → ShowsProgress (goes.before ++ piece (poll_of polls (get_or turns i d)) (take (get_or turns i d).events rest) ∷ []) new → Goes P plans lines polls cpus n new turns (i + 1) (drop (get_or turns i d).events rest)
   goes_on n new inside room fits moved shows =
       let t : Turn = get_or turns i d in
       let part : List Event = take t.events rest in
@@ -42,7 +42,7 @@ module _ (P : Type 0) (plans : List ThreadPlan) (lines : List ThreadEnd) (polls 
       }
 
   -- the same, by what the code has of the poll, the part and the rest, and of the number of processors
-  pub goes_next : (n : Machine) (new : List Progress) (poll : Option Poll) (part later : List Event) (count : ℕ) → poll ≡ poll_of polls (get_or turns i d) → part ≡ take (get_or turns i d).events rest → later ≡ drop (get_or turns i d).events rest → count ≡ cpus → i < length turns → (get_or turns i d).events ≤ length rest → Fits plans lines (i % count) m goes.before poll part → n ≡ after_all m part → Shows (goes.before ++ piece poll part ∷ []) new → Goes P plans lines polls cpus n new turns (i + 1) later
+  pub goes_next : (n : Machine) (new : List Progress) (poll : Option Poll) (part later : List Event) (count : ℕ) → poll ≡ poll_of polls (get_or turns i d) → part ≡ take (get_or turns i d).events rest → later ≡ drop (get_or turns i d).events rest → count ≡ cpus → i < length turns → (get_or turns i d).events ≤ length rest → Fits plans lines (i % count) m goes.before poll part → n ≡ after_all m part → ShowsProgress (goes.before ++ piece poll part ∷ []) new → Goes P plans lines polls cpus n new turns (i + 1) later
   goes_next n new poll part later count is_poll is_part is_later is_count inside room fits moved shows =
       let t : Turn = get_or turns i d in
       let q : Option Poll = poll_of polls t in
@@ -50,8 +50,8 @@ module _ (P : Type 0) (plans : List ThreadPlan) (lines : List ThreadEnd) (polls 
       let fits' : Fits plans lines (i % cpus) m goes.before q es =
       subst (λ (o : Option Poll). Fits plans lines (i % cpus) m goes.before o es) is_poll (subst (λ (ys : List Event). Fits plans lines (i % cpus) m goes.before poll ys) is_part (subst (λ j. Fits plans lines (i % j) m goes.before poll part) is_count fits)) in
       let moved' : n ≡ after_all m es = subst (λ (ys : List Event). n ≡ after_all m ys) is_part moved in
-      let shows' : Shows (goes.before ++ piece q es ∷ []) new =
-      subst (λ (o : Option Poll). Shows (goes.before ++ piece o es ∷ []) new) is_poll (subst (λ (ys : List Event). Shows (goes.before ++ piece poll ys ∷ []) new) is_part shows) in
+      let shows' : ShowsProgress (goes.before ++ piece q es ∷ []) new =
+      subst (λ (o : Option Poll). ShowsProgress (goes.before ++ piece o es ∷ []) new) is_poll (subst (λ (ys : List Event). ShowsProgress (goes.before ++ piece poll ys ∷ []) new) is_part shows) in
       subst (λ (ys : List Event). Goes P plans lines polls cpus n new turns (i + 1) ys) (sym is_later) (goes_on n new inside room fits' moved' shows')
 
   -- a turn without room for its events, or that doesn't fit, refutes what is to be shown
@@ -66,6 +66,6 @@ module _ (P : Type 0) (plans : List ThreadPlan) (lines : List ThreadEnd) (polls 
       unfit (subst (λ j. Fits plans lines (j % cpus) m goes.before (poll_of polls t) (take t.events rest)) goes.counted ((next inside).0 p).1.0)
 
 -- after the last turn the end of the run decides
-pub goes_to_end : (P : Type 0) (plans : List ThreadPlan) (lines : List ThreadEnd) (polls : List Poll) (cpus : ℕ) (m : Machine) (table : List Progress) (turns : List Turn) (i : ℕ) (rest : List Event) (goes : Goes P plans lines polls cpus m table turns i rest) → length turns ≤ i → P ↔ Closes plans lines m goes.before rest
+pub goes_to_end : (P : Type 0) (plans : List ThreadPlan) (lines : List ThreadEnd) (polls : List Poll) (cpus : ℕ) (m : Machine) (table : List Progress) (turns : List Turn) (i : ℕ) (rest : List Event) (goes : Goes P plans lines polls cpus m table turns i rest) → length turns ≤ i → P ↔ EndsRun plans lines m goes.before rest
 goes_to_end P plans lines polls cpus m table turns i rest goes past =
     subst (λ (ts : List Turn). P ↔ Runs plans lines polls cpus m goes.before ts rest) (drop_all i turns past) goes.whole

@@ -15,7 +15,7 @@ use Rattle.lwkt_verdict.specs.declared.progress.Progress.{Progress}
 use Rattle.lwkt_verdict.specs.declared.progress.Piece.{Piece}
 use Rattle.lwkt_verdict.specs.Threads.{slot_of, asked_in, asked_by, logged_by, entries_of, progress_of, progress_after}
 use Rattle.lwkt_verdict.specs.Run.{came, asked, Polls}
-use Rattle.lwkt_verdict.specs.Shows.{Shows}
+use Rattle.lwkt_verdict.specs.Progressed.{ShowsProgress}
 
 -- what a turn more asked of a thread
 pub asked_push : (slot : ℕ) (before : List Piece) (p : Piece) → asked_by slot (before ++ p ∷ []) ≡ asked_by slot before ++ asked_in slot p
@@ -94,20 +94,20 @@ get_replicate (suc n) x zero inside = refl
 get_replicate (suc n) x (suc k) inside = get_replicate n x k (omega arith)
 
 -- the table before the first turn
-pub shows_start : Shows [] (replicate 128 (record { polls = 0; last = None; logged = 0 }))
+pub shows_start : ShowsProgress [] (replicate 128 (record { polls = 0; last = None; logged = 0 }))
 shows_start =
     let p : Progress = record { polls = 0; last = None; logged = 0 } in
     record { room = length-replicate {A = Progress} 128 p; at = λ k inside. get_replicate 128 p k inside }
 
 -- after a turn without an ask
-pub shows_idle : (before : List Piece) (table : List Progress) (blocked : Bool) → Shows before table → Shows (before ++ record { poll = None; blocked = blocked } ∷ []) table
+pub shows_idle : (before : List Piece) (table : List Progress) (blocked : Bool) → ShowsProgress before table → ShowsProgress (before ++ record { poll = None; blocked = blocked } ∷ []) table
 shows_idle before table blocked shows = record {
   room = shows.room;
   at = λ k inside. shows.at k inside ∙ ap (λ (p : Progress). Some p) (sym (came_other k before (record { poll = None; blocked = blocked }) refl));
 }
 
 -- after a turn that polled a thread
-pub shows_poll : (before : List Piece) (table new : List Progress) (q : Poll) (blocked : Bool) → Shows before table → slot_of q.thread < 128 → new ≡ slice_set table (slot_of q.thread) (progress_after (came before (slot_of q.thread)) (asked q blocked)) → Shows (before ++ record { poll = Some q; blocked = blocked } ∷ []) new
+pub shows_poll : (before : List Piece) (table new : List Progress) (q : Poll) (blocked : Bool) → ShowsProgress before table → slot_of q.thread < 128 → new ≡ slice_set table (slot_of q.thread) (progress_after (came before (slot_of q.thread)) (asked q blocked)) → ShowsProgress (before ++ record { poll = Some q; blocked = blocked } ∷ []) new
 shows_poll before table new q blocked shows inside is =
     let slot = slot_of q.thread in
     let p : Piece = record { poll = Some q; blocked = blocked } in
@@ -150,14 +150,14 @@ asked_few slot (p ∷ ps) =
     let less = asked_few slot ps in
     simp length-append (omega arith)
 
-pub few_polls : (before : List Piece) (table : List Progress) (k : ℕ) → Shows before table → length before < 18446744073709551615 → k < 128 → IfSome (slice_get table k) (λ p. p.polls < 18446744073709551615)
+pub few_polls : (before : List Piece) (table : List Progress) (k : ℕ) → ShowsProgress before table → length before < 18446744073709551615 → k < 128 → IfSome (slice_get table k) (λ p. p.polls < 18446744073709551615)
 few_polls before table k shows few inside =
     let F : Option Progress → Type 0 = λ o. IfSome o (λ p. p.polls < 18446744073709551615) in
     let less = asked_few k before in
     subst F (sym (shows.at k inside)) (omega arith)
 
 -- the same, by what the check of a poll says
-pub shows_polled : (plans : List ThreadPlan) (lines : List ThreadEnd) (cpu : ℕ) (before : List Piece) (table new : List Progress) (q : Poll) (blocked : Bool) → cpu < 8 → Shows before table → MatchOption (slice_get table (slot_of q.thread)) ⊥ (λ p. Polls plans lines cpu p q) → MatchOption (slice_get table (slot_of q.thread)) ⊥ (λ p. new ≡ slice_set table (slot_of q.thread) (progress_after p (asked q blocked))) → Shows (before ++ record { poll = Some q; blocked = blocked } ∷ []) new
+pub shows_polled : (plans : List ThreadPlan) (lines : List ThreadEnd) (cpu : ℕ) (before : List Piece) (table new : List Progress) (q : Poll) (blocked : Bool) → cpu < 8 → ShowsProgress before table → MatchOption (slice_get table (slot_of q.thread)) ⊥ (λ p. Polls plans lines cpu p q) → MatchOption (slice_get table (slot_of q.thread)) ⊥ (λ p. new ≡ slice_set table (slot_of q.thread) (progress_after p (asked q blocked))) → ShowsProgress (before ++ record { poll = Some q; blocked = blocked } ∷ []) new
 shows_polled plans lines cpu before table new q blocked small shows right moved =
     let slot = slot_of q.thread in
     let inside : slot < 128 = inside_by plans lines cpu (slice_get table slot) q small right in

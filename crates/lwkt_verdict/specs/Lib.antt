@@ -4,5 +4,5 @@ pub mod Parts
 pub mod Threads
 pub mod Run
 pub mod Homes
-pub mod Shows
+pub mod Progressed
 pub mod Laws

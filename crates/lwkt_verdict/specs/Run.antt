@@ -62,13 +62,13 @@ pub record Fits (plans : List ThreadPlan) (lines : List ThreadEnd) (cpu : ℕ) (
   pub polls : MatchOption poll (Idles plans cpu (came before)) (λ q. Polls plans lines cpu (came before (slot_of q.thread)) q)
 
 -- the end of a run: the events of the stop may happen unasked, and each thread of the script has its line and ends as it says
-pub record Closes (plans : List ThreadPlan) (lines : List ThreadEnd) (m : Machine) (before : List Piece) (stop : List Event) : Type 0 where
+pub record EndsRun (plans : List ThreadPlan) (lines : List ThreadEnd) (m : Machine) (before : List Piece) (stop : List Event) : Type 0 where
   pub quiet : GoesQuietly m stop
   pub ends : (cpu n : ℕ) → cpu < 8 → n < 16 → Ends (thread_of cpu n plans) (line_of (16 * cpu + n) lines) (came before (16 * cpu + n))
 
 -- the trace is cut in order into one part for each turn and the events of the stop; the processors take their turns in rounds
 abbrev pub Runs : List ThreadPlan → List ThreadEnd → List Poll → ℕ → Machine → List Piece → List Turn → List Event → Type 0
-Runs plans lines polls cpus m before [] events = Closes plans lines m before events
+Runs plans lines polls cpus m before [] events = EndsRun plans lines m before events
 Runs plans lines polls cpus m before (turn ∷ turns) events =
     (turn.events ≤ length events) × (Fits plans lines (length before % cpus) m before (poll_of polls turn) (take turn.events events) × Runs plans lines polls cpus (after_all m (take turn.events events)) (before ++ piece (poll_of polls turn) (take turn.events events) ∷ []) turns (drop turn.events events))
 

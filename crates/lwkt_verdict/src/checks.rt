@@ -3,9 +3,9 @@ ghost use Rattle.lwkt_core.specs.Events.{cpu_of};
 ghost use Rattle.lwkt_verdict.specs.declared.progress.Piece.{Piece};
 ghost use Rattle.lwkt_verdict.specs.Parts.{after_all};
 ghost use Rattle.lwkt_verdict.specs.Threads.{slot_of};
-ghost use Rattle.lwkt_verdict.specs.Run.{piece, came, Makes, Idles, Polls, Fits, Runs, Closes, IsScriptRun};
+ghost use Rattle.lwkt_verdict.specs.Run.{piece, came, Makes, Idles, Polls, Fits, Runs, EndsRun, IsScriptRun};
 ghost use Rattle.lwkt_verdict.specs.Homes.{AreHomes};
-ghost use Rattle.lwkt_verdict.specs.Shows.{Shows};
+ghost use Rattle.lwkt_verdict.specs.Progressed.{ShowsProgress};
 
 use crate::ends::all_end;
 use crate::homes::{Home, homes_of};
@@ -57,9 +57,9 @@ fn asks(
 ) -> bool
     requires processor { cpu < 8 }
     requires homes { AreHomes plans.now lines.now homes.now }
-    requires shows { (before : List Piece) × (Shows before table.old × (length before < 2 ^ 64 - 1)) }
-    ensures right { (before : List Piece) → Shows before table.old → (IsTrue result ↔ MatchOption poll (Idles plans.now cpu (came before)) (λ q. Polls plans.now lines.now cpu (came before (slot_of q.thread)) q)) }
-    ensures moved { (before : List Piece) → Shows before table.old → IsTrue result → Shows (before ++ record { poll = poll; blocked = blocked } ∷ []) table.new }
+    requires shows { (before : List Piece) × (ShowsProgress before table.old × (length before < 2 ^ 64 - 1)) }
+    ensures right { (before : List Piece) → ShowsProgress before table.old → (IsTrue result ↔ MatchOption poll (Idles plans.now cpu (came before)) (λ q. Polls plans.now lines.now cpu (came before (slot_of q.thread)) q)) }
+    ensures moved { (before : List Piece) → ShowsProgress before table.old → IsTrue result → ShowsProgress (before ++ record { poll = poll; blocked = blocked } ∷ []) table.new }
 {
     match &poll {
         None => idles(plans, lines, homes, table, cpu),
@@ -80,10 +80,10 @@ fn fits(
 ) -> bool
     requires processor { cpu < 8 }
     requires homes { AreHomes plans.now lines.now homes.now }
-    requires shows { (before : List Piece) × (Shows before table.old × (length before < 2 ^ 64 - 1)) }
-    ensures right { (before : List Piece) → Shows before table.old → (IsTrue result ↔ Fits plans.now lines.now cpu state.old before poll part.now) }
+    requires shows { (before : List Piece) × (ShowsProgress before table.old × (length before < 2 ^ 64 - 1)) }
+    ensures right { (before : List Piece) → ShowsProgress before table.old → (IsTrue result ↔ Fits plans.now lines.now cpu state.old before poll part.now) }
     ensures moved { IsTrue result → state.new ≡ after_all state.old part.now }
-    ensures noted { (before : List Piece) → Shows before table.old → IsTrue result → Shows (before ++ piece poll part.now ∷ []) table.new }
+    ensures noted { (before : List Piece) → ShowsProgress before table.old → IsTrue result → ShowsProgress (before ++ piece poll part.now ∷ []) table.new }
 {
     if !are_of(cpu, part) {
         return false;
@@ -112,8 +112,8 @@ fn closes(
     stop: &[Event],
 ) -> bool
     requires homes { AreHomes plans.now lines.now homes.now }
-    requires shows { (before : List Piece) × Shows before table.now }
-    ensures { (before : List Piece) → Shows before table.now → (IsTrue result ↔ Closes plans.now lines.now state.old before stop.now) }
+    requires shows { (before : List Piece) × ShowsProgress before table.now }
+    ensures { (before : List Piece) → ShowsProgress before table.now → (IsTrue result ↔ EndsRun plans.now lines.now state.old before stop.now) }
 {
     goes_quietly(state, stop) && all_end(plans, lines, homes, table)
 }
@@ -131,7 +131,7 @@ fn runs(
 ) -> bool
     requires processors { 0 < state.old.cpus }
     requires homes { AreHomes plans.now lines.now homes.now }
-    requires shows { Shows [] table.old }
+    requires shows { ShowsProgress [] table.old }
     ensures { IsTrue result ↔ Runs plans.now lines.now polls.now state.old.cpus state.old [] turns.now trace.now }
 {
     let cpus = state.cpus();
@@ -153,7 +153,7 @@ fn runs(
 
 // How far the threads have come before the first turn.
 fn start() -> [Progress; 128]
-    ensures { Shows [] result }
+    ensures { ShowsProgress [] result }
 {
     [Progress::START; 128]
 }

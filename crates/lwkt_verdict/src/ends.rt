@@ -1,7 +1,7 @@
 ghost use Rattle.std.specs.Prelude.{◌≡◌, ℕ, ◌<◌, ◌+◌, ◌*◌, ◌↔◌, IsTrue, length, MatchOption, IfSome, slice_get};
 ghost use Rattle.lwkt_verdict.specs.Threads.{EndsAs};
 ghost use Rattle.lwkt_verdict.specs.Homes.{IsHome, AreHomes};
-ghost use Rattle.lwkt_verdict.specs.Shows.{EndsAt};
+ghost use Rattle.lwkt_verdict.specs.Progressed.{EndsAt};
 
 use crate::homes::{Home, THREAD_LIMIT, home_at};
 use crate::polls::progress_at;

@@ -1,7 +1,7 @@
 use Rattle.std.proofs.Common.{ℕ, ◌/◌, ◌%◌, ◌<◌, ◌≤◌, arith, refl}
 use Rattle.std.proofs.lemmas.Bool.{iff_false}
 use borrow.Author.Count.{below_more}
-use Rattle.lwkt_verdict.specs.Shows.{EndsAt}
+use Rattle.lwkt_verdict.specs.Progressed.{EndsAt}
 use Rattle.lwkt_verdict.proofs.PartMoves.{never}
 use Rattle.lwkt_verdict.proofs.EndMoves.{home_inside, home_k, end_k, by_threads}
 use Rattle.lwkt_verdict.proofs.ends.all_end.Goals as goal

@@ -1,5 +1,5 @@
 use Rattle.std.proofs.Common.{ℕ, ◌<◌, ◌/◌, ◌%◌}
-use Rattle.lwkt_verdict.specs.Shows.{EndsAt}
+use Rattle.lwkt_verdict.specs.Progressed.{EndsAt}
 use Rattle.lwkt_verdict.proofs.ends.all_end.Given as goal
 
 -- the threads so far end as their lines say

@@ -8,7 +8,7 @@ use Rattle.lwkt_verdict.specs.Threads.{thread_of, line_of, Ends}
 use Rattle.lwkt_verdict.specs.Run.{came}
 
 -- a table says how far each thread has come after some turns, 16 for each of 8 processors
-pub record Shows (before : List Piece) (table : List Progress) : Type 0 where
+pub record ShowsProgress (before : List Piece) (table : List Progress) : Type 0 where
   pub room : length table ≡ 128
   pub at : (k : ℕ) → k < 128 → slice_get table k ≡ Some (came before k)
 
