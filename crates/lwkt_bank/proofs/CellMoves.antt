@@ -28,20 +28,13 @@ stored_after s mid s' tok cell value deeds first second =
     let F : CpuId → Type 0 = λ c. Changes mid s' tok (stored (entry mid tok) cell value) (writes c tok cell value ∷ []) in
     knowing_then s mid s' tok (λ e. stored e cell value) deeds (writes s.cpu tok cell value ∷ []) (λ e known. refl) refl first (subst F first.changes.cpu second)
 
--- the cell of a Tally token raised after its load
-pub raised_after : (s mid s' : CpuSeat) (tok k old sum : ℕ) → old ≡ slice_index (entry s tok).row 0 → sum ≡ old + k → Changes s mid tok (read (entry s tok) 0) (reads s.cpu tok 0 old ∷ []) → Changes mid s' tok (raised (entry mid tok) mid.cpu k) (writes mid.cpu tok 0 sum ∷ [])
-    → Knowing s s' tok (raised (entry s tok) s.cpu k) (reads s.cpu tok 0 (slice_index (entry s tok).row 0) ∷ writes s.cpu tok 0 (slice_index (entry s tok).row 0 + k) ∷ [])
-raised_after s mid s' tok k old sum old_is sum_is first second =
+-- the cell of a Tally token raised after its value is known
+pub raised_after : (s mid s' : CpuSeat) (tok k sum : ℕ) (deeds : List Deed) → sum ≡ slice_index (entry s tok).row 0 + k → Knowing s mid tok (entry s tok) deeds → Changes mid s' tok (raised (entry mid tok) mid.cpu k) (writes mid.cpu tok 0 sum ∷ [])
+    → Knowing s s' tok (raised (entry s tok) s.cpu k) (deeds ++ writes s.cpu tok 0 (slice_index (entry s tok).row 0 + k) ∷ [])
+raised_after s mid s' tok k sum deeds sum_is first second =
     let F : CpuId → Type 0 = λ c. Changes mid s' tok (raised (entry mid tok) c k) (writes c tok 0 sum ∷ []) in
-    let G : ℕ → Type 0 = λ x. Knowing s s' tok (raised (entry s tok) s.cpu k) (reads s.cpu tok 0 x ∷ writes s.cpu tok 0 (x + k) ∷ []) in
-    let H : ℕ → Type 0 = λ x. Knowing s s' tok (raised (entry s tok) s.cpu k) (reads s.cpu tok 0 old ∷ writes s.cpu tok 0 x ∷ []) in
-    subst G old_is (subst H sum_is (knowing_then s mid s' tok (λ e. raised e s.cpu k) (reads s.cpu tok 0 old ∷ []) (writes s.cpu tok 0 sum ∷ []) (λ e known. refl) refl (knowing_read s mid tok 0 (reads s.cpu tok 0 old ∷ []) first) (subst F first.cpu second)))
-
--- the same where the sum doesn't fit
-pub only_read : (s mid : CpuSeat) (tok old : ℕ) → old ≡ slice_index (entry s tok).row 0 → Changes s mid tok (read (entry s tok) 0) (reads s.cpu tok 0 old ∷ []) → Knowing s mid tok (entry s tok) (reads s.cpu tok 0 (slice_index (entry s tok).row 0) ∷ [])
-only_read s mid tok old old_is changes =
-    let G : ℕ → Type 0 = λ x. Knowing s mid tok (entry s tok) (reads s.cpu tok 0 x ∷ []) in
-    subst G old_is (knowing_read s mid tok 0 (reads s.cpu tok 0 old ∷ []) changes)
+    let H : ℕ → Type 0 = λ x. Knowing s s' tok (raised (entry s tok) s.cpu k) (deeds ++ writes s.cpu tok 0 x ∷ []) in
+    subst H sum_is (knowing_then s mid s' tok (λ e. raised e s.cpu k) deeds (writes s.cpu tok 0 sum ∷ []) (λ e known. refl) refl first (subst F first.changes.cpu second))
 
 -- one cell more of a row
 take_more : (xs : List ℕ) (i : ℕ) → i < length xs → take (i + 1) xs ≡ take i xs ++ slice_index xs i ∷ []

@@ -11,6 +11,7 @@ use Rattle.lwkt_bank.specs.declared.views.Added.{Added}
 use Rattle.lwkt_base.specs.declared.names.CpuId.{CpuId}
 use Rattle.lwkt_base.specs.declared.names.Mode.{Mode}
 use Rattle.lwkt_base.specs.declared.names.Mode.TheVariants.{Exclusive, Shared}
+use Rattle.lwkt_base.specs.declared.laws.Law.TheVariants.{Tally}
 use Rattle.lwkt_base.specs.declared.holdings.Held.{Held}
 use Rattle.lwkt_base.specs.declared.holdings.Held.TheVariants.{Nothing, Holds}
 use Rattle.lwkt_base.specs.Holding.{references_in, is_held, is_exclusive, one_less, one_more}
@@ -50,6 +51,9 @@ IsNoted-same plan cpu e e' note held first row added touched noted' = record {
       let F : List ℕ → List ℕ → Type 0 = λ f r. IsTouched (touch_at note cell) (slice_index note.first cell) (slice_index f cell) (slice_index r cell) in
       subst (λ (r : List ℕ). F e'.first r) (sym row) (subst (λ (f : List ℕ). F f e.row) (sym first) (noted'.touched cell (sym (ap is_exclusive held) ∙ is)));
   stored_to = λ cell inside is. noted'.stored_to cell inside (sym (ap is_exclusive held) ∙ is) ∙ ap (λ (cells : List ℕ). list_any (λ c. eqb c cell) cells) (sym touched);
+  latest = λ tally is stored_to.
+      let l = noted'.latest tally (sym (ap is_exclusive held) ∙ is) stored_to in
+      (l.0 ∙ ap (λ (r : List ℕ). slice_index r 0) (sym row), subst (λ (xs : List Added). amount cpu xs ≤ note.last) (sym added) l.1);
 }
 
 -- a look changes nothing of what is noted
@@ -68,6 +72,7 @@ IsNoted-nothing plan cpu e e' note held added noted' = record {
   mode = λ is. absurd (false≢true (sym (ap is_held held) ∙ is));
   touched = λ cell is. absurd (false≢true (sym (ap is_exclusive held) ∙ is));
   stored_to = λ cell inside is. absurd (false≢true (sym (ap is_exclusive held) ∙ is));
+  latest = λ tally is stored_to. absurd (false≢true (sym (ap is_exclusive held) ∙ is));
 }
 
 -- another holding of a token that is held, in the same mode
@@ -82,6 +87,7 @@ IsNoted-held plan cpu e h references note was same count noted' = record {
   mode = λ is. same is ∙ noted'.mode was;
   touched = λ cell is. noted'.touched cell (sym (same (exclusive_held h is)) ∙ is);
   stored_to = λ cell inside is. noted'.stored_to cell inside (sym (same (exclusive_held h is)) ∙ is);
+  latest = λ tally is stored_to. noted'.latest tally (sym (same (exclusive_held h is)) ∙ is) stored_to;
 }
 
 -- one reference less keeps the mode, and so does one more
@@ -162,6 +168,7 @@ IsNoted-taken plan cpu e word Exclusive row note long noted' =
           let F : Touch → Type 0 = λ t. IsTouched t (slice_index note.first cell) (slice_index row cell) (slice_index row cell) in
           subst F (sym (untouched_at cell)) (record { first_kept = λ s. absurd (false≢true s); same = λ s. refl; other = λ o. absurd (false≢true o) });
       stored_to = λ cell inside is. ap is_stored (untouched_at cell);
+      latest = λ tally is stored_to. absurd (false≢true stored_to);
     }
 IsNoted-taken plan cpu e word Shared row note long noted' =
     let k = seen-keeps e (generation_in word) in
@@ -175,6 +182,7 @@ IsNoted-taken plan cpu e word Shared row note long noted' =
       mode = λ is. refl;
       touched = λ cell is. absurd (false≢true is);
       stored_to = λ cell inside is. absurd (false≢true is);
+      latest = λ tally is stored_to. absurd (false≢true is);
     }
 
 -- after an entry of a token that exists has changed, no other token is held
@@ -310,8 +318,8 @@ module _ (plan : Plan) (cpu : ℕ) (e : Entry) (note : Note) (noted' : IsNoted p
       ap is_stored (get_or-set_other note.cells cell k (touch_of change) Untouched away) ∙ noted'.stored_to k there is ∙ sym (touched_other e cell k away))
       (cases_eq k cell)
 
-  pub IsNoted-stored : IsNoted plan cpu (stored e cell change.last) (changed note cell change)
-  IsNoted-stored = record {
+  pub IsNoted-stored : plan.law ≢ Tally → IsNoted plan cpu (stored e cell change.last) (changed note cell change)
+  IsNoted-stored untallied = record {
     four = length-set note.cells cell (touch_of change) ∙ noted'.four;
     firsts = length-set note.first cell change.first ∙ noted'.firsts;
     tally = noted'.tally;
@@ -321,12 +329,13 @@ module _ (plan : Plan) (cpu : ℕ) (e : Entry) (note : Note) (noted' : IsNoted p
     mode = noted'.mode;
     touched = λ k h. touched_there k;
     stored_to = λ k there h. stored_there k there;
+    latest = λ tally h stored_to. absurd (untallied tally);
   }
 
 -- a Tally token's cell that was raised
-pub IsNoted-raised : (plan : Plan) (cpu : CpuId) (e : Entry) (note : Note) (noted' : IsNoted plan cpu.0 e note) → is_exclusive e.held ≡ true → plan.cells ≤ 4 → (change : Change) (k : ℕ) → 0 < plan.cells → change.first ≡ slice_index e.first 0 → change.last ≡ slice_index e.row 0 + k
-    → IsNoted plan cpu.0 (raised e cpu k) (record (changed note 0 change) { tally = note.tally + k })
-IsNoted-raised plan cpu e note noted' is within change k inside first_is last_is =
+pub IsNoted-raised : (plan : Plan) (cpu : CpuId) (e : Entry) (note : Note) (noted' : IsNoted plan cpu.0 e note) → is_exclusive e.held ≡ true → plan.cells ≤ 4 → (change : Change) (k : ℕ) → 0 < plan.cells → change.first ≡ slice_index e.first 0 → change.last ≡ slice_index e.row 0 + k → amount cpu.0 e.added ≤ slice_index e.row 0
+    → IsNoted plan cpu.0 (raised e cpu k) (record (changed note 0 change) { tally = note.tally + k; last = change.last })
+IsNoted-raised plan cpu e note noted' is within change k inside first_is last_is under =
     let own_sum = sum_by-cons (λ (x : Added). cond (eqb x.cpu.0 cpu.0) x.amount 0) (record { cpu = cpu; amount = k }) e.added in
     let test = ap (λ b. cond b k 0) (eq-eqb cpu.0 cpu.0 refl) in
     let before = noted'.tally in
@@ -343,6 +352,10 @@ IsNoted-raised plan cpu e note noted' is within change k inside first_is last_is
       references = noted'.references;
       mode = noted'.mode;
       stored_to = λ j there h. stored_there plan cpu.0 e note noted' is within 0 change inside first_is j there;
+      latest = λ tally h stored_to.
+          let l = (noted'.long (exclusive_held e.held is)).1 in
+          let low : 0 < length e.row = omega arith in
+          (last_is ∙ sym (get_or-set_same e.row 0 (slice_index e.row 0 + k) 0 low), omega arith);
       touched = λ j h.
           let F : ℕ → Type 0 = λ last. IsTouched (touch_at (changed note 0 change) j) (slice_index (changed note 0 change).first j) (slice_index e.first j) (slice_index (slice_set e.row 0 last) j) in
           subst F last_is (touched_there plan cpu.0 e note noted' is within 0 change inside first_is j);

@@ -1,7 +1,8 @@
-use Rattle.std.specs.Prelude.{◌≡◌, ◌≢◌, ℕ, ◌+◌, ◌-◌, ◌<◌, ◌==◌, if◌then◌else◌, Bool, true, false, List, [], ◌∷◌, length, slice_index, slice_index_or, slice_set}
+use Rattle.std.specs.Prelude.{◌≡◌, ◌≢◌, ℕ, ◌+◌, ◌-◌, ◌<◌, ◌≤◌, ◌==◌, if◌then◌else◌, Bool, true, false, List, [], ◌∷◌, length, slice_index, slice_index_or, slice_set}
 use Rattle.lwkt_base.specs.declared.names.CpuId.{CpuId}
 use Rattle.lwkt_base.specs.declared.names.Mode.{Mode}
 use Rattle.lwkt_base.specs.declared.names.Mode.TheVariants.{Exclusive, Shared}
+use Rattle.lwkt_base.specs.declared.laws.Law.TheVariants.{Tally}
 use Rattle.lwkt_base.specs.declared.holdings.Held.{Held}
 use Rattle.lwkt_base.specs.declared.holdings.Held.TheVariants.{Nothing, Holds}
 use Rattle.lwkt_base.specs.Holding.{references_in, is_held, is_exclusive}
@@ -30,7 +31,7 @@ clerk_number Spent = 0
 
 -- what is kept of a token that was never taken, and what stands for a note past the last
 abbrev pub no_note : Note
-no_note = record { first = 0 ∷ 0 ∷ 0 ∷ 0 ∷ []; tally = 0; cells = Untouched ∷ Untouched ∷ Untouched ∷ Untouched ∷ []; mode = Exclusive; references = 0 }
+no_note = record { first = 0 ∷ 0 ∷ 0 ∷ 0 ∷ []; tally = 0; last = 0; cells = Untouched ∷ Untouched ∷ Untouched ∷ Untouched ∷ []; mode = Exclusive; references = 0 }
 
 abbrev pub note_at : List Note → ℕ → Note
 note_at notes tok = slice_index_or notes tok no_note
@@ -71,7 +72,8 @@ pub record IsTouched (touch : Touch) (kept first value : ℕ) : Type 0 where
   pub same : is_other touch ≡ false → value ≡ first
   pub other : is_other touch ≡ true → value ≢ first
 
--- what a seat keeps at run time of a token is what its view says; how the cells stand only while it is held exclusively
+-- what a seat keeps at run time of a token is what its view says; how the cells stand only while it is held exclusively, and the
+-- value of a Tally token's cell only where it was added to in the section
 pub record IsNoted (plan : Plan) (cpu : ℕ) (e : Entry) (note : Note) : Type 0 where
   pub four : length note.cells ≡ 4
   pub firsts : length note.first ≡ 4
@@ -82,6 +84,7 @@ pub record IsNoted (plan : Plan) (cpu : ℕ) (e : Entry) (note : Note) : Type 0 
   pub mode : is_held e.held ≡ true → is_exclusive e.held ≡ is_exclusive (Holds note.mode 0)
   pub touched : (cell : ℕ) → is_exclusive e.held ≡ true → IsTouched (touch_at note cell) (slice_index note.first cell) (slice_index e.first cell) (slice_index e.row cell)
   pub stored_to : (cell : ℕ) → cell < plan.cells → is_exclusive e.held ≡ true → is_stored (touch_at note cell) ≡ is_touched e cell
+  pub latest : plan.law ≡ Tally → is_exclusive e.held ≡ true → is_stored (touch_at note 0) ≡ true → (note.last ≡ slice_index e.row 0) × (amount cpu e.added ≤ note.last)
 
 -- what a seat keeps at run time is what its view says, the view is that of its processor, and it holds no token that isn't there
 pub record Keeps (notes : List Note) (cpu : CpuId) (v : View) : Type 0 where

@@ -114,15 +114,15 @@ impl CpuSeat {
         requires tally { (plan_of (bank_of self.old) tok.0).law ≡ Law.Tally }
         requires first { change.first ≡ slice_index (entry self.old tok.0).first 0 }
         requires last { change.last ≡ slice_index (entry self.old tok.0).row 0 + k }
-        requires covered { amount self.old.cpu.0 (entry self.old tok.0).added + k < 2 ^ 64 }
+        requires under { amount self.old.cpu.0 (entry self.old tok.0).added ≤ slice_index (entry self.old tok.0).row 0 }
         ensures { Changes self.old self.new tok.0 (raised (entry self.old tok.0) self.old.cpu k) (writes self.old.cpu tok.0 0 change.last ∷ []) }
     {
         self.notes[tok.0 as usize].raise(change, k);
         steps::raise_cell(bank, &mut self.seat, tok, change.last);
     }
 
-    // The value of the cell of a Tally token, which is at least what this processor has added.
-    fn tally_cell(&mut self, bank: &Bank, tok: TokId) -> u64
+    // The value of the cell of a Tally token, loaded; it is at least what this processor has added.
+    fn load_tally(&mut self, bank: &Bank, tok: TokId) -> u64
         requires of { bank_of self.old ≡ id_of bank.now }
         requires there { tok.0 < tokens_of (bank_of self.old) }
         requires held { is_exclusive (holding self.old tok.0) ≡ true }
@@ -134,26 +134,65 @@ impl CpuSeat {
         steps::read_cell(bank, &mut self.seat, tok, 0)
     }
 
-    /// Adds to the cell of a Tally token, which is loaded once, and answers its new value. That the seat holds the token exclusively is the
-    /// caller's condition. 22 for any other token, 21 exactly if the sum passes 18446744073709551615.
+    // The value of the cell of a Tally token, if it was added to in the section.
+    fn kept_tally(&self, bank: &Bank, tok: TokId) -> Option<Change>
+        requires of { bank_of self.now ≡ id_of bank.now }
+        requires there { tok.0 < tokens_of (bank_of self.now) }
+        requires held { is_exclusive (holding self.now tok.0) ≡ true }
+        requires tally { (plan_of (bank_of self.now) tok.0).law ≡ Law.Tally }
+        ensures { MatchOption result ((is_touched (entry self.now tok.0) 0 ≡ false) × (slice_index (entry self.now tok.0).row 0 ≡ slice_index (entry self.now tok.0).first 0)) (λ change. (is_touched (entry self.now tok.0) 0 ≡ true) × (change.first ≡ slice_index (entry self.now tok.0).first 0) × (change.last ≡ slice_index (entry self.now tok.0).row 0) × (amount self.now.cpu.0 (entry self.now tok.0).added ≤ change.last)) }
+    {
+        let note = &self.notes[tok.0 as usize];
+        if matches!(note.cells[0], Touch::Untouched) {
+            return None;
+        }
+        Some(Change {
+            first: note.first[0],
+            last: note.last,
+        })
+    }
+
+    // The first value and the value of the cell of a Tally token: kept, if it was added to in the section, else loaded.
+    fn tally_cell(&mut self, bank: &Bank, tok: TokId) -> Change
+        requires of { bank_of self.old ≡ id_of bank.now }
+        requires there { tok.0 < tokens_of (bank_of self.old) }
+        requires held { is_exclusive (holding self.old tok.0) ≡ true }
+        requires tally { (plan_of (bank_of self.old) tok.0).law ≡ Law.Tally }
+        ensures first { result.first ≡ slice_index (entry self.old tok.0).first 0 }
+        ensures last { result.last ≡ slice_index (entry self.old tok.0).row 0 }
+        ensures under { amount self.old.cpu.0 (entry self.old tok.0).added ≤ slice_index (entry self.old tok.0).row 0 }
+        ensures knowing { Knowing self.old self.new tok.0 (entry self.old tok.0) (first_load self.old.cpu tok.0 (entry self.old tok.0) 0) }
+    {
+        if let Some(change) = self.kept_tally(bank, tok) {
+            return change;
+        }
+        let value = self.load_tally(bank, tok);
+        Change {
+            first: value,
+            last: value,
+        }
+    }
+
+    /// Adds to the cell of a Tally token, and answers its new value. The first add in a section loads the cell once, and a
+    /// later one not at all. That the seat holds the token exclusively is the caller's condition. 22 for any other token, 21
+    /// exactly if the sum passes 18446744073709551615.
     pub fn add(&mut self, bank: &Bank, tok: TokId, k: u64) -> Result<u64, Fault>
         requires of { bank_of self.old ≡ id_of bank.now }
         requires there { tok.0 < tokens_of (bank_of self.old) }
         requires held { is_exclusive (holding self.old tok.0) ≡ true }
-        ensures ok { OnOk result (Knowing self.old self.new tok.0 (raised (entry self.old tok.0) self.old.cpu k) (reads self.old.cpu tok.0 0 (slice_index (entry self.old tok.0).row 0) ∷ writes self.old.cpu tok.0 0 (slice_index (entry self.old tok.0).row 0 + k) ∷ [])) }
+        ensures ok { OnOk result (Knowing self.old self.new tok.0 (raised (entry self.old tok.0) self.old.cpu k) (first_load self.old.cpu tok.0 (entry self.old tok.0) 0 ++ writes self.old.cpu tok.0 0 (slice_index (entry self.old tok.0).row 0 + k) ∷ [])) }
         ensures value { IfOk result (λ value. value ≡ slice_index (entry self.old tok.0).row 0 + k) }
         ensures tally { (result ≡ Err Fault.TallyOnly) ↔ ((plan_of (bank_of self.old) tok.0).law ≢ Law.Tally) }
         ensures overflow { (result ≡ Err Fault.Overflow) ↔ (((plan_of (bank_of self.old) tok.0).law ≡ Law.Tally) × (2 ^ 64 ≤ slice_index (entry self.old tok.0).row 0 + k)) }
-        ensures only { OnErr result (((result ≡ Err Fault.TallyOnly) × IsUnchanged self.old self.new) ⊎ ((result ≡ Err Fault.Overflow) × Knowing self.old self.new tok.0 (entry self.old tok.0) (reads self.old.cpu tok.0 0 (slice_index (entry self.old tok.0).row 0) ∷ []))) }
+        ensures only { OnErr result (((result ≡ Err Fault.TallyOnly) × IsUnchanged self.old self.new) ⊎ ((result ≡ Err Fault.Overflow) × Knowing self.old self.new tok.0 (entry self.old tok.0) (first_load self.old.cpu tok.0 (entry self.old tok.0) 0))) }
     {
         if bank.plan(tok).law != Law::Tally {
             return Err(Fault::TallyOnly);
         }
-        let old = self.tally_cell(bank, tok);
-        let Some(sum) = old.checked_add(k) else {
+        let Change { first, last } = self.tally_cell(bank, tok);
+        let Some(sum) = last.checked_add(k) else {
             return Err(Fault::Overflow);
         };
-        let first = self.kept_first(bank, tok, 0).unwrap_or(old);
         self.raise(bank, tok, k, Change { first, last: sum });
         Ok(sum)
     }

@@ -43,6 +43,9 @@ pub struct Note {
     pub first: [u64; 4],
     /// What this processor has added to the cell of a Tally token.
     pub tally: u64,
+    /// The value of the cell of a Tally token. It counts only while the token is held exclusively and was added to since the
+    /// section began.
+    pub last: u64,
     /// How each cell stands. It counts only while the token is held exclusively.
     pub cells: [Touch; 4],
     /// The mode of the first reference that the seat has.
@@ -59,6 +62,7 @@ impl Note {
         Note {
             first: [0; 4],
             tally: 0,
+            last: 0,
             cells: [Touch::Untouched; 4],
             mode: Mode::Exclusive,
             references: 0,
@@ -100,14 +104,15 @@ impl Note {
         self.cells[cell] = change.touch();
     }
 
-    /// This much more is added to the first cell.
+    /// This much more is added to the cell of a Tally token.
     pub(crate) fn raise(&mut self, change: Change, k: u64)
         requires first { 0 < length self.old.first }
         requires inside { 0 < length self.old.cells }
         requires fits { self.old.tally + k < 2 ^ 64 }
-        ensures { self.new ≡ record (changed self.old 0 change) { tally = self.old.tally + k } }
+        ensures { self.new ≡ record (changed self.old 0 change) { tally = self.old.tally + k; last = change.last } }
     {
         self.change(0, change);
         self.tally += k;
+        self.last = change.last;
     }
 }

@@ -4,7 +4,11 @@
 #[cfg(test)]
 mod bank_rows;
 #[cfg(test)]
+mod count_rows;
+#[cfg(test)]
 mod desks;
+#[cfg(test)]
+mod full_rows;
 #[cfg(test)]
 mod hold_desks;
 #[cfg(test)]

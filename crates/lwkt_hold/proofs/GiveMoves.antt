@@ -1,5 +1,5 @@
 use Rattle.std.proofs.Common.{◌≡◌, ◌≢◌, ◌⊎◌, ℕ, suc, ◌+◌, ◌-◌, ◌<◌, ◌≤◌, Bool, true, false, cond, eqb, List, [], ◌∷◌, ◌++◌, length, take, get_or, refl, ap, sym, ◌∙◌, subst, arith, inl, inr, eq-eqb}
-use Rattle.std.specs.Prelude.{All, filter, Vec, vec_len, vec_capacity, Option, Some, None, slice_get}
+use Rattle.std.specs.Prelude.{All, filter, Vec, vec_len, vec_capacity, Option, Some, None, slice_get, slice_index}
 use Rattle.std.specs.List.{AllZip}
 use Rattle.std.specs.declared.alloc.Global.{Global}
 use Rattle.std.proofs.lemmas.List.Elements.{All-from_recursion, All-cons}
@@ -24,8 +24,9 @@ use Rattle.lwkt_bank.specs.declared.seats.CpuSeat.{CpuSeat}
 use Rattle.lwkt_core.specs.declared.seats.WordStep.{WordStep}
 use Rattle.lwkt_core.specs.declared.seats.Deed.{Deed}
 use Rattle.lwkt_core.specs.History.{events_in, steps_in}
-use Rattle.lwkt_bank.specs.Deeds.{reads_all, writes_all}
-use Rattle.lwkt_bank.specs.Seats.{BankId, bank_of, plan_of, entry, holding, Knowing, Restored, lawful_loads, written_over}
+use Rattle.lwkt_bank.specs.Views.{is_touched}
+use Rattle.lwkt_bank.specs.Deeds.{reads, reads_all, writes_all}
+use Rattle.lwkt_bank.specs.Seats.{BankId, bank_of, plan_of, entry, holding, Knowing, Restored, first_load, lawful_loads, written_over}
 use Rattle.lwkt_hold.specs.Steps.{is_counted, is_of_token, is_on_word, Shows, Tells}
 use Rattle.lwkt_hold.specs.Runs.{Moves, Ran}
 use Rattle.lwkt_hold.specs.Rows.{row, first_row, MeetsItsLaw, IsBroken, SameRow, writes, GivesBack, Mends}
@@ -103,6 +104,14 @@ reads_untold : (cpu : CpuId) (tok cell : ℕ) (row : List ℕ) → IsUntold (rea
 reads_untold cpu tok cell [] = (refl, refl)
 reads_untold cpu tok cell (x ∷ row) = let rest = reads_untold cpu tok (suc cell) row in (inl (refl, rest.0), rest.1)
 
+-- the load of a cell before the first store to it
+first_untold : (s : CpuSeat) (tok cell : ℕ) → IsUntold (first_load s.cpu tok (entry s tok) cell)
+first_untold s tok cell = go (is_touched (entry s tok) cell)
+  where
+    go : (b : Bool) → IsUntold (cond b [] (reads s.cpu tok cell (slice_index (entry s tok).first cell) ∷ []))
+    go true = (refl, refl)
+    go false = (inl (refl, refl), refl)
+
 -- the loads of a question for the law
 pub lawful_untold : (law : Law) (cpu : CpuId) (tok : ℕ) (row : List ℕ) → IsUntold (lawful_loads law (reads_all cpu tok 0 row))
 lawful_untold Any cpu tok row = (refl, refl)
@@ -115,6 +124,9 @@ lawful_untold Tally cpu tok row = (refl, refl)
 pub knowing_ran : (P : Holding → Type 0) (most : ℕ) (s s' : CpuSeat) (tok : ℕ) (deeds : List Deed) (t : Vec Event Global) → IsUntold deeds → Knowing s s' tok (entry s tok) deeds → Ran P most s s' t t
 knowing_ran P most s s' tok deeds t untold k =
     ran_weaker P P 0 most s s' t t (λ x p. p) (omega arith) (ran_quiet P s s' tok (record (entry s tok) { known = k.known }) deeds t k.changes refl untold.0 (ap (λ (xs : List WordStep). filter is_counted xs) untold.1))
+
+pub first_load_ran : (P : Holding → Type 0) (most : ℕ) (s s' : CpuSeat) (tok cell : ℕ) (t : Vec Event Global) → Knowing s s' tok (entry s tok) (first_load s.cpu tok (entry s tok) cell) → Ran P most s s' t t
+first_load_ran P most s s' tok cell t k = knowing_ran P most s s' tok (first_load s.cpu tok (entry s tok) cell) t (first_untold s tok cell) k
 
 pub knowing_kept : (s s' : CpuSeat) (tok : ℕ) (deeds : List Deed) → Knowing s s' tok (entry s tok) deeds → holding s' ≡ holding s
 knowing_kept s s' tok deeds k = holding_kept s s' tok (record (entry s tok) { known = k.known }) deeds k.changes refl

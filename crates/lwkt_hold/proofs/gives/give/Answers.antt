@@ -38,3 +38,21 @@ returns-in-Written-clause-ran c =
     let given = holding_changed s c.give.new.self tok.0 (ended (entry s tok.0)) _ (λ (x : Held). one_less x) g.changes (ap one_less (sym c.in-Written.ensures.0)) in
     ran_step (λ h. h ≡ removed (holding s) tok.0) s c.give.new.self tok.0 (ended (entry s tok.0)) (gives_written s.cpu tok.0 g.found ∷ []) (GiveWritten c.cpu-cpu.result tok) c.args.trace.now c.note-in-Written.new.trace g.changes c.note-in-Written.ensures.items c.note-in-Written.ensures.longer c.note-in-Written.ensures.room
     (ap (λ (x : CpuId). x.0) c.cpu-cpu.ensures.is) (tells_one (GiveWritten s.cpu tok) (GiveWritten c.cpu-cpu.result tok) refl (ap (λ (x : CpuId). GiveWritten x tok) c.cpu-cpu.ensures.is)) ((refl, refl), tt) given given
+
+pub returns-in-One-clause-given : goal.returns-in-One-clause-given
+returns-in-One-clause-given c =
+    let s = c.args.seat.now in
+    let t = c.args.tok.0 in
+    holding_changed s c.give.new.self t (less (entry s t)) _ (λ (x : Held). one_less x) c.in-One.ensures.1.changes refl
+
+pub returns-in-Clean-clause-given : goal.returns-in-Clean-clause-given
+returns-in-Clean-clause-given c =
+    let s = c.args.seat.now in
+    let t = c.args.tok.0 in
+    holding_changed s c.give.new.self t (less (entry s t)) _ (λ (x : Held). one_less x) c.in-Clean.ensures.2.changes refl
+
+pub returns-in-Written-clause-given : goal.returns-in-Written-clause-given
+returns-in-Written-clause-given c =
+    let s = c.args.seat.now in
+    let t = c.args.tok.0 in
+    holding_changed s c.give.new.self t (ended (entry s t)) _ (λ (x : Held). one_less x) c.in-Written.ensures.2.changes (ap one_less (sym c.in-Written.ensures.0))

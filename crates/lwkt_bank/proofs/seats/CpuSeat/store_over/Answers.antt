@@ -12,7 +12,7 @@ invariant_of-self c =
     let s = c.args.self.now in
     let t = c.args.tok.0 in
     let e = entry s t in
-    let noted' = IsNoted-stored _ s.cpu.0 e (note_at s.notes t) (s.kept.each t c.requires.there) c.requires.held (short_row c.args.bank.now s t c.requires.of) c.args.cell c.args.change c.requires.inside c.requires.first in
+    let noted' = IsNoted-stored _ s.cpu.0 e (note_at s.notes t) (s.kept.each t c.requires.there) c.requires.held (short_row c.args.bank.now s t c.requires.of) c.args.cell c.args.change c.requires.inside c.requires.first c.requires.untallied in
     record {
       kept = keeps_changed s c.store_cell.new.seat.me.0 t (stored e c.args.cell c.args.change.last) c.store_cell.ensures.stores.0 _ (λ m. changed_note m c.args.cell c.args.change) _ c.change.new.self (room_of c.args.bank.now s t c.requires.of c.requires.there) c.store_cell.ensures.stores.1.1 c.requires.there (entry_tok s t) c.change.ensures noted';
       quiet = still_quiet s.seat c.store_cell.new.seat c.store_cell.ensures.same s.quiet;
