@@ -4,3 +4,4 @@ pub mod RestMoves
 pub mod StopMoves
 pub mod DriveMoves
 pub mod WakeMoves
+pub mod LawMoves

@@ -1,4 +1,4 @@
-use Rattle.std.specs.Prelude.{◌≡◌, ◌⊎◌, ℕ, ◌+◌, Bool, if◌then◌else◌, List, Vec, Option, Some, None, slice_get, slice_set}
+use Rattle.std.specs.Prelude.{◌≡◌, ◌⊎◌, ℕ, ◌+◌, ◌≤◌, Bool, if◌then◌else◌, List, Vec, vec_len, vec_capacity, Option, Some, None, slice_get, slice_set}
 use Rattle.std.specs.declared.alloc.Global.{Global}
 use Rattle.lwkt_base.specs.declared.asks.Ask.{Ask}
 use Rattle.lwkt_base.specs.declared.asks.Answer.{Answer}
@@ -56,6 +56,10 @@ IsMailed threads h = (h ≡ holds_nothing) ⊎ IsOfOne threads h
 -- a holding is nothing, or that of a front of some thread's list, as the lists stood at the beginning or stand at the end
 abbrev pub IsOfThread : List Thread → List Thread → Holding → Type 0
 IsOfThread olds news h = (h ≡ holds_nothing) ⊎ IsOfOne olds h ⊎ IsOfOne news h
+
+-- a trace has the events that it had, and no less room
+abbrev pub HasSameEvents : Vec Event Global → Vec Event Global → Type 0
+HasSameEvents t u = (u.items ≡ t.items) × (vec_len u ≡ vec_len t) × (vec_capacity t ≤ vec_capacity u)
 
 -- a whole turn: the trace is given room for 4,096 events, mail is taken in, and then the turn is made; each event is one of the seat's steps, and
 -- after it the seat holds what a front of one thread's list holds

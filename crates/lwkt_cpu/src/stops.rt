@@ -5,6 +5,7 @@ ghost use Rattle.lwkt_bank.specs.Seats.{id_of, bank_of, holding};
 ghost use Rattle.lwkt_hold.specs.Runs.{Ran};
 ghost use Rattle.lwkt_cpu.specs.Processors.{AllOver};
 ghost use Rattle.lwkt_cpu.specs.Searches.{IsOfOne};
+ghost use Rattle.lwkt_cpu.specs.Turning.{HasSameEvents};
 ghost use Rattle.lwkt_cpu.specs.Stopping.{stopped, AreStopped, Halts, HaltsRunning, Stops};
 
 use crate::cpus::Cpu;
@@ -88,7 +89,7 @@ impl<B> Cpu<B> {
     pub fn stop(&mut self, bank: &Bank, trace: &mut Vec<Event>) -> Result<(), Fault>
         requires { bank_of self.old.seat ≡ id_of bank.now }
         ensures ok { OnOk result (Stops self.old self.new trace.old trace.new) }
-        ensures err { OnErr result ((self.new ≡ self.old) × (trace.new.items ≡ trace.old.items)) }
+        ensures err { OnErr result ((self.new ≡ self.old) × HasSameEvents trace.old trace.new) }
         ensures only { OnErr result (result ≡ Err Fault.Memory) }
         ensures ran { Ran (IsOfOne self.old.threads) 162 self.old.seat self.new.seat trace.old trace.new }
     {
