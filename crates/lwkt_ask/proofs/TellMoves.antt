@@ -131,7 +131,7 @@ plain_writes cpu tok cell [] = refl
 plain_writes cpu tok cell (None ∷ values) = plain_writes cpu tok (suc cell) values
 plain_writes cpu tok cell (Some value ∷ values) = plain_writes cpu tok (suc cell) values
 
-plain_append : (xs ys : List Event) → filter is_of_message xs ≡ [] → filter is_of_message ys ≡ [] → filter is_of_message (xs ++ ys) ≡ []
+pub plain_append : (xs ys : List Event) → filter is_of_message xs ≡ [] → filter is_of_message ys ≡ [] → filter is_of_message (xs ++ ys) ≡ []
 plain_append xs ys first second = filter-append is_of_message xs ys ∙ ap (λ l. l ++ filter is_of_message ys) first ∙ second
 
 plain_is : (xs ys : List Event) → xs ≡ ys → filter is_of_message ys ≡ [] → filter is_of_message xs ≡ []

@@ -1,29 +1,14 @@
-use Rattle.std.proofs.Common.{◌≡◌, ℕ, List, ◌++◌, ap, sym, ◌∙◌, subst}
-use Rattle.std.specs.Prelude.{Vec}
-use mathlib.Core.Option.{some}
-use lib.ListN.{get_elem?}
-use Rattle.std.specs.declared.alloc.Global.{Global}
-use Rattle.atomic_table.specs.Table.{State}
+use Rattle.std.proofs.Common.{◌≡◌, ◌∙◌, subst}
 use Rattle.lwkt_base.specs.declared.asks.Ask.{Ask}
 use Rattle.lwkt_base.specs.declared.asks.Answer.{Answer}
 use Rattle.lwkt_base.specs.declared.names.CpuId.{CpuId}
-use Rattle.lwkt_base.specs.declared.records.Rec.{Rec}
-use Rattle.lwkt_core.specs.declared.events.Event.{Event}
-use Rattle.lwkt_core.specs.declared.seats.Deed.{Deed}
-use Rattle.lwkt_core.specs.declared.seats.WordStep.{WordStep}
-use Rattle.lwkt_core.specs.declared.seats.SeatKind.TheVariants.{Of}
-use Rattle.lwkt_core.specs.History.{events_by, events_in, steps_by, steps_in}
+use Rattle.lwkt_core.specs.History.{events_by, steps_by}
 use Rattle.lwkt_core.proofs.HistoryLemmas.{events_by-grows, events_by-past, steps_by-grows}
-use Rattle.lwkt_bank.specs.declared.views.Plan.{Plan}
-use Rattle.lwkt_bank.specs.Rule.{Bench}
-use Rattle.lwkt_bank.specs.Told.{Told}
-use Rattle.lwkt_bank.specs.Seats.{BankId, past_of, events_of, steps_of}
+use Rattle.lwkt_bank.specs.Seats.{past_of}
 use Rattle.lwkt_bank.specs.Laws.{StatesAreReached}
-use Rattle.lwkt_msg.specs.declared.views.Layout.{Layout}
-use Rattle.lwkt_msg.specs.declared.views.View.{View}
 use Rattle.lwkt_msg.specs.Laws.{RuleShowsSafety}
 use Rattle.lwkt_msg.specs.Laws.{StatesAreReached as MailsAreReached}
-use Rattle.lwkt_cpu.specs.Laws.{IsPartOfRun, TurnsArePartsOfRuns, MailsArePartsOfRuns}
+use Rattle.lwkt_cpu.specs.Laws.{TurnsArePartsOfRuns, MailsArePartsOfRuns}
 
 -- what a turn did is a part of the one history
 pub turn_parts : {B : Type 0} (polled : B → Answer → Ask → B → Type 0) → StatesAreReached → TurnsArePartsOfRuns polled

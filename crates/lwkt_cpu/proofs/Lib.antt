@@ -5,3 +5,4 @@ pub mod StopMoves
 pub mod DriveMoves
 pub mod WakeMoves
 pub mod LawMoves
+pub mod ToldMoves

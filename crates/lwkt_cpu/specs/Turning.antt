@@ -6,6 +6,7 @@ use Rattle.lwkt_base.specs.Holding.{Holding, holding_of, holds_nothing}
 use Rattle.lwkt_core.specs.declared.events.Event.{Event}
 use Rattle.lwkt_bank.specs.Seats.{BankId, holding}
 use Rattle.lwkt_hold.specs.Runs.{Ran as Runs}
+use Rattle.lwkt_ask.specs.Telling.{TellsMail}
 use Rattle.lwkt_cpu.specs.declared.phases.Phase.TheVariants.{Live}
 use Rattle.lwkt_cpu.specs.declared.answers.Turned.{Turned}
 use Rattle.lwkt_cpu.specs.declared.answers.Turned.TheVariants.{Ran, Idle, AllExited}
@@ -71,3 +72,4 @@ pub record MakesTurn {B : Type 0} (polled : B → Answer → Ask → B → Type 
   pub mail : TakesMail old mid room v
   pub turns : Turns polled bank mid new v u turned
   pub ran : Runs (IsOfThread old.threads new.threads) 4096 old.seat new.seat t u
+  pub told : TellsMail old.post.seat new.post.seat t.items u.items
