@@ -2,5 +2,8 @@
 #![tactic(auto)]
 
 pub mod bodies;
+pub mod machines;
 
 pub use bodies::ScriptBody;
+pub use lwkt_cpu::{Cpu, Status, Turned};
+pub use machines::Machine;
