@@ -1,0 +1,9 @@
+//! The machine of a script: its bank, its book and its processors, whose threads make the script's steps.
+#![tactic(auto)]
+
+pub mod bodies;
+pub mod machines;
+
+pub use bodies::ScriptBody;
+pub use lwkt_cpu::{Cpu, Status, Turned};
+pub use machines::Machine;
