@@ -1,1 +1,2 @@
 pub mod Course
+pub mod Telling

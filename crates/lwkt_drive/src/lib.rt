@@ -7,6 +7,7 @@ pub mod driven;
 mod drives;
 mod exits;
 mod gates;
+pub mod laws;
 mod turns;
 
 pub use driven::{Driven, Ending, Limits};
