@@ -1,0 +1,2 @@
+pub mod CourseMoves
+pub mod TellingMoves

@@ -1,0 +1,71 @@
+use Rattle.std.specs.Prelude.{◌≡◌, ℕ, ◌<◌, ◌≤◌, Bool, true, false, List, length, take, fold, Vec}
+use Rattle.std.specs.declared.alloc.Global.{Global}
+use Rattle.atomic_table.specs.Seated.{TableId}
+use Rattle.lwkt_base.specs.declared.names.CpuId.{CpuId}
+use Rattle.lwkt_base.specs.declared.asks.Ask.{Ask}
+use Rattle.lwkt_base.specs.declared.asks.Answer.{Answer}
+use Rattle.lwkt_core.specs.declared.events.Event.{Event}
+use Rattle.lwkt_bank.specs.Seats.{BankId, bank_of}
+use Rattle.lwkt_cpu.specs.declared.answers.Turned.{Turned}
+use Rattle.lwkt_cpu.specs.declared.answers.Drove.{Drove}
+use Rattle.lwkt_cpu.specs.Turning.{MakesTurn}
+use Rattle.lwkt_cpu.specs.Driving.{Made, counted, none_driven}
+use Rattle.lwkt_drive.specs.declared.driven.Driven.{Driven}
+use Rattle.lwkt_drive.specs.declared.driven.Limits.{Limits}
+use Rattle.lwkt_drive.specs.declared.driven.Ending.{Ending}
+use Rattle.lwkt_drive.specs.declared.driven.Ending.TheVariants.{NotDriven, Stopped, TurnsOut, IdleOut, AllExited, NoMemory}
+
+-- a processor at this bank and book
+pub record IsAt {B : Type 0} (bank : BankId) (book : TableId) (d : Driven B) : Type 0 where
+  pub bank_is : bank_of d.cpu.seat ≡ bank
+  pub book_is : d.cpu.post.seat.table ≡ book
+
+-- how many of these turns ran a thread, how many ran none, and whether one said that every thread had ended
+abbrev pub counts : List Turned → Drove
+counts turns = fold counted none_driven turns
+
+-- neither limit is passed
+pub record IsWithin (limits : Limits) (drove : Drove) : Type 0 where
+  pub ran : drove.ran ≤ limits.turns
+  pub idle : drove.idle ≤ limits.idle
+
+-- after so many turns, counted so, a processor makes another: neither limit is reached, and the gate may let it go on
+pub record GoesOn (answers : CpuId → ℕ → Bool → Type 0) (limits : Limits) (cpu : CpuId) (turns : ℕ) (drove : Drove) : Type 0 where
+  pub ran : drove.ran < limits.turns
+  pub idle : drove.idle < limits.idle
+  pub passed : answers cpu turns true
+
+-- after so many turns, counted so, a processor makes no other, and why. That the others' threads have ended isn't claimed
+abbrev pub EndsBy : (CpuId → ℕ → Bool → Type 0) → Limits → CpuId → ℕ → Drove → Ending → Type 0
+EndsBy answers limits cpu turns drove NotDriven = ⊥
+EndsBy answers limits cpu turns drove Stopped = answers cpu turns false
+EndsBy answers limits cpu turns drove TurnsOut = drove.ran ≡ limits.turns
+EndsBy answers limits cpu turns drove IdleOut = drove.idle ≡ limits.idle
+EndsBy answers limits cpu turns drove AllExited = drove.all_exited ≡ true
+EndsBy answers limits cpu turns drove NoMemory = Unit {0}
+
+-- a processor makes its turn of this number, which is counted
+pub record MakesOne {B : Type 0} (polled : B → Answer → Ask → B → Type 0) (answers : CpuId → ℕ → Bool → Type 0) (bank : BankId) (limits : Limits) (turn : ℕ) (old new : Driven B) : Type 0 where
+  pub turned : Turned
+  pub goes : GoesOn answers limits old.id turn old.drove
+  pub makes : MakesTurn polled bank old.cpu new.cpu old.trace new.trace turned
+  pub drove : new.drove ≡ counted old.drove turned
+
+-- a processor stays as it is, and why
+pub record Stays {B : Type 0} (answers : CpuId → ℕ → Bool → Type 0) (limits : Limits) (turn : ℕ) (old new : Driven B) (ending : Ending) : Type 0 where
+  pub cpu : new.cpu ≡ old.cpu
+  pub trace : new.trace.items ≡ old.trace.items
+  pub drove : new.drove ≡ old.drove
+  pub ends : EndsBy answers limits old.id turn old.drove ending
+
+-- a processor was driven: it made these turns one after the other, each where it went on, until there was a reason to end; the
+-- trace grew by theirs (own)
+pub record IsDriven {B : Type 0} (polled : B → Answer → Ask → B → Type 0) (answers : CpuId → ℕ → Bool → Type 0) (bank : BankId) (limits : Limits) (old new : Driven B) (ending : Ending) : Type 0 where
+  pub turns : List Turned
+  pub v : Vec Event Global
+  pub made : Made polled bank old.cpu new.cpu old.trace v turns
+  pub trace : new.trace.items ≡ v.items
+  pub going : (k : ℕ) → k < length turns → GoesOn answers limits old.id k (counts (take k turns))
+  pub drove : new.drove ≡ counts turns
+  pub ends : EndsBy answers limits old.id (length turns) new.drove ending
+  pub same : new.id ≡ old.id

@@ -1,0 +1,61 @@
+use Rattle.std.specs.Prelude.{◌≡◌, ℕ, ◌≤◌, Bool, List, [], All, filter, Vec, Some, slice_get}
+use Rattle.std.specs.declared.alloc.Global.{Global}
+use Rattle.lwkt_base.specs.declared.asks.Ask.{Ask}
+use Rattle.lwkt_base.specs.declared.asks.Answer.{Answer}
+use Rattle.lwkt_base.specs.declared.names.CpuId.{CpuId}
+use Rattle.lwkt_core.specs.declared.events.Event.{Event}
+use Rattle.lwkt_core.specs.declared.seats.Deed.{Deed}
+use Rattle.lwkt_core.specs.Events.{cpu_of}
+use Rattle.lwkt_core.specs.History.{AreOthers, Passes, events_in, events_by}
+use Rattle.lwkt_core.specs.Machine.{Machine}
+use Rattle.lwkt_core.specs.Trace.{Run}
+use Rattle.lwkt_bank.specs.declared.closed.Closed.{Closed}
+use Rattle.lwkt_bank.specs.declared.seats.CpuSeat.{CpuSeat}
+use Rattle.lwkt_bank.specs.Gathered.{IsNew, IsClosed, Ends}
+use Rattle.lwkt_bank.specs.Seats.{BankId, events_of}
+use Rattle.lwkt_bank.specs.Told.{IsDone, first_machine}
+use Rattle.lwkt_hold.specs.Runs.{Ran}
+use Rattle.lwkt_hold.specs.Steps.{is_of_token, Tells}
+use Rattle.lwkt_cpu.specs.declared.threads.Thread.{Thread}
+use Rattle.lwkt_cpu.specs.Searches.{IsOfOne}
+use Rattle.lwkt_drive.specs.declared.driven.Driven.{Driven}
+use Rattle.lwkt_drive.specs.declared.driven.Limits.{Limits}
+use Rattle.lwkt_drive.specs.declared.driven.Ending.{Ending}
+use Rattle.lwkt_drive.specs.Course.{IsDriven}
+
+-- what a trace has of tokens are all events that a seat has done, in order, without looks at words and loads of cells that
+-- weren't asked for; and it has no other processor's event
+pub record IsTold (s : CpuSeat) (trace : List Event) : Type 0 where
+  pub tells : Tells (events_of s) (filter is_of_token trace)
+  pub own : All (λ e. cpu_of e ≡ s.cpu.0) trace
+
+-- a law: a seat that has done nothing is told by no trace
+abbrev pub NewIsTold : Type 0
+NewIsTold = (s : CpuSeat) → IsNew s → IsTold s []
+
+-- a law: where a processor's trace told its seat before it was stopped, it tells it afterwards
+abbrev pub StopsAreTold : Type 0
+StopsAreTold = (threads : List Thread) (most : ℕ) (a b : CpuSeat) (t u : Vec Event Global) → Ran (IsOfOne threads) most a b t u → IsTold a t.items → IsTold b u.items
+
+-- a law: where a processor's trace told its seat before it was driven, it tells it afterwards
+abbrev pub DrivesAreTold : {B G : Type 0} → (B → Answer → Ask → B → Type 0) → (G → CpuId → ℕ → Bool → Type 0) → Type 0
+DrivesAreTold {B} {G} polled answers = (gate : G) (bank : BankId) (limits : Limits) (old new : Driven B) (ending : Ending) → IsDriven polled (answers gate) bank limits old new ending → IsTold old.cpu.seat old.trace.items → IsTold new.cpu.seat new.trace.items
+
+-- the traces, by processor, are the parts of one run: one history of deeds leads from the machine that was declared to one with
+-- the closing values, its events are a run of the model, what each processor did in it is what its trace tells, and no other
+-- processor did anything (own)
+pub record TellOneRun (bank : BankId) (cpus : ℕ) (closed : Closed) (traces : List (List Event)) : Type 0 where
+  pub history : List Deed
+  pub last : Machine
+  pub passes : Passes IsDone (first_machine bank.plans cpus) history last
+  pub run : Run (first_machine bank.plans cpus) (events_in history) last
+  pub ends : Ends last closed
+  pub told : (cpu : ℕ) (trace : List Event) → slice_get traces cpu ≡ Some trace → Tells (events_by cpu history) (filter is_of_token trace) × All (λ e. cpu_of e ≡ cpu) trace
+  pub others : (cpu : ℕ) → cpus ≤ cpu → AreOthers cpu history
+
+-- a law: where each seat that a bank took back is told by its processor's trace, the traces are the parts of one run to the
+-- closing values
+abbrev pub TracesTellOneRun : Type 0
+TracesTellOneRun = (bank : BankId) (cpus : ℕ) (seats : List CpuSeat) (closed : Closed) (traces : List (List Event)) → IsClosed bank cpus seats closed
+    → ((cpu : ℕ) (trace : List Event) → slice_get traces cpu ≡ Some trace → (s : CpuSeat) × ((slice_get seats cpu ≡ Some s) × (s.cpu.0 ≡ cpu) × IsTold s trace))
+    → TellOneRun bank cpus closed traces

@@ -1,0 +1,15 @@
+//! Processors driven on threads: each goes through its turns on a thread of its own, as long as a gate lets it and as its
+//! limits allow.
+#![tactic(auto)]
+
+mod counts;
+pub mod driven;
+mod drives;
+mod exits;
+mod gates;
+pub mod laws;
+mod turns;
+
+pub use driven::{Driven, Ending, Limits};
+pub use drives::drive_all;
+pub use gates::{Gate, OpenGate};

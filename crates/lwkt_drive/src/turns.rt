@@ -1,0 +1,79 @@
+//! One turn of a processor that is driven, and whether it makes another.
+ghost use Rattle.std.specs.Prelude.{◌≡◌, ◌+◌, ◌<◌, ◌≤◌, ◌^◌, IfOk, IfSome, OnErr, None};
+ghost use Rattle.lwkt_bank.specs.Seats.{id_of};
+ghost use Rattle.lwkt_cpu.specs.Driving.{counted};
+ghost use Rattle.lwkt_cpu.specs.Turning.{MakesTurn};
+ghost use Rattle.lwkt_drive.specs.Course.{IsAt, IsWithin, GoesOn, EndsBy};
+
+use crate::counts::count;
+use crate::driven::{Driven, Ending, Limits};
+use crate::exits::Exits;
+use crate::gates::Gate;
+use lwkt_bank::Bank;
+use lwkt_base::Fault;
+use lwkt_cpu::{Body, Turned};
+use lwkt_msg::MsgBook;
+
+impl<B> Driven<B> {
+    /// Why no further turn is made, if there is a reason.
+    pub(crate) fn ends<G: Gate>(
+        &self,
+        gate: &G,
+        exits: &Exits,
+        limits: &Limits,
+        turn: u64,
+    ) -> Option<Ending>
+        requires { IsWithin limits.now self.now.drove }
+        ensures some { IfSome result (λ ending. EndsBy (G.answers gate.now) limits.now self.now.id turn self.now.drove ending) }
+        ensures none { result ≡ None → GoesOn (G.answers gate.now) limits.now self.now.id turn self.now.drove }
+        ensures few { result ≡ None → self.now.drove.ran + self.now.drove.idle + 1 < 2 ^ 64 }
+    {
+        if self.drove.ran >= u64::from(limits.turns) {
+            return Some(Ending::TurnsOut);
+        }
+        if self.drove.idle >= u64::from(limits.idle) {
+            return Some(Ending::IdleOut);
+        }
+        if self.drove.all_exited && exits.have_all_said() {
+            return Some(Ending::AllExited);
+        }
+        if gate.pass(self.id, turn) {
+            None
+        } else {
+            Some(Ending::Stopped)
+        }
+    }
+
+    // Counts a turn that was made. The first one that says that every thread has ended is told to all.
+    fn note(&mut self, exits: &Exits, turned: Turned)
+        requires { self.old.drove.ran + self.old.drove.idle + 1 < 2 ^ 64 }
+        ensures { self.new ≡ record self.old { drove = counted self.old.drove turned } }
+    {
+        let had_exited = self.drove.all_exited;
+        self.drove = count(self.drove, turned);
+        if self.drove.all_exited && !had_exited {
+            exits.say();
+        }
+    }
+}
+
+impl<B: Body> Driven<B> {
+    /// Makes a turn, and counts it. Refused with `Memory` as `Cpu::turn` is.
+    pub(crate) fn advance(
+        &mut self,
+        exits: &Exits,
+        bank: &Bank,
+        book: &MsgBook,
+    ) -> Result<Turned, Fault>
+        requires at { IsAt (id_of bank.now) book.now.table self.old }
+        requires few { self.old.drove.ran + self.old.drove.idle + 1 < 2 ^ 64 }
+        ensures ok { IfOk result (λ turned. MakesTurn B.polled (id_of bank.now) self.old.cpu self.new.cpu self.old.trace self.new.trace turned × (self.new.drove ≡ counted self.old.drove turned)) }
+        ensures err { OnErr result ((self.new.cpu ≡ self.old.cpu) × (self.new.trace.items ≡ self.old.trace.items) × (self.new.drove ≡ self.old.drove)) }
+        ensures at { IsAt (id_of bank.now) book.now.table self.new }
+        ensures same { self.new.id ≡ self.old.id }
+    {
+        let turned = self.cpu.turn(bank, book, &mut self.trace)?;
+        self.note(exits, turned);
+        Ok(turned)
+    }
+}
