@@ -1,6 +1,6 @@
 -- One processor changes, and the parts of a machine still belong together.
-use Rattle.std.proofs.Common.{◌≡◌, ◌≢◌, ℕ, ◌<◌, List, length, set, refl, ap, sym, ◌∙◌, subst, inl, inr, arith, Option, Some, Result, Ok, Err}
-use Rattle.std.specs.Prelude.{All, Vec, IfOk, OnErr, slice_get}
+use Rattle.std.proofs.Common.{◌≡◌, ℕ, ◌<◌, List, length, set, refl, ap, sym, ◌∙◌, subst, inl, inr, Some, Result, Ok, Err}
+use Rattle.std.specs.Prelude.{Vec, IfOk, OnErr, slice_get}
 use Rattle.std.specs.declared.alloc.Global.{Global}
 use Rattle.std.proofs.lemmas.Bool.{cases_eq}
 use Rattle.std.proofs.lemmas.List.{length-set}
@@ -16,8 +16,8 @@ use Rattle.lwkt_cpu.specs.Processors.{Processor}
 use Rattle.lwkt_cpu.specs.Turning.{MakesTurn}
 use Rattle.lwkt_cpu.proofs.PlaceMoves.{get_set_same, get_set_other, some_same}
 use Rattle.lwkt_machine.specs.Bodies.{Scripted, IsPolled}
-use Rattle.lwkt_machine.specs.Machines.{Rig, rig_of, IsOf, AreParts}
-use Rattle.lwkt_machine.specs.Turns.{DoesAt, TurnsAt}
+use Rattle.lwkt_machine.specs.Machines.{rig_of, IsOf, AreParts}
+use Rattle.lwkt_machine.specs.Turns.{TurnsAt}
 
 -- a processor is of the same bank and book, and has the same number
 pub record IsSameCpu (p q : Processor Scripted) : Type 0 where

@@ -2,7 +2,10 @@
 #![tactic(auto)]
 
 pub mod bodies;
+mod lanes;
 pub mod machines;
+pub mod openings;
+mod seatings;
 
 pub use bodies::ScriptBody;
 pub use lwkt_cpu::{Cpu, Status, Turned};

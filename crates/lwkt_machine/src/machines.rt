@@ -1,5 +1,6 @@
 //! A machine, and the turns of its processors.
 ghost use Rattle.std.specs.Prelude.{◌≡◌, ◌<◌, length, IfOk, OnErr, Err, IsSomeAnd, slice_get, option_map};
+ghost use Rattle.lwkt_bank.specs.Seats.{id_of, cpus_of};
 ghost use Rattle.lwkt_cpu.specs.Processors.{IsAtRest};
 
 use crate::bodies::ScriptBody;
@@ -31,7 +32,7 @@ impl Model for Machine {
 }
 
 impl Machine {
-    ghost use Rattle.lwkt_machine.specs.Machines.{IsWhole, ShowsBody, ShowsThreadAt};
+    ghost use Rattle.lwkt_machine.specs.Machines.{rig_of, AreParts, IsWhole, ShowsBody, ShowsThreadAt};
     ghost use Rattle.lwkt_machine.specs.Turns.{TurnsAt};
 
     /// How many processors there are. All parts of the machine belong together.
@@ -62,6 +63,23 @@ impl Machine {
         ensures { ShowsBody self.now cpu thread (option_map (λ body. body.now) result) }
     {
         self.cpus.get(cpu)?.body(thread)
+    }
+
+    /// The machine's bank, its book and its processors, which may do something by themselves then.
+    pub fn take_apart(self) -> (Bank, MsgBook, Vec<Cpu<ScriptBody>>)
+        ensures parts { AreParts (cpus_of result.0) (id_of result.0) result.1 result.2.items }
+        ensures are { self ≡ rig_of (id_of result.0) result.1 result.2.items }
+    {
+        let Machine { bank, book, cpus } = self;
+        (bank, book, cpus)
+    }
+
+    /// A machine of these parts. That they belong together is the caller's condition.
+    pub fn put_together(bank: Bank, book: MsgBook, cpus: Vec<Cpu<ScriptBody>>) -> Machine
+        requires { AreParts (cpus_of bank) (id_of bank) book cpus.items }
+        ensures { result ≡ rig_of (id_of bank) book cpus.items }
+    {
+        Machine { bank, book, cpus }
     }
 
     /// Makes a turn of a processor, as `Cpu::turn` does. That the processor is there is the caller's condition.
