@@ -1,3 +1,4 @@
 pub mod AskMoves
 pub mod BoxMoves
 pub mod MailMoves
+pub mod TellMoves

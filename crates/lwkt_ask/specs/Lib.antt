@@ -3,3 +3,4 @@ pub mod Calls
 pub mod Leaving
 pub mod Mailing
 pub mod Table
+pub mod Telling

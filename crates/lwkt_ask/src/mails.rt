@@ -13,6 +13,7 @@ ghost use Rattle.lwkt_port.specs.Posts.{IsSamePost};
 ghost use Rattle.lwkt_port.specs.Works.{Grew};
 ghost use Rattle.lwkt_port.specs.Servings.{PostGets};
 ghost use Rattle.lwkt_ask.specs.Nexts.{HoldsAfter, done_or};
+ghost use Rattle.lwkt_ask.specs.Telling.{TellsMail};
 ghost use Rattle.lwkt_ask.specs.Mailing.{sending, plain_flags, SendsMail, RepliesMail, item_or, Does, WaitsPort};
 
 use crate::calls::done;
@@ -52,6 +53,7 @@ pub(crate) fn send(
     ensures sends { (told : Result (Unit {0}) Fault) × (SendsMail (sending thread msg to call flags false) ports.old ports.new trace.old trace.new told × (result ≡ done_or told)) }
     ensures same { IsSamePost ports.old ports.new }
     ensures grew { Grew (cpu_of ports.old.seat) 1 trace.old trace.new }
+    ensures told { TellsMail ports.old.seat ports.new.seat trace.old.items trace.new.items }
 {
     let told = ports.send(book, thread, msg, to, call, flags, trace);
     done(told)
@@ -80,6 +82,7 @@ pub(crate) fn send_and_wait(
     ensures held { HoldsAfter result (holding (seat_of hold.new)) list.now }
     ensures same { IsSamePost ports.old ports.new }
     ensures named { (m : MsgId) → result ≡ Next.AwaitsReply m → m.0 < messages_of ports.new.seat }
+    ensures told { TellsMail ports.old.seat ports.new.seat trace.old.items trace.new.items }
 {
     let _ = ports.threads();
     match ports.send_sync(book, thread, msg, to, call, trace) {
@@ -103,6 +106,7 @@ pub(crate) fn reply(
     ensures replies { (told : Result (Unit {0}) Fault) × (RepliesMail thread msg error outcome ports.old ports.new trace.old trace.new told × (result ≡ done_or told)) }
     ensures same { IsSamePost ports.old ports.new }
     ensures grew { Grew (cpu_of ports.old.seat) 1 trace.old trace.new }
+    ensures told { TellsMail ports.old.seat ports.new.seat trace.old.items trace.new.items }
 {
     let told = ports.reply(book, thread, msg, error, outcome, trace);
     done(told)
@@ -121,6 +125,7 @@ pub(crate) fn get_port(
     ensures gets { (told : Result (Option Item) Fault) × (PostGets thread ports.old ports.new trace.old trace.new told × (result ≡ item_or told)) }
     ensures same { IsSamePost ports.old ports.new }
     ensures grew { Grew (cpu_of ports.old.seat) 128 trace.old trace.new }
+    ensures told { TellsMail ports.old.seat ports.new.seat trace.old.items trace.new.items }
 {
     let told = ports.get(book, thread, trace);
     shown(told)
@@ -147,6 +152,7 @@ pub(crate) fn wait_port(
     ensures held { HoldsAfter result (holding (seat_of hold.new)) list.now }
     ensures same { IsSamePost ports.old ports.new }
     ensures named { (m : MsgId) → result ≡ Next.AwaitsReply m → m.0 < messages_of ports.new.seat }
+    ensures told { TellsMail ports.old.seat ports.new.seat trace.old.items trace.new.items }
 {
     match ports.get(book, thread, trace) {
         Ok(Some(item)) => Next::Runs(Answer::Got(item)),

@@ -10,6 +10,7 @@ ghost use Rattle.lwkt_msg.specs.Desks.{cpu_of, messages_of};
 ghost use Rattle.lwkt_port.specs.Posts.{IsSamePost};
 ghost use Rattle.lwkt_ask.specs.Nexts.{kept_list, HoldsAfter};
 ghost use Rattle.lwkt_ask.specs.Table.{Performs};
+ghost use Rattle.lwkt_ask.specs.Telling.{TellsMail};
 
 use crate::calls::{add, get, read, rel, swap, try_get, write};
 use crate::leaves::leave;
@@ -70,6 +71,7 @@ pub fn perform(
     ensures performs { Performs (id_of bank.now) thread (seat_of hold.old) (seat_of hold.new) ports.old ports.new list.old list.new trace.old trace.new ask result }
     ensures same { IsSamePost ports.old ports.new }
     ensures named { (m : MsgId) → result ≡ Next.AwaitsReply m → m.0 < messages_of ports.new.seat }
+    ensures told { TellsMail ports.old.seat ports.new.seat trace.old.items trace.new.items }
 {
     match ask {
         Ask::Get(tok) => get(hold, bank, list, exclusive(tok), trace),

@@ -4,3 +4,5 @@ pub mod RestMoves
 pub mod StopMoves
 pub mod DriveMoves
 pub mod WakeMoves
+pub mod LawMoves
+pub mod ToldMoves

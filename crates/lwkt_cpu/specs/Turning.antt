@@ -1,4 +1,4 @@
-use Rattle.std.specs.Prelude.{◌≡◌, ◌⊎◌, ℕ, ◌+◌, Bool, if◌then◌else◌, List, Vec, Option, Some, None, slice_get, slice_set}
+use Rattle.std.specs.Prelude.{◌≡◌, ◌⊎◌, ℕ, ◌+◌, ◌≤◌, Bool, if◌then◌else◌, List, Vec, vec_len, vec_capacity, Option, Some, None, slice_get, slice_set}
 use Rattle.std.specs.declared.alloc.Global.{Global}
 use Rattle.lwkt_base.specs.declared.asks.Ask.{Ask}
 use Rattle.lwkt_base.specs.declared.asks.Answer.{Answer}
@@ -6,6 +6,7 @@ use Rattle.lwkt_base.specs.Holding.{Holding, holding_of, holds_nothing}
 use Rattle.lwkt_core.specs.declared.events.Event.{Event}
 use Rattle.lwkt_bank.specs.Seats.{BankId, holding}
 use Rattle.lwkt_hold.specs.Runs.{Ran as Runs}
+use Rattle.lwkt_ask.specs.Telling.{TellsMail}
 use Rattle.lwkt_cpu.specs.declared.phases.Phase.TheVariants.{Live}
 use Rattle.lwkt_cpu.specs.declared.answers.Turned.{Turned}
 use Rattle.lwkt_cpu.specs.declared.answers.Turned.TheVariants.{Ran, Idle, AllExited}
@@ -57,6 +58,10 @@ IsMailed threads h = (h ≡ holds_nothing) ⊎ IsOfOne threads h
 abbrev pub IsOfThread : List Thread → List Thread → Holding → Type 0
 IsOfThread olds news h = (h ≡ holds_nothing) ⊎ IsOfOne olds h ⊎ IsOfOne news h
 
+-- a trace has the events that it had, and no less room
+abbrev pub HasSameEvents : Vec Event Global → Vec Event Global → Type 0
+HasSameEvents t u = (u.items ≡ t.items) × (vec_len u ≡ vec_len t) × (vec_capacity t ≤ vec_capacity u)
+
 -- a whole turn: the trace is given room for 4,096 events, mail is taken in, and then the turn is made; each event is one of the seat's steps, and
 -- after it the seat holds what a front of one thread's list holds
 pub record MakesTurn {B : Type 0} (polled : B → Answer → Ask → B → Type 0) (bank : BankId) (old new : Processor B) (t u : Vec Event Global) (turned : Turned) : Type 0 where
@@ -67,3 +72,4 @@ pub record MakesTurn {B : Type 0} (polled : B → Answer → Ask → B → Type 
   pub mail : TakesMail old mid room v
   pub turns : Turns polled bank mid new v u turned
   pub ran : Runs (IsOfThread old.threads new.threads) 4096 old.seat new.seat t u
+  pub told : TellsMail old.post.seat new.post.seat t.items u.items

@@ -1,6 +1,7 @@
 //! Many turns of a processor.
 ghost use Rattle.std.specs.Prelude.{◌≡◌, ◌≢◌, true, false, ◌+◌, ◌<◌, ◌^◌, IfOk, OnErr, Err};
 ghost use Rattle.lwkt_bank.specs.Seats.{id_of, bank_of};
+ghost use Rattle.lwkt_ask.specs.Telling.{TellsMail};
 ghost use Rattle.lwkt_cpu.specs.Driving.{counted, Drives, DrivesShort};
 
 use crate::answers::{Drove, Turned};
@@ -67,6 +68,7 @@ impl<B: Body> Cpu<B> {
         ensures only { OnErr result (result ≡ Err Fault.Memory) }
         ensures of { bank_of self.new.seat ≡ bank_of self.old.seat }
         ensures table { self.new.post.seat.table ≡ self.old.post.seat.table }
+        ensures told { TellsMail self.old.post.seat self.new.post.seat trace.old.items trace.new.items }
     {
         let mut drove = Drove {
             ran: 0,

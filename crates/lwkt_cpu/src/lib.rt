@@ -5,6 +5,7 @@ pub mod answers;
 pub mod cpus;
 pub mod drives;
 mod ends;
+pub mod laws;
 pub mod phases;
 mod polls;
 mod searches;

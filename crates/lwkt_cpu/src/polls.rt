@@ -9,6 +9,7 @@ ghost use Rattle.lwkt_hold.specs.Runs.{Ran};
 ghost use Rattle.lwkt_cpu.specs.Processors.{IsSettled, Awaits};
 ghost use Rattle.lwkt_msg.specs.Desks.{cpu_of, messages_of};
 ghost use Rattle.lwkt_port.specs.Posts.{IsSamePost};
+ghost use Rattle.lwkt_ask.specs.Telling.{TellsMail};
 ghost use Rattle.lwkt_cpu.specs.Polling.{Polls};
 
 use crate::ends::go_on;
@@ -56,6 +57,7 @@ pub(crate) fn poll_one<B: Body>(
     ensures settled { IsSettled (seat_of hold.new) thread.new }
     ensures awaits { Awaits (messages_of ports.new.seat) thread.new }
     ensures same { IsSamePost ports.old ports.new }
+    ensures told { TellsMail ports.old.seat ports.new.seat trace.old.items trace.new.items }
 {
     let ask = body.poll(thread.last);
     let next = perform(

@@ -7,6 +7,7 @@ ghost use Rattle.lwkt_hold.specs.Fronts.{IsFront};
 ghost use Rattle.lwkt_hold.specs.Runs.{Ran};
 ghost use Rattle.lwkt_cpu.specs.Searches.{Skips, Searches, IsIn, IsUp, Finds, IsOfOne};
 ghost use Rattle.lwkt_cpu.specs.Processors.{AreThere};
+ghost use Rattle.lwkt_ask.specs.Telling.{IsQuiet};
 
 use crate::ends::end;
 use crate::phases::Phase;
@@ -28,6 +29,7 @@ pub(crate) fn try_one(
     requires empty { holding (seat_of hold.old) ≡ holds_nothing }
     requires room { vec_len trace.old + 64 ≤ vec_capacity trace.old }
     ensures ran { Ran (IsFront thread.old.list) 64 (seat_of hold.old) (seat_of hold.new) trace.old trace.new }
+    ensures quiet { IsQuiet trace.old.items trace.new.items }
     ensures yes { result ≡ true → (thread.new ≡ thread.old) × (thread.old.phase ≡ Phase.Live) × (holding (seat_of hold.new) ≡ holding_of thread.old.list) }
     ensures no { result ≡ false → (holding (seat_of hold.new) ≡ holds_nothing) × Skips (seat_of hold.old) (seat_of hold.new) thread.old thread.new }
 {
@@ -63,6 +65,7 @@ pub(crate) fn scan(
     requires empty { holding (seat_of hold.old) ≡ holds_nothing }
     requires room { vec_len trace.old + 64 * (to - from) ≤ vec_capacity trace.old }
     ensures ran { Ran (IsOfOne threads.old) (64 * (to - from)) (seat_of hold.old) (seat_of hold.new) trace.old trace.new }
+    ensures quiet { IsQuiet trace.old.items trace.new.items }
     ensures some { (place : ℕ) → result ≡ Some place → IsIn from to place × IsUp (seat_of hold.new) threads.new place × Searches (seat_of hold.old) (seat_of hold.new) threads.old threads.new (IsIn from place) }
     ensures none { result ≡ None → (holding (seat_of hold.new) ≡ holds_nothing) × Searches (seat_of hold.old) (seat_of hold.new) threads.old threads.new (IsIn from to) }
 {
@@ -89,6 +92,7 @@ pub(crate) fn find(
     requires empty { holding (seat_of hold.old) ≡ holds_nothing }
     requires room { vec_len trace.old + 1024 ≤ vec_capacity trace.old }
     ensures ran { Ran (IsOfOne threads.old) 1024 (seat_of hold.old) (seat_of hold.new) trace.old trace.new }
+    ensures quiet { IsQuiet trace.old.items trace.new.items }
     ensures finds { Finds (seat_of hold.old) (seat_of hold.new) threads.old threads.new cursor result }
 {
     let count = threads.len();

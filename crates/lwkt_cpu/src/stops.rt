@@ -5,6 +5,8 @@ ghost use Rattle.lwkt_bank.specs.Seats.{id_of, bank_of, holding};
 ghost use Rattle.lwkt_hold.specs.Runs.{Ran};
 ghost use Rattle.lwkt_cpu.specs.Processors.{AllOver};
 ghost use Rattle.lwkt_cpu.specs.Searches.{IsOfOne};
+ghost use Rattle.lwkt_cpu.specs.Turning.{HasSameEvents};
+ghost use Rattle.lwkt_ask.specs.Telling.{TellsMail, IsQuiet};
 ghost use Rattle.lwkt_cpu.specs.Stopping.{stopped, AreStopped, Halts, HaltsRunning, Stops};
 
 use crate::cpus::Cpu;
@@ -44,6 +46,7 @@ impl<B> Cpu<B> {
         requires room { vec_len trace.old + 512 ≤ vec_capacity trace.old }
         ensures halts { Halts self.old self.new trace.old trace.new place }
         ensures ran { Ran (IsOfOne self.old.threads) 162 self.old.seat self.new.seat trace.old trace.new }
+        ensures quiet { IsQuiet trace.old.items trace.new.items }
     {
         let thread = &mut self.threads[place];
         let next = exit(&mut self.hold, bank, &thread.list, trace);
@@ -57,6 +60,7 @@ impl<B> Cpu<B> {
         requires room { vec_len trace.old + 512 ≤ vec_capacity trace.old }
         ensures halts { HaltsRunning self.old self.new trace.old trace.new self.old.running }
         ensures ran { Ran (IsOfOne self.old.threads) 162 self.old.seat self.new.seat trace.old trace.new }
+        ensures quiet { IsQuiet trace.old.items trace.new.items }
         ensures none { self.new.running ≡ None }
         ensures bodies { self.new.bodies ≡ self.old.bodies }
         ensures post { self.new.post ≡ self.old.post }
@@ -88,9 +92,10 @@ impl<B> Cpu<B> {
     pub fn stop(&mut self, bank: &Bank, trace: &mut Vec<Event>) -> Result<(), Fault>
         requires { bank_of self.old.seat ≡ id_of bank.now }
         ensures ok { OnOk result (Stops self.old self.new trace.old trace.new) }
-        ensures err { OnErr result ((self.new ≡ self.old) × (trace.new.items ≡ trace.old.items)) }
+        ensures err { OnErr result ((self.new ≡ self.old) × HasSameEvents trace.old trace.new) }
         ensures only { OnErr result (result ≡ Err Fault.Memory) }
         ensures ran { Ran (IsOfOne self.old.threads) 162 self.old.seat self.new.seat trace.old trace.new }
+        ensures told { TellsMail self.old.post.seat self.new.post.seat trace.old.items trace.new.items }
     {
         if trace.reserve(TURN_EVENTS).is_err() {
             return Err(Fault::Memory);

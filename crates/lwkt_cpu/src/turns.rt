@@ -4,8 +4,9 @@ ghost use Rattle.lwkt_bank.specs.Seats.{id_of, bank_of};
 ghost use Rattle.lwkt_hold.specs.Runs.{Ran};
 ghost use Rattle.lwkt_cpu.specs.Processors.{AllOver};
 ghost use Rattle.lwkt_cpu.specs.Searches.{IsOfOne};
-ghost use Rattle.lwkt_cpu.specs.Turning.{cursor_after, Chooses, RunsOne, IsMailed, IsOfThread, MakesTurn};
+ghost use Rattle.lwkt_cpu.specs.Turning.{cursor_after, Chooses, RunsOne, IsMailed, IsOfThread, HasSameEvents, MakesTurn};
 ghost use Rattle.lwkt_cpu.specs.Waking.{TakesMail, AreWoken};
+ghost use Rattle.lwkt_ask.specs.Telling.{TellsMail, IsQuiet};
 
 use crate::answers::Turned;
 use crate::cpus::Cpu;
@@ -49,6 +50,7 @@ impl<B> Cpu<B> {
         requires room { vec_len trace.old + 2304 ≤ vec_capacity trace.old }
         ensures mail { TakesMail self.old self.new trace.old trace.new }
         ensures ran { Ran (IsMailed self.old.threads) 2304 self.old.seat self.new.seat trace.old trace.new }
+        ensures told { TellsMail self.old.post.seat self.new.post.seat trace.old.items trace.new.items }
         ensures woken { AreWoken self.old.threads self.new.threads }
         ensures table { self.new.post.seat.table ≡ self.old.post.seat.table }
     {
@@ -63,6 +65,7 @@ impl<B> Cpu<B> {
         ensures chooses { Chooses self.old self.new trace.old trace.new self.old.running result }
         ensures runs { self.new.running ≡ result }
         ensures ran { Ran (IsOfOne self.old.threads) 1024 self.old.seat self.new.seat trace.old trace.new }
+        ensures quiet { IsQuiet trace.old.items trace.new.items }
     {
         match self.running {
             Some(place) => Some(place),
@@ -85,6 +88,7 @@ impl<B: Body> Cpu<B> {
         requires room { vec_len trace.old + 512 ≤ vec_capacity trace.old }
         ensures runs_one { RunsOne B.polled (id_of bank.now) self.old self.new trace.old trace.new place }
         ensures ran { Ran (IsOfThread self.old.threads self.new.threads) 288 self.old.seat self.new.seat trace.old trace.new }
+        ensures told { TellsMail self.old.post.seat self.new.post.seat trace.old.items trace.new.items }
         ensures table { self.new.post.seat.table ≡ self.old.post.seat.table }
     {
         let body = &mut self.bodies[place];
@@ -107,7 +111,8 @@ impl<B: Body> Cpu<B> {
     /// Makes a turn: the running thread, or the first one from the cursor on, round once, that can run and whose whole list
     /// can be held, is polled once, and its ask is performed. That seat and bank belong together is the caller's condition.
     ///
-    /// Refused with `Memory` where the trace can't be given room for 4,096 events; nothing has changed then.
+    /// Refused with `Memory` where the trace can't be given room for 4,096 events; nothing has changed then, and the trace has
+    /// no less room than before.
     pub fn turn(
         &mut self,
         bank: &Bank,
@@ -117,10 +122,11 @@ impl<B: Body> Cpu<B> {
         requires of { bank_of self.old.seat ≡ id_of bank.now }
         requires table { self.old.post.seat.table ≡ book.now.table }
         ensures ok { IfOk result (λ turned. MakesTurn B.polled (id_of bank.now) self.old self.new trace.old trace.new turned) }
-        ensures err { OnErr result ((self.new ≡ self.old) × (trace.new.items ≡ trace.old.items)) }
+        ensures err { OnErr result ((self.new ≡ self.old) × HasSameEvents trace.old trace.new) }
         ensures only { OnErr result (result ≡ Err Fault.Memory) }
         ensures of { bank_of self.new.seat ≡ bank_of self.old.seat }
         ensures table { self.new.post.seat.table ≡ self.old.post.seat.table }
+        ensures told { TellsMail self.old.post.seat self.new.post.seat trace.old.items trace.new.items }
     {
         if trace.reserve(TURN_EVENTS).is_err() {
             return Err(Fault::Memory);

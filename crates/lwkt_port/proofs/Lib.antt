@@ -9,3 +9,4 @@ pub mod Intaking
 pub mod Keeping
 pub mod Lawful
 pub mod Serving
+pub mod Telling

@@ -6,16 +6,19 @@ use Rattle.lwkt_base.specs.declared.faults.Fault.{Fault}
 use Rattle.lwkt_base.specs.declared.names.CpuId.{CpuId}
 use Rattle.lwkt_base.specs.declared.names.MsgId.{MsgId}
 use Rattle.lwkt_base.specs.declared.records.Call.{Call}
+use Rattle.lwkt_core.specs.declared.events.Event.{Event}
 use Rattle.lwkt_core.specs.declared.seats.SeatKind.TheVariants.{Of}
 use Rattle.lwkt_lane.specs.declared.notes.Note.{Note}
 use Rattle.lwkt_lane.specs.declared.notes.NoteKind.TheVariants.{Request}
 use Rattle.lwkt_lane.specs.Lane.{received}
+use Rattle.lwkt_msg.specs.Desks.{Desk}
 use Rattle.lwkt_port.specs.declared.gets.Served.{Served}
 use Rattle.lwkt_port.specs.declared.gets.Served.TheVariants as served
 use Rattle.lwkt_port.specs.declared.lines.Lane.{Lane}
 use Rattle.lwkt_port.specs.Intakes.{Desks, Handles, HandlesAll, Empties}
 use Rattle.lwkt_port.specs.Mails.{mail_at, AreMails}
 use Rattle.lwkt_port.specs.Servings.{Serves, GetMeans}
+use Rattle.lwkt_port.specs.Tellings.{Tells}
 use Rattle.lwkt_port.specs.Works.{Work}
 
 -- what a lane kept and what was popped from it, in this order, is what was reaped, queued, found stale or foreign, in order, and then
@@ -58,3 +61,10 @@ pub record IsShownOnce (thread : ℕ) (note : Note) (w w' : Work) (msg : MsgId) 
 
 abbrev pub RequestsAreShownOnce : Type 0
 RequestsAreShownOnce = (cpu : CpuId) (thread : ℕ) (note : Note) (w w' : Work) (msg : MsgId) (call : Call) → w.seat.view.kind ≡ Of cpu → AreMails w.seat w.mails → note.msg.0 < length w.mails → Serves thread note w w' (served.Shown (item.Request msg call)) → IsShownOnce thread note w w' msg
+
+-- where nothing is done nothing is told, and what one call tells and then another is what both tell
+abbrev pub NothingIsTold : Type 0
+NothingIsTold = (d : Desk) (t : List Event) → Tells d d t t
+
+abbrev pub TellsChain : Type 0
+TellsChain = (a b c : Desk) (t u v : List Event) → Tells a b t u → Tells b c u v → Tells a c t v

@@ -10,3 +10,4 @@ pub mod Openings
 pub mod Chains
 pub mod Intakes
 pub mod Laws
+pub mod Tellings

@@ -7,6 +7,7 @@ ghost use Rattle.lwkt_port.specs.Queues.{queue_of};
 ghost use Rattle.lwkt_port.specs.Works.{work, Grew, away_count};
 ghost use Rattle.lwkt_port.specs.Queues.{NamesMessage, HasNamed};
 ghost use Rattle.lwkt_port.specs.Servings.{served_request, served_answer, Serves, GetMeans, PostGets};
+ghost use Rattle.lwkt_port.specs.Tellings.{Tells};
 
 use crate::deeds;
 use crate::deeds::Claim;
@@ -145,6 +146,7 @@ impl Ports {
         ensures gets { PostGets thread self.old self.new trace.old trace.new result }
         ensures same { IsSamePost self.old self.new }
         ensures grew { Grew (cpu_of self.old.seat) 128 trace.old trace.new }
+        ensures told { Tells self.old.seat self.new.seat trace.old.items trace.new.items }
     {
         serve(
             book,

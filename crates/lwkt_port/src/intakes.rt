@@ -9,6 +9,7 @@ ghost use Rattle.lwkt_port.specs.Posts.{Changes, KeepsNamed, IsSamePost};
 ghost use Rattle.lwkt_port.specs.Queues.{HasNamed};
 ghost use Rattle.lwkt_port.specs.Works.{work, Grew, away_count, standing, Keeps, Stands};
 ghost use Rattle.lwkt_port.specs.Intakes.{Payer, payer, Pays, Intake, intake, EmptiesFrom, hall, TakesIn, PostTakesIn};
+ghost use Rattle.lwkt_port.specs.Tellings.{Tells};
 
 use crate::clearings::clear_all;
 use crate::handlings::empty;
@@ -174,6 +175,7 @@ impl Ports {
         ensures within { result ≤ limit }
         ensures same { IsSamePost self.old self.new }
         ensures grew { Grew (cpu_of self.old.seat) 256 trace.old trace.new }
+        ensures told { Tells self.old.seat self.new.seat trace.old.items trace.new.items }
     {
         take_in(
             book,

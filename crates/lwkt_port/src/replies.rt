@@ -5,6 +5,7 @@ ghost use Rattle.lwkt_port.specs.Mails.{mail_at, AreMails};
 ghost use Rattle.lwkt_port.specs.Works.{work, Grew, away_count};
 ghost use Rattle.lwkt_port.specs.Posts.{KeepsNamed, IsSamePost};
 ghost use Rattle.lwkt_port.specs.Sendings.{answer_note, ReplyMeans, Answers, IsShownTo, PostReplies, PostRefusesReply};
+ghost use Rattle.lwkt_port.specs.Tellings.{Tells};
 
 use crate::deeds;
 use crate::lines::{Lane, has_room, post};
@@ -137,6 +138,7 @@ impl Ports {
         ensures refused { IfErr result (λ fault. PostRefusesReply thread msg error outcome self.old self.new trace.old trace.new fault) }
         ensures same { IsSamePost self.old self.new }
         ensures grew { Grew (cpu_of self.old.seat) 1 trace.old trace.new }
+        ensures told { Tells self.old.seat self.new.seat trace.old.items trace.new.items }
     {
         if !is_shown_to(&self.mails, thread, msg) {
             return Err(Fault::NotTaken);

@@ -7,6 +7,7 @@ ghost use Rattle.lwkt_port.specs.Mails.{mail_at, AreMails};
 ghost use Rattle.lwkt_port.specs.Works.{work, Grew};
 ghost use Rattle.lwkt_port.specs.Sendings.{IsPortName, MaySend, SendsOver, RefusesOver, HasSentNote, WhyUnsent, IsSelfDo, PostSends, PostRefuses};
 ghost use Rattle.lwkt_port.specs.Posts.{KeepsNamed, IsSamePost};
+ghost use Rattle.lwkt_port.specs.Tellings.{Tells};
 
 use crate::deeds;
 use crate::deeds::Sending;
@@ -123,6 +124,7 @@ impl Ports {
         ensures refused { IfErr result (λ fault. PostRefuses sending.now self.old self.new trace.old trace.new fault) }
         ensures same { IsSamePost self.old self.new }
         ensures grew { Grew (cpu_of self.old.seat) 1 trace.old trace.new }
+        ensures told { Tells self.old.seat self.new.seat trace.old.items trace.new.items }
     {
         dispatch(
             book,
@@ -160,6 +162,7 @@ impl Ports {
         ensures refused { IfErr result (λ fault. PostRefuses (record { thread = thread; msg = msg; to = to; call = call; flags = flags; sync = false }) self.old self.new trace.old trace.new fault) }
         ensures same { IsSamePost self.old self.new }
         ensures grew { Grew (cpu_of self.old.seat) 1 trace.old trace.new }
+        ensures told { Tells self.old.seat self.new.seat trace.old.items trace.new.items }
     {
         if !is_port_name(&self.seat, to) {
             return Err(Fault::NoPort);
@@ -196,6 +199,7 @@ impl Ports {
         ensures refused { IfErr result (λ fault. PostRefuses (record { thread = thread; msg = msg; to = to; call = call; flags = no_flags; sync = true }) self.old self.new trace.old trace.new fault) }
         ensures same { IsSamePost self.old self.new }
         ensures grew { Grew (cpu_of self.old.seat) 1 trace.old trace.new }
+        ensures told { Tells self.old.seat self.new.seat trace.old.items trace.new.items }
     {
         if !is_port_name(&self.seat, to) {
             return Err(Fault::NoPort);

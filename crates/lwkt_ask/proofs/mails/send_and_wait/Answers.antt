@@ -1,11 +1,12 @@
-use Rattle.std.proofs.Common.{◌≡◌, refl, sym, subst, arith}
+use Rattle.std.proofs.Common.{refl, sym, subst, arith}
 use Rattle.std.specs.Prelude.{Result}
 use Rattle.lwkt_base.specs.declared.asks.Answer.TheVariants.{Refused}
 use Rattle.lwkt_base.specs.declared.faults.Fault.{Fault}
 use Rattle.lwkt_msg.specs.Desks.{cpu_of}
 use Rattle.lwkt_ask.specs.declared.nexts.Next.TheVariants.{Runs}
-use Rattle.lwkt_ask.specs.Mailing.{SendsMail, sending, plain_flags, WaitsReply}
+use Rattle.lwkt_ask.specs.Mailing.{WaitsReply}
 use Rattle.lwkt_ask.proofs.MailMoves.{ran_mail_held, ran_mail_left}
+use Rattle.lwkt_ask.proofs.TellMoves.{mail_told, mail_quiet, given_quiet}
 use Rattle.lwkt_ask.proofs.mails.send_and_wait.Goals as goal
 
 pub returns-in-Ok-clause-does : goal.returns-in-Ok-clause-does
@@ -36,3 +37,18 @@ returns-in-Err-clause-does c =
 
 pub returns-in-Err-clause-ran : goal.returns-in-Err-clause-ran
 returns-in-Err-clause-ran c = ran_mail_held c.args.list.now (cpu_of c.args.ports.now.seat) 1 288 c.args.hold.now.seat c.args.trace.now c.send_sync.new.trace (omega arith) c.requires.mine c.requires.held c.send_sync.ensures.grew
+
+pub returns-in-Ok-clause-told : goal.returns-in-Ok-clause-told
+returns-in-Ok-clause-told c =
+    let p = c.args.ports.now.seat in
+    let m = c.send_sync in
+    let l = c.leave in
+    mail_quiet p m.new.self.seat m.new.self.seat c.args.trace.now.items m.new.trace.items l.new.trace.items
+    (mail_told (cpu_of p) 1 p m.new.self.seat c.args.trace.now m.new.trace m.ensures.told m.ensures.grew)
+    (given_quiet _ _ _ _ m.new.trace l.new.trace _ _ l.ensures.gives_up) refl
+
+pub returns-in-Err-clause-told : goal.returns-in-Err-clause-told
+returns-in-Err-clause-told c =
+    let p = c.args.ports.now.seat in
+    let m = c.send_sync in
+    mail_told (cpu_of p) 1 p m.new.self.seat c.args.trace.now m.new.trace m.ensures.told m.ensures.grew

@@ -1,4 +1,4 @@
-use Rattle.std.proofs.Common.{◌≡◌, refl, ap, sym, ◌∙◌, subst, arith, Option, Some, None, Ok, Err}
+use Rattle.std.proofs.Common.{refl, ap, sym, ◌∙◌, subst, arith, Option, Ok}
 use Rattle.std.specs.Prelude.{Result}
 use Rattle.lwkt_base.specs.declared.asks.Item.{Item}
 use Rattle.lwkt_base.specs.declared.asks.Answer.TheVariants.{Got}
@@ -7,6 +7,7 @@ use Rattle.lwkt_msg.specs.Desks.{cpu_of}
 use Rattle.lwkt_ask.specs.declared.nexts.Next.TheVariants.{Runs}
 use Rattle.lwkt_ask.specs.Mailing.{WaitsItem}
 use Rattle.lwkt_ask.proofs.MailMoves.{ran_mail_held, ran_mail_left}
+use Rattle.lwkt_ask.proofs.TellMoves.{mail_told, mail_quiet, given_quiet}
 use Rattle.lwkt_ask.proofs.mails.wait_port.Goals as goal
 
 pub returns-in-Ok-Some-clause-waits : goal.returns-in-Ok-Some-clause-waits
@@ -51,3 +52,27 @@ pub returns-in-Err-clause-ran : goal.returns-in-Err-clause-ran
 returns-in-Err-clause-ran c =
     let l = c.leave-in-Err in
     ran_mail_left c.args.list.now (cpu_of c.args.ports.now.seat) 128 c.args.hold.now.seat l.new.hold.seat c.args.trace.now c.get.new.trace l.new.trace (omega arith) c.requires.mine c.requires.held c.get.ensures.grew l.ensures.ran
+
+pub returns-in-Ok-Some-clause-told : goal.returns-in-Ok-Some-clause-told
+returns-in-Ok-Some-clause-told c =
+    let p = c.args.ports.now.seat in
+    let m = c.get in
+    mail_told (cpu_of p) 128 p m.new.self.seat c.args.trace.now m.new.trace m.ensures.told m.ensures.grew
+
+pub returns-in-Ok-None-clause-told : goal.returns-in-Ok-None-clause-told
+returns-in-Ok-None-clause-told c =
+    let p = c.args.ports.now.seat in
+    let m = c.get in
+    let l = c.leave in
+    mail_quiet p m.new.self.seat m.new.self.seat c.args.trace.now.items m.new.trace.items l.new.trace.items
+    (mail_told (cpu_of p) 128 p m.new.self.seat c.args.trace.now m.new.trace m.ensures.told m.ensures.grew)
+    (given_quiet _ _ _ _ m.new.trace l.new.trace _ _ l.ensures.gives_up) refl
+
+pub returns-in-Err-clause-told : goal.returns-in-Err-clause-told
+returns-in-Err-clause-told c =
+    let p = c.args.ports.now.seat in
+    let m = c.get in
+    let l = c.leave-in-Err in
+    mail_quiet p m.new.self.seat m.new.self.seat c.args.trace.now.items m.new.trace.items l.new.trace.items
+    (mail_told (cpu_of p) 128 p m.new.self.seat c.args.trace.now m.new.trace m.ensures.told m.ensures.grew)
+    (given_quiet _ _ _ _ m.new.trace l.new.trace _ _ l.ensures.gives_up) refl

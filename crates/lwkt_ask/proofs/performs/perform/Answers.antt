@@ -5,6 +5,7 @@ use Rattle.lwkt_msg.specs.Desks.{cpu_of}
 use Rattle.lwkt_ask.specs.Nexts.{kept_list}
 use Rattle.lwkt_ask.proofs.AskMoves.{ran_left}
 use Rattle.lwkt_ask.proofs.MailMoves.{ran_mail_held}
+use Rattle.lwkt_ask.proofs.TellMoves.{quiet_none, mail_none, given_quiet, got_quiet, tried_quiet, rel_quiet, read_quiet, stored_quiet, added_quiet}
 use Rattle.lwkt_ask.proofs.performs.perform.Goals as goal
 
 pub returns-in-Swap-clause-ran : goal.returns-in-Swap-clause-ran
@@ -45,3 +46,39 @@ returns-in-Abort-clause-ran c = ran_still (IsBetween c.args.list.now (kept_list 
 
 pub returns-in-IsAborted-clause-ran : goal.returns-in-IsAborted-clause-ran
 returns-in-IsAborted-clause-ran c = ran_still (IsBetween c.args.list.now (kept_list c.refused-in-IsAborted.result c.args.list.now)) 288 c.args.hold.now.seat c.args.trace.now
+
+pub returns-in-Get-clause-told : goal.returns-in-Get-clause-told
+returns-in-Get-clause-told c = mail_none c.args.ports.now.seat c.args.trace.now.items c.get.new.trace.items (got_quiet _ _ _ _ _ _ c.args.trace.now c.get.new.trace _ c.get.ensures.gets)
+
+pub returns-in-GetShared-clause-told : goal.returns-in-GetShared-clause-told
+returns-in-GetShared-clause-told c = mail_none c.args.ports.now.seat c.args.trace.now.items c.get-in-GetShared.new.trace.items (got_quiet _ _ _ _ _ _ c.args.trace.now c.get-in-GetShared.new.trace _ c.get-in-GetShared.ensures.gets)
+
+pub returns-in-TryGet-clause-told : goal.returns-in-TryGet-clause-told
+returns-in-TryGet-clause-told c = mail_none c.args.ports.now.seat c.args.trace.now.items c.try_get.new.trace.items (tried_quiet _ _ _ _ _ _ c.args.trace.now c.try_get.new.trace c.try_get.ensures.tries.0 c.try_get.ensures.tries.1.0)
+
+pub returns-in-Rel-clause-told : goal.returns-in-Rel-clause-told
+returns-in-Rel-clause-told c = mail_none c.args.ports.now.seat c.args.trace.now.items c.rel.new.trace.items (rel_quiet _ _ _ _ _ c.args.trace.now c.rel.new.trace c.rel.ensures.rels.0 c.rel.ensures.rels.1.0)
+
+pub returns-in-Swap-clause-told : goal.returns-in-Swap-clause-told
+returns-in-Swap-clause-told c = mail_none c.args.ports.now.seat c.args.trace.now.items c.args.trace.now.items (quiet_none c.args.trace.now.items)
+
+pub returns-in-Read-clause-told : goal.returns-in-Read-clause-told
+returns-in-Read-clause-told c = mail_none c.args.ports.now.seat c.args.trace.now.items c.read.new.trace.items (read_quiet _ _ _ _ _ _ c.args.trace.now c.read.new.trace c.read.ensures.reads.0 c.read.ensures.reads.1.0)
+
+pub returns-in-Write-clause-told : goal.returns-in-Write-clause-told
+returns-in-Write-clause-told c = mail_none c.args.ports.now.seat c.args.trace.now.items c.write.new.trace.items (stored_quiet _ _ _ _ _ _ _ c.args.trace.now c.write.new.trace c.write.ensures.stores.0 c.write.ensures.stores.1.0)
+
+pub returns-in-Add-clause-told : goal.returns-in-Add-clause-told
+returns-in-Add-clause-told c = mail_none c.args.ports.now.seat c.args.trace.now.items c.add.new.trace.items (added_quiet _ _ _ _ _ _ c.args.trace.now c.add.new.trace c.add.ensures.adds.0 c.add.ensures.adds.1.0)
+
+pub returns-in-Abort-clause-told : goal.returns-in-Abort-clause-told
+returns-in-Abort-clause-told c = mail_none c.args.ports.now.seat c.args.trace.now.items c.args.trace.now.items (quiet_none c.args.trace.now.items)
+
+pub returns-in-IsAborted-clause-told : goal.returns-in-IsAborted-clause-told
+returns-in-IsAborted-clause-told c = mail_none c.args.ports.now.seat c.args.trace.now.items c.args.trace.now.items (quiet_none c.args.trace.now.items)
+
+pub returns-in-Yield-clause-told : goal.returns-in-Yield-clause-told
+returns-in-Yield-clause-told c = mail_none c.args.ports.now.seat c.args.trace.now.items c.leave.new.trace.items (given_quiet _ _ _ _ c.args.trace.now c.leave.new.trace _ _ c.leave.ensures.gives_up)
+
+pub returns-in-Exit-clause-told : goal.returns-in-Exit-clause-told
+returns-in-Exit-clause-told c = let l = c.leave-in-Exit in mail_none c.args.ports.now.seat c.args.trace.now.items l.new.trace.items (given_quiet _ _ _ _ c.args.trace.now l.new.trace _ _ l.ensures.gives_up)

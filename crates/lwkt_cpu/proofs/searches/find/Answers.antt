@@ -1,6 +1,7 @@
 use Rattle.std.proofs.Common.{◌+◌, ◌-◌, ◌*◌, ◌≤◌, length, arith}
 use Rattle.lwkt_base.specs.Holding.{Holding}
 use Rattle.lwkt_hold.proofs.RunMoves.{ran_then, ran_weaker}
+use Rattle.lwkt_ask.proofs.TellMoves.{quiet_then}
 use Rattle.lwkt_cpu.specs.Searches.{IsIn, IsOfOne}
 use Rattle.lwkt_cpu.proofs.SearchMoves.{searches_keeps, is_in_or_not, there_kept, kept_one, found_first, found_round}
 use Rattle.lwkt_cpu.proofs.searches.find.Goals as goal
@@ -43,3 +44,6 @@ returns-in-None-clause-finds c =
     let Q : Holding → Type 0 = IsOfOne s.new.threads in
     let x = s.ensures.none c.in-None.is in
     found_round P Q (64 * (n - c.args.cursor)) (64 * (c.args.cursor - 0)) c.args.hold.now.seat s.new.hold.seat r.new.hold.seat c.args.trace.now s.new.trace r.new.trace c.args.threads.now s.new.threads r.new.threads c.args.cursor c.requires.within s.ensures.ran r.ensures.ran x.1 r.result r.ensures.some r.ensures.none
+
+pub returns-in-None-clause-quiet : goal.returns-in-None-clause-quiet
+returns-in-None-clause-quiet c = quiet_then c.args.trace.now.items c.scan.new.trace.items c.scan-in-None.new.trace.items c.scan.ensures.quiet c.scan-in-None.ensures.quiet

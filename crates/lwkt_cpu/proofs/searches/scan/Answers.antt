@@ -4,6 +4,7 @@ use Rattle.std.proofs.lemmas.Option.{slice_get-get_or}
 use Rattle.lwkt_base.specs.Holding.{Holding}
 use Rattle.lwkt_hold.specs.Fronts.{IsFront}
 use Rattle.lwkt_hold.proofs.ReadMoves.{ran_still}
+use Rattle.lwkt_ask.proofs.TellMoves.{quiet_none, quiet_then}
 use Rattle.lwkt_cpu.specs.Searches.{Searches, IsIn, IsOfOne}
 use Rattle.lwkt_cpu.proofs.SearchMoves.{searches_none, searches_more, tried_ran, untried, there_at, found_at}
 use Rattle.lwkt_cpu.proofs.searches.scan.Goals as goal
@@ -12,6 +13,7 @@ pub loop-at-init : goal.loop-at-init
 loop-at-init c = record {
   ran = ran_still (IsOfOne c.args.threads.now) (64 * (c.args.from - c.args.from)) c.args.hold.now.seat c.args.trace.now;
   empty = c.requires.empty;
+  quiet = quiet_none c.args.trace.now.items;
   searched = searches_none c.args.hold.now.seat c.args.threads.now c.args.from;
 }
 
@@ -58,6 +60,7 @@ loop-at-preserved c =
     record {
       ran = tried_ran c.args.hold.now.seat l.hold.seat c.try_one.new.hold.seat c.args.trace.now l.trace c.try_one.new.trace c.args.threads.now l.at old (64 * (l.at - c.args.from)) (64 * (l.at + 1 - c.args.from)) (omega arith) was l.invariant.ran c.try_one.ensures.ran;
       empty = n.0;
+      quiet = quiet_then c.args.trace.now.items l.trace.items c.try_one.new.trace.items l.invariant.quiet c.try_one.ensures.quiet;
       searched = searches_more P Q (64 * (l.at - c.args.from)) 64 c.args.hold.now.seat l.hold.seat c.try_one.new.hold.seat c.args.trace.now l.trace c.try_one.new.trace c.args.threads.now l.threads c.args.from l.at old c.try_one.new.thread low is l.invariant.ran c.try_one.ensures.ran l.invariant.searched n.1;
     }
 
@@ -67,3 +70,6 @@ returns-clause-none c =
     let last : l.at ≡ c.args.to = omega (arith, c.loop-at-test.false, l.auto.at-end c.requires.rising) in
     let F : ℕ → Type 0 = λ k. Searches c.args.hold.now.seat l.hold.seat c.args.threads.now l.threads (IsIn c.args.from k) in
     λ is. (l.invariant.empty, subst F last l.invariant.searched)
+
+pub returns-then-try_one-clause-quiet : goal.returns-then-try_one-clause-quiet
+returns-then-try_one-clause-quiet c = quiet_then c.args.trace.now.items c.loop-at.trace.items c.try_one.new.trace.items c.loop-at.invariant.quiet c.try_one.ensures.quiet

@@ -1,5 +1,8 @@
+use Rattle.std.proofs.Common.{◌≡◌, arith}
 use Rattle.lwkt_bank.specs.Seats.{id_of}
-use Rattle.lwkt_cpu.proofs.DriveMoves.{driven_more, drives_over, on_err, short}
+use Rattle.lwkt_cpu.proofs.DriveMoves.{driven_more, drives_all, drives_over, on_err, short}
+use Rattle.lwkt_ask.proofs.TellMoves.{mail_then}
+use Rattle.lwkt_cpu.proofs.ToldMoves.{made_told}
 use Rattle.lwkt_cpu.specs.Driving.{DrivesShort}
 use Rattle.lwkt_cpu.proofs.cpus.Cpu.drive.Goals as goal
 
@@ -18,3 +21,24 @@ pub loop-made-preserved : goal.loop-made-preserved
 loop-made-preserved g c =
     let l = c.loop-made in
     driven_more {B = g.row.B.Denot} g.B.Body.polled (id_of c.args.bank.now) c.args.self.now l.self c.turn.new.self c.args.trace.now l.trace c.turn.new.trace l.drove c.count-drove.result c.in_ok-turned.turned l.made l.invariant c.in_ok-turned.ensures.ok (c.is_last.ensures.no c.if-is_last.false) c.in_ok-turned.ensures.of c.in_ok-turned.ensures.table c.count-drove.ensures
+
+pub returns-clause-ok : goal.returns-clause-ok
+returns-clause-ok g c =
+    let l = c.loop-made in
+    let all : l.made ≡ c.args.limit = omega (arith, c.loop-made-test.false, l.auto.made-end) in
+    drives_all {B = g.row.B.Denot} g.B.Body.polled (id_of c.args.bank.now) c.args.self.now l.self c.args.trace.now l.trace l.drove l.made c.args.limit all l.invariant
+
+pub returns-in_err-turned-clause-told : goal.returns-in_err-turned-clause-told
+returns-in_err-turned-clause-told g c =
+    let l = c.loop-made in
+    mail_then c.args.self.now.post.seat l.self.post.seat c.turn.new.self.post.seat c.args.trace.now.items l.trace.items c.turn.new.trace.items (made_told {B = g.row.B.Denot} g.B.Body.polled (id_of c.args.bank.now) c.args.self.now l.self c.args.trace.now l.trace l.invariant.turns l.invariant.made) c.turn.ensures.told
+
+pub returns-then-is_last-clause-told : goal.returns-then-is_last-clause-told
+returns-then-is_last-clause-told g c =
+    let l = c.loop-made in
+    mail_then c.args.self.now.post.seat l.self.post.seat c.turn.new.self.post.seat c.args.trace.now.items l.trace.items c.turn.new.trace.items (made_told {B = g.row.B.Denot} g.B.Body.polled (id_of c.args.bank.now) c.args.self.now l.self c.args.trace.now l.trace l.invariant.turns l.invariant.made) c.turn.ensures.told
+
+pub returns-clause-told : goal.returns-clause-told
+returns-clause-told g c =
+    let l = c.loop-made in
+    made_told {B = g.row.B.Denot} g.B.Body.polled (id_of c.args.bank.now) c.args.self.now l.self c.args.trace.now l.trace l.invariant.turns l.invariant.made

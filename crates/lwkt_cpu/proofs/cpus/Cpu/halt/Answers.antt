@@ -1,5 +1,6 @@
 use Rattle.std.proofs.Common.{◌≡◌, set, refl, ap, ◌∙◌, subst, Some, None}
 use Rattle.lwkt_hold.specs.Runs.{Ran}
+use Rattle.lwkt_ask.proofs.TellMoves.{given_quiet}
 use Rattle.lwkt_cpu.specs.declared.threads.Thread.{Thread}
 use Rattle.lwkt_cpu.specs.Processors.{Processor, has_ended, processor_of}
 use Rattle.lwkt_cpu.specs.Searches.{IsOfOne}
@@ -53,3 +54,6 @@ returns-clause-ran g c =
     let up = p.ensures.gives_up in
     let F : Processor g.row.B.Denot → Type 0 = λ x. Ran (IsOfOne x.threads) 162 x.seat p.new.hold.seat c.args.trace.now p.new.trace in
     subst F c.self.view_is (ran_halted i.hold.seat p.new.hold.seat c.args.trace.now p.new.trace i.threads.items place before at p.ensures.ran)
+
+pub returns-clause-quiet : goal.returns-clause-quiet
+returns-clause-quiet g c = given_quiet _ _ _ _ c.args.trace.now c.exit-next.new.trace _ _ c.exit-next.ensures.gives_up

@@ -3,7 +3,11 @@ use Rattle.lwkt_bank.specs.declared.seats.CpuSeat.{CpuSeat}
 use Rattle.lwkt_hold.specs.Runs.{Ran}
 use Rattle.lwkt_hold.proofs.RunMoves.{ran_with_room}
 use Rattle.lwkt_hold.proofs.ReadMoves.{ran_still}
+use Rattle.lwkt_port.specs.Posts.{Post}
+use Rattle.lwkt_ask.specs.Telling.{TellsMail}
+use Rattle.lwkt_ask.proofs.TellMoves.{mail_none, quiet_then}
 use Rattle.lwkt_cpu.specs.Searches.{IsOfOne}
+use Rattle.lwkt_cpu.proofs.ToldMoves.{quiet_items}
 use Rattle.lwkt_cpu.proofs.cpus.Cpu.stop.Goals as goal
 
 pub returns-then-is_err-clause-ran : goal.returns-then-is_err-clause-ran
@@ -38,3 +42,14 @@ returns-clause-ok g c =
       none_runs = e.none;
       empty = e.empty;
     }
+
+pub returns-then-is_err-clause-told : goal.returns-then-is_err-clause-told
+returns-then-is_err-clause-told g c = mail_none c.args.self.now.post.seat c.args.trace.now.items c.reserve.new.self.items (quiet_items c.args.trace.now.items c.reserve.new.self.items c.reserve.ensures.items)
+
+pub returns-clause-told : goal.returns-clause-told
+returns-clause-told g c =
+    let p = c.args.self.now.post in
+    let r = c.reserve.new.self in
+    let h = c.halt_running in
+    let F : Post → Type 0 = λ q. TellsMail p.seat q.seat c.args.trace.now.items h.new.trace.items in
+    subst F (sym (c.end_all.ensures.post ∙ h.ensures.post)) (mail_none p.seat c.args.trace.now.items h.new.trace.items (quiet_then c.args.trace.now.items r.items h.new.trace.items (quiet_items c.args.trace.now.items r.items c.reserve.ensures.items) h.ensures.quiet))

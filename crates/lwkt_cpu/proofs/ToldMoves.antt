@@ -1,0 +1,52 @@
+-- What the trace of a processor has of messages: its calls on the ports tell it, and its calls on the hold tell nothing of it.
+use Rattle.std.proofs.Common.{◌≡◌, ℕ, List, [], ◌∷◌, ◌++◌, take, refl, ap, sym, subst}
+use Rattle.std.specs.Prelude.{Option, Some, None, Vec}
+use Rattle.std.specs.declared.alloc.Global.{Global}
+use Rattle.lwkt_base.specs.declared.asks.Ask.{Ask}
+use Rattle.lwkt_base.specs.declared.asks.Answer.{Answer}
+use Rattle.lwkt_base.specs.declared.names.CpuId.{CpuId}
+use Rattle.lwkt_base.specs.declared.names.Ref.{Ref}
+use Rattle.lwkt_core.specs.declared.events.Event.{Event}
+use Rattle.lwkt_bank.specs.Seats.{BankId}
+use Rattle.lwkt_hold.specs.declared.answers.Missed.{Missed}
+use Rattle.lwkt_hold.specs.declared.answers.Resumed.{Resumed}
+use Rattle.lwkt_hold.specs.declared.answers.Resumed.TheVariants.{All, Passed}
+use Rattle.lwkt_hold.specs.Givings.{gives_all}
+use Rattle.lwkt_hold.specs.Takings.{takes_all}
+use Rattle.lwkt_msg.specs.Desks.{Desk}
+use Rattle.lwkt_ask.specs.Telling.{TellsMail, IsQuiet}
+use Rattle.lwkt_ask.proofs.TellMoves.{quiet_none, mail_none, mail_then, mail_quiet, quiet_mail, plain_append, plain_takes_all, plain_gives_all}
+use Rattle.lwkt_cpu.specs.declared.answers.Turned.{Turned}
+use Rattle.lwkt_cpu.specs.Processors.{Processor}
+use Rattle.lwkt_cpu.specs.Turning.{Chooses}
+use Rattle.lwkt_cpu.specs.Driving.{Made}
+
+-- a trace with the same events
+pub quiet_items : (t u : List Event) → u ≡ t → IsQuiet t u
+quiet_items t u is = let F : List Event → Type 0 = λ x. IsQuiet t x in subst F (sym is) (quiet_none t)
+
+-- a resume, whichever it was
+pub resumed_quiet : (cpu : CpuId) (refs : List Ref) (t u : List Event) (r : Resumed) → (r ≡ All → u ≡ t ++ takes_all cpu [] refs) → ((place : ℕ) (why : Missed) → r ≡ Passed place why → u ≡ t ++ (takes_all cpu [] (take place refs) ++ gives_all cpu [] (take place refs))) → IsQuiet t u
+resumed_quiet cpu refs t u All all passed = record { done = takes_all cpu [] refs; trace_is = all refl; quiet = plain_takes_all cpu [] refs }
+resumed_quiet cpu refs t u (Passed place why) all passed = record {
+  done = takes_all cpu [] (take place refs) ++ gives_all cpu [] (take place refs);
+  trace_is = passed place why refl;
+  quiet = plain_append (takes_all cpu [] (take place refs)) (gives_all cpu [] (take place refs)) (plain_takes_all cpu [] (take place refs)) (plain_gives_all cpu [] (take place refs));
+}
+
+-- choosing a thread leaves the ports as they are
+pub chosen_post : {B : Type 0} (old new : Processor B) (t u : Vec Event Global) (running found : Option ℕ) → Chooses old new t u running found → new.post ≡ old.post
+chosen_post old new t u (Some place) found c = ap (λ p. p.post) c.1
+chosen_post old new t u None found c = c.1
+
+-- a turn: room is made in the trace, mail is taken in, and a thread is chosen
+pub chosen_told : (a b c : Desk) (t r v u : List Event) → r ≡ t → TellsMail a b r v → IsQuiet v u → c ≡ b → TellsMail a c t u
+chosen_told a b c t r v u same mail quiet is = mail_quiet a b c t v u (quiet_mail a a b t r v (quiet_items t r same) refl mail) quiet is
+
+-- turns made one after another
+pub made_told : {B : Type 0} (polled : B → Answer → Ask → B → Type 0) (bank : BankId) (old new : Processor B) (t u : Vec Event Global) (turns : List Turned) → Made polled bank old new t u turns → TellsMail old.post.seat new.post.seat t.items u.items
+made_told {B} polled bank old new t u [] made =
+    let F : Processor B → Type 0 = λ p. TellsMail old.post.seat p.post.seat t.items u.items in
+    let G : Vec Event Global → Type 0 = λ x. TellsMail old.post.seat old.post.seat t.items x.items in
+    subst F (sym made.0) (subst G (sym made.1) (mail_none old.post.seat t.items t.items (quiet_none t.items)))
+made_told polled bank old new t u (turned ∷ turns) made = mail_then old.post.seat made.0.post.seat new.post.seat t.items made.1.0.items u.items made.1.1.0.told (made_told polled bank made.0 new made.1.0 u turns made.1.1.1)
