@@ -43,6 +43,7 @@ pub record IsUnderWay {B : Type 0} (polled : B → Answer → Ask → B → Type
   pub total : new.drove.ran + new.drove.idle ≡ count
   pub within : IsWithin limits new.drove
   pub same : new.id ≡ old.id
+  pub seat : new.cpu.seat.cpu ≡ old.cpu.seat.cpu
   pub at : IsAt bank book new
 
 -- no turn was made yet
@@ -56,6 +57,7 @@ under_none polled answers bank book limits d at fresh = record {
   total = let F : Drove → Type 0 = λ x. x.ran + x.idle ≡ 0 in subst F (sym fresh) (omega arith);
   within = let F : Drove → Type 0 = λ x. IsWithin limits x in subst F (sym fresh) (record { ran = omega arith; idle = omega arith });
   same = refl;
+  seat = refl;
   at = at;
 }
 
@@ -107,6 +109,7 @@ under_more polled answers bank book limits old mid new count u m at same =
         idle = omega (arith, counted_idle mid.drove m.turned, m.goes.idle);
       });
       same = same ∙ u.same;
+      seat = m.makes.ran.cpu ∙ u.seat;
       at = at;
     }
 
@@ -126,6 +129,7 @@ driven_by {B} polled answers bank book limits old mid new ending count u s same 
       drove = s.drove ∙ u.drove;
       ends = subst D (sym s.drove) (subst N (sym u.long) (subst I u.same s.ends));
       same = same ∙ u.same;
+      seat = ap (λ p. p.seat.cpu) s.cpu ∙ u.seat;
     }
 
 -- both limits are reached
@@ -139,6 +143,7 @@ driven_out polled answers bank book limits old new count all u = record {
   drove = u.drove;
   ends = omega (arith, all, u.total, u.within.ran, u.within.idle);
   same = u.same;
+  seat = u.seat;
 }
 
 -- a fact of the elements at each place of two lists that are as long

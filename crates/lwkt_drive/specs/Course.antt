@@ -69,3 +69,4 @@ pub record IsDriven {B : Type 0} (polled : B → Answer → Ask → B → Type 0
   pub drove : new.drove ≡ counts turns
   pub ends : EndsBy answers limits old.id (length turns) new.drove ending
   pub same : new.id ≡ old.id
+  pub seat : new.cpu.seat.cpu ≡ old.cpu.seat.cpu

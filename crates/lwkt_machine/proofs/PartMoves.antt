@@ -13,7 +13,7 @@ use Rattle.lwkt_bank.specs.Seats.{BankId, bank_of}
 use Rattle.lwkt_msg.specs.Desks.{Shelf}
 use Rattle.lwkt_cpu.specs.declared.answers.Turned.{Turned}
 use Rattle.lwkt_cpu.specs.Processors.{Processor}
-use Rattle.lwkt_cpu.specs.Turning.{MakesTurn}
+use Rattle.lwkt_cpu.specs.Turning.{HasSameEvents, MakesTurn}
 use Rattle.lwkt_cpu.proofs.PlaceMoves.{get_set_same, get_set_other, some_same}
 use Rattle.lwkt_machine.specs.Bodies.{Scripted, IsPolled}
 use Rattle.lwkt_machine.specs.Machines.{rig_of, IsOf, AreParts}
@@ -44,7 +44,7 @@ parts_set seats bank book cpus k p q within at of table same parts = record {
 }
 
 -- a turn keeps the processor's number
-pub turn_keeps_number : (bank : BankId) (p q : Processor Scripted) (t u : Vec Event Global) (r : Result Turned Fault) → IfOk r (λ turned. MakesTurn IsPolled bank p q t u turned) → OnErr r ((q ≡ p) × (u.items ≡ t.items)) → q.seat.cpu ≡ p.seat.cpu
+pub turn_keeps_number : (bank : BankId) (p q : Processor Scripted) (t u : Vec Event Global) (r : Result Turned Fault) → IfOk r (λ turned. MakesTurn IsPolled bank p q t u turned) → OnErr r ((q ≡ p) × HasSameEvents t u) → q.seat.cpu ≡ p.seat.cpu
 turn_keeps_number bank p q t u (Ok turned) made err = made.ran.cpu
 turn_keeps_number bank p q t u (Err fault) ok same = ap (λ (x : Processor Scripted). x.seat.cpu) same.0
 
