@@ -45,6 +45,7 @@ pub parts_same : (seats : ℕ) (bank : BankId) (book : Shelf) (olds news : List 
 parts_same seats bank book olds news same parts = record {
   seats_are = parts.seats_are ∙ sym same.as_many;
   mails_are = parts.mails_are ∙ sym same.as_many;
+  few = omega (arith, parts.few, same.as_many);
   each = all_from_get (IsOf bank book) news (λ k q at.
       let x = same.each k q at in
       let p = x.0 in
