@@ -4,4 +4,5 @@ pub mod OpenMoves
 pub mod PartMoves
 pub mod RetireMoves
 pub mod SeatMoves
+pub mod StandMoves
 pub mod StopMoves

@@ -1,5 +1,5 @@
 -- One processor changes, and the parts of a machine still belong together.
-use Rattle.std.proofs.Common.{◌≡◌, ℕ, ◌<◌, ◌≤◌, List, length, set, refl, ap, sym, ◌∙◌, subst, inl, inr, arith, Some, Result, Ok, Err}
+use Rattle.std.proofs.Common.{◌≡◌, ℕ, ◌<◌, List, length, set, refl, ap, sym, ◌∙◌, subst, inl, inr, arith, Some, Result, Ok, Err}
 use Rattle.std.specs.Prelude.{Vec, IfOk, OnErr, slice_get}
 use Rattle.std.specs.declared.alloc.Global.{Global}
 use Rattle.std.proofs.lemmas.Bool.{cases_eq}

@@ -1,5 +1,5 @@
 -- Processors give back what they have, one after another.
-use Rattle.std.proofs.Common.{◌≡◌, suc, ◌<◌, List, [], ◌∷◌, ◌++◌, length, get_or, refl, ap, sym, ◌∙◌, subst, arith, append_assoc, append-nil, map, cond, Result, Ok, Err}
+use Rattle.std.proofs.Common.{◌≡◌, suc, ◌<◌, List, [], ◌∷◌, ◌++◌, length, get_or, ap, sym, ◌∙◌, subst, arith, append_assoc, map, cond, Result, Ok, Err}
 use Rattle.std.specs.Prelude.{All, OnOk, slice_get}
 use Rattle.std.specs.List.{remove, flat_map}
 use Rattle.std.specs.Result.{is_ok}
@@ -13,7 +13,7 @@ use Rattle.lwkt_machine.specs.Bodies.{Scripted}
 use Rattle.lwkt_machine.specs.Ended.{AreOver}
 use Rattle.lwkt_machine.specs.Retiring.{AreRetired}
 use Rattle.lwkt_machine.specs.declared.closings.Retired.{Retired}
-use Rattle.lwkt_machine.proofs.ListMoves.{get_removed}
+use Rattle.lwkt_machine.proofs.ListMoves.{get_removed, map_push, flat_push}
 
 -- some of the processors have given back what they have, and the rest are over
 pub record IsRetiring (all rest : List (Processor Scripted)) (r : Retired) : Type 0 where
@@ -36,14 +36,6 @@ retiring_more all rest left r s x some is are so_far more = record {
   retired = more;
   over = λ k p at. so_far.over (suc k) p (sym (get_removed rest k) ∙ ap (λ xs. slice_get xs k) (sym are) ∙ at);
 }
-
-map_push : {A B : Type 0} (f : A → B) (xs : List A) (x : A) → map f (xs ++ x ∷ []) ≡ map f xs ++ f x ∷ []
-map_push f [] x = refl
-map_push f (y ∷ xs) x = ap (λ zs. f y ∷ zs) (map_push f xs x)
-
-flat_push : {A B : Type 0} (f : A → List B) (xs : List A) (x : A) → flat_map f (xs ++ x ∷ []) ≡ flat_map f xs ++ f x
-flat_push f [] x = append-nil (f x)
-flat_push f (y ∷ xs) x = ap (λ zs. f y ++ zs) (flat_push f xs x) ∙ sym (append_assoc (f y) (flat_map f xs) (f x))
 
 -- one processor more gives back what it has
 pub retired_more : {T E : Type 0} (done : List (Processor Scripted)) (p : Processor Scripted) (old new : Retired) (seat : CpuSeat) (mail : Desk) (bodies : List Scripted) (t : Result T E) → seat ≡ p.seat → holding seat ≡ holds_nothing → mail ≡ p.post.seat → bodies ≡ p.bodies → new.seats.items ≡ old.seats.items ++ seat ∷ [] → new.mails.items ≡ old.mails.items ++ mail ∷ [] → new.bodies.items ≡ cond (is_ok t) (old.bodies.items ++ bodies) old.bodies.items → AreRetired done old → OnOk t (AreRetired (done ++ p ∷ []) new)

@@ -5,4 +5,5 @@ pub mod Machines
 pub mod Opened
 pub mod Retiring
 pub mod Seating
+pub mod Standings
 pub mod Turns

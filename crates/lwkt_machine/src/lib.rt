@@ -7,9 +7,11 @@ mod lanes;
 pub mod machines;
 pub mod openings;
 mod seatings;
+pub mod standings;
 pub mod stops;
 
 pub use bodies::ScriptBody;
 pub use closings::Closed;
 pub use lwkt_cpu::{Cpu, Status, Turned};
 pub use machines::Machine;
+pub use standings::Standing;
