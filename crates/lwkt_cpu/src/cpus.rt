@@ -119,7 +119,8 @@ impl<B> Cpu<B> {
 
     /// What thread `i` is doing, and its references.
     pub fn thread(&self, i: usize) -> Option<Status<'_>>
-        ensures { ShowsThread self.now i result }
+        ensures shows { ShowsThread self.now i result }
+        ensures few { IfSome result (λ status. length status.list.now ≤ 32) }
     {
         let thread = self.threads.get(i)?;
         let state = match thread.phase {

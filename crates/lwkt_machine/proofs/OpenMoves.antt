@@ -1,5 +1,5 @@
 -- What the openings of a bank and a book give is what processors are made of.
-use Rattle.std.proofs.Common.{◌≡◌, ℕ, ◌+◌, List, length, get_or, sym, ◌∙◌, subst, arith}
+use Rattle.std.proofs.Common.{◌≡◌, ℕ, ◌+◌, ◌≤◌, List, length, get_or, sym, ◌∙◌, subst, arith}
 use Rattle.std.proofs.lemmas.Option.{slice_get_within, get_or_from_slice_get}
 use Rattle.lwkt_base.specs.declared.openings.MsgSpec.{MsgSpec}
 use Rattle.lwkt_base.specs.declared.openings.TokSpec.{TokSpec}
@@ -47,10 +47,11 @@ rest_first cpus tokens messages bank book rest opened given outs ins = record {
 }
 
 -- processors as they are opened belong to their bank and book
-pub opened_parts : (seats : ℕ) (bank : BankId) (book : Shelf) (threads : List ThreadSpec) (cpus : List (Processor Scripted)) → seats ≡ length cpus → book.cpus ≡ length cpus → AreOpenedCpus bank book threads cpus → AreParts seats bank book cpus
-opened_parts seats bank book threads cpus seats_many mails_many each = record {
+pub opened_parts : (seats : ℕ) (bank : BankId) (book : Shelf) (threads : List ThreadSpec) (cpus : List (Processor Scripted)) → seats ≡ length cpus → book.cpus ≡ length cpus → length cpus ≤ 8 → AreOpenedCpus bank book threads cpus → AreParts seats bank book cpus
+opened_parts seats bank book threads cpus seats_many mails_many few each = record {
   seats_are = seats_many;
   mails_are = mails_many;
+  few = few;
   each = all_from_get (IsOf bank book) cpus (λ k p at. record { bank_is = (each k p at).seat.bank_is; table_is = (each k p at).desk.table });
   numbered = λ k p at. (each k p at).seat.number;
 }

@@ -1,5 +1,5 @@
 -- One processor changes, and the parts of a machine still belong together.
-use Rattle.std.proofs.Common.{◌≡◌, ℕ, ◌<◌, List, length, set, refl, ap, sym, ◌∙◌, subst, inl, inr, Some, Result, Ok, Err}
+use Rattle.std.proofs.Common.{◌≡◌, ℕ, ◌<◌, List, length, set, refl, ap, sym, ◌∙◌, subst, inl, inr, arith, Some, Result, Ok, Err}
 use Rattle.std.specs.Prelude.{Vec, IfOk, OnErr, slice_get}
 use Rattle.std.specs.declared.alloc.Global.{Global}
 use Rattle.std.proofs.lemmas.Bool.{cases_eq}
@@ -39,6 +39,7 @@ pub parts_set : (seats : ℕ) (bank : BankId) (book : Shelf) (cpus : List (Proce
 parts_set seats bank book cpus k p q within at of table same parts = record {
   seats_are = parts.seats_are ∙ sym (length-set cpus k q);
   mails_are = parts.mails_are ∙ sym (length-set cpus k q);
+  few = omega (arith, parts.few, length-set cpus k q);
   each = All-set (IsOf bank book) cpus k q (record { bank_is = of; table_is = table }) parts.each;
   numbered = numbered_set cpus k p q within at same parts.numbered;
 }

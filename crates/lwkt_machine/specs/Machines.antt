@@ -22,10 +22,11 @@ pub record IsOf (bank : BankId) (book : Shelf) (p : Processor Scripted) : Type 0
   pub table_is : p.post.seat.table ≡ book.table
 
 -- a bank of so many seats, a book and processors make one machine: each processor is of the bank and the book, there is one for
--- each seat, and each is at its number
+-- each seat, at most 8, and each is at its number
 pub record AreParts (seats : ℕ) (bank : BankId) (book : Shelf) (cpus : List (Processor Scripted)) : Type 0 where
   pub seats_are : seats ≡ length cpus
   pub mails_are : book.cpus ≡ length cpus
+  pub few : length cpus ≤ 8
   pub each : All (IsOf bank book) cpus
   pub numbered : (k : ℕ) (p : Processor Scripted) → slice_get cpus k ≡ Some p → p.seat.cpu.0 ≡ k
 

@@ -90,6 +90,9 @@ impl Machine {
         ensures ok { IfOk result (λ turned. TurnsAt cpu self.old self.new trace.old trace.new turned) }
         ensures err { OnErr result ((self.new ≡ self.old) × (trace.new.items ≡ trace.old.items)) }
         ensures only { OnErr result (result ≡ Err Fault.Memory) }
+        ensures bank { self.new.bank ≡ self.old.bank }
+        ensures book { self.new.book ≡ self.old.book }
+        ensures as_many { length self.new.cpus ≡ length self.old.cpus }
     {
         self.cpus[cpu].turn(&self.bank, &self.book, trace)
     }

@@ -1,5 +1,5 @@
 //! The opening of a machine.
-ghost use Rattle.std.specs.Prelude.{◌≡◌, IfOk, IfErr, OnOk, OnErr, Err};
+ghost use Rattle.std.specs.Prelude.{◌≡◌, ◌≤◌, IfOk, IfErr, OnOk, OnErr, Err};
 ghost use Rattle.lwkt_core.specs.Opening.{AreWithin, AllOpenLawfully};
 ghost use Rattle.lwkt_bank.specs.Gathered.{IsOpened};
 ghost use Rattle.lwkt_msg.specs.Desks.{AreOpened};
@@ -50,6 +50,7 @@ fn open_tables(
 fn open_at(alloc: Global, script: &Script, tables: Tables) -> Result<Machine, Fault>
     requires bank { IsOpened script.now.cpus script.now.tokens tables.bank tables.seats.items }
     requires book { AreOpened script.now.cpus script.now.messages tables.book tables.mails.items }
+    requires few { script.now.cpus ≤ 8 }
     ensures ok { IfOk result (λ machine. IsOpenedMachine script.now machine) }
     ensures only { OnErr result (result ≡ Err Fault.Memory) }
 {

@@ -36,6 +36,8 @@ impl Machine {
         ensures err { OnErr result (StopsShort self.old self.new trace.old trace.new) }
         ensures only { OnErr result (result ≡ Err Fault.Memory) }
         ensures same { AreSameCpus self.old.cpus self.new.cpus }
+        ensures bank { self.new.bank ≡ self.old.bank }
+        ensures book { self.new.book ≡ self.old.book }
     {
         stop_all(&self.bank, &mut self.cpus, trace)
     }

@@ -1,4 +1,4 @@
-use Rattle.std.proofs.Common.{◌∙◌, List, sym, subst}
+use Rattle.std.proofs.Common.{◌∙◌, List, arith, sym, subst}
 use Rattle.lwkt_bank.specs.Seats.{id_of, cpus_of}
 use Rattle.lwkt_machine.proofs.OpenMoves.{rest_first, opened_parts}
 use Rattle.lwkt_script.specs.declared.scripts.ThreadSpec.{ThreadSpec}
@@ -18,7 +18,7 @@ invariant_of-result c =
     let s = c.args.script.now in
     let made = c.in_ok-cpus in
     let long = made.ensures.as_many ∙ c.requires.bank.as_many in
-    opened_parts (cpus_of t.bank) (id_of t.bank) t.book c.as_slice-2.result.now made.cpus.items (c.requires.bank.processors ∙ sym long) (c.requires.book.cpus_is ∙ sym long) made.ensures.each
+    opened_parts (cpus_of t.bank) (id_of t.bank) t.book c.as_slice-2.result.now made.cpus.items (c.requires.bank.processors ∙ sym long) (c.requires.book.cpus_is ∙ sym long) (omega (arith, long, c.requires.few)) made.ensures.each
 
 pub returns-clause-ok : goal.returns-clause-ok
 returns-clause-ok c =

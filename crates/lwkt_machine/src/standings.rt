@@ -1,0 +1,83 @@
+//! How the threads of a machine stand.
+ghost use Rattle.std.specs.Prelude.{◌≡◌, ◌<◌, ◌≤◌, ◌++◌, length, IfOk, OnOk, IsSomeAnd, slice_get};
+ghost use Rattle.lwkt_base.specs.Refs.{IsLawful};
+ghost use Rattle.lwkt_cpu.specs.Processors.{is_running};
+
+use crate::bodies::ScriptBody;
+use crate::machines::Machine;
+use lwkt_base::{CpuId, Ref, ThreadId, ThreadState, TokList};
+use lwkt_cpu::Cpu;
+use std::alloc::{AllocError, Global};
+
+/// How a thread stands between two turns.
+#[derive(Drop)]
+pub struct Standing {
+    pub id: ThreadId,
+    /// What it is doing.
+    pub state: ThreadState,
+    /// Its references.
+    pub list: TokList,
+}
+
+// The list of these references.
+fn list_of(refs: &[Ref]) -> TokList
+    requires lawful { IsLawful refs.now }
+    requires few { length refs.now ≤ 32 }
+    ensures { result ≡ refs.now }
+{
+    let mut list = TokList::new();
+    for r in refs {
+        let _ = list.push(*r);
+    }
+    list
+}
+
+impl Standing {
+    ghost use Rattle.lwkt_machine.specs.Standings.{standing_of, standings_on};
+
+    // How a thread of this processor stands.
+    fn of_thread(cpu: &Cpu<ScriptBody>, id: ThreadId) -> Standing
+        requires { id.thread < length cpu.now.threads }
+        ensures { IsSomeAnd (slice_get cpu.now.threads id.thread) (λ t. result ≡ standing_of id.cpu.0 id.thread (is_running cpu.now.running id.thread) t) }
+    {
+        let status = cpu.thread(usize::from(id.thread)).unwrap();
+        Standing {
+            id,
+            state: status.state,
+            list: list_of(status.list),
+        }
+    }
+
+    // How each thread of the processor of this number stands.
+    fn of_processor(
+        cpu: &Cpu<ScriptBody>,
+        number: u8,
+        standings: &mut Vec<Standing>,
+    ) -> Result<(), AllocError>
+        ensures { OnOk result (standings.new.items ≡ standings.old.items ++ standings_on number cpu.now) }
+    {
+        for thread in 0..cpu.threads() {
+            let id = ThreadId {
+                cpu: CpuId(number),
+                thread: thread as u8,
+            };
+            standings.push(Standing::of_thread(cpu, id))?;
+        }
+        Ok(())
+    }
+}
+
+impl Machine {
+    ghost use Rattle.lwkt_machine.specs.Standings.{standings_of};
+
+    /// How each thread stands, by processor, then by number.
+    pub fn standings(&self, alloc: Global) -> Result<Vec<Standing>, AllocError>
+        ensures { IfOk result (λ standings. standings.items ≡ standings_of self.now.cpus) }
+    {
+        let mut standings = Vec::new(alloc);
+        for number in 0..self.cpus.len() {
+            Standing::of_processor(&self.cpus[number], number as u8, &mut standings)?;
+        }
+        Ok(standings)
+    }
+}
