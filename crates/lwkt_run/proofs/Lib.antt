@@ -1,1 +1,2 @@
+pub mod JudgeMoves
 pub mod RunLemmas

@@ -1,1 +1,2 @@
+pub mod Judging
 pub mod Run

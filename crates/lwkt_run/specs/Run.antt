@@ -12,7 +12,6 @@ use Rattle.lwkt_core.specs.declared.events.Event.{Event}
 use Rattle.lwkt_core.specs.declared.finals.Final.{Final}
 use Rattle.lwkt_core.specs.Machine.{Machine}
 use Rattle.lwkt_core.specs.Opening.{opening, AreWithin, AllOpenLawfully}
-use Rattle.lwkt_core.specs.Trace.{IsLawfulTrace}
 use Rattle.lwkt_report.specs.declared.closings.Closing.{Closing}
 use Rattle.lwkt_report.specs.declared.closings.Verdict.{Verdict}
 use Rattle.lwkt_report.specs.declared.closings.Verdict.TheVariants.{Closed, Lawful, Unlawful}
@@ -26,6 +25,11 @@ use Rattle.lwkt_report.specs.Stream.{AppendsFront}
 use Rattle.lwkt_report.specs.Complaint.{fault_line}
 use Rattle.lwkt_script.specs.declared.scripts.Script.{Script}
 use Rattle.lwkt_script.specs.Format.{plain_script_of}
+use Rattle.lwkt_verdict.specs.declared.turns.ThreadPlan.{ThreadPlan}
+use Rattle.lwkt_verdict.specs.declared.turns.ThreadEnd.{ThreadEnd}
+use Rattle.lwkt_verdict.specs.declared.turns.Poll.{Poll}
+use Rattle.lwkt_verdict.specs.declared.turns.Turn.{Turn}
+use Rattle.lwkt_run.specs.Judging.{ids_of, ArePlansOf, AreEndsOf, Judges}
 use Rattle.lwkt_run.specs.declared.runs.End.{End}
 use Rattle.lwkt_run.specs.declared.runs.End.TheVariants.{Ended, TurnsOut, Unlawful as UnlawfulEnd}
 
@@ -48,18 +52,28 @@ pub record Shows (closing : Closing) (last : Final) : Type 0 where
   pub tallies : last.tallies.items ≡ map (λ line. unwrap_or line.tallies []) closing.tokens.items
   pub messages : last.messages.items ≡ closing.messages.items
 
--- a lawful trace leads from the opening to the values shown
-abbrev pub HasTrace : Machine → Closing → Type 0
-HasTrace m closing = (trace : List Event) × ((last : Final) × (IsLawfulTrace m trace last × Shows closing last))
+-- there are a trace and turns with their polls of which the report gives its verdict, as a run of the script from its opening to
+-- the values and the threads' ends that it shows (own)
+pub record IsJudged (script : Script) (closing : Closing) : Type 0 where
+  pub trace : List Event
+  pub polls : List Poll
+  pub turns : List Turn
+  pub plans : List ThreadPlan
+  pub ends : List ThreadEnd
+  pub last : Final
+  pub are_plans : ArePlansOf script.threads plans
+  pub are_ends : AreEndsOf closing.threads.items ends
+  pub shows : Shows closing last
+  pub by : Judges closing.verdict (opening_of script) script.turns plans ends last trace polls turns
 
--- the values may be those of a run of the script: its opening was accepted, a tally line stands exactly under a Tally token,
--- and `lawful` only where a lawful trace leads from the opening to the values shown (own)
+-- the values may be those of a run of the script: its opening was accepted, a tally line stands exactly under a Tally token, each
+-- thread has its line, and the verdict is that on a trace and turns that lead to what is shown (own)
 pub record MayClose (script : Script) (closing : Closing) : Type 0 where
   pub within : AreWithin script.cpus script.tokens script.messages
   pub lawful_opening : AllOpenLawfully script.tokens
   pub kinds : map (λ line. is_some line.tallies) closing.tokens.items ≡ map (λ spec. is_tally spec.law) script.tokens
-  pub judged : closing.verdict ≢ Closed
-  pub lawful : closing.verdict ≡ Lawful → HasTrace (opening_of script) closing
+  pub threads : map (λ line. line.id) closing.threads.items ≡ ids_of script.cpus script.threads
+  pub judged : IsJudged script closing
 
 -- whether a thread has ended
 abbrev pub has_ended : ThreadState → Bool

@@ -11,6 +11,8 @@ pub struct ScriptBody {
     steps: Vec<Ask>,
     next: usize,
     repeats: u32,
+    asked: Ask,
+    told: Answer,
     log: Vec<Entry>,
 }
 
@@ -22,8 +24,20 @@ impl ScriptBody {
             steps,
             next: 0,
             repeats: repeat,
+            asked: Ask::Exit,
+            told: Answer::Begin,
             log,
         })
+    }
+
+    /// What it last asked.
+    pub fn asked(&self) -> Ask {
+        self.asked
+    }
+
+    /// What it was given when it was last polled.
+    pub fn told(&self) -> Answer {
+        self.told
     }
 
     /// Logs the answer and asks the next step.
@@ -35,10 +49,12 @@ impl ScriptBody {
         }
         let ask = self.steps.get(self.next).copied();
         self.next = self.next.saturating_add(1);
-        match ask {
+        self.told = last;
+        self.asked = match ask {
             Some(ask) if self.repeats > 0 => ask,
             _ => Ask::Exit,
-        }
+        };
+        self.asked
     }
 
     // Keeps what the answer puts in the log, if the log has room.
@@ -51,9 +67,8 @@ impl ScriptBody {
     }
 
     /// What the log has.
-    pub fn into_log(self) -> Vec<Entry> {
-        let ScriptBody { log, .. } = self;
-        log
+    pub fn log(&self) -> &[Entry] {
+        self.log.as_slice()
     }
 }
 

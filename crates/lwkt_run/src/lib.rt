@@ -4,9 +4,12 @@
 mod bodies;
 mod desks;
 mod machines;
+mod names;
 mod programs;
+mod records;
 mod runs;
 mod threads;
+mod verdicts;
 
 pub use lwkt_report::{RunFault, Verdict};
 pub use lwkt_script::{Script, read_plain_script, read_script};

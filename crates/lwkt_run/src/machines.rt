@@ -1,32 +1,43 @@
-use crate::desks::Desk;
+use crate::desks::{CPU, Desk};
+use crate::records::{Polled, Record};
 use crate::threads::Thread;
-use lwkt_base::{Fault, ThreadState};
+use lwkt_base::{Fault, ThreadId, ThreadState};
 use std::alloc::AllocError;
 
 /// What a turn did.
 #[derive(Clone, Copy, PartialEq, Eq)]
 pub enum Turn {
-    /// A thread's body was polled.
-    Ran,
+    /// This thread's body was polled.
+    Ran(usize),
     /// No thread can run.
     Idle,
     /// Every thread has ended.
     AllExited,
 }
 
+/// What a machine leaves.
+#[derive(Drop)]
+pub struct Stopped {
+    pub desk: Desk,
+    pub record: Record,
+    pub threads: Vec<Thread>,
+}
+
 /// A plain machine of one processor, with its threads.
 #[derive(Drop)]
 pub struct Machine {
     desk: Desk,
+    record: Record,
     threads: Vec<Thread>,
     running: Option<usize>,
     cursor: usize,
 }
 
 impl Machine {
-    pub fn new(desk: Desk, threads: Vec<Thread>) -> Self {
+    pub fn new(desk: Desk, record: Record, threads: Vec<Thread>) -> Self {
         Machine {
             desk,
+            record,
             threads,
             running: None,
             cursor: 0,
@@ -71,7 +82,7 @@ impl Machine {
 
     /// One turn: if no thread is running, the first ready one from the cursor on whose tokens can be held runs; then the
     /// running thread's body is polled once, and what it asks is performed.
-    pub fn turn(&mut self) -> Result<Turn, AllocError> {
+    fn make_turn(&mut self) -> Result<Turn, AllocError> {
         if self.running.is_none() {
             self.choose()?;
         }
@@ -88,7 +99,33 @@ impl Machine {
                 self.running = None;
             }
         }
-        Ok(Turn::Ran)
+        Ok(Turn::Ran(place))
+    }
+
+    // What a turn asked that polled this thread.
+    fn polled(&self, place: usize) -> Option<Polled> {
+        let thread = self.threads.get(place)?;
+        Some(Polled {
+            thread: ThreadId {
+                cpu: CPU,
+                thread: u8::try_from(place).unwrap_or(u8::MAX),
+            },
+            told: thread.body.told(),
+            asked: thread.body.asked(),
+        })
+    }
+
+    /// One turn, which is kept.
+    pub fn turn(&mut self) -> Result<Turn, AllocError> {
+        let before = self.desk.trace.len();
+        let turn = self.make_turn()?;
+        let polled = match turn {
+            Turn::Ran(place) => self.polled(place),
+            Turn::Idle | Turn::AllExited => None,
+        };
+        let events = self.desk.trace.len().saturating_sub(before);
+        self.record.keep(events, polled)?;
+        Ok(turn)
     }
 
     /// So many turns, or fewer if every thread has ended.
@@ -102,11 +139,20 @@ impl Machine {
     }
 
     /// Ends the machine: the running thread gives up its tokens. The threads are as they were before that.
-    pub fn stop(mut self) -> Result<(Desk, Vec<Thread>), AllocError> {
+    pub fn stop(mut self) -> Result<Stopped, AllocError> {
         if let Some(thread) = self.running.and_then(|place| self.threads.get(place)) {
             self.desk.block(thread.list.refs())?;
         }
-        let Machine { desk, threads, .. } = self;
-        Ok((desk, threads))
+        let Machine {
+            desk,
+            record,
+            threads,
+            ..
+        } = self;
+        Ok(Stopped {
+            desk,
+            record,
+            threads,
+        })
     }
 }

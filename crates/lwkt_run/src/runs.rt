@@ -1,15 +1,19 @@
 ghost use Rattle.std.specs.Prelude.{◌≡◌, ◌≢◌, ◌≤◌, ◌⊎◌, ℕ, map, is_some, unwrap_or, [], length, IfOk, IfErr, OnOk, Err, IsTrue, string_bytes};
 ghost use Rattle.std.specs.List.{list_all};
 ghost use Rattle.lwkt_core.specs.Opening.{AreWithin, AllOpenLawfully};
-ghost use Rattle.lwkt_core.specs.Trace.{IsLawfulTrace};
-ghost use Rattle.lwkt_run.specs.Run.{is_tally, opening_of, HasTrace, MayClose, has_ended, end_of, HasRun, Declines, Refuses, Tells};
+ghost use Rattle.lwkt_script.specs.Format.{threads_on};
+ghost use Rattle.lwkt_run.specs.Judging.{ids_of};
+ghost use Rattle.lwkt_run.specs.Run.{is_tally, opening_of, IsJudged, MayClose, has_ended, end_of, HasRun, Declines, Refuses, Tells};
 
 use crate::bodies::ScriptBody;
 use crate::desks::{CPU, Desk};
-use crate::machines::Machine;
+use crate::machines::{Machine, Stopped};
+use crate::names::names_of;
+use crate::records::Record;
 use crate::threads::Thread;
-use lwkt_base::{Cells, Fault, Law, MsgEnd, ThreadId, ThreadState, TokId, TokSpec};
-use lwkt_core::{Event, Final, State, check};
+use crate::verdicts::{ends_of, plans_of, verdict_of};
+use lwkt_base::{Cells, Fault, Law, MsgEnd, Ref, ThreadId, ThreadState, TokId, TokList, TokSpec};
+use lwkt_core::{Final, State};
 use lwkt_report::{
     Closing, Log, RunFault, Sink, Source, ThreadLine, TokenLine, Verdict, read_capped, report,
     write_whole,
@@ -135,89 +139,107 @@ fn final_of(alloc: Global, tokens: &[TokenLine], messages: &[MsgEnd]) -> Result<
 }
 
 // The threads of a script, before they run.
-fn threads_of(alloc: Global, specs: Vec<ThreadSpec>) -> Result<Vec<Thread>, AllocError> {
+fn threads_of(alloc: Global, specs: &[ThreadSpec]) -> Result<Vec<Thread>, AllocError> {
     let mut threads = Vec::with_capacity(alloc, specs.len())?;
     for spec in specs {
-        let ThreadSpec { repeat, steps, .. } = spec;
-        threads.push(Thread::new(ScriptBody::new(alloc, steps.into_vec(), repeat)?))?;
+        let steps = Vec::from_slice(alloc, spec.steps.as_slice())?;
+        threads.push(Thread::new(ScriptBody::new(alloc, steps, spec.repeat)?))?;
     }
     Ok(threads)
 }
 
-// The lines of the threads.
-fn thread_lines(alloc: Global, threads: Vec<Thread>) -> Result<Vec<ThreadLine>, AllocError> {
-    let mut lines = Vec::with_capacity(alloc, threads.len())?;
-    let mut number = 0u8;
-    for thread in threads {
-        let Thread {
-            body,
-            list,
-            state,
-            ..
-        } = thread;
-        lines.push(ThreadLine {
-            id: ThreadId {
-                cpu: CPU,
-                thread: number,
-            },
-            state,
-            list,
-            log: Log::from_vec(body.into_log()),
-        })?;
-        number = number.saturating_add(1);
+// These references as a list.
+fn list_of(refs: &[Ref]) -> TokList {
+    let mut list = TokList::new();
+    for r in refs {
+        let _ = list.push(*r);
+    }
+    list
+}
+
+// The line of a thread.
+fn thread_line(alloc: Global, id: ThreadId, threads: &[Thread]) -> Result<ThreadLine, AllocError>
+    ensures { IfOk result (λ line. line.id ≡ id) }
+{
+    let mut line = ThreadLine {
+        id,
+        state: ThreadState::Ready,
+        list: TokList::new(),
+        log: Log::from_vec(Vec::new(alloc)),
+    };
+    if let Some(thread) = threads.get(usize::from(id.thread)) {
+        line.state = thread.state;
+        line.list = list_of(thread.list.refs());
+        line.log = Log::from_vec(Vec::from_slice(alloc, thread.body.log())?);
+    }
+    Ok(line)
+}
+
+// The lines of these threads.
+fn thread_lines(
+    alloc: Global,
+    ids: &[ThreadId],
+    threads: &[Thread],
+) -> Result<Vec<ThreadLine>, AllocError>
+    ensures { IfOk result (λ lines. map (λ line. line.id) lines.items ≡ ids.now) }
+{
+    let mut lines = Vec::with_capacity(alloc, ids.len())?;
+    for id in ids {
+        lines.push(thread_line(alloc, *id, threads)?)?;
     }
     Ok(lines)
 }
 
-// What the checker says of a trace.
-fn verdict_of(opening: State, trace: &[Event], last: &Final) -> Verdict
-    ensures lawful { result ≡ Verdict.Lawful → IsLawfulTrace opening trace.now last.now }
-    ensures judged { result ≢ Verdict.Closed }
-{
-    match check(opening, trace, last) {
-        Ok(()) => Verdict::Lawful,
-        Err(Fault::Unlawful { index }) => Verdict::Unlawful { index },
-        Err(_) => Verdict::Unlawful { index: trace.len() },
-    }
-}
-
-// The turns of a run, from the opening state: what they leave, and the threads as they were before the end.
-fn made(
-    alloc: Global,
-    state: State,
-    threads: Vec<ThreadSpec>,
-    turns: u32,
-) -> Result<(Desk, Vec<Thread>), AllocError> {
+// The turns of a run, from the opening state, and what they leave.
+fn made(alloc: Global, state: State, script: &Script) -> Result<Stopped, AllocError> {
     let desk = Desk {
         state,
         trace: Vec::new(alloc),
     };
-    let mut machine = Machine::new(desk, threads_of(alloc, threads)?);
-    machine.drive(turns)?;
+    let threads = threads_of(alloc, script.threads.as_slice())?;
+    let mut machine = Machine::new(desk, Record::new(alloc), threads);
+    machine.drive(script.turns)?;
     machine.stop()
 }
 
-// The report's contents: the closing values that a run left, with the verdict on its trace.
+// The report's contents: what a run left, with the verdict on its trace and its turns.
 fn closing_of(
     alloc: Global,
-    specs: &[TokSpec],
+    script: &Script,
     opening: State,
-    desk: Desk,
-    threads: Vec<Thread>,
+    again: State,
+    left: &Stopped,
 ) -> Result<Closing, AllocError>
-    requires { length specs.now ≤ 64 }
-    ensures kinds { IfOk result (λ closing. map (λ line. is_some line.tallies) closing.tokens.items ≡ map (λ spec. is_tally spec.law) specs.now) }
-    ensures judged { IfOk result (λ closing. closing.verdict ≢ Verdict.Closed) }
-    ensures lawful { IfOk result (λ closing. closing.verdict ≡ Verdict.Lawful → HasTrace opening closing) }
+    requires opening { opening ≡ opening_of script.now }
+    requires again { again ≡ opening_of script.now }
+    requires tokens { length script.now.tokens ≤ 64 }
+    requires threads { (cpu : ℕ) → threads_on cpu script.now.threads ≤ 16 }
+    ensures kinds { IfOk result (λ closing. map (λ line. is_some line.tallies) closing.tokens.items ≡ map (λ spec. is_tally spec.law) script.now.tokens) }
+    ensures threads { IfOk result (λ closing. map (λ line. line.id) closing.threads.items ≡ ids_of script.now.cpus script.now.threads) }
+    ensures judged { IfOk result (λ closing. IsJudged script.now closing) }
 {
-    let tokens = token_lines(alloc, &desk.state, specs)?;
+    let specs = script.threads.as_slice();
+    let tokens = token_lines(alloc, &left.desk.state, script.tokens.as_slice())?;
     let messages = Vec::new(alloc);
+    let names = names_of(alloc, script.cpus, specs)?;
+    let threads = thread_lines(alloc, &names, &left.threads)?;
     let last = final_of(alloc, &tokens, &messages)?;
-    let verdict = verdict_of(opening, &desk.trace, &last);
+    let plans = plans_of(alloc, specs)?;
+    let ends = ends_of(alloc, &threads)?;
+    let verdict = verdict_of(
+        opening,
+        again,
+        script.turns,
+        &plans,
+        &ends,
+        &last,
+        &left.desk.trace,
+        &left.record,
+    );
     Ok(Closing {
         tokens,
         messages,
-        threads: thread_lines(alloc, threads)?,
+        threads,
         verdict,
     })
 }
@@ -238,26 +260,20 @@ fn opened(alloc: Global, script: &Script) -> Result<State, Fault>
 }
 
 // Runs a script to the contents of its report.
-fn closing_of_script(alloc: Global, script: Script) -> Result<Closing, Fault>
-    ensures ok { IfOk result (λ closing. MayClose script closing) }
-    ensures refused { IfErr result (λ fault. Declines script fault) }
+fn closing_of_script(alloc: Global, script: &Script) -> Result<Closing, Fault>
+    requires threads { (cpu : ℕ) → threads_on cpu script.now.threads ≤ 16 }
+    ensures ok { IfOk result (λ closing. MayClose script.now closing) }
+    ensures refused { IfErr result (λ fault. Declines script.now fault) }
 {
-    let state = opened(alloc, &script)?;
-    let opening = opened(alloc, &script)?;
-    let Script {
-        turns,
-        tokens,
-        threads,
-        ..
-    } = script;
-    match made(alloc, state, threads.into_vec(), turns) {
+    let state = opened(alloc, script)?;
+    let opening = opened(alloc, script)?;
+    let again = opened(alloc, script)?;
+    let Ok(left) = made(alloc, state, script) else {
+        return Err(Fault::Memory);
+    };
+    match closing_of(alloc, script, opening, again, &left) {
+        Ok(closing) => Ok(closing),
         Err(_) => Err(Fault::Memory),
-        Ok((desk, threads)) => {
-            match closing_of(alloc, tokens.as_slice(), opening, desk, threads) {
-                Ok(closing) => Ok(closing),
-                Err(_) => Err(Fault::Memory),
-            }
-        }
     }
 }
 
@@ -298,7 +314,7 @@ fn done_of_bytes(alloc: Global, bytes: &[u8]) -> Result<Done, Fault>
     ensures refused { IfErr result (λ fault. Refuses bytes.now fault) }
 {
     let script = read_plain_script(alloc, bytes)?;
-    let closing = closing_of_script(alloc, script)?;
+    let closing = closing_of_script(alloc, &script)?;
     let end = end_of(&closing);
     let text = report(alloc, &closing)?;
     Ok(Done { text, end })
