@@ -15,5 +15,6 @@ mod progress;
 mod rounds;
 pub mod turns;
 
+pub use asks::entry_of;
 pub use checks::is_script_run;
 pub use turns::{Poll, ThreadEnd, ThreadPlan, Turn};

@@ -1,0 +1,4 @@
+pub mod ListMoves
+pub mod OpenMoves
+pub mod PartMoves
+pub mod SeatMoves

@@ -1,0 +1,29 @@
+-- Elements of a list by their places.
+use Rattle.std.proofs.Common.{◌≡◌, ℕ, zero, suc, ◌+◌, ◌<◌, List, [], ◌∷◌, ◌++◌, length, refl, ap, inl, inr, arith, Some}
+use Rattle.std.specs.Prelude.{◌⊎◌, All, slice_get}
+use Rattle.std.specs.List.{remove}
+use Rattle.std.proofs.lemmas.List.Elements.{All-nil, All-cons}
+
+-- the first element is taken away
+pub get_removed : {A : Type 0} (xs : List A) (j : ℕ) → slice_get (remove xs 0) j ≡ slice_get xs (suc j)
+get_removed [] j = refl
+get_removed (x ∷ xs) j = refl
+
+pub length_removed : {A : Type 0} (xs : List A) → 0 < length xs → length (remove xs 0) + 1 ≡ length xs
+length_removed [] some = absurd (omega (arith, some))
+length_removed (x ∷ xs) some = omega arith
+
+-- one more element stands at the end
+pub get_pushed : {A : Type 0} (xs : List A) (y x : A) (j : ℕ) → slice_get (xs ++ y ∷ []) j ≡ Some x → (slice_get xs j ≡ Some x) ⊎ ((j ≡ length xs) × (x ≡ y))
+get_pushed [] y x zero is = inr (refl, cc)
+get_pushed [] y x (suc j) is = inl is
+get_pushed (z ∷ xs) y x zero is = inl is
+get_pushed (z ∷ xs) y x (suc j) is = elim (get_pushed xs y x j is) [
+  | inl there ↦ inl there
+  | inr last ↦ inr (ap suc last.0, last.1)
+]
+
+-- what holds at each place holds of all
+pub all_from_get : {A : Type 0} (P : A → Type 0) (xs : List A) → ((k : ℕ) (x : A) → slice_get xs k ≡ Some x → P x) → All P xs
+all_from_get P [] each = All-nil P
+all_from_get P (x ∷ xs) each = All-cons P x xs (each 0 x refl) (all_from_get P xs (λ k y at. each (suc k) y at))

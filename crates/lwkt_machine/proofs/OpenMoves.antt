@@ -1,0 +1,56 @@
+-- What the openings of a bank and a book give is what processors are made of.
+use Rattle.std.proofs.Common.{◌≡◌, ℕ, ◌+◌, List, length, get_or, sym, ◌∙◌, subst, arith}
+use Rattle.std.proofs.lemmas.Option.{slice_get_within, get_or_from_slice_get}
+use Rattle.lwkt_base.specs.declared.openings.MsgSpec.{MsgSpec}
+use Rattle.lwkt_base.specs.declared.openings.TokSpec.{TokSpec}
+use Rattle.lwkt_bank.specs.declared.banks.Bank.{Bank}
+use Rattle.lwkt_bank.specs.declared.seats.CpuSeat.{CpuSeat}
+use Rattle.lwkt_bank.specs.Seats.{BankId, id_of}
+use Rattle.lwkt_bank.specs.Gathered.{IsOpened as IsOpenedBank}
+use Rattle.lwkt_msg.specs.Desks.{Desk, Shelf, IsOpened, AreOpened}
+use Rattle.lwkt_script.specs.declared.scripts.ThreadSpec.{ThreadSpec}
+use Rattle.lwkt_cpu.specs.Processors.{Processor}
+use Rattle.lwkt_machine.specs.Bodies.{Scripted}
+use Rattle.lwkt_machine.specs.Machines.{IsOf, AreParts}
+use Rattle.lwkt_machine.specs.Opened.{IsSeat, AreOpenedCpus}
+use Rattle.lwkt_machine.specs.Seating.{SeatsFrom, DesksFrom, IsRest}
+use Rattle.lwkt_machine.specs.declared.seatings.Rest.{Rest}
+use Rattle.lwkt_machine.proofs.ListMoves.{all_from_get}
+
+seats_from : (cpus : ℕ) (specs : List TokSpec) (bank : Bank) (seats : List CpuSeat) → IsOpenedBank cpus specs bank seats → SeatsFrom (id_of bank) 0 seats
+seats_from cpus specs bank seats opened j s at =
+    let told = opened.seats_out.each j s (slice_get_within seats j s at) in
+    let e : get_or seats j s ≡ s = get_or_from_slice_get seats j s s at in
+    let n : j ≡ 0 + j = omega arith in
+    let F : CpuSeat → Type 0 = λ x. IsSeat (id_of bank) j x in
+    let G : ℕ → Type 0 = λ k. IsSeat (id_of bank) k s in
+    subst G n (subst F e (record { bank_is = told.0; new = told.1; number = told.2 }))
+
+desks_from : (cpus : ℕ) (specs : List MsgSpec) (book : Shelf) (desks : List Desk) → AreOpened cpus specs book desks → DesksFrom book 0 desks
+desks_from cpus specs book desks opened j d at =
+    let long = opened.seats_are.as_many in
+    let within = slice_get_within desks j d at in
+    let e : get_or desks j d ≡ d = get_or_from_slice_get desks j d d at in
+    let n : j ≡ 0 + j = omega arith in
+    let F : Desk → Type 0 = λ x. IsOpened j book x in
+    let G : ℕ → Type 0 = λ k. IsOpened k book d in
+    subst G n (subst F e (opened.seats_are.each j d (omega (arith, long, within))))
+
+-- nothing was made yet
+pub rest_first : (cpus : ℕ) (tokens : List TokSpec) (messages : List MsgSpec) (bank : Bank) (book : Shelf) (rest : Rest) → IsOpenedBank cpus tokens bank rest.seats.items → AreOpened cpus messages book rest.mails.items → length rest.outs.items ≡ cpus → length rest.ins.items ≡ cpus → IsRest (id_of bank) book 0 rest
+rest_first cpus tokens messages bank book rest opened given outs ins = record {
+  seats = seats_from cpus tokens bank rest.seats.items opened;
+  desks = desks_from cpus messages book rest.mails.items given;
+  mails_are = given.seats_are.as_many ∙ sym opened.as_many;
+  outs_are = outs ∙ sym opened.as_many;
+  ins_are = ins ∙ sym opened.as_many;
+}
+
+-- processors as they are opened belong to their bank and book
+pub opened_parts : (seats : ℕ) (bank : BankId) (book : Shelf) (threads : List ThreadSpec) (cpus : List (Processor Scripted)) → seats ≡ length cpus → book.cpus ≡ length cpus → AreOpenedCpus bank book threads cpus → AreParts seats bank book cpus
+opened_parts seats bank book threads cpus seats_many mails_many each = record {
+  seats_are = seats_many;
+  mails_are = mails_many;
+  each = all_from_get (IsOf bank book) cpus (λ k p at. record { bank_is = (each k p at).seat.bank_is; table_is = (each k p at).desk.table });
+  numbered = λ k p at. (each k p at).seat.number;
+}

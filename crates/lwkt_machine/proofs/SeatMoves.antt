@@ -1,0 +1,61 @@
+-- Seats that are left, and processors that are made.
+use Rattle.std.proofs.Common.{◌≡◌, ℕ, suc, ◌+◌, ◌<◌, List, [], ◌∷◌, ◌++◌, length, get_or, refl, ap, sym, ◌∙◌, subst, inl, inr, arith, Some}
+use Rattle.std.specs.Prelude.{slice_get}
+use Rattle.std.specs.List.{remove}
+use Rattle.std.proofs.lemmas.Option.{slice_get_read}
+use Rattle.lwkt_bank.specs.declared.seats.CpuSeat.{CpuSeat}
+use Rattle.lwkt_bank.specs.Seats.{BankId}
+use Rattle.lwkt_msg.specs.Desks.{Desk, Shelf, IsOpened}
+use Rattle.lwkt_script.specs.declared.scripts.ThreadSpec.{ThreadSpec}
+use Rattle.lwkt_cpu.specs.Processors.{Processor}
+use Rattle.lwkt_machine.specs.Bodies.{Scripted}
+use Rattle.lwkt_machine.specs.Opened.{IsSeat, IsOpenedCpu, AreOpenedCpus}
+use Rattle.lwkt_machine.specs.Seating.{SeatsFrom, DesksFrom, IsRest}
+use Rattle.lwkt_machine.specs.declared.seatings.Rest.{Rest}
+use Rattle.lwkt_machine.proofs.ListMoves.{get_removed, length_removed, get_pushed}
+
+-- what holds of each place of a list, counted from a number on
+from_first : {A : Type 0} (P : ℕ → A → Type 0) (first : ℕ) (xs : List A) (x : A) → 0 < length xs → x ≡ get_or xs 0 x → ((j : ℕ) (y : A) → slice_get xs j ≡ Some y → P (first + j) y) → P first x
+from_first P first xs x some is each =
+    let F : ℕ → Type 0 = λ n. P n x in
+    let e : first + 0 ≡ first = omega arith in
+    subst F e (each 0 x (slice_get_read xs (length xs) 0 x refl some is))
+
+from_rest : {A : Type 0} (P : ℕ → A → Type 0) (first : ℕ) (xs ys : List A) → ys ≡ remove xs 0 → ((j : ℕ) (y : A) → slice_get xs j ≡ Some y → P (first + j) y) → (j : ℕ) (y : A) → slice_get ys j ≡ Some y → P (first + 1 + j) y
+from_rest P first xs ys is each j y at =
+    let F : ℕ → Type 0 = λ n. P n y in
+    let e : first + suc j ≡ first + 1 + j = omega arith in
+    subst F e (each (suc j) y (sym (get_removed xs j) ∙ ap (λ zs. slice_get zs j) (sym is) ∙ at))
+
+pub first_seat : (bank : BankId) (first : ℕ) (seats : List CpuSeat) (s : CpuSeat) → 0 < length seats → s ≡ get_or seats 0 s → SeatsFrom bank first seats → IsSeat bank first s
+first_seat bank first seats s some is from = from_first (λ n x. IsSeat bank n x) first seats s some is from
+
+pub first_desk : (book : Shelf) (first : ℕ) (desks : List Desk) (d : Desk) → 0 < length desks → d ≡ get_or desks 0 d → DesksFrom book first desks → IsOpened first book d
+first_desk book first desks d some is from = from_first (λ n x. IsOpened n book x) first desks d some is from
+
+fewer : {A B : Type 0} (xs vs : List A) (ys ws : List B) → 0 < length xs → length ys ≡ length xs → vs ≡ remove xs 0 → ws ≡ remove ys 0 → length ws ≡ length vs
+fewer xs vs ys ws some same v w =
+    let l = length_removed xs some in
+    let m = length_removed ys (omega (arith, some, same)) in
+    let a = ap length v in
+    let b = ap length w in
+    omega (arith, l, m, a, b, same)
+
+pub rest_more : (bank : BankId) (book : Shelf) (first : ℕ) (old new : Rest) → 0 < length old.seats.items → new.seats.items ≡ remove old.seats.items 0 → new.mails.items ≡ remove old.mails.items 0 → new.outs.items ≡ remove old.outs.items 0 → new.ins.items ≡ remove old.ins.items 0 → IsRest bank book first old → IsRest bank book (first + 1) new
+rest_more bank book first old new some seats mails outs ins rest = record {
+  seats = from_rest (λ n x. IsSeat bank n x) first old.seats.items new.seats.items seats rest.seats;
+  desks = from_rest (λ n x. IsOpened n book x) first old.mails.items new.mails.items mails rest.desks;
+  mails_are = fewer old.seats.items new.seats.items old.mails.items new.mails.items some rest.mails_are seats mails;
+  outs_are = fewer old.seats.items new.seats.items old.outs.items new.outs.items some rest.outs_are seats outs;
+  ins_are = fewer old.seats.items new.seats.items old.ins.items new.ins.items some rest.ins_are seats ins;
+}
+
+-- one processor more
+pub opened_more : (bank : BankId) (book : Shelf) (threads : List ThreadSpec) (cpus : List (Processor Scripted)) (p : Processor Scripted) → IsOpenedCpu bank book threads (length cpus) p → AreOpenedCpus bank book threads cpus → AreOpenedCpus bank book threads (cpus ++ p ∷ [])
+opened_more bank book threads cpus p new each k q at = elim (get_pushed cpus p q k at) [
+  | inl there ↦ each k q there
+  | inr last ↦
+      let F : ℕ → Type 0 = λ n. IsOpenedCpu bank book threads n q in
+      let G : Processor Scripted → Type 0 = λ x. IsOpenedCpu bank book threads (length cpus) x in
+      subst F (sym last.0) (subst G (sym last.1) new)
+]

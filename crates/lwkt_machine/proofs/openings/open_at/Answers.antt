@@ -1,0 +1,32 @@
+use Rattle.std.proofs.Common.{◌∙◌, List, sym, subst}
+use Rattle.lwkt_bank.specs.Seats.{id_of, cpus_of}
+use Rattle.lwkt_machine.proofs.OpenMoves.{rest_first, opened_parts}
+use Rattle.lwkt_script.specs.declared.scripts.ThreadSpec.{ThreadSpec}
+use Rattle.lwkt_machine.specs.Opened.{AreOpenedCpus}
+use Rattle.lwkt_machine.proofs.openings.open_at.Goals as goal
+
+pub seat_all-requires-clause-rest : goal.seat_all-requires-clause-rest
+seat_all-requires-clause-rest c =
+    let t = c.args.tables in
+    let s = c.args.script.now in
+    let f = c.in_ok-outs in
+    rest_first s.cpus s.tokens s.messages t.bank t.book (record { seats = t.seats; mails = t.mails; outs = f.field-0.outs; ins = f.field-0.ins }) c.requires.bank c.requires.book (f.ensures.outs ∙ c.from.ensures) (f.ensures.ins ∙ c.from.ensures)
+
+pub invariant_of-result : goal.invariant_of-result
+invariant_of-result c =
+    let t = c.args.tables in
+    let s = c.args.script.now in
+    let made = c.in_ok-cpus in
+    let long = made.ensures.as_many ∙ c.requires.bank.as_many in
+    opened_parts (cpus_of t.bank) (id_of t.bank) t.book c.as_slice-2.result.now made.cpus.items (c.requires.bank.processors ∙ sym long) (c.requires.book.cpus_is ∙ sym long) made.ensures.each
+
+pub returns-clause-ok : goal.returns-clause-ok
+returns-clause-ok c =
+    let t = c.args.tables in
+    let F : List ThreadSpec → Type 0 = λ xs. AreOpenedCpus (id_of t.bank) t.book xs c.in_ok-cpus.cpus.items in
+    record {
+      plans = c.requires.bank.plans;
+      specs = c.requires.book.specs_is;
+      as_many = c.in_ok-cpus.ensures.as_many ∙ c.requires.bank.as_many;
+      each = subst F c.as_slice-2.ensures c.in_ok-cpus.ensures.each;
+    }

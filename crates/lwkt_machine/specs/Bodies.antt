@@ -1,0 +1,43 @@
+-- The body of a script's thread (own).
+use Rattle.std.specs.Prelude.{◌≡◌, ℕ, ◌+◌, nat_lt, if◌then◌else◌, List, [], ◌∷◌, ◌++◌, length, min, Option, Some, None, unwrap_or, option_and_then}
+use Rattle.lwkt_base.specs.declared.asks.Ask.{Ask}
+use Rattle.lwkt_base.specs.declared.asks.Ask.TheVariants.{Exit}
+use Rattle.lwkt_base.specs.declared.asks.Answer.{Answer}
+use Rattle.lwkt_base.specs.declared.entries.Entry.{Entry}
+use Rattle.lwkt_verdict.specs.Asks.{entry_of}
+use Rattle.lwkt_verdict.specs.Threads.{ask_in}
+
+-- what callers see of a body: its steps and how many times it makes them, how many polls it has had, what it asked at the last of
+-- them and which answer it was given there, and its log
+pub record Scripted : Type 0 where
+  pub steps : List Ask
+  pub repeat : ℕ
+  pub polls : ℕ
+  pub asked : Option Ask
+  pub told : Option Answer
+  pub log : List Entry
+
+-- a body that was never polled
+abbrev pub unpolled : List Ask → ℕ → Scripted
+unpolled steps repeat = record { steps = steps; repeat = repeat; polls = 0; asked = None; told = None; log = [] }
+
+-- what a body asks next: the script's ask of that number, and Exit after the last
+abbrev pub next_ask : Scripted → Ask
+next_ask b = unwrap_or (ask_in b.repeat b.steps b.polls) Exit
+
+-- what an answer puts in the log, by the ask that it answers; nothing, if nothing was asked
+abbrev pub entry_for : Option Ask → Answer → Option Entry
+entry_for asked answer = option_and_then (λ ask. entry_of ask answer) asked
+
+-- a log keeps its first 32 entries
+abbrev pub logged : List Entry → Option Entry → List Entry
+logged log None = log
+logged log (Some e) = if nat_lt (length log) 32 then log ++ e ∷ [] else log
+
+-- a body after one more poll, with this answer
+abbrev pub after_poll : Answer → Scripted → Scripted
+after_poll last b = record b { polls = min (b.polls + 1) 18446744073709551615; asked = Some (next_ask b); told = Some last; log = logged b.log (entry_for b.asked last) }
+
+-- a poll of a body: it logs the answer, and asks next what the script says
+abbrev pub IsPolled : Scripted → Answer → Ask → Scripted → Type 0
+IsPolled old last ask new = (ask ≡ next_ask old) × (new ≡ after_poll last old)

@@ -1,0 +1,138 @@
+//! The bodies of a script's threads.
+ghost use Rattle.std.specs.Prelude.{◌≡◌, ◌≤◌, length, IfOk};
+ghost use Rattle.lwkt_machine.specs.Bodies.{unpolled, next_ask, entry_for, logged};
+
+use lwkt_ask::Body;
+use lwkt_base::{Answer, Ask, Entry};
+use lwkt_verdict::entry_of;
+use std::alloc::{AllocError, Global};
+use std::marker::Model;
+
+/// The most entries of a log.
+pub const LOG_LIMIT: usize = 32;
+
+/// The body of a script's thread: it asks its steps in order, so many times over, and then `Exit`, and `Exit` ever after. Its
+/// log has the first 32 entries that its answers make.
+#[derive(Drop)]
+pub struct ScriptBody {
+    steps: Vec<Ask>,
+    repeat: u32,
+    polls: u64,
+    asked: Option<Ask>,
+    told: Option<Answer>,
+    log: Vec<Entry>,
+}
+
+impl Model for ScriptBody {
+    ghost use Rattle.std.specs.Prelude.{◌≤◌, length, vec_capacity};
+    ghost use Rattle.lwkt_machine.specs.Bodies.{Scripted};
+
+    ghost Value = { Scripted };
+
+    ghost view = { λ b. record { steps = b.steps.items; repeat = b.repeat; polls = b.polls; asked = b.asked; told = b.told; log = b.log.items } };
+
+    ghost invariant = { λ b. (length b.log.items ≤ 32) × (32 ≤ vec_capacity b.log) };
+}
+
+// What an answer puts in the log, by the ask that it answers.
+fn entry_for(asked: Option<Ask>, answer: Answer) -> Option<Entry>
+    ensures { result ≡ entry_for asked answer }
+{
+    match asked {
+        None => None,
+        Some(ask) => entry_of(ask, answer),
+    }
+}
+
+impl ScriptBody {
+    /// A body that makes these steps `repeat` times. Its log has its room from the beginning.
+    pub fn new(alloc: Global, steps: &[Ask], repeat: u32) -> Result<Self, AllocError>
+        ensures { IfOk result (λ body. body ≡ unpolled steps.now repeat) }
+    {
+        let log = Vec::with_capacity(alloc, LOG_LIMIT)?;
+        let steps = Vec::from_slice(alloc, steps)?;
+        Ok(ScriptBody {
+            steps,
+            repeat,
+            polls: 0,
+            asked: None,
+            told: None,
+            log,
+        })
+    }
+
+    /// How many polls the body has had, up to 18446744073709551615.
+    pub fn polls(&self) -> u64
+        ensures { result ≡ self.now.polls }
+    {
+        self.polls
+    }
+
+    /// What the body asked at its last poll.
+    pub fn asked(&self) -> Option<Ask>
+        ensures { result ≡ self.now.asked }
+    {
+        self.asked
+    }
+
+    /// The answer that the body was given at its last poll: that to the ask before.
+    pub fn told(&self) -> Option<Answer>
+        ensures { result ≡ self.now.told }
+    {
+        self.told
+    }
+
+    /// The log, at most 32 entries.
+    pub fn log(&self) -> &[Entry]
+        ensures log { result.now ≡ self.now.log }
+        ensures few { length self.now.log ≤ 32 }
+    {
+        self.log.as_slice()
+    }
+
+    /// The log, of a body that isn't needed any more.
+    pub fn into_log(self) -> Vec<Entry>
+        ensures log { result.items ≡ self.log }
+        ensures few { length self.log ≤ 32 }
+    {
+        let ScriptBody { log, .. } = self;
+        log
+    }
+
+    // What the body asks next.
+    fn next_ask(&self) -> Ask
+        ensures { result ≡ next_ask self.now }
+    {
+        let count = self.steps.len() as u64;
+        if count == 0 || self.polls / count >= u64::from(self.repeat) {
+            return Ask::Exit;
+        }
+        self.steps[(self.polls % count) as usize]
+    }
+
+    // Keeps what an answer puts in the log, if the log has room.
+    fn keep(&mut self, last: Answer)
+        ensures { self.new ≡ record self.old { log = logged self.old.log (entry_for self.old.asked last) } }
+    {
+        if let Some(entry) = entry_for(self.asked, last) {
+            if self.log.len() < LOG_LIMIT {
+                self.log.push(entry).unwrap();
+            }
+        }
+    }
+}
+
+impl Body for ScriptBody {
+    ghost use Rattle.lwkt_machine.specs.Bodies.{IsPolled};
+
+    ghost polled = { IsPolled };
+
+    fn poll(&mut self, last: Answer) -> Ask {
+        self.keep(last);
+        let ask = self.next_ask();
+        self.polls = self.polls.saturating_add(1);
+        self.asked = Some(ask);
+        self.told = Some(last);
+        ask
+    }
+}

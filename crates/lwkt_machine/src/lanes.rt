@@ -1,0 +1,72 @@
+//! The lanes of a machine, one from each processor to each one.
+ghost use Rattle.std.specs.Prelude.{◌≡◌, ◌+◌, ◌<◌, ◌≤◌, [], length, All, OnOk, OnErr, IfOk, Err, vec_len};
+
+use lwkt_base::Fault;
+use lwkt_lane::{LaneIn, LaneOut, lane};
+use std::alloc::{AllocError, Global};
+
+// The notes that a lane has room for.
+const LANE_NOTES: usize = 32;
+
+/// The ends of all lanes: by processor those of the lanes from it, and those of the lanes to it.
+#[derive(Drop)]
+pub(crate) struct Lanes {
+    pub outs: Vec<Vec<LaneOut>>,
+    pub ins: Vec<Vec<LaneIn>>,
+}
+
+// A list for each of so many processors, of the ends of the lanes to it.
+fn no_ends(alloc: Global, cpus: usize) -> Result<Vec<Vec<LaneIn>>, AllocError>
+    ensures { IfOk result (λ ins. length ins.items ≡ cpus) }
+{
+    let mut ins = Vec::new(alloc);
+    for made in 0..cpus {
+        ins.push(Vec::new(alloc))?;
+    }
+    Ok(ins)
+}
+
+// A lane, whose receiving end goes to this list.
+fn lane_to(alloc: Global, ends: &mut Vec<LaneIn>) -> Result<LaneOut, Fault>
+    ensures only { OnErr result (result ≡ Err Fault.Memory) }
+{
+    let (out, into) = lane(alloc, LANE_NOTES)?;
+    ends.push(into).map_err(|_| Fault::Memory)?;
+    Ok(out)
+}
+
+// The lanes from a processor to each one.
+fn lanes_to_all(alloc: Global, ins: &mut [Vec<LaneIn>]) -> Result<Vec<LaneOut>, Fault>
+    ensures only { OnErr result (result ≡ Err Fault.Memory) }
+{
+    let mut outs = Vec::new(alloc);
+    for to in 0..ins.len() {
+        let out = lane_to(alloc, &mut ins[to])?;
+        outs.push(out).map_err(|_| Fault::Memory)?;
+    }
+    Ok(outs)
+}
+
+// The lanes from each processor.
+fn lanes_from_all(alloc: Global, ins: &mut [Vec<LaneIn>]) -> Result<Vec<Vec<LaneOut>>, Fault>
+    ensures ok { IfOk result (λ outs. length outs.items ≡ length ins.old) }
+    ensures only { OnErr result (result ≡ Err Fault.Memory) }
+{
+    let mut outs = Vec::new(alloc);
+    for from in 0..ins.len() {
+        let row = lanes_to_all(alloc, ins)?;
+        outs.push(row).map_err(|_| Fault::Memory)?;
+    }
+    Ok(outs)
+}
+
+/// The lanes of so many processors.
+pub(crate) fn open_lanes(alloc: Global, cpus: usize) -> Result<Lanes, Fault>
+    ensures outs { IfOk result (λ lanes. length lanes.outs.items ≡ cpus) }
+    ensures ins { IfOk result (λ lanes. length lanes.ins.items ≡ cpus) }
+    ensures only { OnErr result (result ≡ Err Fault.Memory) }
+{
+    let mut ins = no_ends(alloc, cpus).map_err(|_| Fault::Memory)?;
+    let outs = lanes_from_all(alloc, &mut ins)?;
+    Ok(Lanes { outs, ins })
+}

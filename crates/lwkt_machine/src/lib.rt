@@ -1,0 +1,12 @@
+//! The machine of a script: its bank, its book and its processors, whose threads make the script's steps.
+#![tactic(auto)]
+
+pub mod bodies;
+mod lanes;
+pub mod machines;
+pub mod openings;
+mod seatings;
+
+pub use bodies::ScriptBody;
+pub use lwkt_cpu::{Cpu, Status, Turned};
+pub use machines::Machine;

@@ -1,0 +1,96 @@
+//! A machine, and the turns of its processors.
+ghost use Rattle.std.specs.Prelude.{◌≡◌, ◌<◌, length, IfOk, OnErr, Err, IsSomeAnd, slice_get, option_map};
+ghost use Rattle.lwkt_bank.specs.Seats.{id_of, cpus_of};
+ghost use Rattle.lwkt_cpu.specs.Processors.{IsAtRest};
+
+use crate::bodies::ScriptBody;
+use lwkt_bank::Bank;
+use lwkt_base::Fault;
+use lwkt_core::Event;
+use lwkt_cpu::{Cpu, Status, Turned};
+use lwkt_msg::MsgBook;
+use std::marker::Model;
+
+/// A bank, a book and the processors at them, by number, whose threads are those of a script. All of them always belong
+/// together.
+#[derive(Drop)]
+pub struct Machine {
+    pub(crate) bank: Bank,
+    pub(crate) book: MsgBook,
+    pub(crate) cpus: Vec<Cpu<ScriptBody>>,
+}
+
+impl Model for Machine {
+    ghost use Rattle.lwkt_bank.specs.Seats.{id_of, cpus_of};
+    ghost use Rattle.lwkt_machine.specs.Machines.{Rig, rig_of, AreParts};
+
+    ghost Value = { Rig };
+
+    ghost view = { λ m. rig_of (id_of m.bank) m.book m.cpus.items };
+
+    ghost invariant = { λ m. AreParts (cpus_of m.bank) (id_of m.bank) m.book m.cpus.items };
+}
+
+impl Machine {
+    ghost use Rattle.lwkt_machine.specs.Machines.{rig_of, AreParts, IsWhole, ShowsBody, ShowsThreadAt};
+    ghost use Rattle.lwkt_machine.specs.Turns.{TurnsAt};
+
+    /// How many processors there are. All parts of the machine belong together.
+    pub fn cpus(&self) -> usize
+        ensures value { result ≡ length self.now.cpus }
+        ensures whole { IsWhole self.now }
+    {
+        self.cpus.len()
+    }
+
+    /// How many threads a processor has. That it is there is the caller's condition.
+    pub fn threads(&self, cpu: usize) -> usize
+        requires { cpu < length self.now.cpus }
+        ensures { IsSomeAnd (slice_get self.now.cpus cpu) (λ p. (result ≡ length p.threads) × IsAtRest p) }
+    {
+        self.cpus[cpu].threads()
+    }
+
+    /// What a thread of a processor is doing, and its references.
+    pub fn thread(&self, cpu: usize, thread: usize) -> Option<Status<'_>>
+        ensures { ShowsThreadAt self.now cpu thread result }
+    {
+        self.cpus.get(cpu)?.thread(thread)
+    }
+
+    /// The body of a thread of a processor, as its last poll left it.
+    pub fn body(&self, cpu: usize, thread: usize) -> Option<&ScriptBody>
+        ensures { ShowsBody self.now cpu thread (option_map (λ body. body.now) result) }
+    {
+        self.cpus.get(cpu)?.body(thread)
+    }
+
+    /// The machine's bank, its book and its processors, which may do something by themselves then.
+    pub fn take_apart(self) -> (Bank, MsgBook, Vec<Cpu<ScriptBody>>)
+        ensures parts { AreParts (cpus_of result.0) (id_of result.0) result.1 result.2.items }
+        ensures are { self ≡ rig_of (id_of result.0) result.1 result.2.items }
+    {
+        let Machine { bank, book, cpus } = self;
+        (bank, book, cpus)
+    }
+
+    /// A machine of these parts. That they belong together is the caller's condition.
+    pub fn put_together(bank: Bank, book: MsgBook, cpus: Vec<Cpu<ScriptBody>>) -> Machine
+        requires { AreParts (cpus_of bank) (id_of bank) book cpus.items }
+        ensures { result ≡ rig_of (id_of bank) book cpus.items }
+    {
+        Machine { bank, book, cpus }
+    }
+
+    /// Makes a turn of a processor, as `Cpu::turn` does. That the processor is there is the caller's condition.
+    ///
+    /// Refused with `Memory` where the trace can't be given room for 4,096 events; nothing has changed then.
+    pub fn turn(&mut self, cpu: usize, trace: &mut Vec<Event>) -> Result<Turned, Fault>
+        requires { cpu < length self.old.cpus }
+        ensures ok { IfOk result (λ turned. TurnsAt cpu self.old self.new trace.old trace.new turned) }
+        ensures err { OnErr result ((self.new ≡ self.old) × (trace.new.items ≡ trace.old.items)) }
+        ensures only { OnErr result (result ≡ Err Fault.Memory) }
+    {
+        self.cpus[cpu].turn(&self.bank, &self.book, trace)
+    }
+}

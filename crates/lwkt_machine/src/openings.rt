@@ -1,0 +1,94 @@
+//! The opening of a machine.
+ghost use Rattle.std.specs.Prelude.{◌≡◌, IfOk, IfErr, OnOk, OnErr, Err};
+ghost use Rattle.lwkt_core.specs.Opening.{AreWithin, AllOpenLawfully};
+ghost use Rattle.lwkt_bank.specs.Gathered.{IsOpened};
+ghost use Rattle.lwkt_msg.specs.Desks.{AreOpened};
+ghost use Rattle.lwkt_machine.specs.Opened.{IsOpenedMachine, Declines};
+
+use crate::lanes::{Lanes, open_lanes};
+use crate::machines::Machine;
+use crate::seatings::{Rest, origins_of};
+use lwkt_bank::{Bank, CpuSeat};
+use lwkt_base::{Fault, MsgSpec, TokSpec};
+use lwkt_msg::{MsgBook, MsgSeat};
+use lwkt_script::Script;
+use std::alloc::Global;
+
+// A bank and a book that were just opened, with their seats.
+#[derive(Drop)]
+struct Tables {
+    bank: Bank,
+    seats: Vec<CpuSeat>,
+    book: MsgBook,
+    mails: Vec<MsgSeat>,
+}
+
+// Opens a bank of these tokens and a book of these messages. The book comes first, so that a law that is broken is told only
+// within all limits.
+fn open_tables(
+    alloc: Global,
+    tokens: &[TokSpec],
+    messages: &[MsgSpec],
+    cpus: usize,
+) -> Result<Tables, Fault>
+    ensures bank { IfOk result (λ t. IsOpened cpus tokens.now t.bank t.seats.items) }
+    ensures book { IfOk result (λ t. AreOpened cpus messages.now t.book t.mails.items) }
+    ensures within { OnOk result (AreWithin cpus tokens.now messages.now × AllOpenLawfully tokens.now) }
+    ensures refused { IfErr result (λ fault. Declines cpus tokens.now messages.now fault) }
+{
+    let (book, mails) = MsgBook::open(alloc, messages, cpus)?;
+    let (bank, seats) = Bank::open(alloc, tokens, cpus)?;
+    Ok(Tables {
+        bank,
+        seats,
+        book,
+        mails,
+    })
+}
+
+// A machine at the tables of a script, with the script's threads.
+fn open_at(alloc: Global, script: &Script, tables: Tables) -> Result<Machine, Fault>
+    requires bank { IsOpened script.now.cpus script.now.tokens tables.bank tables.seats.items }
+    requires book { AreOpened script.now.cpus script.now.messages tables.book tables.mails.items }
+    ensures ok { IfOk result (λ machine. IsOpenedMachine script.now machine) }
+    ensures only { OnErr result (result ≡ Err Fault.Memory) }
+{
+    let Tables {
+        bank,
+        seats,
+        book,
+        mails,
+    } = tables;
+    let Lanes { outs, ins } = open_lanes(alloc, usize::from(script.cpus))?;
+    let origins = origins_of(alloc, script.messages.as_slice()).map_err(|_| Fault::Memory)?;
+    let mut rest = Rest {
+        seats,
+        mails,
+        outs,
+        ins,
+    };
+    let cpus = rest.seat_all(alloc, &bank, &book, &origins, script.threads.as_slice())?;
+    Ok(Machine { bank, book, cpus })
+}
+
+impl Machine {
+    /// Opens the machine of a script: a bank of its tokens, a book of its messages, and its processors, with lanes for 32 notes
+    /// from each to each. Each thread of the script is one of its processor, in the script's order, and was never polled.
+    ///
+    /// Refused with `Limits` only if the opening passes a limit, with `LawBroken` only if it is within the limits and an opening
+    /// row breaks its law, and else with `Memory`.
+    pub fn open(alloc: Global, script: &Script) -> Result<Machine, Fault>
+        ensures ok { IfOk result (λ machine. IsOpenedMachine script.now machine) }
+        ensures within { OnOk result (AreWithin script.now.cpus script.now.tokens script.now.messages) }
+        ensures lawful { OnOk result (AllOpenLawfully script.now.tokens) }
+        ensures refused { IfErr result (λ fault. Declines script.now.cpus script.now.tokens script.now.messages fault) }
+    {
+        let tables = open_tables(
+            alloc,
+            script.tokens.as_slice(),
+            script.messages.as_slice(),
+            usize::from(script.cpus),
+        )?;
+        open_at(alloc, script, tables)
+    }
+}

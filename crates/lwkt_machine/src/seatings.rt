@@ -1,0 +1,149 @@
+//! Processors put at their seats.
+ghost use Rattle.std.specs.Prelude.{◌≡◌, ℕ, ◌+◌, ◌<◌, length, map, All, IfOk, OnErr, Err};
+ghost use Rattle.lwkt_base.specs.declared.openings.MsgSpec.{MsgSpec};
+ghost use Rattle.lwkt_bank.specs.Seats.{id_of};
+ghost use Rattle.lwkt_msg.specs.Desks.{cpu_of, IsOpened};
+ghost use Rattle.lwkt_port.specs.Openings.{new_mail, IsEmptyPort};
+ghost use Rattle.lwkt_machine.specs.Opened.{bodies_on, IsSeat, IsOpenedCpu, AreOpenedCpus};
+
+use crate::bodies::ScriptBody;
+use lwkt_bank::{Bank, CpuSeat};
+use lwkt_base::{Fault, MsgSpec, ThreadId};
+use lwkt_cpu::Cpu;
+use lwkt_lane::{LaneIn, LaneOut};
+use lwkt_msg::{MsgBook, MsgSeat};
+use lwkt_port::Ports;
+use lwkt_script::ThreadSpec;
+use std::alloc::{AllocError, Global};
+
+/// What processors are made of that weren't made yet, by their numbers: their seats, and the ends of their lanes.
+#[derive(Drop)]
+pub(crate) struct Rest {
+    pub seats: Vec<CpuSeat>,
+    pub mails: Vec<MsgSeat>,
+    pub outs: Vec<Vec<LaneOut>>,
+    pub ins: Vec<Vec<LaneIn>>,
+}
+
+/// The threads that messages belong to.
+pub(crate) fn origins_of(alloc: Global, specs: &[MsgSpec]) -> Result<Vec<ThreadId>, AllocError>
+    ensures { IfOk result (λ v. v.items ≡ map (λ (spec : MsgSpec). spec.origin) specs.now) }
+{
+    specs.iter().map(|spec| spec.origin).collect(alloc)
+}
+
+/// The bodies of a processor's threads.
+pub(crate) fn bodies_on(
+    alloc: Global,
+    threads: &[ThreadSpec],
+    cpu: usize,
+) -> Result<Vec<ScriptBody>, AllocError>
+    ensures { IfOk result (λ bodies. bodies.items ≡ bodies_on cpu threads.now) }
+{
+    let mut bodies = Vec::new(alloc);
+    for spec in threads {
+        if spec.cpu.0 as usize == cpu {
+            bodies.push(ScriptBody::new(alloc, spec.steps.as_slice(), spec.repeat)?)?;
+        }
+    }
+    Ok(bodies)
+}
+
+// The ports of a processor, over its seat at the book.
+fn open_ports(
+    alloc: Global,
+    book: &MsgBook,
+    mail: MsgSeat,
+    outs: Vec<LaneOut>,
+    ins: Vec<LaneIn>,
+    origins: &[ThreadId],
+    threads: usize,
+    number: usize,
+) -> Result<Ports, Fault>
+    requires mail { IsOpened number book.now mail }
+    requires origins { origins.now ≡ map (λ (spec : MsgSpec). spec.origin) book.now.specs }
+    ensures desk { IfOk result (λ ports. IsOpened number book.now ports.seat) }
+    ensures empty { IfOk result (λ ports. All IsEmptyPort ports.ports) }
+    ensures mails { IfOk result (λ ports. ports.mails ≡ map (new_mail (cpu_of ports.seat)) (map (λ (spec : MsgSpec). spec.origin) book.now.specs)) }
+    ensures only { OnErr result (result ≡ Err Fault.Memory) }
+{
+    let id = mail.cpu();
+    Ports::new(alloc, id, mail, outs, ins, origins, threads).map_err(|_| Fault::Memory)
+}
+
+// The processor of this number, at its seats, with a thread for each of the script's threads of its number.
+fn seat_one(
+    alloc: Global,
+    bank: &Bank,
+    book: &MsgBook,
+    seat: CpuSeat,
+    ports: Ports,
+    threads: &[ThreadSpec],
+    bodies: Vec<ScriptBody>,
+    number: usize,
+) -> Result<Cpu<ScriptBody>, Fault>
+    requires seat { IsSeat (id_of bank.now) number seat }
+    requires desk { IsOpened number book.now ports.seat }
+    requires empty { All IsEmptyPort ports.ports }
+    requires mails { ports.mails ≡ map (new_mail (cpu_of ports.seat)) (map (λ (spec : MsgSpec). spec.origin) book.now.specs) }
+    requires bodies { bodies.items ≡ bodies_on number threads.now }
+    ensures ok { IfOk result (λ cpu. IsOpenedCpu (id_of bank.now) book.now threads.now number cpu) }
+    ensures only { OnErr result (result ≡ Err Fault.Memory) }
+{
+    let id = seat.cpu();
+    Cpu::new(alloc, id, seat, ports, bodies).map_err(|_| Fault::Memory)
+}
+
+impl Rest {
+    ghost use Rattle.lwkt_machine.specs.Seating.{IsRest};
+
+    // The next processor.
+    fn next(
+        &mut self,
+        alloc: Global,
+        bank: &Bank,
+        book: &MsgBook,
+        origins: &[ThreadId],
+        threads: &[ThreadSpec],
+        number: usize,
+    ) -> Result<Cpu<ScriptBody>, Fault>
+        requires some { 0 < length self.old.seats.items }
+        requires rest { IsRest (id_of bank.now) book.now number self.old }
+        requires origins { origins.now ≡ map (λ (spec : MsgSpec). spec.origin) book.now.specs }
+        ensures ok { IfOk result (λ cpu. IsOpenedCpu (id_of bank.now) book.now threads.now number cpu) }
+        ensures only { OnErr result (result ≡ Err Fault.Memory) }
+        ensures rest { IsRest (id_of bank.now) book.now (number + 1) self.new }
+        ensures fewer { length self.new.seats.items + 1 ≡ length self.old.seats.items }
+    {
+        let seat = self.seats.remove(0);
+        let mail = self.mails.remove(0);
+        let outs = self.outs.remove(0);
+        let ins = self.ins.remove(0);
+        let bodies = bodies_on(alloc, threads, number).map_err(|_| Fault::Memory)?;
+        let ports = open_ports(alloc, book, mail, outs, ins, origins, bodies.len(), number)?;
+        seat_one(alloc, bank, book, seat, ports, threads, bodies, number)
+    }
+
+    /// All the processors.
+    pub(crate) fn seat_all(
+        &mut self,
+        alloc: Global,
+        bank: &Bank,
+        book: &MsgBook,
+        origins: &[ThreadId],
+        threads: &[ThreadSpec],
+    ) -> Result<Vec<Cpu<ScriptBody>>, Fault>
+        requires rest { IsRest (id_of bank.now) book.now 0 self.old }
+        requires origins { origins.now ≡ map (λ (spec : MsgSpec). spec.origin) book.now.specs }
+        ensures as_many { IfOk result (λ cpus. length cpus.items ≡ length self.old.seats.items) }
+        ensures each { IfOk result (λ cpus. AreOpenedCpus (id_of bank.now) book.now threads.now cpus.items) }
+        ensures only { OnErr result (result ≡ Err Fault.Memory) }
+    {
+        let mut cpus = Vec::new(alloc);
+        for number in 0..self.seats.len() {
+            let cpu = self.next(alloc, bank, book, origins, threads, number)?;
+            cpus.push(cpu).map_err(|_| Fault::Memory)?;
+        }
+        Ok(cpus)
+    }
+}
