@@ -1,5 +1,6 @@
 pub mod Bodies
+pub mod Ended
 pub mod Machines
 pub mod Opened
-pub mod Turns
 pub mod Seating
+pub mod Turns

@@ -6,6 +6,7 @@ mod lanes;
 pub mod machines;
 pub mod openings;
 mod seatings;
+pub mod stops;
 
 pub use bodies::ScriptBody;
 pub use lwkt_cpu::{Cpu, Status, Turned};
