@@ -1,5 +1,5 @@
 -- The end of a machine (own).
-use Rattle.std.specs.Prelude.{◌≡◌, ℕ, List, length, map, Vec, Some, slice_get, slice_set}
+use Rattle.std.specs.Prelude.{◌≡◌, ℕ, List, length, Vec, Some, slice_get, slice_set}
 use Rattle.std.specs.declared.alloc.Global.{Global}
 use Rattle.lwkt_core.specs.declared.events.Event.{Event}
 use Rattle.lwkt_bank.specs.Seats.{bank_of}

@@ -2,6 +2,7 @@
 #![tactic(auto)]
 
 pub mod bodies;
+pub mod closings;
 mod lanes;
 pub mod machines;
 pub mod openings;
@@ -9,5 +10,6 @@ mod seatings;
 pub mod stops;
 
 pub use bodies::ScriptBody;
+pub use closings::Closed;
 pub use lwkt_cpu::{Cpu, Status, Turned};
 pub use machines::Machine;

@@ -3,12 +3,11 @@ use Rattle.std.specs.Prelude.{slice_get}
 use Rattle.std.proofs.lemmas.Option.{slice_get-get_or, slice_get_within, get_or_from_slice_get}
 use Rattle.std.proofs.lemmas.List.Elements.{All-get_or}
 use Rattle.lwkt_bank.specs.Seats.{id_of, bank_of}
-use Rattle.lwkt_port.specs.Chains.{Chain}
 use Rattle.lwkt_port.proofs.Chaining.{chain_none, chain_more}
 use Rattle.lwkt_cpu.specs.Processors.{Processor}
 use Rattle.lwkt_machine.specs.Bodies.{Scripted}
-use Rattle.lwkt_machine.specs.Ended.{AreSameCpus, AreStoppedShort, Stage, stage, StopsAt}
-use Rattle.lwkt_machine.proofs.StopMoves.{same_none, same_set, stop_keeps_post, on_err, set_same, over_more}
+use Rattle.lwkt_machine.specs.Ended.{AreStoppedShort, Stage, stage, StopsAt}
+use Rattle.lwkt_machine.proofs.StopMoves.{same_none, same_set, on_err, set_same, over_more}
 use Rattle.lwkt_machine.proofs.stops.stop_all.Goals as goal
 
 pub loop-at-init : goal.loop-at-init
