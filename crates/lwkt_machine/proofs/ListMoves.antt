@@ -1,5 +1,5 @@
 -- Elements of a list by their places.
-use Rattle.std.proofs.Common.{◌≡◌, ℕ, zero, suc, ◌+◌, ◌<◌, List, [], ◌∷◌, ◌++◌, length, refl, ap, inl, inr, arith, Some}
+use Rattle.std.proofs.Common.{◌≡◌, ℕ, zero, suc, ◌+◌, ◌<◌, List, [], ◌∷◌, ◌++◌, length, take, drop, refl, ap, subst, inl, inr, arith, Some}
 use Rattle.std.specs.Prelude.{◌⊎◌, All, slice_get}
 use Rattle.std.specs.List.{remove}
 use Rattle.std.proofs.lemmas.List.Elements.{All-nil, All-cons}
@@ -27,3 +27,13 @@ get_pushed (z ∷ xs) y x (suc j) is = elim (get_pushed xs y x j is) [
 pub all_from_get : {A : Type 0} (P : A → Type 0) (xs : List A) → ((k : ℕ) (x : A) → slice_get xs k ≡ Some x → P x) → All P xs
 all_from_get P [] each = All-nil P
 all_from_get P (x ∷ xs) each = All-cons P x xs (each 0 x refl) (all_from_get P xs (λ k y at. each (suc k) y at))
+
+take_front : {A : Type 0} (xs ys : List A) → take (length xs) (xs ++ ys) ≡ xs
+take_front [] ys = refl
+take_front (x ∷ xs) ys = ap (λ zs. x ∷ zs) (take_front xs ys)
+
+-- a vector whose items were lent as a slice has what was left there
+pub refilled : {A : Type 0} (news items : List A) (n : ℕ) → length news ≡ n → take n (news ++ drop (length news) items) ≡ news
+refilled {A = A} news items n long =
+    let F : ℕ → Type 0 = λ k. take k (news ++ drop (length news) items) ≡ news in
+    subst F long (take_front news (drop (length news) items))

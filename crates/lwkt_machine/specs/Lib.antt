@@ -1,5 +1,8 @@
 pub mod Bodies
+pub mod Closing
+pub mod Ended
 pub mod Machines
 pub mod Opened
-pub mod Turns
+pub mod Retiring
 pub mod Seating
+pub mod Turns

@@ -2,11 +2,14 @@
 #![tactic(auto)]
 
 pub mod bodies;
+pub mod closings;
 mod lanes;
 pub mod machines;
 pub mod openings;
 mod seatings;
+pub mod stops;
 
 pub use bodies::ScriptBody;
+pub use closings::Closed;
 pub use lwkt_cpu::{Cpu, Status, Turned};
 pub use machines::Machine;

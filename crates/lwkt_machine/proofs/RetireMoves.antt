@@ -1,0 +1,56 @@
+-- Processors give back what they have, one after another.
+use Rattle.std.proofs.Common.{◌≡◌, suc, ◌<◌, List, [], ◌∷◌, ◌++◌, length, get_or, refl, ap, sym, ◌∙◌, subst, arith, append_assoc, append-nil, map, cond, Result, Ok, Err}
+use Rattle.std.specs.Prelude.{All, OnOk, slice_get}
+use Rattle.std.specs.List.{remove, flat_map}
+use Rattle.std.specs.Result.{is_ok}
+use Rattle.std.proofs.lemmas.List.Elements.{All-push}
+use Rattle.lwkt_base.specs.Holding.{holds_nothing}
+use Rattle.lwkt_bank.specs.declared.seats.CpuSeat.{CpuSeat}
+use Rattle.lwkt_bank.specs.Seats.{holding}
+use Rattle.lwkt_msg.specs.Desks.{Desk}
+use Rattle.lwkt_cpu.specs.Processors.{Processor, AllOver}
+use Rattle.lwkt_machine.specs.Bodies.{Scripted}
+use Rattle.lwkt_machine.specs.Ended.{AreOver}
+use Rattle.lwkt_machine.specs.Retiring.{AreRetired}
+use Rattle.lwkt_machine.specs.declared.closings.Retired.{Retired}
+use Rattle.lwkt_machine.proofs.ListMoves.{get_removed}
+
+-- some of the processors have given back what they have, and the rest are over
+pub record IsRetiring (all rest : List (Processor Scripted)) (r : Retired) : Type 0 where
+  pub done : List (Processor Scripted)
+  pub in_order : all ≡ done ++ rest
+  pub retired : AreRetired done r
+  pub over : AreOver rest
+
+head_removed : (xs : List (Processor Scripted)) (x : Processor Scripted) → 0 < length xs → x ≡ get_or xs 0 x → xs ≡ x ∷ remove xs 0
+head_removed [] x some is = absurd (omega (arith, some))
+head_removed (y ∷ xs) x some is = ap (λ z. z ∷ xs) (sym is)
+
+pub over_first : (all rest : List (Processor Scripted)) (r : Retired) (x : Processor Scripted) → 0 < length rest → x ≡ get_or rest 0 x → IsRetiring all rest r → AllOver x.threads
+over_first all rest r x some is so_far = so_far.over 0 x (ap (λ xs. slice_get xs 0) (head_removed rest x some is))
+
+pub retiring_more : (all rest left : List (Processor Scripted)) (r s : Retired) (x : Processor Scripted) → 0 < length rest → x ≡ get_or rest 0 x → left ≡ remove rest 0 → (so_far : IsRetiring all rest r) → AreRetired (so_far.done ++ x ∷ []) s → IsRetiring all left s
+retiring_more all rest left r s x some is are so_far more = record {
+  done = so_far.done ++ x ∷ [];
+  in_order = so_far.in_order ∙ ap (λ xs. so_far.done ++ xs) (head_removed rest x some is ∙ ap (λ xs. x ∷ xs) (sym are)) ∙ sym (append_assoc so_far.done (x ∷ []) left);
+  retired = more;
+  over = λ k p at. so_far.over (suc k) p (sym (get_removed rest k) ∙ ap (λ xs. slice_get xs k) (sym are) ∙ at);
+}
+
+map_push : {A B : Type 0} (f : A → B) (xs : List A) (x : A) → map f (xs ++ x ∷ []) ≡ map f xs ++ f x ∷ []
+map_push f [] x = refl
+map_push f (y ∷ xs) x = ap (λ zs. f y ∷ zs) (map_push f xs x)
+
+flat_push : {A B : Type 0} (f : A → List B) (xs : List A) (x : A) → flat_map f (xs ++ x ∷ []) ≡ flat_map f xs ++ f x
+flat_push f [] x = append-nil (f x)
+flat_push f (y ∷ xs) x = ap (λ zs. f y ++ zs) (flat_push f xs x) ∙ sym (append_assoc (f y) (flat_map f xs) (f x))
+
+-- one processor more gives back what it has
+pub retired_more : {T E : Type 0} (done : List (Processor Scripted)) (p : Processor Scripted) (old new : Retired) (seat : CpuSeat) (mail : Desk) (bodies : List Scripted) (t : Result T E) → seat ≡ p.seat → holding seat ≡ holds_nothing → mail ≡ p.post.seat → bodies ≡ p.bodies → new.seats.items ≡ old.seats.items ++ seat ∷ [] → new.mails.items ≡ old.mails.items ++ mail ∷ [] → new.bodies.items ≡ cond (is_ok t) (old.bodies.items ++ bodies) old.bodies.items → AreRetired done old → OnOk t (AreRetired (done ++ p ∷ []) new)
+retired_more done p old new seat mail bodies (Ok x) seat_is empty mail_is bodies_are seats mails all_bodies so_far = record {
+  seats = seats ∙ ap (λ xs. xs ++ seat ∷ []) so_far.seats ∙ ap (λ s. map (λ (q : Processor Scripted). q.seat) done ++ s ∷ []) seat_is ∙ sym (map_push (λ (q : Processor Scripted). q.seat) done p);
+  empty = subst (All (λ s. holding s ≡ holds_nothing)) (sym seats) (All-push (λ s. holding s ≡ holds_nothing) old.seats.items seat so_far.empty empty);
+  mails = mails ∙ ap (λ xs. xs ++ mail ∷ []) so_far.mails ∙ ap (λ d. map (λ (q : Processor Scripted). q.post.seat) done ++ d ∷ []) mail_is ∙ sym (map_push (λ (q : Processor Scripted). q.post.seat) done p);
+  bodies = all_bodies ∙ ap (λ xs. xs ++ bodies) so_far.bodies ∙ ap (λ bs. flat_map (λ (q : Processor Scripted). q.bodies) done ++ bs) bodies_are ∙ sym (flat_push (λ (q : Processor Scripted). q.bodies) done p);
+}
+retired_more done p old new seat mail bodies (Err e) seat_is empty mail_is bodies_are seats mails all_bodies so_far = tt

@@ -1,0 +1,17 @@
+use Rattle.std.proofs.Common.{◌<◌, length, ap, arith}
+use Rattle.lwkt_machine.proofs.ListMoves.{length_removed}
+use Rattle.lwkt_machine.proofs.RetireMoves.{retiring_more}
+use Rattle.lwkt_machine.proofs.closings.Retired.all.Goals as goal
+
+pub loop-number-preserved : goal.loop-number-preserved
+loop-number-preserved c =
+    let l = c.loop-number in
+    let n = l._number in
+    let rest = l.cpus.items in
+    let some : 0 < length rest = omega (arith, c.loop-number-test.true, l.invariant.left, l.auto, c.len-number-end.ensures, c.args.cpus.ok) in
+    let fewer = length_removed rest some in
+    let is = ap length c.remove-cpu.ensures.items in
+    record {
+      so_far = retiring_more c.args.cpus.items rest c.remove-cpu.new.self.items l.retired c.add.new.self c.remove-cpu.result some c.remove-cpu.ensures.value c.remove-cpu.ensures.items l.invariant.so_far (c.in_ok-add.ensures l.invariant.so_far.done l.invariant.so_far.retired);
+      left = omega (arith, fewer, is, l.invariant.left);
+    }
