@@ -39,7 +39,7 @@ returns-in_err-stop-clause-err c =
     let still = set_same l.cpus l.at p q (slice_get-get_or l.cpus l.at d within) same.0 in
     let F : List (Processor Scripted) → Type 0 = λ xs. AreStoppedShort c.args.cpus.now xs c.args.trace.now c.stop.new.trace in
     on_err c.from_residual.result (AreStoppedShort c.args.cpus.now (set l.cpus l.at q) c.args.trace.now c.stop.new.trace)
-    (subst F (sym still) (l.at, (l.trace, (l.invariant.stopped, same.1))))
+    (subst F (sym still) (l.at, (l.trace, (l.invariant.stopped, same.1.0))))
 
 pub loop-at-preserved : goal.loop-at-preserved
 loop-at-preserved c =
