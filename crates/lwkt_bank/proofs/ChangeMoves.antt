@@ -1,4 +1,4 @@
-use Rattle.std.proofs.Common.{eq-eqb, ⊎_elim, Bool, true, cond, ◌≡◌, ℕ, ◌+◌, ◌<◌, ◌≤◌, List, [], ◌∷◌, ◌++◌, length, refl, ap, sym, ◌∙◌, subst, arith, set, zero, suc, take, get_or, Option, None, length-take}
+use Rattle.std.proofs.Common.{eq-eqb, ⊎_elim, Bool, true, cond, ◌≡◌, ℕ, ◌+◌, ◌<◌, ◌≤◌, List, [], ◌∷◌, ◌++◌, length, refl, ap, sym, ◌∙◌, subst, arith, set, zero, suc, take, get_or, Option, None, length-take, get_or-set_same}
 use Rattle.std.specs.Prelude.{slice_get, slice_index, All, Some}
 use Rattle.atomic_table.specs.declared.shared.Seat.{Seat}
 use Rattle.lwkt_base.specs.declared.names.CpuId.{CpuId}
@@ -14,10 +14,10 @@ use Rattle.lwkt_bank.specs.declared.banks.Bank.{Bank}
 use Rattle.lwkt_bank.specs.declared.seats.CpuSeat.{CpuSeat}
 use Rattle.std.proofs.lemmas.Bool.{cases_eq}
 use Rattle.std.proofs.Math.Path.{fun_ext}
-use Rattle.std.proofs.lemmas.List.{get_or-take, ext_get_or, get_or_default}
+use Rattle.std.proofs.lemmas.List.{get_or-take, ext_get_or, get_or_default, set-set}
 use Rattle.lwkt_base.specs.Holding.{is_held}
 use Rattle.lwkt_base.specs.declared.names.Mode.{Mode}
-use Rattle.lwkt_base.specs.declared.holdings.Held.TheVariants.{Holds}
+use Rattle.lwkt_base.specs.declared.holdings.Held.TheVariants.{Nothing, Holds}
 use Rattle.lwkt_base.specs.declared.words.TokWord.{TokWord}
 use Rattle.lwkt_base.specs.declared.words.Decision.{Decision}
 use Rattle.lwkt_base.specs.declared.words.Decision.TheVariants.{Take}
@@ -27,11 +27,11 @@ use Rattle.lwkt_bank.specs.Plays.{IsTakenRow}
 use Rattle.lwkt_bank.specs.Views.{at, noted, seat_cpu, who, read, seen, looked, taken, generation_in, raised, count_from}
 use Rattle.lwkt_bank.specs.Deeds.{loads, takes, loses, writes}
 use Rattle.lwkt_bank.specs.Rule.{plan_at}
-use Rattle.lwkt_bank.specs.Notes.{Keeps, IsNoted, no_note, note_at}
+use Rattle.lwkt_bank.specs.Notes.{Keeps, IsNoted, no_note, note_at, begun}
 use Rattle.lwkt_bank.specs.declared.notes.Note.{Note}
 use Rattle.lwkt_bank.specs.Seats.{BankId, id_of, bank_of, tokens_of, plan_of, entry, past_of, holding, references, IsOf, IsSame, Changes, Knowing, IsUnchanged, written_over, Looked, Took, Lost, Hit, Miss, Decides}
 use Rattle.lwkt_bank.proofs.ViewMoves.{at-here, at-else, at-tok}
-use Rattle.lwkt_bank.proofs.NoteMoves.{seat_told, IsNoted-seen, Keeps-kept, Keeps-set}
+use Rattle.lwkt_bank.proofs.NoteMoves.{seat_told, IsNoted-seen, IsNoted-missed, Keeps-kept, Keeps-set}
 use Rattle.lwkt_bank.proofs.TurnMoves.{seen-keeps}
 
 -- a seat is at the bank that it names
@@ -292,3 +292,18 @@ pub keeps_changed : (s : CpuSeat) (w : View) (tok : ℕ) (e : Entry) (between : 
 keeps_changed s w tok e between deed f d note room is there is_tok note_is here =
     let F : Note → Type 0 = λ m. Keeps (set s.notes tok m) s.cpu w in
     subst F (sym (note_is ∙ ap f (note_read s tok d room))) (keeps_set s w tok e between deed (f (note_at s.notes tok)) room is there is_tok here)
+
+-- and after the note was written before an exchange, and taken back since that lost
+pub keeps_missed : (s : CpuSeat) (w : View) (tok g : ℕ) (between : List Deed) (deed : Deed) (mode : Mode) (d d' note : Note) → tok < 64 → w ≡ noted between s.seat.me.0 (seen (entry s tok) g) deed → tok < length s.seat.me.0.plans → (entry s tok).held ≡ Nothing → note ≡ begun (get_or s.notes tok d) mode
+    → Keeps (set (set s.notes tok note) tok (record (get_or (set s.notes tok note) tok d') { references = 0 })) s.cpu w
+keeps_missed s w tok g between deed mode d d' note room is there free note_is =
+    let sized = s.sized in
+    let inside : tok < length s.notes = omega arith in
+    let none : Note → Note = λ m. record m { references = 0 } in
+    let last : none (get_or (set s.notes tok note) tok d') ≡ none (begun (note_at s.notes tok) mode)
+    = ap none (get_or-set_same s.notes tok note d' inside ∙ note_is ∙ ap (λ (m : Note). begun m mode) (note_read s tok d room)) in
+    let F : List Note → Type 0 = λ ns. Keeps ns s.cpu w in
+    let e = entry s tok in
+    let here = IsNoted-seen (plan_at s.seat.me.0.plans tok) s.cpu.0 e g (none (begun (note_at s.notes tok) mode)) (IsNoted-missed (plan_at s.seat.me.0.plans tok) s.cpu.0 e mode (note_at s.notes tok) free (s.kept.each tok there)) in
+    subst F (sym (set-set s.notes tok note (none (get_or (set s.notes tok note) tok d')) ∙ ap (λ (m : Note). set s.notes tok m) last))
+    (keeps_set s w tok (seen e g) between deed (none (begun (note_at s.notes tok) mode)) room is there ((seen-keeps e g).0 ∙ at-tok s.seat.me.0.tokens tok) here)

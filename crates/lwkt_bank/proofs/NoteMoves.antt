@@ -360,3 +360,30 @@ IsNoted-raised plan cpu e note noted' is within change k inside first_is last_is
           let F : ℕ → Type 0 = λ last. IsTouched (touch_at (changed note 0 change) j) (slice_index (changed note 0 change).first j) (slice_index e.first j) (slice_index (slice_set e.row 0 last) j) in
           subst F last_is (touched_there plan cpu.0 e note noted' is within 0 change inside first_is j);
     }
+
+-- a note that was written before an exchange that lost, and taken back
+pub IsNoted-missed : (plan : Plan) (cpu : ℕ) (e : Entry) (mode : Mode) (note : Note) → e.held ≡ Nothing → IsNoted plan cpu e note → IsNoted plan cpu e (record (begun note mode) { references = 0 })
+IsNoted-missed plan cpu e Shared note held noted' = record {
+  four = noted'.four;
+  firsts = noted'.firsts;
+  tally = noted'.tally;
+  own = noted'.own;
+  long = λ is. absurd (false≢true (sym (ap is_held held) ∙ is));
+  references = sym (ap references_in held);
+  mode = λ is. absurd (false≢true (sym (ap is_held held) ∙ is));
+  touched = λ cell is. absurd (false≢true (sym (ap is_exclusive held) ∙ is));
+  stored_to = λ cell inside is. absurd (false≢true (sym (ap is_exclusive held) ∙ is));
+  latest = λ tally is stored_to. absurd (false≢true (sym (ap is_exclusive held) ∙ is));
+}
+IsNoted-missed plan cpu e Exclusive note held noted' = record {
+  four = refl;
+  firsts = noted'.firsts;
+  tally = noted'.tally;
+  own = noted'.own;
+  long = λ is. absurd (false≢true (sym (ap is_held held) ∙ is));
+  references = sym (ap references_in held);
+  mode = λ is. absurd (false≢true (sym (ap is_held held) ∙ is));
+  touched = λ cell is. absurd (false≢true (sym (ap is_exclusive held) ∙ is));
+  stored_to = λ cell inside is. absurd (false≢true (sym (ap is_exclusive held) ∙ is));
+  latest = λ tally is stored_to. absurd (false≢true (sym (ap is_exclusive held) ∙ is));
+}

@@ -51,11 +51,14 @@ impl CpuSeat {
         ensures hit { result ≡ true → Hit self.old self.new tok.0 mode word next }
         ensures miss { result ≡ false → Miss self.old self.new tok.0 word next }
     {
+        let at = tok.0 as usize;
+        // Noted before the exchange: between two atomic steps a write would be waited for.
+        self.notes[at].take(mode);
         let found = steps::swing(bank, &mut self.seat, tok, mode, word, next);
         if found != word {
+            self.notes[at].references = 0;
             return false;
         }
-        self.notes[tok.0 as usize].take(mode);
         true
     }
 

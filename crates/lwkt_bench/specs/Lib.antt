@@ -1,2 +1,3 @@
 pub mod Idle
 pub mod Lists
+pub mod Stations

@@ -1,5 +1,5 @@
 //! Bursts of notes through a lane and through rings written by hand.
-use crate::rings::{Ring, WordRing};
+use crate::rings::{Queue, Ring, WordRing};
 use crate::rounds::{Race, Rounds, Timed, end_round};
 use crate::steps::ROUNDS;
 use lwkt_base::MsgId;
@@ -18,15 +18,15 @@ const BURSTS: u64 = 1000;
 const IN_RING: Race = Race {
     what: "lane: a note pushed and popped, beside a ring",
     steps: BURST * BURSTS,
-    goal: 220,
-    worst: 260,
+    goal: 90,
+    worst: 110,
 };
 
 const IN_WORDS: Race = Race {
     what: "the same, beside a ring of words alone",
     steps: BURST * BURSTS,
-    goal: 220,
-    worst: 260,
+    goal: 90,
+    worst: 110,
 };
 
 fn note(round: u64) -> Note {
@@ -65,7 +65,7 @@ fn lane_round<R: CpuClock>(rt: &R, out: &mut LaneOut, into: &mut LaneIn) -> io::
     end_round(rt, start, sum)
 }
 
-fn ring_burst(ring: &mut Ring, turn: u64) -> u64 {
+fn ring_burst<Q: Queue>(ring: &Q, turn: u64) -> u64 {
     for i in 0..BURST {
         ring.push(note(turn ^ i));
     }
@@ -78,7 +78,7 @@ fn ring_burst(ring: &mut Ring, turn: u64) -> u64 {
     sum
 }
 
-fn ring_round<R: CpuClock>(rt: &R, ring: &mut Ring) -> io::Result<Timed> {
+fn ring_round<R: CpuClock, Q: Queue>(rt: &R, ring: &Q) -> io::Result<Timed> {
     let start = rt.thread_cpu_time()?;
     let mut sum = 0u64;
     for turn in 0..BURSTS {
@@ -87,59 +87,24 @@ fn ring_round<R: CpuClock>(rt: &R, ring: &mut Ring) -> io::Result<Timed> {
     end_round(rt, start, sum)
 }
 
-fn word_burst(ring: &WordRing, turn: u64) -> u64 {
-    for i in 0..BURST {
-        ring.push(note(turn ^ i));
-    }
-    let mut sum = 0u64;
-    for _i in 0..BURST {
-        if let Some(note) = ring.pop() {
-            sum = sum.wrapping_add(note.round ^ u64::from(note.msg.0));
-        }
-    }
-    sum
-}
-
-fn word_round<R: CpuClock>(rt: &R, ring: &WordRing) -> io::Result<Timed> {
-    let start = rt.thread_cpu_time()?;
-    let mut sum = 0u64;
-    for turn in 0..BURSTS {
-        sum = sum.wrapping_add(word_burst(ring, turn));
-    }
-    end_round(rt, start, sum)
-}
-
-fn time_beside_ring<R: CpuClock + Print + AllocGlobal>(
+fn time_beside<R: CpuClock + Print + AllocGlobal, Q: Queue>(
     rt: &R,
     out: &mut LaneOut,
     into: &mut LaneIn,
+    ring: &Q,
+    race: Race,
 ) -> io::Result<()> {
-    let mut ring = Ring::new();
     let mut rounds = Rounds::new(rt.alloc());
     for _round in 0..ROUNDS {
         let ours = lane_round(rt, out, into)?;
-        rounds.add(ours, ring_round(rt, &mut ring)?)?;
+        rounds.add(ours, ring_round(rt, ring)?)?;
     }
-    rounds.print_line(rt, IN_RING)
-}
-
-fn time_beside_words<R: CpuClock + Print + AllocGlobal>(
-    rt: &R,
-    out: &mut LaneOut,
-    into: &mut LaneIn,
-) -> io::Result<()> {
-    let words = WordRing::new();
-    let mut rounds = Rounds::new(rt.alloc());
-    for _round in 0..ROUNDS {
-        let ours = lane_round(rt, out, into)?;
-        rounds.add(ours, word_round(rt, &words)?)?;
-    }
-    rounds.print_line(rt, IN_WORDS)
+    rounds.print_line(rt, race)
 }
 
 /// Times a lane beside the two rings, and prints a line for each.
 pub fn time_lanes<R: CpuClock + Print + AllocGlobal>(rt: &R) -> io::Result<()> {
     let (mut out, mut into) = lane(rt.alloc(), CAPACITY).map_err(|_| AllocError)?;
-    time_beside_ring(rt, &mut out, &mut into)?;
-    time_beside_words(rt, &mut out, &mut into)
+    time_beside(rt, &mut out, &mut into, &Ring::new(), IN_RING)?;
+    time_beside(rt, &mut out, &mut into, &WordRing::new(), IN_WORDS)
 }

@@ -152,6 +152,60 @@ impl<'a> HandList<'a> {
         true
     }
 
+    /// Takes one reference more, at the end of the list.
+    pub fn get(&mut self, tok: TokId) -> bool {
+        self.take_one(tok) && self.refs.push(tok).is_ok()
+    }
+
+    /// Gives the last reference back, if it is to this token.
+    pub fn rel(&mut self, tok: TokId) -> bool {
+        if self.refs.last().copied() != Some(tok) {
+            return false;
+        }
+        let _ = self.refs.pop();
+        self.give_one(tok);
+        true
+    }
+
+    /// The value of the cell of a token that is held.
+    pub fn read(&mut self, tok: TokId) -> Option<u64> {
+        let place = tok.0 as usize % TOKENS;
+        let token = self.tokens.get(place)?;
+        if self.held[place].references == 0 {
+            return None;
+        }
+        let value = token.load();
+        let cpu = self.cpu;
+        self.note(Event::Read {
+            cpu,
+            tok,
+            cell: 0,
+            value,
+        });
+        Some(value)
+    }
+
+    /// Adds to the cell of a token that is held.
+    pub fn add(&mut self, tok: TokId, k: u64) -> bool {
+        let place = tok.0 as usize % TOKENS;
+        let Some(token) = self.tokens.get(place) else {
+            return false;
+        };
+        let old = match self.held[place].stored {
+            Some(stored) => stored.last,
+            None => token.load(),
+        };
+        match old.checked_add(k) {
+            Some(sum) => self.write(tok, sum),
+            None => false,
+        }
+    }
+
+    /// Forgets the events so far.
+    pub fn forget(&mut self) {
+        self.trace.clear();
+    }
+
     fn round(&mut self) -> bool {
         let count = self.refs.len();
         let taken = self.resume();

@@ -2,7 +2,9 @@
 #![tactic(auto)]
 
 mod desks;
+mod hand_cpus;
 mod hand_messages;
+mod hand_ports;
 mod hands;
 mod lane_rounds;
 mod list_desks;
@@ -10,19 +12,23 @@ mod list_hands;
 mod list_races;
 mod list_rounds;
 mod message_rounds;
+mod port_rounds;
 mod posts;
 mod races;
 mod rings;
 mod rounds;
 mod sides;
+mod stations;
 mod steps;
 mod token_races;
 mod token_rounds;
+mod turn_rounds;
 
 use lane_rounds::time_lanes;
 use list_races::race_lists;
 use list_rounds::time_lists;
 use message_rounds::time_messages;
+use port_rounds::time_ports;
 use rounds::HEAD;
 use std::process::ExitCode;
 use std::rt::{Clock, Env};
@@ -32,6 +38,7 @@ use std::time::CpuClock;
 use std::{env, io};
 use token_races::race_tokens;
 use token_rounds::time_tokens;
+use turn_rounds::time_turns;
 
 const USAGE: &str = "lwkt_bench: run";
 
@@ -53,7 +60,9 @@ fn run<R: Threads + Sync + Wait + CpuClock + Clock + Print + AllocGlobal>(
     time_lists(rt)?;
     race_lists(rt)?;
     time_lanes(rt)?;
-    time_messages(rt)
+    time_messages(rt)?;
+    time_ports(rt)?;
+    time_turns(rt)
 }
 
 fn main(rt: HostRuntime) -> io::Result<ExitCode> {

@@ -18,7 +18,7 @@ use std::time::CpuClock;
 use std::{io, thread};
 
 // How many messages one thread sends to the other in a round, and how often one looks for the other's step at most.
-const MESSAGES: u64 = 500;
+pub const MESSAGES: u64 = 500;
 
 const TRIES: u32 = 100_000_000;
 
@@ -43,14 +43,14 @@ const IN_TWO: Race = Race {
 
 /// Both sides of a message, for one thread.
 #[derive(Drop)]
-struct Both<S> {
+pub struct Both<S> {
     first: S,
     second: S,
     turn: u64,
 }
 
 impl<S> Both<S> {
-    fn new(first: S, second: S) -> Both<S> {
+    pub fn new(first: S, second: S) -> Both<S> {
         Both {
             first,
             second,
@@ -149,7 +149,7 @@ fn serve_all<S: Side>(side: &mut S, first: u64) {
 
 /// Both sides of a message, for a thread each.
 #[derive(Drop)]
-struct Apart<S> {
+pub struct Apart<S> {
     first: S,
     second: S,
     /// The message's next round.
@@ -157,7 +157,7 @@ struct Apart<S> {
 }
 
 impl<S> Apart<S> {
-    fn new(first: S, second: S) -> Apart<S> {
+    pub fn new(first: S, second: S) -> Apart<S> {
         Apart {
             first,
             second,
@@ -179,8 +179,8 @@ fn time_turns<R: Clock + Threads + Sync, S: Side + Send>(
     timed
 }
 
-// One message of processor 0, at rest.
-fn spec() -> MsgSpec
+/// One message of processor 0, at rest.
+pub fn spec() -> MsgSpec
     ensures { result ≡ record { round = 0; origin = record { cpu = record { 0 = 0 }; thread = 0 } } }
 {
     MsgSpec {
@@ -246,9 +246,10 @@ fn time_pair<R: Clock + Threads + Sync, A: Side + Send, B: Side + Send>(
     Ok((timed, time_turns(rt, plain)?))
 }
 
-// Rounds of two threads, in turn.
-fn race_apart<R: Clock + Threads + Sync + Print + AllocGlobal, A: Side + Send, B: Side + Send>(
+/// Rounds of two threads, in turn.
+pub fn race_apart<R: Clock + Threads + Sync + Print + AllocGlobal, A: Side + Send, B: Side + Send>(
     rt: &R,
+    race: Race,
     ours: &mut Apart<A>,
     plain: &mut Apart<B>,
 ) -> io::Result<()> {
@@ -257,7 +258,7 @@ fn race_apart<R: Clock + Threads + Sync + Print + AllocGlobal, A: Side + Send, B
         let (timed, beside) = time_pair(rt, ours, plain, pair % 2 == 1)?;
         rounds.add(timed, beside)?;
     }
-    rounds.print_line(rt, IN_TWO)
+    rounds.print_line(rt, race)
 }
 
 fn time_beside<R: Clock + Threads + Sync + Print + AllocGlobal, S: Side + Send>(
@@ -266,7 +267,7 @@ fn time_beside<R: Clock + Threads + Sync + Print + AllocGlobal, S: Side + Send>(
 ) -> io::Result<()> {
     let message = Box::new(rt.alloc(), HandMessage::new(SharedRec::new()))?;
     let (first, second) = hand_sides(&message);
-    race_apart(rt, ours, &mut Apart::new(first, second))
+    race_apart(rt, IN_TWO, ours, &mut Apart::new(first, second))
 }
 
 fn time_apart<R: Clock + Threads + Sync + Print + AllocGlobal>(rt: &R) -> io::Result<()> {

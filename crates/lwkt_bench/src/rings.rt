@@ -2,6 +2,7 @@
 use lwkt_base::MsgId;
 use lwkt_lane::{Note, NoteKind};
 use std::array;
+use std::cell::Cell;
 use std::sync::atomic::{AtomicU64, Ordering};
 
 /// How many notes a ring has room for.
@@ -9,12 +10,20 @@ pub const ROOM: u64 = 32;
 
 const SLOTS: usize = 32;
 
+/// A queue of notes from one end to the other.
+pub trait Queue {
+    /// Whether there was room for the note.
+    fn push(&self, note: Note) -> bool;
+
+    fn pop(&self) -> Option<Note>;
+}
+
 /// A ring whose two ends are shared words, and whose slots are plain memory.
 #[derive(Drop)]
 pub struct Ring {
     head: AtomicU64,
     tail: AtomicU64,
-    slots: [Note; SLOTS],
+    slots: [Cell<Note>; SLOTS],
 }
 
 impl Ring {
@@ -22,27 +31,28 @@ impl Ring {
         Ring {
             head: AtomicU64::new(0),
             tail: AtomicU64::new(0),
-            slots: [Note::default(); SLOTS],
+            slots: array::from_fn(|_| Cell::new(Note::default())),
         }
     }
+}
 
-    /// Whether there was room for the note.
-    pub fn push(&mut self, note: Note) -> bool {
+impl Queue for Ring {
+    fn push(&self, note: Note) -> bool {
         let tail = self.tail.load(Ordering::SeqCst);
         if tail.wrapping_sub(self.head.load(Ordering::SeqCst)) >= ROOM {
             return false;
         }
-        self.slots[(tail % ROOM) as usize] = note;
+        self.slots[(tail % ROOM) as usize].set(note);
         self.tail.store(tail.wrapping_add(1), Ordering::SeqCst);
         true
     }
 
-    pub fn pop(&mut self) -> Option<Note> {
+    fn pop(&self) -> Option<Note> {
         let head = self.head.load(Ordering::SeqCst);
         if head == self.tail.load(Ordering::SeqCst) {
             return None;
         }
-        let note = self.slots[(head % ROOM) as usize];
+        let note = self.slots[(head % ROOM) as usize].get();
         self.head.store(head.wrapping_add(1), Ordering::SeqCst);
         Some(note)
     }
@@ -86,9 +96,10 @@ impl WordRing {
             slots: array::from_fn(|_| AtomicU64::new(0)),
         }
     }
+}
 
-    /// Whether there was room for the note.
-    pub fn push(&self, note: Note) -> bool {
+impl Queue for WordRing {
+    fn push(&self, note: Note) -> bool {
         let tail = self.tail.load(Ordering::SeqCst);
         if tail.wrapping_sub(self.head.load(Ordering::SeqCst)) >= ROOM {
             return false;
@@ -98,7 +109,7 @@ impl WordRing {
         true
     }
 
-    pub fn pop(&self) -> Option<Note> {
+    fn pop(&self) -> Option<Note> {
         let head = self.head.load(Ordering::SeqCst);
         if head == self.tail.load(Ordering::SeqCst) {
             return None;

@@ -1,19 +1,23 @@
-use Rattle.std.proofs.Common.{refl, length-set, ◌∙◌}
+use Rattle.std.proofs.Common.{refl, set, length-set, ◌∙◌}
 use Rattle.lwkt_bank.specs.Views.{generation_in, looked, taken}
 use Rattle.lwkt_bank.specs.Deeds.{loses, takes}
 use Rattle.lwkt_bank.specs.Seats.{entry}
 use Rattle.lwkt_bank.specs.Notes.{note_at, begun}
-use Rattle.lwkt_bank.proofs.ChangeMoves.{changed, keeps_seen, keeps_changed, hit_of, still_quiet, entry_tok, room_of}
+use Rattle.lwkt_bank.proofs.ChangeMoves.{changed, keeps_missed, keeps_changed, hit_of, still_quiet, entry_tok, room_of}
 use Rattle.lwkt_bank.proofs.NoteMoves.{IsNoted-taken}
 use Rattle.lwkt_bank.proofs.TurnMoves.{seen-keeps}
 use Rattle.lwkt_bank.proofs.seats.CpuSeat.take_at.Goals as goal
 
 pub invariant_of-self : goal.invariant_of-self
-invariant_of-self c = let s = c.args.self.now in let miss = c.swing-found.ensures.exchanges.1.1.1 c.if-found-word.true in record {
-  kept = keeps_seen s c.swing-found.new.seat.me.0 c.args.tok.0 (generation_in c.swing-found.result) c.swing-found.ensures.exchanges.0 _ c.requires.there miss.1;
-  quiet = still_quiet s.seat c.swing-found.new.seat c.swing-found.ensures.same s.quiet;
-  sized = s.sized;
-}
+invariant_of-self c =
+    let s = c.args.self.now in
+    let t = c.args.tok.0 in
+    let miss = c.swing-found.ensures.exchanges.1.1.1 c.if-found-word.true in
+    record {
+      kept = keeps_missed s c.swing-found.new.seat.me.0 t (generation_in c.swing-found.result) c.swing-found.ensures.exchanges.0 _ c.args.mode _ _ c.take.new.self (room_of c.args.bank.now s t c.requires.of c.requires.there) miss.1 c.requires.there c.requires.free c.take.ensures;
+      quiet = still_quiet s.seat c.swing-found.new.seat c.swing-found.ensures.same s.quiet;
+      sized = length-set (set s.notes t c.take.new.self) t _ ∙ length-set s.notes t _ ∙ s.sized;
+    }
 
 pub returns-then-found-word-clause-miss : goal.returns-then-found-word-clause-miss
 returns-then-found-word-clause-miss c = λ no'. let s = c.args.self.now in let miss = c.swing-found.ensures.exchanges.1.1.1 c.if-found-word.true in record {
@@ -23,8 +27,8 @@ returns-then-found-word-clause-miss c = λ no'. let s = c.args.self.now in let m
   changes = changed s _ c.args.tok.0 (looked (entry s c.args.tok.0) c.swing-found.result) c.swing-found.ensures.exchanges.0 (λ cpu. loses cpu c.args.tok.0 c.args.word c.args.next c.swing-found.result) c.swing-found.ensures.same refl refl c.swing-found.ensures.exchanges.1.0 miss.1 ((seen-keeps (entry s c.args.tok.0) (generation_in c.swing-found.result)).0 ∙ entry_tok s c.args.tok.0);
 }
 
-pub invariant_of-self-2 : goal.invariant_of-self-2
-invariant_of-self-2 c =
+pub invariant_of-self-else-found-word : goal.invariant_of-self-else-found-word
+invariant_of-self-else-found-word c =
     let s = c.args.self.now in
     let t = c.args.tok.0 in
     let hit = c.swing-found.ensures.exchanges.1.1.0 c.if-found-word.false in
