@@ -1,0 +1,15 @@
+use Rattle.std.specs.Prelude.{◌≡◌, ℕ}
+use Rattle.lwkt_base.specs.Holding.{holds_nothing}
+use Rattle.lwkt_bank.specs.declared.seats.CpuSeat.{CpuSeat}
+use Rattle.lwkt_bank.specs.Seats.{BankId, bank_of, holding}
+use Rattle.lwkt_msg.specs.Desks.{Desk, Shelf, IsOpened}
+
+-- a seat of this bank, which holds nothing
+pub record IsFree (bank : BankId) (s : CpuSeat) : Type 0 where
+  pub of : bank_of s ≡ bank
+  pub empty : holding s ≡ holds_nothing
+
+-- a seat of this book, as the opening gave it
+pub record IsGiven (book : Shelf) (d : Desk) : Type 0 where
+  pub cpu : ℕ
+  pub opened : IsOpened cpu book d
