@@ -1,3 +1,4 @@
+pub mod BodyMoves
 pub mod CloseMoves
 pub mod ListMoves
 pub mod OpenMoves

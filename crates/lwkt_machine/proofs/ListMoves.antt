@@ -32,11 +32,14 @@ take_front : {A : Type 0} (xs ys : List A) → take (length xs) (xs ++ ys) ≡ x
 take_front [] ys = refl
 take_front (x ∷ xs) ys = ap (λ zs. x ∷ zs) (take_front xs ys)
 
+pub refilled_front : {A : Type 0} (xs ys : List A) (n : ℕ) → length xs ≡ n → take n (xs ++ ys) ≡ xs
+refilled_front {A = A} xs ys n long =
+    let F : ℕ → Type 0 = λ k. take k (xs ++ ys) ≡ xs in
+    subst F long (take_front xs ys)
+
 -- a vector whose items were lent as a slice has what was left there
 pub refilled : {A : Type 0} (news items : List A) (n : ℕ) → length news ≡ n → take n (news ++ drop (length news) items) ≡ news
-refilled {A = A} news items n long =
-    let F : ℕ → Type 0 = λ k. take k (news ++ drop (length news) items) ≡ news in
-    subst F long (take_front news (drop (length news) items))
+refilled {A = A} news items n long = refilled_front news (drop (length news) items) n long
 
 pub map_push : {A B : Type 0} (f : A → B) (xs : List A) (x : A) → map f (xs ++ x ∷ []) ≡ map f xs ++ f x ∷ []
 map_push f [] x = refl

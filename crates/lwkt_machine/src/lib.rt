@@ -4,6 +4,7 @@
 pub mod bodies;
 pub mod closings;
 mod lanes;
+pub mod laws;
 pub mod machines;
 pub mod openings;
 mod seatings;

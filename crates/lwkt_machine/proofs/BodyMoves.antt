@@ -1,0 +1,69 @@
+-- Polls of a body, one after another.
+use Rattle.std.proofs.Common.{◌≡◌, ℕ, zero, suc, ◌+◌, ◌≤◌, Bool, true, false, List, [], ◌∷◌, ◌++◌, length, take, refl, ap, sym, ◌∙◌, subst, arith, min, Option, Some, None, append_assoc, length-append}
+use Rattle.std.specs.Prelude.{option_to_list, slice_get, unwrap_or, nat_lt}
+use Rattle.std.proofs.lemmas.Bool.{ltb-true, ltb-false}
+use Rattle.std.proofs.lemmas.Bool.Decides.{nat_tests}
+use Rattle.lwkt_base.specs.declared.asks.Ask.{Ask}
+use Rattle.lwkt_base.specs.declared.asks.Ask.TheVariants.{Exit}
+use Rattle.lwkt_base.specs.declared.asks.Answer.{Answer}
+use Rattle.lwkt_base.specs.declared.entries.Entry.{Entry}
+use Rattle.lwkt_verdict.specs.Threads.{ask_in}
+use Rattle.lwkt_machine.specs.Bodies.{Scripted, unpolled, entry_for, logged, after_poll}
+use Rattle.lwkt_machine.proofs.ListMoves.{refilled_front}
+use Rattle.lwkt_machine.specs.Laws.{ArePolls, entries_of, AsksAreTheScripts, LogsAreFirstEntries}
+
+asks_from : (steps : List Ask) (repeat : ℕ) (polls : List (Answer × Ask)) (old b : Scripted) → old.steps ≡ steps → old.repeat ≡ repeat → old.polls + length polls ≤ 18446744073709551615 → ArePolls old polls b → (k : ℕ) (q : Answer × Ask) → slice_get polls k ≡ Some q → q.1 ≡ unwrap_or (ask_in repeat steps (old.polls + k)) Exit
+asks_from steps repeat [] old b is many few are k q at = absurd (let e : ◌≡◌ {A = Option (Answer × Ask)} None (Some q) = at in cc)
+asks_from steps repeat (p ∷ polls) old b is many few are zero q at =
+    let same : p ≡ q = cc in
+    let z : old.polls ≡ old.polls + 0 = omega arith in
+    ap (λ (x : Answer × Ask). x.1) (sym same) ∙ are.1.0.0 ∙ ap (λ xs. unwrap_or (ask_in old.repeat xs old.polls) Exit) is ∙ ap (λ n. unwrap_or (ask_in n steps old.polls) Exit) many ∙ ap (λ n. unwrap_or (ask_in repeat steps n) Exit) z
+asks_from steps repeat (p ∷ polls) old b is many few are (suc k) q at =
+    let mid = are.0 in
+    let step : mid ≡ after_poll p.0 old = are.1.0.1 in
+    let counted : mid.polls ≡ min (old.polls + 1) 18446744073709551615 = ap (λ (x : Scripted). x.polls) step in
+    let small : min (old.polls + 1) 18446744073709551615 ≡ old.polls + 1 = grind (arith, nat_tests) in
+    let n : mid.polls + k ≡ old.polls + suc k = omega (arith, counted, small) in
+    asks_from steps repeat polls mid b (ap (λ (x : Scripted). x.steps) step ∙ is) (ap (λ (x : Scripted). x.repeat) step ∙ many) (omega (arith, few, counted, small)) are.1.1 k q at
+    ∙ ap (λ m. unwrap_or (ask_in repeat steps m) Exit) n
+
+pub asks_are : AsksAreTheScripts
+asks_are steps repeat polls b few are k q at =
+    let z : 0 + k ≡ k = omega arith in
+    let room : 0 + length polls ≤ 18446744073709551615 = omega (arith, few) in
+    asks_from steps repeat polls (unpolled steps repeat) b refl refl room are k q at ∙ ap (λ m. unwrap_or (ask_in repeat steps m) Exit) z
+
+take_all : {A : Type 0} (xs : List A) (n : ℕ) → length xs ≤ n → xs ≡ take n (xs ++ [])
+take_all {A = A} [] zero few = refl
+take_all {A = A} [] (suc n) few = refl
+take_all {A = A} (x ∷ xs) zero few = absurd (omega (arith, few))
+take_all {A = A} (x ∷ xs) (suc n) few = ap (λ ys. x ∷ ys) (take_all xs n (omega (arith, few)))
+
+-- a full log takes nothing more
+full : (log rest more : List Entry) → length log ≡ 32 → take 32 (log ++ rest) ≡ take 32 (log ++ more)
+full log rest more long = refilled_front log rest 32 long ∙ sym (refilled_front log more 32 long)
+
+logged_one : (fits : Bool) (log rest : List Entry) (e : Entry) → nat_lt (length log) 32 ≡ fits → length log ≤ 32 → (length (logged log (Some e)) ≤ 32) × (take 32 (logged log (Some e) ++ rest) ≡ take 32 (log ++ e ∷ rest))
+logged_one true log rest e is few = rw is (let l = length-append log (e ∷ []) in omega (arith, l, ltb-true (length log) 32 is), ap (λ xs. take 32 xs) (append_assoc log (e ∷ []) rest))
+logged_one false log rest e is few = rw is (few, full log rest (e ∷ rest) (omega (arith, few, ltb-false (length log) 32 is)))
+
+logged_any : (o : Option Entry) (log rest : List Entry) → length log ≤ 32 → (length (logged log o) ≤ 32) × (take 32 (logged log o ++ rest) ≡ take 32 (log ++ (option_to_list o ++ rest)))
+logged_any None log rest few = (few, refl)
+logged_any (Some e) log rest few = logged_one (nat_lt (length log) 32) log rest e refl few
+
+logs_from : (polls : List (Answer × Ask)) (old b : Scripted) → length old.log ≤ 32 → ArePolls old polls b → b.log ≡ take 32 (old.log ++ entries_of old.asked polls)
+logs_from [] old b few are = ap (λ (x : Scripted). x.log) are ∙ take_all old.log 32 few
+logs_from (p ∷ polls) old b few are =
+    let mid = are.0 in
+    let step : mid ≡ after_poll p.0 old = are.1.0.1 in
+    let o = entry_for old.asked p.0 in
+    let log : mid.log ≡ logged old.log o = ap (λ (x : Scripted). x.log) step in
+    let asked : mid.asked ≡ Some p.1 = ap (λ (x : Scripted). x.asked) step ∙ ap (λ a. Some a) (sym are.1.0.0) in
+    let F : List Entry → Type 0 = λ xs. length xs ≤ 32 in
+    let rest = entries_of (Some p.1) polls in
+    logs_from polls mid b (subst F (sym log) (logged_any o old.log rest few).0) are.1.1
+    ∙ ap (λ xs. take 32 (xs ++ entries_of mid.asked polls)) log ∙ ap (λ a. take 32 (logged old.log o ++ entries_of a polls)) asked
+    ∙ (logged_any o old.log rest few).1
+
+pub logs_are : LogsAreFirstEntries
+logs_are steps repeat polls b are = logs_from polls (unpolled steps repeat) b (omega arith) are
