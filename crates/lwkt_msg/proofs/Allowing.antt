@@ -369,10 +369,20 @@ module _ (key : Layout) (id : ℕ) (me : Me Rec View) (cpu : CpuId) (m : ℕ) (i
       let e' : Entry = handed (at me.0 m) in
       let t = tell.hand_told key s id me.0 cpu m told at_id is_seat (there key s id me.0 cpu m told.rule at_id is_seat within) me.1 own had home in
       let v' : View = noted t.between me.0 m e' (deed.hands_out cpu m n rec) in
-      let same = told_by_who key s told id me.0 cpu is_seat me.1 m e' (λ c. deed.hands_out c m n rec) n (takes (slot_at m) rec) t in (
+      let same = told_by_who key s told id me.0 cpu is_seat me.1 m e' (λ c. deed.hands_out c m n rec) n (takes (slot_at m) rec) t in
+      let here = there key s id me.0 cpu m told.rule at_id is_seat within in
+      let owner_is = lead.rests key told.rule.mails s id me.0 cpu m told.rule.book at_id is_seat here own home in
+      let k = lead.knows_own key told.rule.mails s id me.0 cpu m told.rule.book at_id is_seat here own in
+      let it = kept key s id me.0 cpu m told.rule at_id is_seat within in
+      let quiet = it.safe.quiet (sym k.away_is ∙ home) in
+      let mail : Mail = mail_at told.rule.mails m in
+      let shown : parts_of mail ≡ rest_word (who me.0) (at me.0 m).round
+      = (λ i. record { round = sym k.round_is i; state = state_of (owner_is i); origin = origin_of (owner_is i); target = shown_target (owner_is i); aborted = quiet i; sync = is_away (owner_is i) && mail.sync; dropable = is_away (owner_is i) && mail.flags.dropable; abortable = is_away (owner_is i) && mail.flags.abortable })
+      ∙ ap (λ (c : CpuId). rest_word c (at me.0 m).round) (sym (who_is me.0 cpu is_seat)) in
+      let found_is : n ≡ message_word (rest_word (who me.0) (at me.0 m).round) = it.is_word ∙ ap message_word shown in (
         v',
         takes (slot_at m) rec,
         t.valid,
         t.after,
-        at_word m (λ k. (y : Rec) × IsAfter me.0 k (handed (at me.0 k)) (deed.hands_out (who me.0) k n y) v' × ((slot_at m, rec) ∷ me.1 ≡ (slot_at k, y) ∷ me.1)) (rec, (t.between, (t.others, same)), refl),
+        at_word m (λ k. (y : Rec) × IsAfter me.0 k (handed (at me.0 k)) (deed.hands_out (who me.0) k n y) v' × ((slot_at m, rec) ∷ me.1 ≡ (slot_at k, y) ∷ me.1) × (n ≡ message_word (rest_word (who me.0) (at me.0 k).round))) (rec, (t.between, (t.others, same)), refl, found_is),
       )

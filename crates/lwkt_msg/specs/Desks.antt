@@ -1,4 +1,4 @@
-use Rattle.std.specs.Prelude.{◌≡◌, ℕ, ◌+◌, ◌*◌, ◌<◌, ◌≤◌, ◌==◌, List, [], ◌++◌, length, All, slice_get, slice_index, slice_index_or, Some, if◌then◌else◌}
+use Rattle.std.specs.Prelude.{◌≡◌, ℕ, zero, suc, ◌+◌, ◌*◌, ◌<◌, ◌≤◌, ◌==◌, List, [], ◌∷◌, ◌++◌, length, All, slice_get, slice_index, slice_index_or, Some, if◌then◌else◌}
 use mathlib.Core.Option.{some}
 use lib.ListN.{get_elem?}
 use Rattle.atomic_table.specs.Seated.{TableId}
@@ -30,6 +30,8 @@ use Rattle.lwkt_base.specs.declared.message_words.MsgState.TheVariants as state
 use Rattle.lwkt_base.specs.MessageWord.{message_word, MessageFits}
 use Rattle.lwkt_msg.specs.Hands.{AreHands}
 use Rattle.lwkt_msg.specs.Book.{Mail, Knows, mail_at}
+use Rattle.lwkt_core.specs.declared.seats.Operation.TheVariants.{Load}
+use Rattle.lwkt_msg.specs.Deeds.{word_step}
 use Rattle.lwkt_msg.specs.Steps.{rest_word, machine_of}
 use Rattle.lwkt_msg.specs.Told.{IsDone, first_mails}
 use Rattle.lwkt_msg.specs.Plays.{IsSat}
@@ -96,6 +98,24 @@ pub record IsSameDesk (d d' : Desk) : Type 0 where
   pub cpus : d'.view.cpus ≡ d.view.cpus
   pub specs : d'.view.specs ≡ d.view.specs
 
+-- what a seat has seen of the book's history, the front of it up to the seat's own last deed; and of that the seat's steps on
+-- words and its events, in order
+abbrev pub past_of : Desk → List Deed
+past_of d = d.view.past
+
+abbrev pub steps_of : Desk → List WordStep
+steps_of d = steps_by (cpu_of d).0 (past_of d)
+
+abbrev pub events_of : Desk → List Event
+events_of d = events_by (cpu_of d).0 (past_of d)
+
+-- the steps of a processor's seat at the opening: of each of its own messages below this one, in order, a load that found it at rest
+-- in its opening round
+unfoldable pub opening_steps : ℕ → List MsgSpec → ℕ → List WordStep
+opening_steps cpu specs zero = []
+opening_steps cpu specs (suc m) =
+    opening_steps cpu specs m ++ (if (spec_at specs m).origin.cpu.0 == cpu then word_step m Load (message_word (rest_word (record { 0 = cpu }) (spec_at specs m).round)) ∷ [] else [])
+
 -- what the seat of a processor knows of a message at the opening: the origin has its record
 abbrev pub opened_entry : ℕ → MsgSpec → Entry
 opened_entry cpu spec = if spec.origin.cpu.0 == cpu then handed (first_entry spec) else first_entry spec
@@ -107,6 +127,8 @@ pub record IsOpened (cpu : ℕ) (book : Shelf) (d : Desk) : Type 0 where
   pub cpus : d.view.cpus ≡ book.cpus
   pub specs : d.view.specs ≡ book.specs
   pub entries : (m : ℕ) → m < length book.specs → at d.view m ≡ opened_entry cpu (spec_at book.specs m)
+  pub no_events : events_of d ≡ []
+  pub steps : steps_of d ≡ opening_steps cpu book.specs (length book.specs)
 
 -- the seats of so many processors as they are opened
 pub record AreSeats (made : ℕ) (book : Shelf) (seats : List Desk) : Type 0 where
@@ -135,17 +157,6 @@ pub record IsClosed (book : Shelf) (seats : List Desk) (m : ℕ) (msg : Message)
   pub opening_is : msg.opening ≡ (spec_at book.specs m).round
   pub end_is : end ≡ end_of msg
   pub gathered : AreGathered msg m seats
-
--- what a seat has seen of the book's history, the front of it up to the seat's own last deed; and of that the seat's steps on
--- words and its events, in order
-abbrev pub past_of : Desk → List Deed
-past_of d = d.view.past
-
-abbrev pub steps_of : Desk → List WordStep
-steps_of d = steps_by (cpu_of d).0 (past_of d)
-
-abbrev pub events_of : Desk → List Event
-events_of d = events_by (cpu_of d).0 (past_of d)
 
 -- one history of all seats: its deeds are done one after another from the messages that were declared to these, its events are a run
 -- of the model between the two, the events and steps of each seat are its processor's part, and no other processor has any
@@ -183,6 +194,8 @@ pub record IsHanding (cpu : CpuId) (upto : ℕ) (place : Seat Rec View) : Type 0
   pub hands : AreHands place.me.0 cpu.0 place.me.1
   pub done : (m : ℕ) → m < upto → at place.me.0 m ≡ opened_entry cpu.0 (spec_at place.me.0.specs m)
   pub todo : (m : ℕ) → upto ≤ m → at place.me.0 m ≡ first_entry (spec_at place.me.0.specs m)
+  pub no_events : events_by cpu.0 place.me.0.past ≡ []
+  pub steps : steps_by cpu.0 place.me.0.past ≡ opening_steps cpu.0 place.me.0.specs upto
 
 -- the clerk, who has made so many seats
 pub record IsClerk (made cpus : ℕ) (specs : List MsgSpec) (place : Seat Rec View) : Type 0 where

@@ -14,6 +14,7 @@ use Rattle.lwkt_msg.specs.declared.views.View.{View}
 use Rattle.lwkt_msg.specs.Views.{word_at, slot_at, call_of, at, who, noted, looked, handed, sent, took, replied, reaped, dropped, requested, shows_away, Sees}
 use Rattle.lwkt_msg.specs.Deeds as deed
 use Rattle.lwkt_msg.specs.Records.{WasSent, WasAnswered, WasAskedFor}
+use Rattle.lwkt_msg.specs.Steps.{rest_word}
 use Rattle.lwkt_msg.specs.Hands.{Has, AreSame, IsOwn, AreHands}
 
 -- since the last deed of the seat with this view others have acted, and its step tells this after what they did
@@ -129,9 +130,9 @@ pub record HasAsked (m : ℕ) (v w : View) : Type 0 where
 abbrev pub requests : Step Rec → Me Rec View → ℕ → Me Rec View → Type 0
 requests st me found then = (m : ℕ) → st.word ≡ word_at m → HasAsked m me.0 then.0 × (then.1 ≡ me.1)
 
--- what the load at the opening tells that hands a record out
+-- what the load at the opening tells that hands a record out: the message is at rest
 abbrev pub hands_out : Step Rec → Me Rec View → ℕ → Me Rec View → Type 0
-hands_out st me found then = (m : ℕ) → st.word ≡ word_at m → (rec : Rec) × IsAfter me.0 m (handed (at me.0 m)) (deed.hands_out (who me.0) m found rec) then.0 × (then.1 ≡ (slot_at m, rec) ∷ me.1)
+hands_out st me found then = (m : ℕ) → st.word ≡ word_at m → (rec : Rec) × IsAfter me.0 m (handed (at me.0 m)) (deed.hands_out (who me.0) m found rec) then.0 × (then.1 ≡ (slot_at m, rec) ∷ me.1) × (found ≡ message_word (rest_word (who me.0) (at me.0 m).round))
 
 -- a seat is that of a processor, with its records in hand, at a table that is large enough
 pub record IsSat (cpu : CpuId) (place : Seat Rec View) : Type 0 where

@@ -11,8 +11,8 @@ const MESSAGES: u8 = 64;
 
 const SEATS: u8 = 8;
 
-const NO_FLAGS: Flags = Flags {
-    dropable: false,
+const DROPABLE: Flags = Flags {
+    dropable: true,
     abortable: false,
 };
 
@@ -83,6 +83,7 @@ enum Pass {
     Take,
     Reply,
     Reap,
+    Drop,
 }
 
 // The message that comes as this one in a pass: each pass has an order of its own.
@@ -92,6 +93,7 @@ fn in_order(place: u8, pass: Pass) -> u8 {
         Pass::Take => 27,
         Pass::Reply => 13,
         Pass::Reap => 45,
+        Pass::Drop => 37,
     };
     (u32::from(place) * stride % 64) as u8
 }
@@ -99,7 +101,7 @@ fn in_order(place: u8, pass: Pass) -> u8 {
 // The processor whose seat a message needs in a pass.
 fn seat_for(m: u8, pass: Pass) -> CpuId {
     match pass {
-        Pass::Send | Pass::Reap => origin_of(m),
+        Pass::Send | Pass::Reap | Pass::Drop => origin_of(m),
         Pass::Take | Pass::Reply => target_of(m),
     }
 }
@@ -120,10 +122,11 @@ fn one(book: &MsgBook, seat: &mut MsgSeat, m: u8, pass: Pass) -> bool
         aborted: false,
     };
     match pass {
-        Pass::Send => seat.send(book, msg, target_of(m), call_of(m), NO_FLAGS, false) == Ok(round),
+        Pass::Send => seat.send(book, msg, target_of(m), call_of(m), DROPABLE, false) == Ok(round),
         Pass::Take => seat.take(book, msg, round) == taken,
         Pass::Reply => seat.reply(book, msg, rec.error, rec.result).is_ok(),
         Pass::Reap => seat.reap(book, msg, round) == Reaped::Done { rec },
+        Pass::Drop => seat.drop_msg(book, msg) == Ok(sent_record(m)),
     }
 }
 
@@ -138,7 +141,7 @@ enum Share {
 fn takes_part(m: u8, pass: Pass, share: Share) -> bool {
     let least = match pass {
         Pass::Send => 0,
-        Pass::Take => 1,
+        Pass::Take | Pass::Drop => 1,
         Pass::Reply => 2,
         Pass::Reap => 3,
     };
@@ -198,6 +201,16 @@ fn passes(alloc: Global, share: Share) -> Result<([u32; 4], Vec<MsgEnd>), Fail> 
     Ok(([sent, taken, replied, reaped], ends))
 }
 
+// Sends all messages and drops so many of every four: with how many messages each answer was as it must be, and the closing values.
+fn drops(alloc: Global, share: Share) -> Result<([u32; 2], Vec<MsgEnd>), Fail> {
+    let specs = specs_of(alloc)?;
+    let (book, seats) = MsgBook::open(alloc, &specs, 8)?;
+    let (seats, sent) = everyone(alloc, &book, seats, Pass::Send, share)?;
+    let (seats, dropped) = everyone(alloc, &book, seats, Pass::Drop, share)?;
+    let ends = book.close(alloc, seats)?;
+    Ok(([sent, dropped], ends))
+}
+
 // A message of which so many passes were made.
 fn end_after(m: u8, passes: u8) -> MsgEnd {
     let origin = origin_of(m);
@@ -232,6 +245,20 @@ fn closed_midway(rt: HostRuntime) -> Result<(), Fail> {
     assert_eq!(rt; ends.len(), 64);
     for (m, end) in ends.iter().enumerate() {
         assert_eq!(rt; *end, end_after(m as u8, 1 + m as u8 % 4));
+    }
+    Ok(())
+}
+
+#[test]
+fn dropped_from_a_full_book(rt: HostRuntime) -> Result<(), Fail> {
+    let (counts, ends) = drops(rt.alloc(), Share::Fewer)?;
+    assert_eq!(rt; counts, [64, 48]);
+    assert_eq!(rt; ends.len(), 64);
+    for (m, end) in ends.iter().enumerate() {
+        let m = m as u8;
+        // The first of every four is still on its way.
+        let passes = if m % 4 == 0 { 1 } else { 4 };
+        assert_eq!(rt; *end, end_after(m, passes));
     }
     Ok(())
 }

@@ -6,8 +6,7 @@ use Rattle.lwkt_base.specs.declared.openings.MsgSpec.{MsgSpec}
 use Rattle.lwkt_base.specs.declared.records.Rec.{Rec}
 use Rattle.lwkt_msg.specs.declared.views.Entry.{Entry}
 use Rattle.lwkt_msg.specs.declared.views.View.{View}
-use Rattle.lwkt_msg.specs.Views.{spec_at, who}
-use Rattle.lwkt_msg.specs.Deeds.{hands_out}
+use Rattle.lwkt_msg.specs.Views.{spec_at}
 use Rattle.lwkt_msg.specs.Told.{Told}
 use Rattle.lwkt_msg.specs.Plays.{IsSameSeat, hands_out as hands_it}
 use mathlib.Core.Option.{none}
@@ -58,7 +57,7 @@ loop-m-preserved c =
             (w.load.ensures.0 ∙ inv.0.0, w.load.ensures.1 ∙ inv.0.1),
             ap (λ (v : View). v.cpus) did.1.1.1 ∙ inv.1,
             ap (λ (v : View). v.specs) did.1.1.1 ∙ inv.2,
-            handing_own c.loop-m.place w.load.new.seat c.args.cpu m did.1.0 (hands_out (who c.loop-m.place.me.0) m w.load.result did.0) did.0 inv.3 within own w.load.ensures.0 did.1.1.1 did.2,
+            handing_own c.loop-m.place w.load.new.seat c.args.cpu m did.1.0 w.load.result did.0 inv.3 within own w.load.ensures.0 did.1.1.0 did.1.1.1 did.2 did.3,
           )
       | else-eq w ↦
           let other : IsOwn c.loop-m.place.me.0 c.args.cpu.0 m → ⊥
