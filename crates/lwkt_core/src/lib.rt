@@ -21,6 +21,7 @@ pub use events::Event;
 pub use finals::Final;
 pub use lacks::Lack;
 pub use messages::Message;
+pub use openings::are_within;
 pub use seats::{Chapter, Deed, Operation, SeatKind, WordStep};
 pub use states::State;
 pub use tokens::Token;

@@ -29,19 +29,20 @@ use Rattle.lwkt_msg.specs.Hands.{Has, AreSame, IsOwn, IsInHand, AreHands}
 use Rattle.lwkt_msg.specs.Steps.{sent_word, rest_word}
 use Rattle.lwkt_msg.specs.Deeds as deed
 use Rattle.lwkt_msg.specs.Told.{Told, Tells}
-use Rattle.lwkt_msg.specs.Records.{WasSent, WasAnswered, IsPosted}
-use Rattle.lwkt_msg.specs.Plays.{IsAfter, Looked, looks, sends, Took, takes_it, replies, HasFetched, reaps, hands_out}
+use Rattle.lwkt_msg.specs.Records.{WasSent, WasAnswered, IsPosted, IsAskedSo}
+use Rattle.lwkt_msg.specs.Plays.{IsAfter, IsAskedBy, Looked, looks, sends, Took, takes_it, replies, HasFetched, reaps, hands_out}
 use Rattle.lwkt_msg.proofs.WordFacts.{message_word-injective, message_word-below}
 use Rattle.lwkt_msg.proofs.Bringing.{AreSame-refl, find_slot, bring}
 use Rattle.lwkt_msg.proofs.Moves.{never, look_mine}
 use Rattle.lwkt_msg.proofs.Frames.{seat_plan}
 use Rattle.lwkt_msg.proofs.Leading as lead
 use Rattle.lwkt_msg.proofs.Recording.{records_told}
+use Rattle.lwkt_msg.proofs.Asking.{requests_told}
 use Rattle.lwkt_msg.proofs.Telling.{who_is}
 use Rattle.lwkt_msg.proofs.Telling as tell
 
 -- a play tells of the one message whose word the step is on
-at_word : (m : ℕ) (P : ℕ → Type 0) → P m → (k : ℕ) → word_at m ≡ word_at k → P k
+pub at_word : (m : ℕ) (P : ℕ → Type 0) → P m → (k : ℕ) → word_at m ≡ word_at k → P k
 at_word m P here k same = let is : m ≡ k = omega arith in subst P is here
 
 -- what the word of a message shows of its owner
@@ -87,13 +88,13 @@ one_record hands slot y z i j a b same =
     ap (λ (x : ℕ × Rec). x.1) (some-injective (slot, y) (slot, z) h)
 
 module _ (key : Layout) (s : State Rec View) (id : ℕ) (v : View) (cpu : CpuId) (m : ℕ) (rule : Rule key s) (e : get_elem? s.views id ≡ some v) (is_seat : v.kind ≡ Of cpu) (within : m < length v.specs) where
-  there : m < length key.specs.items
+  pub there : m < length key.specs.items
   there = subst (λ (xs : List MsgSpec). m < length xs) (seat_plan key rule.mails s id v cpu rule.book e is_seat).1 within
 
   abbrev mail : Mail
   mail = mail_at rule.mails m
 
-  kept : IsKept key.cpus (spec_at key.specs.items m) mail (get_or s.words (word_at m) 0) (get_elem? s.homes (slot_at m)) m s.views
+  pub kept : IsKept key.cpus (spec_at key.specs.items m) mail (get_or s.words (word_at m) 0) (get_elem? s.homes (slot_at m)) m s.views
   kept = lead.kept key rule.mails s id v cpu m rule.book e is_seat there
 
   knows : Knows mail (Of cpu) (at v m)
@@ -134,9 +135,20 @@ module _ (key : Layout) (s : State Rec View) (id : ℕ) (v : View) (cpu : CpuId)
       kept.slot ∙ ap (λ (o : Option Rec). some o) (in_slot_taken cpu.0 mail.msg.owner mail.had mail.rec (sym k.taken_is ∙ h))
 
 -- what a step tells of its deed, by the processor of the view
-told_by_who : (key : Layout) (s : State Rec View) (told : Told key s) (id : ℕ) (v : View) (cpu : CpuId) (is_seat : v.kind ≡ Of cpu) (hands : List (ℕ × Rec)) (m : ℕ) (e : Entry) (d : CpuId → Deed) (word : ℕ) (act : Act Rec)
+pub told_by_who : (key : Layout) (s : State Rec View) (told : Told key s) (id : ℕ) (v : View) (cpu : CpuId) (is_seat : v.kind ≡ Of cpu) (hands : List (ℕ × Rec)) (m : ℕ) (e : Entry) (d : CpuId → Deed) (word : ℕ) (act : Act Rec)
     → (t : Tells key s told id v hands m e (d cpu) word act) → noted t.between v m e (d cpu) ≡ noted t.between v m e (d (who v))
 told_by_who key s told id v cpu is_seat hands m e d word act t = ap (λ (c : CpuId). noted t.between v m e (d c)) (sym (who_is v cpu is_seat))
+
+-- what a word shows of a request to abort is so by the history
+asked_shown : (deeds : List Deed) (m : ℕ) (mail : Mail) → IsAskedSo deeds m mail.msg.owner mail.msg.asked → IsAskedBy deeds m (parts_of mail)
+asked_shown deeds m mail known shown = known.away (away_shown mail.msg.owner ∙ shown)
+
+pub was_asked : (key : Layout) (s : State Rec View) (m : ℕ) (told : Told key s) → m < length key.specs.items → (front : List Deed) → front ≡ told.chronicle.history → IsAskedBy front m (parts_of (mail_at told.rule.mails m))
+was_asked key s m told there front seen =
+    let mail : Mail = mail_at told.rule.mails m in
+    let known : IsAskedSo told.chronicle.history m mail.msg.owner mail.msg.asked = requests_told key.cpus key.specs.items told.chronicle.history told.rule.mails told.chronicle.passes m (let h = told.rule.book.as_many in omega arith) in
+    let F : List Deed → Type 0 = λ x. IsAskedBy x m (parts_of mail) in
+    subst F (sym seen) (asked_shown told.chronicle.history m mail known)
 
 -- a load of a message's word
 pub look_allowed : (key : Layout) (slots id : ℕ) (me : Me Rec View) (cpu : CpuId) (m : ℕ) → me.0.kind ≡ Of cpu → m < length me.0.specs → AreHands me.0 cpu.0 me.1
@@ -177,6 +189,7 @@ look_allowed key slots id me cpu m is_seat within hands s told deep at_id small 
           is_word = (kept key s id me.0 cpu m told.rule at_id is_seat within).is_word;
           sees = sees key s id me.0 cpu m told.rule at_id is_seat within;
           view_is = (t.between, (t.others, told_by_who key s told id me.0 cpu is_seat me.1 m e' (λ c. deed.loads c m n) n act t));
+          asked = was_asked key s m told here (me.0.past ++ t.between) t.front;
           same = same;
           front = front;
         }
@@ -271,18 +284,20 @@ module _ (key : Layout) (id : ℕ) (me : Me Rec View) (cpu : CpuId) (m : ℕ) (i
           let F : ℕ → Type 0 = λ x. Told key record { words = set s.words (word_at m) x; homes = set s.homes (slot_at m) none; views = set s.views id v' } in
           let same = told_by_who key s told id me.0 cpu is_seat me.1 m e' (λ c. deed.takes c m w.round (message_word w) rec) (message_word w + 1) (takes (slot_at m) rec) t in
           let owner_is = lead.goes_to key told.rule.mails s id me.0 cpu m told.rule.book at_id is_seat here w (found ∙ old_is) fits out to in
-          let tells : (k : ℕ) → word_at m ≡ word_at k → (x : MsgWord) → MessageFits x → old ≡ message_word x → Took k x.round old new me n (v', (slot_at m, rec) ∷ me.1)
-          = at_word m (λ k. (x : MsgWord) → MessageFits x → old ≡ message_word x → Took k x.round old new me n (v', (slot_at m, rec) ∷ me.1))
+          let tells : (k : ℕ) → word_at m ≡ word_at k → (x : MsgWord) → MessageFits x → old ≡ message_word x → Took k x old new me n (v', (slot_at m, rec) ∷ me.1)
+          = at_word m (λ k. (x : MsgWord) → MessageFits x → old ≡ message_word x → Took k x old new me n (v', (slot_at m, rec) ∷ me.1))
           (λ x x_fits is.
           let w_is : w ≡ x = message_word-injective w x fits x_fits (sym old_is ∙ is) in
+          let shown_is : parts_of (mail_at told.rule.mails m) ≡ w = lead.parts_are key told.rule.mails s id me.0 cpu m told.rule.book at_id is_seat here w (found ∙ old_is) fits in
           record {
             won = λ _. (
               rec,
               record {
                 between = t.between;
                 others = t.others;
-                view_is = same ∙ (λ i. noted t.between me.0 m e' (deed.takes (who me.0) m (w_is i).round (sym old_is i) rec));
+                view_is = same ∙ (λ i. noted t.between me.0 m e' (deed.takes (who me.0) m (w_is i).round (message_word (w_is i)) rec));
                 sent = was_sent key s m told here (origin_of (mail_at told.rule.mails m).msg.owner) cpu (me.0.past ++ t.between) owner_is t.front;
+                asked = let F : MsgWord → Type 0 = λ y. IsAskedBy (me.0.past ++ t.between) m y in subst F (shown_is ∙ w_is) (was_asked key s m told here (me.0.past ++ t.between) t.front);
               },
               refl,
             );
@@ -299,7 +314,7 @@ module _ (key : Layout) (id : ℕ) (me : Me Rec View) (cpu : CpuId) (m : ℕ) (i
             keeps,
             tt,
             t.after,
-            at_word m (λ k. (x : MsgWord) → MessageFits x → old ≡ message_word x → Took k x.round old new me n (v', me.1))
+            at_word m (λ k. (x : MsgWord) → MessageFits x → old ≡ message_word x → Took k x old new me n (v', me.1))
                 (λ x x_fits is. record { won = λ found. absurd (other found); lost = λ _. ((t.between, (t.others, same)), refl) }),
           )
 

@@ -1,5 +1,6 @@
-use Rattle.std.proofs.Common.{◌≡◌, inl, inr, ℕ, ◌+◌, ◌<◌, Bool, true, false, List, [], ◌∷◌, ◌++◌, length, refl, ap, sym, ◌∙◌, subst, arith, append_assoc, eq-eqb, ◌||◌}
+use Rattle.std.proofs.Common.{◌≡◌, ◌↔◌, inl, inr, ℕ, ◌+◌, ◌<◌, Bool, true, false, List, [], ◌∷◌, ◌++◌, length, refl, ap, sym, ◌∙◌, subst, arith, append_assoc, eq-eqb, ◌||◌}
 use Rattle.std.proofs.lemmas.Bool.{eqb-true}
+use Rattle.atomic_table.specs.Table.{Me}
 use Rattle.atomic_table.specs.declared.shared.Seat.{Seat}
 use Rattle.lwkt_base.specs.declared.faults.Fault.TheVariants.{NotOwner, NotTaken, RoundsOut}
 use Rattle.lwkt_base.specs.declared.names.CpuId.{CpuId}
@@ -17,10 +18,10 @@ use Rattle.lwkt_msg.specs.declared.views.Entry.{Entry}
 use Rattle.lwkt_msg.specs.declared.views.View.{View}
 use Rattle.lwkt_msg.specs.Views.{spec_at, call_of, at, who, noted, looked, sent, took, answered, reaped, shows_away, shows_back, shows_with, SeesOwn, Stands}
 use Rattle.lwkt_msg.specs.Deeds.{loads, loses, sends, takes, replies, reaps}
-use Rattle.lwkt_msg.specs.Records.{WasSent, WasAnswered, Last}
+use Rattle.lwkt_msg.specs.Records.{WasSent, WasAnswered, WasAskedFor, Last}
 use Rattle.lwkt_msg.specs.Hands.{IsOwn, IsInHand}
 use Rattle.lwkt_msg.specs.Steps.{sent_word, rest_word}
-use Rattle.lwkt_msg.specs.Plays.{IsAfter, IsLooked, HasWon, HasLost, HasFetched, IsSat, IsInFront}
+use Rattle.lwkt_msg.specs.Plays.{IsAfter, Looked, IsLooked, HasWon, HasLost, HasFetched, IsSat, IsInFront}
 use Rattle.lwkt_msg.specs.Calls.{Does, IsLoaded, OnlyLooked, IsHome, sent_rec, HasSent, IsUnsent, IsForTaking, IsForReaping, HasTaken, HasLostTake, answered_rec, HasReplied, IsUnreplied, HasReaped}
 use Rattle.lwkt_msg.proofs.Knowing.{at-here, at-else}
 
@@ -53,6 +54,14 @@ pub Last-of : (v w : View) (m : ℕ) (e : Entry) (d : Deed) (between : List Deed
 Last-of v w m e d between IsSo is so =
     let F : View → Type 0 = λ x. Last x.past d IsSo in
     subst F (sym is) (v.past ++ between, (sym (append_assoc v.past between (d ∷ [])), so))
+
+-- a look, by the parts of the word that it found
+pub looked_parts : (m : ℕ) (me : Me Rec View) (found : ℕ) (then : Me Rec View) (w : MsgWord) → (l : Looked m me found then) → w ≡ l.parts → IsLooked m me w then
+looked_parts m me found then w l is =
+    let F : MsgWord → Type 0 = λ x. IsLooked m me x then in
+    let view_is : IsAfter me.0 m (looked l.parts (at me.0 m)) (loads (who me.0) m (message_word l.parts)) then.0
+    = (l.view_is.0, (l.view_is.1.0, l.view_is.1.1 ∙ (λ i. noted l.view_is.0 me.0 m (looked l.parts (at me.0 m)) (loads (who me.0) m (l.is_word i))))) in
+    subst F (sym is) record { fits = l.fits; sees = l.sees; view_is = view_is; asked = l.asked; same = l.same; front = l.front }
 
 rest_of : (s : MsgState) → shows_away s ≡ false → s ≡ Rest
 rest_of Rest e = refl
@@ -163,10 +172,10 @@ module _ (place place1 : Seat Rec View) (cpu : CpuId) (m : ℕ) (w : MsgWord) (s
   take_new is (inr h) =
       let a : false ≡ true = sym (not_taken_at Out is refl) ∙ (ap (λ (x : Entry). x.taken) (sym entry_is) ∙ h) in cc
 
-  pub take_done : (round : ℕ) (found : ℕ) (rec : Rec) (w2 : View) → IsForTaking cpu round w → found ≡ message_word w → HasWon m w.round found place1.me.0 rec w2 → HasTaken cpu v w2 m round rec w.aborted
-  take_done round found rec w2 is found_is won =
+  pub take_done : (round : ℕ) (rec : Rec) (w2 : View) → IsForTaking cpu round w → HasWon m w place1.me.0 rec w2 → HasTaken cpu v w2 m round rec w.aborted
+  take_done round rec w2 is won =
       let d : Deed = takes (who v) m round (message_word w) rec in
-      let view_is : w2 ≡ noted won.between place1.me.0 m (took rec (looked w e)) d = won.view_is ∙ (λ i. noted won.between place1.me.0 m (took rec (entry_is i)) (takes (who_same i) m (is.2 i) (found_is i) rec)) in
+      let view_is : w2 ≡ noted won.between place1.me.0 m (took rec (looked w e)) d = won.view_is ∙ (λ i. noted won.between place1.me.0 m (took rec (entry_is i)) (takes (who_same i) m (is.2 i) (message_word w) rec)) in
       record {
         found = w;
         loaded = loaded;
@@ -174,6 +183,7 @@ module _ (place place1 : Seat Rec View) (cpu : CpuId) (m : ℕ) (w : MsgWord) (s
         aborted_is = refl;
         clean = won.sent.clean;
         put = Last-of place1.me.0 w2 m (took rec (looked w e)) d won.between (λ front. WasSent front m rec) view_is won.sent;
+        asked = Last-of place1.me.0 w2 m (took rec (looked w e)) d won.between (λ front. (w.aborted ≡ true) ↔ WasAskedFor w.origin front m) view_is (won.asked (ap shows_away is.0));
         does = Does-two v place1.me.0 w2 m (looked w e) (took rec (looked w e)) (loads (who v) m (message_word w)) d l.view_is (won.between, (won.others, view_is));
       }
 

@@ -398,6 +398,9 @@ module _ (key : Layout) (mails : List Mail) (s : State Rec View) (id : ℕ) (v :
       let same : parts_of mail ≡ w = parts_are w is fits in
       sent_to mail.msg.owner cpu (ap (λ (x : MsgWord). x.state) same ∙ out) (ap (λ (x : MsgWord). x.target) same ∙ to)
 
+  pub goes_out : (w : MsgWord) → get_or s.words (word_at m) 0 ≡ message_word w → MessageFits w → w.state ≡ state.Out → mail.msg.owner ≡ Out (origin_of mail.msg.owner) (target_of mail.msg.owner)
+  goes_out w is fits out = sent_out mail.msg.owner (ap (λ (x : MsgWord). x.state) (parts_are w is fits) ∙ out)
+
   pub came_back : IsOwn v cpu.0 m → (at v m).back ≡ true → mail.msg.owner ≡ Back (origin_of mail.msg.owner) (target_of mail.msg.owner)
   came_back own seen = come_back mail.msg.owner ((knows_own own).back_is seen)
 

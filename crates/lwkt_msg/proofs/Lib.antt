@@ -8,12 +8,15 @@ pub mod Carrying
 pub mod Recalling
 pub mod Telling
 pub mod Recording
+pub mod Asking
 pub mod Running
 pub mod Deciding
 pub mod Allowing
+pub mod Revoking
 pub mod Splitting
 pub mod Sitting
 pub mod Calling
+pub mod Withdrawing
 pub mod Handing
 pub mod Closing
 pub mod Ending

@@ -30,13 +30,13 @@ use Rattle.lwkt_msg.specs.Records.{IsSendOf, IsReplyOf, WasSent, WasAnswered, Is
 use Rattle.lwkt_msg.proofs.Leading.{shown_at}
 
 -- a list is not empty, and its first element is one
-some_event : (e : Event) (es : List Event) → es ≡ [] → es ≡ e ∷ [] → ⊥
+pub some_event : (e : Event) (es : List Event) → es ≡ [] → es ≡ e ∷ [] → ⊥
 some_event e es none one = let h : [] ≡ e ∷ [] = sym none ∙ one in cc
 
-same_event : (a b : Event) → a ∷ [] ≡ b ∷ [] → a ≡ b
+pub same_event : (a b : Event) → a ∷ [] ≡ b ∷ [] → a ≡ b
 same_event a b h = ap (λ (es : List Event). get_or es 0 a) h
 
-abbrev message_in : Place → ℕ
+abbrev pub message_in : Place → ℕ
 message_in (AtToken i) = 0
 message_in (AtMessage i) = i
 

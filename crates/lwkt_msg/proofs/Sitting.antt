@@ -16,7 +16,7 @@ use mathlib.Core.Logic.{dite}
 use native.Mathlib.Decide.{ℕ_discrete}
 use Rattle.lwkt_msg.proofs.Knowing.{at-here, at-else}
 use Rattle.lwkt_msg.proofs.Bringing.{AreSame-refl}
-use Rattle.lwkt_msg.proofs.Carrying.{hands_same, hands_given, hands_taken}
+use Rattle.lwkt_msg.proofs.Carrying.{IsAlike, hands_same, hands_given, hands_taken}
 
 -- a seat is still that of its processor after a step
 pub sat_after : (place place' : Seat Rec View) (cpu : CpuId) (m : ℕ) (e' : Entry) (between : List Deed) (did : Deed) → IsSat cpu place → place'.table_id ≡ place.table_id → place'.me.0 ≡ noted between place.me.0 m e' did → e'.had ≡ (at place.me.0 m).had
@@ -77,12 +77,16 @@ sat_taken place place' cpu m e' between did rec sat same view_is within not_yet 
     sat_after place place' cpu m e' between did sat same view_is had (subst G (sym got) (hands_taken place.me.0 m e' between did cpu.0 rec place.me.1 within sat.hands not_yet now call))
 
 -- a step after which the same is in hand
+pub sat_alike : (place place' : Seat Rec View) (cpu : CpuId) (m : ℕ) (e' : Entry) (between : List Deed) (did : Deed) → IsSat cpu place → place'.table_id ≡ place.table_id → place'.me.0 ≡ noted between place.me.0 m e' did
+    → IsAlike (at place.me.0 m) e' → place'.me.1 ≡ place.me.1 → IsSat cpu place'
+sat_alike place place' cpu m e' between did sat same view_is alike hands =
+    let F : List (ℕ × Rec) → Type 0 = λ c. AreSame place.me.1 c in
+    sat_after place place' cpu m e' between did sat same view_is alike.had
+    (hands_same place.me.0 m e' between did cpu.0 place.me.1 place'.me.1 alike sat.hands (subst F (sym hands) (AreSame-refl place.me.1)))
+
 pub sat_same : (place place' : Seat Rec View) (cpu : CpuId) (m : ℕ) (between : List Deed) (did : Deed) → IsSat cpu place → place'.table_id ≡ place.table_id → place'.me.0 ≡ noted between place.me.0 m (at place.me.0 m) did
     → place'.me.1 ≡ place.me.1 → IsSat cpu place'
-sat_same place place' cpu m between did sat same view_is hands =
-    let F : List (ℕ × Rec) → Type 0 = λ c. AreSame place.me.1 c in
-    sat_after place place' cpu m (at place.me.0 m) between did sat same view_is refl
-    (hands_same place.me.0 m (at place.me.0 m) between did cpu.0 place.me.1 place'.me.1 (record { had = refl; away = refl; taken = refl; got = refl }) sat.hands (subst F (sym hands) (AreSame-refl place.me.1)))
+sat_same place place' cpu m between did sat same view_is hands = sat_alike place place' cpu m (at place.me.0 m) between did sat same view_is (record { had = refl; away = refl; taken = refl; got = refl }) hands
 
 -- a seat that is the same but for its number is sat on too
 pub sat_moved : (place place' : Seat Rec View) (cpu : CpuId) → IsSat cpu place → place'.table_id ≡ place.table_id → place'.me ≡ place.me → IsSat cpu place'

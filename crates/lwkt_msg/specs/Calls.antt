@@ -1,12 +1,12 @@
-use Rattle.std.specs.Prelude.{◌≡◌, ◌≢◌, ◌⊎◌, ℕ, ◌+◌, ◌≤◌, Bool, true, false, List, [], ◌∷◌}
+use Rattle.std.specs.Prelude.{◌≡◌, ◌≢◌, ◌⊎◌, ◌↔◌, ℕ, ◌+◌, ◌≤◌, Bool, true, false, List, [], ◌∷◌}
 use Rattle.lwkt_base.specs.declared.faults.Fault.{Fault}
-use Rattle.lwkt_base.specs.declared.faults.Fault.TheVariants.{NotOwner, NotTaken, RoundsOut}
+use Rattle.lwkt_base.specs.declared.faults.Fault.TheVariants.{NotOwner, NotTaken, RoundsOut, NotOut, NotDropable, NotAbortable}
 use Rattle.lwkt_base.specs.declared.names.CpuId.{CpuId}
 use Rattle.lwkt_base.specs.declared.records.Call.{Call}
 use Rattle.lwkt_base.specs.declared.records.Rec.{Rec}
 use Rattle.lwkt_base.specs.declared.records.Flags.{Flags}
 use Rattle.lwkt_base.specs.declared.message_words.MsgWord.{MsgWord}
-use Rattle.lwkt_base.specs.declared.message_words.MsgState.TheVariants.{Out, Back}
+use Rattle.lwkt_base.specs.declared.message_words.MsgState.TheVariants.{Rest, Out, With, Back}
 use Rattle.lwkt_base.specs.MessageWord.{message_word, MessageFits}
 use Rattle.lwkt_core.specs.declared.messages.TheConstants.{LAST_ROUND}
 use Rattle.lwkt_core.specs.declared.seats.Deed.{Deed}
@@ -17,9 +17,9 @@ use Rattle.lwkt_msg.specs.declared.answers.Reaped.{Reaped}
 use Rattle.lwkt_msg.specs.declared.answers.Reaped.TheVariants as reaped_
 use Rattle.lwkt_msg.specs.declared.views.Entry.{Entry}
 use Rattle.lwkt_msg.specs.declared.views.View.{View}
-use Rattle.lwkt_msg.specs.Views.{call_of, at, who, looked, sent, took, answered, reaped, Sees}
-use Rattle.lwkt_msg.specs.Deeds.{loads, loses, sends, takes, replies, reaps}
-use Rattle.lwkt_msg.specs.Records.{WasSent, WasAnswered, Last}
+use Rattle.lwkt_msg.specs.Views.{call_of, at, who, looked, sent, took, answered, reaped, dropped, requested, Sees}
+use Rattle.lwkt_msg.specs.Deeds.{loads, loses, sends, takes, replies, reaps, drops, requests}
+use Rattle.lwkt_msg.specs.Records.{WasSent, WasAnswered, WasAskedFor, Last}
 use Rattle.lwkt_msg.specs.Hands.{IsOwn}
 use Rattle.lwkt_msg.specs.Steps.{sent_word, rest_word}
 
@@ -75,7 +75,7 @@ abbrev pub IsForReaping : CpuId → ℕ → MsgWord → Type 0
 IsForReaping cpu round w = (w.state ≡ Back) × (w.origin ≡ cpu) × (w.round ≡ round)
 
 -- the message was taken, as its word allowed: the record is the one that the last send of the message put there, and the
--- request to abort is that of the word
+-- request to abort is that of the word, which has one exactly if the origin has asked in this round, by the history up to the take
 pub record HasTaken (cpu : CpuId) (v w : View) (m round : ℕ) (rec : Rec) (aborted : Bool) : Type 0 where
   pub found : MsgWord
   pub loaded : IsLoaded v m found
@@ -83,6 +83,7 @@ pub record HasTaken (cpu : CpuId) (v w : View) (m round : ℕ) (rec : Rec) (abor
   pub aborted_is : aborted ≡ found.aborted
   pub clean : (rec.error ≡ 0) × (rec.result ≡ 0)
   pub put : Last w.past (takes (who v) m round (message_word found) rec) (λ front. WasSent front m rec)
+  pub asked : Last w.past (takes (who v) m round (message_word found) rec) (λ front. (aborted ≡ true) ↔ WasAskedFor found.origin front m)
   pub does : Does v w m (took rec (looked found (at v m))) (loads (who v) m (message_word found) ∷ takes (who v) m round (message_word found) rec ∷ [])
 
 -- the message was not taken: its word didn't allow it
@@ -118,7 +119,7 @@ pub record HasReplied (v w : View) (m error outcome : ℕ) : Type 0 where
   pub other : ℕ
   pub does : Does v w m (answered error outcome (looked found (at v m))) (loads (who v) m (message_word found) ∷ replies (who v) m other (answered_rec (at v m).got error outcome) ∷ [])
 
--- the message was not replied to: the seat hasn't taken it
+-- the message was not replied to, or nothing is told of it: the seat hasn't taken it
 pub record IsUnreplied (v w : View) (m : ℕ) (fault : Fault) : Type 0 where
   pub found : MsgWord
   pub looked_at : OnlyLooked v w m found
@@ -150,3 +151,79 @@ pub record IsStaleToReap (cpu : CpuId) (v w : View) (m round : ℕ) : Type 0 whe
 abbrev pub ReapMeans : CpuId → View → View → ℕ → ℕ → Reaped → Type 0
 ReapMeans cpu v w m round (reaped_.Done rec) = HasReaped cpu v w m round rec
 ReapMeans cpu v w m round reaped_.Stale = IsStaleToReap cpu v w m round
+
+-- a word shows a message that this processor may drop; and what forbids it, the first of three (lwkt_dropmsg of msgport(9); that it is
+-- the origin who drops, and only before the take, is own)
+abbrev pub IsForDropping : CpuId → MsgWord → Type 0
+IsForDropping cpu w = (w.origin ≡ cpu) × (w.state ≡ Out) × (w.dropable ≡ true)
+
+abbrev pub ForbidsDrop : CpuId → MsgWord → Fault → Type 0
+ForbidsDrop cpu w fault = ((fault ≡ NotOwner) × (w.origin ≢ cpu)) ⊎ ((fault ≡ NotOut) × (w.origin ≡ cpu) × (w.state ≢ Out)) ⊎ ((fault ≡ NotDropable) × (w.origin ≡ cpu) × (w.state ≡ Out) × (w.dropable ≡ false))
+
+-- the message was dropped, as its word allowed, and is at rest in the round that it had: the record is the one that the last send of
+-- the message put there, with the call that this seat sent
+pub record HasDropped (cpu : CpuId) (v w : View) (m : ℕ) (rec : Rec) : Type 0 where
+  pub own : IsOwn v cpu.0 m
+  pub was_away : (at v m).away ≡ true
+  pub found : MsgWord
+  pub loaded : IsLoaded v m found
+  pub allowed : IsForDropping cpu found
+  pub round_is : found.round ≡ (at v m).round
+  pub rec_is : rec ≡ sent_rec (at v m).call
+  pub put : Last w.past (drops (who v) m (message_word found) (message_word (rest_word cpu found.round)) rec) (λ front. WasSent front m rec)
+  pub does :
+      let new : MsgWord = rest_word cpu found.round in
+      Does v w m (dropped (at v m)) (loads (who v) m (message_word found) ∷ drops (who v) m (message_word found) (message_word new) rec ∷ [])
+
+-- the message was not dropped: its word forbade it
+pub record IsUndropped (cpu : CpuId) (v w : View) (m : ℕ) (fault : Fault) : Type 0 where
+  pub found : MsgWord
+  pub looked_at : OnlyLooked v w m found
+  pub why : ForbidsDrop cpu found fault
+
+-- the message was not dropped: its word allowed it, but the exchange found that its target had taken it since, in the same round
+pub record HasLostDrop (cpu : CpuId) (v w : View) (m : ℕ) (fault : Fault) : Type 0 where
+  pub is : fault ≡ NotOut
+  pub own : IsOwn v cpu.0 m
+  pub found : MsgWord
+  pub loaded : IsLoaded v m found
+  pub allowed : IsForDropping cpu found
+  pub other : MsgWord
+  pub taken : (other ≡ record found { state = With }) ⊎ (other ≡ record found { state = Back })
+  pub does :
+      let new : MsgWord = rest_word cpu found.round in
+      Does v w m (looked found (at v m)) (loads (who v) m (message_word found) ∷ loses (who v) m (message_word found) (message_word new) (message_word other) ∷ [])
+
+-- a word shows a message that this processor may ask to be aborted; and what forbids it, the first of three (lwkt_abortmsg of
+-- msgport(9); that it is the origin who asks is own)
+abbrev pub IsForAborting : CpuId → MsgWord → Type 0
+IsForAborting cpu w = (w.origin ≡ cpu) × ((w.state ≡ Out) ⊎ (w.state ≡ With)) × (w.abortable ≡ true)
+
+abbrev pub ForbidsAbort : CpuId → MsgWord → Fault → Type 0
+ForbidsAbort cpu w fault = ((fault ≡ NotOwner) × (w.origin ≢ cpu)) ⊎ ((fault ≡ NotOut) × (w.origin ≡ cpu) × ((w.state ≡ Rest) ⊎ (w.state ≡ Back))) ⊎ ((fault ≡ NotAbortable) × (w.origin ≡ cpu) × ((w.state ≡ Out) ⊎ (w.state ≡ With)) × (w.abortable ≡ false))
+
+-- the origin has asked for the message to be aborted, as its word allowed. The step met the message in the same round, on its way,
+-- taken, or already back
+pub record HasRequested (cpu : CpuId) (v w : View) (m : ℕ) : Type 0 where
+  pub own : IsOwn v cpu.0 m
+  pub was_away : (at v m).away ≡ true
+  pub found : MsgWord
+  pub loaded : IsLoaded v m found
+  pub allowed : IsForAborting cpu found
+  pub met : MsgWord
+  pub same_round : (met ≡ record found { state = Out }) ⊎ (met ≡ record found { state = With }) ⊎ (met ≡ record found { state = Back })
+  pub does : Does v w m (requested (looked found (at v m))) (loads (who v) m (message_word found) ∷ requests (who v) m (message_word met) ∷ [])
+
+-- the origin has not asked: the message's word forbade it
+pub record IsUnrequested (cpu : CpuId) (v w : View) (m : ℕ) (fault : Fault) : Type 0 where
+  pub found : MsgWord
+  pub looked_at : OnlyLooked v w m found
+  pub why : ForbidsAbort cpu found fault
+
+-- whether the origin has asked for the message to be aborted, which the seat has taken: in this round, by the history up to the load
+pub record IsToldRequest (v w : View) (m : ℕ) (aborted : Bool) : Type 0 where
+  pub taken_by_it : (at v m).taken ≡ true
+  pub found : MsgWord
+  pub looked_at : OnlyLooked v w m found
+  pub aborted_is : aborted ≡ found.aborted
+  pub asked : Last w.past (loads (who v) m (message_word found)) (λ front. (aborted ≡ true) ↔ WasAskedFor found.origin front m)

@@ -1,4 +1,4 @@
-use Rattle.std.specs.Prelude.{◌≡◌, ◌≢◌, ℕ, ◌+◌, ◌*◌, ◌<◌, ◌≤◌, true, List, [], ◌∷◌, ◌++◌, length}
+use Rattle.std.specs.Prelude.{◌≡◌, ◌≢◌, ◌↔◌, ℕ, ◌+◌, ◌*◌, ◌<◌, ◌≤◌, true, List, [], ◌∷◌, ◌++◌, length}
 use Rattle.atomic_table.specs.Table.{Me, Step}
 use Rattle.atomic_table.specs.declared.shared.Seat.{Seat}
 use Rattle.lwkt_base.specs.declared.names.CpuId.{CpuId}
@@ -11,9 +11,9 @@ use Rattle.lwkt_core.specs.Opening.{AreWithin}
 use Rattle.lwkt_core.specs.History.{AreOthers}
 use Rattle.lwkt_msg.specs.declared.views.Entry.{Entry}
 use Rattle.lwkt_msg.specs.declared.views.View.{View}
-use Rattle.lwkt_msg.specs.Views.{word_at, slot_at, call_of, at, who, noted, looked, handed, sent, took, replied, reaped, Sees}
+use Rattle.lwkt_msg.specs.Views.{word_at, slot_at, call_of, at, who, noted, looked, handed, sent, took, replied, reaped, dropped, requested, shows_away, Sees}
 use Rattle.lwkt_msg.specs.Deeds as deed
-use Rattle.lwkt_msg.specs.Records.{WasSent, WasAnswered}
+use Rattle.lwkt_msg.specs.Records.{WasSent, WasAnswered, WasAskedFor}
 use Rattle.lwkt_msg.specs.Hands.{Has, AreSame, IsOwn, AreHands}
 
 -- since the last deed of the seat with this view others have acted, and its step tells this after what they did
@@ -24,6 +24,11 @@ Amid v R = (between : List Deed) × (AreOthers (who v).0 between × R between)
 abbrev pub IsAfter : View → ℕ → Entry → Deed → View → Type 0
 IsAfter v m e d w = Amid v (λ between. w ≡ noted between v m e d)
 
+-- the word of a message that is away has the bit of the request to abort exactly if, by the deeds up to here, its origin has made
+-- one in this round
+abbrev pub IsAskedBy : List Deed → ℕ → MsgWord → Type 0
+IsAskedBy deeds m w = shows_away w.state ≡ true → (w.aborted ≡ true) ↔ WasAskedFor w.origin deeds m
+
 -- what a load of a message's word tells: the parts of the word, which are what the view knows; if the seat has the record in
 -- hand, it lies in front now
 pub record Looked (m : ℕ) (me : Me Rec View) (found : ℕ) (then : Me Rec View) : Type 0 where
@@ -32,6 +37,7 @@ pub record Looked (m : ℕ) (me : Me Rec View) (found : ℕ) (then : Me Rec View
   pub is_word : found ≡ message_word parts
   pub sees : Sees me.0 m parts
   pub view_is : IsAfter me.0 m (looked parts (at me.0 m)) (deed.loads (who me.0) m found) then.0
+  pub asked : IsAskedBy (me.0.past ++ view_is.0) m parts
   pub same : AreSame me.1 then.1
   pub front : (rec : Rec) → Has me.1 (slot_at m) rec → (others : List (ℕ × Rec)) × (then.1 ≡ (slot_at m, rec) ∷ others)
 
@@ -40,6 +46,7 @@ pub record IsLooked (m : ℕ) (me : Me Rec View) (w : MsgWord) (then : Me Rec Vi
   pub fits : MessageFits w
   pub sees : Sees me.0 m w
   pub view_is : IsAfter me.0 m (looked w (at me.0 m)) (deed.loads (who me.0) m (message_word w)) then.0
+  pub asked : IsAskedBy (me.0.past ++ view_is.0) m w
   pub same : AreSame me.1 then.1
   pub front : (rec : Rec) → Has me.1 (slot_at m) rec → (others : List (ℕ × Rec)) × (then.1 ≡ (slot_at m, rec) ∷ others)
 
@@ -51,21 +58,22 @@ abbrev pub sends : Step Rec → Me Rec View → ℕ → Me Rec View → Type 0
 sends st me found then = (m : ℕ) → st.word ≡ word_at m → (w : MsgWord) → MessageFits w → found ≡ message_word w → (rec : Rec) (others : List (ℕ × Rec)) → me.1 ≡ (slot_at m, rec) ∷ others
     → IsAfter me.0 m (sent w (call_of rec) (at me.0 m)) (deed.sends (who me.0) m w.target w.round found rec) then.0 × (then.1 ≡ others)
 
--- a take in this round, by an exchange of this word, which found this record: it is the one that the last send of the message put
--- there
-pub record HasWon (m round word : ℕ) (v : View) (rec : Rec) (w : View) : Type 0 where
+-- a take by an exchange of the word of these parts, which found this record: it is the one that the last send of the message put
+-- there, and the bit of the request to abort says whether the origin has made one since
+pub record HasWon (m : ℕ) (found : MsgWord) (v : View) (rec : Rec) (w : View) : Type 0 where
   pub between : List Deed
   pub others : AreOthers (who v).0 between
-  pub view_is : w ≡ noted between v m (took rec (at v m)) (deed.takes (who v) m round word rec)
+  pub view_is : w ≡ noted between v m (took rec (at v m)) (deed.takes (who v) m found.round (message_word found) rec)
   pub sent : WasSent (v.past ++ between) m rec
+  pub asked : IsAskedBy (v.past ++ between) m found
 
 -- what the exchange of a take tells: the record is in hand, as it was sent, or another word was found
-pub record Took (m round old new : ℕ) (me : Me Rec View) (found : ℕ) (then : Me Rec View) : Type 0 where
-  pub won : found ≡ old → (rec : Rec) × HasWon m round old me.0 rec then.0 × (then.1 ≡ (slot_at m, rec) ∷ me.1)
+pub record Took (m : ℕ) (w : MsgWord) (old new : ℕ) (me : Me Rec View) (found : ℕ) (then : Me Rec View) : Type 0 where
+  pub won : found ≡ old → (rec : Rec) × HasWon m w me.0 rec then.0 × (then.1 ≡ (slot_at m, rec) ∷ me.1)
   pub lost : found ≢ old → IsAfter me.0 m (at me.0 m) (deed.loses (who me.0) m old new found) then.0 × (then.1 ≡ me.1)
 
 abbrev pub takes_it : Step Rec → Me Rec View → ℕ → Me Rec View → Type 0
-takes_it st me found then = (m : ℕ) → st.word ≡ word_at m → (w : MsgWord) → MessageFits w → st.first ≡ message_word w → Took m w.round st.first st.second me found then
+takes_it st me found then = (m : ℕ) → st.word ≡ word_at m → (w : MsgWord) → MessageFits w → st.first ≡ message_word w → Took m w st.first st.second me found then
 
 -- what the addition of a reply tells: the record in front is given away
 abbrev pub replies : Step Rec → Me Rec View → ℕ → Me Rec View → Type 0
@@ -84,6 +92,42 @@ pub record HasFetched (m word : ℕ) (v : View) (rec : Rec) (w : View) : Type 0 
 -- what the store of a reap tells: the record is in hand
 abbrev pub reaps : Step Rec → Me Rec View → ℕ → Me Rec View → Type 0
 reaps st me found then = (m : ℕ) → st.word ≡ word_at m → (rec : Rec) × HasFetched m found me.0 rec then.0 × (then.1 ≡ (slot_at m, rec) ∷ me.1)
+
+-- a drop by an exchange of the word of these parts for this one, which found this record: it is the one that the last send of the
+-- message put there, with its call
+pub record HasRecalled (m : ℕ) (found : MsgWord) (new : ℕ) (v : View) (rec : Rec) (w : View) : Type 0 where
+  pub between : List Deed
+  pub others : AreOthers (who v).0 between
+  pub view_is : w ≡ noted between v m (dropped (at v m)) (deed.drops (who v) m (message_word found) new rec)
+  pub call_is : call_of rec ≡ (at v m).call
+  pub sent : WasSent (v.past ++ between) m rec
+
+-- an exchange from one word to another found a third, which shows what the view knows, and changed nothing
+pub record HasMissed (m old new : ℕ) (v w : View) : Type 0 where
+  pub other : MsgWord
+  pub fits : MessageFits other
+  pub sees : Sees v m other
+  pub differs : message_word other ≢ old
+  pub view_is : IsAfter v m (at v m) (deed.loses (who v) m old new (message_word other)) w
+
+-- what the exchange of a drop tells: the record is in hand, as it was sent, or another word was found
+pub record Recalled (m : ℕ) (w : MsgWord) (old new : ℕ) (me : Me Rec View) (found : ℕ) (then : Me Rec View) : Type 0 where
+  pub won : found ≡ old → (rec : Rec) × HasRecalled m w new me.0 rec then.0 × (then.1 ≡ (slot_at m, rec) ∷ me.1)
+  pub lost : found ≢ old → HasMissed m old new me.0 then.0 × (then.1 ≡ me.1)
+
+abbrev pub drops_it : Step Rec → Me Rec View → ℕ → Me Rec View → Type 0
+drops_it st me found then = (m : ℕ) → st.word ≡ word_at m → (w : MsgWord) → MessageFits w → st.first ≡ message_word w → Recalled m w st.first st.second me found then
+
+-- a request to abort, by setting the bit in the word of these parts, which shows what the view knows
+pub record HasAsked (m : ℕ) (v w : View) : Type 0 where
+  pub met : MsgWord
+  pub fits : MessageFits met
+  pub sees : Sees v m met
+  pub view_is : IsAfter v m (requested (at v m)) (deed.requests (who v) m (message_word met)) w
+
+-- what setting the bit tells
+abbrev pub requests : Step Rec → Me Rec View → ℕ → Me Rec View → Type 0
+requests st me found then = (m : ℕ) → st.word ≡ word_at m → HasAsked m me.0 then.0 × (then.1 ≡ me.1)
 
 -- what the load at the opening tells that hands a record out
 abbrev pub hands_out : Step Rec → Me Rec View → ℕ → Me Rec View → Type 0

@@ -1,12 +1,13 @@
-use Rattle.std.specs.Prelude.{◌≡◌, ◌<◌, ℕ, List, [], ◌∷◌, ◌++◌, length, All}
+use Rattle.std.specs.Prelude.{◌≡◌, ◌↔◌, ◌<◌, ℕ, Bool, true, false, List, [], ◌∷◌, ◌++◌, length, All}
 use Rattle.lwkt_base.specs.declared.names.CpuId.{CpuId}
 use Rattle.lwkt_base.specs.declared.openings.MsgSpec.{MsgSpec}
 use Rattle.lwkt_base.specs.declared.owners.Owner.{Owner}
 use Rattle.lwkt_base.specs.declared.owners.Owner.TheVariants.{Rest, Out, With, Back}
 use Rattle.lwkt_base.specs.declared.records.Rec.{Rec}
-use Rattle.lwkt_core.specs.declared.events.Event.TheVariants.{Send, TakeMsg, DropMsg, Reply, Reap}
+use Rattle.lwkt_core.specs.declared.events.Event.TheVariants.{Send, TakeMsg, DropMsg, Reply, Reap, Abort}
 use Rattle.lwkt_core.specs.declared.seats.Deed.{Deed}
 use Rattle.lwkt_core.specs.History.{Passes}
+use Rattle.lwkt_core.specs.Messages.{origin_of, is_away}
 use Rattle.lwkt_msg.specs.Views.{named, call_of}
 use Rattle.lwkt_msg.specs.Book.{Mail, mail_at}
 use Rattle.lwkt_msg.specs.Told.{IsDone, first_mails}
@@ -58,6 +59,29 @@ IsPosted deeds m (Back origin target) rec = WasAnswered deeds m rec
 -- so it is after any history that begins with the messages declared
 abbrev pub HistoryTellsRecords : Type 0
 HistoryTellsRecords = (cpus : ℕ) (specs : List MsgSpec) (history : List Deed) (mails : List Mail) → Passes (IsDone cpus) (first_mails specs) history mails → (m : ℕ) → m < length mails → IsPosted history m (mail_at mails m).msg.owner (mail_at mails m).rec
+
+-- a deed is this processor's request to abort this message
+abbrev pub IsRequestOf : CpuId → ℕ → Deed → Type 0
+IsRequestOf cpu m d = d.events ≡ Abort cpu (named m) ∷ []
+
+-- among these deeds this processor has asked for this message to be aborted, and none has sent the message since: the request is of
+-- the round in which the message is (lwkt_abortmsg of msgport(9); rounds are own)
+pub record WasAskedFor (cpu : CpuId) (deeds : List Deed) (m : ℕ) : Type 0 where
+  pub before : List Deed
+  pub request : Deed
+  pub since : List Deed
+  pub parts : deeds ≡ before ++ (request ∷ since)
+  pub requests : IsRequestOf cpu m request
+  pub same_round : All (λ d. IsSendOf m d → ⊥) since
+
+-- a request to abort is noted in a message that is away exactly if its origin has made one in this round, and never at rest
+pub record IsAskedSo (deeds : List Deed) (m : ℕ) (owner : Owner) (asked : Bool) : Type 0 where
+  pub at_rest : is_away owner ≡ false → asked ≡ false
+  pub away : is_away owner ≡ true → (asked ≡ true) ↔ WasAskedFor (origin_of owner) deeds m
+
+-- so it is after any history that begins with the messages declared
+abbrev pub HistoryTellsRequests : Type 0
+HistoryTellsRequests = (cpus : ℕ) (specs : List MsgSpec) (history : List Deed) (mails : List Mail) → Passes (IsDone cpus) (first_mails specs) history mails → (m : ℕ) → m < length mails → IsAskedSo history m (mail_at mails m).msg.owner (mail_at mails m).msg.asked
 
 -- a deed takes this message, drops it, or reaps it
 abbrev pub IsTakeOf : ℕ → Deed → Type 0

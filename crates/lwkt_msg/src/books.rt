@@ -1,12 +1,13 @@
 ghost use Rattle.std.specs.Prelude.{◌≡◌, ◌⊎◌, ℕ, ◌<◌, [], length, All, MatchResult, IfOk, IfSome};
 
 use crate::closings::{read_and_free, take_all};
-use crate::openings::{are_within, blank_records, known_specs, opening_words, seat_all};
+use crate::openings::{blank_records, known_specs, opening_words, seat_all};
 use crate::rules::{BookTable, Place, Top};
 use crate::seats::MsgSeat;
 use crate::views::{Layout, View};
 use atomic_table::Perch;
 use lwkt_base::{Fault, MsgEnd, MsgSpec, Rec};
+use lwkt_core::are_within;
 use std::alloc::{AllocError, Global};
 use std::marker::Model;
 
@@ -56,7 +57,7 @@ impl MsgBook {
     {
         let seats = Vec::with_capacity(alloc, 8).map_err(|_| Fault::Memory)?;
         let known = known_specs(alloc, specs).map_err(|_| Fault::Memory)?;
-        if !are_within(specs, cpus) {
+        if !are_within(cpus, &[], specs) {
             return Err(Fault::Limits);
         }
         let layout = Layout { specs: known, cpus };

@@ -1,15 +1,15 @@
 //! The calls of a seat, over the bare seat of a processor and a message that exists.
-ghost use Rattle.std.specs.Prelude.{◌≡◌, ◌↔◌, ℕ, ◌<◌, length, true, IsTrue, MatchResult};
+ghost use Rattle.std.specs.Prelude.{◌≡◌, ◌⊎◌, ◌↔◌, ℕ, ◌<◌, length, true, IsTrue, MatchResult};
 ghost use Rattle.lwkt_base.specs.declared.message_words.MsgState.TheVariants as state;
 ghost use Rattle.lwkt_base.specs.MessageWord.{message_word};
 ghost use Rattle.lwkt_base.specs.declared.names.CpuId.{CpuId};
 ghost use Rattle.lwkt_msg.specs.Steps.{sent_word, rest_word};
-ghost use Rattle.lwkt_msg.specs.Calls.{IsForTaking, IsForReaping, sent_rec, HasSent, IsUnsent, TakeMeans, HasReplied, IsUnreplied, ReapMeans};
+ghost use Rattle.lwkt_msg.specs.Calls.{IsForTaking, IsForReaping, IsForDropping, ForbidsDrop, IsForAborting, ForbidsAbort, sent_rec, HasSent, IsUnsent, TakeMeans, HasReplied, IsUnreplied, ReapMeans, HasDropped, IsUndropped, HasLostDrop, HasRequested, IsUnrequested, IsToldRequest};
 ghost use Rattle.lwkt_msg.specs.Plays.{IsLooked, IsSat, IsSameSeat};
 
 use crate::answers::{Reaped, Taken};
 use crate::rules::{Place, Top};
-use crate::steps::{answer, fetch, look, put, win};
+use crate::steps::{answer, fetch, look, put, recall, request, win};
 use lwkt_base::{Call, CpuId, Fault, Flags, MsgState, MsgWord, Rec};
 use lwkt_core::messages::LAST_ROUND;
 
@@ -49,6 +49,39 @@ fn is_for_reaping(word: &MsgWord, cpu: CpuId, round: u64) -> bool
     ensures { IsTrue result ↔ IsForReaping cpu round word.now }
 {
     word.state == MsgState::Back && word.origin == cpu && word.round == round
+}
+
+// Whether a word shows a message that this processor may drop, or what forbids it.
+fn may_drop(word: &MsgWord, cpu: CpuId) -> Result<(), Fault>
+    ensures { MatchResult result (λ _. IsForDropping cpu word.now) (λ fault. ForbidsDrop cpu word.now fault) }
+{
+    if word.origin != cpu {
+        return Err(Fault::NotOwner);
+    }
+    if word.state != MsgState::Out {
+        return Err(Fault::NotOut);
+    }
+    if !word.dropable {
+        return Err(Fault::NotDropable);
+    }
+    Ok(())
+}
+
+// Whether a word shows a message that this processor may ask to be aborted, or what forbids it.
+fn may_abort(word: &MsgWord, cpu: CpuId) -> Result<(), Fault>
+    ensures { MatchResult result (λ _. IsForAborting cpu word.now) (λ fault. ForbidsAbort cpu word.now fault) }
+{
+    if word.origin != cpu {
+        return Err(Fault::NotOwner);
+    }
+    match word.state {
+        MsgState::Out | MsgState::With => {}
+        MsgState::Rest | MsgState::Back => return Err(Fault::NotOut),
+    }
+    if !word.abortable {
+        return Err(Fault::NotAbortable);
+    }
+    Ok(())
 }
 
 // The word of a message at rest.
@@ -206,4 +239,53 @@ pub(crate) fn reap(top: &Top, place: &mut Place, cpu: CpuId, m: usize, round: u6
     Reaped::Done {
         rec: fetch(top, place, m, rest(cpu, round)),
     }
+}
+
+// Takes an own message back that its target hasn't taken.
+pub(crate) fn drop_msg(top: &Top, place: &mut Place, cpu: CpuId, m: usize) -> Result<Rec, Fault>
+    requires table { place.old.table_id ≡ top.now.table_id }
+    requires sat { IsSat cpu place.old }
+    requires exists { m < length place.old.me.0.specs }
+    ensures seat { IsSameSeat place.old place.new }
+    ensures sat { IsSat cpu place.new }
+    ensures answer { MatchResult result (λ rec. HasDropped cpu place.old.me.0 place.new.me.0 m rec) (λ fault. IsUndropped cpu place.old.me.0 place.new.me.0 m fault ⊎ HasLostDrop cpu place.old.me.0 place.new.me.0 m fault) }
+{
+    let (found, word) = parts(top, place, m);
+    may_drop(&word, cpu)?;
+    match recall(top, place, m, found, word, rest(cpu, word.round)) {
+        Some(rec) => Ok(rec),
+        // Only the target takes a message that is on its way.
+        None => Err(Fault::NotOut),
+    }
+}
+
+// Asks for an own message to be aborted.
+pub(crate) fn abort(top: &Top, place: &mut Place, cpu: CpuId, m: usize) -> Result<(), Fault>
+    requires table { place.old.table_id ≡ top.now.table_id }
+    requires sat { IsSat cpu place.old }
+    requires exists { m < length place.old.me.0.specs }
+    ensures seat { IsSameSeat place.old place.new }
+    ensures sat { IsSat cpu place.new }
+    ensures answer { MatchResult result (λ _. HasRequested cpu place.old.me.0 place.new.me.0 m) (λ fault. IsUnrequested cpu place.old.me.0 place.new.me.0 m fault) }
+{
+    let (_, word) = parts(top, place, m);
+    may_abort(&word, cpu)?;
+    request(top, place, m, cpu);
+    Ok(())
+}
+
+// Whether the origin of a message has asked for it to be aborted, which this processor has taken.
+pub(crate) fn is_aborted(top: &Top, place: &mut Place, cpu: CpuId, m: usize) -> Result<bool, Fault>
+    requires table { place.old.table_id ≡ top.now.table_id }
+    requires sat { IsSat cpu place.old }
+    requires exists { m < length place.old.me.0.specs }
+    ensures seat { IsSameSeat place.old place.new }
+    ensures sat { IsSat cpu place.new }
+    ensures answer { MatchResult result (λ aborted. IsToldRequest place.old.me.0 place.new.me.0 m aborted) (λ fault. IsUnreplied place.old.me.0 place.new.me.0 m fault) }
+{
+    let (_, word) = parts(top, place, m);
+    if !is_taken(&word, cpu) {
+        return Err(Fault::NotTaken);
+    }
+    Ok(word.aborted)
 }

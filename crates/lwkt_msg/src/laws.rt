@@ -4,7 +4,7 @@ ghost use Rattle.lwkt_base.specs.declared.records.Rec.{Rec};
 ghost use Rattle.lwkt_msg.specs.declared.views.Layout.{Layout};
 ghost use Rattle.lwkt_msg.specs.declared.views.View.{View};
 ghost use Rattle.lwkt_msg.specs.Told.{Told};
-ghost use Rattle.lwkt_msg.specs.Records.{FoundIsWhatWasPut, HistoryTellsRecords};
+ghost use Rattle.lwkt_msg.specs.Records.{FoundIsWhatWasPut, HistoryTellsRecords, HistoryTellsRequests};
 ghost use Rattle.lwkt_msg.specs.Laws.{RuleShowsSafety, EachSendAtMostOnce, StatesAreReached, ViewsDecide, OpeningIsDeclared, LoadIsLook, LostExchangeIsLook, HandingOutIsLook, StoreIsSend, ExchangeIsTake, AddIsReply, StoreIsReap, ExchangeIsDrop, OrIsAbort, SeatingIsNoDeed, MadeAsTold, NothingUntold, DeedsAreTold};
 
 use crate::rules::BookRule;
@@ -55,10 +55,12 @@ pub fn steps_are_deeds()
 {}
 
 /// What a take or a drop found is what the last send put there, and what a reap found is that with what the one reply since
-/// put there.
+/// put there. A message that is away has a request to abort exactly if its origin has made one since the last send, and one at rest
+/// has none.
 pub fn history_tells_records()
     ensures found { FoundIsWhatWasPut }
     ensures away { HistoryTellsRecords }
+    ensures asked { HistoryTellsRequests }
 {}
 
 /// The deeds that a call's contract tells are its seat's new events and steps, in order.

@@ -1,6 +1,6 @@
 //! A book's table at the opening, and the seats that are made there.
-ghost use Rattle.std.specs.Prelude.{◌≡◌, ◌↔◌, ℕ, ◌+◌, ◌*◌, ◌<◌, ◌≤◌, [], length, replicate, All, IsTrue, IfOk};
-ghost use Rattle.lwkt_core.specs.Opening.{AreWithin, IsMessageWithin};
+ghost use Rattle.std.specs.Prelude.{◌≡◌, ℕ, ◌+◌, ◌*◌, ◌<◌, ◌≤◌, [], length, replicate, IfOk};
+ghost use Rattle.lwkt_core.specs.Opening.{AreWithin};
 ghost use Rattle.lwkt_msg.specs.Book.{no_rec};
 ghost use Rattle.lwkt_msg.specs.Desks.{AreOpeningWords, IsHanding, IsClerk, IsOpened, AreSeats};
 ghost use Rattle.lwkt_msg.specs.Plays.{IsSameSeat};
@@ -11,29 +11,7 @@ use crate::plays::{HandOut, MakeSeat};
 use crate::rules::{Place, Top};
 use crate::seats::MsgSeat;
 use lwkt_base::{CpuId, MsgSpec, Rec};
-use lwkt_core::messages::LAST_ROUND;
 use std::alloc::{AllocError, Global};
-
-// Whether an opening message keeps the limits.
-fn is_within(spec: &MsgSpec, cpus: usize) -> bool
-    ensures { IsTrue result ↔ IsMessageWithin cpus spec.now }
-{
-    (spec.origin.cpu.0 as usize) < cpus && spec.origin.thread < 16 && spec.round <= LAST_ROUND
-}
-
-// Whether each opening message does.
-fn all_within(specs: &[MsgSpec], cpus: usize) -> bool
-    ensures { IsTrue result ↔ All (IsMessageWithin cpus) specs.now }
-{
-    specs.iter().all(|spec| is_within(spec, cpus))
-}
-
-// Whether an opening keeps the limits.
-pub(crate) fn are_within(specs: &[MsgSpec], cpus: usize) -> bool
-    ensures { IsTrue result ↔ AreWithin cpus [] specs.now }
-{
-    cpus > 0 && cpus <= 8 && specs.len() <= 64 && all_within(specs, cpus)
-}
 
 // The opening messages, as the table keeps them.
 pub(crate) fn known_specs(alloc: Global, specs: &[MsgSpec]) -> Result<Vec<MsgSpec>, AllocError>

@@ -1,5 +1,5 @@
 //! What each step on the book's table tells, and how views are cut and put together.
-ghost use Rattle.lwkt_msg.specs.Plays.{looks, sends, takes_it, replies, reaps, hands_out};
+ghost use Rattle.lwkt_msg.specs.Plays.{looks, sends, takes_it, replies, reaps, drops_it, requests, hands_out};
 ghost use Rattle.lwkt_msg.specs.Views.{clerk_after, new_seat, spent_left, whole_right, joined, spent_view};
 
 use crate::views::View;
@@ -42,6 +42,18 @@ pub(crate) struct Reap;
 
 impl Play<Rec, View> for Reap {
     ghost then = { reaps };
+}
+
+pub(crate) struct DropMsg;
+
+impl Play<Rec, View> for DropMsg {
+    ghost then = { drops_it };
+}
+
+pub(crate) struct Abort;
+
+impl Play<Rec, View> for Abort {
+    ghost then = { requests };
 }
 
 /// The clerk makes the seat of the next processor.

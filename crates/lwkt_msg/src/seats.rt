@@ -1,11 +1,11 @@
-ghost use Rattle.std.specs.Prelude.{◌≡◌, ◌⊎◌, ◌<◌, ◌≤◌, MatchResult};
+ghost use Rattle.std.specs.Prelude.{◌≡◌, ◌⊎◌, ◌<◌, ◌≤◌, IfErr, MatchResult};
 
 use crate::answers::{Reaped, Taken};
 use crate::books::MsgBook;
 use crate::calls;
 use crate::calls::Sending;
 use crate::rules::Place;
-use lwkt_base::{Call, CpuId, Fault, Flags, MsgId};
+use lwkt_base::{Call, CpuId, Fault, Flags, MsgId, Rec};
 use std::marker::Model;
 
 /// A processor's seat at a message book, with the records of its own messages at rest and of those that it has taken.
@@ -28,11 +28,11 @@ impl Model for MsgSeat {
 }
 
 impl MsgSeat {
-    ghost use Rattle.lwkt_base.specs.declared.faults.Fault.TheVariants.{NotOwner, NotTaken};
+    ghost use Rattle.lwkt_base.specs.declared.faults.Fault.TheVariants.{NotOwner, NotOut, NotDropable, NotTaken};
     ghost use Rattle.lwkt_base.specs.declared.names.CpuId.{CpuId};
     ghost use Rattle.lwkt_msg.specs.Desks.{desk, cpu_of, cpus_of, messages_of, IsMsgSeat, IsSeatOf, IsSameDesk};
     ghost use Rattle.lwkt_msg.specs.Plays.{IsSat};
-    ghost use Rattle.lwkt_msg.specs.Calls.{HasSent, IsUnsent, TakeMeans, HasReplied, IsUnreplied, ReapMeans};
+    ghost use Rattle.lwkt_msg.specs.Calls.{HasSent, IsUnsent, TakeMeans, HasReplied, IsUnreplied, ReapMeans, HasDropped, IsUndropped, HasLostDrop, HasRequested, IsUnrequested, IsToldRequest};
 
     // The seat of a processor, from its place at the table.
     pub(crate) fn new(place: Place, cpu: CpuId, cpus: usize, messages: usize) -> MsgSeat
@@ -160,5 +160,65 @@ impl MsgSeat {
     {
         let top = book.top();
         calls::reap(top, &mut self.place, self.cpu, usize::from(msg.0), round)
+    }
+
+    /// Drops an own message that is on its way: takes it back before its target has taken it, with its record as it was
+    /// sent. The message is at rest then, in the round that it had, and no request to abort is noted in it. 25: there is
+    /// no such message, or it belongs to another processor. 26: it is not on its way, or its target took it just before
+    /// the exchange of this call. 28: its last send didn't allow it.
+    ///
+    /// It never answers 34: while a message is on its way, only its target and its origin change its word, and the origin
+    /// is making this call. So an exchange that finds another word has found the message taken, and a second try would
+    /// be refused too.
+    pub fn drop_msg(&mut self, book: &MsgBook, msg: MsgId) -> Result<Rec, Fault>
+        requires table { self.old.table ≡ book.now.table }
+        ensures seat { IsSameDesk self.old self.new }
+        ensures never_again { IfErr result (λ fault. (fault ≡ NotOwner) ⊎ (fault ≡ NotOut) ⊎ (fault ≡ NotDropable)) }
+        ensures answer { MatchResult result
+            (λ rec. (msg.0 < messages_of self.old) × HasDropped (cpu_of self.old) self.old.view self.new.view msg.0 rec)
+            (λ fault. ((messages_of self.old ≤ msg.0) × (fault ≡ NotOwner) × (self.new ≡ self.old)) ⊎ ((msg.0 < messages_of self.old) × (IsUndropped (cpu_of self.old) self.old.view self.new.view msg.0 fault ⊎ HasLostDrop (cpu_of self.old) self.old.view self.new.view msg.0 fault))) }
+    {
+        let m = usize::from(msg.0);
+        if m >= self.messages {
+            return Err(Fault::NotOwner);
+        }
+        let top = book.top();
+        calls::drop_msg(top, &mut self.place, self.cpu, m)
+    }
+
+    /// Asks for an own message to be aborted that is on its way or taken: sets the bit of the request in its word. Its
+    /// target sees it when it takes the message, or by `is_aborted` until it replies. The reply may come before the bit
+    /// is set; then the request has no effect, and the reap clears it. 25: there is no such message, or it belongs to
+    /// another processor. 26: it is at rest or was replied to. 27: its last send didn't allow it.
+    pub fn abort(&mut self, book: &MsgBook, msg: MsgId) -> Result<(), Fault>
+        requires table { self.old.table ≡ book.now.table }
+        ensures seat { IsSameDesk self.old self.new }
+        ensures answer { MatchResult result
+            (λ _. (msg.0 < messages_of self.old) × HasRequested (cpu_of self.old) self.old.view self.new.view msg.0)
+            (λ fault. ((messages_of self.old ≤ msg.0) × (fault ≡ NotOwner) × (self.new ≡ self.old)) ⊎ ((msg.0 < messages_of self.old) × IsUnrequested (cpu_of self.old) self.old.view self.new.view msg.0 fault)) }
+    {
+        let m = usize::from(msg.0);
+        if m >= self.messages {
+            return Err(Fault::NotOwner);
+        }
+        let top = book.top();
+        calls::abort(top, &mut self.place, self.cpu, m)
+    }
+
+    /// Whether the origin of a message that this processor has taken has asked, since it sent the message, for it to be
+    /// aborted. 31: this processor hasn't taken it, or there is no such message.
+    pub fn is_aborted(&mut self, book: &MsgBook, msg: MsgId) -> Result<bool, Fault>
+        requires table { self.old.table ≡ book.now.table }
+        ensures seat { IsSameDesk self.old self.new }
+        ensures answer { MatchResult result
+            (λ aborted. (msg.0 < messages_of self.old) × IsToldRequest self.old.view self.new.view msg.0 aborted)
+            (λ fault. ((messages_of self.old ≤ msg.0) × (fault ≡ NotTaken) × (self.new ≡ self.old)) ⊎ ((msg.0 < messages_of self.old) × IsUnreplied self.old.view self.new.view msg.0 fault)) }
+    {
+        let m = usize::from(msg.0);
+        if m >= self.messages {
+            return Err(Fault::NotTaken);
+        }
+        let top = book.top();
+        calls::is_aborted(top, &mut self.place, self.cpu, m)
     }
 }

@@ -10,12 +10,15 @@ ghost use Rattle.lwkt_msg.specs.Calls.{answered_rec};
 ghost use Rattle.lwkt_msg.specs.Hands.{IsOwn, IsInHand};
 ghost use Rattle.lwkt_core.specs.declared.messages.TheConstants.{LAST_ROUND};
 ghost use Rattle.lwkt_msg.specs.Steps.{sent_word, rest_word};
-ghost use Rattle.lwkt_msg.specs.Plays.{IsAfter, Looked, HasWon, HasLost, HasFetched, IsSat, IsSameSeat, IsInFront};
+ghost use Rattle.lwkt_msg.specs.Plays.{IsAfter, Looked, HasWon, HasLost, HasFetched, HasRecalled, HasMissed, HasAsked, IsSat, IsSameSeat, IsInFront};
 
 use crate::places::{slot_of_message, word_of_message};
-use crate::plays::{Look, Reap, Reply, Send, Take};
+use crate::plays::{Abort, DropMsg, Look, Reap, Reply, Send, Take};
 use crate::rules::{Place, Top};
 use lwkt_base::{CpuId, MsgWord, Rec};
+
+// The bit of the request to abort in a message's word.
+const ABORT_REQUEST: u64 = 4;
 
 // Loads the word of a message. If the seat has its record in hand, that lies in front then.
 pub(crate) fn look(top: &Top, place: &mut Place, m: usize) -> u64
@@ -67,7 +70,7 @@ pub(crate) fn win(top: &Top, place: &mut Place, m: usize, found: u64, word: MsgW
     requires new { IsInHand place.old.me.0 word.target.0 m → ⊥ }
     ensures seat { IsSameSeat place.old place.new }
     ensures sat { IsSat word.target place.new }
-    ensures view { MatchOption result (HasLost m found place.old.me.0 place.new.me.0) (λ rec. HasWon m word.round found place.old.me.0 rec place.new.me.0) }
+    ensures view { MatchOption result (HasLost m found place.old.me.0 place.new.me.0) (λ rec. HasWon m word place.old.me.0 rec place.new.me.0) }
 {
     let seen = top.compare_exchange::<Take>(place, word_of_message(m), found, found + 1);
     if seen == found {
@@ -109,4 +112,46 @@ pub(crate) fn fetch(top: &Top, place: &mut Place, m: usize, word: MsgWord) -> Re
 {
     top.store::<Reap>(place, word_of_message(m), word.make());
     front(top, place, m)
+}
+
+// Takes the record of a message back that nobody has taken, by an exchange of its word for that of the message at rest. The word found
+// before is that of an own message on its way.
+pub(crate) fn recall(
+    top: &Top,
+    place: &mut Place,
+    m: usize,
+    found: u64,
+    word: MsgWord,
+    home: MsgWord,
+) -> Option<Rec>
+    requires table { place.old.table_id ≡ top.now.table_id }
+    requires sat { IsSat word.origin place.old }
+    requires exists { m < length place.old.me.0.specs }
+    requires word { (found ≡ message_word word) × MessageFits word × (word.state ≡ state.Out) }
+    requires home { home ≡ rest_word word.origin word.round }
+    requires own { IsOwn place.old.me.0 word.origin.0 m × ((at place.old.me.0 m).had ≡ true) × ((at place.old.me.0 m).away ≡ true) × ((at place.old.me.0 m).taken ≡ false) × (word.round ≡ (at place.old.me.0 m).round) }
+    ensures seat { IsSameSeat place.old place.new }
+    ensures sat { IsSat word.origin place.new }
+    ensures view { MatchOption result (HasMissed m (message_word word) (message_word home) place.old.me.0 place.new.me.0) (λ rec. HasRecalled m word (message_word home) place.old.me.0 rec place.new.me.0) }
+{
+    let at_rest = home.make();
+    let seen = top.compare_exchange::<DropMsg>(place, word_of_message(m), found, at_rest);
+    if seen == found {
+        Some(front(top, place, m))
+    } else {
+        None
+    }
+}
+
+// Asks for a message to be aborted, by setting the bit of its word. Its origin is this processor.
+pub(crate) fn request(top: &Top, place: &mut Place, m: usize, cpu: CpuId)
+    requires table { place.old.table_id ≡ top.now.table_id }
+    requires sat { IsSat cpu place.old }
+    requires exists { m < length place.old.me.0.specs }
+    requires own { IsOwn place.old.me.0 cpu.0 m × ((at place.old.me.0 m).away ≡ true) }
+    ensures seat { IsSameSeat place.old place.new }
+    ensures sat { IsSat cpu place.new }
+    ensures view { HasAsked m place.old.me.0 place.new.me.0 }
+{
+    top.fetch_or::<Abort>(place, word_of_message(m), ABORT_REQUEST);
 }

@@ -9,24 +9,42 @@ use std::process::Abort;
 use std::thread;
 use std::thread::Threads;
 
-const TRIES: u32 = 100_000_000;
+pub(crate) const TRIES: u32 = 100_000_000;
 
 const ROUNDS: u64 = 1000;
 
 const LAST_ROUND: u64 = 2_251_799_813_685_247;
 
-const FIRST_MESSAGE: MsgId = MsgId(0);
+pub(crate) const FIRST_MESSAGE: MsgId = MsgId(0);
 
 const NO_FLAGS: Flags = Flags {
     dropable: false,
     abortable: false,
 };
 
-// A call: a send of a message, or what is done with message 0.
+const DROPABLE: Flags = Flags {
+    dropable: true,
+    abortable: false,
+};
+
+const ABORTABLE: Flags = Flags {
+    dropable: false,
+    abortable: true,
+};
+
+pub(crate) const BOTH_FLAGS: Flags = Flags {
+    dropable: true,
+    abortable: true,
+};
+
+// A call: what the origin does with a message, or what is done with message 0.
 #[derive(Clone, Copy)]
 enum Ask {
-    /// The message, its target and what it asks for.
-    Send(MsgId, CpuId, Call),
+    /// The message, its target, what it asks for and what its origin may do with it.
+    Send(MsgId, CpuId, Call, Flags),
+    Drop(MsgId),
+    Abort(MsgId),
+    IsAborted(MsgId),
     /// The round.
     Take(u64),
     /// The error and the result.
@@ -42,19 +60,23 @@ enum Told {
     Taken(Taken),
     Replied,
     Reaped(Reaped),
+    Dropped(Rec),
+    /// The abort was asked for.
+    Asked,
+    Aborted(bool),
     Refused(Fault),
     /// There is no message 0, or no such processor.
     Unfit,
 }
 
-fn send(book: &MsgBook, seat: &mut MsgSeat, msg: MsgId, to: CpuId, call: Call) -> Told
+fn send(book: &MsgBook, seat: &mut MsgSeat, msg: MsgId, to: CpuId, call: Call, flags: Flags) -> Told
     requires { seat.old.table ≡ book.now.table }
     ensures { seat.new.table ≡ seat.old.table }
 {
     if to.0 as usize >= seat.cpus() {
         return Told::Unfit;
     }
-    match seat.send(book, msg, to, call, NO_FLAGS, false) {
+    match seat.send(book, msg, to, call, flags, false) {
         Ok(round) => Told::Sent(round),
         Err(fault) => Told::Refused(fault),
     }
@@ -70,6 +92,36 @@ fn reply(book: &MsgBook, seat: &mut MsgSeat, error: u32, outcome: u64) -> Told
     }
 }
 
+fn drop_msg(book: &MsgBook, seat: &mut MsgSeat, msg: MsgId) -> Told
+    requires { seat.old.table ≡ book.now.table }
+    ensures { seat.new.table ≡ seat.old.table }
+{
+    match seat.drop_msg(book, msg) {
+        Ok(rec) => Told::Dropped(rec),
+        Err(fault) => Told::Refused(fault),
+    }
+}
+
+fn abort(book: &MsgBook, seat: &mut MsgSeat, msg: MsgId) -> Told
+    requires { seat.old.table ≡ book.now.table }
+    ensures { seat.new.table ≡ seat.old.table }
+{
+    match seat.abort(book, msg) {
+        Ok(()) => Told::Asked,
+        Err(fault) => Told::Refused(fault),
+    }
+}
+
+fn is_aborted(book: &MsgBook, seat: &mut MsgSeat, msg: MsgId) -> Told
+    requires { seat.old.table ≡ book.now.table }
+    ensures { seat.new.table ≡ seat.old.table }
+{
+    match seat.is_aborted(book, msg) {
+        Ok(aborted) => Told::Aborted(aborted),
+        Err(fault) => Told::Refused(fault),
+    }
+}
+
 // The answer of a call. Where a condition of the call isn't met, no call is made.
 fn call(book: &MsgBook, seat: &mut MsgSeat, ask: Ask) -> Told
     requires { seat.old.table ≡ book.now.table }
@@ -79,7 +131,10 @@ fn call(book: &MsgBook, seat: &mut MsgSeat, ask: Ask) -> Told
         return Told::Unfit;
     }
     match ask {
-        Ask::Send(msg, to, call) => send(book, seat, msg, to, call),
+        Ask::Send(msg, to, call, flags) => send(book, seat, msg, to, call, flags),
+        Ask::Drop(msg) => drop_msg(book, seat, msg),
+        Ask::Abort(msg) => abort(book, seat, msg),
+        Ask::IsAborted(msg) => is_aborted(book, seat, msg),
         Ask::Take(round) => Told::Taken(seat.take(book, FIRST_MESSAGE, round)),
         Ask::Reply(error, outcome) => reply(book, seat, error, outcome),
         Ask::Reap(round) => Told::Reaped(seat.reap(book, FIRST_MESSAGE, round)),
@@ -87,7 +142,7 @@ fn call(book: &MsgBook, seat: &mut MsgSeat, ask: Ask) -> Told
 }
 
 // A book of two processors with a message of this processor in this round.
-fn opened(alloc: Global, cpu: u8, round: u64) -> Result<(MsgBook, Vec<MsgSeat>), Fault>
+pub(crate) fn opened(alloc: Global, cpu: u8, round: u64) -> Result<(MsgBook, Vec<MsgSeat>), Fault>
     ensures two { IfOk result (λ r. r.0.cpus ≡ 2) }
     ensures seats { IfOk result (λ r. AreSeats 2 r.0 r.1.items) }
 {
@@ -97,7 +152,7 @@ fn opened(alloc: Global, cpu: u8, round: u64) -> Result<(MsgBook, Vec<MsgSeat>),
 }
 
 // The two seats of a book of two processors.
-fn both(mut seats: Vec<MsgSeat>, book: &MsgBook) -> Option<(MsgSeat, MsgSeat)>
+pub(crate) fn both(mut seats: Vec<MsgSeat>, book: &MsgBook) -> Option<(MsgSeat, MsgSeat)>
     requires { AreSeats 2 book.now seats.items }
     ensures { IfSome result (λ p. (p.0.table ≡ book.now.table) × (p.1.table ≡ book.now.table)) }
 {
@@ -117,7 +172,13 @@ fn list_of(alloc: Global, first: MsgSeat, second: MsgSeat) -> Result<Vec<MsgSeat
 }
 
 // Whether the book's one message ends so.
-fn ends_as(alloc: Global, book: MsgBook, first: MsgSeat, second: MsgSeat, end: MsgEnd) -> bool
+pub(crate) fn ends_as(
+    alloc: Global,
+    book: MsgBook,
+    first: MsgSeat,
+    second: MsgSeat,
+    end: MsgEnd,
+) -> bool
     requires two { book.cpus ≡ 2 }
     requires first { first.table ≡ book.table }
     requires second { second.table ≡ book.table }
@@ -213,50 +274,59 @@ const ASKED: Call = Call { arg: 9, op: 5 };
 
 const STALE: Told = Told::Taken(Taken::Stale);
 
-const REST: Owner = Owner::Rest { origin: CpuId(0) };
+pub(crate) const REST: Owner = Owner::Rest { origin: CpuId(0) };
+
+const SENT_RECORD: Rec = Rec {
+    arg: 9,
+    result: 0,
+    op: 5,
+    error: 0,
+};
+
+const REPLIED_RECORD: Rec = Rec {
+    arg: 9,
+    result: 42,
+    op: 5,
+    error: 7,
+};
+
+const TAKEN: Told = Told::Taken(Taken::Took {
+    rec: SENT_RECORD,
+    aborted: false,
+});
+
+const TAKEN_ABORTED: Told = Told::Taken(Taken::Took {
+    rec: SENT_RECORD,
+    aborted: true,
+});
+
+const REAPED: Told = Told::Reaped(Reaped::Done {
+    rec: REPLIED_RECORD,
+});
 
 const BASICS_1_TO_4: Played = Played {
     round: 0,
     lines: &[
-        Line(0, Ask::Send(MsgId(0), CpuId(1), ASKED), Told::Sent(1)),
-        Line(1, Ask::Take(2), STALE),
-        Line(0, Ask::Take(1), STALE),
-        Line(
-            1,
-            Ask::Take(1),
-            Told::Taken(Taken::Took {
-                rec: Rec {
-                    arg: 9,
-                    result: 0,
-                    op: 5,
-                    error: 0,
-                },
-                aborted: false,
-            }),
-        ),
-        Line(0, Ask::Reply(1, 1), Told::Refused(Fault::NotTaken)),
-        Line(1, Ask::Reply(7, 42), Told::Replied),
         Line(
             0,
-            Ask::Reap(1),
-            Told::Reaped(Reaped::Done {
-                rec: Rec {
-                    arg: 9,
-                    result: 42,
-                    op: 5,
-                    error: 7,
-                },
-            }),
+            Ask::Send(MsgId(0), CpuId(1), ASKED, NO_FLAGS),
+            Told::Sent(1),
         ),
+        Line(1, Ask::Take(2), STALE),
+        Line(0, Ask::Take(1), STALE),
+        Line(1, Ask::Take(1), TAKEN),
+        Line(0, Ask::Reply(1, 1), Told::Refused(Fault::NotTaken)),
+        Line(1, Ask::Reply(7, 42), Told::Replied),
+        Line(0, Ask::Reap(1), REAPED),
         Line(0, Ask::Reap(1), Told::Reaped(Reaped::Stale)),
         Line(
             1,
-            Ask::Send(MsgId(0), CpuId(0), ASKED),
+            Ask::Send(MsgId(0), CpuId(0), ASKED, NO_FLAGS),
             Told::Refused(Fault::NotOwner),
         ),
         Line(
             0,
-            Ask::Send(MsgId(5), CpuId(1), ASKED),
+            Ask::Send(MsgId(5), CpuId(1), ASKED, NO_FLAGS),
             Told::Refused(Fault::NotOwner),
         ),
     ],
@@ -275,7 +345,7 @@ const BASICS_6: Played = Played {
     round: LAST_ROUND,
     lines: &[Line(
         0,
-        Ask::Send(MsgId(0), CpuId(1), ASKED),
+        Ask::Send(MsgId(0), CpuId(1), ASKED, NO_FLAGS),
         Told::Refused(Fault::RoundsOut),
     )],
     end: MsgEnd {
@@ -288,6 +358,112 @@ const BASICS_6: Played = Played {
 fn book_basics_6(rt: HostRuntime) {
     expect(&rt, rt.alloc(), &BASICS_6);
     assert!(rt; opened(rt.alloc(), 2, 0).err() == Some(Fault::Limits));
+}
+
+const NOT_OWNER: Told = Told::Refused(Fault::NotOwner);
+
+const NOT_OUT: Told = Told::Refused(Fault::NotOut);
+
+const NOT_TAKEN: Told = Told::Refused(Fault::NotTaken);
+
+const SEND_PLAIN: Ask = Ask::Send(MsgId(0), CpuId(1), ASKED, NO_FLAGS);
+
+const SEND_DROPABLE: Ask = Ask::Send(MsgId(0), CpuId(1), ASKED, DROPABLE);
+
+const SEND_ABORTABLE: Ask = Ask::Send(MsgId(0), CpuId(1), ASKED, ABORTABLE);
+
+const SEND_BOTH: Ask = Ask::Send(MsgId(0), CpuId(1), ASKED, BOTH_FLAGS);
+
+const DROP: Ask = Ask::Drop(MsgId(0));
+
+const ABORT: Ask = Ask::Abort(MsgId(0));
+
+const IS_ABORTED: Ask = Ask::IsAborted(MsgId(0));
+
+// A drop gives the record back and keeps the round; it comes too late once the message is taken, and needs leave.
+const DROPS: Played = Played {
+    round: 7,
+    lines: &[
+        Line(0, DROP, NOT_OUT),
+        Line(0, SEND_DROPABLE, Told::Sent(8)),
+        Line(1, DROP, NOT_OWNER),
+        Line(0, Ask::Drop(MsgId(1)), NOT_OWNER),
+        Line(0, DROP, Told::Dropped(SENT_RECORD)),
+        Line(0, DROP, NOT_OUT),
+        Line(1, Ask::Take(8), STALE),
+        Line(0, SEND_ABORTABLE, Told::Sent(9)),
+        Line(0, DROP, Told::Refused(Fault::NotDropable)),
+        Line(1, Ask::Take(9), TAKEN),
+        Line(0, DROP, NOT_OUT),
+        Line(1, Ask::Reply(7, 42), Told::Replied),
+        Line(0, DROP, NOT_OUT),
+        Line(0, Ask::Reap(9), REAPED),
+        Line(0, SEND_BOTH, Told::Sent(10)),
+        Line(1, Ask::Take(10), TAKEN),
+        Line(0, DROP, NOT_OUT),
+        Line(1, Ask::Reply(7, 42), Told::Replied),
+        Line(0, Ask::Reap(10), REAPED),
+        Line(0, SEND_DROPABLE, Told::Sent(11)),
+        Line(0, DROP, Told::Dropped(SENT_RECORD)),
+    ],
+    end: MsgEnd {
+        round: 11,
+        state: REST,
+    },
+};
+
+#[test]
+fn book_drops(rt: HostRuntime) {
+    expect(&rt, rt.alloc(), &DROPS);
+}
+
+// An abort is seen by who takes the message or has taken it, in that round alone; after the reply it is refused.
+const ABORTS: Played = Played {
+    round: 0,
+    lines: &[
+        Line(0, ABORT, NOT_OUT),
+        Line(0, SEND_ABORTABLE, Told::Sent(1)),
+        Line(1, ABORT, NOT_OWNER),
+        Line(0, Ask::Abort(MsgId(1)), NOT_OWNER),
+        Line(1, IS_ABORTED, NOT_TAKEN),
+        Line(0, ABORT, Told::Asked),
+        Line(1, Ask::Take(1), TAKEN_ABORTED),
+        Line(0, IS_ABORTED, NOT_TAKEN),
+        Line(1, Ask::IsAborted(MsgId(1)), NOT_TAKEN),
+        Line(1, IS_ABORTED, Told::Aborted(true)),
+        Line(0, ABORT, Told::Asked),
+        Line(1, Ask::Reply(7, 42), Told::Replied),
+        Line(1, IS_ABORTED, NOT_TAKEN),
+        Line(0, ABORT, NOT_OUT),
+        Line(0, Ask::Reap(1), REAPED),
+        Line(0, SEND_ABORTABLE, Told::Sent(2)),
+        Line(1, Ask::Take(2), TAKEN),
+        Line(1, IS_ABORTED, Told::Aborted(false)),
+        Line(0, ABORT, Told::Asked),
+        Line(1, IS_ABORTED, Told::Aborted(true)),
+        Line(1, Ask::Reply(7, 42), Told::Replied),
+        Line(0, Ask::Reap(2), REAPED),
+        Line(0, SEND_BOTH, Told::Sent(3)),
+        Line(0, ABORT, Told::Asked),
+        Line(0, DROP, Told::Dropped(SENT_RECORD)),
+        Line(0, ABORT, NOT_OUT),
+        Line(0, SEND_PLAIN, Told::Sent(4)),
+        Line(0, ABORT, Told::Refused(Fault::NotAbortable)),
+        Line(1, Ask::Take(4), TAKEN),
+        Line(1, IS_ABORTED, Told::Aborted(false)),
+    ],
+    end: MsgEnd {
+        round: 4,
+        state: Owner::With {
+            origin: CpuId(0),
+            target: CpuId(1),
+        },
+    },
+};
+
+#[test]
+fn book_aborts(rt: HostRuntime) {
+    expect(&rt, rt.alloc(), &ABORTS);
 }
 
 // The record of the message's reply in this round, once it is back.
@@ -335,7 +511,11 @@ fn converse_once(book: &MsgBook, seat: &mut MsgSeat, round: u64) -> bool
     ensures { seat.new.table ≡ seat.old.table }
 {
     let asked = Call { arg: round, op: 5 };
-    let sent = call(book, seat, Ask::Send(FIRST_MESSAGE, CpuId(1), asked));
+    let sent = call(
+        book,
+        seat,
+        Ask::Send(FIRST_MESSAGE, CpuId(1), asked, NO_FLAGS),
+    );
     sent == Told::Sent(round) && reply_of(book, seat, round) == Some(record(round, round + 1))
 }
 

@@ -7,3 +7,5 @@ mod book_rows;
 mod full_books;
 #[cfg(test)]
 mod lane_rows;
+#[cfg(test)]
+mod race_rows;

@@ -29,8 +29,8 @@ win-requires-clause-new c =
 
 pub returns-in-Some-clause-answer : goal.returns-in-Some-clause-answer
 returns-in-Some-clause-answer c =
-    take_done c.args.place.now c.parts-found.new.place c.args.cpu c.args.m c.parts-found.result.1 c.requires.sat c.parts-found.ensures.looked c.args.round c.parts-found.result.0 c.in-Some.rec c.win.new.place.me.0
-    (c.if-not-is_for_taking.ensures.0 refl) c.parts-found.ensures.word c.in-Some.ensures.view
+    take_done c.args.place.now c.parts-found.new.place c.args.cpu c.args.m c.parts-found.result.1 c.requires.sat c.parts-found.ensures.looked c.args.round c.in-Some.rec c.win.new.place.me.0
+    (c.if-not-is_for_taking.ensures.0 refl) c.in-Some.ensures.view
 
 pub returns-in-None-clause-answer : goal.returns-in-None-clause-answer
 returns-in-None-clause-answer c =

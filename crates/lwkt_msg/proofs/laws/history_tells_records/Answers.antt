@@ -1,4 +1,5 @@
 use Rattle.lwkt_msg.proofs.Recording.{records_told, found_is_put}
+use Rattle.lwkt_msg.proofs.Asking.{requests_told}
 use Rattle.lwkt_msg.proofs.laws.history_tells_records.Goals as goal
 
 pub returns-clause-found : goal.returns-clause-found
@@ -6,3 +7,6 @@ returns-clause-found c = found_is_put
 
 pub returns-clause-away : goal.returns-clause-away
 returns-clause-away c = records_told
+
+pub returns-clause-asked : goal.returns-clause-asked
+returns-clause-asked c = requests_told

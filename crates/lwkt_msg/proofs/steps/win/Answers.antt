@@ -2,6 +2,7 @@ use Rattle.std.proofs.Common.{subst, ◌≡◌, inr, ℕ, ◌+◌, ◌<◌, eqb,
 use Rattle.atomic_table.specs.Table.{Me, step, Allows}
 use mathlib.Core.Option.{none}
 use prog.Atomic.{either}
+use Rattle.lwkt_base.specs.MessageWord.{message_word}
 use Rattle.lwkt_msg.specs.Told.{Told}
 use Rattle.lwkt_base.specs.declared.records.Rec.{Rec}
 use Rattle.lwkt_msg.specs.declared.views.View.{View}
@@ -30,7 +31,7 @@ returns-then-seen-found-clause-sat c =
     let m : ℕ = c.args.m in
     let won = (c.compare_exchange-seen.ensures.2 m c.word_of_message.ensures c.args.word c.requires.word.1 c.requires.word.0).won c.if-seen-found.true in
     let same = c.front.ensures.seat in
-    sat_taken c.args.place.now c.front.new.place c.args.word.target m (took won.0 (at c.args.place.now.me.0 m)) won.1.between (takes (who c.args.place.now.me.0) m c.args.word.round c.args.found won.0) won.0 c.requires.sat
+    sat_taken c.args.place.now c.front.new.place c.args.word.target m (took won.0 (at c.args.place.now.me.0 m)) won.1.between (takes (who c.args.place.now.me.0) m c.args.word.round (message_word c.args.word) won.0) won.0 c.requires.sat
     (same.0.0 ∙ c.compare_exchange-seen.ensures.0) (ap (λ (x : Me Rec View). x.0) same.1 ∙ won.1.view_is) c.requires.exists c.requires.new (inr refl) (λ _. refl)
     (ap (λ (x : Me Rec View). x.1) same.1 ∙ won.2) refl
 
@@ -41,8 +42,8 @@ returns-then-seen-found-clause-view c =
     let same = c.front.ensures.seat in
     let value = c.front.ensures.value in
     let is : won.0 ≡ c.front.result = ap (λ (h : ℕ × Rec). h.1) (first_same (slot_at m, won.0) (slot_at m, c.front.result) c.args.place.now.me.1 value.0 (sym won.2 ∙ value.1)) in
-    let F : Rec → Type 0 = λ r. HasWon m c.args.word.round c.args.found c.args.place.now.me.0 r c.compare_exchange-seen.new.seat.me.0 in
-    let G : View → Type 0 = λ x. HasWon m c.args.word.round c.args.found c.args.place.now.me.0 c.front.result x in
+    let F : Rec → Type 0 = λ r. HasWon m c.args.word c.args.place.now.me.0 r c.compare_exchange-seen.new.seat.me.0 in
+    let G : View → Type 0 = λ x. HasWon m c.args.word c.args.place.now.me.0 c.front.result x in
     subst G (ap (λ (x : Me Rec View). x.0) (sym same.1)) (subst F is won.1)
 
 pub returns-else-seen-found-clause-sat : goal.returns-else-seen-found-clause-sat
