@@ -1,7 +1,7 @@
 -- The laws of ports.
-use Rattle.std.proofs.Common.{◌≡◌, ◌≢◌, ⊎_elim, ℕ, ◌<◌, true, false, true≢false, List, [], ◌∷◌, ◌++◌, length, refl, ap, sym, ◌∙◌, subst, append_assoc, inl, inr, get_or-set_same}
+use Rattle.std.proofs.Common.{◌≡◌, ◌≢◌, ⊎_elim, ℕ, ◌<◌, true, false, true≢false, Bool, List, [], ◌∷◌, ◌++◌, length, set, refl, ap, sym, ◌∙◌, subst, append_assoc, inl, inr, get_or-set_same}
 use Rattle.std.proofs.lemmas.List.{append-nil}
-use Rattle.std.specs.Prelude.{Option, Some, None, Ok, Err, IsSome, MatchOption, option_to_list}
+use Rattle.std.specs.Prelude.{◌⊎◌, Option, Some, None, Ok, Err, IsSome, MatchOption, option_to_list}
 use Rattle.lwkt_base.specs.declared.asks.Item.TheVariants as item
 use Rattle.lwkt_base.specs.declared.faults.Fault.TheVariants.{Again}
 use Rattle.lwkt_base.specs.declared.names.CpuId.{CpuId}
@@ -27,9 +27,10 @@ use Rattle.lwkt_port.specs.declared.gets.Served.TheVariants as served
 use Rattle.lwkt_port.specs.declared.handlings.Fate.{Fate}
 use Rattle.lwkt_port.specs.declared.lines.Lane.{Lane}
 use Rattle.lwkt_port.specs.declared.mails.Mail.{Mail}
-use Rattle.lwkt_port.specs.Deeds.{Takes, taken_mail}
-use Rattle.lwkt_port.specs.Intakes.{Desks, Handles, EmptiesKept, Pops}
-use Rattle.lwkt_port.specs.Laws.{LosesNone, LanesLoseNone, AllLeave, NotesLeaveServed, IsShownOnce, RequestsAreShownOnce}
+use Rattle.lwkt_port.specs.Deeds.{Takes, taken_mail, replied_mail}
+use Rattle.lwkt_port.specs.Intakes.{Payer, PaysOwed, Desks, Handles, EmptiesKept, Pops}
+use Rattle.lwkt_port.specs.Sendings.{Answers}
+use Rattle.lwkt_port.specs.Laws.{IsPaid, OwedIsMadeOnce, UnowedIsNotMade, EintrIfAborted, LosesNone, LanesLoseNone, AllLeave, NotesLeaveServed, IsShownOnce, RequestsAreShownOnce}
 use Rattle.lwkt_port.specs.Mails.{no_mail, mail_at, AreMails}
 use Rattle.lwkt_port.specs.Servings.{served_request, served_answer, ServesAs, Serves, PassesAll}
 use Rattle.lwkt_port.specs.Works.{Work}
@@ -151,3 +152,38 @@ shown_as cpu thread note w w' msg call Answer is of are there s = absurd (no_req
 
 pub requests_are_shown_once : RequestsAreShownOnce
 requests_are_shown_once cpu thread note w w' msg call of are there s = shown_as cpu thread note w w' msg call note.kind refl of are there s
+
+-- an owed reply
+paid_if : (m error : ℕ) (x y : Payer) (made : Bool) → m < length x.work.mails → Answers (record { 0 = m }) error 0 x.lanes y.lanes x.work y.work made → IsPaid m x y ⊎ (y.work ≡ x.work)
+paid_if m error x y true there a =
+    let r = a.does.replies in
+    let mail : Mail = mail_at x.work.mails m in
+    let paid : IsPaid m x y = record {
+      replied = r.trace_is;
+      owes_none = ap (λ l. (mail_at l m).owed) r.mails_are ∙ ap (λ z. z.owed) (get_or-set_same x.work.mails m (replied_mail mail) no_mail there);
+      not_taken = ap (λ e. e.taken) r.means.does.here;
+    } in inl paid
+paid_if m error x y false there a = inr a.does.1
+
+pub owed_once : OwedIsMadeOnce
+owed_once m error x y there is pays =
+    let F : Option ℕ → Type 0 = λ o. PaysOwed o m x y in
+    let p : PaysOwed (Some error) m x y = subst F is pays in
+    paid_if m error x y p.0 there p.1
+
+pub unowed_not : UnowedIsNotMade
+unowed_not m x y is pays = let F : Option ℕ → Type 0 = λ o. PaysOwed o m x y in let p : PaysOwed None m x y = subst F is pays in p
+
+-- a request that was taken
+kept_of : (w w' : Work) (m : ℕ) (mail : Mail) → m < length w.mails → w'.mails ≡ set w.mails m mail → mail_at w'.mails m ≡ mail
+kept_of w w' m mail there is = ap (λ l. mail_at l m) is ∙ get_or-set_same w.mails m mail no_mail there
+
+pub eintr_if_aborted : EintrIfAborted
+eintr_if_aborted thread note w w' rec true there t =
+    let m : ℕ = note.msg.0 in
+    let is = kept_of w w' m (taken_mail (claim.Thread thread) true note.round (mail_at w.mails m)) there t.mails_are in
+    (record { owed = λ _. (ap (λ z. z.owed) is, ap (λ z. z.shown) is); shown = λ h. absurd (true≢false h) }, refl)
+eintr_if_aborted thread note w w' rec false there t =
+    let m : ℕ = note.msg.0 in
+    let is = kept_of w w' m (taken_mail (claim.Thread thread) false note.round (mail_at w.mails m)) there t.mails_are in
+    (record { owed = λ h. absurd (true≢false (sym h)); shown = λ _. (ap (λ z. z.owed) is, ap (λ z. z.shown) is) }, refl)

@@ -10,3 +10,5 @@ pub mod Keeping
 pub mod Lawful
 pub mod Serving
 pub mod Telling
+pub mod Withdrawing
+pub mod Departing

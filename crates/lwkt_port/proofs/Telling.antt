@@ -1,7 +1,7 @@
 -- Whatever the ports do, the trace tells the seat's deeds: for each step on a message, and for the calls that are made of them.
-use Rattle.std.proofs.Common.{◌≡◌, ⊎_elim, ℕ, zero, suc, ◌-◌, Bool, true, false, List, [], ◌∷◌, ◌++◌, refl, ap, sym, ◌∙◌, subst, append_assoc}
+use Rattle.std.proofs.Common.{◌≡◌, ⊎_elim, ℕ, zero, suc, ◌-◌, Bool, true, false, true≢false, List, [], ◌∷◌, ◌++◌, refl, ap, sym, ◌∙◌, subst, append_assoc}
 use Rattle.std.proofs.lemmas.List.{append-nil}
-use Rattle.std.specs.Prelude.{◌⊎◌, Option, Some, None, Result, Ok, Err, OnOk, IfErr, MatchOption}
+use Rattle.std.specs.Prelude.{◌⊎◌, Option, Some, None, Result, Ok, Err, OnOk, IfOk, IsOk, IfErr, MatchOption}
 use Rattle.lwkt_base.specs.declared.asks.Item.{Item}
 use Rattle.lwkt_base.specs.declared.faults.Fault.{Fault}
 use Rattle.lwkt_base.specs.declared.faults.Fault.TheVariants.{NotOwner, LaneFull, RoundsOut, Again}
@@ -9,6 +9,7 @@ use Rattle.lwkt_base.specs.declared.names.CpuId.{CpuId}
 use Rattle.lwkt_base.specs.declared.names.MsgId.{MsgId}
 use Rattle.lwkt_base.specs.declared.records.Call.{Call}
 use Rattle.lwkt_base.specs.declared.records.Flags.{Flags}
+use Rattle.lwkt_base.specs.declared.records.Rec.{Rec}
 use Rattle.lwkt_core.specs.declared.events.Event.{Event}
 use Rattle.lwkt_core.specs.declared.seats.Deed.{Deed}
 use Rattle.lwkt_core.specs.History.{AreOwn, Grows, events_in}
@@ -21,7 +22,7 @@ use Rattle.lwkt_msg.specs.declared.answers.Taken.TheVariants as taken
 use Rattle.lwkt_msg.specs.declared.answers.Reaped.{Reaped}
 use Rattle.lwkt_msg.specs.declared.answers.Reaped.TheVariants as reaped_
 use Rattle.lwkt_msg.specs.declared.views.Entry.{Entry}
-use Rattle.lwkt_msg.specs.Calls.{Does}
+use Rattle.lwkt_msg.specs.Calls.{Does, IsUndropped, HasLostDrop}
 use Rattle.lwkt_msg.specs.Desks.{Desk, cpu_of, past_of, IsSameDesk}
 use Rattle.lwkt_msg.specs.Views.{seat_cpu}
 use Rattle.lwkt_port.specs.declared.deeds.Claim.{Claim}
@@ -39,6 +40,7 @@ use Rattle.lwkt_port.specs.Mails.{mail_at}
 use Rattle.lwkt_port.specs.Sendings.{WhyUnsent, HasSentNote, ReplyMeans, Answers}
 use Rattle.lwkt_port.specs.Servings.{ServesAs, Serves, PassesAll, GetMeans}
 use Rattle.lwkt_port.specs.Tellings.{Tells, IsTold}
+use Rattle.lwkt_port.specs.Withdrawals.{Requests, MayAsk, IsUnasked, MayDrop, Drops, IsUntouched, IsHeard}
 use Rattle.lwkt_port.specs.Works.{Work}
 use Rattle.lwkt_port.proofs.Growing.{same_none, same_then}
 
@@ -207,3 +209,38 @@ unsent_told s lanes lanes' w w' _ r = absurd r
 pub dispatch_told : (s : Sending) (lanes lanes' : List Lane) (w w' : Work) (answer : Result (Unit {0}) Fault) → OnOk answer (HasSentNote s lanes lanes' w w') → IfErr answer (λ fault. WhyUnsent s lanes lanes' w w' fault) → IsTold w w'
 dispatch_told s lanes lanes' w w' (Ok x) sent refused = sends_told s lanes lanes' w w' sent
 dispatch_told s lanes lanes' w w' (Err fault) sent refused = unsent_told s lanes lanes' w w' fault refused
+
+-- a request to abort, a drop, and a look for a request, made or refused
+pub requested_told : (msg : MsgId) (w w' : Work) → Requests msg w w' → IsTold w w'
+requested_told msg w w' t = told_by w w' _ _ _ t.same t.means.does (two_own (cpu_of w.seat).0 _ _ refl refl) t.trace_is
+
+pub unasked_told : (msg : MsgId) (w w' : Work) (fault : Fault) → IsUnasked msg w w' fault → IsTold w w'
+unasked_told msg w w' fault t = told_by w w' _ _ _ t.same t.why.looked_at.does (one_own (cpu_of w.seat).0 _ refl) (t.trace_same ∙ sym (append-nil w.trace))
+
+pub dropped_told : (msg : MsgId) (w w' : Work) (rec : Rec) → Drops msg w w' rec → IsTold w w'
+dropped_told msg w w' rec t = told_by w w' _ _ _ t.same t.means.does (two_own (cpu_of w.seat).0 _ _ refl refl) t.trace_is
+
+pub untouched_told : (msg : MsgId) (w w' : Work) (fault : Fault) → IsUntouched msg w w' fault → IsTold w w'
+untouched_told msg w w' fault t = ⊎_elim
+    (λ (looked : IsUndropped (cpu_of w.seat) w.seat.view w'.seat.view msg.0 fault). told_by w w' _ _ _ t.same looked.looked_at.does (one_own (cpu_of w.seat).0 _ refl) (t.trace_same ∙ sym (append-nil w.trace)))
+    (λ (lost : HasLostDrop (cpu_of w.seat) w.seat.view w'.seat.view msg.0 fault). told_by w w' _ _ _ t.same lost.does (two_own (cpu_of w.seat).0 _ _ refl refl) (t.trace_same ∙ sym (append-nil w.trace)))
+    t.why
+
+pub heard_told : (msg : MsgId) (w w' : Work) (aborted : Bool) → IsHeard msg w w' aborted → IsTold w w'
+heard_told msg w w' aborted t = told_by w w' _ _ _ t.same t.means.looked_at.does (one_own (cpu_of w.seat).0 _ refl) (t.trace_same ∙ sym (append-nil w.trace))
+
+pub request_told : (msg : MsgId) (w w' : Work) (answer : Result (Unit {0}) Fault) → OnOk answer (Requests msg w w') → IfErr answer (λ fault. MayAsk fault × IsUnasked msg w w' fault) → IsTold w w'
+request_told msg w w' (Ok x) made refused = requested_told msg w w' made
+request_told msg w w' (Err fault) made refused = unasked_told msg w w' fault refused.1
+
+pub withdraw_told : (msg : MsgId) (w w' : Work) (answer : Result Rec Fault) → IfOk answer (λ rec. Drops msg w w' rec) → IfErr answer (λ fault. MayDrop fault × IsUntouched msg w w' fault) → IsTold w w'
+withdraw_told msg w w' (Ok rec) made refused = dropped_told msg w w' rec made
+withdraw_told msg w w' (Err fault) made refused = untouched_told msg w w' fault refused.1
+
+pub hear_told : (msg : MsgId) (w w' : Work) (answer : Result Bool Fault) → IsOk answer → IfOk answer (λ aborted. IsHeard msg w w' aborted) → IsTold w w'
+hear_told msg w w' (Ok aborted) ok heard = heard_told msg w w' aborted heard
+hear_told msg w w' (Err fault) ok heard = absurd (true≢false (sym ok))
+
+-- the owed replies
+pub owed_all_told : (count : ℕ) (x y : Payer) → Chain Payer Pays count x y → IsTold x.work y.work
+owed_all_told count x y chain = chain_told Payer Pays (λ z. z.work) pays_told count x y chain

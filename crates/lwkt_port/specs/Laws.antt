@@ -1,23 +1,30 @@
 -- What the ports are for, as laws above the relations of the calls.
-use Rattle.std.specs.Prelude.{◌≡◌, ◌≢◌, ◌⊎◌, ℕ, ◌<◌, List, [], ◌∷◌, ◌++◌, length, Option, Some, None, Result, MatchOption, option_to_list}
+use Rattle.std.specs.Prelude.{◌≡◌, ◌≢◌, ◌⊎◌, ℕ, ◌<◌, Bool, true, false, if◌then◌else◌, List, [], ◌∷◌, ◌++◌, length, Option, Some, None, Result, MatchOption, option_to_list}
 use Rattle.lwkt_base.specs.declared.asks.Item.{Item}
 use Rattle.lwkt_base.specs.declared.asks.Item.TheVariants as item
 use Rattle.lwkt_base.specs.declared.faults.Fault.{Fault}
 use Rattle.lwkt_base.specs.declared.names.CpuId.{CpuId}
 use Rattle.lwkt_base.specs.declared.names.MsgId.{MsgId}
 use Rattle.lwkt_base.specs.declared.records.Call.{Call}
+use Rattle.lwkt_base.specs.declared.records.Rec.{Rec}
 use Rattle.lwkt_core.specs.declared.events.Event.{Event}
+use Rattle.lwkt_core.specs.declared.events.Event.TheVariants.{Reply}
 use Rattle.lwkt_core.specs.declared.seats.SeatKind.TheVariants.{Of}
 use Rattle.lwkt_lane.specs.declared.notes.Note.{Note}
 use Rattle.lwkt_lane.specs.declared.notes.NoteKind.TheVariants.{Request}
 use Rattle.lwkt_lane.specs.Lane.{received}
-use Rattle.lwkt_msg.specs.Desks.{Desk}
+use Rattle.lwkt_msg.specs.declared.answers.Taken.TheVariants as taken
+use Rattle.lwkt_msg.specs.Desks.{Desk, cpu_of, entry}
+use Rattle.lwkt_msg.specs.Views.{call_of}
+use Rattle.lwkt_port.specs.declared.deeds.Claim.TheVariants as claim
+use Rattle.lwkt_port.specs.declared.mails.Mail.{Mail}
+use Rattle.lwkt_port.specs.Deeds.{eintr, Takes}
 use Rattle.lwkt_port.specs.declared.gets.Served.{Served}
 use Rattle.lwkt_port.specs.declared.gets.Served.TheVariants as served
 use Rattle.lwkt_port.specs.declared.lines.Lane.{Lane}
-use Rattle.lwkt_port.specs.Intakes.{Desks, Handles, HandlesAll, Empties}
+use Rattle.lwkt_port.specs.Intakes.{Desks, Handles, HandlesAll, Empties, Payer, Pays}
 use Rattle.lwkt_port.specs.Mails.{mail_at, AreMails}
-use Rattle.lwkt_port.specs.Servings.{Serves, GetMeans}
+use Rattle.lwkt_port.specs.Servings.{served_request, Serves, GetMeans}
 use Rattle.lwkt_port.specs.Tellings.{Tells}
 use Rattle.lwkt_port.specs.Works.{Work}
 
@@ -68,3 +75,26 @@ NothingIsTold = (d : Desk) (t : List Event) → Tells d d t t
 
 abbrev pub TellsChain : Type 0
 TellsChain = (a b c : Desk) (t u v : List Event) → Tells a b t u → Tells b c u v → Tells a c t v
+
+-- a reply that was owed is made: the trace has it, nothing is owed then, and the seat has the message no more
+pub record IsPaid (m : ℕ) (x y : Payer) : Type 0 where
+  pub replied : y.work.trace ≡ x.work.trace ++ Reply (cpu_of x.work.seat) (record { 0 = m }) ∷ []
+  pub owes_none : (mail_at y.work.mails m).owed ≡ None
+  pub not_taken : (entry y.work.seat m).taken ≡ false
+
+-- an owed reply is made once, or its lane was full and it is owed as before; and where none is owed none is made
+abbrev pub OwedIsMadeOnce : Type 0
+OwedIsMadeOnce = (m error : ℕ) (x y : Payer) → m < length x.work.mails → (mail_at x.work.mails m).owed ≡ Some error → Pays m x y → IsPaid m x y ⊎ (y.work ≡ x.work)
+
+abbrev pub UnowedIsNotMade : Type 0
+UnowedIsNotMade = (m : ℕ) (x y : Payer) → (mail_at x.work.mails m).owed ≡ None → Pays m x y → y ≡ x
+
+-- a request that a thread's port takes is owed EINTR exactly if it was asked to be aborted, and is shown to nobody then; else it is
+-- shown to the thread, and nothing is owed that wasn't
+pub record IsClaimed (thread : ℕ) (aborted : Bool) (old new : Mail) : Type 0 where
+  pub owed : aborted ≡ true → (new.owed ≡ Some eintr) × (new.shown ≡ old.shown)
+  pub shown : aborted ≡ false → (new.owed ≡ old.owed) × (new.shown ≡ Some thread)
+
+abbrev pub EintrIfAborted : Type 0
+EintrIfAborted = (thread : ℕ) (note : Note) (w w' : Work) (rec : Rec) (aborted : Bool) → note.msg.0 < length w.mails → Takes (claim.Thread thread) note w w' (taken.Took rec aborted)
+    → IsClaimed thread aborted (mail_at w.mails note.msg.0) (mail_at w'.mails note.msg.0) × (served_request note.msg (taken.Took rec aborted) ≡ (if aborted then served.Passed else served.Shown (item.Request note.msg (call_of rec))))

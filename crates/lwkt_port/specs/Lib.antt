@@ -11,3 +11,5 @@ pub mod Chains
 pub mod Intakes
 pub mod Laws
 pub mod Tellings
+pub mod Withdrawals
+pub mod Closings

@@ -9,6 +9,7 @@ ghost use Rattle.lwkt_port.specs.Posts.{Changes, KeepsNamed, IsSamePost};
 ghost use Rattle.lwkt_port.specs.Queues.{HasNamed};
 ghost use Rattle.lwkt_port.specs.Works.{work, Grew, away_count, standing, Keeps, Stands};
 ghost use Rattle.lwkt_port.specs.Intakes.{Payer, payer, Pays, Intake, intake, EmptiesFrom, hall, TakesIn, PostTakesIn};
+ghost use Rattle.lwkt_port.specs.Closings.{PostPays};
 ghost use Rattle.lwkt_port.specs.Tellings.{Tells};
 
 use crate::clearings::clear_all;
@@ -186,5 +187,27 @@ impl Ports {
             limit,
             trace,
         )
+    }
+
+    /// Makes the replies that are owed, by message number, as lanes have room; the notes in hand of the sending ends move
+    /// on before. It takes no notes in: this is for a processor that stops.
+    ///
+    /// That the trace has room for 256 events is the caller's condition.
+    pub fn send_owed(&mut self, book: &MsgBook, trace: &mut Vec<Event>)
+        requires table { self.old.seat.table ≡ book.now.table }
+        requires room { vec_len trace.old + 256 ≤ vec_capacity trace.old }
+        ensures pays { PostPays self.old self.new trace.old trace.new }
+        ensures same { IsSamePost self.old self.new }
+        ensures grew { Grew (cpu_of self.old.seat) 64 trace.old trace.new }
+        ensures told { Tells self.old.seat self.new.seat trace.old.items trace.new.items }
+    {
+        make_room(&mut self.lanes);
+        pay_all(
+            book,
+            &mut self.seat,
+            &mut self.lanes,
+            &mut self.mails,
+            trace,
+        );
     }
 }

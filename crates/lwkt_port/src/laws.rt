@@ -1,5 +1,5 @@
 //! What the ports are for. The functions do nothing: their contracts are the laws.
-ghost use Rattle.lwkt_port.specs.Laws.{LanesLoseNone, NotesLeaveServed, RequestsAreShownOnce, NothingIsTold, TellsChain};
+ghost use Rattle.lwkt_port.specs.Laws.{LanesLoseNone, NotesLeaveServed, RequestsAreShownOnce, OwedIsMadeOnce, UnowedIsNotMade, EintrIfAborted, NothingIsTold, TellsChain};
 
 /// What left a lane is what was reaped, queued, found stale or foreign, in order, and at last what is kept for it.
 pub fn lanes_lose_none()
@@ -21,4 +21,16 @@ pub fn requests_are_shown_once()
 pub fn tells_go_together()
     ensures nothing { NothingIsTold }
     ensures chain { TellsChain }
+{}
+
+/// A reply that the ports owe is made once, as its lane has room, and none is made that isn't owed.
+pub fn owed_replies_are_made_once()
+    ensures once { OwedIsMadeOnce }
+    ensures only { UnowedIsNotMade }
+{}
+
+/// A request that is taken for a thread is owed EINTR exactly if its origin has asked for it to be aborted, and is never
+/// shown then; any other is shown.
+pub fn aborted_requests_are_owed()
+    ensures { EintrIfAborted }
 {}

@@ -2,6 +2,7 @@
 #![tactic(auto)]
 
 mod clearings;
+mod closings;
 pub mod deeds;
 pub mod gets;
 pub mod handlings;
@@ -15,5 +16,6 @@ pub mod queues;
 mod replies;
 mod sendings;
 mod traces;
+mod withdrawals;
 
 pub use posts::Ports;

@@ -104,7 +104,7 @@ pub(crate) fn answer(
 }
 
 // Whether the thread was shown the message as a request, and hasn't replied yet.
-fn is_shown_to(mails: &Vec<Mail>, thread: u8, msg: MsgId) -> bool
+pub(crate) fn is_shown_to(mails: &Vec<Mail>, thread: u8, msg: MsgId) -> bool
     ensures { IsTrue result ↔ IsShownTo thread msg mails.now.items }
 {
     let m = usize::from(msg.0);

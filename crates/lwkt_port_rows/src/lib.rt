@@ -2,6 +2,8 @@
 #![tactic(auto)]
 
 #[cfg(test)]
+mod end_rows;
+#[cfg(test)]
 mod rows;
 #[cfg(test)]
 mod stations;

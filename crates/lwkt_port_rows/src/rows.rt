@@ -14,7 +14,7 @@ use std::alloc::Global;
 use std::test::Fail;
 
 // A message of thread 0 of the first processor.
-const OWN: MsgSpec = MsgSpec {
+pub(crate) const OWN: MsgSpec = MsgSpec {
     round: 0,
     origin: ThreadId {
         cpu: CpuId(0),
@@ -22,7 +22,7 @@ const OWN: MsgSpec = MsgSpec {
     },
 };
 
-const fn first(ask: Ask, told: Told) -> Line {
+pub(crate) const fn first(ask: Ask, told: Told) -> Line {
     Line {
         second: false,
         ask,
@@ -30,7 +30,7 @@ const fn first(ask: Ask, told: Told) -> Line {
     }
 }
 
-const fn second(ask: Ask, told: Told) -> Line {
+pub(crate) const fn second(ask: Ask, told: Told) -> Line {
     Line {
         second: true,
         ask,
@@ -38,15 +38,15 @@ const fn second(ask: Ask, told: Told) -> Line {
     }
 }
 
-const fn request(m: u8, op: u32, arg: u64) -> Told {
+pub(crate) const fn request(m: u8, op: u32, arg: u64) -> Told {
     Told::Got(Some(Item::Request(MsgId(m), Call { arg, op })))
 }
 
-const fn answered(m: u8, error: u32, outcome: u64) -> Told {
+pub(crate) const fn answered(m: u8, error: u32, outcome: u64) -> Told {
     Told::Got(Some(Item::Answered(MsgId(m), error, outcome)))
 }
 
-const fn given(op: u32, arg: u64, error: u32, outcome: u64) -> Told {
+pub(crate) const fn given(op: u32, arg: u64, error: u32, outcome: u64) -> Told {
     Told::Given(Some(Rec {
         arg,
         result: outcome,

@@ -1,5 +1,5 @@
 //! A book and the ports of two processors, and tables of calls on them.
-ghost use Rattle.std.specs.Prelude.{◌≡◌, ℕ, ◌<◌, ◌≤◌, length, map, IfOk, IfSome};
+ghost use Rattle.std.specs.Prelude.{◌≡◌, ℕ, ◌+◌, ◌<◌, ◌≤◌, length, map, vec_len, vec_capacity, IfOk, IfSome};
 ghost use Rattle.lwkt_msg.specs.Desks.{AreSeats, IsOpened, messages_of, cpus_of};
 ghost use Rattle.lwkt_base.specs.declared.openings.MsgSpec.{MsgSpec};
 ghost use Rattle.lwkt_port_rows.specs.Stations.{Sits};
@@ -16,6 +16,12 @@ pub const NO_FLAGS: Flags = Flags {
     abortable: false,
 };
 
+/// Leave to drop and to abort.
+pub const FREE: Flags = Flags {
+    dropable: true,
+    abortable: true,
+};
+
 /// A call on the ports of a processor.
 #[derive(Clone, Copy, Debug)]
 pub enum Ask {
@@ -27,6 +33,15 @@ pub enum Ask {
     /// A thread replies: its number, the message, error and result.
     Reply(u8, u8, u32, u64),
     Done(u8),
+    /// As `Send`, with leave to drop and to abort.
+    SendFree(u8, u8, u8, u8, u32, u64),
+    /// A thread asks for a message to be aborted, hears whether one is to be aborted, or drops one.
+    Abort(u8, u8),
+    IsAborted(u8, u8),
+    DropMsg(u8, u8),
+    /// A thread's port is closed.
+    Close(u8),
+    SendOwed,
 }
 
 /// What a call answered.
@@ -36,6 +51,7 @@ pub enum Told {
     Popped(usize),
     Got(Option<Item>),
     Given(Option<Rec>),
+    Heard(bool),
     Refused(Fault),
     /// There is no such thread or message.
     Unfit,
@@ -64,6 +80,43 @@ fn done(answer: Result<(), Fault>) -> Told {
     }
 }
 
+// Makes a call on a message that is under way, or on a port of an ended thread.
+fn play_end(
+    book: &MsgBook,
+    ports: &mut Ports,
+    messages: usize,
+    ask: Ask,
+    trace: &mut Vec<Event>,
+) -> Told
+    requires sits { Sits book.now messages ports.old }
+    requires room { vec_len trace.old + 256 ≤ vec_capacity trace.old }
+    ensures { Sits book.now messages ports.new }
+{
+    match ask {
+        Ask::Abort(thread, m) => done(ports.abort(book, thread, MsgId(m), trace)),
+        Ask::IsAborted(thread, m) => match ports.is_aborted(book, thread, MsgId(m)) {
+            Ok(aborted) => Told::Heard(aborted),
+            Err(fault) => Told::Refused(fault),
+        },
+        Ask::DropMsg(thread, m) => match ports.drop_msg(book, thread, MsgId(m), trace) {
+            Ok(rec) => Told::Given(Some(rec)),
+            Err(fault) => Told::Refused(fault),
+        },
+        Ask::Close(thread) => {
+            if usize::from(thread) < ports.threads() {
+                ports.close_port(thread);
+                return Told::Done;
+            }
+            Told::Unfit
+        }
+        Ask::SendOwed => {
+            ports.send_owed(book, trace);
+            Told::Done
+        }
+        _ => Told::Unfit,
+    }
+}
+
 /// Makes a call. `messages` is how many messages the book has.
 pub fn play(
     alloc: Global,
@@ -84,6 +137,14 @@ pub fn play(
             };
             let call = Call { arg, op };
             done(ports.send(book, thread, MsgId(m), to, call, NO_FLAGS, &mut trace))
+        }
+        Ask::SendFree(thread, m, cpu, target, op, arg) => {
+            let to = ThreadId {
+                cpu: CpuId(cpu),
+                thread: target,
+            };
+            let call = Call { arg, op };
+            done(ports.send(book, thread, MsgId(m), to, call, FREE, &mut trace))
         }
         Ask::SendSync(thread, m, cpu, target, op, arg) => {
             let to = ThreadId {
@@ -114,6 +175,7 @@ pub fn play(
                 Told::Unfit
             }
         }
+        other => play_end(book, ports, messages, other, &mut trace),
     };
     Ok(told)
 }

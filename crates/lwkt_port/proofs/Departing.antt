@@ -1,0 +1,73 @@
+-- A thread has ended: what is kept of the messages that it was shown fits the seat still, and its port is in order.
+use Rattle.std.proofs.Common.{◌≡◌, ℕ, ◌+◌, ◌<◌, ◌==◌, Bool, true, false, cond, true≢false, List, length, set, refl, ap, sym, ◌∙◌, subst, arith, length-set, get_or-set_same, get_or-set_other}
+use Rattle.std.specs.Prelude.{slice_index_or, All, IsSome, is_some, Option, Some, None}
+use Rattle.std.proofs.lemmas.List.Elements.{All-set, All-get_or}
+use mathlib.Core.Logic.{dite}
+use native.Mathlib.Decide.{ℕ_discrete}
+use Rattle.lwkt_msg.specs.Desks.{Desk}
+use Rattle.lwkt_port.specs.declared.mails.Mail.{Mail}
+use Rattle.lwkt_port.specs.declared.queues.Port.{Port}
+use Rattle.lwkt_port.specs.Closings.{gone, left_by, gone_mail, OwesGone, IsClosedPort}
+use Rattle.lwkt_port.specs.Mails.{no_mail, mail_at, IsMail, AreMails}
+use Rattle.lwkt_port.specs.Posts.{Post, IsPost, KeepsNamed}
+use Rattle.lwkt_port.specs.Queues.{HasNamed}
+
+none_some : IsSome {T = ℕ} None → ⊥
+none_some h = true≢false (sym h)
+
+-- what is kept of a message that is owed a reply, or stays
+left_fits_if : (b : Bool) (d : Desk) (m : ℕ) (mail : Mail) → IsSome mail.shown → IsMail d m mail → IsMail d m (cond b (record mail { owed = Some gone; shown = None }) mail)
+left_fits_if true d m mail shown k = record {
+  origin_is = k.origin_is;
+  there = k.there;
+  at_home = k.at_home;
+  is_away = k.is_away;
+  owed_taken = λ _. k.shown_taken shown;
+  shown_taken = λ h. absurd (none_some h);
+}
+left_fits_if false d m mail shown k = k
+
+left_fits : (o : Option ℕ) (d : Desk) (m thread : ℕ) (mail : Mail) → mail.shown ≡ o → IsMail d m mail → IsMail d m (left_by o thread mail)
+left_fits None d m thread mail is k = k
+left_fits (Some other) d m thread mail is k = left_fits_if (other == thread) d m mail (ap is_some is) k
+
+pub gone_are : (d : Desk) (thread : ℕ) (mails mails' : List Mail) → OwesGone thread (length mails) mails mails' → AreMails d mails → AreMails d mails'
+gone_are d thread mails mails' o are = record {
+  as_many = o.as_many ∙ are.as_many;
+  few = let e : length mails' ≡ length mails = o.as_many in omega (arith, are.few);
+  each = λ m there.
+      let below : m < length mails = (let e : length mails' ≡ length mails = o.as_many in omega arith) in
+      let F : Mail → Type 0 = λ x. IsMail d m x in
+      subst F (sym (o.done m below)) (left_fits (mail_at mails m).shown d m thread (mail_at mails m) refl (are.each m below));
+}
+
+-- none was looked at yet, and one more
+pub owes_none : (thread : ℕ) (mails : List Mail) → OwesGone thread 0 mails mails
+owes_none thread mails = record { as_many = refl; done = λ m below. absurd (omega (arith, below)); rest = λ m above. refl }
+
+pub owes_more : (thread k : ℕ) (old mails : List Mail) (mail : Mail) → k < length mails → mail ≡ gone_mail thread (mail_at mails k) → OwesGone thread k old mails → OwesGone thread (k + 1) old (set mails k mail)
+owes_more thread k old mails mail there is o = record {
+  as_many = length-set mails k mail ∙ o.as_many;
+  done = λ m below. dite (ℕ_discrete m k)
+      (λ same. ap (λ n. mail_at (set mails k mail) n) same ∙ get_or-set_same mails k mail no_mail there ∙ is ∙ ap (gone_mail thread) (o.rest k (omega arith)) ∙ ap (λ n. gone_mail thread (mail_at old n)) (sym same))
+      (λ apart. get_or-set_other mails k m mail no_mail apart ∙ o.done m (omega (arith, below, apart)));
+  rest = λ m above. get_or-set_other mails k m mail no_mail (λ same. omega (arith, above, same)) ∙ o.rest m (omega (arith, above));
+}
+
+-- the ports after one was closed
+pub closed_named : (n : ℕ) (ports : List Port) (j : ℕ) (old new : Port) → j < length ports → old ≡ slice_index_or ports j old → IsClosedPort old new → All (HasNamed n) ports → All (HasNamed n) (set ports j new)
+closed_named n ports j old new there was closed all =
+    let F : Port → Type 0 = HasNamed n in
+    let before : HasNamed n old = subst F (sym was) (All-get_or (HasNamed n) ports j old there all) in
+    let G : Port → Type 0 = λ x. HasNamed n x in
+    All-set (HasNamed n) ports j new (subst G (sym closed) before) all
+
+pub post_closed : (p : Post) (thread : ℕ) (mails' : List Mail) (old new : Port) → IsPost p → OwesGone thread (length p.mails) p.mails mails' → thread < length p.ports → old ≡ slice_index_or p.ports thread old → IsClosedPort old new → IsPost (record p { mails = mails'; ports = set p.ports thread new })
+post_closed p thread mails' old new post o there was closed = record {
+  lanes_are = post.lanes_are;
+  ports_are = length-set p.ports thread new ∙ post.ports_are;
+  few = post.few;
+  mails_are = gone_are p.seat thread p.mails mails' o post.mails_are;
+  queued = let F : ℕ → Type 0 = λ n. All (HasNamed n) (set p.ports thread new) in subst F (sym o.as_many) (closed_named (length p.mails) p.ports thread old new there was closed post.queued);
+  kept = let F : ℕ → Type 0 = λ n. All (KeepsNamed n) p.lanes in subst F (sym o.as_many) post.kept;
+}

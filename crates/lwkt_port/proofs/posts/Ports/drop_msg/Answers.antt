@@ -1,0 +1,14 @@
+use Rattle.std.proofs.Common.{ap, subst}
+use Rattle.lwkt_msg.specs.Desks.{Desk}
+use Rattle.lwkt_port.specs.Posts.{Post}
+use Rattle.lwkt_port.specs.Tellings.{Tells}
+use Rattle.lwkt_port.specs.Works.{work}
+use Rattle.lwkt_port.proofs.Telling.{withdraw_told}
+use Rattle.lwkt_port.proofs.posts.Ports.drop_msg.Goals as goal
+
+pub returns-clause-told : goal.returns-clause-told
+returns-clause-told c =
+    let i = c.self.inside in
+    let r = c.withdraw in
+    let F : Desk → Type 0 = λ d. Tells d r.new.seat c.args.trace.now.items r.new.trace.items in
+    subst F (ap (λ (p : Post). p.seat) c.self.view_is) (withdraw_told c.args.msg (work i.seat i.mails c.args.trace.now) (work r.new.seat r.new.mails r.new.trace) r.result r.ensures.drops r.ensures.refused)

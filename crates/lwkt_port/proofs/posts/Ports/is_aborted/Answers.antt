@@ -1,0 +1,29 @@
+use Rattle.std.proofs.Common.{ap, subst, rules}
+use Rattle.std.specs.Prelude.{IfOk}
+use Rattle.lwkt_msg.specs.Desks.{Desk}
+use Rattle.lwkt_port.specs.Posts.{Post}
+use Rattle.lwkt_port.specs.Sendings.{IsShownTo}
+use Rattle.lwkt_port.specs.Tellings.{Tells}
+use Rattle.lwkt_port.specs.Withdrawals.{PostHears}
+use Rattle.lwkt_port.specs.Works.{Work}
+use Rattle.lwkt_port.proofs.Telling.{hear_told}
+use Rattle.lwkt_port.proofs.Withdrawing.{hears, post_hears}
+use Rattle.lwkt_port.proofs.posts.Ports.is_aborted.Goals as goal
+
+pub returns-clause-told : goal.returns-clause-told
+returns-clause-told c = λ events.
+    let i = c.self.inside in
+    let r = c.hear in
+    let F : Desk → Type 0 = λ d. Tells d r.new.seat events events in
+    let w : Work = record { seat = i.seat; mails = i.mails.items; trace = events } in
+    let w' : Work = record { seat = r.new.seat; mails = i.mails.items; trace = events } in
+    subst F (ap (λ (p : Post). p.seat) c.self.view_is) (hear_told c.args.msg w w' r.result r.ensures.always (hears r.result i.seat r.new.seat i.mails.items c.args.msg events r.ensures.heard))
+
+pub returns-clause-heard : goal.returns-clause-heard
+returns-clause-heard c =
+    let i = c.self.inside in
+    let r = c.hear in
+    let p : Post = record { seat = i.seat; lanes = i.lanes.items; ports = i.ports.items; mails = i.mails.items; threads = i.threads } in
+    let shown : IsShownTo c.args.thread c.args.msg i.mails.items = search rules in
+    let F : Post → Type 0 = λ x. IfOk r.result (λ aborted. PostHears c.args.thread c.args.msg x (record p { seat = r.new.seat }) aborted) in
+    subst F c.self.view_is (post_hears r.result c.args.thread c.args.msg p r.new.seat shown r.ensures.heard)
