@@ -1,9 +1,9 @@
 //! Processors at a bank and a book.
 ghost use Rattle.std.specs.Prelude.{◌≡◌, map, All, IfOk};
 ghost use Rattle.lwkt_base.specs.declared.openings.MsgSpec.{MsgSpec};
-ghost use Rattle.lwkt_bank.specs.Seats.{id_of, bank_of};
+ghost use Rattle.lwkt_bank.specs.Seats.{id_of, bank_of, cpus_of};
 ghost use Rattle.lwkt_msg.specs.Desks.{cpu_of};
-ghost use Rattle.lwkt_cpu_rows.specs.Free.{IsFree, IsGiven};
+ghost use Rattle.lwkt_cpu_rows.specs.Free.{IsFree, IsGiven, SitsAt};
 
 use lwkt_bank::{Bank, CpuSeat};
 use lwkt_base::{Cells, CpuId, Fault, Law, MsgSpec, ThreadId, ThreadState, TokId, TokSpec};
@@ -20,9 +20,9 @@ const LANE_NOTES: usize = 32;
 /// A bank and a book, with the threads that its messages belong to.
 #[derive(Drop)]
 pub struct Board {
-    bank: Bank,
+    pub bank: Bank,
     pub book: MsgBook,
-    origins: Vec<ThreadId>,
+    pub origins: Vec<ThreadId>,
     ghost owners: { origins.items ≡ map (λ (spec : MsgSpec). spec.origin) book.specs },
 }
 
@@ -67,7 +67,8 @@ pub fn token(alloc: Global, law: Law, param: u64, cells: &[u64]) -> Result<TokSp
 
 // A bank of these tokens, with a seat for each of so many processors.
 fn open_bank(alloc: Global, specs: &[TokSpec], cpus: usize) -> Result<(Bank, Vec<CpuSeat>), Fault>
-    ensures { IfOk result (λ opened. All (IsFree (id_of opened.0)) opened.1.items) }
+    ensures seats { IfOk result (λ opened. All (IsFree (id_of opened.0)) opened.1.items) }
+    ensures cpus { IfOk result (λ opened. cpus_of opened.0 ≡ cpus) }
 {
     Bank::open(alloc, specs, cpus)
 }
@@ -79,6 +80,7 @@ fn open_book(
     cpus: usize,
 ) -> Result<(MsgBook, Vec<MsgSeat>), Fault>
     ensures specs { IfOk result (λ opened. opened.0.specs ≡ specs.now) }
+    ensures cpus { IfOk result (λ opened. opened.0.cpus ≡ cpus) }
     ensures seats { IfOk result (λ opened. All (IsGiven opened.0) opened.1.items) }
 {
     MsgBook::open(alloc, specs, cpus)
@@ -136,6 +138,8 @@ pub fn open(
 ) -> Result<(Board, Seats), Fault>
     ensures seats { IfOk result (λ opened. All (IsFree (id_of opened.0.bank)) opened.1.seats.items) }
     ensures mails { IfOk result (λ opened. All (IsGiven opened.0.book) opened.1.mails.items) }
+    ensures bank { IfOk result (λ opened. cpus_of opened.0.bank ≡ cpus) }
+    ensures book { IfOk result (λ opened. opened.0.book.cpus ≡ cpus) }
 {
     let (bank, seats) = open_bank(alloc, tokens, cpus)?;
     let (book, mails) = open_book(alloc, messages, cpus)?;
@@ -221,6 +225,27 @@ fn next_ports(
     open_ports(alloc, board, id, mail, outs, ins, threads)
 }
 
+/// The last processor that is left, with these bodies, and without its bank and book.
+pub fn next_cpu<B: Drop>(
+    alloc: Global,
+    board: &Board,
+    seats: &mut Seats,
+    bodies: Vec<B>,
+) -> Result<Cpu<B>, Fault>
+    requires seats { All (IsFree (id_of board.now.bank)) seats.old.seats.items }
+    requires mails { All (IsGiven board.now.book) seats.old.mails.items }
+    ensures seats { All (IsFree (id_of board.now.bank)) seats.new.seats.items }
+    ensures mails { All (IsGiven board.now.book) seats.new.mails.items }
+    ensures cpu { IfOk result (λ cpu. SitsAt (id_of board.now.bank) board.now.book.table cpu.seat cpu.post) }
+{
+    let Some(seat) = seats.seats.pop() else {
+        return Err(Fault::Limits);
+    };
+    let id = seat.cpu();
+    let ports = next_ports(alloc, board, seats, id, bodies.len())?;
+    Cpu::new(alloc, id, seat, ports, bodies)
+}
+
 /// The last processor that is left, with these bodies.
 pub fn next_driver<'a, B: Drop>(
     alloc: Global,
@@ -233,12 +258,7 @@ pub fn next_driver<'a, B: Drop>(
     ensures seats { All (IsFree (id_of board.now.bank)) seats.new.seats.items }
     ensures mails { All (IsGiven board.now.book) seats.new.mails.items }
 {
-    let Some(seat) = seats.seats.pop() else {
-        return Err(Fault::Limits);
-    };
-    let id = seat.cpu();
-    let ports = next_ports(alloc, board, seats, id, bodies.len())?;
-    let cpu = Cpu::new(alloc, id, seat, ports, bodies)?;
+    let cpu = next_cpu(alloc, board, seats, bodies)?;
     Ok(Driver {
         cpu,
         bank: &board.bank,

@@ -2,12 +2,18 @@
 #![tactic(auto)]
 
 #[cfg(test)]
+mod closings;
+#[cfg(test)]
 mod cpu_rows;
 #[cfg(test)]
 mod drivers;
+#[cfg(test)]
+mod end_rows;
 #[cfg(test)]
 mod mail_rows;
 #[cfg(test)]
 mod scripts;
 #[cfg(test)]
 mod thread_rows;
+#[cfg(test)]
+mod workers;

@@ -1,15 +1,18 @@
 //! Two processors and their messages: a call that is replied to, and a lane that is full.
-ghost use Rattle.std.specs.Prelude.{All};
-ghost use Rattle.lwkt_bank.specs.Seats.{id_of};
-ghost use Rattle.lwkt_cpu_rows.specs.Free.{IsFree, IsGiven};
+ghost use Rattle.std.specs.Prelude.{◌≡◌, All};
+ghost use Rattle.lwkt_bank.specs.Seats.{id_of, cpus_of};
+ghost use Rattle.lwkt_cpu_rows.specs.Free.{IsFree, IsGiven, SitsAt};
 
+use crate::closings::{close, end};
 use crate::cpu_rows::one;
-use crate::drivers::{Board, Driver, Seats, next_driver, open};
+use crate::drivers::{Board, Driver, Seats, next_cpu, next_driver, open};
 use crate::scripts::Script;
 use lwkt_base::{
-    Answer, Ask, Call, CpuId, Fault, Flags, Item, MsgId, MsgSpec, ThreadId, ThreadState,
+    Answer, Ask, Call, CpuId, Fault, Flags, Item, MsgEnd, MsgId, MsgSpec, Owner, ThreadId,
+    ThreadState,
 };
 use lwkt_core::Event;
+use lwkt_cpu::Cpu;
 use std::alloc::{AllocError, Global};
 use std::test::Fail;
 
@@ -85,20 +88,16 @@ fn sends(alloc: Global, count: u8) -> Result<Vec<Ask>, AllocError> {
     Ok(asks)
 }
 
-// Two processors: the thread of the first sends 33 messages of its own to that of the second, and asks for one thing more.
+// Two processors: the thread of the first sends 33 messages of its own to that of the second.
 fn sender_and_target<'a>(
     alloc: Global,
     board: &'a Board,
     seats: &mut Seats,
-    more: Option<Ask>,
 ) -> Result<(Driver<'a, Script>, Driver<'a, Script>), Fault>
     requires seats { All (IsFree (id_of board.now.bank)) seats.old.seats.items }
     requires mails { All (IsGiven board.now.book) seats.old.mails.items }
 {
-    let mut asks = sends(alloc, 33).map_err(|_| Fault::Memory)?;
-    if let Some(ask) = more {
-        asks.push(ask).map_err(|_| Fault::Memory)?;
-    }
+    let asks = sends(alloc, 33).map_err(|_| Fault::Memory)?;
     let idle = one(alloc, &[]).map_err(|_| Fault::Memory)?;
     let bodies = one(alloc, &asks).map_err(|_| Fault::Memory)?;
     let second = next_driver(alloc, board, seats, idle)?;
@@ -110,7 +109,7 @@ fn sender_and_target<'a>(
 fn full_lane(rt: HostRuntime) -> Result<(), Fail> {
     let alloc = rt.alloc();
     let (board, mut seats) = open(alloc, &[], &[OWN; 33], 2)?;
-    let (mut driver, _second) = sender_and_target(alloc, &board, &mut seats, None)?;
+    let (mut driver, _second) = sender_and_target(alloc, &board, &mut seats)?;
     let drove = driver.drive(34)?;
     assert!(rt; drove.ran == 34 && driver.state(0) == Some(ThreadState::Exited));
     let body = driver.body(0).ok_or("a body")?;
@@ -128,23 +127,56 @@ fn full_lane(rt: HostRuntime) -> Result<(), Fail> {
     Ok(())
 }
 
-// The message that a full lane refused is at rest at its opening round: it can be sent to another thread, for its first round.
+// Stops two processors and closes bank and book: what the messages are then.
+fn close_both(
+    alloc: Global,
+    board: Board,
+    first: Cpu<Script>,
+    second: Cpu<Script>,
+) -> Result<Vec<MsgEnd>, Fault>
+    requires bank { cpus_of board.bank ≡ 2 }
+    requires book { board.book.cpus ≡ 2 }
+    requires first { SitsAt (id_of board.bank) board.book.table first.seat first.post }
+    requires second { SitsAt (id_of board.bank) board.book.table second.seat second.post }
+{
+    let (seat, mail, _) = end(alloc, &board.bank, &board.book, first)?;
+    let (other, other_mail, _) = end(alloc, &board.bank, &board.book, second)?;
+    let Ok(seats) = Vec::from_array(alloc, [seat, other]) else {
+        return Err(Fault::Memory);
+    };
+    let Ok(mails) = Vec::from_array(alloc, [mail, other_mail]) else {
+        return Err(Fault::Memory);
+    };
+    let (_, ends) = close(alloc, board, 2, seats, mails)?;
+    Ok(ends)
+}
+
+// The message that a full lane refused is at rest at its opening round once the book is closed; the others are on their way.
 #[test]
 fn full_lane_keeps_the_message(rt: HostRuntime) -> Result<(), Fail> {
     let alloc = rt.alloc();
     let (board, mut seats) = open(alloc, &[], &[OWN; 33], 2)?;
-    let again = Ask::Send(MsgId(32), OWN.origin, CALL, FLAGS);
-    let (mut driver, _second) = sender_and_target(alloc, &board, &mut seats, Some(again))?;
-    let drove = driver.drive(33)?;
-    assert!(rt; drove.ran == 33 && driver.trace().len() == 32);
-    driver.forget();
-    driver.drive(1)?;
-    let sent = Event::Send {
-        cpu: CpuId(0),
-        msg: MsgId(32),
-        to: CpuId(0),
-        round: 1,
+    let second = next_cpu(alloc, &board, &mut seats, one(alloc, &[])?)?;
+    let asks = sends(alloc, 33)?;
+    let mut first = next_cpu(alloc, &board, &mut seats, one(alloc, &asks)?)?;
+    let mut trace = Vec::new(alloc);
+    let drove = first.drive(&board.bank, &board.book, 33, &mut trace)?;
+    assert!(rt; drove.ran == 33 && trace.len() == 32);
+    let ends = close_both(alloc, board, first, second)?;
+    let origin = OWN.origin.cpu;
+    let target = THERE.cpu;
+    let kept = MsgEnd {
+        round: 0,
+        state: Owner::Rest { origin },
     };
-    assert!(rt; driver.trace().last() == Some(&sent));
+    let sent = MsgEnd {
+        round: 1,
+        state: Owner::Out { origin, target },
+    };
+    assert!(rt; ends.len() == 33);
+    for (m, end) in ends.iter().enumerate() {
+        let want = if m == 32 { kept } else { sent };
+        assert!(rt; *end == want, "{m} {end:?}");
+    }
     Ok(())
 }
