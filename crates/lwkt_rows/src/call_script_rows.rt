@@ -1,10 +1,10 @@
 //! Scripts with messages and several processors against the page of formats: what they read as, and the place of each
-//! bad part, with the one that a reader for one processor without messages finds.
+//! bad part.
 
 use crate::fixtures::{THREAD, changed, listed, play};
 use lwkt_base::{Ask, Call, CpuId, Fault, Flags, MsgId, MsgSpec, ThreadId};
 use lwkt_fixtures::Row;
-use lwkt_script::{Script, read_plain_script, read_script};
+use lwkt_script::{Script, read_script};
 use std::alloc::Global;
 
 const STEPS: &str = "[\"get\",0],[\"add\",0,5],[\"rel\",0]";
@@ -13,21 +13,16 @@ const NONE: &str = "\"messages\":[]";
 
 const MESSAGE: &str = "{\"of\":[0,0],\"round\":0}";
 
-// Where a script was refused; 0 where it wasn't.
-fn place_in(read: Result<Script, Fault>) -> u32 {
-    match read {
+// Where `read_script` refuses the text; 0 where it doesn't.
+fn place_of(alloc: Global, text: &str) -> u32 {
+    match read_script(alloc, text.as_bytes()) {
         Err(Fault::Script { place }) => place,
         _ => 0,
     }
 }
 
-// Where `read_script` refuses the text.
-fn place_of(alloc: Global, text: &str) -> u32 {
-    place_in(read_script(alloc, text.as_bytes()))
-}
-
-// What stands in a script, what in its place, and the place that `read_script` then finds, and that of the plain reader.
-struct Placed(&'static str, &'static str, u32, u32);
+// What stands in a script, what in its place, and the place that `read_script` then finds.
+struct Placed(&'static str, &'static str, u32);
 
 impl Row for Placed {
     fn is_right(&self, alloc: Global) -> bool {
@@ -35,94 +30,58 @@ impl Row for Placed {
             return false;
         };
         place_of(alloc, text.as_str()) == self.2
-            && place_in(read_plain_script(alloc, text.as_bytes())) == self.3
     }
 }
 
 const BAD_PARTS: [Placed; 28] = [
-    Placed("\"cpus\":1", "\"cpus\":8", 0, 5),
-    Placed("\"cpus\":1", "\"cpus\":9", 5, 5),
+    Placed("\"cpus\":1", "\"cpus\":8", 0),
+    Placed("\"cpus\":1", "\"cpus\":9", 5),
     Placed(
         NONE,
         "\"messages\":[{\"of\":[0,15],\"round\":2251799813685247}]",
         0,
-        2000,
     ),
-    Placed(
-        NONE,
-        "\"messages\":[{\"of\":[0,16],\"round\":0}]",
-        2000,
-        2000,
-    ),
-    Placed(
-        NONE,
-        "\"messages\":[{\"of\":[1,0],\"round\":0}]",
-        2000,
-        2000,
-    ),
-    Placed(NONE, "\"messages\":[{\"of\":[0],\"round\":0}]", 2000, 2000),
-    Placed(
-        NONE,
-        "\"messages\":[{\"of\":[0,0,0],\"round\":0}]",
-        2000,
-        2000,
-    ),
-    Placed(NONE, "\"messages\":[{\"of\":0,\"round\":0}]", 2000, 2000),
+    Placed(NONE, "\"messages\":[{\"of\":[0,16],\"round\":0}]", 2000),
+    Placed(NONE, "\"messages\":[{\"of\":[1,0],\"round\":0}]", 2000),
+    Placed(NONE, "\"messages\":[{\"of\":[0],\"round\":0}]", 2000),
+    Placed(NONE, "\"messages\":[{\"of\":[0,0,0],\"round\":0}]", 2000),
+    Placed(NONE, "\"messages\":[{\"of\":0,\"round\":0}]", 2000),
     Placed(
         NONE,
         "\"messages\":[{\"of\":[0,0],\"round\":2251799813685248}]",
         2000,
-        2000,
     ),
-    Placed(
-        NONE,
-        "\"messages\":[{\"of\":[0,0],\"round\":-0}]",
-        2000,
-        2000,
-    ),
-    Placed(NONE, "\"messages\":[{\"of\":[0,0]}]", 2000, 2000),
-    Placed(
-        NONE,
-        "\"messages\":[{\"of\":[0,0],\"round\":0},{}]",
-        2001,
-        2000,
-    ),
+    Placed(NONE, "\"messages\":[{\"of\":[0,0],\"round\":-0}]", 2000),
+    Placed(NONE, "\"messages\":[{\"of\":[0,0]}]", 2000),
+    Placed(NONE, "\"messages\":[{\"of\":[0,0],\"round\":0},{}]", 2001),
     Placed(
         "\"get\",0",
         "\"send\",255,255,255,4294967295,18446744073709551615,3",
         0,
-        100_000,
     ),
-    Placed("\"get\",0", "\"send\",0,0,0,1,1,4", 100_000, 100_000),
-    Placed(
-        "\"get\",0",
-        "\"send\",0,0,0,4294967296,1,0",
-        100_000,
-        100_000,
-    ),
-    Placed("\"get\",0", "\"send\",0,0,256,1,1,0", 100_000, 100_000),
-    Placed("\"get\",0", "\"send\",0,0,0,1,1", 100_000, 100_000),
-    Placed("\"get\",0", "\"send\",0,0,0,1,1,0,0", 100_000, 100_000),
-    Placed("\"add\",0,5", "\"do\",0,1,0,5,9", 0, 100_001),
-    Placed("\"add\",0,5", "\"do\",0,256,0,5,9", 100_001, 100_001),
-    Placed("\"add\",0,5", "\"do\",0,1,0,5,9,0", 100_001, 100_001),
+    Placed("\"get\",0", "\"send\",0,0,0,1,1,4", 100_000),
+    Placed("\"get\",0", "\"send\",0,0,0,4294967296,1,0", 100_000),
+    Placed("\"get\",0", "\"send\",0,0,256,1,1,0", 100_000),
+    Placed("\"get\",0", "\"send\",0,0,0,1,1", 100_000),
+    Placed("\"get\",0", "\"send\",0,0,0,1,1,0,0", 100_000),
+    Placed("\"add\",0,5", "\"do\",0,1,0,5,9", 0),
+    Placed("\"add\",0,5", "\"do\",0,256,0,5,9", 100_001),
+    Placed("\"add\",0,5", "\"do\",0,1,0,5,9,0", 100_001),
     Placed(
         "\"add\",0,5",
         "\"do\",0,1,0,5,18446744073709551616",
-        100_001,
         100_001,
     ),
     Placed(
         "\"rel\",0",
         "\"reply\",0,4294967295,18446744073709551615",
         0,
-        100_002,
     ),
-    Placed("\"rel\",0", "\"reply\",0,4294967296,0", 100_002, 100_002),
-    Placed("\"rel\",0", "\"reply\",256,0,0", 100_002, 100_002),
-    Placed("\"rel\",0", "\"abort\",0", 100_002, 100_002),
-    Placed("\"rel\",0", "\"isab\",0", 100_002, 100_002),
-    Placed("\"rel\",0", "\"drop\",0", 100_002, 100_002),
+    Placed("\"rel\",0", "\"reply\",0,4294967296,0", 100_002),
+    Placed("\"rel\",0", "\"reply\",256,0,0", 100_002),
+    Placed("\"rel\",0", "\"abort\",0", 100_002),
+    Placed("\"rel\",0", "\"isab\",0", 100_002),
+    Placed("\"rel\",0", "\"drop\",0", 100_002),
 ];
 
 #[test]

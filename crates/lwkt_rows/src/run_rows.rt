@@ -105,6 +105,30 @@ const TWO_THREADS_ONE_TOKEN: Run = Run(
     "token 0 gen 2 cells 2\nthread 0.0 exited list - log v=2\nthread 0.1 exited list - log v=1\nlawful\n",
 );
 
+const UPGRADE_AND_BUSY_TRY: Run = Run(
+    "{\"version\":1,\"turns\":50,\"idle\":100000000,\"cpus\":2,\"tokens\":[{\"cells\":[0],\"law\":\"any\",\"param\":0,\"gen\":0}],\"messages\":[],\"threads\":[{\"cpu\":0,\"repeat\":1,\"steps\":[[\"gets\",0],[\"get\",0],[\"rel\",0]]},{\"cpu\":1,\"repeat\":1,\"steps\":[[\"try\",0]]}]}",
+    0,
+    "token 0 gen 0 cells 0\nthread 0.0 exited list - log f=11\nthread 1.0 exited list - log f=23\nlawful\n",
+);
+
+const CROSSED_LISTS: Run = Run(
+    "{\"version\":1,\"turns\":50,\"idle\":100000000,\"cpus\":2,\"tokens\":[{\"cells\":[0],\"law\":\"any\",\"param\":0,\"gen\":0},{\"cells\":[0],\"law\":\"any\",\"param\":0,\"gen\":0}],\"messages\":[],\"threads\":[{\"cpu\":0,\"repeat\":1,\"steps\":[[\"get\",0],[\"get\",1],[\"read\",0,0],[\"write\",0,0,8],[\"yield\"],[\"read\",0,0],[\"rel\",1],[\"rel\",0]]},{\"cpu\":1,\"repeat\":1,\"steps\":[[\"get\",1],[\"get\",0],[\"write\",0,0,7],[\"rel\",0],[\"rel\",1]]}]}",
+    0,
+    "token 0 gen 2 cells 8\ntoken 1 gen 0 cells 0\nthread 0.0 exited list - log v=7 v=8\nthread 1.0 exited list - log -\nlawful\n",
+);
+
+const CALL_AND_REPLY: Run = Run(
+    "{\"version\":1,\"turns\":50,\"idle\":100000000,\"cpus\":2,\"tokens\":[],\"messages\":[{\"of\":[0,0],\"round\":0}],\"threads\":[{\"cpu\":0,\"repeat\":1,\"steps\":[[\"do\",0,1,0,5,9],[\"getport\"]]},{\"cpu\":1,\"repeat\":1,\"steps\":[[\"wait\"],[\"reply\",0,7,42]]}]}",
+    0,
+    "message 0 round 1 rest\nthread 0.0 exited list - log r=0:7:42 n\nthread 1.0 exited list - log q=0:5:9\nlawful\n",
+);
+
+const SCRIPTS_OVER_PROCESSORS_1: Run = Run(
+    "{\"version\":1,\"turns\":50,\"idle\":100000000,\"cpus\":2,\"tokens\":[{\"cells\":[0],\"law\":\"any\",\"param\":0,\"gen\":70368744177662}],\"messages\":[],\"threads\":[{\"cpu\":0,\"repeat\":1,\"steps\":[[\"get\",0],[\"write\",0,0,1],[\"rel\",0]]},{\"cpu\":1,\"repeat\":1,\"steps\":[[\"get\",0],[\"rel\",0]]}]}",
+    0,
+    "token 0 gen 70368744177663 cells 1\nthread 0.0 exited list - log -\nthread 1.0 faulted 20 list - log -\nlawful\n",
+);
+
 // Turns that are used up: the running thread's state and list are those before the end.
 const TURNS_USED_UP: Run = Run(
     "{\"version\":1,\"turns\":2,\"idle\":5,\"cpus\":1,\"tokens\":[{\"cells\":[10],\"law\":\"tally\",\"param\":10,\"gen\":0}],\"messages\":[],\"threads\":[{\"cpu\":0,\"repeat\":1,\"steps\":[[\"get\",0],[\"add\",0,5],[\"rel\",0]]}]}",
@@ -155,6 +179,20 @@ fn opening_law(rt: HostRuntime) {
 #[test]
 fn two_threads_one_token(rt: HostRuntime) {
     play(&rt, rt.alloc(), &[TWO_THREADS_ONE_TOKEN]);
+}
+
+#[test]
+fn several_processors(rt: HostRuntime) {
+    play(
+        &rt,
+        rt.alloc(),
+        &[
+            UPGRADE_AND_BUSY_TRY,
+            CROSSED_LISTS,
+            CALL_AND_REPLY,
+            SCRIPTS_OVER_PROCESSORS_1,
+        ],
+    );
 }
 
 #[test]

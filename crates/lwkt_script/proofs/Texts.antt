@@ -5,22 +5,21 @@ use Rattle.std.proofs.lemmas.Str.{IsUtf8-from_is_utf8, is_utf8-from_IsUtf8}
 use Rattle.serde_json.specs.Data.{Data}
 use Rattle.serde_json.specs.Read.{read}
 use Rattle.serde_json.proofs.OnLiterals.{serde_json_on_literals}
-use Rattle.lwkt_script.specs.declared.profiles.Profile.{Profile}
-use Rattle.lwkt_script.specs.Format.{script, script_under}
+use Rattle.lwkt_script.specs.Format.{script, script_of}
 
 -- a text that is read is the script that its value is
-pub text_read : (profile : Profile) (bytes : List ℕ) (d : Data) → length bytes ≤ 1048576 → IsUtf8 bytes → read bytes ≡ Some d → script_under profile bytes ≡ script profile d
-unfolding script_under
-text_read profile bytes d short text h = rw (le-leb (length bytes) 1048576 short, is_utf8-from_IsUtf8 bytes text, h)
+pub text_read : (bytes : List ℕ) (d : Data) → length bytes ≤ 1048576 → IsUtf8 bytes → read bytes ≡ Some d → script_of bytes ≡ script d
+unfolding script_of
+text_read bytes d short text h = rw (le-leb (length bytes) 1048576 short, is_utf8-from_IsUtf8 bytes text, h)
 
 unread : (bytes : List ℕ) (text : Bool) → is_utf8 bytes ≡ text → (IsUtf8 bytes → read bytes ≡ None) → cond text (read bytes) None ≡ None
 unread bytes true is refused = refused (IsUtf8-from_is_utf8 bytes is)
 unread bytes false is refused = refl
 
 -- a text that is not read is refused as a whole
-pub text_refused : (profile : Profile) (bytes : List ℕ) → length bytes ≤ 1048576 → (IsUtf8 bytes → read bytes ≡ None) → script_under profile bytes ≡ Err 0
-unfolding script_under
-text_refused profile bytes short refused = rw (le-leb (length bytes) 1048576 short, unread bytes (is_utf8 bytes) refl refused)
+pub text_refused : (bytes : List ℕ) → length bytes ≤ 1048576 → (IsUtf8 bytes → read bytes ≡ None) → script_of bytes ≡ Err 0
+unfolding script_of
+text_refused bytes short refused = rw (le-leb (length bytes) 1048576 short, unread bytes (is_utf8 bytes) refl refused)
 
 none_read : read [] ≡ None
 unfolding serde_json_on_literals

@@ -8,15 +8,12 @@ use Rattle.serde_json.specs.Read.{read}
 use Rattle.lwkt_base.specs.declared.asks.Ask.{Ask}
 use Rattle.lwkt_base.specs.declared.openings.MsgSpec.{MsgSpec}
 use Rattle.lwkt_base.specs.declared.openings.TokSpec.{TokSpec}
-use Rattle.lwkt_script.specs.declared.profiles.Profile.{Profile}
-use Rattle.lwkt_script.specs.declared.profiles.Profile.TheVariants.{Whole, Plain}
 use Rattle.lwkt_script.specs.declared.scripts.Script.{Script}
 use Rattle.lwkt_script.specs.declared.scripts.ThreadSpec.{ThreadSpec}
 use Rattle.lwkt_script.specs.Field.{has_members, whole, number_in, list_in}
 use Rattle.lwkt_script.specs.Member.{law_in, allows, origin_in}
 use Rattle.lwkt_script.specs.Outcome.{◌>>=◌, ◌>>◌, part, demand, each}
-use Rattle.lwkt_script.specs.Profile.{most_cpus, most_messages}
-use Rattle.lwkt_script.specs.Step.{ask_in}
+use Rattle.lwkt_script.specs.Step.{ask_of}
 
 -- a cell, any whole number of 64 bits
 abbrev pub cell : ℕ → List ℕ → Data → Result ℕ ℕ
@@ -48,15 +45,15 @@ message_at cpus place d = do
   round ← part place (number_in (codes "round") 0 2251799813685247 d)
   Ok (record { round = round; origin = origin })
 
--- the message after those, if there may be so many
-abbrev pub message : Profile → ℕ → List MsgSpec → Data → Result MsgSpec ℕ
-message profile cpus before d = do
-  demand (2000 + most_messages profile) (nat_lt (length before) (most_messages profile))
+-- the message after those: there are at most 64
+abbrev pub message : ℕ → List MsgSpec → Data → Result MsgSpec ℕ
+message cpus before d = do
+  demand 2064 (nat_lt (length before) 64)
   message_at cpus (2000 + length before) d
 
 -- step j of thread n stands at 100000 + 1000*n + j
-abbrev pub step : Profile → ℕ → List Ask → Data → Result Ask ℕ
-step profile n before d = part (100000 + 1000 * n + length before) (ask_in profile d)
+abbrev pub step : ℕ → List Ask → Data → Result Ask ℕ
+step n before d = part (100000 + 1000 * n + length before) (ask_of d)
 
 -- how many of these threads are of a processor
 abbrev pub threads_on : ℕ → List ThreadSpec → ℕ
@@ -67,15 +64,15 @@ abbrev pub has_room : List ThreadSpec → ℕ → ℕ → Bool
 has_room before cpu steps = nat_le steps 256 && nat_lt (threads_on cpu before) 16
 
 -- the thread after those: its members first, then its steps
-unfoldable pub thread : Profile → ℕ → List ThreadSpec → Data → Result ThreadSpec ℕ
-thread profile cpus before d = do
+unfoldable pub thread : ℕ → List ThreadSpec → Data → Result ThreadSpec ℕ
+thread cpus before d = do
   let place = 3000 + length before
   demand place (has_members 3 d)
   cpu ← part place (number_in (codes "cpu") 0 (cpus - 1) d)
   repeat ← part place (number_in (codes "repeat") 1 1000000 d)
   items ← part place (list_in (codes "steps") d)
   demand place (has_room before cpu (items_len items))
-  steps ← each (step profile (length before)) [] items
+  steps ← each (step (length before)) [] items
   Ok (record { cpu = record { 0 = cpu }; repeat = repeat; steps = steps })
 
 -- an object with exactly the seven members
@@ -83,8 +80,8 @@ abbrev pub is_whole : Data → Bool
 is_whole d = has_members 7 d && is_some (get (codes "version") d) && is_some (get (codes "turns") d) && is_some (get (codes "idle") d) && is_some (get (codes "cpus") d)
 
 -- a script: the shape of the whole first, then the parts in their order
-unfoldable pub script : Profile → Data → Result Script ℕ
-script profile d = do
+unfoldable pub script : Data → Result Script ℕ
+script d = do
   demand 1 (is_whole d)
   token_items ← part 1 (list_in (codes "tokens") d)
   message_items ← part 1 (list_in (codes "messages") d)
@@ -92,20 +89,12 @@ script profile d = do
   version ← part 2 (number_in (codes "version") 1 1 d)
   turns ← part 3 (number_in (codes "turns") 1 1000000 d)
   idle ← part 4 (number_in (codes "idle") 1 100000000 d)
-  cpus ← part 5 (number_in (codes "cpus") 1 (most_cpus profile) d)
+  cpus ← part 5 (number_in (codes "cpus") 1 8 d)
   tokens ← each token [] token_items
-  messages ← each (message profile cpus) [] message_items
-  threads ← each (thread profile cpus) [] thread_items
+  messages ← each (message cpus) [] message_items
+  threads ← each (thread cpus) [] thread_items
   Ok (record { turns = turns; idle = idle; cpus = cpus; tokens = tokens; messages = messages; threads = threads })
 
 -- the script that the bytes are: at most 1048576 of them, and one JSON text
-unfoldable pub script_under : Profile → List ℕ → Result Script ℕ
-script_under profile bytes = part 0 (if nat_le (length bytes) 1048576 && is_utf8 bytes then read bytes else None) >>= script profile
-
--- any script of version 1
-abbrev pub script_of : List ℕ → Result Script ℕ
-script_of = script_under Whole
-
--- a script of one processor without messages, sends and replies: the first of these is a bad part
-abbrev pub plain_script_of : List ℕ → Result Script ℕ
-plain_script_of = script_under Plain
+unfoldable pub script_of : List ℕ → Result Script ℕ
+script_of bytes = part 0 (if nat_le (length bytes) 1048576 && is_utf8 bytes then read bytes else None) >>= script

@@ -1,5 +1,4 @@
 pub mod Outcome
-pub mod Profile
 pub mod Field
 pub mod Member
 pub mod Step

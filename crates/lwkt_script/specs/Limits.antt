@@ -45,8 +45,3 @@ pub record IsWithinLimits (s : Script) : Type 0 where
   pub messages : All (IsMessage s.cpus) s.messages
   pub threads : All (IsThread s.cpus) s.threads
   pub few_threads : (cpu : ℕ) → threads_on cpu s.threads ≤ 16
-
--- one processor, and no messages
-pub record IsPlain (s : Script) : Type 0 where
-  pub one_cpu : s.cpus ≡ 1
-  pub no_messages : length s.messages ≡ 0

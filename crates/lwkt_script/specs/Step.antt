@@ -5,10 +5,8 @@ use Rattle.serde_json.specs.Find.{at, as_str}
 use Rattle.lwkt_base.specs.declared.asks.Ask.{Ask}
 use Rattle.lwkt_base.specs.declared.asks.Ask.TheVariants.{Get, GetShared, TryGet, Rel, Swap, Read, Write, Add, Send, Do, Reply, GetPort, WaitPort, Yield, Exit}
 use Rattle.lwkt_base.specs.declared.records.Flags.{Flags}
-use Rattle.lwkt_script.specs.declared.profiles.Profile.{Profile}
 use Rattle.lwkt_script.specs.declared.steps.Sending.{Sending}
 use Rattle.lwkt_script.specs.Field.{item_count, number, whole}
-use Rattle.lwkt_script.specs.Profile.{may_ask}
 
 infixl 10 ◌>>=◌
 abbrev pub ◌>>=◌ : {A B : Type 0} → Option A → (A → Option B) → Option B
@@ -94,7 +92,3 @@ asked word count d =
 -- the ask of a step: a word, and the numbers that go with it
 abbrev pub ask_of : Data → Option Ask
 ask_of d = item_count d >>= λ count. (at 0 d >>= as_str) >>= λ word. asked word count d
-
--- the same, of those that a thread may ask
-abbrev pub ask_in : Profile → Data → Option Ask
-ask_in profile d = ask_of d >>= λ ask. if may_ask profile ask then Some ask else None

@@ -5,7 +5,6 @@ pub mod fields;
 pub mod growth;
 pub mod messages;
 mod parts;
-mod profiles;
 mod readers;
 mod scripts;
 pub mod steps;
@@ -13,5 +12,5 @@ mod threads;
 pub mod tokens;
 
 pub use parts::Parts;
-pub use readers::{read_plain_script, read_script};
+pub use readers::read_script;
 pub use scripts::{Script, ThreadSpec};

@@ -4,14 +4,14 @@ ghost use Rattle.lwkt_script.specs.Outcome.{Gives, each};
 ghost use Rattle.lwkt_script.specs.Member.{thread_of, origin_in};
 ghost use Rattle.lwkt_script.specs.Format.{message_at, message};
 ghost use Rattle.lwkt_script.specs.Limits.{IsOrigin, IsMessage};
-ghost use Rattle.lwkt_script.specs.Profile.{most_messages};
 
 use crate::fields::{has_members, item_count, number, number_at};
 use crate::growth::push;
-use crate::profiles::{Profile, most_messages};
 use lwkt_base::{CpuId, Fault, MsgSpec, ThreadId};
 use serde_json::Value;
 use std::alloc::Global;
+
+const MESSAGE_LIMIT: usize = 64;
 
 const LAST_ROUND: u64 = 2_251_799_813_685_247;
 
@@ -60,34 +60,26 @@ pub fn message_at(cpus: u8, place: u32, value: &Value) -> Result<MsgSpec, Fault>
 }
 
 // The message after those.
-fn message(profile: Profile, cpus: u8, before: &[MsgSpec], value: &Value) -> Result<MsgSpec, Fault>
+fn message(cpus: u8, before: &[MsgSpec], value: &Value) -> Result<MsgSpec, Fault>
     requires { 0 < cpus }
-    ensures exact { Gives (λ m. m) result (message profile cpus before.now (view value.now)) }
-    ensures within { IfOk result (λ m. IsMessage cpus m × (length before.now < most_messages profile)) }
+    ensures exact { Gives (λ m. m) result (message cpus before.now (view value.now)) }
+    ensures within { IfOk result (λ m. IsMessage cpus m × (length before.now < 64)) }
 {
-    let most = most_messages(profile);
-    if before.len() >= most {
-        return Err(Fault::Script {
-            place: 2000 + most as u32,
-        });
+    if before.len() >= MESSAGE_LIMIT {
+        return Err(Fault::Script { place: 2064 });
     }
     message_at(cpus, 2000 + before.len() as u32, value)
 }
 
 /// The messages of a script, or the place of the first bad one.
-pub fn messages_of(
-    alloc: Global,
-    profile: Profile,
-    cpus: u8,
-    items: &[Value],
-) -> Result<Vec<MsgSpec>, Fault>
+pub fn messages_of(alloc: Global, cpus: u8, items: &[Value]) -> Result<Vec<MsgSpec>, Fault>
     requires { 0 < cpus }
-    ensures exact { Gives (λ v. v.items) result (each (message profile cpus) [] (items_view items.now)) }
-    ensures within { IfOk result (λ v. (length v.items ≤ most_messages profile) × All (IsMessage cpus) v.items) }
+    ensures exact { Gives (λ v. v.items) result (each (message cpus) [] (items_view items.now)) }
+    ensures within { IfOk result (λ v. (length v.items ≤ 64) × All (IsMessage cpus) v.items) }
 {
     let mut messages = Vec::new(alloc);
     for item in items {
-        let next = message(profile, cpus, messages.as_slice(), item)?;
+        let next = message(cpus, messages.as_slice(), item)?;
         push(&mut messages, next)?;
     }
     Ok(messages)

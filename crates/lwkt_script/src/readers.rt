@@ -1,14 +1,12 @@
 ghost use Rattle.std.specs.Prelude.{◌≡◌, ◌<◌, ◌≤◌, length, Err, IfOk};
 ghost use Rattle.serde_json.specs.View.{view};
 ghost use Rattle.lwkt_script.specs.Outcome.{Gives};
-ghost use Rattle.lwkt_script.specs.Format.{is_whole, script, script_under, script_of, plain_script_of};
-ghost use Rattle.lwkt_script.specs.Limits.{IsWithinLimits, IsPlain};
-ghost use Rattle.lwkt_script.specs.Profile.{most_cpus, most_messages};
+ghost use Rattle.lwkt_script.specs.Format.{is_whole, script, script_of};
+ghost use Rattle.lwkt_script.specs.Limits.{IsWithinLimits};
 
 use crate::fields::{has, has_members, list_at, number_at};
 use crate::messages::messages_of;
 use crate::parts::Parts;
-use crate::profiles::{Profile, most_cpus};
 use crate::scripts::Script;
 use crate::threads::threads_of;
 use crate::tokens::tokens_of;
@@ -22,6 +20,8 @@ const MOST_TURNS: u64 = 1_000_000;
 
 const MOST_IDLE: u64 = 100_000_000;
 
+const MOST_CPUS: u64 = 8;
+
 // Whether the value is an object with exactly the seven members.
 fn is_whole(value: &Value) -> bool
     ensures { result ≡ is_whole (view value.now) }
@@ -34,11 +34,9 @@ fn is_whole(value: &Value) -> bool
 }
 
 #[tactic(auto, unfolding(crate::specs::Format::script))]
-fn script(alloc: Global, profile: Profile, value: &Value) -> Result<Script, Fault>
-    ensures exact { Gives (λ s. s) result (script profile (view value.now)) }
+fn script(alloc: Global, value: &Value) -> Result<Script, Fault>
+    ensures exact { Gives (λ s. s) result (script (view value.now)) }
     ensures limits { IfOk result IsWithinLimits }
-    ensures cpus { IfOk result (λ s. s.cpus ≤ most_cpus profile) }
-    ensures messages { IfOk result (λ s. length s.messages ≤ most_messages profile) }
 {
     if !is_whole(value) {
         return Err(Fault::Script { place: 1 });
@@ -49,10 +47,10 @@ fn script(alloc: Global, profile: Profile, value: &Value) -> Result<Script, Faul
     number_at(2, value, "version", 1, 1)?;
     let turns = number_at(3, value, "turns", 1, MOST_TURNS)? as u32;
     let idle = number_at(4, value, "idle", 1, MOST_IDLE)? as u32;
-    let cpus = number_at(5, value, "cpus", 1, u64::from(most_cpus(profile)))? as u8;
+    let cpus = number_at(5, value, "cpus", 1, MOST_CPUS)? as u8;
     let tokens = tokens_of(alloc, token_items.as_slice())?;
-    let messages = messages_of(alloc, profile, cpus, message_items.as_slice())?;
-    let threads = threads_of(alloc, profile, cpus, thread_items.as_slice())?;
+    let messages = messages_of(alloc, cpus, message_items.as_slice())?;
+    let threads = threads_of(alloc, cpus, thread_items.as_slice())?;
     Ok(Script {
         turns,
         idle,
@@ -61,30 +59,6 @@ fn script(alloc: Global, profile: Profile, value: &Value) -> Result<Script, Faul
         messages: Parts::from_vec(messages),
         threads: Parts::from_vec(threads),
     })
-}
-
-// Reads a script of which the reader lets in so much.
-#[tactic(auto, unfolding(crate::specs::Format::script_under))]
-fn read_under(alloc: Global, profile: Profile, bytes: &[u8]) -> Result<Script, Fault>
-    ensures exact { Gives (λ s. s) result (script_under profile bytes.now) }
-    ensures limits { IfOk result IsWithinLimits }
-    ensures cpus { IfOk result (λ s. s.cpus ≤ most_cpus profile) }
-    ensures messages { IfOk result (λ s. length s.messages ≤ most_messages profile) }
-    ensures memory { result ≡ Err Fault.Memory → (0 < length bytes.now) × (length bytes.now ≤ 1048576) }
-{
-    if bytes.len() > LENGTH_LIMIT {
-        return Err(Fault::Script { place: 0 });
-    }
-    match Value::from_slice(alloc, bytes) {
-        Ok(value) => script(alloc, profile, &value),
-        Err(e) => {
-            if e.is_memory() {
-                Err(Fault::Memory)
-            } else {
-                Err(Fault::Script { place: 0 })
-            }
-        }
-    }
 }
 
 /// Reads a script of version 1: one JSON text of at most 1048576 bytes.
@@ -103,6 +77,7 @@ fn read_under(alloc: Global, profile: Profile, bytes: &[u8]) -> Result<Script, F
 ///
 /// Of a member that stands twice the last one counts. A number with a fraction or an exponent, -0, and a number of
 /// more than 64 bits are no whole numbers.
+#[tactic(auto, unfolding(crate::specs::Format::script_of))]
 pub fn read_script(alloc: Global, bytes: &[u8]) -> Result<Script, Fault>
     // The script that the bytes are, or the place of their first bad part.
     ensures exact { Gives (λ s. s) result (script_of bytes.now) }
@@ -113,23 +88,17 @@ pub fn read_script(alloc: Global, bytes: &[u8]) -> Result<Script, Fault>
     // No memory is taken for no bytes or for too many.
     ensures memory { result ≡ Err Fault.Memory → (0 < length bytes.now) × (length bytes.now ≤ 1048576) }
 {
-    read_under(alloc, Profile::Whole, bytes)
-}
-
-/// Reads a script that a machine of one processor without messages can run.
-///
-/// As `read_script`, but `cpus` other than 1, a message, at place 2000, and a step `send`, `do` or `reply` are bad
-/// parts too.
-pub fn read_plain_script(alloc: Global, bytes: &[u8]) -> Result<Script, Fault>
-    // The script that the bytes are, or the place of their first bad part.
-    ensures exact { Gives (λ s. s) result (plain_script_of bytes.now) }
-
-    // What each script keeps.
-    ensures limits { IfOk result IsWithinLimits }
-    ensures plain { IfOk result IsPlain }
-
-    // No memory is taken for no bytes or for too many.
-    ensures memory { result ≡ Err Fault.Memory → (0 < length bytes.now) × (length bytes.now ≤ 1048576) }
-{
-    read_under(alloc, Profile::Plain, bytes)
+    if bytes.len() > LENGTH_LIMIT {
+        return Err(Fault::Script { place: 0 });
+    }
+    match Value::from_slice(alloc, bytes) {
+        Ok(value) => script(alloc, &value),
+        Err(e) => {
+            if e.is_memory() {
+                Err(Fault::Memory)
+            } else {
+                Err(Fault::Script { place: 0 })
+            }
+        }
+    }
 }

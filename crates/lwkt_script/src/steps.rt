@@ -1,12 +1,11 @@
 ghost use Rattle.std.specs.Prelude.{◌≡◌, ◌≤◌, ◌<◌, length, [], IfOk};
 ghost use Rattle.serde_json.specs.View.{view, items_view};
 ghost use Rattle.lwkt_script.specs.Outcome.{Gives, each};
-ghost use Rattle.lwkt_script.specs.Step.{small_at, code_at, whole_at, alone, with_token, with_number, with_numbers, sending_in, flags_of, with_sending, with_flags, asked, ask_of, ask_in};
+ghost use Rattle.lwkt_script.specs.Step.{small_at, code_at, whole_at, alone, with_token, with_number, with_numbers, sending_in, flags_of, with_sending, with_flags, asked, ask_of};
 ghost use Rattle.lwkt_script.specs.Format.{step};
 
 use crate::fields::{item_count, number};
 use crate::growth::push;
-use crate::profiles::{Profile, may_ask};
 use lwkt_base::{Ask, Call, CpuId, Fault, Flags, MsgId, ThreadId, TokId};
 use serde_json::Value;
 use std::alloc::Global;
@@ -178,29 +177,17 @@ fn ask_of(value: &Value) -> Option<Ask>
     asked(value.get(0usize)?.as_str()?, count, value)
 }
 
-// The same, if a thread may ask it.
-fn ask_in(profile: Profile, value: &Value) -> Option<Ask>
-    ensures { result ≡ ask_in profile (view value.now) }
-{
-    let ask = ask_of(value)?;
-    if may_ask(profile, ask) {
-        Some(ask)
-    } else {
-        None
-    }
-}
-
 // The asks of the steps of thread n of a script.
-pub fn steps_of(alloc: Global, profile: Profile, n: u32, items: &[Value]) -> Result<Vec<Ask>, Fault>
+pub fn steps_of(alloc: Global, n: u32, items: &[Value]) -> Result<Vec<Ask>, Fault>
     requires thread { n ≤ 128 }
     requires steps { length items.now ≤ 256 }
-    ensures exact { Gives (λ v. v.items) result (each (step profile n) [] (items_view items.now)) }
+    ensures exact { Gives (λ v. v.items) result (each (step n) [] (items_view items.now)) }
     ensures count { IfOk result (λ v. length v.items ≡ length items.now) }
 {
     let mut asks = Vec::new(alloc);
     for item in items {
         let place = 100_000 + 1000 * n + asks.len() as u32;
-        let Some(ask) = ask_in(profile, item) else {
+        let Some(ask) = ask_of(item) else {
             return Err(Fault::Script { place });
         };
         push(&mut asks, ask)?;

@@ -1,15 +1,15 @@
 use Rattle.std.proofs.Common.{true≢false, sym, ◌∙◌, arith}
 use Rattle.serde_json.specs.View.{view}
 use Rattle.lwkt_script.proofs.Texts.{text_read, text_refused, read_some}
-use Rattle.lwkt_script.proofs.readers.read_under.Goals as goal
+use Rattle.lwkt_script.proofs.readers.read_script.Goals as goal
 
 pub returns-in-Ok-clause-exact : goal.returns-in-Ok-clause-exact
 returns-in-Ok-clause-exact c =
-    rw (text_read c.args.profile c.args.bytes.now (view c.in-Ok.value) (omega arith) c.in-Ok.ensures.ok.0 c.in-Ok.ensures.ok.1) c.script.ensures.exact
+    rw (text_read c.args.bytes.now (view c.in-Ok.value) (omega arith) c.in-Ok.ensures.ok.0 c.in-Ok.ensures.ok.1) c.script.ensures.exact
 
 pub returns-in-Ok-clause-memory : goal.returns-in-Ok-clause-memory
 returns-in-Ok-clause-memory c = λ _. (read_some c.args.bytes.now (view c.in-Ok.value) c.in-Ok.ensures.ok.1, omega arith)
 
 pub returns-else-is_memory-clause-exact : goal.returns-else-is_memory-clause-exact
 returns-else-is_memory-clause-exact c =
-    text_refused c.args.profile c.args.bytes.now (omega arith) (c.in-Err.ensures.err (λ memory. true≢false (sym (c.is_memory.ensures.1 memory) ∙ c.if-is_memory.false)))
+    text_refused c.args.bytes.now (omega arith) (c.in-Err.ensures.err (λ memory. true≢false (sym (c.is_memory.ensures.1 memory) ∙ c.if-is_memory.false)))
