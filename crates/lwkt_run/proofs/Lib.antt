@@ -1,1 +1,4 @@
+pub mod CloseMoves
+pub mod JudgeMoves
+pub mod LineMoves
 pub mod RunLemmas

@@ -1,1 +1,3 @@
+pub mod Judging
 pub mod Run
+pub mod Values

@@ -2,8 +2,6 @@ use Rattle.std.specs.Global.{Global}
 use Rattle.std.specs.Prelude.{codes, length, All, string_bytes, String, ◌≡◌, ◌≢◌, ◌⊎◌, ℕ, Bool, true, false, List, [], map, take, Option, is_some, unwrap_or, IfSome, Result, Ok, Err}
 use Rattle.std.specs.List.{list_all}
 use Rattle.std.specs.Io.KnownBytes.{Appends, Keeps}
-use Rattle.lwkt_base.specs.declared.laws.Law.{Law}
-use Rattle.lwkt_base.specs.declared.laws.Law.TheVariants.{Any, Sum, Order, Cap, Tally}
 use Rattle.lwkt_base.specs.declared.faults.Fault.{Fault as Refusal}
 use Rattle.lwkt_base.specs.declared.faults.Fault.TheVariants.{Script as ScriptFault, Memory, Limits, LawBroken}
 use Rattle.lwkt_base.specs.declared.threads.ThreadState.{ThreadState}
@@ -12,7 +10,6 @@ use Rattle.lwkt_core.specs.declared.events.Event.{Event}
 use Rattle.lwkt_core.specs.declared.finals.Final.{Final}
 use Rattle.lwkt_core.specs.Machine.{Machine}
 use Rattle.lwkt_core.specs.Opening.{opening, AreWithin, AllOpenLawfully}
-use Rattle.lwkt_core.specs.Trace.{IsLawfulTrace}
 use Rattle.lwkt_report.specs.declared.closings.Closing.{Closing}
 use Rattle.lwkt_report.specs.declared.closings.Verdict.{Verdict}
 use Rattle.lwkt_report.specs.declared.closings.Verdict.TheVariants.{Closed, Lawful, Unlawful}
@@ -25,17 +22,16 @@ use Rattle.lwkt_report.specs.Report.{report_text}
 use Rattle.lwkt_report.specs.Stream.{AppendsFront}
 use Rattle.lwkt_report.specs.Complaint.{fault_line}
 use Rattle.lwkt_script.specs.declared.scripts.Script.{Script}
-use Rattle.lwkt_script.specs.Format.{plain_script_of}
+use Rattle.lwkt_script.specs.Format.{script_of}
+use Rattle.lwkt_verdict.specs.declared.turns.ThreadPlan.{ThreadPlan}
+use Rattle.lwkt_verdict.specs.declared.turns.ThreadEnd.{ThreadEnd}
+use Rattle.lwkt_verdict.specs.declared.turns.Poll.{Poll}
+use Rattle.lwkt_verdict.specs.declared.turns.Turn.{Turn}
+use Rattle.lwkt_machine.specs.Opened.{Declines as IsDeclined}
+use Rattle.lwkt_run.specs.Values.{is_tally}
+use Rattle.lwkt_run.specs.Judging.{ids_of, ArePlansOf, AreEndsOf, Judges}
 use Rattle.lwkt_run.specs.declared.runs.End.{End}
 use Rattle.lwkt_run.specs.declared.runs.End.TheVariants.{Ended, TurnsOut, Unlawful as UnlawfulEnd}
-
--- whether a law keeps tallies
-abbrev pub is_tally : Law → Bool
-is_tally Tally = true
-is_tally Any = false
-is_tally Sum = false
-is_tally Order = false
-is_tally Cap = false
 
 -- the machine at the opening of a script
 abbrev pub opening_of : Script → Machine
@@ -48,18 +44,28 @@ pub record Shows (closing : Closing) (last : Final) : Type 0 where
   pub tallies : last.tallies.items ≡ map (λ line. unwrap_or line.tallies []) closing.tokens.items
   pub messages : last.messages.items ≡ closing.messages.items
 
--- a lawful trace leads from the opening to the values shown
-abbrev pub HasTrace : Machine → Closing → Type 0
-HasTrace m closing = (trace : List Event) × ((last : Final) × (IsLawfulTrace m trace last × Shows closing last))
+-- there are a trace and turns with their polls of which the report gives its verdict, as a run of the script from its opening to
+-- the values and the threads' ends that it shows (own)
+pub record IsJudged (script : Script) (closing : Closing) : Type 0 where
+  pub trace : List Event
+  pub polls : List Poll
+  pub turns : List Turn
+  pub plans : List ThreadPlan
+  pub ends : List ThreadEnd
+  pub last : Final
+  pub are_plans : ArePlansOf script.threads plans
+  pub are_ends : AreEndsOf closing.threads.items ends
+  pub shows : Shows closing last
+  pub by : Judges closing.verdict (opening_of script) script.turns plans ends last trace polls turns
 
--- the values may be those of a run of the script: its opening was accepted, a tally line stands exactly under a Tally token,
--- and `lawful` only where a lawful trace leads from the opening to the values shown (own)
+-- the values may be those of a run of the script: its opening was accepted, a tally line stands exactly under a Tally token, each
+-- thread has its line, and the verdict is that on a trace and turns that lead to what is shown (own)
 pub record MayClose (script : Script) (closing : Closing) : Type 0 where
   pub within : AreWithin script.cpus script.tokens script.messages
   pub lawful_opening : AllOpenLawfully script.tokens
   pub kinds : map (λ line. is_some line.tallies) closing.tokens.items ≡ map (λ spec. is_tally spec.law) script.tokens
-  pub judged : closing.verdict ≢ Closed
-  pub lawful : closing.verdict ≡ Lawful → HasTrace (opening_of script) closing
+  pub threads : map (λ line. line.id) closing.threads.items ≡ ids_of script.cpus script.threads
+  pub judged : IsJudged script closing
 
 -- whether a thread has ended
 abbrev pub has_ended : ThreadState → Bool
@@ -83,25 +89,22 @@ end_of closing = end_by closing.verdict (list_all (λ line. has_ended line.state
 -- these bytes are a script, and a run of it may end so, with this report
 pub record HasRun (bytes : List ℕ) (end : End) (text : List ℕ) : Type 0 where
   pub script : Script
-  pub read : plain_script_of bytes ≡ Ok script
+  pub read : script_of bytes ≡ Ok script
   pub closing : Closing
   pub closes : MayClose script closing
   pub is_text : text ≡ report_text closing
   pub is_end : end ≡ end_of closing
 
--- why a run of this script is refused
+-- why a run of this script is refused: its machine isn't opened
 abbrev pub Declines : Script → Refusal → Type 0
-Declines script Memory = Unit {0}
-Declines script Limits = ¬ AreWithin script.cpus script.tokens script.messages
-Declines script LawBroken = AreWithin script.cpus script.tokens script.messages × ¬ AllOpenLawfully script.tokens
-Declines script _ = ⊥
+Declines script fault = IsDeclined script.cpus script.tokens script.messages fault
 
 -- why a run of these bytes is refused
 abbrev pub Refuses : List ℕ → Refusal → Type 0
-Refuses bytes (ScriptFault place) = plain_script_of bytes ≡ Err place
+Refuses bytes (ScriptFault place) = script_of bytes ≡ Err place
 Refuses bytes Memory = Unit {0}
-Refuses bytes Limits = (script : Script) × ((plain_script_of bytes ≡ Ok script) × Declines script Limits)
-Refuses bytes LawBroken = (script : Script) × ((plain_script_of bytes ≡ Ok script) × Declines script LawBroken)
+Refuses bytes Limits = (script : Script) × ((script_of bytes ≡ Ok script) × Declines script Limits)
+Refuses bytes LawBroken = (script : Script) × ((script_of bytes ≡ Ok script) × Declines script LawBroken)
 Refuses bytes _ = ⊥
 
 -- these are the bytes that are read of a source that has so many left, where that is known

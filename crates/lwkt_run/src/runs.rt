@@ -1,20 +1,23 @@
-ghost use Rattle.std.specs.Prelude.{◌≡◌, ◌≢◌, ◌≤◌, ◌⊎◌, ℕ, map, is_some, unwrap_or, [], length, IfOk, IfErr, OnOk, Err, IsTrue, string_bytes};
+ghost use Rattle.std.specs.Prelude.{◌≡◌, ◌≤◌, ◌⊎◌, ℕ, map, is_some, length, IfOk, IfErr, OnOk, OnErr, Err, IsTrue, string_bytes};
 ghost use Rattle.std.specs.List.{list_all};
 ghost use Rattle.lwkt_core.specs.Opening.{AreWithin, AllOpenLawfully};
-ghost use Rattle.lwkt_core.specs.Trace.{IsLawfulTrace};
-ghost use Rattle.lwkt_run.specs.Run.{is_tally, opening_of, HasTrace, MayClose, has_ended, end_of, HasRun, Declines, Refuses, Tells};
+ghost use Rattle.lwkt_script.specs.Format.{threads_on};
+ghost use Rattle.lwkt_run.specs.Judging.{ids_of};
+ghost use Rattle.lwkt_run.specs.Values.{is_tally, AreValuesOf};
+ghost use Rattle.lwkt_run.specs.Run.{opening_of, IsJudged, MayClose, has_ended, end_of, HasRun, Declines, Refuses, Tells};
 
-use crate::bodies::ScriptBody;
-use crate::desks::{CPU, Desk};
-use crate::machines::Machine;
-use crate::threads::Thread;
-use lwkt_base::{Cells, Fault, Law, MsgEnd, ThreadId, ThreadState, TokId, TokSpec};
-use lwkt_core::{Event, Final, State, check};
+use crate::endings::{Left, left_by};
+use crate::lines::token_lines;
+use crate::records::Record;
+use crate::rounds::make_rounds;
+use crate::verdicts::{ends_of, plans_of, verdict_of};
+use lwkt_base::{Fault, ThreadState};
+use lwkt_core::{Event, Final, State};
+use lwkt_machine::Machine;
 use lwkt_report::{
-    Closing, Log, RunFault, Sink, Source, ThreadLine, TokenLine, Verdict, read_capped, report,
-    write_whole,
+    Closing, RunFault, Sink, Source, ThreadLine, Verdict, read_capped, report, write_whole,
 };
-use lwkt_script::{Script, ThreadSpec, read_plain_script};
+use lwkt_script::{Script, read_script};
 use std::alloc::{AllocError, Global};
 
 /// How a run ended.
@@ -24,200 +27,39 @@ pub enum End {
     Ended,
     /// The script's turns were used up before that.
     TurnsOut,
-    /// The trace was not lawful.
+    /// The trace was not lawful, or the turns were no run of the script.
     Unlawful,
 }
 
-// The cells of a token.
-fn cells_of(alloc: Global, state: &State, tok: TokId) -> Result<Cells, AllocError> {
-    let mut cells = Vec::with_capacity(alloc, 4)?;
-    for cell in 0..4 {
-        if let Some(value) = state.cell(tok, cell) {
-            cells.push(value)?;
-        }
-    }
-    Ok(Cells::from_vec(cells))
-}
-
-// What each processor has added to the cell of a token.
-fn tallies_of(alloc: Global, state: &State, tok: TokId) -> Result<Cells, AllocError> {
-    let mut tallies = Vec::with_capacity(alloc, 1)?;
-    if let Some(tally) = state.tally(CPU, tok) {
-        tallies.push(tally)?;
-    }
-    Ok(Cells::from_vec(tallies))
-}
-
-fn token_line(
-    alloc: Global,
-    state: &State,
-    tok: TokId,
-    spec: &TokSpec,
-) -> Result<TokenLine, AllocError>
-    ensures { IfOk result (λ line. is_some line.tallies ≡ is_tally spec.now.law) }
-{
-    let cells = cells_of(alloc, state, tok)?;
-    let tallies = match spec.law {
-        Law::Tally => Some(tallies_of(alloc, state, tok)?),
-        _ => None,
-    };
-    Ok(TokenLine {
-        generation: state.generation(tok).unwrap_or(0),
-        cells,
-        tallies,
-    })
-}
-
-fn token_lines(
-    alloc: Global,
-    state: &State,
-    specs: &[TokSpec],
-) -> Result<Vec<TokenLine>, AllocError>
-    requires { length specs.now ≤ 64 }
-    ensures { IfOk result (λ lines. map (λ line. is_some line.tallies) lines.items ≡ map (λ spec. is_tally spec.law) specs.now) }
-{
-    let mut lines = Vec::with_capacity(alloc, specs.len())?;
-    for (i, spec) in specs.iter().enumerate() {
-        lines.push(token_line(alloc, state, TokId(i as u8), spec)?)?;
-    }
-    Ok(lines)
-}
-
-fn rows_of(alloc: Global, lines: &[TokenLine]) -> Result<Vec<Cells>, AllocError>
-    ensures { IfOk result (λ rows. rows.items ≡ map (λ line. line.cells) lines.now) }
-{
-    let mut rows = Vec::with_capacity(alloc, lines.len())?;
-    for line in lines {
-        rows.push(line.cells.try_clone(alloc)?)?;
-    }
-    Ok(rows)
-}
-
-fn gens_of(alloc: Global, lines: &[TokenLine]) -> Result<Vec<u64>, AllocError>
-    ensures { IfOk result (λ gens. gens.items ≡ map (λ line. line.generation) lines.now) }
-{
-    lines.iter().map(|line| line.generation).collect(alloc)
-}
-
-// The tallies that a line shows: none where it has no tally line.
-fn shown_tallies(alloc: Global, line: &TokenLine) -> Result<Cells, AllocError>
-    ensures { IfOk result (λ tallies. tallies ≡ unwrap_or line.now.tallies []) }
-{
-    match &line.tallies {
-        None => Ok(Cells::from_vec(Vec::new(alloc))),
-        Some(tallies) => tallies.try_clone(alloc),
-    }
-}
-
-fn all_tallies(alloc: Global, lines: &[TokenLine]) -> Result<Vec<Cells>, AllocError>
-    ensures { IfOk result (λ tallies. tallies.items ≡ map (λ line. unwrap_or line.tallies []) lines.now) }
-{
-    let mut tallies = Vec::with_capacity(alloc, lines.len())?;
-    for line in lines {
-        tallies.push(shown_tallies(alloc, line)?)?;
-    }
-    Ok(tallies)
-}
-
-// The closing values that the lines of a report show.
-fn final_of(alloc: Global, tokens: &[TokenLine], messages: &[MsgEnd]) -> Result<Final, AllocError>
-    ensures rows { IfOk result (λ last. last.rows.items ≡ map (λ line. line.cells) tokens.now) }
-    ensures gens { IfOk result (λ last. last.gens.items ≡ map (λ line. line.generation) tokens.now) }
-    ensures tallies { IfOk result (λ last. last.tallies.items ≡ map (λ line. unwrap_or line.tallies []) tokens.now) }
-    ensures messages { IfOk result (λ last. last.messages.items ≡ messages.now) }
-{
-    Ok(Final {
-        rows: rows_of(alloc, tokens)?,
-        gens: gens_of(alloc, tokens)?,
-        tallies: all_tallies(alloc, tokens)?,
-        messages: Vec::from_slice(alloc, messages)?,
-    })
-}
-
-// The threads of a script, before they run.
-fn threads_of(alloc: Global, specs: Vec<ThreadSpec>) -> Result<Vec<Thread>, AllocError> {
-    let mut threads = Vec::with_capacity(alloc, specs.len())?;
-    for spec in specs {
-        let ThreadSpec { repeat, steps, .. } = spec;
-        threads.push(Thread::new(ScriptBody::new(alloc, steps.into_vec(), repeat)?))?;
-    }
-    Ok(threads)
-}
-
-// The lines of the threads.
-fn thread_lines(alloc: Global, threads: Vec<Thread>) -> Result<Vec<ThreadLine>, AllocError> {
-    let mut lines = Vec::with_capacity(alloc, threads.len())?;
-    let mut number = 0u8;
-    for thread in threads {
-        let Thread {
-            body,
-            list,
-            state,
-            ..
-        } = thread;
-        lines.push(ThreadLine {
-            id: ThreadId {
-                cpu: CPU,
-                thread: number,
-            },
-            state,
-            list,
-            log: Log::from_vec(body.into_log()),
-        })?;
-        number = number.saturating_add(1);
-    }
-    Ok(lines)
-}
-
-// What the checker says of a trace.
-fn verdict_of(opening: State, trace: &[Event], last: &Final) -> Verdict
-    ensures lawful { result ≡ Verdict.Lawful → IsLawfulTrace opening trace.now last.now }
-    ensures judged { result ≢ Verdict.Closed }
-{
-    match check(opening, trace, last) {
-        Ok(()) => Verdict::Lawful,
-        Err(Fault::Unlawful { index }) => Verdict::Unlawful { index },
-        Err(_) => Verdict::Unlawful { index: trace.len() },
-    }
-}
-
-// The turns of a run, from the opening state: what they leave, and the threads as they were before the end.
-fn made(
-    alloc: Global,
-    state: State,
-    threads: Vec<ThreadSpec>,
-    turns: u32,
-) -> Result<(Desk, Vec<Thread>), AllocError> {
-    let desk = Desk {
-        state,
-        trace: Vec::new(alloc),
-    };
-    let mut machine = Machine::new(desk, threads_of(alloc, threads)?);
-    machine.drive(turns)?;
-    machine.stop()
-}
-
-// The report's contents: the closing values that a run left, with the verdict on its trace.
+// The report's contents: what a run left, with the verdict on its trace and its turns.
 fn closing_of(
     alloc: Global,
-    specs: &[TokSpec],
+    script: &Script,
     opening: State,
-    desk: Desk,
-    threads: Vec<Thread>,
+    again: State,
+    left: Left,
+    trace: &[Event],
+    kept: &Record,
 ) -> Result<Closing, AllocError>
-    requires { length specs.now ≤ 64 }
-    ensures kinds { IfOk result (λ closing. map (λ line. is_some line.tallies) closing.tokens.items ≡ map (λ spec. is_tally spec.law) specs.now) }
-    ensures judged { IfOk result (λ closing. closing.verdict ≢ Verdict.Closed) }
-    ensures lawful { IfOk result (λ closing. closing.verdict ≡ Verdict.Lawful → HasTrace opening closing) }
+    requires opening { opening ≡ opening_of script.now }
+    requires again { again ≡ opening_of script.now }
+    requires values { AreValuesOf script.now.tokens left.last }
+    requires threads { map (λ line. line.id) left.threads.items ≡ ids_of script.now.cpus script.now.threads }
+    ensures kinds { IfOk result (λ closing. map (λ line. is_some line.tallies) closing.tokens.items ≡ map (λ spec. is_tally spec.law) script.now.tokens) }
+    ensures threads { IfOk result (λ closing. map (λ line. line.id) closing.threads.items ≡ ids_of script.now.cpus script.now.threads) }
+    ensures judged { IfOk result (λ closing. IsJudged script.now closing) }
 {
-    let tokens = token_lines(alloc, &desk.state, specs)?;
-    let messages = Vec::new(alloc);
-    let last = final_of(alloc, &tokens, &messages)?;
-    let verdict = verdict_of(opening, &desk.trace, &last);
+    let Left { last, threads } = left;
+    let tokens = token_lines(alloc, script.tokens.as_slice(), &last)?;
+    let plans = plans_of(alloc, script.threads.as_slice())?;
+    let ends = ends_of(alloc, &threads)?;
+    let limit = script.turns;
+    let verdict = verdict_of(opening, again, limit, &plans, &ends, &last, trace, kept);
+    let Final { messages, .. } = last;
     Ok(Closing {
         tokens,
         messages,
-        threads: thread_lines(alloc, threads)?,
+        threads,
         verdict,
     })
 }
@@ -237,27 +79,41 @@ fn opened(alloc: Global, script: &Script) -> Result<State, Fault>
     )
 }
 
-// Runs a script to the contents of its report.
-fn closing_of_script(alloc: Global, script: Script) -> Result<Closing, Fault>
-    ensures ok { IfOk result (λ closing. MayClose script closing) }
-    ensures refused { IfErr result (λ fault. Declines script fault) }
+// What a run of a script left: its trace, its turns, and the machine's end.
+#[derive(Drop)]
+struct Made {
+    trace: Vec<Event>,
+    kept: Record,
+    left: Left,
+}
+
+// Makes the rounds of a script.
+fn run_of(alloc: Global, script: &Script) -> Result<Made, Fault>
+    requires threads { (cpu : ℕ) → threads_on cpu script.now.threads ≤ 16 }
+    ensures values { IfOk result (λ made. AreValuesOf script.now.tokens made.left.last) }
+    ensures threads { IfOk result (λ made. map (λ line. line.id) made.left.threads.items ≡ ids_of script.now.cpus script.now.threads) }
+    ensures refused { IfErr result (λ fault. Declines script.now fault) }
 {
-    let state = opened(alloc, &script)?;
-    let opening = opened(alloc, &script)?;
-    let Script {
-        turns,
-        tokens,
-        threads,
-        ..
-    } = script;
-    match made(alloc, state, threads.into_vec(), turns) {
+    let mut machine = Machine::open(alloc, script)?;
+    let mut trace = Vec::new(alloc);
+    let mut kept = Record::new(alloc);
+    make_rounds(&mut machine, script.turns, &mut trace, &mut kept)?;
+    let left = left_by(alloc, script, machine, &mut trace)?;
+    Ok(Made { trace, kept, left })
+}
+
+// Runs a script to the contents of its report.
+fn closing_of_script(alloc: Global, script: &Script) -> Result<Closing, Fault>
+    requires threads { (cpu : ℕ) → threads_on cpu script.now.threads ≤ 16 }
+    ensures ok { IfOk result (λ closing. MayClose script.now closing) }
+    ensures refused { IfErr result (λ fault. Declines script.now fault) }
+{
+    let opening = opened(alloc, script)?;
+    let again = opened(alloc, script)?;
+    let Made { trace, kept, left } = run_of(alloc, script)?;
+    match closing_of(alloc, script, opening, again, left, &trace, &kept) {
+        Ok(closing) => Ok(closing),
         Err(_) => Err(Fault::Memory),
-        Ok((desk, threads)) => {
-            match closing_of(alloc, tokens.as_slice(), opening, desk, threads) {
-                Ok(closing) => Ok(closing),
-                Err(_) => Err(Fault::Memory),
-            }
-        }
     }
 }
 
@@ -297,8 +153,8 @@ fn done_of_bytes(alloc: Global, bytes: &[u8]) -> Result<Done, Fault>
     ensures ok { IfOk result (λ done. HasRun bytes.now done.end (string_bytes done.text)) }
     ensures refused { IfErr result (λ fault. Refuses bytes.now fault) }
 {
-    let script = read_plain_script(alloc, bytes)?;
-    let closing = closing_of_script(alloc, script)?;
+    let script = read_script(alloc, bytes)?;
+    let closing = closing_of_script(alloc, &script)?;
     let end = end_of(&closing);
     let text = report(alloc, &closing)?;
     Ok(Done { text, end })

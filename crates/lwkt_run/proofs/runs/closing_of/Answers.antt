@@ -1,22 +1,14 @@
-use Rattle.std.proofs.Common.{◌∙◌, ap, [], map}
-use Rattle.std.specs.Prelude.{unwrap_or}
-use Rattle.lwkt_report.specs.declared.closings.TokenLine.{TokenLine}
+use Rattle.std.proofs.Common.{◌≡◌, ◌∙◌, sym, refl}
+use Rattle.lwkt_run.proofs.JudgeMoves.{judged, plans_again, ends_again}
 use Rattle.lwkt_run.proofs.runs.closing_of.Goals as goal
 
-pub returns-clause-lawful : goal.returns-clause-lawful
-returns-clause-lawful c = λ is.
-    let lines = c.deref.ensures.value in (
-      c.deref-3.result.now,
-      (
-        c.in_ok-last.last,
-        (
-          c.verdict_of-verdict.ensures.lawful is,
-          record {
-            rows = c.in_ok-last.ensures.rows ∙ ap (map (λ (line : TokenLine). line.cells)) lines;
-            gens = c.in_ok-last.ensures.gens ∙ ap (map (λ (line : TokenLine). line.generation)) lines;
-            tallies = c.in_ok-last.ensures.tallies ∙ ap (map (λ (line : TokenLine). unwrap_or line.tallies [])) lines;
-            messages = c.in_ok-last.ensures.messages ∙ c.deref-2.ensures.value;
-          },
-        ),
-      ),
-    )
+pub returns-clause-judged : goal.returns-clause-judged
+returns-clause-judged c =
+    let shown = c.in_ok-tokens.ensures in
+    judged c.args.script.now _ c.args.opening _ c.deref-2.result.now c.deref-3.result.now c.args.left.last c.args.trace.now _ _
+    c.requires.opening
+    refl
+    (plans_again c.as_slice-2.result.now c.args.script.now.threads c.in_ok-plans.plans.items c.deref-2.result.now c.as_slice-2.ensures c.deref-2.ensures.value c.in_ok-plans.ensures)
+    (ends_again c.deref.result.now c.args.left.threads.items c.in_ok-ends.ends.items c.deref-3.result.now c.deref.ensures.value c.deref-3.ensures.value c.in_ok-ends.ensures)
+    record { rows = sym shown.rows; gens = sym shown.gens; tallies = sym shown.tallies; messages = refl }
+    c.verdict_of-verdict.ensures

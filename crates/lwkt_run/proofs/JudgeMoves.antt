@@ -1,0 +1,39 @@
+use Rattle.std.proofs.Common.{◌≡◌, sym, subst, ℕ, List}
+use Rattle.lwkt_core.specs.declared.events.Event.{Event}
+use Rattle.lwkt_core.specs.declared.finals.Final.{Final}
+use Rattle.lwkt_core.specs.Machine.{Machine}
+use Rattle.lwkt_report.specs.declared.closings.Closing.{Closing}
+use Rattle.lwkt_report.specs.declared.closings.ThreadLine.{ThreadLine}
+use Rattle.lwkt_script.specs.declared.scripts.Script.{Script}
+use Rattle.lwkt_script.specs.declared.scripts.ThreadSpec.{ThreadSpec}
+use Rattle.lwkt_verdict.specs.declared.turns.ThreadPlan.{ThreadPlan}
+use Rattle.lwkt_verdict.specs.declared.turns.ThreadEnd.{ThreadEnd}
+use Rattle.lwkt_verdict.specs.declared.turns.Poll.{Poll}
+use Rattle.lwkt_verdict.specs.declared.turns.Turn.{Turn}
+use Rattle.lwkt_run.specs.Judging.{ArePlansOf, AreEndsOf, Judges}
+use Rattle.lwkt_run.specs.Run.{opening_of, Shows, IsJudged}
+
+-- what was kept of a run is judged, whatever it is
+pub judged : (script : Script) (closing : Closing) (m : Machine) (limit : ℕ) (plans : List ThreadPlan) (ends : List ThreadEnd) (last : Final) (trace : List Event) (polls : List Poll) (turns : List Turn) → m ≡ opening_of script → limit ≡ script.turns → ArePlansOf script.threads plans → AreEndsOf closing.threads.items ends → Shows closing last → Judges closing.verdict m limit plans ends last trace polls turns → IsJudged script closing
+judged script closing m limit plans ends last trace polls turns same as_many planned ended shown by = record {
+  trace = trace;
+  polls = polls;
+  turns = turns;
+  plans = plans;
+  ends = ends;
+  last = last;
+  are_plans = planned;
+  are_ends = ended;
+  shows = shown;
+  by = subst (λ n. Judges closing.verdict (opening_of script) n plans ends last trace polls turns) as_many (subst (λ x. Judges closing.verdict x limit plans ends last trace polls turns) same by);
+}
+
+-- the same plans of the same threads
+pub plans_again : (specs threads : List ThreadSpec) (plans others : List ThreadPlan) → specs ≡ threads → others ≡ plans → ArePlansOf specs plans → ArePlansOf threads others
+plans_again specs threads plans others same alike are =
+    subst (λ p. ArePlansOf threads p) (sym alike) (subst (λ t. ArePlansOf t plans) same are)
+
+-- the same ends of the same lines
+pub ends_again : (lines others : List ThreadLine) (ends again : List ThreadEnd) → lines ≡ others → again ≡ ends → AreEndsOf lines ends → AreEndsOf others again
+ends_again lines others ends again same alike are =
+    subst (λ e. AreEndsOf others e) (sym alike) (subst (λ l. AreEndsOf l ends) same are)

@@ -1,0 +1,10 @@
+use Rattle.std.proofs.Common.{◌∙◌, ap, refl}
+use Rattle.lwkt_bank.specs.Seats.{BankId}
+use Rattle.lwkt_run.proofs.CloseMoves.{values_of}
+use Rattle.lwkt_run.proofs.endings.close.Goals as goal
+
+pub returns-clause-values : goal.returns-clause-values
+returns-clause-values c =
+    values_of c.args.script.now.tokens c.stop.new.self.bank _ _ c.in_ok-tokens.field-0.tokens _
+    (ap (λ (bank : BankId). bank.plans) c.in_ok-stop.ensures.ok.bank ∙ c.requires)
+    refl refl refl c.in_ok-tokens.ensures.ok.tokens

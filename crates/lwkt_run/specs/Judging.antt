@@ -1,0 +1,48 @@
+-- What a run says of itself: the threads that it shows, and the verdict on its trace and its turns (own).
+use Rattle.std.specs.Prelude.{◌≡◌, ◌⊎◌, ℕ, zero, suc, List, [], ◌∷◌, ◌++◌, length, map}
+use Rattle.lwkt_base.specs.declared.names.ThreadId.{ThreadId}
+use Rattle.lwkt_core.specs.declared.events.Event.{Event}
+use Rattle.lwkt_core.specs.declared.finals.Final.{Final}
+use Rattle.lwkt_core.specs.Machine.{Machine}
+use Rattle.lwkt_core.specs.Trace.{IsLawfulTrace, FailsAt}
+use Rattle.lwkt_report.specs.declared.closings.ThreadLine.{ThreadLine}
+use Rattle.lwkt_report.specs.declared.closings.Verdict.{Verdict}
+use Rattle.lwkt_report.specs.declared.closings.Verdict.TheVariants.{Closed, Lawful, Unlawful}
+use Rattle.lwkt_script.specs.declared.scripts.ThreadSpec.{ThreadSpec}
+use Rattle.lwkt_script.specs.Format.{threads_on}
+use Rattle.lwkt_verdict.specs.declared.turns.ThreadPlan.{ThreadPlan}
+use Rattle.lwkt_verdict.specs.declared.turns.ThreadEnd.{ThreadEnd}
+use Rattle.lwkt_verdict.specs.declared.turns.Poll.{Poll}
+use Rattle.lwkt_verdict.specs.declared.turns.Turn.{Turn}
+use Rattle.lwkt_verdict.specs.Run.{IsScriptRun}
+
+-- so many threads of a processor, by number
+abbrev pub ids_on : ℕ → ℕ → List ThreadId
+ids_on cpu zero = []
+ids_on cpu (suc n) = ids_on cpu n ++ record { cpu = record { 0 = cpu }; thread = n } ∷ []
+
+-- the threads of a script on so many processors, by processor, then number
+abbrev pub ids_of : ℕ → List ThreadSpec → List ThreadId
+ids_of zero threads = []
+ids_of (suc cpu) threads = ids_of cpu threads ++ ids_on cpu (threads_on cpu threads)
+
+-- the plans that a check of a run goes by are the threads of the script
+pub record ArePlansOf (threads : List ThreadSpec) (plans : List ThreadPlan) : Type 0 where
+  pub cpus : map (λ plan. plan.cpu) plans ≡ map (λ thread. thread.cpu) threads
+  pub repeats : map (λ plan. plan.repeat) plans ≡ map (λ thread. thread.repeat) threads
+  pub steps : map (λ plan. plan.steps.items) plans ≡ map (λ thread. thread.steps) threads
+
+-- the ends of threads that a check of a run goes by are those that a report shows
+pub record AreEndsOf (lines : List ThreadLine) (ends : List ThreadEnd) : Type 0 where
+  pub ids : map (λ end. end.id) ends ≡ map (λ line. line.id) lines
+  pub states : map (λ end. end.state) ends ≡ map (λ line. line.state) lines
+  pub logs : map (λ end. end.log.items) ends ≡ map (λ line. line.log) lines
+
+-- the verdict on a trace and the turns that made it: lawful if the trace leads from the opening to the closing values and the
+-- turns are a run of the script over it; else the first event that can't happen, or the number of events, if the close or the
+-- run alone isn't so
+abbrev pub Judges : Verdict → Machine → ℕ → List ThreadPlan → List ThreadEnd → Final → List Event → List Poll → List Turn → Type 0
+Judges Closed opening limit plans ends last trace polls turns = ⊥
+Judges Lawful opening limit plans ends last trace polls turns = IsLawfulTrace opening trace last × IsScriptRun plans limit opening polls turns trace ends
+Judges (Unlawful index) opening limit plans ends last trace polls turns =
+    FailsAt opening trace last index ⊎ (IsLawfulTrace opening trace last × ((index ≡ length trace) × ¬ IsScriptRun plans limit opening polls turns trace ends))

@@ -1,0 +1,81 @@
+//! The lines of tokens.
+ghost use Rattle.std.specs.Prelude.{◌≡◌, ◌<◌, ℕ, map, is_some, unwrap_or, [], false, length, take, slice_get, Some, IfOk};
+ghost use Rattle.lwkt_run.specs.Values.{is_tally, AreValuesOf, ShowTokens};
+
+use lwkt_base::{Cells, Law, TokSpec};
+use lwkt_core::Final;
+use lwkt_report::TokenLine;
+use std::alloc::{AllocError, Global};
+
+// A row at a place.
+fn row_at(alloc: Global, rows: &[Cells], place: usize) -> Result<Cells, AllocError>
+    requires { place < length rows.now }
+    ensures { IfOk result (λ row. slice_get rows.now place ≡ Some row) }
+{
+    rows[place].try_clone(alloc)
+}
+
+// The tallies at a place that the line of a token under this law shows.
+fn tallies_at(
+    alloc: Global,
+    law: Law,
+    tallies: &[Cells],
+    place: usize,
+) -> Result<Option<Cells>, AllocError>
+    requires there { place < length tallies.now }
+    requires none { is_tally law ≡ false → slice_get tallies.now place ≡ Some [] }
+    ensures kind { IfOk result (λ shown. is_some shown ≡ is_tally law) }
+    ensures shown { IfOk result (λ shown. slice_get tallies.now place ≡ Some (unwrap_or shown [])) }
+{
+    match law {
+        Law::Tally => Ok(Some(row_at(alloc, tallies, place)?)),
+        _ => Ok(None),
+    }
+}
+
+// A generation at a place.
+fn generation_at(gens: &[u64], place: usize) -> u64
+    requires { place < length gens.now }
+    ensures { slice_get gens.now place ≡ Some result }
+{
+    gens[place]
+}
+
+// The line of the token of this number, that is opened so.
+fn token_line(
+    alloc: Global,
+    spec: &TokSpec,
+    last: &Final,
+    tok: usize,
+) -> Result<TokenLine, AllocError>
+    requires row { tok < length last.now.rows.items }
+    requires generation { tok < length last.now.gens.items }
+    requires tally { tok < length last.now.tallies.items }
+    requires none { is_tally spec.now.law ≡ false → slice_get last.now.tallies.items tok ≡ Some [] }
+    ensures kind { IfOk result (λ line. is_some line.tallies ≡ is_tally spec.now.law) }
+    ensures cells { IfOk result (λ line. slice_get last.now.rows.items tok ≡ Some line.cells) }
+    ensures generation { IfOk result (λ line. slice_get last.now.gens.items tok ≡ Some line.generation) }
+    ensures tallies { IfOk result (λ line. slice_get last.now.tallies.items tok ≡ Some (unwrap_or line.tallies [])) }
+{
+    Ok(TokenLine {
+        generation: generation_at(&last.gens, tok),
+        cells: row_at(alloc, &last.rows, tok)?,
+        tallies: tallies_at(alloc, spec.law, &last.tallies, tok)?,
+    })
+}
+
+/// The lines of tokens that are opened so and close with these values.
+pub fn token_lines(
+    alloc: Global,
+    specs: &[TokSpec],
+    last: &Final,
+) -> Result<Vec<TokenLine>, AllocError>
+    requires { AreValuesOf specs.now last.now }
+    ensures { IfOk result (λ lines. ShowTokens specs.now lines.items last.now) }
+{
+    let mut lines = Vec::with_capacity(alloc, specs.len())?;
+    for (i, spec) in specs.iter().enumerate() {
+        lines.push(token_line(alloc, spec, last, i)?)?;
+    }
+    Ok(lines)
+}

@@ -1,0 +1,81 @@
+//! The rounds of a run.
+ghost use Rattle.std.specs.Prelude.{◌≡◌, ◌<◌, length, OnOk, OnErr, Err};
+
+use crate::records::{Polled, Record};
+use lwkt_base::{CpuId, Fault, ThreadId};
+use lwkt_core::Event;
+use lwkt_cpu::Turned;
+use lwkt_machine::Machine;
+
+// What the last turn of a processor asked, which polled this thread.
+fn polled_at(machine: &Machine, cpu: usize, thread: usize) -> Option<Polled> {
+    let body = machine.body(cpu, thread)?;
+    Some(Polled {
+        thread: ThreadId {
+            cpu: CpuId(u8::try_from(cpu).unwrap_or(u8::MAX)),
+            thread: u8::try_from(thread).unwrap_or(u8::MAX),
+        },
+        told: body.told()?,
+        asked: body.asked()?,
+    })
+}
+
+// Makes a turn of a processor, which is kept, and says whether all its threads have ended.
+fn make_turn(
+    machine: &mut Machine,
+    cpu: usize,
+    trace: &mut Vec<Event>,
+    kept: &mut Record,
+) -> Result<bool, Fault>
+    requires { cpu < length machine.old.cpus }
+    ensures as_many { length machine.new.cpus ≡ length machine.old.cpus }
+    ensures bank { machine.new.bank ≡ machine.old.bank }
+    ensures only { OnErr result (result ≡ Err Fault.Memory) }
+{
+    let before = trace.len();
+    let turned = machine.turn(cpu, trace)?;
+    let polled = match turned {
+        Turned::Ran { thread } => polled_at(machine, cpu, thread),
+        Turned::Idle | Turned::AllExited => None,
+    };
+    let events = trace.len().saturating_sub(before);
+    match kept.keep(events, polled) {
+        Ok(()) => Ok(turned == Turned::AllExited),
+        Err(_) => Err(Fault::Memory),
+    }
+}
+
+// Makes a round, one turn of each processor, and says whether all said that their threads have ended.
+fn make_round(
+    machine: &mut Machine,
+    trace: &mut Vec<Event>,
+    kept: &mut Record,
+) -> Result<bool, Fault>
+    ensures bank { machine.new.bank ≡ machine.old.bank }
+    ensures only { OnErr result (result ≡ Err Fault.Memory) }
+{
+    let mut over = true;
+    for cpu in 0..machine.cpus() {
+        let ended = make_turn(machine, cpu, trace, kept)?;
+        over = over && ended;
+    }
+    Ok(over)
+}
+
+/// Makes so many rounds, or fewer if in one of them every processor says that all its threads have ended.
+pub fn make_rounds(
+    machine: &mut Machine,
+    limit: u32,
+    trace: &mut Vec<Event>,
+    kept: &mut Record,
+) -> Result<(), Fault>
+    ensures bank { machine.new.bank ≡ machine.old.bank }
+    ensures only { OnErr result (result ≡ Err Fault.Memory) }
+{
+    for _round in 0..limit {
+        if make_round(machine, trace, kept)? {
+            break;
+        }
+    }
+    Ok(())
+}

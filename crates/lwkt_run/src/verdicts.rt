@@ -1,0 +1,87 @@
+ghost use Rattle.std.specs.Prelude.{◌≡◌, map, IfOk};
+ghost use Rattle.lwkt_run.specs.Judging.{ArePlansOf, AreEndsOf, Judges};
+
+use crate::records::Record;
+use lwkt_base::Fault;
+use lwkt_core::{Event, Final, State, check};
+use lwkt_report::{ThreadLine, Verdict};
+use lwkt_script::ThreadSpec;
+use lwkt_verdict::{ThreadEnd, ThreadPlan, is_script_run};
+use std::alloc::{AllocError, Global};
+
+// A thread of a script as a check of a run takes it.
+fn plan_of(alloc: Global, spec: &ThreadSpec) -> Result<ThreadPlan, AllocError>
+    ensures cpu { IfOk result (λ plan. plan.cpu ≡ spec.now.cpu) }
+    ensures repeat { IfOk result (λ plan. plan.repeat ≡ spec.now.repeat) }
+    ensures steps { IfOk result (λ plan. plan.steps.items ≡ spec.now.steps) }
+{
+    Ok(ThreadPlan {
+        cpu: spec.cpu,
+        repeat: spec.repeat,
+        steps: Vec::from_slice(alloc, spec.steps.as_slice())?,
+    })
+}
+
+/// The threads of a script as a check of a run takes them.
+pub fn plans_of(alloc: Global, specs: &[ThreadSpec]) -> Result<Vec<ThreadPlan>, AllocError>
+    ensures { IfOk result (λ plans. ArePlansOf specs.now plans.items) }
+{
+    let mut plans = Vec::with_capacity(alloc, specs.len())?;
+    for spec in specs {
+        plans.push(plan_of(alloc, spec)?)?;
+    }
+    Ok(plans)
+}
+
+// The line of a thread as a check of a run takes it.
+fn end_of(alloc: Global, line: &ThreadLine) -> Result<ThreadEnd, AllocError>
+    ensures id { IfOk result (λ end. end.id ≡ line.now.id) }
+    ensures state { IfOk result (λ end. end.state ≡ line.now.state) }
+    ensures log { IfOk result (λ end. end.log.items ≡ line.now.log) }
+{
+    Ok(ThreadEnd {
+        id: line.id,
+        state: line.state,
+        log: Vec::from_slice(alloc, line.log.as_slice())?,
+    })
+}
+
+/// The lines of threads as a check of a run takes them.
+pub fn ends_of(alloc: Global, lines: &[ThreadLine]) -> Result<Vec<ThreadEnd>, AllocError>
+    ensures { IfOk result (λ ends. AreEndsOf lines.now ends.items) }
+{
+    let mut ends = Vec::with_capacity(alloc, lines.len())?;
+    for line in lines {
+        ends.push(end_of(alloc, line)?)?;
+    }
+    Ok(ends)
+}
+
+/// The verdict on a run: `Lawful` if the trace leads from the opening to the closing values and the turns are a run of the
+/// script's threads, with so many rounds at most, over it; else the index of the first event that can't happen, or the number of
+/// events, if the close or the run alone isn't so. Each check needs an opening of its own.
+pub fn verdict_of(
+    opening: State,
+    again: State,
+    limit: u32,
+    plans: &[ThreadPlan],
+    ends: &[ThreadEnd],
+    last: &Final,
+    trace: &[Event],
+    kept: &Record,
+) -> Verdict
+    requires { again ≡ opening }
+    ensures { Judges result opening limit plans.now ends.now last.now trace.now kept.now.polls.items kept.now.turns.items }
+{
+    match check(opening, trace, last) {
+        Ok(()) => {}
+        Err(Fault::Unlawful { index }) => return Verdict::Unlawful { index },
+        // it has no other refusal
+        Err(_) => return Verdict::Unlawful { index: 0 },
+    }
+    if is_script_run(plans, limit, again, &kept.polls, &kept.turns, trace, ends) {
+        Verdict::Lawful
+    } else {
+        Verdict::Unlawful { index: trace.len() }
+    }
+}
