@@ -14,6 +14,6 @@ mod verdicts;
 pub use lwkt_report::{RunFault, Verdict};
 pub use lwkt_script::{Script, read_script};
 pub use lwkt_threads::{Gate, OpenGate};
-pub use programs::run_program;
+pub use programs::{finish, run_program};
 pub use runs::{End, run_turns};
 pub use threaded::{run_threads, run_threads_gated};
