@@ -23,7 +23,7 @@ fn main(rt: HostRuntime) -> ExitCode {
     let status = match words_of(&rt) {
         Ok(words) => {
             let mut source = ReaderSource::new(rt.stdin());
-            run_program(alloc, &words, &mut source, &mut sink)
+            run_program(&rt, alloc, &words, &mut source, &mut sink)
         }
         Err(error) => {
             let memory = error.kind() == io::ErrorKind::OutOfMemory;

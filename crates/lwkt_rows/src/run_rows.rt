@@ -1,10 +1,10 @@
-//! Whole runs of the program: rows with their output and status, wrong arguments, bad scripts and streams that fail.
+//! Whole runs of the program: rows with their output and status, bad scripts and streams that fail.
 
 use crate::fixtures::{Frail, OneByte, TALLY_ADD, THREAD, TOKEN, changed, play, repeated};
 use lwkt_base::Fault;
 use lwkt_fixtures::Row;
 use lwkt_report::{Page, ReaderSource, Sink, Source, WriterSink};
-use lwkt_run::{End, RunFault, run_program, run_turns};
+use lwkt_run::{End, RunFault, finish, run_turns};
 use std::alloc::{AllocError, Global};
 use std::io;
 use std::io::Read;
@@ -14,21 +14,10 @@ const STREAM: &[u8] = b"lwkt_run: stream\n";
 const TALLY_REPORT: &[u8] =
     b"token 0 gen 1 cells 15\ntally 0 5\nthread 0.0 exited list - log -\nlawful\n";
 
-// These words as arguments.
-fn words(alloc: Global, items: &[&str]) -> Result<Vec<String>, AllocError> {
-    let mut words = Vec::new(alloc);
-    for item in items {
-        words.push(String::from_str(alloc, item)?)?;
-    }
-    Ok(words)
-}
-
-// The status of a run under `turns`; 32 stands for want of memory.
+// The status of the program after a run in rounds.
 fn run_of(alloc: Global, source: &mut impl Source, sink: &mut impl Sink) -> u8 {
-    match words(alloc, &["turns"]) {
-        Ok(turns) => run_program(alloc, &turns, source, sink),
-        Err(_) => 32,
-    }
+    let outcome = run_turns(alloc, source, sink);
+    finish(sink, &outcome)
 }
 
 // Whether a run of the bytes has this status and this output.
@@ -227,42 +216,6 @@ fn is_refused(alloc: Global) -> bool {
 #[test]
 fn ample_memory(rt: HostRuntime) {
     assert!(rt; is_ended(rt.alloc()) && is_refused(rt.alloc()));
-}
-
-// Arguments that are refused with the line of usage, before anything is read.
-struct WrongWords(&'static [&'static str]);
-
-fn is_usage(alloc: Global, items: &[String], reader: &mut OneByte<'_>) -> bool {
-    let mut source = ReaderSource::new(reader);
-    let Ok(mut page) = Page::with_room(alloc, 0) else {
-        return false;
-    };
-    run_program(alloc, items, &mut source, &mut page) == 1
-        && page.text.as_slice() == b"lwkt_run: turns or threads\n".as_slice()
-}
-
-impl Row for WrongWords {
-    fn is_right(&self, alloc: Global) -> bool {
-        let Ok(items) = words(alloc, self.0) else {
-            return false;
-        };
-        let mut reader = OneByte::new(TALLY_ADD.as_bytes(), 0, io::ErrorKind::BrokenPipe);
-        is_usage(alloc, &items, &mut reader) && reader.calls == 0
-    }
-}
-
-const WRONG_ARGUMENTS: [WrongWords; 6] = [
-    WrongWords(&[]),
-    WrongWords(&["threads"]),
-    WrongWords(&["turns", "turns"]),
-    WrongWords(&["turns", "threads"]),
-    WrongWords(&[""]),
-    WrongWords(&["turns "]),
-];
-
-#[test]
-fn wrong_arguments(rt: HostRuntime) {
-    play(&rt, rt.alloc(), &WRONG_ARGUMENTS);
 }
 
 // Whether a run of the bytes is refused with this line.

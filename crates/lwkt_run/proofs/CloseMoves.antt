@@ -1,5 +1,5 @@
-use Rattle.std.proofs.Common.{◌≡◌, ◌≢◌, ◌∙◌, ap, sym, subst, refl, ℕ, ◌<◌, List, [], length, map, get_or, false, true}
-use Rattle.std.specs.Prelude.{slice_get, slice_index_or, Some, option_map}
+use Rattle.std.proofs.Common.{◌≡◌, ◌≢◌, ◌∙◌, ap, sym, subst, ℕ, ◌<◌, List, [], length, get_or, false}
+use Rattle.std.specs.Prelude.{slice_get, Some, option_map}
 use Rattle.std.proofs.lemmas.Bool.{true≢false}
 use Rattle.std.proofs.lemmas.List.{length-map}
 use Rattle.std.proofs.lemmas.Option.{slice_get_within, slice_get-get_or, slice_get-map, get_or_from_slice_get}
@@ -10,7 +10,7 @@ use Rattle.lwkt_core.specs.declared.finals.Final.{Final}
 use Rattle.lwkt_bank.specs.declared.closed.Closed.{Closed}
 use Rattle.lwkt_bank.specs.declared.seats.CpuSeat.{CpuSeat}
 use Rattle.lwkt_bank.specs.declared.views.Plan.{Plan}
-use Rattle.lwkt_bank.specs.Gathered.{IsClosed, IsClosedToken}
+use Rattle.lwkt_bank.specs.Gathered.{IsClosed}
 use Rattle.lwkt_bank.specs.Opened.{plan_of_spec, plans_of}
 use Rattle.lwkt_bank.specs.Rule.{no_plan}
 use Rattle.lwkt_bank.specs.Seats.{BankId, plan_of}

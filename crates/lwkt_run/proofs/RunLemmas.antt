@@ -7,7 +7,7 @@ use Rattle.lwkt_report.specs.declared.streams.RunFault.TheVariants.{Fault, Strea
 use Rattle.lwkt_report.specs.declared.sources.TheConstants.{READ_LIMIT}
 use Rattle.lwkt_report.specs.Stream.{AppendsFront}
 use Rattle.lwkt_run.specs.declared.runs.End.{End}
-use Rattle.lwkt_run.specs.Run.{AreRead, HasRun, Refuses, Tells}
+use Rattle.lwkt_run.specs.Run.{AreRead, Refuses, TellsBy}
 
 -- what was written stays what it is
 keeps_itself : (o : Option (List ℕ)) → Keeps o o
@@ -19,25 +19,25 @@ some_read None = ([], tt)
 some_read (Some all) = (take READ_LIMIT all, refl)
 
 -- where reading fails nothing is written
-pub tells_unread : (left old : Option (List ℕ)) (fault : RunFault) → (fault ≡ Stream) ⊎ (fault ≡ Fault Memory) → Tells left old old (Err fault)
-tells_unread left old fault why =
-    let T : RunFault → Type 0 = λ f. Tells left old old (Err f) in
+pub tells_unread : (Run : List ℕ → End → List ℕ → Type 0) (left old : Option (List ℕ)) (fault : RunFault) → (fault ≡ Stream) ⊎ (fault ≡ Fault Memory) → TellsBy Run left old old (Err fault)
+tells_unread Run left old fault why =
+    let T : RunFault → Type 0 = λ f. TellsBy Run left old old (Err f) in
     elim why [
       | inl is ↦ subst T (sym is) (inl (keeps_itself old))
       | inr is ↦ subst T (sym is) (keeps_itself old, ((some_read left).0, ((some_read left).1, tt)))
     ]
 
 -- where the bytes are refused nothing is written
-pub tells_refused : (left old : Option (List ℕ)) (bytes read : List ℕ) (fault : Refusal) → read ≡ bytes → AreRead left bytes → Refuses read fault → Tells left old old (Err (Fault fault))
-tells_refused left old bytes read fault same are refuses =
+pub tells_refused : (Run : List ℕ → End → List ℕ → Type 0) (left old : Option (List ℕ)) (bytes read : List ℕ) (fault : Refusal) → read ≡ bytes → AreRead left bytes → Refuses read fault → TellsBy Run left old old (Err (Fault fault))
+tells_refused Run left old bytes read fault same are refuses =
     (keeps_itself old, (bytes, (are, subst (λ b. Refuses b fault) same refuses)))
 
 -- a report that was written whole
-pub tells_done : (left old new : Option (List ℕ)) (bytes read text written : List ℕ) (end : End) → read ≡ bytes → written ≡ text → AreRead left bytes → HasRun read end text → Appends old new written → Tells left old new (Ok end)
-tells_done left old new bytes read text written end same same_text are run appends =
-    (bytes, (are, (text, (subst (λ b. HasRun b end text) same run, subst (λ t. Appends old new t) same_text appends))))
+pub tells_done : (Run : List ℕ → End → List ℕ → Type 0) (left old new : Option (List ℕ)) (bytes read text written : List ℕ) (end : End) → read ≡ bytes → written ≡ text → AreRead left bytes → Run read end text → Appends old new written → TellsBy Run left old new (Ok end)
+tells_done Run left old new bytes read text written end same same_text are run appends =
+    (bytes, (are, (text, (subst (λ b. Run b end text) same run, subst (λ t. Appends old new t) same_text appends))))
 
 -- a report of which a front was written
-pub tells_front : (left old new : Option (List ℕ)) (bytes read text written : List ℕ) (end : End) → read ≡ bytes → written ≡ text → AreRead left bytes → HasRun read end text → AppendsFront old new written → Tells left old new (Err Stream)
-tells_front left old new bytes read text written end same same_text are run front =
-    inr (bytes, (are, (end, (text, (subst (λ b. HasRun b end text) same run, subst (λ t. AppendsFront old new t) same_text front)))))
+pub tells_front : (Run : List ℕ → End → List ℕ → Type 0) (left old new : Option (List ℕ)) (bytes read text written : List ℕ) (end : End) → read ≡ bytes → written ≡ text → AreRead left bytes → Run read end text → AppendsFront old new written → TellsBy Run left old new (Err Stream)
+tells_front Run left old new bytes read text written end same same_text are run front =
+    inr (bytes, (are, (end, (text, (subst (λ b. Run b end text) same run, subst (λ t. AppendsFront old new t) same_text front)))))

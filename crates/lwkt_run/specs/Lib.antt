@@ -1,3 +1,4 @@
 pub mod Judging
 pub mod Run
 pub mod Values
+pub mod Threaded

@@ -1,5 +1,5 @@
 use Rattle.std.specs.Global.{Global}
-use Rattle.std.specs.Prelude.{codes, length, All, string_bytes, String, ◌≡◌, ◌≢◌, ◌⊎◌, ℕ, Bool, true, false, List, [], map, take, Option, is_some, unwrap_or, IfSome, Result, Ok, Err}
+use Rattle.std.specs.Prelude.{codes, length, All, string_bytes, String, ◌≡◌, ◌⊎◌, ℕ, Bool, true, false, List, [], map, take, Option, is_some, unwrap_or, IfSome, Result, Ok, Err}
 use Rattle.std.specs.List.{list_all}
 use Rattle.std.specs.Io.KnownBytes.{Appends, Keeps}
 use Rattle.lwkt_base.specs.declared.faults.Fault.{Fault as Refusal}
@@ -110,12 +110,17 @@ Refuses bytes _ = ⊥
 abbrev pub AreRead : Option (List ℕ) → List ℕ → Type 0
 AreRead left bytes = IfSome left (λ all. bytes ≡ take READ_LIMIT all)
 
--- what a run says by its answer, of what was left to read and of what was written before and after it: the report of a run
--- of the script that was read; or nothing written, and why; or, where a stream failed, a front of such a report
+-- what a run says by its answer, of what was left to read and of what was written before and after it, where this tells how a run
+-- of a script may end and with which report: the report of a run of the script that was read; or nothing written, and why; or,
+-- where a stream failed, a front of such a report
+abbrev pub TellsBy : (List ℕ → End → List ℕ → Type 0) → Option (List ℕ) → Option (List ℕ) → Option (List ℕ) → Result End RunFault → Type 0
+TellsBy Run left old new (Ok end) = (bytes : List ℕ) × (AreRead left bytes × ((text : List ℕ) × (Run bytes end text × Appends old new text)))
+TellsBy Run left old new (Err (Fault fault)) = Keeps old new × ((bytes : List ℕ) × (AreRead left bytes × Refuses bytes fault))
+TellsBy Run left old new (Err Stream) = Keeps old new ⊎ ((bytes : List ℕ) × (AreRead left bytes × ((end : End) × ((text : List ℕ) × (Run bytes end text × AppendsFront old new text)))))
+
+-- the same of a run in rounds
 abbrev pub Tells : Option (List ℕ) → Option (List ℕ) → Option (List ℕ) → Result End RunFault → Type 0
-Tells left old new (Ok end) = (bytes : List ℕ) × (AreRead left bytes × ((text : List ℕ) × (HasRun bytes end text × Appends old new text)))
-Tells left old new (Err (Fault fault)) = Keeps old new × ((bytes : List ℕ) × (AreRead left bytes × Refuses bytes fault))
-Tells left old new (Err Stream) = Keeps old new ⊎ ((bytes : List ℕ) × (AreRead left bytes × ((end : End) × ((text : List ℕ) × (HasRun bytes end text × AppendsFront old new text)))))
+Tells left old new answer = TellsBy HasRun left old new answer
 
 -- the exit status of the program (own)
 abbrev pub status_of : Result End RunFault → ℕ

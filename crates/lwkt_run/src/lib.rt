@@ -8,9 +8,12 @@ mod programs;
 mod records;
 mod rounds;
 mod runs;
+mod threaded;
 mod verdicts;
 
 pub use lwkt_report::{RunFault, Verdict};
 pub use lwkt_script::{Script, read_script};
-pub use programs::run_program;
+pub use lwkt_threads::{Gate, OpenGate};
+pub use programs::{finish, run_program};
 pub use runs::{End, run_turns};
+pub use threaded::{run_threads, run_threads_gated};

@@ -1,11 +1,15 @@
 ghost use Rattle.std.specs.Prelude.{◌≡◌, ◌↔◌, IsTrue};
 ghost use Rattle.lwkt_report.specs.Complaint.{fault_line, IsSaid};
 ghost use Rattle.lwkt_run.specs.Run.{RunsAs, AsksTurns, status_of, Closes};
+ghost use Rattle.lwkt_run.specs.Threaded.{RunsOnThreadsAs, AsksThreads, IsMisused};
 
 use crate::runs::{End, run_turns};
+use crate::threaded::run_threads;
 use lwkt_base::Fault;
 use lwkt_report::{Complaint, Program, RunFault, Sink, Source, complain, complaint_of};
 use std::alloc::Global;
+use std::sync::Wait;
+use std::thread::Threads;
 
 // The exit status of an outcome.
 fn status_of(outcome: &Result<End, RunFault>) -> u8
@@ -20,14 +24,17 @@ fn status_of(outcome: &Result<End, RunFault>) -> u8
     }
 }
 
-// Writes the line that an outcome asks for: none after a whole report.
-fn close<K: Sink>(sink: &mut K, outcome: &Result<End, RunFault>)
-    ensures { Closes (K.has_failed sink.new) (K.contents sink.old) (K.contents sink.new) outcome.now }
+/// Ends the program after a run: writes the line that stands in place of a report, if the outcome asks for one, and answers the
+/// exit status. If writing it fails, a front of it stands.
+pub fn finish<K: Sink>(sink: &mut K, outcome: &Result<End, RunFault>) -> u8
+    ensures line { Closes (K.has_failed sink.new) (K.contents sink.old) (K.contents sink.new) outcome.now }
+    ensures status { result ≡ status_of outcome.now }
 {
     match *outcome {
         Ok(_) => {}
         Err(fault) => complain(sink, Program::Run, complaint_of(fault)),
     }
+    status_of(outcome)
 }
 
 // Whether the arguments are the one word `turns`.
@@ -37,26 +44,38 @@ fn asks_turns(words: &[String]) -> bool
     words.len() == 1 && words.iter().all(|word| word.as_str() == "turns")
 }
 
+// Whether the arguments are the one word `threads`.
+fn asks_threads(words: &[String]) -> bool
+    ensures { IsTrue result ↔ AsksThreads words.now }
+{
+    words.len() == 1 && words.iter().all(|word| word.as_str() == "threads")
+}
+
 /// The whole program: its arguments without its own name, what it reads and what it writes. The answer is its exit status:
 /// 0 every thread ended; 1 wrong arguments, or a script or opening that was refused; 2 turns used up; 3 want of memory, or a
 /// stream that failed; 4 an unlawful trace. With 1 and 3 one line stands in place of the report, or after a front of it.
 ///
 /// The arguments are checked before anything is read.
-pub fn run_program<S: Source, K: Sink>(
+pub fn run_program<R: Threads + Wait + Sync, S: Source, K: Sink>(
+    rt: &R,
     alloc: Global,
     words: &[String],
     source: &mut S,
     sink: &mut K,
 ) -> u8
-    ensures runs { AsksTurns words.now → RunsAs (K.has_failed sink.new) (S.left source.old) (K.contents sink.old) (K.contents sink.new) result }
-    ensures usage { ¬ AsksTurns words.now → (result ≡ 1) × IsSaid (K.has_failed sink.new) (K.contents sink.old) (K.contents sink.new) (fault_line Program.Run Complaint.Usage) }
-    ensures unread { ¬ AsksTurns words.now → source.new ≡ source.old }
+    ensures turns { AsksTurns words.now → RunsAs (K.has_failed sink.new) (S.left source.old) (K.contents sink.old) (K.contents sink.new) result }
+    ensures threads { AsksThreads words.now → RunsOnThreadsAs (K.has_failed sink.new) (S.left source.old) (K.contents sink.old) (K.contents sink.new) result }
+    ensures usage { IsMisused words.now → (result ≡ 1) × IsSaid (K.has_failed sink.new) (K.contents sink.old) (K.contents sink.new) (fault_line Program.Run Complaint.Usage) }
+    ensures unread { IsMisused words.now → source.new ≡ source.old }
 {
-    if !asks_turns(words) {
-        complain(sink, Program::Run, Complaint::Usage);
-        return 1;
+    if asks_turns(words) {
+        let outcome = run_turns(alloc, source, sink);
+        return finish(sink, &outcome);
     }
-    let outcome = run_turns(alloc, source, sink);
-    close(sink, &outcome);
-    status_of(&outcome)
+    if asks_threads(words) {
+        let outcome = run_threads(rt, alloc, source, sink);
+        return finish(sink, &outcome);
+    }
+    complain(sink, Program::Run, Complaint::Usage);
+    1
 }

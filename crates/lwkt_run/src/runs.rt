@@ -118,7 +118,7 @@ fn closing_of_script(alloc: Global, script: &Script) -> Result<Closing, Fault>
 }
 
 // How a run ended, by the contents of its report.
-fn end_of(closing: &Closing) -> End
+pub(crate) fn end_of(closing: &Closing) -> End
     ensures { result ≡ end_of closing.now }
 {
     let all = all_ended(&closing.threads);

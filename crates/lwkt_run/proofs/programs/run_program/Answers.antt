@@ -1,5 +1,13 @@
+use Rattle.lwkt_run.proofs.ThreadedLemmas.{asks_one}
 use Rattle.lwkt_run.proofs.programs.run_program.Goals as goal
 
-pub returns-clause-runs : goal.returns-clause-runs
-returns-clause-runs g c = λ asks.
-    (c.run_turns-outcome.result, (g.K.Sink.contents c.run_turns-outcome.new.sink, (c.run_turns-outcome.ensures.tells, (c.close.ensures, c.status_of.ensures))))
+pub returns-then-asks_turns-clause-turns : goal.returns-then-asks_turns-clause-turns
+returns-then-asks_turns-clause-turns g c = λ asks.
+    (c.run_turns-outcome.result, (g.K.Sink.contents c.run_turns-outcome.new.sink, (c.run_turns-outcome.ensures.tells, (c.finish.ensures.line, c.finish.ensures.status))))
+
+pub returns-then-asks_turns-clause-threads : goal.returns-then-asks_turns-clause-threads
+returns-then-asks_turns-clause-threads g c = λ asks. absurd (asks_one c.args.words.now (c.asks_turns.ensures.0 c.if-asks_turns.true) asks)
+
+pub returns-then-asks_threads-clause-threads : goal.returns-then-asks_threads-clause-threads
+returns-then-asks_threads-clause-threads g c = λ asks.
+    (c.run_threads-outcome.result, (g.K.Sink.contents c.run_threads-outcome.new.sink, (c.run_threads-outcome.ensures.tells, (c.finish-then-asks_threads.ensures.line, c.finish-then-asks_threads.ensures.status))))

@@ -1,4 +1,4 @@
-use Rattle.std.proofs.Common.{◌≡◌, ◌∙◌, sym, refl}
+use Rattle.std.proofs.Common.{sym, refl}
 use Rattle.lwkt_run.proofs.JudgeMoves.{judged, plans_again, ends_again}
 use Rattle.lwkt_run.proofs.runs.closing_of.Goals as goal
 

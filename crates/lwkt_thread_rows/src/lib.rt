@@ -1,0 +1,7 @@
+//! Runs on threads: worked rows, and gates, as tests over the crates below.
+#![tactic(auto)]
+
+#[cfg(test)]
+mod gates;
+#[cfg(test)]
+mod thread_rows;

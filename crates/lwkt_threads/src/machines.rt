@@ -1,0 +1,111 @@
+//! A machine whose processors are driven on threads.
+ghost use Rattle.std.specs.Prelude.{◌≡◌, ◌≢◌, false, All, IfOk, OnErr, Err, map};
+ghost use Rattle.std.specs.List.{AllZip};
+ghost use Rattle.lwkt_drive.specs.declared.driven.Ending.TheVariants.{NoMemory};
+ghost use Rattle.lwkt_bank.specs.Seats.{id_of};
+ghost use Rattle.lwkt_machine.specs.Machines.{IsOf};
+ghost use Rattle.lwkt_threads.specs.Driven.{IsFresh, AreDriven, IsDrivenMachine};
+
+use lwkt_bank::Bank;
+use lwkt_base::{CpuId, Fault};
+use lwkt_core::Event;
+use lwkt_cpu::Cpu;
+use lwkt_drive::{Driven, Ending, Gate, Limits, drive_all};
+use lwkt_machine::{Machine, ScriptBody};
+use lwkt_msg::MsgBook;
+use std::alloc::Global;
+use std::thread::Threads;
+
+/// A machine whose processors were driven, with the events of each.
+#[derive(Drop)]
+pub struct Outcome {
+    pub machine: Machine,
+    pub traces: Vec<Vec<Event>>,
+}
+
+// The processors of a machine, each with its number and without events.
+fn undriven(alloc: Global, cpus: Vec<Cpu<ScriptBody>>) -> Result<Vec<Driven<ScriptBody>>, Fault>
+    ensures ok { IfOk result (λ all. AllZip IsFresh cpus.items all.items) }
+    ensures only { OnErr result (result ≡ Err Fault.Memory) }
+{
+    let mut all = Vec::new(alloc);
+    let mut number = 0u8;
+    for cpu in cpus {
+        let driven = Driven::new(alloc, CpuId(number), cpu);
+        all.push(driven).map_err(|_| Fault::Memory)?;
+        number = number.saturating_add(1);
+    }
+    Ok(all)
+}
+
+// Processors and their events, apart.
+#[derive(Drop)]
+struct Apart {
+    cpus: Vec<Cpu<ScriptBody>>,
+    traces: Vec<Vec<Event>>,
+}
+
+fn take_apart(alloc: Global, all: Vec<Driven<ScriptBody>>) -> Result<Apart, Fault>
+    ensures cpus { IfOk result (λ parts. parts.cpus.items ≡ map (λ d. d.cpu) all.items) }
+    ensures traces { IfOk result (λ parts. parts.traces.items ≡ map (λ d. d.trace) all.items) }
+    ensures only { OnErr result (result ≡ Err Fault.Memory) }
+{
+    let mut cpus = Vec::new(alloc);
+    let mut traces = Vec::new(alloc);
+    for driven in all {
+        let Driven { cpu, trace, .. } = driven;
+        cpus.push(cpu).map_err(|_| Fault::Memory)?;
+        traces.push(trace).map_err(|_| Fault::Memory)?;
+    }
+    Ok(Apart { cpus, traces })
+}
+
+// Whether a processor's driving ended for want of memory.
+fn was_short(all: &[Driven<ScriptBody>]) -> bool
+    ensures { result ≡ false → All (λ d. d.ending ≢ NoMemory) all.now }
+{
+    all.iter().any(|driven| driven.ending == Ending::NoMemory)
+}
+
+// Drives these processors, and gives them back with the events of each.
+fn drive_parts<R: Threads + Sync, G: Gate + Sync>(
+    rt: &R,
+    alloc: Global,
+    gate: &G,
+    limits: &Limits,
+    bank: &Bank,
+    book: &MsgBook,
+    cpus: Vec<Cpu<ScriptBody>>,
+) -> Result<Apart, Fault>
+    requires { All (IsOf (id_of bank.now) book.now) cpus.items }
+    ensures ok { IfOk result (λ parts. AreDriven (G.answers gate.now) limits.now (id_of bank.now) cpus.items parts.cpus.items parts.traces.items) }
+    ensures at { IfOk result (λ parts. All (IsOf (id_of bank.now) book.now) parts.cpus.items) }
+    ensures only { OnErr result (result ≡ Err Fault.Memory) }
+{
+    let mut all = undriven(alloc, cpus)?;
+    drive_all(rt, gate, limits, bank, book, &mut all);
+    if was_short(&all) {
+        return Err(Fault::Memory);
+    }
+    take_apart(alloc, all)
+}
+
+/// Drives the processors of a machine, each on a thread of its own where one can be made, and gives the machine back with the
+/// events of each processor.
+///
+/// Refused with `Memory`; the machine is given up then.
+pub fn drive_machine<R: Threads + Sync, G: Gate + Sync>(
+    rt: &R,
+    alloc: Global,
+    gate: &G,
+    limits: &Limits,
+    machine: Machine,
+) -> Result<Outcome, Fault>
+    ensures ok { IfOk result (λ outcome. IsDrivenMachine (G.answers gate.now) limits.now machine outcome.machine outcome.traces.items) }
+    ensures only { OnErr result (result ≡ Err Fault.Memory) }
+{
+    let (bank, book, cpus) = machine.take_apart();
+    let Apart { cpus, traces } = drive_parts(rt, alloc, gate, limits, &bank, &book, cpus)?;
+    let machine = Machine::put_together(bank, book, cpus);
+    Ok(Outcome { machine, traces })
+}
