@@ -23,7 +23,7 @@ use Rattle.lwkt_core.proofs.ViewLemmas.{Views-part, Views-others}
 use Rattle.lwkt_bank.specs.Told.{IsDone, first_machine}
 use Rattle.lwkt_base.specs.Law.{MeetsLaw, IsTallied}
 use Rattle.lwkt_bank.specs.declared.views.Plan.{Plan}
-use Rattle.lwkt_bank.specs.Rule.{token_word, cell_word, IsOpeningRow, plan_at, token_at, no_token}
+use Rattle.lwkt_bank.specs.Rule.{table_words, token_word, cell_word, IsOpeningRow, plan_at, token_at, no_token}
 use Rattle.lwkt_bank.proofs.CloseMoves.{Settled, settled}
 use Rattle.lwkt_bank.proofs.SeatMoves.{tally-le}
 use Rattle.lwkt_bank.proofs.ChangeMoves.{who_is}
@@ -317,7 +317,7 @@ module _ (bank : BankId) (cpus id : ℕ) (v : View) (words : List ℕ) (seats : 
   few : cpus ≤ 8
   few = let r = left.1.0.rule in let p = r.safe.processors in let q = r.pictures.processors in omega arith
 
-  pub wide : length words ≡ 16 * length bank.plans + 1
+  pub wide : length words ≡ table_words (length bank.plans)
   wide = sym (ap length left.1.1.1) ∙ left.1.0.rule.wide
 
   settled_token : (tok : ℕ) → tok < length bank.plans → Settled (plan_at bank.plans tok) cpus words tok (token_at last tok) (written_by seats tok) (λ a. added_by seats tok a) (at v.tokens tok)
@@ -456,7 +456,7 @@ module _ (desk : Desk) (id : ℕ) (v : View) (words : List ℕ) (seats : List Cp
   pub bank_few : desk.key.cpus ≤ 8
   bank_few = few (id_of_desk desk) desk.key.cpus id v words seats kept left_here gathered_here all
 
-  pub bank_wide : length words ≡ 16 * length desk.key.plans.items + 1
+  pub bank_wide : length words ≡ table_words (length desk.key.plans.items)
   bank_wide = wide (id_of_desk desk) desk.key.cpus id v words seats kept left_here gathered_here all
 
   pub bank_closed : (closed : Closed) → AreRead desk.key.plans.items desk.key.cpus words kept closed (length desk.key.plans.items) → IsClosed (id_of_desk desk) desk.key.cpus seats closed

@@ -20,7 +20,7 @@ use Rattle.lwkt_core.proofs.OpeningLemmas.{IsSafe-opening}
 use Rattle.lwkt_core.proofs.SeatingLemmas.{AreSeated-opening}
 use Rattle.lwkt_bank.specs.declared.views.Plan.{Plan}
 use Rattle.lwkt_bank.specs.declared.views.View.{View}
-use Rattle.lwkt_bank.specs.Views.{blank, first_view, new_seat}
+use Rattle.lwkt_bank.specs.Views.{blank, first_view, new_seat, one_generation}
 use Rattle.lwkt_core.specs.Seating.{next_seat}
 use Rattle.lwkt_bank.specs.declared.notes.Note.{Note}
 use Rattle.lwkt_bank.specs.Notes.{seat_number, no_note, IsNoted, Keeps}
@@ -68,14 +68,14 @@ cell_in_plan spec (suc (suc (suc zero))) low = refl
 cell_in_plan spec (suc (suc (suc (suc i)))) low = absurd (omega arith)
 
 -- a token at the opening
-Shows-opening : (plans : List Plan) (spec : TokSpec) (t word : ℕ) (cells : ℕ → ℕ) → length spec.cells ≤ 4 → word ≡ 262144 * spec.generation → ((i : ℕ) → i < length spec.cells → cells i ≡ slice_index spec.cells i)
+Shows-opening : (plans : List Plan) (spec : TokSpec) (t word : ℕ) (cells : ℕ → ℕ) → length spec.cells ≤ 4 → word ≡ one_generation * spec.generation → ((i : ℕ) → i < length spec.cells → cells i ≡ slice_index spec.cells i)
     → Shows (plan_of_spec spec) (get_elem? [] t) word cells (column t (first_view plans ∷ [])) (opened_token spec)
 Shows-opening plans spec t word cells short is rows = record {
   no_slot = refl;
   law = refl;
   param = refl;
   long = refl;
-  count_word = let e : word_of (picture_of (opened_token spec)) ≡ 262144 * spec.generation = omega arith in is ∙ sym e;
+  count_word = let e : word_of (picture_of (opened_token spec)) ≡ one_generation * spec.generation = omega arith in is ∙ sym e;
   row = rows;
   held = λ k x e. first_only plans t k x (λ y. y.entry.held ≡ held_in (opened_token spec) y.kind) e refl;
   seated = λ cpu. inl (replicated 8 cpu Nothing);

@@ -37,7 +37,7 @@ use Rattle.lwkt_core.proofs.MachineMoves.{references_le}
 use Rattle.lwkt_bank.specs.declared.views.Plan.{Plan}
 use Rattle.lwkt_bank.specs.declared.views.Entry.{Entry}
 use Rattle.lwkt_bank.specs.declared.views.View.{View}
-use Rattle.lwkt_bank.specs.Views.{at, amount, generation_in, count_from, held_of, looked, taken, more, less, ended, read, stored, raised, who, noted, load, exchange, add, sub, or}
+use Rattle.lwkt_bank.specs.Views.{at, amount, generation_in, count_from, held_of, looked, taken, more, less, ended, read, stored, raised, who, noted, load, exchange, add, sub, or, one_section}
 use Rattle.lwkt_bank.specs.Deeds.{deed_by, writes}
 use Rattle.lwkt_bank.specs.Rule.{IsOpeningRow, Bench, Rule, Seen, seen_by, column, token_word, cell_word, plan_at, token_at}
 use Rattle.lwkt_bank.specs.Plays.{Looks, IsTakenRow, Exchanges, AddsOne, Marks, GivesOne, GivesClean, GivesWritten, ReadsCell, StoresCell, RaisesCell}
@@ -287,11 +287,11 @@ module _ (plans : List Plan) (cpus id : ℕ) (v : View) (tok : ℕ) (kind : v.ki
       (less e, (b.0, (b.1, refl)))
 
   -- and with another row
-  pub give_written_steps : e.held ≡ Holds Exclusive 0 → e.row ≢ e.first → MeetsLaw (plan_at plans tok).law (plan_at plans tok).param e.row → Steps plans cpus id v (token_word tok) (λ x. (x + 262143) % 2 ^ 64) (λ _. GiveWritten cpu t) (λ x. add tok 262143 x ∷ []) (λ between x w. GivesWritten between tok v x w)
+  pub give_written_steps : e.held ≡ Holds Exclusive 0 → e.row ≢ e.first → MeetsLaw (plan_at plans tok).law (plan_at plans tok).param e.row → Steps plans cpus id v (token_word tok) (λ x. (x + one_section) % 2 ^ 64) (λ _. GiveWritten cpu t) (λ x. add tok one_section x ∷ []) (λ between x w. GivesWritten between tok v x w)
   give_written_steps last written lawful s r between here fits =
       let m = sight s r here in
       let x = found s r here in
-      let notes = add tok 262143 x ∷ [] in
+      let notes = add tok one_section x ∷ [] in
       let own = m.knows.holder (ap is_held last) in
       let tk = token_at r.model tok in
       let room = room_written r.model.cpus (plan_at plans tok) (token_at r.model tok) cpu e x (cells s r here) m last in
@@ -299,9 +299,9 @@ module _ (plans : List Plan) (cpus id : ℕ) (v : View) (tok : ℕ) (kind : v.ki
       let G : ℕ → Type 0 = λ p. MeetsLaw (plan_at plans tok).law p tk.row in
       let H : List ℕ → Type 0 = λ row. MeetsLaw (plan_at plans tok).law (plan_at plans tok).param row in
       let meets : MeetsLaw tk.law tk.param tk.row = subst F (sym m.law) (subst G (sym m.param) (subst H own.2 lawful)) in
-      let a = word_step s r here (ended e) between notes (x + 262143) (GiveWritten cpu t) (at-tok v.tokens tok) refl refl (sym m.held ∙ last, (λ same. written (own.2 ∙ same ∙ sym own.1)), meets) (λ adds. absurd (false≢true adds))
+      let a = word_step s r here (ended e) between notes (x + one_section) (GiveWritten cpu t) (at-tok v.tokens tok) refl refl (sym m.held ∙ last, (λ same. written (own.2 ∙ same ∙ sym own.1)), meets) (λ adds. absurd (false≢true adds))
       (turns_give_written r.model.cpus (plan_at plans tok) (token_at r.model tok) cpu e x (cells s r here) m last t) in
-      let b = left_as s r here (noted between v (ended e) (deed_by cpu (GiveWritten cpu t) notes)) (GiveWritten cpu t) (x + 262143) ((x + 262143) % 2 ^ 64) (omega arith) a in
+      let b = left_as s r here (noted between v (ended e) (deed_by cpu (GiveWritten cpu t) notes)) (GiveWritten cpu t) (x + one_section) ((x + one_section) % 2 ^ 64) (omega arith) a in
       (ended e, (b.0, (b.1, refl)))
 
   -- a cell that is read

@@ -27,7 +27,7 @@ use Rattle.lwkt_core.specs.Picture.{counted, picture_of}
 use Rattle.lwkt_bank.specs.declared.views.Plan.{Plan}
 use Rattle.lwkt_bank.specs.declared.views.Added.{Added}
 use Rattle.lwkt_bank.specs.declared.views.Entry.{Entry}
-use Rattle.lwkt_bank.specs.Views.{amount, generation_in, seen, looked, taken, more, less, numbered, ended, read, stored, raised}
+use Rattle.lwkt_bank.specs.Views.{amount, generation_in, seen, looked, taken, more, less, numbered, ended, read, stored, raised, one_section, one_generation}
 use Rattle.lwkt_bank.specs.Rule.{Knows, IsOpeningRow}
 use Rattle.lwkt_bank.proofs.WordMoves.{counted-more, exclusive-more, counted-less, exclusive-less, IsOpen-from_picture, picture-open, IsFree-from_picture, count-le, count-set, exclusive-set, exclusive-here, word-room, word-room-written, generation-word, or-marked, decided-exclusive, decided-shared}
 use Rattle.lwkt_bank.proofs.ShowMoves.{IsOthers, Turns}
@@ -283,7 +283,7 @@ module _ (cpus : ℕ) (plan : Plan) (tok : Token) (cpu : CpuId) (e : Entry) (n :
     pub room_clean : 1 ≤ n
     room_clean = let f = word_freed in omega arith
 
-    pub room_written : n + 262144 < 18446744073709551616
+    pub room_written : n + one_generation < 18446744073709551616
     room_written = let h = word-room-written tok cpus sight.safe sight.few (sight.safe.not_worn cpu.0 (ap is_exclusive held_last)) in let whole = sight.count_word in omega arith
 
     pub turns_give_clean : (t : TokId) (word : ℕ) → word + 1 ≡ n → Turns plan tok (token_after tok (GiveClean cpu t)) cpu.0 e (less e) word cells
@@ -293,7 +293,7 @@ module _ (cpus : ℕ) (plan : Plan) (tok : Token) (cpu : CpuId) (e : Entry) (n :
         turns_moved h tok.mark (less e) word (omega arith) (ap one_less sight.held) refl refl
         (record { not_above = sight.knows.not_above; cells = sight.knows.cells; holder = λ held. sight.knows.holder (ap is_held last) })
 
-    pub turns_give_written : (t : TokId) → Turns plan tok (token_after tok (GiveWritten cpu t)) cpu.0 e (ended e) (n + 262143) cells
+    pub turns_give_written : (t : TokId) → Turns plan tok (token_after tok (GiveWritten cpu t)) cpu.0 e (ended e) (n + one_section) cells
     turns_give_written t =
         let h = one_less (held_by tok cpu.0) in
         let f = word_freed in

@@ -1,4 +1,5 @@
 use Rattle.std.proofs.Common.{eqb, ltb, ◌||◌, ◌&&◌, ◌≡◌, ◌≢◌, ⊎_elim, ℕ, zero, suc, ◌+◌, ◌-◌, ◌*◌, ◌/◌, ◌<◌, ◌≤◌, Bool, true, false, cond, List, [], ◌∷◌, length, get_or, set, refl, ap, sym, ◌∙◌, arith, All, length-set, get_or-set_same}
+use Rattle.lwkt_bank.specs.Views.{one_generation}
 use Rattle.std.specs.Prelude.{sum_by, bit_or, bit_and}
 use Rattle.std.specs.Int.Bits.{or_add_and}
 use Rattle.std.specs.Int.{bit_at}
@@ -123,7 +124,7 @@ module _ (tok : Token) where
       let b = bit-le tok.mark in omega arith
 
   -- and for another generation, where the token isn't at its last
-  pub word-room-written : (cpus : ℕ) → IsSafeToken cpus tok → ((cpu : ℕ) → references_in (held_by tok cpu) ≤ 32) → tok.generation < LAST_GENERATION → word_of (picture_of tok) + 262144 < 18446744073709551616
+  pub word-room-written : (cpus : ℕ) → IsSafeToken cpus tok → ((cpu : ℕ) → references_in (held_by tok cpu) ≤ 32) → tok.generation < LAST_GENERATION → word_of (picture_of tok) + one_generation < 18446744073709551616
   word-room-written cpus safe few unworn =
       let c = count-le cpus safe few in
       let a = bit-le (picture_of tok).exclusive in
@@ -141,7 +142,7 @@ module _ (tok : Token) where
     exclusive-here is = let l = length-set tok.holders cpu held in list_any_at is_exclusive (set tok.holders cpu held) cpu Nothing (omega arith) (ap is_exclusive (get_or-set_same tok.holders cpu held Nothing inside) ∙ is)
 
 -- the generation in the word of parts that fit
-pub generation-word : (w : TokWord) → w.count < 65536 → word_of w / 262144 ≡ w.generation
+pub generation-word : (w : TokWord) → w.count < 65536 → word_of w / one_generation ≡ w.generation
 generation-word w fits = let a = bit-le w.exclusive in let b = bit-le w.mark in omega arith
 
 -- setting the mark by an or

@@ -24,6 +24,10 @@ use Rattle.lwkt_bank.specs.Views.{at, amount, spent}
 abbrev pub Bench : Type 0
 Bench = State (Unit {0}) View
 
+-- how many words the table of so many tokens has: word 0, and 16 for each token
+abbrev pub table_words : ℕ → ℕ
+table_words tokens = 16 * tokens + 1
+
 -- where a token's words lie: 16 words for each, so that no two tokens share a cache line
 abbrev pub token_word : ℕ → ℕ
 token_word tok = 16 * tok + 1
@@ -117,7 +121,7 @@ pub record Rule (plans : List Plan) (cpus : ℕ) (s : Bench) : Type 0 where
   pub model : Machine
   pub safe : IsSafe model
   pub pictures : Pictures plans cpus s model
-  pub wide : length s.words ≡ 16 * length plans + 1
+  pub wide : length s.words ≡ table_words (length plans)
   pub zero_word : slice_index s.words 0 ≡ 0
   pub laws : (tok : ℕ) → tok < length plans → (slice_index s.words (law_word tok) ≡ law_number (plan_at plans tok).law) × (slice_index s.words (param_word tok) ≡ (plan_at plans tok).param)
   pub seats : AreSeated cpus (map (λ v. v.kind) s.views)

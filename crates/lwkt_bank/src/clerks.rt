@@ -2,7 +2,7 @@ ghost use Rattle.std.specs.Prelude.{◌≡◌, ℕ, ◌+◌, ◌*◌, ◌≤◌,
 ghost use Rattle.std.specs.Coded.{Coded-set};
 ghost use Rattle.lwkt_base.specs.declared.laws.Law.TheVariants.{Tally};
 ghost use Rattle.lwkt_bank.specs.Views.{at, amount};
-ghost use Rattle.lwkt_bank.specs.Rule.{plan_at};
+ghost use Rattle.lwkt_bank.specs.Rule.{plan_at, table_words};
 ghost use Rattle.lwkt_bank.specs.Notes.{clerk_number};
 
 use crate::rules::{BankRule, Key};
@@ -17,7 +17,7 @@ pub(crate) struct Desk {
     pub(crate) clerk: Seat<(), View>,
     pub(crate) key: Key,
     ghost told: { table.shared.key ≡ key } by { Coded-set key-code table.shared.key key },
-    ghost wide: { table.shared.table_id.words ≡ 16 * length key.plans.items + 1 },
+    ghost wide: { table.shared.table_id.words ≡ table_words (length key.plans.items) },
     ghost slotless: { table.shared.table_id.slots ≡ 0 },
     ghost few: { length key.plans.items ≤ 64 },
     ghost short: { (tok : ℕ) → (plan_at key.plans.items tok).cells ≤ 4 },

@@ -4,7 +4,7 @@ ghost use mathlib.Core.Option.{some};
 ghost use lib.ListN.{get_elem?};
 ghost use Rattle.std.specs.Slots.{slots_items, slots_len, IsFull};
 ghost use Rattle.lwkt_base.specs.declared.laws.Law.TheVariants.{Tally};
-ghost use Rattle.lwkt_bank.specs.Rule.{Bench, Rule, cell_word, plan_at};
+ghost use Rattle.lwkt_bank.specs.Rule.{Bench, Rule, cell_word, plan_at, table_words};
 ghost use Rattle.lwkt_bank.specs.Notes.{note_at};
 ghost use Rattle.lwkt_bank.specs.Closing.{kept_of, kept_by, IsRead, AreRead, Left, IsReady, HasRoom, IsEmptyRoom};
 ghost use Rattle.lwkt_bank.specs.Seats.{id_of, id_of_desk, cpus_of};
@@ -176,7 +176,7 @@ fn values(
 ) -> Closed
     requires few { length plans.now ≤ 64 }
     requires processors { cpus ≤ 8 }
-    requires wide { length words.now ≡ 16 * length plans.now + 1 }
+    requires wide { length words.now ≡ table_words (length plans.now) }
     requires short { (tok : ℕ) → (plan_at plans.now tok).cells ≤ 4 }
     requires fits { ((k : ℕ) → slice_index words.now k < 2 ^ 64) → (tok : ℕ) → tok < length plans.now → (plan_at plans.now tok).law ≡ Law.Tally → (cpu : ℕ) → kept_by kept.now tok cpu < 2 ^ 64 }
     requires blank { length blanks.items ≡ length plans.now }

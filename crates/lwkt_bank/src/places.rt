@@ -11,12 +11,20 @@ pub(crate) const GENERATION: u64 = 262144;
 /// What the end of a written section adds to a token word: a generation, less the exclusive bit.
 pub(crate) const SECTION: u64 = GENERATION - 1;
 
+// How many words of the table a token has.
+const BLOCK: usize = 16;
+
+// Where the count word and the first cell of token 0 lie.
+const FIRST_WORD: usize = 1;
+
+const FIRST_CELL: usize = 2;
+
 /// Where the count word of a token lies.
 #[inline]
 pub(crate) fn word_of_token(tok: TokId) -> usize
     ensures { result ≡ token_word tok.0 }
 {
-    16 * tok.0 as usize + 1
+    BLOCK * tok.0 as usize + FIRST_WORD
 }
 
 /// Where a cell of a token lies.
@@ -24,7 +32,7 @@ pub(crate) fn word_of_token(tok: TokId) -> usize
 pub(crate) fn word_of_cell(tok: TokId, cell: u8) -> usize
     ensures { result ≡ cell_word tok.0 cell }
 {
-    16 * tok.0 as usize + 2 + cell as usize
+    BLOCK * tok.0 as usize + FIRST_CELL + cell as usize
 }
 
 /// The generation in a token word.

@@ -17,6 +17,7 @@ impl LaneIn {
     /// The oldest note of the queue, or None if the queue was empty at one moment of the call. It is never None while a
     /// note is left that this end has seen there. Of notes that it hasn't seen yet no clause says when they are found,
     /// since the sending end may push at any moment.
+    #[inline]
     pub fn pop(&mut self) -> Option<Note>
         ensures received { MatchOption result (received self.new ≡ received self.old)
             (λ note. received self.new ≡ received self.old ++ note ∷ []) }

@@ -18,6 +18,7 @@ impl LaneOut {
 
     /// Moves the note in hand into the queue if that has room, and says whether none is in hand. If so the next `push`
     /// succeeds. The note stays in hand only if the queue was full at one moment of the call.
+    #[inline]
     pub fn room(&mut self) -> bool
         ensures sent { sent self.new ≡ sent self.old }
         ensures value { IsTrue result ↔ (in_hand self.new ≡ None) }
@@ -37,6 +38,7 @@ impl LaneOut {
     /// Sends a note. It goes into the queue at once if that has room, and else stays in hand.
     ///
     /// Refused with `LaneFull` exactly if a note is in hand and finds no room in the queue.
+    #[inline(always)]
     pub fn push(&mut self, note: Note) -> Result<(), Fault>
         ensures ok { OnOk result (sent self.new ≡ sent self.old ++ note ∷ []) }
         ensures full { OnErr result ((sent self.new ≡ sent self.old) × IsSome (in_hand self.old)
