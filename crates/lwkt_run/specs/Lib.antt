@@ -1,3 +1,4 @@
 pub mod Judging
+pub mod Leaving
 pub mod Run
 pub mod Values
