@@ -1,4 +1,5 @@
 pub mod Judging
+pub mod Leaving
 pub mod Run
 pub mod Values
 pub mod Threaded

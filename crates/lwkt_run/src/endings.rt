@@ -3,6 +3,7 @@ ghost use Rattle.std.specs.Prelude.{◌≡◌, ℕ, ◌≤◌, map, IfOk, OnErr,
 ghost use Rattle.lwkt_bank.specs.Opened.{plans_of};
 ghost use Rattle.lwkt_script.specs.Format.{threads_on};
 ghost use Rattle.lwkt_run.specs.Judging.{ids_of};
+ghost use Rattle.lwkt_run.specs.Leaving.{Leaves};
 ghost use Rattle.lwkt_run.specs.Values.{AreValuesOf};
 
 use crate::names::names_of;
@@ -92,6 +93,7 @@ fn close(
 ) -> Result<Final, Fault>
     requires { machine.bank.plans ≡ plans_of script.now.tokens }
     ensures values { IfOk result (λ last. AreValuesOf script.now.tokens last) }
+    ensures leaves { IfOk result (λ last. Leaves machine trace.old trace.new last) }
     ensures only { OnErr result (result ≡ Err Fault.Memory) }
 {
     let mut machine = machine;
@@ -124,6 +126,7 @@ pub fn left_by(
     requires bank { machine.bank.plans ≡ plans_of script.now.tokens }
     requires threads { (cpu : ℕ) → threads_on cpu script.now.threads ≤ 16 }
     ensures values { IfOk result (λ left. AreValuesOf script.now.tokens left.last) }
+    ensures leaves { IfOk result (λ left. Leaves machine trace.old trace.new left.last) }
     ensures threads { IfOk result (λ left. map (λ line. line.id) left.threads.items ≡ ids_of script.now.cpus script.now.threads) }
     ensures only { OnErr result (result ≡ Err Fault.Memory) }
 {
