@@ -114,6 +114,18 @@ mail_told cpu n a b t u tells grew =
       told = all_mail cpu grew.made grew.own ∙ same;
     }
 
+-- a call on the ports that makes no event
+pub mail_unmade : (a b : Desk) (t : List Event) → Tells a b t t → TellsMail a b t t
+mail_unmade a b t tells = record {
+  same = tells.same;
+  deeds = tells.deeds;
+  grows = tells.grows;
+  mine = tells.mine;
+  done = [];
+  trace_is = sym (append-nil t);
+  told = append_cancel_left t [] (events_in tells.deeds) (append-nil t ∙ tells.trace_is);
+}
+
 -- the events of taking and of giving references are none of messages
 plain_taking : (cpu : CpuId) (tok : TokId) (mode : Mode) → filter is_of_message (taking cpu tok mode ∷ []) ≡ []
 plain_taking cpu tok Exclusive = refl

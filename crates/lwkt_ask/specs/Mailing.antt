@@ -1,20 +1,22 @@
-use Rattle.std.specs.Prelude.{◌≡◌, ℕ, Bool, false, List, length, Option, Some, None, Result, Ok, Err, OnOk, IfErr, Vec}
+use Rattle.std.specs.Prelude.{◌≡◌, ℕ, Bool, false, List, length, Option, Some, None, Result, Ok, Err, OnOk, IfOk, IfErr, Vec}
 use Rattle.std.specs.declared.alloc.Global.{Global}
 use Rattle.lwkt_base.specs.declared.asks.Item.{Item}
 use Rattle.lwkt_base.specs.declared.asks.Answer.{Answer}
-use Rattle.lwkt_base.specs.declared.asks.Answer.TheVariants.{Got, NoMsg, Refused}
+use Rattle.lwkt_base.specs.declared.asks.Answer.TheVariants.{Dropped, Got, NoMsg, Refused}
 use Rattle.lwkt_base.specs.declared.faults.Fault.{Fault}
 use Rattle.lwkt_base.specs.declared.names.MsgId.{MsgId}
 use Rattle.lwkt_base.specs.declared.names.ThreadId.{ThreadId}
 use Rattle.lwkt_base.specs.declared.names.Ref.{Ref}
 use Rattle.lwkt_base.specs.declared.records.Call.{Call}
 use Rattle.lwkt_base.specs.declared.records.Flags.{Flags}
+use Rattle.lwkt_base.specs.declared.records.Rec.{Rec}
 use Rattle.lwkt_core.specs.declared.events.Event.{Event}
 use Rattle.lwkt_bank.specs.declared.seats.CpuSeat.{CpuSeat}
 use Rattle.lwkt_port.specs.declared.deeds.Sending.{Sending}
 use Rattle.lwkt_port.specs.Posts.{Post}
 use Rattle.lwkt_port.specs.Sendings.{PostSends, PostRefuses, PostReplies, PostRefusesReply}
 use Rattle.lwkt_port.specs.Servings.{PostGets}
+use Rattle.lwkt_port.specs.Withdrawals.{PostAborts, PostRefusesAbort, PostDrops, PostRefusesDrop, PostHears, PostRefusesHearing}
 use Rattle.lwkt_ask.specs.declared.nexts.Next.{Next}
 use Rattle.lwkt_ask.specs.declared.nexts.Next.TheVariants.{Runs, AwaitsItem, AwaitsReply}
 use Rattle.lwkt_ask.specs.Leaving.{GivesUp}
@@ -34,6 +36,23 @@ SendsMail s p q t u result = OnOk result (PostSends s p q t u) × IfErr result (
 -- what a reply tells: `Ports::reply`
 abbrev pub RepliesMail : ℕ → MsgId → ℕ → ℕ → Post → Post → Vec Event Global → Vec Event Global → Result (Unit {0}) Fault → Type 0
 RepliesMail thread msg error outcome p q t u result = OnOk result (PostReplies thread msg error outcome p q t u) × IfErr result (λ fault. PostRefusesReply thread msg error outcome p q t u fault)
+
+-- what a request to abort tells: `Ports::abort`
+abbrev pub AbortsMail : ℕ → MsgId → Post → Post → Vec Event Global → Vec Event Global → Result (Unit {0}) Fault → Type 0
+AbortsMail thread msg p q t u result = OnOk result (PostAborts thread msg p q t u) × IfErr result (λ fault. PostRefusesAbort thread msg p q t u fault)
+
+-- what the question whether a message is to be aborted tells: `Ports::is_aborted`
+abbrev pub HearsMail : ℕ → MsgId → Post → Post → Result Bool Fault → Type 0
+HearsMail thread msg p q result = IfOk result (λ aborted. PostHears thread msg p q aborted) × IfErr result (λ fault. PostRefusesHearing thread msg p q fault)
+
+-- what a drop tells: `Ports::drop_msg`
+abbrev pub DropsMail : ℕ → MsgId → Post → Post → Vec Event Global → Vec Event Global → Result Rec Fault → Type 0
+DropsMail thread msg p q t u result = IfOk result (λ rec. PostDrops thread msg p q t u rec) × IfErr result (λ fault. PostRefusesDrop thread msg p q t u fault)
+
+-- the answer for a drop of a message: the message and the record that it was sent with
+abbrev pub dropped_or : MsgId → Result Rec Fault → Answer
+dropped_or msg (Ok rec) = Dropped msg rec
+dropped_or msg (Err fault) = Refused fault
 
 -- the answer for a look at a port
 abbrev pub item_or : Result (Option Item) Fault → Answer

@@ -1,4 +1,4 @@
-use Rattle.std.specs.Prelude.{◌≡◌, ℕ, List, [], Result, Ok, Err}
+use Rattle.std.specs.Prelude.{◌≡◌, ℕ, Bool, false, true, List, [], Result, Ok, Err}
 use Rattle.lwkt_base.specs.declared.names.Ref.{Ref}
 use Rattle.lwkt_base.specs.declared.faults.Fault.{Fault}
 use Rattle.lwkt_base.specs.declared.faults.Fault.TheVariants.{Broken}
@@ -36,6 +36,12 @@ done_or (Err fault) = Refused fault
 abbrev pub value_or : Result ℕ Fault → Answer
 value_or (Ok value) = Value value
 value_or (Err fault) = Refused fault
+
+-- the answer to a question: 1 for yes, 0 for no
+abbrev pub bit_or : Result Bool Fault → Answer
+bit_or (Ok true) = Value 1
+bit_or (Ok false) = Value 0
+bit_or (Err fault) = Refused fault
 
 -- what comes after everything was given up: a thread whose section had broken its law ends (own)
 abbrev pub unless_broken : Next → Blocked → Next

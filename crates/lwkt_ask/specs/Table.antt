@@ -1,4 +1,4 @@
-use Rattle.std.specs.Prelude.{◌≡◌, List, length, Result, Ok, Err, Option, ℕ, false, true, Vec}
+use Rattle.std.specs.Prelude.{◌≡◌, List, length, Result, Ok, Err, Option, ℕ, Bool, false, true, Vec}
 use Rattle.std.specs.declared.alloc.Global.{Global}
 use Rattle.lwkt_base.specs.declared.names.TokId.{TokId}
 use Rattle.lwkt_base.specs.declared.names.Mode.TheVariants.{Shared}
@@ -6,7 +6,6 @@ use Rattle.lwkt_base.specs.declared.names.Ref.{Ref}
 use Rattle.lwkt_base.specs.declared.faults.Fault.{Fault}
 use Rattle.lwkt_base.specs.declared.asks.Ask.{Ask}
 use Rattle.lwkt_base.specs.declared.asks.Ask.TheVariants.{Get, GetShared, TryGet, Rel, Swap, Read, Write, Add, Send, Do, Reply, Abort, IsAborted, DropMsg, GetPort, WaitPort, Yield, Exit}
-use Rattle.lwkt_base.specs.declared.faults.Fault.TheVariants.{NotOwner, NotTaken}
 use Rattle.lwkt_base.specs.declared.asks.Answer.TheVariants.{Done, Refused}
 use Rattle.lwkt_core.specs.declared.events.Event.{Event}
 use Rattle.lwkt_bank.specs.declared.seats.CpuSeat.{CpuSeat}
@@ -16,11 +15,12 @@ use Rattle.lwkt_hold.specs.declared.answers.Acquired.TheVariants.{Got, MustSwitc
 use Rattle.lwkt_hold.specs.Misses.{exclusive}
 use Rattle.lwkt_ask.specs.declared.nexts.Next.{Next}
 use Rattle.lwkt_ask.specs.declared.nexts.Next.TheVariants.{Runs, Readies, Exits}
-use Rattle.lwkt_ask.specs.Nexts.{done_or, value_or}
+use Rattle.lwkt_ask.specs.Nexts.{done_or, value_or, bit_or}
 use Rattle.lwkt_ask.specs.Calls.{Acquires, Tries, Rels, Swaps, Reads, Stores, Adds}
 use Rattle.lwkt_ask.specs.Leaving.{GivesUp}
-use Rattle.lwkt_ask.specs.Mailing.{sending, plain_flags, SendsMail, RepliesMail, item_or, Does, WaitsPort}
+use Rattle.lwkt_ask.specs.Mailing.{sending, plain_flags, SendsMail, RepliesMail, AbortsMail, HearsMail, DropsMail, dropped_or, item_or, Does, WaitsPort}
 use Rattle.lwkt_base.specs.declared.asks.Item.{Item}
+use Rattle.lwkt_base.specs.declared.records.Rec.{Rec}
 use Rattle.lwkt_port.specs.Posts.{Post}
 use Rattle.lwkt_port.specs.Servings.{PostGets}
 
@@ -43,10 +43,6 @@ pub record Gets (bank : BankId) (a b : CpuSeat) (refs now : List Ref) (new : Ref
   pub acquires : Acquires bank a mid refs now new t v result
   pub goes_on : GoesOn mid b refs now v u next result
 
--- an ask about a message that has no call yet is refused, and changes nothing
-abbrev pub Refuses : CpuSeat → CpuSeat → Post → Post → List Ref → List Ref → Vec Event Global → Vec Event Global → Next → Fault → Type 0
-Refuses a b p q refs now t u next fault = (b ≡ a) × (q ≡ p) × (now ≡ refs) × (u ≡ t) × (next ≡ Runs (Refused fault))
-
 -- an ask of a thread and what comes next: from one seat, list and trace to the next, and from one state of the ports to the next, ask
 -- by ask, by the call that it makes (token(9), msgport(9); own)
 abbrev pub Performs : BankId → ℕ → CpuSeat → CpuSeat → Post → Post → List Ref → List Ref → Vec Event Global → Vec Event Global → Ask → Next → Type 0
@@ -61,9 +57,9 @@ Performs bank thread a b p q refs now t u (Add tok k) next = (q ≡ p) × ((resu
 Performs bank thread a b p q refs now t u (Send msg to call flags) next = (b ≡ a) × (now ≡ refs) × ((result : Result (Unit {0}) Fault) × (SendsMail (sending thread msg to call flags false) p q t u result × (next ≡ Runs (done_or result))))
 Performs bank thread a b p q refs now t u (Do msg to call) next = (now ≡ refs) × Does (sending thread msg to call plain_flags true) p q a b refs t u next
 Performs bank thread a b p q refs now t u (Reply msg error outcome) next = (b ≡ a) × (now ≡ refs) × ((result : Result (Unit {0}) Fault) × (RepliesMail thread msg error outcome p q t u result × (next ≡ Runs (done_or result))))
-Performs bank thread a b p q refs now t u (Abort msg) next = Refuses a b p q refs now t u next NotOwner
-Performs bank thread a b p q refs now t u (IsAborted msg) next = Refuses a b p q refs now t u next NotTaken
-Performs bank thread a b p q refs now t u (DropMsg msg) next = Refuses a b p q refs now t u next NotOwner
+Performs bank thread a b p q refs now t u (Abort msg) next = (b ≡ a) × (now ≡ refs) × ((result : Result (Unit {0}) Fault) × (AbortsMail thread msg p q t u result × (next ≡ Runs (done_or result))))
+Performs bank thread a b p q refs now t u (IsAborted msg) next = (b ≡ a) × (now ≡ refs) × (u ≡ t) × ((result : Result Bool Fault) × (HearsMail thread msg p q result × (next ≡ Runs (bit_or result))))
+Performs bank thread a b p q refs now t u (DropMsg msg) next = (b ≡ a) × (now ≡ refs) × ((result : Result Rec Fault) × (DropsMail thread msg p q t u result × (next ≡ Runs (dropped_or msg result))))
 Performs bank thread a b p q refs now t u GetPort next = (b ≡ a) × (now ≡ refs) × ((result : Result (Option Item) Fault) × (PostGets thread p q t u result × (next ≡ Runs (item_or result))))
 Performs bank thread a b p q refs now t u WaitPort next = (now ≡ refs) × WaitsPort thread p q a b refs t u next
 Performs bank thread a b p q refs now t u Yield next = (q ≡ p) × (now ≡ refs) × GivesUp a b refs (length refs) t u (Readies Done) next

@@ -1,9 +1,11 @@
 //! The asks about messages, each as the call on the ports that it makes.
-ghost use Rattle.std.specs.Prelude.{◌≡◌, ℕ, ◌+◌, ◌<◌, ◌≤◌, false, true, length, Option, Result, vec_len, vec_capacity};
+ghost use Rattle.std.specs.Prelude.{◌≡◌, ℕ, ◌+◌, ◌<◌, ◌≤◌, Bool, List, false, true, length, Option, Result, vec_len, vec_capacity};
 ghost use Rattle.lwkt_base.specs.Holding.{holding_of};
 ghost use Rattle.lwkt_base.specs.declared.asks.Item.{Item};
 ghost use Rattle.lwkt_base.specs.declared.faults.Fault.{Fault};
 ghost use Rattle.lwkt_base.specs.declared.names.MsgId.{MsgId};
+ghost use Rattle.lwkt_base.specs.declared.records.Rec.{Rec};
+ghost use Rattle.lwkt_core.specs.declared.events.Event.{Event};
 ghost use Rattle.lwkt_bank.specs.Seats.{id_of, bank_of, holding};
 ghost use Rattle.lwkt_hold.specs.Holds.{seat_of};
 ghost use Rattle.lwkt_hold.specs.Fronts.{IsFront};
@@ -12,15 +14,15 @@ ghost use Rattle.lwkt_msg.specs.Desks.{cpu_of, messages_of};
 ghost use Rattle.lwkt_port.specs.Posts.{IsSamePost};
 ghost use Rattle.lwkt_port.specs.Works.{Grew};
 ghost use Rattle.lwkt_port.specs.Servings.{PostGets};
-ghost use Rattle.lwkt_ask.specs.Nexts.{HoldsAfter, done_or};
+ghost use Rattle.lwkt_ask.specs.Nexts.{HoldsAfter, done_or, bit_or};
 ghost use Rattle.lwkt_ask.specs.Telling.{TellsMail};
-ghost use Rattle.lwkt_ask.specs.Mailing.{sending, plain_flags, SendsMail, RepliesMail, item_or, Does, WaitsPort};
+ghost use Rattle.lwkt_ask.specs.Mailing.{sending, plain_flags, SendsMail, RepliesMail, AbortsMail, HearsMail, DropsMail, dropped_or, item_or, Does, WaitsPort};
 
 use crate::calls::done;
 use crate::leaves::leave;
 use crate::nexts::Next;
 use lwkt_bank::Bank;
-use lwkt_base::{Answer, Call, Fault, Flags, Item, MsgId, ThreadId, TokList};
+use lwkt_base::{Answer, Call, Fault, Flags, Item, MsgId, Rec, ThreadId, TokList};
 use lwkt_core::Event;
 use lwkt_hold::Hold;
 use lwkt_msg::MsgBook;
@@ -33,6 +35,27 @@ fn shown(told: Result<Option<Item>, Fault>) -> Answer
     match told {
         Ok(Some(item)) => Answer::Got(item),
         Ok(None) => Answer::NoMsg,
+        Err(fault) => Answer::Refused(fault),
+    }
+}
+
+// The answer to a question: 1 for yes, 0 for no.
+fn said(told: Result<bool, Fault>) -> Answer
+    ensures { result ≡ bit_or told }
+{
+    match told {
+        Ok(true) => Answer::Value(1),
+        Ok(false) => Answer::Value(0),
+        Err(fault) => Answer::Refused(fault),
+    }
+}
+
+// The answer for a drop of a message: the message and the record that it was sent with.
+fn given_back(msg: MsgId, told: Result<Rec, Fault>) -> Answer
+    ensures { result ≡ dropped_or msg told }
+{
+    match told {
+        Ok(rec) => Answer::Dropped(msg, rec),
         Err(fault) => Answer::Refused(fault),
     }
 }
@@ -110,6 +133,55 @@ pub(crate) fn reply(
 {
     let told = ports.reply(book, thread, msg, error, outcome, trace);
     done(told)
+}
+
+/// Asks for a message of the thread to be aborted.
+pub(crate) fn abort(
+    ports: &mut Ports,
+    book: &MsgBook,
+    thread: u8,
+    msg: MsgId,
+    trace: &mut Vec<Event>,
+) -> Answer
+    requires table { ports.old.seat.table ≡ book.now.table }
+    requires room { vec_len trace.old + 512 ≤ vec_capacity trace.old }
+    ensures aborts { (told : Result (Unit {0}) Fault) × (AbortsMail thread msg ports.old ports.new trace.old trace.new told × (result ≡ done_or told)) }
+    ensures same { IsSamePost ports.old ports.new }
+    ensures grew { Grew (cpu_of ports.old.seat) 1 trace.old trace.new }
+    ensures told { TellsMail ports.old.seat ports.new.seat trace.old.items trace.new.items }
+{
+    let told = ports.abort(book, thread, msg, trace);
+    done(told)
+}
+
+/// Says whether a message that the thread was shown is to be aborted.
+pub(crate) fn is_aborted(ports: &mut Ports, book: &MsgBook, thread: u8, msg: MsgId) -> Answer
+    requires table { ports.old.seat.table ≡ book.now.table }
+    ensures hears { (told : Result Bool Fault) × (HearsMail thread msg ports.old ports.new told × (result ≡ bit_or told)) }
+    ensures same { IsSamePost ports.old ports.new }
+    ensures told { (events : List Event) → TellsMail ports.old.seat ports.new.seat events events }
+{
+    let told = ports.is_aborted(book, thread, msg);
+    said(told)
+}
+
+/// Drops a message of the thread that nobody has taken yet.
+pub(crate) fn drop_msg(
+    ports: &mut Ports,
+    book: &MsgBook,
+    thread: u8,
+    msg: MsgId,
+    trace: &mut Vec<Event>,
+) -> Answer
+    requires table { ports.old.seat.table ≡ book.now.table }
+    requires room { vec_len trace.old + 512 ≤ vec_capacity trace.old }
+    ensures drops { (told : Result Rec Fault) × (DropsMail thread msg ports.old ports.new trace.old trace.new told × (result ≡ dropped_or msg told)) }
+    ensures same { IsSamePost ports.old ports.new }
+    ensures grew { Grew (cpu_of ports.old.seat) 1 trace.old trace.new }
+    ensures told { TellsMail ports.old.seat ports.new.seat trace.old.items trace.new.items }
+{
+    let told = ports.drop_msg(book, thread, msg, trace);
+    given_back(msg, told)
 }
 
 /// Gives the next item of the thread's port.

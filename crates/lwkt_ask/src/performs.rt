@@ -14,10 +14,10 @@ ghost use Rattle.lwkt_ask.specs.Telling.{TellsMail};
 
 use crate::calls::{add, get, read, rel, swap, try_get, write};
 use crate::leaves::leave;
-use crate::mails::{get_port, reply, send, send_and_wait, wait_port};
+use crate::mails::{abort, drop_msg, get_port, is_aborted, reply, send, send_and_wait, wait_port};
 use crate::nexts::Next;
 use lwkt_bank::Bank;
-use lwkt_base::{Answer, Ask, Fault, Mode, Ref, TokId, TokList};
+use lwkt_base::{Answer, Ask, Mode, Ref, TokId, TokList};
 use lwkt_core::Event;
 use lwkt_hold::Hold;
 use lwkt_msg::MsgBook;
@@ -39,12 +39,6 @@ fn shared(tok: TokId) -> Ref
         tok,
         mode: Mode::Shared,
     }
-}
-
-fn refused(fault: Fault) -> Next
-    ensures { result ≡ Next.Runs (Answer.Refused fault) }
-{
-    Next::Runs(Answer::Refused(fault))
 }
 
 /// Performs the ask of a running thread, whose list is held, and says what comes next for the thread. That the trace has
@@ -93,9 +87,9 @@ pub fn perform(
         Ask::Reply(msg, error, outcome) => {
             Next::Runs(reply(ports, book, thread, msg, error, outcome, trace))
         }
-        // drops and aborts have no call yet
-        Ask::Abort(_) | Ask::DropMsg(_) => refused(Fault::NotOwner),
-        Ask::IsAborted(_) => refused(Fault::NotTaken),
+        Ask::Abort(msg) => Next::Runs(abort(ports, book, thread, msg, trace)),
+        Ask::IsAborted(msg) => Next::Runs(is_aborted(ports, book, thread, msg)),
+        Ask::DropMsg(msg) => Next::Runs(drop_msg(ports, book, thread, msg, trace)),
         Ask::GetPort => Next::Runs(get_port(ports, book, thread, trace)),
         Ask::WaitPort => wait_port(hold, ports, bank, book, thread, list, trace),
         Ask::Yield => leave(hold, bank, list, Next::Readies(Answer::Done), trace),

@@ -29,6 +29,18 @@ returns-in-Do-clause-ran c = ran_left c.args.list.now (kept_list c.send_and_wait
 pub returns-in-Reply-clause-ran : goal.returns-in-Reply-clause-ran
 returns-in-Reply-clause-ran c = ran_left c.args.list.now c.args.list.now 1 c.args.hold.now.seat c.args.hold.now.seat c.args.trace.now c.reply.new.trace (omega arith) (ran_mail_held c.args.list.now (cpu_of c.args.ports.now.seat) 1 1 c.args.hold.now.seat c.args.trace.now c.reply.new.trace (omega arith) c.requires.mine c.requires.held c.reply.ensures.grew)
 
+pub returns-in-Abort-clause-ran : goal.returns-in-Abort-clause-ran
+returns-in-Abort-clause-ran c = ran_left c.args.list.now c.args.list.now 1 c.args.hold.now.seat c.args.hold.now.seat c.args.trace.now c.abort.new.trace (omega arith) (ran_mail_held c.args.list.now (cpu_of c.args.ports.now.seat) 1 1 c.args.hold.now.seat c.args.trace.now c.abort.new.trace (omega arith) c.requires.mine c.requires.held c.abort.ensures.grew)
+
+pub returns-in-DropMsg-clause-ran : goal.returns-in-DropMsg-clause-ran
+returns-in-DropMsg-clause-ran c = ran_left c.args.list.now c.args.list.now 1 c.args.hold.now.seat c.args.hold.now.seat c.args.trace.now c.drop_msg.new.trace (omega arith) (ran_mail_held c.args.list.now (cpu_of c.args.ports.now.seat) 1 1 c.args.hold.now.seat c.args.trace.now c.drop_msg.new.trace (omega arith) c.requires.mine c.requires.held c.drop_msg.ensures.grew)
+
+pub returns-in-IsAborted-clause-ran : goal.returns-in-IsAborted-clause-ran
+returns-in-IsAborted-clause-ran c = ran_still (IsBetween c.args.list.now c.args.list.now) 288 c.args.hold.now.seat c.args.trace.now
+
+pub returns-in-IsAborted-clause-told : goal.returns-in-IsAborted-clause-told
+returns-in-IsAborted-clause-told c = c.is_aborted.ensures.told c.args.trace.now.items
+
 pub returns-in-GetPort-clause-ran : goal.returns-in-GetPort-clause-ran
 returns-in-GetPort-clause-ran c = ran_left c.args.list.now c.args.list.now 128 c.args.hold.now.seat c.args.hold.now.seat c.args.trace.now c.get_port.new.trace (omega arith) (ran_mail_held c.args.list.now (cpu_of c.args.ports.now.seat) 128 128 c.args.hold.now.seat c.args.trace.now c.get_port.new.trace (omega arith) c.requires.mine c.requires.held c.get_port.ensures.grew)
 
@@ -40,12 +52,6 @@ returns-in-Yield-clause-ran c = ran_left c.args.list.now (kept_list c.leave.resu
 
 pub returns-in-Exit-clause-ran : goal.returns-in-Exit-clause-ran
 returns-in-Exit-clause-ran c = let l = c.leave-in-Exit in ran_left c.args.list.now (kept_list l.result c.args.list.now) 160 c.args.hold.now.seat l.new.hold.seat c.args.trace.now l.new.trace (omega arith) l.ensures.ran
-
-pub returns-in-Abort-clause-ran : goal.returns-in-Abort-clause-ran
-returns-in-Abort-clause-ran c = ran_still (IsBetween c.args.list.now (kept_list c.refused.result c.args.list.now)) 288 c.args.hold.now.seat c.args.trace.now
-
-pub returns-in-IsAborted-clause-ran : goal.returns-in-IsAborted-clause-ran
-returns-in-IsAborted-clause-ran c = ran_still (IsBetween c.args.list.now (kept_list c.refused-in-IsAborted.result c.args.list.now)) 288 c.args.hold.now.seat c.args.trace.now
 
 pub returns-in-Get-clause-told : goal.returns-in-Get-clause-told
 returns-in-Get-clause-told c = mail_none c.args.ports.now.seat c.args.trace.now.items c.get.new.trace.items (got_quiet _ _ _ _ _ _ c.args.trace.now c.get.new.trace _ c.get.ensures.gets)
@@ -70,12 +76,6 @@ returns-in-Write-clause-told c = mail_none c.args.ports.now.seat c.args.trace.no
 
 pub returns-in-Add-clause-told : goal.returns-in-Add-clause-told
 returns-in-Add-clause-told c = mail_none c.args.ports.now.seat c.args.trace.now.items c.add.new.trace.items (added_quiet _ _ _ _ _ _ c.args.trace.now c.add.new.trace c.add.ensures.adds.0 c.add.ensures.adds.1.0)
-
-pub returns-in-Abort-clause-told : goal.returns-in-Abort-clause-told
-returns-in-Abort-clause-told c = mail_none c.args.ports.now.seat c.args.trace.now.items c.args.trace.now.items (quiet_none c.args.trace.now.items)
-
-pub returns-in-IsAborted-clause-told : goal.returns-in-IsAborted-clause-told
-returns-in-IsAborted-clause-told c = mail_none c.args.ports.now.seat c.args.trace.now.items c.args.trace.now.items (quiet_none c.args.trace.now.items)
 
 pub returns-in-Yield-clause-told : goal.returns-in-Yield-clause-told
 returns-in-Yield-clause-told c = mail_none c.args.ports.now.seat c.args.trace.now.items c.leave.new.trace.items (given_quiet _ _ _ _ c.args.trace.now c.leave.new.trace _ _ c.leave.ensures.gives_up)
