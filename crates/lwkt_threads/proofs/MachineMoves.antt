@@ -134,6 +134,7 @@ pub parts_again : (answers : CpuId → ℕ → Bool → Type 0) (limits : Limits
 parts_again answers limits seats bank book olds news traces parts d of = record {
   seats_are = parts.seats_are ∙ sym d.as_many;
   mails_are = parts.mails_are ∙ sym d.as_many;
+  few = omega (arith, parts.few, d.as_many);
   each = of;
   numbered = numbered_again answers limits bank olds news traces d parts.numbered;
 }
