@@ -13,13 +13,13 @@ use Rattle.lwkt_bank.specs.declared.seats.CpuSeat.{CpuSeat}
 use Rattle.lwkt_bank.specs.Seats.{holding}
 use Rattle.lwkt_hold.specs.Fronts.{IsFront}
 use Rattle.lwkt_hold.specs.Runs.{Moves, Ran}
-use Rattle.lwkt_hold.specs.Steps.{after, is_of_token, is_on_word, Shows}
+use Rattle.lwkt_hold.specs.Steps.{held_after, is_of_token, is_on_word, ShowsEvent}
 use Rattle.lwkt_hold.proofs.RunMoves.{ran_then, ran_weaker}
 use Rattle.lwkt_hold.proofs.ReadMoves.{whole_front}
 use Rattle.lwkt_port.specs.Works.{IsOfMessages, Grew}
 
 -- an event of a message is no step on a token's word, and leaves the holding
-mail_after : (cpu : CpuId) (e : Event) (h : Holding) → IsOfMessages cpu e → after e h ≡ h
+mail_after : (cpu : CpuId) (e : Event) (h : Holding) → IsOfMessages cpu e → held_after e h ≡ h
 mail_after cpu (Load c t) h is = refl
 mail_after cpu (Take c t) h is = absurd is
 mail_after cpu (Share c t) h is = absurd is
@@ -125,7 +125,7 @@ ran_mail P cpu n s t u mine p g = record {
   done = g.made;
   trace = g.trace_is;
   own = λ k d below. mail_own cpu _ (g.own k d below) ∙ ap (λ (x : CpuId). x.0) mine;
-  told = let F : List Event → Type 0 = λ xs. AllZip Shows [] xs in subst F (sym (mail_words cpu g.made g.own)) tt;
+  told = let F : List Event → Type 0 = λ xs. AllZip ShowsEvent [] xs in subst F (sym (mail_words cpu g.made g.own)) tt;
   moves = mail_moves P cpu (holding s) g.made p g.own;
   few = g.few;
   grown = g.grown;

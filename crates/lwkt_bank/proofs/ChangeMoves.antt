@@ -8,7 +8,7 @@ use Rattle.lwkt_core.specs.History.{AreOthers, AreOwn, Grows}
 use Rattle.lwkt_core.proofs.HistoryLemmas.{own-nil, own-cons, own-append, Grows-append}
 use Rattle.lwkt_bank.specs.declared.views.Plan.{Plan}
 use Rattle.lwkt_bank.specs.declared.views.KnownCell.{KnownCell}
-use Rattle.lwkt_bank.specs.declared.views.Entry.{Entry}
+use Rattle.lwkt_bank.specs.declared.views.TokenEntry.{TokenEntry}
 use Rattle.lwkt_bank.specs.declared.views.View.{View}
 use Rattle.lwkt_bank.specs.declared.banks.Bank.{Bank}
 use Rattle.lwkt_bank.specs.declared.seats.CpuSeat.{CpuSeat}
@@ -28,7 +28,7 @@ use Rattle.lwkt_bank.specs.Views.{at, noted, seat_cpu, who, read, seen, looked, 
 use Rattle.lwkt_bank.specs.Deeds.{loads, takes, loses, writes}
 use Rattle.lwkt_bank.specs.Rule.{plan_at}
 use Rattle.lwkt_bank.specs.Notes.{Keeps, IsNoted, no_note, note_at, begun}
-use Rattle.lwkt_bank.specs.declared.notes.Note.{Note}
+use Rattle.lwkt_bank.specs.declared.notes.TokenNote.{TokenNote}
 use Rattle.lwkt_bank.specs.Seats.{BankId, id_of, bank_of, tokens_of, plan_of, entry, past_of, holding, references, IsOf, IsSame, Changes, Knowing, IsUnchanged, written_over, Looked, Took, Lost, Hit, Miss, Decides}
 use Rattle.lwkt_bank.proofs.ViewMoves.{at-here, at-else, at-tok}
 use Rattle.lwkt_bank.proofs.NoteMoves.{seat_told, IsNoted-seen, IsNoted-missed, Keeps-kept, Keeps-set}
@@ -51,7 +51,7 @@ pub who_is : (s : CpuSeat) → who s.seat.me.0 ≡ s.cpu
 who_is s = ap seat_cpu (seat_told s.seat.me.0.kind s.cpu s.kept.seat)
 
 -- what a step on the seat's view changes
-pub changed : (s s' : CpuSeat) (tok : ℕ) (e : Entry) (between : List Deed) (deed : CpuId → Deed) → IsSame s.seat s'.seat → s'.cpu ≡ s.cpu → ((deed s.cpu).cpu ≡ s.cpu) → AreOthers (who s.seat.me.0).0 between → s'.seat.me.0 ≡ noted between s.seat.me.0 e (deed (who s.seat.me.0)) → e.tok ≡ tok → Changes s s' tok e (deed s.cpu ∷ [])
+pub changed : (s s' : CpuSeat) (tok : ℕ) (e : TokenEntry) (between : List Deed) (deed : CpuId → Deed) → IsSame s.seat s'.seat → s'.cpu ≡ s.cpu → ((deed s.cpu).cpu ≡ s.cpu) → AreOthers (who s.seat.me.0).0 between → s'.seat.me.0 ≡ noted between s.seat.me.0 e (deed (who s.seat.me.0)) → e.tok ≡ tok → Changes s s' tok e (deed s.cpu ∷ [])
 changed s s' tok e between deed same cpu own others is is_tok =
     let F : CpuId → Type 0 = λ c. Grows c.0 (past_of s) (deed c ∷ []) (past_of s') in
     record {
@@ -68,7 +68,7 @@ pub raised_is : (s : CpuSeat) (w : View) (tok k value : ℕ) (between : List Dee
 raised_is s w tok k value between is = is ∙ ap (λ (c : CpuId). noted between s.seat.me.0 (raised (entry s tok) c k) (writes (who s.seat.me.0) tok 0 value)) (who_is s)
 
 -- two changes of one token in a row
-pub changed_twice : (s mid s' : CpuSeat) (tok : ℕ) (d e : Entry) (made more : List Deed) → Changes s mid tok d made → Changes mid s' tok e more → Changes s s' tok e (made ++ more)
+pub changed_twice : (s mid s' : CpuSeat) (tok : ℕ) (d e : TokenEntry) (made more : List Deed) → Changes s mid tok d made → Changes mid s' tok e more → Changes s s' tok e (made ++ more)
 changed_twice s mid s' tok d e made more first second =
     let F : CpuId → Type 0 = λ c. Grows c.0 (past_of mid) more (past_of s') in
     record {
@@ -81,7 +81,7 @@ changed_twice s mid s' tok d e made more first second =
     }
 
 -- a change is one that leaves the known cells as they were
-pub knowing_same : (s s' : CpuSeat) (tok : ℕ) (e : Entry) (deeds : List Deed) → Changes s s' tok e deeds → Knowing s s' tok e deeds
+pub knowing_same : (s s' : CpuSeat) (tok : ℕ) (e : TokenEntry) (deeds : List Deed) → Changes s s' tok e deeds → Knowing s s' tok e deeds
 knowing_same s s' tok e deeds changes = record { known = e.known; new = []; grown = refl; changes = changes }
 
 -- nothing was changed yet
@@ -96,10 +96,10 @@ pub knowing_read : (s s' : CpuSeat) (tok cell : ℕ) (deeds : List Deed) → Cha
 knowing_read s s' tok cell deeds changes = record { known = record { at = cell; value = slice_index (entry s tok).first cell } ∷ (entry s tok).known; new = record { at = cell; value = slice_index (entry s tok).first cell } ∷ []; grown = refl; changes = changes }
 
 -- a call by which more is known, and then one that changes the entry whatever is known
-pub knowing_then : (s mid s' : CpuSeat) (tok : ℕ) (f : Entry → Entry) (made more : List Deed) → ((e : Entry) (known : List KnownCell) → f (record e { known = known }) ≡ record (f e) { known = known }) → (f (entry s tok)).known ≡ (entry s tok).known
+pub knowing_then : (s mid s' : CpuSeat) (tok : ℕ) (f : TokenEntry → TokenEntry) (made more : List Deed) → ((e : TokenEntry) (known : List KnownCell) → f (record e { known = known }) ≡ record (f e) { known = known }) → (f (entry s tok)).known ≡ (entry s tok).known
     → Knowing s mid tok (entry s tok) made → Changes mid s' tok (f (entry mid tok)) more → Knowing s s' tok (f (entry s tok)) (made ++ more)
 knowing_then s mid s' tok f made more apart same first second =
-    let F : Entry → Type 0 = λ e. Changes mid s' tok e more in
+    let F : TokenEntry → Type 0 = λ e. Changes mid s' tok e more in
     let there : f (entry mid tok) ≡ record (f (entry s tok)) { known = first.known } = ap f first.changes.here ∙ apart (entry s tok) first.known in
     record {
       known = first.known;
@@ -112,8 +112,8 @@ knowing_then s mid s' tok f made more apart same first second =
 pub knowing_more : (s mid s' : CpuSeat) (tok cell : ℕ) (made more : List Deed) → Knowing s mid tok (entry s tok) made → Changes mid s' tok (read (entry mid tok) cell) more → Knowing s s' tok (entry s tok) (made ++ more)
 knowing_more s mid s' tok cell made more first second =
     let one : KnownCell = record { at = cell; value = slice_index (entry s tok).first cell } in
-    let F : Entry → Type 0 = λ e. Changes mid s' tok e more in
-    let there : read (entry mid tok) cell ≡ record (entry s tok) { known = one ∷ first.known } = ap (λ (e : Entry). read e cell) first.changes.here in
+    let F : TokenEntry → Type 0 = λ e. Changes mid s' tok e more in
+    let there : read (entry mid tok) cell ≡ record (entry s tok) { known = one ∷ first.known } = ap (λ (e : TokenEntry). read e cell) first.changes.here in
     record {
       known = one ∷ first.known;
       new = one ∷ first.new;
@@ -132,33 +132,33 @@ pub still_quiet : (old new : Seat (Unit {0}) View) → IsSame old new → length
 still_quiet old new same quiet = ap length same.slots ∙ quiet
 
 -- a second look at one word shows nothing more
-pub seen_twice : (e : Entry) (g : ℕ) → seen (seen e g) g ≡ seen e g
+pub seen_twice : (e : TokenEntry) (g : ℕ) → seen (seen e g) g ≡ seen e g
 seen_twice e g = ap (λ (b : Bool). cond b (seen e g) (record (seen e g) { generation = g; known = [] })) (eq-eqb (seen e g).generation g (seen-keeps e g).6)
 
 -- a look at the generation that is known changes nothing
-seen_known : (e : Entry) (g : ℕ) → e.generation ≡ g → seen e g ≡ e
+seen_known : (e : TokenEntry) (g : ℕ) → e.generation ≡ g → seen e g ≡ e
 seen_known e g is = ap (λ (b : Bool). cond b e (record e { generation = g; known = [] })) (eq-eqb e.generation g is)
 
 -- the row of a take after a look at its word
-pub taken_after_look : (plan : Plan) (e : Entry) (word : ℕ) (row : List ℕ) → e.generation ≤ generation_in word → IsTakenRow plan (looked e word) word row → IsTakenRow plan e word row
+pub taken_after_look : (plan : Plan) (e : TokenEntry) (word : ℕ) (row : List ℕ) → e.generation ≤ generation_in word → IsTakenRow plan (looked e word) word row → IsTakenRow plan e word row
 taken_after_look plan e word row rises took = record {
   long = took.long;
   lawful = took.lawful;
   rises = rises;
   opening = took.opening;
   fresh = λ same.
-      let F : Entry → Type 0 = λ d. d.generation ≡ generation_in word → All (λ c. slice_get row c.at ≡ Some c.value) d.known in
+      let F : TokenEntry → Type 0 = λ d. d.generation ≡ generation_in word → All (λ c. slice_get row c.at ≡ Some c.value) d.known in
       subst F (seen_known e (generation_in word) same) took.fresh same;
 }
 
 -- a call that keeps what is held of its token keeps what is held
-pub same_holding : (s s' : CpuSeat) (tok : ℕ) (e : Entry) (made : List Deed) → Changes s s' tok e made → e.held ≡ (entry s tok).held → holding s' ≡ holding s
+pub same_holding : (s s' : CpuSeat) (tok : ℕ) (e : TokenEntry) (made : List Deed) → Changes s s' tok e made → e.held ≡ (entry s tok).held → holding s' ≡ holding s
 same_holding s s' tok e made changes held = fun_ext (λ k. ⊎_elim
-    (λ (same : k ≡ tok). let F : ℕ → Type 0 = λ j. holding s' j ≡ holding s j in subst F (sym same) (ap (λ (d : Entry). d.held) changes.here ∙ held))
-    (λ away. ap (λ (d : Entry). d.held) (changes.else_ k away))
+    (λ (same : k ≡ tok). let F : ℕ → Type 0 = λ j. holding s' j ≡ holding s j in subst F (sym same) (ap (λ (d : TokenEntry). d.held) changes.here ∙ held))
+    (λ away. ap (λ (d : TokenEntry). d.held) (changes.else_ k away))
     (cases_eq k tok))
 
-pub same_references : (s s' : CpuSeat) (tok : ℕ) (e : Entry) (made : List Deed) → Changes s s' tok e made → e.held ≡ (entry s tok).held → references s' ≡ references s
+pub same_references : (s s' : CpuSeat) (tok : ℕ) (e : TokenEntry) (made : List Deed) → Changes s s' tok e made → e.held ≡ (entry s tok).held → references s' ≡ references s
 same_references s s' tok e made changes held =
     ap (λ (h : Holding). count_from 0 (tokens_of (bank_of s')) h) (same_holding s s' tok e made changes held)
     ∙ ap (λ (b : BankId). count_from 0 (tokens_of b) (holding s)) changes.bank
@@ -168,12 +168,12 @@ pub took : (s mid s' : CpuSeat) (tok : ℕ) (mode : Mode) (alone : Bool) (word n
 took s mid s' tok mode alone word next looked' decides hit =
     let e = entry s tok in
     let g = generation_in word in
-    let F : Entry → Type 0 = λ d. IsTakenRow (plan_of (bank_of mid) tok) d word hit.row in
+    let F : TokenEntry → Type 0 = λ d. IsTakenRow (plan_of (bank_of mid) tok) d word hit.row in
     let G : BankId → Type 0 = λ b. IsTakenRow (plan_of b tok) (looked e word) word hit.row in
     let row_is = subst G looked'.changes.bank (subst F looked'.changes.here hit.found) in
     let again : taken (entry mid tok) word mode hit.row ≡ taken e word mode hit.row =
-    ap (λ (d : Entry). taken d word mode hit.row) looked'.changes.here ∙ ap (λ (d : Entry). record d { held = Holds mode 0; first = hit.row; row = hit.row; touched = [] }) (seen_twice e g) in
-    let H : Entry → CpuId → Type 0 = λ d c. Changes mid s' tok d (takes c tok mode word next word ∷ []) in
+    ap (λ (d : TokenEntry). taken d word mode hit.row) looked'.changes.here ∙ ap (λ (d : TokenEntry). record d { held = Holds mode 0; first = hit.row; row = hit.row; touched = [] }) (seen_twice e g) in
+    let H : TokenEntry → CpuId → Type 0 = λ d c. Changes mid s' tok d (takes c tok mode word next word ∷ []) in
     record {
       word = word;
       next = next;
@@ -189,8 +189,8 @@ pub lost : (s mid s' : CpuSeat) (tok : ℕ) (mode : Mode) (alone : Bool) (word n
 lost s mid s' tok mode alone word next looked' decides miss =
     let e = entry s tok in
     let g = generation_in word in
-    let known : (entry mid tok).generation ≡ g = ap (λ (d : Entry). d.generation) looked'.changes.here ∙ (seen-keeps e g).6 in
-    let H : Entry → CpuId → Type 0 = λ d c. Changes mid s' tok d (loses c tok word next miss.found ∷ []) in
+    let known : (entry mid tok).generation ≡ g = ap (λ (d : TokenEntry). d.generation) looked'.changes.here ∙ (seen-keeps e g).6 in
+    let H : TokenEntry → CpuId → Type 0 = λ d c. Changes mid s' tok d (loses c tok word next miss.found ∷ []) in
     record {
       word = word;
       next = next;
@@ -199,7 +199,7 @@ lost s mid s' tok mode alone word next looked' decides miss =
       other = miss.other;
       rises = (looked'.rises, (let r = miss.rises in omega arith));
       changes = changed_twice s mid s' tok (looked e word) (looked (looked e word) miss.found) (loads s.cpu tok word ∷ []) (loses s.cpu tok word next miss.found ∷ []) looked'.changes
-          (subst (λ d. H d s.cpu) (ap (λ (d : Entry). looked d miss.found) looked'.changes.here) (subst (λ c. H (looked (entry mid tok) miss.found) c) looked'.changes.cpu miss.changes));
+          (subst (λ d. H d s.cpu) (ap (λ (d : TokenEntry). looked d miss.found) looked'.changes.here) (subst (λ c. H (looked (entry mid tok) miss.found) c) looked'.changes.cpu miss.changes));
     }
 
 -- what `decide` answers, in the order of a try's contract
@@ -207,13 +207,13 @@ pub decides_so : (word : ℕ) (mode : Mode) (alone : Bool) (answer given : Decis
 decides_so word mode alone answer given says is = λ w fits its. sym (says w its fits) ∙ is
 
 -- what a seat keeps after the note of a token was written anew
-pub keeps_set : (s : CpuSeat) (w : View) (tok : ℕ) (e : Entry) (between : List Deed) (d : Deed) (note : Note) → tok < 64 → w ≡ noted between s.seat.me.0 e d → tok < length s.seat.me.0.plans → e.tok ≡ tok → IsNoted (plan_at s.seat.me.0.plans tok) s.cpu.0 e note → Keeps (set s.notes tok note) s.cpu w
+pub keeps_set : (s : CpuSeat) (w : View) (tok : ℕ) (e : TokenEntry) (between : List Deed) (d : Deed) (note : TokenNote) → tok < 64 → w ≡ noted between s.seat.me.0 e d → tok < length s.seat.me.0.plans → e.tok ≡ tok → IsNoted (plan_at s.seat.me.0.plans tok) s.cpu.0 e note → Keeps (set s.notes tok note) s.cpu w
 keeps_set s w tok e between d note room is there is_tok here =
     let sized = s.sized in
     Keeps-set s.notes s.cpu s.seat.me.0 w e between d tok note s.kept is there is_tok (omega arith) here
 
 -- and where it stays
-pub keeps_kept : (s : CpuSeat) (w : View) (tok : ℕ) (e : Entry) (between : List Deed) (d : Deed) → w ≡ noted between s.seat.me.0 e d → tok < length s.seat.me.0.plans → e.tok ≡ tok → IsNoted (plan_at s.seat.me.0.plans tok) s.cpu.0 e (note_at s.notes tok) → Keeps s.notes s.cpu w
+pub keeps_kept : (s : CpuSeat) (w : View) (tok : ℕ) (e : TokenEntry) (between : List Deed) (d : Deed) → w ≡ noted between s.seat.me.0 e d → tok < length s.seat.me.0.plans → e.tok ≡ tok → IsNoted (plan_at s.seat.me.0.plans tok) s.cpu.0 e (note_at s.notes tok) → Keeps s.notes s.cpu w
 keeps_kept s w tok e between d is there is_tok here = Keeps-kept s.notes s.cpu s.seat.me.0 w e between d tok s.kept is there is_tok here
 
 -- the entry of a token says which it is
@@ -221,8 +221,8 @@ pub entry_tok : (s : CpuSeat) (tok : ℕ) → (entry s tok).tok ≡ tok
 entry_tok s tok = at-tok s.seat.me.0.tokens tok
 
 -- the note that was read
-pub noted_as : (s : CpuSeat) (tok : ℕ) (note : Note) → tok < length s.seat.me.0.plans → note ≡ note_at s.notes tok → IsNoted (plan_at s.seat.me.0.plans tok) s.cpu.0 (entry s tok) note
-noted_as s tok note there is = let F : Note → Type 0 = λ m. IsNoted (plan_at s.seat.me.0.plans tok) s.cpu.0 (entry s tok) m in subst F (sym is) (s.kept.each tok there)
+pub noted_as : (s : CpuSeat) (tok : ℕ) (note : TokenNote) → tok < length s.seat.me.0.plans → note ≡ note_at s.notes tok → IsNoted (plan_at s.seat.me.0.plans tok) s.cpu.0 (entry s tok) note
+noted_as s tok note there is = let F : TokenNote → Type 0 = λ m. IsNoted (plan_at s.seat.me.0.plans tok) s.cpu.0 (entry s tok) m in subst F (sym is) (s.kept.each tok there)
 
 -- what is declared of a token, told by the seat or by the bank
 pub plan_is : (bank : Bank) (s : CpuSeat) (tok : ℕ) → bank_of s ≡ id_of bank → plan_at s.seat.me.0.plans tok ≡ plan_at bank.key.plans.items tok
@@ -264,16 +264,16 @@ pub room_of : (bank : Bank) (s : CpuSeat) (tok : ℕ) → bank_of s ≡ id_of ba
 room_of bank s tok of there = let t = there_of bank s tok of there in let f = bank.few in omega arith
 
 -- what a seat keeps after a part of the note of a token was written
-pub keeps_part : (s : CpuSeat) (w : View) (tok : ℕ) (e : Entry) (between : List Deed) (deed : Deed) (f : Note → Note) (d : Note) → tok < 64 → w ≡ noted between s.seat.me.0 e deed → tok < length s.seat.me.0.plans → e.tok ≡ tok → IsNoted (plan_at s.seat.me.0.plans tok) s.cpu.0 e (f (note_at s.notes tok)) → Keeps (set s.notes tok (f (get_or s.notes tok d))) s.cpu w
+pub keeps_part : (s : CpuSeat) (w : View) (tok : ℕ) (e : TokenEntry) (between : List Deed) (deed : Deed) (f : TokenNote → TokenNote) (d : TokenNote) → tok < 64 → w ≡ noted between s.seat.me.0 e deed → tok < length s.seat.me.0.plans → e.tok ≡ tok → IsNoted (plan_at s.seat.me.0.plans tok) s.cpu.0 e (f (note_at s.notes tok)) → Keeps (set s.notes tok (f (get_or s.notes tok d))) s.cpu w
 keeps_part s w tok e between deed f d room is there is_tok here =
     let sized = s.sized in
     let inside : tok < length s.notes = omega arith in
     let same : get_or s.notes tok d ≡ note_at s.notes tok = get_or_default s.notes tok d no_note inside in
-    let F : Note → Type 0 = λ m. Keeps (set s.notes tok (f m)) s.cpu w in
+    let F : TokenNote → Type 0 = λ m. Keeps (set s.notes tok (f m)) s.cpu w in
     subst F (sym same) (keeps_set s w tok e between deed (f (note_at s.notes tok)) room is there is_tok here)
 
 -- the note that is read of a token that exists
-pub note_read : (s : CpuSeat) (tok : ℕ) (d : Note) → tok < 64 → get_or s.notes tok d ≡ note_at s.notes tok
+pub note_read : (s : CpuSeat) (tok : ℕ) (d : TokenNote) → tok < 64 → get_or s.notes tok d ≡ note_at s.notes tok
 note_read s tok d room =
     let sized = s.sized in
     let inside : tok < length s.notes = omega arith in
@@ -288,22 +288,22 @@ hit_of s s' tok mode word next found row same is changes = record {
 }
 
 -- what a seat keeps after the note of a token was changed where it lies
-pub keeps_changed : (s : CpuSeat) (w : View) (tok : ℕ) (e : Entry) (between : List Deed) (deed : Deed) (f : Note → Note) (d note : Note) → tok < 64 → w ≡ noted between s.seat.me.0 e deed → tok < length s.seat.me.0.plans → e.tok ≡ tok → note ≡ f (get_or s.notes tok d) → IsNoted (plan_at s.seat.me.0.plans tok) s.cpu.0 e (f (note_at s.notes tok)) → Keeps (set s.notes tok note) s.cpu w
+pub keeps_changed : (s : CpuSeat) (w : View) (tok : ℕ) (e : TokenEntry) (between : List Deed) (deed : Deed) (f : TokenNote → TokenNote) (d note : TokenNote) → tok < 64 → w ≡ noted between s.seat.me.0 e deed → tok < length s.seat.me.0.plans → e.tok ≡ tok → note ≡ f (get_or s.notes tok d) → IsNoted (plan_at s.seat.me.0.plans tok) s.cpu.0 e (f (note_at s.notes tok)) → Keeps (set s.notes tok note) s.cpu w
 keeps_changed s w tok e between deed f d note room is there is_tok note_is here =
-    let F : Note → Type 0 = λ m. Keeps (set s.notes tok m) s.cpu w in
+    let F : TokenNote → Type 0 = λ m. Keeps (set s.notes tok m) s.cpu w in
     subst F (sym (note_is ∙ ap f (note_read s tok d room))) (keeps_set s w tok e between deed (f (note_at s.notes tok)) room is there is_tok here)
 
 -- and after the note was written before an exchange, and taken back since that lost
-pub keeps_missed : (s : CpuSeat) (w : View) (tok g : ℕ) (between : List Deed) (deed : Deed) (mode : Mode) (d d' note : Note) → tok < 64 → w ≡ noted between s.seat.me.0 (seen (entry s tok) g) deed → tok < length s.seat.me.0.plans → (entry s tok).held ≡ Nothing → note ≡ begun (get_or s.notes tok d) mode
+pub keeps_missed : (s : CpuSeat) (w : View) (tok g : ℕ) (between : List Deed) (deed : Deed) (mode : Mode) (d d' note : TokenNote) → tok < 64 → w ≡ noted between s.seat.me.0 (seen (entry s tok) g) deed → tok < length s.seat.me.0.plans → (entry s tok).held ≡ Nothing → note ≡ begun (get_or s.notes tok d) mode
     → Keeps (set (set s.notes tok note) tok (record (get_or (set s.notes tok note) tok d') { references = 0 })) s.cpu w
 keeps_missed s w tok g between deed mode d d' note room is there free note_is =
     let sized = s.sized in
     let inside : tok < length s.notes = omega arith in
-    let none : Note → Note = λ m. record m { references = 0 } in
+    let none : TokenNote → TokenNote = λ m. record m { references = 0 } in
     let last : none (get_or (set s.notes tok note) tok d') ≡ none (begun (note_at s.notes tok) mode)
-    = ap none (get_or-set_same s.notes tok note d' inside ∙ note_is ∙ ap (λ (m : Note). begun m mode) (note_read s tok d room)) in
-    let F : List Note → Type 0 = λ ns. Keeps ns s.cpu w in
+    = ap none (get_or-set_same s.notes tok note d' inside ∙ note_is ∙ ap (λ (m : TokenNote). begun m mode) (note_read s tok d room)) in
+    let F : List TokenNote → Type 0 = λ ns. Keeps ns s.cpu w in
     let e = entry s tok in
     let here = IsNoted-seen (plan_at s.seat.me.0.plans tok) s.cpu.0 e g (none (begun (note_at s.notes tok) mode)) (IsNoted-missed (plan_at s.seat.me.0.plans tok) s.cpu.0 e mode (note_at s.notes tok) free (s.kept.each tok there)) in
-    subst F (sym (set-set s.notes tok note (none (get_or (set s.notes tok note) tok d')) ∙ ap (λ (m : Note). set s.notes tok m) last))
+    subst F (sym (set-set s.notes tok note (none (get_or (set s.notes tok note) tok d')) ∙ ap (λ (m : TokenNote). set s.notes tok m) last))
     (keeps_set s w tok (seen e g) between deed (none (begun (note_at s.notes tok) mode)) room is there ((seen-keeps e g).0 ∙ at-tok s.seat.me.0.tokens tok) here)

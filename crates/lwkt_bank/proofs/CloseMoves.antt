@@ -15,7 +15,7 @@ use Rattle.lwkt_core.specs.Picture.{picture_of}
 use Rattle.lwkt_core.proofs.SeatingLemmas.{at_map, of_map, total-only, AreSeated-closed}
 use Rattle.lwkt_core.proofs.MachineMoves.{references_le}
 use Rattle.lwkt_bank.specs.declared.views.Plan.{Plan}
-use Rattle.lwkt_bank.specs.declared.views.Entry.{Entry}
+use Rattle.lwkt_bank.specs.declared.views.TokenEntry.{TokenEntry}
 use Rattle.lwkt_bank.specs.declared.views.View.{View}
 use Rattle.lwkt_bank.specs.Views.{at, amount, generation_in}
 use Rattle.lwkt_bank.specs.Gathered.{IsStill}
@@ -25,7 +25,7 @@ use Rattle.lwkt_bank.proofs.RuleMoves.{safe_token, token_is}
 use Rattle.lwkt_bank.proofs.ShowMoves.{numbered_seat}
 
 -- a token of a bank whose seats were all taken back
-pub record Settled (plan : Plan) (cpus : ℕ) (words : List ℕ) (tok : ℕ) (tk : Token) (written : ℕ) (added : ℕ → ℕ) (known : Entry) : Type 0 where
+pub record Settled (plan : Plan) (cpus : ℕ) (words : List ℕ) (tok : ℕ) (tk : Token) (written : ℕ) (added : ℕ → ℕ) (known : TokenEntry) : Type 0 where
   pub row : List ℕ
   pub tallies : List ℕ
   pub long : length row ≡ plan.cells
@@ -63,7 +63,7 @@ settled plans cpus s id v made back tok r here kind all there =
     let count = count-le tk r.model.cpus safe few in
     let gen : generation_in (slice_index s.words (token_word tok)) ≡ tk.generation = ap generation_in word ∙ generation-word (picture_of tk) (omega arith) in
     let sections = shows.sections in
-    let written = total-only (λ (x : Seen). x.entry.written) (column tok s.views) id (seen_by tok v) (at_map (seen_by tok) s.views id v here) (λ j x e apart. ap (λ (d : Entry). d.written) (spent_entry j x e apart)) in
+    let written = total-only (λ (x : Seen). x.entry.written) (column tok s.views) id (seen_by tok v) (at_map (seen_by tok) s.views id v here) (λ j x e apart. ap (λ (d : TokenEntry). d.written) (spent_entry j x e apart)) in
     record {
       row = tk.row;
       tallies = tk.tallies;
@@ -78,7 +78,7 @@ settled plans cpus s id v made back tok r here kind all there =
       tallies_are = refl;
       generation_is = gen;
       free = free;
-      tally = λ a. shows.tallies a ∙ total-only (λ (x : Seen). amount a x.entry.added) (column tok s.views) id (seen_by tok v) (at_map (seen_by tok) s.views id v here) (λ j x e apart. ap (λ (d : Entry). amount a d.added) (spent_entry j x e apart));
+      tally = λ a. shows.tallies a ∙ total-only (λ (x : Seen). amount a x.entry.added) (column tok s.views) id (seen_by tok v) (at_map (seen_by tok) s.views id v here) (λ j x e apart. ap (λ (d : TokenEntry). amount a d.added) (spent_entry j x e apart));
       absent = λ a far. (safe.absent a (omega arith)).1;
       opening = λ same. subst (λ (row : List ℕ). IsOpeningRow (plan_at plans tok) row) (sym row_first) (shows.opening (sym gen ∙ same));
       stands =

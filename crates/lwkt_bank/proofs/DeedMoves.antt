@@ -25,7 +25,7 @@ use Rattle.lwkt_core.specs.Tokens.{IsNotLastExclusive}
 use Rattle.lwkt_core.specs.History.{left_by, told_by, IsPastOf}
 use Rattle.lwkt_core.proofs.ViewLemmas.{Views-between, Views-noted}
 use Rattle.lwkt_bank.specs.declared.views.Plan.{Plan}
-use Rattle.lwkt_bank.specs.declared.views.Entry.{Entry}
+use Rattle.lwkt_bank.specs.declared.views.TokenEntry.{TokenEntry}
 use Rattle.lwkt_bank.specs.declared.views.View.{View}
 use Rattle.lwkt_bank.specs.Views.{at, count_from, held_of, who, noted, page_of, named, one_section}
 use Rattle.lwkt_bank.specs.Deeds.{deed_by, loads, adds_one, marks, gives_one, gives_clean, gives_written, reads, writes}
@@ -60,7 +60,7 @@ module _ (plans : List Plan) (cpus id : ℕ) (v : View) (kind : v.kind ≡ Of (w
     part = Views-between IsDone page_of (first_machine plans cpus) told.rule.model s.views told.chronicle id v here (who v) kind
 
     -- a deed that is done is one deed more
-    next : (i n : ℕ) (e : Entry) (d : Deed) (q : Rule plans cpus (stepped s i n id [] (noted part.0 v e d) keeps)) → d.cpu ≡ who v → IsDone told.rule.model d q.model
+    next : (i n : ℕ) (e : TokenEntry) (d : Deed) (q : Rule plans cpus (stepped s i n id [] (noted part.0 v e d) keeps)) → d.cpu ≡ who v → IsDone told.rule.model d q.model
         → (after : Told plans cpus (stepped s i n id [] (noted part.0 v e d) keeps)) × IsNext plans cpus s (stepped s i n id [] (noted part.0 v e d) keeps) told d after
     next i n e d q own done =
         let c = Views-noted IsDone page_of (first_machine plans cpus) told.rule.model s.views told.chronicle id v here cpus told.rule.seats (who v) q.model part.0 d (noted part.0 v e d) kind own part.1.0 done refl in
@@ -116,7 +116,7 @@ module _ (plans : List Plan) (cpus id : ℕ) (v : View) (kind : v.kind ≡ Of (w
         let a = next s told here i (f n) x.0 d x.1.0 refl done in
         (noted p.0 v x.0 d, (a.0, (a.1, (p.0, (p.1.1, x.1.1.1)))))
 
-    abbrev e : Entry
+    abbrev e : TokenEntry
     e = at v.tokens tok
 
     abbrev t : TokId

@@ -18,15 +18,15 @@ use Rattle.lwkt_core.proofs.SeatingLemmas.{at_set, at_snoc, at_longer, set_else,
 use Rattle.lwkt_bank.specs.declared.views.Plan.{Plan}
 use Rattle.lwkt_bank.specs.declared.views.Added.{Added}
 use Rattle.lwkt_bank.specs.declared.views.KnownCell.{KnownCell}
-use Rattle.lwkt_bank.specs.declared.views.Entry.{Entry}
+use Rattle.lwkt_bank.specs.declared.views.TokenEntry.{TokenEntry}
 use Rattle.lwkt_bank.specs.declared.views.View.{View}
 use Rattle.lwkt_bank.specs.Views.{blank, at, amount, known_of, both_of, merged, clerk_after, new_seat, joined, spent}
-use Rattle.lwkt_bank.specs.Rule.{Bench, token_word, cell_word, Seen, seen_by, column, held_in, Knows, Shows, Rule, plan_at, token_at}
+use Rattle.lwkt_bank.specs.Rule.{Bench, token_word, cell_word, Seen, seen_by, column, held_by_kind, Knows, ShowsToken, Rule, plan_at, token_at}
 use Rattle.lwkt_bank.proofs.ViewMoves.{at-merged}
 use Rattle.lwkt_bank.proofs.ShowMoves.{cpu_in, numbered_seat}
 
 -- who holds nothing and knows no cell knows nothing wrong
-pub Knows-blank : (tok : Token) (e : Entry) → e.held ≡ Nothing → e.generation ≡ 0 → e.known ≡ [] → Knows tok e
+pub Knows-blank : (tok : Token) (e : TokenEntry) → e.held ≡ Nothing → e.generation ≡ 0 → e.known ≡ [] → Knows tok e
 Knows-blank tok e held zero_generation none = record {
   not_above = omega arith;
   cells = λ same. subst (λ xs. All (λ c. slice_get tok.first c.at ≡ Some c.value) xs) (sym none) (All-nil (λ c. slice_get tok.first c.at ≡ Some c.value));
@@ -34,17 +34,17 @@ Knows-blank tok e held zero_generation none = record {
 }
 
 -- what an entry knows of a generation
-pub known_same : (e : Entry) (g : ℕ) → e.generation ≡ g → known_of e g ≡ e.known
+pub known_same : (e : TokenEntry) (g : ℕ) → e.generation ≡ g → known_of e g ≡ e.known
 known_same e g same = ap (λ (b : Bool). cond b e.known []) (eq-eqb e.generation g same)
 
-known_all : (P : KnownCell → Type 0) (e : Entry) (g : ℕ) → (e.generation ≡ g → All P e.known) → All P (known_of e g)
+known_all : (P : KnownCell → Type 0) (e : TokenEntry) (g : ℕ) → (e.generation ≡ g → All P e.known) → All P (known_of e g)
 known_all P e g knows = ⊎_elim
     (λ (same : e.generation ≡ g). subst (λ (xs : List KnownCell). All P xs) (sym (known_same e g same)) (knows same))
     (λ other. let none : known_of e g ≡ [] = ap (λ (b : Bool). cond b e.known []) (ne_eqb e.generation g other) in subst (λ (xs : List KnownCell). All P xs) (sym none) (All-nil P))
     (cases_eq e.generation g)
 
 -- what two views know is true of the token together
-Knows-both : (tok : Token) (t : ℕ) (d e : Entry) → Knows tok d → Knows tok e → Knows tok (both_of t d e)
+Knows-both : (tok : Token) (t : ℕ) (d e : TokenEntry) → Knows tok d → Knows tok e → Knows tok (both_of t d e)
 Knows-both tok t d e one two =
     let P : KnownCell → Type 0 = λ c. slice_get tok.first c.at ≡ Some c.value in
     let g : ℕ = max d.generation e.generation in
@@ -55,15 +55,15 @@ Knows-both tok t d e one two =
     }
 
 -- a token seen by one seat more
-Shows-split : (plan : Plan) (home : Option (Option (Unit {0}))) (word : ℕ) (cells : ℕ → ℕ) (views : List Seen) (tok : Token) (id made back t : ℕ) (x : Seen) → Shows plan home word cells views tok → get_elem? views id ≡ some x → x.kind ≡ Clerk made back
+Shows-split : (plan : Plan) (home : Option (Option (Unit {0}))) (word : ℕ) (cells : ℕ → ℕ) (views : List Seen) (tok : Token) (id made back t : ℕ) (x : Seen) → ShowsToken plan home word cells views tok → get_elem? views id ≡ some x → x.kind ≡ Clerk made back
     → ((k : ℕ) (z : Seen) → get_elem? views k ≡ some z → z.kind ≡ numbered_seat made → ⊥)
-    → Shows plan home word cells (set views id (record { kind = Clerk (made + 1) back; entry = x.entry }) ++ record { kind = numbered_seat made; entry = blank t } ∷ []) tok
+    → ShowsToken plan home word cells (set views id (record { kind = Clerk (made + 1) back; entry = x.entry }) ++ record { kind = numbered_seat made; entry = blank t } ∷ []) tok
 Shows-split plan home word cells views tok id made back t x shows here kind absent =
     let y : Seen = record { kind = Clerk (made + 1) back; entry = x.entry } in
     let z : Seen = record { kind = numbered_seat made; entry = blank t } in
     let front : List Seen = set views id y in
     let free : held_by tok made ≡ Nothing = ⊎_elim (λ nothing. nothing) (λ there. absurd (absent there.0 there.1.0 there.1.1.0 there.1.1.1)) (shows.seated made) in
-    let own : x.entry.held ≡ Nothing = shows.held id x here ∙ ap (held_in tok) kind in
+    let own : x.entry.held ≡ Nothing = shows.held id x here ∙ ap (held_by_kind tok) kind in
     record {
       no_slot = shows.no_slot;
       law = shows.law;
@@ -73,8 +73,8 @@ Shows-split plan home word cells views tok id made back t x shows here kind abse
       row = shows.row;
       opening = shows.opening;
       held = λ k u e. ⊎_elim
-          (λ old. ⊎_elim (λ it. subst (λ (w : Seen). w.entry.held ≡ held_in tok w.kind) it.1 own) (λ other. shows.held k u other.1) (at_set views id k y u old))
-          (λ new. subst (λ (w : Seen). w.entry.held ≡ held_in tok w.kind) new.1 (sym free))
+          (λ old. ⊎_elim (λ it. subst (λ (w : Seen). w.entry.held ≡ held_by_kind tok w.kind) it.1 own) (λ other. shows.held k u other.1) (at_set views id k y u old))
+          (λ new. subst (λ (w : Seen). w.entry.held ≡ held_by_kind tok w.kind) new.1 (sym free))
           (at_snoc front z u k e);
       seated = λ a. ⊎_elim
           (λ nothing. inl nothing)
@@ -115,7 +115,7 @@ rule_split plans cpus s id v made back r here kind room = record {
     as_many = r.pictures.as_many;
     no_messages = r.pictures.no_messages;
     each_token = λ tok h.
-        let F : List Seen → Type 0 = λ vs. Shows (plan_at plans tok) (get_elem? s.homes tok) (slice_index s.words (token_word tok)) (λ i. slice_index s.words (cell_word tok i)) vs (token_at r.model tok) in
+        let F : List Seen → Type 0 = λ vs. ShowsToken (plan_at plans tok) (get_elem? s.homes tok) (slice_index s.words (token_word tok)) (λ i. slice_index s.words (cell_word tok i)) vs (token_at r.model tok) in
         subst F (sym (columns tok)) (Shows-split (plan_at plans tok) (get_elem? s.homes tok) (slice_index s.words (token_word tok)) (λ i. slice_index s.words (cell_word tok i)) (column tok s.views) (token_at r.model tok) id made back tok (seen_by tok v)
         (r.pictures.each_token tok h) (at_map (seen_by tok) s.views id v here) kind (absent tok));
   };
@@ -166,15 +166,15 @@ rule_split plans cpus s id v made back r here kind room = record {
         let low = AreSeated-below cpus (map (λ (u : View). u.kind) s.views) id made back k (record { 0 = made }) r.seats clerk there in absurd (omega arith)
 
 -- a token seen after a seat that holds nothing of it was taken back
-Shows-join : (plan : Plan) (home : Option (Option (Unit {0}))) (word : ℕ) (cells : ℕ → ℕ) (views : List Seen) (tok : Token) (id made back other t : ℕ) (cpu : CpuId) (x w : Seen) → Shows plan home word cells views tok
+Shows-join : (plan : Plan) (home : Option (Option (Unit {0}))) (word : ℕ) (cells : ℕ → ℕ) (views : List Seen) (tok : Token) (id made back other t : ℕ) (cpu : CpuId) (x w : Seen) → ShowsToken plan home word cells views tok
     → get_elem? views id ≡ some x → x.kind ≡ Clerk made back → other ≢ id → get_elem? views other ≡ some w → w.kind ≡ Of cpu → w.entry.held ≡ Nothing
-    → Shows plan home word cells (set (set views id (record { kind = Clerk made (back + 1); entry = both_of t x.entry w.entry })) other (record { kind = Spent; entry = blank t })) tok
+    → ShowsToken plan home word cells (set (set views id (record { kind = Clerk made (back + 1); entry = both_of t x.entry w.entry })) other (record { kind = Spent; entry = blank t })) tok
 Shows-join plan home word cells views tok id made back other t cpu x w shows here kind apart there its_kind quiet =
     let y : Seen = record { kind = Clerk made (back + 1); entry = both_of t x.entry w.entry } in
     let z : Seen = record { kind = Spent; entry = blank t } in
     let mid : List Seen = set views id y in
     let still : get_elem? mid other ≡ some w = set_else views id other y apart ∙ there in
-    let free : held_by tok cpu.0 ≡ Nothing = sym (shows.held other w there ∙ ap (held_in tok) its_kind) ∙ quiet in
+    let free : held_by tok cpu.0 ≡ Nothing = sym (shows.held other w there ∙ ap (held_by_kind tok) its_kind) ∙ quiet in
     record {
       no_slot = shows.no_slot;
       law = shows.law;
@@ -184,8 +184,8 @@ Shows-join plan home word cells views tok id made back other t cpu x w shows her
       row = shows.row;
       opening = shows.opening;
       held = λ k u e. ⊎_elim
-          (λ it. subst (λ (q : Seen). q.entry.held ≡ held_in tok q.kind) it.1 refl)
-          (λ else_. ⊎_elim (λ it. subst (λ (q : Seen). q.entry.held ≡ held_in tok q.kind) it.1 refl) (λ old. shows.held k u old.1) (at_set views id k y u else_.1))
+          (λ it. subst (λ (q : Seen). q.entry.held ≡ held_by_kind tok q.kind) it.1 refl)
+          (λ else_. ⊎_elim (λ it. subst (λ (q : Seen). q.entry.held ≡ held_by_kind tok q.kind) it.1 refl) (λ old. shows.held k u old.1) (at_set views id k y u else_.1))
           (at_set mid other k z u e);
       seated = λ a. ⊎_elim (λ nothing. inl nothing) (λ seat. ⊎_elim
           (λ (same : seat.0 ≡ other).
@@ -236,7 +236,7 @@ rule_join plans cpus s id v made back other cpu w r here kind apart there its_ki
     as_many = r.pictures.as_many;
     no_messages = r.pictures.no_messages;
     each_token = λ tok h.
-        let F : List Seen → Type 0 = λ vs. Shows (plan_at plans tok) (get_elem? s.homes tok) (slice_index s.words (token_word tok)) (λ i. slice_index s.words (cell_word tok i)) vs (token_at r.model tok) in
+        let F : List Seen → Type 0 = λ vs. ShowsToken (plan_at plans tok) (get_elem? s.homes tok) (slice_index s.words (token_word tok)) (λ i. slice_index s.words (cell_word tok i)) vs (token_at r.model tok) in
         subst F (sym (columns tok h)) (Shows-join (plan_at plans tok) (get_elem? s.homes tok) (slice_index s.words (token_word tok)) (λ i. slice_index s.words (cell_word tok i)) (column tok s.views) (token_at r.model tok) id made back other tok cpu (seen_by tok v) (seen_by tok w)
         (r.pictures.each_token tok h) (at_map (seen_by tok) s.views id v here) kind apart (at_map (seen_by tok) s.views other w there) its_kind (quiet tok h));
   };
@@ -273,7 +273,7 @@ rule_join plans cpus s id v made back other cpu w r here kind apart there its_ki
         map-set (seen_by tok) (set s.views id (joined v w)) other spent
         ∙ ap (λ (vs : List Seen). set vs other (seen_by tok spent)) (map-set (seen_by tok) s.views id (joined v w))
         ∙ ap (λ (k : SeatKind). set (set (column tok s.views) id (record { kind = after_back k; entry = at (merged (length v.plans) v.tokens w.tokens) tok })) other (seen_by tok spent)) kind
-        ∙ ap (λ (e : Entry). set (set (column tok s.views) id (record { kind = Clerk made (back + 1); entry = e })) other (seen_by tok spent)) (at-merged (length v.plans) v.tokens w.tokens tok (omega arith))
+        ∙ ap (λ (e : TokenEntry). set (set (column tok s.views) id (record { kind = Clerk made (back + 1); entry = e })) other (seen_by tok spent)) (at-merged (length v.plans) v.tokens w.tokens tok (omega arith))
 
 -- both keep the machine that is shown
 pub Rule-split : (plans : List Plan) (cpus : ℕ) (s : Bench) (id : ℕ) (v : View) (made back : ℕ) (r : Rule plans cpus s) → get_elem? s.views id ≡ some v → v.kind ≡ Clerk made back → made < cpus

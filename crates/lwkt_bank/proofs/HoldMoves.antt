@@ -7,7 +7,7 @@ use Rattle.lwkt_base.specs.declared.holdings.Held.{Held}
 use Rattle.lwkt_base.specs.declared.holdings.Held.TheVariants.{Nothing, Holds}
 use Rattle.lwkt_base.specs.Holding.{Holding, references_in, holds_nothing, one_more, one_less, added, removed}
 use Rattle.lwkt_core.specs.declared.seats.Deed.{Deed}
-use Rattle.lwkt_bank.specs.declared.views.Entry.{Entry}
+use Rattle.lwkt_bank.specs.declared.views.TokenEntry.{TokenEntry}
 use Rattle.lwkt_bank.specs.declared.seats.CpuSeat.{CpuSeat}
 use Rattle.lwkt_bank.specs.declared.tries.Given.TheVariants.{One, Clean, Written}
 use Rattle.lwkt_bank.specs.Views.{count_from}
@@ -15,12 +15,12 @@ use Rattle.lwkt_bank.specs.Seats.{holding, Changes}
 use Rattle.lwkt_bank.specs.Holdings.{TakingAdds, AgainAdds, GivingRemoves, NothingCounts, AddedCounts}
 
 -- what is held after a call on one token
-held_after : (s s' : CpuSeat) (tok : ℕ) (e : Entry) (made : List Deed) (h : Held) → Changes s s' tok e made → e.held ≡ h → (f : Holding) → ((other : ℕ) → f other ≡ cond (eqb other tok) h (holding s other)) → holding s' ≡ f
+held_after : (s s' : CpuSeat) (tok : ℕ) (e : TokenEntry) (made : List Deed) (h : Held) → Changes s s' tok e made → e.held ≡ h → (f : Holding) → ((other : ℕ) → f other ≡ cond (eqb other tok) h (holding s other)) → holding s' ≡ f
 held_after s s' tok e made h changes is f says = fun_ext (λ other. ⊎_elim
     (λ (same : other ≡ tok).
     let F : ℕ → Type 0 = λ k. holding s' k ≡ h in
-    subst F (sym same) (ap (λ (d : Entry). d.held) changes.here ∙ is) ∙ sym (says other ∙ ap (λ b. cond b h (holding s other)) (eq-eqb other tok same)))
-    (λ away. ap (λ (d : Entry). d.held) (changes.else_ other away) ∙ sym (says other ∙ ap (λ b. cond b h (holding s other)) (ne_eqb other tok away)))
+    subst F (sym same) (ap (λ (d : TokenEntry). d.held) changes.here ∙ is) ∙ sym (says other ∙ ap (λ b. cond b h (holding s other)) (eq-eqb other tok same)))
+    (λ away. ap (λ (d : TokenEntry). d.held) (changes.else_ other away) ∙ sym (says other ∙ ap (λ b. cond b h (holding s other)) (ne_eqb other tok away)))
     (cases_eq other tok))
 
 -- what a holding changed at one token is, whichever way the change is written

@@ -33,7 +33,7 @@ use Rattle.lwkt_core.specs.declared.seats.SeatKind.TheVariants.{Clerk, Of, Spent
 use Rattle.lwkt_core.proofs.SeatingLemmas.{total-snoc}
 use Rattle.lwkt_bank.specs.declared.views.Added.{Added}
 use Rattle.lwkt_bank.specs.declared.views.KnownCell.{KnownCell}
-use Rattle.lwkt_bank.specs.declared.views.Entry.{Entry}
+use Rattle.lwkt_bank.specs.declared.views.TokenEntry.{TokenEntry}
 use Rattle.lwkt_bank.specs.declared.views.View.{View}
 use Rattle.lwkt_bank.specs.declared.seats.CpuSeat.{CpuSeat}
 use Rattle.lwkt_bank.specs.declared.kept.Kept.{Kept}
@@ -42,7 +42,7 @@ use Rattle.lwkt_core.specs.Seating.{after_back}
 use Rattle.lwkt_bank.specs.Notes.{note_at, clerk_number}
 use Rattle.lwkt_bank.specs.Seats.{BankId, id_of_desk, entry, past_of, events_of, steps_of}
 use Rattle.lwkt_bank.specs.Gathered.{written_by, added_by, IsStill, IsClosedToken, Ends, IsHistory, IsClosed}
-use Rattle.lwkt_bank.specs.declared.clerks.Desk.{Desk}
+use Rattle.lwkt_bank.specs.declared.clerks.ClerkDesk.{ClerkDesk}
 use Rattle.lwkt_bank.specs.declared.rules.Key.{Key}
 use Rattle.lwkt_bank.specs.Closing.{IsReady, IsChapter, kept_of, kept_by, Recalls, Gathering, IsRead, AreRead, Left}
 use Rattle.lwkt_bank.specs.declared.closed.Closed.{Closed}
@@ -75,7 +75,7 @@ all_right P [] ys all = all
 all_right P (x ∷ xs) ys all = all_right P xs ys (All-tail P x (xs ++ ys) all)
 
 -- two entries together say at least what each of them says
-recalls_left : (t : ℕ) (d e : Entry) → Recalls (both_of t d e) d
+recalls_left : (t : ℕ) (d e : TokenEntry) → Recalls (both_of t d e) d
 recalls_left t d e =
     let g : ℕ = max d.generation e.generation in
     record {
@@ -85,7 +85,7 @@ recalls_left t d e =
           subst (λ (xs : List KnownCell). All P xs) (known_same d g same) (all_left P (known_of d g) (known_of e g) all);
     }
 
-recalls_right : (t : ℕ) (d e : Entry) → Recalls (both_of t d e) e
+recalls_right : (t : ℕ) (d e : TokenEntry) → Recalls (both_of t d e) e
 recalls_right t d e =
     let g : ℕ = max d.generation e.generation in
     record {
@@ -95,7 +95,7 @@ recalls_right t d e =
           subst (λ (xs : List KnownCell). All P xs) (known_same e g same) (all_right P (known_of d g) (known_of e g) all);
     }
 
-recalls_then : (c d e : Entry) → Recalls c d → Recalls d e → Recalls c e
+recalls_then : (c d e : TokenEntry) → Recalls c d → Recalls d e → Recalls c e
 recalls_then c d e one two = record {
   rises = let a = one.rises in let b = two.rises in omega arith;
   cells = λ same row all.
@@ -122,13 +122,13 @@ gathering_more bank v w all rest front s kept k back so_far last is notes named 
       ready = All-front front s ready_all;
       written = λ tok there.
           let n = so_far.informed in
-          let merged_is = ap (λ (e : Entry). e.written) (at-merged (length v.plans) v.tokens s.seat.me.0.tokens tok (omega arith)) in
+          let merged_is = ap (λ (e : TokenEntry). e.written) (at-merged (length v.plans) v.tokens s.seat.me.0.tokens tok (omega arith)) in
           let before = so_far.written tok there in
           let split = ap (λ (xs : List CpuSeat). written_by xs tok) last ∙ total-snoc (λ (x : CpuSeat). (entry x tok).written) front s in
           omega arith;
       added = λ tok cpu there.
           let n = so_far.informed in
-          let merged_is = ap (λ (e : Entry). amount cpu e.added) (at-merged (length v.plans) v.tokens s.seat.me.0.tokens tok (omega arith)) in
+          let merged_is = ap (λ (e : TokenEntry). amount cpu e.added) (at-merged (length v.plans) v.tokens s.seat.me.0.tokens tok (omega arith)) in
           let both = sum_by-append (λ (q : Added). cond (eqb q.cpu.0 cpu) q.amount 0) (at v.tokens tok).added (at s.seat.me.0.tokens tok).added in
           let before = so_far.added tok cpu there in
           let split = ap (λ (xs : List CpuSeat). added_by xs tok cpu) last ∙ total-snoc (λ (x : CpuSeat). amount cpu (entry x tok).added) front s in
@@ -148,7 +148,7 @@ gathering_more bank v w all rest front s kept k back so_far last is notes named 
           let merged_is = at-merged (length v.plans) v.tokens s.seat.me.0.tokens tok (omega arith) in
           let P : CpuSeat → Type 0 = λ x. Recalls (both_of tok d e) (entry x tok) in
           let others : All P so_far.behind = All-weaker (λ (x : CpuSeat). Recalls d (entry x tok)) P (λ x r. recalls_then (both_of tok d e) d (entry x tok) (recalls_left tok d e) r) so_far.behind (so_far.recalls tok there) in
-          subst (λ (z : Entry). All (λ (x : CpuSeat). Recalls z (entry x tok)) (s ∷ so_far.behind)) (sym merged_is) (All-cons P s so_far.behind (recalls_right tok d e) others);
+          subst (λ (z : TokenEntry). All (λ (x : CpuSeat). Recalls z (entry x tok)) (s ∷ so_far.behind)) (sym merged_is) (All-cons P s so_far.behind (recalls_right tok d e) others);
       chapters =
           let P : CpuSeat → Type 0 = λ x. IsChapter (joined v s.seat.me.0) x in
           let newest : P s = (0, ap (λ (c : CpuId). some (record { cpu = c; past = past_of s })) (who_is s)) in
@@ -204,7 +204,7 @@ sum_shown (x ∷ xs) (y ∷ ys) few same none =
     omega arith
 
 -- a token at the close: what its words and notes say, and what the rule says of them
-pub closed_token : (plan : Plan) (cpus : ℕ) (words : List ℕ) (kept : List Kept) (tok : ℕ) (tk : Token) (seats : List CpuSeat) (row : List ℕ) (generation : ℕ) (tallies : List ℕ) (known : Entry) → cpus ≤ 8
+pub closed_token : (plan : Plan) (cpus : ℕ) (words : List ℕ) (kept : List Kept) (tok : ℕ) (tk : Token) (seats : List CpuSeat) (row : List ℕ) (generation : ℕ) (tallies : List ℕ) (known : TokenEntry) → cpus ≤ 8
     → Settled plan cpus words tok tk (written_by seats tok) (λ a. added_by seats tok a) known → All (λ s. Recalls known (entry s tok)) seats → ((a : ℕ) → kept_by kept tok a ≡ added_by seats tok a) → IsRead plan cpus words kept tok row generation tallies
     → IsClosedToken plan cpus seats tok row generation tallies
 closed_token plan cpus words kept tok tk seats row generation tallies known few settled recalls told read =
@@ -241,7 +241,7 @@ closed_token plan cpus words kept tok tk seats row generation tallies known few 
     }
 
 -- no tally passes a number of 64 bits
-pub tally_fits : (plan : Plan) (cpus : ℕ) (words : List ℕ) (tok : ℕ) (tk : Token) (written : ℕ) (added : ℕ → ℕ) (known : Entry) → Settled plan cpus words tok tk written added known → plan.law ≡ Tally → slice_index words (cell_word tok 0) < 18446744073709551616 → (a : ℕ) → added a < 18446744073709551616
+pub tally_fits : (plan : Plan) (cpus : ℕ) (words : List ℕ) (tok : ℕ) (tk : Token) (written : ℕ) (added : ℕ → ℕ) (known : TokenEntry) → Settled plan cpus words tok tk written added known → plan.law ≡ Tally → slice_index words (cell_word tok 0) < 18446744073709551616 → (a : ℕ) → added a < 18446744073709551616
 tally_fits plan cpus words tok tk written added known settled tally fits a =
     let P : Law → Type 0 = λ l. IsTallied l plan.param settled.row settled.tallies in
     let sum_is : settled.row ≡ (plan.param + sum settled.tallies) ∷ [] = subst P tally settled.tallied in
@@ -441,7 +441,7 @@ desk_told (Of cpu) e = absurd (omega arith)
 desk_told Spent e = absurd (omega arith)
 
 -- the same over a desk, whose table was told what the bank keeps
-module _ (desk : Desk) (id : ℕ) (v : View) (words : List ℕ) (seats : List CpuSeat) (kept : List Kept)
+module _ (desk : ClerkDesk) (id : ℕ) (v : View) (words : List ℕ) (seats : List CpuSeat) (kept : List Kept)
     (left : Left desk.table.shared.key.plans.items desk.table.shared.key.cpus id v words)
     (gathered : Gathering (record { table = desk.table.shared.table_id; plans = desk.table.shared.key.plans.items }) v seats [] kept (length seats)) (all : length seats ≡ desk.key.cpus) where
   left_here : Left desk.key.plans.items desk.key.cpus id v words

@@ -19,15 +19,15 @@ use Rattle.lwkt_core.specs.declared.seats.SeatKind.{SeatKind}
 use Rattle.lwkt_core.specs.declared.seats.SeatKind.TheVariants.{Clerk, Of, Spent}
 use Rattle.lwkt_core.specs.declared.seats.Deed.{Deed}
 use Rattle.lwkt_bank.specs.declared.views.Plan.{Plan}
-use Rattle.lwkt_bank.specs.declared.views.Entry.{Entry}
+use Rattle.lwkt_bank.specs.declared.views.TokenEntry.{TokenEntry}
 use Rattle.lwkt_bank.specs.declared.views.View.{View}
 use Rattle.lwkt_bank.specs.declared.notes.Change.{Change}
 use Rattle.lwkt_bank.specs.declared.notes.Touch.{Touch}
 use Rattle.lwkt_bank.specs.declared.notes.Touch.TheVariants.{Untouched, Same, Other}
-use Rattle.lwkt_bank.specs.declared.notes.Note.{Note}
+use Rattle.lwkt_bank.specs.declared.notes.TokenNote.{TokenNote}
 use Rattle.lwkt_bank.specs.Views.{at, amount, generation_in, is_touched, touching, seen, taken, less, more, stored, raised, noted}
 use Rattle.lwkt_bank.specs.Rule.{plan_at}
-use Rattle.lwkt_bank.specs.Notes.{seat_number, no_note, note_at, touch_at, touch_of, held_in, begun, changed, is_stored, is_other, IsTouched, IsNoted, Keeps}
+use Rattle.lwkt_bank.specs.Notes.{seat_number, no_note, note_at, touch_at, touch_of, held_in, begun, note_changed, is_stored, is_other, IsTouched, IsNoted, Keeps}
 use Rattle.lwkt_bank.proofs.ViewMoves.{at-here, at-else}
 use Rattle.lwkt_bank.proofs.TurnMoves.{seen-keeps, exclusive_held}
 
@@ -38,7 +38,7 @@ seat_told (Clerk made back) cpu e = absurd (omega arith)
 seat_told Spent cpu e = absurd (omega arith)
 
 -- an entry that says the same of the holding, the rows and what was added is noted alike
-pub IsNoted-same : (plan : Plan) (cpu : ℕ) (e e' : Entry) (note : Note) → e'.held ≡ e.held → e'.first ≡ e.first → e'.row ≡ e.row → e'.added ≡ e.added → e'.touched ≡ e.touched → IsNoted plan cpu e note → IsNoted plan cpu e' note
+pub IsNoted-same : (plan : Plan) (cpu : ℕ) (e e' : TokenEntry) (note : TokenNote) → e'.held ≡ e.held → e'.first ≡ e.first → e'.row ≡ e.row → e'.added ≡ e.added → e'.touched ≡ e.touched → IsNoted plan cpu e note → IsNoted plan cpu e' note
 IsNoted-same plan cpu e e' note held first row added touched noted' = record {
   four = noted'.four;
   firsts = noted'.firsts;
@@ -57,11 +57,11 @@ IsNoted-same plan cpu e e' note held first row added touched noted' = record {
 }
 
 -- a look changes nothing of what is noted
-pub IsNoted-seen : (plan : Plan) (cpu : ℕ) (e : Entry) (g : ℕ) (note : Note) → IsNoted plan cpu e note → IsNoted plan cpu (seen e g) note
+pub IsNoted-seen : (plan : Plan) (cpu : ℕ) (e : TokenEntry) (g : ℕ) (note : TokenNote) → IsNoted plan cpu e note → IsNoted plan cpu (seen e g) note
 IsNoted-seen plan cpu e g note noted' = let k = seen-keeps e g in IsNoted-same plan cpu e (seen e g) note k.1 k.2 k.3 k.5 k.7 noted'
 
 -- a token that is held no longer
-pub IsNoted-nothing : (plan : Plan) (cpu : ℕ) (e e' : Entry) (note : Note) → e'.held ≡ Nothing → e'.added ≡ e.added → IsNoted plan cpu e note → IsNoted plan cpu e' (record note { references = 0 })
+pub IsNoted-nothing : (plan : Plan) (cpu : ℕ) (e e' : TokenEntry) (note : TokenNote) → e'.held ≡ Nothing → e'.added ≡ e.added → IsNoted plan cpu e note → IsNoted plan cpu e' (record note { references = 0 })
 IsNoted-nothing plan cpu e e' note held added noted' = record {
   four = noted'.four;
   firsts = noted'.firsts;
@@ -76,7 +76,7 @@ IsNoted-nothing plan cpu e e' note held added noted' = record {
 }
 
 -- another holding of a token that is held, in the same mode
-pub IsNoted-held : (plan : Plan) (cpu : ℕ) (e : Entry) (h : Held) (references : ℕ) (note : Note) → is_held e.held ≡ true → (is_held h ≡ true → is_exclusive h ≡ is_exclusive e.held) → references ≡ references_in h → IsNoted plan cpu e note → IsNoted plan cpu (record e { held = h }) (record note { references = references })
+pub IsNoted-held : (plan : Plan) (cpu : ℕ) (e : TokenEntry) (h : Held) (references : ℕ) (note : TokenNote) → is_held e.held ≡ true → (is_held h ≡ true → is_exclusive h ≡ is_exclusive e.held) → references ≡ references_in h → IsNoted plan cpu e note → IsNoted plan cpu (record e { held = h }) (record note { references = references })
 IsNoted-held plan cpu e h references note was same count noted' = record {
   four = noted'.four;
   firsts = noted'.firsts;
@@ -111,12 +111,12 @@ more_is Nothing held = absurd (false≢true held)
 more_is (Holds Exclusive f) held = (refl, refl)
 more_is (Holds Shared f) held = (refl, refl)
 
-pub IsNoted-less : (plan : Plan) (cpu : ℕ) (e : Entry) (note : Note) → is_held e.held ≡ true → IsNoted plan cpu e note → IsNoted plan cpu (less e) (record note { references = note.references - 1 })
+pub IsNoted-less : (plan : Plan) (cpu : ℕ) (e : TokenEntry) (note : TokenNote) → is_held e.held ≡ true → IsNoted plan cpu e note → IsNoted plan cpu (less e) (record note { references = note.references - 1 })
 IsNoted-less plan cpu e note held noted' =
     let l = less_is e.held held in
     IsNoted-held plan cpu e (one_less e.held) (note.references - 1) note held l.0 (ap (λ (k : ℕ). k - 1) noted'.references ∙ l.1) noted'
 
-pub IsNoted-more : (plan : Plan) (cpu : ℕ) (e : Entry) (note : Note) → is_held e.held ≡ true → IsNoted plan cpu e note → IsNoted plan cpu (more e) (record note { references = note.references + 1 })
+pub IsNoted-more : (plan : Plan) (cpu : ℕ) (e : TokenEntry) (note : TokenNote) → is_held e.held ≡ true → IsNoted plan cpu e note → IsNoted plan cpu (more e) (record note { references = note.references + 1 })
 IsNoted-more plan cpu e note held noted' =
     let m = more_is e.held held in
     IsNoted-held plan cpu e (one_more e.held Shared) (note.references + 1) note held (λ is. m.0) (ap (λ (k : ℕ). k + 1) noted'.references ∙ m.1) noted'
@@ -136,7 +136,7 @@ told (Holds m f) mode references count same =
     ∙ ap (λ (x : Mode). Holds x (references - 1)) (mode_told m mode f (same refl))
     ∙ ap (Holds m) further
 
-pub held_told : (plan : Plan) (cpu : ℕ) (e : Entry) (note : Note) → IsNoted plan cpu e note → held_in note ≡ e.held
+pub held_told : (plan : Plan) (cpu : ℕ) (e : TokenEntry) (note : TokenNote) → IsNoted plan cpu e note → held_in note ≡ e.held
 held_told plan cpu e note noted' = told e.held note.mode note.references noted'.references noted'.mode
 
 -- a token that is held has a reference
@@ -153,7 +153,7 @@ untouched_at (suc (suc (suc zero))) = refl
 untouched_at (suc (suc (suc (suc cell)))) = refl
 
 -- a token that was taken with this row
-pub IsNoted-taken : (plan : Plan) (cpu : ℕ) (e : Entry) (word : ℕ) (mode : Mode) (row : List ℕ) (note : Note) → length row ≡ plan.cells → IsNoted plan cpu e note → IsNoted plan cpu (taken e word mode row) (begun note mode)
+pub IsNoted-taken : (plan : Plan) (cpu : ℕ) (e : TokenEntry) (word : ℕ) (mode : Mode) (row : List ℕ) (note : TokenNote) → length row ≡ plan.cells → IsNoted plan cpu e note → IsNoted plan cpu (taken e word mode row) (begun note mode)
 IsNoted-taken plan cpu e word Exclusive row note long noted' =
     let k = seen-keeps e (generation_in word) in
     record {
@@ -186,43 +186,43 @@ IsNoted-taken plan cpu e word Shared row note long noted' =
     }
 
 -- after an entry of a token that exists has changed, no other token is held
-within-changed : (v : View) (e : Entry) (tok : ℕ) → ((k : ℕ) → is_held (at v.tokens k).held ≡ true → k < length v.plans) → tok < length v.plans → e.tok ≡ tok → (k : ℕ) → is_held (at (e ∷ v.tokens) k).held ≡ true → k < length v.plans
+within-changed : (v : View) (e : TokenEntry) (tok : ℕ) → ((k : ℕ) → is_held (at v.tokens k).held ≡ true → k < length v.plans) → tok < length v.plans → e.tok ≡ tok → (k : ℕ) → is_held (at (e ∷ v.tokens) k).held ≡ true → k < length v.plans
 within-changed v e tok within there is_tok k held = ⊎_elim
     (λ (same : k ≡ tok). let h = same in omega arith)
-    (λ away. within k (subst (λ (d : Entry). is_held d.held ≡ true) (at-else e v.tokens tok k is_tok away) held))
+    (λ away. within k (subst (λ (d : TokenEntry). is_held d.held ≡ true) (at-else e v.tokens tok k is_tok away) held))
     (cases_eq k tok)
 
 -- what is kept after an entry of a token has changed
-pub Keeps-set : (notes : List Note) (cpu : CpuId) (v w : View) (e : Entry) (between : List Deed) (d : Deed) (tok : ℕ) (note : Note) → Keeps notes cpu v → w ≡ noted between v e d → tok < length v.plans → e.tok ≡ tok → tok < length notes → IsNoted (plan_at v.plans tok) cpu.0 e note → Keeps (set notes tok note) cpu w
+pub Keeps-set : (notes : List TokenNote) (cpu : CpuId) (v w : View) (e : TokenEntry) (between : List Deed) (d : Deed) (tok : ℕ) (note : TokenNote) → Keeps notes cpu v → w ≡ noted between v e d → tok < length v.plans → e.tok ≡ tok → tok < length notes → IsNoted (plan_at v.plans tok) cpu.0 e note → Keeps (set notes tok note) cpu w
 Keeps-set notes cpu v w e between deed tok note keeps is there is_tok room here =
     let F : View → Type 0 = λ x. Keeps (set notes tok note) cpu x in
     subst F (sym is) (record { seat = keeps.seat; each = each; within = within-changed v e tok keeps.within there is_tok })
   where
     each : (k : ℕ) → k < length v.plans → IsNoted (plan_at v.plans k) cpu.0 (at (e ∷ v.tokens) k) (note_at (set notes tok note) k)
     each k h =
-        let G : ℕ → Entry → Note → Type 0 = λ j d m. IsNoted (plan_at v.plans j) cpu.0 d m in
+        let G : ℕ → TokenEntry → TokenNote → Type 0 = λ j d m. IsNoted (plan_at v.plans j) cpu.0 d m in
         ⊎_elim
         (λ (same : k ≡ tok). subst (λ (j : ℕ). G j (at (e ∷ v.tokens) j) (note_at (set notes tok note) j)) (sym same)
-        (subst (λ (d : Entry). G tok d (note_at (set notes tok note) tok)) (sym (at-here e v.tokens tok is_tok)) (subst (λ (m : Note). G tok e m) (sym (get_or-set_same notes tok note no_note room)) here)))
-        (λ away. subst (λ (d : Entry). G k d (note_at (set notes tok note) k)) (sym (at-else e v.tokens tok k is_tok away)) (subst (λ (m : Note). G k (at v.tokens k) m) (sym (get_or-set_other notes tok k note no_note away)) (keeps.each k h)))
+        (subst (λ (d : TokenEntry). G tok d (note_at (set notes tok note) tok)) (sym (at-here e v.tokens tok is_tok)) (subst (λ (m : TokenNote). G tok e m) (sym (get_or-set_same notes tok note no_note room)) here)))
+        (λ away. subst (λ (d : TokenEntry). G k d (note_at (set notes tok note) k)) (sym (at-else e v.tokens tok k is_tok away)) (subst (λ (m : TokenNote). G k (at v.tokens k) m) (sym (get_or-set_other notes tok k note no_note away)) (keeps.each k h)))
         (cases_eq k tok)
 
 -- and where its note stays
-pub Keeps-kept : (notes : List Note) (cpu : CpuId) (v w : View) (e : Entry) (between : List Deed) (d : Deed) (tok : ℕ) → Keeps notes cpu v → w ≡ noted between v e d → tok < length v.plans → e.tok ≡ tok → IsNoted (plan_at v.plans tok) cpu.0 e (note_at notes tok) → Keeps notes cpu w
+pub Keeps-kept : (notes : List TokenNote) (cpu : CpuId) (v w : View) (e : TokenEntry) (between : List Deed) (d : Deed) (tok : ℕ) → Keeps notes cpu v → w ≡ noted between v e d → tok < length v.plans → e.tok ≡ tok → IsNoted (plan_at v.plans tok) cpu.0 e (note_at notes tok) → Keeps notes cpu w
 Keeps-kept notes cpu v w e between deed tok keeps is there is_tok here =
     let F : View → Type 0 = λ x. Keeps notes cpu x in
     subst F (sym is) (record { seat = keeps.seat; each = each; within = within-changed v e tok keeps.within there is_tok })
   where
     each : (k : ℕ) → k < length v.plans → IsNoted (plan_at v.plans k) cpu.0 (at (e ∷ v.tokens) k) (note_at notes k)
     each k h =
-        let G : ℕ → Entry → Type 0 = λ j d. IsNoted (plan_at v.plans j) cpu.0 d (note_at notes j) in
+        let G : ℕ → TokenEntry → Type 0 = λ j d. IsNoted (plan_at v.plans j) cpu.0 d (note_at notes j) in
         ⊎_elim
-        (λ (same : k ≡ tok). subst (λ (j : ℕ). G j (at (e ∷ v.tokens) j)) (sym same) (subst (λ (d : Entry). G tok d) (sym (at-here e v.tokens tok is_tok)) here))
-        (λ away. subst (λ (d : Entry). G k d) (sym (at-else e v.tokens tok k is_tok away)) (keeps.each k h))
+        (λ (same : k ≡ tok). subst (λ (j : ℕ). G j (at (e ∷ v.tokens) j)) (sym same) (subst (λ (d : TokenEntry). G tok d) (sym (at-here e v.tokens tok is_tok)) here))
+        (λ away. subst (λ (d : TokenEntry). G k d) (sym (at-else e v.tokens tok k is_tok away)) (keeps.each k h))
         (cases_eq k tok)
 
 -- where a cell has another value, and where none has
-module _ (plan : Plan) (cpu : ℕ) (e : Entry) (note : Note) (noted' : IsNoted plan cpu e note) (held : is_exclusive e.held ≡ true) (within : plan.cells ≤ 4) where
+module _ (plan : Plan) (cpu : ℕ) (e : TokenEntry) (note : TokenNote) (noted' : IsNoted plan cpu e note) (held : is_exclusive e.held ≡ true) (within : plan.cells ≤ 4) where
   pub row_written : list_any is_other note.cells ≡ true → e.row ≢ e.first
   row_written some same =
       let found = Any-from_list_any is_other note.cells some in
@@ -250,14 +250,14 @@ stored_by : (b : Bool) → is_stored (cond b Same Other) ≡ true
 stored_by true = refl
 stored_by false = refl
 
-pub touched_self : (e : Entry) (cell : ℕ) → list_any (λ c. eqb c cell) (touching e cell) ≡ true
+pub touched_self : (e : TokenEntry) (cell : ℕ) → list_any (λ c. eqb c cell) (touching e cell) ≡ true
 touched_self e cell = go (is_touched e cell) refl
   where
     go : (b : Bool) → is_touched e cell ≡ b → list_any (λ c. eqb c cell) (cond b e.touched (cell ∷ e.touched)) ≡ true
     go true is = is
     go false is = list_any_at (λ c. eqb c cell) (cell ∷ e.touched) 0 0 (omega arith) (eq-eqb cell cell refl)
 
-pub touched_other : (e : Entry) (cell k : ℕ) → k ≢ cell → list_any (λ c. eqb c k) (touching e cell) ≡ is_touched e k
+pub touched_other : (e : TokenEntry) (cell k : ℕ) → k ≢ cell → list_any (λ c. eqb c k) (touching e cell) ≡ is_touched e k
 touched_other e cell k away = go (is_touched e cell)
   where
     go : (b : Bool) → list_any (λ c. eqb c k) (cond b e.touched (cell ∷ e.touched)) ≡ is_touched e k
@@ -269,14 +269,14 @@ touched_other e cell k away = go (is_touched e cell)
         list_any-append P (cell ∷ []) e.touched ∙ ap (λ (b : Bool). b || list_any P e.touched) none
 
 -- a cell that was stored to, and the others
-module _ (plan : Plan) (cpu : ℕ) (e : Entry) (note : Note) (noted' : IsNoted plan cpu e note) (is : is_exclusive e.held ≡ true) (within : plan.cells ≤ 4) (cell : ℕ) (change : Change) (inside : cell < plan.cells) (first_is : change.first ≡ slice_index e.first cell) where
+module _ (plan : Plan) (cpu : ℕ) (e : TokenEntry) (note : TokenNote) (noted' : IsNoted plan cpu e note) (is : is_exclusive e.held ≡ true) (within : plan.cells ≤ 4) (cell : ℕ) (change : Change) (inside : cell < plan.cells) (first_is : change.first ≡ slice_index e.first cell) where
   abbrev row : List ℕ
   row = slice_set e.row cell change.last
 
-  touch_here : touch_at (changed note cell change) cell ≡ touch_of change
+  touch_here : touch_at (note_changed note cell change) cell ≡ touch_of change
   touch_here = let f = noted'.four in get_or-set_same note.cells cell (touch_of change) Untouched (omega arith)
 
-  first_here : slice_index (changed note cell change).first cell ≡ change.first
+  first_here : slice_index (note_changed note cell change).first cell ≡ change.first
   first_here = let f = noted'.firsts in get_or-set_same note.first cell change.first 0 (omega arith)
 
   row_here : slice_index row cell ≡ change.last
@@ -286,39 +286,39 @@ module _ (plan : Plan) (cpu : ℕ) (e : Entry) (note : Note) (noted' : IsNoted p
   made true test = record { first_kept = λ s. first_is; same = λ s. sym (eqb-true change.first change.last test) ∙ first_is; other = λ o. absurd (false≢true o) }
   made false test = record { first_kept = λ s. first_is; same = λ s. absurd (false≢true (sym s)); other = λ o same. eqb-false change.first change.last test (first_is ∙ sym same) }
 
-  touched_here : IsTouched (touch_at (changed note cell change) cell) (slice_index (changed note cell change).first cell) (slice_index e.first cell) (slice_index row cell)
+  touched_here : IsTouched (touch_at (note_changed note cell change) cell) (slice_index (note_changed note cell change).first cell) (slice_index e.first cell) (slice_index row cell)
   touched_here =
       let F : Touch → ℕ → ℕ → Type 0 = λ t kept value. IsTouched t kept (slice_index e.first cell) value in
-      subst (λ (t : Touch). F t (slice_index (changed note cell change).first cell) (slice_index row cell)) (sym touch_here)
+      subst (λ (t : Touch). F t (slice_index (note_changed note cell change).first cell) (slice_index row cell)) (sym touch_here)
       (subst (λ (kept : ℕ). F (touch_of change) kept (slice_index row cell)) (sym first_here)
       (subst (λ (value : ℕ). F (touch_of change) change.first value) (sym row_here) (made (eqb change.first change.last) refl)))
 
-  touched_else : (k : ℕ) → k ≢ cell → IsTouched (touch_at (changed note cell change) k) (slice_index (changed note cell change).first k) (slice_index e.first k) (slice_index row k)
+  touched_else : (k : ℕ) → k ≢ cell → IsTouched (touch_at (note_changed note cell change) k) (slice_index (note_changed note cell change).first k) (slice_index e.first k) (slice_index row k)
   touched_else k away =
       let F : Touch → ℕ → ℕ → Type 0 = λ t kept value. IsTouched t kept (slice_index e.first k) value in
-      subst (λ (t : Touch). F t (slice_index (changed note cell change).first k) (slice_index row k)) (sym (get_or-set_other note.cells cell k (touch_of change) Untouched away))
+      subst (λ (t : Touch). F t (slice_index (note_changed note cell change).first k) (slice_index row k)) (sym (get_or-set_other note.cells cell k (touch_of change) Untouched away))
       (subst (λ (kept : ℕ). F (touch_at note k) kept (slice_index row k)) (sym (get_or-set_other note.first cell k change.first 0 away))
       (subst (λ (value : ℕ). F (touch_at note k) (slice_index note.first k) value) (sym (get_or-set_other e.row cell k change.last 0 away)) (noted'.touched k is)))
 
-  pub touched_there : (k : ℕ) → IsTouched (touch_at (changed note cell change) k) (slice_index (changed note cell change).first k) (slice_index e.first k) (slice_index row k)
+  pub touched_there : (k : ℕ) → IsTouched (touch_at (note_changed note cell change) k) (slice_index (note_changed note cell change).first k) (slice_index e.first k) (slice_index row k)
   touched_there k = ⊎_elim
       (λ (same : k ≡ cell).
-      let F : ℕ → Type 0 = λ j. IsTouched (touch_at (changed note cell change) j) (slice_index (changed note cell change).first j) (slice_index e.first j) (slice_index row j) in
+      let F : ℕ → Type 0 = λ j. IsTouched (touch_at (note_changed note cell change) j) (slice_index (note_changed note cell change).first j) (slice_index e.first j) (slice_index row j) in
       subst F (sym same) touched_here)
       (λ away. touched_else k away)
       (cases_eq k cell)
 
   -- a cell that was stored to is touched, and no other is from now on
-  stored_there : (k : ℕ) → k < plan.cells → is_stored (touch_at (changed note cell change) k) ≡ is_touched (stored e cell change.last) k
+  stored_there : (k : ℕ) → k < plan.cells → is_stored (touch_at (note_changed note cell change) k) ≡ is_touched (stored e cell change.last) k
   stored_there k there = ⊎_elim
       (λ (same : k ≡ cell).
-      let F : ℕ → Type 0 = λ j. is_stored (touch_at (changed note cell change) j) ≡ is_touched (stored e cell change.last) j in
+      let F : ℕ → Type 0 = λ j. is_stored (touch_at (note_changed note cell change) j) ≡ is_touched (stored e cell change.last) j in
       subst F (sym same) (ap is_stored touch_here ∙ stored_by (eqb change.first change.last) ∙ sym (touched_self e cell)))
       (λ away.
       ap is_stored (get_or-set_other note.cells cell k (touch_of change) Untouched away) ∙ noted'.stored_to k there is ∙ sym (touched_other e cell k away))
       (cases_eq k cell)
 
-  pub IsNoted-stored : plan.law ≢ Tally → IsNoted plan cpu (stored e cell change.last) (changed note cell change)
+  pub IsNoted-stored : plan.law ≢ Tally → IsNoted plan cpu (stored e cell change.last) (note_changed note cell change)
   IsNoted-stored untallied = record {
     four = length-set note.cells cell (touch_of change) ∙ noted'.four;
     firsts = length-set note.first cell change.first ∙ noted'.firsts;
@@ -333,8 +333,8 @@ module _ (plan : Plan) (cpu : ℕ) (e : Entry) (note : Note) (noted' : IsNoted p
   }
 
 -- a Tally token's cell that was raised
-pub IsNoted-raised : (plan : Plan) (cpu : CpuId) (e : Entry) (note : Note) (noted' : IsNoted plan cpu.0 e note) → is_exclusive e.held ≡ true → plan.cells ≤ 4 → (change : Change) (k : ℕ) → 0 < plan.cells → change.first ≡ slice_index e.first 0 → change.last ≡ slice_index e.row 0 + k → amount cpu.0 e.added ≤ slice_index e.row 0
-    → IsNoted plan cpu.0 (raised e cpu k) (record (changed note 0 change) { tally = note.tally + k; last = change.last })
+pub IsNoted-raised : (plan : Plan) (cpu : CpuId) (e : TokenEntry) (note : TokenNote) (noted' : IsNoted plan cpu.0 e note) → is_exclusive e.held ≡ true → plan.cells ≤ 4 → (change : Change) (k : ℕ) → 0 < plan.cells → change.first ≡ slice_index e.first 0 → change.last ≡ slice_index e.row 0 + k → amount cpu.0 e.added ≤ slice_index e.row 0
+    → IsNoted plan cpu.0 (raised e cpu k) (record (note_changed note 0 change) { tally = note.tally + k; last = change.last })
 IsNoted-raised plan cpu e note noted' is within change k inside first_is last_is under =
     let own_sum = sum_by-cons (λ (x : Added). cond (eqb x.cpu.0 cpu.0) x.amount 0) (record { cpu = cpu; amount = k }) e.added in
     let test = ap (λ b. cond b k 0) (eq-eqb cpu.0 cpu.0 refl) in
@@ -357,12 +357,12 @@ IsNoted-raised plan cpu e note noted' is within change k inside first_is last_is
           let low : 0 < length e.row = omega arith in
           (last_is ∙ sym (get_or-set_same e.row 0 (slice_index e.row 0 + k) 0 low), omega arith);
       touched = λ j h.
-          let F : ℕ → Type 0 = λ last. IsTouched (touch_at (changed note 0 change) j) (slice_index (changed note 0 change).first j) (slice_index e.first j) (slice_index (slice_set e.row 0 last) j) in
+          let F : ℕ → Type 0 = λ last. IsTouched (touch_at (note_changed note 0 change) j) (slice_index (note_changed note 0 change).first j) (slice_index e.first j) (slice_index (slice_set e.row 0 last) j) in
           subst F last_is (touched_there plan cpu.0 e note noted' is within 0 change inside first_is j);
     }
 
 -- a note that was written before an exchange that lost, and taken back
-pub IsNoted-missed : (plan : Plan) (cpu : ℕ) (e : Entry) (mode : Mode) (note : Note) → e.held ≡ Nothing → IsNoted plan cpu e note → IsNoted plan cpu e (record (begun note mode) { references = 0 })
+pub IsNoted-missed : (plan : Plan) (cpu : ℕ) (e : TokenEntry) (mode : Mode) (note : TokenNote) → e.held ≡ Nothing → IsNoted plan cpu e note → IsNoted plan cpu e (record (begun note mode) { references = 0 })
 IsNoted-missed plan cpu e Shared note held noted' = record {
   four = noted'.four;
   firsts = noted'.firsts;

@@ -22,9 +22,9 @@ use Rattle.lwkt_bank.specs.declared.views.Plan.{Plan}
 use Rattle.lwkt_bank.specs.declared.views.View.{View}
 use Rattle.lwkt_bank.specs.Views.{blank, first_view, new_seat, one_generation}
 use Rattle.lwkt_core.specs.Seating.{next_seat}
-use Rattle.lwkt_bank.specs.declared.notes.Note.{Note}
+use Rattle.lwkt_bank.specs.declared.notes.TokenNote.{TokenNote}
 use Rattle.lwkt_bank.specs.Notes.{seat_number, no_note, IsNoted, Keeps}
-use Rattle.lwkt_bank.specs.Rule.{token_word, cell_word, law_word, param_word, law_number, Seen, column, held_in, Knows, Shows, Rule, plan_at, token_at, no_plan, no_token}
+use Rattle.lwkt_bank.specs.Rule.{token_word, cell_word, law_word, param_word, law_number, Seen, column, held_by_kind, Knows, ShowsToken, Rule, plan_at, token_at, no_plan, no_token}
 use Rattle.lwkt_bank.specs.Opened.{plan_of_spec, plans_of, block, opening_words}
 use Rattle.lwkt_bank.proofs.GatherMoves.{Knows-blank}
 
@@ -69,7 +69,7 @@ cell_in_plan spec (suc (suc (suc (suc i)))) low = absurd (omega arith)
 
 -- a token at the opening
 Shows-opening : (plans : List Plan) (spec : TokSpec) (t word : ℕ) (cells : ℕ → ℕ) → length spec.cells ≤ 4 → word ≡ one_generation * spec.generation → ((i : ℕ) → i < length spec.cells → cells i ≡ slice_index spec.cells i)
-    → Shows (plan_of_spec spec) (get_elem? [] t) word cells (column t (first_view plans ∷ [])) (opened_token spec)
+    → ShowsToken (plan_of_spec spec) (get_elem? [] t) word cells (column t (first_view plans ∷ [])) (opened_token spec)
 Shows-opening plans spec t word cells short is rows = record {
   no_slot = refl;
   law = refl;
@@ -77,7 +77,7 @@ Shows-opening plans spec t word cells short is rows = record {
   long = refl;
   count_word = let e : word_of (picture_of (opened_token spec)) ≡ one_generation * spec.generation = omega arith in is ∙ sym e;
   row = rows;
-  held = λ k x e. first_only plans t k x (λ y. y.entry.held ≡ held_in (opened_token spec) y.kind) e refl;
+  held = λ k x e. first_only plans t k x (λ y. y.entry.held ≡ held_by_kind (opened_token spec) y.kind) e refl;
   seated = λ cpu. inl (replicated 8 cpu Nothing);
   tallies = λ cpu. replicated 8 cpu 0;
   sections = omega arith;
@@ -98,8 +98,8 @@ rule_opening cpus specs within lawful = record {
         let there : t < length specs = (let l = length-map specs plan_of_spec in omega arith) in
         let spec = get_or specs t no_spec in
         let short : length spec.cells ≤ 4 = (within.each_token t no_spec there).0 in
-        let F : Plan → Type 0 = λ p. Shows p (get_elem? [] t) (slice_index (opening_words specs) (token_word t)) (λ i. slice_index (opening_words specs) (cell_word t i)) (column t (first_view (plans_of specs) ∷ [])) (token_at (opening cpus specs []) t) in
-        let G : Token → Type 0 = λ k. Shows (plan_of_spec spec) (get_elem? [] t) (slice_index (opening_words specs) (token_word t)) (λ i. slice_index (opening_words specs) (cell_word t i)) (column t (first_view (plans_of specs) ∷ [])) k in
+        let F : Plan → Type 0 = λ p. ShowsToken p (get_elem? [] t) (slice_index (opening_words specs) (token_word t)) (λ i. slice_index (opening_words specs) (cell_word t i)) (column t (first_view (plans_of specs) ∷ [])) (token_at (opening cpus specs []) t) in
+        let G : Token → Type 0 = λ k. ShowsToken (plan_of_spec spec) (get_elem? [] t) (slice_index (opening_words specs) (token_word t)) (λ i. slice_index (opening_words specs) (cell_word t i)) (column t (first_view (plans_of specs) ∷ [])) k in
         subst F (sym (get_or-map plan_of_spec specs t no_spec no_plan there)) (subst G (sym (get_or-map opened_token specs t no_spec no_token there))
         (Shows-opening (plans_of specs) spec t (slice_index (opening_words specs) (token_word t)) (λ i. slice_index (opening_words specs) (cell_word t i)) short
         (word_at specs t 0 (token_word t) there (omega arith) (omega arith))
@@ -166,7 +166,7 @@ Keeps-new cpu v w kind is =
     subst F (sym is) (record {
       seat = ap (λ k. seat_number (next_seat k)) kind;
       each = λ tok h.
-          let G : Note → Type 0 = λ n. IsNoted (plan_at v.plans tok) cpu.0 (blank tok) n in
+          let G : TokenNote → Type 0 = λ n. IsNoted (plan_at v.plans tok) cpu.0 (blank tok) n in
           subst G (sym (replicated 64 tok no_note)) (record {
             four = refl;
             firsts = refl;

@@ -4,7 +4,7 @@ use Rattle.std.proofs.lemmas.Bool.{cases_eq, cases_lt}
 use Rattle.std.proofs.lemmas.List.{set-get_or, ext_get_or}
 use Rattle.std.proofs.lemmas.Option.{get_or_from_slice_get, slice_get-get_or}
 use Rattle.lwkt_base.specs.Holding.{is_held}
-use Rattle.lwkt_bank.specs.declared.views.Entry.{Entry}
+use Rattle.lwkt_bank.specs.declared.views.TokenEntry.{TokenEntry}
 use Rattle.lwkt_bank.specs.declared.seats.CpuSeat.{CpuSeat}
 use Rattle.lwkt_base.specs.declared.names.CpuId.{CpuId}
 use Rattle.lwkt_core.specs.declared.seats.Deed.{Deed}
@@ -41,7 +41,7 @@ restoring_more s mid s' tok made cell None so_far low inside told =
     let e = entry s tok in
     let same : set made cell None ≡ made = ap (set made cell) (sym (so_far.later cell (omega arith))) ∙ set-get_or made cell None in
     let F : List (Option ℕ) → Type 0 = λ m. Restoring s s' tok m (cell + 1) in
-    let untouched : is_touched e cell ≡ false = sym (ap (λ (d : Entry). is_touched d cell) so_far.changes.here) ∙ told.1 in
+    let untouched : is_touched e cell ≡ false = sym (ap (λ (d : TokenEntry). is_touched d cell) so_far.changes.here) ∙ told.1 in
     let G : List Deed → Type 0 = λ past. Grows s.cpu.0 (past_of s) (writes_all s.cpu tok 0 made) past in
     subst F (sym same) (record {
       four = so_far.four;
@@ -58,7 +58,7 @@ restoring_more s mid s' tok made cell None so_far low inside told =
           (λ (now : k ≡ cell).
           let R = written_over 0 made e.row in
           let P : ℕ → Type 0 = λ j. slice_index R j ≡ slice_index e.first j in
-          subst P (sym now) (sym (ap (λ (d : Entry). slice_index d.row cell) so_far.changes.here) ∙ told.2 ∙ ap (λ (d : Entry). slice_index d.first cell) so_far.changes.here))
+          subst P (sym now) (sym (ap (λ (d : TokenEntry). slice_index d.row cell) so_far.changes.here) ∙ told.2 ∙ ap (λ (d : TokenEntry). slice_index d.first cell) so_far.changes.here))
           (λ before. so_far.done k (omega arith))
           (cases_eq k cell);
       shown = λ k h. ⊎_elim
@@ -73,21 +73,21 @@ restoring_more s mid s' tok made cell (Some value) so_far low inside told =
     let R = written_over 0 made e.row in
     let f = so_far.four in
     let grown : written_over 0 (set made cell (Some value)) e.row ≡ set R cell value = written_more made 0 cell value e.row (omega arith) so_far.later ∙ ap (λ (j : ℕ). set R j value) (omega arith) in
-    let first_is : value ≡ slice_index e.first cell = told.1 ∙ ap (λ (d : Entry). slice_index d.first cell) so_far.changes.here in
-    let touched : is_touched e cell ≡ true = sym (ap (λ (d : Entry). is_touched d cell) so_far.changes.here) ∙ told.0 in
+    let first_is : value ≡ slice_index e.first cell = told.1 ∙ ap (λ (d : TokenEntry). slice_index d.first cell) so_far.changes.here in
+    let touched : is_touched e cell ≡ true = sym (ap (λ (d : TokenEntry). is_touched d cell) so_far.changes.here) ∙ told.0 in
     let kept : touching e cell ≡ e.touched = ap (λ (b : Bool). cond b e.touched (cell ∷ e.touched)) touched in
     let room : cell < length R = (let l = length-written_over made 0 e.row in omega arith) in
     let K : CpuId → Type 0 = λ c. Changes mid s' tok (stored (entry mid tok) cell value) (writes c tok cell value ∷ []) in
     let both = changed_twice s mid s' tok (record e { row = R }) (stored (entry mid tok) cell value) (writes_all s.cpu tok 0 made) (writes s.cpu tok cell value ∷ []) so_far.changes (subst K so_far.changes.cpu told.2) in
     let deeds : writes_all s.cpu tok 0 made ++ writes s.cpu tok cell value ∷ [] ≡ writes_all s.cpu tok 0 (set made cell (Some value))
     = ap (λ (j : ℕ). writes_all s.cpu tok 0 made ++ writes s.cpu tok j value ∷ []) (omega arith) ∙ sym (writes_more made 0 cell value s.cpu tok (omega arith) so_far.later) in
-    let G : Entry → List Deed → Type 0 = λ d ds. Changes s s' tok d ds in
+    let G : TokenEntry → List Deed → Type 0 = λ d ds. Changes s s' tok d ds in
     let entry_is : stored (entry mid tok) cell value ≡ record e { row = written_over 0 (set made cell (Some value)) e.row }
-    = ap (λ (d : Entry). stored d cell value) so_far.changes.here ∙ ap (λ (ts : List ℕ). record e { row = set R cell value; touched = ts }) kept ∙ ap (λ (r : List ℕ). record e { row = r }) (sym grown) in
+    = ap (λ (d : TokenEntry). stored d cell value) so_far.changes.here ∙ ap (λ (ts : List ℕ). record e { row = set R cell value; touched = ts }) kept ∙ ap (λ (r : List ℕ). record e { row = r }) (sym grown) in
     record {
       four = length-set made cell (Some value) ∙ so_far.four;
       later = λ k h. get_or-set_other made cell k (Some value) None (λ same. absurd (omega arith)) ∙ so_far.later k (omega arith);
-      changes = subst (λ (ds : List Deed). G (record e { row = written_over 0 (set made cell (Some value)) e.row }) ds) deeds (subst (λ (d : Entry). G d (writes_all s.cpu tok 0 made ++ writes s.cpu tok cell value ∷ [])) entry_is both);
+      changes = subst (λ (ds : List Deed). G (record e { row = written_over 0 (set made cell (Some value)) e.row }) ds) deeds (subst (λ (d : TokenEntry). G d (writes_all s.cpu tok 0 made ++ writes s.cpu tok cell value ∷ [])) entry_is both);
       done = λ k h. ap (λ (r : List ℕ). slice_index r k) grown ∙ ⊎_elim
           (λ (now : k ≡ cell).
           let P : ℕ → Type 0 = λ j. slice_index (set R cell value) j ≡ slice_index e.first j in

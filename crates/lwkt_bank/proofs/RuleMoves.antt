@@ -21,16 +21,16 @@ use Rattle.lwkt_core.proofs.SeatingLemmas.{at_set, set_again, at_map, of_map, ma
 use Rattle.lwkt_bank.specs.declared.views.Plan.{Plan}
 use Rattle.lwkt_bank.specs.declared.views.View.{View}
 use Rattle.lwkt_bank.specs.Views.{at, count_from, held_of}
-use Rattle.lwkt_bank.specs.Rule.{Bench, token_word, cell_word, law_word, param_word, Seen, seen_by, column, held_in, Knows, Shows, Rule, plan_at, token_at, no_token}
+use Rattle.lwkt_bank.specs.Rule.{Bench, token_word, cell_word, law_word, param_word, Seen, seen_by, column, held_by_kind, Knows, ShowsToken, Rule, plan_at, token_at, no_token}
 use Rattle.lwkt_bank.proofs.ViewMoves.{column-set, column-same, seen-same, references-from}
 use Rattle.lwkt_bank.proofs.ShowMoves.{Turns, Shows-step}
 
 -- equal words, cells, views and tokens show the same
 pub Shows-move : (plan : Plan) (home : Option (Option (Unit {0}))) (word word' : ℕ) (cells cells' : ℕ → ℕ) (views views' : List Seen) (tok tok' : Token)
-    → word' ≡ word → ((i : ℕ) → i < plan.cells → cells' i ≡ cells i) → views' ≡ views → tok' ≡ tok → Shows plan home word cells views tok → Shows plan home word' cells' views' tok'
+    → word' ≡ word → ((i : ℕ) → i < plan.cells → cells' i ≡ cells i) → views' ≡ views → tok' ≡ tok → ShowsToken plan home word cells views tok → ShowsToken plan home word' cells' views' tok'
 Shows-move plan home word word' cells cells' views views' tok tok' same_word same_cells same_views same_tok shows =
-    let F : List Seen → Type 0 = λ vs. Shows plan home word' cells' vs tok' in
-    let G : Token → Type 0 = λ t. Shows plan home word' cells' views t in
+    let F : List Seen → Type 0 = λ vs. ShowsToken plan home word' cells' vs tok' in
+    let G : Token → Type 0 = λ t. ShowsToken plan home word' cells' views t in
     subst F (sym same_views) (subst G (sym same_tok) (record {
       no_slot = shows.no_slot;
       law = shows.law;
@@ -69,7 +69,7 @@ module _ (plans : List Plan) (cpus : ℕ) (s : Bench) (r : Rule plans cpus s) wh
   -- what a seat holds is what its processor holds in the machine
   pub held_there : (id : ℕ) (v : View) (cpu : CpuId) (tok : ℕ) → get_elem? s.views id ≡ some v → v.kind ≡ Of cpu → tok < length plans → held_by (token_at r.model tok) cpu.0 ≡ (at v.tokens tok).held
   held_there id v cpu tok e kind h =
-      sym ((r.pictures.each_token tok h).held id (seen_by tok v) (at_map (seen_by tok) s.views id v e) ∙ ap (held_in (token_at r.model tok)) kind)
+      sym ((r.pictures.each_token tok h).held id (seen_by tok v) (at_map (seen_by tok) s.views id v e) ∙ ap (held_by_kind (token_at r.model tok)) kind)
 
   pub knows_there : (id : ℕ) (v : View) (tok : ℕ) → get_elem? s.views id ≡ some v → tok < length plans → Knows (token_at r.model tok) (at v.tokens tok)
   knows_there id v tok e h = (r.pictures.each_token tok h).known id (seen_by tok v) (at_map (seen_by tok) s.views id v e)
@@ -122,7 +122,7 @@ module _ (plans : List Plan) (cpus : ℕ) (s : Bench) (r : Rule plans cpus s) wh
     abbrev words : List ℕ
     words = slice_set s.words i n
 
-    seen_next : Shows (plan_at plans tok) (get_elem? s.homes tok) (slice_index words (token_word tok)) (λ c. slice_index words (cell_word tok c)) (column tok (set s.views id w)) (token_at next tok)
+    seen_next : ShowsToken (plan_at plans tok) (get_elem? s.homes tok) (slice_index words (token_word tok)) (λ c. slice_index words (cell_word tok c)) (column tok (set s.views id w)) (token_at next tok)
     seen_next =
         let stepped_on = Shows-step (plan_at plans tok) (get_elem? s.homes tok) (slice_index s.words (token_word tok)) (λ c. slice_index s.words (cell_word tok c)) (column tok s.views) (token_at r.model tok) id (seen_by tok v) (seen_by tok w) cpu
         (slice_index (slice_set s.words i n) (token_word tok)) (λ c. slice_index (slice_set s.words i n) (cell_word tok c)) (token_after (token_at r.model tok) e)
@@ -131,7 +131,7 @@ module _ (plans : List Plan) (cpus : ℕ) (s : Bench) (r : Rule plans cpus s) wh
         (set (column tok s.views) id (seen_by tok w)) (column tok (set s.views id w)) (token_after (token_at r.model tok) e) (get_or (set r.model.tokens tok (token_after (token_at r.model tok) e)) tok no_token)
         refl (λ c h. refl) (column-set tok s.views id w) (get_or-set_same r.model.tokens tok (token_after (token_at r.model tok) e) no_token (there tok exists')) stepped_on
 
-    seen_else : (k : ℕ) → k < length plans → k ≢ tok → Shows (plan_at plans k) (get_elem? s.homes k) (slice_index words (token_word k)) (λ c. slice_index words (cell_word k c)) (column k (set s.views id w)) (token_at next k)
+    seen_else : (k : ℕ) → k < length plans → k ≢ tok → ShowsToken (plan_at plans k) (get_elem? s.homes k) (slice_index words (token_word k)) (λ c. slice_index words (cell_word k c)) (column k (set s.views id w)) (token_at next k)
     seen_else k h away =
         let few = few_cells k h in
         Shows-move (plan_at plans k) (get_elem? s.homes k) (slice_index s.words (token_word k)) (slice_index (slice_set s.words i n) (token_word k)) (λ c. slice_index s.words (cell_word k c)) (λ c. slice_index (slice_set s.words i n) (cell_word k c))
@@ -153,7 +153,7 @@ module _ (plans : List Plan) (cpus : ℕ) (s : Bench) (r : Rule plans cpus s) wh
           as_many = length-set r.model.tokens tok (token_after (token_at r.model tok) e) ∙ r.pictures.as_many;
           no_messages = r.pictures.no_messages;
           each_token = λ k h. ⊎_elim
-              (λ same. let F : ℕ → Type 0 = λ q. Shows (plan_at plans q) (get_elem? s.homes q) (slice_index words (token_word q)) (λ c. slice_index words (cell_word q c)) (column q (set s.views id w)) (token_at next q) in subst F (sym same) seen_next)
+              (λ same. let F : ℕ → Type 0 = λ q. ShowsToken (plan_at plans q) (get_elem? s.homes q) (slice_index words (token_word q)) (λ c. slice_index words (cell_word q c)) (column q (set s.views id w)) (token_at next q) in subst F (sym same) seen_next)
               (λ away. seen_else k h away)
               (cases_eq k tok);
         };

@@ -35,7 +35,7 @@ use Rattle.lwkt_core.specs.Picture.{picture_of}
 use Rattle.lwkt_core.specs.Machine.{Happens}
 use Rattle.lwkt_core.proofs.MachineMoves.{references_le}
 use Rattle.lwkt_bank.specs.declared.views.Plan.{Plan}
-use Rattle.lwkt_bank.specs.declared.views.Entry.{Entry}
+use Rattle.lwkt_bank.specs.declared.views.TokenEntry.{TokenEntry}
 use Rattle.lwkt_bank.specs.declared.views.View.{View}
 use Rattle.lwkt_bank.specs.Views.{at, amount, generation_in, count_from, held_of, looked, taken, more, less, ended, read, stored, raised, who, noted, load, exchange, add, sub, or, one_section}
 use Rattle.lwkt_bank.specs.Deeds.{deed_by, writes}
@@ -55,9 +55,9 @@ tally-le tallies a = ⊎_elim
     (cases_lt a (length tallies))
 
 -- equal entries, words and cells take the same turn
-Turns-move : (plan : Plan) (tok tok' : Token) (cpu : ℕ) (e e' d : Entry) (word word' : ℕ) (cells cells' : ℕ → ℕ) → d ≡ e' → word' ≡ word → ((c : ℕ) → c < plan.cells → cells' c ≡ cells c) → Turns plan tok tok' cpu e e' word cells → Turns plan tok tok' cpu e d word' cells'
+Turns-move : (plan : Plan) (tok tok' : Token) (cpu : ℕ) (e e' d : TokenEntry) (word word' : ℕ) (cells cells' : ℕ → ℕ) → d ≡ e' → word' ≡ word → ((c : ℕ) → c < plan.cells → cells' c ≡ cells c) → Turns plan tok tok' cpu e e' word cells → Turns plan tok tok' cpu e d word' cells'
 Turns-move plan tok tok' cpu e e' d word word' cells cells' same_entry same_word same_cells turns =
-    let F : Entry → Type 0 = λ x. Turns plan tok tok' cpu e x word' cells' in
+    let F : TokenEntry → Type 0 = λ x. Turns plan tok tok' cpu e x word' cells' in
     subst F (sym same_entry) (record {
       law = turns.law;
       param = turns.param;
@@ -78,14 +78,14 @@ Turns-move plan tok tok' cpu e e' d word word' cells cells' same_entry same_word
 -- whatever others have done since its last deed; the machines shown before and after are related by the event
 abbrev pub Steps : List Plan → ℕ → ℕ → View → ℕ → (ℕ → ℕ) → (ℕ → Event) → (ℕ → List WordStep) → (List Deed → ℕ → View → Type 0) → Type 0
 Steps plans cpus id v i f event steps then = (s : Bench) (r : Rule plans cpus s) (between : List Deed) → get_elem? s.views id ≡ some v → slice_index s.words i < 18446744073709551616
-    → (e : Entry) × ((q : Rule plans cpus (stepped s i (f (slice_index s.words i)) id [] (noted between v e (deed_by (who v) (event (slice_index s.words i)) (steps (slice_index s.words i)))) keeps))
+    → (e : TokenEntry) × ((q : Rule plans cpus (stepped s i (f (slice_index s.words i)) id [] (noted between v e (deed_by (who v) (event (slice_index s.words i)) (steps (slice_index s.words i)))) keeps))
     × (Happens r.model (event (slice_index s.words i)) q.model × then between (slice_index s.words i) (noted between v e (deed_by (who v) (event (slice_index s.words i)) (steps (slice_index s.words i))))))
 
 module _ (plans : List Plan) (cpus id : ℕ) (v : View) (tok : ℕ) (kind : v.kind ≡ Of (who v)) (exists' : tok < length plans) where
   abbrev cpu : CpuId
   cpu = who v
 
-  abbrev e : Entry
+  abbrev e : TokenEntry
   e = at v.tokens tok
 
   abbrev t : TokId
@@ -117,7 +117,7 @@ module _ (plans : List Plan) (cpus id : ℕ) (v : View) (tok : ℕ) (kind : v.ki
         }
 
     -- a step on the count word
-    word_step : (e' : Entry) (between : List Deed) (steps : List WordStep) (n' : ℕ) (ev : Event) → e'.tok ≡ tok → place_of ev ≡ AtToken tok → cpu_of ev ≡ cpu.0 → TokenNeeds (token_at r.model tok) ev → (adds_reference ev ≡ true → count_from 0 (length plans) (held_of v.tokens) < 32)
+    word_step : (e' : TokenEntry) (between : List Deed) (steps : List WordStep) (n' : ℕ) (ev : Event) → e'.tok ≡ tok → place_of ev ≡ AtToken tok → cpu_of ev ≡ cpu.0 → TokenNeeds (token_at r.model tok) ev → (adds_reference ev ≡ true → count_from 0 (length plans) (held_of v.tokens) < 32)
         → Turns (plan_at plans tok) (token_at r.model tok) (token_after (token_at r.model tok) ev) cpu.0 e e' n' cells
         → (q : Rule plans cpus (stepped s (token_word tok) n' id [] (noted between v e' (deed_by cpu ev steps)) keeps)) × Happens r.model ev q.model
     word_step e' between steps n' ev is_tok at_tok by_cpu needs room turns =
@@ -128,7 +128,7 @@ module _ (plans : List Plan) (cpus id : ℕ) (v : View) (tok : ℕ) (kind : v.ki
         (at-here e' v.tokens tok is_tok) (get_or-set_same s.words (token_word tok) n' 0 (omega arith)) (λ c h. get_or-set_other s.words (token_word tok) (cell_word tok c) n' 0 (λ same. absurd (omega arith))) turns)
 
     -- a step on a cell
-    cell_step : (e' : Entry) (between : List Deed) (cell value : ℕ) (ev : Event) → cell < (plan_at plans tok).cells → e'.tok ≡ tok → place_of ev ≡ AtToken tok → cpu_of ev ≡ cpu.0 → TokenNeeds (token_at r.model tok) ev → adds_reference ev ≡ false
+    cell_step : (e' : TokenEntry) (between : List Deed) (cell value : ℕ) (ev : Event) → cell < (plan_at plans tok).cells → e'.tok ≡ tok → place_of ev ≡ AtToken tok → cpu_of ev ≡ cpu.0 → TokenNeeds (token_at r.model tok) ev → adds_reference ev ≡ false
         → Turns (plan_at plans tok) (token_at r.model tok) (token_after (token_at r.model tok) ev) cpu.0 e e' n (λ c. slice_index (slice_set s.words (cell_word tok cell) value) (cell_word tok c))
         → (q : Rule plans cpus (stepped s (cell_word tok cell) value id [] (noted between v e' (deed_by cpu ev [])) keeps)) × Happens r.model ev q.model
     cell_step e' between cell value ev within is_tok at_tok by_cpu needs quiet turns =
@@ -197,7 +197,7 @@ module _ (plans : List Plan) (cpus id : ℕ) (v : View) (tok : ℕ) (kind : v.ki
         → Steps plans cpus id v (token_word tok) (λ x. either (eqb x old) new x) (exchanged (Take cpu t)) (λ x. exchange tok old new x ∷ []) (λ between x w. Exchanges Exclusive old new between tok v x w)
     take_steps decides s r between here fits = go (eqb (found s r here) old) refl
       where
-        go : (b : Bool) → eqb (found s r here) old ≡ b → (e' : Entry) × ((q : Rule plans cpus (stepped s (token_word tok) (either b new (found s r here)) id [] (noted between v e' (deed_by cpu (cond b (Take cpu t) (Load cpu t)) (exchange tok old new (found s r here) ∷ []))) keeps)) × (Happens r.model (cond b (Take cpu t) (Load cpu t)) q.model × Exchanges Exclusive old new between tok v (found s r here) (noted between v e' (deed_by cpu (cond b (Take cpu t) (Load cpu t)) (exchange tok old new (found s r here) ∷ [])))))
+        go : (b : Bool) → eqb (found s r here) old ≡ b → (e' : TokenEntry) × ((q : Rule plans cpus (stepped s (token_word tok) (either b new (found s r here)) id [] (noted between v e' (deed_by cpu (cond b (Take cpu t) (Load cpu t)) (exchange tok old new (found s r here) ∷ []))) keeps)) × (Happens r.model (cond b (Take cpu t) (Load cpu t)) q.model × Exchanges Exclusive old new between tok v (found s r here) (noted between v e' (deed_by cpu (cond b (Take cpu t) (Load cpu t)) (exchange tok old new (found s r here) ∷ [])))))
         go true is =
             let m = sight s r here in
             let same : found s r here ≡ old = eqb-true (found s r here) old is in
@@ -218,7 +218,7 @@ module _ (plans : List Plan) (cpus id : ℕ) (v : View) (tok : ℕ) (kind : v.ki
         → Steps plans cpus id v (token_word tok) (λ x. either (eqb x old) new x) (exchanged (Share cpu t)) (λ x. exchange tok old new x ∷ []) (λ between x w. Exchanges Shared old new between tok v x w)
     share_steps decides none s r between here fits = go (eqb (found s r here) old) refl
       where
-        go : (b : Bool) → eqb (found s r here) old ≡ b → (e' : Entry) × ((q : Rule plans cpus (stepped s (token_word tok) (either b new (found s r here)) id [] (noted between v e' (deed_by cpu (cond b (Share cpu t) (Load cpu t)) (exchange tok old new (found s r here) ∷ []))) keeps)) × (Happens r.model (cond b (Share cpu t) (Load cpu t)) q.model × Exchanges Shared old new between tok v (found s r here) (noted between v e' (deed_by cpu (cond b (Share cpu t) (Load cpu t)) (exchange tok old new (found s r here) ∷ [])))))
+        go : (b : Bool) → eqb (found s r here) old ≡ b → (e' : TokenEntry) × ((q : Rule plans cpus (stepped s (token_word tok) (either b new (found s r here)) id [] (noted between v e' (deed_by cpu (cond b (Share cpu t) (Load cpu t)) (exchange tok old new (found s r here) ∷ []))) keeps)) × (Happens r.model (cond b (Share cpu t) (Load cpu t)) q.model × Exchanges Shared old new between tok v (found s r here) (noted between v e' (deed_by cpu (cond b (Share cpu t) (Load cpu t)) (exchange tok old new (found s r here) ∷ [])))))
         go true is =
             let m = sight s r here in
             let same : found s r here ≡ old = eqb-true (found s r here) old is in

@@ -13,9 +13,9 @@ use Rattle.lwkt_core.specs.Tokens.{held_by, tally_of}
 use Rattle.lwkt_core.specs.Picture.{picture_of}
 use Rattle.lwkt_core.proofs.SeatingLemmas.{at_set, set_here, set_else, inside, total-set}
 use Rattle.lwkt_bank.specs.declared.views.Plan.{Plan}
-use Rattle.lwkt_bank.specs.declared.views.Entry.{Entry}
+use Rattle.lwkt_bank.specs.declared.views.TokenEntry.{TokenEntry}
 use Rattle.lwkt_bank.specs.Views.{amount}
-use Rattle.lwkt_bank.specs.Rule.{Seen, Knows, Shows, IsOpeningRow, held_in}
+use Rattle.lwkt_bank.specs.Rule.{Seen, Knows, ShowsToken, IsOpeningRow, held_by_kind}
 
 -- the number of a processor by which a kind is told apart from others
 abbrev pub cpu_in : SeatKind → ℕ
@@ -28,11 +28,11 @@ abbrev pub numbered_seat : ℕ → SeatKind
 numbered_seat n = Of (record { 0 = n })
 
 -- what an entry has that another processor, or nobody, holds
-abbrev pub IsOthers : Token → ℕ → Entry → Type 0
+abbrev pub IsOthers : Token → ℕ → TokenEntry → Type 0
 IsOthers tok cpu d = ((other : ℕ) × ((other ≢ cpu) × (d.held ≡ held_by tok other))) ⊎ (d.held ≡ Nothing)
 
 -- what a step of a processor does to a token, its words and the processor's entry
-pub record Turns (plan : Plan) (tok tok' : Token) (cpu : ℕ) (e e' : Entry) (word : ℕ) (cells : ℕ → ℕ) : Type 0 where
+pub record Turns (plan : Plan) (tok tok' : Token) (cpu : ℕ) (e e' : TokenEntry) (word : ℕ) (cells : ℕ → ℕ) : Type 0 where
   pub law : tok'.law ≡ tok.law
   pub param : tok'.param ≡ tok.param
   pub long : length tok'.row ≡ length tok.row
@@ -45,13 +45,13 @@ pub record Turns (plan : Plan) (tok tok' : Token) (cpu : ℕ) (e e' : Entry) (wo
   pub rises : tok.generation ≤ tok'.generation
   pub same_first : tok'.generation ≡ tok.generation → tok'.first ≡ tok.first
   pub known : Knows tok' e'
-  pub others_known : (d : Entry) → IsOthers tok cpu d → Knows tok d → Knows tok' d
+  pub others_known : (d : TokenEntry) → IsOthers tok cpu d → Knows tok d → Knows tok' d
 
 -- the words and views show the token after the step
 pub Shows-step : (plan : Plan) (home : Option (Option (Unit {0}))) (word : ℕ) (cells : ℕ → ℕ) (views : List Seen) (tok : Token) (j : ℕ) (x y : Seen) (cpu : CpuId) (word' : ℕ) (cells' : ℕ → ℕ) (tok' : Token)
-    → Shows plan home word cells views tok → get_elem? views j ≡ some x → x.kind ≡ Of cpu → y.kind ≡ x.kind
+    → ShowsToken plan home word cells views tok → get_elem? views j ≡ some x → x.kind ≡ Of cpu → y.kind ≡ x.kind
     → ((k : ℕ) (z : Seen) (other : CpuId) → get_elem? views k ≡ some z → k ≢ j → z.kind ≡ Of other → other.0 ≢ cpu.0)
-    → Turns plan tok tok' cpu.0 x.entry y.entry word' cells' → Shows plan home word' cells' (set views j y) tok'
+    → Turns plan tok tok' cpu.0 x.entry y.entry word' cells' → ShowsToken plan home word' cells' (set views j y) tok'
 Shows-step plan home word cells views tok j x y cpu word' cells' tok' shows here kind same apart turns = record {
   no_slot = shows.no_slot;
   law = turns.law ∙ shows.law;
@@ -100,18 +100,18 @@ Shows-step plan home word cells views tok j x y cpu word' cells' tok' shows here
         (λ other. (k, (z, (set_else views j k y other ∙ e, is))))
         (cases_eq k j)
 
-    own_held : (z : Seen) → y ≡ z → z.entry.held ≡ held_in tok' z.kind
+    own_held : (z : Seen) → y ≡ z → z.entry.held ≡ held_by_kind tok' z.kind
     own_held z e =
-        let kinds : held_in tok' y.kind ≡ held_by tok' cpu.0 = ap (held_in tok') (same ∙ kind) in
-        subst (λ (w : Seen). w.entry.held ≡ held_in tok' w.kind) e (turns.held ∙ sym kinds)
+        let kinds : held_by_kind tok' y.kind ≡ held_by tok' cpu.0 = ap (held_by_kind tok') (same ∙ kind) in
+        subst (λ (w : Seen). w.entry.held ≡ held_by_kind tok' w.kind) e (turns.held ∙ sym kinds)
 
-    held_so : (k : ℕ) (z : Seen) → get_elem? views k ≡ some z → (kd : SeatKind) → z.kind ≡ kd → z.entry.held ≡ held_in tok kd
-    held_so k z e kd is = shows.held k z e ∙ ap (held_in tok) is
+    held_so : (k : ℕ) (z : Seen) → get_elem? views k ≡ some z → (kd : SeatKind) → z.kind ≡ kd → z.entry.held ≡ held_by_kind tok kd
+    held_so k z e kd is = shows.held k z e ∙ ap (held_by_kind tok) is
 
-    other_held : (k : ℕ) (z : Seen) → k ≢ j → get_elem? views k ≡ some z → (kd : SeatKind) → z.kind ≡ kd → z.entry.held ≡ held_in tok' z.kind
-    other_held k z away e (Of other) is = held_so k z e (Of other) is ∙ sym (turns.others other.0 (apart k z other e away is)) ∙ sym (ap (held_in tok') is)
-    other_held k z away e (Clerk made back) is = held_so k z e (Clerk made back) is ∙ sym (ap (held_in tok') is)
-    other_held k z away e Spent is = held_so k z e Spent is ∙ sym (ap (held_in tok') is)
+    other_held : (k : ℕ) (z : Seen) → k ≢ j → get_elem? views k ≡ some z → (kd : SeatKind) → z.kind ≡ kd → z.entry.held ≡ held_by_kind tok' z.kind
+    other_held k z away e (Of other) is = held_so k z e (Of other) is ∙ sym (turns.others other.0 (apart k z other e away is)) ∙ sym (ap (held_by_kind tok') is)
+    other_held k z away e (Clerk made back) is = held_so k z e (Clerk made back) is ∙ sym (ap (held_by_kind tok') is)
+    other_held k z away e Spent is = held_so k z e Spent is ∙ sym (ap (held_by_kind tok') is)
 
     is_others : (k : ℕ) (z : Seen) → k ≢ j → get_elem? views k ≡ some z → (kd : SeatKind) → z.kind ≡ kd → IsOthers tok cpu.0 z.entry
     is_others k z away e (Of other) is = inl (other.0, (apart k z other e away is, held_so k z e (Of other) is))

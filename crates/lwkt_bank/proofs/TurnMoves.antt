@@ -26,14 +26,14 @@ use Rattle.lwkt_core.specs.Tokens.{held_by, tally_of, IsFree, IsOpen, IsNotLastE
 use Rattle.lwkt_core.specs.Picture.{counted, picture_of}
 use Rattle.lwkt_bank.specs.declared.views.Plan.{Plan}
 use Rattle.lwkt_bank.specs.declared.views.Added.{Added}
-use Rattle.lwkt_bank.specs.declared.views.Entry.{Entry}
+use Rattle.lwkt_bank.specs.declared.views.TokenEntry.{TokenEntry}
 use Rattle.lwkt_bank.specs.Views.{amount, generation_in, seen, looked, taken, more, less, numbered, ended, read, stored, raised, one_section, one_generation}
 use Rattle.lwkt_bank.specs.Rule.{Knows, IsOpeningRow}
 use Rattle.lwkt_bank.proofs.WordMoves.{counted-more, exclusive-more, counted-less, exclusive-less, IsOpen-from_picture, picture-open, IsFree-from_picture, count-le, count-set, exclusive-set, exclusive-here, word-room, word-room-written, generation-word, or-marked, decided-exclusive, decided-shared}
 use Rattle.lwkt_bank.proofs.ShowMoves.{IsOthers, Turns}
 
 -- what a seat's processor sees of a token that it may step on
-pub record Sight (cpus : ℕ) (plan : Plan) (tok : Token) (cpu : ℕ) (e : Entry) (n : ℕ) (cells : ℕ → ℕ) : Type 0 where
+pub record Sight (cpus : ℕ) (plan : Plan) (tok : Token) (cpu : ℕ) (e : TokenEntry) (n : ℕ) (cells : ℕ → ℕ) : Type 0 where
   pub limit : cpus ≤ CPU_LIMIT
   pub here : cpu < cpus
   pub safe : IsSafeToken cpus tok
@@ -48,7 +48,7 @@ pub record Sight (cpus : ℕ) (plan : Plan) (tok : Token) (cpu : ℕ) (e : Entry
   pub knows : Knows tok e
 
 -- a look at a generation keeps all but the generation and the known cells
-pub seen-keeps : (e : Entry) (g : ℕ) → ((seen e g).tok ≡ e.tok) × ((seen e g).held ≡ e.held) × ((seen e g).first ≡ e.first) × ((seen e g).row ≡ e.row) × ((seen e g).written ≡ e.written) × ((seen e g).added ≡ e.added) × ((seen e g).generation ≡ g) × ((seen e g).touched ≡ e.touched)
+pub seen-keeps : (e : TokenEntry) (g : ℕ) → ((seen e g).tok ≡ e.tok) × ((seen e g).held ≡ e.held) × ((seen e g).first ≡ e.first) × ((seen e g).row ≡ e.row) × ((seen e g).written ≡ e.written) × ((seen e g).added ≡ e.added) × ((seen e g).generation ≡ g) × ((seen e g).touched ≡ e.touched)
 seen-keeps e g = go (eqb e.generation g) refl
   where
     go : (b : Bool) → eqb e.generation g ≡ b → ((cond b e (record e { generation = g; known = [] })).tok ≡ e.tok) × ((cond b e (record e { generation = g; known = [] })).held ≡ e.held) × ((cond b e (record e { generation = g; known = [] })).first ≡ e.first) × ((cond b e (record e { generation = g; known = [] })).row ≡ e.row) × ((cond b e (record e { generation = g; known = [] })).written ≡ e.written) × ((cond b e (record e { generation = g; known = [] })).added ≡ e.added) × ((cond b e (record e { generation = g; known = [] })).generation ≡ g) × ((cond b e (record e { generation = g; known = [] })).touched ≡ e.touched)
@@ -65,7 +65,7 @@ pub numbered-true : (row : List ℕ) → All (λ c. slice_get row c.at ≡ Some 
 numbered-true row = All-from_recursion (λ c. slice_get row c.at ≡ Some c.value) (numbered 0 row) (numbered_from row row 0 (λ k. ap (slice_get row) (omega arith)))
 
 -- what is known stays true after a look at the token's generation
-Knows-seen : (tok : Token) (e : Entry) (g : ℕ) → g ≡ tok.generation → Knows tok e → Knows tok (seen e g)
+Knows-seen : (tok : Token) (e : TokenEntry) (g : ℕ) → g ≡ tok.generation → Knows tok e → Knows tok (seen e g)
 Knows-seen tok e g is knows = go (eqb e.generation g)
   where
     go : (b : Bool) → Knows tok (cond b e (record e { generation = g; known = [] }))
@@ -73,7 +73,7 @@ Knows-seen tok e g is knows = go (eqb e.generation g)
     go false = record { not_above = omega arith; cells = λ same. All-nil (λ c. slice_get tok.first c.at ≡ Some c.value); holder = λ held. (is, (knows.holder held).1, (knows.holder held).2) }
 
 -- the known cells after a look, where the generation is the one that was known
-pub known-seen : (tok : Token) (e : Entry) (g : ℕ) → g ≡ tok.generation → Knows tok e → All (λ c. slice_get tok.first c.at ≡ Some c.value) (seen e g).known
+pub known-seen : (tok : Token) (e : TokenEntry) (g : ℕ) → g ≡ tok.generation → Knows tok e → All (λ c. slice_get tok.first c.at ≡ Some c.value) (seen e g).known
 known-seen tok e g is knows = (Knows-seen tok e g is knows).cells ((seen-keeps e g).6 ∙ is)
 
 -- an exclusive holding is held
@@ -97,7 +97,7 @@ raise_adds tallies cpu k a added room =
     omega arith)
     (cases_eq cpu.0 a)
 
-module _ (cpus : ℕ) (plan : Plan) (tok : Token) (cpu : CpuId) (e : Entry) (n : ℕ) (cells : ℕ → ℕ) (sight : Sight cpus plan tok cpu.0 e n cells) where
+module _ (cpus : ℕ) (plan : Plan) (tok : Token) (cpu : CpuId) (e : TokenEntry) (n : ℕ) (cells : ℕ → ℕ) (sight : Sight cpus plan tok cpu.0 e n cells) where
   inside : cpu.0 < length tok.holders
   inside = let s = sight.safe.eight_holders in let l = sight.limit in let h = sight.here in omega arith
 
@@ -113,7 +113,7 @@ module _ (cpus : ℕ) (plan : Plan) (tok : Token) (cpu : CpuId) (e : Entry) (n :
   first_lawful = let F : Law → Type 0 = λ l. MeetsLaw l plan.param tok.first in let G : ℕ → Type 0 = λ p. MeetsLaw tok.law p tok.first in subst F sight.law (subst G sight.param sight.safe.lawful)
 
   -- a step that changes only what this processor holds, and the mark
-  turns_moved : (h : Held) (mark : Bool) (e' : Entry) (word : ℕ) → word ≡ word_of (picture_of (record tok { holders = set tok.holders cpu.0 h; mark = mark })) → e'.held ≡ h → e'.added ≡ e.added → e'.written ≡ e.written → Knows tok e'
+  turns_moved : (h : Held) (mark : Bool) (e' : TokenEntry) (word : ℕ) → word ≡ word_of (picture_of (record tok { holders = set tok.holders cpu.0 h; mark = mark })) → e'.held ≡ h → e'.added ≡ e.added → e'.written ≡ e.written → Knows tok e'
       → Turns plan tok (record tok { holders = set tok.holders cpu.0 h; mark = mark }) cpu.0 e e' word cells
   turns_moved h mark e' word is held added written knows = record {
     law = refl;
@@ -322,7 +322,7 @@ module _ (cpus : ℕ) (plan : Plan) (tok : Token) (cpu : CpuId) (e : Entry) (n :
           };
         }
       where
-        not_held : (d : Entry) → IsOthers tok cpu.0 d → is_held d.held ≡ true → ⊥
+        not_held : (d : TokenEntry) → IsOthers tok cpu.0 d → is_held d.held ≡ true → ⊥
         not_held d away held = ⊎_elim
             (λ other. false≢true (sym (ap is_held (other.1.1 ∙ alone_last other.0 other.1.0)) ∙ held))
             (λ nothing. false≢true (sym (ap is_held nothing) ∙ held))
@@ -373,7 +373,7 @@ module _ (cpus : ℕ) (plan : Plan) (tok : Token) (cpu : CpuId) (e : Entry) (n :
       }
 
   -- what another holds while this processor holds the token exclusively: nothing
-  not_theirs : is_exclusive e.held ≡ true → (d : Entry) → IsOthers tok cpu.0 d → is_held d.held ≡ true → ⊥
+  not_theirs : is_exclusive e.held ≡ true → (d : TokenEntry) → IsOthers tok cpu.0 d → is_held d.held ≡ true → ⊥
   not_theirs is d away held = ⊎_elim
       (λ other. false≢true (sym (ap is_held (other.1.1 ∙ sight.safe.compatible cpu.0 other.0 (ap is_exclusive (sym sight.held) ∙ is) (λ same. other.1.0 (sym same)))) ∙ held))
       (λ nothing. false≢true (sym (ap is_held nothing) ∙ held))

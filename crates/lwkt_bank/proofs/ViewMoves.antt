@@ -8,7 +8,7 @@ use Rattle.lwkt_core.specs.declared.tokens.Token.{Token}
 use Rattle.lwkt_core.specs.Tokens.{held_by}
 use Rattle.lwkt_core.specs.Machine.{references_of}
 use Rattle.lwkt_core.proofs.SeatingLemmas.{set_again, at_map, map-set}
-use Rattle.lwkt_bank.specs.declared.views.Entry.{Entry}
+use Rattle.lwkt_bank.specs.declared.views.TokenEntry.{TokenEntry}
 use Rattle.lwkt_bank.specs.declared.views.View.{View}
 use Rattle.lwkt_bank.specs.Views.{at, both_of, merged, count_from}
 use Rattle.lwkt_bank.specs.Rule.{seen_by, column, no_token}
@@ -20,23 +20,23 @@ cond-false : {A : Type 0} (b : Bool) (x y : A) → b ≡ false → cond b x y �
 cond-false b x y e = ap (λ c. cond c x y) e
 
 -- the first entry counts
-pub at-here : (e : Entry) (es : List Entry) (tok : ℕ) → e.tok ≡ tok → at (e ∷ es) tok ≡ e
+pub at-here : (e : TokenEntry) (es : List TokenEntry) (tok : ℕ) → e.tok ≡ tok → at (e ∷ es) tok ≡ e
 at-here e es tok is = cond-true (eqb e.tok tok) e (at es tok) (eq-eqb e.tok tok is)
 
 -- an entry of one token says nothing of another
-pub at-else : (e : Entry) (es : List Entry) (tok k : ℕ) → e.tok ≡ tok → k ≢ tok → at (e ∷ es) k ≡ at es k
+pub at-else : (e : TokenEntry) (es : List TokenEntry) (tok k : ℕ) → e.tok ≡ tok → k ≢ tok → at (e ∷ es) k ≡ at es k
 at-else e es tok k is apart = cond-false (eqb e.tok k) e (at es k) (ne_eqb e.tok k (λ h. apart (sym h ∙ is)))
 
 -- what is said of a token is of that token
-pub at-tok : (es : List Entry) (tok : ℕ) → (at es tok).tok ≡ tok
+pub at-tok : (es : List TokenEntry) (tok : ℕ) → (at es tok).tok ≡ tok
 at-tok [] tok = refl
 at-tok (e ∷ es) tok = ⊎_elim
-    (λ is. ap (λ (x : Entry). x.tok) (cond-true (eqb e.tok tok) e (at es tok) is) ∙ eqb-true e.tok tok is)
-    (λ isnt. ap (λ (x : Entry). x.tok) (cond-false (eqb e.tok tok) e (at es tok) isnt) ∙ at-tok es tok)
+    (λ is. ap (λ (x : TokenEntry). x.tok) (cond-true (eqb e.tok tok) e (at es tok) is) ∙ eqb-true e.tok tok is)
+    (λ isnt. ap (λ (x : TokenEntry). x.tok) (cond-false (eqb e.tok tok) e (at es tok) isnt) ∙ at-tok es tok)
     (cases_Bool (eqb e.tok tok))
 
 -- what two views say together
-pub at-merged : (n : ℕ) (ds es : List Entry) (tok : ℕ) → tok < n → at (merged n ds es) tok ≡ both_of tok (at ds tok) (at es tok)
+pub at-merged : (n : ℕ) (ds es : List TokenEntry) (tok : ℕ) → tok < n → at (merged n ds es) tok ≡ both_of tok (at ds tok) (at es tok)
 at-merged zero ds es tok h = absurd (omega arith)
 at-merged (suc n) ds es tok h = ⊎_elim
     (λ same. at-here (both_of n (at ds n) (at es n)) (merged n ds es) tok (sym same) ∙ ap (λ (k : ℕ). both_of k (at ds k) (at es k)) (sym same))

@@ -10,7 +10,7 @@ use Rattle.lwkt_bank.specs.Told.{Told}
 use Rattle.lwkt_base.specs.declared.laws.Law.TheVariants.{Tally}
 use Rattle.lwkt_bank.specs.declared.closed.Closed.{Closed}
 use Rattle.lwkt_bank.specs.declared.views.View.{View}
-use Rattle.lwkt_bank.specs.declared.views.Entry.{Entry}
+use Rattle.lwkt_bank.specs.declared.views.TokenEntry.{TokenEntry}
 use Rattle.lwkt_bank.specs.declared.seats.CpuSeat.{CpuSeat}
 use Rattle.lwkt_bank.specs.declared.kept.Kept.{Kept}
 use Rattle.lwkt_bank.specs.Views.{at, amount, generation_in}
@@ -31,7 +31,7 @@ abbrev pub kept_by : List Kept → ℕ → ℕ → ℕ
 kept_by kept tok cpu = total (kept_of tok cpu) kept
 
 -- one entry of a token says at least what another says: no earlier generation, and at an equal one each cell known there
-pub record Recalls (d e : Entry) : Type 0 where
+pub record Recalls (d e : TokenEntry) : Type 0 where
   pub rises : e.generation ≤ d.generation
   pub cells : e.generation ≡ d.generation → (row : List ℕ) → All (λ c. slice_get row c.at ≡ Some c.value) d.known → All (λ c. slice_get row c.at ≡ Some c.value) e.known
 

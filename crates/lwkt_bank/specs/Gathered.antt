@@ -1,13 +1,13 @@
 use Rattle.std.specs.Prelude.{◌≡◌, ◌≢◌, ℕ, ◌+◌, ◌<◌, ◌≤◌, List, [], ◌∷◌, length, map, All, Some, slice_get, slice_index, slice_index_or, sum}
 use Rattle.lwkt_core.specs.declared.seats.SeatKind.TheVariants.{Clerk}
 use Rattle.lwkt_bank.specs.declared.banks.Bank.{Bank}
-use Rattle.lwkt_bank.specs.declared.clerks.Desk.{Desk}
+use Rattle.lwkt_bank.specs.declared.clerks.ClerkDesk.{ClerkDesk}
 use Rattle.lwkt_bank.specs.declared.seats.CpuSeat.{CpuSeat}
 use Rattle.lwkt_base.specs.declared.laws.Law.TheVariants.{Tally}
 use Rattle.lwkt_base.specs.Law.{MeetsLaw}
 use Rattle.lwkt_core.specs.Seating.{total}
 use Rattle.lwkt_bank.specs.declared.views.Plan.{Plan}
-use Rattle.lwkt_bank.specs.declared.views.Entry.{Entry}
+use Rattle.lwkt_bank.specs.declared.views.TokenEntry.{TokenEntry}
 use Rattle.lwkt_bank.specs.declared.closed.Closed.{Closed}
 use Rattle.lwkt_core.specs.declared.seats.Deed.{Deed}
 use Rattle.lwkt_core.specs.Tokens.{IsFree}
@@ -22,7 +22,7 @@ use Rattle.lwkt_bank.specs.Opened.{plans_of}
 use Rattle.lwkt_base.specs.declared.openings.TokSpec.{TokSpec}
 
 -- the bank's clerk has made so many seats, and knows what was declared
-pub record HasMade (desk : Desk) (made : ℕ) : Type 0 where
+pub record HasMade (desk : ClerkDesk) (made : ℕ) : Type 0 where
   pub kind : desk.clerk.me.0.kind ≡ Clerk made 0
   pub plans : desk.clerk.me.0.plans ≡ desk.key.plans.items
 
@@ -51,7 +51,7 @@ added_by seats tok cpu = total (λ s. amount cpu (entry s tok).added) seats
 
 -- what a seat knew of a token is so at the close: the generation isn't below the one that it last saw, and at an equal one the
 -- row has each cell that it knew
-pub record IsStill (e : Entry) (row : List ℕ) (generation : ℕ) : Type 0 where
+pub record IsStill (e : TokenEntry) (row : List ℕ) (generation : ℕ) : Type 0 where
   pub not_above : e.generation ≤ generation
   pub cells : e.generation ≡ generation → All (λ c. slice_get row c.at ≡ Some c.value) e.known
 

@@ -4,7 +4,7 @@ use Rattle.lwkt_base.specs.declared.names.Mode.TheVariants.{Shared}
 use Rattle.lwkt_base.specs.declared.holdings.Held.TheVariants.{Nothing}
 use Rattle.lwkt_base.specs.Holding.{Holding, holds_nothing, added, removed}
 use Rattle.lwkt_core.specs.declared.seats.Deed.{Deed}
-use Rattle.lwkt_bank.specs.declared.views.Entry.{Entry}
+use Rattle.lwkt_bank.specs.declared.views.TokenEntry.{TokenEntry}
 use Rattle.lwkt_bank.specs.declared.seats.CpuSeat.{CpuSeat}
 use Rattle.lwkt_bank.specs.declared.tries.Given.{Given}
 use Rattle.lwkt_bank.specs.Views.{more, count_from}
@@ -25,7 +25,7 @@ GivingRemoves = (s s' : CpuSeat) (tok : ℕ) (given : Given) → Gave s s' tok g
 
 -- a call that keeps what is held of its token keeps what is held
 abbrev pub OthersKeep : Type 0
-OthersKeep = (s s' : CpuSeat) (tok : ℕ) (e : Entry) (deeds : List Deed) → Changes s s' tok e deeds → e.held ≡ holding s tok → holding s' ≡ holding s
+OthersKeep = (s s' : CpuSeat) (tok : ℕ) (e : TokenEntry) (deeds : List Deed) → Changes s s' tok e deeds → e.held ≡ holding s tok → holding s' ≡ holding s
 
 -- who holds nothing has no reference, and one reference more of a token that exists is one more
 abbrev pub NothingCounts : Type 0

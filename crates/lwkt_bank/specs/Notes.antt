@@ -9,12 +9,12 @@ use Rattle.lwkt_base.specs.Holding.{references_in, is_held, is_exclusive}
 use Rattle.lwkt_core.specs.declared.seats.SeatKind.{SeatKind}
 use Rattle.lwkt_core.specs.declared.seats.SeatKind.TheVariants.{Clerk, Of, Spent}
 use Rattle.lwkt_bank.specs.declared.views.Plan.{Plan}
-use Rattle.lwkt_bank.specs.declared.views.Entry.{Entry}
+use Rattle.lwkt_bank.specs.declared.views.TokenEntry.{TokenEntry}
 use Rattle.lwkt_bank.specs.declared.views.View.{View}
 use Rattle.lwkt_bank.specs.declared.notes.Change.{Change}
 use Rattle.lwkt_bank.specs.declared.notes.Touch.{Touch}
 use Rattle.lwkt_bank.specs.declared.notes.Touch.TheVariants.{Untouched, Same, Other}
-use Rattle.lwkt_bank.specs.declared.notes.Note.{Note}
+use Rattle.lwkt_bank.specs.declared.notes.TokenNote.{TokenNote}
 use Rattle.lwkt_bank.specs.Views.{at, amount, is_touched}
 use Rattle.lwkt_bank.specs.Rule.{plan_at}
 
@@ -30,17 +30,17 @@ clerk_number (Of cpu) = 0
 clerk_number Spent = 0
 
 -- what is kept of a token that was never taken, and what stands for a note past the last
-abbrev pub no_note : Note
+abbrev pub no_note : TokenNote
 no_note = record { first = 0 ∷ 0 ∷ 0 ∷ 0 ∷ []; tally = 0; last = 0; cells = Untouched ∷ Untouched ∷ Untouched ∷ Untouched ∷ []; mode = Exclusive; references = 0 }
 
-abbrev pub note_at : List Note → ℕ → Note
+abbrev pub note_at : List TokenNote → ℕ → TokenNote
 note_at notes tok = slice_index_or notes tok no_note
 
-abbrev pub touch_at : Note → ℕ → Touch
+abbrev pub touch_at : TokenNote → ℕ → Touch
 touch_at note cell = slice_index_or note.cells cell Untouched
 
 -- what the note says that the seat holds
-abbrev pub held_in : Note → Held
+abbrev pub held_in : TokenNote → Held
 held_in note = if note.references == 0 then Nothing else Holds note.mode (note.references - 1)
 
 -- how a cell stands after a store
@@ -48,12 +48,12 @@ abbrev pub touch_of : Change → Touch
 touch_of change = if change.first == change.last then Same else Other
 
 -- the note after the token was taken, and after a store to a cell
-abbrev pub begun : Note → Mode → Note
+abbrev pub begun : TokenNote → Mode → TokenNote
 begun note Exclusive = record note { cells = Untouched ∷ Untouched ∷ Untouched ∷ Untouched ∷ []; mode = Exclusive; references = 1 }
 begun note Shared = record note { mode = Shared; references = 1 }
 
-abbrev pub changed : Note → ℕ → Change → Note
-changed note cell change = record note { first = slice_set note.first cell change.first; cells = slice_set note.cells cell (touch_of change) }
+abbrev pub note_changed : TokenNote → ℕ → Change → TokenNote
+note_changed note cell change = record note { first = slice_set note.first cell change.first; cells = slice_set note.cells cell (touch_of change) }
 
 -- whether a cell was stored to, and whether it has another value than its first
 abbrev pub is_stored : Touch → Bool
@@ -74,7 +74,7 @@ pub record IsTouched (touch : Touch) (kept first value : ℕ) : Type 0 where
 
 -- what a seat keeps at run time of a token is what its view says; how the cells stand only while it is held exclusively, and the
 -- value of a Tally token's cell only where it was added to in the section
-pub record IsNoted (plan : Plan) (cpu : ℕ) (e : Entry) (note : Note) : Type 0 where
+pub record IsNoted (plan : Plan) (cpu : ℕ) (e : TokenEntry) (note : TokenNote) : Type 0 where
   pub four : length note.cells ≡ 4
   pub firsts : length note.first ≡ 4
   pub tally : note.tally ≡ amount cpu e.added
@@ -87,7 +87,7 @@ pub record IsNoted (plan : Plan) (cpu : ℕ) (e : Entry) (note : Note) : Type 0 
   pub latest : plan.law ≡ Tally → is_exclusive e.held ≡ true → is_stored (touch_at note 0) ≡ true → (note.last ≡ slice_index e.row 0) × (amount cpu e.added ≤ note.last)
 
 -- what a seat keeps at run time is what its view says, the view is that of its processor, and it holds no token that isn't there
-pub record Keeps (notes : List Note) (cpu : CpuId) (v : View) : Type 0 where
+pub record Keeps (notes : List TokenNote) (cpu : CpuId) (v : View) : Type 0 where
   pub seat : seat_number v.kind ≡ cpu.0 + 1
   pub each : (tok : ℕ) → tok < length v.plans → IsNoted (plan_at v.plans tok) cpu.0 (at v.tokens tok) (note_at notes tok)
   pub within : (tok : ℕ) → is_held (at v.tokens tok).held ≡ true → tok < length v.plans

@@ -6,7 +6,7 @@ use Rattle.lwkt_base.specs.Law.{MeetsLaw}
 use Rattle.lwkt_core.specs.declared.seats.Deed.{Deed}
 use Rattle.lwkt_core.specs.History.{AreOthers}
 use Rattle.lwkt_bank.specs.declared.views.Plan.{Plan}
-use Rattle.lwkt_bank.specs.declared.views.Entry.{Entry}
+use Rattle.lwkt_bank.specs.declared.views.TokenEntry.{TokenEntry}
 use Rattle.lwkt_bank.specs.declared.views.View.{View}
 use Rattle.lwkt_bank.specs.Views.{at, amount, generation_in, looked, taken, more, less, ended, read, stored, raised, who, noted}
 use Rattle.lwkt_bank.specs.Deeds.{loads, takes, loses, adds_one, marks, gives_one, gives_clean, gives_written, reads, writes}
@@ -30,7 +30,7 @@ Looks between tok v n w = (n + 4 < 18446744073709551616) × ((at v.tokens tok).g
 
 -- the row that a take at this word finds: it obeys the law, the generation doesn't fall, at an equal generation the row is the
 -- one that the seat knew, and at the opening generation it is the opening row
-pub record IsTakenRow (plan : Plan) (e : Entry) (word : ℕ) (row : List ℕ) : Type 0 where
+pub record IsTakenRow (plan : Plan) (e : TokenEntry) (word : ℕ) (row : List ℕ) : Type 0 where
   pub long : length row ≡ plan.cells
   pub lawful : MeetsLaw plan.law plan.param row
   pub rises : e.generation ≤ generation_in word

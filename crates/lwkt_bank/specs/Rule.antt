@@ -16,7 +16,7 @@ use Rattle.lwkt_core.specs.Machine.{Machine, IsSafe}
 use Rattle.lwkt_core.specs.Picture.{picture_of}
 use Rattle.lwkt_core.specs.Seating.{total, AreSeated}
 use Rattle.lwkt_bank.specs.declared.views.Plan.{Plan}
-use Rattle.lwkt_bank.specs.declared.views.Entry.{Entry}
+use Rattle.lwkt_bank.specs.declared.views.TokenEntry.{TokenEntry}
 use Rattle.lwkt_bank.specs.declared.views.View.{View}
 use Rattle.lwkt_bank.specs.Views.{at, amount, spent}
 
@@ -52,7 +52,7 @@ law_number Tally = 4
 -- one view, as a token sees it
 pub record Seen : Type 0 where
   pub kind : SeatKind
-  pub entry : Entry
+  pub entry : TokenEntry
 
 abbrev pub seen_by : ℕ → View → Seen
 seen_by tok v = record { kind = v.kind; entry = at v.tokens tok }
@@ -62,14 +62,14 @@ abbrev pub column : ℕ → List View → List Seen
 column tok views = map (seen_by tok) views
 
 -- what the seat of this kind holds of a token: the clerk and a seat that was taken back hold nothing
-abbrev pub held_in : Token → SeatKind → Held
-held_in tok (Of cpu) = held_by tok cpu.0
-held_in tok (Clerk made back) = Nothing
-held_in tok Spent = Nothing
+abbrev pub held_by_kind : Token → SeatKind → Held
+held_by_kind tok (Of cpu) = held_by tok cpu.0
+held_by_kind tok (Clerk made back) = Nothing
+held_by_kind tok Spent = Nothing
 
 -- what is known of a token is true: the known generation isn't above the token's; at an equal one each known cell is that
 -- of the first row; and who holds the token knows its generation, its first row and its row (own)
-pub record Knows (tok : Token) (e : Entry) : Type 0 where
+pub record Knows (tok : Token) (e : TokenEntry) : Type 0 where
   pub not_above : e.generation ≤ tok.generation
   pub cells : e.generation ≡ tok.generation → All (λ c. slice_get tok.first c.at ≡ Some c.value) e.known
   pub holder : is_held e.held ≡ true → (e.generation ≡ tok.generation) × (e.first ≡ tok.first) × (e.row ≡ tok.row)
@@ -81,14 +81,14 @@ IsOpeningRow plan row = (i : ℕ) → i < plan.cells → slice_index row i ≡ s
 -- words and views show a token of the model: the count word is its picture, the cells are its row, each seat's view has what
 -- its processor holds, nobody else holds the token, what the views added are the tallies, the generation is the opening one
 -- plus the written sections of all views, and at the opening generation the first row is the opening row
-pub record Shows (plan : Plan) (home : Option (Option (Unit {0}))) (word : ℕ) (cells : ℕ → ℕ) (views : List Seen) (tok : Token) : Type 0 where
+pub record ShowsToken (plan : Plan) (home : Option (Option (Unit {0}))) (word : ℕ) (cells : ℕ → ℕ) (views : List Seen) (tok : Token) : Type 0 where
   pub no_slot : home ≡ none
   pub law : tok.law ≡ plan.law
   pub param : tok.param ≡ plan.param
   pub long : length tok.row ≡ plan.cells
   pub count_word : word ≡ word_of (picture_of tok)
   pub row : (i : ℕ) → i < plan.cells → cells i ≡ slice_index tok.row i
-  pub held : (j : ℕ) (x : Seen) → get_elem? views j ≡ some x → x.entry.held ≡ held_in tok x.kind
+  pub held : (j : ℕ) (x : Seen) → get_elem? views j ≡ some x → x.entry.held ≡ held_by_kind tok x.kind
   pub seated : (cpu : ℕ) → (held_by tok cpu ≡ Nothing) ⊎ ((j : ℕ) × ((x : Seen) × ((get_elem? views j ≡ some x) × (x.kind ≡ Of (record { 0 = cpu })))))
   pub tallies : (cpu : ℕ) → tally_of tok cpu ≡ total (λ x. amount cpu x.entry.added) views
   pub sections : plan.generation + total (λ x. x.entry.written) views ≡ tok.generation
@@ -113,7 +113,7 @@ pub record Pictures (plans : List Plan) (cpus : ℕ) (s : Bench) (m : Machine) :
   pub processors : m.cpus ≡ cpus
   pub as_many : length m.tokens ≡ length plans
   pub no_messages : m.messages ≡ []
-  pub each_token : (tok : ℕ) → tok < length plans → Shows (plan_at plans tok) (get_elem? s.homes tok) (slice_index s.words (token_word tok)) (λ i. slice_index s.words (cell_word tok i)) (column tok s.views) (token_at m tok)
+  pub each_token : (tok : ℕ) → tok < length plans → ShowsToken (plan_at plans tok) (get_elem? s.homes tok) (slice_index s.words (token_word tok)) (λ i. slice_index s.words (cell_word tok i)) (column tok s.views) (token_at m tok)
 
 -- the bank's rule: words and views show a machine that is safe; law words don't change; there is one clerk and one seat for
 -- each processor; and each view but those taken back knows what was declared

@@ -17,10 +17,10 @@ use Rattle.lwkt_core.specs.declared.seats.SeatKind.TheVariants.{Of}
 use Rattle.lwkt_core.specs.declared.seats.WordStep.{WordStep}
 use Rattle.lwkt_bank.specs.declared.views.Plan.{Plan}
 use Rattle.lwkt_bank.specs.declared.views.KnownCell.{KnownCell}
-use Rattle.lwkt_bank.specs.declared.views.Entry.{Entry}
+use Rattle.lwkt_bank.specs.declared.views.TokenEntry.{TokenEntry}
 use Rattle.lwkt_bank.specs.declared.views.View.{View}
 use Rattle.lwkt_bank.specs.declared.banks.Bank.{Bank}
-use Rattle.lwkt_bank.specs.declared.clerks.Desk.{Desk}
+use Rattle.lwkt_bank.specs.declared.clerks.ClerkDesk.{ClerkDesk}
 use Rattle.lwkt_bank.specs.declared.seats.CpuSeat.{CpuSeat}
 use Rattle.lwkt_bank.specs.declared.tries.Try.{Try}
 use Rattle.lwkt_bank.specs.declared.tries.Try.TheVariants.{Got, Busy, Again, Worn}
@@ -42,7 +42,7 @@ pub record BankId : Type 0 where
 abbrev pub id_of : Bank → BankId
 id_of bank = record { table = bank.table.shared.table_id; plans = bank.key.plans.items }
 
-abbrev pub id_of_desk : Desk → BankId
+abbrev pub id_of_desk : ClerkDesk → BankId
 id_of_desk desk = record { table = desk.table.shared.table_id; plans = desk.key.plans.items }
 
 abbrev pub bank_of : CpuSeat → BankId
@@ -60,7 +60,7 @@ abbrev pub plan_of : BankId → ℕ → Plan
 plan_of bank tok = plan_at bank.plans tok
 
 -- what a seat knows of a token, what it holds, and how many references it has
-abbrev pub entry : CpuSeat → ℕ → Entry
+abbrev pub entry : CpuSeat → ℕ → TokenEntry
 entry s tok = at s.seat.me.0.tokens tok
 
 abbrev pub holding : CpuSeat → Holding
@@ -96,7 +96,7 @@ Decides word mode alone answer = (w : TokWord) → Fits w → word_of w ≡ word
 
 -- after a call on a token the seat knows this of it, and as before of every other; it is the same seat of the same bank; and it
 -- has done these deeds, between which others may have acted
-pub record Changes (s s' : CpuSeat) (tok : ℕ) (e : Entry) (deeds : List Deed) : Type 0 where
+pub record Changes (s s' : CpuSeat) (tok : ℕ) (e : TokenEntry) (deeds : List Deed) : Type 0 where
   pub bank : bank_of s' ≡ bank_of s
   pub cpu : s'.cpu ≡ s.cpu
   pub here : entry s' tok ≡ e
@@ -152,7 +152,7 @@ pub record Miss (s s' : CpuSeat) (tok word next : ℕ) : Type 0 where
   pub changes : Changes s s' tok (looked (entry s tok) found) (loses s.cpu tok word next found ∷ [])
 
 -- a deed that is a step on the word of the token, which found some word
-pub record Stepped (s s' : CpuSeat) (tok : ℕ) (e : Entry) (deed : CpuId → ℕ → ℕ → Deed) : Type 0 where
+pub record Stepped (s s' : CpuSeat) (tok : ℕ) (e : TokenEntry) (deed : CpuId → ℕ → ℕ → Deed) : Type 0 where
   pub found : ℕ
   pub changes : Changes s s' tok e (deed s.cpu tok found ∷ [])
 
@@ -163,7 +163,7 @@ Gave s s' tok Clean = (holding s tok ≡ Holds Exclusive 0) × ((entry s tok).ro
 Gave s s' tok Written = (holding s tok ≡ Holds Exclusive 0) × ((entry s tok).row ≢ (entry s tok).first) × Stepped s s' tok (ended (entry s tok)) gives_written
 
 -- a call that leaves this entry, apart from the known cells, of which there may be more; it has done these deeds
-pub record Knowing (s s' : CpuSeat) (tok : ℕ) (e : Entry) (deeds : List Deed) : Type 0 where
+pub record Knowing (s s' : CpuSeat) (tok : ℕ) (e : TokenEntry) (deeds : List Deed) : Type 0 where
   pub known : List KnownCell
   pub new : List KnownCell
   pub grown : known ≡ new ++ e.known
@@ -177,7 +177,7 @@ pub record IsUnchanged (s s' : CpuSeat) : Type 0 where
   pub past : past_of s' ≡ past_of s
 
 -- the load of a cell of a token before the first store to it in a section
-abbrev pub first_load : CpuId → ℕ → Entry → ℕ → List Deed
+abbrev pub first_load : CpuId → ℕ → TokenEntry → ℕ → List Deed
 first_load cpu tok e cell = if is_touched e cell then [] else (reads cpu tok cell (slice_index e.first cell) ∷ [])
 
 -- the loads of a token's row in a question for its law: none where the law asks nothing of a row

@@ -17,15 +17,15 @@ use Rattle.lwkt_core.specs.Seating.{after_made, after_back, next_seat}
 use Rattle.lwkt_bank.specs.declared.views.Plan.{Plan}
 use Rattle.lwkt_bank.specs.declared.views.KnownCell.{KnownCell}
 use Rattle.lwkt_bank.specs.declared.views.Added.{Added}
-use Rattle.lwkt_bank.specs.declared.views.Entry.{Entry}
+use Rattle.lwkt_bank.specs.declared.views.TokenEntry.{TokenEntry}
 use Rattle.lwkt_bank.specs.declared.views.View.{View}
 
 -- what a seat knows of a token that it never looked at
-abbrev pub blank : ℕ → Entry
+abbrev pub blank : ℕ → TokenEntry
 blank tok = record { tok = tok; held = Nothing; generation = 0; known = []; first = []; row = []; touched = []; written = 0; added = [] }
 
 -- what a list of entries says of a token: its first entry counts
-abbrev pub at : List Entry → ℕ → Entry
+abbrev pub at : List TokenEntry → ℕ → TokenEntry
 at [] tok = blank tok
 at (e ∷ es) tok = if e.tok == tok then e else at es tok
 
@@ -35,7 +35,7 @@ count_from tok zero holding = 0
 count_from tok (suc n) holding = references_in (holding tok) + count_from (suc tok) n holding
 
 -- what a list of entries holds
-abbrev pub held_of : List Entry → Holding
+abbrev pub held_of : List TokenEntry → Holding
 held_of entries tok = (at entries tok).held
 
 -- how much of what was added is a processor's
@@ -55,22 +55,22 @@ abbrev pub generation_in : ℕ → ℕ
 generation_in word = word / one_generation
 
 -- the entry after the seat has seen this generation: a new one empties the known cells
-abbrev pub seen : Entry → ℕ → Entry
+abbrev pub seen : TokenEntry → ℕ → TokenEntry
 seen e generation = if e.generation == generation then e else record e { generation = generation; known = [] }
 
 -- the entry after a look at this word
-abbrev pub looked : Entry → ℕ → Entry
+abbrev pub looked : TokenEntry → ℕ → TokenEntry
 looked e word = seen e (generation_in word)
 
 -- the entry of a token that was taken at this word, with this row
-abbrev pub taken : Entry → ℕ → Mode → List ℕ → Entry
+abbrev pub taken : TokenEntry → ℕ → Mode → List ℕ → TokenEntry
 taken e word mode row = record (looked e word) { held = Holds mode 0; first = row; row = row; touched = [] }
 
 -- the entry with one reference more, and with one less
-abbrev pub more : Entry → Entry
+abbrev pub more : TokenEntry → TokenEntry
 more e = record e { held = one_more e.held Shared }
 
-abbrev pub less : Entry → Entry
+abbrev pub less : TokenEntry → TokenEntry
 less e = record e { held = one_less e.held }
 
 -- the cells of a row with their numbers, from a number on
@@ -79,26 +79,26 @@ numbered i [] = []
 numbered i (x ∷ xs) = record { at = i; value = x } ∷ numbered (suc i) xs
 
 -- the entry after a written section has ended
-abbrev pub ended : Entry → Entry
+abbrev pub ended : TokenEntry → TokenEntry
 ended e = record e { held = Nothing; generation = e.generation + 1; known = numbered 0 e.row; first = e.row; written = e.written + 1 }
 
 -- the entry after a cell was read: one cell more of the first row is known
-abbrev pub read : Entry → ℕ → Entry
+abbrev pub read : TokenEntry → ℕ → TokenEntry
 read e cell = record e { known = record { at = cell; value = slice_index e.first cell } ∷ e.known }
 
 -- whether the cell was stored to since the section began, and the cells that were after one more store
-abbrev pub is_touched : Entry → ℕ → Bool
+abbrev pub is_touched : TokenEntry → ℕ → Bool
 is_touched e cell = list_any (λ c. c == cell) e.touched
 
-abbrev pub touching : Entry → ℕ → List ℕ
+abbrev pub touching : TokenEntry → ℕ → List ℕ
 touching e cell = if is_touched e cell then e.touched else (cell ∷ e.touched)
 
 -- the entry after a value was stored in a cell
-abbrev pub stored : Entry → ℕ → ℕ → Entry
+abbrev pub stored : TokenEntry → ℕ → ℕ → TokenEntry
 stored e cell value = record e { row = slice_set e.row cell value; touched = touching e cell }
 
 -- the entry after a processor has added to the cell of a Tally token
-abbrev pub raised : Entry → CpuId → ℕ → Entry
+abbrev pub raised : TokenEntry → CpuId → ℕ → TokenEntry
 raised e cpu k = record e { row = slice_set e.row 0 (slice_index e.row 0 + k); touched = touching e 0; added = record { cpu = cpu; amount = k } ∷ e.added }
 
 -- the processor of a seat: the clerk and a seat that was taken back have none
@@ -111,7 +111,7 @@ abbrev pub who : View → CpuId
 who v = seat_cpu v.kind
 
 -- the view with another entry for a token after a deed: since the seat's last deed others have acted
-abbrev pub noted : List Deed → View → Entry → Deed → View
+abbrev pub noted : List Deed → View → TokenEntry → Deed → View
 noted between v e d = record v { tokens = e ∷ v.tokens; past = v.past ++ (between ++ d ∷ []) }
 
 -- a view as the history sees it
@@ -134,15 +134,15 @@ abbrev pub new_seat : View → View
 new_seat v = record { kind = next_seat v.kind; plans = v.plans; tokens = []; past = []; chapters = [] }
 
 -- the cells that an entry knows of this generation's first row
-abbrev pub known_of : Entry → ℕ → List KnownCell
+abbrev pub known_of : TokenEntry → ℕ → List KnownCell
 known_of e generation = if e.generation == generation then e.known else []
 
 -- what two views together say of a token that neither holds: the later generation, and what both know of it
-abbrev pub both_of : ℕ → Entry → Entry → Entry
+abbrev pub both_of : ℕ → TokenEntry → TokenEntry → TokenEntry
 both_of tok d e = record (blank tok) { generation = max d.generation e.generation; known = known_of d (max d.generation e.generation) ++ known_of e (max d.generation e.generation); written = d.written + e.written; added = d.added ++ e.added }
 
 -- what two views together say of the tokens below a number
-abbrev pub merged : ℕ → List Entry → List Entry → List Entry
+abbrev pub merged : ℕ → List TokenEntry → List TokenEntry → List TokenEntry
 merged zero ds es = []
 merged (suc n) ds es = both_of n (at ds n) (at es n) ∷ merged n ds es
 

@@ -12,7 +12,7 @@ use std::alloc::Global;
 
 /// A bank whose clerk's seat is at hand: at the opening, where the clerk makes the seats, and at the close.
 #[derive(Drop)]
-pub(crate) struct Desk {
+pub(crate) struct ClerkDesk {
     pub(crate) table: Table<(), View, Key, BankRule, Global>,
     pub(crate) clerk: Seat<(), View>,
     pub(crate) key: Key,

@@ -12,7 +12,7 @@ ghost use Rattle.lwkt_bank.specs.Gathered.{IsClosed};
 
 use crate::banks::Bank;
 use crate::blanks::Blank;
-use crate::clerks::Desk;
+use crate::clerks::ClerkDesk;
 use crate::closed::Closed;
 use crate::gathers::gather;
 use crate::kept::Kept;
@@ -190,7 +190,7 @@ fn values(
     closed
 }
 
-impl Desk {
+impl ClerkDesk {
     fn close_seats(self, alloc: Global, seats: Vec<CpuSeat>) -> Result<Closed, AllocError>
         requires ready { All (IsReady (id_of_desk self)) seats.items }
         requires all { length seats.items ≡ self.key.cpus }
@@ -201,7 +201,7 @@ impl Desk {
         let words = Vec::with_capacity(alloc, self.table.word_count())?;
         let blanks = blanks_for(alloc, self.key.plans.len())?;
         let closed = closed_for(alloc, self.key.plans.len())?;
-        let Desk {
+        let ClerkDesk {
             table,
             mut clerk,
             key,

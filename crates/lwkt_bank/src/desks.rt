@@ -8,8 +8,8 @@ ghost use Rattle.lwkt_bank.specs.Seats.{id_of_desk, bank_of, entry, steps_of};
 ghost use Rattle.lwkt_bank.specs.Gathered.{HasMade, IsNew, AreHandedOut, IsOpened};
 
 use crate::banks::Bank;
-use crate::clerks::Desk;
-use crate::notes::Note;
+use crate::clerks::ClerkDesk;
+use crate::notes::TokenNote;
 use crate::opens;
 use crate::plays::HandOut;
 use crate::rules::{BankRule, Key};
@@ -21,10 +21,10 @@ use lwkt_core::SeatKind;
 use std::alloc::{AllocError, Global};
 
 // What a seat keeps at the opening.
-fn blank_notes() -> [Note; 64]
+fn blank_notes() -> [TokenNote; 64]
     ensures { result ≡ replicate 64 no_note }
 {
-    [Note::blank(); 64]
+    [TokenNote::blank(); 64]
 }
 
 // The clerk makes a seat.
@@ -43,14 +43,14 @@ fn split(
     table.shared.split_seat::<HandOut>(clerk)
 }
 
-impl Desk {
+impl ClerkDesk {
     // A bank of these tokens whose clerk hasn't made a seat yet.
     fn with_key(
         alloc: Global,
         specs: &[TokSpec],
         words: &[u64],
         key: Key,
-    ) -> Result<Desk, AllocError>
+    ) -> Result<ClerkDesk, AllocError>
         requires within { AreWithin key.cpus specs.now [] }
         requires lawful { AllOpenLawfully specs.now }
         requires plans { key.plans.items ≡ plans_of specs.now }
@@ -58,7 +58,7 @@ impl Desk {
         ensures { IfOk result (λ desk. (desk.key ≡ key) × HasMade desk 0) }
     {
         let (table, clerk) = Table::of_words(alloc, words, &key)?;
-        Ok(Desk { table, clerk, key })
+        Ok(ClerkDesk { table, clerk, key })
     }
 
     // The seat of the next processor.
@@ -107,7 +107,7 @@ impl Bank {
         requires none { seats.items ≡ [] }
         ensures { IfOk result (λ opened. IsOpened key.cpus specs.now opened.0 opened.1.items) }
     {
-        let mut desk = Desk::with_key(alloc, specs, words, key)?;
+        let mut desk = ClerkDesk::with_key(alloc, specs, words, key)?;
         desk.hand_out_all(&mut seats)?;
         let bank = desk.into_bank()?;
         Ok((bank, seats))

@@ -1,5 +1,5 @@
 ghost use Rattle.std.specs.Prelude.{◌≡◌, ◌+◌, ◌^◌, ◌<◌, length};
-ghost use Rattle.lwkt_bank.specs.Notes.{no_note, held_in, touch_of, begun, changed};
+ghost use Rattle.lwkt_bank.specs.Notes.{no_note, held_in, touch_of, begun, note_changed};
 
 use lwkt_base::{Held, Mode};
 
@@ -38,7 +38,7 @@ pub enum Touch {
 
 /// What a seat keeps of one token.
 #[derive(Clone, Copy)]
-pub struct Note {
+pub struct TokenNote {
     /// The first values of the cells that were stored to since the section began.
     pub first: [u64; 4],
     /// What this processor has added to the cell of a Tally token.
@@ -54,12 +54,12 @@ pub struct Note {
     pub references: u8,
 }
 
-impl Note {
+impl TokenNote {
     /// The note of a token that was never taken.
-    pub(crate) fn blank() -> Note
+    pub(crate) fn blank() -> TokenNote
         ensures { result ≡ no_note }
     {
-        Note {
+        TokenNote {
             first: [0; 4],
             tally: 0,
             last: 0,
@@ -98,7 +98,7 @@ impl Note {
     pub(crate) fn change(&mut self, cell: usize, change: Change)
         requires first { cell < length self.old.first }
         requires inside { cell < length self.old.cells }
-        ensures { self.new ≡ changed self.old cell change }
+        ensures { self.new ≡ note_changed self.old cell change }
     {
         self.first[cell] = change.first;
         self.cells[cell] = change.touch();
@@ -109,7 +109,7 @@ impl Note {
         requires first { 0 < length self.old.first }
         requires inside { 0 < length self.old.cells }
         requires fits { self.old.tally + k < 2 ^ 64 }
-        ensures { self.new ≡ record (changed self.old 0 change) { tally = self.old.tally + k; last = change.last } }
+        ensures { self.new ≡ record (note_changed self.old 0 change) { tally = self.old.tally + k; last = change.last } }
     {
         self.change(0, change);
         self.tally += k;

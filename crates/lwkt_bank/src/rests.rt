@@ -3,7 +3,7 @@ ghost use Rattle.std.specs.Prelude.{◌≡◌, [], IfOk, IfSome};
 ghost use Rattle.lwkt_bank.specs.Seats.{id_of, id_of_desk};
 
 use crate::banks::Bank;
-use crate::clerks::Desk;
+use crate::clerks::ClerkDesk;
 use crate::views::View;
 use atomic_table::{Perch, Seat};
 use std::alloc::AllocError;
@@ -28,12 +28,12 @@ fn seat_on(perch: Perch<(), View>) -> Option<Seat<(), View>>
     perch.take(0).1
 }
 
-impl Desk {
+impl ClerkDesk {
     /// The bank, whose clerk's seat rests from now on.
     pub(crate) fn into_bank(self) -> Result<Bank, AllocError>
         ensures { IfOk result (λ bank. (id_of bank ≡ id_of_desk self) × (bank.key ≡ self.key)) }
     {
-        let Desk { table, clerk, key } = self;
+        let ClerkDesk { table, clerk, key } = self;
         let clerk = perch_for(clerk)?;
         Ok(Bank { table, clerk, key })
     }
@@ -41,11 +41,11 @@ impl Desk {
 
 impl Bank {
     /// The bank with its clerk's seat at hand again.
-    pub(crate) fn into_desk(self) -> Option<Desk>
+    pub(crate) fn into_desk(self) -> Option<ClerkDesk>
         ensures { IfSome result (λ desk. (id_of_desk desk ≡ id_of self) × (desk.key ≡ self.key)) }
     {
         let Bank { table, clerk, key } = self;
         let clerk = seat_on(clerk)?;
-        Some(Desk { table, clerk, key })
+        Some(ClerkDesk { table, clerk, key })
     }
 }

@@ -1,7 +1,7 @@
 ghost use Rattle.std.specs.Prelude.{◌≡◌, length};
 ghost use Rattle.lwkt_bank.specs.Notes.{Keeps};
 
-use crate::notes::Note;
+use crate::notes::TokenNote;
 use crate::views::View;
 use atomic_table::Seat;
 use lwkt_base::CpuId;
@@ -9,7 +9,7 @@ use lwkt_base::CpuId;
 /// One processor's seat at a bank.
 #[derive(Drop)]
 pub struct CpuSeat {
-    pub(crate) notes: [Note; 64],
+    pub(crate) notes: [TokenNote; 64],
     pub(crate) seat: Seat<(), View>,
     pub(crate) cpu: CpuId,
     ghost kept: { Keeps notes cpu seat.me.0 },

@@ -28,7 +28,7 @@ pub struct Added {
 }
 
 /// What a seat knows of one token. Only proofs have values of it. A clause reads an array as a list, of any length.
-pub struct Entry {
+pub struct TokenEntry {
     pub tok: u64,
     /// What the seat holds of it.
     pub held: Held,
@@ -53,7 +53,7 @@ pub struct View {
     pub kind: SeatKind,
     pub plans: [Plan; 0],
     /// Of each token the first entry counts.
-    pub tokens: [Entry; 0],
+    pub tokens: [TokenEntry; 0],
     /// What the seat has seen of the table's history: the front of it up to the seat's own last deed.
     pub past: [Deed; 0],
     /// What the seats had seen that the clerk took back.

@@ -10,7 +10,7 @@ use Rattle.lwkt_base.specs.declared.holdings.Held.TheVariants.{Nothing, Holds}
 use Rattle.lwkt_base.specs.Refs.{first_mode}
 use Rattle.lwkt_base.specs.Holding.{Holding, mode_of, is_held, added, removed, holding_of, holds_nothing, ListsAreHeld, AcquiringAdds, ReleasingRemoves}
 use Rattle.lwkt_core.specs.declared.seats.Deed.{Deed}
-use Rattle.lwkt_bank.specs.declared.views.Entry.{Entry}
+use Rattle.lwkt_bank.specs.declared.views.TokenEntry.{TokenEntry}
 use Rattle.lwkt_bank.specs.declared.seats.CpuSeat.{CpuSeat}
 use Rattle.lwkt_bank.specs.declared.tries.Given.{Given}
 use Rattle.lwkt_bank.specs.declared.tries.Given.TheVariants.{One, Clean, Written}
@@ -29,7 +29,7 @@ counted_as bank s h of is = ap (λ (b : BankId). count_from 0 (tokens_of b) (hol
 -- a new seat holds what the empty list holds
 pub sits_new : NothingCounts → (bank : BankId) (s : CpuSeat) → bank_of s ≡ bank → IsNew s → Sits bank s []
 sits_new nothing bank s of new =
-    let none : holding s ≡ holds_nothing = fun_ext (λ tok. ap (λ (e : Entry). e.held) (new.entries tok)) in
+    let none : holding s ≡ holds_nothing = fun_ext (λ tok. ap (λ (e : TokenEntry). e.held) (new.entries tok)) in
     record {
       of = of;
       held = none;
@@ -69,14 +69,14 @@ sits_kept bank s s' refs sits same kept = record {
   counted = counted_as bank s' (holding s) (same ∙ sits.of) kept ∙ sym (counted_as bank s (holding s) sits.of refl) ∙ sits.counted;
 }
 
-pub sits_changed : OthersKeep → (bank : BankId) (s s' : CpuSeat) (refs : List Ref) (tok : ℕ) (e : Entry) (made : List Deed) → Sits bank s refs → Changes s s' tok e made → e.held ≡ holding s tok → Sits bank s' refs
+pub sits_changed : OthersKeep → (bank : BankId) (s s' : CpuSeat) (refs : List Ref) (tok : ℕ) (e : TokenEntry) (made : List Deed) → Sits bank s refs → Changes s s' tok e made → e.held ≡ holding s tok → Sits bank s' refs
 sits_changed others bank s s' refs tok e made sits changes is = sits_kept bank s s' refs sits changes.bank (others s s' tok e made changes is)
 
-looked_if : (b : Bool) (e : Entry) (g : ℕ) → (cond b e (record e { generation = g; known = [] })).held ≡ e.held
+looked_if : (b : Bool) (e : TokenEntry) (g : ℕ) → (cond b e (record e { generation = g; known = [] })).held ≡ e.held
 looked_if true e g = refl
 looked_if false e g = refl
 
-pub looked-held : (e : Entry) (word : ℕ) → (looked e word).held ≡ e.held
+pub looked-held : (e : TokenEntry) (word : ℕ) → (looked e word).held ≡ e.held
 looked-held e word = looked_if (eqb e.generation (generation_in word)) e (generation_in word)
 
 pub sits_looked : OthersKeep → (bank : BankId) (s s' : CpuSeat) (refs : List Ref) (tok word : ℕ) → Sits bank s refs → Looked s s' tok word → Sits bank s' refs

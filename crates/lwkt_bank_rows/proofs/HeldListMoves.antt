@@ -8,7 +8,7 @@ use Rattle.std.proofs.lemmas.List.Elements.{All-nil, All-cons}
 use Rattle.std.proofs.lemmas.Result.{IfOk-weaker}
 use Rattle.lwkt_base.specs.declared.faults.Fault.{Fault}
 use Rattle.lwkt_base.specs.declared.openings.TokSpec.{TokSpec}
-use Rattle.lwkt_bank.specs.declared.views.Entry.{Entry}
+use Rattle.lwkt_bank.specs.declared.views.TokenEntry.{TokenEntry}
 use Rattle.lwkt_bank.specs.declared.banks.Bank.{Bank}
 use Rattle.lwkt_bank.specs.declared.seats.CpuSeat.{CpuSeat}
 use Rattle.lwkt_bank.specs.Seats.{BankId, id_of, bank_of}
@@ -19,7 +19,7 @@ use Rattle.lwkt_bank_rows.specs.HeldLists.{IsFree}
 
 -- a new seat holds nothing
 new_free : (bank : BankId) (s : CpuSeat) → bank_of s ≡ bank → IsNew s → IsFree bank s
-new_free bank s of new = record { of = of; empty = fun_ext (λ tok. ap (λ (e : Entry). e.held) (new.entries tok)) }
+new_free bank s of new = record { of = of; empty = fun_ext (λ tok. ap (λ (e : TokenEntry). e.held) (new.entries tok)) }
 
 -- each seat of a list
 each_seat : (P : CpuSeat → Type 0) (seats : List CpuSeat) → ((k : ℕ) (s : CpuSeat) → k < length seats → P (slice_index_or seats k s)) → All P seats

@@ -8,7 +8,7 @@ use Rattle.lwkt_base.specs.declared.holdings.Held.{Held}
 use Rattle.lwkt_base.specs.declared.holdings.Held.TheVariants.{Nothing, Holds}
 use Rattle.lwkt_base.specs.Holding.{Holding, is_held, added, removed, holds_nothing, RemovingUndoesAdding}
 use Rattle.lwkt_core.specs.declared.seats.Deed.{Deed}
-use Rattle.lwkt_bank.specs.declared.views.Entry.{Entry}
+use Rattle.lwkt_bank.specs.declared.views.TokenEntry.{TokenEntry}
 use Rattle.lwkt_bank.specs.declared.views.KnownCell.{KnownCell}
 use Rattle.lwkt_bank.specs.declared.seats.CpuSeat.{CpuSeat}
 use Rattle.lwkt_bank.specs.declared.tries.Given.{Given}
@@ -20,15 +20,15 @@ use Rattle.lwkt_bank.specs.Holdings.{TakingAdds, GivingRemoves, OthersKeep, Noth
 use Rattle.lwkt_bank_rows.specs.Readings.{IsEmpty, HasRead, IsFresh}
 use Rattle.lwkt_bank_rows.proofs.DeskMoves.{looked-held}
 
-seen_if : (b : Bool) (e : Entry) (g : ℕ) → (b ≡ true → e.generation ≡ g) → (cond b e (record e { generation = g; known = [] })).generation ≡ g
+seen_if : (b : Bool) (e : TokenEntry) (g : ℕ) → (b ≡ true → e.generation ≡ g) → (cond b e (record e { generation = g; known = [] })).generation ≡ g
 seen_if true e g is = is refl
 seen_if false e g is = refl
 
-looked-generation : (e : Entry) (word : ℕ) → (looked e word).generation ≡ generation_in word
+looked-generation : (e : TokenEntry) (word : ℕ) → (looked e word).generation ≡ generation_in word
 looked-generation e word = seen_if (eqb e.generation (generation_in word)) e (generation_in word) (eqb-true e.generation (generation_in word))
 
 -- a seat that holds nothing still does after a call that keeps what is held
-pub empty_kept : OthersKeep → (bank : BankId) (s s' : CpuSeat) (tok : ℕ) (e : Entry) (made : List Deed) → IsEmpty bank s → Changes s s' tok e made → e.held ≡ holding s tok → IsEmpty bank s'
+pub empty_kept : OthersKeep → (bank : BankId) (s s' : CpuSeat) (tok : ℕ) (e : TokenEntry) (made : List Deed) → IsEmpty bank s → Changes s s' tok e made → e.held ≡ holding s tok → IsEmpty bank s'
 empty_kept others bank s s' tok e made empty changes is = record {
   of = changes.bank ∙ empty.of;
   empty = others s s' tok e made changes is ∙ empty.empty;
@@ -54,10 +54,10 @@ pub record Reads (s0 s1 s2 s3 : CpuSeat) (tok cell generation value : ℕ) (alon
   pub gave : Gave s2 s3 tok given
 
 pub taken_shared : (s s' : CpuSeat) (tok generation : ℕ) (alone : Bool) → Took s s' tok Shared alone generation → holding s' tok ≡ Holds Shared 0
-taken_shared s s' tok generation alone took = ap (λ (e : Entry). e.held) took.changes.here
+taken_shared s s' tok generation alone took = ap (λ (e : TokenEntry). e.held) took.changes.here
 
 pub loaded_shared : {deeds : List Deed} (s0 s1 s2 : CpuSeat) (tok cell generation : ℕ) (alone : Bool) → Took s0 s1 tok Shared alone generation → Changes s1 s2 tok (read (entry s1 tok) cell) deeds → holding s2 tok ≡ Holds Shared 0
-loaded_shared s0 s1 s2 tok cell generation alone took loaded = ap (λ (e : Entry). e.held) loaded.here ∙ taken_shared s0 s1 tok generation alone took
+loaded_shared s0 s1 s2 tok cell generation alone took loaded = ap (λ (e : TokenEntry). e.held) loaded.here ∙ taken_shared s0 s1 tok generation alone took
 
 pub held_shared : (held : Held) → held ≡ Holds Shared 0 → is_held held ≡ true
 held_shared held is = ap is_held is
@@ -92,7 +92,7 @@ read_rises s s' tok generation alone took =
     omega arith
 
 value_read : (s0 s1 s2 s3 : CpuSeat) (tok cell generation value : ℕ) (alone : Bool) (given : Given) → (r : Reads s0 s1 s2 s3 tok cell generation value alone given) → value ≡ slice_index r.took.row cell
-value_read s0 s1 s2 s3 tok cell generation value alone given r = r.value_is ∙ ap (λ (e : Entry). slice_index e.row cell) r.took.changes.here
+value_read s0 s1 s2 s3 tok cell generation value alone given r = r.value_is ∙ ap (λ (e : TokenEntry). slice_index e.row cell) r.took.changes.here
 
 -- known cells with one more
 abbrev with_cell : ℕ → ℕ → List KnownCell → List KnownCell
@@ -104,15 +104,15 @@ has_read s0 s1 s2 s3 tok cell generation value alone given r =
     let e1 = r.took.changes.here in
     let e2 = r.loaded.here in
     let e3 = (given_reads s0 s1 s2 s3 tok cell generation value alone given r).changes.here in
-    let first : slice_index (entry s1 tok).first cell ≡ value = ap (λ (e : Entry). slice_index e.first cell) e1 ∙ sym (value_read s0 s1 s2 s3 tok cell generation value alone given r) in
+    let first : slice_index (entry s1 tok).first cell ≡ value = ap (λ (e : TokenEntry). slice_index e.first cell) e1 ∙ sym (value_read s0 s1 s2 s3 tok cell generation value alone given r) in
     record {
       generation_is =
-          ap (λ (e : Entry). e.generation) e3 ∙ ap (λ (e : Entry). e.generation) e2 ∙ ap (λ (e : Entry). e.generation) e1
+          ap (λ (e : TokenEntry). e.generation) e3 ∙ ap (λ (e : TokenEntry). e.generation) e2 ∙ ap (λ (e : TokenEntry). e.generation) e1
           ∙ looked-generation (entry s0 tok) r.took.word
           ∙ sym r.took.generation_is;
       before = (entry s1 tok).known;
       read =
-          ap (λ (e : Entry). e.known) e3 ∙ ap (λ (e : Entry). e.known) e2
+          ap (λ (e : TokenEntry). e.known) e3 ∙ ap (λ (e : TokenEntry). e.known) e2
           ∙ ap (λ (v : ℕ). with_cell cell v (entry s1 tok).known) first;
     }
 

@@ -4,7 +4,7 @@ ghost use Rattle.lwkt_bank.specs.Seats.{id_of};
 ghost use Rattle.lwkt_bank_rows.specs.Desks.{Sits};
 ghost use Rattle.lwkt_bank_rows.specs.Readings.{IsEmpty};
 
-use crate::desks::{Ask, Desk, Line, Miss, Told, call, close, open, play, seat_of};
+use crate::desks::{Ask, Line, ListedSeat, Miss, Told, call, close, open, play, seat_of};
 use crate::readers::{Reading, read_around};
 use lwkt_bank::banks::Bank;
 use lwkt_bank::closed::Closed;
@@ -215,7 +215,7 @@ fn mark_stops_lone_sharers(rt: HostRuntime) {
 }
 
 // Tries until the token is taken.
-fn take_at_last(bank: &Bank, desk: &mut Desk) -> bool
+fn take_at_last(bank: &Bank, desk: &mut ListedSeat) -> bool
     requires { Sits (id_of bank.now) desk.old.seat desk.old.refs }
     ensures { Sits (id_of bank.now) desk.new.seat desk.new.refs }
 {
@@ -229,7 +229,7 @@ fn take_at_last(bank: &Bank, desk: &mut Desk) -> bool
 }
 
 // A section that adds 3.
-fn add_once(bank: &Bank, desk: &mut Desk) -> bool
+fn add_once(bank: &Bank, desk: &mut ListedSeat) -> bool
     requires { Sits (id_of bank.now) desk.old.seat desk.old.refs }
     ensures { Sits (id_of bank.now) desk.new.seat desk.new.refs }
 {
@@ -238,7 +238,7 @@ fn add_once(bank: &Bank, desk: &mut Desk) -> bool
         && call(bank, desk, TokId(0), Ask::Give) == Told::Given(Given::Written)
 }
 
-fn add_often(bank: &Bank, desk: &mut Desk)
+fn add_often(bank: &Bank, desk: &mut ListedSeat)
     requires { Sits (id_of bank.now) desk.old.seat desk.old.refs }
     ensures { Sits (id_of bank.now) desk.new.seat desk.new.refs }
 {
@@ -250,7 +250,7 @@ fn add_often(bank: &Bank, desk: &mut Desk)
 }
 
 // A thread for each desk.
-fn add_by_threads<R: Threads + Sync>(rt: &R, bank: &Bank, desks: &mut [Desk])
+fn add_by_threads<R: Threads + Sync>(rt: &R, bank: &Bank, desks: &mut [ListedSeat])
     requires { All (λ d. Sits (id_of bank.now) d.seat d.refs) desks.old }
     ensures sit { All (λ d. Sits (id_of bank.now) d.seat d.refs) desks.new }
     ensures as_many { length desks.new ≡ length desks.old }
@@ -278,7 +278,7 @@ fn bank_exclusive_5(rt: HostRuntime) {
 }
 
 // The seats of a reader and a writer of two processors.
-fn pair_of(mut desks: Vec<Desk>, bank: &Bank) -> Option<(CpuSeat, Desk)>
+fn pair_of(mut desks: Vec<ListedSeat>, bank: &Bank) -> Option<(CpuSeat, ListedSeat)>
     requires { All (λ d. Sits (id_of bank.now) d.seat d.refs) desks.items }
     ensures { IfSome result (λ p. IsEmpty (id_of bank.now) p.0 × Sits (id_of bank.now) p.1.seat p.1.refs) }
 {

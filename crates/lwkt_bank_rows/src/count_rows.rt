@@ -3,7 +3,7 @@ ghost use Rattle.std.specs.Prelude.{◌≡◌, ◌<◌, ◌≤◌, All, length, 
 ghost use Rattle.lwkt_bank.specs.Seats.{id_of, cpus_of};
 ghost use Rattle.lwkt_bank_rows.specs.Desks.{Sits};
 
-use crate::desks::{Ask, Desk, Miss, Told, call, close, open};
+use crate::desks::{Ask, ListedSeat, Miss, Told, call, close, open};
 use lwkt_bank::banks::Bank;
 use lwkt_bank::closed::Closed;
 use lwkt_bank::tries::{Given, Try};
@@ -31,7 +31,7 @@ pub struct Counts {
 /// A desk after its thread has ended.
 #[derive(Drop)]
 pub struct Worked {
-    pub desk: Desk,
+    pub desk: ListedSeat,
     pub counts: Counts,
 }
 
@@ -42,7 +42,7 @@ const NOTHING_DONE: Counts = Counts {
 };
 
 // Adds to the cell of a token that is held.
-fn add(bank: &Bank, desk: &mut Desk, tok: TokId, k: u64) -> bool
+fn add(bank: &Bank, desk: &mut ListedSeat, tok: TokId, k: u64) -> bool
     requires { Sits (id_of bank.now) desk.old.seat desk.old.refs }
     ensures { Sits (id_of bank.now) desk.new.seat desk.new.refs }
 {
@@ -58,7 +58,7 @@ fn add(bank: &Bank, desk: &mut Desk, tok: TokId, k: u64) -> bool
 }
 
 // A section that adds to the cell. None if the token was missed.
-fn section(bank: &Bank, desk: &mut Desk, tok: TokId, k: u64) -> Option<Told>
+fn section(bank: &Bank, desk: &mut ListedSeat, tok: TokId, k: u64) -> Option<Told>
     requires { Sits (id_of bank.now) desk.old.seat desk.old.refs }
     ensures { Sits (id_of bank.now) desk.new.seat desk.new.refs }
 {
@@ -86,7 +86,7 @@ impl Counts {
 }
 
 // Sections on both tokens in turn, which add 0, 1 and 2 in turn: those that add 0 are clean.
-fn work(bank: &Bank, mut desk: Desk) -> Worked
+fn work(bank: &Bank, mut desk: ListedSeat) -> Worked
     requires { Sits (id_of bank.now) desk.seat desk.refs }
     ensures { Sits (id_of bank.now) result.desk.seat result.desk.refs }
 {
@@ -109,16 +109,16 @@ fn work(bank: &Bank, mut desk: Desk) -> Worked
 fn by_threads<R: Threads + Sync>(
     rt: &R,
     bank: &Bank,
-    desks: Vec<Desk>,
+    desks: Vec<ListedSeat>,
 ) -> Result<Vec<Worked>, AllocError>
     requires { All (λ d. Sits (id_of bank.now) d.seat d.refs) desks.items }
     ensures sit { IfOk result (λ worked. All (λ w. Sits (id_of bank.now) w.desk.seat w.desk.refs) worked.items) }
     ensures as_many { IfOk result (λ worked. length worked.items ≡ length desks.items) }
 {
-    thread::map_vec(rt, desks, &|desk: Desk| work(bank, desk))
+    thread::map_vec(rt, desks, &|desk: ListedSeat| work(bank, desk))
 }
 
-fn desks_of(alloc: Global, worked: Vec<Worked>) -> Result<Vec<Desk>, AllocError>
+fn desks_of(alloc: Global, worked: Vec<Worked>) -> Result<Vec<ListedSeat>, AllocError>
     ensures { IfOk result (λ desks. desks.items ≡ map (λ w. w.desk) worked.items) }
 {
     worked.into_iter().map(|one| one.desk).collect(alloc)
@@ -183,7 +183,7 @@ fn race<R: Threads + Sync>(
     rt: &R,
     alloc: Global,
     bank: Bank,
-    desks: Vec<Desk>,
+    desks: Vec<ListedSeat>,
 ) -> Result<(Closed, Vec<Counts>), Miss>
     requires sit { All (λ d. Sits (id_of bank) d.seat d.refs) desks.items }
     requires as_many { length desks.items ≡ cpus_of bank }

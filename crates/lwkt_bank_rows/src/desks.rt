@@ -16,7 +16,7 @@ use std::alloc::{AllocError, Global};
 
 /// A seat, and the references that it holds.
 #[derive(Drop)]
-pub struct Desk {
+pub struct ListedSeat {
     pub seat: CpuSeat,
     pub refs: TokList,
 }
@@ -208,7 +208,7 @@ fn mark(bank: &Bank, seat: &mut CpuSeat, refs: &TokList, tok: TokId) -> Told
 }
 
 // A try, where the list has room for a reference and none to this token.
-fn ask_take(bank: &Bank, desk: &mut Desk, new: Ref, alone: bool) -> Told
+fn ask_take(bank: &Bank, desk: &mut ListedSeat, new: Ref, alone: bool) -> Told
     requires sits { Sits (id_of bank.now) desk.old.seat desk.old.refs }
     requires there { new.tok.0 < tokens_of (id_of bank.now) }
     ensures { Sits (id_of bank.now) desk.new.seat desk.new.refs }
@@ -219,7 +219,7 @@ fn ask_take(bank: &Bank, desk: &mut Desk, new: Ref, alone: bool) -> Told
     Told::Tried(take(bank, &mut desk.seat, &mut desk.refs, new, alone))
 }
 
-fn ask_again(bank: &Bank, desk: &mut Desk, tok: TokId) -> Told
+fn ask_again(bank: &Bank, desk: &mut ListedSeat, tok: TokId) -> Told
     requires sits { Sits (id_of bank.now) desk.old.seat desk.old.refs }
     requires there { tok.0 < tokens_of (id_of bank.now) }
     ensures { Sits (id_of bank.now) desk.new.seat desk.new.refs }
@@ -231,7 +231,7 @@ fn ask_again(bank: &Bank, desk: &mut Desk, tok: TokId) -> Told
     Told::Done
 }
 
-fn ask_give(bank: &Bank, desk: &mut Desk, tok: TokId) -> Told
+fn ask_give(bank: &Bank, desk: &mut ListedSeat, tok: TokId) -> Told
     requires sits { Sits (id_of bank.now) desk.old.seat desk.old.refs }
     requires there { tok.0 < tokens_of (id_of bank.now) }
     ensures { Sits (id_of bank.now) desk.new.seat desk.new.refs }
@@ -246,7 +246,7 @@ fn ask_give(bank: &Bank, desk: &mut Desk, tok: TokId) -> Told
 }
 
 // A call that leaves what is held.
-fn ask_kept(bank: &Bank, desk: &mut Desk, tok: TokId, ask: Ask) -> Told
+fn ask_kept(bank: &Bank, desk: &mut ListedSeat, tok: TokId, ask: Ask) -> Told
     requires sits { Sits (id_of bank.now) desk.old.seat desk.old.refs }
     requires there { tok.0 < tokens_of (id_of bank.now) }
     ensures { Sits (id_of bank.now) desk.new.seat desk.new.refs }
@@ -264,7 +264,7 @@ fn ask_kept(bank: &Bank, desk: &mut Desk, tok: TokId, ask: Ask) -> Told
 }
 
 /// The answer of a call. Where a condition of the call isn't met, no call is made.
-pub fn call(bank: &Bank, desk: &mut Desk, tok: TokId, ask: Ask) -> Told
+pub fn call(bank: &Bank, desk: &mut ListedSeat, tok: TokId, ask: Ask) -> Told
     requires { Sits (id_of bank.now) desk.old.seat desk.old.refs }
     ensures { Sits (id_of bank.now) desk.new.seat desk.new.refs }
 {
@@ -279,7 +279,7 @@ pub fn call(bank: &Bank, desk: &mut Desk, tok: TokId, ask: Ask) -> Told
     }
 }
 
-fn tell(bank: &Bank, desks: &mut Vec<Desk>, line: Line) -> Told
+fn tell(bank: &Bank, desks: &mut Vec<ListedSeat>, line: Line) -> Told
     requires { All (λ d. Sits (id_of bank.now) d.seat d.refs) desks.old.items }
     ensures sit { All (λ d. Sits (id_of bank.now) d.seat d.refs) desks.new.items }
     ensures as_many { length desks.new.items ≡ length desks.old.items }
@@ -291,7 +291,7 @@ fn tell(bank: &Bank, desks: &mut Vec<Desk>, line: Line) -> Told
 }
 
 // Makes the calls of a table, up to the first that answers otherwise than is wanted.
-fn play_lines(bank: &Bank, desks: &mut Vec<Desk>, lines: &[Line]) -> Result<(), Miss>
+fn play_lines(bank: &Bank, desks: &mut Vec<ListedSeat>, lines: &[Line]) -> Result<(), Miss>
     requires { All (λ d. Sits (id_of bank.now) d.seat d.refs) desks.old.items }
     ensures sit { All (λ d. Sits (id_of bank.now) d.seat d.refs) desks.new.items }
     ensures as_many { length desks.new.items ≡ length desks.old.items }
@@ -305,32 +305,36 @@ fn play_lines(bank: &Bank, desks: &mut Vec<Desk>, lines: &[Line]) -> Result<(), 
     Ok(())
 }
 
-fn desks_of(alloc: Global, seats: Vec<CpuSeat>) -> Result<Vec<Desk>, AllocError>
+fn desks_of(alloc: Global, seats: Vec<CpuSeat>) -> Result<Vec<ListedSeat>, AllocError>
     ensures { IfOk result (λ desks. desks.items ≡ map (λ s. record { seat = s; refs = [] }) seats.items) }
 {
     seats
         .into_iter()
-        .map(|seat| Desk {
+        .map(|seat| ListedSeat {
             seat,
             refs: TokList::new(),
         })
         .collect(alloc)
 }
 
-fn seats_of(alloc: Global, desks: Vec<Desk>) -> Result<Vec<CpuSeat>, AllocError>
+fn seats_of(alloc: Global, desks: Vec<ListedSeat>) -> Result<Vec<CpuSeat>, AllocError>
     ensures { IfOk result (λ seats. seats.items ≡ map (λ d. d.seat) desks.items) }
 {
     desks.into_iter().map(|desk| desk.seat).collect(alloc)
 }
 
-fn are_empty(desks: &[Desk]) -> bool
+fn are_empty(desks: &[ListedSeat]) -> bool
     ensures { IsTrue result ↔ All (λ d. d.refs ≡ []) desks.now }
 {
     desks.iter().all(|desk| desk.refs.is_empty())
 }
 
 /// A bank of these tokens, and a desk for each processor.
-pub fn open(alloc: Global, tokens: &[TokSpec], cpus: usize) -> Result<(Bank, Vec<Desk>), Fault>
+pub fn open(
+    alloc: Global,
+    tokens: &[TokSpec],
+    cpus: usize,
+) -> Result<(Bank, Vec<ListedSeat>), Fault>
     ensures sit { IfOk result (λ opened. All (λ d. Sits (id_of opened.0) d.seat d.refs) opened.1.items) }
     ensures as_many { IfOk result (λ opened. length opened.1.items ≡ cpus_of opened.0) }
 {
@@ -341,7 +345,7 @@ pub fn open(alloc: Global, tokens: &[TokSpec], cpus: usize) -> Result<(Bank, Vec
 }
 
 /// The seat of a desk that holds nothing.
-pub fn seat_of(desk: Desk) -> Option<CpuSeat>
+pub fn seat_of(desk: ListedSeat) -> Option<CpuSeat>
     ensures { IfSome result (λ s. (s ≡ desk.seat) × (desk.refs ≡ [])) }
 {
     if !desk.refs.is_empty() {
@@ -351,7 +355,7 @@ pub fn seat_of(desk: Desk) -> Option<CpuSeat>
 }
 
 /// The closing values of a bank whose desks hold nothing.
-pub fn close(alloc: Global, bank: Bank, desks: Vec<Desk>) -> Result<Closed, Miss>
+pub fn close(alloc: Global, bank: Bank, desks: Vec<ListedSeat>) -> Result<Closed, Miss>
     requires sit { All (λ d. Sits (id_of bank) d.seat d.refs) desks.items }
     requires as_many { length desks.items ≡ cpus_of bank }
 {

@@ -3,7 +3,7 @@ ghost use Rattle.std.specs.Prelude.{◌≡◌, ◌<◌, ◌≤◌, All, length};
 ghost use Rattle.lwkt_bank.specs.Seats.{id_of};
 ghost use Rattle.lwkt_bank_rows.specs.Desks.{Sits};
 
-use crate::desks::{Ask, Desk, Miss, Told, call, close, open};
+use crate::desks::{Ask, ListedSeat, Miss, Told, call, close, open};
 use lwkt_bank::banks::Bank;
 use lwkt_bank::closed::Closed;
 use lwkt_bank::tries::{Given, Try};
@@ -84,7 +84,7 @@ fn calls(cpu: u8, tok: u8) -> [(Ask, Told); 6]
 }
 
 // Whether the calls on a token are answered so.
-fn answers(bank: &Bank, desk: &mut Desk, tok: u8, calls: &[(Ask, Told)]) -> bool
+fn answers(bank: &Bank, desk: &mut ListedSeat, tok: u8, calls: &[(Ask, Told)]) -> bool
     requires { Sits (id_of bank.now) desk.old.seat desk.old.refs }
     ensures { Sits (id_of bank.now) desk.new.seat desk.new.refs }
 {
@@ -97,7 +97,7 @@ fn answers(bank: &Bank, desk: &mut Desk, tok: u8, calls: &[(Ask, Told)]) -> bool
 }
 
 // The first token that a seat can't use as wanted.
-fn use_all(bank: &Bank, desk: &mut Desk, cpu: u8) -> Option<usize>
+fn use_all(bank: &Bank, desk: &mut ListedSeat, cpu: u8) -> Option<usize>
     requires sits { Sits (id_of bank.now) desk.old.seat desk.old.refs }
     requires within { cpu < 8 }
     ensures { Sits (id_of bank.now) desk.new.seat desk.new.refs }
@@ -111,7 +111,7 @@ fn use_all(bank: &Bank, desk: &mut Desk, cpu: u8) -> Option<usize>
 }
 
 // Each seat uses all tokens, one seat after another.
-fn use_by_each(bank: &Bank, desks: &mut Vec<Desk>) -> Result<(), Miss>
+fn use_by_each(bank: &Bank, desks: &mut Vec<ListedSeat>) -> Result<(), Miss>
     requires { All (λ d. Sits (id_of bank.now) d.seat d.refs) desks.old.items }
     ensures sit { All (λ d. Sits (id_of bank.now) d.seat d.refs) desks.new.items }
     ensures as_many { length desks.new.items ≡ length desks.old.items }

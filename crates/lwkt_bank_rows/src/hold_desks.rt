@@ -13,7 +13,7 @@ use std::alloc::Global;
 
 /// A hold at its bank, the list that it holds, and the events of its calls.
 #[derive(Drop)]
-pub struct Desk<'a> {
+pub struct ListedHold<'a> {
     hold: Hold,
     bank: &'a Bank,
     list: TokList,
@@ -71,12 +71,16 @@ pub fn next_watch<'a>(bank: &'a Bank, seats: &mut Vec<CpuSeat>) -> Option<Watch<
 }
 
 /// A desk with the seat of the last processor that is left.
-pub fn next_desk<'a>(alloc: Global, bank: &'a Bank, seats: &mut Vec<CpuSeat>) -> Option<Desk<'a>>
+pub fn next_desk<'a>(
+    alloc: Global,
+    bank: &'a Bank,
+    seats: &mut Vec<CpuSeat>,
+) -> Option<ListedHold<'a>>
     requires { All (IsFree (id_of bank.now)) seats.old.items }
     ensures { All (IsFree (id_of bank.now)) seats.new.items }
 {
     let seat = seats.pop()?;
-    Some(Desk {
+    Some(ListedHold {
         hold: Hold::new(seat),
         bank,
         list: TokList::new(),
@@ -184,7 +188,7 @@ fn found(res: Result<u64, Fault>) -> Option<Answer> {
     }
 }
 
-impl Desk<'_> {
+impl ListedHold<'_> {
     /// The references that are held.
     pub fn refs(&self) -> &[Ref] {
         self.list.refs()

@@ -3,7 +3,9 @@ ghost use Rattle.std.specs.Prelude.{◌≡◌, ◌+◌, ◌<◌, ◌≤◌, [], 
 ghost use Rattle.lwkt_bank.specs.Seats.{id_of, tokens_of, cpus_of};
 ghost use Rattle.lwkt_bank_rows.specs.HeldLists.{IsHeld, IsFree};
 
-use crate::hold_desks::{Call, Desk, Told, Watch, list_of, make_room, next_desk, next_watch, open};
+use crate::hold_desks::{
+    Call, ListedHold, Told, Watch, list_of, make_room, next_desk, next_watch, open,
+};
 use lwkt_bank::{Bank, Closed, CpuSeat};
 use lwkt_base::{Answer, Ask, Cells, CpuId, Fault, Law, Mode, Ref, TokId, TokList};
 use lwkt_core::Event;
@@ -79,7 +81,7 @@ fn desks_of<'a>(
     alloc: Global,
     bank: &'a Bank,
     seats: &mut Vec<CpuSeat>,
-) -> Result<Vec<Desk<'a>>, AllocError>
+) -> Result<Vec<ListedHold<'a>>, AllocError>
     requires { All (IsFree (id_of bank.now)) seats.old.items }
 {
     let mut desks = Vec::new(alloc);
@@ -93,7 +95,7 @@ fn desks_of<'a>(
 }
 
 // Makes a call, and fails if it goes otherwise.
-fn play_line(desk: &mut Desk, watch: &mut Watch, at: usize, line: &Line) -> Result<(), Miss> {
+fn play_line(desk: &mut ListedHold, watch: &mut Watch, at: usize, line: &Line) -> Result<(), Miss> {
     let told = desk.call(line.1);
     let first = watch.word(0);
     let second = watch.word(1);
@@ -108,7 +110,7 @@ fn play_line(desk: &mut Desk, watch: &mut Watch, at: usize, line: &Line) -> Resu
     Ok(())
 }
 
-fn play_lines(desks: &mut Vec<Desk>, watch: &mut Watch, lines: &[Line]) -> Result<(), Miss> {
+fn play_lines(desks: &mut Vec<ListedHold>, watch: &mut Watch, lines: &[Line]) -> Result<(), Miss> {
     for (at, line) in lines.iter().enumerate() {
         match desks.get_mut(line.0) {
             Some(desk) => play_line(desk, watch, at, line)?,
@@ -118,14 +120,14 @@ fn play_lines(desks: &mut Vec<Desk>, watch: &mut Watch, lines: &[Line]) -> Resul
     Ok(())
 }
 
-fn has_events(desk: &Desk, events: Option<&[Event]>) -> bool {
+fn has_events(desk: &ListedHold, events: Option<&[Event]>) -> bool {
     match events {
         Some(want) => desk.trace() == want,
         None => true,
     }
 }
 
-fn is_left(desks: &[Desk], row: &Played) -> Result<(), Miss> {
+fn is_left(desks: &[ListedHold], row: &Played) -> Result<(), Miss> {
     let Some(desk) = desks.first() else {
         return Err(Miss::Seat);
     };

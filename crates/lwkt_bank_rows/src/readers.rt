@@ -4,7 +4,7 @@ ghost use Rattle.lwkt_bank.specs.Seats.{id_of, tokens_of, plan_of, entry};
 ghost use Rattle.lwkt_bank_rows.specs.Desks.{Sits};
 ghost use Rattle.lwkt_bank_rows.specs.Readings.{IsEmpty, HasRead, IsFresh};
 
-use crate::desks::{Ask, Desk, call};
+use crate::desks::{Ask, ListedSeat, call};
 use lwkt_bank::banks::Bank;
 use lwkt_bank::laws::{calls_change_holdings, references_are_counted};
 use lwkt_bank::seats::CpuSeat;
@@ -45,7 +45,7 @@ fn read(bank: &Bank, seat: &mut CpuSeat, tok: TokId, cell: u8) -> Option<Reading
 }
 
 // A section that stores a value in a cell.
-fn write(bank: &Bank, desk: &mut Desk, tok: TokId, cell: u8, value: u64)
+fn write(bank: &Bank, desk: &mut ListedSeat, tok: TokId, cell: u8, value: u64)
     requires { Sits (id_of bank.now) desk.old.seat desk.old.refs }
     ensures { Sits (id_of bank.now) desk.new.seat desk.new.refs }
 {
@@ -59,7 +59,7 @@ fn write(bank: &Bank, desk: &mut Desk, tok: TokId, cell: u8, value: u64)
 pub fn read_around(
     bank: &Bank,
     reader: &mut CpuSeat,
-    writer: &mut Desk,
+    writer: &mut ListedSeat,
     tok: TokId,
     cell: u8,
     value: u64,

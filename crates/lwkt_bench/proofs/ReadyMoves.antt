@@ -7,7 +7,7 @@ use Rattle.lwkt_base.specs.declared.faults.Fault.{Fault}
 use Rattle.lwkt_base.specs.declared.holdings.Held.TheVariants.{Nothing}
 use Rattle.lwkt_base.specs.declared.laws.Law.TheVariants.{Any}
 use Rattle.lwkt_base.specs.declared.openings.TokSpec.{TokSpec}
-use Rattle.lwkt_bank.specs.declared.views.Entry.{Entry}
+use Rattle.lwkt_bank.specs.declared.views.TokenEntry.{TokenEntry}
 use Rattle.lwkt_bank.specs.declared.views.Plan.{Plan}
 use Rattle.lwkt_bank.specs.declared.banks.Bank.{Bank}
 use Rattle.lwkt_bank.specs.declared.seats.CpuSeat.{CpuSeat}
@@ -40,7 +40,7 @@ ready cpus specs bank seats plain opened = record {
       subst F (sym opened.plans) (λ tok there. plain_at specs tok (λ k low. All-get_or IsPlainSpec specs k no_spec low plain) there);
   idle =
       let P : CpuSeat → Type 0 = λ s. (bank_of s ≡ id_of bank) × ((tok : ℕ) → holding s tok ≡ Nothing) in
-      all_seats P seats (λ k s low. ((opened.seats_out.each k s low).0, λ tok. ap (λ (e : Entry). e.held) ((opened.seats_out.each k s low).1.entries tok)));
+      all_seats P seats (λ k s low. ((opened.seats_out.each k s low).0, λ tok. ap (λ (e : TokenEntry). e.held) ((opened.seats_out.each k s low).1.entries tok)));
 }
 
 pub opened-ready : (cpus : ℕ) (specs slice : List TokSpec) (r : Result (Bank × Vec CpuSeat Global) Fault) → slice ≡ specs → All IsPlainSpec specs → IfOk r (λ o. IsOpened cpus slice o.0 o.1.items) → IfOk r (λ o. IsReady (id_of o.0) o.1.items)

@@ -10,7 +10,7 @@ use lwkt_base::{Mode, TokId};
 
 /// A seat that holds nothing, at its bank, and the token that it takes and gives back.
 #[derive(Drop)]
-pub struct Desk<'a> {
+pub struct TokenSeat<'a> {
     // Behind a pointer, so that bank and token stay in registers from step to step.
     pub seat: Box<CpuSeat>,
     pub bank: &'a Bank,
@@ -88,7 +88,7 @@ fn add(bank: &Bank, seat: &mut CpuSeat, tok: TokId) -> bool
 
 /// Sections with one load and one store.
 #[derive(Drop)]
-pub struct Sections<'a>(pub Desk<'a>);
+pub struct Sections<'a>(pub TokenSeat<'a>);
 
 impl Steps for Sections<'_> {
     fn step(&mut self) -> bool {
@@ -99,7 +99,7 @@ impl Steps for Sections<'_> {
 
 /// Shared references, taken and given back.
 #[derive(Drop)]
-pub struct Shares<'a>(pub Desk<'a>);
+pub struct Shares<'a>(pub TokenSeat<'a>);
 
 impl Steps for Shares<'_> {
     fn step(&mut self) -> bool {
@@ -110,7 +110,7 @@ impl Steps for Shares<'_> {
 
 /// Sections that add 1 to the cell.
 #[derive(Drop)]
-pub struct Adds<'a>(pub Desk<'a>);
+pub struct Adds<'a>(pub TokenSeat<'a>);
 
 impl Steps for Adds<'_> {
     fn step(&mut self) -> bool {

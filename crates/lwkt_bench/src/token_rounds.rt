@@ -3,7 +3,7 @@ ghost use Rattle.std.specs.Prelude.{◌≡◌, ◌≢◌, ◌<◌, IfOk, All, ve
 ghost use Rattle.lwkt_bank.specs.Seats.{id_of, tokens_of};
 ghost use Rattle.lwkt_bench.specs.Idle.{IsPlainSpec, IsReady};
 
-use crate::desks::{Desk, Sections, Shares};
+use crate::desks::{Sections, Shares, TokenSeat};
 use crate::hands::{HandSections, HandShares, HandToken};
 use crate::rounds::Race;
 use crate::steps::{STEPS, time_in_turn};
@@ -82,7 +82,7 @@ pub fn desk<'a>(
     bank: &'a Bank,
     seats: &mut Vec<CpuSeat>,
     tok: TokId,
-) -> io::Result<Desk<'a>>
+) -> io::Result<TokenSeat<'a>>
     requires ready { IsReady (id_of bank.now) seats.old.items }
     requires there { tok.0 < tokens_of (id_of bank.now) }
     ensures { IsReady (id_of bank.now) seats.new.items }
@@ -91,7 +91,7 @@ pub fn desk<'a>(
         return Err(no_seat());
     };
     let seat = Box::new(alloc, seat)?;
-    Ok(Desk { seat, bank, tok })
+    Ok(TokenSeat { seat, bank, tok })
 }
 
 /// What a refusal is as an error of the program.

@@ -19,7 +19,7 @@ use Rattle.lwkt_base.specs.Holding.{Holding, is_held, is_exclusive, one_more, on
 use Rattle.lwkt_core.specs.declared.events.Event.{Event}
 use Rattle.lwkt_core.specs.declared.events.Event.TheVariants.{Write}
 use Rattle.lwkt_core.specs.Events.{cpu_of}
-use Rattle.lwkt_bank.specs.declared.views.Entry.{Entry}
+use Rattle.lwkt_bank.specs.declared.views.TokenEntry.{TokenEntry}
 use Rattle.lwkt_bank.specs.declared.seats.CpuSeat.{CpuSeat}
 use Rattle.lwkt_core.specs.declared.seats.WordStep.{WordStep}
 use Rattle.lwkt_core.specs.declared.seats.Deed.{Deed}
@@ -27,7 +27,7 @@ use Rattle.lwkt_core.specs.History.{events_in, steps_in}
 use Rattle.lwkt_bank.specs.Views.{is_touched}
 use Rattle.lwkt_bank.specs.Deeds.{reads, reads_all, writes_all}
 use Rattle.lwkt_bank.specs.Seats.{BankId, bank_of, plan_of, entry, holding, Knowing, Restored, first_load, lawful_loads, written_over}
-use Rattle.lwkt_hold.specs.Steps.{is_counted, is_of_token, is_on_word, Shows, Tells}
+use Rattle.lwkt_hold.specs.Steps.{is_counted, is_of_token, is_on_word, ShowsEvent, Tells}
 use Rattle.lwkt_hold.specs.Runs.{Moves, Ran}
 use Rattle.lwkt_hold.specs.Rows.{row, first_row, MeetsItsLaw, IsBroken, SameRow, writes, GivesBack, Mends}
 use Rattle.lwkt_hold.specs.Givings.{StoresFirst}
@@ -82,8 +82,8 @@ stored_ran P s s' tok cpu values t u r at_front mine pushed longer few room = re
   trace = pushed;
   own = let F : ℕ → Type 0 = λ k. All (λ (e : Event). cpu_of e ≡ k) (writes cpu tok 0 values) in subst F (ap (λ (x : CpuId). x.0) mine) (writes_own cpu tok 0 values);
   told =
-      let F : List Event → Type 0 = λ ys. AllZip Shows [] ys in
-      let G : List WordStep → Type 0 = λ xs. AllZip Shows (filter is_counted xs) (filter is_on_word (writes cpu tok 0 values)) in
+      let F : List Event → Type 0 = λ ys. AllZip ShowsEvent [] ys in
+      let G : List WordStep → Type 0 = λ xs. AllZip ShowsEvent (filter is_counted xs) (filter is_on_word (writes cpu tok 0 values)) in
       subst G (sym (no_steps s.cpu tok.0 0 values)) (subst F (sym (writes_off cpu tok 0 values)) tt);
   moves =
       let F : Holding → Type 0 = λ h. Moves P (holding s) (writes cpu tok 0 values) h in
@@ -220,10 +220,10 @@ same_rows s m tok other deeds k = elim (cases_Bool (eqb other tok)) [
   | inl is ↦
       let same = eqb-true other tok is in
       let F : ℕ → Type 0 = λ t. SameRow s m t in
-      subst F (sym same) (record { row_is = ap (λ (e : Entry). e.row) k.changes.here; first_is = ap (λ (e : Entry). e.first) k.changes.here })
+      subst F (sym same) (record { row_is = ap (λ (e : TokenEntry). e.row) k.changes.here; first_is = ap (λ (e : TokenEntry). e.first) k.changes.here })
   | inr is ↦
       let e = k.changes.else_ other (eqb-false other tok is) in
-      record { row_is = ap (λ (e : Entry). e.row) e; first_is = ap (λ (e : Entry). e.first) e }
+      record { row_is = ap (λ (e : TokenEntry). e.row) e; first_is = ap (λ (e : TokenEntry). e.first) e }
 ]
 
 -- nothing is restored

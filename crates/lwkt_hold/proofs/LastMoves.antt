@@ -22,7 +22,7 @@ use Rattle.lwkt_base.specs.declared.names.CpuId.{CpuId}
 use Rattle.lwkt_hold.specs.Fronts.{IsFront}
 use Rattle.lwkt_hold.specs.Takings.{takes}
 use Rattle.lwkt_core.specs.History.{events_in, steps_in}
-use Rattle.lwkt_hold.specs.Steps.{is_counted, is_of_token, is_on_word, Shows, Tells}
+use Rattle.lwkt_hold.specs.Steps.{is_counted, is_of_token, is_on_word, ShowsEvent, Tells}
 use Rattle.lwkt_hold.specs.Runs.{Moves, Ran}
 use Rattle.lwkt_hold.proofs.HoldingMoves.{holding_of_push, removed_added}
 use Rattle.lwkt_hold.proofs.GiveMoves.{more_here, held_more}
@@ -101,7 +101,7 @@ ran_silent P Q m n a b t u silent ran =
       done = [];
       trace = ran.trace ∙ ap (λ xs. t.items ++ xs) none;
       own = let F : List Event → Type 0 = λ xs. All (λ e. cpu_of e ≡ a.cpu.0) xs in subst F none ran.own;
-      told = let F : List Event → Type 0 = λ xs. AllZip Shows (filter is_counted (steps_in ran.deeds)) (filter is_on_word xs) in subst F none ran.told;
+      told = let F : List Event → Type 0 = λ xs. AllZip ShowsEvent (filter is_counted (steps_in ran.deeds)) (filter is_on_word xs) in subst F none ran.told;
       moves = let F : List Event → Type 0 = λ xs. Moves P (holding a) xs (holding b) in subst F none ran.moves;
       few = omega arith;
       grown = same ∙ sym (add-zero (vec_len t));

@@ -8,7 +8,7 @@ use Rattle.lwkt_base.specs.declared.holdings.Held.TheVariants.{Nothing}
 use Rattle.lwkt_base.specs.Holding.{Holding, is_held, one_less, added, removed, holding_of, holds_nothing}
 use Rattle.lwkt_core.specs.declared.events.Event.{Event}
 use Rattle.lwkt_core.specs.declared.seats.Deed.{Deed}
-use Rattle.lwkt_bank.specs.declared.views.Entry.{Entry}
+use Rattle.lwkt_bank.specs.declared.views.TokenEntry.{TokenEntry}
 use Rattle.lwkt_bank.specs.declared.seats.CpuSeat.{CpuSeat}
 use Rattle.lwkt_bank.specs.Seats.{entry, holding, Changes, Looked, Lost}
 use Rattle.lwkt_bank.specs.Views.{generation_in, looked}
@@ -26,28 +26,28 @@ use Rattle.lwkt_hold.proofs.TakeMoves.{unused, looked-held}
 
 -- a change of one token by which references are taken: if it was held, its row and first row stay; if it is held from now on,
 -- its row is its first row
-pub takes_changed : (s s' : CpuSeat) (tok : ℕ) (e : Entry) (made : List Deed) → Changes s s' tok e made → (is_held (holding s tok) ≡ true → (e.row ≡ row s tok) × (e.first ≡ first_row s tok)) → (is_held (holding s tok) ≡ false → is_held e.held ≡ true → e.row ≡ e.first) → TakesRows s s'
+pub takes_changed : (s s' : CpuSeat) (tok : ℕ) (e : TokenEntry) (made : List Deed) → Changes s s' tok e made → (is_held (holding s tok) ≡ true → (e.row ≡ row s tok) × (e.first ≡ first_row s tok)) → (is_held (holding s tok) ≡ false → is_held e.held ≡ true → e.row ≡ e.first) → TakesRows s s'
 takes_changed s s' tok e made c stays begins = record {
   kept = λ other held. elim (cases_Bool (eqb other tok)) [
     | inl is ↦
         let same = eqb-true other tok is in
         let F : ℕ → Type 0 = λ t. SameRow s s' t in
         let k = stays (ap (λ t. is_held (holding s t)) (sym same) ∙ held) in
-        subst F (sym same) (record { row_is = ap (λ (x : Entry). x.row) c.here ∙ k.0; first_is = ap (λ (x : Entry). x.first) c.here ∙ k.1 })
+        subst F (sym same) (record { row_is = ap (λ (x : TokenEntry). x.row) c.here ∙ k.0; first_is = ap (λ (x : TokenEntry). x.first) c.here ∙ k.1 })
     | inr is ↦
         let k = c.else_ other (eqb-false other tok is) in
-        record { row_is = ap (λ (x : Entry). x.row) k; first_is = ap (λ (x : Entry). x.first) k }
+        record { row_is = ap (λ (x : TokenEntry). x.row) k; first_is = ap (λ (x : TokenEntry). x.first) k }
   ];
   begun = λ other free held. elim (cases_Bool (eqb other tok)) [
     | inl is ↦
         let same = eqb-true other tok is in
         let F : ℕ → Type 0 = λ t. row s' t ≡ first_row s' t in
         let free' : is_held (holding s tok) ≡ false = ap (λ t. is_held (holding s t)) (sym same) ∙ free in
-        let held' : is_held e.held ≡ true = sym (ap (λ (x : Entry). is_held x.held) c.here) ∙ ap (λ t. is_held (holding s' t)) (sym same) ∙ held in
-        subst F (sym same) (ap (λ (x : Entry). x.row) c.here ∙ begins free' held' ∙ sym (ap (λ (x : Entry). x.first) c.here))
+        let held' : is_held e.held ≡ true = sym (ap (λ (x : TokenEntry). is_held x.held) c.here) ∙ ap (λ t. is_held (holding s' t)) (sym same) ∙ held in
+        subst F (sym same) (ap (λ (x : TokenEntry). x.row) c.here ∙ begins free' held' ∙ sym (ap (λ (x : TokenEntry). x.first) c.here))
     | inr is ↦
         let k = c.else_ other (eqb-false other tok is) in
-        absurd (false≢true (sym free ∙ sym (ap (λ (x : Entry). is_held x.held) k) ∙ held))
+        absurd (false≢true (sym free ∙ sym (ap (λ (x : TokenEntry). is_held x.held) k) ∙ held))
   ];
 }
 
@@ -71,18 +71,18 @@ clean_taken s s' taken clean = record {
   ];
 }
 
-looked-row_if : (b : Bool) (e : Entry) (g : ℕ) → (cond b e (record e { generation = g; known = [] })).row ≡ e.row
+looked-row_if : (b : Bool) (e : TokenEntry) (g : ℕ) → (cond b e (record e { generation = g; known = [] })).row ≡ e.row
 looked-row_if true e g = refl
 looked-row_if false e g = refl
 
-looked-row : (e : Entry) (word : ℕ) → (looked e word).row ≡ e.row
+looked-row : (e : TokenEntry) (word : ℕ) → (looked e word).row ≡ e.row
 looked-row e word = looked-row_if (eqb e.generation (generation_in word)) e (generation_in word)
 
-looked-first_if : (b : Bool) (e : Entry) (g : ℕ) → (cond b e (record e { generation = g; known = [] })).first ≡ e.first
+looked-first_if : (b : Bool) (e : TokenEntry) (g : ℕ) → (cond b e (record e { generation = g; known = [] })).first ≡ e.first
 looked-first_if true e g = refl
 looked-first_if false e g = refl
 
-looked-first : (e : Entry) (word : ℕ) → (looked e word).first ≡ e.first
+looked-first : (e : TokenEntry) (word : ℕ) → (looked e word).first ≡ e.first
 looked-first e word = looked-first_if (eqb e.generation (generation_in word)) e (generation_in word)
 
 -- a mark leaves every row as it was
@@ -91,10 +91,10 @@ stepped_rows s s' tok made c other = elim (cases_Bool (eqb other tok)) [
   | inl is ↦
       let same = eqb-true other tok is in
       let F : ℕ → Type 0 = λ t. SameRow s s' t in
-      subst F (sym same) (record { row_is = ap (λ (x : Entry). x.row) c.here; first_is = ap (λ (x : Entry). x.first) c.here })
+      subst F (sym same) (record { row_is = ap (λ (x : TokenEntry). x.row) c.here; first_is = ap (λ (x : TokenEntry). x.first) c.here })
   | inr is ↦
       let k = c.else_ other (eqb-false other tok is) in
-      record { row_is = ap (λ (x : Entry). x.row) k; first_is = ap (λ (x : Entry). x.first) k }
+      record { row_is = ap (λ (x : TokenEntry). x.row) k; first_is = ap (λ (x : TokenEntry). x.first) k }
 ]
 
 -- a seat that holds nothing is clean

@@ -24,13 +24,13 @@ use Rattle.lwkt_core.specs.declared.seats.WordStep.{WordStep}
 use Rattle.lwkt_core.specs.declared.seats.Deed.{Deed}
 use Rattle.lwkt_core.specs.History.{events_in, steps_in}
 use Rattle.lwkt_core.proofs.HistoryLemmas.{own-nil}
-use Rattle.lwkt_bank.specs.declared.views.Entry.{Entry}
+use Rattle.lwkt_bank.specs.declared.views.TokenEntry.{TokenEntry}
 use Rattle.lwkt_bank.specs.declared.seats.CpuSeat.{CpuSeat}
 use Rattle.lwkt_bank.specs.Views.{is_touched}
 use Rattle.lwkt_bank.specs.Deeds.{reads, writes}
 use Rattle.lwkt_bank.specs.Seats.{entry, holding, Changes, Knowing, IsUnchanged, first_load}
 use Rattle.lwkt_hold.specs.Fronts.{IsFront}
-use Rattle.lwkt_hold.specs.Steps.{is_counted, Shows, Tells}
+use Rattle.lwkt_hold.specs.Steps.{is_counted, ShowsEvent, Tells}
 use Rattle.lwkt_hold.specs.Runs.{Ran}
 use Rattle.lwkt_hold.proofs.RunMoves.{tells_one, ran_none, ran_weaker, ran_step, holding_kept}
 
@@ -112,7 +112,7 @@ pub exclusive_listed : (s : CpuSeat) (refs : List Ref) (tok : ℕ) → holding s
 exclusive_listed s refs tok front is = ap (λ h. is_exclusive (h tok)) front ∙ exclusive_if_mode (holding_of refs tok) (modes refs tok ∙ is)
 
 -- a cell was read, and a cell was stored to
-pub read_ran : (refs : List Ref) (s s' : CpuSeat) (tok : TokId) (e : Entry) (cpu : CpuId) (cell value : ℕ) (t u : Vec Event Global) → Changes s s' tok.0 e (reads s.cpu tok.0 cell value ∷ []) → e.held ≡ holding s tok.0 → holding s ≡ holding_of refs → cpu ≡ s.cpu → u.items ≡ t.items ++ Read cpu tok cell value ∷ [] → vec_len u ≡ vec_len t + 1 → vec_capacity t ≤ vec_capacity u → Ran (IsFront refs) 1 s s' t u
+pub read_ran : (refs : List Ref) (s s' : CpuSeat) (tok : TokId) (e : TokenEntry) (cpu : CpuId) (cell value : ℕ) (t u : Vec Event Global) → Changes s s' tok.0 e (reads s.cpu tok.0 cell value ∷ []) → e.held ≡ holding s tok.0 → holding s ≡ holding_of refs → cpu ≡ s.cpu → u.items ≡ t.items ++ Read cpu tok cell value ∷ [] → vec_len u ≡ vec_len t + 1 → vec_capacity t ≤ vec_capacity u → Ran (IsFront refs) 1 s s' t u
 read_ran refs s s' tok e cpu cell value t u c held front mine pushed longer room =
     let deeds = reads s.cpu tok.0 cell value ∷ [] in
     let kept = holding_kept s s' tok.0 e deeds c held in
@@ -130,15 +130,15 @@ tells_store s tok cpu cell value mine = go (is_touched (entry s tok.0) cell)
     go true = (tells_write s tok cpu cell value mine, refl)
     go false = (inl (refl, tells_write s tok cpu cell value mine), refl)
 
-pub write_ran : (refs : List Ref) (s s' : CpuSeat) (tok : TokId) (e : Entry) (deeds : List Deed) (cpu : CpuId) (cell value : ℕ) (t u : Vec Event Global) → Knowing s s' tok.0 e deeds → Tells (events_in deeds) (Write cpu tok cell value ∷ []) → steps_in deeds ≡ [] → e.held ≡ holding s tok.0 → holding s ≡ holding_of refs → cpu ≡ s.cpu → u.items ≡ t.items ++ Write cpu tok cell value ∷ [] → vec_len u ≡ vec_len t + 1 → vec_capacity t ≤ vec_capacity u → Ran (IsFront refs) 1 s s' t u
+pub write_ran : (refs : List Ref) (s s' : CpuSeat) (tok : TokId) (e : TokenEntry) (deeds : List Deed) (cpu : CpuId) (cell value : ℕ) (t u : Vec Event Global) → Knowing s s' tok.0 e deeds → Tells (events_in deeds) (Write cpu tok cell value ∷ []) → steps_in deeds ≡ [] → e.held ≡ holding s tok.0 → holding s ≡ holding_of refs → cpu ≡ s.cpu → u.items ≡ t.items ++ Write cpu tok cell value ∷ [] → vec_len u ≡ vec_len t + 1 → vec_capacity t ≤ vec_capacity u → Ran (IsFront refs) 1 s s' t u
 write_ran refs s s' tok e deeds cpu cell value t u k tells off held front mine pushed longer room =
     let kept = holding_kept s s' tok.0 (record e { known = k.known }) deeds k.changes held in
-    let F : List WordStep → Type 0 = λ xs. AllZip Shows (filter is_counted xs) [] in
+    let F : List WordStep → Type 0 = λ xs. AllZip ShowsEvent (filter is_counted xs) [] in
     ran_step (IsFront refs) s s' tok.0 (record e { known = k.known }) deeds (Write cpu tok cell value) t u k.changes pushed longer room (ap (λ (x : CpuId). x.0) mine) tells (subst F (sym off) tt) kept (whole_front refs (holding s') (kept ∙ front))
 
 -- a call that leaves the seat as it was
 pub unchanged_kept : (s s' : CpuSeat) → IsUnchanged s s' → holding s' ≡ holding s
-unchanged_kept s s' same = fun_ext (λ tok. ap (λ (e : Entry). e.held) (same.entries tok))
+unchanged_kept s s' same = fun_ext (λ tok. ap (λ (e : TokenEntry). e.held) (same.entries tok))
 
 pub unchanged_ran : (P : Holding → Type 0) (most : ℕ) (s s' : CpuSeat) (t : Vec Event Global) → IsUnchanged s s' → Ran P most s s' t t
 unchanged_ran P most s s' t same = record {

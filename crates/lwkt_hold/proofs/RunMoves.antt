@@ -15,21 +15,21 @@ use Rattle.lwkt_core.specs.declared.seats.Deed.{Deed}
 use Rattle.lwkt_core.specs.History.{AreOwn, Grows, steps_by, events_in, steps_in}
 use Rattle.lwkt_core.proofs.HistoryLemmas.{own-nil, own-append, Grows-append, events_in-append, steps_in-append, steps_by-grows}
 use Rattle.lwkt_core.specs.Events.{cpu_of}
-use Rattle.lwkt_bank.specs.declared.views.Entry.{Entry}
+use Rattle.lwkt_bank.specs.declared.views.TokenEntry.{TokenEntry}
 use Rattle.lwkt_bank.specs.declared.seats.CpuSeat.{CpuSeat}
 use Rattle.lwkt_bank.specs.Seats.{holding, past_of, steps_of, Changes}
-use Rattle.lwkt_hold.specs.Steps.{after, is_counted, is_of_token, is_on_word, is_look, Shows, Tells}
+use Rattle.lwkt_hold.specs.Steps.{held_after, is_counted, is_of_token, is_on_word, is_look, ShowsEvent, Tells}
 use Rattle.lwkt_hold.specs.Runs.{Moves, Ran}
 
 -- moves one after the other
 pub Moves-append : (P : Holding → Type 0) (xs ys : List Event) (h mid h' : Holding) → Moves P h xs mid → Moves P mid ys h' → Moves P h (xs ++ ys) h'
 Moves-append P [] ys h mid h' first second = let F : Holding → Type 0 = λ x. Moves P x ys h' in subst F first second
-Moves-append P (e ∷ xs) ys h mid h' first second = (first.0, Moves-append P xs ys (after e h) mid h' first.1 second)
+Moves-append P (e ∷ xs) ys h mid h' first second = (first.0, Moves-append P xs ys (held_after e h) mid h' first.1 second)
 
 -- moves among fewer holdings are moves among more
 pub Moves-weaker : (P Q : Holding → Type 0) (xs : List Event) (h h' : Holding) → ((x : Holding) → P x → Q x) → Moves P h xs h' → Moves Q h xs h'
 Moves-weaker P Q [] h h' weaker moves = moves
-Moves-weaker P Q (e ∷ xs) h h' weaker moves = (weaker (after e h) moves.0, Moves-weaker P Q xs (after e h) h' weaker moves.1)
+Moves-weaker P Q (e ∷ xs) h h' weaker moves = (weaker (held_after e h) moves.0, Moves-weaker P Q xs (held_after e h) h' weaker moves.1)
 
 -- two lists that fit, one after two others that do
 pub AllZip-append : {A B : Type 0} (R : A → B → Type 0) (xs : List A) (ys : List B) (us : List A) (vs : List B) → AllZip R xs ys → AllZip R us vs → AllZip R (xs ++ us) (ys ++ vs)
@@ -54,7 +54,7 @@ tells_one e ev plain is = inr (plain, ([], (ap (λ (x : Event). x ∷ []) is, re
 pub steps_grown : (s s' : CpuSeat) (deeds : List Deed) → s'.cpu ≡ s.cpu → Grows s.cpu.0 (past_of s) deeds (past_of s') → AreOwn s.cpu.0 deeds → steps_of s' ≡ steps_of s ++ steps_in deeds
 steps_grown s s' deeds cpu grows own = ap (λ (k : CpuId). steps_by k.0 (past_of s')) cpu ∙ steps_by-grows s.cpu.0 (past_of s) deeds (past_of s') grows own
 
-pub changed_steps : (s s' : CpuSeat) (tok : ℕ) (e : Entry) (deeds : List Deed) → Changes s s' tok e deeds → steps_of s' ≡ steps_of s ++ steps_in deeds
+pub changed_steps : (s s' : CpuSeat) (tok : ℕ) (e : TokenEntry) (deeds : List Deed) → Changes s s' tok e deeds → steps_of s' ≡ steps_of s ++ steps_in deeds
 changed_steps s s' tok e deeds c = steps_grown s s' deeds c.cpu c.grows c.own
 
 pub ran_steps : (P : Holding → Type 0) (most : ℕ) (a b : CpuSeat) (t u : Vec Event Global) (ran : Ran P most a b t u) → steps_of b ≡ steps_of a ++ steps_in ran.deeds
@@ -104,13 +104,13 @@ ran_then P m n a b c t u v first second = record {
       let F : ℕ → Type 0 = λ k. All (λ (e : Event). cpu_of e ≡ k) second.done in
       All-append (λ (e : Event). cpu_of e ≡ a.cpu.0) first.done second.done first.own (subst F same second.own);
   told =
-      let F : List WordStep → Type 0 = λ xs. AllZip Shows xs (filter is_on_word (first.done ++ second.done)) in
-      let G : List Event → Type 0 = λ ys. AllZip Shows (filter is_counted (steps_in first.deeds) ++ filter is_counted (steps_in second.deeds)) ys in
-      let H : List WordStep → Type 0 = λ xs. AllZip Shows (filter is_counted xs) (filter is_on_word (first.done ++ second.done)) in
+      let F : List WordStep → Type 0 = λ xs. AllZip ShowsEvent xs (filter is_on_word (first.done ++ second.done)) in
+      let G : List Event → Type 0 = λ ys. AllZip ShowsEvent (filter is_counted (steps_in first.deeds) ++ filter is_counted (steps_in second.deeds)) ys in
+      let H : List WordStep → Type 0 = λ xs. AllZip ShowsEvent (filter is_counted xs) (filter is_on_word (first.done ++ second.done)) in
       subst H (sym (steps_in-append first.deeds second.deeds))
       (subst F (sym (filter-append is_counted (steps_in first.deeds) (steps_in second.deeds)))
       (subst G (sym (filter-append is_on_word first.done second.done))
-      (AllZip-append Shows (filter is_counted (steps_in first.deeds)) (filter is_on_word first.done) (filter is_counted (steps_in second.deeds)) (filter is_on_word second.done) first.told second.told)));
+      (AllZip-append ShowsEvent (filter is_counted (steps_in first.deeds)) (filter is_on_word first.done) (filter is_counted (steps_in second.deeds)) (filter is_on_word second.done) first.told second.told)));
   moves = Moves-append P first.done second.done (holding a) (holding b) (holding c) first.moves second.moves;
   few = let l = length-append first.done second.done in let x = first.few in let y = second.few in omega arith;
   grown = let l = length-append first.done second.done in let x = first.grown in let y = second.grown in omega arith;
@@ -160,21 +160,21 @@ pub holding_if : (b : Bool) (x y z : Held) → (b ≡ true → x ≡ y) → (b �
 holding_if true x y z here away = here refl
 holding_if false x y z here away = away refl
 
-pub holding_changed : (s s' : CpuSeat) (tok : ℕ) (e : Entry) (made : List Deed) (f : Held → Held) → Changes s s' tok e made → e.held ≡ f (holding s tok) → holding s' ≡ (λ other. cond (eqb other tok) (f (holding s other)) (holding s other))
+pub holding_changed : (s s' : CpuSeat) (tok : ℕ) (e : TokenEntry) (made : List Deed) (f : Held → Held) → Changes s s' tok e made → e.held ≡ f (holding s tok) → holding s' ≡ (λ other. cond (eqb other tok) (f (holding s other)) (holding s other))
 holding_changed s s' tok e made f c is = fun_ext (λ other. holding_if (eqb other tok) (holding s' other) (f (holding s other)) (holding s other)
-    (λ here. let same : other ≡ tok = eqb-true other tok here in let F : ℕ → Type 0 = λ t. holding s' t ≡ f (holding s t) in subst F (sym same) (ap (λ (x : Entry). x.held) c.here ∙ is))
-    (λ away. ap (λ (x : Entry). x.held) (c.else_ other (eqb-false other tok away))))
+    (λ here. let same : other ≡ tok = eqb-true other tok here in let F : ℕ → Type 0 = λ t. holding s' t ≡ f (holding s t) in subst F (sym same) (ap (λ (x : TokenEntry). x.held) c.here ∙ is))
+    (λ away. ap (λ (x : TokenEntry). x.held) (c.else_ other (eqb-false other tok away))))
 
 pub same_if : (b : Bool) (x : Held) → cond b x x ≡ x
 same_if true x = refl
 same_if false x = refl
 
 -- a change that keeps what the seat holds of the token keeps the holding
-pub holding_kept : (s s' : CpuSeat) (tok : ℕ) (e : Entry) (made : List Deed) → Changes s s' tok e made → e.held ≡ holding s tok → holding s' ≡ holding s
+pub holding_kept : (s s' : CpuSeat) (tok : ℕ) (e : TokenEntry) (made : List Deed) → Changes s s' tok e made → e.held ≡ holding s tok → holding s' ≡ holding s
 holding_kept s s' tok e made c is = holding_changed s s' tok e made (λ x. x) c is ∙ fun_ext (λ other. same_if (eqb other tok) (holding s other))
 
 -- a call without an event
-pub ran_quiet : (P : Holding → Type 0) (s s' : CpuSeat) (tok : ℕ) (e : Entry) (deeds : List Deed) (t : Vec Event Global) → Changes s s' tok e deeds → e.held ≡ holding s tok → Tells (events_in deeds) [] → filter is_counted (steps_in deeds) ≡ [] → Ran P 0 s s' t t
+pub ran_quiet : (P : Holding → Type 0) (s s' : CpuSeat) (tok : ℕ) (e : TokenEntry) (deeds : List Deed) (t : Vec Event Global) → Changes s s' tok e deeds → e.held ≡ holding s tok → Tells (events_in deeds) [] → filter is_counted (steps_in deeds) ≡ [] → Ran P 0 s s' t t
 ran_quiet P s s' tok e deeds t c held untold none = record {
   bank = c.bank;
   cpu = c.cpu;
@@ -185,7 +185,7 @@ ran_quiet P s s' tok e deeds t c held untold none = record {
   trace = sym (append-nil t.items);
   tells = untold;
   own = All-from_recursion (λ (e : Event). cpu_of e ≡ s.cpu.0) [] tt;
-  told = let F : List WordStep → Type 0 = λ xs. AllZip Shows xs [] in subst F (sym none) tt;
+  told = let F : List WordStep → Type 0 = λ xs. AllZip ShowsEvent xs [] in subst F (sym none) tt;
   moves = holding_kept s s' tok e deeds c held;
   few = omega arith;
   grown = omega arith;
@@ -193,7 +193,7 @@ ran_quiet P s s' tok e deeds t c held untold none = record {
 }
 
 -- a call with one event
-pub ran_step : (P : Holding → Type 0) (s s' : CpuSeat) (tok : ℕ) (e : Entry) (deeds : List Deed) (ev : Event) (t u : Vec Event Global) → Changes s s' tok e deeds → u.items ≡ t.items ++ ev ∷ [] → vec_len u ≡ vec_len t + 1 → vec_capacity t ≤ vec_capacity u → cpu_of ev ≡ s.cpu.0 → Tells (events_in deeds) (filter is_of_token (ev ∷ [])) → AllZip Shows (filter is_counted (steps_in deeds)) (filter is_on_word (ev ∷ [])) → holding s' ≡ after ev (holding s) → P (holding s') → Ran P 1 s s' t u
+pub ran_step : (P : Holding → Type 0) (s s' : CpuSeat) (tok : ℕ) (e : TokenEntry) (deeds : List Deed) (ev : Event) (t u : Vec Event Global) → Changes s s' tok e deeds → u.items ≡ t.items ++ ev ∷ [] → vec_len u ≡ vec_len t + 1 → vec_capacity t ≤ vec_capacity u → cpu_of ev ≡ s.cpu.0 → Tells (events_in deeds) (filter is_of_token (ev ∷ [])) → AllZip ShowsEvent (filter is_counted (steps_in deeds)) (filter is_on_word (ev ∷ [])) → holding s' ≡ held_after ev (holding s) → P (holding s') → Ran P 1 s s' t u
 ran_step P s s' tok e deeds ev t u c pushed longer room own tells told moved at_front = record {
   bank = c.bank;
   cpu = c.cpu;

@@ -18,14 +18,14 @@ use Rattle.lwkt_core.specs.declared.events.Event.{Event}
 use Rattle.lwkt_core.specs.declared.events.Event.TheVariants.{Again}
 use Rattle.lwkt_core.specs.declared.seats.WordStep.{WordStep}
 use Rattle.lwkt_core.specs.Events.{cpu_of}
-use Rattle.lwkt_bank.specs.declared.views.Entry.{Entry}
+use Rattle.lwkt_bank.specs.declared.views.TokenEntry.{TokenEntry}
 use Rattle.lwkt_bank.specs.declared.seats.CpuSeat.{CpuSeat}
 use Rattle.lwkt_bank.specs.Views.{count_from, generation_in, looked, taken, more, load, exchange}
 use Rattle.lwkt_bank.specs.Deeds.{take_event, loads, takes, loses, adds_one}
 use Rattle.lwkt_bank.specs.Seats.{bank_of, tokens_of, entry, holding, references, steps_of, Looked, Took, Lost, Stepped}
 use Rattle.lwkt_hold.specs.declared.answers.Missed.{Missed}
 use Rattle.lwkt_hold.specs.Fronts.{IsFront, is_alone, names}
-use Rattle.lwkt_hold.specs.Steps.{after, is_counted, is_of_token, is_on_word, is_look, Shows, Tells, taking}
+use Rattle.lwkt_hold.specs.Steps.{held_after, is_counted, is_of_token, is_on_word, is_look, ShowsEvent, Tells, taking}
 use Rattle.lwkt_hold.specs.Runs.{Ran}
 use Rattle.lwkt_hold.specs.Misses.{IsMiss, Misses}
 use Rattle.lwkt_hold.proofs.HoldingMoves.{holding_of_more, more_in_any_mode, count_of_list, held_named}
@@ -62,7 +62,7 @@ few_in_front s refs at front within short =
     omega arith
 
 -- the event of a first reference
-pub after_taking : (cpu : CpuId) (tok : TokId) (mode : Mode) (h : Holding) → after (taking cpu tok mode) h ≡ added h tok.0 mode
+pub after_taking : (cpu : CpuId) (tok : TokId) (mode : Mode) (h : Holding) → held_after (taking cpu tok mode) h ≡ added h tok.0 mode
 after_taking cpu tok Exclusive h = refl
 after_taking cpu tok Shared h = refl
 
@@ -78,7 +78,7 @@ take_is_no_look : (cpu : CpuId) (tok : TokId) (mode : Mode) → is_look (take_ev
 take_is_no_look cpu tok Exclusive = refl
 take_is_no_look cpu tok Shared = refl
 
-shows_taking : (cpu : CpuId) (tok : TokId) (mode : Mode) (word next : ℕ) → AllZip Shows (exchange tok.0 word next word ∷ []) (filter is_on_word (taking cpu tok mode ∷ []))
+shows_taking : (cpu : CpuId) (tok : TokId) (mode : Mode) (word next : ℕ) → AllZip ShowsEvent (exchange tok.0 word next word ∷ []) (filter is_on_word (taking cpu tok mode ∷ []))
 shows_taking cpu tok Exclusive word next = ((refl, (next, refl)), tt)
 shows_taking cpu tok Shared word next = ((refl, (next, refl)), tt)
 
@@ -88,11 +88,11 @@ won tok word next = ap (λ b. cond b (exchange tok word next word ∷ []) []) (e
 lost : (tok word next found : ℕ) → found ≢ word → filter is_counted (load tok word ∷ exchange tok word next found ∷ []) ≡ []
 lost tok word next found other = ap (λ b. cond b (exchange tok word next found ∷ []) []) (ne_eqb found word other)
 
-looked_if : (b : Bool) (e : Entry) (g : ℕ) → (cond b e (record e { generation = g; known = [] })).held ≡ e.held
+looked_if : (b : Bool) (e : TokenEntry) (g : ℕ) → (cond b e (record e { generation = g; known = [] })).held ≡ e.held
 looked_if true e g = refl
 looked_if false e g = refl
 
-pub looked-held : (e : Entry) (word : ℕ) → (looked e word).held ≡ e.held
+pub looked-held : (e : TokenEntry) (word : ℕ) → (looked e word).held ≡ e.held
 looked-held e word = looked_if (eqb e.generation (generation_in word)) e (generation_in word)
 
 -- a further reference is taken
@@ -124,7 +124,7 @@ pub took_ran : (s s' : CpuSeat) (refs : List Ref) (at : ℕ) (d : Ref) (alone : 
 took_ran s s' refs at d alone g cpu ev t u within front named took mine is pushed longer room =
     let r = get_or refs at d in
     let e = took_holds s s' refs at d alone g within front named took in
-    let F : List WordStep → Type 0 = λ xs. AllZip Shows xs (filter is_on_word (taking cpu r.tok r.mode ∷ [])) in
+    let F : List WordStep → Type 0 = λ xs. AllZip ShowsEvent xs (filter is_on_word (taking cpu r.tok r.mode ∷ [])) in
     ran_step (IsFront refs) s s' r.tok.0 (taken (entry s r.tok.0) took.word r.mode took.row) (loads s.cpu r.tok.0 took.word ∷ takes s.cpu r.tok.0 r.mode took.word took.next took.word ∷ []) (taking cpu r.tok r.mode) t u took.changes (pushed ∙ ap (λ x. t.items ++ x ∷ []) is) longer room
     (cpu_of_taking cpu r.tok r.mode ∙ ap (λ (x : CpuId). x.0) mine)
     (inl (

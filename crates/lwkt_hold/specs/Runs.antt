@@ -8,12 +8,12 @@ use Rattle.lwkt_core.specs.History.{AreOwn, Grows, events_in, steps_in}
 use Rattle.lwkt_core.specs.Events.{cpu_of}
 use Rattle.lwkt_bank.specs.declared.seats.CpuSeat.{CpuSeat}
 use Rattle.lwkt_bank.specs.Seats.{bank_of, holding, past_of}
-use Rattle.lwkt_hold.specs.Steps.{after, is_counted, is_of_token, is_on_word, Shows, Tells}
+use Rattle.lwkt_hold.specs.Steps.{held_after, is_counted, is_of_token, is_on_word, ShowsEvent, Tells}
 
 -- the holding goes from one to the other by these events, and after each of them it is such a one
 abbrev pub Moves : (Holding → Type 0) → Holding → List Event → Holding → Type 0
 Moves P h [] h' = h' ≡ h
-Moves P h (e ∷ events) h' = P (after e h) × Moves P (after e h) events h'
+Moves P h (e ∷ events) h' = P (held_after e h) × Moves P (held_after e h) events h'
 
 -- what a call does on a seat and a trace: what the trace grows by of tokens are the events of the deeds by which what the seat
 -- has seen of the bank's history grows, in order, without looks at words and loads of cells that weren't asked for; it grows at
@@ -29,7 +29,7 @@ pub record Ran (P : Holding → Type 0) (most : ℕ) (old new : CpuSeat) (before
   pub trace : now.items ≡ before.items ++ done
   pub own : All (λ e. cpu_of e ≡ old.cpu.0) done
   pub tells : Tells (events_in deeds) (filter is_of_token done)
-  pub told : AllZip Shows (filter is_counted (steps_in deeds)) (filter is_on_word done)
+  pub told : AllZip ShowsEvent (filter is_counted (steps_in deeds)) (filter is_on_word done)
   pub moves : Moves P (holding old) done (holding new)
   pub few : length done ≤ most
   pub grown : vec_len now ≡ vec_len before + length done

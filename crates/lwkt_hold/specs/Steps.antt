@@ -12,23 +12,23 @@ use Rattle.lwkt_core.specs.declared.seats.Operation.{Operation}
 use Rattle.lwkt_core.specs.declared.seats.Operation.TheVariants.{Load as Loads, Store, Exchange, Add, Sub, Or}
 
 -- what a processor holds after an event of its own (token(9))
-abbrev pub after : Event → Holding → Holding
-after (Take cpu tok) h = added h tok.0 Exclusive
-after (Share cpu tok) h = added h tok.0 Shared
-after (Again cpu tok) h = added h tok.0 Shared
-after (GiveOne cpu tok) h = removed h tok.0
-after (GiveClean cpu tok) h = removed h tok.0
-after (GiveWritten cpu tok) h = removed h tok.0
-after (Load cpu tok) h = h
-after (Mark cpu tok) h = h
-after (Read cpu tok cell value) h = h
-after (Write cpu tok cell value) h = h
-after (Send cpu msg to round) h = h
-after (TakeMsg cpu msg round) h = h
-after (DropMsg cpu msg) h = h
-after (Reply cpu msg) h = h
-after (Reap cpu msg) h = h
-after (Abort cpu msg) h = h
+abbrev pub held_after : Event → Holding → Holding
+held_after (Take cpu tok) h = added h tok.0 Exclusive
+held_after (Share cpu tok) h = added h tok.0 Shared
+held_after (Again cpu tok) h = added h tok.0 Shared
+held_after (GiveOne cpu tok) h = removed h tok.0
+held_after (GiveClean cpu tok) h = removed h tok.0
+held_after (GiveWritten cpu tok) h = removed h tok.0
+held_after (Load cpu tok) h = h
+held_after (Mark cpu tok) h = h
+held_after (Read cpu tok cell value) h = h
+held_after (Write cpu tok cell value) h = h
+held_after (Send cpu msg to round) h = h
+held_after (TakeMsg cpu msg round) h = h
+held_after (DropMsg cpu msg) h = h
+held_after (Reply cpu msg) h = h
+held_after (Reap cpu msg) h = h
+held_after (Abort cpu msg) h = h
 
 -- whether an operation that found this word has an event: a load and an exchange that lost have none (own)
 abbrev pub has_event : Operation → ℕ → Bool
@@ -124,23 +124,23 @@ is_on_word (Reap cpu msg) = false
 is_on_word (Abort cpu msg) = false
 
 -- a step on a token word is this event: the operation that the event stands for (lwkt_token.c's count word; own)
-abbrev pub Shows : WordStep → Event → Type 0
-Shows s (Take cpu tok) = (s.at ≡ tok.0) × ((new : ℕ) × (s.operation ≡ Exchange s.found new))
-Shows s (Share cpu tok) = (s.at ≡ tok.0) × ((new : ℕ) × (s.operation ≡ Exchange s.found new))
-Shows s (Again cpu tok) = (s.at ≡ tok.0) × (s.operation ≡ Add 4)
-Shows s (Mark cpu tok) = (s.at ≡ tok.0) × (s.operation ≡ Or 2)
-Shows s (GiveOne cpu tok) = (s.at ≡ tok.0) × (s.operation ≡ Sub 4)
-Shows s (GiveClean cpu tok) = (s.at ≡ tok.0) × (s.operation ≡ Sub 1)
-Shows s (GiveWritten cpu tok) = (s.at ≡ tok.0) × (s.operation ≡ Add one_section)
-Shows s (Load cpu tok) = ⊥
-Shows s (Read cpu tok cell value) = ⊥
-Shows s (Write cpu tok cell value) = ⊥
-Shows s (Send cpu msg to round) = ⊥
-Shows s (TakeMsg cpu msg round) = ⊥
-Shows s (DropMsg cpu msg) = ⊥
-Shows s (Reply cpu msg) = ⊥
-Shows s (Reap cpu msg) = ⊥
-Shows s (Abort cpu msg) = ⊥
+abbrev pub ShowsEvent : WordStep → Event → Type 0
+ShowsEvent s (Take cpu tok) = (s.at ≡ tok.0) × ((new : ℕ) × (s.operation ≡ Exchange s.found new))
+ShowsEvent s (Share cpu tok) = (s.at ≡ tok.0) × ((new : ℕ) × (s.operation ≡ Exchange s.found new))
+ShowsEvent s (Again cpu tok) = (s.at ≡ tok.0) × (s.operation ≡ Add 4)
+ShowsEvent s (Mark cpu tok) = (s.at ≡ tok.0) × (s.operation ≡ Or 2)
+ShowsEvent s (GiveOne cpu tok) = (s.at ≡ tok.0) × (s.operation ≡ Sub 4)
+ShowsEvent s (GiveClean cpu tok) = (s.at ≡ tok.0) × (s.operation ≡ Sub 1)
+ShowsEvent s (GiveWritten cpu tok) = (s.at ≡ tok.0) × (s.operation ≡ Add one_section)
+ShowsEvent s (Load cpu tok) = ⊥
+ShowsEvent s (Read cpu tok cell value) = ⊥
+ShowsEvent s (Write cpu tok cell value) = ⊥
+ShowsEvent s (Send cpu msg to round) = ⊥
+ShowsEvent s (TakeMsg cpu msg round) = ⊥
+ShowsEvent s (DropMsg cpu msg) = ⊥
+ShowsEvent s (Reply cpu msg) = ⊥
+ShowsEvent s (Reap cpu msg) = ⊥
+ShowsEvent s (Abort cpu msg) = ⊥
 
 -- the event of taking a first reference
 abbrev pub taking : CpuId → TokId → Mode → Event

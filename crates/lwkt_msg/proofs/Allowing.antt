@@ -20,7 +20,7 @@ use Rattle.lwkt_core.specs.declared.seats.Operation.TheVariants as operation
 use Rattle.lwkt_core.specs.declared.seats.SeatKind.{SeatKind}
 use Rattle.lwkt_core.specs.declared.seats.SeatKind.TheVariants.{Of}
 use Rattle.lwkt_core.specs.Messages.{is_away, origin_of, target_of}
-use Rattle.lwkt_msg.specs.declared.views.Entry.{Entry}
+use Rattle.lwkt_msg.specs.declared.views.MessageEntry.{MessageEntry}
 use Rattle.lwkt_msg.specs.declared.views.Layout.{Layout}
 use Rattle.lwkt_msg.specs.declared.views.View.{View}
 use Rattle.lwkt_msg.specs.Views.{word_at, slot_at, spec_at, call_of, at, who, noted, looked, handed, sent, took, replied, reaped, shows_away, shows_back, shows_with, Sees, SeesOwn, Stands}
@@ -135,7 +135,7 @@ module _ (key : Layout) (s : State Rec View) (id : ℕ) (v : View) (cpu : CpuId)
       kept.slot ∙ ap (λ (o : Option Rec). some o) (in_slot_taken cpu.0 mail.msg.owner mail.had mail.rec (sym k.taken_is ∙ h))
 
 -- what a step tells of its deed, by the processor of the view
-pub told_by_who : (key : Layout) (s : State Rec View) (told : Told key s) (id : ℕ) (v : View) (cpu : CpuId) (is_seat : v.kind ≡ Of cpu) (hands : List (ℕ × Rec)) (m : ℕ) (e : Entry) (d : CpuId → Deed) (word : ℕ) (act : Act Rec)
+pub told_by_who : (key : Layout) (s : State Rec View) (told : Told key s) (id : ℕ) (v : View) (cpu : CpuId) (is_seat : v.kind ≡ Of cpu) (hands : List (ℕ × Rec)) (m : ℕ) (e : MessageEntry) (d : CpuId → Deed) (word : ℕ) (act : Act Rec)
     → (t : Tells key s told id v hands m e (d cpu) word act) → noted t.between v m e (d cpu) ≡ noted t.between v m e (d (who v))
 told_by_who key s told id v cpu is_seat hands m e d word act t = ap (λ (c : CpuId). noted t.between v m e (d c)) (sym (who_is v cpu is_seat))
 
@@ -167,7 +167,7 @@ look_allowed key slots id me cpu m is_seat within hands s told deep at_id small 
     mail : Mail
     mail = mail_at told.rule.mails m
 
-    e' : Entry
+    e' : MessageEntry
     e' = looked (parts_of mail) (at me.0 m)
 
     d : Deed
@@ -244,7 +244,7 @@ module _ (key : Layout) (id : ℕ) (me : Me Rec View) (cpu : CpuId) (m : ℕ) (i
       let n : ℕ = message_word w in
       let plan = seat_plan key told.rule.mails s id me.0 cpu told.rule.book at_id is_seat in
       let to_here : to.0 < key.cpus = subst (λ (k : ℕ). to.0 < k) plan.0 to_there in
-      let e' : Entry = sent w (call_of rec) (at me.0 m) in
+      let e' : MessageEntry = sent w (call_of rec) (at me.0 m) in
       let t = tell.send_told key s id me.0 cpu m told at_id is_seat (there key s id me.0 cpu m told.rule at_id is_seat within) to sync flags rec others own home to_here room no_error no_result in
       let v' : View = noted t.between me.0 m e' (deed.sends cpu m to w.round n rec) in
       let F : List (ℕ × Rec) → Type 0 = λ c. Told key record { words = set s.words (word_at m) n; homes = homes_after s.homes c gives; views = set s.views id v' } in
@@ -279,7 +279,7 @@ module _ (key : Layout) (id : ℕ) (me : Me Rec View) (cpu : CpuId) (m : ℕ) (i
       hit : n ≡ old → (v' : View) × (a : Act Rec) × Valid s.homes me.1 a × Told key (stepped s (word_at m) new id me.1 v' a) × takes_it (step slots (word_at m) old new none) me n (v', carried_after me.1 a)
       hit found =
           let t = tell.take_told key s id me.0 cpu m told at_id is_seat here w me.1 (found ∙ old_is) fits out to in
-          let e' : Entry = took rec (at me.0 m) in
+          let e' : MessageEntry = took rec (at me.0 m) in
           let v' : View = noted t.between me.0 m e' (deed.takes cpu m w.round (message_word w) rec) in
           let F : ℕ → Type 0 = λ x. Told key record { words = set s.words (word_at m) x; homes = set s.homes (slot_at m) none; views = set s.views id v' } in
           let same = told_by_who key s told id me.0 cpu is_seat me.1 m e' (λ c. deed.takes c m w.round (message_word w) rec) (message_word w + 1) (takes (slot_at m) rec) t in
@@ -323,7 +323,7 @@ module _ (key : Layout) (id : ℕ) (me : Me Rec View) (cpu : CpuId) (m : ℕ) (i
       → Allows (Told key) slots id me (word_at m) (λ n. (n + 1) % 2 ^ 64) (replies (step slots (word_at m) 1 0 none) me)
   reply_allowed slots rec others front taken same_call s told deep at_id small =
       let n : ℕ = get_or s.words (word_at m) 0 in
-      let e' : Entry = replied rec (at me.0 m) in
+      let e' : MessageEntry = replied rec (at me.0 m) in
       let t = tell.reply_told key s id me.0 cpu m told at_id is_seat (there key s id me.0 cpu m told.rule at_id is_seat within) rec others taken same_call in
       let v' : View = noted t.between me.0 m e' (deed.replies cpu m n rec) in
       let is_word : n ≡ message_word (parts_of (mail_at told.rule.mails m)) = (kept key s id me.0 cpu m told.rule at_id is_seat within).is_word in
@@ -346,7 +346,7 @@ module _ (key : Layout) (id : ℕ) (me : Me Rec View) (cpu : CpuId) (m : ℕ) (i
       let n : ℕ = message_word (rest_word cpu (at me.0 m).round) in
       let mail : Mail = mail_at told.rule.mails m in
       let here : m < length key.specs.items = there key s id me.0 cpu m told.rule at_id is_seat within in
-      let e' : Entry = reaped (at me.0 m) in
+      let e' : MessageEntry = reaped (at me.0 m) in
       let t = tell.reap_told key s id me.0 cpu m told at_id is_seat here me.1 own had seen in
       let slot = lead.back_slot key told.rule.mails s id me.0 cpu m told.rule.book at_id is_seat here own seen in
       let v' : View = noted t.between me.0 m e' (deed.reaps cpu m n mail.rec) in
@@ -366,7 +366,7 @@ module _ (key : Layout) (id : ℕ) (me : Me Rec View) (cpu : CpuId) (m : ℕ) (i
   hand_allowed slots own had home s told deep at_id small =
       let n : ℕ = get_or s.words (word_at m) 0 in
       let rec : Rec = (mail_at told.rule.mails m).rec in
-      let e' : Entry = handed (at me.0 m) in
+      let e' : MessageEntry = handed (at me.0 m) in
       let t = tell.hand_told key s id me.0 cpu m told at_id is_seat (there key s id me.0 cpu m told.rule at_id is_seat within) me.1 own had home in
       let v' : View = noted t.between me.0 m e' (deed.hands_out cpu m n rec) in
       let same = told_by_who key s told id me.0 cpu is_seat me.1 m e' (λ c. deed.hands_out c m n rec) n (takes (slot_at m) rec) t in

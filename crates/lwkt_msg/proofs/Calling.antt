@@ -14,7 +14,7 @@ use Rattle.lwkt_base.specs.MessageWord.{message_word}
 use Rattle.lwkt_core.specs.declared.messages.TheConstants.{LAST_ROUND}
 use Rattle.lwkt_core.specs.declared.seats.Deed.{Deed}
 use Rattle.lwkt_core.specs.declared.seats.SeatKind.{SeatKind}
-use Rattle.lwkt_msg.specs.declared.views.Entry.{Entry}
+use Rattle.lwkt_msg.specs.declared.views.MessageEntry.{MessageEntry}
 use Rattle.lwkt_msg.specs.declared.views.View.{View}
 use Rattle.lwkt_msg.specs.Views.{spec_at, call_of, at, who, noted, looked, sent, took, answered, reaped, shows_away, shows_back, shows_with, SeesOwn, Stands}
 use Rattle.lwkt_msg.specs.Deeds.{loads, loses, sends, takes, replies, reaps}
@@ -26,16 +26,16 @@ use Rattle.lwkt_msg.specs.Calls.{Does, IsLoaded, OnlyLooked, IsHome, sent_rec, H
 use Rattle.lwkt_msg.proofs.Knowing.{at-here, at-else}
 
 -- what one deed does, and what two do
-pub Does-one : (v w : View) (m : ℕ) (e : Entry) (d : Deed) → IsAfter v m e d w → Does v w m e (d ∷ [])
+pub Does-one : (v w : View) (m : ℕ) (e : MessageEntry) (d : Deed) → IsAfter v m e d w → Does v w m e (d ∷ [])
 Does-one v w m e d after =
     let F : View → Type 0 = λ x. Does v x m e (d ∷ []) in
     subst F (sym after.1.1) record { kind = refl; cpus = refl; specs = refl; here = at-here v m e after.0 d; else_same = λ k apart. at-else v m e after.0 d k apart; grows = (after.0, (after.1.0, refl)) }
 
 -- a deed after another, by the view after it or before it
-pub After-first : (v v1 v2 : View) (m : ℕ) (e1 e2 : Entry) (d1 d2 : Deed) → (first : IsAfter v m e1 d1 v1) → IsAfter v1 m e2 d2 v2 → IsAfter (noted first.0 v m e1 d1) m e2 d2 v2
+pub After-first : (v v1 v2 : View) (m : ℕ) (e1 e2 : MessageEntry) (d1 d2 : Deed) → (first : IsAfter v m e1 d1 v1) → IsAfter v1 m e2 d2 v2 → IsAfter (noted first.0 v m e1 d1) m e2 d2 v2
 After-first v v1 v2 m e1 e2 d1 d2 first second = let F : View → Type 0 = λ x. IsAfter x m e2 d2 v2 in subst F first.1.1 second
 
-pub Does-two : (v v1 v2 : View) (m : ℕ) (e1 e2 : Entry) (d1 d2 : Deed) → IsAfter v m e1 d1 v1 → IsAfter v1 m e2 d2 v2 → Does v v2 m e2 (d1 ∷ d2 ∷ [])
+pub Does-two : (v v1 v2 : View) (m : ℕ) (e1 e2 : MessageEntry) (d1 d2 : Deed) → IsAfter v m e1 d1 v1 → IsAfter v1 m e2 d2 v2 → Does v v2 m e2 (d1 ∷ d2 ∷ [])
 Does-two v v1 v2 m e1 e2 d1 d2 first second =
     let F : View → Type 0 = λ x. Does v x m e2 (d1 ∷ d2 ∷ []) in
     let w : View = noted first.0 v m e1 d1 in
@@ -50,7 +50,7 @@ Does-two v v1 v2 m e1 e2 d1 d2 first second =
     }
 
 -- of the last deed of a past something is so that is so of the front up to it
-pub Last-of : (v w : View) (m : ℕ) (e : Entry) (d : Deed) (between : List Deed) (IsSo : List Deed → Type 0) → w ≡ noted between v m e d → IsSo (v.past ++ between) → Last w.past d IsSo
+pub Last-of : (v w : View) (m : ℕ) (e : MessageEntry) (d : Deed) (between : List Deed) (IsSo : List Deed → Type 0) → w ≡ noted between v m e d → IsSo (v.past ++ between) → Last w.past d IsSo
 Last-of v w m e d between IsSo is so =
     let F : View → Type 0 = λ x. Last x.past d IsSo in
     subst F (sym is) (v.past ++ between, (sym (append_assoc v.past between (d ∷ [])), so))
@@ -80,7 +80,7 @@ module _ (place place1 : Seat Rec View) (cpu : CpuId) (m : ℕ) (w : MsgWord) (s
   abbrev v : View
   v = place.me.0
 
-  abbrev e : Entry
+  abbrev e : MessageEntry
   e = at place.me.0 m
 
   pub entry_is : at place1.me.0 m ≡ looked w e
@@ -137,10 +137,10 @@ module _ (place place1 : Seat Rec View) (cpu : CpuId) (m : ℕ) (w : MsgWord) (s
   pub send_home : m < length v.specs → (w.state ≡ Rest) × (w.origin ≡ cpu) → IsOwn place1.me.0 cpu.0 m × ((at place1.me.0 m).had ≡ true) × ((at place1.me.0 m).away ≡ false) × ((at place1.me.0 m).taken ≡ false)
   send_home within is =
       let own = own_is is.1 in
-      (own1 own, ap (λ (x : Entry). x.had) entry_is ∙ sat.had m within own, ap (λ (x : Entry). x.away) entry_is ∙ away_at Rest is.0 own, ap (λ (x : Entry). x.taken) entry_is ∙ not_taken_at Rest is.0 refl)
+      (own1 own, ap (λ (x : MessageEntry). x.had) entry_is ∙ sat.had m within own, ap (λ (x : MessageEntry). x.away) entry_is ∙ away_at Rest is.0 own, ap (λ (x : MessageEntry). x.taken) entry_is ∙ not_taken_at Rest is.0 refl)
 
   pub round1 : IsOwn v cpu.0 m → (at place1.me.0 m).round ≡ w.round
-  round1 own = ap (λ (x : Entry). x.round) entry_is ∙ (sees_own own).round_is
+  round1 own = ap (λ (x : MessageEntry). x.round) entry_is ∙ (sees_own own).round_is
 
   pub home_held : m < length v.specs → (w.state ≡ Rest) × (w.origin ≡ cpu) → (old : Rec) × IsInFront place1 m old
   home_held within is =
@@ -168,9 +168,9 @@ module _ (place place1 : Seat Rec View) (cpu : CpuId) (m : ℕ) (w : MsgWord) (s
   pub take_new : w.state ≡ Out → IsInHand place1.me.0 cpu.0 m → ⊥
   take_new is (inl h) =
       let own : IsOwn v cpu.0 m = ap (λ (x : View). (spec_at x.specs m).origin.cpu.0) (sym l.view_is.1.1) ∙ h.0 in
-      let a : true ≡ false = sym (away_at Out is own) ∙ (ap (λ (x : Entry). x.away) (sym entry_is) ∙ h.2) in cc
+      let a : true ≡ false = sym (away_at Out is own) ∙ (ap (λ (x : MessageEntry). x.away) (sym entry_is) ∙ h.2) in cc
   take_new is (inr h) =
-      let a : false ≡ true = sym (not_taken_at Out is refl) ∙ (ap (λ (x : Entry). x.taken) (sym entry_is) ∙ h) in cc
+      let a : false ≡ true = sym (not_taken_at Out is refl) ∙ (ap (λ (x : MessageEntry). x.taken) (sym entry_is) ∙ h) in cc
 
   pub take_done : (round : ℕ) (rec : Rec) (w2 : View) → IsForTaking cpu round w → HasWon m w place1.me.0 rec w2 → HasTaken cpu v w2 m round rec w.aborted
   take_done round rec w2 is won =
@@ -214,14 +214,14 @@ module _ (place place1 : Seat Rec View) (cpu : CpuId) (m : ℕ) (w : MsgWord) (s
 
   pub reply_ready : (w.state ≡ With) × (w.target ≡ cpu) → ((at place1.me.0 m).taken ≡ true) × (IsOwn place1.me.0 cpu.0 m → (at place1.me.0 m).away ≡ true)
   reply_ready is = (
-    ap (λ (x : Entry). x.taken) entry_is ∙ reply_taken is,
-    λ own. ap (λ (x : Entry). x.away) entry_is ∙ away_at With is.0 (ap (λ (x : View). (spec_at x.specs m).origin.cpu.0) (sym l.view_is.1.1) ∙ own),
+    ap (λ (x : MessageEntry). x.taken) entry_is ∙ reply_taken is,
+    λ own. ap (λ (x : MessageEntry). x.away) entry_is ∙ away_at With is.0 (ap (λ (x : View). (spec_at x.specs m).origin.cpu.0) (sym l.view_is.1.1) ∙ own),
   )
 
   pub reply_held : m < length v.specs → (w.state ≡ With) × (w.target ≡ cpu) → (rec : Rec) × IsInFront place1 m rec × (call_of rec ≡ (at place1.me.0 m).got)
   reply_held within is =
       let has = sat.hands.taken m within (reply_taken is) in
-      (has.0, l.front has.0 has.1.0, has.1.1 ∙ ap (λ (x : Entry). x.got) (sym entry_is))
+      (has.0, l.front has.0 has.1.0, has.1.1 ∙ ap (λ (x : MessageEntry). x.got) (sym entry_is))
 
   pub reply_done : (error outcome found : ℕ) (w2 : View) → (w.state ≡ With) × (w.target ≡ cpu) → IsAfter place1.me.0 m (answered error outcome (at place1.me.0 m)) (replies (who place1.me.0) m found (answered_rec (at place1.me.0 m).got error outcome)) w2 → HasReplied v w2 m error outcome
   reply_done error outcome found w2 is after =
@@ -240,7 +240,7 @@ module _ (place place1 : Seat Rec View) (cpu : CpuId) (m : ℕ) (w : MsgWord) (s
   pub reap_ready : (round : ℕ) → m < length v.specs → IsForReaping cpu round w → IsOwn place1.me.0 cpu.0 m × ((at place1.me.0 m).had ≡ true) × ((at place1.me.0 m).back ≡ true) × ((at place1.me.0 m).away ≡ true) × ((at place1.me.0 m).taken ≡ false)
   reap_ready round within is =
       let own = own_is is.1 in
-      (own1 own, ap (λ (x : Entry). x.had) entry_is ∙ sat.had m within own, ap (λ (x : Entry). x.back) entry_is ∙ seen, ap (λ (x : Entry). x.away) entry_is ∙ away_at Back is.0 own, ap (λ (x : Entry). x.taken) entry_is ∙ not_taken_at Back is.0 refl)
+      (own1 own, ap (λ (x : MessageEntry). x.had) entry_is ∙ sat.had m within own, ap (λ (x : MessageEntry). x.back) entry_is ∙ seen, ap (λ (x : MessageEntry). x.away) entry_is ∙ away_at Back is.0 own, ap (λ (x : MessageEntry). x.taken) entry_is ∙ not_taken_at Back is.0 refl)
     where
       or_true : (a : Bool) (s : MsgState) → s ≡ Back → (a || shows_back s) ≡ true
       or_true true s at_back = refl
@@ -262,7 +262,7 @@ module _ (place place1 : Seat Rec View) (cpu : CpuId) (m : ℕ) (w : MsgWord) (s
         own = own;
         was_away = away_at Back is.0 own;
         round_is = sym is.2 ∙ sym (sees_own own).round_is;
-        call_is = got.call_is ∙ ap (λ (x : Entry). x.call) entry_is;
+        call_is = got.call_is ∙ ap (λ (x : MessageEntry). x.call) entry_is;
         put = Last-of place1.me.0 w2 m (reaped e) d got.between (λ front. WasAnswered front m rec) view_is got.answered_;
         does = Does-two v place1.me.0 w2 m (looked w e) (reaped e) (loads (who v) m (message_word w)) d l.view_is (got.between, (got.others, view_is));
       }

@@ -4,7 +4,7 @@ use mathlib.Core.Option.{some, some-injective}
 use native.Mathlib.Decide.{ℕ_discrete}
 use Rattle.lwkt_base.specs.declared.records.Rec.{Rec}
 use Rattle.lwkt_core.specs.declared.seats.Deed.{Deed}
-use Rattle.lwkt_msg.specs.declared.views.Entry.{Entry}
+use Rattle.lwkt_msg.specs.declared.views.MessageEntry.{MessageEntry}
 use Rattle.lwkt_msg.specs.declared.views.View.{View}
 use Rattle.lwkt_msg.specs.Views.{slot_at, call_of, at, noted}
 use Rattle.lwkt_msg.specs.Hands.{Has, AreSame, IsOwn, IsInHand, AreHands}
@@ -12,22 +12,22 @@ use Rattle.lwkt_msg.proofs.Knowing.{at-here, at-else}
 use Rattle.lwkt_msg.proofs.Bringing.{AreApart-rest, AreApart-more, not_again}
 
 -- what a seat has in hand is the same by both entries
-pub record IsAlike (e e' : Entry) : Type 0 where
+pub record IsAlike (e e' : MessageEntry) : Type 0 where
   pub had : e'.had ≡ e.had
   pub away : e'.away ≡ e.away
   pub taken : e'.taken ≡ e.taken
   pub got : e'.got ≡ e.got
 
-IsAlike-else : (v : View) (m : ℕ) (e' : Entry) (between : List Deed) (did : Deed) (k : ℕ) → k ≢ m → IsAlike (at v k) (at (noted between v m e' did) k)
+IsAlike-else : (v : View) (m : ℕ) (e' : MessageEntry) (between : List Deed) (did : Deed) (k : ℕ) → k ≢ m → IsAlike (at v k) (at (noted between v m e' did) k)
 IsAlike-else v m e' between did k apart =
     let same : at (noted between v m e' did) k ≡ at v k = at-else v m e' between did k apart in record {
-      had = ap (λ (x : Entry). x.had) same;
-      away = ap (λ (x : Entry). x.away) same;
-      taken = ap (λ (x : Entry). x.taken) same;
-      got = ap (λ (x : Entry). x.got) same;
+      had = ap (λ (x : MessageEntry). x.had) same;
+      away = ap (λ (x : MessageEntry). x.away) same;
+      taken = ap (λ (x : MessageEntry). x.taken) same;
+      got = ap (λ (x : MessageEntry). x.got) same;
     }
 
-module _ (v : View) (m : ℕ) (e' : Entry) (between : List Deed) (did : Deed) (cpu : ℕ) where
+module _ (v : View) (m : ℕ) (e' : MessageEntry) (between : List Deed) (did : Deed) (cpu : ℕ) where
   abbrev w : View
   w = noted between v m e' did
 
@@ -42,7 +42,7 @@ module _ (v : View) (m : ℕ) (e' : Entry) (between : List Deed) (did : Deed) (c
     where
       each : (k : ℕ) → IsAlike (at v k) (at w k)
       each k = dite (ℕ_discrete k m)
-          (λ is. let F : ℕ → Type 0 = λ n. IsAlike (at v n) (at w n) in let G : Entry → Type 0 = λ x. IsAlike (at v m) x in subst F (sym is) (subst G (sym (at-here v m e' between did)) alike))
+          (λ is. let F : ℕ → Type 0 = λ n. IsAlike (at v n) (at w n) in let G : MessageEntry → Type 0 = λ x. IsAlike (at v m) x in subst F (sym is) (subst G (sym (at-here v m e' between did)) alike))
           (λ apart. IsAlike-else v m e' between did k apart)
 
       in_hand : (k : ℕ) → IsInHand v cpu k → IsInHand w cpu k
@@ -80,13 +80,13 @@ module _ (v : View) (m : ℕ) (e' : Entry) (between : List Deed) (did : Deed) (c
           let F : ℕ → Type 0 = λ n. (IsOwn w cpu n) × ((at w n).had ≡ true) × ((at w n).away ≡ false) in
           let moved = subst F is (own, had, home) in
           let here : at w m ≡ e' = at-here v m e' between did in
-          let gone : e'.away ≡ true = away moved.0 (ap (λ (x : Entry). x.had) (sym here) ∙ moved.1) in
-          let h : true ≡ false = sym gone ∙ (ap (λ (x : Entry). x.away) (sym here) ∙ moved.2) in cc
+          let gone : e'.away ≡ true = away moved.0 (ap (λ (x : MessageEntry). x.had) (sym here) ∙ moved.1) in
+          let h : true ≡ false = sym gone ∙ (ap (λ (x : MessageEntry). x.away) (sym here) ∙ moved.2) in cc
 
       taken_gone : (k : ℕ) → k ≡ m → (at w k).taken ≡ true → ⊥
       taken_gone k is taken =
           let F : ℕ → Type 0 = λ n. (at w n).taken ≡ true in
-          let h : false ≡ true = sym not_taken ∙ (ap (λ (x : Entry). x.taken) (sym (at-here v m e' between did)) ∙ subst F is taken) in cc
+          let h : false ≡ true = sym not_taken ∙ (ap (λ (x : MessageEntry). x.taken) (sym (at-here v m e' between did)) ∙ subst F is taken) in cc
 
       behind : (k : ℕ) (y : Rec) → k ≢ m → Has ((slot_at m, rec) ∷ others) (slot_at k) y → Has others (slot_at k) y
       behind k y apart (zero, e) = absurd (apart (slots_differ k m (sym (ap (λ (x : ℕ × Rec). x.0) (some-injective (slot_at m, rec) (slot_at k, y) e)))))
@@ -116,8 +116,8 @@ module _ (v : View) (m : ℕ) (e' : Entry) (between : List Deed) (did : Deed) (c
           not_yet (subst F (sym (slots_differ m h.0 h.2)) h.3)
 
       now_here : ((IsOwn v cpu m × (e'.had ≡ true) × (e'.away ≡ false)) ⊎ (e'.taken ≡ true)) → IsInHand w cpu m
-      now_here (inl h) = inl (h.0, ap (λ (x : Entry). x.had) here ∙ h.1, ap (λ (x : Entry). x.away) here ∙ h.2)
-      now_here (inr h) = inr (ap (λ (x : Entry). x.taken) here ∙ h)
+      now_here (inl h) = inl (h.0, ap (λ (x : MessageEntry). x.had) here ∙ h.1, ap (λ (x : MessageEntry). x.away) here ∙ h.2)
+      now_here (inr h) = inr (ap (λ (x : MessageEntry). x.taken) here ∙ h)
 
       all : (slot : ℕ) (y : Rec) → Has ((slot_at m, rec) ∷ hands) slot y → (k : ℕ) × (k < length v.specs) × (slot ≡ slot_at k) × IsInHand w cpu k
       all slot y (zero, e) = (m, within, sym (ap (λ (x : ℕ × Rec). x.0) (some-injective (slot_at m, rec) (slot, y) e)), now_here now)
@@ -129,5 +129,5 @@ module _ (v : View) (m : ℕ) (e' : Entry) (between : List Deed) (did : Deed) (c
       call_here : (k : ℕ) → k ≡ m → (at w k).taken ≡ true → call_of rec ≡ (at w k).got
       call_here k is taken =
           let F : ℕ → Type 0 = λ n. ((at w n).taken ≡ true) → call_of rec ≡ (at w n).got in
-          let G : Entry → Type 0 = λ x. (x.taken ≡ true) → call_of rec ≡ x.got in
+          let G : MessageEntry → Type 0 = λ x. (x.taken ≡ true) → call_of rec ≡ x.got in
           subst F (sym is) (subst G (sym here) call) taken

@@ -10,7 +10,7 @@ use Rattle.lwkt_base.specs.MessageWord.{message_word, MessageFits}
 use Rattle.lwkt_core.specs.declared.seats.SeatKind.TheVariants.{Clerk}
 use Rattle.lwkt_core.specs.Seating.{total, after_back}
 use Rattle.lwkt_core.proofs.SeatingLemmas.{total-snoc}
-use Rattle.lwkt_msg.specs.declared.views.Entry.{Entry}
+use Rattle.lwkt_msg.specs.declared.views.MessageEntry.{MessageEntry}
 use Rattle.lwkt_msg.specs.declared.views.View.{View}
 use Rattle.lwkt_msg.specs.Views.{word_at, added, at, joined}
 use Rattle.lwkt_msg.specs.Desks.{Desk, IsChapter, IsRecalled, IsTaking, HasTakenBack, AreShown, shown_end}
@@ -28,11 +28,11 @@ taking_none cpus v seats kind none = record {
   as_many = omega arith;
   cpus_is = refl;
   specs_is = refl;
-  sends = λ m _. nothing (at v m).sends (total (λ (d : Desk). (at d.view m).sends) seats) (ap (λ (x : Entry). x.sends) (at-none v m none));
-  takes = λ m _. nothing (at v m).takes (total (λ (d : Desk). (at d.view m).takes) seats) (ap (λ (x : Entry). x.takes) (at-none v m none));
-  drops = λ m _. nothing (at v m).drops (total (λ (d : Desk). (at d.view m).drops) seats) (ap (λ (x : Entry). x.drops) (at-none v m none));
-  replies = λ m _. nothing (at v m).replies (total (λ (d : Desk). (at d.view m).replies) seats) (ap (λ (x : Entry). x.replies) (at-none v m none));
-  reaps = λ m _. nothing (at v m).reaps (total (λ (d : Desk). (at d.view m).reaps) seats) (ap (λ (x : Entry). x.reaps) (at-none v m none));
+  sends = λ m _. nothing (at v m).sends (total (λ (d : Desk). (at d.view m).sends) seats) (ap (λ (x : MessageEntry). x.sends) (at-none v m none));
+  takes = λ m _. nothing (at v m).takes (total (λ (d : Desk). (at d.view m).takes) seats) (ap (λ (x : MessageEntry). x.takes) (at-none v m none));
+  drops = λ m _. nothing (at v m).drops (total (λ (d : Desk). (at d.view m).drops) seats) (ap (λ (x : MessageEntry). x.drops) (at-none v m none));
+  replies = λ m _. nothing (at v m).replies (total (λ (d : Desk). (at d.view m).replies) seats) (ap (λ (x : MessageEntry). x.replies) (at-none v m none));
+  reaps = λ m _. nothing (at v m).reaps (total (λ (d : Desk). (at d.view m).reaps) seats) (ap (λ (x : MessageEntry). x.reaps) (at-none v m none));
 }
   where
     nothing : (n all : ℕ) → n ≡ 0 → n + all ≡ all
@@ -57,7 +57,7 @@ taking_more cpus v seats left seat w t = record {
   reaps = λ m within. moved (λ e. e.reaps) m within (λ a b. refl) (t.reaps m within);
 }
   where
-    moved : (f : Entry → ℕ) (m : ℕ) → m < length v.specs → ((a b : Entry) → f (added a b) ≡ f a + f b) → f (at w m) + total (λ (d : Desk). f (at d.view m)) (left ++ seat ∷ []) ≡ total (λ (d : Desk). f (at d.view m)) seats
+    moved : (f : MessageEntry → ℕ) (m : ℕ) → m < length v.specs → ((a b : MessageEntry) → f (added a b) ≡ f a + f b) → f (at w m) + total (λ (d : Desk). f (at d.view m)) (left ++ seat ∷ []) ≡ total (λ (d : Desk). f (at d.view m)) seats
         → f (at (joined w seat.view) m) + total (λ (d : Desk). f (at d.view m)) left ≡ total (λ (d : Desk). f (at d.view m)) seats
     moved f m within adds before =
         let long = ap (λ (xs : List MsgSpec). length xs) t.specs_is in

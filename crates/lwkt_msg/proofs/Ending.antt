@@ -13,7 +13,7 @@ use Rattle.lwkt_core.specs.declared.seats.SeatKind.TheVariants.{Clerk, Of, Spent
 use Rattle.lwkt_core.specs.Messages.{IsSafeMessage, origin_of}
 use Rattle.lwkt_core.specs.Seating.{total}
 use Rattle.lwkt_core.proofs.SeatingLemmas.{at_map, total-only, AreSeated-closed}
-use Rattle.lwkt_msg.specs.declared.views.Entry.{Entry}
+use Rattle.lwkt_msg.specs.declared.views.MessageEntry.{MessageEntry}
 use Rattle.lwkt_msg.specs.declared.views.Layout.{Layout}
 use Rattle.lwkt_msg.specs.declared.views.View.{View}
 use Rattle.lwkt_msg.specs.Views.{word_at, spec_at, at, page_of, recalled_of}
@@ -87,7 +87,7 @@ closes book key seats v w id words ends s cpus_is specs_is v_specs all taken tol
   known = λ k d low m within.
       let seat : Desk = slice_index_or seats k d in
       let i = taken.recalled k d low in
-      let F : Entry → Type 0 = λ x. Knows (mail_at told.rule.mails m) (Of (cpu_of seat)) x in
+      let F : MessageEntry → Type 0 = λ x. Knows (mail_at told.rule.mails m) (Of (cpu_of seat)) x in
       subst F (recalled-same seat.view m) (told.recalls.knows id i.0 w (recalled_of seat.view) m at_id i.1 (subst (λ (xs : List MsgSpec). m < length xs) specs_is within));
   is_history = is_history book key seats v w id s cpus_is specs_is all taken told at_id;
   each = λ m d within. each m (get_or ends m d) (get_there ends m d (let a = shown.as_many in let b = ap (λ (xs : List MsgSpec). length xs) specs_is in omega arith));
@@ -106,7 +106,7 @@ closes book key seats v w id words ends s cpus_is specs_is v_specs all taken tol
         let enough : key.cpus ≤ length seats = omega arith in
         (AreSeated-closed key.cpus kinds id book.cpus (length seats) rule.book.seated desk enough).2 j x.kind apart (at_map (λ (y : View). y.kind) s.views j x d)
 
-    counted : (m : ℕ) → m < length key.specs.items → (f : Entry → ℕ) (n all : ℕ) → ((x : Entry) → HasNoCounts x → f x ≡ 0) → total (λ (x : View). f (at x m)) s.views ≡ n → f (at w m) ≡ all → n ≡ all
+    counted : (m : ℕ) → m < length key.specs.items → (f : MessageEntry → ℕ) (n all : ℕ) → ((x : MessageEntry) → HasNoCounts x → f x ≡ 0) → total (λ (x : View). f (at x m)) s.views ≡ n → f (at w m) ≡ all → n ≡ all
     counted m within f n all none is here =
         let only = total-only (λ (x : View). f (at x m)) s.views id w at_id (λ j x d apart. none (at x m) (((rule.book.each m within).each_view j x d).spent (spent j x d apart))) in
         sym is ∙ (only ∙ here)

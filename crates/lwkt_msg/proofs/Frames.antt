@@ -15,7 +15,7 @@ use Rattle.lwkt_core.specs.declared.seats.SeatKind.TheVariants.{Clerk, Of, Spent
 use Rattle.lwkt_core.specs.Messages.{IsSafeMessage, in_out}
 use Rattle.lwkt_core.specs.Seating.{AreSeated, total}
 use Rattle.lwkt_core.proofs.SeatingLemmas.{at_set, at_map, map-set, total-set, AreSeated-kept, AreSeated-below}
-use Rattle.lwkt_msg.specs.declared.views.Entry.{Entry}
+use Rattle.lwkt_msg.specs.declared.views.MessageEntry.{MessageEntry}
 use Rattle.lwkt_msg.specs.declared.views.Layout.{Layout}
 use Rattle.lwkt_msg.specs.declared.views.View.{View}
 use Rattle.lwkt_msg.specs.Views.{word_at, slot_at, spec_at, at, noted, Stands}
@@ -31,7 +31,7 @@ total_moved : (f : View → ℕ) (views : List View) (id before after : ℕ) (v 
 total_moved f views id before after v w e moves is = let t = total-set f views id v w e in omega arith
 
 -- what a message's events add to its numbers, its view's entry adds too
-pub record CountsWith (msg after : Message) (e e' : Entry) : Type 0 where
+pub record CountsWith (msg after : Message) (e e' : MessageEntry) : Type 0 where
   pub sends : e'.sends + msg.sends ≡ e.sends + after.sends
   pub takes : e'.takes + msg.takes ≡ e.takes + after.takes
   pub drops : e'.drops + msg.drops ≡ e.drops + after.drops
@@ -41,11 +41,11 @@ pub record CountsWith (msg after : Message) (e e' : Entry) : Type 0 where
 counted_else : (msg : Message) (k m : ℕ) (views : List View) (id : ℕ) (v w : View) → get_elem? views id ≡ some v → Changes m v w → k ≢ m → AreCounted msg k views → AreCounted msg k (set views id w)
 counted_else msg k m views id v w e changes apart counted =
     let same : at w k ≡ at v k = changes.else_same k apart in record {
-      sends = total_same (λ x. (at x k).sends) views id v w e (ap (λ (y : Entry). y.sends) same) ∙ counted.sends;
-      takes = total_same (λ x. (at x k).takes) views id v w e (ap (λ (y : Entry). y.takes) same) ∙ counted.takes;
-      drops = total_same (λ x. (at x k).drops) views id v w e (ap (λ (y : Entry). y.drops) same) ∙ counted.drops;
-      replies = total_same (λ x. (at x k).replies) views id v w e (ap (λ (y : Entry). y.replies) same) ∙ counted.replies;
-      reaps = total_same (λ x. (at x k).reaps) views id v w e (ap (λ (y : Entry). y.reaps) same) ∙ counted.reaps;
+      sends = total_same (λ x. (at x k).sends) views id v w e (ap (λ (y : MessageEntry). y.sends) same) ∙ counted.sends;
+      takes = total_same (λ x. (at x k).takes) views id v w e (ap (λ (y : MessageEntry). y.takes) same) ∙ counted.takes;
+      drops = total_same (λ x. (at x k).drops) views id v w e (ap (λ (y : MessageEntry). y.drops) same) ∙ counted.drops;
+      replies = total_same (λ x. (at x k).replies) views id v w e (ap (λ (y : MessageEntry). y.replies) same) ∙ counted.replies;
+      reaps = total_same (λ x. (at x k).reaps) views id v w e (ap (λ (y : MessageEntry). y.reaps) same) ∙ counted.reaps;
     }
 
 counted_here : (msg after : Message) (m : ℕ) (views : List View) (id : ℕ) (v w : View) → get_elem? views id ≡ some v → CountsWith msg after (at v m) (at w m) → AreCounted msg m views → AreCounted after m (set views id w)
@@ -72,7 +72,7 @@ kept_else cpus spec mail word home k m views id v w e changes apart kept = recor
       (λ (here : (j ≡ id) × (w ≡ x)).
       let F : View → Type 0 = λ y. Knows mail y.kind (at y k) in
       let G : SeatKind → Type 0 = λ y. Knows mail y (at v k) in
-      let H : Entry → Type 0 = λ y. Knows mail w.kind y in
+      let H : MessageEntry → Type 0 = λ y. Knows mail w.kind y in
       subst F here.1 (subst H (sym (changes.else_same k apart)) (subst G (sym changes.kind) (kept.each_view id v e))))
       (λ (other : (j ≢ id) × (get_elem? views j ≡ some x)). kept.each_view j x other.1)
       (at_set views id j w x d);
@@ -86,7 +86,7 @@ pub kept_here : (cpus : ℕ) (spec : MsgSpec) (mail mail' : Mail) (word word' : 
     → word' ≡ message_word (parts_of mail') → home' ≡ some (in_slot mail'.msg.owner mail'.had mail'.rec)
     → (in_out mail'.msg.owner ≡ 1 → (mail'.rec.error ≡ 0) × (mail'.rec.result ≡ 0)) → CountsWith mail.msg mail'.msg (at v m) (at w m)
     → (Knows mail (Of cpu) (at v m) → Knows mail' (Of cpu) (at w m))
-    → ((kind : SeatKind) (e : Entry) → (Stands kind cpu.0 → ⊥) → Knows mail kind e → Knows mail' kind e)
+    → ((kind : SeatKind) (e : MessageEntry) → (Stands kind cpu.0 → ⊥) → Knows mail kind e → Knows mail' kind e)
     → IsKept cpus spec mail' word' home' m (set views id w)
 kept_here cpus spec mail mail' word word' home home' m views id v w cpu kept e is_seat same_kind alone safe origin opening is_word slot unanswered counts mine others = record {
   safe = safe;
@@ -107,19 +107,19 @@ kept_here cpus spec mail mail' word word' home home' m views id v w cpu kept e i
 }
 
 -- the same, where the view is that after a step
-pub kept_step : (cpus : ℕ) (spec : MsgSpec) (mail mail' : Mail) (word word' : ℕ) (home home' : Option (Option Rec)) (m : ℕ) (views : List View) (id : ℕ) (v : View) (cpu : CpuId) (e' : Entry) (between : List Deed) (did : Deed)
+pub kept_step : (cpus : ℕ) (spec : MsgSpec) (mail mail' : Mail) (word word' : ℕ) (home home' : Option (Option Rec)) (m : ℕ) (views : List View) (id : ℕ) (v : View) (cpu : CpuId) (e' : MessageEntry) (between : List Deed) (did : Deed)
     → IsKept cpus spec mail word home m views → get_elem? views id ≡ some v → v.kind ≡ Of cpu
     → ((j : ℕ) (x : View) → j ≢ id → get_elem? views j ≡ some x → Stands x.kind cpu.0 → ⊥)
     → IsSafeMessage cpus mail'.msg → mail'.msg.origin ≡ mail.msg.origin → mail'.msg.opening ≡ mail.msg.opening
     → word' ≡ message_word (parts_of mail') → home' ≡ some (in_slot mail'.msg.owner mail'.had mail'.rec)
     → (in_out mail'.msg.owner ≡ 1 → (mail'.rec.error ≡ 0) × (mail'.rec.result ≡ 0)) → CountsWith mail.msg mail'.msg (at v m) e'
     → (Knows mail (Of cpu) (at v m) → Knows mail' (Of cpu) e')
-    → ((kind : SeatKind) (e : Entry) → (Stands kind cpu.0 → ⊥) → Knows mail kind e → Knows mail' kind e)
+    → ((kind : SeatKind) (e : MessageEntry) → (Stands kind cpu.0 → ⊥) → Knows mail kind e → Knows mail' kind e)
     → IsKept cpus spec mail' word' home' m (set views id (noted between v m e' did))
 kept_step cpus spec mail mail' word word' home home' m views id v cpu e' between did kept e is_seat alone safe origin opening is_word slot unanswered counts mine others =
     let here : e' ≡ at (noted between v m e' did) m = sym (at-here v m e' between did) in
-    let F : Entry → Type 0 = λ x. CountsWith mail.msg mail'.msg (at v m) x in
-    let G : Entry → Type 0 = λ x. Knows mail (Of cpu) (at v m) → Knows mail' (Of cpu) x in
+    let F : MessageEntry → Type 0 = λ x. CountsWith mail.msg mail'.msg (at v m) x in
+    let G : MessageEntry → Type 0 = λ x. Knows mail (Of cpu) (at v m) → Knows mail' (Of cpu) x in
     kept_here cpus spec mail mail' word word' home home' m views id v (noted between v m e' did) cpu kept e is_seat refl alone safe origin opening is_word slot unanswered (subst F here counts) (subst G here mine) others
 
 -- no other view stands for the processor of a seat

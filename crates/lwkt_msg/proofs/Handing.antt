@@ -11,7 +11,7 @@ use Rattle.lwkt_base.specs.declared.records.Rec.{Rec}
 use Rattle.lwkt_core.specs.declared.seats.Deed.{Deed}
 use Rattle.lwkt_core.specs.Seating.{next_seat}
 use Rattle.lwkt_core.specs.Opening.{AreWithin}
-use Rattle.lwkt_msg.specs.declared.views.Entry.{Entry}
+use Rattle.lwkt_msg.specs.declared.views.MessageEntry.{MessageEntry}
 use Rattle.lwkt_msg.specs.declared.views.View.{View}
 use Rattle.lwkt_base.specs.MessageWord.{message_word}
 use Rattle.lwkt_core.specs.declared.events.Event.{Event}
@@ -61,7 +61,7 @@ handing_own place place' cpu m between found rec h within own same others view_i
     let others_are : AreOthers cpu.0 between = let O : CpuId → Type 0 = λ c. AreOthers c.0 between in subst O who_is others in
     let did_own : did.cpu.0 ≡ cpu.0 = ap (λ (c : CpuId). c.0) who_is in
     let rest_is : found ≡ message_word (rest_word cpu (spec_at v.specs m).round) = found_is ∙ (λ i. message_word (rest_word (who_is i) (h.todo m (omega arith) i).round)) in
-    let e : Entry = at v m in
+    let e : MessageEntry = at v m in
     let first : e ≡ first_entry (spec_at v.specs m) = h.todo m (omega arith) in
     let words_same = ap (λ (z : TableId). z.words) same in
     let slots_same = ap (λ (z : TableId). z.slots) same in
@@ -72,9 +72,9 @@ handing_own place place' cpu m between found rec h within own same others view_i
     let c = h.few in
     let d = h.cpus in
     let t = h.there in
-    let not_taken : e.taken ≡ false = ap (λ (x : Entry). x.taken) first in
-    let not_had : e.had ≡ false = ap (λ (x : Entry). x.had) first in
-    let home : e.away ≡ false = ap (λ (x : Entry). x.away) first in
+    let not_taken : e.taken ≡ false = ap (λ (x : MessageEntry). x.taken) first in
+    let not_had : e.had ≡ false = ap (λ (x : MessageEntry). x.had) first in
+    let home : e.away ≡ false = ap (λ (x : MessageEntry). x.away) first in
     let not_yet : IsInHand v cpu.0 m → ⊥
     = λ hand. ⊎_elim (λ (is : IsOwn v cpu.0 m × (e.had ≡ true) × (e.away ≡ false)). let f : false ≡ true = sym not_had ∙ is.1 in cc) (λ (is : e.taken ≡ true). let f : false ≡ true = sym not_taken ∙ is in cc) hand in
     let now = hands_taken v m (handed e) between did cpu.0 rec place.me.1 within h.hands not_yet (inl (own, refl, home)) (λ is. let f : false ≡ true = sym not_taken ∙ is in absurd cc) in
@@ -139,7 +139,7 @@ handing_done place cpu h = record {
   cpus = h.cpus;
   there = h.there;
   within = h.within;
-  had = λ m within own. ap (λ (x : Entry). x.had) (h.done m within) ∙ has (spec_at place.me.0.specs m) own;
+  had = λ m within own. ap (λ (x : MessageEntry). x.had) (h.done m within) ∙ has (spec_at place.me.0.specs m) own;
   hands = h.hands;
 }
   where
@@ -174,8 +174,8 @@ handing_fresh clerk place cpu cpus specs k room same me_is =
       hands = subst F (sym me_is) record {
         apart = record { one = λ i j slot rec other x y. absurd (some-ne-none (slot, rec) (sym x)) };
         all = λ slot rec has. absurd (some-ne-none (slot, rec) (sym has.1));
-        own = λ m within own had home. absurd (let e : false ≡ true = ap (λ (x : Entry). x.had) (sym (blank m)) ∙ had in cc);
-        taken = λ m within taken. absurd (let e : false ≡ true = ap (λ (x : Entry). x.taken) (sym (blank m)) ∙ taken in cc);
+        own = λ m within own had home. absurd (let e : false ≡ true = ap (λ (x : MessageEntry). x.had) (sym (blank m)) ∙ had in cc);
+        taken = λ m within taken. absurd (let e : false ≡ true = ap (λ (x : MessageEntry). x.taken) (sym (blank m)) ∙ taken in cc);
       };
       done = λ m below. absurd (omega arith);
       todo = subst T (ap (λ (x : Me Rec View). x.0) (sym me_is)) (λ m _. blank m);

@@ -31,7 +31,7 @@ use Rattle.lwkt_core.specs.Machine.{Machine, Happens, PlaceNeeds, after_at, chan
 use Rattle.lwkt_core.specs.Messages.{IsSafeMessage, MessageNeeds, message_after, origin_of, target_of, is_away, in_out, TargetIsThere, IsOutTo, IsOutFrom, IsWith, IsBackTo}
 use Rattle.lwkt_core.proofs.MessageMoves.{IsSafeMessage-after}
 use Rattle.lwkt_core.proofs.SeatingLemmas.{set_here, set_else, at_map, map-set, AreSeated-there}
-use Rattle.lwkt_msg.specs.declared.views.Entry.{Entry}
+use Rattle.lwkt_msg.specs.declared.views.MessageEntry.{MessageEntry}
 use Rattle.lwkt_msg.specs.declared.views.Layout.{Layout}
 use Rattle.lwkt_msg.specs.declared.views.View.{View}
 use Rattle.lwkt_msg.specs.Views.{word_at, slot_at, spec_at, call_of, at, noted, handed, sent, took, replied, reaped, dropped, requested, Stands}
@@ -45,7 +45,7 @@ use Rattle.lwkt_msg.proofs.Moves.{owned, mail_after, mail_sent, never, send_othe
 
 -- who doesn't stand for this processor still knows what is so
 abbrev pub KeptByOthers : ℕ → Mail → Mail → Type 0
-KeptByOthers cpu mail after = (kind : SeatKind) (e : Entry) → (Stands kind cpu → ⊥) → Knows mail kind e → Knows after kind e
+KeptByOthers cpu mail after = (kind : SeatKind) (e : MessageEntry) → (Stands kind cpu → ⊥) → Knows mail kind e → Knows after kind e
 
 -- a step on a message after which the table is a book again, in which this word shows it, and the event that the step is
 pub record LeadsTo (key : Layout) (mails : List Mail) (m cpu : ℕ) (after : Mail) (event : Event) (word : ℕ) (s : State Rec View) : Type 0 where
@@ -163,7 +163,7 @@ module _ (key : Layout) (mails : List Mail) (s : State Rec View) (id : ℕ) (v :
   alone = stands_alone key.cpus s.views id v cpu book.seated e is_seat
 
   -- a step on the message, and the event that it is
-  leads : (mail' : Mail) (event : Event) (word' : ℕ) (homes' : List (maybe.Option Rec)) (e' : Entry) (between : List Deed) (did : Deed)
+  leads : (mail' : Mail) (event : Event) (word' : ℕ) (homes' : List (maybe.Option Rec)) (e' : MessageEntry) (between : List Deed) (did : Deed)
       → length homes' ≡ length s.homes → ((k : ℕ) → k ≢ m → get_elem? homes' (slot_at k) ≡ get_elem? s.homes (slot_at k))
       → IsKept key.cpus (spec_at key.specs.items m) mail' word' (get_elem? homes' (slot_at m)) m (set s.views id (noted between v m e' did))
       → place_of event ≡ AtMessage m → adds_reference event ≡ false → cpu_of event < key.cpus → MessageNeeds key.cpus mail.msg event → mail'.msg ≡ message_after mail.msg event → KeptByOthers cpu.0 mail mail'
@@ -201,14 +201,14 @@ module _ (key : Layout) (mails : List Mail) (s : State Rec View) (id : ℕ) (v :
       let counts : CountsWith mail.msg mail'.msg (at v m) (sent w (call_of rec) (at v m)) = record { sends = omega arith; takes = refl; drops = refl; replies = refl; reaps = refl } in
       let mine : Knows mail (Of cpu) (at v m) → Knows mail' (Of cpu) (sent w (call_of rec) (at v m))
       = λ known. send_mine mail cpu to cpu m w rec (at v m) quiet refl (subst (λ (x : Owner). Knows (owned mail x) (Of cpu) (at v m)) owner_is known) in
-      let others : (kind : SeatKind) (x : Entry) → (Stands kind cpu.0 → ⊥) → Knows mail kind x → Knows mail' kind x
+      let others : (kind : SeatKind) (x : MessageEntry) → (Stands kind cpu.0 → ⊥) → Knows mail kind x → Knows mail' kind x
       = λ kind x not_its known. send_others mail cpu to cpu m w rec (own_origin own) kind x not_its (subst (λ (y : Owner). Knows (owned mail y) kind x) owner_is known) in
       let now = kept_step key.cpus (spec_at key.specs.items m) mail mail' (get_or s.words (word_at m) 0) n (get_elem? s.homes (slot_at m)) (get_elem? (set s.homes (slot_at m) (some rec)) (slot_at m)) m s.views id v cpu
       (sent w (call_of rec) (at v m)) between did kept e is_seat alone safe refl refl is_word (set_here s.homes (slot_at m) (some rec) in_homes) (λ _. (no_error, no_result)) counts mine others in
       leads mail' (Send cpu msg to w.round) n (set s.homes (slot_at m) (some rec)) (sent w (call_of rec) (at v m)) between did (length-set s.homes (slot_at m) (some rec)) (set_slots (some rec)) now refl refl cpu_there needs refl others
 
   -- a step that leaves the message as it is
-  pub stays : (e' : Entry) (between : List Deed) (did : Deed) → e'.sends ≡ (at v m).sends → e'.takes ≡ (at v m).takes → e'.drops ≡ (at v m).drops → e'.replies ≡ (at v m).replies → e'.reaps ≡ (at v m).reaps
+  pub stays : (e' : MessageEntry) (between : List Deed) (did : Deed) → e'.sends ≡ (at v m).sends → e'.takes ≡ (at v m).takes → e'.drops ≡ (at v m).drops → e'.replies ≡ (at v m).replies → e'.reaps ≡ (at v m).reaps
       → (Knows mail (Of cpu) (at v m) → Knows mail (Of cpu) e')
       → IsBook key (set mails m mail) record { words = set s.words (word_at m) (get_or s.words (word_at m) 0); homes = s.homes; views = set s.views id (noted between v m e' did) }
   stays e' between did a b c d f mine =

@@ -11,7 +11,7 @@ use Rattle.lwkt_core.specs.declared.seats.Deed.{Deed}
 use Rattle.lwkt_core.specs.declared.seats.SeatKind.TheVariants.{Clerk, Of}
 use Rattle.lwkt_core.specs.Seating.{after_made, after_back}
 use Rattle.lwkt_core.proofs.SeatingLemmas.{at_set, at_snoc, at_map}
-use Rattle.lwkt_msg.specs.declared.views.Entry.{Entry}
+use Rattle.lwkt_msg.specs.declared.views.MessageEntry.{MessageEntry}
 use Rattle.lwkt_msg.specs.declared.views.Layout.{Layout}
 use Rattle.lwkt_msg.specs.declared.views.Recalled.{Recalled}
 use Rattle.lwkt_msg.specs.declared.views.View.{View}
@@ -159,7 +159,7 @@ recalls_joined views mails count id other made back v w cpu e is_clerk is_seat k
         let is : recalled_of w ≡ r = some-injective (recalled_of w) r at_i in
         let F : Recalled → Type 0 = λ y. Knows (mail_at mails m) (Of y.cpu) (recalled_at y m) in
         let G : CpuId → Type 0 = λ c. Knows (mail_at mails m) (Of c) (recalled_at (recalled_of w) m) in
-        let H : Entry → Type 0 = λ y. Knows (mail_at mails m) (Of cpu) y in
+        let H : MessageEntry → Type 0 = λ y. Knows (mail_at mails m) (Of cpu) y in
         subst F is (subst G (sym (ap seat_cpu is_seat)) (subst H (sym (recalled-same w m)) (known m within)))
     known_of (suc i) r m at_i within = old.knows id i v r m e at_i within
 

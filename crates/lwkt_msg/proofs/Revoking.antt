@@ -13,7 +13,7 @@ use Rattle.lwkt_base.specs.MessageWord.{message_word, MessageFits}
 use Rattle.lwkt_core.specs.declared.seats.Operation.TheVariants as operation
 use Rattle.lwkt_core.specs.declared.seats.SeatKind.TheVariants.{Of}
 use Rattle.lwkt_core.specs.Messages.{origin_of, target_of}
-use Rattle.lwkt_msg.specs.declared.views.Entry.{Entry}
+use Rattle.lwkt_msg.specs.declared.views.MessageEntry.{MessageEntry}
 use Rattle.lwkt_msg.specs.declared.views.Layout.{Layout}
 use Rattle.lwkt_msg.specs.declared.views.View.{View}
 use Rattle.lwkt_msg.specs.Views.{word_at, slot_at, at, who, noted, dropped, requested}
@@ -53,7 +53,7 @@ module _ (key : Layout) (id : ℕ) (me : Me Rec View) (cpu : CpuId) (m : ℕ) (i
       hit : n ≡ old → (v' : View) × (a : Act Rec) × Valid s.homes me.1 a × Told key (stepped s (word_at m) new id me.1 v' a) × drops_it (step slots (word_at m) old new none) me n (v', carried_after me.1 a)
       hit found =
           let t = tell.drop_told key s id me.0 cpu m told at_id is_seat here w me.1 own had (found ∙ old_is) fits out in
-          let e' : Entry = dropped (at me.0 m) in
+          let e' : MessageEntry = dropped (at me.0 m) in
           let v' : View = noted t.between me.0 m e' (deed.drops cpu m (message_word w) word rec) in
           let F : ℕ → Type 0 = λ x. Told key record { words = set s.words (word_at m) x; homes = set s.homes (slot_at m) none; views = set s.views id v' } in
           let same = told_by_who key s told id me.0 cpu is_seat me.1 m e' (λ c. deed.drops c m (message_word w) word rec) word (takes (slot_at m) rec) t in
@@ -108,7 +108,7 @@ module _ (key : Layout) (id : ℕ) (me : Me Rec View) (cpu : CpuId) (m : ℕ) (i
   pub request_allowed : (slots : ℕ) → IsOwn me.0 cpu.0 m → (at me.0 m).away ≡ true → Allows (Told key) slots id me (word_at m) (λ n. bit_or n 4) (requests (step slots (word_at m) 4 0 none) me)
   request_allowed slots own away s told deep at_id small =
       let n : ℕ = get_or s.words (word_at m) 0 in
-      let e' : Entry = requested (at me.0 m) in
+      let e' : MessageEntry = requested (at me.0 m) in
       let t = tell.abort_told key s id me.0 cpu m told at_id is_seat (there key s id me.0 cpu m told.rule at_id is_seat within) me.1 own away in
       let v' : View = noted t.between me.0 m e' (deed.requests cpu m n) in
       let same = told_by_who key s told id me.0 cpu is_seat me.1 m e' (λ c. deed.requests c m n) (bit_or n 4) keeps t in

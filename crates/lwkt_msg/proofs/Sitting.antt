@@ -6,7 +6,7 @@ use Rattle.lwkt_base.specs.declared.names.CpuId.{CpuId}
 use Rattle.lwkt_base.specs.declared.records.Rec.{Rec}
 use Rattle.lwkt_core.specs.declared.seats.Deed.{Deed}
 use Rattle.lwkt_core.specs.Opening.{AreWithin}
-use Rattle.lwkt_msg.specs.declared.views.Entry.{Entry}
+use Rattle.lwkt_msg.specs.declared.views.MessageEntry.{MessageEntry}
 use Rattle.lwkt_msg.specs.declared.views.View.{View}
 use Rattle.lwkt_msg.specs.Views.{slot_at, call_of, at, who, noted, looked}
 use Rattle.lwkt_msg.specs.Deeds.{loads}
@@ -19,7 +19,7 @@ use Rattle.lwkt_msg.proofs.Bringing.{AreSame-refl}
 use Rattle.lwkt_msg.proofs.Carrying.{IsAlike, hands_same, hands_given, hands_taken}
 
 -- a seat is still that of its processor after a step
-pub sat_after : (place place' : Seat Rec View) (cpu : CpuId) (m : ℕ) (e' : Entry) (between : List Deed) (did : Deed) → IsSat cpu place → place'.table_id ≡ place.table_id → place'.me.0 ≡ noted between place.me.0 m e' did → e'.had ≡ (at place.me.0 m).had
+pub sat_after : (place place' : Seat Rec View) (cpu : CpuId) (m : ℕ) (e' : MessageEntry) (between : List Deed) (did : Deed) → IsSat cpu place → place'.table_id ≡ place.table_id → place'.me.0 ≡ noted between place.me.0 m e' did → e'.had ≡ (at place.me.0 m).had
     → AreHands (noted between place.me.0 m e' did) cpu.0 place'.me.1 → IsSat cpu place'
 sat_after place place' cpu m e' between did sat same view_is had hands =
     let F : View → Type 0 = λ w. AreHands w cpu.0 place'.me.1 in
@@ -52,8 +52,8 @@ sat_after place place' cpu m e' between did sat same view_is had hands =
 
     still : (k : ℕ) → k < length place.me.0.specs → IsOwn place.me.0 cpu.0 k → (at w k).had ≡ true
     still k within own = dite (ℕ_discrete k m)
-        (λ is. let G : ℕ → Type 0 = λ n. (at place.me.0 n).had ≡ true in ap (λ (n : ℕ). (at w n).had) is ∙ (ap (λ (x : Entry). x.had) (at-here place.me.0 m e' between did) ∙ (had ∙ subst G is (sat.had k within own))))
-        (λ apart. ap (λ (x : Entry). x.had) (at-else place.me.0 m e' between did k apart) ∙ sat.had k within own)
+        (λ is. let G : ℕ → Type 0 = λ n. (at place.me.0 n).had ≡ true in ap (λ (n : ℕ). (at w n).had) is ∙ (ap (λ (x : MessageEntry). x.had) (at-here place.me.0 m e' between did) ∙ (had ∙ subst G is (sat.had k within own))))
+        (λ apart. ap (λ (x : MessageEntry). x.had) (at-else place.me.0 m e' between did k apart) ∙ sat.had k within own)
 
 pub sat_looked : (place place' : Seat Rec View) (cpu : CpuId) (m found : ℕ) → IsSat cpu place → place'.table_id ≡ place.table_id → Looked m place.me found place'.me → IsSat cpu place'
 sat_looked place place' cpu m found sat same l =
@@ -62,14 +62,14 @@ sat_looked place place' cpu m found sat same l =
     (hands_same place.me.0 m (looked l.parts (at place.me.0 m)) l.view_is.0 d cpu.0 place.me.1 place'.me.1 (record { had = refl; away = refl; taken = refl; got = refl }) sat.hands l.same)
 
 -- a step that gives a record away, and one that takes a record in hand
-pub sat_given : (place place' : Seat Rec View) (cpu : CpuId) (m : ℕ) (e' : Entry) (between : List Deed) (did : Deed) (old : Rec) (others : List (ℕ × Rec)) → IsSat cpu place → place'.table_id ≡ place.table_id → place'.me.0 ≡ noted between place.me.0 m e' did
+pub sat_given : (place place' : Seat Rec View) (cpu : CpuId) (m : ℕ) (e' : MessageEntry) (between : List Deed) (did : Deed) (old : Rec) (others : List (ℕ × Rec)) → IsSat cpu place → place'.table_id ≡ place.table_id → place'.me.0 ≡ noted between place.me.0 m e' did
     → place.me.1 ≡ (slot_at m, old) ∷ others → (IsOwn place.me.0 cpu.0 m → e'.had ≡ true → e'.away ≡ true) → e'.taken ≡ false → place'.me.1 ≡ others → e'.had ≡ (at place.me.0 m).had → IsSat cpu place'
 sat_given place place' cpu m e' between did old others sat same view_is held away not_taken left had =
     let F : List (ℕ × Rec) → Type 0 = λ c. AreHands place.me.0 cpu.0 c in
     let G : List (ℕ × Rec) → Type 0 = λ c. AreHands (noted between place.me.0 m e' did) cpu.0 c in
     sat_after place place' cpu m e' between did sat same view_is had (subst G (sym left) (hands_given place.me.0 m e' between did cpu.0 old others (subst F held sat.hands) away not_taken))
 
-pub sat_taken : (place place' : Seat Rec View) (cpu : CpuId) (m : ℕ) (e' : Entry) (between : List Deed) (did : Deed) (rec : Rec) → IsSat cpu place → place'.table_id ≡ place.table_id → place'.me.0 ≡ noted between place.me.0 m e' did
+pub sat_taken : (place place' : Seat Rec View) (cpu : CpuId) (m : ℕ) (e' : MessageEntry) (between : List Deed) (did : Deed) (rec : Rec) → IsSat cpu place → place'.table_id ≡ place.table_id → place'.me.0 ≡ noted between place.me.0 m e' did
     → m < length place.me.0.specs → (IsInHand place.me.0 cpu.0 m → ⊥) → ((IsOwn place.me.0 cpu.0 m × (e'.had ≡ true) × (e'.away ≡ false)) ⊎ (e'.taken ≡ true)) → (e'.taken ≡ true → call_of rec ≡ e'.got)
     → place'.me.1 ≡ (slot_at m, rec) ∷ place.me.1 → e'.had ≡ (at place.me.0 m).had → IsSat cpu place'
 sat_taken place place' cpu m e' between did rec sat same view_is within not_yet now call got had =
@@ -77,7 +77,7 @@ sat_taken place place' cpu m e' between did rec sat same view_is within not_yet 
     sat_after place place' cpu m e' between did sat same view_is had (subst G (sym got) (hands_taken place.me.0 m e' between did cpu.0 rec place.me.1 within sat.hands not_yet now call))
 
 -- a step after which the same is in hand
-pub sat_alike : (place place' : Seat Rec View) (cpu : CpuId) (m : ℕ) (e' : Entry) (between : List Deed) (did : Deed) → IsSat cpu place → place'.table_id ≡ place.table_id → place'.me.0 ≡ noted between place.me.0 m e' did
+pub sat_alike : (place place' : Seat Rec View) (cpu : CpuId) (m : ℕ) (e' : MessageEntry) (between : List Deed) (did : Deed) → IsSat cpu place → place'.table_id ≡ place.table_id → place'.me.0 ≡ noted between place.me.0 m e' did
     → IsAlike (at place.me.0 m) e' → place'.me.1 ≡ place.me.1 → IsSat cpu place'
 sat_alike place place' cpu m e' between did sat same view_is alike hands =
     let F : List (ℕ × Rec) → Type 0 = λ c. AreSame place.me.1 c in

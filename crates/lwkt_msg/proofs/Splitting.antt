@@ -16,7 +16,7 @@ use Rattle.lwkt_core.specs.History.{back_page}
 use Rattle.lwkt_core.proofs.ViewLemmas.{Views-opened, Views-split, Views-moved, Views-joined}
 use Rattle.lwkt_core.proofs.MessageMoves.{IsSafeMessage-opened}
 use Rattle.lwkt_core.proofs.SeatingLemmas.{at_set, set_else, at_longer, at_snoc, at_map, map-set, map-snoc, total-set, total-snoc, total-cons, AreSeated-opening, AreSeated-split, AreSeated-join}
-use Rattle.lwkt_msg.specs.declared.views.Entry.{Entry}
+use Rattle.lwkt_msg.specs.declared.views.MessageEntry.{MessageEntry}
 use Rattle.lwkt_msg.specs.declared.views.Layout.{Layout}
 use Rattle.lwkt_msg.specs.declared.views.Noted.{Noted}
 use Rattle.lwkt_msg.specs.declared.views.View.{View}
@@ -38,7 +38,7 @@ at-none v m none_yet = let F : List Noted → Type 0 = λ es. entry_in es m (fir
 
 -- a column of views that gives the same totals, in which each view knows what is so, keeps a message
 kept_over : (cpus : ℕ) (spec : MsgSpec) (mail : Mail) (word : ℕ) (home : Option (Option Rec)) (m : ℕ) (views views' : List View) → IsKept cpus spec mail word home m views
-    → ((f : Entry → ℕ) → ((e other : Entry) → f (added e other) ≡ f e + f other) → ((x : MsgSpec) → f (first_entry x) ≡ 0) → total (λ v. f (at v m)) views' ≡ total (λ v. f (at v m)) views)
+    → ((f : MessageEntry → ℕ) → ((e other : MessageEntry) → f (added e other) ≡ f e + f other) → ((x : MsgSpec) → f (first_entry x) ≡ 0) → total (λ v. f (at v m)) views' ≡ total (λ v. f (at v m)) views)
     → ((j : ℕ) (v : View) → get_elem? views' j ≡ some v → Knows mail v.kind (at v m)) → IsKept cpus spec mail word home m views'
 kept_over cpus spec mail word home m views views' kept same each = record {
   safe = kept.safe;
@@ -111,7 +111,7 @@ seat_book key mails s id v made back book e is_clerk no_entries room = record {
     right_same : (m : ℕ) → at right m ≡ at v m
     right_same m = at-none right m no_entries ∙ sym (blank m)
 
-    same_total : (m : ℕ) (f : Entry → ℕ) → ((x other : Entry) → f (added x other) ≡ f x + f other) → ((x : MsgSpec) → f (first_entry x) ≡ 0) → total (λ x. f (at x m)) (set s.views id left ++ right ∷ []) ≡ total (λ x. f (at x m)) s.views
+    same_total : (m : ℕ) (f : MessageEntry → ℕ) → ((x other : MessageEntry) → f (added x other) ≡ f x + f other) → ((x : MsgSpec) → f (first_entry x) ≡ 0) → total (λ x. f (at x m)) (set s.views id left ++ right ∷ []) ≡ total (λ x. f (at x m)) s.views
     same_total m f adds none_first =
         let a = total-snoc (λ (x : View). f (at x m)) (set s.views id left) right in
         let b = total-set (λ (x : View). f (at x m)) s.views id v left e in
@@ -126,7 +126,7 @@ seat_book key mails s id v made back book e is_clerk no_entries room = record {
     knows_left m within =
         let k = of_clerk m within in
         let F : SeatKind → Type 0 = λ x. Knows (mail_at mails m) x (at left m) in
-        let G : Entry → Type 0 = λ x. Knows (mail_at mails m) (Clerk (made + 1) back) x in
+        let G : MessageEntry → Type 0 = λ x. Knows (mail_at mails m) (Clerk (made + 1) back) x in
         subst F (sym left_kind) (subst G (sym (left_same m)) record {
           as_origin = λ stands. k.as_origin (omega arith);
           as_target = λ cpu stands. k.as_target cpu (omega arith);
@@ -137,7 +137,7 @@ seat_book key mails s id v made back book e is_clerk no_entries room = record {
     knows_right m within =
         let k = of_clerk m within in
         let F : SeatKind → Type 0 = λ x. Knows (mail_at mails m) x (at right m) in
-        let G : Entry → Type 0 = λ x. Knows (mail_at mails m) (Of (record { 0 = made })) x in
+        let G : MessageEntry → Type 0 = λ x. Knows (mail_at mails m) (Of (record { 0 = made })) x in
         subst F (sym right_kind) (subst G (sym (right_same m)) record {
           as_origin = λ stands. k.as_origin (let h : made ≡ (mail_at mails m).msg.origin.cpu.0 = stands in omega arith);
           as_target = λ cpu stands. k.as_target cpu (let h : made ≡ cpu = stands in omega arith);
@@ -217,7 +217,7 @@ AreSeated-moved cpus ks i cpu seated e = record {
 
 knows_spent : (mail : Mail) (m : ℕ) → Knows mail Spent (at spent_view m)
 knows_spent mail m =
-    let F : Entry → Type 0 = λ x. Knows mail Spent x in
+    let F : MessageEntry → Type 0 = λ x. Knows mail Spent x in
     subst F (sym (at-none spent_view m refl)) record {
       as_origin = λ stands. absurd stands;
       as_target = λ cpu stands. absurd stands;
@@ -248,7 +248,7 @@ whole_book key mails s id v cpu book e is_seat = record {
   each = λ m within. kept_over key.cpus (spec_at key.specs.items m) (mail_at mails m) (get_or s.words (word_at m) 0) (get_elem? s.homes (slot_at m)) m s.views (set s.views id spent_view ++ v ∷ []) (book.each m within) (same_total m) (knows m within);
 }
   where
-    same_total : (m : ℕ) (f : Entry → ℕ) → ((x other : Entry) → f (added x other) ≡ f x + f other) → ((x : MsgSpec) → f (first_entry x) ≡ 0) → total (λ x. f (at x m)) (set s.views id spent_view ++ v ∷ []) ≡ total (λ x. f (at x m)) s.views
+    same_total : (m : ℕ) (f : MessageEntry → ℕ) → ((x other : MessageEntry) → f (added x other) ≡ f x + f other) → ((x : MsgSpec) → f (first_entry x) ≡ 0) → total (λ x. f (at x m)) (set s.views id spent_view ++ v ∷ []) ≡ total (λ x. f (at x m)) s.views
     same_total m f adds none_first =
         let a = total-snoc (λ (x : View). f (at x m)) (set s.views id spent_view) v in
         let b = total-set (λ (x : View). f (at x m)) s.views id v spent_view e in
@@ -274,7 +274,7 @@ pub whole_splits : (key : Layout) (id : ℕ) (v : View) (cpu : CpuId) → v.kind
 whole_splits key id v cpu is_seat s told e = (whole_told key s told id v cpu e is_seat).0
 
 -- what is gathered of each message
-in_gathered : (n : ℕ) (v other : View) (m : ℕ) (d : Entry) → m < n → entry_in (gathered n v other) m d ≡ added (at v m) (at other m)
+in_gathered : (n : ℕ) (v other : View) (m : ℕ) (d : MessageEntry) → m < n → entry_in (gathered n v other) m d ≡ added (at v m) (at other m)
 unfolding entry_in gathered
 in_gathered zero v other m d h = absurd (omega arith)
 in_gathered (suc k) v other m d h = dite (ℕ_discrete k m)
@@ -327,7 +327,7 @@ joined_book key mails s id v other w made back cpu book e is_clerk is_seat apart
     in_v : (m : ℕ) → m < length key.specs.items → m < length v.specs
     in_v m within = subst (λ (xs : List MsgSpec). m < length xs) (sym plan.1) within
 
-    same_total : (m : ℕ) → m < length key.specs.items → (f : Entry → ℕ) → ((x y : Entry) → f (added x y) ≡ f x + f y) → ((x : MsgSpec) → f (first_entry x) ≡ 0) → total (λ x. f (at x m)) (set (set s.views id both) other spent_view) ≡ total (λ x. f (at x m)) s.views
+    same_total : (m : ℕ) → m < length key.specs.items → (f : MessageEntry → ℕ) → ((x y : MessageEntry) → f (added x y) ≡ f x + f y) → ((x : MsgSpec) → f (first_entry x) ≡ 0) → total (λ x. f (at x m)) (set (set s.views id both) other spent_view) ≡ total (λ x. f (at x m)) s.views
     same_total m within f adds none_first =
         let a = total-set (λ (x : View). f (at x m)) (set s.views id both) other w spent_view d in
         let b = total-set (λ (x : View). f (at x m)) s.views id v both e in
@@ -341,7 +341,7 @@ joined_book key mails s id v other w made back cpu book e is_clerk is_seat apart
         let F : SeatKind → Type 0 = λ k. Knows mail k (at v m) in
         let k : Knows mail (Clerk made back) (at v m) = subst F is_clerk ((book.each m within).each_view id v e) in
         let G : SeatKind → Type 0 = λ x. Knows mail x (at both m) in
-        let H : Entry → Type 0 = λ x. Knows mail (Clerk made (back + 1)) x in
+        let H : MessageEntry → Type 0 = λ x. Knows mail (Clerk made (back + 1)) x in
         subst G (sym both_kind) (subst H (sym (at-both v w m (in_v m within))) record {
           as_origin = λ stands. let o = k.as_origin stands in record { round_is = o.round_is; away_is = o.away_is; asked_is = o.asked_is; had_is = o.had_is; sync_is = o.sync_is; flags_is = o.flags_is; call_is = o.call_is; target_is = o.target_is; back_is = o.back_is };
           as_target = λ c stands. let t = k.as_target c stands in record { taken_is = t.taken_is; got_is = t.got_is; answer_is = t.answer_is };
@@ -407,7 +407,7 @@ opened_book key words slots within wide zero_word words_are slots_are = record {
 
     knows_first : (m : ℕ) → Knows (opened_mail (spec_at key.specs.items m)) (Clerk 0 0) (at (first_view key) m)
     knows_first m =
-        let F : Entry → Type 0 = λ x. Knows (opened_mail (spec_at key.specs.items m)) (Clerk 0 0) x in
+        let F : MessageEntry → Type 0 = λ x. Knows (opened_mail (spec_at key.specs.items m)) (Clerk 0 0) x in
         subst F (sym (at-none (first_view key) m refl)) record {
           as_origin = λ stands. record { round_is = refl; away_is = refl; asked_is = refl; had_is = refl; sync_is = refl; flags_is = refl; call_is = refl; target_is = λ h. never h; back_is = λ h. never h };
           as_target = λ cpu stands. record { taken_is = refl; got_is = λ h. never h; answer_is = λ h. never h };
@@ -418,7 +418,7 @@ opened_book key words slots within wide zero_word words_are slots_are = record {
     knows m zero v e = let F : View → Type 0 = λ y. Knows (opened_mail (spec_at key.specs.items m)) y.kind (at y m) in subst F (some-injective (first_view key) v e) (knows_first m)
     knows m (suc j) v e = absurd (some-ne-none v (sym e))
 
-    none_yet : (m : ℕ) (f : Entry → ℕ) → f (first_entry (spec_at key.specs.items m)) ≡ 0 → total (λ (x : View). f (at x m)) (first_view key ∷ []) ≡ 0
+    none_yet : (m : ℕ) (f : MessageEntry → ℕ) → f (first_entry (spec_at key.specs.items m)) ≡ 0 → total (λ (x : View). f (at x m)) (first_view key ∷ []) ≡ 0
     none_yet m f zero_first =
         let a = total-cons (λ (x : View). f (at x m)) (first_view key) [] in
         let b : f (at (first_view key) m) ≡ 0 = ap f (at-none (first_view key) m refl) ∙ zero_first in

@@ -23,7 +23,7 @@ use Rattle.lwkt_core.specs.Machine.{Happens}
 use Rattle.lwkt_core.specs.Messages.{message_after}
 use Rattle.lwkt_core.specs.History.{left_by, IsStepOver, AreOthers}
 use Rattle.lwkt_core.proofs.ViewLemmas.{Views-between, Views-noted}
-use Rattle.lwkt_msg.specs.declared.views.Entry.{Entry}
+use Rattle.lwkt_msg.specs.declared.views.MessageEntry.{MessageEntry}
 use Rattle.lwkt_msg.specs.declared.views.Layout.{Layout}
 use Rattle.lwkt_msg.specs.declared.views.View.{View}
 use Rattle.lwkt_msg.specs.Views.{word_at, slot_at, call_of, at, seat_cpu, who, noted, named, page_of, handed, sent, took, replied, reaped, dropped, requested}
@@ -51,7 +51,7 @@ left_lost old new met apart = rw (ne_eqb met old apart) refl
 
 -- a step that is done between two states of the messages becomes a deed, here alone
 module _ (key : Layout) (s : State Rec View) (id : ℕ) (v : View) (cpu : CpuId) (told : Told key s) (e : get_elem? s.views id ≡ some v) (is_seat : v.kind ≡ Of cpu)
-    (m : ℕ) (there : m < length told.rule.mails) (e' : Entry) (d : Deed) (own : d.cpu ≡ cpu) (mail' : Mail) (others : lead.KeptByOthers cpu.0 (mail_at told.rule.mails m) mail') (done : IsDone key.cpus told.rule.mails d (set told.rule.mails m mail')) where
+    (m : ℕ) (there : m < length told.rule.mails) (e' : MessageEntry) (d : Deed) (own : d.cpu ≡ cpu) (mail' : Mail) (others : lead.KeptByOthers cpu.0 (mail_at told.rule.mails m) mail') (done : IsDone key.cpus told.rule.mails d (set told.rule.mails m mail')) where
   pub deed_told : (hands : List (ℕ × Rec)) (word : ℕ) (act : Act Rec) → Valid s.homes hands act → ((past : List Deed) → IsBook key (set told.rule.mails m mail') (stepped s (word_at m) word id hands (noted past v m e' d) act)) → Tells key s told id v hands m e' d word act
   deed_told hands word act valid book =
       let past = Views-between (IsDone key.cpus) page_of (first_mails key.specs.items) told.rule.mails s.views told.chronicle id v e cpu is_seat in
@@ -130,7 +130,7 @@ module _ (key : Layout) (s : State Rec View) (id : ℕ) (v : View) (cpu : CpuId)
   is_word = (told.rule.book.each m there).is_word
 
   -- a look, after which everything at home is as it was
-  pub look_told : (e' : Entry) (operation : Operation) (hands : List (ℕ × Rec)) (act : Act Rec) → Valid s.homes hands act → homes_after s.homes hands act ≡ s.homes
+  pub look_told : (e' : MessageEntry) (operation : Operation) (hands : List (ℕ × Rec)) (act : Act Rec) → Valid s.homes hands act → homes_after s.homes hands act ≡ s.homes
       → e'.sends ≡ (at v m).sends → e'.takes ≡ (at v m).takes → e'.drops ≡ (at v m).drops → e'.replies ≡ (at v m).replies → e'.reaps ≡ (at v m).reaps → (Knows mail (Of cpu) (at v m) → Knows mail (Of cpu) e')
       → OnlyLooks operation n → Tells key s told id v hands m e' (look_by cpu (word_step m operation n) []) n act
   look_told e' operation hands act valid same a b c f g mine only =

@@ -13,7 +13,7 @@ use Rattle.lwkt_base.specs.declared.message_words.MsgState.TheVariants.{Rest, Ou
 use Rattle.lwkt_base.specs.MessageWord.{message_word}
 use Rattle.lwkt_core.specs.declared.seats.Deed.{Deed}
 use Rattle.lwkt_core.specs.declared.seats.SeatKind.{SeatKind}
-use Rattle.lwkt_msg.specs.declared.views.Entry.{Entry}
+use Rattle.lwkt_msg.specs.declared.views.MessageEntry.{MessageEntry}
 use Rattle.lwkt_msg.specs.declared.views.View.{View}
 use Rattle.lwkt_msg.specs.Views.{spec_at, call_of, at, who, noted, looked, dropped, requested, flags_of, shows_away, Sees, SeesOwn, Stands}
 use Rattle.lwkt_msg.specs.Deeds.{loads, loses, drops, requests}
@@ -43,7 +43,7 @@ module _ (place place1 : Seat Rec View) (cpu : CpuId) (m : ℕ) (w : MsgWord) (s
   abbrev v1 : View
   v1 = place1.me.0
 
-  abbrev e : Entry
+  abbrev e : MessageEntry
   e = at place.me.0 m
 
   entry_is : at v1 m ≡ looked w e
@@ -64,12 +64,12 @@ module _ (place place1 : Seat Rec View) (cpu : CpuId) (m : ℕ) (w : MsgWord) (s
       let F : ℕ → Type 0 = λ n. Stands v1.kind n in
       let now : SeesOwn (at v1 m) x = s.as_origin (subst F (ap (λ (c : CpuId). c.0) (sym (origin_is ∙ home))) stands1) in
       let was : SeesOwn e w = calling.sees_own place place1 cpu m w sat l own in
-      let shown : shows_away x.state ≡ true = sym now.away_is ∙ (ap (λ (y : Entry). y.away) entry_is ∙ (was.away_is ∙ gone)) in
-      let round_is : x.round ≡ w.round = sym now.round_is ∙ (ap (λ (y : Entry). y.round) entry_is ∙ was.round_is) in
-      let aborted_is : x.aborted ≡ w.aborted = sym now.asked_is ∙ (ap (λ (y : Entry). y.asked) entry_is ∙ was.asked_is) in
-      let target_is : x.target ≡ w.target = now.target_is shown ∙ (ap (λ (y : Entry). y.target) entry_is ∙ sym (was.target_is gone)) in
-      let sync_is : x.sync ≡ w.sync = (now.flags_is shown).0 ∙ (ap (λ (y : Entry). y.sync) entry_is ∙ sym (was.flags_is gone).0) in
-      let flags_is : flags_of x ≡ flags_of w = (now.flags_is shown).1 ∙ (ap (λ (y : Entry). y.flags) entry_is ∙ sym (was.flags_is gone).1) in
+      let shown : shows_away x.state ≡ true = sym now.away_is ∙ (ap (λ (y : MessageEntry). y.away) entry_is ∙ (was.away_is ∙ gone)) in
+      let round_is : x.round ≡ w.round = sym now.round_is ∙ (ap (λ (y : MessageEntry). y.round) entry_is ∙ was.round_is) in
+      let aborted_is : x.aborted ≡ w.aborted = sym now.asked_is ∙ (ap (λ (y : MessageEntry). y.asked) entry_is ∙ was.asked_is) in
+      let target_is : x.target ≡ w.target = now.target_is shown ∙ (ap (λ (y : MessageEntry). y.target) entry_is ∙ sym (was.target_is gone)) in
+      let sync_is : x.sync ≡ w.sync = (now.flags_is shown).0 ∙ (ap (λ (y : MessageEntry). y.sync) entry_is ∙ sym (was.flags_is gone).0) in
+      let flags_is : flags_of x ≡ flags_of w = (now.flags_is shown).1 ∙ (ap (λ (y : MessageEntry). y.flags) entry_is ∙ sym (was.flags_is gone).1) in
       record {
         same = λ i. record { round = round_is i; state = x.state; origin = origin_is i; target = target_is i; aborted = aborted_is i; sync = sync_is i; dropable = (flags_is i).dropable; abortable = (flags_is i).abortable };
         away = shown;
@@ -83,9 +83,9 @@ module _ (place place1 : Seat Rec View) (cpu : CpuId) (m : ℕ) (w : MsgWord) (s
   drop_ready within is =
       let own = calling.own_is place place1 cpu m w sat l is.0 in (
         calling.own1 place place1 cpu m w sat l own,
-        ap (λ (x : Entry). x.had) entry_is ∙ sat.had m within own,
-        ap (λ (x : Entry). x.away) entry_is ∙ calling.away_at place place1 cpu m w sat l Out is.1 own,
-        ap (λ (x : Entry). x.taken) entry_is ∙ calling.not_taken_at place place1 cpu m w sat l Out is.1 refl,
+        ap (λ (x : MessageEntry). x.had) entry_is ∙ sat.had m within own,
+        ap (λ (x : MessageEntry). x.away) entry_is ∙ calling.away_at place place1 cpu m w sat l Out is.1 own,
+        ap (λ (x : MessageEntry). x.taken) entry_is ∙ calling.not_taken_at place place1 cpu m w sat l Out is.1 refl,
         sym (calling.round1 place place1 cpu m w sat l own),
       )
 
@@ -103,7 +103,7 @@ module _ (place place1 : Seat Rec View) (cpu : CpuId) (m : ℕ) (w : MsgWord) (s
         loaded = calling.loaded place place1 cpu m w sat l;
         allowed = is;
         round_is = sym (calling.sees_own place place1 cpu m w sat l own).round_is;
-        rec_is = sent_is rec e.call (got.call_is ∙ ap (λ (x : Entry). x.call) entry_is) got.sent.clean;
+        rec_is = sent_is rec e.call (got.call_is ∙ ap (λ (x : MessageEntry). x.call) entry_is) got.sent.clean;
         put = Last-of v1 w2 m (dropped e) d got.between (λ front. WasSent front m rec) view_is got.sent;
         does = Does-two v v1 w2 m (looked w e) (dropped e) (loads (who v) m (message_word w)) d l.view_is (got.between, (got.others, view_is));
       }
@@ -148,7 +148,7 @@ module _ (place place1 : Seat Rec View) (cpu : CpuId) (m : ℕ) (w : MsgWord) (s
   request_ready is =
       let own = calling.own_is place place1 cpu m w sat l is.0 in (
         calling.own1 place place1 cpu m w sat l own,
-        ap (λ (x : Entry). x.away) entry_is ∙ ((calling.sees_own place place1 cpu m w sat l own).away_is ∙ is_gone w.state is.1),
+        ap (λ (x : MessageEntry). x.away) entry_is ∙ ((calling.sees_own place place1 cpu m w sat l own).away_is ∙ is_gone w.state is.1),
       )
 
   pub request_done : (w2 : View) → IsForAborting cpu w → HasAsked m v1 w2 → HasRequested cpu v w2 m

@@ -18,7 +18,7 @@ use Rattle.lwkt_core.specs.declared.seats.SeatKind.TheVariants.{Clerk, Spent}
 use Rattle.lwkt_core.specs.Messages.{IsSafeMessage, origin_of, is_away, in_out}
 use Rattle.lwkt_core.specs.Opening.{AreWithin, opened_message}
 use Rattle.lwkt_core.specs.Seating.{AreSeated, total}
-use Rattle.lwkt_msg.specs.declared.views.Entry.{Entry}
+use Rattle.lwkt_msg.specs.declared.views.MessageEntry.{MessageEntry}
 use Rattle.lwkt_msg.specs.declared.views.Layout.{Layout}
 use Rattle.lwkt_msg.specs.declared.views.View.{View}
 use Rattle.lwkt_msg.specs.Views.{word_at, slot_at, no_flags, spec_at, call_of, answer_of, at, Stands}
@@ -78,7 +78,7 @@ in_slot (With origin target) had rec = none
 in_slot (Back origin target) had rec = some rec
 
 -- what the origin's view knows of a message is so
-pub record KnowsOwn (mail : Mail) (e : Entry) : Type 0 where
+pub record KnowsOwn (mail : Mail) (e : MessageEntry) : Type 0 where
   pub round_is : e.round ≡ mail.msg.round
   pub away_is : e.away ≡ is_away mail.msg.owner
   pub asked_is : e.asked ≡ mail.msg.asked
@@ -90,13 +90,13 @@ pub record KnowsOwn (mail : Mail) (e : Entry) : Type 0 where
   pub back_is : e.back ≡ true → is_back mail.msg.owner ≡ true
 
 -- what the view of a processor knows of a message as its target is so
-pub record KnowsTaken (cpu : ℕ) (mail : Mail) (e : Entry) : Type 0 where
+pub record KnowsTaken (cpu : ℕ) (mail : Mail) (e : MessageEntry) : Type 0 where
   pub taken_is : e.taken ≡ is_taken cpu mail.msg.owner
   pub got_is : is_taken cpu mail.msg.owner ≡ true → e.got ≡ call_of mail.rec
   pub answer_is : is_answered cpu mail.msg.owner ≡ true → e.answer ≡ answer_of mail.rec
 
 -- nothing was done with the message
-pub record HasNoCounts (e : Entry) : Type 0 where
+pub record HasNoCounts (e : MessageEntry) : Type 0 where
   pub sends : e.sends ≡ 0
   pub takes : e.takes ≡ 0
   pub drops : e.drops ≡ 0
@@ -104,7 +104,7 @@ pub record HasNoCounts (e : Entry) : Type 0 where
   pub reaps : e.reaps ≡ 0
 
 -- what a view knows of a message is so
-pub record Knows (mail : Mail) (kind : SeatKind) (e : Entry) : Type 0 where
+pub record Knows (mail : Mail) (kind : SeatKind) (e : MessageEntry) : Type 0 where
   pub as_origin : Stands kind mail.msg.origin.cpu.0 → KnowsOwn mail e
   pub as_target : (cpu : ℕ) → Stands kind cpu → KnowsTaken cpu mail e
   pub spent : kind ≡ Spent → HasNoCounts e

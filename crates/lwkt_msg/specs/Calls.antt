@@ -15,7 +15,7 @@ use Rattle.lwkt_msg.specs.declared.answers.Taken.{Taken}
 use Rattle.lwkt_msg.specs.declared.answers.Taken.TheVariants as taken
 use Rattle.lwkt_msg.specs.declared.answers.Reaped.{Reaped}
 use Rattle.lwkt_msg.specs.declared.answers.Reaped.TheVariants as reaped_
-use Rattle.lwkt_msg.specs.declared.views.Entry.{Entry}
+use Rattle.lwkt_msg.specs.declared.views.MessageEntry.{MessageEntry}
 use Rattle.lwkt_msg.specs.declared.views.View.{View}
 use Rattle.lwkt_msg.specs.Views.{call_of, at, who, looked, sent, took, answered, reaped, dropped, requested, Sees}
 use Rattle.lwkt_msg.specs.Deeds.{loads, loses, sends, takes, replies, reaps, drops, requests}
@@ -24,7 +24,7 @@ use Rattle.lwkt_msg.specs.Hands.{IsOwn}
 use Rattle.lwkt_msg.specs.Steps.{sent_word, rest_word}
 
 -- a view that differs from another in what it knows of one message, and by these deeds, between which others may have acted
-pub record Does (v w : View) (m : ℕ) (e : Entry) (deeds : List Deed) : Type 0 where
+pub record Does (v w : View) (m : ℕ) (e : MessageEntry) (deeds : List Deed) : Type 0 where
   pub kind : w.kind ≡ v.kind
   pub cpus : w.cpus ≡ v.cpus
   pub specs : w.specs ≡ v.specs

@@ -18,7 +18,7 @@ use Rattle.lwkt_core.specs.declared.events.Event.{Event}
 use Rattle.lwkt_core.specs.declared.seats.WordStep.{WordStep}
 use Rattle.lwkt_core.specs.declared.seats.Deed.{Deed}
 use Rattle.lwkt_core.specs.History.{Passes, AreOthers, IsPastOf, events_in, events_by, steps_by}
-use Rattle.lwkt_msg.specs.declared.views.Entry.{Entry}
+use Rattle.lwkt_msg.specs.declared.views.MessageEntry.{MessageEntry}
 use Rattle.lwkt_msg.specs.declared.views.Layout.{Layout}
 use Rattle.lwkt_msg.specs.declared.views.View.{View}
 use Rattle.lwkt_msg.specs.Views.{word_at, spec_at, first_entry, handed, at, who, recalled_of}
@@ -74,7 +74,7 @@ abbrev pub cpu_of : Desk → CpuId
 cpu_of d = who d.view
 
 -- what a seat knows of a message, how many messages and processors there are
-abbrev pub entry : Desk → ℕ → Entry
+abbrev pub entry : Desk → ℕ → MessageEntry
 entry d m = at d.view m
 
 abbrev pub messages_of : Desk → ℕ
@@ -117,7 +117,7 @@ opening_steps cpu specs (suc m) =
     opening_steps cpu specs m ++ (if (spec_at specs m).origin.cpu.0 == cpu then word_step m Load (message_word (rest_word (record { 0 = cpu }) (spec_at specs m).round)) ∷ [] else [])
 
 -- what the seat of a processor knows of a message at the opening: the origin has its record
-abbrev pub opened_entry : ℕ → MsgSpec → Entry
+abbrev pub opened_entry : ℕ → MsgSpec → MessageEntry
 opened_entry cpu spec = if spec.origin.cpu.0 == cpu then handed (first_entry spec) else first_entry spec
 
 -- the seat of a processor as it is opened

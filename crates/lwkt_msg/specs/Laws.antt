@@ -16,7 +16,7 @@ use Rattle.lwkt_core.specs.Machine.{IsSafe}
 use Rattle.lwkt_core.specs.Opening.{AreWithin}
 use Rattle.lwkt_core.specs.Trace.{Run}
 use Rattle.lwkt_core.specs.History.{AreOthers, AreOwn, IsStepOver, IsPastOf, Passes, events_in, events_by, steps_in, steps_by, noted_page}
-use Rattle.lwkt_msg.specs.declared.views.Entry.{Entry}
+use Rattle.lwkt_msg.specs.declared.views.MessageEntry.{MessageEntry}
 use Rattle.lwkt_msg.specs.declared.views.Layout.{Layout}
 use Rattle.lwkt_msg.specs.declared.views.View.{View}
 use Rattle.lwkt_msg.specs.Views.{slot_at, word_at, call_of, at, who, page_of, looked, handed, sent, took, replied, reaped, dropped, requested, clerk_after, new_seat, spent_left, whole_right, joined, spent_view}
@@ -142,4 +142,4 @@ NothingUntold = (key : Layout) (s : State Rec View) (told : Told key s) (id : �
 
 -- what a call's deeds tell of its seat's steps on words and of its events: they are appended, in order
 abbrev pub DeedsAreTold : Type 0
-DeedsAreTold = (v w : View) (m : ℕ) (e : Entry) (deeds : List Deed) → Does v w m e deeds → AreOwn (who v).0 deeds → (steps_by (who w).0 w.past ≡ steps_by (who v).0 v.past ++ steps_in deeds) × (events_by (who w).0 w.past ≡ events_by (who v).0 v.past ++ events_in deeds)
+DeedsAreTold = (v w : View) (m : ℕ) (e : MessageEntry) (deeds : List Deed) → Does v w m e deeds → AreOwn (who v).0 deeds → (steps_by (who w).0 w.past ≡ steps_by (who v).0 v.past ++ steps_in deeds) × (events_by (who w).0 w.past ≡ events_by (who v).0 v.past ++ events_in deeds)

@@ -9,7 +9,7 @@ use Rattle.lwkt_core.specs.declared.seats.Deed.{Deed}
 use Rattle.lwkt_core.specs.declared.seats.SeatKind.TheVariants.{Of}
 use Rattle.lwkt_core.specs.Opening.{AreWithin}
 use Rattle.lwkt_core.specs.History.{AreOthers}
-use Rattle.lwkt_msg.specs.declared.views.Entry.{Entry}
+use Rattle.lwkt_msg.specs.declared.views.MessageEntry.{MessageEntry}
 use Rattle.lwkt_msg.specs.declared.views.View.{View}
 use Rattle.lwkt_msg.specs.Views.{word_at, slot_at, call_of, at, who, noted, looked, handed, sent, took, replied, reaped, dropped, requested, shows_away, Sees}
 use Rattle.lwkt_msg.specs.Deeds as deed
@@ -22,7 +22,7 @@ abbrev pub Amid : View → (List Deed → Type 0) → Type 0
 Amid v R = (between : List Deed) × (AreOthers (who v).0 between × R between)
 
 -- after this deed the seat knows this of the message
-abbrev pub IsAfter : View → ℕ → Entry → Deed → View → Type 0
+abbrev pub IsAfter : View → ℕ → MessageEntry → Deed → View → Type 0
 IsAfter v m e d w = Amid v (λ between. w ≡ noted between v m e d)
 
 -- the word of a message that is away has the bit of the request to abort exactly if, by the deeds up to here, its origin has made

@@ -18,7 +18,7 @@ use Rattle.lwkt_core.specs.Events.{cpu_of, place_of}
 use Rattle.lwkt_core.specs.Messages.{message_after}
 use Rattle.lwkt_core.specs.Machine.{Happens}
 use Rattle.lwkt_core.specs.History.{IsStepOver, AreOthers, Chronicle}
-use Rattle.lwkt_msg.specs.declared.views.Entry.{Entry}
+use Rattle.lwkt_msg.specs.declared.views.MessageEntry.{MessageEntry}
 use Rattle.lwkt_msg.specs.declared.views.Layout.{Layout}
 use Rattle.lwkt_msg.specs.declared.views.Recalled.{Recalled}
 use Rattle.lwkt_msg.specs.declared.views.View.{View}
@@ -160,7 +160,7 @@ Opens key s = (told : Told key s) × (told.rule.mails ≡ first_mails key.specs.
 -- a seat's step, by the table's own relation of a step: the word of the message becomes this number, and by this act the seat takes
 -- its record from its slot or gives it back. Others have acted since the seat's last deed; the seat knows this of the message now,
 -- the rule holds, and the history has this deed more
-pub record Tells (key : Layout) (s : State Rec View) (told : Told key s) (id : ℕ) (v : View) (hands : List (ℕ × Rec)) (m : ℕ) (e : Entry) (d : Deed) (word : ℕ) (act : Act Rec) : Type 0 where
+pub record Tells (key : Layout) (s : State Rec View) (told : Told key s) (id : ℕ) (v : View) (hands : List (ℕ × Rec)) (m : ℕ) (e : MessageEntry) (d : Deed) (word : ℕ) (act : Act Rec) : Type 0 where
   pub valid : Valid s.homes hands act
   pub between : List Deed
   pub others : AreOthers (who v).0 between

@@ -15,7 +15,7 @@ use Rattle.lwkt_core.specs.declared.seats.SeatKind.{SeatKind}
 use Rattle.lwkt_core.specs.declared.seats.SeatKind.TheVariants.{Clerk, Of, Spent}
 use Rattle.lwkt_core.specs.Seating.{after_made, after_back, next_seat}
 use Rattle.lwkt_core.specs.History.{Page}
-use Rattle.lwkt_msg.specs.declared.views.Entry.{Entry}
+use Rattle.lwkt_msg.specs.declared.views.MessageEntry.{MessageEntry}
 use Rattle.lwkt_msg.specs.declared.views.Noted.{Noted}
 use Rattle.lwkt_msg.specs.declared.views.Recalled.{Recalled}
 use Rattle.lwkt_msg.specs.declared.views.Returned.{Returned}
@@ -50,16 +50,16 @@ abbrev pub answer_of : Rec → Returned
 answer_of rec = record { result = rec.result; error = rec.error }
 
 -- what is known of a message at the opening
-abbrev pub first_entry : MsgSpec → Entry
+abbrev pub first_entry : MsgSpec → MessageEntry
 first_entry spec = record { round = spec.round; call = no_call; target = record { 0 = 0 }; flags = no_flags; sync = false; had = false; away = false; back = false; asked = false; taken = false; got = no_call; answer = record { result = 0; error = 0 }; sends = 0; takes = 0; drops = 0; replies = 0; reaps = 0 }
 
 -- the first entry of a message among several, or else this one
-unfoldable pub entry_in : List Noted → ℕ → Entry → Entry
+unfoldable pub entry_in : List Noted → ℕ → MessageEntry → MessageEntry
 entry_in [] m other = other
 entry_in (x ∷ xs) m other = if x.msg == m then x.entry else entry_in xs m other
 
 -- what a seat knows of a message
-unfoldable pub at : View → ℕ → Entry
+unfoldable pub at : View → ℕ → MessageEntry
 at v m = entry_in v.entries m (first_entry (spec_at v.specs m))
 
 -- the processor of a seat: the clerk and a seat that was taken back have none
@@ -72,7 +72,7 @@ abbrev pub who : View → CpuId
 who v = seat_cpu v.kind
 
 -- the view with another entry for a message after a deed: since the seat's last deed others have acted
-abbrev pub noted : List Deed → View → ℕ → Entry → Deed → View
+abbrev pub noted : List Deed → View → ℕ → MessageEntry → Deed → View
 noted between v m e d = record v { entries = record { msg = m; entry = e } ∷ v.entries; past = v.past ++ (between ++ d ∷ []) }
 
 -- a view as the history sees it
@@ -110,31 +110,31 @@ flags_of w = record { dropable = w.dropable; abortable = w.abortable }
 
 -- what is known of a message after each step on it: a load that found a word, the record handed out, a send, a take, a reply,
 -- a reap, a drop, a request to abort
-abbrev pub looked : MsgWord → Entry → Entry
+abbrev pub looked : MsgWord → MessageEntry → MessageEntry
 looked w e = record e { back = e.back || shows_back w.state }
 
-abbrev pub handed : Entry → Entry
+abbrev pub handed : MessageEntry → MessageEntry
 handed e = record e { had = true }
 
-abbrev pub sent : MsgWord → Call → Entry → Entry
+abbrev pub sent : MsgWord → Call → MessageEntry → MessageEntry
 sent w call e = record e { round = w.round; call = call; target = w.target; flags = flags_of w; sync = w.sync; away = true; back = false; asked = false; sends = e.sends + 1 }
 
-abbrev pub took : Rec → Entry → Entry
+abbrev pub took : Rec → MessageEntry → MessageEntry
 took rec e = record e { taken = true; got = call_of rec; takes = e.takes + 1 }
 
-abbrev pub replied : Rec → Entry → Entry
+abbrev pub replied : Rec → MessageEntry → MessageEntry
 replied rec e = record e { taken = false; answer = answer_of rec; replies = e.replies + 1 }
 
-abbrev pub answered : ℕ → ℕ → Entry → Entry
+abbrev pub answered : ℕ → ℕ → MessageEntry → MessageEntry
 answered error outcome e = record e { taken = false; answer = record { result = outcome; error = error }; replies = e.replies + 1 }
 
-abbrev pub reaped : Entry → Entry
+abbrev pub reaped : MessageEntry → MessageEntry
 reaped e = record e { away = false; back = false; asked = false; reaps = e.reaps + 1 }
 
-abbrev pub dropped : Entry → Entry
+abbrev pub dropped : MessageEntry → MessageEntry
 dropped e = record e { away = false; back = false; asked = false; drops = e.drops + 1 }
 
-abbrev pub requested : Entry → Entry
+abbrev pub requested : MessageEntry → MessageEntry
 requested e = record e { asked = true }
 
 -- the processors that a view stands for: a seat for its own, the clerk for those whose seat is not made yet
@@ -144,7 +144,7 @@ Stands (Of c) cpu = c.0 ≡ cpu
 Stands Spent cpu = ⊥
 
 -- what a word shows of a message is what its origin's view knows of it
-pub record SeesOwn (e : Entry) (w : MsgWord) : Type 0 where
+pub record SeesOwn (e : MessageEntry) (w : MsgWord) : Type 0 where
   pub round_is : e.round ≡ w.round
   pub away_is : e.away ≡ shows_away w.state
   pub asked_is : e.asked ≡ w.aborted
@@ -177,7 +177,7 @@ abbrev pub whole_right : View → View
 whole_right v = v
 
 -- an entry with the counts of another added
-abbrev pub added : Entry → Entry → Entry
+abbrev pub added : MessageEntry → MessageEntry → MessageEntry
 added e other = record e { sends = e.sends + other.sends; takes = e.takes + other.takes; drops = e.drops + other.drops; replies = e.replies + other.replies; reaps = e.reaps + other.reaps }
 
 -- of so many messages what a view knows, with the counts of another added
@@ -189,7 +189,7 @@ gathered (suc k) v other = record { msg = k; entry = added (at v k) (at other k)
 abbrev pub recalled_of : View → Recalled
 recalled_of v = record { cpu = who v; specs = v.specs; entries = v.entries }
 
-unfoldable pub recalled_at : Recalled → ℕ → Entry
+unfoldable pub recalled_at : Recalled → ℕ → MessageEntry
 recalled_at r m = entry_in r.entries m (first_entry (spec_at r.specs m))
 
 -- the clerk's view after a seat was taken back, whose past it keeps, and what it knew

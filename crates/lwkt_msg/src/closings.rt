@@ -30,7 +30,7 @@ fn owner_of(word: &MsgWord) -> Owner
 }
 
 // What a word shows of its message.
-fn end_of(word: u64) -> MsgEnd
+fn end_shown(word: u64) -> MsgEnd
     ensures { (w : MsgWord) → MessageFits w → message_word w ≡ word → result ≡ shown_end w }
 {
     let word = MsgWord::parts(word);
@@ -79,7 +79,7 @@ fn read_ends(
 {
     let mut ends = ends;
     for m in 0..messages {
-        ends.push(end_of(closed.word(word_of_message(m))))?;
+        ends.push(end_shown(closed.word(word_of_message(m))))?;
     }
     Ok(ends)
 }

@@ -16,7 +16,7 @@ pub struct Returned {
 }
 
 /// What a seat knows of one message, and how often it did each thing with it.
-pub struct Entry {
+pub struct MessageEntry {
     /// As origin: the message's round.
     pub round: u64,
     /// As origin: the call that was sent last.
@@ -51,7 +51,7 @@ pub struct Entry {
 /// What is known of the message of this number.
 pub struct Noted {
     pub msg: u64,
-    pub entry: Entry,
+    pub entry: MessageEntry,
 }
 
 /// What a seat knew that was taken back.

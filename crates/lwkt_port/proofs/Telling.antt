@@ -21,7 +21,7 @@ use Rattle.lwkt_msg.specs.declared.answers.Taken.{Taken}
 use Rattle.lwkt_msg.specs.declared.answers.Taken.TheVariants as taken
 use Rattle.lwkt_msg.specs.declared.answers.Reaped.{Reaped}
 use Rattle.lwkt_msg.specs.declared.answers.Reaped.TheVariants as reaped_
-use Rattle.lwkt_msg.specs.declared.views.Entry.{Entry}
+use Rattle.lwkt_msg.specs.declared.views.MessageEntry.{MessageEntry}
 use Rattle.lwkt_msg.specs.Calls.{Does, IsUndropped, HasLostDrop}
 use Rattle.lwkt_msg.specs.Desks.{Desk, cpu_of, past_of, IsSameDesk}
 use Rattle.lwkt_msg.specs.Views.{seat_cpu}
@@ -68,7 +68,7 @@ told_then : (w v u : Work) → IsTold w v → IsTold v u → IsTold w u
 told_then w v u first second = tells_then w.seat v.seat u.seat w.trace v.trace u.trace first second
 
 -- a step on one message, by these deeds
-told_by : (w w' : Work) (m : ℕ) (e : Entry) (deeds : List Deed) → IsSameDesk w.seat w'.seat → Does w.seat.view w'.seat.view m e deeds → AreOwn (cpu_of w.seat).0 deeds → w'.trace ≡ w.trace ++ events_in deeds → IsTold w w'
+told_by : (w w' : Work) (m : ℕ) (e : MessageEntry) (deeds : List Deed) → IsSameDesk w.seat w'.seat → Does w.seat.view w'.seat.view m e deeds → AreOwn (cpu_of w.seat).0 deeds → w'.trace ≡ w.trace ++ events_in deeds → IsTold w w'
 told_by w w' m e deeds same does mine is = record { same = same; deeds = deeds; grows = does.grows; mine = mine; trace_is = is }
 
 one_own : (cpu : ℕ) (d : Deed) → d.cpu.0 ≡ cpu → AreOwn cpu (d ∷ [])

@@ -1,7 +1,7 @@
 //! Scripts with messages and several processors against the page of formats: what they read as, and the place of each
 //! bad part.
 
-use crate::fixtures::{THREAD, changed, listed, play};
+use crate::fixtures::{THREAD, listed, play, replaced};
 use lwkt_base::{Ask, Call, CpuId, Fault, Flags, MsgId, MsgSpec, ThreadId};
 use lwkt_fixtures::Row;
 use lwkt_script::{Script, read_script};
@@ -26,7 +26,7 @@ struct Placed(&'static str, &'static str, u32);
 
 impl Row for Placed {
     fn is_right(&self, alloc: Global) -> bool {
-        let Some(text) = changed(alloc, self.0, self.1) else {
+        let Some(text) = replaced(alloc, self.0, self.1) else {
             return false;
         };
         place_of(alloc, text.as_str()) == self.2
@@ -191,7 +191,7 @@ struct Read(&'static str, Ask);
 
 impl Row for Read {
     fn is_right(&self, alloc: Global) -> bool {
-        let Some(text) = changed(alloc, STEPS, self.0) else {
+        let Some(text) = replaced(alloc, STEPS, self.0) else {
             return false;
         };
         match read_script(alloc, text.as_bytes()) {

@@ -23,7 +23,7 @@ pub const TALLY_ADD: &str =
     "{\"version\":1,\"turns\":50,\"idle\":5,\"cpus\":1,\"tokens\":[{\"cells\":[10],\"law\":\"tally\",\"param\":10,\"gen\":0}],\"messages\":[],\"threads\":[{\"cpu\":0,\"repeat\":1,\"steps\":[[\"get\",0],[\"add\",0,5],[\"rel\",0]]}]}";
 
 /// TALLY_ADD with `new` where `old` stands first. None if it doesn't, or without memory.
-pub fn changed(alloc: Global, old: &str, new: &str) -> Option<String> {
+pub fn replaced(alloc: Global, old: &str, new: &str) -> Option<String> {
     let (front, back) = TALLY_ADD.split_once(old)?;
     let mut text = String::from_str(alloc, front).ok()?;
     text.push_str(new).ok()?;
@@ -46,7 +46,7 @@ pub fn listed(alloc: Global, item: &str, count: u32) -> Option<String> {
 /// TALLY_ADD with so many times the item in place of the item.
 pub fn repeated(alloc: Global, item: &str, count: u32) -> Option<String> {
     let items = listed(alloc, item, count)?;
-    changed(alloc, item, items.as_str())
+    replaced(alloc, item, items.as_str())
 }
 
 /// Gives one byte a call, and fails at the call `bad`, the first being call 1.

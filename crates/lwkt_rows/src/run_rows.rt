@@ -1,6 +1,6 @@
 //! Whole runs of the program: rows with their output and status, bad scripts and streams that fail.
 
-use crate::fixtures::{Frail, OneByte, TALLY_ADD, THREAD, TOKEN, changed, play, repeated};
+use crate::fixtures::{Frail, OneByte, TALLY_ADD, THREAD, TOKEN, play, repeated, replaced};
 use lwkt_base::Fault;
 use lwkt_fixtures::Row;
 use lwkt_report::{Page, ReaderSource, Sink, Source, WriterSink};
@@ -228,7 +228,7 @@ struct BadScript(&'static str, &'static str, &'static str);
 
 impl Row for BadScript {
     fn is_right(&self, alloc: Global) -> bool {
-        match changed(alloc, self.0, self.1) {
+        match replaced(alloc, self.0, self.1) {
             Some(text) => is_refused_with(alloc, text.as_bytes(), self.2),
             None => false,
         }

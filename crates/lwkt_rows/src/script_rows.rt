@@ -1,6 +1,6 @@
 //! Scripts against the page of formats: the place of each bad part, and what each step reads as.
 
-use crate::fixtures::{TALLY_ADD, THREAD, TOKEN, changed, play, repeated};
+use crate::fixtures::{TALLY_ADD, THREAD, TOKEN, play, repeated, replaced};
 use lwkt_base::{Ask, Fault, Law, TokId, TokSpec};
 use lwkt_fixtures::Row;
 use lwkt_script::{Script, ThreadSpec, read_script};
@@ -21,7 +21,7 @@ struct Changed(&'static str, &'static str, Option<u32>);
 
 impl Row for Changed {
     fn is_right(&self, alloc: Global) -> bool {
-        match changed(alloc, self.0, self.1) {
+        match replaced(alloc, self.0, self.1) {
             Some(text) => place_of(alloc, text.as_bytes()) == self.2,
             None => false,
         }
@@ -192,7 +192,7 @@ struct Read(&'static str, Ask);
 
 impl Row for Read {
     fn is_right(&self, alloc: Global) -> bool {
-        let Some(text) = changed(alloc, STEPS, self.0) else {
+        let Some(text) = replaced(alloc, STEPS, self.0) else {
             return false;
         };
         match read_script(alloc, text.as_bytes()) {

@@ -37,7 +37,7 @@ abbrev pub opening_of : Script → Machine
 opening_of script = opening script.cpus script.tokens script.messages
 
 -- the token and message lines of a report show these closing values
-pub record Shows (closing : Closing) (last : Final) : Type 0 where
+pub record ShowsClosing (closing : Closing) (last : Final) : Type 0 where
   pub rows : last.rows.items ≡ map (λ line. line.cells) closing.tokens.items
   pub gens : last.gens.items ≡ map (λ line. line.generation) closing.tokens.items
   pub tallies : last.tallies.items ≡ map (λ line. unwrap_or line.tallies []) closing.tokens.items
@@ -54,7 +54,7 @@ pub record IsJudged (script : Script) (closing : Closing) : Type 0 where
   pub last : Final
   pub are_plans : ArePlansOf script.threads plans
   pub are_ends : AreEndsOf closing.threads.items ends
-  pub shows : Shows closing last
+  pub shows : ShowsClosing closing last
   pub by : Judges closing.verdict (opening_of script) script.turns plans ends last trace polls turns
 
 -- the values may be those of a run of the script: its opening was accepted, a tally line stands exactly under a Tally token, each
@@ -82,8 +82,8 @@ end_by Closed false = TurnsOut
 end_by Lawful true = Ended
 end_by Lawful false = TurnsOut
 
-abbrev pub end_of : Closing → End
-end_of closing = end_by closing.verdict (list_all (λ line. has_ended line.state) closing.threads.items)
+abbrev pub end_told : Closing → End
+end_told closing = end_by closing.verdict (list_all (λ line. has_ended line.state) closing.threads.items)
 
 -- these bytes are a script, and a run of it may end so, with this report
 pub record HasRun (bytes : List ℕ) (end : End) (text : List ℕ) : Type 0 where
@@ -92,7 +92,7 @@ pub record HasRun (bytes : List ℕ) (end : End) (text : List ℕ) : Type 0 wher
   pub closing : Closing
   pub closes : MayClose script closing
   pub is_text : text ≡ report_text closing
-  pub is_end : end ≡ end_of closing
+  pub is_end : end ≡ end_told closing
 
 -- why a run of this script is refused: its machine isn't opened
 abbrev pub Declines : Script → Refusal → Type 0
@@ -132,13 +132,13 @@ status_of (Err (Fault _)) = 1
 status_of (Err Stream) = 3
 
 -- what the program writes after a run: nothing more after a whole report, else the fault line
-abbrev pub Closes : Bool → Option (List ℕ) → Option (List ℕ) → Result End RunFault → Type 0
-Closes failed old new (Ok end) = Keeps old new
-Closes failed old new (Err fault) = IsSaid failed old new (fault_line RunProgram (complaint_of fault))
+abbrev pub SaysAfterRun : Bool → Option (List ℕ) → Option (List ℕ) → Result End RunFault → Type 0
+SaysAfterRun failed old new (Ok end) = Keeps old new
+SaysAfterRun failed old new (Err fault) = IsSaid failed old new (fault_line RunProgram (complaint_of fault))
 
 -- what the program does where its one argument is right: it runs, answers the status and writes the line
 abbrev pub RunsAs : Bool → Option (List ℕ) → Option (List ℕ) → Option (List ℕ) → ℕ → Type 0
-RunsAs failed left old new status = (outcome : Result End RunFault) × ((mid : Option (List ℕ)) × (Tells left old mid outcome × (Closes failed mid new outcome × (status ≡ status_of outcome))))
+RunsAs failed left old new status = (outcome : Result End RunFault) × ((mid : Option (List ℕ)) × (Tells left old mid outcome × (SaysAfterRun failed mid new outcome × (status ≡ status_of outcome))))
 
 -- the arguments are the one word `turns`
 abbrev pub AsksTurns : List (String Global) → Type 0

@@ -11,7 +11,7 @@ use Rattle.lwkt_script.specs.Format.{script_of}
 use Rattle.lwkt_run.specs.declared.runs.End.{End}
 use Rattle.lwkt_run.specs.Judging.{ids_of}
 use Rattle.lwkt_run.specs.Values.{is_tally}
-use Rattle.lwkt_run.specs.Run.{end_of, TellsBy, Closes, status_of, AsksTurns}
+use Rattle.lwkt_run.specs.Run.{end_told, TellsBy, SaysAfterRun, status_of, AsksTurns}
 
 -- the values may be those of a run of the script on threads: its opening was accepted, a tally line stands exactly under a Tally
 -- token, each thread has its line, and the report says no more than that bank and book were closed
@@ -29,7 +29,7 @@ pub record HasThreadedRun (bytes : List ℕ) (end : End) (text : List ℕ) : Typ
   pub closing : Closing
   pub closes : MayCloseOnThreads script closing
   pub is_text : text ≡ report_text closing
-  pub is_end : end ≡ end_of closing
+  pub is_end : end ≡ end_told closing
 
 -- what a run on threads says by its answer
 abbrev pub TellsOnThreads : Option (List ℕ) → Option (List ℕ) → Option (List ℕ) → Result End RunFault → Type 0
@@ -37,7 +37,7 @@ TellsOnThreads left old new answer = TellsBy HasThreadedRun left old new answer
 
 -- what the program does where its one argument is `threads`: it runs, answers the status and writes the line
 abbrev pub RunsOnThreadsAs : Bool → Option (List ℕ) → Option (List ℕ) → Option (List ℕ) → ℕ → Type 0
-RunsOnThreadsAs failed left old new status = (outcome : Result End RunFault) × ((mid : Option (List ℕ)) × (TellsOnThreads left old mid outcome × (Closes failed mid new outcome × (status ≡ status_of outcome))))
+RunsOnThreadsAs failed left old new status = (outcome : Result End RunFault) × ((mid : Option (List ℕ)) × (TellsOnThreads left old mid outcome × (SaysAfterRun failed mid new outcome × (status ≡ status_of outcome))))
 
 -- the arguments are the one word `threads`
 abbrev pub AsksThreads : List (String Global) → Type 0

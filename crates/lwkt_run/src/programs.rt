@@ -1,6 +1,6 @@
 ghost use Rattle.std.specs.Prelude.{◌≡◌, ◌↔◌, IsTrue};
 ghost use Rattle.lwkt_report.specs.Complaint.{fault_line, IsSaid};
-ghost use Rattle.lwkt_run.specs.Run.{RunsAs, AsksTurns, status_of, Closes};
+ghost use Rattle.lwkt_run.specs.Run.{RunsAs, AsksTurns, status_of, SaysAfterRun};
 ghost use Rattle.lwkt_run.specs.Threaded.{RunsOnThreadsAs, AsksThreads, IsMisused};
 
 use crate::runs::{End, run_turns};
@@ -27,7 +27,7 @@ fn status_of(outcome: &Result<End, RunFault>) -> u8
 /// Ends the program after a run: writes the line that stands in place of a report, if the outcome asks for one, and answers the
 /// exit status. If writing it fails, a front of it stands.
 pub fn finish<K: Sink>(sink: &mut K, outcome: &Result<End, RunFault>) -> u8
-    ensures line { Closes (K.has_failed sink.new) (K.contents sink.old) (K.contents sink.new) outcome.now }
+    ensures line { SaysAfterRun (K.has_failed sink.new) (K.contents sink.old) (K.contents sink.new) outcome.now }
     ensures status { result ≡ status_of outcome.now }
 {
     match *outcome {

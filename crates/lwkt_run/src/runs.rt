@@ -4,7 +4,7 @@ ghost use Rattle.lwkt_core.specs.Opening.{AreWithin, AllOpenLawfully};
 ghost use Rattle.lwkt_script.specs.Format.{threads_on};
 ghost use Rattle.lwkt_run.specs.Judging.{ids_of};
 ghost use Rattle.lwkt_run.specs.Values.{is_tally, AreValuesOf};
-ghost use Rattle.lwkt_run.specs.Run.{opening_of, IsJudged, MayClose, has_ended, end_of, HasRun, Declines, Refuses, Tells};
+ghost use Rattle.lwkt_run.specs.Run.{opening_of, IsJudged, MayClose, has_ended, end_told, HasRun, Declines, Refuses, Tells};
 
 use crate::endings::{Left, left_by};
 use crate::lines::token_lines;
@@ -118,8 +118,8 @@ fn closing_of_script(alloc: Global, script: &Script) -> Result<Closing, Fault>
 }
 
 // How a run ended, by the contents of its report.
-pub(crate) fn end_of(closing: &Closing) -> End
-    ensures { result ≡ end_of closing.now }
+pub(crate) fn end_told(closing: &Closing) -> End
+    ensures { result ≡ end_told closing.now }
 {
     let all = all_ended(&closing.threads);
     match closing.verdict {
@@ -155,7 +155,7 @@ fn done_of_bytes(alloc: Global, bytes: &[u8]) -> Result<Done, Fault>
 {
     let script = read_script(alloc, bytes)?;
     let closing = closing_of_script(alloc, &script)?;
-    let end = end_of(&closing);
+    let end = end_told(&closing);
     let text = report(alloc, &closing)?;
     Ok(Done { text, end })
 }

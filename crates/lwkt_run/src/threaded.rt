@@ -9,7 +9,7 @@ ghost use Rattle.lwkt_run.specs.Threaded.{MayCloseOnThreads, HasThreadedRun, Tel
 
 use crate::endings::{Left, left_by};
 use crate::lines::token_lines;
-use crate::runs::{End, end_of};
+use crate::runs::{End, end_told};
 use lwkt_base::Fault;
 use lwkt_core::Final;
 use lwkt_machine::Machine;
@@ -100,7 +100,7 @@ fn done_of_bytes<R: Threads + Wait + Sync, G: Gate + Sync>(
 {
     let script = read_script(alloc, bytes)?;
     let closing = closing_of_script(rt, alloc, gate, &script)?;
-    let end = end_of(&closing);
+    let end = end_told(&closing);
     let text = report(alloc, &closing)?;
     Ok(Done { text, end })
 }

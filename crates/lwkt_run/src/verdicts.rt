@@ -34,7 +34,7 @@ pub fn plans_of(alloc: Global, specs: &[ThreadSpec]) -> Result<Vec<ThreadPlan>, 
 }
 
 // The line of a thread as a check of a run takes it.
-fn end_of(alloc: Global, line: &ThreadLine) -> Result<ThreadEnd, AllocError>
+fn thread_end_of(alloc: Global, line: &ThreadLine) -> Result<ThreadEnd, AllocError>
     ensures id { IfOk result (λ end. end.id ≡ line.now.id) }
     ensures state { IfOk result (λ end. end.state ≡ line.now.state) }
     ensures log { IfOk result (λ end. end.log.items ≡ line.now.log) }
@@ -52,7 +52,7 @@ pub fn ends_of(alloc: Global, lines: &[ThreadLine]) -> Result<Vec<ThreadEnd>, Al
 {
     let mut ends = Vec::with_capacity(alloc, lines.len())?;
     for line in lines {
-        ends.push(end_of(alloc, line)?)?;
+        ends.push(thread_end_of(alloc, line)?)?;
     }
     Ok(ends)
 }

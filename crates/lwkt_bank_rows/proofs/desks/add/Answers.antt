@@ -1,6 +1,6 @@
 use Rattle.std.proofs.Common.{inl, inr, refl, ap}
 use Rattle.std.proofs.Math.Path.{fun_ext}
-use Rattle.lwkt_bank.specs.declared.views.Entry.{Entry}
+use Rattle.lwkt_bank.specs.declared.views.TokenEntry.{TokenEntry}
 use Rattle.lwkt_bank.specs.Views.{raised}
 use Rattle.lwkt_bank.specs.Seats.{id_of, entry}
 use Rattle.lwkt_bank_rows.proofs.DeskMoves.{sits_kept, sits_changed}
@@ -16,6 +16,6 @@ pub returns-in-Err : goal.returns-in-Err
 returns-in-Err c =
     let s = c.args.seat.now in
     elim (c.in-Err.ensures.only) [
-      | inl same ↦ sits_kept (id_of c.args.bank.now) s c.add.new.self c.args.refs.now c.requires.sits same.1.bank (fun_ext (λ tok. ap (λ (e : Entry). e.held) (same.1.entries tok)))
+      | inl same ↦ sits_kept (id_of c.args.bank.now) s c.add.new.self c.args.refs.now c.requires.sits same.1.bank (fun_ext (λ tok. ap (λ (e : TokenEntry). e.held) (same.1.entries tok)))
       | inr known ↦ sits_changed c.calls_change_holdings.ensures.others (id_of c.args.bank.now) s c.add.new.self c.args.refs.now c.args.tok.0 (record (entry s c.args.tok.0) { known = known.1.known }) _ c.requires.sits known.1.changes refl
     ]

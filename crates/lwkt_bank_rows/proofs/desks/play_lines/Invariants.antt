@@ -1,11 +1,11 @@
 use Rattle.std.proofs.Common.{◌≡◌, All, length}
 use Rattle.lwkt_bank.specs.Seats.{id_of}
-use Rattle.lwkt_bank_rows.specs.declared.desks.Desk.{Desk}
+use Rattle.lwkt_bank_rows.specs.declared.desks.ListedSeat.{ListedSeat}
 use Rattle.lwkt_bank_rows.specs.Desks.{Sits}
 use Rattle.lwkt_bank_rows.proofs.desks.play_lines.Given as goal
 
 abbrev pub invariant-loop-at : goal.invariant-loop-at
 invariant-loop-at l = record {
-  sit : All (λ (d : Desk). Sits (id_of l.bank) d.seat d.refs) l.desks.items;
+  sit : All (λ (d : ListedSeat). Sits (id_of l.bank) d.seat d.refs) l.desks.items;
   as_many : length l.desks.items ≡ length l.fn.desks.items;
 }

@@ -4,7 +4,7 @@ use Rattle.atomic_table.specs.Seated.{TableId}
 use Rattle.atomic_table.specs.declared.shared.Seat.{Seat}
 use Rattle.lwkt_base.specs.declared.openings.MsgSpec.{MsgSpec}
 use Rattle.lwkt_base.specs.declared.records.Rec.{Rec}
-use Rattle.lwkt_msg.specs.declared.views.Entry.{Entry}
+use Rattle.lwkt_msg.specs.declared.views.MessageEntry.{MessageEntry}
 use Rattle.lwkt_msg.specs.declared.views.View.{View}
 use Rattle.lwkt_msg.specs.Views.{spec_at}
 use Rattle.lwkt_msg.specs.Told.{Told}
@@ -36,7 +36,7 @@ load-requires c =
     let inside : 16 * m + 1 < c.args.top.now.table_id.words = omega arith in
     let z = c.args.top.now.table_id in
     let F : ℕ → Type 0 = λ i. (i < z.words) × Allows (Told c.args.top.now.key) z.slots c.loop-m.place.id c.loop-m.place.me i (λ n. n) (hands_it (step z.slots i 0 0 none) c.loop-m.place.me) in
-    let allowed = subst F (sym c.word_of_message.ensures) (inside, hand_allowed c.args.top.now.key c.loop-m.place.id c.loop-m.place.me c.args.cpu m h.kind within c.args.top.now.table_id.slots own (ap (λ (x : Entry). x.had) first) (ap (λ (x : Entry). x.away) first)) in
+    let allowed = subst F (sym c.word_of_message.ensures) (inside, hand_allowed c.args.top.now.key c.loop-m.place.id c.loop-m.place.me c.args.cpu m h.kind within c.args.top.now.table_id.slots own (ap (λ (x : MessageEntry). x.had) first) (ap (λ (x : MessageEntry). x.away) first)) in
     (table, allowed.0, allowed.1)
 
 pub loop-m-preserved : goal.loop-m-preserved

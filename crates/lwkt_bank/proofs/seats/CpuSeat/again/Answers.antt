@@ -1,6 +1,6 @@
 use Rattle.std.proofs.Common.{refl, ap, ◌∙◌, ◌≡◌, ◌+◌, length, length-set, get_or, [], arith}
 use Rattle.lwkt_base.specs.declared.names.Mode.TheVariants.{Exclusive}
-use Rattle.lwkt_bank.specs.declared.notes.Note.{Note}
+use Rattle.lwkt_bank.specs.declared.notes.TokenNote.{TokenNote}
 use Rattle.lwkt_bank.specs.Views.{more}
 use Rattle.lwkt_bank.specs.Notes.{note_at}
 use Rattle.lwkt_bank.specs.Seats.{entry, holding}
@@ -17,8 +17,8 @@ overflow_add-self c =
     let count = (s.kept.each t c.requires.there).references in
     let h = count-at (length s.seat.me.0.plans) 0 t (holding s) (omega arith) (omega arith) in
     let f = c.requires.few in
-    let none : Note = record { first = []; tally = 0; last = 0; cells = []; mode = Exclusive; references = 0 } in
-    let same : (get_or s.notes t none).references ≡ (note_at s.notes t).references = ap (λ (n : Note). n.references) (note_read s t none (room_of c.args.bank.now s t c.requires.of c.requires.there)) in
+    let none : TokenNote = record { first = []; tally = 0; last = 0; cells = []; mode = Exclusive; references = 0 } in
+    let same : (get_or s.notes t none).references ≡ (note_at s.notes t).references = ap (λ (n : TokenNote). n.references) (note_read s t none (room_of c.args.bank.now s t c.requires.of c.requires.there)) in
     omega (arith, same, count, h, f)
 
 pub invariant_of-self : goal.invariant_of-self

@@ -1,6 +1,6 @@
 use Rattle.std.proofs.Common.{refl, sym, ◌∙◌, ◌-◌, ◌<◌, ◌≤◌, length-set, subst, arith}
 use Rattle.lwkt_base.specs.Holding.{references_in}
-use Rattle.lwkt_bank.specs.declared.notes.Note.{Note}
+use Rattle.lwkt_bank.specs.declared.notes.TokenNote.{TokenNote}
 use Rattle.lwkt_bank.specs.Views.{less}
 use Rattle.lwkt_bank.specs.Notes.{note_at}
 use Rattle.lwkt_bank.specs.Seats.{entry, holding}
@@ -15,7 +15,7 @@ overflow_sub-self c =
     let t = c.args.tok.0 in
     let count = (s.kept.each t c.requires.there).references in
     let some : 0 < references_in (holding s t) = counted (holding s t) c.requires.held in
-    let F : Note → Type 0 = λ n. 1 ≤ n.references in
+    let F : TokenNote → Type 0 = λ n. 1 ≤ n.references in
     subst F (sym (note_read s t _ (room_of c.args.bank.now s t c.requires.of c.requires.there))) (omega (arith, count, some))
 
 pub invariant_of-self : goal.invariant_of-self

@@ -3,7 +3,7 @@ use Rattle.std.specs.Prelude.{slice_index}
 use Rattle.std.proofs.lemmas.Bool.{cases_eq}
 use Rattle.std.proofs.lemmas.List.{take_all}
 use Rattle.lwkt_bank.specs.declared.views.Plan.{Plan}
-use Rattle.lwkt_bank.specs.declared.views.Entry.{Entry}
+use Rattle.lwkt_bank.specs.declared.views.TokenEntry.{TokenEntry}
 use Rattle.lwkt_bank.specs.Rule.{plan_at}
 use Rattle.lwkt_bank.specs.Deeds.{reads_all}
 use Rattle.lwkt_bank.specs.Seats.{entry, Knowing}
@@ -19,7 +19,7 @@ loop-cell-preserved c =
     let cells : (plan_at s.seat.me.0.plans t).cells ≡ c.cells-cell-end.result = ap (λ (p : Plan). p.cells) (plan_is c.args.bank.now s t c.requires.of) ∙ sym c.cells-cell-end.ensures.is in
     let short = short_row c.args.bank.now s t c.requires.of in
     let long = ((s.kept.each t c.requires.there).long c.requires.held).1 in
-    let value : c.load.result ≡ slice_index (entry s t).row c.loop-cell.cell = c.load.ensures.value ∙ ap (λ (e : Entry). slice_index e.row c.loop-cell.cell) i.knowing.changes.here in
+    let value : c.load.result ≡ slice_index (entry s t).row c.loop-cell.cell = c.load.ensures.value ∙ ap (λ (e : TokenEntry). slice_index e.row c.loop-cell.cell) i.knowing.changes.here in
     let four = i.four in
     record {
       four = length-set c.loop-cell.values c.loop-cell.cell c.load.result ∙ i.four;

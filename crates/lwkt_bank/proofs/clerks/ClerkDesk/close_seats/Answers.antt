@@ -8,7 +8,7 @@ use Rattle.lwkt_bank.specs.Rule.{plan_at}
 use Rattle.lwkt_bank.specs.Closing.{AreRead, Gathering, kept_by}
 use Rattle.lwkt_bank.specs.Seats.{id_of_desk}
 use Rattle.lwkt_bank.proofs.KeptMoves.{gathering_none, bank_fits, bank_few, bank_closed}
-use Rattle.lwkt_bank.proofs.clerks.Desk.close_seats.Goals as goal
+use Rattle.lwkt_bank.proofs.clerks.ClerkDesk.close_seats.Goals as goal
 
 pub gather-requires-clause-begin : goal.gather-requires-clause-begin
 gather-requires-clause-begin c =

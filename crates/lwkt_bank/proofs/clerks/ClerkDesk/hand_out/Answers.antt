@@ -1,15 +1,15 @@
 use Rattle.std.proofs.Common.{ap, sym, refl, ◌∙◌, List, subst, length}
-use Rattle.lwkt_bank.specs.declared.notes.Note.{Note}
+use Rattle.lwkt_bank.specs.declared.notes.TokenNote.{TokenNote}
 use Rattle.lwkt_bank.specs.Views.{at}
 use Rattle.lwkt_bank.specs.Notes.{Keeps}
 use Rattle.lwkt_bank.proofs.OpenMoves.{Keeps-new}
-use Rattle.lwkt_bank.proofs.clerks.Desk.hand_out.Goals as goal
+use Rattle.lwkt_bank.proofs.clerks.ClerkDesk.hand_out.Goals as goal
 
 pub invariant_of-result : goal.invariant_of-result
 invariant_of-result c =
     let v = c.args.self.now.clerk.me.0 in
     let w = c.split-seat.result.me.0 in
-    let F : List Note → Type 0 = λ ns. Keeps ns c.args.cpu w in
+    let F : List TokenNote → Type 0 = λ ns. Keeps ns c.args.cpu w in
     record {
       kept = subst F (sym c.blank_notes-notes.ensures) (Keeps-new c.args.cpu v w c.requires.next.kind (ap (λ m. m.0) c.split-seat.ensures.seat.1));
       quiet = ap (λ m. length m.1) c.split-seat.ensures.seat.1;

@@ -1,7 +1,7 @@
 use Rattle.std.proofs.Common.{◌≡◌, length}
 use Rattle.lwkt_bank.specs.Seats.{id_of_desk}
 use Rattle.lwkt_bank.specs.Gathered.{HasMade, AreHandedOut}
-use Rattle.lwkt_bank.proofs.clerks.Desk.hand_out_all.Given as goal
+use Rattle.lwkt_bank.proofs.clerks.ClerkDesk.hand_out_all.Given as goal
 
 abbrev pub invariant-loop-cpu : goal.invariant-loop-cpu
 invariant-loop-cpu l = record {

@@ -9,7 +9,7 @@ use Rattle.lwkt_bank.specs.Notes.{clerk_number}
 use Rattle.lwkt_bank.specs.Opened.{plans_of}
 use Rattle.lwkt_bank.proofs.OpenMoves.{short_plans, single_plans, many_plans}
 use Rattle.lwkt_bank.proofs.ToldMoves.{Told-opening}
-use Rattle.lwkt_bank.proofs.clerks.Desk.with_key.Goals as goal
+use Rattle.lwkt_bank.proofs.clerks.ClerkDesk.with_key.Goals as goal
 
 pub of_words-requires : goal.of_words-requires
 of_words-requires c =
