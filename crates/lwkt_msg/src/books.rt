@@ -1,8 +1,8 @@
-ghost use Rattle.std.specs.Prelude.{◌≡◌, ◌⊎◌, ℕ, ◌<◌, [], length, All, MatchResult, IfOk, IfSome};
+ghost use Rattle.std.specs.Prelude.{◌≡◌, ◌⊎◌, ℕ, ◌<◌, [], length, All, MatchResult, IfOk};
 
 use crate::closings::{read_and_free, take_all};
 use crate::openings::{blank_records, known_specs, opening_words, seat_all};
-use crate::rules::{BookTable, Place, Top};
+use crate::rules::{BookTable, Top};
 use crate::seats::MsgSeat;
 use crate::views::{Layout, View};
 use atomic_table::Perch;
@@ -10,13 +10,6 @@ use lwkt_base::{Fault, MsgEnd, MsgSpec, Rec};
 use lwkt_core::are_within;
 use std::alloc::{AllocError, Global};
 use std::marker::Model;
-
-// The place that rests on a perch.
-fn place_of(perch: Perch<Rec, View>) -> Option<Place>
-    ensures { IfSome result (λ place. (place.table_id ≡ perch.table_id) × (place.me ≡ (perch.view, []))) }
-{
-    perch.take(0).1
-}
 
 /// A message book: the words of its messages, and the records that no seat has in hand.
 #[derive(Drop)]
@@ -83,14 +76,10 @@ impl MsgBook {
             return Err(AllocError);
         };
         seat_all(&table.shared, &mut clerk, cpus, specs, &mut seats)?;
-        let perch = Perch::new(&clerk, 0);
-        // Nobody else knows the perch yet, so this can't fail.
-        if let Err(_clerk) = perch.give(clerk, 0, 2) {
-            return Err(AllocError);
-        }
+        let clerk = lwkt_clerk::rest(clerk)?;
         let book = MsgBook {
             table,
-            clerk: perch,
+            clerk,
             cpus,
             messages: specs.len(),
         };
@@ -114,7 +103,7 @@ impl MsgBook {
             return Err(Fault::Memory);
         };
         // The clerk's place has rested there since the opening.
-        let Some(mut clerk) = place_of(clerk) else {
+        let Some(mut clerk) = lwkt_clerk::wake(clerk) else {
             return Err(Fault::Memory);
         };
         take_all(&table.shared, &mut clerk, cpus, seats);
