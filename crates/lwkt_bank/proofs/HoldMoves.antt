@@ -9,7 +9,7 @@ use Rattle.lwkt_base.specs.Holding.{Holding, references_in, holds_nothing, one_m
 use Rattle.lwkt_core.specs.declared.seats.Deed.{Deed}
 use Rattle.lwkt_bank.specs.declared.views.TokenEntry.{TokenEntry}
 use Rattle.lwkt_bank.specs.declared.seats.CpuSeat.{CpuSeat}
-use Rattle.lwkt_bank.specs.declared.tries.Given.TheVariants.{One, Clean, Written}
+use Rattle.lwkt_bank.specs.declared.answers.Given.TheVariants.{One, Clean, Written}
 use Rattle.lwkt_bank.specs.Views.{count_from}
 use Rattle.lwkt_bank.specs.Seats.{holding, Changes}
 use Rattle.lwkt_bank.specs.Holdings.{TakingAdds, AgainAdds, GivingRemoves, NothingCounts, AddedCounts}

@@ -6,7 +6,7 @@ use Rattle.lwkt_base.specs.Holding.{Holding, holds_nothing, added, removed}
 use Rattle.lwkt_core.specs.declared.seats.Deed.{Deed}
 use Rattle.lwkt_bank.specs.declared.views.TokenEntry.{TokenEntry}
 use Rattle.lwkt_bank.specs.declared.seats.CpuSeat.{CpuSeat}
-use Rattle.lwkt_bank.specs.declared.tries.Given.{Given}
+use Rattle.lwkt_bank.specs.declared.answers.Given.{Given}
 use Rattle.lwkt_bank.specs.Views.{more, count_from}
 use Rattle.lwkt_bank.specs.Deeds.{adds_one}
 use Rattle.lwkt_bank.specs.Seats.{holding, entry, Changes, Took, Stepped, Gave}

@@ -22,10 +22,10 @@ use Rattle.lwkt_bank.specs.declared.views.View.{View}
 use Rattle.lwkt_bank.specs.declared.banks.Bank.{Bank}
 use Rattle.lwkt_bank.specs.declared.clerks.ClerkDesk.{ClerkDesk}
 use Rattle.lwkt_bank.specs.declared.seats.CpuSeat.{CpuSeat}
-use Rattle.lwkt_bank.specs.declared.tries.Try.{Try}
-use Rattle.lwkt_bank.specs.declared.tries.Try.TheVariants.{Got, Busy, Again, Worn}
-use Rattle.lwkt_bank.specs.declared.tries.Given.{Given}
-use Rattle.lwkt_bank.specs.declared.tries.Given.TheVariants.{One, Clean, Written}
+use Rattle.lwkt_bank.specs.declared.answers.Try.{Try}
+use Rattle.lwkt_bank.specs.declared.answers.Try.TheVariants.{Got, Busy, Again, Worn}
+use Rattle.lwkt_bank.specs.declared.answers.Given.{Given}
+use Rattle.lwkt_bank.specs.declared.answers.Given.TheVariants.{One, Clean, Written}
 use Rattle.lwkt_core.specs.declared.seats.Deed.{Deed}
 use Rattle.lwkt_core.specs.declared.events.Event.{Event}
 use Rattle.lwkt_core.specs.History.{steps_by, events_by, AreOwn, Grows}

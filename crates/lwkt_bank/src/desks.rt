@@ -10,7 +10,7 @@ ghost use Rattle.lwkt_bank.specs.Gathered.{HasMade, IsNew, AreHandedOut, IsOpene
 use crate::banks::Bank;
 use crate::clerks::ClerkDesk;
 use crate::notes::TokenNote;
-use crate::opens;
+use crate::openings;
 use crate::plays::HandOut;
 use crate::rules::{BankRule, Key};
 use crate::seats::CpuSeat;
@@ -130,14 +130,14 @@ impl Bank {
         ensures only { IfErr result (λ f. (f ≡ Fault.Memory) ⊎ ((f ≡ Fault.Limits) ⊎ (f ≡ Fault.LawBroken))) }
     {
         let seats = Vec::with_capacity(alloc, 8).map_err(|_| Fault::Memory)?;
-        let plans = opens::plans_of(alloc, specs).map_err(|_| Fault::Memory)?;
-        if !opens::are_within(cpus, specs) {
+        let plans = openings::plans_of(alloc, specs).map_err(|_| Fault::Memory)?;
+        if !openings::are_within(cpus, specs) {
             return Err(Fault::Limits);
         }
-        if !opens::all_open_lawfully(specs) {
+        if !openings::all_open_lawfully(specs) {
             return Err(Fault::LawBroken);
         }
-        let words = opens::words_of(alloc, specs).map_err(|_| Fault::Memory)?;
+        let words = openings::words_of(alloc, specs).map_err(|_| Fault::Memory)?;
         let key = Key { plans, cpus };
         Bank::open_within(alloc, specs, words.as_slice(), key, seats).map_err(|_| Fault::Memory)
     }

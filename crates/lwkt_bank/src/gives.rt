@@ -9,11 +9,11 @@ ghost use Rattle.lwkt_core.specs.Tokens.{IsNotLastExclusive};
 ghost use Rattle.lwkt_bank.specs.Notes.{is_other};
 ghost use Rattle.lwkt_bank.specs.Seats.{id_of, bank_of, tokens_of, plan_of, entry, holding, Stepped, Gave};
 
+use crate::answers::Given;
 use crate::banks::Bank;
 use crate::notes::Touch;
 use crate::seats::CpuSeat;
 use crate::steps;
-use crate::tries::Given;
 use lwkt_base::{Held, Mode, TokId};
 
 // Whether the cell was stored to, and has another value than its first.

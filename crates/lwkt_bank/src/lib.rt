@@ -1,19 +1,20 @@
 //! The token words and cells of the threading layer: a bank of them, and for each processor a seat that steps on them.
 #![tactic(auto)]
 
+pub mod answers;
 pub mod banks;
 mod blanks;
 mod cells;
 mod clerks;
 pub mod closed;
-mod closes;
+mod closings;
 mod desks;
 mod gathers;
 mod gives;
 mod kept;
 pub mod laws;
 mod notes;
-mod opens;
+mod openings;
 mod places;
 mod plans;
 mod plays;
@@ -24,10 +25,9 @@ pub mod rules;
 pub mod seats;
 mod steps;
 mod takes;
-pub mod tries;
 pub mod views;
 
+pub use answers::{Given, Try};
 pub use banks::Bank;
 pub use closed::Closed;
 pub use seats::CpuSeat;
-pub use tries::{Given, Try};

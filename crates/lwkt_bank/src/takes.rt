@@ -5,11 +5,11 @@ ghost use Rattle.lwkt_bank.specs.Views.{more, looked};
 ghost use Rattle.lwkt_bank.specs.Deeds.{adds_one, marks};
 ghost use Rattle.lwkt_bank.specs.Seats.{id_of, bank_of, tokens_of, entry, holding, references, Changes, Looked, Took, Lost, Tried, Decides, Hit, Miss, Stepped};
 
+use crate::answers::Try;
 use crate::banks::Bank;
 use crate::places::generation_in;
 use crate::seats::CpuSeat;
 use crate::steps;
-use crate::tries::Try;
 use lwkt_base::{CpuId, Decision, Held, Mode, TokId, TokWord};
 
 impl CpuSeat {

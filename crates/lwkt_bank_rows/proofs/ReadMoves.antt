@@ -11,8 +11,8 @@ use Rattle.lwkt_core.specs.declared.seats.Deed.{Deed}
 use Rattle.lwkt_bank.specs.declared.views.TokenEntry.{TokenEntry}
 use Rattle.lwkt_bank.specs.declared.views.KnownCell.{KnownCell}
 use Rattle.lwkt_bank.specs.declared.seats.CpuSeat.{CpuSeat}
-use Rattle.lwkt_bank.specs.declared.tries.Given.{Given}
-use Rattle.lwkt_bank.specs.declared.tries.Given.TheVariants.{One, Clean, Written}
+use Rattle.lwkt_bank.specs.declared.answers.Given.{Given}
+use Rattle.lwkt_bank.specs.declared.answers.Given.TheVariants.{One, Clean, Written}
 use Rattle.lwkt_bank.specs.Views.{count_from, generation_in, looked, read, less}
 use Rattle.lwkt_bank.specs.Deeds.{gives_one, reads}
 use Rattle.lwkt_bank.specs.Seats.{BankId, bank_of, tokens_of, entry, holding, references, Changes, Looked, Took, Lost, Stepped, Gave}

@@ -6,10 +6,10 @@ ghost use Rattle.lwkt_bank_rows.specs.Readings.{IsEmpty};
 
 use crate::desks::{Ask, Line, ListedSeat, Miss, Told, call, close, open, play, seat_of};
 use crate::readers::{Reading, read_around};
+use lwkt_bank::answers::{Given, Try};
 use lwkt_bank::banks::Bank;
 use lwkt_bank::closed::Closed;
 use lwkt_bank::seats::CpuSeat;
-use lwkt_bank::tries::{Given, Try};
 use lwkt_base::{Cells, Fault, Law, Mode, TokId};
 use lwkt_fixtures::{Opened, Row, first_wrong, tokens};
 use std::alloc::Global;

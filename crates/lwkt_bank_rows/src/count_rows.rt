@@ -4,9 +4,9 @@ ghost use Rattle.lwkt_bank.specs.Seats.{id_of, cpus_of};
 ghost use Rattle.lwkt_bank_rows.specs.Desks.{Sits};
 
 use crate::desks::{Ask, ListedSeat, Miss, Told, call, close, open};
+use lwkt_bank::answers::{Given, Try};
 use lwkt_bank::banks::Bank;
 use lwkt_bank::closed::Closed;
-use lwkt_bank::tries::{Given, Try};
 use lwkt_base::{Fault, Law, Mode, TokId};
 use lwkt_fixtures::{Opened, tokens};
 use std::alloc::{AllocError, Global};

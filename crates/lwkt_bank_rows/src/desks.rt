@@ -4,11 +4,11 @@ ghost use Rattle.lwkt_base.specs.Refs.{first_mode};
 ghost use Rattle.lwkt_bank.specs.Seats.{id_of, tokens_of, cpus_of};
 ghost use Rattle.lwkt_bank_rows.specs.Desks.{Sits, MayGive};
 
+use lwkt_bank::answers::{Given, Try};
 use lwkt_bank::banks::Bank;
 use lwkt_bank::closed::Closed;
 use lwkt_bank::laws::{calls_change_holdings, references_are_counted};
 use lwkt_bank::seats::CpuSeat;
-use lwkt_bank::tries::{Given, Try};
 use lwkt_base::list_laws::{acquiring_adds, lists_are_held, releasing_removes};
 use lwkt_base::lists::LIST_LIMIT;
 use lwkt_base::{Fault, Mode, Ref, TokId, TokList, TokSpec};

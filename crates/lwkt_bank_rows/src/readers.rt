@@ -5,10 +5,10 @@ ghost use Rattle.lwkt_bank_rows.specs.Desks.{Sits};
 ghost use Rattle.lwkt_bank_rows.specs.Readings.{IsEmpty, HasRead, IsFresh};
 
 use crate::desks::{Ask, ListedSeat, call};
+use lwkt_bank::answers::Try;
 use lwkt_bank::banks::Bank;
 use lwkt_bank::laws::{calls_change_holdings, references_are_counted};
 use lwkt_bank::seats::CpuSeat;
-use lwkt_bank::tries::Try;
 use lwkt_base::list_laws::removing_undoes_adding;
 use lwkt_base::{Mode, TokId};
 

@@ -21,7 +21,7 @@ use Rattle.lwkt_core.specs.declared.seats.SeatKind.{SeatKind}
 use Rattle.lwkt_core.specs.declared.seats.SeatKind.TheVariants.{Of}
 use Rattle.lwkt_core.specs.Messages.{is_away, origin_of, target_of}
 use Rattle.lwkt_msg.specs.declared.views.MessageEntry.{MessageEntry}
-use Rattle.lwkt_msg.specs.declared.views.Layout.{Layout}
+use Rattle.lwkt_msg.specs.declared.views.Key.{Key}
 use Rattle.lwkt_msg.specs.declared.views.View.{View}
 use Rattle.lwkt_msg.specs.Views.{word_at, slot_at, spec_at, call_of, at, who, noted, looked, handed, sent, took, replied, reaped, shows_away, shows_back, shows_with, Sees, SeesOwn, Stands}
 use Rattle.lwkt_msg.specs.Book.{Mail, parts_of, state_of, shown_target, in_slot, is_taken, is_back, KnowsOwn, Knows, IsKept, mail_at, Rule}
@@ -87,7 +87,7 @@ one_record hands slot y z i j a b same =
     let h : some (slot, y) ≡ some (slot, z) = sym (subst F same a) ∙ b in
     ap (λ (x : ℕ × Rec). x.1) (some-injective (slot, y) (slot, z) h)
 
-module _ (key : Layout) (s : State Rec View) (id : ℕ) (v : View) (cpu : CpuId) (m : ℕ) (rule : Rule key s) (e : get_elem? s.views id ≡ some v) (is_seat : v.kind ≡ Of cpu) (within : m < length v.specs) where
+module _ (key : Key) (s : State Rec View) (id : ℕ) (v : View) (cpu : CpuId) (m : ℕ) (rule : Rule key s) (e : get_elem? s.views id ≡ some v) (is_seat : v.kind ≡ Of cpu) (within : m < length v.specs) where
   pub there : m < length key.specs.items
   there = subst (λ (xs : List MsgSpec). m < length xs) (seat_plan key rule.mails s id v cpu rule.book e is_seat).1 within
 
@@ -135,7 +135,7 @@ module _ (key : Layout) (s : State Rec View) (id : ℕ) (v : View) (cpu : CpuId)
       kept.slot ∙ ap (λ (o : Option Rec). some o) (in_slot_taken cpu.0 mail.msg.owner mail.had mail.rec (sym k.taken_is ∙ h))
 
 -- what a step tells of its deed, by the processor of the view
-pub told_by_who : (key : Layout) (s : State Rec View) (told : Told key s) (id : ℕ) (v : View) (cpu : CpuId) (is_seat : v.kind ≡ Of cpu) (hands : List (ℕ × Rec)) (m : ℕ) (e : MessageEntry) (d : CpuId → Deed) (word : ℕ) (act : Act Rec)
+pub told_by_who : (key : Key) (s : State Rec View) (told : Told key s) (id : ℕ) (v : View) (cpu : CpuId) (is_seat : v.kind ≡ Of cpu) (hands : List (ℕ × Rec)) (m : ℕ) (e : MessageEntry) (d : CpuId → Deed) (word : ℕ) (act : Act Rec)
     → (t : Tells key s told id v hands m e (d cpu) word act) → noted t.between v m e (d cpu) ≡ noted t.between v m e (d (who v))
 told_by_who key s told id v cpu is_seat hands m e d word act t = ap (λ (c : CpuId). noted t.between v m e (d c)) (sym (who_is v cpu is_seat))
 
@@ -143,7 +143,7 @@ told_by_who key s told id v cpu is_seat hands m e d word act t = ap (λ (c : Cpu
 asked_shown : (deeds : List Deed) (m : ℕ) (mail : Mail) → IsAskedSo deeds m mail.msg.owner mail.msg.asked → IsAskedBy deeds m (parts_of mail)
 asked_shown deeds m mail known shown = known.away (away_shown mail.msg.owner ∙ shown)
 
-pub was_asked : (key : Layout) (s : State Rec View) (m : ℕ) (told : Told key s) → m < length key.specs.items → (front : List Deed) → front ≡ told.chronicle.history → IsAskedBy front m (parts_of (mail_at told.rule.mails m))
+pub was_asked : (key : Key) (s : State Rec View) (m : ℕ) (told : Told key s) → m < length key.specs.items → (front : List Deed) → front ≡ told.chronicle.history → IsAskedBy front m (parts_of (mail_at told.rule.mails m))
 was_asked key s m told there front seen =
     let mail : Mail = mail_at told.rule.mails m in
     let known : IsAskedSo told.chronicle.history m mail.msg.owner mail.msg.asked = requests_told key.cpus key.specs.items told.chronicle.history told.rule.mails told.chronicle.passes m (let h = told.rule.book.as_many in omega arith) in
@@ -151,7 +151,7 @@ was_asked key s m told there front seen =
     subst F (sym seen) (asked_shown told.chronicle.history m mail known)
 
 -- a load of a message's word
-pub look_allowed : (key : Layout) (slots id : ℕ) (me : Me Rec View) (cpu : CpuId) (m : ℕ) → me.0.kind ≡ Of cpu → m < length me.0.specs → AreHands me.0 cpu.0 me.1
+pub look_allowed : (key : Key) (slots id : ℕ) (me : Me Rec View) (cpu : CpuId) (m : ℕ) → me.0.kind ≡ Of cpu → m < length me.0.specs → AreHands me.0 cpu.0 me.1
     → Allows (Told key) slots id me (word_at m) (λ n. n) (looks (step slots (word_at m) 0 0 none) me)
 look_allowed key slots id me cpu m is_seat within hands s told deep at_id small =
     ⊎_elim
@@ -216,7 +216,7 @@ pub first_same : (x y : ℕ × Rec) (xs ys : List (ℕ × Rec)) → x ∷ xs ≡
 first_same x y xs ys e = some-injective x y (ap (λ (l : List (ℕ × Rec)). get_elem? l 0) e)
 
 -- what a message's record is, by the history up to this step
-module _ (key : Layout) (s : State Rec View) (m : ℕ) (told : Told key s) (there : m < length key.specs.items) where
+module _ (key : Key) (s : State Rec View) (m : ℕ) (told : Told key s) (there : m < length key.specs.items) where
   posted : IsPosted told.chronicle.history m (mail_at told.rule.mails m).msg.owner (mail_at told.rule.mails m).rec
   posted = records_told key.cpus key.specs.items told.chronicle.history told.rule.mails told.chronicle.passes m (let h = told.rule.book.as_many in omega arith)
 
@@ -233,7 +233,7 @@ module _ (key : Layout) (s : State Rec View) (m : ℕ) (told : Told key s) (ther
       subst G (sym seen) (subst F back posted)
 
 -- a place at a step: the message's number is that of the table's
-module _ (key : Layout) (id : ℕ) (me : Me Rec View) (cpu : CpuId) (m : ℕ) (is_seat : me.0.kind ≡ Of cpu) (within : m < length me.0.specs) where
+module _ (key : Key) (id : ℕ) (me : Me Rec View) (cpu : CpuId) (m : ℕ) (is_seat : me.0.kind ≡ Of cpu) (within : m < length me.0.specs) where
   -- the store of a send
   pub send_allowed : (slots : ℕ) (to : CpuId) (sync : Bool) (flags : Flags) (rec : Rec) (others : List (ℕ × Rec)) → me.1 ≡ (slot_at m, rec) ∷ others → IsOwn me.0 cpu.0 m → (at me.0 m).away ≡ false
       → cpu.0 < 8 → to.0 < 8 → to.0 < me.0.cpus → (at me.0 m).round < LAST_ROUND → rec.error ≡ 0 → rec.result ≡ 0

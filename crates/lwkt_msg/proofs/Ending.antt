@@ -14,7 +14,7 @@ use Rattle.lwkt_core.specs.Messages.{IsSafeMessage, origin_of}
 use Rattle.lwkt_core.specs.Seating.{total}
 use Rattle.lwkt_core.proofs.SeatingLemmas.{at_map, total-only, AreSeated-closed}
 use Rattle.lwkt_msg.specs.declared.views.MessageEntry.{MessageEntry}
-use Rattle.lwkt_msg.specs.declared.views.Layout.{Layout}
+use Rattle.lwkt_msg.specs.declared.views.Key.{Key}
 use Rattle.lwkt_msg.specs.declared.views.View.{View}
 use Rattle.lwkt_msg.specs.Views.{word_at, spec_at, at, page_of, recalled_of}
 use Rattle.lwkt_msg.specs.Steps.{machine_of}
@@ -54,7 +54,7 @@ word_there (x ∷ xs) zero h = refl
 word_there (x ∷ xs) (suc i) h = word_there xs i (omega arith)
 
 -- the history of all seats, which the clerk has taken back
-is_history : (book : Shelf) (key : Layout) (seats : List Desk) (v w : View) (id : ℕ) (s : State Rec View) → book.cpus ≡ key.cpus → book.specs ≡ key.specs.items → length seats ≡ book.cpus → HasTakenBack book.cpus v seats w
+is_history : (book : Shelf) (key : Key) (seats : List Desk) (v w : View) (id : ℕ) (s : State Rec View) → book.cpus ≡ key.cpus → book.specs ≡ key.specs.items → length seats ≡ book.cpus → HasTakenBack book.cpus v seats w
     → (told : Told key s) → get_elem? s.views id ≡ some w → IsHistory book seats told.rule.mails told.chronicle.history
 is_history book key seats v w id s cpus_is specs_is all taken told at_id = record {
   passes = passes;
@@ -78,7 +78,7 @@ is_history book key seats v w id s cpus_is specs_is all taken told at_id = recor
         Views-part (IsDone key.cpus) page_of (first_mails key.specs.items) told.rule.mails s.views told.chronicle id w at_id key.cpus told.rule.book.seated book.cpus (length seats) taken.kind (omega arith) chapter.0 (record { cpu = cpu_of seat; past = past_of seat }) chapter.1
 
 -- what the closing words show is what the book's messages are, once all seats are taken back
-pub closes : (book : Shelf) (key : Layout) (seats : List Desk) (v w : View) (id : ℕ) (words : List ℕ) (ends : List MsgEnd) (s : State Rec View) → book.cpus ≡ key.cpus → book.specs ≡ key.specs.items → v.specs ≡ key.specs.items
+pub closes : (book : Shelf) (key : Key) (seats : List Desk) (v w : View) (id : ℕ) (words : List ℕ) (ends : List MsgEnd) (s : State Rec View) → book.cpus ≡ key.cpus → book.specs ≡ key.specs.items → v.specs ≡ key.specs.items
     → length seats ≡ book.cpus → HasTakenBack book.cpus v seats w → Told key s → get_elem? s.views id ≡ some w → s.words ≡ words → AreShown (length key.specs.items) words ends → AreClosed book seats ends
 closes book key seats v w id words ends s cpus_is specs_is v_specs all taken told at_id words_are shown = record {
   as_many = shown.as_many ∙ ap (λ (xs : List MsgSpec). length xs) (sym specs_is);

@@ -16,7 +16,7 @@ use Rattle.lwkt_core.specs.Messages.{IsSafeMessage, in_out}
 use Rattle.lwkt_core.specs.Seating.{AreSeated, total}
 use Rattle.lwkt_core.proofs.SeatingLemmas.{at_set, at_map, map-set, total-set, AreSeated-kept, AreSeated-below}
 use Rattle.lwkt_msg.specs.declared.views.MessageEntry.{MessageEntry}
-use Rattle.lwkt_msg.specs.declared.views.Layout.{Layout}
+use Rattle.lwkt_msg.specs.declared.views.Key.{Key}
 use Rattle.lwkt_msg.specs.declared.views.View.{View}
 use Rattle.lwkt_msg.specs.Views.{word_at, slot_at, spec_at, at, noted, Stands}
 use Rattle.lwkt_msg.specs.Book.{Mail, parts_of, in_slot, Knows, AreCounted, IsKept, no_mail, mail_at, IsBook}
@@ -144,11 +144,11 @@ stands_alone cpus views id v cpu seated e is_seat j x apart d stands = go x.kind
     go Spent is s = s
 
 -- a seat's view knows what the book was opened with
-pub seat_plan : (key : Layout) (mails : List Mail) (s : State Rec View) (id : ℕ) (v : View) (cpu : CpuId) → IsBook key mails s → get_elem? s.views id ≡ some v → v.kind ≡ Of cpu → (v.cpus ≡ key.cpus) × (v.specs ≡ key.specs.items)
+pub seat_plan : (key : Key) (mails : List Mail) (s : State Rec View) (id : ℕ) (v : View) (cpu : CpuId) → IsBook key mails s → get_elem? s.views id ≡ some v → v.kind ≡ Of cpu → (v.cpus ≡ key.cpus) × (v.specs ≡ key.specs.items)
 seat_plan key mails s id v cpu book e is_seat = book.plans id v e (λ gone. let h : Of cpu ≡ Spent = sym is_seat ∙ gone in absurd cc)
 
 -- a step on one message keeps the book
-pub IsBook-moved : (key : Layout) (mails : List Mail) (s : State Rec View) (m id : ℕ) (v w : View) (mail' : Mail) (word' : ℕ) (homes' : List (Option Rec))
+pub IsBook-moved : (key : Key) (mails : List Mail) (s : State Rec View) (m id : ℕ) (v w : View) (mail' : Mail) (word' : ℕ) (homes' : List (Option Rec))
     → IsBook key mails s → get_elem? s.views id ≡ some v → Changes m v w → m < length key.specs.items → length homes' ≡ length s.homes
     → ((k : ℕ) → k ≢ m → get_elem? homes' (slot_at k) ≡ get_elem? s.homes (slot_at k))
     → IsKept key.cpus (spec_at key.specs.items m) mail' word' (get_elem? homes' (slot_at m)) m (set s.views id w)

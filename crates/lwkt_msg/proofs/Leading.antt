@@ -32,7 +32,7 @@ use Rattle.lwkt_core.specs.Messages.{IsSafeMessage, MessageNeeds, message_after,
 use Rattle.lwkt_core.proofs.MessageMoves.{IsSafeMessage-after}
 use Rattle.lwkt_core.proofs.SeatingLemmas.{set_here, set_else, at_map, map-set, AreSeated-there}
 use Rattle.lwkt_msg.specs.declared.views.MessageEntry.{MessageEntry}
-use Rattle.lwkt_msg.specs.declared.views.Layout.{Layout}
+use Rattle.lwkt_msg.specs.declared.views.Key.{Key}
 use Rattle.lwkt_msg.specs.declared.views.View.{View}
 use Rattle.lwkt_msg.specs.Views.{word_at, slot_at, spec_at, call_of, at, noted, handed, sent, took, replied, reaped, dropped, requested, Stands}
 use Rattle.lwkt_msg.specs.Book.{Mail, parts_of, state_of, shown_target, in_slot, is_taken, is_back, KnowsOwn, KnowsTaken, Knows, IsKept, mail_at, IsBook}
@@ -48,7 +48,7 @@ abbrev pub KeptByOthers : ℕ → Mail → Mail → Type 0
 KeptByOthers cpu mail after = (kind : SeatKind) (e : MessageEntry) → (Stands kind cpu → ⊥) → Knows mail kind e → Knows after kind e
 
 -- a step on a message after which the table is a book again, in which this word shows it, and the event that the step is
-pub record LeadsTo (key : Layout) (mails : List Mail) (m cpu : ℕ) (after : Mail) (event : Event) (word : ℕ) (s : State Rec View) : Type 0 where
+pub record LeadsTo (key : Key) (mails : List Mail) (m cpu : ℕ) (after : Mail) (event : Event) (word : ℕ) (s : State Rec View) : Type 0 where
   pub others : KeptByOthers cpu (mail_at mails m) after
   pub shows : word ≡ message_word (parts_of after)
   pub book : IsBook key (set mails m after) s
@@ -61,7 +61,7 @@ shown_at (x ∷ xs) zero h = refl
 shown_at (x ∷ xs) (suc m) h = shown_at xs m (omega arith)
 
 -- an event that can happen to a message happens in the machine that the book shows
-pub happens_at : (key : Layout) (mails : List Mail) (m : ℕ) (mail' : Mail) (event : Event) → m < length mails → place_of event ≡ AtMessage m → adds_reference event ≡ false → cpu_of event < key.cpus
+pub happens_at : (key : Key) (mails : List Mail) (m : ℕ) (mail' : Mail) (event : Event) → m < length mails → place_of event ≡ AtMessage m → adds_reference event ≡ false → cpu_of event < key.cpus
     → MessageNeeds key.cpus (mail_at mails m).msg event → mail'.msg ≡ message_after (mail_at mails m).msg event → Happens (machine_of key.cpus mails) event (machine_of key.cpus (set mails m mail'))
 happens_at key mails m mail' event within place adds there needs leaves =
     let M : Machine = machine_of key.cpus mails in
@@ -127,7 +127,7 @@ fits_of cpus mail safe few =
     let last = safe.in_range in
     (omega arith, target_below cpus mail.msg.owner few safe.target_there, omega arith)
 
-module _ (key : Layout) (mails : List Mail) (s : State Rec View) (id : ℕ) (v : View) (cpu : CpuId) (m : ℕ) (book : IsBook key mails s) (e : get_elem? s.views id ≡ some v) (is_seat : v.kind ≡ Of cpu) (there : m < length key.specs.items) where
+module _ (key : Key) (mails : List Mail) (s : State Rec View) (id : ℕ) (v : View) (cpu : CpuId) (m : ℕ) (book : IsBook key mails s) (e : get_elem? s.views id ≡ some v) (is_seat : v.kind ≡ Of cpu) (there : m < length key.specs.items) where
   abbrev mail : Mail
   mail = mail_at mails m
 

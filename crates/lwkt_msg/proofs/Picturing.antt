@@ -16,7 +16,7 @@ use Rattle.lwkt_core.proofs.SeatingLemmas.{map-set, set_again, at_map}
 use Rattle.lwkt_core.proofs.HistoryLemmas.{Passes-run, steps_by-grows, events_by-grows}
 use Rattle.lwkt_core.proofs.ChronicleLemmas.{Chronicle-same, Chronicle-decides}
 use Rattle.lwkt_core.proofs.ViewLemmas.{Views-between, Views-one_more, Views-was_done}
-use Rattle.lwkt_msg.specs.declared.views.Layout.{Layout}
+use Rattle.lwkt_msg.specs.declared.views.Key.{Key}
 use Rattle.lwkt_msg.specs.declared.views.View.{View}
 use Rattle.lwkt_msg.specs.Views.{word_at, slot_at, at, looked, seat_cpu, who, page_of}
 use Rattle.lwkt_msg.specs.Book.{Mail, parts_of, in_slot, mail_at, no_mail}
@@ -138,7 +138,7 @@ seating_is_no_deed key s told id v e = (
 )
 
 -- a word of the table shows its message
-shows : (key : Layout) (s : State Rec View) (told : Told key s) (m : ℕ) → m < length key.specs.items → get_or s.words (word_at m) 0 ≡ message_word (parts_of (mail_at told.rule.mails m))
+shows : (key : Key) (s : State Rec View) (told : Told key s) (m : ℕ) → m < length key.specs.items → get_or s.words (word_at m) 0 ≡ message_word (parts_of (mail_at told.rule.mails m))
 shows key s told m there = (told.rule.book.each m there).is_word
 
 pub noted_is_done : MadeAsTold

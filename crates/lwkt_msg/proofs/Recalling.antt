@@ -12,7 +12,7 @@ use Rattle.lwkt_core.specs.declared.seats.SeatKind.TheVariants.{Clerk, Of}
 use Rattle.lwkt_core.specs.Seating.{after_made, after_back}
 use Rattle.lwkt_core.proofs.SeatingLemmas.{at_set, at_snoc, at_map}
 use Rattle.lwkt_msg.specs.declared.views.MessageEntry.{MessageEntry}
-use Rattle.lwkt_msg.specs.declared.views.Layout.{Layout}
+use Rattle.lwkt_msg.specs.declared.views.Key.{Key}
 use Rattle.lwkt_msg.specs.declared.views.Recalled.{Recalled}
 use Rattle.lwkt_msg.specs.declared.views.View.{View}
 use Rattle.lwkt_msg.specs.Views.{at, seat_cpu, page_of, recalled_of, recalled_at, clerk_after, new_seat, joined, spent_view}
@@ -40,7 +40,7 @@ recalls_none v mails count none = record {
     only (suc j) x d = absurd (some-ne-none x (sym d))
 
 -- after a step of a seat what seats knew that were taken back is still so
-module _ (key : Layout) (s : State Rec View) (id : ℕ) (v w : View) (cpu : CpuId) (told : Told key s) (e : get_elem? s.views id ≡ some v) (is_seat : v.kind ≡ Of cpu)
+module _ (key : Key) (s : State Rec View) (id : ℕ) (v w : View) (cpu : CpuId) (told : Told key s) (e : get_elem? s.views id ≡ some v) (is_seat : v.kind ≡ Of cpu)
     (kind : w.kind ≡ v.kind) (chapters : w.chapters ≡ v.chapters) (recalled : w.recalled ≡ v.recalled) (m : ℕ) (mail' : Mail) (there : m < length told.rule.mails) (others : KeptByOthers cpu.0 (mail_at told.rule.mails m) mail') where
   -- the view before
   before : (j : ℕ) (x : View) → get_elem? (set s.views id w) j ≡ some x → (y : View) × (get_elem? s.views j ≡ some y) × (y.kind ≡ x.kind) × (y.chapters ≡ x.chapters) × (y.recalled ≡ x.recalled)

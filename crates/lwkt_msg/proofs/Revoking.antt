@@ -14,7 +14,7 @@ use Rattle.lwkt_core.specs.declared.seats.Operation.TheVariants as operation
 use Rattle.lwkt_core.specs.declared.seats.SeatKind.TheVariants.{Of}
 use Rattle.lwkt_core.specs.Messages.{origin_of, target_of}
 use Rattle.lwkt_msg.specs.declared.views.MessageEntry.{MessageEntry}
-use Rattle.lwkt_msg.specs.declared.views.Layout.{Layout}
+use Rattle.lwkt_msg.specs.declared.views.Key.{Key}
 use Rattle.lwkt_msg.specs.declared.views.View.{View}
 use Rattle.lwkt_msg.specs.Views.{word_at, slot_at, at, who, noted, dropped, requested}
 use Rattle.lwkt_msg.specs.Book.{parts_of, mail_at}
@@ -29,7 +29,7 @@ use Rattle.lwkt_msg.proofs.Leading as lead
 use Rattle.lwkt_msg.proofs.Telling as tell
 
 -- what the origin does with a message that is away: it takes it back, or asks for it to be aborted
-module _ (key : Layout) (id : ℕ) (me : Me Rec View) (cpu : CpuId) (m : ℕ) (is_seat : me.0.kind ≡ Of cpu) (within : m < length me.0.specs) where
+module _ (key : Key) (id : ℕ) (me : Me Rec View) (cpu : CpuId) (m : ℕ) (is_seat : me.0.kind ≡ Of cpu) (within : m < length me.0.specs) where
   -- the exchange of a drop
   pub drop_allowed : (slots old new : ℕ) (w : MsgWord) → old ≡ message_word w → new ≡ message_word (rest_word cpu (at me.0 m).round) → MessageFits w → w.state ≡ state.Out → IsOwn me.0 cpu.0 m → (at me.0 m).had ≡ true
       → Allows (Told key) slots id me (word_at m) (λ n. either (eqb n old) new n) (drops_it (step slots (word_at m) old new none) me)

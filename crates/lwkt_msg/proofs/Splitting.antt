@@ -17,7 +17,7 @@ use Rattle.lwkt_core.proofs.ViewLemmas.{Views-opened, Views-split, Views-moved, 
 use Rattle.lwkt_core.proofs.MessageMoves.{IsSafeMessage-opened}
 use Rattle.lwkt_core.proofs.SeatingLemmas.{at_set, set_else, at_longer, at_snoc, at_map, map-set, map-snoc, total-set, total-snoc, total-cons, AreSeated-opening, AreSeated-split, AreSeated-join}
 use Rattle.lwkt_msg.specs.declared.views.MessageEntry.{MessageEntry}
-use Rattle.lwkt_msg.specs.declared.views.Layout.{Layout}
+use Rattle.lwkt_msg.specs.declared.views.Key.{Key}
 use Rattle.lwkt_msg.specs.declared.views.Noted.{Noted}
 use Rattle.lwkt_msg.specs.declared.views.View.{View}
 use Rattle.lwkt_msg.specs.Views.{word_at, slot_at, spec_at, at, entry_in, first_entry, no_spec, seat_cpu, page_of, clerk_after, new_seat, spent_view, spent_left, whole_right, added, gathered, joined}
@@ -58,7 +58,7 @@ kept_over cpus spec mail word home m views views' kept same each = record {
 }
 
 -- the clerk makes the seat of the next processor
-pub seat_book : (key : Layout) (mails : List Mail) (s : State Rec View) (id : ℕ) (v : View) (made back : ℕ) → IsBook key mails s → get_elem? s.views id ≡ some v → v.kind ≡ Clerk made back → v.entries ≡ [] → made < v.cpus
+pub seat_book : (key : Key) (mails : List Mail) (s : State Rec View) (id : ℕ) (v : View) (made back : ℕ) → IsBook key mails s → get_elem? s.views id ≡ some v → v.kind ≡ Clerk made back → v.entries ≡ [] → made < v.cpus
     → IsBook key mails record { words = s.words; homes = s.homes; views = set s.views id (clerk_after v) ++ new_seat v ∷ [] }
 seat_book key mails s id v made back book e is_clerk no_entries room = record {
   within = book.within;
@@ -154,13 +154,13 @@ seat_book key mails s id v made back book e is_clerk no_entries room = record {
         (at_snoc (set s.views id left) right x j d)
 
 -- which is no deed
-pub seat_told : (key : Layout) (s : State Rec View) (told : Told key s) (id : ℕ) (v : View) (made back : ℕ) → get_elem? s.views id ≡ some v → v.kind ≡ Clerk made back → v.entries ≡ [] → made < v.cpus
+pub seat_told : (key : Key) (s : State Rec View) (told : Told key s) (id : ℕ) (v : View) (made back : ℕ) → get_elem? s.views id ≡ some v → v.kind ≡ Clerk made back → v.entries ≡ [] → made < v.cpus
     → IsSame key s record { words = s.words; homes = s.homes; views = set s.views id (clerk_after v) ++ new_seat v ∷ [] } told
 seat_told key s told id v made back e is_clerk no_entries room =
     let q = Views-split (IsDone key.cpus) page_of (first_mails key.specs.items) told.rule.mails s.views told.chronicle id v e key.cpus told.rule.book.seated made back (clerk_after v) (new_seat v) is_clerk refl refl in
     (record { rule = record { mails = told.rule.mails; book = seat_book key told.rule.mails s id v made back told.rule.book e is_clerk no_entries room }; chronicle = q.0; recalls = recalls_split s.views told.rule.mails (length key.specs.items) id v e told.recalls }, refl, q.1)
 
-pub seat_splits : (key : Layout) (id : ℕ) (v : View) (made back : ℕ) → v.kind ≡ Clerk made back → v.entries ≡ [] → made < v.cpus → Splits (Told key) id v (clerk_after v) (new_seat v)
+pub seat_splits : (key : Key) (id : ℕ) (v : View) (made back : ℕ) → v.kind ≡ Clerk made back → v.entries ≡ [] → made < v.cpus → Splits (Told key) id v (clerk_after v) (new_seat v)
 seat_splits key id v made back is_clerk no_entries room s told e = (seat_told key s told id v made back e is_clerk no_entries room).0
 
 -- a seat's view is cut off whole, and leaves a spent one
@@ -224,7 +224,7 @@ knows_spent mail m =
       spent = λ _. record { sends = refl; takes = refl; drops = refl; replies = refl; reaps = refl };
     }
 
-pub whole_book : (key : Layout) (mails : List Mail) (s : State Rec View) (id : ℕ) (v : View) (cpu : CpuId) → IsBook key mails s → get_elem? s.views id ≡ some v → v.kind ≡ Of cpu
+pub whole_book : (key : Key) (mails : List Mail) (s : State Rec View) (id : ℕ) (v : View) (cpu : CpuId) → IsBook key mails s → get_elem? s.views id ≡ some v → v.kind ≡ Of cpu
     → IsBook key mails record { words = s.words; homes = s.homes; views = set s.views id (spent_left v) ++ whole_right v ∷ [] }
 whole_book key mails s id v cpu book e is_seat = record {
   within = book.within;
@@ -265,12 +265,12 @@ whole_book key mails s id v cpu book e is_seat = record {
         (λ (new : (j ≡ length (set s.views id spent_view)) × (v ≡ x)). subst F new.1 ((book.each m within).each_view id v e))
         (at_snoc (set s.views id spent_view) v x j d)
 
-pub whole_told : (key : Layout) (s : State Rec View) (told : Told key s) (id : ℕ) (v : View) (cpu : CpuId) → get_elem? s.views id ≡ some v → v.kind ≡ Of cpu → IsSame key s record { words = s.words; homes = s.homes; views = set s.views id (spent_left v) ++ whole_right v ∷ [] } told
+pub whole_told : (key : Key) (s : State Rec View) (told : Told key s) (id : ℕ) (v : View) (cpu : CpuId) → get_elem? s.views id ≡ some v → v.kind ≡ Of cpu → IsSame key s record { words = s.words; homes = s.homes; views = set s.views id (spent_left v) ++ whole_right v ∷ [] } told
 whole_told key s told id v cpu e is_seat =
     let q = Views-moved (IsDone key.cpus) page_of (first_mails key.specs.items) told.rule.mails s.views told.chronicle id v e (spent_left v) refl in
     (record { rule = record { mails = told.rule.mails; book = whole_book key told.rule.mails s id v cpu told.rule.book e is_seat }; chronicle = q.0; recalls = recalls_moved s.views told.rule.mails (length key.specs.items) id v e told.recalls }, refl, q.1)
 
-pub whole_splits : (key : Layout) (id : ℕ) (v : View) (cpu : CpuId) → v.kind ≡ Of cpu → Splits (Told key) id v (spent_left v) (whole_right v)
+pub whole_splits : (key : Key) (id : ℕ) (v : View) (cpu : CpuId) → v.kind ≡ Of cpu → Splits (Told key) id v (spent_left v) (whole_right v)
 whole_splits key id v cpu is_seat s told e = (whole_told key s told id v cpu e is_seat).0
 
 -- what is gathered of each message
@@ -286,7 +286,7 @@ unfolding at
 at-both v other m within = in_gathered (length v.specs) v other m (first_entry (spec_at v.specs m)) within
 
 -- the clerk takes a seat back
-pub joined_book : (key : Layout) (mails : List Mail) (s : State Rec View) (id : ℕ) (v : View) (other : ℕ) (w : View) (made back : ℕ) (cpu : CpuId) → IsBook key mails s → get_elem? s.views id ≡ some v → v.kind ≡ Clerk made back → w.kind ≡ Of cpu → other ≢ id → get_elem? (set s.views id (joined v w)) other ≡ some w
+pub joined_book : (key : Key) (mails : List Mail) (s : State Rec View) (id : ℕ) (v : View) (other : ℕ) (w : View) (made back : ℕ) (cpu : CpuId) → IsBook key mails s → get_elem? s.views id ≡ some v → v.kind ≡ Clerk made back → w.kind ≡ Of cpu → other ≢ id → get_elem? (set s.views id (joined v w)) other ≡ some w
     → IsBook key mails record { words = s.words; homes = s.homes; views = set (set s.views id (joined v w)) other spent_view }
 joined_book key mails s id v other w made back cpu book e is_clerk is_seat apart d = record {
   within = book.within;
@@ -358,7 +358,7 @@ joined_book key mails s id v other w made back cpu book e is_clerk is_seat apart
         (at_set s.views id j both x old.1))
         (at_set (set s.views id both) other j spent_view x f)
 
-pub joined_told : (key : Layout) (s : State Rec View) (told : Told key s) (id : ℕ) (v : View) (other : ℕ) (w : View) (made back : ℕ) (cpu : CpuId) → get_elem? s.views id ≡ some v → v.kind ≡ Clerk made back → w.kind ≡ Of cpu → other ≢ id
+pub joined_told : (key : Key) (s : State Rec View) (told : Told key s) (id : ℕ) (v : View) (other : ℕ) (w : View) (made back : ℕ) (cpu : CpuId) → get_elem? s.views id ≡ some v → v.kind ≡ Clerk made back → w.kind ≡ Of cpu → other ≢ id
     → get_elem? (set s.views id (joined v w)) other ≡ some w → IsSame key s record { words = s.words; homes = s.homes; views = set (set s.views id (joined v w)) other spent_view } told
 joined_told key s told id v other w made back cpu e is_clerk is_seat apart d =
     let there : get_elem? s.views other ≡ some w = sym (set_else s.views id other (joined v w) apart) ∙ d in
@@ -367,7 +367,7 @@ joined_told key s told id v other w made back cpu e is_clerk is_seat apart d =
     let q = Views-joined (IsDone key.cpus) page_of (first_mails key.specs.items) told.rule.mails s.views told.chronicle id v e key.cpus told.rule.book.seated made back other w cpu (joined v w) spent_view is_clerk apart there is_seat page_is refl in
     (record { rule = record { mails = told.rule.mails; book = joined_book key told.rule.mails s id v other w made back cpu told.rule.book e is_clerk is_seat apart d }; chronicle = q.0; recalls = recalls_joined s.views told.rule.mails (length key.specs.items) id other made back v w cpu e is_clerk is_seat known told.recalls }, refl, q.1)
 
-pub seat_joins : (key : Layout) (id : ℕ) (v : View) (other : ℕ) (w : View) (made back : ℕ) (cpu : CpuId) → v.kind ≡ Clerk made back → w.kind ≡ Of cpu → Joins (Told key) id v other w (joined v w) spent_view
+pub seat_joins : (key : Key) (id : ℕ) (v : View) (other : ℕ) (w : View) (made back : ℕ) (cpu : CpuId) → v.kind ≡ Clerk made back → w.kind ≡ Of cpu → Joins (Told key) id v other w (joined v w) spent_view
 seat_joins key id v other w made back cpu is_clerk is_seat s told e apart d = (joined_told key s told id v other w made back cpu e is_clerk is_seat apart d).0
 
 -- the opened messages, by their numbers
@@ -386,7 +386,7 @@ All-spec : (cpus : ℕ) (specs : List MsgSpec) (m : ℕ) → AreWithin cpus [] s
 All-spec cpus specs m within there = All-get_or (IsMessageWithin cpus) specs m no_spec there within.each_message
 
 -- an opening that keeps the limits meets the rule
-opened_book : (key : Layout) (words : List ℕ) (slots : List Rec) → AreWithin key.cpus [] key.specs.items → length words ≡ 16 * length key.specs.items + 1 → get_or words 0 0 ≡ 0
+opened_book : (key : Key) (words : List ℕ) (slots : List Rec) → AreWithin key.cpus [] key.specs.items → length words ≡ 16 * length key.specs.items + 1 → get_or words 0 0 ≡ 0
     → ((m : ℕ) → m < length key.specs.items → get_or words (word_at m) 0 ≡ message_word (rest_word (spec_at key.specs.items m).origin.cpu (spec_at key.specs.items m).round))
     → slots ≡ replicate (4 * length key.specs.items) no_rec → IsBook key (first_mails key.specs.items) (opening words slots (first_view key))
 opened_book key words slots within wide zero_word words_are slots_are = record {
@@ -444,7 +444,7 @@ opened_book key words slots within wide zero_word words_are slots_are = record {
     }
 
 -- and its history is empty
-pub rule_opens : (key : Layout) (words : List ℕ) (slots : List Rec) → AreWithin key.cpus [] key.specs.items → length words ≡ 16 * length key.specs.items + 1 → get_or words 0 0 ≡ 0
+pub rule_opens : (key : Key) (words : List ℕ) (slots : List Rec) → AreWithin key.cpus [] key.specs.items → length words ≡ 16 * length key.specs.items + 1 → get_or words 0 0 ≡ 0
     → ((m : ℕ) → m < length key.specs.items → get_or words (word_at m) 0 ≡ message_word (rest_word (spec_at key.specs.items m).origin.cpu (spec_at key.specs.items m).round))
     → slots ≡ replicate (4 * length key.specs.items) no_rec → Opens key (opening words slots (first_view key))
 rule_opens key words slots within wide zero_word words_are slots_are =

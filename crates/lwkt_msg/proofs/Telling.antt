@@ -24,7 +24,7 @@ use Rattle.lwkt_core.specs.Messages.{message_after}
 use Rattle.lwkt_core.specs.History.{left_by, IsStepOver, AreOthers}
 use Rattle.lwkt_core.proofs.ViewLemmas.{Views-between, Views-noted}
 use Rattle.lwkt_msg.specs.declared.views.MessageEntry.{MessageEntry}
-use Rattle.lwkt_msg.specs.declared.views.Layout.{Layout}
+use Rattle.lwkt_msg.specs.declared.views.Key.{Key}
 use Rattle.lwkt_msg.specs.declared.views.View.{View}
 use Rattle.lwkt_msg.specs.Views.{word_at, slot_at, call_of, at, seat_cpu, who, noted, named, page_of, handed, sent, took, replied, reaped, dropped, requested}
 use Rattle.lwkt_msg.specs.Book.{Mail, parts_of, Knows, mail_at, IsBook}
@@ -50,7 +50,7 @@ pub left_lost : (old new met : ℕ) → met ≢ old → left_by (Exchange old ne
 left_lost old new met apart = rw (ne_eqb met old apart) refl
 
 -- a step that is done between two states of the messages becomes a deed, here alone
-module _ (key : Layout) (s : State Rec View) (id : ℕ) (v : View) (cpu : CpuId) (told : Told key s) (e : get_elem? s.views id ≡ some v) (is_seat : v.kind ≡ Of cpu)
+module _ (key : Key) (s : State Rec View) (id : ℕ) (v : View) (cpu : CpuId) (told : Told key s) (e : get_elem? s.views id ≡ some v) (is_seat : v.kind ≡ Of cpu)
     (m : ℕ) (there : m < length told.rule.mails) (e' : MessageEntry) (d : Deed) (own : d.cpu ≡ cpu) (mail' : Mail) (others : lead.KeptByOthers cpu.0 (mail_at told.rule.mails m) mail') (done : IsDone key.cpus told.rule.mails d (set told.rule.mails m mail')) where
   pub deed_told : (hands : List (ℕ × Rec)) (word : ℕ) (act : Act Rec) → Valid s.homes hands act → ((past : List Deed) → IsBook key (set told.rule.mails m mail') (stepped s (word_at m) word id hands (noted past v m e' d) act)) → Tells key s told id v hands m e' d word act
   deed_told hands word act valid book =
@@ -67,7 +67,7 @@ module _ (key : Layout) (s : State Rec View) (id : ℕ) (v : View) (cpu : CpuId)
       }
 
 -- a look at a message, and an event at one, are done
-pub look_done : (key : Layout) (mails : List Mail) (m : ℕ) (cpu : CpuId) (operation : Operation) (found : ℕ) (records : List Rec) (after : Mail) → m < length mails → cpu.0 < key.cpus
+pub look_done : (key : Key) (mails : List Mail) (m : ℕ) (cpu : CpuId) (operation : Operation) (found : ℕ) (records : List Rec) (after : Mail) → m < length mails → cpu.0 < key.cpus
     → IsStepOver (message_word (parts_of (mail_at mails m))) (message_word (parts_of after)) (word_step m operation found) → OnlyLooks operation (message_word (parts_of (mail_at mails m)))
     → ((records ≡ []) × (after ≡ mail_at mails m)) ⊎ IsHandedOut (mail_at mails m) (look_by cpu (word_step m operation found) records) after
     → IsDone key.cpus mails (look_by cpu (word_step m operation found) records) (set mails m after)
@@ -82,7 +82,7 @@ look_done key mails m cpu operation found records after there by over only leave
   what = inl (record { events = refl; operation = only; leaves = leaves });
 }
 
-pub event_done : (key : Layout) (mails : List Mail) (m : ℕ) (cpu : CpuId) (event : Event) (operation : Operation) (found : ℕ) (records : List Rec) (after : Mail) → m < length mails → cpu.0 < key.cpus
+pub event_done : (key : Key) (mails : List Mail) (m : ℕ) (cpu : CpuId) (event : Event) (operation : Operation) (found : ℕ) (records : List Rec) (after : Mail) → m < length mails → cpu.0 < key.cpus
     → cpu_of event ≡ cpu.0 → place_of event ≡ AtMessage m → Happens (machine_of key.cpus mails) event (machine_of key.cpus (set mails m after))
     → IsStepOver (message_word (parts_of (mail_at mails m))) (message_word (parts_of after)) (word_step m operation found) → IsOperation event operation (message_word (parts_of (mail_at mails m)))
     → after.msg ≡ message_after (mail_at mails m).msg event → after.had ≡ (mail_at mails m).had → IsSentAs event (mail_at mails m) after → IsRecordOf event (mail_at mails m).rec after.rec records
@@ -110,7 +110,7 @@ event_done key mails m cpu event operation found records after there by own plac
 }
 
 -- each kind of step of a processor's seat on a message
-module _ (key : Layout) (s : State Rec View) (id : ℕ) (v : View) (cpu : CpuId) (m : ℕ) (told : Told key s) (e : get_elem? s.views id ≡ some v) (is_seat : v.kind ≡ Of cpu) (there : m < length key.specs.items) where
+module _ (key : Key) (s : State Rec View) (id : ℕ) (v : View) (cpu : CpuId) (m : ℕ) (told : Told key s) (e : get_elem? s.views id ≡ some v) (is_seat : v.kind ≡ Of cpu) (there : m < length key.specs.items) where
   abbrev mails : List Mail
   mails = told.rule.mails
 

@@ -19,7 +19,7 @@ use Rattle.lwkt_core.specs.Messages.{IsSafeMessage, origin_of, is_away, in_out}
 use Rattle.lwkt_core.specs.Opening.{AreWithin, opened_message}
 use Rattle.lwkt_core.specs.Seating.{AreSeated, total}
 use Rattle.lwkt_msg.specs.declared.views.MessageEntry.{MessageEntry}
-use Rattle.lwkt_msg.specs.declared.views.Layout.{Layout}
+use Rattle.lwkt_msg.specs.declared.views.Key.{Key}
 use Rattle.lwkt_msg.specs.declared.views.View.{View}
 use Rattle.lwkt_msg.specs.Views.{word_at, slot_at, no_flags, spec_at, call_of, answer_of, at, Stands}
 
@@ -137,7 +137,7 @@ abbrev pub mail_at : List Mail → ℕ → Mail
 mail_at mails m = slice_index_or mails m no_mail
 
 -- a table is that of a book with these messages
-pub record IsBook (key : Layout) (mails : List Mail) (s : State Rec View) : Type 0 where
+pub record IsBook (key : Key) (mails : List Mail) (s : State Rec View) : Type 0 where
   pub within : AreWithin key.cpus [] key.specs.items
   pub as_many : length mails ≡ length key.specs.items
   pub wide : length s.words ≡ 16 * length key.specs.items + 1
@@ -148,12 +148,12 @@ pub record IsBook (key : Layout) (mails : List Mail) (s : State Rec View) : Type
   pub each : (m : ℕ) → m < length key.specs.items → IsKept key.cpus (spec_at key.specs.items m) (mail_at mails m) (slice_index s.words (word_at m)) (get_elem? s.homes (slot_at m)) m s.views
 
 -- the rule of the book: each message has one owner
-pub record Rule (key : Layout) (s : State Rec View) : Type 0 where
+pub record Rule (key : Key) (s : State Rec View) : Type 0 where
   pub mails : List Mail
   pub book : IsBook key mails s
 
 -- what the first seat, the clerk's, knows
-abbrev pub first_view : Layout → View
+abbrev pub first_view : Key → View
 first_view key = record { kind = Clerk 0 0; cpus = key.cpus; specs = key.specs.items; entries = []; past = []; chapters = []; recalled = [] }
 
 -- an empty record, and a message of the book at the opening

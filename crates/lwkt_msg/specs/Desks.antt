@@ -19,7 +19,7 @@ use Rattle.lwkt_core.specs.declared.seats.WordStep.{WordStep}
 use Rattle.lwkt_core.specs.declared.seats.Deed.{Deed}
 use Rattle.lwkt_core.specs.History.{Passes, AreOthers, IsPastOf, events_in, events_by, steps_by}
 use Rattle.lwkt_msg.specs.declared.views.MessageEntry.{MessageEntry}
-use Rattle.lwkt_msg.specs.declared.views.Layout.{Layout}
+use Rattle.lwkt_msg.specs.declared.views.Key.{Key}
 use Rattle.lwkt_msg.specs.declared.views.View.{View}
 use Rattle.lwkt_msg.specs.Views.{word_at, spec_at, first_entry, handed, at, who, recalled_of}
 use Rattle.lwkt_base.specs.declared.owners.Owner.{Owner}
@@ -57,7 +57,7 @@ pub record IsMsgSeat (cpu : CpuId) (cpus messages : ℕ) (place : Seat Rec View)
   pub messages_is : messages ≡ length place.me.0.specs
 
 -- the fields of a book are those of a table of so many processors and messages, with the clerk who has made all seats
-pub record IsMsgBook (cpus messages : ℕ) (table : TableId) (key : Layout) (clerk : Roost View) : Type 0 where
+pub record IsMsgBook (cpus messages : ℕ) (table : TableId) (key : Key) (clerk : Roost View) : Type 0 where
   pub words : table.words ≡ 16 * messages + 1
   pub slots : table.slots ≡ 4 * messages
   pub few : messages ≤ 64

@@ -17,7 +17,7 @@ use Rattle.lwkt_core.specs.Opening.{AreWithin}
 use Rattle.lwkt_core.specs.Trace.{Run}
 use Rattle.lwkt_core.specs.History.{AreOthers, AreOwn, IsStepOver, IsPastOf, Passes, events_in, events_by, steps_in, steps_by, noted_page}
 use Rattle.lwkt_msg.specs.declared.views.MessageEntry.{MessageEntry}
-use Rattle.lwkt_msg.specs.declared.views.Layout.{Layout}
+use Rattle.lwkt_msg.specs.declared.views.Key.{Key}
 use Rattle.lwkt_msg.specs.declared.views.View.{View}
 use Rattle.lwkt_msg.specs.Views.{slot_at, word_at, call_of, at, who, page_of, looked, handed, sent, took, replied, reaped, dropped, requested, clerk_after, new_seat, spent_left, whole_right, joined, spent_view}
 use Rattle.lwkt_msg.specs.Book.{parts_of, mail_at, IsBook, first_view, no_rec}
@@ -30,12 +30,12 @@ use Rattle.lwkt_msg.specs.Told.{IsDone, first_mails, Told, IsNext, IsSame, Opens
 
 -- each state of a book's table shows a machine whose messages are all safe: each has one owner
 abbrev pub RuleShowsSafety : Type 0
-RuleShowsSafety = (key : Layout) (s : State Rec View) (told : Told key s) → IsBook key told.rule.mails s × IsSafe (machine_of key.cpus told.rule.mails)
+RuleShowsSafety = (key : Key) (s : State Rec View) (told : Told key s) → IsBook key told.rule.mails s × IsSafe (machine_of key.cpus told.rule.mails)
 
 -- in each state each send was taken or dropped at most once, and replied to at most once; what was replied to and not reaped yet
 -- is at most one
 abbrev pub EachSendAtMostOnce : Type 0
-EachSendAtMostOnce = (key : Layout) (s : State Rec View) (told : Told key s) (m : ℕ) → m < length key.specs.items
+EachSendAtMostOnce = (key : Key) (s : State Rec View) (told : Told key s) (m : ℕ) → m < length key.specs.items
     → ((mail_at told.rule.mails m).msg.takes + (mail_at told.rule.mails m).msg.drops ≤ (mail_at told.rule.mails m).msg.sends)
     × ((mail_at told.rule.mails m).msg.sends ≤ (mail_at told.rule.mails m).msg.takes + (mail_at told.rule.mails m).msg.drops + 1)
     × ((mail_at told.rule.mails m).msg.replies ≤ (mail_at told.rule.mails m).msg.takes)
@@ -44,29 +44,29 @@ EachSendAtMostOnce = (key : Layout) (s : State Rec View) (told : Told key s) (m 
 -- each state is reached by one history of deeds from the messages that were declared, whose events are a run of the model, and of
 -- which each seat has seen the front up to its own last deed
 abbrev pub StatesAreReached : Type 0
-StatesAreReached = (key : Layout) (s : State Rec View) (told : Told key s) →
+StatesAreReached = (key : Key) (s : State Rec View) (told : Told key s) →
     Passes (IsDone key.cpus) (first_mails key.specs.items) told.chronicle.history told.rule.mails
     × Run (machine_of key.cpus (first_mails key.specs.items)) (events_in told.chronicle.history) (machine_of key.cpus told.rule.mails)
     × ((id : ℕ) (v : View) (cpu : CpuId) → get_elem? s.views id ≡ some v → v.kind ≡ Of cpu → IsPastOf told.chronicle.history cpu.0 v.past)
 
 -- whatever shows that the rule holds of a state, the messages and the history are the same
 abbrev pub ViewsDecide : Type 0
-ViewsDecide = (key : Layout) (s : State Rec View) (told other : Told key s) → (other.rule.mails ≡ told.rule.mails) × (other.chronicle.history ≡ told.chronicle.history)
+ViewsDecide = (key : Key) (s : State Rec View) (told other : Told key s) → (other.rule.mails ≡ told.rule.mails) × (other.chronicle.history ≡ told.chronicle.history)
 
 -- a table that was opened within the limits, with the words of messages at rest and blank records, shows the messages that were
 -- declared, and has no history
 abbrev pub OpeningIsDeclared : Type 0
-OpeningIsDeclared = (key : Layout) (words : List ℕ) → AreWithin key.cpus [] key.specs.items → AreOpeningWords (length key.specs.items) key.specs.items words → Opens key (opening words (replicate (4 * length key.specs.items) no_rec) (first_view key))
+OpeningIsDeclared = (key : Key) (words : List ℕ) → AreWithin key.cpus [] key.specs.items → AreOpeningWords (length key.specs.items) key.specs.items words → Opens key (opening words (replicate (4 * length key.specs.items) no_rec) (first_view key))
 
 -- a seat of a processor is at a message of a book
-pub record IsAt (key : Layout) (s : State Rec View) (id : ℕ) (v : View) (cpu : CpuId) (m : ℕ) : Type 0 where
+pub record IsAt (key : Key) (s : State Rec View) (id : ℕ) (v : View) (cpu : CpuId) (m : ℕ) : Type 0 where
   pub view : get_elem? s.views id ≡ some v
   pub kind : v.kind ≡ Of cpu
   pub exists_ : m < length key.specs.items
 
 -- something that is so of each state, seat and message
-abbrev pub AtSeat : ((key : Layout) (s : State Rec View) → Told key s → ℕ → View → CpuId → ℕ → ℕ → Type 0) → Type 0
-AtSeat P = (key : Layout) (s : State Rec View) (told : Told key s) (id : ℕ) (v : View) (cpu : CpuId) (m : ℕ) → IsAt key s id v cpu m → P key s told id v cpu m (slice_index s.words (word_at m))
+abbrev pub AtSeat : ((key : Key) (s : State Rec View) → Told key s → ℕ → View → CpuId → ℕ → ℕ → Type 0) → Type 0
+AtSeat P = (key : Key) (s : State Rec View) (told : Told key s) (id : ℕ) (v : View) (cpu : CpuId) (m : ℕ) → IsAt key s id v cpu m → P key s told id v cpu m (slice_index s.words (word_at m))
 
 -- a load, or an exchange that is lost, is a look
 abbrev pub LoadIsLook : Type 0
@@ -111,7 +111,7 @@ OrIsAbort = AtSeat (λ key s told id v cpu m n. (hands : List (ℕ × Rec)) → 
 
 -- a seat that is made, cut off or taken back is no deed
 abbrev pub SeatingIsNoDeed : Type 0
-SeatingIsNoDeed = (key : Layout) (s : State Rec View) (told : Told key s) (id : ℕ) (v : View) → get_elem? s.views id ≡ some v
+SeatingIsNoDeed = (key : Key) (s : State Rec View) (told : Told key s) (id : ℕ) (v : View) → get_elem? s.views id ≡ some v
     → ((made back : ℕ) → v.kind ≡ Clerk made back → v.entries ≡ [] → made < v.cpus → IsSame key s record { words = s.words; homes = s.homes; views = slice_set s.views id (clerk_after v) ++ new_seat v ∷ [] } told)
     × ((cpu : CpuId) → v.kind ≡ Of cpu → IsSame key s record { words = s.words; homes = s.homes; views = slice_set s.views id (spent_left v) ++ whole_right v ∷ [] } told)
     × ((other : ℕ) (w : View) (made back : ℕ) (cpu : CpuId) → v.kind ≡ Clerk made back → w.kind ≡ Of cpu → other ≢ id → get_elem? (slice_set s.views id (joined v w)) other ≡ some w
@@ -129,13 +129,13 @@ pub record IsMade (count : ℕ) (words others : List ℕ) (d : Deed) : Type 0 wh
 -- or given back, and the seat notes any deed, after which the rule holds. Then the history has that deed more, and it is done between
 -- the messages before and after
 abbrev pub MadeAsTold : Type 0
-MadeAsTold = (key : Layout) (s : State Rec View) (told : Told key s) (id : ℕ) (v w : View) (cpu : CpuId) (between : List Deed) (d : Deed) (i n : ℕ) (hands : List (ℕ × Rec)) (act : Act Rec) (after : Told key (stepped s i n id hands w act))
+MadeAsTold = (key : Key) (s : State Rec View) (told : Told key s) (id : ℕ) (v w : View) (cpu : CpuId) (between : List Deed) (d : Deed) (i n : ℕ) (hands : List (ℕ × Rec)) (act : Act Rec) (after : Told key (stepped s i n id hands w act))
     → get_elem? s.views id ≡ some v → v.kind ≡ Of cpu → d.cpu ≡ cpu → AreOthers cpu.0 between → page_of w ≡ noted_page (page_of v) between d
     → IsNext key s (stepped s i n id hands w act) told d after × IsMade (length key.specs.items) s.words (slice_set s.words i n) d
 
 -- and where it notes nothing, no message, no word of one and no slot of one has changed
 abbrev pub NothingUntold : Type 0
-NothingUntold = (key : Layout) (s : State Rec View) (told : Told key s) (id : ℕ) (v w : View) (i n : ℕ) (hands : List (ℕ × Rec)) (act : Act Rec) (after : Told key (stepped s i n id hands w act))
+NothingUntold = (key : Key) (s : State Rec View) (told : Told key s) (id : ℕ) (v w : View) (i n : ℕ) (hands : List (ℕ × Rec)) (act : Act Rec) (after : Told key (stepped s i n id hands w act))
     → get_elem? s.views id ≡ some v → page_of w ≡ page_of v
     → (after.rule.mails ≡ told.rule.mails) × (after.chronicle.history ≡ told.chronicle.history)
     × ((m : ℕ) → m < length key.specs.items → (slice_index (slice_set s.words i n) (word_at m) ≡ slice_index s.words (word_at m)) × (get_elem? (homes_after s.homes hands act) (slot_at m) ≡ get_elem? s.homes (slot_at m)))

@@ -19,7 +19,7 @@ use Rattle.lwkt_core.specs.Messages.{message_after}
 use Rattle.lwkt_core.specs.Machine.{Happens}
 use Rattle.lwkt_core.specs.History.{IsStepOver, AreOthers, Chronicle}
 use Rattle.lwkt_msg.specs.declared.views.MessageEntry.{MessageEntry}
-use Rattle.lwkt_msg.specs.declared.views.Layout.{Layout}
+use Rattle.lwkt_msg.specs.declared.views.Key.{Key}
 use Rattle.lwkt_msg.specs.declared.views.Recalled.{Recalled}
 use Rattle.lwkt_msg.specs.declared.views.View.{View}
 use Rattle.lwkt_msg.specs.Views.{word_at, call_of, who, noted, page_of, recalled_at}
@@ -139,28 +139,28 @@ pub record Recalls (views : List View) (mails : List Mail) (count : ℕ) : Type 
 -- the book's rule between any two steps: words, records and views show safe messages, and there is one history of the deeds of all
 -- seats that leads from the messages declared to these, of which each seat has seen the front up to its own last
 -- deed; what seats knew that were taken back stands
-pub record Told (key : Layout) (s : State Rec View) : Type 0 where
+pub record Told (key : Key) (s : State Rec View) : Type 0 where
   pub rule : Rule key s
   pub chronicle : Chronicle (IsDone key.cpus) (first_mails key.specs.items) (map page_of s.views) rule.mails
   pub recalls : Recalls s.views rule.mails (length key.specs.items)
 
 -- after a deed the history has that deed more, which is done between the messages shown before and after it
-pub record IsNext (key : Layout) (s s' : State Rec View) (told : Told key s) (d : Deed) (after : Told key s') : Type 0 where
+pub record IsNext (key : Key) (s s' : State Rec View) (told : Told key s) (d : Deed) (after : Told key s') : Type 0 where
   pub done : IsDone key.cpus told.rule.mails d after.rule.mails
   pub grown : after.chronicle.history ≡ told.chronicle.history ++ d ∷ []
 
 -- a table of which the rule holds too, with the same messages and the same history
-abbrev pub IsSame : (key : Layout) (s s' : State Rec View) → Told key s → Type 0
+abbrev pub IsSame : (key : Key) (s s' : State Rec View) → Told key s → Type 0
 IsSame key s s' told = (after : Told key s') × (after.rule.mails ≡ told.rule.mails) × (after.chronicle.history ≡ told.chronicle.history)
 
 -- a table of which the rule holds, with the messages that were declared and no deed
-abbrev pub Opens : (key : Layout) → State Rec View → Type 0
+abbrev pub Opens : (key : Key) → State Rec View → Type 0
 Opens key s = (told : Told key s) × (told.rule.mails ≡ first_mails key.specs.items) × (told.chronicle.history ≡ [])
 
 -- a seat's step, by the table's own relation of a step: the word of the message becomes this number, and by this act the seat takes
 -- its record from its slot or gives it back. Others have acted since the seat's last deed; the seat knows this of the message now,
 -- the rule holds, and the history has this deed more
-pub record Tells (key : Layout) (s : State Rec View) (told : Told key s) (id : ℕ) (v : View) (hands : List (ℕ × Rec)) (m : ℕ) (e : MessageEntry) (d : Deed) (word : ℕ) (act : Act Rec) : Type 0 where
+pub record Tells (key : Key) (s : State Rec View) (told : Told key s) (id : ℕ) (v : View) (hands : List (ℕ × Rec)) (m : ℕ) (e : MessageEntry) (d : Deed) (word : ℕ) (act : Act Rec) : Type 0 where
   pub valid : Valid s.homes hands act
   pub between : List Deed
   pub others : AreOthers (who v).0 between

@@ -4,7 +4,7 @@ use crate::closings::{read_and_free, take_all};
 use crate::openings::{blank_records, known_specs, opening_words, seat_all};
 use crate::rules::{BookTable, Top};
 use crate::seats::MsgSeat;
-use crate::views::{Layout, View};
+use crate::views::{Key, View};
 use atomic_table::Perch;
 use lwkt_base::{Fault, MsgEnd, MsgSpec, Rec};
 use lwkt_core::are_within;
@@ -53,7 +53,7 @@ impl MsgBook {
         if !are_within(cpus, &[], specs) {
             return Err(Fault::Limits);
         }
-        let layout = Layout { specs: known, cpus };
+        let layout = Key { specs: known, cpus };
         MsgBook::open_within(alloc, specs, layout, seats).map_err(|_| Fault::Memory)
     }
 
@@ -61,7 +61,7 @@ impl MsgBook {
     fn open_within(
         alloc: Global,
         specs: &[MsgSpec],
-        layout: Layout,
+        layout: Key,
         mut seats: Vec<MsgSeat>,
     ) -> Result<(MsgBook, Vec<MsgSeat>), AllocError>
         requires within { AreWithin layout.cpus [] specs.now }

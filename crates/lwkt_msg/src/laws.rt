@@ -1,14 +1,14 @@
 //! What the book's rule is for, as laws. The functions do nothing: their contracts are the laws.
 ghost use Rattle.atomic_table.specs.Table.{State};
 ghost use Rattle.lwkt_base.specs.declared.records.Rec.{Rec};
-ghost use Rattle.lwkt_msg.specs.declared.views.Layout.{Layout};
+ghost use Rattle.lwkt_msg.specs.declared.views.Key.{Key};
 ghost use Rattle.lwkt_msg.specs.declared.views.View.{View};
 ghost use Rattle.lwkt_msg.specs.Told.{Told};
 ghost use Rattle.lwkt_msg.specs.Records.{FoundIsWhatWasPut, HistoryTellsRecords, HistoryTellsRequests};
 ghost use Rattle.lwkt_msg.specs.Laws.{RuleShowsSafety, EachSendAtMostOnce, StatesAreReached, ViewsDecide, OpeningIsDeclared, LoadIsLook, LostExchangeIsLook, HandingOutIsLook, StoreIsSend, ExchangeIsTake, AddIsReply, StoreIsReap, ExchangeIsDrop, OrIsAbort, SeatingIsNoDeed, MadeAsTold, NothingUntold, DeedsAreTold};
 
 use crate::rules::BookRule;
-use crate::views::{Layout, View};
+use crate::views::{Key, View};
 use atomic_table::TableRule;
 use lwkt_base::Rec;
 
@@ -69,8 +69,8 @@ pub fn deeds_are_told()
 {}
 
 // Asks that the rule of a table be that of the laws here.
-fn is_that_of_the_laws<R: TableRule<Rec, View, Layout>>()
-    requires { (key : Layout) (s : State Rec View) → (R.holds key s → Told key s) × (Told key s → R.holds key s) }
+fn is_that_of_the_laws<R: TableRule<Rec, View, Key>>()
+    requires { (key : Key) (s : State Rec View) → (R.holds key s → Told key s) × (Told key s → R.holds key s) }
 {}
 
 /// The rule that the book's table keeps, `BookRule`, is that of the laws here: the body asks so of it, and any other rule is

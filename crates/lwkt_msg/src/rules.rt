@@ -1,4 +1,4 @@
-use crate::views::{Layout, View};
+use crate::views::{Key, View};
 use atomic_table::{Seat, Shared, Table, TableRule};
 use lwkt_base::Rec;
 use std::alloc::Global;
@@ -7,7 +7,7 @@ use std::alloc::Global;
 /// seats have done.
 pub struct BookRule;
 
-impl TableRule<Rec, View, Layout> for BookRule {
+impl TableRule<Rec, View, Key> for BookRule {
     ghost use Rattle.lwkt_msg.specs.Book.{first_view};
     ghost use Rattle.lwkt_msg.specs.Told.{Told};
 
@@ -17,10 +17,10 @@ impl TableRule<Rec, View, Layout> for BookRule {
 }
 
 /// The words and records of a book.
-pub type BookTable = Table<Rec, View, Layout, BookRule, Global>;
+pub type BookTable = Table<Rec, View, Key, BookRule, Global>;
 
 /// The part of a book's table that seats step on.
-pub type Top = Shared<Rec, View, Layout, BookRule>;
+pub type Top = Shared<Rec, View, Key, BookRule>;
 
 /// A seat at a book's table.
 pub type Place = Seat<Rec, View>;

@@ -1,7 +1,7 @@
 use Rattle.std.proofs.Common.{rules, ◌≡◌, ℕ, ◌*◌, [], List, length, replicate, ap, sym, ◌∙◌, subst}
 use Rattle.lwkt_base.specs.declared.openings.MsgSpec.{MsgSpec}
 use Rattle.lwkt_core.specs.Opening.{AreWithin}
-use Rattle.lwkt_msg.specs.declared.views.Layout.{Layout}
+use Rattle.lwkt_msg.specs.declared.views.Key.{Key}
 use Rattle.lwkt_msg.specs.Book.{no_rec}
 use Rattle.lwkt_msg.specs.Desks.{AreOpeningWords}
 use Rattle.lwkt_msg.proofs.Splitting.{rule_opens}
@@ -9,7 +9,7 @@ use Rattle.lwkt_msg.proofs.books.MsgBook.open_within.Goals as goal
 
 pub new-requires : goal.new-requires
 new-requires c =
-    let key : Layout = c.args.layout in
+    let key : Key = c.args.layout in
     let specs_is : key.specs.items ≡ c.args.specs.now = c.requires.known in
     let words_is : c.deref.result.now ≡ c.in_ok-words.words.items = search rules in
     let F : List MsgSpec → Type 0 = λ xs. AreWithin key.cpus [] xs in

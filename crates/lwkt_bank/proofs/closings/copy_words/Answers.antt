@@ -1,7 +1,7 @@
 use Rattle.std.proofs.Common.{ap, sym, ◌∙◌, List, ℕ, ◌++◌, ◌∷◌, [], length, length-take, arith}
 use Rattle.std.specs.Slots.{slots_items}
 use Rattle.lwkt_bank.proofs.KeptMoves.{take_elem}
-use Rattle.lwkt_bank.proofs.closes.copy_words.Goals as goal
+use Rattle.lwkt_bank.proofs.closings.copy_words.Goals as goal
 
 pub put-requires : goal.put-requires
 put-requires c =

@@ -1,7 +1,7 @@
 use Rattle.std.proofs.Common.{◌≡◌, ◌<◌, ◌≤◌, ℕ, length}
 use Rattle.std.specs.Prelude.{slice_index, vec_capacity}
 use Rattle.lwkt_bank.specs.Closing.{kept_by}
-use Rattle.lwkt_bank.proofs.closes.tallies_of.Given as goal
+use Rattle.lwkt_bank.proofs.closings.tallies_of.Given as goal
 
 abbrev pub invariant-loop-cpu : goal.invariant-loop-cpu
 invariant-loop-cpu l = record {

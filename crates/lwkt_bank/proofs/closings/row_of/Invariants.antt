@@ -1,7 +1,7 @@
 use Rattle.std.proofs.Common.{◌≡◌, ◌<◌, ◌≤◌, ℕ, length}
 use Rattle.std.specs.Prelude.{slice_index, vec_capacity}
 use Rattle.lwkt_bank.specs.Rule.{cell_word}
-use Rattle.lwkt_bank.proofs.closes.row_of.Given as goal
+use Rattle.lwkt_bank.proofs.closings.row_of.Given as goal
 
 abbrev pub invariant-loop-cell : goal.invariant-loop-cell
 invariant-loop-cell l = record {

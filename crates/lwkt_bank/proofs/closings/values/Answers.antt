@@ -3,7 +3,7 @@ use Rattle.lwkt_bank.specs.declared.views.Plan.{Plan}
 use Rattle.lwkt_bank.specs.Rule.{plan_at}
 use Rattle.lwkt_bank.specs.Closing.{IsRead, AreRead, kept_by}
 use Rattle.lwkt_bank.proofs.KeptMoves.{read_more, read_none}
-use Rattle.lwkt_bank.proofs.closes.values.Goals as goal
+use Rattle.lwkt_bank.proofs.closings.values.Goals as goal
 
 pub loop-blank-init : goal.loop-blank-init
 loop-blank-init c =

@@ -1,7 +1,7 @@
 use Rattle.std.proofs.Common.{◌≡◌, ◌+◌, length}
 use Rattle.std.specs.Prelude.{vec_len}
 use Rattle.lwkt_bank.specs.Closing.{AreRead, HasRoom}
-use Rattle.lwkt_bank.proofs.closes.values.Given as goal
+use Rattle.lwkt_bank.proofs.closings.values.Given as goal
 
 abbrev pub invariant-loop-blank : goal.invariant-loop-blank
 invariant-loop-blank l = record {
