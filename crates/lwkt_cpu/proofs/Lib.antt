@@ -6,3 +6,4 @@ pub mod DriveMoves
 pub mod WakeMoves
 pub mod LawMoves
 pub mod ToldMoves
+pub mod ShutMoves

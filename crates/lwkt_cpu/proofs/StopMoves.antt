@@ -80,7 +80,7 @@ stopped_settled_if : (s : CpuSeat) (b : Bool) (t : Thread) → has_ended t.phase
 stopped_settled_if s true t is settled = rw is settled
 stopped_settled_if s false t is settled = rw is (settled_none s (ended_by Exited t) refl)
 
-long_stopped : (olds news : List Thread) → AreStopped olds news → length news ≡ length olds
+pub long_stopped : (olds news : List Thread) → AreStopped olds news → length news ≡ length olds
 long_stopped [] [] all = refl
 long_stopped [] (t ∷ news) all = let e : Some t ≡ None = all 0 in cc
 long_stopped (t ∷ olds) [] all = let e : None ≡ Some (stopped t) = all 0 in cc

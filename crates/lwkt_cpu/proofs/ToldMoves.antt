@@ -1,5 +1,5 @@
 -- What the trace of a processor has of messages: its calls on the ports tell it, and its calls on the hold tell nothing of it.
-use Rattle.std.proofs.Common.{◌≡◌, ℕ, List, [], ◌∷◌, ◌++◌, take, refl, ap, sym, subst}
+use Rattle.std.proofs.Common.{◌≡◌, ℕ, List, [], ◌∷◌, ◌++◌, length, take, refl, ap, sym, subst}
 use Rattle.std.specs.Prelude.{Option, Some, None, Vec}
 use Rattle.std.specs.declared.alloc.Global.{Global}
 use Rattle.lwkt_base.specs.declared.asks.Ask.{Ask}
@@ -18,8 +18,10 @@ use Rattle.lwkt_ask.specs.Telling.{TellsMail, IsQuiet}
 use Rattle.lwkt_ask.proofs.TellMoves.{quiet_none, mail_none, mail_then, mail_quiet, quiet_mail, plain_append, plain_takes_all, plain_gives_all}
 use Rattle.lwkt_cpu.specs.declared.answers.Turned.{Turned}
 use Rattle.lwkt_cpu.specs.Processors.{Processor}
+use Rattle.lwkt_cpu.specs.Ending.{is_worn}
 use Rattle.lwkt_cpu.specs.Turning.{Chooses}
 use Rattle.lwkt_cpu.specs.Driving.{Made}
+use Rattle.lwkt_cpu.proofs.ShutMoves.{closed_seat}
 
 -- a trace with the same events
 pub quiet_items : (t u : List Event) → u ≡ t → IsQuiet t u
@@ -34,10 +36,10 @@ resumed_quiet cpu refs t u (Passed place why) all passed = record {
   quiet = plain_append (takes_all cpu [] (take place refs)) (gives_all cpu [] (take place refs)) (plain_takes_all cpu [] (take place refs)) (plain_gives_all cpu [] (take place refs));
 }
 
--- choosing a thread leaves the ports as they are
-pub chosen_post : {B : Type 0} (old new : Processor B) (t u : Vec Event Global) (running found : Option ℕ) → Chooses old new t u running found → new.post ≡ old.post
-chosen_post old new t u (Some place) found c = ap (λ p. p.post) c.1
-chosen_post old new t u None found c = c.1
+-- choosing a thread leaves the seat of the ports as it is
+pub chosen_post : {B : Type 0} (old new : Processor B) (t u : Vec Event Global) (running found : Option ℕ) → Chooses old new t u running found → new.post.seat ≡ old.post.seat
+chosen_post old new t u (Some place) found c = ap (λ p. p.post.seat) c.1
+chosen_post old new t u None found c = closed_seat is_worn new.threads (length new.threads) old.post new.post c.1
 
 -- a turn: room is made in the trace, mail is taken in, and a thread is chosen
 pub chosen_told : (a b c : Desk) (t r v u : List Event) → r ≡ t → TellsMail a b r v → IsQuiet v u → c ≡ b → TellsMail a c t u

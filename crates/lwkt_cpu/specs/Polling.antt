@@ -12,7 +12,9 @@ use Rattle.lwkt_ask.specs.declared.nexts.Next.TheVariants.{Runs, Readies, Awaits
 use Rattle.lwkt_ask.specs.Table.{Performs}
 use Rattle.lwkt_cpu.specs.declared.phases.Phase.TheVariants.{AwaitsItem as Awaits, AwaitsReply as AwaitsFor, Exited, Faulted}
 use Rattle.lwkt_cpu.specs.declared.threads.Thread.{Thread}
+use Rattle.lwkt_cpu.specs.Processors.{has_ended}
 use Rattle.lwkt_cpu.specs.Searches.{ended_by}
+use Rattle.lwkt_cpu.specs.Ending.{ClosesIf}
 
 -- a thread after what came next for it, and whether it goes on running
 abbrev pub became : Thread → Next → Thread
@@ -32,12 +34,14 @@ goes_on Exits = false
 goes_on (Faults fault) = false
 
 -- a thread's body is polled once, with the answer kept for the thread, and its ask is performed; the answer to it is kept for the
--- thread's next poll
+-- thread's next poll, or the thread has ended and its port is closed
 pub record Polls {B : Type 0} (polled : B → Answer → Ask → B → Type 0) (bank : BankId) (number : ℕ) (a b : CpuSeat) (p q : Post) (body next_body : B) (old new : Thread) (t u : Vec Event Global) (runs : Bool) : Type 0 where
   pub ask : Ask
   pub next : Next
   pub list : List Ref
+  pub mid : Post
   pub polled_once : polled body old.last ask next_body
-  pub performs : Performs bank number a b p q old.list list t u ask next
+  pub performs : Performs bank number a b p mid old.list list t u ask next
   pub becomes : new ≡ became (record old { list = list }) next
   pub runs_on : runs ≡ goes_on next
+  pub closes : ClosesIf (has_ended new.phase) number mid q

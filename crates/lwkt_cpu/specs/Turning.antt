@@ -13,6 +13,7 @@ use Rattle.lwkt_cpu.specs.declared.answers.Turned.TheVariants.{Ran, Idle, AllExi
 use Rattle.lwkt_cpu.specs.declared.threads.Thread.{Thread}
 use Rattle.lwkt_cpu.specs.Processors.{Processor, AllOver}
 use Rattle.lwkt_cpu.specs.Searches.{Finds, IsOfOne}
+use Rattle.lwkt_cpu.specs.Ending.{is_worn, Closes}
 use Rattle.lwkt_cpu.specs.Polling.{Polls}
 use Rattle.lwkt_cpu.specs.Waking.{TakesMail}
 
@@ -21,10 +22,11 @@ abbrev pub cursor_after : ℕ → Option ℕ → ℕ
 cursor_after cursor None = cursor
 cursor_after cursor (Some place) = place + 1
 
--- the thread of a turn, by the one that runs: it goes on, and nothing was done; or the one that a search finds runs
+-- the thread of a turn, by the one that runs: it goes on, and nothing was done; or the one that a search finds runs, and the ports
+-- of those that met a last generation are closed
 abbrev pub Chooses : {B : Type 0} → Processor B → Processor B → Vec Event Global → Vec Event Global → Option ℕ → Option ℕ → Type 0
 Chooses old new t u (Some place) found = (found ≡ Some place) × (new ≡ old) × (u ≡ t)
-Chooses old new t u None found = Finds old.seat new.seat old.threads new.threads old.cursor found × (new.post ≡ old.post) × (new.bodies ≡ old.bodies) × (new.running ≡ found) × (new.cursor ≡ cursor_after old.cursor found)
+Chooses old new t u None found = Finds old.seat new.seat old.threads new.threads old.cursor found × Closes is_worn new.threads old.post new.post × (new.bodies ≡ old.bodies) × (new.running ≡ found) × (new.cursor ≡ cursor_after old.cursor found)
 
 -- the thread of this number can run and its list is held; its body is polled and its ask performed, and no other thread or body
 -- changes; it goes on running or not

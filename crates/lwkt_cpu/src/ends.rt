@@ -1,12 +1,15 @@
-//! The end of a thread, and what comes next for one whose ask was performed.
-ghost use Rattle.std.specs.Prelude.{◌≡◌};
+//! The end of a thread, whose port is closed, and what comes next for one whose ask was performed.
+ghost use Rattle.std.specs.Prelude.{◌≡◌, ◌<◌, ◌≤◌, length};
+ghost use Rattle.lwkt_port.specs.Posts.{IsSamePost};
 ghost use Rattle.lwkt_cpu.specs.Searches.{ended_by};
+ghost use Rattle.lwkt_cpu.specs.Ending.{ClosesIf, Closes, is_worn, has_not_ended};
 ghost use Rattle.lwkt_cpu.specs.Polling.{became, goes_on};
 
 use crate::phases::Phase;
 use crate::threads::Thread;
 use lwkt_ask::Next;
 use lwkt_base::TokList;
+use lwkt_port::Ports;
 
 /// Ends a thread: its list is empty from now on.
 pub(crate) fn end(thread: &mut Thread, phase: Phase)
@@ -14,6 +17,44 @@ pub(crate) fn end(thread: &mut Thread, phase: Phase)
 {
     thread.list = TokList::new();
     thread.phase = phase;
+}
+
+/// Closes the port of a thread, if it is to be.
+pub(crate) fn close_if(ports: &mut Ports, number: u8, ends: bool)
+    requires { number < ports.old.threads }
+    ensures closes { ClosesIf ends number ports.old ports.new }
+    ensures same { IsSamePost ports.old ports.new }
+    ensures seat { ports.new.seat ≡ ports.old.seat }
+{
+    if ends {
+        ports.close_port(number);
+    }
+}
+
+/// Closes the ports of the threads that met a last generation, by rising number; those of earlier turns are closed already.
+pub(crate) fn close_worn(ports: &mut Ports, threads: &[Thread])
+    requires ported { ports.old.threads ≡ length threads.now }
+    requires few { length threads.now ≤ 16 }
+    ensures closes { Closes is_worn threads.now ports.old ports.new }
+    ensures same { IsSamePost ports.old ports.new }
+    ensures seat { ports.new.seat ≡ ports.old.seat }
+{
+    for at in 0..threads.len() {
+        close_if(ports, at as u8, threads[at].phase.is_worn());
+    }
+}
+
+/// Closes the ports of the threads that haven't ended, by rising number.
+pub(crate) fn close_others(ports: &mut Ports, threads: &[Thread])
+    requires ported { ports.old.threads ≡ length threads.now }
+    requires few { length threads.now ≤ 16 }
+    ensures closes { Closes has_not_ended threads.now ports.old ports.new }
+    ensures same { IsSamePost ports.old ports.new }
+    ensures seat { ports.new.seat ≡ ports.old.seat }
+{
+    for at in 0..threads.len() {
+        close_if(ports, at as u8, !threads[at].phase.has_ended());
+    }
 }
 
 /// What comes next for a thread comes; says whether it goes on running.

@@ -19,11 +19,19 @@ pub enum Phase {
 
 impl Phase {
     ghost use Rattle.lwkt_cpu.specs.Processors.{has_ended};
+    ghost use Rattle.lwkt_cpu.specs.Ending.{is_worn};
 
     /// Whether this is an end.
     pub fn has_ended(self) -> bool
         ensures { result ≡ has_ended self }
     {
         matches!(self, Phase::Exited | Phase::Faulted(_))
+    }
+
+    /// Whether this is the end of a thread that met a last generation.
+    pub fn is_worn(self) -> bool
+        ensures { result ≡ is_worn self }
+    {
+        matches!(self, Phase::Faulted(Fault::Worn))
     }
 }

@@ -12,7 +12,7 @@ ghost use Rattle.lwkt_port.specs.Posts.{IsSamePost};
 ghost use Rattle.lwkt_ask.specs.Telling.{TellsMail};
 ghost use Rattle.lwkt_cpu.specs.Polling.{Polls};
 
-use crate::ends::go_on;
+use crate::ends::{close_if, go_on};
 use crate::phases::Phase;
 use crate::threads::Thread;
 use lwkt_ask::{Body, perform};
@@ -30,8 +30,8 @@ fn is_lawful(list: &TokList)
     let _ = list.refs();
 }
 
-/// Polls a thread whose list is held with the answer that is kept for it, and performs its ask; says whether it goes on
-/// running.
+/// Polls a thread whose list is held with the answer that is kept for it, and performs its ask; a thread that ends then has
+/// its port closed. Says whether it goes on running.
 pub(crate) fn poll_one<B: Body>(
     hold: &mut Hold,
     ports: &mut Ports,
@@ -72,5 +72,6 @@ pub(crate) fn poll_one<B: Body>(
     );
     let runs = go_on(thread, next);
     is_lawful(&thread.list);
+    close_if(ports, number, thread.phase.has_ended());
     runs
 }

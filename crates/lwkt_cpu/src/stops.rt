@@ -1,16 +1,23 @@
-//! The end of a processor: every thread ends, and seat and bodies are given back.
+//! The end of a processor: every thread ends and its port is closed, the replies that are owed go out, and seats and bodies
+//! are given back.
 ghost use Rattle.std.specs.Prelude.{◌≡◌, ℕ, ◌+◌, ◌≤◌, OnOk, OnErr, Some, None, Err, vec_len, vec_capacity};
 ghost use Rattle.lwkt_base.specs.Holding.{holds_nothing};
 ghost use Rattle.lwkt_bank.specs.Seats.{id_of, bank_of, holding};
 ghost use Rattle.lwkt_hold.specs.Runs.{Ran};
 ghost use Rattle.lwkt_cpu.specs.Processors.{AllOver};
 ghost use Rattle.lwkt_cpu.specs.Searches.{IsOfOne};
-ghost use Rattle.lwkt_cpu.specs.Turning.{HasSameEvents};
+ghost use Rattle.lwkt_cpu.specs.Turning.{IsMailed, HasSameEvents};
+ghost use Rattle.lwkt_msg.specs.Desks.{cpu_of};
+ghost use Rattle.lwkt_port.specs.Closings.{PostPays};
+ghost use Rattle.lwkt_port.specs.Posts.{IsSamePost};
+ghost use Rattle.lwkt_port.specs.Tellings.{Tells};
+ghost use Rattle.lwkt_port.specs.Works.{Grew};
 ghost use Rattle.lwkt_ask.specs.Telling.{TellsMail, IsQuiet};
+ghost use Rattle.lwkt_cpu.specs.Ending.{Closes, has_not_ended};
 ghost use Rattle.lwkt_cpu.specs.Stopping.{stopped, AreStopped, Halts, HaltsRunning, Stops};
 
 use crate::cpus::Cpu;
-use crate::ends::{end, go_on};
+use crate::ends::{close_others, end, go_on};
 use crate::phases::Phase;
 use crate::threads::Thread;
 use crate::turns::TURN_EVENTS;
@@ -18,7 +25,7 @@ use lwkt_ask::exit;
 use lwkt_bank::{Bank, CpuSeat};
 use lwkt_base::Fault;
 use lwkt_core::Event;
-use lwkt_msg::MsgSeat;
+use lwkt_msg::{MsgBook, MsgSeat};
 
 // Ends a thread that hasn't ended.
 fn stop_one(thread: &mut Thread)
@@ -39,7 +46,7 @@ fn stop_all(threads: &mut [Thread])
 }
 
 impl<B> Cpu<B> {
-    // The thread that runs gives up everything and ends.
+    // The thread that runs gives up everything and ends, and its port is closed.
     fn halt(&mut self, bank: &Bank, place: usize, trace: &mut Vec<Event>)
         requires of { bank_of self.old.seat ≡ id_of bank.now }
         requires runs { self.old.running ≡ Some place }
@@ -51,6 +58,7 @@ impl<B> Cpu<B> {
         let thread = &mut self.threads[place];
         let next = exit(&mut self.hold, bank, &thread.list, trace);
         go_on(thread, next);
+        self.ports.close_port(place as u8);
         self.running = None;
     }
 
@@ -63,7 +71,7 @@ impl<B> Cpu<B> {
         ensures quiet { IsQuiet trace.old.items trace.new.items }
         ensures none { self.new.running ≡ None }
         ensures bodies { self.new.bodies ≡ self.old.bodies }
-        ensures post { self.new.post ≡ self.old.post }
+        ensures post { self.new.post.seat ≡ self.old.post.seat }
     {
         match self.running {
             Some(place) => self.halt(bank, place, trace),
@@ -71,30 +79,50 @@ impl<B> Cpu<B> {
         }
     }
 
-    // Every thread that hasn't ended ends.
+    // Every thread that hasn't ended ends, and its port is closed.
     fn end_all(&mut self)
         requires { self.old.running ≡ None }
         ensures threads { AreStopped self.old.threads self.new.threads }
         ensures over { AllOver self.new.threads }
         ensures seat { self.new.seat ≡ self.old.seat }
         ensures bodies { self.new.bodies ≡ self.old.bodies }
-        ensures post { self.new.post ≡ self.old.post }
+        ensures closes { Closes has_not_ended self.old.threads self.old.post self.new.post }
+        ensures post { self.new.post.seat ≡ self.old.post.seat }
         ensures none { self.new.running ≡ None }
         ensures empty { holding self.new.seat ≡ holds_nothing }
     {
+        close_others(&mut self.ports, &self.threads);
         stop_all(&mut self.threads);
     }
 
+    // The replies that are owed go out, as lanes have room.
+    fn pay(&mut self, book: &MsgBook, trace: &mut Vec<Event>)
+        requires table { self.old.post.seat.table ≡ book.now.table }
+        requires room { vec_len trace.old + 256 ≤ vec_capacity trace.old }
+        ensures pays { PostPays self.old.post self.new.post trace.old trace.new }
+        ensures seat { self.new.seat ≡ self.old.seat }
+        ensures bodies { self.new.bodies ≡ self.old.bodies }
+        ensures threads { self.new.threads ≡ self.old.threads }
+        ensures running { self.new.running ≡ self.old.running }
+        ensures grew { Grew (cpu_of self.old.post.seat) 64 trace.old trace.new }
+        ensures mine { cpu_of self.old.post.seat ≡ self.old.seat.cpu }
+        ensures told { Tells self.old.post.seat self.new.post.seat trace.old.items trace.new.items }
+    {
+        self.ports.send_owed(book, trace);
+    }
+
     /// Stops the processor: the running thread gives up everything, and every thread that hasn't ended ends, by itself or,
-    /// where a section had broken its law, by that fault. That seat and bank belong together is the caller's condition.
+    /// where a section had broken its law, by that fault; their ports are closed. Then the replies that are owed go out, as
+    /// lanes have room; notes aren't taken in any more. That the seats belong to bank and book is the caller's condition.
     ///
     /// Refused with `Memory` where the trace can't be given room for 4,096 events; nothing has changed then.
-    pub fn stop(&mut self, bank: &Bank, trace: &mut Vec<Event>) -> Result<(), Fault>
-        requires { bank_of self.old.seat ≡ id_of bank.now }
+    pub fn stop(&mut self, bank: &Bank, book: &MsgBook, trace: &mut Vec<Event>) -> Result<(), Fault>
+        requires of { bank_of self.old.seat ≡ id_of bank.now }
+        requires table { self.old.post.seat.table ≡ book.now.table }
         ensures ok { OnOk result (Stops self.old self.new trace.old trace.new) }
         ensures err { OnErr result ((self.new ≡ self.old) × HasSameEvents trace.old trace.new) }
         ensures only { OnErr result (result ≡ Err Fault.Memory) }
-        ensures ran { Ran (IsOfOne self.old.threads) 162 self.old.seat self.new.seat trace.old trace.new }
+        ensures ran { Ran (IsMailed self.old.threads) 256 self.old.seat self.new.seat trace.old trace.new }
         ensures told { TellsMail self.old.post.seat self.new.post.seat trace.old.items trace.new.items }
     {
         if trace.reserve(TURN_EVENTS).is_err() {
@@ -102,6 +130,7 @@ impl<B> Cpu<B> {
         }
         self.halt_running(bank, trace);
         self.end_all();
+        self.pay(book, trace);
         Ok(())
     }
 

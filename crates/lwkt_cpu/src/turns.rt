@@ -10,6 +10,7 @@ ghost use Rattle.lwkt_ask.specs.Telling.{TellsMail, IsQuiet};
 
 use crate::answers::Turned;
 use crate::cpus::Cpu;
+use crate::ends::close_worn;
 use crate::polls::poll_one;
 use crate::searches::find;
 use crate::wakes::wake_all;
@@ -64,6 +65,7 @@ impl<B> Cpu<B> {
         requires room { vec_len trace.old + 1024 ≤ vec_capacity trace.old }
         ensures chooses { Chooses self.old self.new trace.old trace.new self.old.running result }
         ensures runs { self.new.running ≡ result }
+        ensures mail { self.new.post.seat ≡ self.old.post.seat }
         ensures ran { Ran (IsOfOne self.old.threads) 1024 self.old.seat self.new.seat trace.old trace.new }
         ensures quiet { IsQuiet trace.old.items trace.new.items }
     {
@@ -71,6 +73,7 @@ impl<B> Cpu<B> {
             Some(place) => Some(place),
             None => {
                 let found = find(&mut self.hold, bank, &mut self.threads, self.cursor, trace);
+                close_worn(&mut self.ports, &self.threads);
                 self.running = found;
                 self.cursor = past(self.cursor, found);
                 found

@@ -1,9 +1,10 @@
 -- The ports as they are opened are in order.
-use Rattle.std.proofs.Common.{◌≡◌, ℕ, ◌<◌, ◌==◌, Bool, true, false, cond, true≢false, List, [], ◌∷◌, length, map, get_or, refl, ap, sym, ◌∙◌, subst, arith, eq-eqb}
+use Rattle.std.proofs.Common.{◌≡◌, ℕ, zero, suc, inl, inr, Option, Some, None, ◌++◌, ◌<◌, ◌==◌, Bool, true, false, cond, true≢false, List, [], ◌∷◌, length, map, get_or, refl, ap, sym, ◌∙◌, subst, arith, eq-eqb}
 use Rattle.std.proofs.lemmas.Bool.{eqb-true}
 use Rattle.std.proofs.lemmas.List.{length-map, get_or-map}
 use Rattle.std.proofs.lemmas.List.Elements.{All-nil, All-cons}
-use Rattle.std.specs.Prelude.{All, zip}
+use Rattle.std.proofs.lemmas.Option.{slice_get-get_or}
+use Rattle.std.specs.Prelude.{◌⊎◌, All, zip, slice_get}
 use Rattle.lwkt_base.specs.declared.names.CpuId.{CpuId}
 use Rattle.lwkt_base.specs.declared.names.ThreadId.{ThreadId}
 use Rattle.lwkt_lane.specs.declared.ins.LaneIn.{LaneIn}
@@ -14,10 +15,28 @@ use Rattle.lwkt_base.specs.declared.openings.MsgSpec.{MsgSpec}
 use Rattle.lwkt_msg.specs.Views.{seat_cpu, no_spec, spec_at, first_entry, handed}
 use Rattle.lwkt_port.specs.declared.lines.Lane.{Lane}
 use Rattle.lwkt_port.specs.declared.mails.Mail.{Mail}
+use Rattle.lwkt_port.specs.declared.queues.Port.{Port}
 use Rattle.lwkt_port.specs.Mails.{no_mail, mail_at, IsMail}
-use Rattle.lwkt_port.specs.Openings.{new_mail, IsEmptyPort, new_line, ArePaired, AreWithin, IsFresh, AreOrigins}
+use Rattle.lwkt_port.specs.Openings.{new_mail, IsNewPort, AreNew, AreNewPorts, new_line, ArePaired, AreWithin, IsFresh, AreOrigins}
 use Rattle.lwkt_port.specs.Posts.{Post, IsPost, KeepsNamed}
 use Rattle.lwkt_port.specs.Queues.{NamesMessage}
+
+-- the last element of a list that was made longer, and the others
+last_or : {A : Type 0} (xs : List A) (y x : A) (k : ℕ) → slice_get (xs ++ y ∷ []) k ≡ Some x → (slice_get xs k ≡ Some x) ⊎ ((length xs ≡ k) × (y ≡ x))
+last_or {A} [] y x zero is = inr (refl, (let e : ◌≡◌ {A = Option A} (Some y) (Some x) = is in cc))
+last_or {A} [] y x (suc k) is = let e : ◌≡◌ {A = Option A} None (Some x) = is in cc
+last_or (z ∷ xs) y x zero is = inl is
+last_or (z ∷ xs) y x (suc k) is = elim (last_or xs y x k is) [ inl there ↦ inl there | inr last ↦ inr (ap (λ n. suc n) last.0, last.1) ]
+
+-- one port more
+pub new_more : (threads : ℕ) (ports : List Port) (port : Port) → AreNew threads ports → IsNewPort threads (length ports) port → AreNew threads (ports ++ port ∷ [])
+new_more threads ports port each new number it at = elim (last_or ports port it number at) [
+  | inl there ↦ each number it there
+  | inr last ↦
+      let F : ℕ → Type 0 = λ n. IsNewPort threads n it in
+      let G : Port → Type 0 = λ p. IsNewPort threads (length ports) p in
+      subst F last.0 (subst G last.1 new)
+]
 
 lines_are : (outs : List LaneOut) (ins : List LaneIn) → length outs ≡ length ins → length (map new_line (zip outs ins)) ≡ length outs
 lines_are [] ins e = refl
@@ -53,13 +72,13 @@ new_fits cpu d m o seat fresh within is =
       shown_taken = λ h. absurd (true≢false (sym h));
     }
 
-pub opened : (cpu : CpuId) (p : Post) (outs : List LaneOut) (ins : List LaneIn) (origins : List ThreadId) → IsSeatOf cpu p.seat → IsFresh p.seat → AreOrigins p.seat origins → AreWithin p.seat outs ins origins p.threads → ArePaired outs ins p.lanes → length p.ports ≡ 16 → All IsEmptyPort p.ports → p.mails ≡ map (new_mail cpu) origins → IsPost p
-opened cpu p outs ins origins seat fresh are within paired ports empty mails =
+pub opened : (cpu : CpuId) (p : Post) (outs : List LaneOut) (ins : List LaneIn) (origins : List ThreadId) → IsSeatOf cpu p.seat → IsFresh p.seat → AreOrigins p.seat origins → AreWithin p.seat outs ins origins p.threads → ArePaired outs ins p.lanes → AreNewPorts p.threads p.ports → p.mails ≡ map (new_mail cpu) origins → IsPost p
+opened cpu p outs ins origins seat fresh are within paired ports mails =
     let n : ℕ = length p.mails in
     let L : List Lane → Type 0 = All (KeepsNamed n) in
     let many : length p.mails ≡ length origins = ap length mails ∙ length-map origins (new_mail cpu) in record {
       lanes_are = ap length paired ∙ lines_are outs ins (within.outs_are ∙ sym within.ins_are) ∙ within.outs_are;
-      ports_are = ports;
+      ports_are = ports.as_many;
       few = within.few;
       mails_are = record {
         as_many = many ∙ within.origins_are;
@@ -73,6 +92,6 @@ opened cpu p outs ins origins seat fresh are within paired ports empty mails =
             let origin : o ≡ (spec_at p.seat.view.specs m).origin = ap (λ l. get_or l m no_thread) (are within.origins_are) ∙ get_or-map (λ (spec : MsgSpec). spec.origin) p.seat.view.specs m no_spec no_thread exists in
             subst F (sym at) (new_fits cpu p.seat m o seat fresh exists origin);
       };
-      queued = λ k d lt. let Q : List Note → Type 0 = All (NamesMessage n) in subst Q (sym (empty k d lt).0) (All-nil (NamesMessage n));
+      queued = λ k d lt. let Q : List Note → Type 0 = All (NamesMessage n) in subst Q (sym (ports.new k (get_or p.ports k d) (slice_get-get_or p.ports k d lt)).0) (All-nil (NamesMessage n));
       kept = subst L (sym paired) (lines_keep n outs ins);
     }

@@ -1,5 +1,5 @@
 -- A processor's ports as they are opened.
-use Rattle.std.specs.Prelude.{◌≡◌, ℕ, ◌<◌, ◌≤◌, ◌==◌, false, List, [], length, map, zip, None, All}
+use Rattle.std.specs.Prelude.{◌≡◌, ℕ, ◌<◌, ◌≤◌, ◌==◌, nat_le, false, List, [], length, map, zip, Some, None, slice_get}
 use Rattle.lwkt_base.specs.declared.names.CpuId.{CpuId}
 use Rattle.lwkt_base.specs.declared.names.ThreadId.{ThreadId}
 use Rattle.lwkt_base.specs.declared.openings.MsgSpec.{MsgSpec}
@@ -17,9 +17,17 @@ use Rattle.lwkt_port.specs.Queues.{queue_of}
 abbrev pub new_mail : CpuId → ThreadId → Mail
 new_mail cpu origin = record { origin = origin; round = 0; done = None; owed = None; shown = None; home = origin.cpu.0 == cpu.0; sync = false }
 
--- a port without notes, whose thread has not ended
-abbrev pub IsEmptyPort : Port → Type 0
-IsEmptyPort port = (queue_of port ≡ []) × (port.closed ≡ false)
+-- the port of a number as it is opened for so many threads: without notes, and closed if its thread isn't there
+abbrev pub IsNewPort : ℕ → ℕ → Port → Type 0
+IsNewPort threads number port = (queue_of port ≡ []) × (port.closed ≡ nat_le threads number)
+
+abbrev pub AreNew : ℕ → List Port → Type 0
+AreNew threads ports = (number : ℕ) (port : Port) → slice_get ports number ≡ Some port → IsNewPort threads number port
+
+-- the 16 ports as they are opened
+pub record AreNewPorts (threads : ℕ) (ports : List Port) : Type 0 where
+  pub as_many : length ports ≡ 16
+  pub new : AreNew threads ports
 
 -- the line of two ends
 abbrev pub new_line : LaneOut × LaneIn → Lane
@@ -47,7 +55,6 @@ AreOrigins seat origins = length origins ≡ messages_of seat → origins ≡ ma
 pub record IsOpenedPost (cpu : CpuId) (seat : Desk) (outs : List LaneOut) (ins : List LaneIn) (origins : List ThreadId) (threads : ℕ) (p : Post) : Type 0 where
   pub seat_is : p.seat ≡ seat
   pub lanes_are : ArePaired outs ins p.lanes
-  pub ports_are : length p.ports ≡ 16
-  pub empty : All IsEmptyPort p.ports
+  pub ports_are : AreNewPorts threads p.ports
   pub mails_are : p.mails ≡ map (new_mail cpu) origins
   pub threads_are : p.threads ≡ threads

@@ -18,6 +18,7 @@ use Rattle.lwkt_msg.specs.Views.{call_of}
 use Rattle.lwkt_port.specs.declared.deeds.Claim.TheVariants as claim
 use Rattle.lwkt_port.specs.declared.gets.Served.{Served}
 use Rattle.lwkt_port.specs.declared.gets.Served.TheVariants as served
+use Rattle.lwkt_port.specs.declared.queues.Port.{Port}
 use Rattle.lwkt_port.specs.Deeds.{Takes, Reaps}
 use Rattle.lwkt_port.specs.Posts.{Post, Changes, work_of}
 use Rattle.lwkt_port.specs.Queues.{queue_of}
@@ -76,8 +77,12 @@ GetMeans thread queue queue' w w' (Ok None) = (queue' ≡ []) × PassesAll threa
 GetMeans thread queue queue' w w' (Err Again) = LosesOne thread queue queue' w w'
 GetMeans thread queue queue' w w' (Err _) = ⊥
 
+-- a thread was served from its port, which is no more and no less closed than before
+abbrev pub ServesPort : ℕ → Port → Port → Work → Work → Result (Option Item) Fault → Type 0
+ServesPort thread port port' w w' answer = GetMeans thread (queue_of port) (queue_of port') w w' answer × (port'.closed ≡ port.closed)
+
 -- a thread's call to get did so: its own port changed, and no other
 pub record PostGets (thread : ℕ) (p p' : Post) (trace trace' : Vec Event Global) (answer : Result (Option Item) Fault) : Type 0 where
-  pub gets : Changes (λ a b. GetMeans thread (queue_of a) (queue_of b) (work_of p trace) (work_of p' trace') answer) thread p.ports p'.ports
+  pub gets : Changes (λ a b. ServesPort thread a b (work_of p trace) (work_of p' trace') answer) thread p.ports p'.ports
   pub lanes_same : p'.lanes ≡ p.lanes
   pub threads_same : p'.threads ≡ p.threads

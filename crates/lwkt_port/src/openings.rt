@@ -3,12 +3,12 @@ ghost use Rattle.std.specs.Prelude.{◌≡◌, ◌⊎◌, ℕ, ◌<◌, ◌≤�
 ghost use Rattle.lwkt_base.specs.declared.faults.Fault.TheVariants.{Memory, Limits};
 ghost use Rattle.lwkt_msg.specs.Desks.{cpu_of, cpus_of, messages_of};
 ghost use Rattle.lwkt_port.specs.Mails.{mail_at, AreMails};
-ghost use Rattle.lwkt_port.specs.Openings.{new_mail, IsEmptyPort, new_line, ArePaired, AreWithin, IsFresh, AreOrigins, IsOpenedPost};
+ghost use Rattle.lwkt_port.specs.Openings.{new_mail, AreNewPorts, new_line, ArePaired, AreWithin, IsFresh, AreOrigins, IsOpenedPost};
 
 use crate::lines::Lane;
 use crate::mails::Mail;
 use crate::posts::Ports;
-use crate::queues::{Port, open_port};
+use crate::queues::{Port, empty_port};
 use lwkt_base::{CpuId, Fault, ThreadId};
 use lwkt_lane::{LaneIn, LaneOut};
 use lwkt_msg::MsgSeat;
@@ -42,13 +42,13 @@ fn open_mails(alloc: Global, origins: &[ThreadId], cpu: CpuId) -> Result<Vec<Mai
         .collect(alloc)
 }
 
-// Ports without notes.
-fn open_ports(alloc: Global) -> Result<Vec<Port>, AllocError>
-    ensures { IfOk result (λ v. (length v.items ≡ 16) × All IsEmptyPort v.items) }
+// Ports without notes, the first ones open for so many threads.
+fn new_ports(alloc: Global, threads: usize) -> Result<Vec<Port>, AllocError>
+    ensures { IfOk result (λ v. AreNewPorts threads v.items) }
 {
     let mut ports = Vec::with_capacity(alloc, PORTS)?;
-    for _port in 0..PORTS {
-        ports.push(open_port())?;
+    for number in 0..PORTS {
+        ports.push(empty_port(threads <= number))?;
     }
     Ok(ports)
 }
@@ -94,7 +94,7 @@ impl Ports {
     /// Opens the ports of a processor's threads, each without an item, over the processor's seat at the book, the sending
     /// ends of the lanes to each processor, and the receiving ends of those from each. `origins` are the threads that the
     /// messages belong to. In msgport(9) each thread has a port that lwkt_initport_thread makes; here they are made
-    /// together.
+    /// together, and the port of a thread that isn't there is closed.
     ///
     /// `Memory`: an allocation was refused. `Limits`: there are more than 16 threads, or not one lane each way for each
     /// processor and one origin for each message. What was handed over is then dropped.
@@ -123,7 +123,7 @@ impl Ports {
         let Ok(lanes) = pair(alloc, outs, ins) else {
             return Err(Fault::Memory);
         };
-        let Ok(ports) = open_ports(alloc) else {
+        let Ok(ports) = new_ports(alloc, threads) else {
             return Err(Fault::Memory);
         };
         let Ok(mails) = open_mails(alloc, origins, own) else {

@@ -13,17 +13,17 @@ pub const QUEUE_LIMIT: usize = 64;
 #[derive(Drop)]
 pub struct Port {
     pub(crate) queue: ArrayVec<Note, 64>,
-    /// Whether the port's thread has ended.
+    /// Whether the port's thread has ended, or isn't there.
     pub(crate) closed: bool,
 }
 
 /// A port without notes.
-pub(crate) fn open_port() -> Port
-    ensures { (queue_of result ≡ []) × (result.closed ≡ false) }
+pub(crate) fn empty_port(closed: bool) -> Port
+    ensures { (queue_of result ≡ []) × (result.closed ≡ closed) }
 {
     Port {
         queue: ArrayVec::new(),
-        closed: false,
+        closed,
     }
 }
 

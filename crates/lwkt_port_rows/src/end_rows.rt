@@ -100,6 +100,24 @@ fn ended_ports(rt: HostRuntime) -> Result<(), Fail> {
     Ok(())
 }
 
+// A thread that isn't there answers as one that has ended: what comes to its port is replied to with 30, and never shown.
+#[test]
+fn ports_of_no_thread(rt: HostRuntime) -> Result<(), Fail> {
+    let mut pair = open(rt.alloc(), &[OWN; 2], 32)?;
+    let lines = [
+        first(Ask::Send(0, 0, 1, 2, 1, 10), Told::Done),
+        first(Ask::Send(0, 1, 1, 15, 2, 20), Told::Done),
+        second(Ask::TakeIn(16), Told::Popped(2)),
+        second(Ask::TakeIn(16), Told::Popped(0)),
+        first(Ask::TakeIn(16), Told::Popped(2)),
+        first(Ask::Get(0), answered(0, 30, 0)),
+        first(Ask::Get(0), answered(1, 30, 0)),
+        first(Ask::Get(0), Told::Got(None)),
+    ];
+    run(rt.alloc(), &mut pair, 2, &lines)?;
+    Ok(())
+}
+
 // At most 16 notes of closed ports are taken off at once.
 #[test]
 fn ended_ports_are_cleared_by_sixteen(rt: HostRuntime) -> Result<(), Fail> {

@@ -3,7 +3,7 @@ use Rattle.std.specs.Prelude.{ℕ, ◌==◌, nat_le, List, codes, bytes_eq, true
 use Rattle.serde_json.specs.Data.{Data}
 use Rattle.serde_json.specs.Find.{at, as_str}
 use Rattle.lwkt_base.specs.declared.asks.Ask.{Ask}
-use Rattle.lwkt_base.specs.declared.asks.Ask.TheVariants.{Get, GetShared, TryGet, Rel, Swap, Read, Write, Add, Send, Do, Reply, GetPort, WaitPort, Yield, Exit}
+use Rattle.lwkt_base.specs.declared.asks.Ask.TheVariants.{Get, GetShared, TryGet, Rel, Swap, Read, Write, Add, Send, Do, Reply, Abort, IsAborted, DropMsg, GetPort, WaitPort, Yield, Exit}
 use Rattle.lwkt_base.specs.declared.records.Flags.{Flags}
 use Rattle.lwkt_script.specs.declared.steps.Sending.{Sending}
 use Rattle.lwkt_script.specs.Field.{item_count, number, whole}
@@ -33,13 +33,16 @@ alone word =
     if bytes_eq word (codes "yield") then Some Yield else (
     if bytes_eq word (codes "exit") then Some Exit else None))))
 
--- the ask of a word with a token
-abbrev pub with_token : List ℕ → ℕ → Option Ask
-with_token word tok =
-    if bytes_eq word (codes "get") then Some (Get (record { 0 = tok })) else (
-    if bytes_eq word (codes "gets") then Some (GetShared (record { 0 = tok })) else (
-    if bytes_eq word (codes "try") then Some (TryGet (record { 0 = tok })) else (
-    if bytes_eq word (codes "rel") then Some (Rel (record { 0 = tok })) else None)))
+-- the ask of a word with a token or a message
+abbrev pub with_one : List ℕ → ℕ → Option Ask
+with_one word first =
+    if bytes_eq word (codes "get") then Some (Get (record { 0 = first })) else (
+    if bytes_eq word (codes "gets") then Some (GetShared (record { 0 = first })) else (
+    if bytes_eq word (codes "try") then Some (TryGet (record { 0 = first })) else (
+    if bytes_eq word (codes "rel") then Some (Rel (record { 0 = first })) else (
+    if bytes_eq word (codes "abort") then Some (Abort (record { 0 = first })) else (
+    if bytes_eq word (codes "isab") then Some (IsAborted (record { 0 = first })) else (
+    if bytes_eq word (codes "drop") then Some (DropMsg (record { 0 = first })) else None))))))
 
 -- the ask of a word with a token and a number: of a cell, or what is added
 abbrev pub with_number : List ℕ → ℕ → ℕ → Option Ask
@@ -83,7 +86,7 @@ with_flags word s flags = if bytes_eq word (codes "send") then Some (Send s.msg 
 abbrev pub asked : List ℕ → ℕ → Data → Option Ask
 asked word count d =
     if count == 1 then alone word else (
-    if count == 2 then (small_at 1 d >>= with_token word) else (
+    if count == 2 then (small_at 1 d >>= with_one word) else (
     if count == 3 then (small_at 1 d >>= λ tok. whole_at 2 d >>= with_number word tok) else (
     if count == 4 then (small_at 1 d >>= λ first. whole_at 2 d >>= λ n. whole_at 3 d >>= with_numbers word first n) else (
     if count == 6 then (sending_in d >>= with_sending word) else (

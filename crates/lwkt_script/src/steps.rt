@@ -1,7 +1,7 @@
 ghost use Rattle.std.specs.Prelude.{◌≡◌, ◌≤◌, ◌<◌, length, [], IfOk};
 ghost use Rattle.serde_json.specs.View.{view, items_view};
 ghost use Rattle.lwkt_script.specs.Outcome.{Gives, each};
-ghost use Rattle.lwkt_script.specs.Step.{small_at, code_at, whole_at, alone, with_token, with_number, with_numbers, sending_in, flags_of, with_sending, with_flags, asked, ask_of};
+ghost use Rattle.lwkt_script.specs.Step.{small_at, code_at, whole_at, alone, with_one, with_number, with_numbers, sending_in, flags_of, with_sending, with_flags, asked, ask_of};
 ghost use Rattle.lwkt_script.specs.Format.{step};
 
 use crate::fields::{item_count, number};
@@ -52,15 +52,18 @@ fn alone(word: &str) -> Option<Ask>
     }
 }
 
-// The ask of a word with a token.
-fn with_token(word: &str, tok: u8) -> Option<Ask>
-    ensures { result ≡ with_token word.now tok }
+// The ask of a word with a token or a message.
+fn with_one(word: &str, first: u8) -> Option<Ask>
+    ensures { result ≡ with_one word.now first }
 {
     match word {
-        "get" => Some(Ask::Get(TokId(tok))),
-        "gets" => Some(Ask::GetShared(TokId(tok))),
-        "try" => Some(Ask::TryGet(TokId(tok))),
-        "rel" => Some(Ask::Rel(TokId(tok))),
+        "get" => Some(Ask::Get(TokId(first))),
+        "gets" => Some(Ask::GetShared(TokId(first))),
+        "try" => Some(Ask::TryGet(TokId(first))),
+        "rel" => Some(Ask::Rel(TokId(first))),
+        "abort" => Some(Ask::Abort(MsgId(first))),
+        "isab" => Some(Ask::IsAborted(MsgId(first))),
+        "drop" => Some(Ask::DropMsg(MsgId(first))),
         _ => None,
     }
 }
@@ -155,7 +158,7 @@ fn asked(word: &str, count: usize, value: &Value) -> Option<Ask>
 {
     match count {
         1 => alone(word),
-        2 => with_token(word, small_at(value, 1)?),
+        2 => with_one(word, small_at(value, 1)?),
         3 => with_number(word, small_at(value, 1)?, whole_at(value, 2)?),
         4 => with_numbers(
             word,

@@ -6,6 +6,7 @@ use Rattle.lwkt_cpu.specs.Processors.{Processor, has_ended, processor_of}
 use Rattle.lwkt_cpu.specs.Searches.{IsOfOne}
 use Rattle.lwkt_cpu.specs.Stopping.{Halts}
 use Rattle.lwkt_cpu.proofs.RestMoves.{thread_at, placed}
+use Rattle.lwkt_cpu.proofs.ShutMoves.{rest_posted}
 use Rattle.lwkt_cpu.proofs.StopMoves.{became_over, became_empty, rest_halted, ran_halted}
 use Rattle.lwkt_cpu.proofs.cpus.Cpu.halt.Goals as goal
 
@@ -17,10 +18,11 @@ invariant_of-self g c =
     let runs : i.running ≡ Some place = ap (λ (x : Processor g.row.B.Denot). x.running) c.self.view_is ∙ c.requires.runs in
     let within = placed i.hold.seat i.threads.items i.running place runs c.self.invariant.held in
     let up = p.ensures.gives_up in
-    rest_halted {B = g.row.B.Denot} i.hold.seat p.new.hold.seat i.ports i.bodies.items i.threads.items i.running i.cursor place c.go_on.new.thread c.self.invariant within p.ensures.ran.bank p.ensures.ran.cpu
+    rest_posted {B = g.row.B.Denot} p.new.hold.seat i.ports c.close_port.new.self i.bodies.items (set i.threads.items place c.go_on.new.thread) None i.cursor c.close_port.ensures.same
+    (rest_halted {B = g.row.B.Denot} i.hold.seat p.new.hold.seat i.ports i.bodies.items i.threads.items i.running i.cursor place c.go_on.new.thread c.self.invariant within p.ensures.ran.bank p.ensures.ran.cpu
     (ap (λ (t : Thread). has_ended t.phase) c.go_on.ensures.becomes ∙ became_over c.index_mut-thread.result.now p.result up.blocked up.next_is)
     (ap (λ (t : Thread). t.list) c.go_on.ensures.becomes ∙ became_empty c.index_mut-thread.result.now p.result up.blocked up.next_is)
-    p.ensures.empty
+    p.ensures.empty)
 
 pub returns-clause-halts : goal.returns-clause-halts
 returns-clause-halts g c =
@@ -30,14 +32,14 @@ returns-clause-halts g c =
     let before = c.index_mut-thread.result.now in
     let runs : i.running ≡ Some place = ap (λ (x : Processor g.row.B.Denot). x.running) c.self.view_is ∙ c.requires.runs in
     let within = placed i.hold.seat i.threads.items i.running place runs c.self.invariant.held in
-    let F : Processor g.row.B.Denot → Type 0 = λ x. Halts {B = g.row.B.Denot} x (processor_of p.new.hold.seat i.ports i.bodies.items (set i.threads.items place c.go_on.new.thread) None i.cursor) c.args.trace.now p.new.trace place in
+    let F : Processor g.row.B.Denot → Type 0 = λ x. Halts {B = g.row.B.Denot} x (processor_of p.new.hold.seat c.close_port.new.self i.bodies.items (set i.threads.items place c.go_on.new.thread) None i.cursor) c.args.trace.now p.new.trace place in
     subst F c.self.view_is (record {
       before = before;
       next = p.result;
       at_before = thread_at i.threads.items place before within c.index_mut-thread.ensures.value;
       gives_up = p.ensures.gives_up;
       threads = ap (λ (t : Thread). set i.threads.items place t) c.go_on.ensures.becomes;
-      post = refl;
+      closes = c.close_port.ensures.closed;
       bodies = refl;
       running = refl;
     })

@@ -1,12 +1,19 @@
-use Rattle.std.proofs.Common.{sym, ◌∙◌, subst}
+use Rattle.std.proofs.Common.{◌≡◌, ◌+◌, ap, sym, ◌∙◌, subst, List, inl, inr, arith}
+use Rattle.lwkt_base.specs.Holding.{Holding, holds_nothing}
 use Rattle.lwkt_bank.specs.declared.seats.CpuSeat.{CpuSeat}
+use Rattle.lwkt_bank.specs.Seats.{holding}
 use Rattle.lwkt_hold.specs.Runs.{Ran}
-use Rattle.lwkt_hold.proofs.RunMoves.{ran_with_room}
+use Rattle.lwkt_hold.proofs.RunMoves.{ran_then, ran_weaker, ran_with_room}
 use Rattle.lwkt_hold.proofs.ReadMoves.{ran_still}
-use Rattle.lwkt_port.specs.Posts.{Post}
+use Rattle.lwkt_msg.specs.Desks.{Desk, cpu_of}
 use Rattle.lwkt_ask.specs.Telling.{TellsMail}
-use Rattle.lwkt_ask.proofs.TellMoves.{mail_none, quiet_then}
+use Rattle.lwkt_ask.proofs.MailMoves.{ran_mail}
+use Rattle.lwkt_ask.proofs.TellMoves.{mail_none, mail_then, mail_told, quiet_then}
+use Rattle.lwkt_cpu.specs.declared.threads.Thread.{Thread}
+use Rattle.lwkt_cpu.specs.Processors.{AllOver}
 use Rattle.lwkt_cpu.specs.Searches.{IsOfOne}
+use Rattle.lwkt_cpu.specs.Turning.{IsMailed}
+use Rattle.lwkt_cpu.specs.Stopping.{AreStopped}
 use Rattle.lwkt_cpu.proofs.ToldMoves.{quiet_items}
 use Rattle.lwkt_cpu.proofs.cpus.Cpu.stop.Goals as goal
 
@@ -15,7 +22,7 @@ returns-then-is_err-clause-ran g c =
     let p = c.args.self.now in
     let r = c.reserve.new.self in
     let e = c.reserve.ensures in
-    ran_with_room (IsOfOne p.threads) 162 p.seat p.seat c.args.trace.now r r e.items e.len e.capacity (ran_still (IsOfOne p.threads) 162 p.seat r)
+    ran_with_room (IsMailed p.threads) 256 p.seat p.seat c.args.trace.now r r e.items e.len e.capacity (ran_still (IsMailed p.threads) 256 p.seat r)
 
 pub returns-clause-ran : goal.returns-clause-ran
 returns-clause-ran g c =
@@ -23,24 +30,42 @@ returns-clause-ran g c =
     let r = c.reserve.new.self in
     let e = c.reserve.ensures in
     let h = c.halt_running in
-    let F : CpuSeat → Type 0 = λ s. Ran (IsOfOne p.threads) 162 p.seat s c.args.trace.now h.new.trace in
-    subst F (sym c.end_all.ensures.seat) (ran_with_room (IsOfOne p.threads) 162 p.seat h.new.self.seat c.args.trace.now r h.new.trace e.items e.len e.capacity h.ensures.ran)
+    let s = h.new.self.seat in
+    let n = c.end_all in
+    let y = c.pay in
+    let P : Holding → Type 0 = IsMailed p.threads in
+    let empty : holding n.new.self.seat ≡ holds_nothing = n.ensures.empty in
+    let F : CpuSeat → Type 0 = λ x. Ran P 64 x n.new.self.seat h.new.trace y.new.trace in
+    let G : CpuSeat → Type 0 = λ x. Ran P 256 p.seat x c.args.trace.now y.new.trace in
+    subst G (sym y.ensures.seat)
+    (ran_with_room P 256 p.seat n.new.self.seat c.args.trace.now r y.new.trace e.items e.len e.capacity
+    (ran_weaker P P (162 + 64) 256 p.seat n.new.self.seat r y.new.trace (λ x q. q) (omega arith)
+    (ran_then P 162 64 p.seat s n.new.self.seat r h.new.trace y.new.trace
+    (ran_weaker (IsOfOne p.threads) P 162 162 p.seat s r h.new.trace (λ x q. inr q) (omega arith) h.ensures.ran)
+    (subst F n.ensures.seat (ran_mail P (cpu_of n.new.self.post.seat) 64 n.new.self.seat h.new.trace y.new.trace y.ensures.mine (inl empty) y.ensures.grew)))))
 
 pub returns-clause-ok : goal.returns-clause-ok
 returns-clause-ok g c =
     let e = c.end_all.ensures in
+    let y = c.pay.ensures in
+    let news = c.pay.new.self.threads in
+    let F : List Thread → Type 0 = λ xs. AreStopped c.halt_running.new.self.threads xs in
+    let G : List Thread → Type 0 = λ xs. AllOver xs in
     record {
       room = c.reserve.new.self;
       same = c.reserve.ensures.items;
       mid = c.halt_running.new.self;
+      v = c.halt_running.new.trace;
       halts = c.halt_running.ensures.halts;
-      seat = e.seat;
-      post = e.post ∙ c.halt_running.ensures.post;
-      bodies = e.bodies ∙ c.halt_running.ensures.bodies;
-      threads = e.threads;
-      over = e.over;
-      none_runs = e.none;
-      empty = e.empty;
+      shut = c.end_all.new.self.post;
+      closes = e.closes;
+      pays = y.pays;
+      seat = y.seat ∙ e.seat;
+      bodies = y.bodies ∙ e.bodies ∙ c.halt_running.ensures.bodies;
+      threads = subst F (sym y.threads) e.threads;
+      over = subst G (sym y.threads) e.over;
+      none_runs = y.running ∙ e.none;
+      empty = ap holding y.seat ∙ e.empty;
     }
 
 pub returns-then-is_err-clause-told : goal.returns-then-is_err-clause-told
@@ -48,8 +73,14 @@ returns-then-is_err-clause-told g c = mail_none c.args.self.now.post.seat c.args
 
 pub returns-clause-told : goal.returns-clause-told
 returns-clause-told g c =
-    let p = c.args.self.now.post in
+    let d = c.args.self.now.post.seat in
+    let t = c.args.trace.now.items in
     let r = c.reserve.new.self in
     let h = c.halt_running in
-    let F : Post → Type 0 = λ q. TellsMail p.seat q.seat c.args.trace.now.items h.new.trace.items in
-    subst F (sym (c.end_all.ensures.post ∙ h.ensures.post)) (mail_none p.seat c.args.trace.now.items h.new.trace.items (quiet_then c.args.trace.now.items r.items h.new.trace.items (quiet_items c.args.trace.now.items r.items c.reserve.ensures.items) h.ensures.quiet))
+    let n = c.end_all in
+    let y = c.pay in
+    let same : n.new.self.post.seat ≡ d = n.ensures.post ∙ h.ensures.post in
+    let F : Desk → Type 0 = λ x. TellsMail d x t h.new.trace.items in
+    mail_then d n.new.self.post.seat y.new.self.post.seat t h.new.trace.items y.new.trace.items
+    (subst F (sym same) (mail_none d t h.new.trace.items (quiet_then t r.items h.new.trace.items (quiet_items t r.items c.reserve.ensures.items) h.ensures.quiet)))
+    (mail_told (cpu_of n.new.self.post.seat) 64 n.new.self.post.seat y.new.self.post.seat h.new.trace y.new.trace y.ensures.told y.ensures.grew)
