@@ -25,9 +25,8 @@ pub fn end<B: Drop>(
     ensures ready { IfOk result (λ left. IsReady (id_of bank.now) left.0) }
     ensures mail { IfOk result (λ left. left.1.table ≡ book.now.table) }
 {
-    let _ = book;
     let mut trace = Vec::new(alloc);
-    cpu.stop(bank, &mut trace)?;
+    cpu.stop(bank, book, &mut trace)?;
     Ok(cpu.retire())
 }
 

@@ -305,7 +305,7 @@ impl<B> Driver<'_, B> {
 
     /// Stops the processor.
     pub fn stop(&mut self) -> Result<(), Fault> {
-        self.cpu.stop(self.bank, &mut self.trace)
+        self.cpu.stop(self.bank, self.book, &mut self.trace)
     }
 }
 

@@ -123,7 +123,8 @@ fn is_counted(closed: &Closed, counts: &Counts, tok: usize) -> bool
     row && tallies && closed.gens.get(tok) == Some(&sum)
 }
 
-// Whether a message is where it must be after these calls, with as many requests shown, replies made and answers seen.
+// Whether a message is where it must be after these calls, with as many requests shown, replies made and answers seen. What a
+// thread was shown and had not replied to is replied to by the stop of its processor.
 fn is_in_place(end: MsgEnd, m: usize, counts: &Counts) -> bool
     requires { m < 4 }
 {
@@ -132,16 +133,15 @@ fn is_in_place(end: MsgEnd, m: usize, counts: &Counts) -> bool
     let calls = counts.calls[m];
     let rest = Owner::Rest { origin };
     let out = Owner::Out { origin, target };
-    let with = Owner::With { origin, target };
     let back = Owner::Back { origin, target };
     let state = if counts.answers[m] == calls {
         end.state == rest
     } else if counts.replies[m] == calls {
         end.state == back || end.state == rest
     } else if counts.requests[m] == calls {
-        end.state == with
+        end.state == back
     } else {
-        end.state == out || end.state == with
+        end.state == out || end.state == back
     };
     state && end.round == calls
 }

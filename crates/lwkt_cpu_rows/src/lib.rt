@@ -10,6 +10,8 @@ mod drivers;
 #[cfg(test)]
 mod end_rows;
 #[cfg(test)]
+mod last_rows;
+#[cfg(test)]
 mod mail_rows;
 #[cfg(test)]
 mod scripts;

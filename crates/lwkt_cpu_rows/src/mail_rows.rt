@@ -21,7 +21,8 @@ const FLAGS: Flags = Flags {
     abortable: false,
 };
 
-const OWN: MsgSpec = MsgSpec {
+/// A message of thread 0.0.
+pub const OWN: MsgSpec = MsgSpec {
     round: 0,
     origin: ThreadId {
         cpu: CpuId(0),
@@ -29,15 +30,16 @@ const OWN: MsgSpec = MsgSpec {
     },
 };
 
-const THERE: ThreadId = ThreadId {
+/// Thread 1.0.
+pub const THERE: ThreadId = ThreadId {
     cpu: CpuId(1),
     thread: 0,
 };
 
 const CALL: Call = Call { arg: 9, op: 5 };
 
-// Turns of the two processors, one after the other.
-fn take_turns(first: &mut Driver<Script>, second: &mut Driver<Script>) -> Result<(), Fault> {
+/// Turns of the two processors, one after the other.
+pub fn take_turns(first: &mut Driver<Script>, second: &mut Driver<Script>) -> Result<(), Fault> {
     for round in 0..8 {
         first.turn()?;
         second.turn()?;
@@ -45,8 +47,8 @@ fn take_turns(first: &mut Driver<Script>, second: &mut Driver<Script>) -> Result
     Ok(())
 }
 
-// Whether a processor's only thread has ended after these answers.
-fn has_told(driver: &Driver<Script>, wanted: &[Answer]) -> bool {
+/// Whether a processor's only thread has ended by itself after these answers.
+pub fn has_told(driver: &Driver<Script>, wanted: &[Answer]) -> bool {
     match driver.body(0) {
         Some(body) => { driver.state(0) == Some(ThreadState::Exited) && body.answers() == wanted }
         None => false,

@@ -17,7 +17,7 @@ use Rattle.lwkt_bank.specs.Told.{IsDone, first_machine}
 use Rattle.lwkt_hold.specs.Runs.{Ran}
 use Rattle.lwkt_hold.specs.Steps.{is_of_token, Tells}
 use Rattle.lwkt_cpu.specs.declared.threads.Thread.{Thread}
-use Rattle.lwkt_cpu.specs.Searches.{IsOfOne}
+use Rattle.lwkt_cpu.specs.Turning.{IsMailed}
 use Rattle.lwkt_drive.specs.declared.driven.Driven.{Driven}
 use Rattle.lwkt_drive.specs.declared.driven.Limits.{Limits}
 use Rattle.lwkt_drive.specs.declared.driven.Ending.{Ending}
@@ -35,7 +35,7 @@ NewIsTold = (s : CpuSeat) → IsNew s → IsTold s []
 
 -- a law: where a processor's trace told its seat before it was stopped, it tells it afterwards
 abbrev pub StopsAreTold : Type 0
-StopsAreTold = (threads : List Thread) (most : ℕ) (a b : CpuSeat) (t u : Vec Event Global) → Ran (IsOfOne threads) most a b t u → IsTold a t.items → IsTold b u.items
+StopsAreTold = (threads : List Thread) (most : ℕ) (a b : CpuSeat) (t u : Vec Event Global) → Ran (IsMailed threads) most a b t u → IsTold a t.items → IsTold b u.items
 
 -- a law: where a processor's trace told its seat before it was driven, it tells it afterwards
 abbrev pub DrivesAreTold : {B G : Type 0} → (B → Answer → Ask → B → Type 0) → (G → CpuId → ℕ → Bool → Type 0) → Type 0

@@ -59,7 +59,7 @@ fn drive_to_the_end<B: Body + Drop>(
 {
     drive_on(alloc, bank, book, &mut cpu)?;
     let mut trace = Vec::new(alloc);
-    cpu.stop(bank, &mut trace)?;
+    cpu.stop(bank, book, &mut trace)?;
     Ok(cpu.retire())
 }
 

@@ -1,17 +1,13 @@
 -- Processors stop, one after another.
 use Rattle.std.proofs.Common.{◌≡◌, ℕ, zero, suc, ◌+◌, ◌<◌, List, [], ◌∷◌, length, set, get_or, refl, ap, sym, ◌∙◌, subst, inl, inr, arith, Some, Result, Ok, Err}
-use Rattle.std.specs.Prelude.{Vec, OnOk, OnErr, slice_get}
-use Rattle.std.specs.declared.alloc.Global.{Global}
+use Rattle.std.specs.Prelude.{All, OnErr, slice_get}
 use Rattle.std.proofs.lemmas.Bool.{cases_eq}
 use Rattle.std.proofs.lemmas.List.{length-set}
 use Rattle.std.proofs.lemmas.List.Elements.{All-get_or}
 use Rattle.std.proofs.lemmas.Option.{slice_get_within, get_or_from_slice_get}
-use Rattle.lwkt_base.specs.declared.faults.Fault.{Fault}
-use Rattle.lwkt_core.specs.declared.events.Event.{Event}
 use Rattle.lwkt_bank.specs.Seats.{BankId}
 use Rattle.lwkt_msg.specs.Desks.{Shelf}
 use Rattle.lwkt_cpu.specs.Processors.{Processor, AllOver}
-use Rattle.lwkt_cpu.specs.Stopping.{Stops}
 use Rattle.lwkt_cpu.proofs.PlaceMoves.{get_set_same, get_set_other, some_same}
 use Rattle.lwkt_machine.specs.Bodies.{Scripted}
 use Rattle.lwkt_machine.specs.Machines.{IsOf, AreParts}
@@ -40,28 +36,27 @@ same_set olds mids k p q within at same all = record {
   ];
 }
 
+-- a processor that is still the same is of the bank and the book that it was of
+pub same_of : (bank : BankId) (book : Shelf) (olds news : List (Processor Scripted)) (k : ℕ) (q : Processor Scripted) → slice_get news k ≡ Some q → AreSameCpus olds news → All (IsOf bank book) olds → IsOf bank book q
+same_of bank book olds news k q at same all =
+    let x = same.each k q at in
+    let p = x.0 in
+    let within = slice_get_within olds k p x.1.0 in
+    let e : get_or olds k p ≡ p = get_or_from_slice_get olds k p p x.1.0 in
+    let of : IsOf bank book p = subst (IsOf bank book) e (All-get_or (IsOf bank book) olds k p within all) in
+    record { bank_is = x.1.1.bank ∙ of.bank_is; table_is = x.1.1.table ∙ of.table_is }
+
 -- the processors of a machine that are still the same make it whole
 pub parts_same : (seats : ℕ) (bank : BankId) (book : Shelf) (olds news : List (Processor Scripted)) → AreSameCpus olds news → AreParts seats bank book olds → AreParts seats bank book news
 parts_same seats bank book olds news same parts = record {
   seats_are = parts.seats_are ∙ sym same.as_many;
   mails_are = parts.mails_are ∙ sym same.as_many;
   few = omega (arith, parts.few, same.as_many);
-  each = all_from_get (IsOf bank book) news (λ k q at.
-      let x = same.each k q at in
-      let p = x.0 in
-      let within = slice_get_within olds k p x.1.0 in
-      let e : get_or olds k p ≡ p = get_or_from_slice_get olds k p p x.1.0 in
-      let of : IsOf bank book p = subst (IsOf bank book) e (All-get_or (IsOf bank book) olds k p within parts.each) in
-      record { bank_is = x.1.1.bank ∙ of.bank_is; table_is = x.1.1.table ∙ of.table_is });
+  each = all_from_get (IsOf bank book) news (λ k q at. same_of bank book olds news k q at same parts.each);
   numbered = λ k q at.
       let x = same.each k q at in
       ap (λ (i : _). i.0) x.1.1.number ∙ parts.numbered k x.0 x.1.0;
 }
-
--- a stop keeps the ports
-pub stop_keeps_post : (p q : Processor Scripted) (t u : Vec Event Global) (r : Result (Unit {0}) Fault) → OnOk r (Stops p q t u) → OnErr r ((q ≡ p) × (u.items ≡ t.items)) → q.post ≡ p.post
-stop_keeps_post p q t u (Ok done) stops err = stops.post
-stop_keeps_post p q t u (Err fault) ok same = ap (λ (x : Processor Scripted). x.post) same.0
 
 pub on_err : {T E : Type 0} (r : Result T E) (P : Type 0) → P → OnErr r P
 on_err (Ok x) P p = tt

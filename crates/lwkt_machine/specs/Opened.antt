@@ -1,5 +1,5 @@
 -- A machine as it is opened (own).
-use Rattle.std.specs.Prelude.{◌≡◌, ℕ, ◌==◌, List, length, map, filter, replicate, All, Some, None, slice_get}
+use Rattle.std.specs.Prelude.{◌≡◌, ℕ, ◌==◌, List, length, map, filter, replicate, Some, None, slice_get}
 use Rattle.lwkt_base.specs.declared.faults.Fault.{Fault}
 use Rattle.lwkt_base.specs.declared.faults.Fault.TheVariants.{Memory, Limits, LawBroken}
 use Rattle.lwkt_base.specs.declared.openings.MsgSpec.{MsgSpec}
@@ -12,7 +12,7 @@ use Rattle.lwkt_bank.specs.Opened.{plans_of}
 use Rattle.lwkt_bank.specs.Seats.{BankId, bank_of}
 use Rattle.lwkt_bank.specs.Gathered.{IsNew}
 use Rattle.lwkt_msg.specs.Desks.{Shelf, cpu_of, IsOpened}
-use Rattle.lwkt_port.specs.Openings.{new_mail, IsEmptyPort}
+use Rattle.lwkt_port.specs.Openings.{new_mail, AreNewPorts}
 use Rattle.lwkt_cpu.specs.Fresh.{fresh}
 use Rattle.lwkt_cpu.specs.Processors.{Processor}
 use Rattle.lwkt_machine.specs.Bodies.{Scripted, unpolled}
@@ -33,12 +33,12 @@ pub record IsSeat (bank : BankId) (cpu : ℕ) (s : CpuSeat) : Type 0 where
   pub number : s.cpu.0 ≡ cpu
 
 -- the processor of this number as it is opened: its seat at the bank has done nothing, its seat at the book has its own messages at
--- rest, its ports are empty, and it has a thread that was never polled for each of the script's threads of this number, in their
+-- rest, its ports are empty, those of threads that aren't there closed, and it has a thread that was never polled for each of the script's threads of this number, in their
 -- order, none of which runs
 pub record IsOpenedCpu (bank : BankId) (book : Shelf) (threads : List ThreadSpec) (cpu : ℕ) (p : Processor Scripted) : Type 0 where
   pub seat : IsSeat bank cpu p.seat
   pub desk : IsOpened cpu book p.post.seat
-  pub ports : All IsEmptyPort p.post.ports
+  pub ports : AreNewPorts (length p.bodies) p.post.ports
   pub mails : p.post.mails ≡ map (new_mail (cpu_of p.post.seat)) (map (λ (spec : MsgSpec). spec.origin) book.specs)
   pub bodies : p.bodies ≡ bodies_on cpu threads
   pub threads_are : p.threads ≡ replicate (length p.bodies) fresh

@@ -1,9 +1,9 @@
 //! Processors put at their seats.
-ghost use Rattle.std.specs.Prelude.{◌≡◌, ℕ, ◌+◌, ◌<◌, length, map, All, IfOk, OnErr, Err};
+ghost use Rattle.std.specs.Prelude.{◌≡◌, ℕ, ◌+◌, ◌<◌, length, map, IfOk, OnErr, Err};
 ghost use Rattle.lwkt_base.specs.declared.openings.MsgSpec.{MsgSpec};
 ghost use Rattle.lwkt_bank.specs.Seats.{id_of};
 ghost use Rattle.lwkt_msg.specs.Desks.{cpu_of, IsOpened};
-ghost use Rattle.lwkt_port.specs.Openings.{new_mail, IsEmptyPort};
+ghost use Rattle.lwkt_port.specs.Openings.{new_mail, AreNewPorts};
 ghost use Rattle.lwkt_machine.specs.Opened.{bodies_on, IsSeat, IsOpenedCpu, AreOpenedCpus};
 
 use crate::bodies::ScriptBody;
@@ -63,7 +63,7 @@ fn open_ports(
     requires mail { IsOpened number book.now mail }
     requires origins { origins.now ≡ map (λ (spec : MsgSpec). spec.origin) book.now.specs }
     ensures desk { IfOk result (λ ports. IsOpened number book.now ports.seat) }
-    ensures empty { IfOk result (λ ports. All IsEmptyPort ports.ports) }
+    ensures new { IfOk result (λ ports. AreNewPorts threads ports.ports) }
     ensures mails { IfOk result (λ ports. ports.mails ≡ map (new_mail (cpu_of ports.seat)) (map (λ (spec : MsgSpec). spec.origin) book.now.specs)) }
     ensures only { OnErr result (result ≡ Err Fault.Memory) }
 {
@@ -84,7 +84,7 @@ fn seat_one(
 ) -> Result<Cpu<ScriptBody>, Fault>
     requires seat { IsSeat (id_of bank.now) number seat }
     requires desk { IsOpened number book.now ports.seat }
-    requires empty { All IsEmptyPort ports.ports }
+    requires new { AreNewPorts (length bodies.items) ports.ports }
     requires mails { ports.mails ≡ map (new_mail (cpu_of ports.seat)) (map (λ (spec : MsgSpec). spec.origin) book.now.specs) }
     requires bodies { bodies.items ≡ bodies_on number threads.now }
     ensures ok { IfOk result (λ cpu. IsOpenedCpu (id_of bank.now) book.now threads.now number cpu) }

@@ -1,6 +1,7 @@
 //! The stop of a machine.
 ghost use Rattle.std.specs.Prelude.{◌≡◌, ℕ, ◌<◌, All, OnOk, OnErr, Err, Some, slice_get};
-ghost use Rattle.lwkt_bank.specs.Seats.{id_of, bank_of};
+ghost use Rattle.lwkt_bank.specs.Seats.{id_of};
+ghost use Rattle.lwkt_machine.specs.Machines.{IsOf};
 ghost use Rattle.lwkt_machine.specs.Ended.{AreSameCpus, AreOver, AreStopped, AreStoppedShort, StopsAll, StopsShort};
 
 use crate::bodies::ScriptBody;
@@ -9,10 +10,16 @@ use lwkt_bank::Bank;
 use lwkt_base::Fault;
 use lwkt_core::Event;
 use lwkt_cpu::Cpu;
+use lwkt_msg::MsgBook;
 
-// Stops processors of this bank, one after another.
-fn stop_all(bank: &Bank, cpus: &mut [Cpu<ScriptBody>], trace: &mut Vec<Event>) -> Result<(), Fault>
-    requires of { All (λ p. bank_of p.seat ≡ id_of bank.now) cpus.old }
+// Stops processors of this bank and this book, one after another.
+fn stop_all(
+    bank: &Bank,
+    book: &MsgBook,
+    cpus: &mut [Cpu<ScriptBody>],
+    trace: &mut Vec<Event>,
+) -> Result<(), Fault>
+    requires of { All (IsOf (id_of bank.now) book.now) cpus.old }
     ensures ok { OnOk result (AreStopped cpus.old cpus.new trace.old trace.new) }
     ensures over { OnOk result (AreOver cpus.new) }
     ensures err { OnErr result (AreStoppedShort cpus.old cpus.new trace.old trace.new) }
@@ -20,7 +27,7 @@ fn stop_all(bank: &Bank, cpus: &mut [Cpu<ScriptBody>], trace: &mut Vec<Event>) -
     ensures same { AreSameCpus cpus.old cpus.new }
 {
     for at in 0..cpus.len() {
-        cpus[at].stop(bank, trace)?;
+        cpus[at].stop(bank, book, trace)?;
     }
     Ok(())
 }
@@ -39,6 +46,6 @@ impl Machine {
         ensures bank { self.new.bank ≡ self.old.bank }
         ensures book { self.new.book ≡ self.old.book }
     {
-        stop_all(&self.bank, &mut self.cpus, trace)
+        stop_all(&self.bank, &self.book, &mut self.cpus, trace)
     }
 }

@@ -33,7 +33,7 @@ impl Row for Placed {
     }
 }
 
-const BAD_PARTS: [Placed; 28] = [
+const BAD_PARTS: [Placed; 34] = [
     Placed("\"cpus\":1", "\"cpus\":8", 0),
     Placed("\"cpus\":1", "\"cpus\":9", 5),
     Placed(
@@ -79,9 +79,15 @@ const BAD_PARTS: [Placed; 28] = [
     ),
     Placed("\"rel\",0", "\"reply\",0,4294967296,0", 100_002),
     Placed("\"rel\",0", "\"reply\",256,0,0", 100_002),
-    Placed("\"rel\",0", "\"abort\",0", 100_002),
-    Placed("\"rel\",0", "\"isab\",0", 100_002),
-    Placed("\"rel\",0", "\"drop\",0", 100_002),
+    Placed("\"rel\",0", "\"abort\",255", 0),
+    Placed("\"rel\",0", "\"isab\",0", 0),
+    Placed("\"rel\",0", "\"drop\",0", 0),
+    Placed("\"rel\",0", "\"abort\",256", 100_002),
+    Placed("\"rel\",0", "\"isab\"", 100_002),
+    Placed("\"rel\",0", "\"drop\",0,0", 100_002),
+    Placed("\"rel\",0", "\"abort\",\"0\"", 100_002),
+    Placed("\"rel\",0", "\"isabort\",0", 100_002),
+    Placed("\"rel\",0", "\"drop\",-1", 100_002),
 ];
 
 #[test]
@@ -201,7 +207,7 @@ impl Row for Read {
     }
 }
 
-const EACH_CALL: [Read; 6] = [
+const EACH_CALL: [Read; 9] = [
     Read(
         "[\"send\",1,2,3,4,5,0]",
         Ask::Send(MsgId(1), TO, CALL, NEITHER),
@@ -220,6 +226,9 @@ const EACH_CALL: [Read; 6] = [
     ),
     Read("[\"do\",1,2,3,4,5]", Ask::Do(MsgId(1), TO, CALL)),
     Read("[\"reply\",1,6,7]", Ask::Reply(MsgId(1), 6, 7)),
+    Read("[\"abort\",1]", Ask::Abort(MsgId(1))),
+    Read("[\"isab\",2]", Ask::IsAborted(MsgId(2))),
+    Read("[\"drop\",3]", Ask::DropMsg(MsgId(3))),
 ];
 
 #[test]

@@ -1,6 +1,6 @@
 use Rattle.std.proofs.Common.{sym, subst, List}
 use Rattle.lwkt_core.specs.declared.events.Event.{Event}
-use Rattle.lwkt_cpu.specs.Searches.{IsOfOne}
+use Rattle.lwkt_cpu.specs.Turning.{IsMailed}
 use Rattle.lwkt_drive.specs.Telling.{IsTold}
 use Rattle.lwkt_drive.proofs.TellingMoves.{told_new, told_ran, told_made}
 use Rattle.lwkt_drive.proofs.laws.traces_tell_seats.Goals as goal
@@ -9,7 +9,7 @@ pub returns-clause-new : goal.returns-clause-new
 returns-clause-new g c = told_new
 
 pub returns-clause-stops : goal.returns-clause-stops
-returns-clause-stops g c = λ threads most a b t u ran told. told_ran (IsOfOne threads) most a b t u ran told
+returns-clause-stops g c = λ threads most a b t u ran told. told_ran (IsMailed threads) most a b t u ran told
 
 pub returns-clause-drives : goal.returns-clause-drives
 returns-clause-drives g c = λ gate bank limits old new ending d told.

@@ -1,13 +1,12 @@
-use Rattle.std.proofs.Common.{◌≡◌, ◌∙◌, ◌<◌, List, ap, sym, refl, subst, set, get_or, length, arith, Some}
+use Rattle.std.proofs.Common.{◌≡◌, ◌<◌, List, sym, refl, subst, set, get_or, length, arith, Some}
 use Rattle.std.specs.Prelude.{slice_get}
-use Rattle.std.proofs.lemmas.Option.{slice_get-get_or, slice_get_within, get_or_from_slice_get}
-use Rattle.std.proofs.lemmas.List.Elements.{All-get_or}
-use Rattle.lwkt_bank.specs.Seats.{id_of, bank_of}
+use Rattle.std.proofs.lemmas.Option.{slice_get-get_or, slice_get_within}
+use Rattle.lwkt_bank.specs.Seats.{id_of}
 use Rattle.lwkt_port.proofs.Chaining.{chain_none, chain_more}
 use Rattle.lwkt_cpu.specs.Processors.{Processor}
 use Rattle.lwkt_machine.specs.Bodies.{Scripted}
 use Rattle.lwkt_machine.specs.Ended.{AreStoppedShort, Stage, stage, StopsAt}
-use Rattle.lwkt_machine.proofs.StopMoves.{same_none, same_set, on_err, set_same, over_more}
+use Rattle.lwkt_machine.proofs.StopMoves.{same_none, same_set, same_of, on_err, set_same, over_more}
 use Rattle.lwkt_machine.proofs.stops.stop_all.Goals as goal
 
 pub loop-at-init : goal.loop-at-init
@@ -17,16 +16,19 @@ loop-at-init c = record {
   over = λ k p less at. absurd (omega (arith, less));
 }
 
-pub stop-requires : goal.stop-requires
-stop-requires c =
+pub stop-requires-clause-of : goal.stop-requires-clause-of
+stop-requires-clause-of c =
     let l = c.loop-at in
     let d = c.index-cpus-at.result in
     let within : l.at < length l.cpus = omega (arith, c.loop-at-test.true, l.auto.cpus) in
-    let p = get_or l.cpus l.at d in
-    let x = l.invariant.same.each l.at p (slice_get-get_or l.cpus l.at d within) in
-    let F : Processor Scripted → Type 0 = λ y. bank_of y.seat ≡ id_of c.args.bank.now in
-    let old = All-get_or F c.args.cpus.now l.at x.0 (slice_get_within c.args.cpus.now l.at x.0 x.1.0) c.requires.of in
-    x.1.1.bank ∙ subst F (get_or_from_slice_get c.args.cpus.now l.at x.0 x.0 x.1.0) old
+    (same_of (id_of c.args.bank.now) c.args.book.now c.args.cpus.now l.cpus l.at (get_or l.cpus l.at d) (slice_get-get_or l.cpus l.at d within) l.invariant.same c.requires.of).bank_is
+
+pub stop-requires-clause-table : goal.stop-requires-clause-table
+stop-requires-clause-table c =
+    let l = c.loop-at in
+    let d = c.index-cpus-at.result in
+    let within : l.at < length l.cpus = omega (arith, c.loop-at-test.true, l.auto.cpus) in
+    (same_of (id_of c.args.bank.now) c.args.book.now c.args.cpus.now l.cpus l.at (get_or l.cpus l.at d) (slice_get-get_or l.cpus l.at d within) l.invariant.same c.requires.of).table_is
 
 pub returns-in_err-stop-clause-err : goal.returns-in_err-stop-clause-err
 returns-in_err-stop-clause-err c =
@@ -53,7 +55,7 @@ loop-at-preserved c =
     let ran = c.stop.ensures.ran in
     record {
       stopped = chain_more Stage StopsAt l.at (stage c.args.cpus.now c.args.trace.now) (stage l.cpus l.trace) (stage (set l.cpus l.at q) c.stop.new.trace) l.invariant.stopped (p, (q, (is, stops, refl)));
-      same = same_set c.args.cpus.now l.cpus l.at p q within is (record { bank = ran.bank; table = ap (λ x. x.seat.table) stops.post; number = ran.cpu }) l.invariant.same;
+      same = same_set c.args.cpus.now l.cpus l.at p q within is (record { bank = ran.bank; table = c.stop.ensures.told.same.table; number = ran.cpu }) l.invariant.same;
       over = over_more l.cpus l.at q within stops.over l.invariant.over;
     }
 
