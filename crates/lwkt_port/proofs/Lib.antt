@@ -12,3 +12,4 @@ pub mod Serving
 pub mod Telling
 pub mod Withdrawing
 pub mod Departing
+pub mod Hinting

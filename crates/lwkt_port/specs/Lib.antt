@@ -13,3 +13,4 @@ pub mod Laws
 pub mod Tellings
 pub mod Withdrawals
 pub mod Closings
+pub mod Hints

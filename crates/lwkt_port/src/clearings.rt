@@ -1,10 +1,11 @@
 //! The notes of closed ports.
-ghost use Rattle.std.specs.Prelude.{◌≡◌, ℕ, ◌+◌, ◌-◌, ◌<◌, ◌≤◌, length, All, vec_len, vec_capacity};
+ghost use Rattle.std.specs.Prelude.{◌≡◌, ◌↔◌, ℕ, ◌+◌, ◌-◌, ◌<◌, ◌≤◌, true, false, IsTrue, length, All, vec_len, vec_capacity};
 ghost use Rattle.lwkt_msg.specs.Desks.{cpu_of, IsSameDesk};
 ghost use Rattle.lwkt_port.specs.Chains.{Chain};
 ghost use Rattle.lwkt_port.specs.Mails.{AreMails};
 ghost use Rattle.lwkt_port.specs.Queues.{queue_of, HasNamed};
 ghost use Rattle.lwkt_port.specs.Works.{work, Grew, Stands};
+ghost use Rattle.lwkt_port.specs.Hints.{IsClear, AreClear};
 ghost use Rattle.lwkt_port.specs.Intakes.{Clears, ClearsQueue, ClearsPort, Clearing, clearing, ClearsAt};
 
 use crate::deeds;
@@ -129,23 +130,44 @@ fn clear_each(
     left
 }
 
-/// Clears the closed ports, of at most 16 notes.
+// Whether a port has nothing to clear.
+fn is_clear(port: &Port) -> bool
+    ensures { IsTrue result ↔ IsClear port.now }
+{
+    !port.closed || port.queue.is_empty()
+}
+
+// Whether a closed port has a note.
+fn has_notes_left(ports: &Vec<Port>) -> bool
+    ensures { result ≡ false → AreClear ports.now.items }
+{
+    !ports.iter().all(is_clear)
+}
+
+/// Clears the closed ports, of at most 16 notes; `uncleared` says whether one may have a note.
 pub(crate) fn clear_all(
     book: &MsgBook,
     seat: &mut MsgSeat,
     mails: &mut Vec<Mail>,
     ports: &mut Vec<Port>,
+    uncleared: &mut bool,
     trace: &mut Vec<Event>,
 )
     requires table { seat.old.table ≡ book.now.table }
     requires kept { AreMails seat.old mails.old.items }
     requires ports { vec_len ports.old ≡ 16 }
     requires named { All (HasNamed (vec_len mails.old)) ports.old.items }
+    requires hint { uncleared.old ≡ false → AreClear ports.old.items }
     requires room { vec_len trace.old + 64 ≤ vec_capacity trace.old }
     ensures clears { (left : ℕ) × Chain Clearing ClearsAt 16 (clearing (work seat.old mails.old trace.old) ports.old 16) (clearing (work seat.new mails.new trace.new) ports.new left) }
     ensures stands { Stands 32 seat.old mails.old trace.old seat.new mails.new trace.new }
     ensures ports { vec_len ports.new ≡ 16 }
     ensures named { All (HasNamed (vec_len mails.new)) ports.new.items }
+    ensures hint { uncleared.new ≡ false → AreClear ports.new.items }
+    ensures none { uncleared.old ≡ false → mails.new.items ≡ mails.old.items }
 {
-    let _left = clear_each(book, seat, mails, ports, trace);
+    if *uncleared {
+        let _left = clear_each(book, seat, mails, ports, trace);
+        *uncleared = has_notes_left(ports);
+    }
 }

@@ -57,5 +57,7 @@ impl Ports {
     {
         owe_all(&mut self.mails, thread);
         close(&mut self.ports[usize::from(thread)]);
+        self.owing = true;
+        self.uncleared = true;
     }
 }

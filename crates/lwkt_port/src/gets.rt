@@ -1,5 +1,6 @@
 //! A thread looks at its port.
-ghost use Rattle.std.specs.Prelude.{◌≡◌, ◌+◌, ◌<◌, ◌≤◌, true, [], ◌∷◌, length, All, vec_len, vec_capacity};
+ghost use Rattle.std.specs.Prelude.{◌≡◌, ◌+◌, ◌<◌, ◌≤◌, true, false, List, [], ◌∷◌, length, All, vec_len, vec_capacity};
+ghost use Rattle.lwkt_lane.specs.declared.notes.Note.{Note};
 ghost use Rattle.lwkt_msg.specs.Desks.{cpu_of, cpus_of, messages_of, IsSameDesk};
 ghost use Rattle.lwkt_port.specs.Posts.{IsSamePost};
 ghost use Rattle.lwkt_port.specs.Mails.{mail_at, AreMails};
@@ -8,6 +9,7 @@ ghost use Rattle.lwkt_port.specs.Works.{work, Grew, away_count};
 ghost use Rattle.lwkt_port.specs.Queues.{NamesMessage, HasNamed};
 ghost use Rattle.lwkt_port.specs.Servings.{served_request, served_answer, Serves, GetMeans, PostGets};
 ghost use Rattle.lwkt_port.specs.Tellings.{Tells};
+ghost use Rattle.lwkt_port.specs.Hints.{OwesNone};
 
 use crate::deeds;
 use crate::deeds::Claim;
@@ -87,18 +89,30 @@ fn serve_note(
     }
 }
 
-// Serves a thread from its port.
+// The first note of the queue was passed over: it leaves the queue, and a reply may be owed.
+fn pass(port: &mut Port, owing: &mut bool)
+    requires { 0 < length (queue_of port.old) }
+    ensures drops { (note : Note) → (rest : List Note) → queue_of port.old ≡ note ∷ rest → (queue_of port.new ≡ rest) × (port.new.closed ≡ port.old.closed) }
+    ensures owing { owing.new ≡ true }
+{
+    *owing = true;
+    drop_front(port)
+}
+
+// Serves a thread from its port. A note that is passed over may have left a reply owed.
 fn serve(
     book: &MsgBook,
     seat: &mut MsgSeat,
     mails: &mut Vec<Mail>,
     port: &mut Port,
     thread: u8,
+    owing: &mut bool,
     trace: &mut Vec<Event>,
 ) -> Result<Option<Item>, Fault>
     requires table { seat.old.table ≡ book.now.table }
     requires kept { AreMails seat.old mails.old.items }
     requires named { HasNamed (vec_len mails.old) port.old }
+    requires hint { owing.old ≡ false → OwesNone mails.old.items }
     requires room { vec_len trace.old + 64 ≤ vec_capacity trace.old }
     ensures means { GetMeans thread (queue_of port.old) (queue_of port.new) (work seat.old mails.old trace.old) (work seat.new mails.new trace.new) result }
     ensures kept { AreMails seat.new mails.new.items }
@@ -107,6 +121,7 @@ fn serve(
     ensures closed { port.new.closed ≡ port.old.closed }
     ensures len { vec_len mails.new ≡ vec_len mails.old }
     ensures grew { Grew (cpu_of seat.old) 64 trace.old trace.new }
+    ensures hint { owing.new ≡ false → OwesNone mails.new.items }
 {
     let notes = count(port);
     for _turn in 0..notes {
@@ -114,7 +129,7 @@ fn serve(
             return Ok(None);
         };
         match serve_note(book, seat, mails, thread, note, trace) {
-            Served::Passed => drop_front(port),
+            Served::Passed => pass(port, owing),
             Served::Lost => return Err(Fault::Again),
             Served::Shown(item) => {
                 drop_front(port);
@@ -154,6 +169,7 @@ impl Ports {
             &mut self.mails,
             &mut self.ports[usize::from(thread)],
             thread,
+            &mut self.owing,
             trace,
         )
     }

@@ -1,11 +1,12 @@
 //! One note that came over a lane, and one lane.
-ghost use Rattle.std.specs.Prelude.{◌≡◌, ◌↔◌, ◌+◌, ◌<◌, ◌≤◌, true, length, All, None, Some, IsTrue, MatchOption, vec_len, vec_capacity};
+ghost use Rattle.std.specs.Prelude.{◌≡◌, ◌↔◌, ◌+◌, ◌<◌, ◌≤◌, true, false, length, All, None, Some, IsTrue, MatchOption, vec_len, vec_capacity};
 ghost use Rattle.lwkt_lane.specs.Lane.{received, in_lane};
 ghost use Rattle.lwkt_msg.specs.Desks.{cpu_of, cpus_of, messages_of, IsSameDesk};
 ghost use Rattle.lwkt_port.specs.Mails.{mail_at, AreMails};
 ghost use Rattle.lwkt_port.specs.Works.{work, Grew, away_count, standing, Keeps};
 ghost use Rattle.lwkt_port.specs.Posts.{KeepsNamed};
 ghost use Rattle.lwkt_port.specs.Queues.{NamesBoth, HasNamed};
+ghost use Rattle.lwkt_port.specs.Hints.{AreClear, IsPortClosed};
 ghost use Rattle.lwkt_port.specs.Intakes.{desks, IsSyncAnswer, Handles, Pops, Empties};
 
 use crate::deeds;
@@ -44,12 +45,21 @@ fn is_sync_answer(mails: &Vec<Mail>, note: Note) -> bool
     note.kind == NoteKind::Answer && mail_of(mails, usize::from(note.msg.0)).sync
 }
 
+// Whether a port is closed.
+fn is_closed(ports: &Vec<Port>, port: u8) -> bool
+    requires { port < vec_len ports.now }
+    ensures { IsPortClosed port ports.now.items result }
+{
+    ports[usize::from(port)].closed
+}
+
 // Handles a note that came over a lane. None if its port's queue is full.
 fn handle(
     book: &MsgBook,
     seat: &mut MsgSeat,
     mails: &mut Vec<Mail>,
     ports: &mut Vec<Port>,
+    uncleared: &mut bool,
     note: Note,
     trace: &mut Vec<Event>,
 ) -> Option<Fate>
@@ -57,6 +67,7 @@ fn handle(
     requires kept { AreMails seat.old mails.old.items }
     requires ports { vec_len ports.old ≡ 16 }
     requires named { All (HasNamed (vec_len mails.old)) ports.old.items }
+    requires hint { uncleared.old ≡ false → AreClear ports.old.items }
     requires room { away_count mails.old.items + vec_len trace.old < vec_capacity trace.old }
     ensures handles { Handles note (desks (work seat.old mails.old trace.old) ports.old) (desks (work seat.new mails.new trace.new) ports.new) result }
     ensures kept { AreMails seat.new mails.new.items }
@@ -67,6 +78,7 @@ fn handle(
     ensures names { result ≡ None → NamesBoth (vec_len mails.new) note }
     ensures grew { Grew (cpu_of seat.old) 1 trace.old trace.new }
     ensures away { away_count mails.new.items + vec_len trace.new ≡ away_count mails.old.items + vec_len trace.old }
+    ensures hint { uncleared.new ≡ false → AreClear ports.new.items }
 {
     if !names_both(mails, note) {
         return Some(Fate::Foreign);
@@ -80,6 +92,7 @@ fn handle(
     if !enqueue(&mut ports[usize::from(note.port)], note) {
         return None;
     }
+    *uncleared = *uncleared || is_closed(ports, note.port);
     Some(Fate::Queued)
 }
 
@@ -91,6 +104,7 @@ fn pop_all(
     mails: &mut Vec<Mail>,
     line: &mut Lane,
     ports: &mut Vec<Port>,
+    uncleared: &mut bool,
     most: usize,
     trace: &mut Vec<Event>,
 ) -> usize
@@ -98,17 +112,19 @@ fn pop_all(
     requires kept { AreMails seat.old mails.old.items }
     requires ports { vec_len ports.old ≡ 16 }
     requires named { All (HasNamed (vec_len mails.old)) ports.old.items }
+    requires hint { uncleared.old ≡ false → AreClear ports.old.items }
     requires room { away_count mails.old.items + vec_len trace.old < vec_capacity trace.old }
     requires none { line.old.kept ≡ None }
     ensures pops { Pops most result line.old line.new (desks (work seat.old mails.old trace.old) ports.old) (desks (work seat.new mails.new trace.new) ports.new) }
     ensures keeps { Keeps (standing seat.old mails.old trace.old ports.old) (standing seat.new mails.new trace.new ports.new) }
     ensures line { KeepsNamed (vec_len mails.new) line.new }
+    ensures hint { uncleared.new ≡ false → AreClear ports.new.items }
 {
     for popped in 0..most {
         let Some(note) = pop(line) else {
             return popped;
         };
-        let Some(_fate) = handle(book, seat, mails, ports, note, trace) else {
+        let Some(_fate) = handle(book, seat, mails, ports, uncleared, note, trace) else {
             keep(line, Some(note));
             return popped + 1;
         };
@@ -124,6 +140,7 @@ pub(crate) fn empty(
     mails: &mut Vec<Mail>,
     line: &mut Lane,
     ports: &mut Vec<Port>,
+    uncleared: &mut bool,
     most: usize,
     trace: &mut Vec<Event>,
 ) -> usize
@@ -131,19 +148,21 @@ pub(crate) fn empty(
     requires kept { AreMails seat.old mails.old.items }
     requires ports { vec_len ports.old ≡ 16 }
     requires named { All (HasNamed (vec_len mails.old)) ports.old.items }
+    requires hint { uncleared.old ≡ false → AreClear ports.old.items }
     requires room { away_count mails.old.items + vec_len trace.old < vec_capacity trace.old }
     requires line { KeepsNamed (vec_len mails.old) line.old }
     ensures empties { Empties most result line.old line.new (desks (work seat.old mails.old trace.old) ports.old) (desks (work seat.new mails.new trace.new) ports.new) }
     ensures within { result ≤ most }
     ensures keeps { Keeps (standing seat.old mails.old trace.old ports.old) (standing seat.new mails.new trace.new ports.new) }
     ensures line { KeepsNamed (vec_len mails.new) line.new }
+    ensures hint { uncleared.new ≡ false → AreClear ports.new.items }
 {
     let Some(note) = line.kept else {
-        return pop_all(book, seat, mails, line, ports, most, trace);
+        return pop_all(book, seat, mails, line, ports, uncleared, most, trace);
     };
-    let Some(_fate) = handle(book, seat, mails, ports, note, trace) else {
+    let Some(_fate) = handle(book, seat, mails, ports, uncleared, note, trace) else {
         return 0;
     };
     keep(line, None);
-    pop_all(book, seat, mails, line, ports, most, trace)
+    pop_all(book, seat, mails, line, ports, uncleared, most, trace)
 }

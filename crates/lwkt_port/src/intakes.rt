@@ -1,8 +1,9 @@
 //! The notes that came over the lanes are taken in.
-ghost use Rattle.std.specs.Prelude.{◌≡◌, ℕ, ◌+◌, ◌-◌, ◌<◌, ◌≤◌, List, length, All, vec_len, vec_capacity};
+ghost use Rattle.std.specs.Prelude.{◌≡◌, ◌⊎◌, ℕ, ◌+◌, ◌-◌, ◌<◌, ◌≤◌, false, List, length, All, vec_len, vec_capacity};
 ghost use Rattle.lwkt_msg.specs.Desks.{cpu_of, cpus_of, messages_of, IsSameDesk};
 ghost use Rattle.lwkt_port.specs.declared.lines.Lane.{Lane};
 ghost use Rattle.lwkt_port.specs.Chains.{Chain};
+ghost use Rattle.lwkt_port.specs.Hints.{OwesNone, AreClear};
 ghost use Rattle.lwkt_port.specs.Lines.{IsRoomed};
 ghost use Rattle.lwkt_port.specs.Mails.{mail_at, AreMails};
 ghost use Rattle.lwkt_port.specs.Posts.{Changes, KeepsNamed, IsSamePost};
@@ -98,6 +99,41 @@ fn pay_all(
     }
 }
 
+// Makes the replies that are owed, as lanes have room; `owing` says whether there may be one.
+fn pay_owed(
+    book: &MsgBook,
+    seat: &mut MsgSeat,
+    lanes: &mut Vec<Lane>,
+    mails: &mut Vec<Mail>,
+    owing: bool,
+    trace: &mut Vec<Event>,
+)
+    requires table { seat.old.table ≡ book.now.table }
+    requires kept { AreMails seat.old mails.old.items }
+    requires lanes { vec_len lanes.old ≡ cpus_of seat.old }
+    requires named { All (KeepsNamed (vec_len mails.old)) lanes.old.items }
+    requires hint { owing ≡ false → OwesNone mails.old.items }
+    requires room { vec_len trace.old + 64 ≤ vec_capacity trace.old }
+    ensures pays { Chain Payer Pays (vec_len mails.old) (payer (work seat.old mails.old trace.old) lanes.old) (payer (work seat.new mails.new trace.new) lanes.new) }
+    ensures stands { Stands 64 seat.old mails.old trace.old seat.new mails.new trace.new }
+    ensures lanes { vec_len lanes.new ≡ vec_len lanes.old }
+    ensures named { All (KeepsNamed (vec_len mails.new)) lanes.new.items }
+    ensures away { away_count mails.new.items ≡ away_count mails.old.items }
+    ensures hint { owing ≡ false → OwesNone mails.new.items }
+{
+    if owing {
+        pay_all(book, seat, lanes, mails, trace);
+    }
+}
+
+// Whether a reply may be owed now: only where one was before, or where closed ports were cleared.
+fn may_owe(owing: bool, cleared: bool, mails: &Vec<Mail>) -> bool
+    requires hint { owing ≡ false → cleared ≡ false → OwesNone mails.now.items }
+    ensures { result ≡ false → OwesNone mails.now.items }
+{
+    (owing || cleared) && !mails.iter().all(|mail| mail.owed.is_none())
+}
+
 // Empties the lanes, one after another, as far as the limit allows. Answers how many notes were popped.
 fn empty_all(
     book: &MsgBook,
@@ -105,6 +141,7 @@ fn empty_all(
     lanes: &mut Vec<Lane>,
     mails: &mut Vec<Mail>,
     ports: &mut Vec<Port>,
+    uncleared: &mut bool,
     limit: usize,
     trace: &mut Vec<Event>,
 ) -> usize
@@ -113,18 +150,29 @@ fn empty_all(
     requires ports { vec_len ports.old ≡ 16 }
     requires named { All (HasNamed (vec_len mails.old)) ports.old.items }
     requires lanes { All (KeepsNamed (vec_len mails.old)) lanes.old.items }
+    requires hint { uncleared.old ≡ false → AreClear ports.old.items }
     requires room { away_count mails.old.items + vec_len trace.old < vec_capacity trace.old }
     ensures notes { Chain Intake (EmptiesFrom limit) (vec_len lanes.old) (intake (work seat.old mails.old trace.old) lanes.old ports.old 0) (intake (work seat.new mails.new trace.new) lanes.new ports.new result) }
     ensures within { result ≤ limit }
     ensures keeps { Keeps (standing seat.old mails.old trace.old ports.old) (standing seat.new mails.new trace.new ports.new) }
     ensures len { vec_len lanes.new ≡ vec_len lanes.old }
     ensures lanes { All (KeepsNamed (vec_len mails.new)) lanes.new.items }
+    ensures hint { uncleared.new ≡ false → AreClear ports.new.items }
 {
     let mut count = 0;
     let senders = lanes.len();
     for sender in 0..senders {
         let most = limit - count;
-        count += empty(book, seat, mails, &mut lanes[sender], ports, most, trace);
+        count += empty(
+            book,
+            seat,
+            mails,
+            &mut lanes[sender],
+            ports,
+            uncleared,
+            most,
+            trace,
+        );
     }
     count
 }
@@ -136,6 +184,8 @@ fn take_in(
     lanes: &mut Vec<Lane>,
     mails: &mut Vec<Mail>,
     ports: &mut Vec<Port>,
+    owing: &mut bool,
+    uncleared: &mut bool,
     limit: usize,
     trace: &mut Vec<Event>,
 ) -> usize
@@ -143,6 +193,8 @@ fn take_in(
     requires kept { AreMails seat.old mails.old.items }
     requires ports { vec_len ports.old ≡ 16 }
     requires named { All (HasNamed (vec_len mails.old)) ports.old.items }
+    requires owing { owing.old ≡ false → OwesNone mails.old.items }
+    requires hint { uncleared.old ≡ false → AreClear ports.old.items }
     requires lanes { vec_len lanes.old ≡ cpus_of seat.old }
     requires keep { All (KeepsNamed (vec_len mails.old)) lanes.old.items }
     requires room { vec_len trace.old + 256 ≤ vec_capacity trace.old }
@@ -153,11 +205,15 @@ fn take_in(
     ensures named { All (HasNamed (vec_len mails.new)) ports.new.items }
     ensures lanes { vec_len lanes.new ≡ vec_len lanes.old }
     ensures keep { All (KeepsNamed (vec_len mails.new)) lanes.new.items }
+    ensures owing { owing.new ≡ false → OwesNone mails.new.items }
+    ensures hint { uncleared.new ≡ false → AreClear ports.new.items }
 {
     make_room(lanes);
-    pay_all(book, seat, lanes, mails, trace);
-    let count = empty_all(book, seat, lanes, mails, ports, limit, trace);
-    clear_all(book, seat, mails, ports, trace);
+    pay_owed(book, seat, lanes, mails, *owing, trace);
+    let count = empty_all(book, seat, lanes, mails, ports, uncleared, limit, trace);
+    let cleared = *uncleared;
+    clear_all(book, seat, mails, ports, uncleared, trace);
+    *owing = may_owe(*owing, cleared, mails);
     count
 }
 
@@ -184,6 +240,8 @@ impl Ports {
             &mut self.lanes,
             &mut self.mails,
             &mut self.ports,
+            &mut self.owing,
+            &mut self.uncleared,
             limit,
             trace,
         )
@@ -202,12 +260,14 @@ impl Ports {
         ensures told { Tells self.old.seat self.new.seat trace.old.items trace.new.items }
     {
         make_room(&mut self.lanes);
-        pay_all(
+        pay_owed(
             book,
             &mut self.seat,
             &mut self.lanes,
             &mut self.mails,
+            self.owing,
             trace,
         );
+        self.owing = may_owe(self.owing, false, &self.mails);
     }
 }

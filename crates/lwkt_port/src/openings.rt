@@ -138,6 +138,8 @@ impl Ports {
             ports,
             mails,
             threads,
+            owing: false,
+            uncleared: false,
         })
     }
 }

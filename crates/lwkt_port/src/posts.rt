@@ -15,16 +15,21 @@ pub struct Ports {
     pub(crate) ports: Vec<Port>,
     pub(crate) mails: Vec<Mail>,
     pub(crate) threads: usize,
+    /// Whether a reply may be owed: while this isn't set none is.
+    pub(crate) owing: bool,
+    /// Whether a closed port may have a note: while this isn't set none has.
+    pub(crate) uncleared: bool,
 }
 
 impl Model for Ports {
     ghost use Rattle.lwkt_port.specs.Posts.{Post, IsPost};
+    ghost use Rattle.lwkt_port.specs.Hints.{AreHints};
 
     ghost Value = { Post };
 
     ghost view = { λ p. record { seat = p.seat; lanes = p.lanes.items; ports = p.ports.items; mails = p.mails.items; threads = p.threads } };
 
-    ghost invariant = { λ p. IsPost (record { seat = p.seat; lanes = p.lanes.items; ports = p.ports.items; mails = p.mails.items; threads = p.threads }) };
+    ghost invariant = { λ p. IsPost (record { seat = p.seat; lanes = p.lanes.items; ports = p.ports.items; mails = p.mails.items; threads = p.threads }) × AreHints p.owing p.uncleared p.mails.items p.ports.items };
 }
 
 impl Ports {
@@ -49,6 +54,8 @@ impl Ports {
             ports: _,
             mails: _,
             threads: _,
+            owing: _,
+            uncleared: _,
         } = self;
         seat
     }

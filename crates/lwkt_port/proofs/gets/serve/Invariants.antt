@@ -1,5 +1,10 @@
+use Rattle.std.proofs.Common.{◌≡◌, false}
+use Rattle.lwkt_port.specs.Hints.{OwesNone}
 use Rattle.lwkt_port.proofs.Serving.{IsServing}
 use Rattle.lwkt_port.proofs.gets.serve.Given as goal
 
 abbrev pub invariant-loop-turn : goal.invariant-loop-turn
-invariant-loop-turn l = IsServing l.thread l._turn l.initial.seat l.initial.mails l.initial.trace l.initial.port l.seat l.mails l.trace l.port
+invariant-loop-turn l = record {
+  serving : IsServing l.thread l._turn l.initial.seat l.initial.mails l.initial.trace l.initial.port l.seat l.mails l.trace l.port;
+  hint : l.owing ≡ false → OwesNone l.mails.items;
+}

@@ -14,6 +14,7 @@ loop-sender-init c = record {
   keeps = keeps_none (standing c.args.seat.now c.args.mails.now c.args.trace.now c.args.ports.now) c.requires.kept c.requires.ports c.requires.named;
   len = refl;
   lanes = c.requires.lanes;
+  hint = c.requires.hint;
 }
 
 pub loop-sender-preserved : goal.loop-sender-preserved
@@ -32,4 +33,5 @@ loop-sender-preserved c =
       keeps = keeps_then s s1 s2 l.invariant.keeps e.keeps;
       len = l.invariant.len;
       lanes = line_named (vec_len l.mails) (vec_len c.empty-count.new.mails) l.lanes.items l.sender c.empty-count.new.line e.keeps.len l.invariant.lanes e.line;
+      hint = e.hint;
     }

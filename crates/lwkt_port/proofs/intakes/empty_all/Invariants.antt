@@ -1,6 +1,7 @@
-use Rattle.std.proofs.Common.{◌≡◌, ◌≤◌, vec_len}
+use Rattle.std.proofs.Common.{◌≡◌, ◌≤◌, false, vec_len}
 use Rattle.std.specs.Prelude.{All}
 use Rattle.lwkt_port.specs.Chains.{Chain}
+use Rattle.lwkt_port.specs.Hints.{AreClear}
 use Rattle.lwkt_port.specs.Intakes.{Intake, intake, EmptiesFrom}
 use Rattle.lwkt_port.specs.Posts.{KeepsNamed}
 use Rattle.lwkt_port.specs.Works.{work, standing, Keeps}
@@ -13,4 +14,5 @@ invariant-loop-sender l = record {
   keeps : Keeps (standing l.initial.seat l.initial.mails l.initial.trace l.initial.ports) (standing l.seat l.mails l.trace l.ports);
   len : vec_len l.lanes ≡ vec_len l.initial.lanes;
   lanes : All (KeepsNamed (vec_len l.mails)) l.lanes.items;
+  hint : l.uncleared ≡ false → AreClear l.ports.items;
 }
