@@ -1,4 +1,4 @@
-use Rattle.std.specs.Prelude.{◌≡◌, Bool, true, false, List, Vec, ℕ}
+use Rattle.std.specs.Prelude.{◌≡◌, Bool, true, false, List, None, Vec, ℕ}
 use Rattle.std.specs.declared.alloc.Global.{Global}
 use Rattle.lwkt_base.specs.declared.names.Ref.{Ref}
 use Rattle.lwkt_base.specs.declared.asks.Ask.{Ask}
@@ -32,12 +32,12 @@ goes_on Exits = false
 goes_on (Faults fault) = false
 
 -- a thread's body is polled once, with the answer kept for the thread, and its ask is performed; the answer to it is kept for the
--- thread's next poll
+-- thread's next poll, and no refusal of its list is kept any more
 pub record Polls {B : Type 0} (polled : B → Answer → Ask → B → Type 0) (bank : BankId) (number : ℕ) (a b : CpuSeat) (p q : Post) (body next_body : B) (old new : Thread) (t u : Vec Event Global) (runs : Bool) : Type 0 where
   pub ask : Ask
   pub next : Next
   pub list : List Ref
   pub polled_once : polled body old.last ask next_body
   pub performs : Performs bank number a b p q old.list list t u ask next
-  pub becomes : new ≡ became (record old { list = list }) next
+  pub becomes : new ≡ became (record old { list = list; busy = None }) next
   pub runs_on : runs ≡ goes_on next

@@ -14,6 +14,7 @@ pub(crate) fn end(thread: &mut Thread, phase: Phase)
 {
     thread.list = TokList::new();
     thread.phase = phase;
+    thread.busy = None;
 }
 
 /// What comes next for a thread comes; says whether it goes on running.
