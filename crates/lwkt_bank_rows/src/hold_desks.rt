@@ -38,6 +38,8 @@ pub enum Call {
     /// The same reference as often as a list has room.
     Fill(Ref),
     Resume(&'static [Ref]),
+    /// Whether the token of the reference of this place still has this word.
+    Still(&'static [Ref], usize, u64),
     Block,
 }
 
@@ -47,6 +49,7 @@ pub enum Told {
     Answered(Answer),
     Got(Acquired),
     Resumed(Resumed),
+    Still(bool),
     Blocked(Blocked),
     Refused(Fault),
     /// The thread of a body has to switch, and all was given up.
@@ -174,6 +177,16 @@ fn resume(
     resumed
 }
 
+// Looks at the token of the reference of this place of a list, nothing being held.
+fn look(hold: &mut Hold, bank: &Bank, list: &TokList, at: usize, word: u64) -> bool
+    requires at { IsHeld (id_of bank.now) hold.old [] }
+    requires there { All (λ r. r.tok.0 < tokens_of (id_of bank.now)) list.now }
+    requires within { at < length list.now }
+    ensures { IsHeld (id_of bank.now) hold.new [] }
+{
+    hold.still(bank, list, at, word)
+}
+
 fn done(res: Result<(), Fault>) -> Option<Answer> {
     match res {
         Ok(()) => Some(Answer::Done),
@@ -246,6 +259,24 @@ impl ListedHold<'_> {
         ))
     }
 
+    // Looks at the token of the reference of this place of a list, after all that was held is given up.
+    fn still(&mut self, refs: &[Ref], at: usize, word: u64) -> Result<bool, Fault> {
+        let list = list_of(self.bank, refs)?;
+        if at >= list.len() {
+            return Err(Fault::NotHeld);
+        }
+        make_room(&mut self.trace)?;
+        let held = self.list.len();
+        let _ = give_up(
+            &mut self.hold,
+            self.bank,
+            &mut self.list,
+            held,
+            &mut self.trace,
+        );
+        Ok(look(&mut self.hold, self.bank, &list, at, word))
+    }
+
     fn asked(&mut self, tok: TokId, mode: Mode) -> Option<Answer> {
         match self.get(Ref { tok, mode }) {
             Ok(Acquired::Got) => Some(Answer::Done),
@@ -305,6 +336,10 @@ impl ListedHold<'_> {
             Call::Fill(new) => self.fill(new),
             Call::Resume(refs) => match self.resume(refs) {
                 Ok(resumed) => Told::Resumed(resumed),
+                Err(fault) => Told::Refused(fault),
+            },
+            Call::Still(refs, at, word) => match self.still(refs, at, word) {
+                Ok(still) => Told::Still(still),
                 Err(fault) => Told::Refused(fault),
             },
             Call::Block => match self.block() {

@@ -354,6 +354,12 @@ fn a_broken_law_is_undone(rt: HostRuntime) {
     expect(&rt, rt.alloc(), &BROKEN_LAW);
 }
 
+const BOTH: [Ref; 2] = [FIRST_EXCLUSIVE, SECOND_EXCLUSIVE];
+
+const STILL: Told = Told::Still(true);
+
+const MOVED: Told = Told::Still(false);
+
 const MISSED_LIST: Played = Played {
     tokens: &[PLAIN, PLAIN],
     cpus: 3,
@@ -361,7 +367,7 @@ const MISSED_LIST: Played = Played {
         Line(1, Call::Get(SECOND_EXCLUSIVE), GOT, 0, 1),
         Line(
             0,
-            Call::Resume(&[FIRST_EXCLUSIVE, SECOND_EXCLUSIVE]),
+            Call::Resume(&BOTH),
             Told::Resumed(Resumed::Passed {
                 at: 1,
                 why: Missed::Busy { word: 1 },
@@ -369,6 +375,10 @@ const MISSED_LIST: Played = Played {
             0,
             1,
         ),
+        // The word that refused the list is the token's still; it isn't another one, nor that of another reference.
+        Line(0, Call::Still(&BOTH, 1, 1), STILL, 0, 1),
+        Line(0, Call::Still(&BOTH, 1, 3), MOVED, 0, 1),
+        Line(0, Call::Still(&BOTH, 0, 1), MOVED, 0, 1),
         // A list of no references is held at once.
         Line(0, Call::Resume(&[]), ALL, 0, 1),
         // Trying for a token that is held changes nothing.

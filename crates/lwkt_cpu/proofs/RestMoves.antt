@@ -14,14 +14,16 @@ use Rattle.lwkt_bank.specs.declared.seats.CpuSeat.{CpuSeat}
 use Rattle.lwkt_bank.specs.Seats.{BankId, bank_of, tokens_of, holding}
 use Rattle.lwkt_hold.specs.Fronts.{IsBetween, IsFront}
 use Rattle.lwkt_hold.specs.Runs.{Ran}
+use Rattle.lwkt_hold.specs.Misses.{IsRefusing}
 use Rattle.lwkt_hold.proofs.RunMoves.{ran_then, ran_weaker, ran_with_room}
 use Rattle.lwkt_base.specs.declared.faults.Fault.TheVariants.{Worn as WornOut}
 use Rattle.lwkt_msg.specs.Desks.{messages_of}
 use Rattle.lwkt_port.specs.Posts.{Post, IsSamePost}
 use Rattle.lwkt_cpu.specs.declared.phases.Phase.{Phase}
 use Rattle.lwkt_cpu.specs.declared.phases.Phase.TheVariants.{Live, AwaitsReply, Faulted}
+use Rattle.lwkt_cpu.specs.declared.threads.BusyAt.{BusyAt}
 use Rattle.lwkt_cpu.specs.declared.threads.Thread.{Thread}
-use Rattle.lwkt_cpu.specs.Processors.{IsSettled, HoldsFor, IsAtRest, Awaits, AllAwait, Processor, processor_of, has_ended}
+use Rattle.lwkt_cpu.specs.Processors.{KeepsBusyWord, IsSettled, HoldsFor, IsAtRest, Awaits, AllAwait, Processor, processor_of, has_ended}
 use Rattle.lwkt_cpu.specs.Searches.{ComesBefore, Finds, IsOfOne}
 use Rattle.lwkt_cpu.specs.Turning.{cursor_after, Chooses, IsMailed, IsOfThread}
 use Rattle.lwkt_cpu.specs.Waking.{AreWoken}
@@ -38,17 +40,23 @@ settled_later a b t same s = record {
   lawful = s.lawful;
   there = let F : BankId → Type 0 = λ bank. All (λ r. r.tok.0 < tokens_of bank) t.list in subst F (sym same) s.there;
   ended = s.ended;
+  busy = s.busy;
 }
+
+-- a settled thread of which another refusal is kept
+settled_busy : (s : CpuSeat) (t : Thread) (busy : Option BusyAt) → KeepsBusyWord (record t { busy = busy }) → IsSettled s t → IsSettled s (record t { busy = busy })
+settled_busy s t busy fits x = record { lawful = x.lawful; there = x.there; ended = x.ended; busy = fits }
 
 -- an empty list
 pub lawful_none : IsLawful []
 lawful_none = λ tok is. cc
 
-pub settled_none : (s : CpuSeat) (t : Thread) → t.list ≡ [] → IsSettled s t
-settled_none s t none = record {
+pub settled_none : (s : CpuSeat) (t : Thread) → t.list ≡ [] → t.busy ≡ None → IsSettled s t
+settled_none s t none free = record {
   lawful = let F : List Ref → Type 0 = λ xs. IsLawful xs in subst F (sym none) lawful_none;
   there = let F : List Ref → Type 0 = λ xs. All (λ r. r.tok.0 < tokens_of (bank_of s)) xs in subst F (sym none) (All-nil (λ (r : Ref). r.tok.0 < tokens_of (bank_of s)));
   ended = λ is. none;
+  busy = let F : Option BusyAt → Type 0 = λ o. IfSome o (λ r. IsRefusing t.list r.at r.word) in subst F (sym free) tt;
 }
 
 comes_or_not : (cursor count place k : ℕ) → ComesBefore cursor count place k ⊎ ¬ ComesBefore cursor count place k
@@ -86,8 +94,11 @@ kept_settled a b olds news same keeps settled k t at =
     let x = keeps k t at in
     let F : Thread → Type 0 = λ y. IsSettled b y in
     elim x.1.1 [
-      | inl still ↦ subst F (sym still) (settled_later a b x.0 same (settled k x.0 x.1.0))
-      | inr ended ↦ settled_none b t (ap (λ (y : Thread). y.list) ended)
+      | inl still ↦
+          let old = settled_later a b x.0 same (settled k x.0 x.1.0) in
+          let G : Thread → Type 0 = λ y. KeepsBusyWord y in
+          subst F (sym still.1.0) (settled_busy b x.0 still.0 (subst G still.1.0 (still.1.1 old.busy)) old)
+      | inr ended ↦ settled_none b t (ap (λ (y : Thread). y.list) ended) (ap (λ (y : Thread). y.busy) ended)
     ]
 
 within_after : (a b : CpuSeat) (olds news : List Thread) (cursor : ℕ) (found : Option ℕ) → cursor ≤ length olds → Finds a b olds news cursor found → cursor_after cursor found ≤ length news
@@ -111,7 +122,7 @@ kept_awaits n olds news keeps all = λ k t at.
     let x = keeps k t at in
     let F : Thread → Type 0 = λ y. Awaits n y in
     elim x.1.1 [
-      | inl still ↦ subst F (sym still) (all k x.0 x.1.0)
+      | inl still ↦ subst F (sym still.1.0) (all k x.0 x.1.0)
       | inr ended ↦ ended_awaits n t (Faulted WornOut) refl (ap (λ (y : Thread). y.phase) ended)
     ]
 

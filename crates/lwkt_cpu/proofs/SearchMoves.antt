@@ -1,4 +1,4 @@
-use Rattle.std.proofs.Common.{◌≡◌, ℕ, ◌+◌, ◌<◌, ◌≤◌, List, [], length, set, get_or, refl, ap, sym, ◌∙◌, subst, arith, inl, inr, Option, Some, None}
+use Rattle.std.proofs.Common.{◌≡◌, ℕ, ◌+◌, ◌<◌, ◌≤◌, List, [], ◌∷◌, ◌++◌, length, set, get_or, refl, ap, sym, ◌∙◌, subst, arith, Bool, false, inl, inr, Option, Some, None, append_assoc}
 use Rattle.std.specs.Prelude.{◌⊎◌, All, Vec, IsSomeAnd, slice_get}
 use Rattle.std.specs.declared.alloc.Global.{Global}
 use Rattle.std.proofs.lemmas.Bool.{cases_lt}
@@ -11,29 +11,61 @@ use Rattle.lwkt_base.specs.declared.faults.Fault.TheVariants.{Worn as WornOut}
 use Rattle.lwkt_core.specs.declared.events.Event.{Event}
 use Rattle.lwkt_bank.specs.declared.seats.CpuSeat.{CpuSeat}
 use Rattle.lwkt_bank.specs.Seats.{BankId, bank_of, tokens_of, holding}
-use Rattle.lwkt_hold.specs.declared.answers.Missed.TheVariants.{Worn}
+use Rattle.lwkt_core.specs.History.{steps_in}
+use Rattle.lwkt_bank.specs.Views.{load}
+use Rattle.lwkt_hold.specs.declared.answers.Missed.{Missed}
+use Rattle.lwkt_hold.specs.declared.answers.Missed.TheVariants.{Busy, Again, Worn}
 use Rattle.lwkt_hold.specs.Fronts.{IsFront}
 use Rattle.lwkt_hold.specs.Runs.{Ran}
-use Rattle.lwkt_hold.proofs.RunMoves.{ran_none, ran_then, ran_weaker}
+use Rattle.lwkt_hold.specs.Misses.{Misses}
+use Rattle.lwkt_hold.proofs.RunMoves.{ran_none, ran_steps, ran_then, ran_weaker}
 use Rattle.lwkt_hold.proofs.ListMoves.{misses_between}
+use Rattle.lwkt_hold.specs.Stays.{Stays as Stands}
+use Rattle.lwkt_hold.proofs.StillMoves.{refusing}
 use Rattle.lwkt_hold.proofs.ReadMoves.{front_none}
 use Rattle.lwkt_cpu.specs.declared.phases.Phase.TheVariants.{Live, Faulted}
+use Rattle.lwkt_cpu.specs.declared.threads.BusyAt.{BusyAt}
 use Rattle.lwkt_cpu.specs.declared.threads.Thread.{Thread}
-use Rattle.lwkt_cpu.specs.Processors.{AreThere}
-use Rattle.lwkt_cpu.specs.Searches.{Skips, Searches, IsIn, ComesBefore, IsUp, Finds, IsOfOne, ended_by}
+use Rattle.lwkt_cpu.specs.Processors.{KeepsBusyWord, AreThere, AllKeepBusyWords}
+use Rattle.lwkt_cpu.specs.Searches.{missed_by, HasMoved, MayBeTried, IsMissed, Skips, Searches, IsIn, ComesBefore, IsUp, Finds, IsOfOne, ended_by}
 use Rattle.lwkt_cpu.proofs.PlaceMoves.{get_set_same, get_set_other, get_there, some_same}
 
 -- a front of a list that some thread has
 pub front_of_one : (threads : List Thread) (k : ℕ) (t : Thread) (h : Holding) → slice_get threads k ≡ Some t → IsFront t.list h → IsOfOne threads h
 front_of_one threads k t h at front = (k, (let F : Option Thread → Type 0 = λ o. IsSomeAnd o (λ x. IsFront x.list h) in subst F (sym at) front))
 
--- a thread that is passed over is passed over in a longer run
+-- a look that found another word
+pub moved_now : (a b : CpuSeat) (refs : List Ref) (place word : ℕ) (still : Bool) → Stands a b refs place word still → still ≡ false → HasMoved a b refs place word
+moved_now a b refs place word still s is = record { earlier = []; found = s.found; later = []; at = s.at; at_place = s.at_place; steps = s.steps; other = s.no is }
+
+-- a word that has moved has moved in a longer run
+moved_wider : (P Q : Holding → Type 0) (m n : ℕ) (a b c d : CpuSeat) (t u v w : Vec Event Global) (refs : List Ref) (place word : ℕ) → Ran P m a b t u → HasMoved b c refs place word → Ran Q n c d v w → HasMoved a d refs place word
+moved_wider P Q m n a b c d t u v w refs place word before moved after = record {
+  earlier = steps_in before.deeds ++ moved.earlier;
+  found = moved.found;
+  later = moved.later ++ steps_in after.deeds;
+  at = moved.at;
+  at_place = moved.at_place;
+  steps = ran_steps Q n c d v w after ∙ ap (λ xs. xs ++ steps_in after.deeds) (moved.steps ∙ ap (λ xs. xs ++ (moved.earlier ++ load moved.at.tok.0 moved.found ∷ moved.later)) (ran_steps P m a b t u before)) ∙ simp append_assoc;
+  other = moved.other;
+}
+
+pub tried_wider : (P Q : Holding → Type 0) (m n : ℕ) (a b c d : CpuSeat) (t u v w : Vec Event Global) (old : Thread) → Ran P m a b t u → MayBeTried b c old → Ran Q n c d v w → MayBeTried a d old
+tried_wider P Q m n a b c d t u v w old before tried after = elim tried [
+  | inl none ↦ inl none
+  | inr moved ↦ inr (moved.0, (moved.1.0, moved_wider P Q m n a b c d t u v w old.list moved.0.at moved.0.word before moved.1.1 after))
+]
+
+pub missed_wider : (P Q : Holding → Type 0) (m n : ℕ) (a b c d : CpuSeat) (t u v w : Vec Event Global) (old new : Thread) → Ran P m a b t u → IsMissed b c old new → Ran Q n c d v w → IsMissed a d old new
+missed_wider P Q m n a b c d t u v w old new before x after = (x.0, (x.1.0, (misses_between P Q m n a b c d t u v w old.list x.0 x.1.0 before x.1.1.0 after, x.1.1.1)))
+
+-- a thread that is skipped is skipped in a longer run
 pub skips_wider : (P Q : Holding → Type 0) (m n : ℕ) (a b c d : CpuSeat) (t u v w : Vec Event Global) (old new : Thread) → Ran P m a b t u → Skips b c old new → Ran Q n c d v w → Skips a d old new
 skips_wider P Q m n a b c d t u v w old new before skips after = elim skips [
   | inl still ↦ inl still
   | inr live ↦ elim live [
-    | inl refused ↦ inr (inl (refused.0, refused.1, (refused.2.0, (refused.2.1.0, (refused.2.1.1.0, misses_between P Q m n a b c d t u v w old.list refused.2.0 refused.2.1.0 before refused.2.1.1.1 after)))))
-    | inr worn ↦ inr (inr (worn.0, worn.1, (worn.2.0, misses_between P Q m n a b c d t u v w old.list worn.2.0 Worn before worn.2.1 after)))
+    | inl over ↦ inr (inl (over.0, over.1, (over.2.0, (over.2.1.0, misses_between P Q m n a b c d t u v w old.list over.2.0.at (Busy over.2.0.word) before over.2.1.1 after))))
+    | inr missed ↦ inr (inr (missed.0, tried_wider P Q m n a b c d t u v w old before missed.1 after, missed_wider P Q m n a b c d t u v w old new before missed.2 after))
   ]
 ]
 
@@ -100,9 +132,26 @@ searches_more P Q m n a b c t u v olds mids from at old new low is first second 
 pub untried : (a b : CpuSeat) (olds mids : List Thread) (from at : ℕ) (old : Thread) → Searches a b olds mids (IsIn from at) → slice_get mids at ≡ Some old → slice_get olds at ≡ Some old
 untried a b olds mids from at old s is = sym (s.others at (λ in_. absurd (omega (arith, in_.1)))) ∙ is
 
--- each thread is as it was, or has ended at a last generation
+-- a thread is as it was, apart from what is kept of a refusal, which refuses its list if it did
+abbrev pub Stays : Thread → Thread → Type 0
+Stays old new = (busy : Option BusyAt) × ((new ≡ record old { busy = busy }) × (KeepsBusyWord old → KeepsBusyWord new))
+
+stays_same : (old new : Thread) → new ≡ old → Stays old new
+stays_same old new is = (old.busy, (is, let F : Thread → Type 0 = λ t. KeepsBusyWord t in λ fits. subst F (sym is) fits))
+
+-- each thread is so, or has ended at a last generation
 abbrev pub Keeps : List Thread → List Thread → Type 0
-Keeps olds news = (k : ℕ) (new : Thread) → slice_get news k ≡ Some new → (old : Thread) × ((slice_get olds k ≡ Some old) × ((new ≡ old) ⊎ (new ≡ ended_by (Faulted WornOut) old)))
+Keeps olds news = (k : ℕ) (new : Thread) → slice_get news k ≡ Some new → (old : Thread) × ((slice_get olds k ≡ Some old) × (Stays old new ⊎ (new ≡ ended_by (Faulted WornOut) old)))
+
+-- what a missed try leaves
+missed_keeps : (a b : CpuSeat) (old new : Thread) (place : ℕ) (why : Missed) → Misses a b old.list place why → new ≡ missed_by place why old → Stays old new ⊎ (new ≡ ended_by (Faulted WornOut) old)
+missed_keeps a b old new place (Busy word) m is =
+    let F : Thread → Type 0 = λ t. KeepsBusyWord t in
+    inl (Some (record { word = word; at = place }), (is, λ fits. subst F (sym is) (refusing a b old.list place word m)))
+missed_keeps a b old new place Again m is =
+    let F : Thread → Type 0 = λ t. KeepsBusyWord t in
+    inl (None, (is, λ fits. subst F (sym is) tt))
+missed_keeps a b old new place Worn m is = inr is
 
 pub searches_keeps : (a b : CpuSeat) (olds news : List Thread) (T : ℕ → Type 0) → ((k : ℕ) → T k ⊎ ¬ T k) → Searches a b olds news T → Keeps olds news
 searches_keeps a b olds news T cases s = λ k new at.
@@ -116,10 +165,13 @@ searches_keeps a b olds news T cases s = λ k new at.
               let x = s.tried k is old.0 old.1 in
               let same : x.0 ≡ new = some_same x.0 new (slice_get news k) x.1.0 at in
               elim x.1.1 [
-                | inl still ↦ inl (sym same ∙ still.1)
-                | inr live ↦ elim live [ inl refused ↦ inl (sym same ∙ refused.1) | inr worn ↦ inr (sym same ∙ worn.1) ]
+                | inl still ↦ inl (stays_same old.0 new (sym same ∙ still.1))
+                | inr live ↦ elim live [
+                  | inl over ↦ inl (stays_same old.0 new (sym same ∙ over.1))
+                  | inr missed ↦ let m = missed.2 in missed_keeps a b old.0 new m.0 m.1.0 m.1.1.0 (sym same ∙ m.1.1.1)
+                ]
               ]
-          | inr away ↦ inl (some_same new old.0 (slice_get news k) at (s.others k away ∙ old.1))
+          | inr away ↦ inl (stays_same old.0 new (some_same new old.0 (slice_get news k) at (s.others k away ∙ old.1)))
         ],
       ),
     )
@@ -163,8 +215,18 @@ there_kept a b olds news same keeps there = λ k new is.
     let x = keeps k new is in
     let F : Thread → Type 0 = λ t. All (λ r. r.tok.0 < tokens_of (bank_of b)) t.list in
     elim x.1.1 [
-      | inl still ↦ subst F (sym still) (there_at a b olds k x.0 same x.1.0 there)
+      | inl still ↦ subst F (sym still.1.0) (there_at a b olds k x.0 same x.1.0 there)
       | inr ended ↦ subst F (sym ended) (All-nil (λ (r : Ref). r.tok.0 < tokens_of (bank_of b)))
+    ]
+
+-- what is kept of a refusal still refuses each list
+pub busy_kept : (olds news : List Thread) → Keeps olds news → AllKeepBusyWords olds → AllKeepBusyWords news
+busy_kept olds news keeps all = λ k new is.
+    let x = keeps k new is in
+    let F : Thread → Type 0 = λ t. KeepsBusyWord t in
+    elim x.1.1 [
+      | inl still ↦ still.1.1 (all k x.0 x.1.0)
+      | inr ended ↦ subst F (sym ended) tt
     ]
 
 -- the same threads were tried
@@ -225,6 +287,6 @@ kept_one olds news h keeps one =
     let x = keeps one.0 y.0 y.1.0 in
     let F : Thread → Type 0 = λ t. IsFront t.list h in
     front_of_one olds one.0 x.0 h x.1.0 (elim x.1.1 [
-      | inl still ↦ subst F still y.1.1
+      | inl still ↦ subst F still.1.0 y.1.1
       | inr ended ↦ front_in_nothing x.0.list h (subst F ended y.1.1)
     ])

@@ -78,7 +78,7 @@ over_stopped olds news all = λ k t at.
 -- a stopped thread is settled
 stopped_settled_if : (s : CpuSeat) (b : Bool) (t : Thread) → has_ended t.phase ≡ b → IsSettled s t → IsSettled s (stopped t)
 stopped_settled_if s true t is settled = rw is settled
-stopped_settled_if s false t is settled = rw is (settled_none s (ended_by Exited t) refl)
+stopped_settled_if s false t is settled = rw is (settled_none s (ended_by Exited t) refl refl)
 
 pub long_stopped : (olds news : List Thread) → AreStopped olds news → length news ≡ length olds
 long_stopped [] [] all = refl
@@ -118,19 +118,23 @@ pub became_empty : (t : Thread) (next : Next) (blocked : Blocked) → next ≡ u
 became_empty t next Clean is = ap (λ n. (became t n).list) is
 became_empty t next (Restored tok) is = ap (λ n. (became t n).list) is
 
+pub became_free : (t : Thread) (next : Next) (blocked : Blocked) → next ≡ unless_broken Exits blocked → (became t next).busy ≡ None
+became_free t next Clean is = ap (λ n. (became t n).busy) is
+became_free t next (Restored tok) is = ap (λ n. (became t n).busy) is
+
 kept_empty : (next : Next) (blocked : Blocked) (refs : List Ref) → next ≡ unless_broken Exits blocked → kept_list next refs ≡ []
 kept_empty next Clean refs is = ap (λ n. kept_list n refs) is
 kept_empty next (Restored tok) refs is = ap (λ n. kept_list n refs) is
 
-pub rest_halted : {B : Type 0} (a b : CpuSeat) (post : Post) (bodies : List B) (threads : List Thread) (running : Option ℕ) (cursor place : ℕ) (now : Thread) → IsAtRest (processor_of a post bodies threads running cursor) → place < length threads → bank_of b ≡ bank_of a → b.cpu ≡ a.cpu → has_ended now.phase ≡ true → now.list ≡ [] → holding b ≡ holds_nothing → IsAtRest (processor_of b post bodies (set threads place now) None cursor)
-rest_halted a b post bodies threads running cursor place now rest within same cpu over none empty = record {
+pub rest_halted : {B : Type 0} (a b : CpuSeat) (post : Post) (bodies : List B) (threads : List Thread) (running : Option ℕ) (cursor place : ℕ) (now : Thread) → IsAtRest (processor_of a post bodies threads running cursor) → place < length threads → bank_of b ≡ bank_of a → b.cpu ≡ a.cpu → has_ended now.phase ≡ true → now.list ≡ [] → now.busy ≡ None → holding b ≡ holds_nothing → IsAtRest (processor_of b post bodies (set threads place now) None cursor)
+rest_halted a b post bodies threads running cursor place now rest within same cpu over none free empty = record {
   few = omega (arith, rest.few, length-set threads place now);
   as_many = rest.as_many ∙ sym (length-set threads place now);
   mine = rest.mine ∙ sym cpu;
   ported = rest.ported ∙ sym (length-set threads place now);
   awaits = set_awaits (messages_of post.seat) threads place now within (ended_awaits (messages_of post.seat) now now.phase over refl) rest.awaits;
   within = omega (arith, rest.within, length-set threads place now);
-  settled = set_settled a b threads place now within same (settled_none b now none) rest.settled;
+  settled = set_settled a b threads place now within same (settled_none b now none free) rest.settled;
   held = empty;
 }
 

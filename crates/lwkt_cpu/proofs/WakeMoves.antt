@@ -1,7 +1,7 @@
 use Rattle.lwkt_msg.specs.Views.{seat_cpu}
 use Rattle.lwkt_cpu.specs.Fresh.{fresh}
 use Rattle.std.proofs.Common.{◌≡◌, ℕ, ◌+◌, ◌<◌, ◌≤◌, eqb, List, length, set, refl, ap, sym, ◌∙◌, subst, arith, inl, inr, Option, Some, None, zero, suc, replicate}
-use Rattle.std.specs.Prelude.{All, Vec, IsSomeAnd, slice_get}
+use Rattle.std.specs.Prelude.{All, Vec, IfSome, IsSomeAnd, slice_get}
 use Rattle.std.specs.declared.alloc.Global.{Global}
 use Rattle.std.proofs.lemmas.Bool.{cases_Bool, eqb-true, eqb-false, false≢true}
 use Rattle.std.proofs.lemmas.List.{length-set}
@@ -13,12 +13,14 @@ use Rattle.lwkt_base.specs.Holding.{holding_of, holds_nothing}
 use Rattle.lwkt_core.specs.declared.events.Event.{Event}
 use Rattle.lwkt_bank.specs.declared.seats.CpuSeat.{CpuSeat}
 use Rattle.lwkt_bank.specs.Seats.{bank_of, tokens_of, holding}
+use Rattle.lwkt_hold.specs.Misses.{IsRefusing}
 use Rattle.lwkt_hold.proofs.ReadMoves.{whole_front}
 use Rattle.lwkt_msg.specs.Desks.{cpu_of, messages_of}
 use Rattle.lwkt_port.specs.Posts.{Post, IsSamePost}
 use Rattle.lwkt_port.specs.Works.{Grew}
 use Rattle.lwkt_port.proofs.Growing.{grew_then, same_none, same_then}
 use Rattle.lwkt_cpu.specs.declared.phases.Phase.TheVariants.{Live}
+use Rattle.lwkt_cpu.specs.declared.threads.BusyAt.{BusyAt}
 use Rattle.lwkt_cpu.specs.declared.threads.Thread.{Thread}
 use Rattle.lwkt_cpu.specs.Processors.{has_ended, Awaits, AllAwait, IsSettled, HoldsFor, IsAtRest, processor_of}
 use Rattle.lwkt_cpu.specs.Turning.{IsMailed}
@@ -50,8 +52,8 @@ woken_none threads = (refl, λ k t at. (t, (at, inl refl, λ live. refl)))
 woken_then : (a b c : Thread) → IsWoken a b → (a.phase ≡ Live → b ≡ a) → IsWoken b c → (b.phase ≡ Live → c ≡ b) → IsWoken a c × (a.phase ≡ Live → c ≡ a)
 woken_then a b c one live two up = (
   elim one [
-    | inl still ↦ elim two [ inl same ↦ inl (same ∙ still) | inr ready ↦ inr (ready.0, ready.1 ∙ ap (λ (t : Thread). t.list) still) ]
-    | inr ready ↦ inr (ap (λ (t : Thread). t.phase) (up ready.0) ∙ ready.0, ap (λ (t : Thread). t.list) (up ready.0) ∙ ready.1)
+    | inl still ↦ elim two [ inl same ↦ inl (same ∙ still) | inr ready ↦ inr (ready.0, ready.1 ∙ ap (λ (t : Thread). t.list) still, ready.2 ∙ ap (λ (t : Thread). t.busy) still) ]
+    | inr ready ↦ inr (ap (λ (t : Thread). t.phase) (up ready.0) ∙ ready.0, ap (λ (t : Thread). t.list) (up ready.0) ∙ ready.1, ap (λ (t : Thread). t.busy) (up ready.0) ∙ ready.2)
   ],
   λ is. up (ap (λ (t : Thread). t.phase) (live is) ∙ is) ∙ live is,
 )
@@ -90,6 +92,10 @@ settled_woken s old new woken settled = elim woken [
     lawful = let F : List Ref → Type 0 = λ xs. IsLawful xs in subst F (sym ready.1) settled.lawful;
     there = let F : List Ref → Type 0 = λ xs. All (λ r. r.tok.0 < tokens_of (bank_of s)) xs in subst F (sym ready.1) settled.there;
     ended = λ is. absurd (false≢true (sym (ap has_ended ready.0) ∙ is));
+    busy =
+        let F : List Ref → Type 0 = λ xs. IfSome new.busy (λ r. IsRefusing xs r.at r.word) in
+        let G : Option BusyAt → Type 0 = λ o. IfSome o (λ r. IsRefusing old.list r.at r.word) in
+        subst F (sym ready.1) (subst G (sym ready.2) settled.busy);
   }
 ]
 
@@ -154,6 +160,6 @@ rest_new {B} s p bodies threads n are many few ports mine empty =
       ported = ports ∙ sym long;
       awaits = λ k t at. live_awaits (messages_of p.seat) t (ap (λ (x : Thread). x.phase) (each k t at));
       within = omega arith;
-      settled = λ k t at. settled_none s t (ap (λ (x : Thread). x.list) (each k t at));
+      settled = λ k t at. settled_none s t (ap (λ (x : Thread). x.list) (each k t at)) (ap (λ (x : Thread). x.busy) (each k t at));
       held = empty;
     }

@@ -1,4 +1,4 @@
-use Rattle.std.specs.Prelude.{◌≡◌, Bool, true, false, List, Vec, ℕ}
+use Rattle.std.specs.Prelude.{◌≡◌, Bool, true, false, List, None, Vec, ℕ}
 use Rattle.std.specs.declared.alloc.Global.{Global}
 use Rattle.lwkt_base.specs.declared.names.Ref.{Ref}
 use Rattle.lwkt_base.specs.declared.asks.Ask.{Ask}
@@ -34,7 +34,7 @@ goes_on Exits = false
 goes_on (Faults fault) = false
 
 -- a thread's body is polled once, with the answer kept for the thread, and its ask is performed; the answer to it is kept for the
--- thread's next poll, or the thread has ended and its port is closed
+-- thread's next poll, and no refusal of its list is kept any more, or the thread has ended and its port is closed
 pub record Polls {B : Type 0} (polled : B → Answer → Ask → B → Type 0) (bank : BankId) (number : ℕ) (a b : CpuSeat) (p q : Post) (body next_body : B) (old new : Thread) (t u : Vec Event Global) (runs : Bool) : Type 0 where
   pub ask : Ask
   pub next : Next
@@ -42,6 +42,6 @@ pub record Polls {B : Type 0} (polled : B → Answer → Ask → B → Type 0) (
   pub mid : Post
   pub polled_once : polled body old.last ask next_body
   pub performs : Performs bank number a b p mid old.list list t u ask next
-  pub becomes : new ≡ became (record old { list = list }) next
+  pub becomes : new ≡ became (record old { list = list; busy = None }) next
   pub runs_on : runs ≡ goes_on next
   pub closes : ClosesIf (has_ended new.phase) number mid q

@@ -1,10 +1,11 @@
-use Rattle.std.specs.Prelude.{◌≡◌, ℕ, ◌<◌, ◌≤◌, ◌==◌, if◌then◌else◌, Bool, true, false, List, [], length, All, IsSomeAnd, Option, Some, None, slice_get}
+use Rattle.std.specs.Prelude.{◌≡◌, ℕ, ◌<◌, ◌≤◌, ◌==◌, if◌then◌else◌, Bool, true, false, List, [], length, All, IfSome, IsSomeAnd, Option, Some, None, slice_get}
 use Rattle.lwkt_base.specs.declared.threads.ThreadState.{ThreadState}
 use Rattle.lwkt_base.specs.declared.threads.ThreadState.TheVariants.{Ready, Waiting, Running, Exited as HasExited, Faulted as WasFaulted}
 use Rattle.lwkt_base.specs.Refs.{IsLawful}
 use Rattle.lwkt_base.specs.Holding.{holding_of, holds_nothing}
 use Rattle.lwkt_bank.specs.declared.seats.CpuSeat.{CpuSeat}
 use Rattle.lwkt_bank.specs.Seats.{bank_of, tokens_of, holding}
+use Rattle.lwkt_hold.specs.Misses.{IsRefusing}
 use Rattle.lwkt_base.specs.declared.names.MsgId.{MsgId}
 use Rattle.lwkt_msg.specs.Desks.{cpu_of, messages_of}
 use Rattle.lwkt_port.specs.Posts.{Post}
@@ -42,11 +43,17 @@ abbrev pub is_running : Option ℕ → ℕ → Bool
 is_running None k = false
 is_running (Some i) k = i == k
 
--- a thread between two turns: its list is lawful, its list's tokens exist, and one that has ended has an empty list
+-- a word that is kept as the one that refused a thread's list is one that `decide` refuses for the reference of that place
+abbrev pub KeepsBusyWord : Thread → Type 0
+KeepsBusyWord t = IfSome t.busy (λ r. IsRefusing t.list r.at r.word)
+
+-- a thread between two turns: its list is lawful, its list's tokens exist, one that has ended has an empty list, and a word that
+-- is kept of a refusal refuses its list
 pub record IsSettled (s : CpuSeat) (t : Thread) : Type 0 where
   pub lawful : IsLawful t.list
   pub there : All (λ r. r.tok.0 < tokens_of (bank_of s)) t.list
   pub ended : has_ended t.phase ≡ true → t.list ≡ []
+  pub busy : KeepsBusyWord t
 
 -- a seat holds the list of the thread that runs, in its modes, or nothing if none runs
 abbrev pub HoldsFor : CpuSeat → List Thread → Option ℕ → Type 0
@@ -79,6 +86,10 @@ AllOver threads = (k : ℕ) (t : Thread) → slice_get threads k ≡ Some t → 
 -- the tokens of each thread's list exist
 abbrev pub AreThere : CpuSeat → List Thread → Type 0
 AreThere s threads = (k : ℕ) (t : Thread) → slice_get threads k ≡ Some t → All (λ r. r.tok.0 < tokens_of (bank_of s)) t.list
+
+-- what is kept of each thread's refusal refuses its list
+abbrev pub AllKeepBusyWords : List Thread → Type 0
+AllKeepBusyWords threads = (k : ℕ) (t : Thread) → slice_get threads k ≡ Some t → KeepsBusyWord t
 
 abbrev pub processor_of : {B : Type 0} → CpuSeat → Post → List B → List Thread → Option ℕ → ℕ → Processor B
 processor_of seat post bodies threads running cursor = record { seat = seat; post = post; bodies = bodies; threads = threads; running = running; cursor = cursor }

@@ -68,9 +68,9 @@ pub record TakesMail {B : Type 0} (old new : Processor B) (t u : Vec Event Globa
   pub running : new.running ≡ old.running
   pub cursor : new.cursor ≡ old.cursor
 
--- what waking does to a thread: nothing, or it is ready with its list as before
+-- what waking does to a thread: nothing, or it is ready with its list as before, and what refused it
 abbrev pub IsWoken : Thread → Thread → Type 0
-IsWoken old new = (new ≡ old) ⊎ ((new.phase ≡ Live) × (new.list ≡ old.list))
+IsWoken old new = (new ≡ old) ⊎ ((new.phase ≡ Live) × (new.list ≡ old.list) × (new.busy ≡ old.busy))
 
 -- each thread was woken or not; one that can run stays as it is
 abbrev pub AreWoken : List Thread → List Thread → Type 0

@@ -53,6 +53,7 @@ fn fresh_threads(alloc: Global, count: usize) -> Result<Vec<Thread>, Fault>
             list: TokList::new(),
             last: Answer::Begin,
             phase: Phase::Live,
+            busy: None,
         };
         threads.push(thread).map_err(|_| Fault::Memory)?;
     }

@@ -17,6 +17,7 @@ pub(crate) fn end(thread: &mut Thread, phase: Phase)
 {
     thread.list = TokList::new();
     thread.phase = phase;
+    thread.busy = None;
 }
 
 /// Closes the port of a thread, if it is to be.

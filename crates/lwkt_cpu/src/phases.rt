@@ -1,4 +1,4 @@
-ghost use Rattle.std.specs.Prelude.{◌≡◌};
+ghost use Rattle.std.specs.Prelude.{◌≡◌, ◌≢◌, true, false};
 
 use lwkt_base::{Fault, MsgId};
 
@@ -20,6 +20,14 @@ pub enum Phase {
 impl Phase {
     ghost use Rattle.lwkt_cpu.specs.Processors.{has_ended};
     ghost use Rattle.lwkt_cpu.specs.Ending.{is_worn};
+
+    /// Whether it runs, or can run.
+    pub(crate) fn is_live(self) -> bool
+        ensures yes { result ≡ true → self ≡ Phase.Live }
+        ensures no { result ≡ false → self ≢ Phase.Live }
+    {
+        matches!(self, Phase::Live)
+    }
 
     /// Whether this is an end.
     pub fn has_ended(self) -> bool

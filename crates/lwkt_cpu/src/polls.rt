@@ -59,6 +59,7 @@ pub(crate) fn poll_one<B: Body>(
     ensures same { IsSamePost ports.old ports.new }
     ensures told { TellsMail ports.old.seat ports.new.seat trace.old.items trace.new.items }
 {
+    thread.busy = None;
     let ask = body.poll(thread.last);
     let next = perform(
         hold,

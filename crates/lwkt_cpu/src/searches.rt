@@ -1,21 +1,71 @@
-//! The search for a thread to run: the first one from the cursor on, round once, whose whole list can be held.
+//! The search for a thread to run: the first one from the cursor on, round once, whose whole list can be held. A thread is
+//! passed over without a try where the word that refused its list last is still its token's: a try would be refused again.
 ghost use Rattle.std.specs.Prelude.{◌≡◌, ℕ, ◌+◌, ◌-◌, ◌*◌, ◌<◌, ◌≤◌, true, false, length, All, Some, None, slice_get, vec_len, vec_capacity};
 ghost use Rattle.lwkt_base.specs.Holding.{holding_of, holds_nothing};
 ghost use Rattle.lwkt_bank.specs.Seats.{id_of, bank_of, tokens_of, holding};
 ghost use Rattle.lwkt_hold.specs.Holds.{seat_of};
 ghost use Rattle.lwkt_hold.specs.Fronts.{IsFront};
 ghost use Rattle.lwkt_hold.specs.Runs.{Ran};
-ghost use Rattle.lwkt_cpu.specs.Searches.{Skips, Searches, IsIn, IsUp, Finds, IsOfOne};
-ghost use Rattle.lwkt_cpu.specs.Processors.{AreThere};
+ghost use Rattle.lwkt_hold.specs.Stays.{RunsUnseen};
+ghost use Rattle.lwkt_cpu.specs.Searches.{missed_by, IsPassedOver, MayBeTried, IsMissed, Skips, Searches, IsIn, IsUp, Finds, IsOfOne};
+ghost use Rattle.lwkt_cpu.specs.Processors.{KeepsBusyWord, AreThere, AllKeepBusyWords};
 ghost use Rattle.lwkt_ask.specs.Telling.{IsQuiet};
 
 use crate::ends::end;
 use crate::phases::Phase;
-use crate::threads::Thread;
+use crate::threads::{BusyAt, Thread};
 use lwkt_bank::Bank;
 use lwkt_base::Fault;
 use lwkt_core::Event;
 use lwkt_hold::{Hold, Missed, Resumed};
+
+// Whether the word that refused a thread's list last is still its token's, so that a try would be refused by it again.
+fn is_still_busy(hold: &mut Hold, bank: &Bank, thread: &Thread) -> bool
+    requires of { bank_of (seat_of hold.old) ≡ id_of bank.now }
+    requires there { All (λ r. r.tok.0 < tokens_of (bank_of (seat_of hold.old))) thread.now.list }
+    requires empty { holding (seat_of hold.old) ≡ holds_nothing }
+    requires busy { KeepsBusyWord thread.now }
+    ensures ran { RunsUnseen (seat_of hold.old) (seat_of hold.new) }
+    ensures empty { holding (seat_of hold.new) ≡ holds_nothing }
+    ensures yes { result ≡ true → IsPassedOver (seat_of hold.old) (seat_of hold.new) thread.now }
+    ensures no { result ≡ false → MayBeTried (seat_of hold.old) (seat_of hold.new) thread.now }
+{
+    match thread.busy {
+        Some(busy) => hold.still(bank, &thread.list, busy.at, busy.word),
+        None => false,
+    }
+}
+
+// What a missed try leaves: a word that refused the list is kept, and at a last generation the thread ends.
+fn miss(thread: &mut Thread, at: usize, why: Missed)
+    ensures { thread.new ≡ missed_by at why thread.old }
+{
+    match why {
+        Missed::Busy { word } => thread.busy = Some(BusyAt { word, at }),
+        Missed::Again => thread.busy = None,
+        Missed::Worn => end(thread, Phase::Faulted(Fault::Worn)),
+    }
+}
+
+// Tries the list of a thread: says whether it is held now.
+fn try_list(hold: &mut Hold, bank: &Bank, thread: &mut Thread, trace: &mut Vec<Event>) -> bool
+    requires of { bank_of (seat_of hold.old) ≡ id_of bank.now }
+    requires there { All (λ r. r.tok.0 < tokens_of (bank_of (seat_of hold.old))) thread.old.list }
+    requires empty { holding (seat_of hold.old) ≡ holds_nothing }
+    requires room { vec_len trace.old + 64 ≤ vec_capacity trace.old }
+    ensures ran { Ran (IsFront thread.old.list) 64 (seat_of hold.old) (seat_of hold.new) trace.old trace.new }
+    ensures quiet { IsQuiet trace.old.items trace.new.items }
+    ensures yes { result ≡ true → (thread.new ≡ thread.old) × (holding (seat_of hold.new) ≡ holding_of thread.old.list) }
+    ensures no { result ≡ false → (holding (seat_of hold.new) ≡ holds_nothing) × IsMissed (seat_of hold.old) (seat_of hold.new) thread.old thread.new }
+{
+    match hold.resume(bank, &thread.list, trace) {
+        Resumed::All => true,
+        Resumed::Passed { at, why } => {
+            miss(thread, at, why);
+            false
+        }
+    }
+}
 
 /// Tries one thread: says whether it can run and its whole list is held now. One that was refused at a last generation ends.
 pub(crate) fn try_one(
@@ -27,26 +77,20 @@ pub(crate) fn try_one(
     requires of { bank_of (seat_of hold.old) ≡ id_of bank.now }
     requires there { All (λ r. r.tok.0 < tokens_of (bank_of (seat_of hold.old))) thread.old.list }
     requires empty { holding (seat_of hold.old) ≡ holds_nothing }
+    requires busy { KeepsBusyWord thread.old }
     requires room { vec_len trace.old + 64 ≤ vec_capacity trace.old }
     ensures ran { Ran (IsFront thread.old.list) 64 (seat_of hold.old) (seat_of hold.new) trace.old trace.new }
     ensures quiet { IsQuiet trace.old.items trace.new.items }
     ensures yes { result ≡ true → (thread.new ≡ thread.old) × (thread.old.phase ≡ Phase.Live) × (holding (seat_of hold.new) ≡ holding_of thread.old.list) }
     ensures no { result ≡ false → (holding (seat_of hold.new) ≡ holds_nothing) × Skips (seat_of hold.old) (seat_of hold.new) thread.old thread.new }
 {
-    if thread.phase != Phase::Live {
+    if !thread.phase.is_live() {
         return false;
     }
-    match hold.resume(bank, &thread.list, trace) {
-        Resumed::All => true,
-        Resumed::Passed {
-            why: Missed::Worn,
-            ..
-        } => {
-            end(thread, Phase::Faulted(Fault::Worn));
-            false
-        }
-        Resumed::Passed { .. } => false,
+    if is_still_busy(hold, bank, thread) {
+        return false;
     }
+    try_list(hold, bank, thread, trace)
 }
 
 /// Tries the threads from one number on and below another; the first that can run and whose list could be held.
@@ -60,6 +104,7 @@ pub(crate) fn scan(
 ) -> Option<usize>
     requires of { bank_of (seat_of hold.old) ≡ id_of bank.now }
     requires there { AreThere (seat_of hold.old) threads.old }
+    requires busy { AllKeepBusyWords threads.old }
     requires rising { from ≤ to }
     requires within { to ≤ length threads.old }
     requires empty { holding (seat_of hold.old) ≡ holds_nothing }
@@ -87,6 +132,7 @@ pub(crate) fn find(
 ) -> Option<usize>
     requires of { bank_of (seat_of hold.old) ≡ id_of bank.now }
     requires there { AreThere (seat_of hold.old) threads.old }
+    requires busy { AllKeepBusyWords threads.old }
     requires few { length threads.old ≤ 16 }
     requires within { cursor ≤ length threads.old }
     requires empty { holding (seat_of hold.old) ≡ holds_nothing }

@@ -16,6 +16,8 @@ mod mail_rows;
 #[cfg(test)]
 mod scripts;
 #[cfg(test)]
+mod skip_rows;
+#[cfg(test)]
 mod thread_rows;
 #[cfg(test)]
 mod workers;

@@ -7,3 +7,4 @@ pub mod ReadMoves
 pub mod LastMoves
 pub mod BlockMoves
 pub mod EventMoves
+pub mod StillMoves

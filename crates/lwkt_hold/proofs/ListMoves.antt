@@ -75,14 +75,14 @@ looked-row_if : (b : Bool) (e : TokenEntry) (g : ℕ) → (cond b e (record e { 
 looked-row_if true e g = refl
 looked-row_if false e g = refl
 
-looked-row : (e : TokenEntry) (word : ℕ) → (looked e word).row ≡ e.row
+pub looked-row : (e : TokenEntry) (word : ℕ) → (looked e word).row ≡ e.row
 looked-row e word = looked-row_if (eqb e.generation (generation_in word)) e (generation_in word)
 
 looked-first_if : (b : Bool) (e : TokenEntry) (g : ℕ) → (cond b e (record e { generation = g; known = [] })).first ≡ e.first
 looked-first_if true e g = refl
 looked-first_if false e g = refl
 
-looked-first : (e : TokenEntry) (word : ℕ) → (looked e word).first ≡ e.first
+pub looked-first : (e : TokenEntry) (word : ℕ) → (looked e word).first ≡ e.first
 looked-first e word = looked-first_if (eqb e.generation (generation_in word)) e (generation_in word)
 
 -- a mark leaves every row as it was

@@ -2,6 +2,7 @@ pub mod Steps
 pub mod Fronts
 pub mod Runs
 pub mod Misses
+pub mod Stays
 pub mod Rows
 pub mod Takings
 pub mod Givings

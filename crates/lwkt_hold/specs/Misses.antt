@@ -38,3 +38,7 @@ fault_of Worn = WasWorn
 -- an exclusive reference to the token
 abbrev pub exclusive : TokId → Ref
 exclusive tok = record { tok = tok; mode = Exclusive }
+
+-- a word is one that `decide` refuses for the reference of a place, which is the first one to its token (own)
+abbrev pub IsRefusing : List Ref → ℕ → ℕ → Type 0
+IsRefusing refs place word = IsSomeAnd (slice_get refs place) (λ r. (names (take place refs) r.tok.0 ≡ false) × (Decides word r.mode (is_alone refs r.tok.0) Held ⊎ Decides word r.mode (is_alone refs r.tok.0) Marked))

@@ -9,6 +9,7 @@ pub mod laws;
 mod reads;
 mod releases;
 mod resumes;
+mod stills;
 mod takes;
 mod traces;
 

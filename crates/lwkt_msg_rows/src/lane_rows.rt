@@ -10,7 +10,7 @@ use std::thread;
 
 const TRIES: u32 = 100_000_000;
 
-const NOTES: u64 = 10_000;
+const NOTES: u64 = 1_000_000;
 
 fn note(round: u64) -> Note {
     Note {

@@ -3,7 +3,7 @@ use Rattle.lwkt_base.specs.Holding.{Holding}
 use Rattle.lwkt_hold.proofs.RunMoves.{ran_then, ran_weaker}
 use Rattle.lwkt_ask.proofs.TellMoves.{quiet_then}
 use Rattle.lwkt_cpu.specs.Searches.{IsIn, IsOfOne}
-use Rattle.lwkt_cpu.proofs.SearchMoves.{searches_keeps, is_in_or_not, there_kept, kept_one, found_first, found_round}
+use Rattle.lwkt_cpu.proofs.SearchMoves.{searches_keeps, is_in_or_not, there_kept, busy_kept, kept_one, found_first, found_round}
 use Rattle.lwkt_cpu.proofs.searches.find.Goals as goal
 
 pub scan-requires-in-None-clause-there : goal.scan-requires-in-None-clause-there
@@ -12,6 +12,13 @@ scan-requires-in-None-clause-there c =
     let a = c.args.hold.now.seat in
     let x = s.ensures.none c.in-None.is in
     there_kept a s.new.hold.seat c.args.threads.now s.new.threads s.ensures.ran.bank (searches_keeps a s.new.hold.seat c.args.threads.now s.new.threads (IsIn c.args.cursor (length c.args.threads.now)) (is_in_or_not c.args.cursor (length c.args.threads.now)) x.1) c.requires.there
+
+pub scan-requires-in-None-clause-busy : goal.scan-requires-in-None-clause-busy
+scan-requires-in-None-clause-busy c =
+    let s = c.scan in
+    let a = c.args.hold.now.seat in
+    let x = s.ensures.none c.in-None.is in
+    busy_kept c.args.threads.now s.new.threads (searches_keeps a s.new.hold.seat c.args.threads.now s.new.threads (IsIn c.args.cursor (length c.args.threads.now)) (is_in_or_not c.args.cursor (length c.args.threads.now)) x.1) c.requires.busy
 
 pub returns-in-Some-clause-finds : goal.returns-in-Some-clause-finds
 returns-in-Some-clause-finds c =

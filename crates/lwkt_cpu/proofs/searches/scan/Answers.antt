@@ -25,6 +25,14 @@ try_one-requires-clause-there c =
     let is : slice_get l.threads l.at ≡ Some old = slice_get-get_or l.threads l.at c.index-threads-at.result within in
     there_at c.args.hold.now.seat l.hold.seat c.args.threads.now l.at old l.invariant.ran.bank (untried c.args.hold.now.seat l.hold.seat c.args.threads.now l.threads c.args.from l.at old l.invariant.searched is) c.requires.there
 
+pub try_one-requires-clause-busy : goal.try_one-requires-clause-busy
+try_one-requires-clause-busy c =
+    let l = c.loop-at in
+    let old = get_or l.threads l.at c.index-threads-at.result in
+    let within : l.at < length l.threads = omega (arith, c.loop-at-test.true, c.requires.within, l.auto.threads) in
+    let is : slice_get l.threads l.at ≡ Some old = slice_get-get_or l.threads l.at c.index-threads-at.result within in
+    c.requires.busy l.at old (untried c.args.hold.now.seat l.hold.seat c.args.threads.now l.threads c.args.from l.at old l.invariant.searched is)
+
 pub returns-then-try_one-clause-ran : goal.returns-then-try_one-clause-ran
 returns-then-try_one-clause-ran c =
     let l = c.loop-at in

@@ -1,7 +1,7 @@
 use Rattle.std.proofs.Common.{◌≡◌, List, length, sym, ◌∙◌, subst}
 use Rattle.lwkt_hold.proofs.ReadMoves.{ran_still}
 use Rattle.lwkt_cpu.specs.declared.threads.Thread.{Thread}
-use Rattle.lwkt_cpu.specs.Processors.{IsAtRest, AreThere, processor_of}
+use Rattle.lwkt_cpu.specs.Processors.{IsAtRest, AreThere, AllKeepBusyWords, processor_of}
 use Rattle.lwkt_cpu.specs.Searches.{Finds, IsOfOne}
 use Rattle.lwkt_cpu.proofs.RestMoves.{refilled, finds_many, rest_found}
 use Rattle.lwkt_cpu.proofs.ShutMoves.{rest_posted}
@@ -14,6 +14,11 @@ pub find-found-requires-clause-there : goal.find-found-requires-clause-there
 find-found-requires-clause-there g c =
     let F : List Thread → Type 0 = λ xs. AreThere c.self.inside.hold.seat xs in
     subst F (sym c.deref_mut.ensures.value) (λ k t at. (c.self.invariant.settled k t at).there)
+
+pub find-found-requires-clause-busy : goal.find-found-requires-clause-busy
+find-found-requires-clause-busy g c =
+    let F : List Thread → Type 0 = λ xs. AllKeepBusyWords xs in
+    subst F (sym c.deref_mut.ensures.value) (λ k t at. (c.self.invariant.settled k t at).busy)
 
 pub invariant_of-self : goal.invariant_of-self
 invariant_of-self g c =

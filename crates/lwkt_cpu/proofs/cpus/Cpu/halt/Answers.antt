@@ -7,7 +7,7 @@ use Rattle.lwkt_cpu.specs.Searches.{IsOfOne}
 use Rattle.lwkt_cpu.specs.Stopping.{Halts}
 use Rattle.lwkt_cpu.proofs.RestMoves.{thread_at, placed}
 use Rattle.lwkt_cpu.proofs.ShutMoves.{rest_posted}
-use Rattle.lwkt_cpu.proofs.StopMoves.{became_over, became_empty, rest_halted, ran_halted}
+use Rattle.lwkt_cpu.proofs.StopMoves.{became_over, became_empty, became_free, rest_halted, ran_halted}
 use Rattle.lwkt_cpu.proofs.cpus.Cpu.halt.Goals as goal
 
 pub invariant_of-self : goal.invariant_of-self
@@ -22,6 +22,7 @@ invariant_of-self g c =
     (rest_halted {B = g.row.B.Denot} i.hold.seat p.new.hold.seat i.ports i.bodies.items i.threads.items i.running i.cursor place c.go_on.new.thread c.self.invariant within p.ensures.ran.bank p.ensures.ran.cpu
     (ap (λ (t : Thread). has_ended t.phase) c.go_on.ensures.becomes ∙ became_over c.index_mut-thread.result.now p.result up.blocked up.next_is)
     (ap (λ (t : Thread). t.list) c.go_on.ensures.becomes ∙ became_empty c.index_mut-thread.result.now p.result up.blocked up.next_is)
+    (ap (λ (t : Thread). t.busy) c.go_on.ensures.becomes ∙ became_free c.index_mut-thread.result.now p.result up.blocked up.next_is)
     p.ensures.empty)
 
 pub returns-clause-halts : goal.returns-clause-halts
