@@ -18,7 +18,7 @@ use Rattle.lwkt_bank.specs.Rule.{Bench, Pictures}
 use Rattle.lwkt_bank.specs.Told.{Told, first_machine}
 use Rattle.lwkt_bank.specs.Seats.{BankId, events_of, steps_of}
 use Rattle.lwkt_hold.specs.Steps.{is_of_token, Tells}
-use Rattle.lwkt_msg.specs.declared.views.Layout.{Layout}
+use Rattle.lwkt_msg.specs.declared.views.Key.{Key}
 use Rattle.lwkt_msg.specs.declared.views.View.{View}
 use Rattle.lwkt_msg.specs.Steps.{machine_of}
 use Rattle.lwkt_msg.specs.Told.{Told as IsTold, first_mails}
@@ -53,7 +53,7 @@ TurnsArePartsOfRuns {B} polled = (bank : BankId) (old new : Processor B) (t u : 
 -- processor stands shows a safe machine, which one history of the deeds of all seats leads to, its events a run of the model; what
 -- the processor has in it is what its seat has seen of itself
 abbrev pub MailsArePartsOfRuns : Type 0 → Type 0
-MailsArePartsOfRuns B = (p : Processor B) (key : Layout) (s : State Rec View) (j : ℕ) (told : IsTold key s) → get_elem? s.views j ≡ some p.post.seat.view → p.post.seat.view.kind ≡ Of p.seat.cpu
+MailsArePartsOfRuns B = (p : Processor B) (key : Key) (s : State Rec View) (j : ℕ) (told : IsTold key s) → get_elem? s.views j ≡ some p.post.seat.view → p.post.seat.view.kind ≡ Of p.seat.cpu
     → IsSafe (machine_of key.cpus told.rule.mails)
     × Run (machine_of key.cpus (first_mails key.specs.items)) (events_in told.chronicle.history) (machine_of key.cpus told.rule.mails)
     × (events_by p.seat.cpu.0 told.chronicle.history ≡ events_by p.seat.cpu.0 p.post.seat.view.past)
