@@ -16,7 +16,7 @@ use Rattle.lwkt_cpu.specs.declared.answers.Turned.TheVariants.{Ran, Idle, AllExi
 use Rattle.lwkt_cpu.specs.Processors.{Processor}
 use Rattle.lwkt_cpu.specs.Driving.{Made}
 use Rattle.lwkt_cpu.specs.Turning.{Chooses, Turns, MakesTurn}
-use Rattle.lwkt_cpu.specs.Waking.{Ward, WakesAt}
+use Rattle.lwkt_cpu.specs.Waking.{Ward, ward, WakesAt}
 use Rattle.lwkt_cpu.proofs.PlaceMoves.{some_same, get_there, get_set_same, get_set_other}
 use Rattle.lwkt_drive.specs.declared.driven.Limits.{Limits}
 use Rattle.lwkt_machine.specs.Bodies.{Scripted, IsPolled}
@@ -55,7 +55,7 @@ turns_long polled bank old new t u AllExited is = chooses_long old new t u old.r
 
 -- a turn keeps the number of threads
 turn_long : {B : Type 0} (polled : B → Answer → Ask → B → Type 0) (bank : BankId) (old new : Processor B) (t u : Vec Event Global) (turned : Turned) → MakesTurn polled bank old new t u turned → length new.threads ≡ length old.threads
-turn_long polled bank old new t u turned m = turns_long polled bank m.mid new m.v u turned m.turns ∙ wakes_long (length old.threads) _ _ m.mail.wakes
+turn_long polled bank old new t u turned m = turns_long polled bank m.mid new m.v u turned m.turns ∙ wakes_long (length old.threads) (ward m.mail.post old.threads m.mail.v) (ward m.mid.post m.mid.threads m.v) m.mail.wakes
 
 made_long : {B : Type 0} (polled : B → Answer → Ask → B → Type 0) (bank : BankId) (old new : Processor B) (t u : Vec Event Global) (turns : List Turned) → Made polled bank old new t u turns → length new.threads ≡ length old.threads
 made_long {B} polled bank old new t u [] made = ap (λ (p : Processor B). length p.threads) made.0
