@@ -55,8 +55,8 @@ ids_from threads (p ∷ cpus) n each =
     let count : length p.threads ≡ threads_on n threads = each 0 p refl ∙ ap (λ (m : ℕ). threads_on m threads) n0 in
     let here : map id_of (standings_on n p) ≡ ids_on n (threads_on n threads) = on_all n p ∙ ap (ids_on n) count in
     let later : (k : ℕ) (q : Processor Scripted) → slice_get cpus k ≡ Some q → length q.threads ≡ threads_on (n + 1 + k) threads = λ k q at.
-        let e : n + suc k ≡ n + 1 + k = omega arith in
-        each (suc k) q at ∙ ap (λ (m : ℕ). threads_on m threads) e in
+    let e : n + suc k ≡ n + 1 + k = omega arith in
+    each (suc k) q at ∙ ap (λ (m : ℕ). threads_on m threads) e in
     ap (λ xs. ids_of n threads ++ xs) (map-append id_of (standings_on n p) rest ∙ ap (λ xs. xs ++ map id_of rest) here)
     ∙ sym (append_assoc (ids_of n threads) (ids_on n (threads_on n threads)) (map id_of rest))
     ∙ ap (λ (m : ℕ). ids_of m threads ++ map id_of rest) s
@@ -66,8 +66,8 @@ ids_from threads (p ∷ cpus) n each =
 pub ids_are : (cpus : ℕ) (threads : List ThreadSpec) (processors : List (Processor Scripted)) → HasThreads cpus threads processors → map (λ (s : Standing). s.id) (standings_of processors) ≡ ids_of cpus threads
 ids_are cpus threads processors has =
     let later : (k : ℕ) (p : Processor Scripted) → slice_get processors k ≡ Some p → length p.threads ≡ threads_on (0 + k) threads = λ k p at.
-        let e : k ≡ 0 + k = omega arith in
-        has.each k p at ∙ ap (λ (m : ℕ). threads_on m threads) e in
+    let e : k ≡ 0 + k = omega arith in
+    has.each k p at ∙ ap (λ (m : ℕ). threads_on m threads) e in
     let z : 0 + length processors ≡ cpus = omega (arith, has.as_many) in
     ids_from threads processors 0 later ∙ ap (λ (m : ℕ). ids_of m threads) z
 
