@@ -33,7 +33,7 @@ use Rattle.lwkt_run.specs.Running.{HasThreads, Scene, TakesTurn, MakesRound, Mak
 chain_keeps : (A : Type 0) (Step : ℕ → A → A → Type 0) (P : A → Type 0) → ((k : ℕ) (x y : A) → Step k x y → P x → P y) → (n : ℕ) (x y : A) → Chain A Step n x y → P x → P y
 unfolding Chain
 chain_keeps A Step P keeps zero x y chain p = subst P (sym chain) p
-chain_keeps A Step P keeps (suc n) x y chain p = keeps n chain.0 y chain.1.1 (chain_keeps A Step P keeps n x chain.0 chain.1.0 p)
+chain_keeps A Step P keeps (suc n) x y chain p = keeps n chain.0 y chain.2 (chain_keeps A Step P keeps n x chain.0 chain.1 p)
 
 wakes_long : (n : ℕ) (x y : Ward) → Chain Ward WakesAt n x y → length y.threads ≡ length x.threads
 wakes_long n x y chain =

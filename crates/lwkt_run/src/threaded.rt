@@ -1,6 +1,5 @@
 //! Runs on threads.
-ghost use Rattle.std.specs.Prelude.{◌≡◌, ◌≤◌, ◌⊎◌, ℕ, Bool, map, is_some, IfOk, IfErr, OnOk, OnErr, Err, IsTrue, string_bytes};
-ghost use Rattle.lwkt_base.specs.declared.names.CpuId.{CpuId};
+ghost use Rattle.std.specs.Prelude.{◌≡◌, ◌≤◌, ◌⊎◌, ℕ, map, is_some, IfOk, IfErr, OnOk, OnErr, Err, IsTrue, string_bytes};
 ghost use Rattle.lwkt_core.specs.Opening.{AreWithin, AllOpenLawfully};
 ghost use Rattle.lwkt_run.specs.Judging.{ids_of};
 ghost use Rattle.lwkt_run.specs.Values.{is_tally, AreValuesOf};
@@ -45,12 +44,18 @@ fn left_of<R: Threads + Wait + Sync, G: Gate + Sync>(
 }
 
 // The report's contents: what a run on threads left.
-fn closing_of(alloc: Global, script: &Script, left: Left) -> Result<Closing, AllocError>
+fn closing_of<G: Gate>(
+    alloc: Global,
+    gate: &G,
+    script: &Script,
+    left: Left,
+) -> Result<Closing, AllocError>
     requires within { AreWithin script.now.cpus script.now.tokens script.now.messages }
     requires lawful { AllOpenLawfully script.now.tokens }
     requires values { AreValuesOf script.now.tokens left.last }
     requires threads { map (λ line. line.id) left.threads.items ≡ ids_of script.now.cpus script.now.threads }
-    ensures { (answers : CpuId → ℕ → Bool → Type 0) → RunsOnThreads answers script.now left.threads.items left.last → IfOk result (λ closing. MayCloseOnThreads answers script.now closing) }
+    requires runs { RunsOnThreads (G.answers gate.now) script.now left.threads.items left.last }
+    ensures { IfOk result (λ closing. MayCloseOnThreads (G.answers gate.now) script.now closing) }
 {
     let Left { last, threads } = left;
     let tokens = token_lines(alloc, script.tokens.as_slice(), &last)?;
@@ -74,7 +79,7 @@ fn closing_of_script<R: Threads + Wait + Sync, G: Gate + Sync>(
     ensures refused { IfErr result (λ fault. Declines script.now fault) }
 {
     let left = left_of(rt, alloc, gate, script)?;
-    match closing_of(alloc, script, left) {
+    match closing_of(alloc, gate, script, left) {
         Ok(closing) => Ok(closing),
         Err(_) => Err(Fault::Memory),
     }

@@ -31,7 +31,7 @@ use Rattle.lwkt_machine.specs.Ended.{Stage, stage, StopsAt, StopsAll}
 use Rattle.lwkt_machine.specs.Machines.{Rig}
 use Rattle.lwkt_machine.specs.Opened.{IsOpenedCpu, IsOpenedMachine}
 use Rattle.lwkt_threads.specs.Driven.{WasDriven, IsDrivenMachine}
-use Rattle.lwkt_threads.specs.Parts.{of_cpu, parts_of, TellTheRuns, ThreadsTellTheRuns}
+use Rattle.lwkt_threads.specs.Parts.{of_cpu, parts_of, TellTheRuns}
 
 -- the events of a processor among its own, and among another's
 of_cpu_own : (cpu : ℕ) (es : List Event) → All (λ (e : Event). cpu_of e ≡ cpu) es → of_cpu cpu es ≡ es
@@ -159,7 +159,7 @@ told_step traces n x y stops told = record {
 told_chain : (traces : List (Vec Event Global)) (n : ℕ) (x y : Stage) → Chain Stage StopsAt n x y → AreTold traces x → AreTold traces y
 unfolding Chain
 told_chain traces zero x y chain told = subst (AreTold traces) (sym chain) told
-told_chain traces (suc n) x y chain told = told_step traces n chain.0 y chain.1.1 (told_chain traces n x chain.0 chain.1.0 told)
+told_chain traces (suc n) x y chain told = told_step traces n chain.0 y chain.2 (told_chain traces n x chain.0 chain.1 told)
 
 -- what the processors did until none of them had stopped
 told_all : (answers : CpuId → ℕ → Bool → Type 0) (limits : Limits) (script : Script) (opened driven : Rig) (traces : List (Vec Event Global)) (t : Vec Event Global) → IsOpenedMachine script opened → IsDrivenMachine answers limits opened driven traces → t.items ≡ [] → AreTold traces (stage driven.cpus t)
@@ -181,7 +181,7 @@ told_all answers limits script opened driven traces t opens drives none =
 seat_at : {A : Type 0} (f : Processor Scripted → A) (cpus : List (Processor Scripted)) (k : ℕ) (p : Processor Scripted) → slice_get cpus k ≡ Some p → slice_get (map f cpus) k ≡ Some (f p)
 seat_at f cpus k p at = slice_get-map f cpus k ∙ ap (option_map f) at
 
-pub threads_tell : ThreadsTellTheRuns
+pub threads_tell : (answers : CpuId → ℕ → Bool → Type 0) (limits : Limits) (script : Script) (opened driven stopped : Rig) (traces : List (Vec Event Global)) (before after : Vec Event Global) (closed : Closed) → IsOpenedMachine script opened → IsDrivenMachine answers limits opened driven traces → before.items ≡ [] → StopsAll driven stopped before after → IsClosedMachine stopped closed → TellTheRuns opened closed (parts_of 0 traces after.items)
 threads_tell answers limits script opened driven stopped traces before after closed opens drives none stops closes =
     let d = drives.cpus in
     let told : AreTold traces (stage stopped.cpus after) = told_chain traces (length driven.cpus) (stage driven.cpus before) (stage stopped.cpus after) stops.stopped (told_all answers limits script opened driven traces before opens drives none) in

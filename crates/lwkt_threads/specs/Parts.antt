@@ -31,7 +31,7 @@ pub record TellTheRuns (m : Rig) (closed : Closed) (parts : List (List Event)) :
 
 -- a law: what the processors of a machine did, from its opening by a script on, while they were driven and then as they stopped, are
 -- the parts of such runs, to the values at the close
-abbrev pub ThreadsTellTheRuns : Type 0
-ThreadsTellTheRuns = (answers : CpuId → ℕ → Bool → Type 0) (limits : Limits) (script : Script) (opened driven stopped : Rig) (traces : List (Vec Event Global)) (before after : Vec Event Global) (closed : Closed)
-    → IsOpenedMachine script opened → IsDrivenMachine answers limits opened driven traces → before.items ≡ [] → StopsAll driven stopped before after → IsClosedMachine stopped closed
+abbrev pub ThreadsTellTheRuns : {G : Type 0} → (G → CpuId → ℕ → Bool → Type 0) → Type 0
+ThreadsTellTheRuns {G} answers = (gate : G) (limits : Limits) (script : Script) (opened driven stopped : Rig) (traces : List (Vec Event Global)) (before after : Vec Event Global) (closed : Closed)
+    → IsOpenedMachine script opened → IsDrivenMachine (answers gate) limits opened driven traces → before.items ≡ [] → StopsAll driven stopped before after → IsClosedMachine stopped closed
     → TellTheRuns opened closed (parts_of 0 traces after.items)
