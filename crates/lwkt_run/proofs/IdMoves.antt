@@ -1,5 +1,5 @@
 -- The threads of a machine are those of its script.
-use Rattle.std.proofs.Common.{◌≡◌, ℕ, zero, suc, ◌+◌, List, [], ◌∷◌, ◌++◌, length, map, filter, replicate, set, refl, ap, sym, ◌∙◌, subst, arith, append_assoc, append-nil, Option, Some, None}
+use Rattle.std.proofs.Common.{◌≡◌, ℕ, zero, suc, ◌+◌, ◌==◌, List, [], ◌∷◌, ◌++◌, length, map, filter, replicate, set, refl, ap, sym, ◌∙◌, subst, arith, append_assoc, append-nil, Option, Some, None}
 use Rattle.std.specs.Prelude.{slice_get, Vec}
 use Rattle.std.specs.List.{enumerate_from, flat_map}
 use Rattle.std.proofs.lemmas.List.{length-map, length-set, map-append}
@@ -84,3 +84,8 @@ opened_has script m opened = record {
       let mine : List ThreadSpec = filter (λ (t : ThreadSpec). t.cpu.0 == k) script.threads in
       ap length o.threads_are ∙ long_copies (length p.bodies) fresh ∙ ap length o.bodies ∙ length-map mine body_of ∙ length-filter (λ (t : ThreadSpec). t.cpu.0 == k) script.threads;
 }
+
+-- one line more shows one standing more
+pub shown_more : {A B C : Type 0} (f : A → C) (g : B → C) (xs ys : List A) (zs : List B) (x : A) (z : B) → ys ≡ xs ++ x ∷ [] → map f xs ≡ map g zs → f x ≡ g z → map f ys ≡ map g (zs ++ z ∷ [])
+shown_more {A} {B} {C} f g xs ys zs x z same shown last =
+    ap (map f) same ∙ map-append f xs (x ∷ []) ∙ ap (λ (l : List C). l ++ f x ∷ []) shown ∙ ap (λ (c : C). map g zs ++ c ∷ []) last ∙ sym (map-append g zs (z ∷ []))

@@ -110,3 +110,10 @@ over_later cpu old new t u turned d is below =
 -- all of them
 pub over_all : (n : ℕ) (cpus : List (Processor Scripted)) → length cpus ≤ n → AreOverBelow n cpus → AreOver cpus
 over_all n cpus few below = λ k p at. below k p (omega (arith, few, slice_get_within cpus k p at)) at
+
+-- rounds keep the bank
+pub rounds_bank : (count : ℕ) (x y : Scene) → MakesRounds count x y → y.machine.bank ≡ x.machine.bank
+rounds_bank count x y rounds =
+    let P : Scene → Type 0 = λ z. z.machine.bank ≡ x.machine.bank in
+    let keeps : (cpu : ℕ) (v w : Scene) → TakesTurn cpu v w → P v → P w = λ cpu v w turn p. turn.1.bank ∙ p in
+    chain_keeps Scene MakesRound P (λ k v w round p. chain_keeps Scene TakesTurn P keeps (length v.machine.cpus) v w round p) count x y rounds refl

@@ -113,7 +113,9 @@ pub fn left_by(
     ensures threads { IfOk result (λ left. map (λ line. line.id) left.threads.items ≡ ids_of script.now.cpus script.now.threads) }
     ensures only { OnErr result (result ≡ Err Fault.Memory) }
 {
-    let threads = thread_lines(alloc, &machine).map_err(|_| Fault::Memory)?;
+    let Ok(threads) = thread_lines(alloc, &machine) else {
+        return Err(Fault::Memory);
+    };
     let last = close(alloc, script, machine, trace)?;
     Ok(Left { last, threads })
 }

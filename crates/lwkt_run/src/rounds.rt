@@ -30,6 +30,13 @@ fn is_over(turned: Turned) -> bool
     matches!(turned, Turned::AllExited)
 }
 
+// Whether both are so.
+fn both(a: bool, b: bool) -> bool
+    ensures { result ≡ true → (a ≡ true) × (b ≡ true) }
+{
+    a && b
+}
+
 // Makes a turn of a processor, which is kept, and says whether all its threads have ended.
 fn make_turn(
     machine: &mut Machine,
@@ -67,7 +74,7 @@ fn make_round(
     let mut over = true;
     for cpu in 0..machine.cpus() {
         let ended = make_turn(machine, cpu, trace, kept)?;
-        over = over && ended;
+        over = both(over, ended);
     }
     Ok(over)
 }

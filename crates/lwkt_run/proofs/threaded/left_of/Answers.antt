@@ -22,5 +22,5 @@ returns-clause-runs g c =
     let none = c.new-trace.result in
     let stops = c.left_by.new.trace in
     ok_both c.left_by.result (λ (left : Left). ShowThreads left.threads.items m) (λ (left : Left). Leaves m none stops left.last) (λ (left : Left). RunsOnThreads A s left.threads.items left.last) (λ left shown leaves.
-    ran A s left.threads.items left.last opened.machine m o.field-0.traces.items none stops opened.ensures.ok opened.ensures.within o.ensures.ok c.new-trace.ensures shown leaves)
+    ran A s left.threads.items left.last opened.machine m o.field-0.traces.items none stops opened.ensures.ok opened.ensures.within o.ensures.ok c.new-trace.ensures.items shown leaves)
     c.left_by.ensures.shown c.left_by.ensures.leaves
