@@ -12,8 +12,8 @@ use lwkt_base::Fault;
 use lwkt_core::Event;
 use lwkt_msg::MsgBook;
 
-// One turn more, counted by its answer.
-fn count(drove: Drove, turned: Turned) -> Drove
+/// One turn more, counted by its answer. That both counts together stay below 2^64 is the caller's condition.
+pub fn count(drove: Drove, turned: Turned) -> Drove
     requires { drove.ran + drove.idle + 1 < 2 ^ 64 }
     ensures { result ≡ counted drove turned }
 {

@@ -1,4 +1,4 @@
-use Rattle.std.proofs.Common.{◌≡◌, ℕ, List, [], ◌∷◌, ◌++◌, refl, ap, sym, ◌∙◌, subst}
+use Rattle.std.proofs.Common.{◌≡◌, ℕ, ◌<◌, List, [], ◌∷◌, ◌++◌, length, refl, ap, sym, ◌∙◌, subst, arith}
 use Rattle.std.specs.Prelude.{All, filter, Vec, Some, slice_get}
 use Rattle.std.specs.declared.alloc.Global.{Global}
 use Rattle.std.proofs.lemmas.List.Elements.{All-append, All-nil, filter-append}
@@ -12,17 +12,24 @@ use Rattle.lwkt_core.specs.declared.seats.Deed.{Deed}
 use Rattle.lwkt_core.specs.Events.{cpu_of}
 use Rattle.lwkt_core.specs.History.{events_by, events_in}
 use Rattle.lwkt_core.proofs.HistoryLemmas.{events_by-grows}
+use Rattle.lwkt_ask.specs.Telling.{is_of_message, TellsMail}
+use Rattle.lwkt_base.specs.declared.owners.MsgEnd.{MsgEnd}
 use Rattle.lwkt_bank.specs.declared.seats.CpuSeat.{CpuSeat}
 use Rattle.lwkt_bank.specs.Gathered.{IsNew}
 use Rattle.lwkt_bank.specs.Seats.{BankId, past_of, events_of}
 use Rattle.lwkt_hold.specs.Runs.{Ran}
 use Rattle.lwkt_hold.specs.Steps.{is_of_token, Tells}
 use Rattle.lwkt_hold.proofs.RunMoves.{Tells-append}
+use Rattle.lwkt_core.specs.Trace.{end_of}
+use Rattle.lwkt_msg.specs.declared.views.View.{View}
+use Rattle.lwkt_msg.specs.Book.{mail_at}
+use Rattle.lwkt_msg.specs.Desks.{Desk, Shelf, cpu_of as desk_cpu, past_of as mail_past, events_of as mail_of, IsOpened as IsOpenedDesk, AreClosed}
+use Rattle.lwkt_msg.specs.Views.{seat_cpu}
 use Rattle.lwkt_cpu.specs.declared.answers.Turned.{Turned}
 use Rattle.lwkt_cpu.specs.Processors.{Processor}
 use Rattle.lwkt_cpu.specs.Turning.{IsOfThread}
 use Rattle.lwkt_cpu.specs.Driving.{Made}
-use Rattle.lwkt_drive.specs.Telling.{IsTold}
+use Rattle.lwkt_drive.specs.Telling.{IsTold, IsMailTold, TellOneMailRun, TracesTellOneRun}
 
 pub told_new : (s : CpuSeat) → IsNew s → IsTold s []
 told_new s new = record {
@@ -60,3 +67,79 @@ told_part history seats cpu trace s all at same told =
     let E : List Event → Type 0 = λ es. Tells es (filter is_of_token trace) in
     let C : ℕ → Type 0 = λ k. All (λ (e : Event). cpu_of e ≡ k) trace in
     (subst N same (subst E here told.tells), subst C same told.own)
+
+-- what was done more, wherever it was told: a processor's trace that told its seat, with these events more, tells it afterwards
+pub told_more : (P : Holding → Type 0) (most : ℕ) (a b : CpuSeat) (t u : Vec Event Global) (r : Ran P most a b t u) (trace : List Event) → IsTold a trace → IsTold b (trace ++ r.done)
+told_more P most a b t u ran trace told =
+    let grown : events_of b ≡ events_of a ++ events_in ran.deeds = ap (λ (k : CpuId). events_by k.0 (past_of b)) ran.cpu ∙ events_by-grows a.cpu.0 (past_of a) ran.deeds (past_of b) ran.grows ran.mine in
+    let E : List Event → Type 0 = λ es. Tells es (filter is_of_token (trace ++ ran.done)) in
+    let S : List Event → Type 0 = λ xs. Tells (events_of a ++ events_in ran.deeds) xs in
+    let C : CpuId → Type 0 = λ k. All (λ (e : Event). cpu_of e ≡ k.0) (trace ++ ran.done) in
+    record {
+      tells = subst E (sym grown) (subst S (sym (filter-append is_of_token trace ran.done)) (Tells-append (events_of a) (events_in ran.deeds) (filter is_of_token trace) (filter is_of_token ran.done) told.tells ran.tells));
+      own = subst C (sym ran.cpu) (All-append (λ (e : Event). cpu_of e ≡ a.cpu.0) trace ran.done told.own ran.own);
+    }
+
+-- the same of messages
+pub mail_more : (a b : Desk) (t u : List Event) (told : TellsMail a b t u) (trace : List Event) → IsMailTold a trace → IsMailTold b (trace ++ told.done)
+mail_more a b t u told trace before =
+    let same : desk_cpu b ≡ desk_cpu a = ap seat_cpu told.same.kind in
+    let grown : mail_of b ≡ mail_of a ++ events_in told.deeds = ap (λ (k : CpuId). events_by k.0 (mail_past b)) same ∙ events_by-grows (desk_cpu a).0 (mail_past a) told.deeds (mail_past b) told.grows told.mine in
+    filter-append is_of_message trace told.done ∙ ap (λ xs. xs ++ filter is_of_message told.done) before ∙ ap (λ xs. mail_of a ++ xs) told.told ∙ sym grown
+
+pub mail_stays : (a b : Desk) (t u : List Event) → TellsMail a b t u → IsMailTold a t → IsMailTold b u
+mail_stays a b t u told before =
+    let F : List Event → Type 0 = λ xs. IsMailTold b xs in
+    subst F (sym told.trace_is) (mail_more a b t u told t before)
+
+pub mail_new : (cpu : ℕ) (book : Shelf) (d : Desk) → IsOpenedDesk cpu book d → IsMailTold d []
+mail_new cpu book d new = sym new.no_events
+
+pub mail_made : {B : Type 0} (polled : B → Answer → Ask → B → Type 0) (bank : BankId) (old new : Processor B) (t u : Vec Event Global) (turns : List Turned) → Made polled bank old new t u turns → IsMailTold old.post.seat t.items → IsMailTold new.post.seat u.items
+mail_made {B} polled bank old new t u [] made told =
+    let F : Processor B → Type 0 = λ p. IsMailTold p.post.seat u.items in
+    let G : Vec Event Global → Type 0 = λ v. IsMailTold old.post.seat v.items in
+    subst F (sym made.0) (subst G (sym made.1) told)
+mail_made polled bank old new t u (turned ∷ turns) made told =
+    mail_made polled bank made.0 new made.1.0 u turns made.1.1.1 (mail_stays old.post.seat made.0.post.seat t.items made.1.0.items made.1.1.0.told told)
+
+-- each processor's part of the history are its trace's events of messages
+pub mail_part : (history : List Deed) (seats : List Desk) (cpu : ℕ) (trace : List Event) (d : Desk) → All (λ (x : Desk). mail_of x ≡ events_by (desk_cpu x).0 history) seats → slice_get seats cpu ≡ Some d → (desk_cpu d).0 ≡ cpu → IsMailTold d trace → filter is_of_message trace ≡ events_by cpu history
+mail_part history seats cpu trace d all at same told =
+    let F : Desk → Type 0 = λ x. mail_of x ≡ events_by (desk_cpu x).0 history in
+    let here : mail_of d ≡ events_by (desk_cpu d).0 history = subst F (get_or_from_slice_get seats cpu d d at) (all cpu d (slice_get_within seats cpu d at)) in
+    told ∙ here ∙ ap (λ k. events_by k history) same
+
+pub one_mail_run : (book : Shelf) (seats : List Desk) (ends : List MsgEnd) (traces : List (List Event)) → AreClosed book seats ends
+    → ((cpu : ℕ) (trace : List Event) → slice_get traces cpu ≡ Some trace → (d : Desk) × ((slice_get seats cpu ≡ Some d) × ((desk_cpu d).0 ≡ cpu) × IsMailTold d trace))
+    → TellOneMailRun book ends traces
+one_mail_run book seats ends traces is told = record {
+  history = is.history;
+  last = is.mails;
+  passes = is.is_history.passes;
+  run = is.is_history.run;
+  as_many = is.as_many;
+  ends_are = λ m end at.
+      let within = slice_get_within ends m end at in
+      let less : m < length book.specs = omega (arith, within, is.as_many) in
+      let F : MsgEnd → Type 0 = λ x. x ≡ end_of (mail_at is.mails m).msg in
+      subst F (get_or_from_slice_get ends m end end at) (is.each m end less).end_is;
+  told = λ cpu trace at. let d = told cpu trace at in mail_part is.history seats cpu trace d.0 is.is_history.events d.1.0 d.1.1 d.1.2;
+  others = is.is_history.no_others;
+}
+
+-- the turns of a processor leave its seat at the book the same processor's
+pub mail_same : {B : Type 0} (polled : B → Answer → Ask → B → Type 0) (bank : BankId) (old new : Processor B) (t u : Vec Event Global) (turns : List Turned) → Made polled bank old new t u turns → desk_cpu new.post.seat ≡ desk_cpu old.post.seat
+mail_same {B} polled bank old new t u [] made = ap (λ (p : Processor B). desk_cpu p.post.seat) made.0
+mail_same polled bank old new t u (turned ∷ turns) made = mail_same polled bank made.0 new made.1.0 u turns made.1.1.1 ∙ ap seat_cpu made.1.1.0.told.same.kind
+
+pub one_run : TracesTellOneRun
+one_run bank cpus seats closed traces is told = record {
+  history = is.history;
+  last = is.is_history.last;
+  passes = is.is_history.passes;
+  run = is.is_history.run;
+  ends = is.is_history.ends;
+  told = λ cpu trace at. let s = told cpu trace at in told_part is.history seats cpu trace s.0 is.is_history.events s.1.0 s.1.1 s.1.2;
+  others = is.is_history.others;
+}

@@ -1,4 +1,4 @@
-use Rattle.std.specs.Prelude.{◌≡◌, ℕ, ◌≤◌, Bool, List, [], All, filter, Vec, Some, slice_get}
+use Rattle.std.specs.Prelude.{◌≡◌, ℕ, ◌≤◌, Bool, List, [], length, All, filter, Vec, Some, slice_get}
 use Rattle.std.specs.declared.alloc.Global.{Global}
 use Rattle.lwkt_base.specs.declared.asks.Ask.{Ask}
 use Rattle.lwkt_base.specs.declared.asks.Answer.{Answer}
@@ -8,7 +8,9 @@ use Rattle.lwkt_core.specs.declared.seats.Deed.{Deed}
 use Rattle.lwkt_core.specs.Events.{cpu_of}
 use Rattle.lwkt_core.specs.History.{AreOthers, Passes, events_in, events_by}
 use Rattle.lwkt_core.specs.Machine.{Machine}
-use Rattle.lwkt_core.specs.Trace.{Run}
+use Rattle.lwkt_core.specs.Trace.{Run, end_of}
+use Rattle.lwkt_ask.specs.Telling.{is_of_message, TellsMail}
+use Rattle.lwkt_base.specs.declared.owners.MsgEnd.{MsgEnd}
 use Rattle.lwkt_bank.specs.declared.closed.Closed.{Closed}
 use Rattle.lwkt_bank.specs.declared.seats.CpuSeat.{CpuSeat}
 use Rattle.lwkt_bank.specs.Gathered.{IsNew, IsClosed, Ends}
@@ -16,6 +18,10 @@ use Rattle.lwkt_bank.specs.Seats.{BankId, events_of}
 use Rattle.lwkt_bank.specs.Told.{IsDone, first_machine}
 use Rattle.lwkt_hold.specs.Runs.{Ran}
 use Rattle.lwkt_hold.specs.Steps.{is_of_token, Tells}
+use Rattle.lwkt_msg.specs.Book.{Mail, mail_at}
+use Rattle.lwkt_msg.specs.Desks.{Desk, Shelf, cpu_of as desk_cpu, events_of as mail_of, IsOpened as IsOpenedDesk, AreClosed}
+use Rattle.lwkt_msg.specs.Steps.{machine_of}
+use Rattle.lwkt_msg.specs.Told.{IsDone as IsMailDone, first_mails}
 use Rattle.lwkt_cpu.specs.declared.threads.Thread.{Thread}
 use Rattle.lwkt_cpu.specs.Turning.{IsMailed}
 use Rattle.lwkt_drive.specs.declared.driven.Driven.{Driven}
@@ -59,3 +65,39 @@ abbrev pub TracesTellOneRun : Type 0
 TracesTellOneRun = (bank : BankId) (cpus : ℕ) (seats : List CpuSeat) (closed : Closed) (traces : List (List Event)) → IsClosed bank cpus seats closed
     → ((cpu : ℕ) (trace : List Event) → slice_get traces cpu ≡ Some trace → (s : CpuSeat) × ((slice_get seats cpu ≡ Some s) × (s.cpu.0 ≡ cpu) × IsTold s trace))
     → TellOneRun bank cpus closed traces
+
+-- what a trace has of messages are all events that a seat at the book has done, each once and in order
+abbrev pub IsMailTold : Desk → List Event → Type 0
+IsMailTold d trace = filter is_of_message trace ≡ mail_of d
+
+-- a law: a seat at a book that was just opened is told by no trace
+abbrev pub NewMailIsTold : Type 0
+NewMailIsTold = (cpu : ℕ) (book : Shelf) (d : Desk) → IsOpenedDesk cpu book d → IsMailTold d []
+
+-- a law: where a trace told a seat at the book before the processor made a turn or was stopped, it tells it afterwards
+abbrev pub MailStaysTold : Type 0
+MailStaysTold = (a b : Desk) (t u : List Event) → TellsMail a b t u → IsMailTold a t → IsMailTold b u
+
+-- a law: where a processor's trace told its seat at the book before it was driven, it tells it afterwards
+abbrev pub MailDrivesAreTold : {B G : Type 0} → (B → Answer → Ask → B → Type 0) → (G → CpuId → ℕ → Bool → Type 0) → Type 0
+MailDrivesAreTold {B} {G} polled answers = (gate : G) (bank : BankId) (limits : Limits) (old new : Driven B) (ending : Ending) → IsDriven polled (answers gate) bank limits old new ending → IsMailTold old.cpu.post.seat old.trace.items → IsMailTold new.cpu.post.seat new.trace.items
+
+-- the traces, by processor, are of messages the parts of one run: one history of deeds leads from the messages that were declared
+-- to messages with the closing owner states and rounds, its events are a run of the model, what each processor did in it are its
+-- trace's events of messages, and no other processor did anything (own)
+pub record TellOneMailRun (book : Shelf) (ends : List MsgEnd) (traces : List (List Event)) : Type 0 where
+  pub history : List Deed
+  pub last : List Mail
+  pub passes : Passes (IsMailDone book.cpus) (first_mails book.specs) history last
+  pub run : Run (machine_of book.cpus (first_mails book.specs)) (events_in history) (machine_of book.cpus last)
+  pub as_many : length ends ≡ length book.specs
+  pub ends_are : (m : ℕ) (end : MsgEnd) → slice_get ends m ≡ Some end → end ≡ end_of (mail_at last m).msg
+  pub told : (cpu : ℕ) (trace : List Event) → slice_get traces cpu ≡ Some trace → filter is_of_message trace ≡ events_by cpu history
+  pub others : (cpu : ℕ) → book.cpus ≤ cpu → AreOthers cpu history
+
+-- a law: where each seat that a book took back is told by its processor's trace, the traces are of messages the parts of one run to
+-- the closing owner states and rounds
+abbrev pub TracesTellOneMailRun : Type 0
+TracesTellOneMailRun = (book : Shelf) (seats : List Desk) (ends : List MsgEnd) (traces : List (List Event)) → AreClosed book seats ends
+    → ((cpu : ℕ) (trace : List Event) → slice_get traces cpu ≡ Some trace → (d : Desk) × ((slice_get seats cpu ≡ Some d) × ((desk_cpu d).0 ≡ cpu) × IsMailTold d trace))
+    → TellOneMailRun book ends traces

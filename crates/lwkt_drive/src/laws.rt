@@ -1,5 +1,5 @@
 //! What the traces of processors that were driven tell, as laws.
-ghost use Rattle.lwkt_drive.specs.Telling.{NewIsTold, StopsAreTold, DrivesAreTold, TracesTellOneRun};
+ghost use Rattle.lwkt_drive.specs.Telling.{NewIsTold, StopsAreTold, DrivesAreTold, TracesTellOneRun, NewMailIsTold, MailStaysTold, MailDrivesAreTold, TracesTellOneMailRun};
 
 use crate::gates::Gate;
 use lwkt_cpu::Body;
@@ -16,4 +16,18 @@ pub fn traces_tell_seats<B: Body, G: Gate>()
 /// values.
 pub fn traces_tell_one_run()
     ensures { TracesTellOneRun }
+{}
+
+/// A trace has, of messages, what its processor's seat has done at the book: at the opening, and after it was driven, made a turn or
+/// was stopped if it did so before.
+pub fn traces_tell_desks<B: Body, G: Gate>()
+    ensures new { NewMailIsTold }
+    ensures stays { MailStaysTold }
+    ensures drives { MailDrivesAreTold B.polled G.answers }
+{}
+
+/// At the close the traces of all processors are, of messages, the parts of one run of the model, which leads from the opening to the
+/// closing owner states and rounds.
+pub fn traces_tell_one_mail_run()
+    ensures { TracesTellOneMailRun }
 {}

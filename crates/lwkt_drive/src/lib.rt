@@ -2,7 +2,6 @@
 //! limits allow.
 #![tactic(auto)]
 
-mod counts;
 pub mod driven;
 mod drives;
 mod exits;

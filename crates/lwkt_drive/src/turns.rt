@@ -5,12 +5,12 @@ ghost use Rattle.lwkt_cpu.specs.Driving.{counted};
 ghost use Rattle.lwkt_cpu.specs.Turning.{MakesTurn};
 ghost use Rattle.lwkt_drive.specs.Course.{IsAt, IsWithin, GoesOn, EndsBy};
 
-use crate::counts::count;
 use crate::driven::{Driven, Ending, Limits};
 use crate::exits::Exits;
 use crate::gates::Gate;
 use lwkt_bank::Bank;
 use lwkt_base::Fault;
+use lwkt_cpu::drives::count;
 use lwkt_cpu::{Body, Turned};
 use lwkt_msg::MsgBook;
 

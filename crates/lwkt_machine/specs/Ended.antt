@@ -2,9 +2,12 @@
 use Rattle.std.specs.Prelude.{◌≡◌, ℕ, List, length, Vec, Some, slice_get, slice_set}
 use Rattle.std.specs.declared.alloc.Global.{Global}
 use Rattle.lwkt_core.specs.declared.events.Event.{Event}
+use Rattle.lwkt_ask.specs.Telling.{TellsMail}
 use Rattle.lwkt_bank.specs.Seats.{bank_of}
+use Rattle.lwkt_hold.specs.Runs.{Ran}
 use Rattle.lwkt_port.specs.Chains.{Chain}
 use Rattle.lwkt_cpu.specs.Processors.{Processor, AllOver}
+use Rattle.lwkt_cpu.specs.Turning.{IsMailed}
 use Rattle.lwkt_cpu.specs.Stopping.{Stops}
 use Rattle.lwkt_machine.specs.Bodies.{Scripted}
 use Rattle.lwkt_machine.specs.Machines.{Rig}
@@ -32,9 +35,16 @@ pub record Stage : Type 0 where
 abbrev pub stage : List (Processor Scripted) → Vec Event Global → Stage
 stage cpus trace = record { cpus = cpus; trace = trace }
 
+-- a processor stops, and the events by which the trace grows are what its seats at bank and book did
+pub record IsStopped (p q : Processor Scripted) (t u : Vec Event Global) : Type 0 where
+  pub stops : Stops p q t u
+  pub most : ℕ
+  pub ran : Ran (IsMailed p.threads) most p.seat q.seat t u
+  pub told : TellsMail p.post.seat q.post.seat t.items u.items
+
 -- the processor of this number stops
 abbrev pub StopsAt : ℕ → Stage → Stage → Type 0
-StopsAt k x y = (p : Processor Scripted) × ((q : Processor Scripted) × ((slice_get x.cpus k ≡ Some p) × Stops p q x.trace y.trace × (y.cpus ≡ slice_set x.cpus k q)))
+StopsAt k x y = (p : Processor Scripted) × ((q : Processor Scripted) × ((slice_get x.cpus k ≡ Some p) × IsStopped p q x.trace y.trace × (y.cpus ≡ slice_set x.cpus k q)))
 
 -- the processors stop one after another, by rising number
 abbrev pub AreStopped : List (Processor Scripted) → List (Processor Scripted) → Vec Event Global → Vec Event Global → Type 0

@@ -54,6 +54,7 @@ pub record IsOpenedMachine (script : Script) (m : Rig) : Type 0 where
   pub plans : m.bank.plans ≡ plans_of script.tokens
   pub specs : m.book.specs ≡ script.messages
   pub as_many : length m.cpus ≡ script.cpus
+  pub desks_are : m.book.cpus ≡ script.cpus
   pub each : AreOpenedCpus m.bank m.book script.threads m.cpus
 
 -- why a machine of so many processors, these tokens and these messages isn't opened: out of memory, of which nothing is claimed;

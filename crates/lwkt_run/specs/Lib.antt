@@ -1,5 +1,6 @@
 pub mod Judging
 pub mod Leaving
 pub mod Run
+pub mod Running
 pub mod Values
 pub mod Threaded

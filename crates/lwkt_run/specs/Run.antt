@@ -1,5 +1,5 @@
 use Rattle.std.specs.Global.{Global}
-use Rattle.std.specs.Prelude.{codes, length, All, string_bytes, String, ◌≡◌, ◌⊎◌, ℕ, Bool, true, false, List, [], map, take, Option, is_some, unwrap_or, IfSome, Result, Ok, Err}
+use Rattle.std.specs.Prelude.{codes, length, All, string_bytes, String, Vec, ◌≡◌, ◌⊎◌, ℕ, Bool, true, false, List, [], map, take, Option, is_some, unwrap_or, IfSome, Result, Ok, Err}
 use Rattle.std.specs.List.{list_all}
 use Rattle.std.specs.Io.KnownBytes.{Appends, Keeps}
 use Rattle.lwkt_base.specs.declared.faults.Fault.{Fault as Refusal}
@@ -11,6 +11,7 @@ use Rattle.lwkt_core.specs.declared.finals.Final.{Final}
 use Rattle.lwkt_core.specs.Machine.{Machine}
 use Rattle.lwkt_core.specs.Opening.{opening, AreWithin, AllOpenLawfully}
 use Rattle.lwkt_report.specs.declared.closings.Closing.{Closing}
+use Rattle.lwkt_report.specs.declared.closings.ThreadLine.{ThreadLine}
 use Rattle.lwkt_report.specs.declared.closings.Verdict.{Verdict}
 use Rattle.lwkt_report.specs.declared.closings.Verdict.TheVariants.{Closed, Lawful, Unlawful}
 use Rattle.lwkt_report.specs.declared.complaints.Program.TheVariants.{Run as RunProgram}
@@ -26,8 +27,11 @@ use Rattle.lwkt_verdict.specs.declared.turns.ThreadPlan.{ThreadPlan}
 use Rattle.lwkt_verdict.specs.declared.turns.ThreadEnd.{ThreadEnd}
 use Rattle.lwkt_verdict.specs.declared.turns.Poll.{Poll}
 use Rattle.lwkt_verdict.specs.declared.turns.Turn.{Turn}
-use Rattle.lwkt_machine.specs.Opened.{Declines as IsDeclined}
+use Rattle.lwkt_machine.specs.Machines.{Rig}
+use Rattle.lwkt_machine.specs.Opened.{IsOpenedMachine, Declines as IsDeclined}
 use Rattle.lwkt_run.specs.Values.{is_tally}
+use Rattle.lwkt_run.specs.Leaving.{Leaves}
+use Rattle.lwkt_run.specs.Running.{ShowThreads, scene, HasMadeRounds}
 use Rattle.lwkt_run.specs.Judging.{ids_of, ArePlansOf, AreEndsOf, Judges}
 use Rattle.lwkt_run.specs.declared.runs.End.{End}
 use Rattle.lwkt_run.specs.declared.runs.End.TheVariants.{Ended, TurnsOut, Unlawful as UnlawfulEnd}
@@ -43,6 +47,22 @@ pub record ShowsClosing (closing : Closing) (last : Final) : Type 0 where
   pub tallies : last.tallies.items ≡ map (λ line. unwrap_or line.tallies []) closing.tokens.items
   pub messages : last.messages.items ≡ closing.messages.items
 
+-- the trace, closing values and lines of threads of a run in rounds: the script's machine was opened, and made rounds, as many as the
+-- script says or until every thread of each processor had ended; the lines show how its threads stood then; it stopped, and its bank
+-- and its book were closed with these values (own)
+pub record RunsInRounds (script : Script) (lines : List ThreadLine) (trace : List Event) (last : Final) : Type 0 where
+  pub opened : Rig
+  pub made : Rig
+  pub first : Vec Event Global
+  pub mid : Vec Event Global
+  pub whole : Vec Event Global
+  pub opens : IsOpenedMachine script opened
+  pub none : first.items ≡ []
+  pub rounds : HasMadeRounds script.turns (scene opened first) (scene made mid)
+  pub shown : ShowThreads lines made
+  pub leaves : Leaves made mid whole last
+  pub trace_is : trace ≡ whole.items
+
 -- there are a trace and turns with their polls of which the report gives its verdict, as a run of the script from its opening to
 -- the values and the threads' ends that it shows (own)
 pub record IsJudged (script : Script) (closing : Closing) : Type 0 where
@@ -55,6 +75,7 @@ pub record IsJudged (script : Script) (closing : Closing) : Type 0 where
   pub are_plans : ArePlansOf script.threads plans
   pub are_ends : AreEndsOf closing.threads.items ends
   pub shows : ShowsClosing closing last
+  pub runs : RunsInRounds script closing.threads.items trace last
   pub by : Judges closing.verdict (opening_of script) script.turns plans ends last trace polls turns
 
 -- the values may be those of a run of the script: its opening was accepted, a tally line stands exactly under a Tally token, each

@@ -1,8 +1,19 @@
 -- What a run on threads writes and answers (own).
 use Rattle.std.specs.Global.{Global}
-use Rattle.std.specs.Prelude.{codes, length, All, string_bytes, String, ◌≡◌, ℕ, Bool, List, map, is_some, Option, Result, Ok}
-use Rattle.lwkt_core.specs.Opening.{AreWithin, AllOpenLawfully}
+use Rattle.std.specs.Prelude.{codes, length, All, string_bytes, String, Vec, ◌≡◌, ℕ, Bool, true, List, [], map, is_some, Option, Result, Ok}
+use Rattle.lwkt_base.specs.declared.names.CpuId.{CpuId}
+use Rattle.lwkt_core.specs.declared.events.Event.{Event}
+use Rattle.lwkt_core.specs.declared.finals.Final.{Final}
+use Rattle.lwkt_core.specs.Opening.{opening, AreWithin, AllOpenLawfully}
+use Rattle.lwkt_bank.specs.Told.{first_machine}
+use Rattle.lwkt_msg.specs.Steps.{machine_of}
+use Rattle.lwkt_msg.specs.Told.{first_mails}
+use Rattle.lwkt_machine.specs.Machines.{Rig}
+use Rattle.lwkt_machine.specs.Opened.{IsOpenedMachine}
+use Rattle.lwkt_threads.specs.Driven.{IsDrivenMachine}
+use Rattle.lwkt_threads.specs.Parts.{parts_of, TellTheRuns}
 use Rattle.lwkt_report.specs.declared.closings.Closing.{Closing}
+use Rattle.lwkt_report.specs.declared.closings.ThreadLine.{ThreadLine}
 use Rattle.lwkt_report.specs.declared.closings.Verdict.TheVariants.{Closed}
 use Rattle.lwkt_report.specs.declared.streams.RunFault.{RunFault}
 use Rattle.lwkt_report.specs.Report.{report_text}
@@ -10,34 +21,63 @@ use Rattle.lwkt_script.specs.declared.scripts.Script.{Script}
 use Rattle.lwkt_script.specs.Format.{script_of}
 use Rattle.lwkt_run.specs.declared.runs.End.{End}
 use Rattle.lwkt_run.specs.Judging.{ids_of}
+use Rattle.lwkt_run.specs.Leaving.{Leaves}
+use Rattle.lwkt_run.specs.Running.{ShowThreads}
 use Rattle.lwkt_run.specs.Values.{is_tally}
-use Rattle.lwkt_run.specs.Run.{end_told, TellsBy, SaysAfterRun, status_of, AsksTurns}
+use Rattle.lwkt_run.specs.Run.{ShowsClosing, end_told, TellsBy, SaysAfterRun, status_of, AsksTurns}
+
+-- the closing values and lines of threads of a run on threads: the script's machine was opened, and its processors were driven, each
+-- making turns where the gate may have said so, until a limit of the script was reached, the gate said no, or every thread had ended; the
+-- lines show how the threads stood then; the machine stopped, and its bank and its book were closed with these values. What each
+-- processor did, in its turns and then in its stop, are the parts of one run of the model on tokens and of one on messages, from the
+-- script's opening to these values (own)
+pub record RunsOnThreads (answers : CpuId → ℕ → Bool → Type 0) (script : Script) (lines : List ThreadLine) (last : Final) : Type 0 where
+  pub opened : Rig
+  pub driven : Rig
+  pub traces : List (Vec Event Global)
+  pub none : Vec Event Global
+  pub stops : Vec Event Global
+  pub opens : IsOpenedMachine script opened
+  pub drives : IsDrivenMachine answers (record { turns = script.turns; idle = script.idle }) opened driven traces
+  pub empty : none.items ≡ []
+  pub shown : ShowThreads lines driven
+  pub leaves : Leaves driven none stops last
+  pub tells : TellTheRuns opened leaves.closed (parts_of 0 traces stops.items)
+  pub tokens_from : first_machine opened.bank.plans (length opened.cpus) ≡ opening script.cpus script.tokens []
+  pub messages_from : machine_of opened.book.cpus (first_mails opened.book.specs) ≡ opening script.cpus [] script.messages
 
 -- the values may be those of a run of the script on threads: its opening was accepted, a tally line stands exactly under a Tally
--- token, each thread has its line, and the report says no more than that bank and book were closed
-pub record MayCloseOnThreads (script : Script) (closing : Closing) : Type 0 where
+-- token, each thread has its line, they are those of such a run, and the report says no more than that bank and book were closed
+pub record MayCloseOnThreads (answers : CpuId → ℕ → Bool → Type 0) (script : Script) (closing : Closing) : Type 0 where
   pub within : AreWithin script.cpus script.tokens script.messages
   pub lawful_opening : AllOpenLawfully script.tokens
   pub kinds : map (λ line. is_some line.tallies) closing.tokens.items ≡ map (λ spec. is_tally spec.law) script.tokens
   pub threads : map (λ line. line.id) closing.threads.items ≡ ids_of script.cpus script.threads
   pub closed : closing.verdict ≡ Closed
+  pub last : Final
+  pub shows : ShowsClosing closing last
+  pub runs : RunsOnThreads answers script closing.threads.items last
 
 -- these bytes are a script, and a run of it on threads may end so, with this report
-pub record HasThreadedRun (bytes : List ℕ) (end : End) (text : List ℕ) : Type 0 where
+pub record HasThreadedRun (answers : CpuId → ℕ → Bool → Type 0) (bytes : List ℕ) (end : End) (text : List ℕ) : Type 0 where
   pub script : Script
   pub read : script_of bytes ≡ Ok script
   pub closing : Closing
-  pub closes : MayCloseOnThreads script closing
+  pub closes : MayCloseOnThreads answers script closing
   pub is_text : text ≡ report_text closing
   pub is_end : end ≡ end_told closing
 
--- what a run on threads says by its answer
-abbrev pub TellsOnThreads : Option (List ℕ) → Option (List ℕ) → Option (List ℕ) → Result End RunFault → Type 0
-TellsOnThreads left old new answer = TellsBy HasThreadedRun left old new answer
+-- what a run on threads says by its answer, where a gate may answer so
+abbrev pub TellsOnThreads : (CpuId → ℕ → Bool → Type 0) → Option (List ℕ) → Option (List ℕ) → Option (List ℕ) → Result End RunFault → Type 0
+TellsOnThreads answers left old new answer = TellsBy (HasThreadedRun answers) left old new answer
+
+-- a gate that never says no
+abbrev pub lets_all : CpuId → ℕ → Bool → Type 0
+lets_all cpu turn answer = answer ≡ true
 
 -- what the program does where its one argument is `threads`: it runs, answers the status and writes the line
 abbrev pub RunsOnThreadsAs : Bool → Option (List ℕ) → Option (List ℕ) → Option (List ℕ) → ℕ → Type 0
-RunsOnThreadsAs failed left old new status = (outcome : Result End RunFault) × ((mid : Option (List ℕ)) × (TellsOnThreads left old mid outcome × (SaysAfterRun failed mid new outcome × (status ≡ status_of outcome))))
+RunsOnThreadsAs failed left old new status = (outcome : Result End RunFault) × ((mid : Option (List ℕ)) × (TellsOnThreads lets_all left old mid outcome × (SaysAfterRun failed mid new outcome × (status ≡ status_of outcome))))
 
 -- the arguments are the one word `threads`
 abbrev pub AsksThreads : List (String Global) → Type 0

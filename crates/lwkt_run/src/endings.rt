@@ -1,15 +1,16 @@
 //! The end of a machine.
-ghost use Rattle.std.specs.Prelude.{◌≡◌, ℕ, ◌≤◌, map, IfOk, OnErr, Err};
+ghost use Rattle.std.specs.Prelude.{◌≡◌, map, IfOk, OnErr, Err, Option};
 ghost use Rattle.lwkt_bank.specs.Opened.{plans_of};
-ghost use Rattle.lwkt_script.specs.Format.{threads_on};
 ghost use Rattle.lwkt_run.specs.Judging.{ids_of};
+ghost use Rattle.lwkt_machine.specs.Bodies.{Scripted};
+ghost use Rattle.lwkt_machine.specs.Machines.{ShowsBody};
 ghost use Rattle.lwkt_run.specs.Leaving.{Leaves};
+ghost use Rattle.lwkt_run.specs.Running.{HasThreads, ShowThreads, IsLogOf, log_in};
 ghost use Rattle.lwkt_run.specs.Values.{AreValuesOf};
 
-use crate::names::names_of;
-use lwkt_base::{Fault, Ref, ThreadId, ThreadState, TokList};
+use lwkt_base::{Fault, ThreadId};
 use lwkt_core::{Event, Final};
-use lwkt_machine::{Closed, Machine};
+use lwkt_machine::{Closed, Machine, Standing};
 use lwkt_report::{Log, ThreadLine};
 use lwkt_script::Script;
 use std::alloc::{AllocError, Global};
@@ -21,17 +22,10 @@ pub struct Left {
     pub threads: Vec<ThreadLine>,
 }
 
-// These references as a list.
-fn list_of(refs: &[Ref]) -> TokList {
-    let mut list = TokList::new();
-    for r in refs {
-        let _ = list.push(*r);
-    }
-    list
-}
-
 // What a thread has logged.
-fn log_of(alloc: Global, machine: &Machine, id: ThreadId) -> Result<Log, AllocError> {
+fn log_of(alloc: Global, machine: &Machine, id: ThreadId) -> Result<Log, AllocError>
+    ensures { IfOk result (λ log. (body : Option Scripted) × (ShowsBody machine.now id.cpu.0 id.thread body × (log ≡ log_in body))) }
+{
     let entries = match machine.body(usize::from(id.cpu.0), usize::from(id.thread)) {
         Some(body) => Vec::from_slice(alloc, body.log())?,
         None => Vec::new(alloc),
@@ -39,15 +33,19 @@ fn log_of(alloc: Global, machine: &Machine, id: ThreadId) -> Result<Log, AllocEr
     Ok(Log::from_vec(entries))
 }
 
-// The line of a thread.
-fn thread_line(alloc: Global, machine: &Machine, id: ThreadId) -> Result<ThreadLine, AllocError>
-    ensures { IfOk result (λ line. line.id ≡ id) }
+// The line of a thread that stands so.
+fn thread_line(
+    alloc: Global,
+    machine: &Machine,
+    standing: Standing,
+) -> Result<ThreadLine, AllocError>
+    ensures id { IfOk result (λ line. line.id ≡ standing.id) }
+    ensures state { IfOk result (λ line. line.state ≡ standing.state) }
+    ensures list { IfOk result (λ line. line.list ≡ standing.list) }
+    ensures log { IfOk result (λ line. IsLogOf machine.now line) }
 {
+    let Standing { id, state, list } = standing;
     let log = log_of(alloc, machine, id)?;
-    let (state, list) = match machine.thread(usize::from(id.cpu.0), usize::from(id.thread)) {
-        Some(status) => (status.state, list_of(status.list)),
-        None => (ThreadState::Ready, TokList::new()),
-    };
     Ok(ThreadLine {
         id,
         state,
@@ -56,32 +54,16 @@ fn thread_line(alloc: Global, machine: &Machine, id: ThreadId) -> Result<ThreadL
     })
 }
 
-// The lines of these threads.
-fn thread_lines(
-    alloc: Global,
-    machine: &Machine,
-    ids: &[ThreadId],
-) -> Result<Vec<ThreadLine>, AllocError>
-    ensures { IfOk result (λ lines. map (λ line. line.id) lines.items ≡ ids.now) }
+// The lines of a machine's threads.
+fn thread_lines(alloc: Global, machine: &Machine) -> Result<Vec<ThreadLine>, AllocError>
+    ensures { IfOk result (λ lines. ShowThreads lines.items machine.now) }
 {
-    let mut lines = Vec::with_capacity(alloc, ids.len())?;
-    for id in ids {
-        lines.push(thread_line(alloc, machine, *id)?)?;
+    let standings = machine.standings(alloc)?;
+    let mut lines = Vec::with_capacity(alloc, standings.len())?;
+    for standing in standings {
+        lines.push(thread_line(alloc, machine, standing)?)?;
     }
     Ok(lines)
-}
-
-// The lines of a script's threads.
-fn lines_of(
-    alloc: Global,
-    script: &Script,
-    machine: &Machine,
-) -> Result<Vec<ThreadLine>, AllocError>
-    requires { (cpu : ℕ) → threads_on cpu script.now.threads ≤ 16 }
-    ensures { IfOk result (λ lines. map (λ line. line.id) lines.items ≡ ids_of script.now.cpus script.now.threads) }
-{
-    let ids = names_of(alloc, script.cpus, script.threads.as_slice())?;
-    thread_lines(alloc, machine, &ids)
 }
 
 // Stops a machine whose bank has the tokens of a script, and closes it: its closing values.
@@ -124,13 +106,16 @@ pub fn left_by(
     trace: &mut Vec<Event>,
 ) -> Result<Left, Fault>
     requires bank { machine.bank.plans ≡ plans_of script.now.tokens }
-    requires threads { (cpu : ℕ) → threads_on cpu script.now.threads ≤ 16 }
+    requires threads { HasThreads script.now.cpus script.now.threads machine.cpus }
     ensures values { IfOk result (λ left. AreValuesOf script.now.tokens left.last) }
     ensures leaves { IfOk result (λ left. Leaves machine trace.old trace.new left.last) }
+    ensures shown { IfOk result (λ left. ShowThreads left.threads.items machine) }
     ensures threads { IfOk result (λ left. map (λ line. line.id) left.threads.items ≡ ids_of script.now.cpus script.now.threads) }
     ensures only { OnErr result (result ≡ Err Fault.Memory) }
 {
-    let threads = lines_of(alloc, script, &machine).map_err(|_| Fault::Memory)?;
+    let Ok(threads) = thread_lines(alloc, &machine) else {
+        return Err(Fault::Memory);
+    };
     let last = close(alloc, script, machine, trace)?;
     Ok(Left { last, threads })
 }

@@ -3,7 +3,6 @@
 
 mod endings;
 mod lines;
-mod names;
 mod programs;
 mod records;
 mod rounds;

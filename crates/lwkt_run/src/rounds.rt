@@ -1,5 +1,8 @@
 //! The rounds of a run.
-ghost use Rattle.std.specs.Prelude.{◌≡◌, ◌<◌, length, OnOk, OnErr, Err};
+ghost use Rattle.std.specs.Prelude.{◌≡◌, ◌<◌, length, true, IfOk, OnOk, OnErr, Err};
+ghost use Rattle.lwkt_cpu.specs.declared.answers.Turned.{Turned};
+ghost use Rattle.lwkt_machine.specs.Turns.{TurnsAt};
+ghost use Rattle.lwkt_run.specs.Running.{scene, RoundTold, HasMadeRounds};
 
 use crate::records::{Polled, Record};
 use lwkt_base::{CpuId, Fault, ThreadId};
@@ -20,6 +23,20 @@ fn polled_at(machine: &Machine, cpu: usize, thread: usize) -> Option<Polled> {
     })
 }
 
+// Whether a turn says that every thread has ended.
+fn is_over(turned: Turned) -> bool
+    ensures { result ≡ true → turned ≡ Turned.AllExited }
+{
+    matches!(turned, Turned::AllExited)
+}
+
+// Whether both are so.
+fn both(a: bool, b: bool) -> bool
+    ensures { result ≡ true → (a ≡ true) × (b ≡ true) }
+{
+    a && b
+}
+
 // Makes a turn of a processor, which is kept, and says whether all its threads have ended.
 fn make_turn(
     machine: &mut Machine,
@@ -28,8 +45,8 @@ fn make_turn(
     kept: &mut Record,
 ) -> Result<bool, Fault>
     requires { cpu < length machine.old.cpus }
+    ensures ok { IfOk result (λ over. (turned : Turned) × (TurnsAt cpu machine.old machine.new trace.old trace.new turned × (over ≡ true → turned ≡ Turned.AllExited))) }
     ensures as_many { length machine.new.cpus ≡ length machine.old.cpus }
-    ensures bank { machine.new.bank ≡ machine.old.bank }
     ensures only { OnErr result (result ≡ Err Fault.Memory) }
 {
     let before = trace.len();
@@ -40,7 +57,7 @@ fn make_turn(
     };
     let events = trace.len().saturating_sub(before);
     match kept.keep(events, polled) {
-        Ok(()) => Ok(turned == Turned::AllExited),
+        Ok(()) => Ok(is_over(turned)),
         Err(_) => Err(Fault::Memory),
     }
 }
@@ -51,13 +68,13 @@ fn make_round(
     trace: &mut Vec<Event>,
     kept: &mut Record,
 ) -> Result<bool, Fault>
-    ensures bank { machine.new.bank ≡ machine.old.bank }
+    ensures ok { IfOk result (λ over. RoundTold (scene machine.old trace.old) (scene machine.new trace.new) over) }
     ensures only { OnErr result (result ≡ Err Fault.Memory) }
 {
     let mut over = true;
     for cpu in 0..machine.cpus() {
         let ended = make_turn(machine, cpu, trace, kept)?;
-        over = over && ended;
+        over = both(over, ended);
     }
     Ok(over)
 }
@@ -69,12 +86,12 @@ pub fn make_rounds(
     trace: &mut Vec<Event>,
     kept: &mut Record,
 ) -> Result<(), Fault>
-    ensures bank { machine.new.bank ≡ machine.old.bank }
+    ensures ok { OnOk result (HasMadeRounds limit (scene machine.old trace.old) (scene machine.new trace.new)) }
     ensures only { OnErr result (result ≡ Err Fault.Memory) }
 {
     for _round in 0..limit {
         if make_round(machine, trace, kept)? {
-            break;
+            return Ok(());
         }
     }
     Ok(())

@@ -1,10 +1,9 @@
 ghost use Rattle.std.specs.Prelude.{◌≡◌, ◌≤◌, ◌⊎◌, ℕ, map, is_some, length, IfOk, IfErr, OnOk, OnErr, Err, IsTrue, string_bytes};
 ghost use Rattle.std.specs.List.{list_all};
 ghost use Rattle.lwkt_core.specs.Opening.{AreWithin, AllOpenLawfully};
-ghost use Rattle.lwkt_script.specs.Format.{threads_on};
 ghost use Rattle.lwkt_run.specs.Judging.{ids_of};
 ghost use Rattle.lwkt_run.specs.Values.{is_tally, AreValuesOf};
-ghost use Rattle.lwkt_run.specs.Run.{opening_of, IsJudged, MayClose, has_ended, end_told, HasRun, Declines, Refuses, Tells};
+ghost use Rattle.lwkt_run.specs.Run.{opening_of, RunsInRounds, IsJudged, MayClose, has_ended, end_told, HasRun, Declines, Refuses, Tells};
 
 use crate::endings::{Left, left_by};
 use crate::lines::token_lines;
@@ -45,6 +44,7 @@ fn closing_of(
     requires again { again ≡ opening_of script.now }
     requires values { AreValuesOf script.now.tokens left.last }
     requires threads { map (λ line. line.id) left.threads.items ≡ ids_of script.now.cpus script.now.threads }
+    requires runs { RunsInRounds script.now left.threads.items trace.now left.last }
     ensures kinds { IfOk result (λ closing. map (λ line. is_some line.tallies) closing.tokens.items ≡ map (λ spec. is_tally spec.law) script.now.tokens) }
     ensures threads { IfOk result (λ closing. map (λ line. line.id) closing.threads.items ≡ ids_of script.now.cpus script.now.threads) }
     ensures judged { IfOk result (λ closing. IsJudged script.now closing) }
@@ -89,8 +89,8 @@ struct Made {
 
 // Makes the rounds of a script.
 fn run_of(alloc: Global, script: &Script) -> Result<Made, Fault>
-    requires threads { (cpu : ℕ) → threads_on cpu script.now.threads ≤ 16 }
     ensures values { IfOk result (λ made. AreValuesOf script.now.tokens made.left.last) }
+    ensures runs { IfOk result (λ made. RunsInRounds script.now made.left.threads.items made.trace.items made.left.last) }
     ensures threads { IfOk result (λ made. map (λ line. line.id) made.left.threads.items ≡ ids_of script.now.cpus script.now.threads) }
     ensures refused { IfErr result (λ fault. Declines script.now fault) }
 {
@@ -104,7 +104,6 @@ fn run_of(alloc: Global, script: &Script) -> Result<Made, Fault>
 
 // Runs a script to the contents of its report.
 fn closing_of_script(alloc: Global, script: &Script) -> Result<Closing, Fault>
-    requires threads { (cpu : ℕ) → threads_on cpu script.now.threads ≤ 16 }
     ensures ok { IfOk result (λ closing. MayClose script.now closing) }
     ensures refused { IfErr result (λ fault. Declines script.now fault) }
 {

@@ -1,11 +1,10 @@
 //! Runs on threads.
 ghost use Rattle.std.specs.Prelude.{◌≡◌, ◌≤◌, ◌⊎◌, ℕ, map, is_some, IfOk, IfErr, OnOk, OnErr, Err, IsTrue, string_bytes};
 ghost use Rattle.lwkt_core.specs.Opening.{AreWithin, AllOpenLawfully};
-ghost use Rattle.lwkt_script.specs.Format.{threads_on};
 ghost use Rattle.lwkt_run.specs.Judging.{ids_of};
 ghost use Rattle.lwkt_run.specs.Values.{is_tally, AreValuesOf};
 ghost use Rattle.lwkt_run.specs.Run.{Declines, Refuses};
-ghost use Rattle.lwkt_run.specs.Threaded.{MayCloseOnThreads, HasThreadedRun, TellsOnThreads};
+ghost use Rattle.lwkt_run.specs.Threaded.{RunsOnThreads, MayCloseOnThreads, HasThreadedRun, TellsOnThreads, lets_all};
 
 use crate::endings::{Left, left_by};
 use crate::lines::token_lines;
@@ -27,8 +26,8 @@ fn left_of<R: Threads + Wait + Sync, G: Gate + Sync>(
     gate: &G,
     script: &Script,
 ) -> Result<Left, Fault>
-    requires threads { (cpu : ℕ) → threads_on cpu script.now.threads ≤ 16 }
     ensures values { IfOk result (λ left. AreValuesOf script.now.tokens left.last) }
+    ensures runs { IfOk result (λ left. RunsOnThreads (G.answers gate.now) script.now left.threads.items left.last) }
     ensures threads { IfOk result (λ left. map (λ line. line.id) left.threads.items ≡ ids_of script.now.cpus script.now.threads) }
     ensures within { OnOk result (AreWithin script.now.cpus script.now.tokens script.now.messages) }
     ensures lawful { OnOk result (AllOpenLawfully script.now.tokens) }
@@ -45,12 +44,18 @@ fn left_of<R: Threads + Wait + Sync, G: Gate + Sync>(
 }
 
 // The report's contents: what a run on threads left.
-fn closing_of(alloc: Global, script: &Script, left: Left) -> Result<Closing, AllocError>
+fn closing_of<G: Gate>(
+    alloc: Global,
+    gate: &G,
+    script: &Script,
+    left: Left,
+) -> Result<Closing, AllocError>
     requires within { AreWithin script.now.cpus script.now.tokens script.now.messages }
     requires lawful { AllOpenLawfully script.now.tokens }
     requires values { AreValuesOf script.now.tokens left.last }
     requires threads { map (λ line. line.id) left.threads.items ≡ ids_of script.now.cpus script.now.threads }
-    ensures { IfOk result (λ closing. MayCloseOnThreads script.now closing) }
+    requires runs { RunsOnThreads (G.answers gate.now) script.now left.threads.items left.last }
+    ensures { IfOk result (λ closing. MayCloseOnThreads (G.answers gate.now) script.now closing) }
 {
     let Left { last, threads } = left;
     let tokens = token_lines(alloc, script.tokens.as_slice(), &last)?;
@@ -70,12 +75,11 @@ fn closing_of_script<R: Threads + Wait + Sync, G: Gate + Sync>(
     gate: &G,
     script: &Script,
 ) -> Result<Closing, Fault>
-    requires threads { (cpu : ℕ) → threads_on cpu script.now.threads ≤ 16 }
-    ensures ok { IfOk result (λ closing. MayCloseOnThreads script.now closing) }
+    ensures ok { IfOk result (λ closing. MayCloseOnThreads (G.answers gate.now) script.now closing) }
     ensures refused { IfErr result (λ fault. Declines script.now fault) }
 {
     let left = left_of(rt, alloc, gate, script)?;
-    match closing_of(alloc, script, left) {
+    match closing_of(alloc, gate, script, left) {
         Ok(closing) => Ok(closing),
         Err(_) => Err(Fault::Memory),
     }
@@ -95,7 +99,7 @@ fn done_of_bytes<R: Threads + Wait + Sync, G: Gate + Sync>(
     gate: &G,
     bytes: &[u8],
 ) -> Result<Done, Fault>
-    ensures ok { IfOk result (λ done. HasThreadedRun bytes.now done.end (string_bytes done.text)) }
+    ensures ok { IfOk result (λ done. HasThreadedRun (G.answers gate.now) bytes.now done.end (string_bytes done.text)) }
     ensures refused { IfErr result (λ fault. Refuses bytes.now fault) }
 {
     let script = read_script(alloc, bytes)?;
@@ -118,7 +122,7 @@ pub fn run_threads_gated<R: Threads + Wait + Sync, G: Gate + Sync, S: Source, K:
     sink: &mut K,
     gate: &G,
 ) -> Result<End, RunFault>
-    ensures tells { TellsOnThreads (S.left source.old) (K.contents sink.old) (K.contents sink.new) result }
+    ensures tells { TellsOnThreads (G.answers gate.now) (S.left source.old) (K.contents sink.old) (K.contents sink.new) result }
     ensures stream { result ≡ Err RunFault.Stream → IsTrue (S.has_failed source.new) ⊎ IsTrue (K.has_failed sink.new) }
 {
     let bytes = match read_capped(alloc, source) {
@@ -142,7 +146,7 @@ pub fn run_threads<R: Threads + Wait + Sync, S: Source, K: Sink>(
     source: &mut S,
     sink: &mut K,
 ) -> Result<End, RunFault>
-    ensures tells { TellsOnThreads (S.left source.old) (K.contents sink.old) (K.contents sink.new) result }
+    ensures tells { TellsOnThreads lets_all (S.left source.old) (K.contents sink.old) (K.contents sink.new) result }
     ensures stream { result ≡ Err RunFault.Stream → IsTrue (S.has_failed source.new) ⊎ IsTrue (K.has_failed sink.new) }
 {
     run_threads_gated(rt, alloc, source, sink, &OpenGate)

@@ -1,1 +1,2 @@
 pub mod MachineMoves
+pub mod PartMoves

@@ -28,5 +28,6 @@ returns-clause-ok c =
       plans = c.requires.bank.plans;
       specs = c.requires.book.specs_is;
       as_many = c.in_ok-cpus.ensures.as_many ∙ c.requires.bank.as_many;
+      desks_are = c.requires.book.cpus_is;
       each = subst F c.as_slice-2.ensures c.in_ok-cpus.ensures.each;
     }

@@ -1,5 +1,12 @@
-use Rattle.std.proofs.Common.{◌≡◌, take, map}
+use Rattle.std.proofs.Common.{◌≡◌, map}
+use Rattle.std.specs.Prelude.{All}
+use Rattle.lwkt_run.specs.Running.{IsLogOf}
 use Rattle.lwkt_run.proofs.endings.thread_lines.Given as goal
 
-abbrev pub invariant-loop-id : goal.invariant-loop-id
-invariant-loop-id l = map (λ line. line.id) l.lines.items ≡ take l.id-index l.ids
+abbrev pub invariant-loop-standing : goal.invariant-loop-standing
+invariant-loop-standing l = record {
+  ids : map (λ line. line.id) l.lines.items ≡ map (λ s. s.id) l.yielded;
+  states : map (λ line. line.state) l.lines.items ≡ map (λ s. s.state) l.yielded;
+  lists : map (λ line. line.list) l.lines.items ≡ map (λ s. s.list) l.yielded;
+  logs : All (IsLogOf l.machine) l.lines.items;
+}

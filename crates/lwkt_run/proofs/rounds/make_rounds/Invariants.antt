@@ -1,5 +1,5 @@
-use Rattle.std.proofs.Common.{◌≡◌}
+use Rattle.lwkt_run.specs.Running.{scene, MakesRounds}
 use Rattle.lwkt_run.proofs.rounds.make_rounds.Given as goal
 
 abbrev pub invariant-loop-round : goal.invariant-loop-round
-invariant-loop-round l = l.machine.bank ≡ l.initial.machine.bank
+invariant-loop-round l = MakesRounds l._round (scene l.initial.machine l.initial.trace) (scene l.machine l.trace)

@@ -1,0 +1,119 @@
+-- Turns and rounds keep the threads of a machine.
+use Rattle.std.proofs.Common.{◌≡◌, ℕ, zero, suc, ◌+◌, ◌<◌, ◌≤◌, List, [], ◌∷◌, length, set, refl, ap, sym, ◌∙◌, subst, inl, inr, arith, Option, Some, None}
+use Rattle.std.specs.Prelude.{Bool, Vec, slice_get}
+use Rattle.std.specs.declared.alloc.Global.{Global}
+use Rattle.std.proofs.lemmas.Bool.{cases_eq}
+use Rattle.std.proofs.lemmas.List.{length-set}
+use Rattle.std.proofs.lemmas.Option.{slice_get_within}
+use Rattle.lwkt_base.specs.declared.asks.Ask.{Ask}
+use Rattle.lwkt_base.specs.declared.asks.Answer.{Answer}
+use Rattle.lwkt_base.specs.declared.names.CpuId.{CpuId}
+use Rattle.lwkt_core.specs.declared.events.Event.{Event}
+use Rattle.lwkt_bank.specs.Seats.{BankId}
+use Rattle.lwkt_port.specs.Chains.{Chain}
+use Rattle.lwkt_cpu.specs.declared.answers.Turned.{Turned}
+use Rattle.lwkt_cpu.specs.declared.answers.Turned.TheVariants.{Ran, Idle, AllExited}
+use Rattle.lwkt_cpu.specs.Processors.{Processor}
+use Rattle.lwkt_cpu.specs.Driving.{Made}
+use Rattle.lwkt_cpu.specs.Turning.{Chooses, Turns, MakesTurn}
+use Rattle.lwkt_cpu.specs.Waking.{Ward, ward, WakesAt}
+use Rattle.lwkt_cpu.proofs.PlaceMoves.{some_same, get_there, get_set_same, get_set_other}
+use Rattle.lwkt_drive.specs.declared.driven.Limits.{Limits}
+use Rattle.lwkt_machine.specs.Bodies.{Scripted, IsPolled}
+use Rattle.lwkt_machine.specs.Ended.{AreOver}
+use Rattle.lwkt_machine.specs.Machines.{Rig}
+use Rattle.lwkt_machine.specs.Turns.{TurnsAt}
+use Rattle.lwkt_machine.proofs.StopMoves.{AreOverBelow, over_more}
+use Rattle.lwkt_script.specs.declared.scripts.ThreadSpec.{ThreadSpec}
+use Rattle.lwkt_script.specs.Format.{threads_on}
+use Rattle.lwkt_threads.specs.Driven.{WasDriven, AreDriven}
+use Rattle.lwkt_run.specs.Running.{HasThreads, Scene, TakesTurn, MakesRound, MakesRounds}
+
+-- what each step of a chain keeps, the chain keeps
+chain_keeps : (A : Type 0) (Step : ℕ → A → A → Type 0) (P : A → Type 0) → ((k : ℕ) (x y : A) → Step k x y → P x → P y) → (n : ℕ) (x y : A) → Chain A Step n x y → P x → P y
+unfolding Chain
+chain_keeps A Step P keeps zero x y chain p = subst P (sym chain) p
+chain_keeps A Step P keeps (suc n) x y chain p = keeps n chain.0 y chain.2 (chain_keeps A Step P keeps n x chain.0 chain.1 p)
+
+wakes_long : (n : ℕ) (x y : Ward) → Chain Ward WakesAt n x y → length y.threads ≡ length x.threads
+wakes_long n x y chain =
+    let P : Ward → Type 0 = λ w. length w.threads ≡ length x.threads in
+    chain_keeps Ward WakesAt P (λ k v w step p. ap length step.1.1.1 ∙ length-set v.threads k step.1.0 ∙ p) n x y chain refl
+
+chooses_long : {B : Type 0} (old new : Processor B) (t u : Vec Event Global) (runs found : Option ℕ) → Chooses old new t u runs found → length new.threads ≡ length old.threads
+chooses_long {B} old new t u (Some place) found c = ap (λ (p : Processor B). length p.threads) c.1
+chooses_long old new t u None (Some place) c = c.0.2.as_many
+chooses_long old new t u None None c = c.0.1.as_many
+
+turns_long : {B : Type 0} (polled : B → Answer → Ask → B → Type 0) (bank : BankId) (old new : Processor B) (t u : Vec Event Global) (turned : Turned) → Turns polled bank old new t u turned → length new.threads ≡ length old.threads
+turns_long polled bank old new t u (Ran place) is =
+    let mid = is.0 in
+    let runs = is.1.1.1 in
+    ap length runs.threads ∙ length-set mid.threads place runs.now ∙ chooses_long old mid t is.1.0 old.running (Some place) is.1.1.0
+turns_long polled bank old new t u Idle is = chooses_long old new t u old.running None is.0
+turns_long polled bank old new t u AllExited is = chooses_long old new t u old.running None is.0
+
+-- a turn keeps the number of threads
+turn_long : {B : Type 0} (polled : B → Answer → Ask → B → Type 0) (bank : BankId) (old new : Processor B) (t u : Vec Event Global) (turned : Turned) → MakesTurn polled bank old new t u turned → length new.threads ≡ length old.threads
+turn_long polled bank old new t u turned m = turns_long polled bank m.mid new m.v u turned m.turns ∙ wakes_long (length old.threads) (ward m.mail.post old.threads m.mail.v) (ward m.mid.post m.mid.threads m.v) m.mail.wakes
+
+made_long : {B : Type 0} (polled : B → Answer → Ask → B → Type 0) (bank : BankId) (old new : Processor B) (t u : Vec Event Global) (turns : List Turned) → Made polled bank old new t u turns → length new.threads ≡ length old.threads
+made_long {B} polled bank old new t u [] made = ap (λ (p : Processor B). length p.threads) made.0
+made_long polled bank old new t u (turned ∷ turns) made = made_long polled bank made.0 new made.1.0 u turns made.1.1.1 ∙ turn_long polled bank old made.0 t made.1.0 turned made.1.1.0
+
+-- one processor is another, with as many threads
+has_set : (cpus : ℕ) (threads : List ThreadSpec) (ps : List (Processor Scripted)) (k : ℕ) (p q : Processor Scripted) → slice_get ps k ≡ Some p → length q.threads ≡ length p.threads → HasThreads cpus threads ps → HasThreads cpus threads (set ps k q)
+has_set cpus threads ps k p q at same has = record {
+  as_many = length-set ps k q ∙ has.as_many;
+  each = λ j x is. elim (cases_eq j k) [
+    | inl here ↦
+        let F : ℕ → Type 0 = λ i. slice_get (set ps k q) i ≡ Some x in
+        let e : q ≡ x = some_same q x (Some q) refl (sym (get_set_same ps k q (slice_get_within ps k p at)) ∙ subst F here is) in
+        let G : ℕ → Type 0 = λ i. length x.threads ≡ threads_on i threads in
+        subst G (sym here) (ap (λ (y : Processor Scripted). length y.threads) (sym e) ∙ same ∙ has.each k p at)
+    | inr apart ↦ has.each j x (sym (get_set_other ps k j q apart) ∙ is)
+  ];
+}
+
+has_turn : (cpus : ℕ) (threads : List ThreadSpec) (cpu : ℕ) (x y : Scene) → TakesTurn cpu x y → HasThreads cpus threads x.machine.cpus → HasThreads cpus threads y.machine.cpus
+has_turn cpus threads cpu x y turn has =
+    let d = turn.1 in
+    let F : List (Processor Scripted) → Type 0 = λ ps. HasThreads cpus threads ps in
+    subst F (sym d.cpus) (has_set cpus threads x.machine.cpus cpu d.before d.now d.at_before (turn_long IsPolled x.machine.bank d.before d.now x.trace y.trace turn.0 d.does) has)
+
+pub has_rounds : (cpus : ℕ) (threads : List ThreadSpec) (count : ℕ) (x y : Scene) → MakesRounds count x y → HasThreads cpus threads x.machine.cpus → HasThreads cpus threads y.machine.cpus
+has_rounds cpus threads count x y rounds has =
+    let P : Scene → Type 0 = λ z. HasThreads cpus threads z.machine.cpus in
+    chain_keeps Scene MakesRound P (λ k v w round p. chain_keeps Scene TakesTurn P (has_turn cpus threads) (length v.machine.cpus) v w round p) count x y rounds has
+
+-- a machine that was driven
+pub has_driven : (answers : CpuId → ℕ → Bool → Type 0) (limits : Limits) (bank : BankId) (cpus : ℕ) (threads : List ThreadSpec) (olds news : List (Processor Scripted)) (traces : List (Vec Event Global)) → AreDriven answers limits bank olds news traces → HasThreads cpus threads olds → HasThreads cpus threads news
+has_driven answers limits bank cpus threads olds news traces d has = record {
+  as_many = d.as_many ∙ has.as_many;
+  each = λ k q at.
+      let within : k < length olds = omega (arith, slice_get_within news k q at, d.as_many) in
+      let p = get_there olds k within in
+      let t = get_there traces k (omega (arith, d.traces_are, within)) in
+      let w : WasDriven answers limits bank p.0 q t.0 = d.each k p.0 q t.0 p.1 at t.1 in
+      let f : Processor Scripted → ℕ = λ x. length x.threads in
+      ap f (sym w.cpu) ∙ made_long IsPolled bank w.old.cpu w.new.cpu w.old.trace w.driven.v w.driven.turns w.driven.made ∙ ap f w.fresh.cpu ∙ has.each k p.0 p.1;
+}
+
+-- a turn that says that every thread of its processor has ended, and the processors before it are over
+pub over_later : (cpu : ℕ) (old new : Rig) (t u : Vec Event Global) (turned : Turned) → TurnsAt cpu old new t u turned → turned ≡ AllExited → AreOverBelow cpu old.cpus → AreOverBelow (cpu + 1) new.cpus
+over_later cpu old new t u turned d is below =
+    let F : Turned → Type 0 = λ x. TurnsAt cpu old new t u x in
+    let e : TurnsAt cpu old new t u AllExited = subst F is d in
+    let G : List (Processor Scripted) → Type 0 = λ ps. AreOverBelow (cpu + 1) ps in
+    subst G (sym e.cpus) (over_more old.cpus cpu e.now (slice_get_within old.cpus cpu e.before e.at_before) e.does.turns.1 below)
+
+-- all of them
+pub over_all : (n : ℕ) (cpus : List (Processor Scripted)) → length cpus ≤ n → AreOverBelow n cpus → AreOver cpus
+over_all n cpus few below = λ k p at. below k p (omega (arith, few, slice_get_within cpus k p at)) at
+
+-- rounds keep the bank
+pub rounds_bank : (count : ℕ) (x y : Scene) → MakesRounds count x y → y.machine.bank ≡ x.machine.bank
+rounds_bank count x y rounds =
+    let P : Scene → Type 0 = λ z. z.machine.bank ≡ x.machine.bank in
+    let keeps : (cpu : ℕ) (v w : Scene) → TakesTurn cpu v w → P v → P w = λ cpu v w turn p. turn.1.bank ∙ p in
+    chain_keeps Scene MakesRound P (λ k v w round p. chain_keeps Scene TakesTurn P keeps (length v.machine.cpus) v w round p) count x y rounds refl

@@ -1,0 +1,70 @@
+-- What the machine of a script does in a run, and how the lines of a report show its threads (own).
+use Rattle.std.specs.Prelude.{◌≡◌, ◌⊎◌, ℕ, ◌≤◌, Bool, true, List, [], length, map, All, Option, Some, None, Vec, slice_get}
+use Rattle.std.specs.declared.alloc.Global.{Global}
+use Rattle.lwkt_base.specs.declared.entries.Entry.{Entry}
+use Rattle.lwkt_core.specs.declared.events.Event.{Event}
+use Rattle.lwkt_port.specs.Chains.{Chain}
+use Rattle.lwkt_cpu.specs.declared.answers.Turned.{Turned}
+use Rattle.lwkt_cpu.specs.Processors.{Processor}
+use Rattle.lwkt_machine.specs.Bodies.{Scripted}
+use Rattle.lwkt_machine.specs.Ended.{AreOver}
+use Rattle.lwkt_machine.specs.Machines.{Rig, ShowsBody}
+use Rattle.lwkt_machine.specs.Standings.{standings_of}
+use Rattle.lwkt_machine.specs.Turns.{TurnsAt}
+use Rattle.lwkt_report.specs.declared.closings.ThreadLine.{ThreadLine}
+use Rattle.lwkt_script.specs.declared.scripts.ThreadSpec.{ThreadSpec}
+use Rattle.lwkt_script.specs.Format.{threads_on}
+
+-- so many processors, each with as many threads as a script has on it
+pub record HasThreads (cpus : ℕ) (threads : List ThreadSpec) (processors : List (Processor Scripted)) : Type 0 where
+  pub as_many : length processors ≡ cpus
+  pub each : (k : ℕ) (p : Processor Scripted) → slice_get processors k ≡ Some p → length p.threads ≡ threads_on k threads
+
+-- the log of a body; an empty one, where there is none
+abbrev pub log_in : Option Scripted → List Entry
+log_in None = []
+log_in (Some body) = body.log
+
+-- a line shows the log of its thread's body
+abbrev pub IsLogOf : Rig → ThreadLine → Type 0
+IsLogOf m line = (body : Option Scripted) × (ShowsBody m line.id.cpu.0 line.id.thread body × (line.log ≡ log_in body))
+
+-- the lines of threads show how a machine's threads stand, each in its place: what it is doing and its references; and what its body
+-- has logged
+pub record ShowThreads (lines : List ThreadLine) (m : Rig) : Type 0 where
+  pub ids : map (λ line. line.id) lines ≡ map (λ s. s.id) (standings_of m.cpus)
+  pub states : map (λ line. line.state) lines ≡ map (λ s. s.state) (standings_of m.cpus)
+  pub lists : map (λ line. line.list) lines ≡ map (λ s. s.list) (standings_of m.cpus)
+  pub logs : All (IsLogOf m) lines
+
+-- a machine, and the trace of its events
+pub record Scene : Type 0 where
+  pub machine : Rig
+  pub trace : Vec Event Global
+
+abbrev pub scene : Rig → Vec Event Global → Scene
+scene machine trace = record { machine = machine; trace = trace }
+
+-- the processor of this number makes a turn
+abbrev pub TakesTurn : ℕ → Scene → Scene → Type 0
+TakesTurn cpu x y = (turned : Turned) × TurnsAt cpu x.machine y.machine x.trace y.trace turned
+
+-- a round: each processor makes one turn, by rising number
+abbrev pub MakesRound : ℕ → Scene → Scene → Type 0
+MakesRound number x y = Chain Scene TakesTurn (length x.machine.cpus) x y
+
+-- so many rounds
+abbrev pub MakesRounds : ℕ → Scene → Scene → Type 0
+MakesRounds count x y = Chain Scene MakesRound count x y
+
+-- a round was made; if it is told to be the last, every thread of each processor has ended
+pub record RoundTold (x y : Scene) (over : Bool) : Type 0 where
+  pub round : MakesRound 0 x y
+  pub over_is : over ≡ true → AreOver y.machine.cpus
+
+-- rounds were made, so many as the limit says, or until every thread of each processor had ended
+pub record HasMadeRounds (limit : ℕ) (x y : Scene) : Type 0 where
+  pub count : ℕ
+  pub rounds : MakesRounds count x y
+  pub few : count ≤ limit
+  pub enough : (count ≡ limit) ⊎ AreOver y.machine.cpus

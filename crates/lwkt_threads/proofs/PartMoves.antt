@@ -1,0 +1,208 @@
+-- What the processors did, driven and stopped, are the parts of one run.
+use Rattle.std.proofs.Common.{◌≡◌, ◌≢◌, ℕ, zero, suc, ◌+◌, ◌<◌, ◌==◌, Bool, cond, List, [], ◌∷◌, ◌++◌, length, map, set, refl, ap, sym, ◌∙◌, subst, inl, inr, arith, append_assoc, append-nil, eq-eqb, ne_eqb, Option, Some, None}
+use Rattle.std.specs.Prelude.{All, Vec, filter, slice_get, option_map}
+use Rattle.std.specs.declared.alloc.Global.{Global}
+use Rattle.std.proofs.lemmas.Bool.{cases_eq}
+use Rattle.std.proofs.lemmas.List.{append_cancel_left, length-set, length-map}
+use Rattle.std.proofs.lemmas.List.Elements.{All-head, All-tail, filter-append}
+use Rattle.std.proofs.lemmas.Option.{slice_get-map, slice_get_within}
+use Rattle.lwkt_base.specs.declared.names.CpuId.{CpuId}
+use Rattle.lwkt_core.specs.declared.events.Event.{Event}
+use Rattle.lwkt_core.specs.declared.seats.SeatKind.{SeatKind}
+use Rattle.lwkt_core.specs.Events.{cpu_of}
+use Rattle.lwkt_bank.specs.declared.seats.CpuSeat.{CpuSeat}
+use Rattle.lwkt_bank.specs.Gathered.{IsClosed}
+use Rattle.lwkt_bank.specs.Seats.{BankId}
+use Rattle.lwkt_msg.specs.Desks.{Desk, Shelf, cpu_of as desk_cpu, AreClosed}
+use Rattle.lwkt_msg.specs.Views.{seat_cpu}
+use Rattle.lwkt_port.specs.Chains.{Chain}
+use Rattle.lwkt_cpu.specs.Processors.{Processor}
+use Rattle.lwkt_cpu.specs.Turning.{IsMailed}
+use Rattle.lwkt_cpu.proofs.PlaceMoves.{some_same, get_there, get_set_same, get_set_other}
+use Rattle.lwkt_drive.specs.declared.driven.Limits.{Limits}
+use Rattle.lwkt_drive.specs.Telling.{IsTold, IsMailTold, TellOneRun, TellOneMailRun}
+use Rattle.lwkt_drive.proofs.TellingMoves.{told_new, told_made, told_more, one_run, mail_new, mail_made, mail_more, mail_same, one_mail_run}
+use Rattle.lwkt_script.specs.declared.scripts.Script.{Script}
+use Rattle.lwkt_script.specs.declared.scripts.ThreadSpec.{ThreadSpec}
+use Rattle.lwkt_machine.specs.declared.closings.Closed.{Closed}
+use Rattle.lwkt_machine.specs.Bodies.{Scripted, IsPolled}
+use Rattle.lwkt_machine.specs.Closing.{IsClosedMachine}
+use Rattle.lwkt_machine.specs.Ended.{Stage, stage, StopsAt, StopsAll}
+use Rattle.lwkt_machine.specs.Machines.{Rig}
+use Rattle.lwkt_machine.specs.Opened.{IsOpenedCpu, IsOpenedMachine}
+use Rattle.lwkt_threads.specs.Driven.{WasDriven, IsDrivenMachine}
+use Rattle.lwkt_threads.specs.Parts.{of_cpu, parts_of, TellTheRuns}
+
+-- the events of a processor among its own, and among another's
+of_cpu_own : (cpu : ℕ) (es : List Event) → All (λ (e : Event). cpu_of e ≡ cpu) es → of_cpu cpu es ≡ es
+of_cpu_own cpu [] own = refl
+of_cpu_own cpu (e ∷ es) own =
+    let P : Event → Type 0 = λ x. cpu_of x ≡ cpu in
+    ap (λ (b : Bool). cond b (e ∷ of_cpu cpu es) (of_cpu cpu es)) (eq-eqb (cpu_of e) cpu (All-head P e es own)) ∙ ap (λ xs. e ∷ xs) (of_cpu_own cpu es (All-tail P e es own))
+
+of_cpu_other : (cpu other : ℕ) (es : List Event) → other ≢ cpu → All (λ (e : Event). cpu_of e ≡ other) es → of_cpu cpu es ≡ []
+of_cpu_other cpu other [] apart own = refl
+of_cpu_other cpu other (e ∷ es) apart own =
+    let P : Event → Type 0 = λ x. cpu_of x ≡ other in
+    let is : cpu_of e ≡ other = All-head P e es own in
+    ap (λ (b : Bool). cond b (e ∷ of_cpu cpu es) (of_cpu cpu es)) (ne_eqb (cpu_of e) cpu (λ same. apart (sym is ∙ same))) ∙ of_cpu_other cpu other es apart (All-tail P e es own)
+
+none_part : (part : List Event) → ◌≡◌ {A = Option (List Event)} None (Some part) → ⊥
+none_part part is = cc
+
+-- the part of a processor
+parts_at : (n : ℕ) (traces : List (Vec Event Global)) (stops : List Event) (k : ℕ) (part : List Event) → slice_get (parts_of n traces stops) k ≡ Some part → (trace : Vec Event Global) × ((slice_get traces k ≡ Some trace) × (part ≡ trace.items ++ of_cpu (n + k) stops))
+parts_at n [] stops k part at = absurd (none_part part at)
+parts_at n (trace ∷ traces) stops zero part at =
+    let e : trace.items ++ of_cpu n stops ≡ part = cc in
+    let z : n ≡ n + 0 = omega arith in
+    (trace, (refl, sym e ∙ ap (λ (j : ℕ). trace.items ++ of_cpu j stops) z))
+parts_at n (trace ∷ traces) stops (suc k) part at =
+    let x = parts_at (n + 1) traces stops k part at in
+    let z : n + 1 + k ≡ n + suc k = omega arith in
+    (x.0, (x.1.0, x.1.1 ∙ ap (λ (j : ℕ). x.0.items ++ of_cpu j stops) z))
+
+-- a processor at its number, of which these events tell both seats
+record IsToldAt (k : ℕ) (p : Processor Scripted) (part : List Event) : Type 0 where
+  seat : p.seat.cpu.0 ≡ k
+  desk : (desk_cpu p.post.seat).0 ≡ k
+  tokens : IsTold p.seat part
+  mails : IsMailTold p.post.seat part
+
+told_opened : (bank : BankId) (book : Shelf) (threads : List ThreadSpec) (k : ℕ) (p : Processor Scripted) → IsOpenedCpu bank book threads k p → IsToldAt k p []
+told_opened bank book threads k p o = record {
+  seat = o.seat.number;
+  desk = ap (λ (kind : SeatKind). (seat_cpu kind).0) o.desk.kind;
+  tokens = told_new p.seat o.seat.new;
+  mails = mail_new k book p.post.seat o.desk;
+}
+
+-- a processor that was driven from its opening on is told by its trace
+told_driven : (answers : CpuId → ℕ → Bool → Type 0) (limits : Limits) (bank : BankId) (k : ℕ) (p q : Processor Scripted) (trace : Vec Event Global) → IsToldAt k p [] → WasDriven answers limits bank p q trace → IsToldAt k q trace.items
+told_driven answers limits bank k p q trace first w =
+    let d = w.driven in
+    let P : Processor Scripted → Type 0 = λ x. IsToldAt k x [] in
+    let T : List Event → Type 0 = λ es. IsToldAt k w.old.cpu es in
+    let before : IsToldAt k w.old.cpu w.old.trace.items = subst T (sym w.fresh.trace) (subst P (sym w.fresh.cpu) first) in
+    let V : List Event → Type 0 = λ es. IsToldAt k w.new.cpu es in
+    let now : IsToldAt k w.new.cpu d.v.items = record {
+      seat = ap (λ (c : CpuId). c.0) d.seat ∙ before.seat;
+      desk = ap (λ (c : CpuId). c.0) (mail_same IsPolled bank w.old.cpu w.new.cpu w.old.trace d.v d.turns d.made) ∙ before.desk;
+      tokens = told_made IsPolled bank w.old.cpu w.new.cpu w.old.trace d.v d.turns d.made before.tokens;
+      mails = mail_made IsPolled bank w.old.cpu w.new.cpu w.old.trace d.v d.turns d.made before.mails;
+    } in
+    let Q : Processor Scripted → Type 0 = λ x. IsToldAt k x w.new.trace.items in
+    let U : Vec Event Global → Type 0 = λ v. IsToldAt k q v.items in
+    subst U w.trace_is (subst Q w.cpu (subst V (sym d.trace) now))
+
+-- each processor of a stage is told by the events of its turns and by its own among those of the stops so far
+record AreTold (traces : List (Vec Event Global)) (x : Stage) : Type 0 where
+  as_many : length x.cpus ≡ length traces
+  each : (k : ℕ) (p : Processor Scripted) (trace : Vec Event Global) → slice_get x.cpus k ≡ Some p → slice_get traces k ≡ Some trace → IsToldAt k p (trace.items ++ of_cpu k x.trace.items)
+
+of_cpu_more : (cpu : ℕ) (xs ys zs : List Event) → ys ≡ xs ++ zs → of_cpu cpu ys ≡ of_cpu cpu xs ++ of_cpu cpu zs
+of_cpu_more cpu xs ys zs is = ap (of_cpu cpu) is ∙ filter-append (λ (e : Event). cpu_of e == cpu) xs zs
+
+-- one processor stops
+told_stopped : (traces : List (Vec Event Global)) (n : ℕ) (x y : Stage) → StopsAt n x y → AreTold traces x → (k : ℕ) (z : Processor Scripted) (trace : Vec Event Global) → slice_get y.cpus k ≡ Some z → slice_get traces k ≡ Some trace → IsToldAt k z (trace.items ++ of_cpu k y.trace.items)
+told_stopped traces n x y stops told k z trace at has =
+    let p = stops.0 in
+    let q = stops.1.0 in
+    let s = stops.1.1.1 in
+    let cpus : y.cpus ≡ set x.cpus n q = stops.1.1.2 in
+    let here : slice_get x.cpus n ≡ Some p = stops.1.1.0 in
+    let done = s.ran.done in
+    let grown : y.trace.items ≡ x.trace.items ++ done = s.ran.trace in
+    let F : List (Processor Scripted) → Type 0 = λ ps. slice_get ps k ≡ Some z in
+    let at_set : slice_get (set x.cpus n q) k ≡ Some z = subst F cpus at in
+    elim (cases_eq k n) [
+      | inl same ↦
+          let within : n < length x.cpus = slice_get_within x.cpus n p here in
+          let G : ℕ → Type 0 = λ i. slice_get (set x.cpus n q) i ≡ Some z in
+          let e : q ≡ z = some_same q z (Some q) refl (sym (get_set_same x.cpus n q within) ∙ subst G same at_set) in
+          let H : ℕ → Type 0 = λ i. slice_get traces i ≡ Some trace in
+          let before : IsToldAt n p (trace.items ++ of_cpu n x.trace.items) = told.each n p trace here (subst H same has) in
+          let O : ℕ → Type 0 = λ i. All (λ (e : Event). cpu_of e ≡ i) done in
+          let own : of_cpu n done ≡ done = of_cpu_own n done (subst O before.seat s.ran.own) in
+          let mine : of_cpu n y.trace.items ≡ of_cpu n x.trace.items ++ done = of_cpu_more n x.trace.items y.trace.items done grown ∙ ap (λ es. of_cpu n x.trace.items ++ es) own in
+          let whole : trace.items ++ of_cpu n y.trace.items ≡ (trace.items ++ of_cpu n x.trace.items) ++ done = ap (λ es. trace.items ++ es) mine ∙ sym (append_assoc trace.items (of_cpu n x.trace.items) done) in
+          let both : s.told.done ≡ done = append_cancel_left x.trace.items s.told.done done (sym s.told.trace_is ∙ grown) in
+          let M : List Event → Type 0 = λ es. IsMailTold q.post.seat ((trace.items ++ of_cpu n x.trace.items) ++ es) in
+          let now : IsToldAt n q ((trace.items ++ of_cpu n x.trace.items) ++ done) = record {
+            seat = ap (λ (c : CpuId). c.0) s.ran.cpu ∙ before.seat;
+            desk = ap (λ (kind : SeatKind). (seat_cpu kind).0) s.told.same.kind ∙ before.desk;
+            tokens = told_more (IsMailed p.threads) s.most p.seat q.seat x.trace y.trace s.ran (trace.items ++ of_cpu n x.trace.items) before.tokens;
+            mails = subst M both (mail_more p.post.seat q.post.seat x.trace.items y.trace.items s.told (trace.items ++ of_cpu n x.trace.items) before.mails);
+          } in
+          let A : List Event → Type 0 = λ es. IsToldAt n q es in
+          let B : Processor Scripted → Type 0 = λ w. IsToldAt n w (trace.items ++ of_cpu n y.trace.items) in
+          let C : ℕ → Type 0 = λ i. IsToldAt i z (trace.items ++ of_cpu i y.trace.items) in
+          subst C (sym same) (subst B e (subst A (sym whole) now))
+      | inr apart ↦
+          let was : slice_get x.cpus k ≡ Some z = sym (get_set_other x.cpus n k q apart) ∙ at_set in
+          let before : IsToldAt k z (trace.items ++ of_cpu k x.trace.items) = told.each k z trace was has in
+          let its = get_there traces n (omega (arith, slice_get_within x.cpus n p here, told.as_many)) in
+          let placed : p.seat.cpu.0 ≡ n = (told.each n p its.0 here its.1).seat in
+          let O : ℕ → Type 0 = λ i. All (λ (e : Event). cpu_of e ≡ i) done in
+          let none : of_cpu k done ≡ [] = of_cpu_other k n done (λ is. apart (sym is)) (subst O placed s.ran.own) in
+          let mine : of_cpu k y.trace.items ≡ of_cpu k x.trace.items = of_cpu_more k x.trace.items y.trace.items done grown ∙ ap (λ es. of_cpu k x.trace.items ++ es) none ∙ append-nil (of_cpu k x.trace.items) in
+          let A : List Event → Type 0 = λ es. IsToldAt k z (trace.items ++ es) in
+          subst A (sym mine) before
+    ]
+
+told_step : (traces : List (Vec Event Global)) (n : ℕ) (x y : Stage) → StopsAt n x y → AreTold traces x → AreTold traces y
+told_step traces n x y stops told = record {
+  as_many = ap length stops.1.1.2 ∙ length-set x.cpus n stops.1.0 ∙ told.as_many;
+  each = told_stopped traces n x y stops told;
+}
+
+told_chain : (traces : List (Vec Event Global)) (n : ℕ) (x y : Stage) → Chain Stage StopsAt n x y → AreTold traces x → AreTold traces y
+unfolding Chain
+told_chain traces zero x y chain told = subst (AreTold traces) (sym chain) told
+told_chain traces (suc n) x y chain told = told_step traces n chain.0 y chain.2 (told_chain traces n x chain.0 chain.1 told)
+
+-- what the processors did until none of them had stopped
+told_all : (answers : CpuId → ℕ → Bool → Type 0) (limits : Limits) (script : Script) (opened driven : Rig) (traces : List (Vec Event Global)) (t : Vec Event Global) → IsOpenedMachine script opened → IsDrivenMachine answers limits opened driven traces → t.items ≡ [] → AreTold traces (stage driven.cpus t)
+told_all answers limits script opened driven traces t opens drives none =
+    let d = drives.cpus in
+    record {
+      as_many = d.as_many ∙ sym d.traces_are;
+      each = λ k q trace at has.
+          let within : k < length opened.cpus = omega (arith, slice_get_within driven.cpus k q at, d.as_many) in
+          let p = get_there opened.cpus k within in
+          let first = told_opened opened.bank opened.book script.threads k p.0 (opens.each k p.0 p.1) in
+          let now = told_driven answers limits opened.bank k p.0 q trace first (d.each k p.0 q trace p.1 at has) in
+          let none_of : of_cpu k t.items ≡ [] = ap (of_cpu k) none in
+          let E : List Event → Type 0 = λ es. IsToldAt k q es in
+          subst E (sym (append-nil trace.items) ∙ ap (λ es. trace.items ++ es) (sym none_of)) now;
+    }
+
+-- a seat of each processor's
+seat_at : {A : Type 0} (f : Processor Scripted → A) (cpus : List (Processor Scripted)) (k : ℕ) (p : Processor Scripted) → slice_get cpus k ≡ Some p → slice_get (map f cpus) k ≡ Some (f p)
+seat_at f cpus k p at = slice_get-map f cpus k ∙ ap (option_map f) at
+
+pub threads_tell : (answers : CpuId → ℕ → Bool → Type 0) (limits : Limits) (script : Script) (opened driven stopped : Rig) (traces : List (Vec Event Global)) (before after : Vec Event Global) (closed : Closed) → IsOpenedMachine script opened → IsDrivenMachine answers limits opened driven traces → before.items ≡ [] → StopsAll driven stopped before after → IsClosedMachine stopped closed → TellTheRuns opened closed (parts_of 0 traces after.items)
+threads_tell answers limits script opened driven stopped traces before after closed opens drives none stops closes =
+    let d = drives.cpus in
+    let told : AreTold traces (stage stopped.cpus after) = told_chain traces (length driven.cpus) (stage driven.cpus before) (stage stopped.cpus after) stops.stopped (told_all answers limits script opened driven traces before opens drives none) in
+    let bank : stopped.bank ≡ opened.bank = stops.bank ∙ drives.bank in
+    let book : stopped.book ≡ opened.book = stops.book ∙ drives.book in
+    let many : length stopped.cpus ≡ length opened.cpus = told.as_many ∙ d.traces_are in
+    let parts = parts_of 0 traces after.items in
+    let found : (cpu : ℕ) (part : List Event) → slice_get parts cpu ≡ Some part → (p : Processor Scripted) × ((slice_get stopped.cpus cpu ≡ Some p) × IsToldAt cpu p part) = λ cpu part at.
+        let x = parts_at 0 traces after.items cpu part at in
+        let z : 0 + cpu ≡ cpu = omega arith in
+        let p = get_there stopped.cpus cpu (omega (arith, slice_get_within traces cpu x.0 x.1.0, told.as_many)) in
+        let E : List Event → Type 0 = λ es. IsToldAt cpu p.0 es in
+        (p.0, (p.1, subst E (ap (λ (j : ℕ). x.0.items ++ of_cpu j after.items) (sym z) ∙ sym x.1.1) (told.each cpu p.0 x.0 p.1 x.1.0))) in
+    let B : BankId → Type 0 = λ b. TellOneRun b (length opened.cpus) closed.tokens parts in
+    let N : ℕ → Type 0 = λ n. TellOneRun stopped.bank n closed.tokens parts in
+    let S : Shelf → Type 0 = λ b. TellOneMailRun b closed.messages.items parts in
+    record {
+      tokens = subst B bank (subst N many (one_run stopped.bank (length stopped.cpus) (map (λ (p : Processor Scripted). p.seat) stopped.cpus) closed.tokens parts closes.tokens (λ cpu part at.
+          let f = found cpu part at in
+          (f.0.seat, (seat_at (λ (p : Processor Scripted). p.seat) stopped.cpus cpu f.0 f.1.0, f.1.1.seat, f.1.1.tokens)))));
+      messages = subst S book (one_mail_run stopped.book (map (λ (p : Processor Scripted). p.post.seat) stopped.cpus) closed.messages.items parts closes.messages (λ cpu part at.
+          let f = found cpu part at in
+          (f.0.post.seat, (seat_at (λ (p : Processor Scripted). p.post.seat) stopped.cpus cpu f.0 f.1.0, f.1.1.desk, f.1.1.mails))));
+    }
