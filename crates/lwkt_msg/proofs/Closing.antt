@@ -7,21 +7,22 @@ use Rattle.lwkt_base.specs.declared.openings.MsgSpec.{MsgSpec}
 use Rattle.lwkt_base.specs.declared.owners.MsgEnd.{MsgEnd}
 use Rattle.lwkt_base.specs.declared.message_words.MsgWord.{MsgWord}
 use Rattle.lwkt_base.specs.MessageWord.{message_word, MessageFits}
+use Rattle.lwkt_core.specs.declared.seats.Chapter.{Chapter}
 use Rattle.lwkt_core.specs.declared.seats.SeatKind.TheVariants.{Clerk}
 use Rattle.lwkt_core.specs.Seating.{total, after_back}
 use Rattle.lwkt_core.proofs.SeatingLemmas.{total-snoc}
 use Rattle.lwkt_msg.specs.declared.views.MessageEntry.{MessageEntry}
 use Rattle.lwkt_msg.specs.declared.views.View.{View}
-use Rattle.lwkt_msg.specs.Views.{word_at, added, at, joined}
-use Rattle.lwkt_msg.specs.Desks.{Desk, IsChapter, IsRecalled, IsTaking, HasTakenBack, AreShown, shown_end}
+use Rattle.lwkt_msg.specs.Views.{word_at, added, at, chapter_of, joined}
+use Rattle.lwkt_msg.specs.Desks.{Desk, chapters_of, IsRecalled, IsTaking, HasTakenBack, AreShown, shown_end}
 use Rattle.lwkt_msg.proofs.Splitting.{at-none, at-both}
 
 -- no seat is taken back yet
-pub taking_none : (cpus : ℕ) (v : View) (seats : List Desk) → v.kind ≡ Clerk cpus 0 → v.entries ≡ [] → IsTaking cpus v seats seats v
-taking_none cpus v seats kind none = record {
+pub taking_none : (cpus : ℕ) (v : View) (seats : List Desk) → v.kind ≡ Clerk cpus 0 → v.entries ≡ [] → v.chapters ≡ [] → IsTaking cpus v seats seats v
+taking_none cpus v seats kind none no_chapters = record {
   behind = [];
   in_order = sym (append-nil seats);
-  chapters = All-nil (λ (d : Desk). IsChapter v d);
+  chapters = no_chapters;
   recalled = All-nil (λ (d : Desk). IsRecalled v d);
   back = 0;
   kind = kind;
@@ -43,7 +44,7 @@ pub taking_more : (cpus : ℕ) (v : View) (seats left : List Desk) (seat : Desk)
 taking_more cpus v seats left seat w t = record {
   behind = seat ∷ t.behind;
   in_order = t.in_order ∙ append_assoc left (seat ∷ []) t.behind;
-  chapters = All-cons (λ (d : Desk). IsChapter (joined w seat.view) d) seat t.behind (0, refl) (λ k x low. let old = t.chapters k x low in (suc old.0, old.1));
+  chapters = ap (λ (cs : List Chapter). chapter_of seat.view ∷ cs) t.chapters;
   recalled = All-cons (λ (d : Desk). IsRecalled (joined w seat.view) d) seat t.behind (0, refl) (λ k x low. let old = t.recalled k x low in (suc old.0, old.1));
   back = t.back + 1;
   kind = ap after_back t.kind;
@@ -69,7 +70,7 @@ taking_more cpus v seats left seat w t = record {
 -- all seats are taken back
 pub taking_all : (cpus : ℕ) (v : View) (seats : List Desk) (w : View) → IsTaking cpus v seats [] w → HasTakenBack cpus v seats w
 taking_all cpus v seats w t = record {
-  chapters = let F : List Desk → Type 0 = λ ds. All (λ (d : Desk). IsChapter w d) ds in subst F (sym t.in_order) t.chapters;
+  chapters = t.chapters ∙ ap chapters_of (sym t.in_order);
   recalled = let F : List Desk → Type 0 = λ ds. All (λ (d : Desk). IsRecalled w d) ds in subst F (sym t.in_order) t.recalled;
   kind = t.kind ∙ ap (λ (n : ℕ). Clerk cpus n) (let a = t.as_many in omega arith);
   cpus_is = t.cpus_is;

@@ -1,32 +1,42 @@
-use Rattle.std.proofs.Common.{◌≡◌, ◌≢◌, Some, None, ℕ, zero, suc, ◌<◌, ◌≤◌, List, [], ◌∷◌, length, map, get_or, refl, ap, sym, ◌∙◌, subst, arith}
+use Rattle.std.proofs.Common.{◌≡◌, ◌≢◌, Some, None, ℕ, zero, suc, ◌+◌, ◌<◌, ◌≤◌, Bool, List, [], ◌∷◌, length, map, All, count_by, get_or, refl, ap, sym, ◌∙◌, subst, arith}
 use Rattle.std.specs.Prelude.{slice_get, slice_index_or}
 use mathlib.Core.Option.{some}
-use lib.ListN.{get_elem?}
+use lib.ListN.{get_elem?, length-map}
 use Rattle.atomic_table.specs.Table.{State}
+use Rattle.lwkt_base.specs.declared.names.CpuId.{CpuId}
 use Rattle.lwkt_base.specs.declared.owners.MsgEnd.{MsgEnd}
 use Rattle.lwkt_base.specs.declared.owners.Owner.{Owner}
 use Rattle.lwkt_base.specs.declared.owners.Owner.TheVariants.{Rest, Out, With, Back}
 use Rattle.lwkt_base.specs.declared.openings.MsgSpec.{MsgSpec}
 use Rattle.lwkt_base.specs.declared.records.Rec.{Rec}
+use Rattle.lwkt_core.specs.declared.events.Event.{Event}
+use Rattle.lwkt_core.specs.declared.messages.Message.{Message}
+use Rattle.lwkt_core.specs.declared.seats.Deed.{Deed}
+use Rattle.lwkt_core.specs.declared.seats.Chapter.{Chapter}
 use Rattle.lwkt_core.specs.declared.seats.SeatKind.{SeatKind}
 use Rattle.lwkt_core.specs.declared.seats.SeatKind.TheVariants.{Clerk, Of, Spent}
 use Rattle.lwkt_core.specs.Messages.{IsSafeMessage, origin_of}
+use Rattle.lwkt_core.specs.Opening.{opened_message}
 use Rattle.lwkt_core.specs.Seating.{total}
-use Rattle.lwkt_core.proofs.SeatingLemmas.{at_map, total-only, AreSeated-closed}
+use Rattle.lwkt_core.specs.Headline as kind
+use Rattle.lwkt_core.proofs.SeatingLemmas.{at_map, of_map, at_within, total-only, total-like, AreSeated-closed}
 use Rattle.lwkt_msg.specs.declared.views.MessageEntry.{MessageEntry}
 use Rattle.lwkt_msg.specs.declared.views.Key.{Key}
 use Rattle.lwkt_msg.specs.declared.views.View.{View}
-use Rattle.lwkt_msg.specs.Views.{word_at, spec_at, at, page_of, recalled_of}
+use Rattle.lwkt_msg.specs.Views.{word_at, spec_at, at, page_of, chapter_of, recalled_of}
 use Rattle.lwkt_msg.specs.Steps.{machine_of}
 use Rattle.lwkt_msg.specs.Told.{IsDone, first_mails, Told}
-use Rattle.lwkt_core.specs.History.{Passes, IsPastOf}
-use Rattle.lwkt_core.proofs.HistoryLemmas.{Passes-run, events_by-past, steps_by-past}
-use Rattle.lwkt_core.proofs.ViewLemmas.{Views-part, Views-others}
+use Rattle.lwkt_core.specs.History.{Passes, IsPastOf, events_by, events_in}
+use Rattle.lwkt_core.proofs.HistoryLemmas.{Passes-each, Passes-run, events_by-past, steps_by-past}
+use Rattle.lwkt_core.proofs.ViewLemmas.{Views-part, Views-chapter, Views-others}
+use Rattle.lwkt_core.proofs.RunLemmas.{are_events}
+use Rattle.lwkt_core.proofs.ShareLemmas.{seats_for, seats_for-some, seats_for-one, shares}
 use Rattle.lwkt_msg.proofs.Running.{done_runs}
 use Rattle.lwkt_msg.proofs.Recalling.{recalled-same}
-use Rattle.lwkt_msg.specs.Book.{Mail, parts_of, state_of, shown_target, Knows, HasNoCounts, mail_at, Rule}
-use Rattle.lwkt_msg.specs.Desks.{Desk, Shelf, cpu_of, past_of, IsHistory, IsClosed, AreClosed, AreShown, HasTakenBack, shown_by, shown_end}
+use Rattle.lwkt_msg.specs.Book.{Mail, parts_of, state_of, shown_target, Knows, HasNoCounts, mail_at, Rule, opened_mail}
+use Rattle.lwkt_msg.specs.Desks.{Desk, Shelf, cpu_of, past_of, events_of, events_like, chapters_of, AreGathered, IsHistory, IsClosed, AreClosed, AreShown, HasTakenBack, shown_by, shown_end}
 use Rattle.lwkt_msg.proofs.Leading.{fits_of}
+use Rattle.lwkt_msg.proofs.Splitting.{opened_at}
 
 -- an owner is whom its word shows
 owner_shown : (o : Owner) → shown_by (state_of o) (origin_of o) (shown_target o) ≡ o
@@ -47,11 +57,18 @@ get_there [] i d h = absurd (omega arith)
 get_there (x ∷ xs) zero d h = refl
 get_there (x ∷ xs) (suc i) d h = get_there xs i d (omega arith)
 
--- a word of a table is there
-word_there : (xs : List ℕ) (i : ℕ) → i < length xs → get_elem? xs i ≡ some (get_or xs i 0)
-word_there [] i h = absurd (omega arith)
-word_there (x ∷ xs) zero h = refl
-word_there (x ∷ xs) (suc i) h = word_there xs i (omega arith)
+-- the machine that a book shows has its messages
+shown_message : (mails : List Mail) (m : ℕ) → m < length mails → slice_get (map (λ (x : Mail). x.msg) mails) m ≡ Some (mail_at mails m).msg
+shown_message [] m h = absurd (omega arith)
+shown_message (x ∷ xs) zero h = refl
+shown_message (x ∷ xs) (suc m) h = shown_message xs m (omega arith)
+
+-- what each seat had seen that the clerk has taken back has all of its processor's part
+part_of : (book : Shelf) (key : Key) (seats : List Desk) (v w : View) (id : ℕ) (s : State Rec View) → book.cpus ≡ key.cpus → length seats ≡ book.cpus → HasTakenBack book.cpus v seats w
+    → (told : Told key s) → get_elem? s.views id ≡ some w → (j : ℕ) (d : Desk) → get_elem? seats j ≡ some d → IsPastOf told.chronicle.history (cpu_of d).0 (past_of d)
+part_of book key seats v w id s cpus_is all taken told at_id j d at_j =
+    let chapter : get_elem? w.chapters j ≡ some (chapter_of d.view) = ap (λ (cs : List Chapter). get_elem? cs j) taken.chapters ∙ at_map (λ (x : Desk). chapter_of x.view) seats j d at_j in
+    Views-part (IsDone key.cpus) page_of (first_mails key.specs.items) told.rule.mails s.views told.chronicle id w at_id key.cpus told.rule.book.seated book.cpus (length seats) taken.kind (omega arith) j (chapter_of d.view) chapter
 
 -- the history of all seats, which the clerk has taken back
 is_history : (book : Shelf) (key : Key) (seats : List Desk) (v w : View) (id : ℕ) (s : State Rec View) → book.cpus ≡ key.cpus → book.specs ≡ key.specs.items → length seats ≡ book.cpus → HasTakenBack book.cpus v seats w
@@ -72,10 +89,62 @@ is_history book key seats v w id s cpus_is specs_is all taken told at_id = recor
         subst F (sym cpus_is) (subst G (sym specs_is) told.chronicle.passes)
 
     part : (k : ℕ) (d : Desk) → k < length seats → IsPastOf told.chronicle.history (cpu_of (slice_index_or seats k d)).0 (past_of (slice_index_or seats k d))
-    part k d low =
-        let seat : Desk = slice_index_or seats k d in
-        let chapter = taken.chapters k d low in
-        Views-part (IsDone key.cpus) page_of (first_mails key.specs.items) told.rule.mails s.views told.chronicle id w at_id key.cpus told.rule.book.seated book.cpus (length seats) taken.kind (omega arith) chapter.0 (record { cpu = cpu_of seat; past = past_of seat }) chapter.1
+    part k d low = part_of book key seats v w id s cpus_is all taken told at_id k (slice_index_or seats k d) (at_within seats k d low)
+
+-- what is so of the seats that the clerk has taken back
+module _ (book : Shelf) (key : Key) (seats : List Desk) (v w : View) (id : ℕ) (s : State Rec View) (cpus_is : book.cpus ≡ key.cpus) (specs_is : book.specs ≡ key.specs.items) (all : length seats ≡ book.cpus) (taken : HasTakenBack book.cpus v seats w)
+    (told : Told key s) (at_id : get_elem? s.views id ≡ some w) where
+  processor : Desk → ℕ
+  processor d = (cpu_of d).0
+
+  -- each processor has one
+  has_seat : (cpu : ℕ) → cpu < book.cpus → 1 ≤ seats_for processor seats cpu
+  unfolding processor
+  has_seat cpu low =
+      let c : CpuId = record { 0 = cpu } in
+      let k = Views-chapter (IsDone key.cpus) page_of (first_mails key.specs.items) told.rule.mails s.views told.chronicle id w at_id key.cpus told.rule.book.seated book.cpus (length seats) taken.kind (omega arith) c (omega arith) in
+      let there : get_elem? (chapters_of seats) k.1 ≡ some (record { cpu = c; past = k.0 }) = ap (λ (cs : List Chapter). get_elem? cs k.1) (sym taken.chapters) ∙ k.2 in
+      let d = of_map (λ (x : Desk). chapter_of x.view) seats k.1 (record { cpu = c; past = k.0 }) there in
+      seats_for-some processor seats k.1 d.0 cpu d.1 (ap (λ (x : Chapter). x.cpu.0) d.2)
+
+  -- and their events are all that there are
+  all_events : (kind : Event → Bool) → events_like kind seats ≡ count_by kind (events_in told.chronicle.history)
+  unfolding processor
+  all_events kind =
+      let history : List Deed = told.chronicle.history in
+      let is = is_history book key seats v w id s cpus_is specs_is all taken told at_id in
+      let one : (cpu : ℕ) → cpu < book.cpus → seats_for processor seats cpu ≡ 1 = seats_for-one processor book.cpus seats all has_seat in
+      let ones : All (λ (d : Deed). seats_for processor seats d.cpu.0 ≡ 1) history
+      = Passes-each (IsDone book.cpus) (λ (d : Deed). seats_for processor seats d.cpu.0 ≡ 1) (λ m d n done. one d.cpu.0 done.processor) (first_mails book.specs) history told.rule.mails is.passes in
+      total-like (λ (d : Desk). count_by kind (events_by (cpu_of d).0 history)) (λ (d : Desk). count_by kind (events_of d)) seats
+      (λ j d at_j. ap (λ (es : List Event). count_by kind es) (sym (events_by-past history (cpu_of d).0 (past_of d) (part_of book key seats v w id s cpus_is all taken told at_id j d at_j))))
+      ∙ shares processor kind seats history ones
+
+  -- so what was done with a message is what they did
+  gathered_all : (m : ℕ) → m < length key.specs.items → AreGathered (mail_at told.rule.mails m).msg m seats
+  gathered_all m within =
+      let mails : List Mail = told.rule.mails in
+      let history : List Deed = told.chronicle.history in
+      let run = (is_history book key seats v w id s cpus_is specs_is all taken told at_id).run in
+      let same = ap (λ (xs : List MsgSpec). length xs) specs_is in
+      let long = length-map book.specs opened_mail in
+      let as_many = told.rule.book.as_many in
+      let opened : mail_at (first_mails book.specs) m ≡ opened_mail (spec_at book.specs m) = opened_at book.specs m (omega arith) in
+      let first = shown_message (first_mails book.specs) m (omega arith) in
+      let last = shown_message mails m (omega arith) in
+      let grows = are_events (machine_of book.cpus (first_mails book.specs)) (events_in history) (machine_of book.cpus mails) m (mail_at (first_mails book.specs) m).msg (mail_at mails m).msg run first last in
+      let done : (f : Message → ℕ) (kind : Event → Bool) → f (opened_message (spec_at book.specs m)) ≡ 0 → f (mail_at mails m).msg ≡ f (mail_at (first_mails book.specs) m).msg + count_by kind (events_in history) → f (mail_at mails m).msg ≡ events_like kind seats
+      = λ f kind none grown.
+      let a : f (mail_at (first_mails book.specs) m).msg ≡ f (opened_message (spec_at book.specs m)) = ap (λ (x : Mail). f x.msg) opened in
+      let b = all_events kind in
+      omega arith in
+      record {
+        sends = done (λ x. x.sends) (kind.sends m) refl grows.0;
+        takes = done (λ x. x.takes) (kind.takes m) refl grows.1;
+        drops = done (λ x. x.drops) (kind.drops m) refl grows.2;
+        replies = done (λ x. x.replies) (kind.replies m) refl grows.3;
+        reaps = done (λ x. x.reaps) (kind.reaps m) refl grows.4;
+      }
 
 -- what the closing words show is what the book's messages are, once all seats are taken back
 pub closes : (book : Shelf) (key : Key) (seats : List Desk) (v w : View) (id : ℕ) (words : List ℕ) (ends : List MsgEnd) (s : State Rec View) → book.cpus ≡ key.cpus → book.specs ≡ key.specs.items → v.specs ≡ key.specs.items
@@ -118,7 +187,7 @@ closes book key seats v w id words ends s cpus_is specs_is v_specs all taken tol
         let kept = rule.book.each m within in
         let wide = rule.book.wide in
         let in_words : word_at m < length s.words = omega arith in
-        let there : get_elem? s.words (word_at m) ≡ some (get_or s.words (word_at m) 0) = word_there s.words (word_at m) in_words in
+        let there : get_elem? s.words (word_at m) ≡ some (get_or s.words (word_at m) 0) = at_within s.words (word_at m) 0 in_words in
         let F : List ℕ → Type 0 = λ xs. get_elem? xs (word_at m) ≡ some (get_or s.words (word_at m) 0) in
         let fits = fits_of key.cpus mail kept.safe rule.book.within.processors in
         let in_v : m < length v.specs = subst (λ (xs : List MsgSpec). m < length xs) (sym v_specs) within in
@@ -128,7 +197,8 @@ closes book key seats v w id words ends s cpus_is specs_is v_specs all taken tol
           origin_is = kept.origin_is ∙ ap (λ (xs : List MsgSpec). (spec_at xs m).origin) (sym specs_is);
           opening_is = kept.opening_is ∙ ap (λ (xs : List MsgSpec). (spec_at xs m).round) (sym specs_is);
           end_is = end_shown ∙ ap (λ (o : Owner). let z : MsgEnd = record { round = mail.msg.round; state = o } in z) (owner_shown mail.msg.owner);
-          gathered = record {
+          gathered = gathered_all book key seats v w id s cpus_is specs_is all taken told at_id m within;
+          counted = record {
             sends = counted m within (λ x. x.sends) mail.msg.sends (total (λ (d : Desk). (at d.view m).sends) seats) (λ x none. none.sends) kept.counted.sends (taken.sends m in_v);
             takes = counted m within (λ x. x.takes) mail.msg.takes (total (λ (d : Desk). (at d.view m).takes) seats) (λ x none. none.takes) kept.counted.takes (taken.takes m in_v);
             drops = counted m within (λ x. x.drops) mail.msg.drops (total (λ (d : Desk). (at d.view m).drops) seats) (λ x none. none.drops) kept.counted.drops (taken.drops m in_v);

@@ -371,7 +371,7 @@ pub seat_joins : (key : Key) (id : ℕ) (v : View) (other : ℕ) (w : View) (mad
 seat_joins key id v other w made back cpu is_clerk is_seat s told e apart d = (joined_told key s told id v other w made back cpu e is_clerk is_seat apart d).0
 
 -- the opened messages, by their numbers
-opened_at : (specs : List MsgSpec) (m : ℕ) → m < length specs → mail_at (map opened_mail specs) m ≡ opened_mail (spec_at specs m)
+pub opened_at : (specs : List MsgSpec) (m : ℕ) → m < length specs → mail_at (map opened_mail specs) m ≡ opened_mail (spec_at specs m)
 opened_at [] m h = absurd (omega arith)
 opened_at (x ∷ xs) zero h = refl
 opened_at (x ∷ xs) (suc m) h = opened_at xs m (omega arith)

@@ -1,4 +1,4 @@
-use Rattle.std.specs.Prelude.{◌≡◌, ℕ, zero, suc, ◌+◌, ◌*◌, ◌<◌, ◌≤◌, ◌==◌, List, [], ◌∷◌, ◌++◌, length, All, slice_get, slice_index, slice_index_or, Some, if◌then◌else◌}
+use Rattle.std.specs.Prelude.{◌≡◌, ℕ, zero, suc, ◌+◌, ◌*◌, ◌<◌, ◌≤◌, ◌==◌, Bool, List, [], ◌∷◌, ◌++◌, length, map, All, count_by, slice_get, slice_index, slice_index_or, Some, if◌then◌else◌}
 use mathlib.Core.Option.{some}
 use lib.ListN.{get_elem?}
 use Rattle.atomic_table.specs.Seated.{TableId}
@@ -14,14 +14,16 @@ use Rattle.lwkt_core.specs.Messages.{IsSafeMessage}
 use Rattle.lwkt_core.specs.Opening.{AreWithin}
 use Rattle.lwkt_core.specs.Seating.{total}
 use Rattle.lwkt_core.specs.Trace.{Run, end_of}
+use Rattle.lwkt_core.specs.Headline as kind
 use Rattle.lwkt_core.specs.declared.events.Event.{Event}
 use Rattle.lwkt_core.specs.declared.seats.WordStep.{WordStep}
 use Rattle.lwkt_core.specs.declared.seats.Deed.{Deed}
+use Rattle.lwkt_core.specs.declared.seats.Chapter.{Chapter}
 use Rattle.lwkt_core.specs.History.{Passes, AreOthers, IsPastOf, events_in, events_by, steps_by}
 use Rattle.lwkt_msg.specs.declared.views.MessageEntry.{MessageEntry}
 use Rattle.lwkt_msg.specs.declared.views.Key.{Key}
 use Rattle.lwkt_msg.specs.declared.views.View.{View}
-use Rattle.lwkt_msg.specs.Views.{word_at, spec_at, first_entry, handed, at, who, recalled_of}
+use Rattle.lwkt_msg.specs.Views.{word_at, spec_at, first_entry, handed, at, who, chapter_of, recalled_of}
 use Rattle.lwkt_base.specs.declared.owners.Owner.{Owner}
 use Rattle.lwkt_base.specs.declared.owners.Owner.TheVariants.{Rest, Out, With, Back}
 use Rattle.lwkt_base.specs.declared.message_words.MsgWord.{MsgWord}
@@ -68,6 +70,7 @@ pub record IsMsgBook (cpus messages : ℕ) (table : TableId) (key : Key) (clerk 
   pub clerk_cpus : clerk.view.cpus ≡ cpus
   pub clerk_specs : clerk.view.specs ≡ key.specs.items
   pub none_noted : clerk.view.entries ≡ []
+  pub no_chapters : clerk.view.chapters ≡ []
 
 -- the processor of a seat
 abbrev pub cpu_of : Desk → CpuId
@@ -141,8 +144,20 @@ pub record AreOpened (cpus : ℕ) (specs : List MsgSpec) (book : Shelf) (seats :
   pub specs_is : book.specs ≡ specs
   pub seats_are : AreSeats cpus book seats
 
--- how often each thing was done with a message, by all seats
+-- how many events of one kind all seats together have done
+abbrev pub events_like : (Event → Bool) → List Desk → ℕ
+events_like kind seats = total (λ d. count_by kind (events_of d)) seats
+
+-- how often each thing was done with a message is how many events of all seats did it
 pub record AreGathered (msg : Message) (m : ℕ) (seats : List Desk) : Type 0 where
+  pub sends : msg.sends ≡ events_like (kind.sends m) seats
+  pub takes : msg.takes ≡ events_like (kind.takes m) seats
+  pub drops : msg.drops ≡ events_like (kind.drops m) seats
+  pub replies : msg.replies ≡ events_like (kind.replies m) seats
+  pub reaps : msg.reaps ≡ events_like (kind.reaps m) seats
+
+-- how often each thing was done with a message, by all seats
+pub record WereGathered (msg : Message) (m : ℕ) (seats : List Desk) : Type 0 where
   pub sends : msg.sends ≡ total (λ d. (at d.view m).sends) seats
   pub takes : msg.takes ≡ total (λ d. (at d.view m).takes) seats
   pub drops : msg.drops ≡ total (λ d. (at d.view m).drops) seats
@@ -157,6 +172,7 @@ pub record IsClosed (book : Shelf) (seats : List Desk) (m : ℕ) (msg : Message)
   pub opening_is : msg.opening ≡ (spec_at book.specs m).round
   pub end_is : end ≡ end_of msg
   pub gathered : AreGathered msg m seats
+  pub counted : WereGathered msg m seats
 
 -- one history of all seats: its deeds are done one after another from the messages that were declared to these, its events are a run
 -- of the model between the two, the events and steps of each seat are its processor's part, and no other processor has any
@@ -203,6 +219,7 @@ pub record IsClerk (made cpus : ℕ) (specs : List MsgSpec) (place : Seat Rec Vi
   pub cpus_is : place.me.0.cpus ≡ cpus
   pub specs_is : place.me.0.specs ≡ specs
   pub none_noted : place.me.0.entries ≡ []
+  pub no_chapters : place.me.0.chapters ≡ []
   pub words : place.table_id.words ≡ 16 * length specs + 1
   pub slots : place.table_id.slots ≡ 4 * length specs
   pub few : length specs ≤ 64
@@ -233,9 +250,9 @@ pub record AreShown (upto : ℕ) (words : List ℕ) (ends : List MsgEnd) : Type 
   pub as_many : length ends ≡ upto
   pub each : (m : ℕ) (end : MsgEnd) → slice_get ends m ≡ Some end → (word : ℕ) → get_elem? words (word_at m) ≡ some word → (w : MsgWord) → MessageFits w → message_word w ≡ word → end ≡ shown_end w
 
--- what a seat had seen is a chapter of the clerk's
-abbrev pub IsChapter : View → Desk → Type 0
-IsChapter v d = (i : ℕ) × (get_elem? v.chapters i ≡ some (record { cpu = cpu_of d; past = past_of d }))
+-- what these seats had seen, as the clerk keeps it
+abbrev pub chapters_of : List Desk → List Chapter
+chapters_of seats = map (λ d. chapter_of d.view) seats
 
 -- what a seat knew is kept by the clerk
 abbrev pub IsRecalled : View → Desk → Type 0
@@ -245,7 +262,7 @@ IsRecalled v d = (i : ℕ) × (get_elem? v.recalled i ≡ some (recalled_of d.vi
 pub record IsTaking (cpus : ℕ) (v : View) (seats left : List Desk) (w : View) : Type 0 where
   pub behind : List Desk
   pub in_order : seats ≡ left ++ behind
-  pub chapters : All (IsChapter w) behind
+  pub chapters : w.chapters ≡ chapters_of behind
   pub recalled : All (IsRecalled w) behind
   pub back : ℕ
   pub kind : w.kind ≡ Clerk cpus back
@@ -260,7 +277,7 @@ pub record IsTaking (cpus : ℕ) (v : View) (seats left : List Desk) (w : View) 
 
 -- the clerk's view after these seats were taken back
 pub record HasTakenBack (cpus : ℕ) (v : View) (seats : List Desk) (w : View) : Type 0 where
-  pub chapters : All (IsChapter w) seats
+  pub chapters : w.chapters ≡ chapters_of seats
   pub recalled : All (IsRecalled w) seats
   pub kind : w.kind ≡ Clerk cpus (length seats)
   pub cpus_is : w.cpus ≡ v.cpus
