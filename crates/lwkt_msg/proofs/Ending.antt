@@ -1,7 +1,7 @@
-use Rattle.std.proofs.Common.{◌≡◌, ◌≢◌, Some, None, ℕ, zero, suc, ◌+◌, ◌<◌, ◌≤◌, Bool, List, [], ◌∷◌, length, map, All, count_by, get_or, refl, ap, sym, ◌∙◌, subst, arith}
+use Rattle.std.proofs.Common.{◌≡◌, Some, None, ℕ, zero, suc, ◌<◌, ◌≤◌, Bool, List, [], ◌∷◌, length, All, count_by, get_or, refl, ap, sym, ◌∙◌, subst, arith}
 use Rattle.std.specs.Prelude.{slice_get, slice_index_or}
 use mathlib.Core.Option.{some}
-use lib.ListN.{get_elem?, length-map}
+use lib.ListN.{get_elem?}
 use Rattle.atomic_table.specs.Table.{State}
 use Rattle.lwkt_base.specs.declared.names.CpuId.{CpuId}
 use Rattle.lwkt_base.specs.declared.owners.MsgEnd.{MsgEnd}
@@ -10,33 +10,28 @@ use Rattle.lwkt_base.specs.declared.owners.Owner.TheVariants.{Rest, Out, With, B
 use Rattle.lwkt_base.specs.declared.openings.MsgSpec.{MsgSpec}
 use Rattle.lwkt_base.specs.declared.records.Rec.{Rec}
 use Rattle.lwkt_core.specs.declared.events.Event.{Event}
-use Rattle.lwkt_core.specs.declared.messages.Message.{Message}
 use Rattle.lwkt_core.specs.declared.seats.Deed.{Deed}
 use Rattle.lwkt_core.specs.declared.seats.Chapter.{Chapter}
-use Rattle.lwkt_core.specs.declared.seats.SeatKind.{SeatKind}
-use Rattle.lwkt_core.specs.declared.seats.SeatKind.TheVariants.{Clerk, Of, Spent}
+use Rattle.lwkt_core.specs.declared.seats.SeatKind.TheVariants.{Of}
 use Rattle.lwkt_core.specs.Messages.{IsSafeMessage, origin_of}
-use Rattle.lwkt_core.specs.Opening.{opened_message}
-use Rattle.lwkt_core.specs.Seating.{total}
 use Rattle.lwkt_core.specs.Headline as kind
-use Rattle.lwkt_core.proofs.SeatingLemmas.{at_map, of_map, at_within, total-only, total-like, AreSeated-closed}
+use Rattle.lwkt_core.proofs.SeatingLemmas.{at_map, of_map, at_within, total-like}
 use Rattle.lwkt_msg.specs.declared.views.MessageEntry.{MessageEntry}
 use Rattle.lwkt_msg.specs.declared.views.Key.{Key}
 use Rattle.lwkt_msg.specs.declared.views.View.{View}
-use Rattle.lwkt_msg.specs.Views.{word_at, spec_at, at, page_of, chapter_of, recalled_of}
+use Rattle.lwkt_msg.specs.Views.{word_at, spec_at, page_of, chapter_of, recalled_of}
 use Rattle.lwkt_msg.specs.Steps.{machine_of}
 use Rattle.lwkt_msg.specs.Told.{IsDone, first_mails, Told}
 use Rattle.lwkt_core.specs.History.{Passes, IsPastOf, events_by, events_in}
 use Rattle.lwkt_core.proofs.HistoryLemmas.{Passes-each, Passes-run, events_by-past, steps_by-past}
 use Rattle.lwkt_core.proofs.ViewLemmas.{Views-part, Views-chapter, Views-others}
-use Rattle.lwkt_core.proofs.RunLemmas.{are_events}
 use Rattle.lwkt_core.proofs.ShareLemmas.{seats_for, seats_for-some, seats_for-one, shares}
 use Rattle.lwkt_msg.proofs.Running.{done_runs}
 use Rattle.lwkt_msg.proofs.Recalling.{recalled-same}
-use Rattle.lwkt_msg.specs.Book.{Mail, parts_of, state_of, shown_target, Knows, HasNoCounts, mail_at, Rule, opened_mail}
+use Rattle.lwkt_msg.specs.Book.{Mail, parts_of, state_of, shown_target, Knows, mail_at, Rule}
 use Rattle.lwkt_msg.specs.Desks.{Desk, Shelf, cpu_of, past_of, events_of, events_like, chapters_of, AreGathered, IsHistory, IsClosed, AreClosed, AreShown, HasTakenBack, shown_by, shown_end}
 use Rattle.lwkt_msg.proofs.Leading.{fits_of}
-use Rattle.lwkt_msg.proofs.Splitting.{opened_at}
+use Rattle.lwkt_msg.proofs.Counting.{counted_by}
 
 -- an owner is whom its word shows
 owner_shown : (o : Owner) → shown_by (state_of o) (origin_of o) (shown_target o) ≡ o
@@ -56,12 +51,6 @@ get_there : (xs : List MsgEnd) (i : ℕ) (d : MsgEnd) → i < length xs → slic
 get_there [] i d h = absurd (omega arith)
 get_there (x ∷ xs) zero d h = refl
 get_there (x ∷ xs) (suc i) d h = get_there xs i d (omega arith)
-
--- the machine that a book shows has its messages
-shown_message : (mails : List Mail) (m : ℕ) → m < length mails → slice_get (map (λ (x : Mail). x.msg) mails) m ≡ Some (mail_at mails m).msg
-shown_message [] m h = absurd (omega arith)
-shown_message (x ∷ xs) zero h = refl
-shown_message (x ∷ xs) (suc m) h = shown_message xs m (omega arith)
 
 -- what each seat had seen that the clerk has taken back has all of its processor's part
 part_of : (book : Shelf) (key : Key) (seats : List Desk) (v w : View) (id : ℕ) (s : State Rec View) → book.cpus ≡ key.cpus → length seats ≡ book.cpus → HasTakenBack book.cpus v seats w
@@ -108,48 +97,35 @@ module _ (book : Shelf) (key : Key) (seats : List Desk) (v w : View) (id : ℕ) 
       seats_for-some processor seats k.1 d.0 cpu d.1 (ap (λ (x : Chapter). x.cpu.0) d.2)
 
   -- and their events are all that there are
-  all_events : (kind : Event → Bool) → events_like kind seats ≡ count_by kind (events_in told.chronicle.history)
+  all_events : (which : Event → Bool) → events_like which seats ≡ count_by which (events_in told.chronicle.history)
   unfolding processor
-  all_events kind =
+  all_events which =
       let history : List Deed = told.chronicle.history in
       let is = is_history book key seats v w id s cpus_is specs_is all taken told at_id in
       let one : (cpu : ℕ) → cpu < book.cpus → seats_for processor seats cpu ≡ 1 = seats_for-one processor book.cpus seats all has_seat in
       let ones : All (λ (d : Deed). seats_for processor seats d.cpu.0 ≡ 1) history
       = Passes-each (IsDone book.cpus) (λ (d : Deed). seats_for processor seats d.cpu.0 ≡ 1) (λ m d n done. one d.cpu.0 done.processor) (first_mails book.specs) history told.rule.mails is.passes in
-      total-like (λ (d : Desk). count_by kind (events_by (cpu_of d).0 history)) (λ (d : Desk). count_by kind (events_of d)) seats
-      (λ j d at_j. ap (λ (es : List Event). count_by kind es) (sym (events_by-past history (cpu_of d).0 (past_of d) (part_of book key seats v w id s cpus_is all taken told at_id j d at_j))))
-      ∙ shares processor kind seats history ones
+      total-like (λ (d : Desk). count_by which (events_by (cpu_of d).0 history)) (λ (d : Desk). count_by which (events_of d)) seats
+      (λ j d at_j. ap (λ (es : List Event). count_by which es) (sym (events_by-past history (cpu_of d).0 (past_of d) (part_of book key seats v w id s cpus_is all taken told at_id j d at_j))))
+      ∙ shares processor which seats history ones
 
   -- so what was done with a message is what they did
   gathered_all : (m : ℕ) → m < length key.specs.items → AreGathered (mail_at told.rule.mails m).msg m seats
   gathered_all m within =
-      let mails : List Mail = told.rule.mails in
-      let history : List Deed = told.chronicle.history in
-      let run = (is_history book key seats v w id s cpus_is specs_is all taken told at_id).run in
-      let same = ap (λ (xs : List MsgSpec). length xs) specs_is in
-      let long = length-map book.specs opened_mail in
+      let long = ap (λ (xs : List MsgSpec). length xs) specs_is in
       let as_many = told.rule.book.as_many in
-      let opened : mail_at (first_mails book.specs) m ≡ opened_mail (spec_at book.specs m) = opened_at book.specs m (omega arith) in
-      let first = shown_message (first_mails book.specs) m (omega arith) in
-      let last = shown_message mails m (omega arith) in
-      let grows = are_events (machine_of book.cpus (first_mails book.specs)) (events_in history) (machine_of book.cpus mails) m (mail_at (first_mails book.specs) m).msg (mail_at mails m).msg run first last in
-      let done : (f : Message → ℕ) (kind : Event → Bool) → f (opened_message (spec_at book.specs m)) ≡ 0 → f (mail_at mails m).msg ≡ f (mail_at (first_mails book.specs) m).msg + count_by kind (events_in history) → f (mail_at mails m).msg ≡ events_like kind seats
-      = λ f kind none grown.
-      let a : f (mail_at (first_mails book.specs) m).msg ≡ f (opened_message (spec_at book.specs m)) = ap (λ (x : Mail). f x.msg) opened in
-      let b = all_events kind in
-      omega arith in
-      record {
-        sends = done (λ x. x.sends) (kind.sends m) refl grows.0;
-        takes = done (λ x. x.takes) (kind.takes m) refl grows.1;
-        drops = done (λ x. x.drops) (kind.drops m) refl grows.2;
-        replies = done (λ x. x.replies) (kind.replies m) refl grows.3;
-        reaps = done (λ x. x.reaps) (kind.reaps m) refl grows.4;
+      let c = counted_by book.cpus book.specs told.chronicle.history told.rule.mails (is_history book key seats v w id s cpus_is specs_is all taken told at_id).passes (omega arith) m (omega arith) in record {
+        sends = c.sends ∙ sym (all_events (kind.sends m));
+        takes = c.takes ∙ sym (all_events (kind.takes m));
+        drops = c.drops ∙ sym (all_events (kind.drops m));
+        replies = c.replies ∙ sym (all_events (kind.replies m));
+        reaps = c.reaps ∙ sym (all_events (kind.reaps m));
       }
 
 -- what the closing words show is what the book's messages are, once all seats are taken back
-pub closes : (book : Shelf) (key : Key) (seats : List Desk) (v w : View) (id : ℕ) (words : List ℕ) (ends : List MsgEnd) (s : State Rec View) → book.cpus ≡ key.cpus → book.specs ≡ key.specs.items → v.specs ≡ key.specs.items
+pub closes : (book : Shelf) (key : Key) (seats : List Desk) (v w : View) (id : ℕ) (words : List ℕ) (ends : List MsgEnd) (s : State Rec View) → book.cpus ≡ key.cpus → book.specs ≡ key.specs.items
     → length seats ≡ book.cpus → HasTakenBack book.cpus v seats w → Told key s → get_elem? s.views id ≡ some w → s.words ≡ words → AreShown (length key.specs.items) words ends → AreClosed book seats ends
-closes book key seats v w id words ends s cpus_is specs_is v_specs all taken told at_id words_are shown = record {
+closes book key seats v w id words ends s cpus_is specs_is all taken told at_id words_are shown = record {
   as_many = shown.as_many ∙ ap (λ (xs : List MsgSpec). length xs) (sym specs_is);
   mails = rule.mails;
   history = told.chronicle.history;
@@ -168,18 +144,6 @@ closes book key seats v w id words ends s cpus_is specs_is v_specs all taken tol
     within_of : (m : ℕ) (end : MsgEnd) → slice_get ends m ≡ Some end → m < length key.specs.items
     within_of m end e = let a = get_inside ends m end e in let b = shown.as_many in omega arith
 
-    spent : (j : ℕ) (x : View) → get_elem? s.views j ≡ some x → j ≢ id → x.kind ≡ Spent
-    spent j x d apart =
-        let kinds : List SeatKind = map (λ (y : View). y.kind) s.views in
-        let desk : get_elem? kinds id ≡ some (Clerk book.cpus (length seats)) = at_map (λ (y : View). y.kind) s.views id w at_id ∙ ap (λ (k : SeatKind). some k) taken.kind in
-        let enough : key.cpus ≤ length seats = omega arith in
-        (AreSeated-closed key.cpus kinds id book.cpus (length seats) rule.book.seated desk enough).2 j x.kind apart (at_map (λ (y : View). y.kind) s.views j x d)
-
-    counted : (m : ℕ) → m < length key.specs.items → (f : MessageEntry → ℕ) (n all : ℕ) → ((x : MessageEntry) → HasNoCounts x → f x ≡ 0) → total (λ (x : View). f (at x m)) s.views ≡ n → f (at w m) ≡ all → n ≡ all
-    counted m within f n all none is here =
-        let only = total-only (λ (x : View). f (at x m)) s.views id w at_id (λ j x d apart. none (at x m) (((rule.book.each m within).each_view j x d).spent (spent j x d apart))) in
-        sym is ∙ (only ∙ here)
-
     each : (m : ℕ) (end : MsgEnd) → slice_get ends m ≡ Some end → IsClosed book seats m (mail_at told.rule.mails m).msg end
     each m end e =
         let within = within_of m end e in
@@ -190,7 +154,6 @@ closes book key seats v w id words ends s cpus_is specs_is v_specs all taken tol
         let there : get_elem? s.words (word_at m) ≡ some (get_or s.words (word_at m) 0) = at_within s.words (word_at m) 0 in_words in
         let F : List ℕ → Type 0 = λ xs. get_elem? xs (word_at m) ≡ some (get_or s.words (word_at m) 0) in
         let fits = fits_of key.cpus mail kept.safe rule.book.within.processors in
-        let in_v : m < length v.specs = subst (λ (xs : List MsgSpec). m < length xs) (sym v_specs) within in
         let end_shown : end ≡ shown_end (parts_of mail) = shown.each m end e (get_or s.words (word_at m) 0) (subst F words_are there) (parts_of mail) fits (sym kept.is_word) in
         record {
           safe = subst (λ (n : ℕ). IsSafeMessage n mail.msg) (sym cpus_is) kept.safe;
@@ -198,11 +161,4 @@ closes book key seats v w id words ends s cpus_is specs_is v_specs all taken tol
           opening_is = kept.opening_is ∙ ap (λ (xs : List MsgSpec). (spec_at xs m).round) (sym specs_is);
           end_is = end_shown ∙ ap (λ (o : Owner). let z : MsgEnd = record { round = mail.msg.round; state = o } in z) (owner_shown mail.msg.owner);
           gathered = gathered_all book key seats v w id s cpus_is specs_is all taken told at_id m within;
-          counted = record {
-            sends = counted m within (λ x. x.sends) mail.msg.sends (total (λ (d : Desk). (at d.view m).sends) seats) (λ x none. none.sends) kept.counted.sends (taken.sends m in_v);
-            takes = counted m within (λ x. x.takes) mail.msg.takes (total (λ (d : Desk). (at d.view m).takes) seats) (λ x none. none.takes) kept.counted.takes (taken.takes m in_v);
-            drops = counted m within (λ x. x.drops) mail.msg.drops (total (λ (d : Desk). (at d.view m).drops) seats) (λ x none. none.drops) kept.counted.drops (taken.drops m in_v);
-            replies = counted m within (λ x. x.replies) mail.msg.replies (total (λ (d : Desk). (at d.view m).replies) seats) (λ x none. none.replies) kept.counted.replies (taken.replies m in_v);
-            reaps = counted m within (λ x. x.reaps) mail.msg.reaps (total (λ (d : Desk). (at d.view m).reaps) seats) (λ x none. none.reaps) kept.counted.reaps (taken.reaps m in_v);
-          };
         }

@@ -14,7 +14,6 @@ use Rattle.lwkt_core.specs.Messages.{IsSafeMessage}
 use Rattle.lwkt_core.specs.Opening.{AreWithin}
 use Rattle.lwkt_core.specs.Seating.{total}
 use Rattle.lwkt_core.specs.Trace.{Run, end_of}
-use Rattle.lwkt_core.specs.Headline as kind
 use Rattle.lwkt_core.specs.declared.events.Event.{Event}
 use Rattle.lwkt_core.specs.declared.seats.WordStep.{WordStep}
 use Rattle.lwkt_core.specs.declared.seats.Deed.{Deed}
@@ -35,7 +34,7 @@ use Rattle.lwkt_msg.specs.Book.{Mail, Knows, mail_at}
 use Rattle.lwkt_core.specs.declared.seats.Operation.TheVariants.{Load}
 use Rattle.lwkt_msg.specs.Deeds.{word_step}
 use Rattle.lwkt_msg.specs.Steps.{rest_word, machine_of}
-use Rattle.lwkt_msg.specs.Told.{IsDone, first_mails}
+use Rattle.lwkt_msg.specs.Told.{IsDone, first_mails, AreCounted}
 use Rattle.lwkt_msg.specs.Plays.{IsSat}
 
 -- what callers see of a seat: the table that it sits at, and what it knows
@@ -69,7 +68,6 @@ pub record IsMsgBook (cpus messages : ℕ) (table : TableId) (key : Key) (clerk 
   pub clerk_kind : clerk.view.kind ≡ Clerk cpus 0
   pub clerk_cpus : clerk.view.cpus ≡ cpus
   pub clerk_specs : clerk.view.specs ≡ key.specs.items
-  pub none_noted : clerk.view.entries ≡ []
   pub no_chapters : clerk.view.chapters ≡ []
 
 -- the processor of a seat
@@ -146,23 +144,11 @@ pub record AreOpened (cpus : ℕ) (specs : List MsgSpec) (book : Shelf) (seats :
 
 -- how many events of one kind all seats together have done
 abbrev pub events_like : (Event → Bool) → List Desk → ℕ
-events_like kind seats = total (λ d. count_by kind (events_of d)) seats
+events_like which seats = total (λ d. count_by which (events_of d)) seats
 
 -- how often each thing was done with a message is how many events of all seats did it
-pub record AreGathered (msg : Message) (m : ℕ) (seats : List Desk) : Type 0 where
-  pub sends : msg.sends ≡ events_like (kind.sends m) seats
-  pub takes : msg.takes ≡ events_like (kind.takes m) seats
-  pub drops : msg.drops ≡ events_like (kind.drops m) seats
-  pub replies : msg.replies ≡ events_like (kind.replies m) seats
-  pub reaps : msg.reaps ≡ events_like (kind.reaps m) seats
-
--- how often each thing was done with a message, by all seats
-pub record WereGathered (msg : Message) (m : ℕ) (seats : List Desk) : Type 0 where
-  pub sends : msg.sends ≡ total (λ d. (at d.view m).sends) seats
-  pub takes : msg.takes ≡ total (λ d. (at d.view m).takes) seats
-  pub drops : msg.drops ≡ total (λ d. (at d.view m).drops) seats
-  pub replies : msg.replies ≡ total (λ d. (at d.view m).replies) seats
-  pub reaps : msg.reaps ≡ total (λ d. (at d.view m).reaps) seats
+abbrev pub AreGathered : Message → ℕ → List Desk → Type 0
+AreGathered msg m seats = AreCounted msg m (λ which. events_like which seats)
 
 -- what is known of a message at the close: it is a safe message with this owner and round, which was opened so, and with which all
 -- seats together did so much
@@ -172,7 +158,6 @@ pub record IsClosed (book : Shelf) (seats : List Desk) (m : ℕ) (msg : Message)
   pub opening_is : msg.opening ≡ (spec_at book.specs m).round
   pub end_is : end ≡ end_of msg
   pub gathered : AreGathered msg m seats
-  pub counted : WereGathered msg m seats
 
 -- one history of all seats: its deeds are done one after another from the messages that were declared to these, its events are a run
 -- of the model between the two, the events and steps of each seat are its processor's part, and no other processor has any
@@ -269,11 +254,6 @@ pub record IsTaking (cpus : ℕ) (v : View) (seats left : List Desk) (w : View) 
   pub as_many : back + length left ≡ length seats
   pub cpus_is : w.cpus ≡ v.cpus
   pub specs_is : w.specs ≡ v.specs
-  pub sends : (m : ℕ) → m < length v.specs → (at w m).sends + total (λ d. (at d.view m).sends) left ≡ total (λ d. (at d.view m).sends) seats
-  pub takes : (m : ℕ) → m < length v.specs → (at w m).takes + total (λ d. (at d.view m).takes) left ≡ total (λ d. (at d.view m).takes) seats
-  pub drops : (m : ℕ) → m < length v.specs → (at w m).drops + total (λ d. (at d.view m).drops) left ≡ total (λ d. (at d.view m).drops) seats
-  pub replies : (m : ℕ) → m < length v.specs → (at w m).replies + total (λ d. (at d.view m).replies) left ≡ total (λ d. (at d.view m).replies) seats
-  pub reaps : (m : ℕ) → m < length v.specs → (at w m).reaps + total (λ d. (at d.view m).reaps) left ≡ total (λ d. (at d.view m).reaps) seats
 
 -- the clerk's view after these seats were taken back
 pub record HasTakenBack (cpus : ℕ) (v : View) (seats : List Desk) (w : View) : Type 0 where
@@ -282,8 +262,3 @@ pub record HasTakenBack (cpus : ℕ) (v : View) (seats : List Desk) (w : View) :
   pub kind : w.kind ≡ Clerk cpus (length seats)
   pub cpus_is : w.cpus ≡ v.cpus
   pub specs_is : w.specs ≡ v.specs
-  pub sends : (m : ℕ) → m < length v.specs → (at w m).sends ≡ total (λ d. (at d.view m).sends) seats
-  pub takes : (m : ℕ) → m < length v.specs → (at w m).takes ≡ total (λ d. (at d.view m).takes) seats
-  pub drops : (m : ℕ) → m < length v.specs → (at w m).drops ≡ total (λ d. (at d.view m).drops) seats
-  pub replies : (m : ℕ) → m < length v.specs → (at w m).replies ≡ total (λ d. (at d.view m).replies) seats
-  pub reaps : (m : ℕ) → m < length v.specs → (at w m).reaps ≡ total (λ d. (at d.view m).reaps) seats

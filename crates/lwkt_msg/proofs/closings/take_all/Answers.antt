@@ -6,7 +6,7 @@ use Rattle.lwkt_msg.proofs.Closing.{taking_none, taking_more, taking_all}
 use Rattle.lwkt_msg.proofs.closings.take_all.Goals as goal
 
 pub loop-seat-init : goal.loop-seat-init
-loop-seat-init c = (refl, refl, c.requires.seats.1, taking_none c.args.cpus c.args.clerk.now.me.0 c.args.seats.items c.requires.clerk.0 c.requires.clerk.1 c.requires.clerk.2)
+loop-seat-init c = (refl, refl, c.requires.seats.1, taking_none c.args.cpus c.args.clerk.now.me.0 c.args.seats.items c.requires.clerk.0 c.requires.clerk.1)
 
 pub loop-seat-preserved : goal.loop-seat-preserved
 loop-seat-preserved c =
