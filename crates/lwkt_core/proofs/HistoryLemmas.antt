@@ -1,4 +1,4 @@
-use Rattle.std.proofs.Common.{◌≡◌, ◌≢◌, ℕ, ◌==◌, Bool, cond, List, [], ◌∷◌, ◌++◌, flat_map, refl, ap, sym, ◌∙◌, subst, append_assoc, append-nil, eq-eqb, ne_eqb}
+use Rattle.std.proofs.Common.{◌≡◌, ◌≢◌, ℕ, ◌==◌, Bool, cond, List, [], ◌∷◌, ◌++◌, All, flat_map, refl, ap, sym, ◌∙◌, subst, append_assoc, append-nil, eq-eqb, ne_eqb}
 use Rattle.std.proofs.lemmas.List.Elements.{All-nil, All-cons, All-head, All-tail, All-append}
 use Rattle.std.proofs.lemmas.List.Concat.{flat_map-append}
 use Rattle.lwkt_core.specs.declared.events.Event.{Event}
@@ -171,6 +171,11 @@ module _ {S : Type 0} (Done : S → Deed → S → Type 0) where
   pub Passes-kept : (P : S → Type 0) → ((m : S) (d : Deed) (n : S) → Done m d n → P m → P n) → (m : S) (deeds : List Deed) (n : S) → Passes Done m deeds n → P m → P n
   Passes-kept P keeps m [] n passes p = subst P (sym passes) p
   Passes-kept P keeps m (d ∷ deeds) n passes p = Passes-kept P keeps passes.0 deeds n passes.1.1 (keeps m d passes.0 passes.1.0 p)
+
+  -- what is so of each deed that is done
+  pub Passes-each : (P : Deed → Type 0) → ((m : S) (d : Deed) (n : S) → Done m d n → P d) → (m : S) (deeds : List Deed) (n : S) → Passes Done m deeds n → All P deeds
+  Passes-each P is m [] n passes = All-nil P
+  Passes-each P is m (d ∷ deeds) n passes = All-cons P d deeds (is m d passes.0 passes.1.0) (Passes-each P is passes.0 deeds n passes.1.1)
 
   -- where each deed is a run of its events, the events of all deeds are one run
   pub Passes-run : (model : S → Machine) → ((m : S) (d : Deed) (n : S) → Done m d n → Run (model m) d.events (model n)) → (m : S) (deeds : List Deed) (n : S) → Passes Done m deeds n → Run (model m) (events_in deeds) (model n)

@@ -11,3 +11,4 @@ pub mod ViewLemmas
 pub mod PictureLemmas
 pub mod SafetyLemmas
 pub mod RunLemmas
+pub mod ShareLemmas

@@ -23,7 +23,7 @@ use Rattle.lwkt_core.specs.Tokens.{tally_of, tallies_after, IsSafeToken, TokenNe
 use Rattle.lwkt_core.specs.Messages.{MessageNeeds, message_after, in_out, in_with, owner_taken, owner_replied, IsOutTo, IsOutFrom, IsWith}
 use Rattle.lwkt_core.specs.Machine.{Machine, IsSafe, Needs, PlaceNeeds, Happens, after, after_at}
 use Rattle.lwkt_core.specs.Trace.{Run}
-use Rattle.lwkt_core.specs.Headline.{sends, takes, drops, replies, takes_or_drops, reaps_or_drops, LiesBetween, MessagesGoRound, EachSendIsAnsweredOnce, AnswersAreOfTheirSend, Section, section_of, ends_written, sections_of, IsChain, SectionsAreChain, RowsStandBetweenSections, RunsAreCompatible, RunsKeepLaws, raise_of, raised_by, TalliesAreRaises}
+use Rattle.lwkt_core.specs.Headline.{sends, takes, drops, replies, reaps, takes_or_drops, reaps_or_drops, LiesBetween, MessagesGoRound, EachSendIsAnsweredOnce, AnswersAreOfTheirSend, Section, section_of, ends_written, sections_of, IsChain, SectionsAreChain, RowsStandBetweenSections, RunsAreCompatible, RunsKeepLaws, raise_of, raised_by, TalliesAreRaises, CountsAreEvents}
 use Rattle.lwkt_core.proofs.MachineMoves.{changed_at, IsSafe_left}
 use Rattle.lwkt_core.proofs.SafetyLemmas.{stays, compatible, unwritten}
 
@@ -122,6 +122,10 @@ at_drops i e is = absurd (false≢true is)
 at_replies : (i : ℕ) (e : Event) → replies i e ≡ true → place_of e ≡ AtMessage i
 at_replies i (Reply cpu msg) is = ap (λ (j : ℕ). AtMessage j) (eqb-true msg.0 i is)
 at_replies i e is = absurd (false≢true is)
+
+at_reaps : (i : ℕ) (e : Event) → reaps i e ≡ true → place_of e ≡ AtMessage i
+at_reaps i (Reap cpu msg) is = ap (λ (j : ℕ). AtMessage j) (eqb-true msg.0 i is)
+at_reaps i e is = absurd (false≢true is)
 
 at_takes_or_drops : (i : ℕ) (e : Event) → takes_or_drops i e ≡ true → place_of e ≡ AtMessage i
 at_takes_or_drops i e is = ⊎_elim (λ t. at_takes i e t) (λ d. at_drops i e d) (or_cases (takes i e) (drops i e) is)
@@ -672,3 +676,89 @@ are_raises m (e ∷ events) n t tok last safe run here there tally cpu =
     let one = raise_step m e t cpu tok left.0 safe here run.1.0.0 left.1.1 tally in
     let next : raised_by t cpu run.0 events ≡ raised_by t cpu (after m e) events = ap (λ (x : Machine). raised_by t cpu x events) run.1.0.1 in
     omega arith
+
+-- how an event at a message changes how often each thing was done with it
+sends_grow : (i cpus : ℕ) (msg : Message) (e : Event) → place_of e ≡ AtMessage i → MessageNeeds cpus msg e → (message_after msg e).sends ≡ msg.sends + one_if (sends i e)
+sends_grow i cpus msg (Send cpu m to round) at needs = ap (λ (b : Bool). msg.sends + one_if b) (sym (is_at i m.0 at))
+sends_grow i cpus msg (TakeMsg cpu m round) at needs = omega arith
+sends_grow i cpus msg (DropMsg cpu m) at needs = omega arith
+sends_grow i cpus msg (Reply cpu m) at needs = omega arith
+sends_grow i cpus msg (Reap cpu m) at needs = omega arith
+sends_grow i cpus msg (Abort cpu m) at needs = omega arith
+sends_grow i cpus msg e at needs = absurd needs
+
+takes_grow : (i cpus : ℕ) (msg : Message) (e : Event) → place_of e ≡ AtMessage i → MessageNeeds cpus msg e → (message_after msg e).takes ≡ msg.takes + one_if (takes i e)
+takes_grow i cpus msg (TakeMsg cpu m round) at needs = ap (λ (b : Bool). msg.takes + one_if b) (sym (is_at i m.0 at))
+takes_grow i cpus msg (Send cpu m to round) at needs = omega arith
+takes_grow i cpus msg (DropMsg cpu m) at needs = omega arith
+takes_grow i cpus msg (Reply cpu m) at needs = omega arith
+takes_grow i cpus msg (Reap cpu m) at needs = omega arith
+takes_grow i cpus msg (Abort cpu m) at needs = omega arith
+takes_grow i cpus msg e at needs = absurd needs
+
+drops_grow : (i cpus : ℕ) (msg : Message) (e : Event) → place_of e ≡ AtMessage i → MessageNeeds cpus msg e → (message_after msg e).drops ≡ msg.drops + one_if (drops i e)
+drops_grow i cpus msg (DropMsg cpu m) at needs = ap (λ (b : Bool). msg.drops + one_if b) (sym (is_at i m.0 at))
+drops_grow i cpus msg (Send cpu m to round) at needs = omega arith
+drops_grow i cpus msg (TakeMsg cpu m round) at needs = omega arith
+drops_grow i cpus msg (Reply cpu m) at needs = omega arith
+drops_grow i cpus msg (Reap cpu m) at needs = omega arith
+drops_grow i cpus msg (Abort cpu m) at needs = omega arith
+drops_grow i cpus msg e at needs = absurd needs
+
+replies_grow : (i cpus : ℕ) (msg : Message) (e : Event) → place_of e ≡ AtMessage i → MessageNeeds cpus msg e → (message_after msg e).replies ≡ msg.replies + one_if (replies i e)
+replies_grow i cpus msg (Reply cpu m) at needs = ap (λ (b : Bool). msg.replies + one_if b) (sym (is_at i m.0 at))
+replies_grow i cpus msg (Send cpu m to round) at needs = omega arith
+replies_grow i cpus msg (TakeMsg cpu m round) at needs = omega arith
+replies_grow i cpus msg (DropMsg cpu m) at needs = omega arith
+replies_grow i cpus msg (Reap cpu m) at needs = omega arith
+replies_grow i cpus msg (Abort cpu m) at needs = omega arith
+replies_grow i cpus msg e at needs = absurd needs
+
+reaps_grow : (i cpus : ℕ) (msg : Message) (e : Event) → place_of e ≡ AtMessage i → MessageNeeds cpus msg e → (message_after msg e).reaps ≡ msg.reaps + one_if (reaps i e)
+reaps_grow i cpus msg (Reap cpu m) at needs = ap (λ (b : Bool). msg.reaps + one_if b) (sym (is_at i m.0 at))
+reaps_grow i cpus msg (Send cpu m to round) at needs = omega arith
+reaps_grow i cpus msg (TakeMsg cpu m round) at needs = omega arith
+reaps_grow i cpus msg (DropMsg cpu m) at needs = omega arith
+reaps_grow i cpus msg (Reply cpu m) at needs = omega arith
+reaps_grow i cpus msg (Abort cpu m) at needs = omega arith
+reaps_grow i cpus msg e at needs = absurd needs
+
+-- a number of a message that each event of one kind raises by 1, and no other event does
+module _ (i : ℕ) (f : Message → ℕ) (p : Event → Bool) (grows : (cpus : ℕ) (msg : Message) (e : Event) → place_of e ≡ AtMessage i → MessageNeeds cpus msg e → f (message_after msg e) ≡ f msg + one_if (p e)) (at_p : (e : Event) → p e ≡ true → place_of e ≡ AtMessage i) where
+  grown_by : (m n : Machine) (e : Event) (msg : Message) → slice_get m.messages i ≡ Some msg → Happens m e n → (msg' : Message) × ((slice_get n.messages i ≡ Some msg') × (f msg' ≡ f msg + one_if (p e)))
+  grown_by m n e msg there happens =
+      let left = message_left m n e i msg there happens in (
+        left.0,
+        (
+          left.1.0,
+          ⊎_elim
+              (λ turned. ap f turned.1.1 ∙ grows m.cpus msg e turned.0 turned.1.0)
+              (λ stays'.
+              let not_p : p e ≡ false = ⊎_elim (λ yes'. absurd (stays'.0 (at_p e yes'))) (λ no'. no') (cases_Bool (p e)) in
+              let zero' : one_if (p e) ≡ 0 = ap (λ (b : Bool). one_if b) not_p in
+              let same : f left.0 ≡ f msg = ap f stays'.1 in
+              omega arith)
+              left.1.1,
+        ),
+      )
+
+  grows_along : (events : List Event) (m n : Machine) (msg last : Message) → slice_get m.messages i ≡ Some msg → slice_get n.messages i ≡ Some last → Run m events n → f last ≡ f msg + count_by p events
+  grows_along [] m n msg last here there run =
+      let same : last ≡ msg = same_Some last msg (sym there ∙ ap (λ (x : Machine). slice_get x.messages i) run ∙ here) in
+      let one : f last ≡ f msg = ap f same in
+      omega arith
+  grows_along (e ∷ events) m n msg last here there run =
+      let one = grown_by m run.0 e msg here run.1.0 in
+      let step = one.1.1 in
+      let rest = grows_along events run.0 n one.0 last one.1.0 there run.1.1 in
+      let both = sum_by-cons (λ x. one_if (p x)) e events in
+      omega arith
+
+pub are_events : CountsAreEvents
+are_events m events n i msg last run here there = (
+  grows_along i (λ x. x.sends) (sends i) (sends_grow i) (at_sends i) events m n msg last here there run,
+  grows_along i (λ x. x.takes) (takes i) (takes_grow i) (at_takes i) events m n msg last here there run,
+  grows_along i (λ x. x.drops) (drops i) (drops_grow i) (at_drops i) events m n msg last here there run,
+  grows_along i (λ x. x.replies) (replies i) (replies_grow i) (at_replies i) events m n msg last here there run,
+  grows_along i (λ x. x.reaps) (reaps i) (reaps_grow i) (at_reaps i) events m n msg last here there run,
+)

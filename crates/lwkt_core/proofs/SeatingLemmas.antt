@@ -1,4 +1,4 @@
-use Rattle.std.proofs.Common.{◌≡◌, ◌≢◌, ◌⊎◌, inl, inr, ⊎_elim, ℕ, zero, suc, ◌+◌, ◌<◌, ◌≤◌, List, [], ◌∷◌, ◌++◌, length, map, set, refl, ap, sym, ◌∙◌, subst, arith}
+use Rattle.std.proofs.Common.{◌≡◌, ◌≢◌, ◌⊎◌, inl, inr, ⊎_elim, ℕ, zero, suc, ◌+◌, ◌<◌, ◌≤◌, List, [], ◌∷◌, ◌++◌, length, map, set, get_or, refl, ap, sym, ◌∙◌, subst, arith}
 use Rattle.std.proofs.lemmas.List.Sums.{sum_by-cons, sum_by_push}
 use mathlib.Core.Option.{some, some-injective, some-ne-none}
 use lib.ListN.{get_elem?}
@@ -57,6 +57,12 @@ module _ {A : Type 0} where
   at_map g [] i x e = absurd (some-ne-none x (sym e))
   at_map g (z ∷ zs) zero x e = ap (λ (y : A). some (g y)) (some-injective z x e)
   at_map g (z ∷ zs) (suc i) x e = at_map g zs i x e
+
+  -- an element within the length of a list is there
+  pub at_within : (xs : List A) (i : ℕ) (d : A) → i < length xs → get_elem? xs i ≡ some (get_or xs i d)
+  at_within [] i d h = absurd (omega arith)
+  at_within (z ∷ zs) zero d h = refl
+  at_within (z ∷ zs) (suc i) d h = at_within zs i d (omega arith)
 
   -- what stands in a mapped list is made of what stands in the list
   pub of_map : {B : Type 0} (g : A → B) (xs : List A) (i : ℕ) (y : B) → get_elem? (map g xs) i ≡ some y → (x : A) × (get_elem? xs i ≡ some x) × (g x ≡ y)
@@ -140,6 +146,16 @@ module _ {A : Type 0} (f : A → ℕ) where
       let b = total-cons z zs in
       let here = none zero z refl in
       let c = total-zero zs (λ j y e. none (suc j) y e) in
+      omega arith
+
+  -- the total where each view gives the same as by another number
+  pub total-like : (g : A → ℕ) (xs : List A) → ((j : ℕ) (y : A) → get_elem? xs j ≡ some y → g y ≡ f y) → total g xs ≡ total f xs
+  total-like g [] same = refl
+  total-like g (z ∷ zs) same =
+      let a = sum_by-cons g z zs in
+      let b = total-cons z zs in
+      let here = same zero z refl in
+      let c = total-like g zs (λ j y e. same (suc j) y e) in
       omega arith
 
   -- where every other view has nothing, one view has the total

@@ -5,6 +5,7 @@ use Rattle.lwkt_base.specs.declared.names.MsgId.{MsgId}
 use Rattle.lwkt_base.specs.declared.laws.Law.TheVariants.{Tally}
 use Rattle.lwkt_base.specs.Law.{MeetsLaw, IsTallied}
 use Rattle.lwkt_core.specs.declared.tokens.Token.{Token}
+use Rattle.lwkt_core.specs.declared.messages.Message.{Message}
 use Rattle.lwkt_core.specs.declared.events.Event.{Event}
 use Rattle.lwkt_core.specs.declared.events.Event.TheVariants.{GiveWritten, Write, Send, TakeMsg, DropMsg, Reply, Reap}
 use Rattle.lwkt_core.specs.Tokens.{tally_of, IsOpen}
@@ -68,6 +69,15 @@ takes_or_drops i e = takes i e || drops i e
 
 abbrev pub reaps_or_drops : ℕ → Event → Bool
 reaps_or_drops i e = reaps i e || drops i e
+
+-- a law: how often each thing was done with a message grows in a run by the events that did it
+abbrev pub CountsAreEvents : Type 0
+CountsAreEvents = (m : Machine) (events : List Event) (n : Machine) (i : ℕ) (msg last : Message) → Run m events n → slice_get m.messages i ≡ Some msg → slice_get n.messages i ≡ Some last
+    → (last.sends ≡ msg.sends + count_by (sends i) events)
+    × (last.takes ≡ msg.takes + count_by (takes i) events)
+    × (last.drops ≡ msg.drops + count_by (drops i) events)
+    × (last.replies ≡ msg.replies + count_by (replies i) events)
+    × (last.reaps ≡ msg.reaps + count_by (reaps i) events)
 
 -- between any two events of one kind lies one of another
 abbrev pub LiesBetween : (Event → Bool) → (Event → Bool) → List Event → Type 0

@@ -1,4 +1,4 @@
-ghost use Rattle.lwkt_core.specs.Headline.{RunsAreCompatible, RunsKeepLaws, TalliesAreRaises, MessagesGoRound, EachSendIsAnsweredOnce, AnswersAreOfTheirSend, SectionsAreChain, RowsStandBetweenSections};
+ghost use Rattle.lwkt_core.specs.Headline.{RunsAreCompatible, RunsKeepLaws, TalliesAreRaises, CountsAreEvents, MessagesGoRound, EachSendIsAnsweredOnce, AnswersAreOfTheirSend, SectionsAreChain, RowsStandBetweenSections};
 
 /// The law that in every machine of a run from a safe one each token has one exclusive holder or only shared ones.
 pub fn runs_are_compatible()
@@ -14,6 +14,11 @@ pub fn runs_keep_laws()
 /// The law that what a processor has added to a Tally token grows in a run by what its writes raise the cell.
 pub fn tallies_are_raises()
     ensures { TalliesAreRaises }
+{}
+
+/// The law that how often a message was sent, taken, dropped, replied to and reaped grows in a run by the run's events that did so.
+pub fn counts_are_events()
+    ensures { CountsAreEvents }
 {}
 
 /// The law that in a run a send lies between any two takes or drops of a message, a take between any two replies to it, and

@@ -177,7 +177,7 @@ look_allowed key slots id me cpu m is_seat within hands s told deep at_id small 
     here = there key s id me.0 cpu m told.rule at_id is_seat within
 
     look : (act : Act Rec) → Valid s.homes me.1 act → homes_after s.homes me.1 act ≡ s.homes → Tells key s told id me.0 me.1 m e' d n act
-    look act valid same = tell.look_told key s id me.0 cpu m told at_id is_seat here e' operation.Load me.1 act valid same refl refl refl refl refl (look_mine mail cpu (at me.0 m)) (inl refl)
+    look act valid same = tell.look_told key s id me.0 cpu m told at_id is_seat here e' operation.Load me.1 act valid same (look_mine mail cpu (at me.0 m)) (inl refl)
 
     tells : (act : Act Rec) (valid : Valid s.homes me.1 act) (homes : homes_after s.homes me.1 act ≡ s.homes) (hands' : List (ℕ × Rec)) → carried_after me.1 act ≡ hands' → AreSame me.1 hands' → ((rec : Rec) → Has me.1 (slot_at m) rec → (others : List (ℕ × Rec)) × (hands' ≡ (slot_at m, rec) ∷ others))
         → looks (step slots (word_at m) 0 0 none) me n (noted (look act valid homes).between me.0 m e' d, hands')
@@ -307,7 +307,7 @@ module _ (key : Key) (id : ℕ) (me : Me Rec View) (cpu : CpuId) (m : ℕ) (is_s
 
       miss : n ≢ old → (v' : View) × (a : Act Rec) × Valid s.homes me.1 a × Told key (stepped s (word_at m) n id me.1 v' a) × takes_it (step slots (word_at m) old new none) me n (v', carried_after me.1 a)
       miss other =
-          let t = tell.look_told key s id me.0 cpu m told at_id is_seat here (at me.0 m) (operation.Exchange old new) me.1 keeps tt refl refl refl refl refl refl (λ known. known) (inr (old, new, (refl, other))) in
+          let t = tell.look_told key s id me.0 cpu m told at_id is_seat here (at me.0 m) (operation.Exchange old new) me.1 keeps tt refl (λ known. known) (inr (old, new, (refl, other))) in
           let v' : View = noted t.between me.0 m (at me.0 m) (deed.loses cpu m old new n) in
           let same = told_by_who key s told id me.0 cpu is_seat me.1 m (at me.0 m) (λ c. deed.loses c m old new n) n keeps t in (
             v',

@@ -1,88 +1,55 @@
-use Rattle.std.proofs.Common.{◌≡◌, ◌⊎◌, inl, inr, ⊎_elim, Some, None, ℕ, zero, suc, ◌+◌, ◌<◌, List, [], ◌∷◌, ◌++◌, length, refl, ap, sym, ◌∙◌, subst, arith, length-append, append-nil, append_assoc, All}
+use Rattle.std.proofs.Common.{◌≡◌, ◌⊎◌, inl, inr, ⊎_elim, Some, None, ℕ, zero, suc, ◌+◌, List, [], ◌∷◌, ◌++◌, length, refl, ap, sym, ◌∙◌, subst, arith, length-append, append-nil, append_assoc, All}
 use Rattle.std.specs.Prelude.{slice_get}
 use Rattle.std.proofs.lemmas.List.Elements.{All-nil, All-cons}
 use mathlib.Core.Option.{some, some-injective}
 use lib.ListN.{get_elem?}
-use Rattle.lwkt_base.specs.declared.openings.MsgSpec.{MsgSpec}
 use Rattle.lwkt_base.specs.declared.owners.MsgEnd.{MsgEnd}
 use Rattle.lwkt_base.specs.declared.message_words.MsgWord.{MsgWord}
 use Rattle.lwkt_base.specs.MessageWord.{message_word, MessageFits}
+use Rattle.lwkt_core.specs.declared.seats.Chapter.{Chapter}
 use Rattle.lwkt_core.specs.declared.seats.SeatKind.TheVariants.{Clerk}
-use Rattle.lwkt_core.specs.Seating.{total, after_back}
-use Rattle.lwkt_core.proofs.SeatingLemmas.{total-snoc}
-use Rattle.lwkt_msg.specs.declared.views.MessageEntry.{MessageEntry}
+use Rattle.lwkt_core.specs.Seating.{after_back}
 use Rattle.lwkt_msg.specs.declared.views.View.{View}
-use Rattle.lwkt_msg.specs.Views.{word_at, added, at, joined}
-use Rattle.lwkt_msg.specs.Desks.{Desk, IsChapter, IsRecalled, IsTaking, HasTakenBack, AreShown, shown_end}
-use Rattle.lwkt_msg.proofs.Splitting.{at-none, at-both}
+use Rattle.lwkt_msg.specs.Views.{word_at, chapter_of, joined}
+use Rattle.lwkt_msg.specs.Desks.{Desk, chapters_of, IsRecalled, IsTaking, HasTakenBack, AreShown, shown_end}
 
 -- no seat is taken back yet
-pub taking_none : (cpus : ℕ) (v : View) (seats : List Desk) → v.kind ≡ Clerk cpus 0 → v.entries ≡ [] → IsTaking cpus v seats seats v
-taking_none cpus v seats kind none = record {
+pub taking_none : (cpus : ℕ) (v : View) (seats : List Desk) → v.kind ≡ Clerk cpus 0 → v.chapters ≡ [] → IsTaking cpus v seats seats v
+taking_none cpus v seats kind no_chapters = record {
   behind = [];
   in_order = sym (append-nil seats);
-  chapters = All-nil (λ (d : Desk). IsChapter v d);
+  chapters = no_chapters;
   recalled = All-nil (λ (d : Desk). IsRecalled v d);
   back = 0;
   kind = kind;
   as_many = omega arith;
   cpus_is = refl;
   specs_is = refl;
-  sends = λ m _. nothing (at v m).sends (total (λ (d : Desk). (at d.view m).sends) seats) (ap (λ (x : MessageEntry). x.sends) (at-none v m none));
-  takes = λ m _. nothing (at v m).takes (total (λ (d : Desk). (at d.view m).takes) seats) (ap (λ (x : MessageEntry). x.takes) (at-none v m none));
-  drops = λ m _. nothing (at v m).drops (total (λ (d : Desk). (at d.view m).drops) seats) (ap (λ (x : MessageEntry). x.drops) (at-none v m none));
-  replies = λ m _. nothing (at v m).replies (total (λ (d : Desk). (at d.view m).replies) seats) (ap (λ (x : MessageEntry). x.replies) (at-none v m none));
-  reaps = λ m _. nothing (at v m).reaps (total (λ (d : Desk). (at d.view m).reaps) seats) (ap (λ (x : MessageEntry). x.reaps) (at-none v m none));
 }
-  where
-    nothing : (n all : ℕ) → n ≡ 0 → n + all ≡ all
-    nothing n all is = omega arith
 
 -- one seat more is taken back
 pub taking_more : (cpus : ℕ) (v : View) (seats left : List Desk) (seat : Desk) (w : View) → IsTaking cpus v seats (left ++ seat ∷ []) w → IsTaking cpus v seats left (joined w seat.view)
 taking_more cpus v seats left seat w t = record {
   behind = seat ∷ t.behind;
   in_order = t.in_order ∙ append_assoc left (seat ∷ []) t.behind;
-  chapters = All-cons (λ (d : Desk). IsChapter (joined w seat.view) d) seat t.behind (0, refl) (λ k x low. let old = t.chapters k x low in (suc old.0, old.1));
+  chapters = ap (λ (cs : List Chapter). chapter_of seat.view ∷ cs) t.chapters;
   recalled = All-cons (λ (d : Desk). IsRecalled (joined w seat.view) d) seat t.behind (0, refl) (λ k x low. let old = t.recalled k x low in (suc old.0, old.1));
   back = t.back + 1;
   kind = ap after_back t.kind;
   as_many = let a = t.as_many in let b = length-append left (seat ∷ []) in omega arith;
   cpus_is = t.cpus_is;
   specs_is = t.specs_is;
-  sends = λ m within. moved (λ e. e.sends) m within (λ a b. refl) (t.sends m within);
-  takes = λ m within. moved (λ e. e.takes) m within (λ a b. refl) (t.takes m within);
-  drops = λ m within. moved (λ e. e.drops) m within (λ a b. refl) (t.drops m within);
-  replies = λ m within. moved (λ e. e.replies) m within (λ a b. refl) (t.replies m within);
-  reaps = λ m within. moved (λ e. e.reaps) m within (λ a b. refl) (t.reaps m within);
 }
-  where
-    moved : (f : MessageEntry → ℕ) (m : ℕ) → m < length v.specs → ((a b : MessageEntry) → f (added a b) ≡ f a + f b) → f (at w m) + total (λ (d : Desk). f (at d.view m)) (left ++ seat ∷ []) ≡ total (λ (d : Desk). f (at d.view m)) seats
-        → f (at (joined w seat.view) m) + total (λ (d : Desk). f (at d.view m)) left ≡ total (λ (d : Desk). f (at d.view m)) seats
-    moved f m within adds before =
-        let long = ap (λ (xs : List MsgSpec). length xs) t.specs_is in
-        let within' : m < length w.specs = omega arith in
-        let a = total-snoc (λ (d : Desk). f (at d.view m)) left seat in
-        let b : f (at (joined w seat.view) m) ≡ f (at w m) + f (at seat.view m) = ap f (at-both w seat.view m within') ∙ adds (at w m) (at seat.view m) in
-        omega arith
 
 -- all seats are taken back
 pub taking_all : (cpus : ℕ) (v : View) (seats : List Desk) (w : View) → IsTaking cpus v seats [] w → HasTakenBack cpus v seats w
 taking_all cpus v seats w t = record {
-  chapters = let F : List Desk → Type 0 = λ ds. All (λ (d : Desk). IsChapter w d) ds in subst F (sym t.in_order) t.chapters;
+  chapters = t.chapters ∙ ap chapters_of (sym t.in_order);
   recalled = let F : List Desk → Type 0 = λ ds. All (λ (d : Desk). IsRecalled w d) ds in subst F (sym t.in_order) t.recalled;
   kind = t.kind ∙ ap (λ (n : ℕ). Clerk cpus n) (let a = t.as_many in omega arith);
   cpus_is = t.cpus_is;
   specs_is = t.specs_is;
-  sends = λ m within. whole (at w m).sends (total (λ (d : Desk). (at d.view m).sends) seats) (t.sends m within);
-  takes = λ m within. whole (at w m).takes (total (λ (d : Desk). (at d.view m).takes) seats) (t.takes m within);
-  drops = λ m within. whole (at w m).drops (total (λ (d : Desk). (at d.view m).drops) seats) (t.drops m within);
-  replies = λ m within. whole (at w m).replies (total (λ (d : Desk). (at d.view m).replies) seats) (t.replies m within);
-  reaps = λ m within. whole (at w m).reaps (total (λ (d : Desk). (at d.view m).reaps) seats) (t.reaps m within);
 }
-  where
-    whole : (n all : ℕ) → n + 0 ≡ all → n ≡ all
-    whole n all is = omega arith
 
 -- what stands in a list with one element more at the end
 get_snoc : (xs : List MsgEnd) (x y : MsgEnd) (k : ℕ) → slice_get (xs ++ x ∷ []) k ≡ Some y → (slice_get xs k ≡ Some y) ⊎ ((k ≡ length xs) × (x ≡ y))

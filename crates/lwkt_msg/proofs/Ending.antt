@@ -1,32 +1,37 @@
-use Rattle.std.proofs.Common.{◌≡◌, ◌≢◌, Some, None, ℕ, zero, suc, ◌<◌, ◌≤◌, List, [], ◌∷◌, length, map, get_or, refl, ap, sym, ◌∙◌, subst, arith}
+use Rattle.std.proofs.Common.{◌≡◌, Some, None, ℕ, zero, suc, ◌<◌, ◌≤◌, Bool, List, [], ◌∷◌, length, All, count_by, get_or, refl, ap, sym, ◌∙◌, subst, arith}
 use Rattle.std.specs.Prelude.{slice_get, slice_index_or}
 use mathlib.Core.Option.{some}
 use lib.ListN.{get_elem?}
 use Rattle.atomic_table.specs.Table.{State}
+use Rattle.lwkt_base.specs.declared.names.CpuId.{CpuId}
 use Rattle.lwkt_base.specs.declared.owners.MsgEnd.{MsgEnd}
 use Rattle.lwkt_base.specs.declared.owners.Owner.{Owner}
 use Rattle.lwkt_base.specs.declared.owners.Owner.TheVariants.{Rest, Out, With, Back}
 use Rattle.lwkt_base.specs.declared.openings.MsgSpec.{MsgSpec}
 use Rattle.lwkt_base.specs.declared.records.Rec.{Rec}
-use Rattle.lwkt_core.specs.declared.seats.SeatKind.{SeatKind}
-use Rattle.lwkt_core.specs.declared.seats.SeatKind.TheVariants.{Clerk, Of, Spent}
+use Rattle.lwkt_core.specs.declared.events.Event.{Event}
+use Rattle.lwkt_core.specs.declared.seats.Deed.{Deed}
+use Rattle.lwkt_core.specs.declared.seats.Chapter.{Chapter}
+use Rattle.lwkt_core.specs.declared.seats.SeatKind.TheVariants.{Of}
 use Rattle.lwkt_core.specs.Messages.{IsSafeMessage, origin_of}
-use Rattle.lwkt_core.specs.Seating.{total}
-use Rattle.lwkt_core.proofs.SeatingLemmas.{at_map, total-only, AreSeated-closed}
+use Rattle.lwkt_core.specs.Headline as kind
+use Rattle.lwkt_core.proofs.SeatingLemmas.{at_map, of_map, at_within, total-like}
 use Rattle.lwkt_msg.specs.declared.views.MessageEntry.{MessageEntry}
 use Rattle.lwkt_msg.specs.declared.views.Key.{Key}
 use Rattle.lwkt_msg.specs.declared.views.View.{View}
-use Rattle.lwkt_msg.specs.Views.{word_at, spec_at, at, page_of, recalled_of}
+use Rattle.lwkt_msg.specs.Views.{word_at, spec_at, page_of, chapter_of, recalled_of}
 use Rattle.lwkt_msg.specs.Steps.{machine_of}
 use Rattle.lwkt_msg.specs.Told.{IsDone, first_mails, Told}
-use Rattle.lwkt_core.specs.History.{Passes, IsPastOf}
-use Rattle.lwkt_core.proofs.HistoryLemmas.{Passes-run, events_by-past, steps_by-past}
-use Rattle.lwkt_core.proofs.ViewLemmas.{Views-part, Views-others}
+use Rattle.lwkt_core.specs.History.{Passes, IsPastOf, events_by, events_in}
+use Rattle.lwkt_core.proofs.HistoryLemmas.{Passes-each, Passes-run, events_by-past, steps_by-past}
+use Rattle.lwkt_core.proofs.ViewLemmas.{Views-part, Views-chapter, Views-others}
+use Rattle.lwkt_core.proofs.ShareLemmas.{seats_for, seats_for-some, seats_for-one, shares}
 use Rattle.lwkt_msg.proofs.Running.{done_runs}
 use Rattle.lwkt_msg.proofs.Recalling.{recalled-same}
-use Rattle.lwkt_msg.specs.Book.{Mail, parts_of, state_of, shown_target, Knows, HasNoCounts, mail_at, Rule}
-use Rattle.lwkt_msg.specs.Desks.{Desk, Shelf, cpu_of, past_of, IsHistory, IsClosed, AreClosed, AreShown, HasTakenBack, shown_by, shown_end}
+use Rattle.lwkt_msg.specs.Book.{Mail, parts_of, state_of, shown_target, Knows, mail_at, Rule}
+use Rattle.lwkt_msg.specs.Desks.{Desk, Shelf, cpu_of, past_of, events_of, events_like, chapters_of, AreGathered, IsHistory, IsClosed, AreClosed, AreShown, HasTakenBack, shown_by, shown_end}
 use Rattle.lwkt_msg.proofs.Leading.{fits_of}
+use Rattle.lwkt_msg.proofs.Counting.{counted_by}
 
 -- an owner is whom its word shows
 owner_shown : (o : Owner) → shown_by (state_of o) (origin_of o) (shown_target o) ≡ o
@@ -47,11 +52,12 @@ get_there [] i d h = absurd (omega arith)
 get_there (x ∷ xs) zero d h = refl
 get_there (x ∷ xs) (suc i) d h = get_there xs i d (omega arith)
 
--- a word of a table is there
-word_there : (xs : List ℕ) (i : ℕ) → i < length xs → get_elem? xs i ≡ some (get_or xs i 0)
-word_there [] i h = absurd (omega arith)
-word_there (x ∷ xs) zero h = refl
-word_there (x ∷ xs) (suc i) h = word_there xs i (omega arith)
+-- what each seat had seen that the clerk has taken back has all of its processor's part
+part_of : (book : Shelf) (key : Key) (seats : List Desk) (v w : View) (id : ℕ) (s : State Rec View) → book.cpus ≡ key.cpus → length seats ≡ book.cpus → HasTakenBack book.cpus v seats w
+    → (told : Told key s) → get_elem? s.views id ≡ some w → (j : ℕ) (d : Desk) → get_elem? seats j ≡ some d → IsPastOf told.chronicle.history (cpu_of d).0 (past_of d)
+part_of book key seats v w id s cpus_is all taken told at_id j d at_j =
+    let chapter : get_elem? w.chapters j ≡ some (chapter_of d.view) = ap (λ (cs : List Chapter). get_elem? cs j) taken.chapters ∙ at_map (λ (x : Desk). chapter_of x.view) seats j d at_j in
+    Views-part (IsDone key.cpus) page_of (first_mails key.specs.items) told.rule.mails s.views told.chronicle id w at_id key.cpus told.rule.book.seated book.cpus (length seats) taken.kind (omega arith) j (chapter_of d.view) chapter
 
 -- the history of all seats, which the clerk has taken back
 is_history : (book : Shelf) (key : Key) (seats : List Desk) (v w : View) (id : ℕ) (s : State Rec View) → book.cpus ≡ key.cpus → book.specs ≡ key.specs.items → length seats ≡ book.cpus → HasTakenBack book.cpus v seats w
@@ -72,15 +78,54 @@ is_history book key seats v w id s cpus_is specs_is all taken told at_id = recor
         subst F (sym cpus_is) (subst G (sym specs_is) told.chronicle.passes)
 
     part : (k : ℕ) (d : Desk) → k < length seats → IsPastOf told.chronicle.history (cpu_of (slice_index_or seats k d)).0 (past_of (slice_index_or seats k d))
-    part k d low =
-        let seat : Desk = slice_index_or seats k d in
-        let chapter = taken.chapters k d low in
-        Views-part (IsDone key.cpus) page_of (first_mails key.specs.items) told.rule.mails s.views told.chronicle id w at_id key.cpus told.rule.book.seated book.cpus (length seats) taken.kind (omega arith) chapter.0 (record { cpu = cpu_of seat; past = past_of seat }) chapter.1
+    part k d low = part_of book key seats v w id s cpus_is all taken told at_id k (slice_index_or seats k d) (at_within seats k d low)
+
+-- what is so of the seats that the clerk has taken back
+module _ (book : Shelf) (key : Key) (seats : List Desk) (v w : View) (id : ℕ) (s : State Rec View) (cpus_is : book.cpus ≡ key.cpus) (specs_is : book.specs ≡ key.specs.items) (all : length seats ≡ book.cpus) (taken : HasTakenBack book.cpus v seats w)
+    (told : Told key s) (at_id : get_elem? s.views id ≡ some w) where
+  processor : Desk → ℕ
+  processor d = (cpu_of d).0
+
+  -- each processor has one
+  has_seat : (cpu : ℕ) → cpu < book.cpus → 1 ≤ seats_for processor seats cpu
+  unfolding processor
+  has_seat cpu low =
+      let c : CpuId = record { 0 = cpu } in
+      let k = Views-chapter (IsDone key.cpus) page_of (first_mails key.specs.items) told.rule.mails s.views told.chronicle id w at_id key.cpus told.rule.book.seated book.cpus (length seats) taken.kind (omega arith) c (omega arith) in
+      let there : get_elem? (chapters_of seats) k.1 ≡ some (record { cpu = c; past = k.0 }) = ap (λ (cs : List Chapter). get_elem? cs k.1) (sym taken.chapters) ∙ k.2 in
+      let d = of_map (λ (x : Desk). chapter_of x.view) seats k.1 (record { cpu = c; past = k.0 }) there in
+      seats_for-some processor seats k.1 d.0 cpu d.1 (ap (λ (x : Chapter). x.cpu.0) d.2)
+
+  -- and their events are all that there are
+  all_events : (which : Event → Bool) → events_like which seats ≡ count_by which (events_in told.chronicle.history)
+  unfolding processor
+  all_events which =
+      let history : List Deed = told.chronicle.history in
+      let is = is_history book key seats v w id s cpus_is specs_is all taken told at_id in
+      let one : (cpu : ℕ) → cpu < book.cpus → seats_for processor seats cpu ≡ 1 = seats_for-one processor book.cpus seats all has_seat in
+      let ones : All (λ (d : Deed). seats_for processor seats d.cpu.0 ≡ 1) history
+      = Passes-each (IsDone book.cpus) (λ (d : Deed). seats_for processor seats d.cpu.0 ≡ 1) (λ m d n done. one d.cpu.0 done.processor) (first_mails book.specs) history told.rule.mails is.passes in
+      total-like (λ (d : Desk). count_by which (events_by (cpu_of d).0 history)) (λ (d : Desk). count_by which (events_of d)) seats
+      (λ j d at_j. ap (λ (es : List Event). count_by which es) (sym (events_by-past history (cpu_of d).0 (past_of d) (part_of book key seats v w id s cpus_is all taken told at_id j d at_j))))
+      ∙ shares processor which seats history ones
+
+  -- so what was done with a message is what they did
+  gathered_all : (m : ℕ) → m < length key.specs.items → AreGathered (mail_at told.rule.mails m).msg m seats
+  gathered_all m within =
+      let long = ap (λ (xs : List MsgSpec). length xs) specs_is in
+      let as_many = told.rule.book.as_many in
+      let c = counted_by book.cpus book.specs told.chronicle.history told.rule.mails (is_history book key seats v w id s cpus_is specs_is all taken told at_id).passes (omega arith) m (omega arith) in record {
+        sends = c.sends ∙ sym (all_events (kind.sends m));
+        takes = c.takes ∙ sym (all_events (kind.takes m));
+        drops = c.drops ∙ sym (all_events (kind.drops m));
+        replies = c.replies ∙ sym (all_events (kind.replies m));
+        reaps = c.reaps ∙ sym (all_events (kind.reaps m));
+      }
 
 -- what the closing words show is what the book's messages are, once all seats are taken back
-pub closes : (book : Shelf) (key : Key) (seats : List Desk) (v w : View) (id : ℕ) (words : List ℕ) (ends : List MsgEnd) (s : State Rec View) → book.cpus ≡ key.cpus → book.specs ≡ key.specs.items → v.specs ≡ key.specs.items
+pub closes : (book : Shelf) (key : Key) (seats : List Desk) (v w : View) (id : ℕ) (words : List ℕ) (ends : List MsgEnd) (s : State Rec View) → book.cpus ≡ key.cpus → book.specs ≡ key.specs.items
     → length seats ≡ book.cpus → HasTakenBack book.cpus v seats w → Told key s → get_elem? s.views id ≡ some w → s.words ≡ words → AreShown (length key.specs.items) words ends → AreClosed book seats ends
-closes book key seats v w id words ends s cpus_is specs_is v_specs all taken told at_id words_are shown = record {
+closes book key seats v w id words ends s cpus_is specs_is all taken told at_id words_are shown = record {
   as_many = shown.as_many ∙ ap (λ (xs : List MsgSpec). length xs) (sym specs_is);
   mails = rule.mails;
   history = told.chronicle.history;
@@ -99,18 +144,6 @@ closes book key seats v w id words ends s cpus_is specs_is v_specs all taken tol
     within_of : (m : ℕ) (end : MsgEnd) → slice_get ends m ≡ Some end → m < length key.specs.items
     within_of m end e = let a = get_inside ends m end e in let b = shown.as_many in omega arith
 
-    spent : (j : ℕ) (x : View) → get_elem? s.views j ≡ some x → j ≢ id → x.kind ≡ Spent
-    spent j x d apart =
-        let kinds : List SeatKind = map (λ (y : View). y.kind) s.views in
-        let desk : get_elem? kinds id ≡ some (Clerk book.cpus (length seats)) = at_map (λ (y : View). y.kind) s.views id w at_id ∙ ap (λ (k : SeatKind). some k) taken.kind in
-        let enough : key.cpus ≤ length seats = omega arith in
-        (AreSeated-closed key.cpus kinds id book.cpus (length seats) rule.book.seated desk enough).2 j x.kind apart (at_map (λ (y : View). y.kind) s.views j x d)
-
-    counted : (m : ℕ) → m < length key.specs.items → (f : MessageEntry → ℕ) (n all : ℕ) → ((x : MessageEntry) → HasNoCounts x → f x ≡ 0) → total (λ (x : View). f (at x m)) s.views ≡ n → f (at w m) ≡ all → n ≡ all
-    counted m within f n all none is here =
-        let only = total-only (λ (x : View). f (at x m)) s.views id w at_id (λ j x d apart. none (at x m) (((rule.book.each m within).each_view j x d).spent (spent j x d apart))) in
-        sym is ∙ (only ∙ here)
-
     each : (m : ℕ) (end : MsgEnd) → slice_get ends m ≡ Some end → IsClosed book seats m (mail_at told.rule.mails m).msg end
     each m end e =
         let within = within_of m end e in
@@ -118,21 +151,14 @@ closes book key seats v w id words ends s cpus_is specs_is v_specs all taken tol
         let kept = rule.book.each m within in
         let wide = rule.book.wide in
         let in_words : word_at m < length s.words = omega arith in
-        let there : get_elem? s.words (word_at m) ≡ some (get_or s.words (word_at m) 0) = word_there s.words (word_at m) in_words in
+        let there : get_elem? s.words (word_at m) ≡ some (get_or s.words (word_at m) 0) = at_within s.words (word_at m) 0 in_words in
         let F : List ℕ → Type 0 = λ xs. get_elem? xs (word_at m) ≡ some (get_or s.words (word_at m) 0) in
         let fits = fits_of key.cpus mail kept.safe rule.book.within.processors in
-        let in_v : m < length v.specs = subst (λ (xs : List MsgSpec). m < length xs) (sym v_specs) within in
         let end_shown : end ≡ shown_end (parts_of mail) = shown.each m end e (get_or s.words (word_at m) 0) (subst F words_are there) (parts_of mail) fits (sym kept.is_word) in
         record {
           safe = subst (λ (n : ℕ). IsSafeMessage n mail.msg) (sym cpus_is) kept.safe;
           origin_is = kept.origin_is ∙ ap (λ (xs : List MsgSpec). (spec_at xs m).origin) (sym specs_is);
           opening_is = kept.opening_is ∙ ap (λ (xs : List MsgSpec). (spec_at xs m).round) (sym specs_is);
           end_is = end_shown ∙ ap (λ (o : Owner). let z : MsgEnd = record { round = mail.msg.round; state = o } in z) (owner_shown mail.msg.owner);
-          gathered = record {
-            sends = counted m within (λ x. x.sends) mail.msg.sends (total (λ (d : Desk). (at d.view m).sends) seats) (λ x none. none.sends) kept.counted.sends (taken.sends m in_v);
-            takes = counted m within (λ x. x.takes) mail.msg.takes (total (λ (d : Desk). (at d.view m).takes) seats) (λ x none. none.takes) kept.counted.takes (taken.takes m in_v);
-            drops = counted m within (λ x. x.drops) mail.msg.drops (total (λ (d : Desk). (at d.view m).drops) seats) (λ x none. none.drops) kept.counted.drops (taken.drops m in_v);
-            replies = counted m within (λ x. x.replies) mail.msg.replies (total (λ (d : Desk). (at d.view m).replies) seats) (λ x none. none.replies) kept.counted.replies (taken.replies m in_v);
-            reaps = counted m within (λ x. x.reaps) mail.msg.reaps (total (λ (d : Desk). (at d.view m).reaps) seats) (λ x none. none.reaps) kept.counted.reaps (taken.reaps m in_v);
-          };
+          gathered = gathered_all book key seats v w id s cpus_is specs_is all taken told at_id m within;
         }

@@ -1,4 +1,4 @@
-use Rattle.std.proofs.Common.{◌≡◌, ◌≢◌, ⊎_elim, ℕ, ◌+◌, ◌<◌, List, map, length, set, get_or, refl, ap, sym, ◌∙◌, subst, arith, length-set, get_or-set_other, get_or-set_same}
+use Rattle.std.proofs.Common.{◌≡◌, ◌≢◌, ⊎_elim, ℕ, ◌<◌, List, map, length, set, get_or, refl, ap, sym, ◌∙◌, subst, arith, length-set, get_or-set_other, get_or-set_same}
 use mathlib.Core.Logic.{dite}
 use mathlib.Core.Option.{Option, some}
 use native.Mathlib.Decide.{ℕ_discrete}
@@ -8,54 +8,18 @@ use Rattle.lwkt_base.specs.declared.names.CpuId.{CpuId}
 use Rattle.lwkt_base.specs.declared.records.Rec.{Rec}
 use Rattle.lwkt_base.specs.declared.openings.MsgSpec.{MsgSpec}
 use Rattle.lwkt_base.specs.MessageWord.{message_word}
-use Rattle.lwkt_core.specs.declared.messages.Message.{Message}
 use Rattle.lwkt_core.specs.declared.seats.Deed.{Deed}
 use Rattle.lwkt_core.specs.declared.seats.SeatKind.{SeatKind}
 use Rattle.lwkt_core.specs.declared.seats.SeatKind.TheVariants.{Clerk, Of, Spent}
 use Rattle.lwkt_core.specs.Messages.{IsSafeMessage, in_out}
-use Rattle.lwkt_core.specs.Seating.{AreSeated, total}
-use Rattle.lwkt_core.proofs.SeatingLemmas.{at_set, at_map, map-set, total-set, AreSeated-kept, AreSeated-below}
+use Rattle.lwkt_core.specs.Seating.{AreSeated}
+use Rattle.lwkt_core.proofs.SeatingLemmas.{at_set, at_map, map-set, AreSeated-kept, AreSeated-below}
 use Rattle.lwkt_msg.specs.declared.views.MessageEntry.{MessageEntry}
 use Rattle.lwkt_msg.specs.declared.views.Key.{Key}
 use Rattle.lwkt_msg.specs.declared.views.View.{View}
 use Rattle.lwkt_msg.specs.Views.{word_at, slot_at, spec_at, at, noted, Stands}
-use Rattle.lwkt_msg.specs.Book.{Mail, parts_of, in_slot, Knows, AreCounted, IsKept, no_mail, mail_at, IsBook}
+use Rattle.lwkt_msg.specs.Book.{Mail, parts_of, in_slot, Knows, IsKept, no_mail, mail_at, IsBook}
 use Rattle.lwkt_msg.proofs.Knowing.{Changes, at-here}
-
--- a total to which one view gives the same as before
-total_same : (f : View → ℕ) (views : List View) (id : ℕ) (v w : View) → get_elem? views id ≡ some v → f w ≡ f v → total f (set views id w) ≡ total f views
-total_same f views id v w e same = let t = total-set f views id v w e in omega arith
-
--- a total to which one view gives another number than before
-total_moved : (f : View → ℕ) (views : List View) (id before after : ℕ) (v w : View) → get_elem? views id ≡ some v → f w + before ≡ f v + after → total f views ≡ before → total f (set views id w) ≡ after
-total_moved f views id before after v w e moves is = let t = total-set f views id v w e in omega arith
-
--- what a message's events add to its numbers, its view's entry adds too
-pub record CountsWith (msg after : Message) (e e' : MessageEntry) : Type 0 where
-  pub sends : e'.sends + msg.sends ≡ e.sends + after.sends
-  pub takes : e'.takes + msg.takes ≡ e.takes + after.takes
-  pub drops : e'.drops + msg.drops ≡ e.drops + after.drops
-  pub replies : e'.replies + msg.replies ≡ e.replies + after.replies
-  pub reaps : e'.reaps + msg.reaps ≡ e.reaps + after.reaps
-
-counted_else : (msg : Message) (k m : ℕ) (views : List View) (id : ℕ) (v w : View) → get_elem? views id ≡ some v → Changes m v w → k ≢ m → AreCounted msg k views → AreCounted msg k (set views id w)
-counted_else msg k m views id v w e changes apart counted =
-    let same : at w k ≡ at v k = changes.else_same k apart in record {
-      sends = total_same (λ x. (at x k).sends) views id v w e (ap (λ (y : MessageEntry). y.sends) same) ∙ counted.sends;
-      takes = total_same (λ x. (at x k).takes) views id v w e (ap (λ (y : MessageEntry). y.takes) same) ∙ counted.takes;
-      drops = total_same (λ x. (at x k).drops) views id v w e (ap (λ (y : MessageEntry). y.drops) same) ∙ counted.drops;
-      replies = total_same (λ x. (at x k).replies) views id v w e (ap (λ (y : MessageEntry). y.replies) same) ∙ counted.replies;
-      reaps = total_same (λ x. (at x k).reaps) views id v w e (ap (λ (y : MessageEntry). y.reaps) same) ∙ counted.reaps;
-    }
-
-counted_here : (msg after : Message) (m : ℕ) (views : List View) (id : ℕ) (v w : View) → get_elem? views id ≡ some v → CountsWith msg after (at v m) (at w m) → AreCounted msg m views → AreCounted after m (set views id w)
-counted_here msg after m views id v w e moves counted = record {
-  sends = total_moved (λ x. (at x m).sends) views id msg.sends after.sends v w e moves.sends counted.sends;
-  takes = total_moved (λ x. (at x m).takes) views id msg.takes after.takes v w e moves.takes counted.takes;
-  drops = total_moved (λ x. (at x m).drops) views id msg.drops after.drops v w e moves.drops counted.drops;
-  replies = total_moved (λ x. (at x m).replies) views id msg.replies after.replies v w e moves.replies counted.replies;
-  reaps = total_moved (λ x. (at x m).reaps) views id msg.reaps after.reaps v w e moves.reaps counted.reaps;
-}
 
 -- a step on another message keeps this one
 kept_else : (cpus : ℕ) (spec : MsgSpec) (mail : Mail) (word : ℕ) (home : Option (Option Rec)) (k m : ℕ) (views : List View) (id : ℕ) (v w : View)
@@ -67,7 +31,6 @@ kept_else cpus spec mail word home k m views id v w e changes apart kept = recor
   is_word = kept.is_word;
   slot = kept.slot;
   unanswered = kept.unanswered;
-  counted = counted_else mail.msg k m views id v w e changes apart kept.counted;
   each_view = λ j x d. ⊎_elim
       (λ (here : (j ≡ id) × (w ≡ x)).
       let F : View → Type 0 = λ y. Knows mail y.kind (at y k) in
@@ -84,18 +47,17 @@ pub kept_here : (cpus : ℕ) (spec : MsgSpec) (mail mail' : Mail) (word word' : 
     → ((j : ℕ) (x : View) → j ≢ id → get_elem? views j ≡ some x → Stands x.kind cpu.0 → ⊥)
     → IsSafeMessage cpus mail'.msg → mail'.msg.origin ≡ mail.msg.origin → mail'.msg.opening ≡ mail.msg.opening
     → word' ≡ message_word (parts_of mail') → home' ≡ some (in_slot mail'.msg.owner mail'.had mail'.rec)
-    → (in_out mail'.msg.owner ≡ 1 → (mail'.rec.error ≡ 0) × (mail'.rec.result ≡ 0)) → CountsWith mail.msg mail'.msg (at v m) (at w m)
+    → (in_out mail'.msg.owner ≡ 1 → (mail'.rec.error ≡ 0) × (mail'.rec.result ≡ 0))
     → (Knows mail (Of cpu) (at v m) → Knows mail' (Of cpu) (at w m))
     → ((kind : SeatKind) (e : MessageEntry) → (Stands kind cpu.0 → ⊥) → Knows mail kind e → Knows mail' kind e)
     → IsKept cpus spec mail' word' home' m (set views id w)
-kept_here cpus spec mail mail' word word' home home' m views id v w cpu kept e is_seat same_kind alone safe origin opening is_word slot unanswered counts mine others = record {
+kept_here cpus spec mail mail' word word' home home' m views id v w cpu kept e is_seat same_kind alone safe origin opening is_word slot unanswered mine others = record {
   safe = safe;
   origin_is = origin ∙ kept.origin_is;
   opening_is = opening ∙ kept.opening_is;
   is_word = is_word;
   slot = slot;
   unanswered = unanswered;
-  counted = counted_here mail.msg mail'.msg m views id v w e counts kept.counted;
   each_view = λ j x d. ⊎_elim
       (λ (here : (j ≡ id) × (w ≡ x)).
       let F : View → Type 0 = λ y. Knows mail' y.kind (at y m) in
@@ -112,15 +74,14 @@ pub kept_step : (cpus : ℕ) (spec : MsgSpec) (mail mail' : Mail) (word word' : 
     → ((j : ℕ) (x : View) → j ≢ id → get_elem? views j ≡ some x → Stands x.kind cpu.0 → ⊥)
     → IsSafeMessage cpus mail'.msg → mail'.msg.origin ≡ mail.msg.origin → mail'.msg.opening ≡ mail.msg.opening
     → word' ≡ message_word (parts_of mail') → home' ≡ some (in_slot mail'.msg.owner mail'.had mail'.rec)
-    → (in_out mail'.msg.owner ≡ 1 → (mail'.rec.error ≡ 0) × (mail'.rec.result ≡ 0)) → CountsWith mail.msg mail'.msg (at v m) e'
+    → (in_out mail'.msg.owner ≡ 1 → (mail'.rec.error ≡ 0) × (mail'.rec.result ≡ 0))
     → (Knows mail (Of cpu) (at v m) → Knows mail' (Of cpu) e')
     → ((kind : SeatKind) (e : MessageEntry) → (Stands kind cpu.0 → ⊥) → Knows mail kind e → Knows mail' kind e)
     → IsKept cpus spec mail' word' home' m (set views id (noted between v m e' did))
-kept_step cpus spec mail mail' word word' home home' m views id v cpu e' between did kept e is_seat alone safe origin opening is_word slot unanswered counts mine others =
+kept_step cpus spec mail mail' word word' home home' m views id v cpu e' between did kept e is_seat alone safe origin opening is_word slot unanswered mine others =
     let here : e' ≡ at (noted between v m e' did) m = sym (at-here v m e' between did) in
-    let F : MessageEntry → Type 0 = λ x. CountsWith mail.msg mail'.msg (at v m) x in
     let G : MessageEntry → Type 0 = λ x. Knows mail (Of cpu) (at v m) → Knows mail' (Of cpu) x in
-    kept_here cpus spec mail mail' word word' home home' m views id v (noted between v m e' did) cpu kept e is_seat refl alone safe origin opening is_word slot unanswered (subst F here counts) (subst G here mine) others
+    kept_here cpus spec mail mail' word word' home home' m views id v (noted between v m e' did) cpu kept e is_seat refl alone safe origin opening is_word slot unanswered (subst G here mine) others
 
 -- no other view stands for the processor of a seat
 pub stands_alone : (cpus : ℕ) (views : List View) (id : ℕ) (v : View) (cpu : CpuId) → AreSeated cpus (map (λ (x : View). x.kind) views) → get_elem? views id ≡ some v → v.kind ≡ Of cpu

@@ -40,7 +40,7 @@ use Rattle.lwkt_msg.specs.Hands.{IsOwn}
 use Rattle.lwkt_msg.specs.Steps.{sent_word, rest_word, machine_of}
 use Rattle.lwkt_msg.proofs.WordFacts.{message_word-injective}
 use Rattle.lwkt_msg.proofs.Knowing.{Changes-noted}
-use Rattle.lwkt_msg.proofs.Frames.{CountsWith, kept_step, stands_alone, seat_plan, IsBook-moved}
+use Rattle.lwkt_msg.proofs.Frames.{kept_step, stands_alone, seat_plan, IsBook-moved}
 use Rattle.lwkt_msg.proofs.Moves.{owned, mail_after, mail_sent, never, send_others, send_mine, take_others, take_mine, reply_others, reply_mine, reap_others, reap_mine, drop_others, drop_mine, abort_others, abort_mine, hand_others, hand_mine}
 
 -- who doesn't stand for this processor still knows what is so
@@ -198,29 +198,20 @@ module _ (key : Key) (mails : List Mail) (s : State Rec View) (id : ℕ) (v : Vi
       let needs : MessageNeeds key.cpus mail.msg (Send cpu msg to w.round) = (owner_is, to_there, next, omega arith) in
       let safe : IsSafeMessage key.cpus mail'.msg = IsSafeMessage-after key.cpus mail.msg (Send cpu msg to w.round) kept.safe needs cpu_there in
       let is_word : n ≡ message_word (parts_of mail') = ap (λ (b : Bool). message_word (record w { aborted = b })) (sym quiet) in
-      let counts : CountsWith mail.msg mail'.msg (at v m) (sent w (call_of rec) (at v m)) = record { sends = omega arith; takes = refl; drops = refl; replies = refl; reaps = refl } in
       let mine : Knows mail (Of cpu) (at v m) → Knows mail' (Of cpu) (sent w (call_of rec) (at v m))
       = λ known. send_mine mail cpu to cpu m w rec (at v m) quiet refl (subst (λ (x : Owner). Knows (owned mail x) (Of cpu) (at v m)) owner_is known) in
       let others : (kind : SeatKind) (x : MessageEntry) → (Stands kind cpu.0 → ⊥) → Knows mail kind x → Knows mail' kind x
       = λ kind x not_its known. send_others mail cpu to cpu m w rec (own_origin own) kind x not_its (subst (λ (y : Owner). Knows (owned mail y) kind x) owner_is known) in
       let now = kept_step key.cpus (spec_at key.specs.items m) mail mail' (get_or s.words (word_at m) 0) n (get_elem? s.homes (slot_at m)) (get_elem? (set s.homes (slot_at m) (some rec)) (slot_at m)) m s.views id v cpu
-      (sent w (call_of rec) (at v m)) between did kept e is_seat alone safe refl refl is_word (set_here s.homes (slot_at m) (some rec) in_homes) (λ _. (no_error, no_result)) counts mine others in
+      (sent w (call_of rec) (at v m)) between did kept e is_seat alone safe refl refl is_word (set_here s.homes (slot_at m) (some rec) in_homes) (λ _. (no_error, no_result)) mine others in
       leads mail' (Send cpu msg to w.round) n (set s.homes (slot_at m) (some rec)) (sent w (call_of rec) (at v m)) between did (length-set s.homes (slot_at m) (some rec)) (set_slots (some rec)) now refl refl cpu_there needs refl others
 
   -- a step that leaves the message as it is
-  pub stays : (e' : MessageEntry) (between : List Deed) (did : Deed) → e'.sends ≡ (at v m).sends → e'.takes ≡ (at v m).takes → e'.drops ≡ (at v m).drops → e'.replies ≡ (at v m).replies → e'.reaps ≡ (at v m).reaps
-      → (Knows mail (Of cpu) (at v m) → Knows mail (Of cpu) e')
+  pub stays : (e' : MessageEntry) (between : List Deed) (did : Deed) → (Knows mail (Of cpu) (at v m) → Knows mail (Of cpu) e')
       → IsBook key (set mails m mail) record { words = set s.words (word_at m) (get_or s.words (word_at m) 0); homes = s.homes; views = set s.views id (noted between v m e' did) }
-  stays e' between did a b c d f mine =
-      let counts : CountsWith mail.msg mail.msg (at v m) e' = record {
-        sends = ap (λ (n : ℕ). n + mail.msg.sends) a;
-        takes = ap (λ (n : ℕ). n + mail.msg.takes) b;
-        drops = ap (λ (n : ℕ). n + mail.msg.drops) c;
-        replies = ap (λ (n : ℕ). n + mail.msg.replies) d;
-        reaps = ap (λ (n : ℕ). n + mail.msg.reaps) f;
-      } in
+  stays e' between did mine =
       let now = kept_step key.cpus (spec_at key.specs.items m) mail mail (get_or s.words (word_at m) 0) (get_or s.words (word_at m) 0) (get_elem? s.homes (slot_at m)) (get_elem? s.homes (slot_at m)) m s.views id v cpu
-      e' between did kept e is_seat alone kept.safe refl refl kept.is_word kept.slot kept.unanswered counts mine (λ kind x _ known. known) in
+      e' between did kept e is_seat alone kept.safe refl refl kept.is_word kept.slot kept.unanswered mine (λ kind x _ known. known) in
       IsBook-moved key mails s m id v (noted between v m e' did) mail (get_or s.words (word_at m) 0) s.homes book e (Changes-noted v m e' between did) there refl (λ k apart. refl) now
 
   -- the word that shows the message
@@ -240,10 +231,9 @@ module _ (key : Key) (mails : List Mail) (s : State Rec View) (id : ℕ) (v : Vi
       let out' : Mail = mail_after out event mail.rec in
       let before : get_or s.words (word_at m) 0 ≡ message_word (parts_of out) = k.is_word in
       let is_word : message_word w + 1 ≡ message_word (parts_of out') = omega arith in
-      let counts : CountsWith out.msg out'.msg (at v m) (took mail.rec (at v m)) = record { sends = refl; takes = omega arith; drops = refl; replies = refl; reaps = refl } in
       let safe : IsSafeMessage key.cpus out'.msg = IsSafeMessage-after key.cpus out.msg event k.safe (refl, round_is) cpu_there in
       kept_step key.cpus (spec_at key.specs.items m) out out' (get_or s.words (word_at m) 0) (message_word w + 1) (get_elem? s.homes (slot_at m)) (get_elem? (set s.homes (slot_at m) none) (slot_at m)) m s.views id v cpu
-      (took mail.rec (at v m)) between did k e is_seat alone safe refl refl is_word (set_here s.homes (slot_at m) none in_homes) (λ h. absurd (omega arith)) counts
+      (took mail.rec (at v m)) between did k e is_seat alone safe refl refl is_word (set_here s.homes (slot_at m) none in_homes) (λ h. absurd (omega arith))
       (take_mine mail o cpu cpu m w.round (at v m)) (take_others mail o cpu cpu m w.round)
 
   pub take_leads : (w : MsgWord) (between : List Deed) (did : Deed) → get_or s.words (word_at m) 0 ≡ message_word w → MessageFits w → w.state ≡ state.Out → w.target ≡ cpu
@@ -278,10 +268,9 @@ module _ (key : Key) (mails : List Mail) (s : State Rec View) (id : ℕ) (v : Vi
       let held' : Mail = mail_after held event rec in
       let before : get_or s.words (word_at m) 0 ≡ message_word (parts_of held) = k.is_word in
       let is_word : get_or s.words (word_at m) 0 + 1 ≡ message_word (parts_of held') = omega arith in
-      let counts : CountsWith held.msg held'.msg (at v m) (replied rec (at v m)) = record { sends = refl; takes = refl; drops = refl; replies = omega arith; reaps = refl } in
       let safe : IsSafeMessage key.cpus held'.msg = IsSafeMessage-after key.cpus held.msg event k.safe refl cpu_there in
       kept_step key.cpus (spec_at key.specs.items m) held held' (get_or s.words (word_at m) 0) (get_or s.words (word_at m) 0 + 1) (get_elem? s.homes (slot_at m)) (get_elem? (set s.homes (slot_at m) (some rec)) (slot_at m)) m s.views id v cpu
-      (replied rec (at v m)) between did k e is_seat alone safe refl refl is_word (set_here s.homes (slot_at m) (some rec) in_homes) (λ h. absurd (omega arith)) counts
+      (replied rec (at v m)) between did k e is_seat alone safe refl refl is_word (set_here s.homes (slot_at m) (some rec) in_homes) (λ h. absurd (omega arith))
       (reply_mine mail o cpu cpu m rec same_call (at v m)) (reply_others mail o cpu cpu m rec same_call)
 
   pub reply_leads : (rec : Rec) (between : List Deed) (did : Deed) → (at v m).taken ≡ true → call_of rec ≡ (at v m).got
@@ -307,12 +296,11 @@ module _ (key : Key) (mails : List Mail) (s : State Rec View) (id : ℕ) (v : Vi
       let event : Event = Reap cpu msg in
       let back' : Mail = mail_after back event mail.rec in
       let is_word : message_word (rest_word cpu (at v m).round) ≡ message_word (parts_of back') = ap (λ (n : ℕ). message_word (rest_word cpu n)) round_is in
-      let counts : CountsWith back.msg back'.msg (at v m) (reaped (at v m)) = record { sends = refl; takes = refl; drops = refl; replies = refl; reaps = omega arith } in
       let safe : IsSafeMessage key.cpus back'.msg = IsSafeMessage-after key.cpus back.msg event k.safe refl cpu_there in
       let slot : get_elem? (set s.homes (slot_at m) none) (slot_at m) ≡ some (in_slot (Rest cpu) mail.had mail.rec)
       = set_here s.homes (slot_at m) none in_homes ∙ ap (λ (b : Bool). some (in_slot (Rest cpu) b mail.rec)) (sym had) in
       kept_step key.cpus (spec_at key.specs.items m) back back' (get_or s.words (word_at m) 0) (message_word (rest_word cpu (at v m).round)) (get_elem? s.homes (slot_at m)) (get_elem? (set s.homes (slot_at m) none) (slot_at m)) m s.views id v cpu
-      (reaped (at v m)) between did k e is_seat alone safe refl refl is_word slot (λ h. absurd (omega arith)) counts
+      (reaped (at v m)) between did k e is_seat alone safe refl refl is_word slot (λ h. absurd (omega arith))
       (reap_mine mail cpu t cpu m (at v m)) (reap_others mail cpu t cpu m (own_origin own))
 
   pub reap_leads : (between : List Deed) (did : Deed) → IsOwn v cpu.0 m → (at v m).had ≡ true → (at v m).back ≡ true
@@ -346,12 +334,11 @@ module _ (key : Key) (mails : List Mail) (s : State Rec View) (id : ℕ) (v : Vi
       let event : Event = DropMsg cpu msg in
       let out' : Mail = mail_after out event mail.rec in
       let is_word : message_word (rest_word cpu (at v m).round) ≡ message_word (parts_of out') = ap (λ (n : ℕ). message_word (rest_word cpu n)) round_is in
-      let counts : CountsWith out.msg out'.msg (at v m) (dropped (at v m)) = record { sends = refl; takes = refl; drops = omega arith; replies = refl; reaps = refl } in
       let safe : IsSafeMessage key.cpus out'.msg = IsSafeMessage-after key.cpus out.msg event k.safe refl cpu_there in
       let slot : get_elem? (set s.homes (slot_at m) none) (slot_at m) ≡ some (in_slot (Rest cpu) mail.had mail.rec)
       = set_here s.homes (slot_at m) none in_homes ∙ ap (λ (b : Bool). some (in_slot (Rest cpu) b mail.rec)) (sym had) in
       kept_step key.cpus (spec_at key.specs.items m) out out' (get_or s.words (word_at m) 0) (message_word (rest_word cpu (at v m).round)) (get_elem? s.homes (slot_at m)) (get_elem? (set s.homes (slot_at m) none) (slot_at m)) m s.views id v cpu
-      (dropped (at v m)) between did k e is_seat alone safe refl refl is_word slot (λ h. absurd (omega arith)) counts
+      (dropped (at v m)) between did k e is_seat alone safe refl refl is_word slot (λ h. absurd (omega arith))
       (drop_mine mail cpu t cpu m (at v m)) (drop_others mail cpu t cpu m (own_origin own))
 
   pub drop_leads : (w : MsgWord) (between : List Deed) (did : Deed) → IsOwn v cpu.0 m → (at v m).had ≡ true → get_or s.words (word_at m) 0 ≡ message_word w → MessageFits w → w.state ≡ state.Out
@@ -381,9 +368,8 @@ module _ (key : Key) (mails : List Mail) (s : State Rec View) (id : ℕ) (v : Vi
       let needs : MessageNeeds key.cpus mail.msg event = (origin_same, sym k.away_is ∙ away) in
       let safe : IsSafeMessage key.cpus mail'.msg = IsSafeMessage-after key.cpus mail.msg event kept.safe needs cpu_there in
       let is_word : message_word (record w { aborted = true }) ≡ message_word (parts_of mail') = ap (λ (x : MsgWord). message_word (record x { aborted = true })) (sym same) in
-      let counts : CountsWith mail.msg mail'.msg (at v m) (requested (at v m)) = record { sends = refl; takes = refl; drops = refl; replies = refl; reaps = refl } in
       let now = kept_step key.cpus (spec_at key.specs.items m) mail mail' (get_or s.words (word_at m) 0) (message_word (record w { aborted = true })) (get_elem? s.homes (slot_at m)) (get_elem? s.homes (slot_at m)) m s.views id v cpu
-      (requested (at v m)) between did kept e is_seat alone safe refl refl is_word kept.slot kept.unanswered counts (abort_mine mail cpu cpu cpu m (at v m)) (abort_others mail cpu cpu cpu m (own_origin own)) in
+      (requested (at v m)) between did kept e is_seat alone safe refl refl is_word kept.slot kept.unanswered (abort_mine mail cpu cpu cpu m (at v m)) (abort_others mail cpu cpu cpu m (own_origin own)) in
       leads mail' event (message_word (record w { aborted = true })) s.homes (requested (at v m)) between did refl (λ n apart. refl) now refl refl cpu_there needs refl (abort_others mail cpu cpu cpu m (own_origin own))
 
   -- a message at rest with the seat's processor
@@ -415,9 +401,8 @@ module _ (key : Key) (mails : List Mail) (s : State Rec View) (id : ℕ) (v : Vi
       let go : F (Rest (origin_of mail.msg.owner)) = λ slot not_yet. slot ∙ ap (λ (b : Bool). some (in_slot (Rest (origin_of mail.msg.owner)) b mail.rec)) not_yet in
       let G : Owner → Type 0 = λ x. get_elem? (set s.homes (slot_at m) none) (slot_at m) ≡ some (in_slot x true mail.rec) in
       let slot : get_elem? (set s.homes (slot_at m) none) (slot_at m) ≡ some (in_slot mail.msg.owner true mail.rec) = subst G (sym owner_is) (set_here s.homes (slot_at m) none in_homes) in
-      let counts : CountsWith mail.msg mail.msg (at v m) (handed (at v m)) = record { sends = refl; takes = refl; drops = refl; replies = refl; reaps = refl } in
       let now = kept_step key.cpus (spec_at key.specs.items m) mail mail' (get_or s.words (word_at m) 0) (get_or s.words (word_at m) 0) (get_elem? s.homes (slot_at m)) (get_elem? (set s.homes (slot_at m) none) (slot_at m)) m s.views id v cpu
-      (handed (at v m)) between did kept e is_seat alone kept.safe refl refl kept.is_word slot kept.unanswered counts (hand_mine mail cpu cpu cpu m (at v m)) (hand_others mail cpu cpu cpu m (own_origin own)) in (
+      (handed (at v m)) between did kept e is_seat alone kept.safe refl refl kept.is_word slot kept.unanswered (hand_mine mail cpu cpu cpu m (at v m)) (hand_others mail cpu cpu cpu m (own_origin own)) in (
         subst F (sym owner_is) go kept.slot (sym k.had_is ∙ had),
         IsBook-moved key mails s m id v (noted between v m (handed (at v m)) did) mail' (get_or s.words (word_at m) 0) (set s.homes (slot_at m) none) book e (Changes-noted v m (handed (at v m)) between did) there (length-set s.homes (slot_at m) none) (set_slots none) now,
       )

@@ -14,6 +14,7 @@ pub mod Deciding
 pub mod Allowing
 pub mod Revoking
 pub mod Splitting
+pub mod Counting
 pub mod Sitting
 pub mod Calling
 pub mod Withdrawing

@@ -8,7 +8,7 @@ use Rattle.lwkt_base.specs.declared.message_words.MsgWord.{MsgWord}
 use Rattle.lwkt_core.specs.declared.events.Event.{Event}
 use Rattle.lwkt_core.specs.declared.events.Event.TheVariants.{Send, TakeMsg, DropMsg, Reply, Reap, Abort}
 use Rattle.lwkt_core.specs.declared.seats.SeatKind.{SeatKind}
-use Rattle.lwkt_core.specs.declared.seats.SeatKind.TheVariants.{Of, Spent}
+use Rattle.lwkt_core.specs.declared.seats.SeatKind.TheVariants.{Of}
 use Rattle.lwkt_core.specs.Messages.{message_after}
 use Rattle.lwkt_msg.specs.declared.views.MessageEntry.{MessageEntry}
 use Rattle.lwkt_msg.specs.Views.{call_of, flags_of, looked, handed, sent, took, replied, reaped, dropped, requested, shows_back, Stands}
@@ -38,7 +38,6 @@ others_keep mail mail' cpu kind e not_its same own taken knows = record {
       let stands' : Stands kind mail.msg.origin.cpu.0 = subst (λ (t : _). Stands kind t.cpu.0) same stands in
       own (λ h. not_its (subst (Stands kind) h stands')) (knows.as_origin stands');
   as_target = λ q stands. taken q (λ h. not_its (subst (Stands kind) (sym h) stands)) (knows.as_target q stands);
-  spent = knows.spent;
 }
 
 -- what the seat of the processor knows whose step it is
@@ -50,7 +49,6 @@ seat_keeps mail mail' cpu e e' same own taken knows = record {
       let stands' : cpu.0 ≡ mail.msg.origin.cpu.0 = subst (λ (t : _). cpu.0 ≡ t.cpu.0) same stands in
       own (sym stands') (knows.as_origin stands');
   as_target = λ q stands. subst (λ (n : ℕ). KnowsTaken n mail' e') stands (taken (knows.as_target cpu.0 refl));
-  spent = λ h. absurd (let g : Of cpu ≡ Spent = h in cc);
 }
 
 module _ (mail : Mail) (o t cpu : CpuId) (m : ℕ) where

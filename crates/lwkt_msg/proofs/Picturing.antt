@@ -22,10 +22,11 @@ use Rattle.lwkt_msg.specs.Views.{word_at, slot_at, at, looked, seat_cpu, who, pa
 use Rattle.lwkt_msg.specs.Book.{Mail, parts_of, in_slot, mail_at, no_mail}
 use Rattle.lwkt_msg.specs.Steps.{machine_of}
 use Rattle.lwkt_msg.specs.Told.{IsDone, first_mails, Told}
-use Rattle.lwkt_msg.specs.Laws.{RuleShowsSafety, EachSendAtMostOnce, StatesAreReached, ViewsDecide, OpeningIsDeclared, IsMade, LoadIsLook, LostExchangeIsLook, HandingOutIsLook, StoreIsSend, ExchangeIsTake, AddIsReply, StoreIsReap, ExchangeIsDrop, OrIsAbort, SeatingIsNoDeed, MadeAsTold, NothingUntold, DeedsAreTold}
+use Rattle.lwkt_msg.specs.Laws.{RuleShowsSafety, EachSendAtMostOnce, StatesAreReached, HistoryTellsCounts, ViewsDecide, OpeningIsDeclared, IsMade, LoadIsLook, LostExchangeIsLook, HandingOutIsLook, StoreIsSend, ExchangeIsTake, AddIsReply, StoreIsReap, ExchangeIsDrop, OrIsAbort, SeatingIsNoDeed, MadeAsTold, NothingUntold, DeedsAreTold}
 use Rattle.lwkt_msg.proofs.Moves.{look_mine}
 use Rattle.lwkt_msg.proofs.Splitting.{seat_told, whole_told, joined_told, rule_opens}
 use Rattle.lwkt_msg.proofs.Running.{done_runs}
+use Rattle.lwkt_msg.proofs.Counting.{counted_by}
 use Rattle.lwkt_msg.proofs.Deciding.{done_decides}
 use Rattle.lwkt_msg.proofs.Telling as tell
 
@@ -92,6 +93,9 @@ state_is_reached key s told = (
   λ id v cpu e is_seat. Views-between (IsDone key.cpus) page_of (first_mails key.specs.items) told.rule.mails s.views told.chronicle id v e cpu is_seat,
 )
 
+pub history_tells_counts : HistoryTellsCounts
+history_tells_counts key s told m within = counted_by key.cpus key.specs.items told.chronicle.history told.rule.mails told.chronicle.passes told.rule.book.as_many m within
+
 pub views_decide : ViewsDecide
 views_decide key s told other = (
   Chronicle-decides (IsDone key.cpus) (done_decides key.cpus) (first_mails key.specs.items) other.rule.mails told.rule.mails (map page_of s.views) other.chronicle told.chronicle,
@@ -103,11 +107,11 @@ opening_is_declared key words within opened = rule_opens key words _ within open
 
 pub load_is_look : LoadIsLook
 load_is_look key s told id v cpu m h hands =
-    tell.look_told key s id v cpu m told h.view h.kind h.exists_ (looked (parts_of (mail_at told.rule.mails m)) (at v m)) operation.Load hands keeps tt refl refl refl refl refl refl (look_mine (mail_at told.rule.mails m) cpu (at v m)) (inl refl)
+    tell.look_told key s id v cpu m told h.view h.kind h.exists_ (looked (parts_of (mail_at told.rule.mails m)) (at v m)) operation.Load hands keeps tt refl (look_mine (mail_at told.rule.mails m) cpu (at v m)) (inl refl)
 
 pub lost_exchange_is_look : LostExchangeIsLook
 lost_exchange_is_look key s told id v cpu m h hands old new other =
-    tell.look_told key s id v cpu m told h.view h.kind h.exists_ (at v m) (operation.Exchange old new) hands keeps tt refl refl refl refl refl refl (λ known. known) (inr (old, new, (refl, other)))
+    tell.look_told key s id v cpu m told h.view h.kind h.exists_ (at v m) (operation.Exchange old new) hands keeps tt refl (λ known. known) (inr (old, new, (refl, other)))
 
 pub handing_out_is_look : HandingOutIsLook
 handing_out_is_look key s told id v cpu m h hands own had home = tell.hand_told key s id v cpu m told h.view h.kind h.exists_ hands own had home
@@ -132,7 +136,7 @@ or_is_abort key s told id v cpu m h hands own away = tell.abort_told key s id v 
 
 pub seating_is_no_deed : SeatingIsNoDeed
 seating_is_no_deed key s told id v e = (
-  (λ made back is_clerk none room. seat_told key s told id v made back e is_clerk none room),
+  (λ made back is_clerk room. seat_told key s told id v made back e is_clerk room),
   (λ cpu is_seat. whole_told key s told id v cpu e is_seat),
   (λ other w made back cpu is_clerk is_seat apart d. joined_told key s told id v other w made back cpu e is_clerk is_seat apart d),
 )

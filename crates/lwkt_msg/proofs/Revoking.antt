@@ -80,7 +80,7 @@ module _ (key : Key) (id : ℕ) (me : Me Rec View) (cpu : CpuId) (m : ℕ) (is_s
 
       miss : n ≢ old → (v' : View) × (a : Act Rec) × Valid s.homes me.1 a × Told key (stepped s (word_at m) n id me.1 v' a) × drops_it (step slots (word_at m) old new none) me n (v', carried_after me.1 a)
       miss other =
-          let t = tell.look_told key s id me.0 cpu m told at_id is_seat here (at me.0 m) (operation.Exchange old new) me.1 keeps tt refl refl refl refl refl refl (λ known. known) (inr (old, new, (refl, other))) in
+          let t = tell.look_told key s id me.0 cpu m told at_id is_seat here (at me.0 m) (operation.Exchange old new) me.1 keeps tt refl (λ known. known) (inr (old, new, (refl, other))) in
           let v' : View = noted t.between me.0 m (at me.0 m) (deed.loses cpu m old new n) in
           let same = told_by_who key s told id me.0 cpu is_seat me.1 m (at me.0 m) (λ c. deed.loses c m old new n) n keeps t in
           let is_word : n ≡ message_word (parts_of (mail_at told.rule.mails m)) = (kept key s id me.0 cpu m told.rule at_id is_seat within).is_word in (

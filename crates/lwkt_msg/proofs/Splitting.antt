@@ -1,7 +1,5 @@
-use Rattle.std.proofs.Common.{◌≡◌, ◌≢◌, ⊎_elim, ℕ, zero, suc, ◌+◌, ◌*◌, ◌<◌, List, [], ◌∷◌, ◌++◌, map, length, replicate, set, get_or, refl, ap, sym, ◌∙◌, subst, arith, eq-eqb, ne_eqb}
-use mathlib.Core.Logic.{dite}
+use Rattle.std.proofs.Common.{◌≡◌, ◌≢◌, ⊎_elim, ℕ, zero, suc, ◌+◌, ◌*◌, ◌<◌, List, [], ◌∷◌, ◌++◌, map, length, replicate, set, get_or, refl, ap, sym, ◌∙◌, subst, arith}
 use mathlib.Core.Option.{Option, some, some-injective, some-ne-none}
-use native.Mathlib.Decide.{ℕ_discrete}
 use lib.ListN.{get_elem?, length-map, length-replicate}
 use Rattle.atomic_table.specs.Table.{State, Splits, Joins, opening}
 use Rattle.lwkt_base.specs.declared.names.CpuId.{CpuId}
@@ -11,16 +9,16 @@ use Rattle.lwkt_base.specs.MessageWord.{message_word}
 use Rattle.lwkt_core.specs.declared.seats.SeatKind.{SeatKind}
 use Rattle.lwkt_core.specs.declared.seats.SeatKind.TheVariants.{Clerk, Of, Spent}
 use Rattle.lwkt_core.specs.Opening.{AreWithin, IsMessageWithin}
-use Rattle.lwkt_core.specs.Seating.{AreSeated, total, weight, after_made, after_back, next_seat}
+use Rattle.lwkt_core.specs.Seating.{AreSeated, weight, after_made, after_back, next_seat}
 use Rattle.lwkt_core.specs.History.{back_page}
 use Rattle.lwkt_core.proofs.ViewLemmas.{Views-opened, Views-split, Views-moved, Views-joined}
 use Rattle.lwkt_core.proofs.MessageMoves.{IsSafeMessage-opened}
-use Rattle.lwkt_core.proofs.SeatingLemmas.{at_set, set_else, at_longer, at_snoc, at_map, map-set, map-snoc, total-set, total-snoc, total-cons, AreSeated-opening, AreSeated-split, AreSeated-join}
+use Rattle.lwkt_core.proofs.SeatingLemmas.{at_set, set_else, at_longer, at_snoc, at_map, map-set, map-snoc, total-set, total-snoc, AreSeated-opening, AreSeated-split, AreSeated-join}
 use Rattle.lwkt_msg.specs.declared.views.MessageEntry.{MessageEntry}
 use Rattle.lwkt_msg.specs.declared.views.Key.{Key}
 use Rattle.lwkt_msg.specs.declared.views.Noted.{Noted}
 use Rattle.lwkt_msg.specs.declared.views.View.{View}
-use Rattle.lwkt_msg.specs.Views.{word_at, slot_at, spec_at, at, entry_in, first_entry, no_spec, seat_cpu, page_of, clerk_after, new_seat, spent_view, spent_left, whole_right, added, gathered, joined}
+use Rattle.lwkt_msg.specs.Views.{word_at, slot_at, spec_at, at, entry_in, first_entry, no_spec, seat_cpu, page_of, clerk_after, new_seat, spent_view, spent_left, whole_right, joined}
 use Rattle.lwkt_msg.specs.Book.{Mail, Knows, IsKept, mail_at, IsBook, first_view, no_rec, opened_mail}
 use Rattle.lwkt_msg.specs.Told.{IsDone, first_mails, Told, IsSame, Opens}
 use Rattle.lwkt_msg.specs.Steps.{rest_word}
@@ -36,31 +34,28 @@ pub at-none : (v : View) (m : ℕ) → v.entries ≡ [] → at v m ≡ first_ent
 unfolding at entry_in
 at-none v m none_yet = let F : List Noted → Type 0 = λ es. entry_in es m (first_entry (spec_at v.specs m)) ≡ first_entry (spec_at v.specs m) in subst F (sym none_yet) refl
 
--- a column of views that gives the same totals, in which each view knows what is so, keeps a message
+-- a view with the entries of another knows what that one knows
+at-like : (v w : View) (m : ℕ) → w.entries ≡ v.entries → w.specs ≡ v.specs → at w m ≡ at v m
+unfolding at
+at-like v w m entries specs = λ i. entry_in (entries i) m (first_entry (spec_at (specs i) m))
+
+-- a column of views in which each knows what is so keeps a message
 kept_over : (cpus : ℕ) (spec : MsgSpec) (mail : Mail) (word : ℕ) (home : Option (Option Rec)) (m : ℕ) (views views' : List View) → IsKept cpus spec mail word home m views
-    → ((f : MessageEntry → ℕ) → ((e other : MessageEntry) → f (added e other) ≡ f e + f other) → ((x : MsgSpec) → f (first_entry x) ≡ 0) → total (λ v. f (at v m)) views' ≡ total (λ v. f (at v m)) views)
     → ((j : ℕ) (v : View) → get_elem? views' j ≡ some v → Knows mail v.kind (at v m)) → IsKept cpus spec mail word home m views'
-kept_over cpus spec mail word home m views views' kept same each = record {
+kept_over cpus spec mail word home m views views' kept each = record {
   safe = kept.safe;
   origin_is = kept.origin_is;
   opening_is = kept.opening_is;
   is_word = kept.is_word;
   slot = kept.slot;
   unanswered = kept.unanswered;
-  counted = record {
-    sends = same (λ e. e.sends) (λ e other. refl) (λ x. refl) ∙ kept.counted.sends;
-    takes = same (λ e. e.takes) (λ e other. refl) (λ x. refl) ∙ kept.counted.takes;
-    drops = same (λ e. e.drops) (λ e other. refl) (λ x. refl) ∙ kept.counted.drops;
-    replies = same (λ e. e.replies) (λ e other. refl) (λ x. refl) ∙ kept.counted.replies;
-    reaps = same (λ e. e.reaps) (λ e other. refl) (λ x. refl) ∙ kept.counted.reaps;
-  };
   each_view = each;
 }
 
 -- the clerk makes the seat of the next processor
-pub seat_book : (key : Key) (mails : List Mail) (s : State Rec View) (id : ℕ) (v : View) (made back : ℕ) → IsBook key mails s → get_elem? s.views id ≡ some v → v.kind ≡ Clerk made back → v.entries ≡ [] → made < v.cpus
+pub seat_book : (key : Key) (mails : List Mail) (s : State Rec View) (id : ℕ) (v : View) (made back : ℕ) → IsBook key mails s → get_elem? s.views id ≡ some v → v.kind ≡ Clerk made back → made < v.cpus
     → IsBook key mails record { words = s.words; homes = s.homes; views = set s.views id (clerk_after v) ++ new_seat v ∷ [] }
-seat_book key mails s id v made back book e is_clerk no_entries room = record {
+seat_book key mails s id v made back book e is_clerk room = record {
   within = book.within;
   as_many = book.as_many;
   wide = book.wide;
@@ -74,7 +69,7 @@ seat_book key mails s id v made back book e is_clerk no_entries room = record {
       (at_set s.views id j left x old))
       (λ (new : (j ≡ length (set s.views id left)) × (right ≡ x)). let F : View → Type 0 = λ y. (y.kind ≡ Spent → ⊥) → (y.cpus ≡ key.cpus) × (y.specs ≡ key.specs.items) in subst F new.1 (λ _. plan))
       (at_snoc (set s.views id left) right x j d);
-  each = λ m within. kept_over key.cpus (spec_at key.specs.items m) (mail_at mails m) (get_or s.words (word_at m) 0) (get_elem? s.homes (slot_at m)) m s.views (set s.views id left ++ right ∷ []) (book.each m within) (same_total m) (knows m within);
+  each = λ m within. kept_over key.cpus (spec_at key.specs.items m) (mail_at mails m) (get_or s.words (word_at m) 0) (get_elem? s.homes (slot_at m)) m s.views (set s.views id left ++ right ∷ []) (book.each m within) (knows m within);
 }
   where
     left : View
@@ -102,22 +97,11 @@ seat_book key mails s id v made back book e is_clerk no_entries room = record {
         ∙ ((λ i. map-set (λ (x : View). x.kind) s.views id left i ++ right_kind i ∷ []) ∙ (λ i. set (kinds s.views) id (left_kind i) ++ Of (record { 0 = made }) ∷ [])) in
         subst F (sym shape) (AreSeated-split key.cpus (kinds s.views) id made back book.seated old room')
 
-    blank : (m : ℕ) → at v m ≡ first_entry (spec_at v.specs m)
-    blank m = at-none v m no_entries
-
     left_same : (m : ℕ) → at left m ≡ at v m
-    left_same m = at-none left m no_entries ∙ sym (blank m)
+    left_same m = at-like v left m refl refl
 
     right_same : (m : ℕ) → at right m ≡ at v m
-    right_same m = at-none right m no_entries ∙ sym (blank m)
-
-    same_total : (m : ℕ) (f : MessageEntry → ℕ) → ((x other : MessageEntry) → f (added x other) ≡ f x + f other) → ((x : MsgSpec) → f (first_entry x) ≡ 0) → total (λ x. f (at x m)) (set s.views id left ++ right ∷ []) ≡ total (λ x. f (at x m)) s.views
-    same_total m f adds none_first =
-        let a = total-snoc (λ (x : View). f (at x m)) (set s.views id left) right in
-        let b = total-set (λ (x : View). f (at x m)) s.views id v left e in
-        let c : f (at left m) ≡ f (at v m) = ap f (left_same m) in
-        let d : f (at right m) ≡ 0 = ap f (right_same m ∙ blank m) ∙ none_first (spec_at v.specs m) in
-        omega arith
+    right_same m = at-like v right m refl refl
 
     of_clerk : (m : ℕ) → m < length key.specs.items → Knows (mail_at mails m) (Clerk made back) (at v m)
     of_clerk m within = let F : SeatKind → Type 0 = λ k. Knows (mail_at mails m) k (at v m) in subst F is_clerk ((book.each m within).each_view id v e)
@@ -130,7 +114,6 @@ seat_book key mails s id v made back book e is_clerk no_entries room = record {
         subst F (sym left_kind) (subst G (sym (left_same m)) record {
           as_origin = λ stands. k.as_origin (omega arith);
           as_target = λ cpu stands. k.as_target cpu (omega arith);
-          spent = λ gone. let h : Clerk (made + 1) back ≡ Spent = gone in absurd cc;
         })
 
     knows_right : (m : ℕ) → m < length key.specs.items → Knows (mail_at mails m) right.kind (at right m)
@@ -141,7 +124,6 @@ seat_book key mails s id v made back book e is_clerk no_entries room = record {
         subst F (sym right_kind) (subst G (sym (right_same m)) record {
           as_origin = λ stands. k.as_origin (let h : made ≡ (mail_at mails m).msg.origin.cpu.0 = stands in omega arith);
           as_target = λ cpu stands. k.as_target cpu (let h : made ≡ cpu = stands in omega arith);
-          spent = λ gone. let h : Of (record { 0 = made }) ≡ Spent = gone in absurd cc;
         })
 
     knows : (m : ℕ) → m < length key.specs.items → (j : ℕ) (x : View) → get_elem? (set s.views id left ++ right ∷ []) j ≡ some x → Knows (mail_at mails m) x.kind (at x m)
@@ -154,14 +136,14 @@ seat_book key mails s id v made back book e is_clerk no_entries room = record {
         (at_snoc (set s.views id left) right x j d)
 
 -- which is no deed
-pub seat_told : (key : Key) (s : State Rec View) (told : Told key s) (id : ℕ) (v : View) (made back : ℕ) → get_elem? s.views id ≡ some v → v.kind ≡ Clerk made back → v.entries ≡ [] → made < v.cpus
+pub seat_told : (key : Key) (s : State Rec View) (told : Told key s) (id : ℕ) (v : View) (made back : ℕ) → get_elem? s.views id ≡ some v → v.kind ≡ Clerk made back → made < v.cpus
     → IsSame key s record { words = s.words; homes = s.homes; views = set s.views id (clerk_after v) ++ new_seat v ∷ [] } told
-seat_told key s told id v made back e is_clerk no_entries room =
+seat_told key s told id v made back e is_clerk room =
     let q = Views-split (IsDone key.cpus) page_of (first_mails key.specs.items) told.rule.mails s.views told.chronicle id v e key.cpus told.rule.book.seated made back (clerk_after v) (new_seat v) is_clerk refl refl in
-    (record { rule = record { mails = told.rule.mails; book = seat_book key told.rule.mails s id v made back told.rule.book e is_clerk no_entries room }; chronicle = q.0; recalls = recalls_split s.views told.rule.mails (length key.specs.items) id v e told.recalls }, refl, q.1)
+    (record { rule = record { mails = told.rule.mails; book = seat_book key told.rule.mails s id v made back told.rule.book e is_clerk room }; chronicle = q.0; recalls = recalls_split s.views told.rule.mails (length key.specs.items) id v e told.recalls }, refl, q.1)
 
-pub seat_splits : (key : Key) (id : ℕ) (v : View) (made back : ℕ) → v.kind ≡ Clerk made back → v.entries ≡ [] → made < v.cpus → Splits (Told key) id v (clerk_after v) (new_seat v)
-seat_splits key id v made back is_clerk no_entries room s told e = (seat_told key s told id v made back e is_clerk no_entries room).0
+pub seat_splits : (key : Key) (id : ℕ) (v : View) (made back : ℕ) → v.kind ≡ Clerk made back → made < v.cpus → Splits (Told key) id v (clerk_after v) (new_seat v)
+seat_splits key id v made back is_clerk room s told e = (seat_told key s told id v made back e is_clerk room).0
 
 -- a seat's view is cut off whole, and leaves a spent one
 AreSeated-moved : (cpus : ℕ) (ks : List SeatKind) (i : ℕ) (cpu : CpuId) → AreSeated cpus ks → get_elem? ks i ≡ some (Of cpu) → AreSeated cpus (set ks i Spent ++ Of cpu ∷ [])
@@ -216,13 +198,10 @@ AreSeated-moved cpus ks i cpu seated e = record {
         h.0 (seated.one_seat j i cpu (subst F (sym same) h.1) e)
 
 knows_spent : (mail : Mail) (m : ℕ) → Knows mail Spent (at spent_view m)
-knows_spent mail m =
-    let F : MessageEntry → Type 0 = λ x. Knows mail Spent x in
-    subst F (sym (at-none spent_view m refl)) record {
-      as_origin = λ stands. absurd stands;
-      as_target = λ cpu stands. absurd stands;
-      spent = λ _. record { sends = refl; takes = refl; drops = refl; replies = refl; reaps = refl };
-    }
+knows_spent mail m = record {
+  as_origin = λ stands. absurd stands;
+  as_target = λ cpu stands. absurd stands;
+}
 
 pub whole_book : (key : Key) (mails : List Mail) (s : State Rec View) (id : ℕ) (v : View) (cpu : CpuId) → IsBook key mails s → get_elem? s.views id ≡ some v → v.kind ≡ Of cpu
     → IsBook key mails record { words = s.words; homes = s.homes; views = set s.views id (spent_left v) ++ whole_right v ∷ [] }
@@ -245,16 +224,9 @@ whole_book key mails s id v cpu book e is_seat = record {
       (at_set s.views id j spent_view x old))
       (λ (new : (j ≡ length (set s.views id spent_view)) × (v ≡ x)). let F : View → Type 0 = λ y. (y.kind ≡ Spent → ⊥) → (y.cpus ≡ key.cpus) × (y.specs ≡ key.specs.items) in subst F new.1 (book.plans id v e))
       (at_snoc (set s.views id spent_view) v x j d);
-  each = λ m within. kept_over key.cpus (spec_at key.specs.items m) (mail_at mails m) (get_or s.words (word_at m) 0) (get_elem? s.homes (slot_at m)) m s.views (set s.views id spent_view ++ v ∷ []) (book.each m within) (same_total m) (knows m within);
+  each = λ m within. kept_over key.cpus (spec_at key.specs.items m) (mail_at mails m) (get_or s.words (word_at m) 0) (get_elem? s.homes (slot_at m)) m s.views (set s.views id spent_view ++ v ∷ []) (book.each m within) (knows m within);
 }
   where
-    same_total : (m : ℕ) (f : MessageEntry → ℕ) → ((x other : MessageEntry) → f (added x other) ≡ f x + f other) → ((x : MsgSpec) → f (first_entry x) ≡ 0) → total (λ x. f (at x m)) (set s.views id spent_view ++ v ∷ []) ≡ total (λ x. f (at x m)) s.views
-    same_total m f adds none_first =
-        let a = total-snoc (λ (x : View). f (at x m)) (set s.views id spent_view) v in
-        let b = total-set (λ (x : View). f (at x m)) s.views id v spent_view e in
-        let c : f (at spent_view m) ≡ 0 = ap f (at-none spent_view m refl) ∙ none_first (spec_at [] m) in
-        omega arith
-
     knows : (m : ℕ) → m < length key.specs.items → (j : ℕ) (x : View) → get_elem? (set s.views id spent_view ++ v ∷ []) j ≡ some x → Knows (mail_at mails m) x.kind (at x m)
     knows m within j x d =
         let F : View → Type 0 = λ y. Knows (mail_at mails m) y.kind (at y m) in ⊎_elim
@@ -272,18 +244,6 @@ whole_told key s told id v cpu e is_seat =
 
 pub whole_splits : (key : Key) (id : ℕ) (v : View) (cpu : CpuId) → v.kind ≡ Of cpu → Splits (Told key) id v (spent_left v) (whole_right v)
 whole_splits key id v cpu is_seat s told e = (whole_told key s told id v cpu e is_seat).0
-
--- what is gathered of each message
-in_gathered : (n : ℕ) (v other : View) (m : ℕ) (d : MessageEntry) → m < n → entry_in (gathered n v other) m d ≡ added (at v m) (at other m)
-unfolding entry_in gathered
-in_gathered zero v other m d h = absurd (omega arith)
-in_gathered (suc k) v other m d h = dite (ℕ_discrete k m)
-    (λ same. rw (eq-eqb k m same) (ap (λ (i : ℕ). added (at v i) (at other i)) same))
-    (λ apart. rw (ne_eqb k m apart) (in_gathered k v other m d (omega arith)))
-
-pub at-both : (v other : View) (m : ℕ) → m < length v.specs → at (joined v other) m ≡ added (at v m) (at other m)
-unfolding at
-at-both v other m within = in_gathered (length v.specs) v other m (first_entry (spec_at v.specs m)) within
 
 -- the clerk takes a seat back
 pub joined_book : (key : Key) (mails : List Mail) (s : State Rec View) (id : ℕ) (v : View) (other : ℕ) (w : View) (made back : ℕ) (cpu : CpuId) → IsBook key mails s → get_elem? s.views id ≡ some v → v.kind ≡ Clerk made back → w.kind ≡ Of cpu → other ≢ id → get_elem? (set s.views id (joined v w)) other ≡ some w
@@ -309,7 +269,7 @@ joined_book key mails s id v other w made back cpu book e is_clerk is_seat apart
       (λ (older : (j ≢ id) × (get_elem? s.views j ≡ some x)). book.plans j x older.1)
       (at_set s.views id j both x old.1))
       (at_set (set s.views id both) other j spent_view x f);
-  each = λ m within. kept_over key.cpus (spec_at key.specs.items m) (mail_at mails m) (get_or s.words (word_at m) 0) (get_elem? s.homes (slot_at m)) m s.views (set (set s.views id both) other spent_view) (book.each m within) (same_total m within) (knows m within);
+  each = λ m within. kept_over key.cpus (spec_at key.specs.items m) (mail_at mails m) (get_or s.words (word_at m) 0) (get_elem? s.homes (slot_at m)) m s.views (set (set s.views id both) other spent_view) (book.each m within) (knows m within);
 }
   where
     both : View
@@ -324,17 +284,6 @@ joined_book key mails s id v other w made back cpu book e is_clerk is_seat apart
     plan : (v.cpus ≡ key.cpus) × (v.specs ≡ key.specs.items)
     plan = book.plans id v e (λ gone. let h : Clerk made back ≡ Spent = sym is_clerk ∙ gone in absurd cc)
 
-    in_v : (m : ℕ) → m < length key.specs.items → m < length v.specs
-    in_v m within = subst (λ (xs : List MsgSpec). m < length xs) (sym plan.1) within
-
-    same_total : (m : ℕ) → m < length key.specs.items → (f : MessageEntry → ℕ) → ((x y : MessageEntry) → f (added x y) ≡ f x + f y) → ((x : MsgSpec) → f (first_entry x) ≡ 0) → total (λ x. f (at x m)) (set (set s.views id both) other spent_view) ≡ total (λ x. f (at x m)) s.views
-    same_total m within f adds none_first =
-        let a = total-set (λ (x : View). f (at x m)) (set s.views id both) other w spent_view d in
-        let b = total-set (λ (x : View). f (at x m)) s.views id v both e in
-        let c : f (at spent_view m) ≡ 0 = ap f (at-none spent_view m refl) ∙ none_first (spec_at [] m) in
-        let g : f (at both m) ≡ f (at v m) + f (at w m) = ap f (at-both v w m (in_v m within)) ∙ adds (at v m) (at w m) in
-        omega arith
-
     knows_both : (m : ℕ) → m < length key.specs.items → Knows (mail_at mails m) both.kind (at both m)
     knows_both m within =
         let mail : Mail = mail_at mails m in
@@ -342,11 +291,7 @@ joined_book key mails s id v other w made back cpu book e is_clerk is_seat apart
         let k : Knows mail (Clerk made back) (at v m) = subst F is_clerk ((book.each m within).each_view id v e) in
         let G : SeatKind → Type 0 = λ x. Knows mail x (at both m) in
         let H : MessageEntry → Type 0 = λ x. Knows mail (Clerk made (back + 1)) x in
-        subst G (sym both_kind) (subst H (sym (at-both v w m (in_v m within))) record {
-          as_origin = λ stands. let o = k.as_origin stands in record { round_is = o.round_is; away_is = o.away_is; asked_is = o.asked_is; had_is = o.had_is; sync_is = o.sync_is; flags_is = o.flags_is; call_is = o.call_is; target_is = o.target_is; back_is = o.back_is };
-          as_target = λ c stands. let t = k.as_target c stands in record { taken_is = t.taken_is; got_is = t.got_is; answer_is = t.answer_is };
-          spent = λ gone. let h : Clerk made (back + 1) ≡ Spent = gone in absurd cc;
-        })
+        subst G (sym both_kind) (subst H (sym (at-like v both m refl refl)) record { as_origin = k.as_origin; as_target = k.as_target })
 
     knows : (m : ℕ) → m < length key.specs.items → (j : ℕ) (x : View) → get_elem? (set (set s.views id both) other spent_view) j ≡ some x → Knows (mail_at mails m) x.kind (at x m)
     knows m within j x f =
@@ -371,7 +316,7 @@ pub seat_joins : (key : Key) (id : ℕ) (v : View) (other : ℕ) (w : View) (mad
 seat_joins key id v other w made back cpu is_clerk is_seat s told e apart d = (joined_told key s told id v other w made back cpu e is_clerk is_seat apart d).0
 
 -- the opened messages, by their numbers
-opened_at : (specs : List MsgSpec) (m : ℕ) → m < length specs → mail_at (map opened_mail specs) m ≡ opened_mail (spec_at specs m)
+pub opened_at : (specs : List MsgSpec) (m : ℕ) → m < length specs → mail_at (map opened_mail specs) m ≡ opened_mail (spec_at specs m)
 opened_at [] m h = absurd (omega arith)
 opened_at (x ∷ xs) zero h = refl
 opened_at (x ∷ xs) (suc m) h = opened_at xs m (omega arith)
@@ -411,19 +356,11 @@ opened_book key words slots within wide zero_word words_are slots_are = record {
         subst F (sym (at-none (first_view key) m refl)) record {
           as_origin = λ stands. record { round_is = refl; away_is = refl; asked_is = refl; had_is = refl; sync_is = refl; flags_is = refl; call_is = refl; target_is = λ h. never h; back_is = λ h. never h };
           as_target = λ cpu stands. record { taken_is = refl; got_is = λ h. never h; answer_is = λ h. never h };
-          spent = λ gone. let h : Clerk 0 0 ≡ Spent = gone in absurd cc;
         }
 
     knows : (m j : ℕ) (v : View) → get_elem? (first_view key ∷ []) j ≡ some v → Knows (opened_mail (spec_at key.specs.items m)) v.kind (at v m)
     knows m zero v e = let F : View → Type 0 = λ y. Knows (opened_mail (spec_at key.specs.items m)) y.kind (at y m) in subst F (some-injective (first_view key) v e) (knows_first m)
     knows m (suc j) v e = absurd (some-ne-none v (sym e))
-
-    none_yet : (m : ℕ) (f : MessageEntry → ℕ) → f (first_entry (spec_at key.specs.items m)) ≡ 0 → total (λ (x : View). f (at x m)) (first_view key ∷ []) ≡ 0
-    none_yet m f zero_first =
-        let a = total-cons (λ (x : View). f (at x m)) (first_view key) [] in
-        let b : f (at (first_view key) m) ≡ 0 = ap f (at-none (first_view key) m refl) ∙ zero_first in
-        let c : total (λ (x : View). f (at x m)) [] ≡ 0 = refl in
-        omega arith
 
     kept : (m : ℕ) → m < length key.specs.items → IsKept key.cpus (spec_at key.specs.items m) (opened_mail (spec_at key.specs.items m)) (get_or words (word_at m) 0) (get_elem? (map some slots) (slot_at m)) m (first_view key ∷ [])
     kept m there = record {
@@ -433,13 +370,6 @@ opened_book key words slots within wide zero_word words_are slots_are = record {
       is_word = words_are m there;
       slot = let F : List Rec → Type 0 = λ xs. get_elem? (map some xs) (slot_at m) ≡ some (some no_rec) in subst F (sym slots_are) (blank_at (4 * length key.specs.items) (slot_at m) (omega arith));
       unanswered = λ h. absurd (omega arith);
-      counted = record {
-        sends = none_yet m (λ e. e.sends) refl;
-        takes = none_yet m (λ e. e.takes) refl;
-        drops = none_yet m (λ e. e.drops) refl;
-        replies = none_yet m (λ e. e.replies) refl;
-        reaps = none_yet m (λ e. e.reaps) refl;
-      };
       each_view = knows m;
     }
 

@@ -131,9 +131,9 @@ module _ (key : Key) (s : State Rec View) (id : ℕ) (v : View) (cpu : CpuId) (m
 
   -- a look, after which everything at home is as it was
   pub look_told : (e' : MessageEntry) (operation : Operation) (hands : List (ℕ × Rec)) (act : Act Rec) → Valid s.homes hands act → homes_after s.homes hands act ≡ s.homes
-      → e'.sends ≡ (at v m).sends → e'.takes ≡ (at v m).takes → e'.drops ≡ (at v m).drops → e'.replies ≡ (at v m).replies → e'.reaps ≡ (at v m).reaps → (Knows mail (Of cpu) (at v m) → Knows mail (Of cpu) e')
+      → (Knows mail (Of cpu) (at v m) → Knows mail (Of cpu) e')
       → OnlyLooks operation n → Tells key s told id v hands m e' (look_by cpu (word_step m operation n) []) n act
-  look_told e' operation hands act valid same a b c f g mine only =
+  look_told e' operation hands act valid same mine only =
       let over = ⊎_elim
       (λ (h : operation ≡ operate.Load). let F : Operation → Type 0 = λ o. IsStepOver n n (word_step m o n) in subst F (sym h) record { found = refl; leaves = refl })
       (λ (h : (old new : ℕ) × ((operation ≡ Exchange old new) × (n ≢ old))). let F : Operation → Type 0 = λ o. IsStepOver n n (word_step m o n) in subst F (sym h.2.0) record { found = refl; leaves = sym (left_lost h.0 h.1 n h.2.1) })
@@ -144,7 +144,7 @@ module _ (key : Key) (s : State Rec View) (id : ℕ) (v : View) (cpu : CpuId) (m
       deed_told key s id v cpu told e is_seat m in_mails e' (look_by cpu (word_step m operation n) []) refl mail (λ kind x not_its known. known)
       (look_done key mails m cpu operation n [] mail in_mails by (subst G is_word over) (subst K is_word only) (inl (refl, refl)))
       hands n act valid
-      (λ past. subst (λ (hs : List (Option Rec)). H hs (look_by cpu (word_step m operation n) []) past) (sym same) (lead.stays key mails s id v cpu m told.rule.book e is_seat there e' past (look_by cpu (word_step m operation n) []) a b c f g mine))
+      (λ past. subst (λ (hs : List (Option Rec)). H hs (look_by cpu (word_step m operation n) []) past) (sym same) (lead.stays key mails s id v cpu m told.rule.book e is_seat there e' past (look_by cpu (word_step m operation n) []) mine))
 
   -- a send
   pub send_told : (to : CpuId) (sync : Bool) (flags : Flags) (rec : Rec) (others : List (ℕ × Rec)) → IsOwn v cpu.0 m → (at v m).away ≡ false → to.0 < key.cpus → (at v m).round < LAST_ROUND → rec.error ≡ 0 → rec.result ≡ 0

@@ -17,7 +17,7 @@ use Rattle.lwkt_core.specs.declared.seats.SeatKind.{SeatKind}
 use Rattle.lwkt_core.specs.declared.seats.SeatKind.TheVariants.{Clerk, Spent}
 use Rattle.lwkt_core.specs.Messages.{IsSafeMessage, origin_of, is_away, in_out}
 use Rattle.lwkt_core.specs.Opening.{AreWithin, opened_message}
-use Rattle.lwkt_core.specs.Seating.{AreSeated, total}
+use Rattle.lwkt_core.specs.Seating.{AreSeated}
 use Rattle.lwkt_msg.specs.declared.views.MessageEntry.{MessageEntry}
 use Rattle.lwkt_msg.specs.declared.views.Key.{Key}
 use Rattle.lwkt_msg.specs.declared.views.View.{View}
@@ -95,30 +95,13 @@ pub record KnowsTaken (cpu : ℕ) (mail : Mail) (e : MessageEntry) : Type 0 wher
   pub got_is : is_taken cpu mail.msg.owner ≡ true → e.got ≡ call_of mail.rec
   pub answer_is : is_answered cpu mail.msg.owner ≡ true → e.answer ≡ answer_of mail.rec
 
--- nothing was done with the message
-pub record HasNoCounts (e : MessageEntry) : Type 0 where
-  pub sends : e.sends ≡ 0
-  pub takes : e.takes ≡ 0
-  pub drops : e.drops ≡ 0
-  pub replies : e.replies ≡ 0
-  pub reaps : e.reaps ≡ 0
-
 -- what a view knows of a message is so
 pub record Knows (mail : Mail) (kind : SeatKind) (e : MessageEntry) : Type 0 where
   pub as_origin : Stands kind mail.msg.origin.cpu.0 → KnowsOwn mail e
   pub as_target : (cpu : ℕ) → Stands kind cpu → KnowsTaken cpu mail e
-  pub spent : kind ≡ Spent → HasNoCounts e
 
--- how often each thing was done with a message, over all views
-pub record AreCounted (msg : Message) (m : ℕ) (views : List View) : Type 0 where
-  pub sends : total (λ v. (at v m).sends) views ≡ msg.sends
-  pub takes : total (λ v. (at v m).takes) views ≡ msg.takes
-  pub drops : total (λ v. (at v m).drops) views ≡ msg.drops
-  pub replies : total (λ v. (at v m).replies) views ≡ msg.replies
-  pub reaps : total (λ v. (at v m).reaps) views ≡ msg.reaps
-
--- one message of the book: it is safe, its word shows it, its record lies where its owner is, what was done with it adds up over
--- all views, and what each view knows of it is so (msgport(9); rounds, the drop by the origin and the abort request are own)
+-- one message of the book: it is safe, its word shows it, its record lies where its owner is, and what each view knows of it is so
+-- (msgport(9); rounds, the drop by the origin and the abort request are own)
 pub record IsKept (cpus : ℕ) (spec : MsgSpec) (mail : Mail) (word : ℕ) (home : Option (Option Rec)) (m : ℕ) (views : List View) : Type 0 where
   pub safe : IsSafeMessage cpus mail.msg
   pub origin_is : mail.msg.origin ≡ spec.origin
@@ -126,7 +109,6 @@ pub record IsKept (cpus : ℕ) (spec : MsgSpec) (mail : Mail) (word : ℕ) (home
   pub is_word : word ≡ message_word (parts_of mail)
   pub slot : home ≡ some (in_slot mail.msg.owner mail.had mail.rec)
   pub unanswered : in_out mail.msg.owner ≡ 1 → (mail.rec.error ≡ 0) × (mail.rec.result ≡ 0)
-  pub counted : AreCounted mail.msg m views
   pub each_view : (j : ℕ) (v : View) → get_elem? views j ≡ some v → Knows mail v.kind (at v m)
 
 -- no message

@@ -1,4 +1,4 @@
-use Rattle.std.specs.Prelude.{◌≡◌, ℕ, zero, suc, ◌+◌, ◌*◌, ◌<◌, ◌≤◌, ◌==◌, List, [], ◌∷◌, ◌++◌, length, All, slice_get, slice_index, slice_index_or, Some, if◌then◌else◌}
+use Rattle.std.specs.Prelude.{◌≡◌, ℕ, zero, suc, ◌+◌, ◌*◌, ◌<◌, ◌≤◌, ◌==◌, Bool, List, [], ◌∷◌, ◌++◌, length, map, All, count_by, slice_get, slice_index, slice_index_or, Some, if◌then◌else◌}
 use mathlib.Core.Option.{some}
 use lib.ListN.{get_elem?}
 use Rattle.atomic_table.specs.Seated.{TableId}
@@ -17,11 +17,12 @@ use Rattle.lwkt_core.specs.Trace.{Run, end_of}
 use Rattle.lwkt_core.specs.declared.events.Event.{Event}
 use Rattle.lwkt_core.specs.declared.seats.WordStep.{WordStep}
 use Rattle.lwkt_core.specs.declared.seats.Deed.{Deed}
+use Rattle.lwkt_core.specs.declared.seats.Chapter.{Chapter}
 use Rattle.lwkt_core.specs.History.{Passes, AreOthers, IsPastOf, events_in, events_by, steps_by}
 use Rattle.lwkt_msg.specs.declared.views.MessageEntry.{MessageEntry}
 use Rattle.lwkt_msg.specs.declared.views.Key.{Key}
 use Rattle.lwkt_msg.specs.declared.views.View.{View}
-use Rattle.lwkt_msg.specs.Views.{word_at, spec_at, first_entry, handed, at, who, recalled_of}
+use Rattle.lwkt_msg.specs.Views.{word_at, spec_at, first_entry, handed, at, who, chapter_of, recalled_of}
 use Rattle.lwkt_base.specs.declared.owners.Owner.{Owner}
 use Rattle.lwkt_base.specs.declared.owners.Owner.TheVariants.{Rest, Out, With, Back}
 use Rattle.lwkt_base.specs.declared.message_words.MsgWord.{MsgWord}
@@ -33,7 +34,7 @@ use Rattle.lwkt_msg.specs.Book.{Mail, Knows, mail_at}
 use Rattle.lwkt_core.specs.declared.seats.Operation.TheVariants.{Load}
 use Rattle.lwkt_msg.specs.Deeds.{word_step}
 use Rattle.lwkt_msg.specs.Steps.{rest_word, machine_of}
-use Rattle.lwkt_msg.specs.Told.{IsDone, first_mails}
+use Rattle.lwkt_msg.specs.Told.{IsDone, first_mails, AreCounted}
 use Rattle.lwkt_msg.specs.Plays.{IsSat}
 
 -- what callers see of a seat: the table that it sits at, and what it knows
@@ -67,7 +68,7 @@ pub record IsMsgBook (cpus messages : ℕ) (table : TableId) (key : Key) (clerk 
   pub clerk_kind : clerk.view.kind ≡ Clerk cpus 0
   pub clerk_cpus : clerk.view.cpus ≡ cpus
   pub clerk_specs : clerk.view.specs ≡ key.specs.items
-  pub none_noted : clerk.view.entries ≡ []
+  pub no_chapters : clerk.view.chapters ≡ []
 
 -- the processor of a seat
 abbrev pub cpu_of : Desk → CpuId
@@ -141,13 +142,13 @@ pub record AreOpened (cpus : ℕ) (specs : List MsgSpec) (book : Shelf) (seats :
   pub specs_is : book.specs ≡ specs
   pub seats_are : AreSeats cpus book seats
 
--- how often each thing was done with a message, by all seats
-pub record AreGathered (msg : Message) (m : ℕ) (seats : List Desk) : Type 0 where
-  pub sends : msg.sends ≡ total (λ d. (at d.view m).sends) seats
-  pub takes : msg.takes ≡ total (λ d. (at d.view m).takes) seats
-  pub drops : msg.drops ≡ total (λ d. (at d.view m).drops) seats
-  pub replies : msg.replies ≡ total (λ d. (at d.view m).replies) seats
-  pub reaps : msg.reaps ≡ total (λ d. (at d.view m).reaps) seats
+-- how many events of one kind all seats together have done
+abbrev pub events_like : (Event → Bool) → List Desk → ℕ
+events_like which seats = total (λ d. count_by which (events_of d)) seats
+
+-- how often each thing was done with a message is how many events of all seats did it
+abbrev pub AreGathered : Message → ℕ → List Desk → Type 0
+AreGathered msg m seats = AreCounted msg m (λ which. events_like which seats)
 
 -- what is known of a message at the close: it is a safe message with this owner and round, which was opened so, and with which all
 -- seats together did so much
@@ -203,6 +204,7 @@ pub record IsClerk (made cpus : ℕ) (specs : List MsgSpec) (place : Seat Rec Vi
   pub cpus_is : place.me.0.cpus ≡ cpus
   pub specs_is : place.me.0.specs ≡ specs
   pub none_noted : place.me.0.entries ≡ []
+  pub no_chapters : place.me.0.chapters ≡ []
   pub words : place.table_id.words ≡ 16 * length specs + 1
   pub slots : place.table_id.slots ≡ 4 * length specs
   pub few : length specs ≤ 64
@@ -233,9 +235,9 @@ pub record AreShown (upto : ℕ) (words : List ℕ) (ends : List MsgEnd) : Type 
   pub as_many : length ends ≡ upto
   pub each : (m : ℕ) (end : MsgEnd) → slice_get ends m ≡ Some end → (word : ℕ) → get_elem? words (word_at m) ≡ some word → (w : MsgWord) → MessageFits w → message_word w ≡ word → end ≡ shown_end w
 
--- what a seat had seen is a chapter of the clerk's
-abbrev pub IsChapter : View → Desk → Type 0
-IsChapter v d = (i : ℕ) × (get_elem? v.chapters i ≡ some (record { cpu = cpu_of d; past = past_of d }))
+-- what these seats had seen, as the clerk keeps it
+abbrev pub chapters_of : List Desk → List Chapter
+chapters_of seats = map (λ d. chapter_of d.view) seats
 
 -- what a seat knew is kept by the clerk
 abbrev pub IsRecalled : View → Desk → Type 0
@@ -245,28 +247,18 @@ IsRecalled v d = (i : ℕ) × (get_elem? v.recalled i ≡ some (recalled_of d.vi
 pub record IsTaking (cpus : ℕ) (v : View) (seats left : List Desk) (w : View) : Type 0 where
   pub behind : List Desk
   pub in_order : seats ≡ left ++ behind
-  pub chapters : All (IsChapter w) behind
+  pub chapters : w.chapters ≡ chapters_of behind
   pub recalled : All (IsRecalled w) behind
   pub back : ℕ
   pub kind : w.kind ≡ Clerk cpus back
   pub as_many : back + length left ≡ length seats
   pub cpus_is : w.cpus ≡ v.cpus
   pub specs_is : w.specs ≡ v.specs
-  pub sends : (m : ℕ) → m < length v.specs → (at w m).sends + total (λ d. (at d.view m).sends) left ≡ total (λ d. (at d.view m).sends) seats
-  pub takes : (m : ℕ) → m < length v.specs → (at w m).takes + total (λ d. (at d.view m).takes) left ≡ total (λ d. (at d.view m).takes) seats
-  pub drops : (m : ℕ) → m < length v.specs → (at w m).drops + total (λ d. (at d.view m).drops) left ≡ total (λ d. (at d.view m).drops) seats
-  pub replies : (m : ℕ) → m < length v.specs → (at w m).replies + total (λ d. (at d.view m).replies) left ≡ total (λ d. (at d.view m).replies) seats
-  pub reaps : (m : ℕ) → m < length v.specs → (at w m).reaps + total (λ d. (at d.view m).reaps) left ≡ total (λ d. (at d.view m).reaps) seats
 
 -- the clerk's view after these seats were taken back
 pub record HasTakenBack (cpus : ℕ) (v : View) (seats : List Desk) (w : View) : Type 0 where
-  pub chapters : All (IsChapter w) seats
+  pub chapters : w.chapters ≡ chapters_of seats
   pub recalled : All (IsRecalled w) seats
   pub kind : w.kind ≡ Clerk cpus (length seats)
   pub cpus_is : w.cpus ≡ v.cpus
   pub specs_is : w.specs ≡ v.specs
-  pub sends : (m : ℕ) → m < length v.specs → (at w m).sends ≡ total (λ d. (at d.view m).sends) seats
-  pub takes : (m : ℕ) → m < length v.specs → (at w m).takes ≡ total (λ d. (at d.view m).takes) seats
-  pub drops : (m : ℕ) → m < length v.specs → (at w m).drops ≡ total (λ d. (at d.view m).drops) seats
-  pub replies : (m : ℕ) → m < length v.specs → (at w m).replies ≡ total (λ d. (at d.view m).replies) seats
-  pub reaps : (m : ℕ) → m < length v.specs → (at w m).reaps ≡ total (λ d. (at d.view m).reaps) seats

@@ -1,4 +1,4 @@
-use Rattle.std.specs.Prelude.{◌≡◌, ◌≢◌, ℕ, ◌+◌, ◌*◌, ◌<◌, ◌≤◌, Bool, true, false, List, [], ◌∷◌, ◌++◌, length, replicate, slice_index, slice_set, bit_or}
+use Rattle.std.specs.Prelude.{◌≡◌, ◌≢◌, ℕ, ◌+◌, ◌*◌, ◌<◌, ◌≤◌, Bool, true, false, List, [], ◌∷◌, ◌++◌, length, replicate, count_by, slice_index, slice_set, bit_or}
 use mathlib.Core.Option.{some}
 use lib.ListN.{get_elem?}
 use Rattle.atomic_table.specs.Table.{State, Act, keeps, takes, gives, homes_after, stepped, opening}
@@ -26,7 +26,7 @@ use Rattle.lwkt_msg.specs.Steps.{sent_word, rest_word, machine_of}
 use Rattle.lwkt_msg.specs.Deeds as deed
 use Rattle.lwkt_msg.specs.Calls.{Does}
 use Rattle.lwkt_msg.specs.Desks.{AreOpeningWords}
-use Rattle.lwkt_msg.specs.Told.{IsDone, first_mails, Told, IsNext, IsSame, Opens, Tells}
+use Rattle.lwkt_msg.specs.Told.{IsDone, first_mails, AreCounted, Told, IsNext, IsSame, Opens, Tells}
 
 -- each state of a book's table shows a machine whose messages are all safe: each has one owner
 abbrev pub RuleShowsSafety : Type 0
@@ -48,6 +48,10 @@ StatesAreReached = (key : Key) (s : State Rec View) (told : Told key s) →
     Passes (IsDone key.cpus) (first_mails key.specs.items) told.chronicle.history told.rule.mails
     × Run (machine_of key.cpus (first_mails key.specs.items)) (events_in told.chronicle.history) (machine_of key.cpus told.rule.mails)
     × ((id : ℕ) (v : View) (cpu : CpuId) → get_elem? s.views id ≡ some v → v.kind ≡ Of cpu → IsPastOf told.chronicle.history cpu.0 v.past)
+
+-- and how often each thing was done with a message is how many events of that history did it
+abbrev pub HistoryTellsCounts : Type 0
+HistoryTellsCounts = (key : Key) (s : State Rec View) (told : Told key s) (m : ℕ) → m < length key.specs.items → AreCounted (mail_at told.rule.mails m).msg m (λ which. count_by which (events_in told.chronicle.history))
 
 -- whatever shows that the rule holds of a state, the messages and the history are the same
 abbrev pub ViewsDecide : Type 0
@@ -112,7 +116,7 @@ OrIsAbort = AtSeat (λ key s told id v cpu m n. (hands : List (ℕ × Rec)) → 
 -- a seat that is made, cut off or taken back is no deed
 abbrev pub SeatingIsNoDeed : Type 0
 SeatingIsNoDeed = (key : Key) (s : State Rec View) (told : Told key s) (id : ℕ) (v : View) → get_elem? s.views id ≡ some v
-    → ((made back : ℕ) → v.kind ≡ Clerk made back → v.entries ≡ [] → made < v.cpus → IsSame key s record { words = s.words; homes = s.homes; views = slice_set s.views id (clerk_after v) ++ new_seat v ∷ [] } told)
+    → ((made back : ℕ) → v.kind ≡ Clerk made back → made < v.cpus → IsSame key s record { words = s.words; homes = s.homes; views = slice_set s.views id (clerk_after v) ++ new_seat v ∷ [] } told)
     × ((cpu : CpuId) → v.kind ≡ Of cpu → IsSame key s record { words = s.words; homes = s.homes; views = slice_set s.views id (spent_left v) ++ whole_right v ∷ [] } told)
     × ((other : ℕ) (w : View) (made back : ℕ) (cpu : CpuId) → v.kind ≡ Clerk made back → w.kind ≡ Of cpu → other ≢ id → get_elem? (slice_set s.views id (joined v w)) other ≡ some w
     → IsSame key s record { words = s.words; homes = s.homes; views = slice_set (slice_set s.views id (joined v w)) other spent_view } told)

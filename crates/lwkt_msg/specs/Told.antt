@@ -1,4 +1,4 @@
-use Rattle.std.specs.Prelude.{◌≡◌, ◌≢◌, ◌⊎◌, ℕ, ◌+◌, ◌<◌, true, false, List, [], ◌∷◌, ◌++◌, length, map, slice_set}
+use Rattle.std.specs.Prelude.{◌≡◌, ◌≢◌, ◌⊎◌, ℕ, ◌+◌, ◌<◌, Bool, true, false, List, [], ◌∷◌, ◌++◌, length, map, slice_set}
 use mathlib.Core.Option.{some}
 use lib.ListN.{get_elem?}
 use Rattle.atomic_table.specs.Table.{State, Act, Valid, stepped}
@@ -9,12 +9,14 @@ use Rattle.lwkt_base.specs.MessageWord.{message_word}
 use Rattle.lwkt_core.specs.declared.events.Event.{Event}
 use Rattle.lwkt_core.specs.declared.events.Event.TheVariants.{Load, Take, Share, Again, Mark, GiveOne, GiveClean, GiveWritten, Read, Write, Send, TakeMsg, DropMsg, Reply, Reap, Abort}
 use Rattle.lwkt_core.specs.declared.events.Place.TheVariants.{AtMessage}
+use Rattle.lwkt_core.specs.declared.messages.Message.{Message}
 use Rattle.lwkt_core.specs.declared.seats.Operation.{Operation}
 use Rattle.lwkt_core.specs.declared.seats.Operation.TheVariants.{Load as Loads, Store, Exchange, Add, Or}
 use Rattle.lwkt_core.specs.declared.seats.WordStep.{WordStep}
 use Rattle.lwkt_core.specs.declared.seats.Deed.{Deed}
 use Rattle.lwkt_core.specs.declared.seats.SeatKind.TheVariants.{Clerk, Of}
 use Rattle.lwkt_core.specs.Events.{cpu_of, place_of}
+use Rattle.lwkt_core.specs.Headline as kind
 use Rattle.lwkt_core.specs.Messages.{message_after}
 use Rattle.lwkt_core.specs.Machine.{Happens}
 use Rattle.lwkt_core.specs.History.{IsStepOver, AreOthers, Chronicle}
@@ -126,6 +128,14 @@ pub record IsDone (cpus : ℕ) (mails : List Mail) (d : Deed) (others : List Mai
   pub leaves : others ≡ slice_set mails step.at after
   pub over : IsStepOver (message_word (parts_of (mail_at mails step.at))) (message_word (parts_of after)) step
   pub what : IsLook (mail_at mails step.at) d step after ⊎ IsEvent cpus mails step.at d step after
+
+-- how often each thing was done with a message is how many events did it, by this count of the events of one kind
+pub record AreCounted (msg : Message) (m : ℕ) (count : (Event → Bool) → ℕ) : Type 0 where
+  pub sends : msg.sends ≡ count (kind.sends m)
+  pub takes : msg.takes ≡ count (kind.takes m)
+  pub drops : msg.drops ≡ count (kind.drops m)
+  pub replies : msg.replies ≡ count (kind.replies m)
+  pub reaps : msg.reaps ≡ count (kind.reaps m)
 
 -- the messages as they are declared
 abbrev pub first_mails : List MsgSpec → List Mail

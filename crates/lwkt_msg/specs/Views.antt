@@ -1,5 +1,4 @@
-use Rattle.std.specs.Prelude.{◌≡◌, ℕ, ◌+◌, ◌*◌, ◌≤◌, ◌==◌, ◌||◌, Bool, true, false, List, [], ◌∷◌, ◌++◌, length, slice_index_or, if◌then◌else◌}
-use Rattle.std.proofs.Common.{zero, suc}
+use Rattle.std.specs.Prelude.{◌≡◌, ℕ, ◌+◌, ◌*◌, ◌≤◌, ◌==◌, ◌||◌, Bool, true, false, List, [], ◌∷◌, ◌++◌, slice_index_or, if◌then◌else◌}
 use Rattle.lwkt_base.specs.declared.names.CpuId.{CpuId}
 use Rattle.lwkt_base.specs.declared.names.MsgId.{MsgId}
 use Rattle.lwkt_base.specs.declared.records.Call.{Call}
@@ -51,7 +50,7 @@ answer_of rec = record { result = rec.result; error = rec.error }
 
 -- what is known of a message at the opening
 abbrev pub first_entry : MsgSpec → MessageEntry
-first_entry spec = record { round = spec.round; call = no_call; target = record { 0 = 0 }; flags = no_flags; sync = false; had = false; away = false; back = false; asked = false; taken = false; got = no_call; answer = record { result = 0; error = 0 }; sends = 0; takes = 0; drops = 0; replies = 0; reaps = 0 }
+first_entry spec = record { round = spec.round; call = no_call; target = record { 0 = 0 }; flags = no_flags; sync = false; had = false; away = false; back = false; asked = false; taken = false; got = no_call; answer = record { result = 0; error = 0 } }
 
 -- the first entry of a message among several, or else this one
 unfoldable pub entry_in : List Noted → ℕ → MessageEntry → MessageEntry
@@ -117,22 +116,22 @@ abbrev pub handed : MessageEntry → MessageEntry
 handed e = record e { had = true }
 
 abbrev pub sent : MsgWord → Call → MessageEntry → MessageEntry
-sent w call e = record e { round = w.round; call = call; target = w.target; flags = flags_of w; sync = w.sync; away = true; back = false; asked = false; sends = e.sends + 1 }
+sent w call e = record e { round = w.round; call = call; target = w.target; flags = flags_of w; sync = w.sync; away = true; back = false; asked = false }
 
 abbrev pub took : Rec → MessageEntry → MessageEntry
-took rec e = record e { taken = true; got = call_of rec; takes = e.takes + 1 }
+took rec e = record e { taken = true; got = call_of rec }
 
 abbrev pub replied : Rec → MessageEntry → MessageEntry
-replied rec e = record e { taken = false; answer = answer_of rec; replies = e.replies + 1 }
+replied rec e = record e { taken = false; answer = answer_of rec }
 
 abbrev pub answered : ℕ → ℕ → MessageEntry → MessageEntry
-answered error outcome e = record e { taken = false; answer = record { result = outcome; error = error }; replies = e.replies + 1 }
+answered error outcome e = record e { taken = false; answer = record { result = outcome; error = error } }
 
 abbrev pub reaped : MessageEntry → MessageEntry
-reaped e = record e { away = false; back = false; asked = false; reaps = e.reaps + 1 }
+reaped e = record e { away = false; back = false; asked = false }
 
 abbrev pub dropped : MessageEntry → MessageEntry
-dropped e = record e { away = false; back = false; asked = false; drops = e.drops + 1 }
+dropped e = record e { away = false; back = false; asked = false }
 
 abbrev pub requested : MessageEntry → MessageEntry
 requested e = record e { asked = true }
@@ -176,15 +175,6 @@ spent_left v = spent_view
 abbrev pub whole_right : View → View
 whole_right v = v
 
--- an entry with the counts of another added
-abbrev pub added : MessageEntry → MessageEntry → MessageEntry
-added e other = record e { sends = e.sends + other.sends; takes = e.takes + other.takes; drops = e.drops + other.drops; replies = e.replies + other.replies; reaps = e.reaps + other.reaps }
-
--- of so many messages what a view knows, with the counts of another added
-unfoldable pub gathered : ℕ → View → View → List Noted
-gathered zero v other = []
-gathered (suc k) v other = record { msg = k; entry = added (at v k) (at other k) } ∷ gathered k v other
-
 -- what a seat knew that was taken back, and of a message
 abbrev pub recalled_of : View → Recalled
 recalled_of v = record { cpu = who v; specs = v.specs; entries = v.entries }
@@ -197,4 +187,4 @@ abbrev pub chapter_of : View → Chapter
 chapter_of v = record { cpu = who v; past = v.past }
 
 abbrev pub joined : View → View → View
-joined v other = record v { kind = after_back v.kind; entries = gathered (length v.specs) v other; chapters = chapter_of other ∷ v.chapters; recalled = recalled_of other ∷ v.recalled }
+joined v other = record v { kind = after_back v.kind; chapters = chapter_of other ∷ v.chapters; recalled = recalled_of other ∷ v.recalled }

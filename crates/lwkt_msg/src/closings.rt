@@ -56,7 +56,7 @@ fn take_back(top: &Top, clerk: &mut Place, seat: MsgSeat)
 pub(crate) fn take_all(top: &Top, clerk: &mut Place, cpus: usize, seats: Vec<MsgSeat>)
     requires table { (clerk.old.table_id ≡ top.now.table_id) × (0 < top.now.table_id.words) }
     requires seats { (length seats.items ≡ cpus) × All (λ d. d.table ≡ top.now.table_id) seats.items }
-    requires clerk { (clerk.old.me.0.kind ≡ Clerk cpus 0) × (clerk.old.me.0.entries ≡ []) }
+    requires clerk { (clerk.old.me.0.kind ≡ Clerk cpus 0) × (clerk.old.me.0.chapters ≡ []) }
     ensures seat { (clerk.new.table_id ≡ clerk.old.table_id) × (clerk.new.id ≡ clerk.old.id) }
     ensures view { HasTakenBack cpus clerk.old.me.0 seats.items clerk.new.me.0 }
 {

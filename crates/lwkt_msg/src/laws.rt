@@ -5,7 +5,7 @@ ghost use Rattle.lwkt_msg.specs.declared.views.Key.{Key};
 ghost use Rattle.lwkt_msg.specs.declared.views.View.{View};
 ghost use Rattle.lwkt_msg.specs.Told.{Told};
 ghost use Rattle.lwkt_msg.specs.Records.{FoundIsWhatWasPut, HistoryTellsRecords, HistoryTellsRequests};
-ghost use Rattle.lwkt_msg.specs.Laws.{RuleShowsSafety, EachSendAtMostOnce, StatesAreReached, ViewsDecide, OpeningIsDeclared, LoadIsLook, LostExchangeIsLook, HandingOutIsLook, StoreIsSend, ExchangeIsTake, AddIsReply, StoreIsReap, ExchangeIsDrop, OrIsAbort, SeatingIsNoDeed, MadeAsTold, NothingUntold, DeedsAreTold};
+ghost use Rattle.lwkt_msg.specs.Laws.{RuleShowsSafety, EachSendAtMostOnce, StatesAreReached, HistoryTellsCounts, ViewsDecide, OpeningIsDeclared, LoadIsLook, LostExchangeIsLook, HandingOutIsLook, StoreIsSend, ExchangeIsTake, AddIsReply, StoreIsReap, ExchangeIsDrop, OrIsAbort, SeatingIsNoDeed, MadeAsTold, NothingUntold, DeedsAreTold};
 
 use crate::rules::BookRule;
 use crate::views::{Key, View};
@@ -21,9 +21,11 @@ pub fn rule_shows_safety()
 {}
 
 /// Every state that meets the rule is reached from the opening by a run of the model: there is one history of the deeds of all
-/// seats, of which each seat has seen the front up to its own last deed, and words and views decide it.
+/// seats, of which each seat has seen the front up to its own last deed, and words and views decide it. How often each thing was
+/// done with a message is how many of its events did it.
 pub fn states_are_reached()
     ensures reached { StatesAreReached }
+    ensures counted { HistoryTellsCounts }
     ensures decided { ViewsDecide }
 {}
 

@@ -15,7 +15,7 @@ pub struct Returned {
     pub error: u32,
 }
 
-/// What a seat knows of one message, and how often it did each thing with it.
+/// What a seat knows of one message.
 pub struct MessageEntry {
     /// As origin: the message's round.
     pub round: u64,
@@ -41,11 +41,6 @@ pub struct MessageEntry {
     pub got: Call,
     /// As target: what it replied last.
     pub answer: Returned,
-    pub sends: u64,
-    pub takes: u64,
-    pub drops: u64,
-    pub replies: u64,
-    pub reaps: u64,
 }
 
 /// What is known of the message of this number.

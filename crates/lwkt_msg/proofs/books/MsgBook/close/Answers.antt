@@ -1,8 +1,5 @@
 use Rattle.std.proofs.Common.{◌≡◌, ℕ, refl, ap, sym, ◌∙◌, subst}
 use Rattle.std.specs.Slots.{slots_items}
-use Rattle.atomic_table.specs.Table.{Me}
-use Rattle.lwkt_base.specs.declared.records.Rec.{Rec}
-use Rattle.lwkt_msg.specs.declared.views.View.{View}
 use Rattle.lwkt_msg.specs.Desks.{Shelf, AreClosed, AreShown}
 use Rattle.lwkt_msg.proofs.Ending.{closes}
 use Rattle.lwkt_msg.proofs.books.MsgBook.close.Goals as goal
@@ -16,9 +13,8 @@ returns c =
     let final = c.close_with-closed.ensures.values.2 in
     let ends = c.in-Ok-read_and_free.shown.items in
     let clerk = c.in-Some.clerk in
-    let specs_are : clerk.me.0.specs ≡ key.specs.items = ap (λ (x : Me Rec View). x.0.specs) c.in-Some.ensures.1 ∙ inv.clerk_specs in
     let view_is : book ≡ c.args.self = c.self.view_is in
     let F : Shelf → Type 0 = λ b. AreClosed b c.args.seats.items ends in
     let G : ℕ → Type 0 = λ n. AreShown n (slots_items c.close_with-closed.result.words) ends in
-    subst F view_is (closes book key c.args.seats.items clerk.me.0 c.take_all.new.clerk.me.0 c.take_all.new.clerk.id (slots_items c.close_with-closed.result.words) ends final.0 inv.cpus_is refl specs_are
+    subst F view_is (closes book key c.args.seats.items clerk.me.0 c.take_all.new.clerk.me.0 c.take_all.new.clerk.id (slots_items c.close_with-closed.result.words) ends final.0 inv.cpus_is refl
     (c.requires.as_many ∙ ap (λ (b : Shelf). b.cpus) (sym view_is)) c.take_all.ensures.view final.1.0 final.1.1 final.2 (subst G inv.messages_is c.in-Ok-read_and_free.ensures))
