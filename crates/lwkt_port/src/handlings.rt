@@ -98,6 +98,7 @@ fn handle(
 
 // Pops at most so many notes from a lane that keeps none, and handles them; one that finds its port's queue full is kept, and is
 // the last. Answers how many were popped.
+#[inline(always)]
 fn pop_all(
     book: &MsgBook,
     seat: &mut MsgSeat,

@@ -225,6 +225,7 @@ impl Ports {
     /// msgport(9) an inter-processor message puts each note into its port; here a processor asks for them.
     ///
     /// That the trace has room for 256 events is the caller's condition.
+    #[inline]
     pub fn take_in(&mut self, book: &MsgBook, limit: usize, trace: &mut Vec<Event>) -> usize
         requires table { self.old.seat.table ≡ book.now.table }
         requires room { vec_len trace.old + 256 ≤ vec_capacity trace.old }

@@ -22,6 +22,7 @@ pub(crate) fn has_room(line: &mut Lane) -> bool
 }
 
 /// Sends a note over a lane that has room for it.
+#[inline(always)]
 pub(crate) fn post(line: &mut Lane, note: Note)
     requires { in_hand line.old.out ≡ None }
     ensures { HasPosted note line.old line.new }
