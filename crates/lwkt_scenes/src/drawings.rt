@@ -51,14 +51,22 @@ fn draw_arrow(
     cpu: usize,
     until: usize,
 ) -> Result<(), AllocError> {
-    let word = if way.is_reply { "reply to message" } else { "message" };
+    let word = if way.is_reply {
+        "reply to message"
+    } else {
+        "message"
+    };
     write!(out, "<g><title>{} {}, round {}: ", word, msg, way.round)?;
     write!(out, "from processor {} in round {} ", way.cpu, way.since)?;
     write!(out, "to processor {cpu} in round {until}</title>")?;
     let (x, y) = (layout.x(way.since), layout.top(way.cpu));
     let (to_x, to_y) = (layout.x(until), layout.top(cpu));
     let (down, up) = sides(y, to_y);
-    let dashes = if way.is_reply { " stroke-dasharray=\"5 3\"" } else { "" };
+    let dashes = if way.is_reply {
+        " stroke-dasharray=\"5 3\""
+    } else {
+        ""
+    };
     write!(
         out,
         "<line x1=\"{}\" y1=\"{}\"",
@@ -76,7 +84,11 @@ fn draw_arrow(
         out,
         "<text x=\"{}\" y=\"{}\">m{} r{}</text></g>\n",
         x.saturating_add(COLUMN / 2 + 3),
-        if down == 0 { y.saturating_sub(4) } else { y.saturating_add(ROW + 11) },
+        if down == 0 {
+            y.saturating_sub(4)
+        } else {
+            y.saturating_add(ROW + 11)
+        },
         msg,
         way.round
     )
@@ -86,7 +98,11 @@ fn draw_arrow(
 fn draw_lost(out: &mut String, layout: &Layout, msg: usize, way: Way) -> Result<(), AllocError> {
     let (x, y) = (layout.x(way.since), layout.top(way.cpu));
     let (x, y) = (x.saturating_add(COLUMN / 2), y.saturating_add(ROW));
-    let word = if way.is_reply { "reply to message" } else { "message" };
+    let word = if way.is_reply {
+        "reply to message"
+    } else {
+        "message"
+    };
     write!(out, "<g><title>{} {}, round {}: ", word, msg, way.round)?;
     write!(
         out,
@@ -158,11 +174,7 @@ impl Drawing {
             class
         )?;
         write!(out, "<title>token {tok} held {word} by processor {cpu}")?;
-        write!(
-            out,
-            ", rounds {} to {}</title></rect>\n",
-            bar.since, until
-        )
+        write!(out, ", rounds {} to {}</title></rect>\n", bar.since, until)
     }
 
     // A processor has a reference more, from this round on.
@@ -323,7 +335,11 @@ impl Drawing {
             Event::GiveOne { tok, .. }
             | Event::GiveClean { tok, .. }
             | Event::GiveWritten { tok, .. } => self.give(out, cpu, usize::from(tok.0), round),
-            Event::Send { msg, round: number, .. } => {
+            Event::Send {
+                msg,
+                round: number,
+                ..
+            } => {
                 let way = Way {
                     since: round,
                     cpu,

@@ -61,7 +61,12 @@ pub fn stood_before(state: &State, event: &Event) -> Before {
 }
 
 // Appends how many references are held, and by whom.
-fn show_held(out: &mut String, token: &Token, event: &Event, runners: &Runners) -> Result<(), AllocError> {
+fn show_held(
+    out: &mut String,
+    token: &Token,
+    event: &Event,
+    runners: &Runners,
+) -> Result<(), AllocError> {
     let references = token.held_by(event.cpu()).references();
     if references > 1 {
         write!(out, ", {references} references")?;

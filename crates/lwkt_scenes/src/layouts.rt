@@ -3,15 +3,19 @@ use std::alloc::{AllocError, Global};
 
 /// The most processors of a script, and the most tokens.
 pub const CPU_LIMIT: usize = 8;
+
 pub const TOKEN_LIMIT: usize = 64;
 
 /// The width of a round, and the height of a row.
 pub const COLUMN: usize = 24;
+
 pub const ROW: usize = 14;
 
 // What stands left of the first round and above the first processor, and between two processors.
 const LEFT: usize = 76;
+
 const TOP: usize = 34;
+
 const GAP: usize = 26;
 
 /// Where the parts of a picture stand.

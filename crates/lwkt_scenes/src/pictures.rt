@@ -13,10 +13,12 @@ pub const PICTURE_LIMIT: usize = 2_000;
 
 // What stands behind the last round, and below the last processor.
 const RIGHT: usize = 20;
+
 const BELOW: usize = 58;
 
 // How the parts are drawn, and what hatches and arrow heads are.
-const STYLE: &str = "<style>text{font:10px monospace;paint-order:stroke;stroke:#fff;stroke-width:2px}.full{fill:#000;stroke:#000}.hatched{fill:url(#lines);stroke:#000}.turn{fill:#fff;stroke:#000}.idle{fill:#fff;stroke:#bbb}.way{stroke:#000;fill:none}.tick{stroke:#000;stroke-width:2.5;fill:none}.fault{stroke:#000;stroke-width:2;fill:none}.bold{font-weight:bold}</style>\n<defs><pattern id=\"lines\" width=\"4\" height=\"4\" patternUnits=\"userSpaceOnUse\" patternTransform=\"rotate(45)\"><rect width=\"4\" height=\"4\" fill=\"#fff\"/><path d=\"M1 0v4\" stroke=\"#000\"/></pattern><marker id=\"head\" viewBox=\"0 0 8 8\" refX=\"8\" refY=\"4\" markerWidth=\"7\" markerHeight=\"7\" orient=\"auto\"><path d=\"M0 0L8 4L0 8z\"/></marker></defs>\n";
+const STYLE: &str =
+    "<style>text{font:10px monospace;paint-order:stroke;stroke:#fff;stroke-width:2px}.full{fill:#000;stroke:#000}.hatched{fill:url(#lines);stroke:#000}.turn{fill:#fff;stroke:#000}.idle{fill:#fff;stroke:#bbb}.way{stroke:#000;fill:none}.tick{stroke:#000;stroke-width:2.5;fill:none}.fault{stroke:#000;stroke-width:2;fill:none}.bold{font-weight:bold}</style>\n<defs><pattern id=\"lines\" width=\"4\" height=\"4\" patternUnits=\"userSpaceOnUse\" patternTransform=\"rotate(45)\"><rect width=\"4\" height=\"4\" fill=\"#fff\"/><path d=\"M1 0v4\" stroke=\"#000\"/></pattern><marker id=\"head\" viewBox=\"0 0 8 8\" refX=\"8\" refY=\"4\" markerWidth=\"7\" markerHeight=\"7\" orient=\"auto\"><path d=\"M0 0L8 4L0 8z\"/></marker></defs>\n";
 
 // Appends the beginning of a picture: its size, how its parts are drawn, and the numbers of rounds.
 fn draw_head(out: &mut String, layout: &Layout) -> Result<(), AllocError> {
@@ -30,7 +32,9 @@ fn draw_head(out: &mut String, layout: &Layout) -> Result<(), AllocError> {
         out,
         "width=\"{width}\" height=\"{height}\" viewBox=\"0 0 {width} {height}\">\n"
     )?;
-    out.push_str("<title>a run of a script: processors from top to bottom, rounds from left to right</title>\n")?;
+    out.push_str(
+        "<title>a run of a script: processors from top to bottom, rounds from left to right</title>\n",
+    )?;
     out.push_str(STYLE)?;
     write!(
         out,
@@ -195,7 +199,13 @@ fn draw_turns(
         show_turn(alloc, replay, &mut line, &scene)?;
         draw_events(&mut over, drawing, replay, &scene)?;
         if number >= shown.first {
-            draw_turn(out, &drawing.layout, replay, &scene, line.as_str().trim_end())?;
+            draw_turn(
+                out,
+                &drawing.layout,
+                replay,
+                &scene,
+                line.as_str().trim_end(),
+            )?;
         }
         from = from.saturating_add(usize::from(turn.events));
     }
@@ -275,7 +285,13 @@ fn draw(
 ) -> Result<(), AllocError> {
     let cpus = usize::from(run.script.cpus).max(1);
     let shown = shown_of(run, chosen);
-    let layout = Layout::new(alloc, cpus, shown.first / cpus, shown.last / cpus, run.trace)?;
+    let layout = Layout::new(
+        alloc,
+        cpus,
+        shown.first / cpus,
+        shown.last / cpus,
+        run.trace,
+    )?;
     draw_head(out, &layout)?;
     for cpu in 0..cpus {
         draw_names(out, &layout, cpu)?;

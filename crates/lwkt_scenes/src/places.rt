@@ -6,8 +6,11 @@ const PART_LIMIT: usize = 200;
 
 // The largest number of each kind in a step.
 const SMALL: u64 = 255;
+
 const CODE: u64 = 4_294_967_295;
+
 const WHOLE: u64 = 18_446_744_073_709_551_615;
+
 const FLAGS: u64 = 3;
 
 /// A member whose value is a number: its name and its range.
@@ -75,7 +78,11 @@ fn show_number(
 }
 
 // Appends which of these members a part lacks, or that it has others; says whether it does.
-fn show_members(out: &mut String, value: &Value, names: &[&'static str]) -> Result<bool, AllocError> {
+fn show_members(
+    out: &mut String,
+    value: &Value,
+    names: &[&'static str],
+) -> Result<bool, AllocError> {
     let Some(members) = value.as_object() else {
         out.push_str("it is no object")?;
         return Ok(true);
@@ -87,7 +94,11 @@ fn show_members(out: &mut String, value: &Value, names: &[&'static str]) -> Resu
         }
     }
     if members.len() != names.len() {
-        write!(out, "it has {} members, and has to have exactly", members.len())?;
+        write!(
+            out,
+            "it has {} members, and has to have exactly",
+            members.len()
+        )?;
         for name in names {
             write!(out, " {name}")?;
         }
@@ -115,7 +126,9 @@ fn show_list(
 
 // Appends what is bad of the whole.
 fn show_whole(out: &mut String, value: &Value) -> Result<bool, AllocError> {
-    let names = ["version", "turns", "idle", "cpus", "tokens", "messages", "threads"];
+    let names = [
+        "version", "turns", "idle", "cpus", "tokens", "messages", "threads",
+    ];
     if show_members(out, value, &names)? {
         return Ok(true);
     }
@@ -182,10 +195,12 @@ fn show_cells(out: &mut String, value: &Value) -> Result<bool, AllocError> {
 
 // Appends what is bad of a token.
 fn show_token(alloc: Global, out: &mut String, value: &Value) -> Result<bool, AllocError> {
-    Ok(show_members(out, value, &["cells", "law", "param", "gen"])?
-        || show_cells(out, value)?
-        || show_number(alloc, out, value, range("param", 0, WHOLE))?
-        || show_number(alloc, out, value, range("gen", 0, 70_368_744_177_663))?)
+    Ok(
+        show_members(out, value, &["cells", "law", "param", "gen"])?
+            || show_cells(out, value)?
+            || show_number(alloc, out, value, range("param", 0, WHOLE))?
+            || show_number(alloc, out, value, range("gen", 0, 70_368_744_177_663))?,
+    )
 }
 
 // The number at a place of the thread that a message is of.
@@ -206,19 +221,34 @@ fn show_origin(out: &mut String, value: &Value, cpus: u64) -> Result<bool, Alloc
     if cpu < cpus && thread < 16 {
         return Ok(false);
     }
-    write!(out, "of is {cpu}, {thread}; there are {cpus} processors, with threads 0 to 15")?;
+    write!(
+        out,
+        "of is {cpu}, {thread}; there are {cpus} processors, with threads 0 to 15"
+    )?;
     Ok(true)
 }
 
 // Appends what is bad of a message.
-fn show_message(alloc: Global, out: &mut String, value: &Value, cpus: u64) -> Result<bool, AllocError> {
-    Ok(show_members(out, value, &["of", "round"])?
-        || show_origin(out, value, cpus)?
-        || show_number(alloc, out, value, range("round", 0, 2_251_799_813_685_247))?)
+fn show_message(
+    alloc: Global,
+    out: &mut String,
+    value: &Value,
+    cpus: u64,
+) -> Result<bool, AllocError> {
+    Ok(
+        show_members(out, value, &["of", "round"])?
+            || show_origin(out, value, cpus)?
+            || show_number(alloc, out, value, range("round", 0, 2_251_799_813_685_247))?,
+    )
 }
 
 // Appends what is bad of a thread but for its steps.
-fn show_thread(alloc: Global, out: &mut String, value: &Value, cpus: u64) -> Result<bool, AllocError> {
+fn show_thread(
+    alloc: Global,
+    out: &mut String,
+    value: &Value,
+    cpus: u64,
+) -> Result<bool, AllocError> {
     if show_members(out, value, &["cpu", "repeat", "steps"])?
         || show_number(alloc, out, value, range("cpu", 0, cpus.saturating_sub(1)))?
         || show_number(alloc, out, value, range("repeat", 1, 1_000_000))?
@@ -251,7 +281,10 @@ fn show_step_numbers(out: &mut String, value: &Value, limits: &[u64]) -> Result<
         let part = i.saturating_add(1);
         let number = number_at(value, part);
         if number.is_none() || number > Some(*limit) {
-            return write!(out, " has a part {part} that is no whole number 0 to {limit}");
+            return write!(
+                out,
+                " has a part {part} that is no whole number 0 to {limit}"
+            );
         }
     }
     out.push_str(" is no step of version 1")

@@ -54,7 +54,10 @@ fn stores(ask: Option<Ask>) -> bool {
 // Whether some event gives back a reference.
 fn has_give(part: &[Event]) -> bool {
     for event in part {
-        if let Event::GiveOne { .. } | Event::GiveClean { .. } | Event::GiveWritten { .. } = *event {
+        if let Event::GiveOne { .. }
+        | Event::GiveClean { .. }
+        | Event::GiveWritten { .. } = *event
+        {
             return true;
         }
     }
@@ -292,7 +295,11 @@ impl Replay {
         } else {
             doing
         };
-        Outcome { turn, doing, broken }
+        Outcome {
+            turn,
+            doing,
+            broken,
+        }
     }
 }
 

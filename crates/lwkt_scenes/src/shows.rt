@@ -29,9 +29,7 @@ fn show_choice(out: &mut String, chosen: Chosen, turns: usize) -> Result<(), All
 
 // The last turn that is shown.
 fn last_shown(chosen: Chosen) -> usize {
-    chosen
-        .last
-        .min(chosen.first.saturating_add(TURN_LIMIT - 1))
+    chosen.last.min(chosen.first.saturating_add(TURN_LIMIT - 1))
 }
 
 // Appends the lines of the turns that are shown.

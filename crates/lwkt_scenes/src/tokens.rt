@@ -58,11 +58,7 @@ fn show_runner(out: &mut String, cpu: u8, runners: &Runners) -> Result<(), Alloc
 }
 
 /// Appends who holds a token: `held shared by 0.0, 1.2`, or `free`.
-pub fn show_holders(
-    out: &mut String,
-    token: &Token,
-    runners: &Runners,
-) -> Result<(), AllocError> {
+pub fn show_holders(out: &mut String, token: &Token, runners: &Runners) -> Result<(), AllocError> {
     let mut some = false;
     for cpu in 0..8u8 {
         if let Held::Holds(mode, _) = token.held_by(CpuId(cpu)) {

@@ -1,8 +1,8 @@
+use crate::reels::Reel;
 use crate::words::law_name;
 use lwkt_base::{Fault, MsgEnd, MsgSpec, Owner, TokSpec};
 use lwkt_core::Event;
 use lwkt_report::{Closing, TokenLine};
-use crate::reels::Reel;
 use std::alloc::{AllocError, Global};
 
 // Appends numbers as a JSON list.
@@ -73,9 +73,18 @@ fn show_event_numbers(out: &mut String, event: &Event) -> Result<(), AllocError>
         | Event::GiveOne { tok, .. }
         | Event::GiveClean { tok, .. }
         | Event::GiveWritten { tok, .. } => write!(out, ",{}", tok.0),
-        Event::Read { tok, cell, value, .. } | Event::Write { tok, cell, value, .. } => {
-            write!(out, ",{},{},{}", tok.0, cell, value)
+        Event::Read {
+            tok,
+            cell,
+            value,
+            ..
         }
+        | Event::Write {
+            tok,
+            cell,
+            value,
+            ..
+        } => { write!(out, ",{},{},{}", tok.0, cell, value) }
         Event::Send { msg, to, round, .. } => write!(out, ",{},{},{}", msg.0, to.0, round),
         Event::TakeMsg { msg, round, .. } => write!(out, ",{},{}", msg.0, round),
         Event::DropMsg { msg, .. }
@@ -110,7 +119,11 @@ fn between(number: usize) -> &'static str {
 
 // Appends the opening.
 fn show_opening(out: &mut String, run: &Reel) -> Result<(), AllocError> {
-    write!(out, "\"version\":1,\"cpus\":{},\n\"tokens\":[", run.script.cpus)?;
+    write!(
+        out,
+        "\"version\":1,\"cpus\":{},\n\"tokens\":[",
+        run.script.cpus
+    )?;
     for (number, spec) in run.script.tokens.as_slice().iter().enumerate() {
         out.push_str(between(number))?;
         show_token(out, spec)?;

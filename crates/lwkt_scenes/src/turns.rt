@@ -1,9 +1,9 @@
+use crate::reels::Reel;
 use crate::replays::Replay;
 use crate::stories::{Doing, Outcome, Story};
 use crate::words::{show_answer, show_ask, show_fault, show_thread};
 use lwkt_base::ThreadState;
 use lwkt_core::Event;
-use crate::reels::Reel;
 use lwkt_verdict::turns::poll_of;
 use lwkt_verdict::{Poll, Turn};
 use std::alloc::{AllocError, Global};

@@ -81,7 +81,11 @@ pub fn show_fault(out: &mut String, fault: Fault) -> Result<(), AllocError> {
 fn show_item(out: &mut String, item: Item) -> Result<(), AllocError> {
     match item {
         Item::Request(msg, call) => {
-            write!(out, "the request message {}, op {}, arg {}", msg.0, call.op, call.arg)
+            write!(
+                out,
+                "the request message {}, op {}, arg {}",
+                msg.0, call.op, call.arg
+            )
         }
         Item::Answered(msg, error, outcome) => write!(
             out,
@@ -98,7 +102,11 @@ pub fn show_answer(out: &mut String, answer: Answer) -> Result<(), AllocError> {
         Answer::Done => out.push_str("done"),
         Answer::Value(value) => write!(out, "value {value}"),
         Answer::Dropped(msg, rec) => {
-            write!(out, "message {} taken back, op {}, arg {}", msg.0, rec.op, rec.arg)
+            write!(
+                out,
+                "message {} taken back, op {}, arg {}",
+                msg.0, rec.op, rec.arg
+            )
         }
         Answer::Got(item) => show_item(out, item),
         Answer::NoMsg => out.push_str("nothing at the port"),

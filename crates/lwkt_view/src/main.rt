@@ -1,8 +1,8 @@
 //! The program: reads a script from standard input, runs it, and shows the run on standard output.
 #![tactic(auto)]
 
-use lwkt_show::{refuse_arguments, run_show};
 use lwkt_report::{ReaderSource, WriterSink};
+use lwkt_show::{refuse_arguments, run_show};
 use std::alloc::{AllocError, Global};
 use std::process::ExitCode;
 use std::rt::Env;
