@@ -1,4 +1,4 @@
-# A program's sources, their digest, and the stamp beside the program that names both. Read by lwkt_run, lwkt_check, check
+# A program's sources, their digest, and the stamp beside the program that names both. Read by lwkt_run, lwkt_check, lwkt_show, check
 # and tools/build, with the tree in `top`, the program's crate in `program_crate` and its name in `program_name`. The
 # stamp's first line is the digest; the paths of the sources follow. Its time is that of the sources: what is newer has
 # changed since.

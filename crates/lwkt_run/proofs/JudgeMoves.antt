@@ -11,14 +11,11 @@ use Rattle.lwkt_verdict.specs.declared.turns.ThreadEnd.{ThreadEnd}
 use Rattle.lwkt_verdict.specs.declared.turns.Poll.{Poll}
 use Rattle.lwkt_verdict.specs.declared.turns.Turn.{Turn}
 use Rattle.lwkt_run.specs.Judging.{ArePlansOf, AreEndsOf, Judges}
-use Rattle.lwkt_run.specs.Run.{opening_of, ShowsClosing, RunsInRounds, IsJudged}
+use Rattle.lwkt_run.specs.Run.{opening_of, ShowsClosing, RunsInRounds, IsJudgedBy}
 
 -- what was kept of a run is judged, whatever it is
-pub judged : (script : Script) (closing : Closing) (m : Machine) (limit : ℕ) (plans : List ThreadPlan) (ends : List ThreadEnd) (last : Final) (trace : List Event) (polls : List Poll) (turns : List Turn) → m ≡ opening_of script → limit ≡ script.turns → ArePlansOf script.threads plans → AreEndsOf closing.threads.items ends → ShowsClosing closing last → RunsInRounds script closing.threads.items trace last → Judges closing.verdict m limit plans ends last trace polls turns → IsJudged script closing
+pub judged : (script : Script) (closing : Closing) (m : Machine) (limit : ℕ) (plans : List ThreadPlan) (ends : List ThreadEnd) (last : Final) (trace : List Event) (polls : List Poll) (turns : List Turn) → m ≡ opening_of script → limit ≡ script.turns → ArePlansOf script.threads plans → AreEndsOf closing.threads.items ends → ShowsClosing closing last → RunsInRounds script closing.threads.items trace last → Judges closing.verdict m limit plans ends last trace polls turns → IsJudgedBy script closing trace polls turns
 judged script closing m limit plans ends last trace polls turns same as_many planned ended shown runs by = record {
-  trace = trace;
-  polls = polls;
-  turns = turns;
   plans = plans;
   ends = ends;
   last = last;

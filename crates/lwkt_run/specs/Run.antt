@@ -34,6 +34,7 @@ use Rattle.lwkt_run.specs.Leaving.{Leaves}
 use Rattle.lwkt_run.specs.Running.{ShowThreads, scene, HasMadeRounds}
 use Rattle.lwkt_run.specs.Judging.{ids_of, ArePlansOf, AreEndsOf, Judges}
 use Rattle.lwkt_run.specs.declared.runs.End.{End}
+use Rattle.lwkt_run.specs.declared.runs.TurnsRun.{TurnsRun}
 use Rattle.lwkt_run.specs.declared.runs.End.TheVariants.{Ended, TurnsOut, Unlawful as UnlawfulEnd}
 
 -- the machine at the opening of a script
@@ -63,12 +64,9 @@ pub record RunsInRounds (script : Script) (lines : List ThreadLine) (trace : Lis
   pub leaves : Leaves made mid whole last
   pub trace_is : trace ≡ whole.items
 
--- there are a trace and turns with their polls of which the report gives its verdict, as a run of the script from its opening to
--- the values and the threads' ends that it shows (own)
-pub record IsJudged (script : Script) (closing : Closing) : Type 0 where
-  pub trace : List Event
-  pub polls : List Poll
-  pub turns : List Turn
+-- a report gives its verdict on this trace and these turns with their polls, as on a run of the script from its opening to the
+-- values and the threads' ends that it shows (own)
+pub record IsJudgedBy (script : Script) (closing : Closing) (trace : List Event) (polls : List Poll) (turns : List Turn) : Type 0 where
   pub plans : List ThreadPlan
   pub ends : List ThreadEnd
   pub last : Final
@@ -77,6 +75,13 @@ pub record IsJudged (script : Script) (closing : Closing) : Type 0 where
   pub shows : ShowsClosing closing last
   pub runs : RunsInRounds script closing.threads.items trace last
   pub by : Judges closing.verdict (opening_of script) script.turns plans ends last trace polls turns
+
+-- there are a trace and turns with their polls on which the report gives its verdict
+pub record IsJudged (script : Script) (closing : Closing) : Type 0 where
+  pub trace : List Event
+  pub polls : List Poll
+  pub turns : List Turn
+  pub so : IsJudgedBy script closing trace polls turns
 
 -- the values may be those of a run of the script: its opening was accepted, a tally line stands exactly under a Tally token, each
 -- thread has its line, and the verdict is that on a trace and turns that lead to what is shown (own)
@@ -114,6 +119,12 @@ pub record HasRun (bytes : List ℕ) (end : End) (text : List ℕ) : Type 0 wher
   pub closes : MayClose script closing
   pub is_text : text ≡ report_text closing
   pub is_end : end ≡ end_told closing
+
+-- the script that these bytes are, with a trace, turns and polls that the verdict of what is shown is on (own)
+pub record IsTurnsRun (bytes : List ℕ) (run : TurnsRun) : Type 0 where
+  pub read : script_of bytes ≡ Ok run.script
+  pub closes : MayClose run.script run.closing
+  pub judged : IsJudgedBy run.script run.closing run.trace.items run.polls.items run.turns.items
 
 -- why a run of this script is refused: its machine isn't opened
 abbrev pub Declines : Script → Refusal → Type 0

@@ -14,5 +14,5 @@ pub use lwkt_report::{RunFault, Verdict};
 pub use lwkt_script::{Script, read_script};
 pub use lwkt_threads::{Gate, OpenGate};
 pub use programs::{finish, run_program};
-pub use runs::{End, run_turns};
+pub use runs::{End, TurnsRun, end_told, run_turns, turns_run};
 pub use threaded::{run_threads, run_threads_gated};

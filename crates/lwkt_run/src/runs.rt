@@ -3,7 +3,7 @@ ghost use Rattle.std.specs.List.{list_all};
 ghost use Rattle.lwkt_core.specs.Opening.{AreWithin, AllOpenLawfully};
 ghost use Rattle.lwkt_run.specs.Judging.{ids_of};
 ghost use Rattle.lwkt_run.specs.Values.{is_tally, AreValuesOf};
-ghost use Rattle.lwkt_run.specs.Run.{opening_of, RunsInRounds, IsJudged, MayClose, has_ended, end_told, HasRun, Declines, Refuses, Tells};
+ghost use Rattle.lwkt_run.specs.Run.{opening_of, RunsInRounds, IsJudgedBy, MayClose, IsTurnsRun, has_ended, end_told, HasRun, Declines, Refuses, Tells};
 
 use crate::endings::{Left, left_by};
 use crate::lines::token_lines;
@@ -17,6 +17,7 @@ use lwkt_report::{
     Closing, RunFault, Sink, Source, ThreadLine, Verdict, read_capped, report, write_whole,
 };
 use lwkt_script::{Script, read_script};
+use lwkt_verdict::{Poll, Turn};
 use std::alloc::{AllocError, Global};
 
 /// How a run ended.
@@ -28,6 +29,20 @@ pub enum End {
     TurnsOut,
     /// The trace was not lawful, or the turns were no run of the script.
     Unlawful,
+}
+
+/// A run of a script in rounds: the script, all that was kept of the run, and what its report shows.
+#[derive(Drop)]
+pub struct TurnsRun {
+    pub script: Script,
+    /// The events of all turns in order, and behind them those of the stop.
+    pub trace: Vec<Event>,
+    /// The polls of all turns, in order.
+    pub polls: Vec<Poll>,
+    /// The turns in order: the processors take theirs in rounds.
+    pub turns: Vec<Turn>,
+    /// What the report shows; its verdict is that on this trace and these turns.
+    pub closing: Closing,
 }
 
 // The report's contents: what a run left, with the verdict on its trace and its turns.
@@ -47,7 +62,7 @@ fn closing_of(
     requires runs { RunsInRounds script.now left.threads.items trace.now left.last }
     ensures kinds { IfOk result (λ closing. map (λ line. is_some line.tallies) closing.tokens.items ≡ map (λ spec. is_tally spec.law) script.now.tokens) }
     ensures threads { IfOk result (λ closing. map (λ line. line.id) closing.threads.items ≡ ids_of script.now.cpus script.now.threads) }
-    ensures judged { IfOk result (λ closing. IsJudged script.now closing) }
+    ensures judged { IfOk result (λ closing. IsJudgedBy script.now closing trace.now kept.now.polls.items kept.now.turns.items) }
 {
     let Left { last, threads } = left;
     let tokens = token_lines(alloc, script.tokens.as_slice(), &last)?;
@@ -102,22 +117,44 @@ fn run_of(alloc: Global, script: &Script) -> Result<Made, Fault>
     Ok(Made { trace, kept, left })
 }
 
-// Runs a script to the contents of its report.
-fn closing_of_script(alloc: Global, script: &Script) -> Result<Closing, Fault>
-    ensures ok { IfOk result (λ closing. MayClose script.now closing) }
-    ensures refused { IfErr result (λ fault. Declines script.now fault) }
+// The script of a run, with what was kept of it and what its report shows.
+fn turns_run_of(alloc: Global, script: Script) -> Result<TurnsRun, Fault>
+    ensures script { IfOk result (λ run. run.script ≡ script) }
+    ensures closes { IfOk result (λ run. MayClose script run.closing) }
+    ensures judged { IfOk result (λ run. IsJudgedBy script run.closing run.trace.items run.polls.items run.turns.items) }
+    ensures refused { IfErr result (λ fault. Declines script fault) }
 {
-    let opening = opened(alloc, script)?;
-    let again = opened(alloc, script)?;
-    let Made { trace, kept, left } = run_of(alloc, script)?;
-    match closing_of(alloc, script, opening, again, left, &trace, &kept) {
-        Ok(closing) => Ok(closing),
-        Err(_) => Err(Fault::Memory),
-    }
+    let opening = opened(alloc, &script)?;
+    let again = opened(alloc, &script)?;
+    let Made { trace, kept, left } = run_of(alloc, &script)?;
+    let closing = match closing_of(alloc, &script, opening, again, left, &trace, &kept) {
+        Ok(closing) => closing,
+        Err(_) => return Err(Fault::Memory),
+    };
+    let Record { polls, turns, .. } = kept;
+    Ok(TurnsRun {
+        script,
+        trace,
+        polls,
+        turns,
+        closing,
+    })
 }
 
-// How a run ended, by the contents of its report.
-pub(crate) fn end_told(closing: &Closing) -> End
+/// Runs the script that the bytes are in rounds, on one thread, and gives out all that was kept of the run.
+///
+/// Refused with `Script` and the place of the script's first bad part, with `Limits` or `LawBroken` for its opening, and with
+/// `Memory` for a refused allocation.
+pub fn turns_run(alloc: Global, bytes: &[u8]) -> Result<TurnsRun, Fault>
+    ensures ok { IfOk result (λ run. IsTurnsRun bytes.now run) }
+    ensures refused { IfErr result (λ fault. Refuses bytes.now fault) }
+{
+    let script = read_script(alloc, bytes)?;
+    turns_run_of(alloc, script)
+}
+
+/// How a run ended, by the contents of its report.
+pub fn end_told(closing: &Closing) -> End
     ensures { result ≡ end_told closing.now }
 {
     let all = all_ended(&closing.threads);
@@ -152,10 +189,9 @@ fn done_of_bytes(alloc: Global, bytes: &[u8]) -> Result<Done, Fault>
     ensures ok { IfOk result (λ done. HasRun bytes.now done.end (string_bytes done.text)) }
     ensures refused { IfErr result (λ fault. Refuses bytes.now fault) }
 {
-    let script = read_script(alloc, bytes)?;
-    let closing = closing_of_script(alloc, &script)?;
-    let end = end_told(&closing);
-    let text = report(alloc, &closing)?;
+    let run = turns_run(alloc, bytes)?;
+    let end = end_told(&run.closing);
+    let text = report(alloc, &run.closing)?;
     Ok(Done { text, end })
 }
 

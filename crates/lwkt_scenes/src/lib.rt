@@ -1,0 +1,24 @@
+//! Shows a run of a script turn by turn: as lines, as a trace for `lwkt_check`, or as a picture; and why a script is refused.
+#![tactic(auto)]
+
+mod drawings;
+mod ends;
+mod events;
+mod layouts;
+mod pictures;
+mod places;
+mod reels;
+mod refusals;
+mod replays;
+mod shows;
+mod stories;
+mod tokens;
+mod traces;
+mod turns;
+mod words;
+
+pub use pictures::{PICTURE_LIMIT, picture_of};
+pub use reels::{Chosen, Reel};
+pub use refusals::show_refusal;
+pub use shows::{TURN_LIMIT, lines_of};
+pub use traces::trace_of;

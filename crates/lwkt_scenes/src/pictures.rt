@@ -1,0 +1,313 @@
+use crate::drawings::Drawing;
+use crate::events::{Subject, subject_of};
+use crate::layouts::{COLUMN, Layout, ROW};
+use crate::reels::{Chosen, Reel};
+use crate::replays::Replay;
+use crate::turns::{Scene, scene_of, show_turn};
+use lwkt_base::{Answer, Fault, ThreadState};
+use lwkt_core::Event;
+use std::alloc::{AllocError, Global};
+
+/// The most turns that a picture shows.
+pub const PICTURE_LIMIT: usize = 2_000;
+
+// What stands behind the last round, and below the last processor.
+const RIGHT: usize = 20;
+
+const BELOW: usize = 58;
+
+// How the parts are drawn, and what hatches and arrow heads are.
+const STYLE: &str =
+    "<style>text{font:10px monospace;paint-order:stroke;stroke:#fff;stroke-width:2px}.full{fill:#000;stroke:#000}.hatched{fill:url(#lines);stroke:#000}.turn{fill:#fff;stroke:#000}.idle{fill:#fff;stroke:#bbb}.way{stroke:#000;fill:none}.tick{stroke:#000;stroke-width:2.5;fill:none}.fault{stroke:#000;stroke-width:2;fill:none}.bold{font-weight:bold}</style>\n<defs><pattern id=\"lines\" width=\"4\" height=\"4\" patternUnits=\"userSpaceOnUse\" patternTransform=\"rotate(45)\"><rect width=\"4\" height=\"4\" fill=\"#fff\"/><path d=\"M1 0v4\" stroke=\"#000\"/></pattern><marker id=\"head\" viewBox=\"0 0 8 8\" refX=\"8\" refY=\"4\" markerWidth=\"7\" markerHeight=\"7\" orient=\"auto\"><path d=\"M0 0L8 4L0 8z\"/></marker></defs>\n";
+
+// Appends the beginning of a picture: its size, how its parts are drawn, and the numbers of rounds.
+fn draw_head(out: &mut String, layout: &Layout) -> Result<(), AllocError> {
+    let width = layout
+        .x(layout.last.saturating_add(1))
+        .saturating_add(RIGHT)
+        .max(620);
+    let height = layout.height.saturating_add(BELOW);
+    out.push_str("<svg xmlns=\"http://www.w3.org/2000/svg\" ")?;
+    write!(
+        out,
+        "width=\"{width}\" height=\"{height}\" viewBox=\"0 0 {width} {height}\">\n"
+    )?;
+    out.push_str(
+        "<title>a run of a script: processors from top to bottom, rounds from left to right</title>\n",
+    )?;
+    out.push_str(STYLE)?;
+    write!(
+        out,
+        "<rect width=\"{width}\" height=\"{height}\" fill=\"#fff\"/>\n<text x=\"4\" y=\"14\">round</text>\n"
+    )?;
+    for round in layout.first..layout.last.saturating_add(1) {
+        if round % 5 == 0 || round == layout.first {
+            write!(
+                out,
+                "<text x=\"{}\" y=\"14\">{}</text>\n",
+                layout.x(round).saturating_add(COLUMN / 4),
+                round
+            )?;
+        }
+    }
+    Ok(())
+}
+
+// Appends the names of a processor and of its tokens.
+fn draw_names(out: &mut String, layout: &Layout, cpu: usize) -> Result<(), AllocError> {
+    write!(
+        out,
+        "<text x=\"4\" y=\"{}\" class=\"bold\">processor {}</text>\n",
+        layout.top(cpu).saturating_add(ROW - 3),
+        cpu
+    )?;
+    for tok in 0..64usize {
+        let row = layout.row(cpu, tok);
+        if row > 0 {
+            write!(
+                out,
+                "<text x=\"16\" y=\"{}\">token {}</text>\n",
+                row.saturating_add(ROW - 5),
+                tok
+            )?;
+        }
+    }
+    Ok(())
+}
+
+// The fault that a turn shows: a refusal, or that with which a thread ended in it.
+fn fault_of(replay: &Replay, scene: &Scene) -> (Option<Fault>, bool) {
+    for story in &replay.stories {
+        if story.ended_in == Some(scene.number) {
+            if let ThreadState::Faulted(fault) = story.end {
+                return (Some(fault), true);
+            }
+        }
+    }
+    match scene.poll {
+        Some(poll) => match poll.answer {
+            Some(Answer::Refused(fault)) => (Some(fault), false),
+            _ => (None, false),
+        },
+        None => (None, false),
+    }
+}
+
+// Appends the mark of a fault beside a turn: its number in a ring for a refusal, a cross for a thread's end.
+fn draw_fault(
+    out: &mut String,
+    x: usize,
+    y: usize,
+    fault: Fault,
+    ends: bool,
+) -> Result<(), AllocError> {
+    if ends {
+        write!(
+            out,
+            "<path d=\"M{} {}l20 14m0 -14l-20 14\" class=\"fault\"/>",
+            x.saturating_add(2),
+            y
+        )?;
+    }
+    write!(
+        out,
+        "<text x=\"{}\" y=\"{}\" class=\"bold\">{}{}</text>",
+        x.saturating_add(3),
+        y.saturating_sub(3),
+        if ends { "x" } else { "!" },
+        fault.number()
+    )
+}
+
+// Appends a turn: a box with the number of the thread that was polled, and its line of text.
+fn draw_turn(
+    out: &mut String,
+    layout: &Layout,
+    replay: &Replay,
+    scene: &Scene,
+    line: &str,
+) -> Result<(), AllocError> {
+    let x = layout.x(scene.round);
+    let y = layout.top(usize::from(scene.cpu));
+    let class = if scene.poll.is_some() { "turn" } else { "idle" };
+    write!(out, "<g><title>{line}</title>")?;
+    write!(
+        out,
+        "<rect x=\"{}\" y=\"{}\" width=\"{}\"",
+        x.saturating_add(2),
+        y,
+        COLUMN - 4
+    )?;
+    write!(out, " height=\"{ROW}\" class=\"{class}\"/>")?;
+    if let Some(poll) = scene.poll {
+        write!(
+            out,
+            "<text x=\"{}\" y=\"{}\">{}</text>",
+            x.saturating_add(if poll.thread.thread > 9 { 6 } else { 9 }),
+            y.saturating_add(ROW - 3),
+            poll.thread.thread
+        )?;
+    }
+    if let (Some(fault), ends) = fault_of(replay, scene) {
+        draw_fault(out, x, y, fault, ends)?;
+    }
+    out.push_str("</g>\n")
+}
+
+// The round of the message that an event is at.
+fn sent_in(replay: &Replay, event: &Event) -> u64 {
+    match subject_of(event) {
+        Subject::Message(msg) => match replay.state.message(msg) {
+            Some(message) => message.round,
+            None => 0,
+        },
+        Subject::Token(_) => 0,
+    }
+}
+
+// Notes the events of a turn and appends what they complete.
+fn draw_events(
+    out: &mut String,
+    drawing: &mut Drawing,
+    replay: &Replay,
+    scene: &Scene,
+) -> Result<(), AllocError> {
+    for event in scene.part {
+        drawing.draw_event(out, event, scene.round, sent_in(replay, event))?;
+    }
+    Ok(())
+}
+
+// Appends the turns up to the last that is shown.
+fn draw_turns(
+    alloc: Global,
+    out: &mut String,
+    run: &Reel,
+    drawing: &mut Drawing,
+    replay: &mut Replay,
+    shown: Shown,
+) -> Result<(), AllocError> {
+    let mut from = 0usize;
+    let mut line = String::new(alloc);
+    let mut over = String::new(alloc);
+    for (number, turn) in run.turns.iter().enumerate() {
+        if number > shown.last {
+            break;
+        }
+        let scene = scene_of(run, number, turn, from);
+        line.clear();
+        show_turn(alloc, replay, &mut line, &scene)?;
+        draw_events(&mut over, drawing, replay, &scene)?;
+        if number >= shown.first {
+            draw_turn(
+                out,
+                &drawing.layout,
+                replay,
+                &scene,
+                line.as_str().trim_end(),
+            )?;
+        }
+        from = from.saturating_add(usize::from(turn.events));
+    }
+    drawing.draw_rest(&mut over)?;
+    out.push_str(over.as_str())
+}
+
+// The turns that a picture shows.
+#[derive(Clone, Copy)]
+struct Shown {
+    first: usize,
+    last: usize,
+}
+
+// The turns of a run that these options show.
+fn shown_of(run: &Reel, chosen: Chosen) -> Shown {
+    let end = run.turns.len().saturating_sub(1);
+    let first = chosen.first.min(end);
+    let last = chosen
+        .last
+        .min(first.saturating_add(PICTURE_LIMIT - 1))
+        .min(end)
+        .max(first);
+    Shown { first, last }
+}
+
+// Appends what the parts mean, and what is left out.
+fn draw_foot(
+    out: &mut String,
+    layout: &Layout,
+    turns: usize,
+    shown: Shown,
+) -> Result<(), AllocError> {
+    let y = layout.height;
+    write!(
+        out,
+        "<rect x=\"4\" y=\"{y}\" width=\"20\" height=\"10\" class=\"full\"/><text x=\"28\" y=\"{}\">exclusive</text>",
+        y.saturating_add(9)
+    )?;
+    write!(
+        out,
+        "<rect x=\"94\" y=\"{y}\" width=\"20\" height=\"10\" class=\"hatched\"/><text x=\"118\" y=\"{}\">shared</text>",
+        y.saturating_add(9)
+    )?;
+    write!(
+        out,
+        "<path d=\"M170 {}v16\" class=\"tick\"/><text x=\"176\" y=\"{}\">marked</text>",
+        y.saturating_sub(3),
+        y.saturating_add(9)
+    )?;
+    write!(
+        out,
+        "<text x=\"4\" y=\"{}\">!23: refused; x19: ended faulted; m0 r1: message 0, round 1; dashed: its reply</text>\n",
+        y.saturating_add(24)
+    )?;
+    if shown.first == 0 && shown.last >= turns.saturating_sub(1) {
+        return Ok(());
+    }
+    write!(
+        out,
+        "<text x=\"4\" y=\"{}\">turns {} to {} of {} in all; at most {} are shown, chosen by --turns A..B</text>\n",
+        y.saturating_add(38),
+        shown.first,
+        shown.last,
+        turns,
+        PICTURE_LIMIT
+    )
+}
+
+// Appends the picture.
+fn draw(
+    alloc: Global,
+    out: &mut String,
+    run: &Reel,
+    replay: &mut Replay,
+    chosen: Chosen,
+) -> Result<(), AllocError> {
+    let cpus = usize::from(run.script.cpus).max(1);
+    let shown = shown_of(run, chosen);
+    let layout = Layout::new(
+        alloc,
+        cpus,
+        shown.first / cpus,
+        shown.last / cpus,
+        run.trace,
+    )?;
+    draw_head(out, &layout)?;
+    for cpu in 0..cpus {
+        draw_names(out, &layout, cpu)?;
+    }
+    let mut drawing = Drawing::new(alloc, layout)?;
+    draw_turns(alloc, out, run, &mut drawing, replay, shown)?;
+    draw_foot(out, &drawing.layout, run.turns.len(), shown)?;
+    out.push_str("</svg>\n")
+}
+
+/// A picture of a run.
+pub fn picture_of(alloc: Global, run: &Reel, chosen: Chosen) -> Result<String, Fault> {
+    let mut replay = Replay::open(alloc, run.script, &run.closing.threads)?;
+    let mut out = String::new(alloc);
+    match draw(alloc, &mut out, run, &mut replay, chosen) {
+        Ok(()) => Ok(out),
+        Err(_) => Err(Fault::Memory),
+    }
+}

@@ -1,0 +1,113 @@
+ghost use Rattle.std.specs.Prelude.{IfOk, string_bytes};
+ghost use Rattle.lwkt_scenes.specs.Shown.{EndsInReport};
+
+use crate::ends::show_ends;
+use crate::reels::{Chosen, Reel};
+use crate::replays::Replay;
+use crate::turns::{part_of, scene_of, show_turn};
+use lwkt_base::Fault;
+use lwkt_report::report;
+use std::alloc::{AllocError, Global};
+
+/// The most turns that are shown as lines.
+pub const TURN_LIMIT: usize = 10_000;
+
+// Appends which turns are shown, if not all are.
+fn show_choice(out: &mut String, chosen: Chosen, turns: usize) -> Result<(), AllocError> {
+    let end = last_shown(chosen);
+    if chosen.first > 0 {
+        write!(out, "turns before turn {} are not shown\n", chosen.first)?;
+    }
+    if end < turns.saturating_sub(1) {
+        write!(
+            out,
+            "turns behind turn {end} are not shown, of {turns} in all; at most {TURN_LIMIT} are, chosen by --turns A..B\n"
+        )?;
+    }
+    Ok(())
+}
+
+// The last turn that is shown.
+fn last_shown(chosen: Chosen) -> usize {
+    chosen.last.min(chosen.first.saturating_add(TURN_LIMIT - 1))
+}
+
+// Appends the lines of the turns that are shown.
+fn show_turns(
+    alloc: Global,
+    out: &mut String,
+    run: &Reel,
+    replay: &mut Replay,
+    chosen: Chosen,
+) -> Result<usize, AllocError> {
+    let mut from = 0usize;
+    let mut line = String::new(alloc);
+    let end = last_shown(chosen);
+    for (number, turn) in run.turns.iter().enumerate() {
+        let scene = scene_of(run, number, turn, from);
+        line.clear();
+        show_turn(alloc, replay, &mut line, &scene)?;
+        if chosen.first <= number && number <= end {
+            out.push_str(line.as_str())?;
+        }
+        from = from.saturating_add(usize::from(turn.events));
+    }
+    Ok(from)
+}
+
+// Appends what is given up at the end.
+fn show_stop(
+    alloc: Global,
+    out: &mut String,
+    run: &Reel,
+    replay: &mut Replay,
+    from: usize,
+) -> Result<(), AllocError> {
+    let rest = part_of(run.trace, from, run.trace.len());
+    if rest.is_empty() {
+        return Ok(());
+    }
+    let mut why = String::new(alloc);
+    out.push_str("at the end the running threads give up their tokens")?;
+    replay.play(out, &mut why, rest, None)?;
+    out.push_str("\n")
+}
+
+// Appends all that is said of a run before its report.
+fn show_run(
+    alloc: Global,
+    out: &mut String,
+    run: &Reel,
+    replay: &mut Replay,
+    chosen: Chosen,
+) -> Result<(), AllocError> {
+    let from = show_turns(alloc, out, run, replay, chosen)?;
+    show_choice(out, chosen, run.turns.len())?;
+    show_ends(out, replay, &run.closing.threads)?;
+    show_stop(alloc, out, run, replay, from)
+}
+
+// All that is said of a run before its report.
+fn front_of(alloc: Global, run: &Reel, chosen: Chosen) -> Result<String, Fault> {
+    let mut replay = Replay::open(alloc, run.script, &run.closing.threads)?;
+    let mut out = String::new(alloc);
+    match show_run(alloc, &mut out, run, &mut replay, chosen) {
+        Ok(()) => Ok(out),
+        Err(_) => Err(Fault::Memory),
+    }
+}
+
+/// The lines of a run: its turns, why threads haven't ended, the logs, and behind them the report. Of each turn that is chosen
+/// there is a line, but for those behind the first 10000 of them; which turns are left out is said.
+///
+/// Refused with `Memory` if an allocation is, and as `State::open` is for an opening that it refuses.
+pub fn lines_of(alloc: Global, run: &Reel, chosen: Chosen) -> Result<String, Fault>
+    ensures { IfOk result (λ text. EndsInReport run.now.closing.now (string_bytes text)) }
+{
+    let mut out = front_of(alloc, run, chosen)?;
+    let text = report(alloc, run.closing)?;
+    match out.push_str(text.as_str()) {
+        Ok(()) => Ok(out),
+        Err(_) => Err(Fault::Memory),
+    }
+}

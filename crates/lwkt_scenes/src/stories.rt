@@ -1,0 +1,302 @@
+use crate::events::show_owner;
+use crate::tokens::{Runners, excludes, show_holders, show_word};
+use crate::words::{mode_word, show_thread};
+use lwkt_base::{
+    Answer, Ask, LAST_GENERATION, Mode, MsgId, Ref, ThreadId, ThreadState, TokId, TokList,
+};
+use lwkt_core::{Event, State, Token};
+use lwkt_verdict::{Poll, entry_of};
+use std::alloc::{AllocError, Global};
+
+// The most entries of a log.
+const LOG_LIMIT: usize = 32;
+
+/// What a thread is doing between two turns.
+#[derive(Clone, Copy, PartialEq, Eq)]
+pub enum Doing {
+    /// It runs, and its processor holds its tokens.
+    Runs,
+    /// It goes on once its list can be had.
+    WantsList,
+    /// It waits for its port.
+    WaitsForPort,
+    /// It waits for the reply to a message.
+    WaitsForReply(MsgId),
+    /// It has ended.
+    Ended,
+}
+
+/// What a thread has come to after some turns.
+#[derive(Drop)]
+pub struct Story {
+    pub id: ThreadId,
+    pub doing: Doing,
+    /// The references that it wants or holds.
+    pub list: TokList,
+    /// How many polls it has had.
+    pub polls: u64,
+    /// How many steps it makes, and how many times over.
+    pub steps: u64,
+    pub repeat: u64,
+    /// What it asked last.
+    pub asked: Option<Ask>,
+    /// How it ends.
+    pub end: ThreadState,
+    /// The turn in which it ended, if it has.
+    pub ended_in: Option<usize>,
+    /// Of a section that broke its law, or a token at its last generation, what is said of it.
+    pub why: Option<String>,
+    /// Of each entry of the log the ask that it answers, by its number among the thread's asks.
+    pub logged: Vec<Logged>,
+    /// How many entries the log would have without a limit.
+    pub entries: u64,
+}
+
+/// An ask whose answer is in the log.
+#[derive(Clone, Copy)]
+pub struct Logged {
+    pub ask: Ask,
+    /// How many asks the thread had made before.
+    pub number: u64,
+}
+
+/// What a poll came to.
+#[derive(Clone, Copy)]
+pub struct Outcome {
+    /// The number of its turn.
+    pub turn: usize,
+    /// What the thread does next.
+    pub doing: Doing,
+    /// Whether a section broke its law.
+    pub broken: bool,
+}
+
+// Whether the last of some events adds a reference.
+fn ends_with_reference(part: &[Event]) -> bool {
+    match part.last() {
+        Some(event) => event.adds_reference(),
+        None => false,
+    }
+}
+
+// Whether some events have a send.
+fn has_send(part: &[Event]) -> bool {
+    for event in part {
+        if let Event::Send { .. } = *event {
+            return true;
+        }
+    }
+    false
+}
+
+/// What a poll leaves its thread doing, by its turn's events; `mail` says that an item of its port came to it.
+pub fn doing_after(poll: &Poll, part: &[Event], mail: bool) -> Doing {
+    if let Some(Answer::Refused(_)) = poll.answer {
+        return Doing::Runs;
+    }
+    match poll.ask {
+        Ask::Get(_) | Ask::GetShared(_) if !ends_with_reference(part) => Doing::WantsList,
+        Ask::Do(msg, _, _) if has_send(part) => Doing::WaitsForReply(msg),
+        Ask::WaitPort if !mail => Doing::WaitsForPort,
+        Ask::Yield => Doing::WantsList,
+        Ask::Exit => Doing::Ended,
+        _ => Doing::Runs,
+    }
+}
+
+impl Story {
+    // Adds a reference that was asked for.
+    fn add(&mut self, tok: TokId, mode: Mode) {
+        let _ = self.list.push(Ref { tok, mode });
+    }
+
+    // What an ask that was done did to the list.
+    fn change_list(&mut self, ask: Ask) {
+        match ask {
+            Ask::Get(tok) | Ask::TryGet(tok) => self.add(tok, Mode::Exclusive),
+            Ask::GetShared(tok) => self.add(tok, Mode::Shared),
+            Ask::Rel(tok) => {
+                let _ = self.list.pop(tok);
+            }
+            Ask::Swap => {
+                let _ = self.list.swap();
+            }
+            _ => {}
+        }
+    }
+
+    /// A thread before its first poll, that makes so many steps so many times, and ends so.
+    pub fn new(alloc: Global, id: ThreadId, steps: u64, repeat: u64, end: ThreadState) -> Self {
+        Story {
+            id,
+            doing: Doing::WantsList,
+            list: TokList::new(),
+            polls: 0,
+            steps,
+            repeat,
+            asked: None,
+            end,
+            ended_in: None,
+            why: None,
+            logged: Vec::new(alloc),
+            entries: 0,
+        }
+    }
+
+    // Notes the entry that an answer makes in the log.
+    fn note_entry(&mut self, poll: &Poll) -> Result<(), AllocError> {
+        let Some(answer) = poll.answer else {
+            return Ok(());
+        };
+        if entry_of(poll.ask, answer).is_none() {
+            return Ok(());
+        }
+        self.entries = self.entries.saturating_add(1);
+        if self.logged.len() < LOG_LIMIT {
+            self.logged.push(Logged {
+                ask: poll.ask,
+                number: self.polls,
+            })?;
+        }
+        Ok(())
+    }
+
+    // Notes what an answer says of the list.
+    fn note_list(&mut self, poll: &Poll) {
+        match poll.answer {
+            Some(Answer::Refused(fault)) => {
+                if fault.number() == 19 {
+                    self.change_list(poll.ask);
+                }
+            }
+            _ => self.change_list(poll.ask),
+        }
+    }
+
+    /// Notes a poll and what it came to; of a section that broke its law what is said of it.
+    pub fn note(
+        &mut self,
+        alloc: Global,
+        poll: &Poll,
+        outcome: Outcome,
+        why: &str,
+    ) -> Result<(), AllocError> {
+        self.note_entry(poll)?;
+        self.note_list(poll);
+        self.asked = Some(poll.ask);
+        self.doing = outcome.doing;
+        self.polls = self.polls.saturating_add(1);
+        if outcome.doing == Doing::Ended {
+            self.ended_in = Some(outcome.turn);
+        }
+        if outcome.broken {
+            self.why = Some(String::from_str(alloc, why)?);
+        }
+        Ok(())
+    }
+
+    /// Appends which of its steps a thread makes: `step 2`, and where it makes them several times which time, from 1.
+    pub fn show_step(&self, out: &mut String, polls: u64) -> Result<(), AllocError> {
+        if self.steps == 0 || polls / self.steps >= self.repeat {
+            return out.push_str("after its steps");
+        }
+        write!(out, "step {}", polls % self.steps)?;
+        if self.repeat > 1 {
+            write!(out, " of time {}", (polls / self.steps).saturating_add(1))?;
+        }
+        Ok(())
+    }
+
+    // Whether the list has no reference to another token than this.
+    fn is_alone(&self, tok: TokId) -> bool {
+        for r in self.list.refs() {
+            if r.tok.0 != tok.0 {
+                return false;
+            }
+        }
+        true
+    }
+
+    // The first reference of the list that can't be had.
+    fn lacks(&self, state: &State) -> Option<Ref> {
+        for wanted in self.list.refs() {
+            if let Some(token) = state.token(wanted.tok) {
+                if !token.held_by(self.id.cpu).is_held()
+                    && excludes(token, *wanted, self.is_alone(wanted.tok))
+                {
+                    return Some(*wanted);
+                }
+            }
+        }
+        None
+    }
+
+    // Appends which token of its list a thread can't have.
+    fn show_want(
+        &self,
+        out: &mut String,
+        state: &State,
+        runners: &Runners,
+    ) -> Result<(), AllocError> {
+        let Some(wanted) = self.lacks(state) else {
+            return out.push_str("is ready");
+        };
+        write!(
+            out,
+            "waits for token {} {}",
+            wanted.tok.0,
+            mode_word(wanted.mode)
+        )?;
+        match state.token(wanted.tok) {
+            Some(token) => show_hindrance(out, token, runners),
+            None => Ok(()),
+        }
+    }
+
+    /// The token of the list that is wanted exclusively at its last generation.
+    pub fn worn(&self, state: &State) -> Option<TokId> {
+        for wanted in self.list.refs() {
+            if let Some(token) = state.token(wanted.tok) {
+                if wanted.mode == Mode::Exclusive && token.generation >= LAST_GENERATION {
+                    return Some(wanted.tok);
+                }
+            }
+        }
+        None
+    }
+
+    /// Appends why a thread doesn't run, or that it does.
+    pub fn show_why(
+        &self,
+        out: &mut String,
+        state: &State,
+        runners: &Runners,
+    ) -> Result<(), AllocError> {
+        show_thread(out, self.id)?;
+        out.push_str(" ")?;
+        match self.doing {
+            Doing::Runs => out.push_str("runs"),
+            Doing::WantsList => self.show_want(out, state, runners),
+            Doing::WaitsForPort => out.push_str("waits for its port, which has nothing"),
+            Doing::WaitsForReply(msg) => {
+                write!(out, "waits for the reply to message {}", msg.0)?;
+                match state.message(msg) {
+                    Some(message) => {
+                        out.push_str(", which is ")?;
+                        show_owner(out, message.owner)
+                    }
+                    None => Ok(()),
+                }
+            }
+            Doing::Ended => out.push_str("has ended"),
+        }
+    }
+}
+
+// Appends what keeps a token from a thread: its word in parts, and who holds it.
+fn show_hindrance(out: &mut String, token: &Token, runners: &Runners) -> Result<(), AllocError> {
+    out.push_str(", ")?;
+    show_word(out, token)?;
+    out.push_str(", ")?;
+    show_holders(out, token, runners)
+}

@@ -1,0 +1,150 @@
+ghost use Rattle.std.specs.Prelude.{◌≡◌, ◌⊎◌, Err, IsTrue, IfOk, IfErr, string_bytes};
+ghost use Rattle.lwkt_run.specs.Run.{IsTurnsRun, Refuses, TellsBy, status_of};
+ghost use Rattle.lwkt_show.specs.Showing.{ShowsAs, IsShown, IsShowing};
+
+use crate::options::{Options, View, options_of};
+use lwkt_base::Fault;
+use lwkt_report::{RunFault, Sink, Source, read_capped, write_whole};
+use lwkt_run::{End, TurnsRun, end_told, turns_run};
+use lwkt_scenes::{Chosen, Reel, lines_of, picture_of, show_refusal, trace_of};
+use std::alloc::Global;
+
+// What is said where the arguments are none of the program's.
+const USAGE: &str = "lwkt_show: turns, and behind it --turns A..B, and --svg or --trace\n";
+
+// What is said where there is no memory.
+const MEMORY: &str = "lwkt_show: fault 32: out of memory\n";
+
+// What is said where the reader or the writer failed.
+const STREAM: &str = "lwkt_show: stream\n";
+
+// A run that is shown: the text, and how it ended.
+#[derive(Drop)]
+struct Done {
+    text: String,
+    end: End,
+}
+
+// The text that shows a run. It has no other fault than want of memory.
+fn text_of(alloc: Global, options: &Options, run: &TurnsRun) -> Result<String, Fault>
+    ensures shows { IfOk result (λ text. ShowsAs options.now.view run.now.closing (string_bytes text)) }
+{
+    let reel = Reel {
+        script: &run.script,
+        trace: &run.trace,
+        polls: &run.polls,
+        turns: &run.turns,
+        closing: &run.closing,
+    };
+    let chosen = Chosen {
+        first: options.first,
+        last: options.last,
+    };
+    match options.view {
+        View::Lines => lines_of(alloc, &reel, chosen),
+        View::Trace => trace_of(alloc, &reel),
+        View::Picture => picture_of(alloc, &reel, chosen),
+    }
+}
+
+// Runs the script that the bytes are, to the text that shows it.
+fn done_of_bytes(alloc: Global, options: &Options, bytes: &[u8]) -> Result<Done, Fault>
+    ensures ok { IfOk result (λ done. IsShown options.now.view bytes.now done.end (string_bytes done.text)) }
+    ensures refused { IfErr result (λ fault. Refuses bytes.now fault) }
+{
+    let run = turns_run(alloc, bytes)?;
+    let end = end_told(&run.closing);
+    match text_of(alloc, options, &run) {
+        Ok(text) => Ok(Done { text, end }),
+        Err(_) => Err(Fault::Memory),
+    }
+}
+
+// Writes why a run was refused; where no memory is left for the words, that there is none.
+fn complain<E: Sink>(alloc: Global, errors: &mut E, bytes: &[u8], fault: Fault) {
+    let mut line = String::new(alloc);
+    let told = show_refusal(alloc, &mut line, bytes, fault);
+    let text = match told {
+        Ok(()) if fault != Fault::Memory => line.as_str(),
+        _ => MEMORY,
+    };
+    let _ = write_whole(errors, text.as_bytes());
+}
+
+/// Reads a script to its end, or to 1048577 bytes, runs it on one thread, and writes what shows the run, which is whole in
+/// memory before its first byte is written. Why a script or its opening is refused goes to where errors go, in one line.
+///
+/// Refused with `Fault` and nothing written: `Script` with the place of its first bad part, `Limits` or `LawBroken` for its
+/// opening, `Memory` for a refused allocation; with `Stream` only if a call of the source or the sink failed, and then a
+/// front of the text stands.
+pub fn show_stream<S: Source, K: Sink, E: Sink>(
+    alloc: Global,
+    options: &Options,
+    source: &mut S,
+    sink: &mut K,
+    errors: &mut E,
+) -> Result<End, RunFault>
+    ensures tells { TellsBy (IsShown options.now.view) (S.left source.old) (K.contents sink.old) (K.contents sink.new) result }
+    ensures stream { result ≡ Err RunFault.Stream → IsTrue (S.has_failed source.new) ⊎ IsTrue (K.has_failed sink.new) }
+{
+    let bytes = match read_capped(alloc, source) {
+        Ok(bytes) => bytes,
+        Err(fault) => return Err(fault),
+    };
+    let done = match done_of_bytes(alloc, options, &bytes) {
+        Ok(done) => done,
+        Err(fault) => {
+            complain(alloc, errors, &bytes, fault);
+            return Err(RunFault::Fault(fault));
+        }
+    };
+    match write_whole(sink, done.text.as_bytes()) {
+        Ok(()) => Ok(done.end),
+        Err(_) => Err(RunFault::Stream),
+    }
+}
+
+// The exit status of an outcome.
+fn status_of(outcome: &Result<End, RunFault>) -> u8
+    ensures { result ≡ status_of outcome.now }
+{
+    match outcome {
+        Ok(End::Ended) => 0,
+        Ok(End::TurnsOut) => 2,
+        Ok(End::Unlawful) => 4,
+        Err(RunFault::Fault(Fault::Memory)) | Err(RunFault::Stream) => 3,
+        Err(RunFault::Fault(_)) => 1,
+    }
+}
+
+/// The line and the status where the arguments are none of the program's, or can't be told: 3 for want of memory, else 1.
+pub fn refuse_arguments<E: Sink>(errors: &mut E, memory: bool) -> u8 {
+    let (line, status) = if memory { (MEMORY, 3) } else { (USAGE, 1) };
+    let _ = write_whole(errors, line.as_bytes());
+    status
+}
+
+/// The whole program: its arguments without its own name, what it reads, what it writes, and where its errors go. The
+/// answer is its exit status, as that of `lwkt_run`: 0 every thread ended; 1 arguments, or a script or opening that was
+/// refused; 2 turns used up; 3 want of memory, or a stream that failed; 4 an unlawful trace.
+///
+/// The arguments are looked at before anything is read; where they are wrong nothing is read or written but the line of the
+/// error.
+pub fn run_show<S: Source, K: Sink, E: Sink>(
+    alloc: Global,
+    words: &[String],
+    source: &mut S,
+    sink: &mut K,
+    errors: &mut E,
+) -> u8
+    ensures { ((source.new ≡ source.old) × (sink.new ≡ sink.old)) ⊎ IsShowing (S.left source.old) (K.contents sink.old) (K.contents sink.new) result }
+{
+    let Some(options) = options_of(words) else {
+        return refuse_arguments(errors, false);
+    };
+    let outcome = show_stream(alloc, &options, source, sink, errors);
+    if outcome == Err(RunFault::Stream) {
+        let _ = write_whole(errors, STREAM.as_bytes());
+    }
+    status_of(&outcome)
+}
