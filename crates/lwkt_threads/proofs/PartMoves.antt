@@ -190,11 +190,11 @@ threads_tell answers limits script opened driven stopped traces before after clo
     let many : length stopped.cpus ≡ length opened.cpus = told.as_many ∙ d.traces_are in
     let parts = parts_of 0 traces after.items in
     let found : (cpu : ℕ) (part : List Event) → slice_get parts cpu ≡ Some part → (p : Processor Scripted) × ((slice_get stopped.cpus cpu ≡ Some p) × IsToldAt cpu p part) = λ cpu part at.
-        let x = parts_at 0 traces after.items cpu part at in
-        let z : 0 + cpu ≡ cpu = omega arith in
-        let p = get_there stopped.cpus cpu (omega (arith, slice_get_within traces cpu x.0 x.1.0, told.as_many)) in
-        let E : List Event → Type 0 = λ es. IsToldAt cpu p.0 es in
-        (p.0, (p.1, subst E (ap (λ (j : ℕ). x.0.items ++ of_cpu j after.items) (sym z) ∙ sym x.1.1) (told.each cpu p.0 x.0 p.1 x.1.0))) in
+    let x = parts_at 0 traces after.items cpu part at in
+    let z : 0 + cpu ≡ cpu = omega arith in
+    let p = get_there stopped.cpus cpu (omega (arith, slice_get_within traces cpu x.0 x.1.0, told.as_many)) in
+    let E : List Event → Type 0 = λ es. IsToldAt cpu p.0 es in
+    (p.0, (p.1, subst E (ap (λ (j : ℕ). x.0.items ++ of_cpu j after.items) (sym z) ∙ sym x.1.1) (told.each cpu p.0 x.0 p.1 x.1.0))) in
     let B : BankId → Type 0 = λ b. TellOneRun b (length opened.cpus) closed.tokens parts in
     let N : ℕ → Type 0 = λ n. TellOneRun stopped.bank n closed.tokens parts in
     let S : Shelf → Type 0 = λ b. TellOneMailRun b closed.messages.items parts in
