@@ -1,12 +1,15 @@
 //! Bodies as lists of asks: two processors with their lists crossed, a broken law at a wait, and asks that name nothing.
-use crate::drivers::{Driver, Watch, next_driver, next_watch, open, token};
+ghost use Rattle.std.specs.Prelude.{All};
+ghost use Rattle.lwkt_bank.specs.Seats.{id_of};
+ghost use Rattle.lwkt_cpu_rows.specs.Free.{IsFree, IsGiven};
+
+use crate::drivers::{Board, Seats, add, next_driver};
+use crate::scenes::{Deed, PLAIN, Scene, Step, Token, first_other_deed, open_all, play};
 use crate::scripts::Script;
-use lwkt_base::{
-    Answer, Ask, Call, CpuId, Fault, Flags, Law, MsgId, ThreadId, ThreadState, TokId, TokSpec,
-};
+use lwkt_base::{Answer, Ask, Call, CpuId, Fault, Flags, Law, MsgId, ThreadId, ThreadState, TokId};
 use lwkt_core::Event;
-use lwkt_cpu::{Body, Turned};
-use std::alloc::{AllocError, Global};
+use lwkt_cpu::{Body, Drove, Turned};
+use std::alloc::Global;
 use std::test::Fail;
 
 const FIRST: TokId = TokId(0);
@@ -16,42 +19,6 @@ const SECOND: TokId = TokId(1);
 const NONE: TokId = TokId(255);
 
 const RAN: Turned = Turned::Ran { thread: 0 };
-
-// A round: the turns of the two processors, and the words of both tokens after it.
-type Round = (Turned, Turned, u64, u64);
-
-// The place of the first round that goes otherwise.
-fn first_other(
-    first: &mut Driver<Script>,
-    second: &mut Driver<Script>,
-    watch: &mut Watch,
-    rounds: &[Round],
-) -> Result<Option<usize>, Fault> {
-    for (place, round) in rounds.iter().enumerate() {
-        let one = first.turn()?;
-        let other = second.turn()?;
-        let words = (watch.word(FIRST), watch.word(SECOND));
-        if one != round.0 || other != round.1 || words != (Some(round.2), Some(round.3)) {
-            return Ok(Some(place));
-        }
-    }
-    Ok(None)
-}
-
-/// One body that asks so.
-pub fn one(alloc: Global, asks: &[Ask]) -> Result<Vec<Script>, AllocError> {
-    let mut bodies = Vec::new(alloc);
-    let script = Script::new(alloc, asks)?;
-    bodies.push(script)?;
-    Ok(bodies)
-}
-
-// Two tokens of one cell each.
-fn two_tokens(alloc: Global) -> Result<[TokSpec; 2], AllocError> {
-    let first = token(alloc, Law::Any, 0, &[0])?;
-    let second = token(alloc, Law::Any, 0, &[0])?;
-    Ok([first, second])
-}
 
 const FIRST_ASKS: [Ask; 8] = [
     Ask::Get(FIRST),
@@ -72,15 +39,6 @@ const SECOND_ASKS: [Ask; 5] = [
     Ask::Rel(SECOND),
 ];
 
-const ROUNDS: [Round; 6] = [
-    (RAN, RAN, 1, 1),
-    (RAN, RAN, 1, 3),
-    (Turned::Idle, RAN, 1, 3),
-    (Turned::Idle, RAN, 262144, 3),
-    (Turned::Idle, RAN, 262144, 2),
-    (RAN, RAN, 262145, 1),
-];
-
 const FIRST_ANSWERS: [Answer; 9] = [
     Answer::Begin,
     Answer::Done,
@@ -93,65 +51,116 @@ const FIRST_ANSWERS: [Answer; 9] = [
     Answer::Done,
 ];
 
+const FIRST_DROVE: Drove = Drove {
+    ran: 6,
+    idle: 1,
+    all_exited: true,
+};
+
+const CROSSED: Scene = Scene {
+    tokens: &[PLAIN, PLAIN],
+    messages: &[],
+    asks: &[&FIRST_ASKS, &SECOND_ASKS],
+    watched: true,
+    steps: &[
+        Step::Turns(RAN, RAN),
+        Step::Words(1, 1),
+        Step::Turns(RAN, RAN),
+        Step::Words(1, 3),
+        Step::Turns(Turned::Idle, RAN),
+        Step::Words(1, 3),
+        Step::Turns(Turned::Idle, RAN),
+        Step::Words(262144, 3),
+        Step::Turns(Turned::Idle, RAN),
+        Step::Words(262144, 2),
+        Step::Turns(RAN, RAN),
+        Step::Words(262145, 1),
+        Step::At(0, Deed::Drove(50, FIRST_DROVE)),
+        Step::At(1, Deed::Turned(Turned::AllExited)),
+        Step::Heard(0, &FIRST_ANSWERS),
+        Step::At(0, Deed::State(ThreadState::Exited)),
+        Step::At(0, Deed::References(0)),
+    ],
+};
+
 #[test]
 fn crossed_lists(rt: HostRuntime) -> Result<(), Fail> {
-    let alloc = rt.alloc();
-    let tokens = two_tokens(alloc)?;
-    let (board, mut seats) = open(alloc, &tokens, &[], 3)?;
-    let mut watch = next_watch(&board, &mut seats).ok_or("a seat to look")?;
-    let mut second = next_driver(alloc, &board, &mut seats, one(alloc, &SECOND_ASKS)?)?;
-    let mut first = next_driver(alloc, &board, &mut seats, one(alloc, &FIRST_ASKS)?)?;
-    assert_eq!(rt;
-        first_other(&mut first, &mut second, &mut watch, &ROUNDS)?,
-        None
-    );
-    let drove = first.drive(50)?;
-    assert!(rt; drove.all_exited && drove.ran == 6 && drove.idle == 1);
-    assert!(rt; second.turn()? == Turned::AllExited);
-    let body = first.body(0).ok_or("a body")?;
-    assert_eq!(rt; body.answers(), FIRST_ANSWERS.as_slice());
-    assert!(rt; first.state(0) == Some(ThreadState::Exited));
-    assert!(rt; first.references(0) == Some(0));
+    assert_eq!(rt; play(rt.alloc(), &CROSSED)?, None);
     Ok(())
+}
+
+const CPU: CpuId = CpuId(0);
+
+// The cell is written, and has its first value again at the wait.
+const RESTORED: [Event; 4] = [
+    Event::Take {
+        cpu: CPU,
+        tok: FIRST,
+    },
+    Event::Write {
+        cpu: CPU,
+        tok: FIRST,
+        cell: 0,
+        value: 9,
+    },
+    Event::Write {
+        cpu: CPU,
+        tok: FIRST,
+        cell: 0,
+        value: 5,
+    },
+    Event::GiveClean {
+        cpu: CPU,
+        tok: FIRST,
+    },
+];
+
+const BROKEN_DROVE: Drove = Drove {
+    ran: 3,
+    idle: 1,
+    all_exited: true,
+};
+
+const BROKEN: [Deed; 6] = [
+    Deed::Drove(50, BROKEN_DROVE),
+    Deed::State(ThreadState::Faulted(Fault::Broken)),
+    Deed::References(0),
+    Deed::Trace(&RESTORED),
+    Deed::Stop,
+    Deed::Trace(&RESTORED),
+];
+
+const SUM: Token = Token {
+    law: Law::Sum,
+    param: 10,
+    generation: 0,
+    cells: &[5, 5],
+};
+
+const BREAKS: [Ask; 3] = [Ask::Get(FIRST), Ask::Write(FIRST, 0, 9), Ask::WaitPort];
+
+// The place of the first deed of a processor with this body that goes otherwise than it is told.
+fn first_other_of(
+    alloc: Global,
+    board: &Board,
+    seats: &mut Seats,
+    body: Box<dyn Body + Drop>,
+) -> Result<Option<usize>, Fault>
+    requires seats { All (IsFree (id_of board.now.bank)) seats.old.seats.items }
+    requires mails { All (IsGiven board.now.book) seats.old.mails.items }
+{
+    let mut bodies = Vec::new(alloc);
+    add(&mut bodies, body)?;
+    let mut driver = next_driver(alloc, board, seats, bodies)?;
+    first_other_deed(&mut driver, &BROKEN)
 }
 
 #[test]
 fn law_broken_at_wait(rt: HostRuntime) -> Result<(), Fail> {
     let alloc = rt.alloc();
-    let tokens = [token(alloc, Law::Sum, 10, &[5, 5])?];
-    let (board, mut seats) = open(alloc, &tokens, &[], 1)?;
-    let script = Script::new(
-        alloc,
-        &[Ask::Get(FIRST), Ask::Write(FIRST, 0, 9), Ask::WaitPort],
-    )?;
-    let boxed: Box<dyn Body + Drop> = Box::new(alloc, script)?;
-    let mut bodies = Vec::new(alloc);
-    bodies.push(boxed)?;
-    let mut driver = next_driver(alloc, &board, &mut seats, bodies)?;
-    let drove = driver.drive(50)?;
-    assert!(rt; drove.ran == 3 && drove.idle == 1 && drove.all_exited);
-    assert!(rt; driver.state(0) == Some(ThreadState::Faulted(Fault::Broken)));
-    assert!(rt; driver.references(0) == Some(0));
-    let cpu = CpuId(0);
-    let want = [
-        Event::Take { cpu, tok: FIRST },
-        Event::Write {
-            cpu,
-            tok: FIRST,
-            cell: 0,
-            value: 9,
-        },
-        Event::Write {
-            cpu,
-            tok: FIRST,
-            cell: 0,
-            value: 5,
-        },
-        Event::GiveClean { cpu, tok: FIRST },
-    ];
-    assert_eq!(rt; driver.trace(), want.as_slice());
-    driver.stop()?;
-    assert_eq!(rt; driver.trace(), want.as_slice());
+    let (board, mut seats) = open_all(alloc, &[SUM], &[], 1)?;
+    let body: Box<dyn Body + Drop> = Box::new(alloc, Script::new(alloc, &BREAKS)?)?;
+    assert_eq!(rt; first_other_of(alloc, &board, &mut seats, body)?, None);
     Ok(())
 }
 
@@ -218,18 +227,27 @@ const REFUSALS: [Answer; 19] = [
     Answer::Done,
 ];
 
+const NOTHING_DROVE: Drove = Drove {
+    ran: 19,
+    idle: 31,
+    all_exited: false,
+};
+
+const OF_NOTHING: Scene = Scene {
+    tokens: &[PLAIN, PLAIN],
+    messages: &[],
+    asks: &[&ASKS_OF_NOTHING],
+    watched: false,
+    steps: &[
+        Step::At(0, Deed::Drove(50, NOTHING_DROVE)),
+        Step::Heard(0, &REFUSALS),
+        Step::At(0, Deed::State(ThreadState::Waiting)),
+        Step::At(0, Deed::Trace(&[])),
+    ],
+};
+
 #[test]
 fn asks_of_nothing(rt: HostRuntime) -> Result<(), Fail> {
-    let alloc = rt.alloc();
-    let tokens = two_tokens(alloc)?;
-    let (board, mut seats) = open(alloc, &tokens, &[], 1)?;
-    let bodies = one(alloc, &ASKS_OF_NOTHING)?;
-    let mut driver = next_driver(alloc, &board, &mut seats, bodies)?;
-    let drove = driver.drive(50)?;
-    assert!(rt; drove.ran == 19 && drove.idle == 31 && !drove.all_exited);
-    let body = driver.body(0).ok_or("a body")?;
-    assert_eq!(rt; body.answers(), REFUSALS.as_slice());
-    assert!(rt; driver.state(0) == Some(ThreadState::Waiting));
-    assert!(rt; driver.trace().is_empty());
+    assert_eq!(rt; play(rt.alloc(), &OF_NOTHING)?, None);
     Ok(())
 }

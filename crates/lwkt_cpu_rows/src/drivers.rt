@@ -65,6 +65,14 @@ pub fn token(alloc: Global, law: Law, param: u64, cells: &[u64]) -> Result<TokSp
     })
 }
 
+/// Adds an item to a list.
+pub fn add<T: Drop>(list: &mut Vec<T>, item: T) -> Result<(), Fault> {
+    match list.push(item) {
+        Ok(()) => Ok(()),
+        Err(_) => Err(Fault::Memory),
+    }
+}
+
 // A bank of these tokens, with a seat for each of so many processors.
 fn open_bank(alloc: Global, specs: &[TokSpec], cpus: usize) -> Result<(Bank, Vec<CpuSeat>), Fault>
     ensures seats { IfOk result (λ opened. All (IsFree (id_of opened.0)) opened.1.items) }
@@ -94,10 +102,10 @@ fn origins_of(alloc: Global, specs: &[MsgSpec]) -> Result<Vec<ThreadId>, AllocEr
 }
 
 // A list for each of so many processors, of the ends of the lanes to it.
-fn no_ends(alloc: Global, cpus: usize) -> Result<Vec<Vec<LaneIn>>, AllocError> {
+fn no_ends(alloc: Global, cpus: usize) -> Result<Vec<Vec<LaneIn>>, Fault> {
     let mut ins = Vec::new(alloc);
     for made in 0..cpus {
-        ins.push(Vec::new(alloc))?;
+        add(&mut ins, Vec::new(alloc))?;
     }
     Ok(ins)
 }
@@ -105,7 +113,7 @@ fn no_ends(alloc: Global, cpus: usize) -> Result<Vec<Vec<LaneIn>>, AllocError> {
 // A lane, whose receiving end goes to this list.
 fn lane_to(alloc: Global, ends: &mut Vec<LaneIn>) -> Result<LaneOut, Fault> {
     let (out, into) = lane(alloc, LANE_NOTES)?;
-    ends.push(into).map_err(|_| Fault::Memory)?;
+    add(ends, into)?;
     Ok(out)
 }
 
@@ -114,7 +122,7 @@ fn lanes_to_all(alloc: Global, ins: &mut [Vec<LaneIn>]) -> Result<Vec<LaneOut>, 
     let mut outs = Vec::new(alloc);
     for to in 0..ins.len() {
         let out = lane_to(alloc, &mut ins[to])?;
-        outs.push(out).map_err(|_| Fault::Memory)?;
+        add(&mut outs, out)?;
     }
     Ok(outs)
 }
@@ -124,7 +132,7 @@ fn lanes_from_all(alloc: Global, ins: &mut [Vec<LaneIn>]) -> Result<Vec<Vec<Lane
     let mut outs = Vec::new(alloc);
     for from in 0..ins.len() {
         let row = lanes_to_all(alloc, ins)?;
-        outs.push(row).map_err(|_| Fault::Memory)?;
+        add(&mut outs, row)?;
     }
     Ok(outs)
 }
@@ -144,7 +152,7 @@ pub fn open(
     let (bank, seats) = open_bank(alloc, tokens, cpus)?;
     let (book, mails) = open_book(alloc, messages, cpus)?;
     let origins = origins_of(alloc, messages).map_err(|_| Fault::Memory)?;
-    let mut ins = no_ends(alloc, cpus).map_err(|_| Fault::Memory)?;
+    let mut ins = no_ends(alloc, cpus)?;
     let outs = lanes_from_all(alloc, &mut ins)?;
     let board = Board {
         bank,

@@ -1,38 +1,43 @@
 //! Four threads, each driving a processor of its own, whose bodies take tokens in different orders and call each other; then
 //! the processors are stopped, and bank and book are closed: what they say is what the bodies have counted.
 ghost use Rattle.std.specs.Prelude.{◌≡◌, ◌<◌, All, IfOk};
-ghost use Rattle.lwkt_bank.specs.Seats.{id_of};
+ghost use Rattle.lwkt_bank.specs.Seats.{id_of, cpus_of};
 ghost use Rattle.lwkt_bank.specs.Closing.{IsReady};
 ghost use Rattle.lwkt_cpu_rows.specs.Free.{IsFree, IsGiven, SitsAt};
 
 use crate::closings::{close, end};
-use crate::drivers::{Board, Seats, next_cpu, open, token};
+use crate::drivers::{Board, Seats, add, next_cpu};
+use crate::scenes::{TALLY, open_all};
 use crate::workers::{Counts, Worker, add_up, calling, serving};
 use lwkt_bank::{Bank, Closed, CpuSeat};
-use lwkt_base::{CpuId, Fault, Law, MsgEnd, MsgSpec, Owner, ThreadId};
+use lwkt_base::{CpuId, Fault, MsgEnd, MsgSpec, Owner, ThreadId};
 use lwkt_cpu::Cpu;
 use lwkt_msg::{MsgBook, MsgSeat};
-use std::alloc::{AllocError, Global};
+use std::alloc::Global;
 use std::test::Fail;
 use std::thread;
 use std::thread::Threads;
 
 // A message of the caller of a processor.
-fn own(cpu: u8) -> MsgSpec {
-    MsgSpec {
-        round: 0,
-        origin: ThreadId {
-            cpu: CpuId(cpu),
-            thread: 0,
-        },
-    }
+macro_rules! own {
+    ($cpu:literal) => {
+        MsgSpec {
+            round: 0,
+            origin: ThreadId {
+                cpu: CpuId($cpu),
+                thread: 0,
+            },
+        }
+    };
 }
 
+const MESSAGES: [MsgSpec; 4] = [own!(0), own!(1), own!(2), own!(3)];
+
 // The bodies of a processor: one that calls, and one that serves.
-fn workers(alloc: Global, cpu: u8) -> Result<Vec<Worker>, AllocError> {
+fn workers(alloc: Global, cpu: u8) -> Result<Vec<Worker>, Fault> {
     let mut bodies = Vec::new(alloc);
-    bodies.push(calling(cpu))?;
-    bodies.push(serving(cpu))?;
+    add(&mut bodies, calling(cpu))?;
+    add(&mut bodies, serving(cpu))?;
     Ok(bodies)
 }
 
@@ -44,8 +49,7 @@ fn four(alloc: Global, board: &Board, seats: &mut Seats) -> Result<Vec<Cpu<Worke
 {
     let mut cpus = Vec::new(alloc);
     for made in 0..4u8 {
-        let bodies = workers(alloc, 3 - made).map_err(|_| Fault::Memory)?;
-        let cpu = next_cpu(alloc, board, seats, bodies)?;
+        let cpu = next_cpu(alloc, board, seats, workers(alloc, 3 - made)?)?;
         cpus.push(cpu).map_err(|_| Fault::Memory)?;
     }
     Ok(cpus)
@@ -103,24 +107,44 @@ fn end_all(
     Ok((seats, mails))
 }
 
-// Whether a token's closing values are what was counted: every addition was a written section of its own.
-fn is_counted(closed: &Closed, counts: &Counts, tok: usize) -> bool
-    requires { tok < 3 }
-{
-    let added = counts.added_to(tok);
+fn sum_of(added: &[u64; 4]) -> u64 {
     let mut sum = 0u64;
     for one in added {
-        sum = sum.wrapping_add(one);
+        sum = sum.wrapping_add(*one);
     }
-    let row = match closed.rows.get(tok) {
-        Some(row) => row.as_slice() == [sum].as_slice(),
+    sum
+}
+
+fn has_cell(closed: &Closed, tok: usize, value: u64) -> bool {
+    match closed.rows.get(tok) {
+        Some(row) => row.as_slice() == [value].as_slice(),
         None => false,
-    };
-    let tallies = match closed.tallies.get(tok) {
+    }
+}
+
+fn has_tallies(closed: &Closed, tok: usize, added: &[u64; 4]) -> bool {
+    match closed.tallies.get(tok) {
         Some(tallies) => tallies.as_slice() == added.as_slice(),
         None => false,
-    };
-    row && tallies && closed.gens.get(tok) == Some(&sum)
+    }
+}
+
+// Whether a token's closing values are what was counted: every addition was a written section of its own.
+fn is_counted(closed: &Closed, counts: &Counts, tok: usize) -> bool {
+    let added = counts.added_to(tok);
+    let sum = sum_of(&added);
+    let kept = has_cell(closed, tok, sum) && has_tallies(closed, tok, &added);
+    kept && closed.gens.get(tok) == Some(&sum)
+}
+
+// The first token whose closing values are others than were counted.
+fn first_miscounted(closed: &Closed, counts: &Counts) -> Option<usize> {
+    for tok in 0..3usize {
+        if !is_counted(closed, counts, tok) {
+            return Some(tok);
+        }
+    }
+    None
 }
 
 // Whether a message is where it must be after these calls, with as many requests shown, replies made and answers seen. What a
@@ -146,32 +170,46 @@ fn is_in_place(end: MsgEnd, m: usize, counts: &Counts) -> bool
     state && end.round == calls
 }
 
-#[test]
-fn four_processors_close_even(rt: HostRuntime) -> Result<(), Fail> {
-    let alloc = rt.alloc();
-    let tokens = [
-        token(alloc, Law::Tally, 0, &[0])?,
-        token(alloc, Law::Tally, 0, &[0])?,
-        token(alloc, Law::Tally, 0, &[0])?,
-    ];
-    let messages = [own(0), own(1), own(2), own(3)];
-    let (board, mut seats) = open(alloc, &tokens, &messages, 4)?;
-    let mut cpus = four(alloc, &board, &mut seats)?;
-    drive_by_threads(&rt, alloc, &board.bank, &board.book, &mut cpus);
+// The first message that isn't where it must be.
+fn first_misplaced(ends: &[MsgEnd], counts: &Counts) -> Option<usize> {
+    for (m, end) in ends.iter().enumerate() {
+        if m >= 4 || !is_in_place(*end, m, counts) {
+            return Some(m);
+        }
+    }
+    None
+}
+
+// Stops the processors and closes bank and book: the closing values, where the messages are, and what the bodies have counted.
+fn close_four(
+    alloc: Global,
+    board: Board,
+    cpus: Vec<Cpu<Worker>>,
+) -> Result<(Closed, Vec<MsgEnd>, Counts), Fault>
+    requires bank { cpus_of board.bank ≡ 4 }
+    requires book { board.book.cpus ≡ 4 }
+    requires sit { All (λ cpu. SitsAt (id_of board.bank) board.book.table cpu.seat cpu.post) cpus.items }
+{
     let mut counts = Counts::default();
     let (seats, mails) = end_all(alloc, &board.bank, &board.book, cpus, &mut counts)?;
     let (closed, ends) = close(alloc, board, 4, seats, mails)?;
-    assert!(rt; counts.wrong == 0, "{counts:?}");
-    for tok in 0..3usize {
-        assert!(rt; is_counted(&closed, &counts, tok), "{counts:?}");
-    }
+    Ok((closed, ends, counts))
+}
+
+#[test]
+fn four_processors_close_even(rt: HostRuntime) -> Result<(), Fail> {
+    let alloc = rt.alloc();
+    let (board, mut seats) = open_all(alloc, &[TALLY, TALLY, TALLY], &MESSAGES, 4)?;
+    let mut cpus = four(alloc, &board, &mut seats)?;
+    drive_by_threads(&rt, alloc, &board.bank, &board.book, &mut cpus);
+    let (closed, ends, counts) = close_four(alloc, board, cpus)?;
+    assert!(rt; counts.wrong == 0 && counts.calls[0] > 0, "{counts:?}");
+    assert_eq!(rt; first_miscounted(&closed, &counts), None, "{counts:?}");
     assert!(rt; ends.len() == 4);
-    for (m, end) in ends.iter().enumerate() {
-        assert!(rt;
-            m < 4 && is_in_place(*end, m, &counts),
-            "{end:?} {counts:?}"
-        );
-    }
-    assert!(rt; counts.calls[0] > 0);
+    assert_eq!(rt;
+        first_misplaced(&ends, &counts),
+        None,
+        "{ends:?} {counts:?}"
+    );
     Ok(())
 }

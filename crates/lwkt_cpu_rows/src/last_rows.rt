@@ -1,7 +1,6 @@
 //! Threads that end while another waits for their answer: their ports are closed, and what is owed is replied to.
-use crate::cpu_rows::one;
-use crate::drivers::{next_driver, open, token};
-use crate::mail_rows::{OWN, THERE, has_told, take_turns};
+use crate::mail_rows::{OWN, THERE};
+use crate::scenes::{Deed, Scene, Step, Token, play};
 use lwkt_base::{Answer, Ask, Call, CpuId, Fault, Item, Law, MsgId, ThreadState, TokId};
 use lwkt_core::Event;
 use std::test::Fail;
@@ -10,96 +9,122 @@ const FIRST: Call = Call { arg: 10, op: 1 };
 
 const SECOND: Call = Call { arg: 20, op: 2 };
 
-// The answer to a call: the reply with this error, and result 0.
-fn replied(error: u32) -> Answer {
-    Answer::Got(Item::Answered(MsgId(0), error, 0))
-}
+const MSG: MsgId = MsgId(0);
+
+const SHOWN: Answer = Answer::Got(Item::Request(MSG, FIRST));
+
+// The answers to a call: the reply with error 41 or 30, and result 0.
+const OWED: Answer = Answer::Got(Item::Answered(MSG, 41, 0));
+
+const CLOSED: Answer = Answer::Got(Item::Answered(MSG, 30, 0));
+
+// A token without cells.
+const BARE: Token = Token {
+    law: Law::Any,
+    param: 0,
+    generation: 0,
+    cells: &[],
+};
 
 // A thread ends with a request unanswered: it is answered with 41, and the next one, which comes to its closed port, with 30.
+const ENDED: Scene = Scene {
+    tokens: &[BARE, BARE],
+    messages: &[OWN],
+    asks: &[
+        &[Ask::Do(MSG, THERE, FIRST), Ask::Do(MSG, THERE, SECOND)],
+        &[
+            Ask::Get(TokId(0)),
+            Ask::Get(TokId(1)),
+            Ask::WaitPort,
+            Ask::Exit,
+        ],
+    ],
+    watched: false,
+    steps: &[
+        Step::TakeTurns,
+        Step::At(0, Deed::State(ThreadState::Exited)),
+        Step::Heard(0, &[Answer::Begin, OWED, CLOSED]),
+        Step::At(1, Deed::State(ThreadState::Exited)),
+        Step::Heard(1, &[Answer::Begin, Answer::Done, Answer::Done, SHOWN]),
+        Step::At(1, Deed::References(0)),
+    ],
+};
+
 #[test]
 fn ended_port(rt: HostRuntime) -> Result<(), Fail> {
-    let alloc = rt.alloc();
-    let tokens = [
-        token(alloc, Law::Any, 0, &[])?,
-        token(alloc, Law::Any, 0, &[])?,
-    ];
-    let (board, mut seats) = open(alloc, &tokens, &[OWN], 2)?;
-    let asks = [
-        Ask::Get(TokId(0)),
-        Ask::Get(TokId(1)),
-        Ask::WaitPort,
-        Ask::Exit,
-    ];
-    let mut second = next_driver(alloc, &board, &mut seats, one(alloc, &asks)?)?;
-    let asks = [
-        Ask::Do(MsgId(0), THERE, FIRST),
-        Ask::Do(MsgId(0), THERE, SECOND),
-    ];
-    let mut first = next_driver(alloc, &board, &mut seats, one(alloc, &asks)?)?;
-    take_turns(&mut first, &mut second)?;
-    let want = [Answer::Begin, replied(41), replied(30)];
-    assert!(rt; has_told(&first, &want));
-    let shown = Answer::Got(Item::Request(MsgId(0), FIRST));
-    let want = [Answer::Begin, Answer::Done, Answer::Done, shown];
-    assert!(rt; has_told(&second, &want));
-    assert!(rt; second.references(0) == Some(0));
+    assert_eq!(rt; play(rt.alloc(), &ENDED)?, None);
     Ok(())
 }
+
+const REPLY: Event = Event::Reply {
+    cpu: CpuId(1),
+    msg: MSG,
+};
 
 // A processor that stops replies to what its thread was shown; the reply finds who waits for it.
+const STOPPED: Scene = Scene {
+    tokens: &[],
+    messages: &[OWN],
+    asks: &[
+        &[Ask::Do(MSG, THERE, FIRST)],
+        &[Ask::WaitPort, Ask::GetPort, Ask::GetPort],
+    ],
+    watched: false,
+    steps: &[
+        Step::At(0, Deed::Turn),
+        Step::At(1, Deed::Turn),
+        Step::At(1, Deed::Turn),
+        Step::At(1, Deed::State(ThreadState::Running)),
+        Step::At(1, Deed::Forget),
+        Step::At(1, Deed::Stop),
+        Step::At(1, Deed::State(ThreadState::Exited)),
+        Step::At(1, Deed::Trace(&[REPLY])),
+        Step::At(0, Deed::Turn),
+        Step::At(0, Deed::State(ThreadState::Exited)),
+        Step::Heard(0, &[Answer::Begin, OWED]),
+    ],
+};
+
 #[test]
 fn stop_replies(rt: HostRuntime) -> Result<(), Fail> {
-    let alloc = rt.alloc();
-    let (board, mut seats) = open(alloc, &[], &[OWN], 2)?;
-    let asks = [Ask::WaitPort, Ask::GetPort, Ask::GetPort];
-    let mut second = next_driver(alloc, &board, &mut seats, one(alloc, &asks)?)?;
-    let asks = [Ask::Do(MsgId(0), THERE, FIRST)];
-    let mut first = next_driver(alloc, &board, &mut seats, one(alloc, &asks)?)?;
-    first.turn()?;
-    second.turn()?;
-    second.turn()?;
-    assert!(rt; second.state(0) == Some(ThreadState::Running));
-    second.forget();
-    second.stop()?;
-    assert!(rt; second.state(0) == Some(ThreadState::Exited));
-    let replies = [Event::Reply {
-        cpu: CpuId(1),
-        msg: MsgId(0),
-    }];
-    assert_eq!(rt; second.trace(), replies.as_slice());
-    first.turn()?;
-    assert!(rt; has_told(&first, &[Answer::Begin, replied(41)]));
+    assert_eq!(rt; play(rt.alloc(), &STOPPED)?, None);
     Ok(())
 }
 
-// The last generation but one.
-const LAST_BUT_ONE: u64 = 70_368_744_177_662;
+// A token at its last generation but one.
+const WORN: Token = Token {
+    law: Law::Any,
+    param: 0,
+    generation: 70_368_744_177_662,
+    cells: &[0],
+};
+
+const DONE: Answer = Answer::Done;
 
 // A thread that would go on at a last generation has ended: its port is closed.
+const WORN_OUT: Scene = Scene {
+    tokens: &[WORN],
+    messages: &[OWN],
+    asks: &[
+        &[
+            Ask::Get(TokId(0)),
+            Ask::Write(TokId(0), 0, 1),
+            Ask::Rel(TokId(0)),
+            Ask::Do(MSG, THERE, FIRST),
+        ],
+        &[Ask::Get(TokId(0)), Ask::Rel(TokId(0))],
+    ],
+    watched: false,
+    steps: &[
+        Step::TakeTurns,
+        Step::At(0, Deed::State(ThreadState::Exited)),
+        Step::Heard(0, &[Answer::Begin, DONE, DONE, DONE, CLOSED]),
+        Step::At(1, Deed::State(ThreadState::Faulted(Fault::Worn))),
+    ],
+};
+
 #[test]
 fn last_generation_closes_the_port(rt: HostRuntime) -> Result<(), Fail> {
-    let alloc = rt.alloc();
-    let mut worn = token(alloc, Law::Any, 0, &[0])?;
-    worn.generation = LAST_BUT_ONE;
-    let (board, mut seats) = open(alloc, &[worn], &[OWN], 2)?;
-    let asks = [Ask::Get(TokId(0)), Ask::Rel(TokId(0))];
-    let mut second = next_driver(alloc, &board, &mut seats, one(alloc, &asks)?)?;
-    let asks = [
-        Ask::Get(TokId(0)),
-        Ask::Write(TokId(0), 0, 1),
-        Ask::Rel(TokId(0)),
-        Ask::Do(MsgId(0), THERE, FIRST),
-    ];
-    let mut first = next_driver(alloc, &board, &mut seats, one(alloc, &asks)?)?;
-    take_turns(&mut first, &mut second)?;
-    let want = [
-        Answer::Begin,
-        Answer::Done,
-        Answer::Done,
-        Answer::Done,
-        replied(30),
-    ];
-    assert!(rt; has_told(&first, &want));
-    assert!(rt; second.state(0) == Some(ThreadState::Faulted(Fault::Worn)));
+    assert_eq!(rt; play(rt.alloc(), &WORN_OUT)?, None);
     Ok(())
 }

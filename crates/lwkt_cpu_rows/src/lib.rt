@@ -14,6 +14,8 @@ mod last_rows;
 #[cfg(test)]
 mod mail_rows;
 #[cfg(test)]
+mod scenes;
+#[cfg(test)]
 mod scripts;
 #[cfg(test)]
 mod skip_rows;

@@ -1,19 +1,19 @@
 //! Two processors and their messages: a call that is replied to, and a lane that is full.
-ghost use Rattle.std.specs.Prelude.{◌≡◌, All};
+ghost use Rattle.std.specs.Prelude.{◌≡◌, All, IfOk};
 ghost use Rattle.lwkt_bank.specs.Seats.{id_of, cpus_of};
 ghost use Rattle.lwkt_cpu_rows.specs.Free.{IsFree, IsGiven, SitsAt};
 
 use crate::closings::{close, end};
-use crate::cpu_rows::one;
-use crate::drivers::{Board, Driver, Seats, next_cpu, next_driver, open};
-use crate::scripts::Script;
+use crate::drivers::{Board, Seats, next_cpu};
+use crate::scenes::{Deed, Scene, Step, open_all, play};
+use crate::scripts::{Script, one};
 use lwkt_base::{
     Answer, Ask, Call, CpuId, Fault, Flags, Item, MsgEnd, MsgId, MsgSpec, Owner, ThreadId,
     ThreadState,
 };
 use lwkt_core::Event;
 use lwkt_cpu::Cpu;
-use std::alloc::{AllocError, Global};
+use std::alloc::Global;
 use std::test::Fail;
 
 const FLAGS: Flags = Flags {
@@ -38,23 +38,6 @@ pub const THERE: ThreadId = ThreadId {
 
 const CALL: Call = Call { arg: 9, op: 5 };
 
-/// Turns of the two processors, one after the other.
-pub fn take_turns(first: &mut Driver<Script>, second: &mut Driver<Script>) -> Result<(), Fault> {
-    for round in 0..8 {
-        first.turn()?;
-        second.turn()?;
-    }
-    Ok(())
-}
-
-/// Whether a processor's only thread has ended by itself after these answers.
-pub fn has_told(driver: &Driver<Script>, wanted: &[Answer]) -> bool {
-    match driver.body(0) {
-        Some(body) => { driver.state(0) == Some(ThreadState::Exited) && body.answers() == wanted }
-        None => false,
-    }
-}
-
 const CALLED: [Answer; 3] = [
     Answer::Begin,
     Answer::Got(Item::Answered(MsgId(0), 7, 42)),
@@ -67,65 +50,68 @@ const SERVED: [Answer; 3] = [
     Answer::Done,
 ];
 
+const CALL_AND_REPLY: Scene = Scene {
+    tokens: &[],
+    messages: &[OWN],
+    asks: &[
+        &[Ask::Do(MsgId(0), THERE, CALL), Ask::GetPort],
+        &[Ask::WaitPort, Ask::Reply(MsgId(0), 7, 42)],
+    ],
+    watched: false,
+    steps: &[
+        Step::TakeTurns,
+        Step::At(0, Deed::State(ThreadState::Exited)),
+        Step::Heard(0, &CALLED),
+        Step::At(1, Deed::State(ThreadState::Exited)),
+        Step::Heard(1, &SERVED),
+    ],
+};
+
 #[test]
 fn call_and_reply(rt: HostRuntime) -> Result<(), Fail> {
-    let alloc = rt.alloc();
-    let (board, mut seats) = open(alloc, &[], &[OWN], 2)?;
-    let bodies = one(alloc, &[Ask::WaitPort, Ask::Reply(MsgId(0), 7, 42)])?;
-    let mut second = next_driver(alloc, &board, &mut seats, bodies)?;
-    let bodies = one(alloc, &[Ask::Do(MsgId(0), THERE, CALL), Ask::GetPort])?;
-    let mut first = next_driver(alloc, &board, &mut seats, bodies)?;
-    take_turns(&mut first, &mut second)?;
-    assert!(rt; has_told(&first, &CALLED));
-    assert!(rt; has_told(&second, &SERVED));
+    assert_eq!(rt; play(rt.alloc(), &CALL_AND_REPLY)?, None);
     Ok(())
 }
 
-// Sends of the first so many messages.
-fn sends(alloc: Global, count: u8) -> Result<Vec<Ask>, AllocError> {
-    let mut asks = Vec::new(alloc);
-    for m in 0..count {
-        asks.push(Ask::Send(MsgId(m), THERE, CALL, FLAGS))?;
-    }
-    Ok(asks)
+macro_rules! sends {
+    ($($m:literal)*) => {
+        [$(Ask::Send(MsgId($m), THERE, CALL, FLAGS)),*]
+    };
 }
 
-// Two processors: the thread of the first sends 33 messages of its own to that of the second.
-fn sender_and_target<'a>(
-    alloc: Global,
-    board: &'a Board,
-    seats: &mut Seats,
-) -> Result<(Driver<'a, Script>, Driver<'a, Script>), Fault>
-    requires seats { All (IsFree (id_of board.now.bank)) seats.old.seats.items }
-    requires mails { All (IsGiven board.now.book) seats.old.mails.items }
-{
-    let asks = sends(alloc, 33).map_err(|_| Fault::Memory)?;
-    let idle = one(alloc, &[]).map_err(|_| Fault::Memory)?;
-    let bodies = one(alloc, &asks).map_err(|_| Fault::Memory)?;
-    let second = next_driver(alloc, board, seats, idle)?;
-    let first = next_driver(alloc, board, seats, bodies)?;
-    Ok((first, second))
+macro_rules! sent {
+    ($($m:literal)*) => {
+        [$(Event::Send { cpu: CpuId(0), msg: MsgId($m), to: CpuId(1), round: 1 }),*]
+    };
 }
+
+// A message more than a lane has room for.
+const SENDS: [Ask; 33] = sends!(
+    0 1 2 3 4 5 6 7 8 9 10 11 12 13 14 15 16 17 18 19 20 21 22 23 24 25 26 27 28 29 30 31 32
+);
+
+const SENT: [Event; 32] = sent!(
+    0 1 2 3 4 5 6 7 8 9 10 11 12 13 14 15 16 17 18 19 20 21 22 23 24 25 26 27 28 29 30 31
+);
+
+const FULL: Answer = Answer::Refused(Fault::LaneFull);
+
+const FULL_LANE: Scene = Scene {
+    tokens: &[],
+    messages: &[OWN; 33],
+    asks: &[&SENDS, &[]],
+    watched: false,
+    steps: &[
+        Step::At(0, Deed::Ran(34)),
+        Step::At(0, Deed::State(ThreadState::Exited)),
+        Step::HeardLast(0, 34, &[Answer::Done, FULL]),
+        Step::At(0, Deed::Trace(&SENT)),
+    ],
+};
 
 #[test]
 fn full_lane(rt: HostRuntime) -> Result<(), Fail> {
-    let alloc = rt.alloc();
-    let (board, mut seats) = open(alloc, &[], &[OWN; 33], 2)?;
-    let (mut driver, _second) = sender_and_target(alloc, &board, &mut seats)?;
-    let drove = driver.drive(34)?;
-    assert!(rt; drove.ran == 34 && driver.state(0) == Some(ThreadState::Exited));
-    let body = driver.body(0).ok_or("a body")?;
-    let refused = Answer::Refused(Fault::LaneFull);
-    assert!(rt; body.answers().len() == 34);
-    assert!(rt; body.answers().get(32) == Some(&Answer::Done));
-    assert!(rt; body.answers().get(33) == Some(&refused));
-    assert!(rt; driver.trace().len() == 32);
-    assert!(rt;
-        matches!(
-            driver.trace().last(),
-            Some(Event::Send { msg: MsgId(31), .. })
-        )
-    );
+    assert_eq!(rt; play(rt.alloc(), &FULL_LANE)?, None);
     Ok(())
 }
 
@@ -153,18 +139,31 @@ fn close_both(
     Ok(ends)
 }
 
-// The message that a full lane refused is at rest at its opening round once the book is closed; the others are on their way.
-#[test]
-fn full_lane_keeps_the_message(rt: HostRuntime) -> Result<(), Fail> {
-    let alloc = rt.alloc();
-    let (board, mut seats) = open(alloc, &[], &[OWN; 33], 2)?;
-    let second = next_cpu(alloc, &board, &mut seats, one(alloc, &[])?)?;
-    let asks = sends(alloc, 33)?;
-    let mut first = next_cpu(alloc, &board, &mut seats, one(alloc, &asks)?)?;
+// The processor whose thread has made the 33 sends, all but the last of which were events.
+fn sender(alloc: Global, board: &Board, seats: &mut Seats) -> Result<Cpu<Script>, Fault>
+    requires seats { All (IsFree (id_of board.now.bank)) seats.old.seats.items }
+    requires mails { All (IsGiven board.now.book) seats.old.mails.items }
+    ensures { IfOk result (λ cpu. SitsAt (id_of board.now.bank) board.now.book.table cpu.seat cpu.post) }
+{
     let mut trace = Vec::new(alloc);
-    let drove = first.drive(&board.bank, &board.book, 33, &mut trace)?;
-    assert!(rt; drove.ran == 33 && trace.len() == 32);
-    let ends = close_both(alloc, board, first, second)?;
+    let mut cpu = next_cpu(alloc, board, seats, one(alloc, &SENDS)?)?;
+    let drove = cpu.drive(&board.bank, &board.book, 33, &mut trace)?;
+    if drove.ran != 33 || trace.len() != 32 {
+        return Err(Fault::Limits);
+    }
+    Ok(cpu)
+}
+
+// What the messages are once the sends were made, both processors were stopped and the book was closed.
+fn ends_of_full_lane(alloc: Global) -> Result<Vec<MsgEnd>, Fault> {
+    let (board, mut seats) = open_all(alloc, &[], &[OWN; 33], 2)?;
+    let second = next_cpu(alloc, &board, &mut seats, one(alloc, &[])?)?;
+    let first = sender(alloc, &board, &mut seats)?;
+    close_both(alloc, board, first, second)
+}
+
+// The first message that is elsewhere than it must be: the last is at rest at its opening round, the others are on their way.
+fn first_elsewhere(ends: &[MsgEnd]) -> Option<usize> {
     let origin = OWN.origin.cpu;
     let target = THERE.cpu;
     let kept = MsgEnd {
@@ -175,10 +174,20 @@ fn full_lane_keeps_the_message(rt: HostRuntime) -> Result<(), Fail> {
         round: 1,
         state: Owner::Out { origin, target },
     };
-    assert!(rt; ends.len() == 33);
     for (m, end) in ends.iter().enumerate() {
         let want = if m == 32 { kept } else { sent };
-        assert!(rt; *end == want, "{m} {end:?}");
+        if *end != want {
+            return Some(m);
+        }
     }
+    None
+}
+
+// The message that a full lane refused is at rest at its opening round once the book is closed; the others are on their way.
+#[test]
+fn full_lane_keeps_the_message(rt: HostRuntime) -> Result<(), Fail> {
+    let ends = ends_of_full_lane(rt.alloc())?;
+    assert!(rt; ends.len() == 33);
+    assert_eq!(rt; first_elsewhere(&ends), None);
     Ok(())
 }

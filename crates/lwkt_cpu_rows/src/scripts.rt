@@ -2,7 +2,8 @@
 ghost use Rattle.std.specs.Prelude.{◌≡◌, slice_index_or};
 ghost use Rattle.lwkt_base.specs.declared.asks.Ask.TheVariants.{Exit};
 
-use lwkt_base::{Answer, Ask};
+use crate::drivers::add;
+use lwkt_base::{Answer, Ask, Fault};
 use lwkt_cpu::Body;
 use std::alloc::{AllocError, Global};
 
@@ -29,6 +30,16 @@ impl Script {
     pub fn answers(&self) -> &[Answer] {
         self.answers.as_slice()
     }
+}
+
+/// One body that asks so.
+pub fn one(alloc: Global, asks: &[Ask]) -> Result<Vec<Script>, Fault> {
+    let mut bodies = Vec::new(alloc);
+    match Script::new(alloc, asks) {
+        Ok(script) => add(&mut bodies, script)?,
+        Err(_) => return Err(Fault::Memory),
+    }
+    Ok(bodies)
 }
 
 impl Body for Script {

@@ -3,11 +3,12 @@ ghost use Rattle.std.specs.Prelude.{◌≡◌, All};
 ghost use Rattle.lwkt_bank.specs.Seats.{id_of};
 ghost use Rattle.lwkt_cpu_rows.specs.Free.{IsFree, IsGiven};
 
-use crate::drivers::{Board, Driver, Seats, next_driver, open, token};
-use crate::scripts::Script;
-use lwkt_base::{Answer, Ask, Fault, Law, TokId};
+use crate::drivers::{Board, Driver, Seats, add, next_driver};
+use crate::scenes::{TALLY, has_heard, open_all};
+use crate::scripts::one;
+use lwkt_base::{Answer, Ask, Fault, TokId};
 use lwkt_cpu::Body;
-use std::alloc::{AllocError, Global};
+use std::alloc::Global;
 use std::test::Fail;
 use std::thread;
 use std::thread::Threads;
@@ -62,21 +63,21 @@ impl Body for Adder {
     }
 }
 
+// A body that adds in this order.
+fn one_adder(one: TokId, other: TokId) -> Adder {
+    Adder {
+        one,
+        other,
+        left: SECTIONS,
+        step: 0,
+    }
+}
+
 // A body for each of two threads, whose lists are crossed.
-fn adders(alloc: Global) -> Result<Vec<Adder>, AllocError> {
+fn adders(alloc: Global) -> Result<Vec<Adder>, Fault> {
     let mut bodies = Vec::new(alloc);
-    bodies.push(Adder {
-        one: TokId(0),
-        other: TokId(1),
-        left: SECTIONS,
-        step: 0,
-    })?;
-    bodies.push(Adder {
-        one: TokId(1),
-        other: TokId(0),
-        left: SECTIONS,
-        step: 0,
-    })?;
+    add(&mut bodies, one_adder(TokId(0), TokId(1)))?;
+    add(&mut bodies, one_adder(TokId(1), TokId(0)))?;
     Ok(bodies)
 }
 
@@ -110,42 +111,59 @@ fn four<'a>(
 {
     let mut drivers = Vec::new(alloc);
     for made in 0..4 {
-        let bodies = adders(alloc).map_err(|_| Fault::Memory)?;
-        let driver = next_driver(alloc, board, seats, bodies)?;
-        drivers.push(driver).map_err(|_| Fault::Memory)?;
+        let driver = next_driver(alloc, board, seats, adders(alloc)?)?;
+        add(&mut drivers, driver)?;
     }
     Ok(drivers)
+}
+
+// Four processors, driven by a thread each until all of theirs have ended.
+fn add_up<R: Threads + Sync>(
+    rt: &R,
+    alloc: Global,
+    board: &Board,
+    seats: &mut Seats,
+) -> Result<(), Fault>
+    requires seats { All (IsFree (id_of board.now.bank)) seats.old.seats.items }
+    requires mails { All (IsGiven board.now.book) seats.old.mails.items }
+    ensures seats { All (IsFree (id_of board.now.bank)) seats.new.seats.items }
+    ensures mails { All (IsGiven board.now.book) seats.new.mails.items }
+{
+    let mut drivers = four(alloc, board, seats)?;
+    drive_by_threads(rt, &mut drivers);
+    Ok(())
+}
+
+const READS: [Ask; 4] = [
+    Ask::GetShared(TokId(0)),
+    Ask::Read(TokId(0), 0),
+    Ask::GetShared(TokId(1)),
+    Ask::Read(TokId(1), 0),
+];
+
+const READ: [Answer; 5] = [
+    Answer::Begin,
+    Answer::Done,
+    Answer::Value(6000),
+    Answer::Done,
+    Answer::Value(6000),
+];
+
+// Whether one more processor reads what was added.
+fn is_added(alloc: Global, board: &Board, seats: &mut Seats) -> Result<bool, Fault>
+    requires seats { All (IsFree (id_of board.now.bank)) seats.old.seats.items }
+    requires mails { All (IsGiven board.now.book) seats.old.mails.items }
+{
+    let mut reader = next_driver(alloc, board, seats, one(alloc, &READS)?)?;
+    let drove = reader.drive(50)?;
+    Ok(drove.all_exited && has_heard(&reader, &READ))
 }
 
 #[test]
 fn four_threads_add_up(rt: HostRuntime) -> Result<(), Fail> {
     let alloc = rt.alloc();
-    let tokens = [
-        token(alloc, Law::Tally, 0, &[0])?,
-        token(alloc, Law::Tally, 0, &[0])?,
-    ];
-    let (board, mut seats) = open(alloc, &tokens, &[], 5)?;
-    let mut drivers = four(alloc, &board, &mut seats)?;
-    drive_by_threads(&rt, &mut drivers);
-    let asks = [
-        Ask::GetShared(TokId(0)),
-        Ask::Read(TokId(0), 0),
-        Ask::GetShared(TokId(1)),
-        Ask::Read(TokId(1), 0),
-    ];
-    let mut bodies = Vec::new(alloc);
-    bodies.push(Script::new(alloc, &asks)?)?;
-    let mut reader = next_driver(alloc, &board, &mut seats, bodies)?;
-    let drove = reader.drive(50)?;
-    assert!(rt; drove.all_exited);
-    let want = [
-        Answer::Begin,
-        Answer::Done,
-        Answer::Value(6000),
-        Answer::Done,
-        Answer::Value(6000),
-    ];
-    let body = reader.body(0).ok_or("a body")?;
-    assert_eq!(rt; body.answers(), want.as_slice());
+    let (board, mut seats) = open_all(alloc, &[TALLY, TALLY], &[], 5)?;
+    add_up(&rt, alloc, &board, &mut seats)?;
+    assert!(rt; is_added(alloc, &board, &mut seats)?);
     Ok(())
 }
