@@ -40,21 +40,53 @@ use token_races::race_tokens;
 use token_rounds::time_tokens;
 use turn_rounds::time_turns;
 
-const USAGE: &str = "lwkt_bench: run";
+const USAGE: &str = "lwkt_bench: run, or run and one of tokens, lists, lanes, messages, ports, turns";
 
-// Whether `run` is the one argument.
-fn is_run<R: Env + AllocGlobal>(rt: &R) -> io::Result<bool> {
-    let mut words = env::args(rt)?.skip(1);
-    let Some(first) = words.next() else {
-        return Ok(false);
-    };
-    Ok(first.as_str() == "run" && words.next().is_none())
+/// What is timed.
+#[derive(Clone, Copy)]
+enum Rows {
+    All,
+    Tokens,
+    Lists,
+    Lanes,
+    Messages,
+    Ports,
+    Turns,
 }
 
-fn run<R: Threads + Sync + Wait + CpuClock + Clock + Print + AllocGlobal>(
+fn rows_of(word: &str) -> Option<Rows> {
+    match word {
+        "tokens" => Some(Rows::Tokens),
+        "lists" => Some(Rows::Lists),
+        "lanes" => Some(Rows::Lanes),
+        "messages" => Some(Rows::Messages),
+        "ports" => Some(Rows::Ports),
+        "turns" => Some(Rows::Turns),
+        _ => None,
+    }
+}
+
+// What the arguments ask for: `run`, and after it the rows that are wanted if not all are. None if they ask for nothing.
+fn wanted<R: Env + AllocGlobal>(rt: &R) -> io::Result<Option<Rows>> {
+    let mut words = env::args(rt)?.skip(1);
+    let Some(first) = words.next() else {
+        return Ok(None);
+    };
+    if first.as_str() != "run" {
+        return Ok(None);
+    }
+    let Some(second) = words.next() else {
+        return Ok(Some(Rows::All));
+    };
+    if words.next().is_some() {
+        return Ok(None);
+    }
+    Ok(rows_of(second.as_str()))
+}
+
+fn run_all<R: Threads + Sync + Wait + CpuClock + Clock + Print + AllocGlobal>(
     rt: &R,
 ) -> io::Result<()> {
-    println!(rt; "{HEAD}")?;
     time_tokens(rt)?;
     race_tokens(rt)?;
     time_lists(rt)?;
@@ -65,11 +97,27 @@ fn run<R: Threads + Sync + Wait + CpuClock + Clock + Print + AllocGlobal>(
     time_turns(rt)
 }
 
+fn run<R: Threads + Sync + Wait + CpuClock + Clock + Print + AllocGlobal>(
+    rt: &R,
+    rows: Rows,
+) -> io::Result<()> {
+    println!(rt; "{HEAD}")?;
+    match rows {
+        Rows::All => run_all(rt),
+        Rows::Tokens => time_tokens(rt),
+        Rows::Lists => time_lists(rt),
+        Rows::Lanes => time_lanes(rt),
+        Rows::Messages => time_messages(rt),
+        Rows::Ports => time_ports(rt),
+        Rows::Turns => time_turns(rt),
+    }
+}
+
 fn main(rt: HostRuntime) -> io::Result<ExitCode> {
-    if !is_run(&rt)? {
+    let Some(rows) = wanted(&rt)? else {
         println!(rt; "{USAGE}")?;
         return Ok(ExitCode::from(1));
-    }
-    run(&rt)?;
+    };
+    run(&rt, rows)?;
     Ok(ExitCode::SUCCESS)
 }

@@ -3,17 +3,17 @@ ghost use Rattle.std.specs.Prelude.{◌≡◌, [], ◌∷◌, IfOk, IfSome};
 ghost use Rattle.lwkt_msg.specs.Desks.{AreSeats, IsOpened};
 ghost use Rattle.lwkt_bench.specs.Stations.{message};
 
-use crate::hand_messages::{HandMessage, SharedRec};
-use crate::hand_ports::hand_stations;
+use crate::hand_messages::{HandMessage, SharedRec, Slot};
+use crate::hand_ports::{HandLanes, HandStation, hand_stations};
 use crate::message_rounds::{Apart, Both, MESSAGES, race_apart, spec};
-use crate::rings::{Ring, WordRing};
+use crate::rings::{Queue, Ring, WordRing};
 use crate::rounds::Race;
 use crate::stations::{Ends, Station, open_ports};
 use crate::steps::{STEPS, time_in_turn};
 use crate::token_rounds::{no_seat, refused};
 use lwkt_base::{CpuId, Fault, Rec};
 use lwkt_msg::{MsgBook, MsgSeat};
-use std::alloc::Global;
+use std::alloc::{AllocError, Global};
 use std::cell::Cell;
 use std::io;
 use std::rt::Clock;
@@ -91,14 +91,49 @@ fn stations<'a>(
     Ok((first, station(alloc, book, 1, second, there)?))
 }
 
+// The rings of two processors by hand: of each to itself, and to the other one.
+#[derive(Drop)]
+struct HandRings<Q: Queue + Drop> {
+    here: Q,
+    there: Q,
+    back: Q,
+    beyond: Q,
+}
+
+fn by_hand<'a, T: Slot, Q: Queue + Drop>(
+    alloc: Global,
+    message: &'a HandMessage<T>,
+    rings: &'a HandRings<Q>,
+) -> Result<(HandStation<'a, T, Q>, HandStation<'a, T, Q>), AllocError> {
+    let HandRings {
+        here,
+        there,
+        back,
+        beyond,
+    } = rings;
+    let first = HandLanes {
+        outs: (here, there),
+        ins: (here, back),
+    };
+    let second = HandLanes {
+        outs: (back, beyond),
+        ins: (there, beyond),
+    };
+    hand_stations(alloc, message, first, second)
+}
+
 fn time_alone<R: CpuClock + Print + AllocGlobal>(
     rt: &R,
     ours: &mut Both<Station<'_>>,
 ) -> io::Result<()> {
     let message = Box::new(rt.alloc(), HandMessage::new(Cell::new(Rec::default())))?;
-    let there = Ring::new();
-    let back = Ring::new();
-    let (first, second) = hand_stations(rt.alloc(), &message, &there, &back)?;
+    let rings = HandRings {
+        here: Ring::new(),
+        there: Ring::new(),
+        back: Ring::new(),
+        beyond: Ring::new(),
+    };
+    let (first, second) = by_hand(rt.alloc(), &message, &rings)?;
     time_in_turn(rt, IN_ONE, ours, &mut Both::new(first, second))
 }
 
@@ -107,9 +142,13 @@ fn race_alone<R: Clock + Threads + Sync + Print + AllocGlobal>(
     ours: &mut Apart<Station<'_>>,
 ) -> io::Result<()> {
     let message = Box::new(rt.alloc(), HandMessage::new(SharedRec::new()))?;
-    let there = WordRing::new();
-    let back = WordRing::new();
-    let (first, second) = hand_stations(rt.alloc(), &message, &there, &back)?;
+    let rings = HandRings {
+        here: WordRing::new(),
+        there: WordRing::new(),
+        back: WordRing::new(),
+        beyond: WordRing::new(),
+    };
+    let (first, second) = by_hand(rt.alloc(), &message, &rings)?;
     race_apart(rt, IN_TWO, ours, &mut Apart::new(first, second))
 }
 

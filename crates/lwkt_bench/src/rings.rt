@@ -15,6 +15,12 @@ pub trait Queue {
     /// Whether there was room for the note.
     fn push(&self, note: Note) -> bool;
 
+    /// Whether there is room. It stays, until this end puts a note.
+    fn has_room(&self) -> bool;
+
+    /// Puts a note into a queue that has room.
+    fn put(&self, note: Note);
+
     fn pop(&self) -> Option<Note>;
 }
 
@@ -45,6 +51,17 @@ impl Queue for Ring {
         self.slots[(tail % ROOM) as usize].set(note);
         self.tail.store(tail.wrapping_add(1), Ordering::SeqCst);
         true
+    }
+
+    fn has_room(&self) -> bool {
+        let tail = self.tail.load(Ordering::SeqCst);
+        tail.wrapping_sub(self.head.load(Ordering::SeqCst)) < ROOM
+    }
+
+    fn put(&self, note: Note) {
+        let tail = self.tail.load(Ordering::SeqCst);
+        self.slots[(tail % ROOM) as usize].set(note);
+        self.tail.store(tail.wrapping_add(1), Ordering::SeqCst);
     }
 
     fn pop(&self) -> Option<Note> {
@@ -107,6 +124,17 @@ impl Queue for WordRing {
         self.slots[(tail % ROOM) as usize].store(packed(note), Ordering::SeqCst);
         self.tail.store(tail.wrapping_add(1), Ordering::SeqCst);
         true
+    }
+
+    fn has_room(&self) -> bool {
+        let tail = self.tail.load(Ordering::SeqCst);
+        tail.wrapping_sub(self.head.load(Ordering::SeqCst)) < ROOM
+    }
+
+    fn put(&self, note: Note) {
+        let tail = self.tail.load(Ordering::SeqCst);
+        self.slots[(tail % ROOM) as usize].store(packed(note), Ordering::SeqCst);
+        self.tail.store(tail.wrapping_add(1), Ordering::SeqCst);
     }
 
     fn pop(&self) -> Option<Note> {

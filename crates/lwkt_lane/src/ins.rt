@@ -25,7 +25,10 @@ impl LaneIn {
         ensures some { IsSeenGone result (seen self.old) (seen self.new) }
         ensures lane { in_lane self.new ≡ in_lane self.old }
     {
-        self.ring.pop().ok()
+        if self.ring.is_empty() {
+            return None;
+        }
+        Some(self.ring.pop_known())
     }
 
     // Sees every note that is left in the queue, beside the sending end, and says how many there are.

@@ -35,6 +35,15 @@ impl LaneOut {
         self.hand.is_none()
     }
 
+    /// Whether no note is in hand.
+    #[inline]
+    pub fn has_none_in_hand(&self) -> bool
+        ensures { IsTrue result ↔ (in_hand self.now ≡ None) }
+    {
+        let hand = self.hand;
+        hand.is_none()
+    }
+
     /// Sends a note. It goes into the queue at once if that has room, and else stays in hand.
     ///
     /// Refused with `LaneFull` exactly if a note is in hand and finds no room in the queue.
@@ -51,9 +60,20 @@ impl LaneOut {
         if !self.room() {
             return Err(Fault::LaneFull);
         }
+        self.put(note);
+        Ok(())
+    }
+
+    /// Sends a note where none is in hand: as `push`, without looking for one.
+    #[inline(always)]
+    pub fn put(&mut self, note: Note)
+        requires { in_hand self.old ≡ None }
+        ensures sent { sent self.new ≡ sent self.old ++ note ∷ [] }
+        ensures hand { IsSome (in_hand self.new) → free self.new ≡ 0 }
+        ensures lane { out_lane self.new ≡ out_lane self.old }
+    {
         if self.ring.push(note).is_err() {
             self.hand = Some(note);
         }
-        Ok(())
     }
 }

@@ -78,10 +78,10 @@ popping_more turn line s line1 s1 line2 s2 note how i pop handles keeps = record
   keeps = keeps_then s s1 s2 i.keeps keeps;
 }
 
-kept_nothing : (o : Option Note) (x y : Desks) → o ≡ None → y ≡ x → MatchOption o (y ≡ x) (λ note. Handles note x y None)
+pub kept_nothing : (o : Option Note) (x y : Desks) → o ≡ None → y ≡ x → MatchOption o (y ≡ x) (λ note. Handles note x y None)
 kept_nothing o x y is same = let F : Option Note → Type 0 = λ p. MatchOption p (y ≡ x) (λ note. Handles note x y None) in subst F (sym is) same
 
-flow_nothing : (popped : List Note) (o : Option Note) → o ≡ None → popped ≡ popped ++ option_to_list o
+pub flow_nothing : (popped : List Note) (o : Option Note) → o ≡ None → popped ≡ popped ++ option_to_list o
 flow_nothing popped o is = sym (append-nil popped) ∙ ap (λ p. popped ++ option_to_list p) (sym is)
 
 -- the lane had no more notes

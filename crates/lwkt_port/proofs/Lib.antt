@@ -13,3 +13,4 @@ pub mod Telling
 pub mod Withdrawing
 pub mod Departing
 pub mod Hinting
+pub mod Passing

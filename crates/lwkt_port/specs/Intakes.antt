@@ -15,12 +15,13 @@ use Rattle.lwkt_base.specs.declared.records.Rec.{Rec}
 use Rattle.lwkt_port.specs.declared.deeds.Claim.TheVariants as claim
 use Rattle.lwkt_port.specs.declared.handlings.Fate.{Fate}
 use Rattle.lwkt_port.specs.declared.handlings.Fate.TheVariants as fate
+use Rattle.lwkt_port.specs.declared.lines.Front.{Front}
 use Rattle.lwkt_port.specs.declared.lines.Lane.{Lane}
 use Rattle.lwkt_port.specs.declared.mails.Mail.{Mail}
 use Rattle.lwkt_port.specs.declared.queues.Port.{Port}
 use Rattle.lwkt_port.specs.Chains.{Chain}
 use Rattle.lwkt_port.specs.Deeds.{Takes, Reaps}
-use Rattle.lwkt_port.specs.Lines.{IsRoomed}
+use Rattle.lwkt_port.specs.Lines.{IsRoomed, Finds}
 use Rattle.lwkt_port.specs.Mails.{mail_at}
 use Rattle.lwkt_port.specs.Posts.{Post, Changes, work_of}
 use Rattle.lwkt_port.specs.Queues.{NamesBoth}
@@ -110,6 +111,17 @@ desks_of x = record { work = x.work; ports = x.ports }
 -- the lane from a processor is emptied, as far as the limit allows
 abbrev pub EmptiesFrom : ℕ → ℕ → Intake → Intake → Type 0
 EmptiesFrom limit sender x y = (k : ℕ) × Changes (λ a b. Empties (limit - x.count) k a b (desks_of x) (desks_of y)) sender x.lanes y.lanes × (y.count ≡ x.count + k)
+
+-- before any note is handled
+abbrev pub untaken : Work → List Port → List Lane → Intake
+untaken w ports lanes = record { work = w; lanes = lanes; ports = ports; count = 0 }
+
+-- the lanes before a front had no notes, and its own one has
+pub record IsFronted (limit : ℕ) (front : Front) (w : Work) (ports : List Port) (before now : List Lane) : Type 0 where
+  pub passed : List Lane
+  pub passes : Chain Intake (EmptiesFrom limit) front.sender (untaken w ports before) (untaken w ports passed)
+  pub found : Changes (Finds front.popped) front.sender passed now
+  pub as_many : length now ≡ length before
 
 -- a note of a closed port: a request is taken and owed a reply, an answer is reaped; a request whose take was lost stays
 abbrev pub is_lost : Taken → Bool

@@ -1,6 +1,6 @@
-use Rattle.std.specs.Prelude.{◌≡◌, ◌⊎◌, [], ◌∷◌, ◌++◌, None}
+use Rattle.std.specs.Prelude.{◌≡◌, ◌⊎◌, [], ◌∷◌, ◌++◌, Option, Some, None}
 use Rattle.lwkt_lane.specs.declared.notes.Note.{Note}
-use Rattle.lwkt_lane.specs.Lane.{sent, in_hand, out_lane}
+use Rattle.lwkt_lane.specs.Lane.{sent, in_hand, out_lane, received, seen, in_lane}
 use Rattle.lwkt_port.specs.declared.lines.Lane.{Lane}
 
 -- at most the note in hand of a line went on into the queue
@@ -17,3 +17,25 @@ pub record HasPosted (note : Note) (line line' : Lane) : Type 0 where
   pub lane_same : out_lane line'.out ≡ out_lane line.out
   pub into_same : line'.into ≡ line.into
   pub kept_same : line'.kept ≡ line.kept
+
+-- a line had no note: it keeps none, and its lane has no more
+pub record HasNone (line line' : Lane) : Type 0 where
+  pub none : line.kept ≡ None
+  pub received_same : received line'.into ≡ received line.into
+  pub empty : seen line'.into ≡ []
+  pub lane_same : in_lane line'.into ≡ in_lane line.into
+  pub out_same : line'.out ≡ line.out
+  pub kept_same : line'.kept ≡ line.kept
+
+-- the next note of a line that keeps none was received
+pub record HasGiven (note : Note) (line line' : Lane) : Type 0 where
+  pub none : line.kept ≡ None
+  pub received_is : received line'.into ≡ received line.into ++ note ∷ []
+  pub lane_same : in_lane line'.into ≡ in_lane line.into
+  pub out_same : line'.out ≡ line.out
+  pub kept_same : line'.kept ≡ line.kept
+
+-- a line was found with a note: the next one of its lane was received, or it keeps one and none was
+abbrev pub Finds : Option Note → Lane → Lane → Type 0
+Finds (Some note) line line' = HasGiven note line line'
+Finds None line line' = line' ≡ line

@@ -6,7 +6,7 @@ ghost use Rattle.lwkt_port.specs.Mails.{mail_at, AreMails};
 ghost use Rattle.lwkt_port.specs.Works.{work, Grew, away_count};
 ghost use Rattle.lwkt_port.specs.Deeds.{taken_mail, mails_taken, take_events, Takes, reaped_mail, mails_reaped, reap_events, Reaps, replied_mail, Replies, sent_mail, Sends, IsRefused};
 
-use crate::mails::{Mail, mail_of, put_mail};
+use crate::mails::Mail;
 use crate::traces::note_event;
 use lwkt_base::{Call, CpuId, Flags, MsgId, Rec, ThreadId};
 use lwkt_core::Event;
@@ -28,26 +28,16 @@ pub const ABORTED: u32 = 4;
 /// The error of a reply to a request at a closed port.
 pub const NO_PORT: u32 = 30;
 
-// What is kept of a message that was taken.
-fn claimed(mail: Mail, who: Claim, aborted: bool, round: u64) -> Mail
-    ensures { result ≡ taken_mail who aborted round mail }
+// A message was taken.
+#[inline]
+fn take_up(mail: &mut Mail, who: Claim, aborted: bool, round: u64)
+    ensures { mail.new ≡ taken_mail who aborted round mail.old }
 {
+    mail.round = round;
     match who {
-        Claim::Closed => Mail {
-            round,
-            owed: Some(NO_PORT),
-            ..mail
-        },
-        Claim::Thread(_) if aborted => Mail {
-            round,
-            owed: Some(ABORTED),
-            ..mail
-        },
-        Claim::Thread(thread) => Mail {
-            round,
-            shown: Some(thread),
-            ..mail
-        },
+        Claim::Closed => mail.owed = Some(NO_PORT),
+        Claim::Thread(_) if aborted => mail.owed = Some(ABORTED),
+        Claim::Thread(thread) => mail.shown = Some(thread),
     }
 }
 
@@ -59,10 +49,7 @@ fn keep_taken(mails: &mut Vec<Mail>, who: Claim, note: Note, answer: Taken)
 {
     let m = usize::from(note.msg.0);
     match answer {
-        Taken::Took { aborted, .. } => {
-            let mail = mail_of(mails, m);
-            put_mail(mails, m, claimed(mail, who, aborted, note.round));
-        }
+        Taken::Took { aborted, .. } => take_up(&mut mails[m], who, aborted, note.round),
         Taken::Stale | Taken::Again => {}
     }
 }
@@ -109,18 +96,15 @@ pub(crate) fn take(
     answer
 }
 
-// What is kept of a message that was reaped.
-fn returned(mail: Mail, keep: bool, rec: Rec) -> Mail
-    ensures { result ≡ reaped_mail keep rec mail }
+// A message was reaped.
+#[inline]
+fn come_home(mail: &mut Mail, keep: bool, rec: Rec)
+    ensures { mail.new ≡ reaped_mail keep rec mail.old }
 {
+    mail.home = true;
     if keep {
-        return Mail {
-            home: true,
-            done: Some(rec),
-            ..mail
-        };
+        mail.done = Some(rec);
     }
-    Mail { home: true, ..mail }
 }
 
 // Keeps what a reap answered.
@@ -131,10 +115,7 @@ fn keep_reaped(mails: &mut Vec<Mail>, keep: bool, note: Note, answer: Reaped)
 {
     let m = usize::from(note.msg.0);
     match answer {
-        Reaped::Done { rec } => {
-            let mail = mail_of(mails, m);
-            put_mail(mails, m, returned(mail, keep, rec));
-        }
+        Reaped::Done { rec } => come_home(&mut mails[m], keep, rec),
         Reaped::Stale => {}
     }
 }
@@ -180,15 +161,13 @@ pub(crate) fn reap(
     answer
 }
 
-// What is kept of a message that was replied to.
-fn settled(mail: Mail) -> Mail
-    ensures { result ≡ replied_mail mail }
+// A message was replied to.
+#[inline]
+fn settle(mail: &mut Mail)
+    ensures { mail.new ≡ replied_mail mail.old }
 {
-    Mail {
-        owed: None,
-        shown: None,
-        ..mail
-    }
+    mail.owed = None;
+    mail.shown = None;
 }
 
 /// Replies to a message that this processor has taken.
@@ -217,7 +196,7 @@ pub(crate) fn reply(
     let m = usize::from(msg.0);
     match seat.reply(book, msg, error, outcome) {
         Ok(()) => {
-            put_mail(mails, m, settled(mail_of(mails, m)));
+            settle(&mut mails[m]);
             note_event(trace, Event::Reply { cpu, msg });
         }
         // The seat has taken the message, so this can't be.
@@ -225,16 +204,14 @@ pub(crate) fn reply(
     }
 }
 
-// What is kept of a message that was sent.
-fn outgoing(mail: Mail, sync: bool) -> Mail
-    ensures { result ≡ sent_mail sync mail }
+// A message was sent.
+#[inline]
+fn go_out(mail: &mut Mail, sync: bool)
+    ensures { mail.new ≡ sent_mail sync mail.old }
 {
-    Mail {
-        home: false,
-        done: None,
-        sync,
-        ..mail
-    }
+    mail.home = false;
+    mail.done = None;
+    mail.sync = sync;
 }
 
 /// What a thread sends, and to which thread.
@@ -281,7 +258,7 @@ pub(crate) fn send(
     let m = usize::from(msg.0);
     match seat.send(book, msg, to.cpu, call, flags, sync) {
         Ok(round) => {
-            put_mail(mails, m, outgoing(mail_of(mails, m), sync));
+            go_out(&mut mails[m], sync);
             note_event(
                 trace,
                 Event::Send {

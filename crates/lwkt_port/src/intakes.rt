@@ -1,21 +1,23 @@
 //! The notes that came over the lanes are taken in.
-ghost use Rattle.std.specs.Prelude.{◌≡◌, ◌⊎◌, ℕ, ◌+◌, ◌-◌, ◌<◌, ◌≤◌, false, List, length, All, vec_len, vec_capacity};
+ghost use Rattle.std.specs.Prelude.{◌≡◌, ◌⊎◌, ℕ, ◌+◌, ◌-◌, ◌<◌, ◌≤◌, false, List, length, All, None, IsTrue, IfSome, vec_len, vec_capacity};
+ghost use Rattle.lwkt_lane.specs.Lane.{in_hand};
 ghost use Rattle.lwkt_msg.specs.Desks.{cpu_of, cpus_of, messages_of, IsSameDesk};
 ghost use Rattle.lwkt_port.specs.declared.lines.Lane.{Lane};
+ghost use Rattle.lwkt_port.specs.declared.queues.Port.{Port};
 ghost use Rattle.lwkt_port.specs.Chains.{Chain};
 ghost use Rattle.lwkt_port.specs.Hints.{OwesNone, AreClear};
 ghost use Rattle.lwkt_port.specs.Lines.{IsRoomed};
 ghost use Rattle.lwkt_port.specs.Mails.{mail_at, AreMails};
 ghost use Rattle.lwkt_port.specs.Posts.{Changes, KeepsNamed, IsSamePost};
 ghost use Rattle.lwkt_port.specs.Queues.{HasNamed};
-ghost use Rattle.lwkt_port.specs.Works.{work, Grew, away_count, standing, Keeps, Stands};
-ghost use Rattle.lwkt_port.specs.Intakes.{Payer, payer, Pays, Intake, intake, EmptiesFrom, hall, TakesIn, PostTakesIn};
+ghost use Rattle.lwkt_port.specs.Works.{Work, work, Grew, away_count, standing, Keeps, Stands};
+ghost use Rattle.lwkt_port.specs.Intakes.{Payer, payer, Pays, Intake, intake, EmptiesFrom, untaken, IsFronted, hall, TakesIn, PostTakesIn};
 ghost use Rattle.lwkt_port.specs.Closings.{PostPays};
 ghost use Rattle.lwkt_port.specs.Tellings.{Tells};
 
 use crate::clearings::clear_all;
-use crate::handlings::empty;
-use crate::lines::{Lane, has_room};
+use crate::handlings::{empty, empty_found};
+use crate::lines::{Front, Lane, has_none_in_hand, has_room, look};
 use crate::mails::{Mail, mail_of};
 use crate::posts::Ports;
 use crate::queues::Port;
@@ -134,7 +136,8 @@ fn may_owe(owing: bool, cleared: bool, mails: &Vec<Mail>) -> bool
     (owing || cleared) && !mails.iter().all(|mail| mail.owed.is_none())
 }
 
-// Empties the lanes, one after another, as far as the limit allows. Answers how many notes were popped.
+// Empties the lanes from a sender on, one after another, as far as the limit allows. `taken` notes were popped before. Answers
+// how many were popped, those too.
 fn empty_all(
     book: &MsgBook,
     seat: &mut MsgSeat,
@@ -142,6 +145,8 @@ fn empty_all(
     mails: &mut Vec<Mail>,
     ports: &mut Vec<Port>,
     uncleared: &mut bool,
+    first: usize,
+    taken: usize,
     limit: usize,
     trace: &mut Vec<Event>,
 ) -> usize
@@ -152,16 +157,18 @@ fn empty_all(
     requires lanes { All (KeepsNamed (vec_len mails.old)) lanes.old.items }
     requires hint { uncleared.old ≡ false → AreClear ports.old.items }
     requires room { away_count mails.old.items + vec_len trace.old < vec_capacity trace.old }
-    ensures notes { Chain Intake (EmptiesFrom limit) (vec_len lanes.old) (intake (work seat.old mails.old trace.old) lanes.old ports.old 0) (intake (work seat.new mails.new trace.new) lanes.new ports.new result) }
+    requires first { first ≤ vec_len lanes.old }
+    requires taken { taken ≤ limit }
+    ensures notes { (z : Intake) → Chain Intake (EmptiesFrom limit) first z (intake (work seat.old mails.old trace.old) lanes.old ports.old taken) → Chain Intake (EmptiesFrom limit) (vec_len lanes.old) z (intake (work seat.new mails.new trace.new) lanes.new ports.new result) }
     ensures within { result ≤ limit }
     ensures keeps { Keeps (standing seat.old mails.old trace.old ports.old) (standing seat.new mails.new trace.new ports.new) }
     ensures len { vec_len lanes.new ≡ vec_len lanes.old }
     ensures lanes { All (KeepsNamed (vec_len mails.new)) lanes.new.items }
     ensures hint { uncleared.new ≡ false → AreClear ports.new.items }
 {
-    let mut count = 0;
+    let mut count = taken;
     let senders = lanes.len();
-    for sender in 0..senders {
+    for sender in first..senders {
         let most = limit - count;
         count += empty(
             book,
@@ -177,8 +184,115 @@ fn empty_all(
     count
 }
 
-// Takes the notes in that came over the lanes.
-fn take_in(
+// Empties the lanes from a front on. Answers how many notes were popped, that of the front too.
+fn empty_front(
+    book: &MsgBook,
+    seat: &mut MsgSeat,
+    lanes: &mut Vec<Lane>,
+    mails: &mut Vec<Mail>,
+    ports: &mut Vec<Port>,
+    uncleared: &mut bool,
+    front: Front,
+    limit: usize,
+    trace: &mut Vec<Event>,
+) -> usize
+    requires table { seat.old.table ≡ book.now.table }
+    requires kept { AreMails seat.old mails.old.items }
+    requires ports { vec_len ports.old ≡ 16 }
+    requires named { All (HasNamed (vec_len mails.old)) ports.old.items }
+    requires lanes { All (KeepsNamed (vec_len mails.old)) lanes.old.items }
+    requires hint { uncleared.old ≡ false → AreClear ports.old.items }
+    requires room { away_count mails.old.items + vec_len trace.old < vec_capacity trace.old }
+    requires some { 0 < limit }
+    requires front { (before : List Lane) × IsFronted limit front (work seat.old mails.old trace.old) ports.old.items before lanes.old.items }
+    ensures notes { (before : List Lane) → IsFronted limit front (work seat.old mails.old trace.old) ports.old.items before lanes.old.items → Chain Intake (EmptiesFrom limit) (vec_len lanes.old) (untaken (work seat.old mails.old trace.old) ports.old.items before) (intake (work seat.new mails.new trace.new) lanes.new ports.new result) }
+    ensures within { result ≤ limit }
+    ensures keeps { Keeps (standing seat.old mails.old trace.old ports.old) (standing seat.new mails.new trace.new ports.new) }
+    ensures len { vec_len lanes.new ≡ vec_len lanes.old }
+    ensures lanes { All (KeepsNamed (vec_len mails.new)) lanes.new.items }
+    ensures hint { uncleared.new ≡ false → AreClear ports.new.items }
+{
+    let Front { sender, popped } = front;
+    let taken = empty_found(
+        book,
+        seat,
+        mails,
+        &mut lanes[sender],
+        ports,
+        uncleared,
+        popped,
+        limit,
+        trace,
+    );
+    let next = sender + 1;
+    empty_all(
+        book, seat, lanes, mails, ports, uncleared, next, taken, limit, trace,
+    )
+}
+
+// Passes over the lanes that have no note. None if none has one.
+#[inline(always)]
+fn pass_empty(lanes: &mut Vec<Lane>) -> Option<Front>
+    ensures none { result ≡ None → (limit : ℕ) (w : Work) (ports : List Port) → Chain Intake (EmptiesFrom limit) (vec_len lanes.old) (untaken w ports lanes.old.items) (untaken w ports lanes.new.items) }
+    ensures some { IfSome result (λ front. (limit : ℕ) (w : Work) (ports : List Port) → IsFronted limit front w ports lanes.old.items lanes.new.items) }
+    ensures len { vec_len lanes.new ≡ vec_len lanes.old }
+    ensures named { (n : ℕ) → All (KeepsNamed n) lanes.old.items → All (KeepsNamed n) lanes.new.items }
+{
+    let senders = lanes.len();
+    for sender in 0..senders {
+        if let Some(front) = look(&mut lanes[sender], sender) {
+            return Some(front);
+        }
+    }
+    None
+}
+
+// Takes the notes in from a front on, where nothing was to be done before.
+#[inline(never)]
+fn take_rest(
+    book: &MsgBook,
+    seat: &mut MsgSeat,
+    lanes: &mut Vec<Lane>,
+    mails: &mut Vec<Mail>,
+    ports: &mut Vec<Port>,
+    owing: &mut bool,
+    uncleared: &mut bool,
+    front: Front,
+    limit: usize,
+    trace: &mut Vec<Event>,
+) -> usize
+    requires table { seat.old.table ≡ book.now.table }
+    requires kept { AreMails seat.old mails.old.items }
+    requires ports { vec_len ports.old ≡ 16 }
+    requires named { All (HasNamed (vec_len mails.old)) ports.old.items }
+    requires owing { OwesNone mails.old.items }
+    requires hint { uncleared.old ≡ false → AreClear ports.old.items }
+    requires lanes { vec_len lanes.old ≡ cpus_of seat.old }
+    requires keep { All (KeepsNamed (vec_len mails.old)) lanes.old.items }
+    requires some { 0 < limit }
+    requires front { (before : List Lane) × IsFronted limit front (work seat.old mails.old trace.old) ports.old.items before lanes.old.items }
+    requires room { vec_len trace.old + 256 ≤ vec_capacity trace.old }
+    ensures takes { (before : List Lane) → IsFronted limit front (work seat.old mails.old trace.old) ports.old.items before lanes.old.items → TakesIn limit (record { work = work seat.old mails.old trace.old; lanes = before; ports = ports.old.items }) (hall (work seat.new mails.new trace.new) lanes.new ports.new) result }
+    ensures within { result ≤ limit }
+    ensures stands { Stands 256 seat.old mails.old trace.old seat.new mails.new trace.new }
+    ensures ports { vec_len ports.new ≡ 16 }
+    ensures named { All (HasNamed (vec_len mails.new)) ports.new.items }
+    ensures lanes { vec_len lanes.new ≡ vec_len lanes.old }
+    ensures keep { All (KeepsNamed (vec_len mails.new)) lanes.new.items }
+    ensures owing { owing.new ≡ false → OwesNone mails.new.items }
+    ensures hint { uncleared.new ≡ false → AreClear ports.new.items }
+{
+    let count = empty_front(book, seat, lanes, mails, ports, uncleared, front, limit, trace);
+    let cleared = *uncleared;
+    clear_all(book, seat, mails, ports, uncleared, trace);
+    *owing = may_owe(false, cleared, mails);
+    count
+}
+
+// Takes the notes in that came over the lanes, after all that comes before.
+#[cold]
+#[inline(never)]
+fn take_all(
     book: &MsgBook,
     seat: &mut MsgSeat,
     lanes: &mut Vec<Lane>,
@@ -210,11 +324,66 @@ fn take_in(
 {
     make_room(lanes);
     pay_owed(book, seat, lanes, mails, *owing, trace);
-    let count = empty_all(book, seat, lanes, mails, ports, uncleared, limit, trace);
+    let count = empty_all(
+        book, seat, lanes, mails, ports, uncleared, 0, 0, limit, trace,
+    );
     let cleared = *uncleared;
     clear_all(book, seat, mails, ports, uncleared, trace);
     *owing = may_owe(*owing, cleared, mails);
     count
+}
+
+// Whether no note is in hand at any sending end.
+#[inline(always)]
+fn have_none_in_hand(lanes: &Vec<Lane>) -> bool
+    ensures { IsTrue result → All (λ line. in_hand line.out ≡ None) lanes.now.items }
+{
+    lanes.iter().all(has_none_in_hand)
+}
+
+// Takes the notes in that came over the lanes.
+#[inline(always)]
+fn take_in(
+    book: &MsgBook,
+    seat: &mut MsgSeat,
+    lanes: &mut Vec<Lane>,
+    mails: &mut Vec<Mail>,
+    ports: &mut Vec<Port>,
+    owing: &mut bool,
+    uncleared: &mut bool,
+    limit: usize,
+    trace: &mut Vec<Event>,
+) -> usize
+    requires table { seat.old.table ≡ book.now.table }
+    requires kept { AreMails seat.old mails.old.items }
+    requires ports { vec_len ports.old ≡ 16 }
+    requires named { All (HasNamed (vec_len mails.old)) ports.old.items }
+    requires owing { owing.old ≡ false → OwesNone mails.old.items }
+    requires hint { uncleared.old ≡ false → AreClear ports.old.items }
+    requires lanes { vec_len lanes.old ≡ cpus_of seat.old }
+    requires keep { All (KeepsNamed (vec_len mails.old)) lanes.old.items }
+    requires room { vec_len trace.old + 256 ≤ vec_capacity trace.old }
+    ensures takes { TakesIn limit (hall (work seat.old mails.old trace.old) lanes.old ports.old) (hall (work seat.new mails.new trace.new) lanes.new ports.new) result }
+    ensures within { result ≤ limit }
+    ensures stands { Stands 256 seat.old mails.old trace.old seat.new mails.new trace.new }
+    ensures ports { vec_len ports.new ≡ 16 }
+    ensures named { All (HasNamed (vec_len mails.new)) ports.new.items }
+    ensures lanes { vec_len lanes.new ≡ vec_len lanes.old }
+    ensures keep { All (KeepsNamed (vec_len mails.new)) lanes.new.items }
+    ensures owing { owing.new ≡ false → OwesNone mails.new.items }
+    ensures hint { uncleared.new ≡ false → AreClear ports.new.items }
+{
+    if limit == 0 || *owing || *uncleared || !have_none_in_hand(lanes) {
+        return take_all(
+            book, seat, lanes, mails, ports, owing, uncleared, limit, trace,
+        );
+    }
+    let Some(front) = pass_empty(lanes) else {
+        return 0;
+    };
+    take_rest(
+        book, seat, lanes, mails, ports, owing, uncleared, front, limit, trace,
+    )
 }
 
 impl Ports {
@@ -225,7 +394,7 @@ impl Ports {
     /// msgport(9) an inter-processor message puts each note into its port; here a processor asks for them.
     ///
     /// That the trace has room for 256 events is the caller's condition.
-    #[inline]
+    #[inline(always)]
     pub fn take_in(&mut self, book: &MsgBook, limit: usize, trace: &mut Vec<Event>) -> usize
         requires table { self.old.seat.table ≡ book.now.table }
         requires room { vec_len trace.old + 256 ≤ vec_capacity trace.old }

@@ -1,7 +1,7 @@
 //! The two lanes that join a processor with another one, or with itself.
 ghost use Rattle.std.specs.Prelude.{◌≡◌, ◌++◌, ◌∷◌, [], ◌↔◌, None, IsTrue, IsSome, IfSome, Some, true, MatchOption};
 ghost use Rattle.lwkt_lane.specs.Lane.{sent, in_hand, received, seen, in_lane};
-ghost use Rattle.lwkt_port.specs.Lines.{IsRoomed, HasPosted};
+ghost use Rattle.lwkt_port.specs.Lines.{IsRoomed, HasPosted, HasNone, Finds};
 
 use lwkt_lane::{LaneIn, LaneOut, Note};
 
@@ -13,6 +13,13 @@ pub struct Lane {
     pub(crate) kept: Option<Note>,
 }
 
+/// The first line that has a note, by its sender, and the note that was received from it. If none was, the line keeps one.
+#[derive(Clone, Copy, Debug, PartialEq, Eq)]
+pub struct Front {
+    pub sender: usize,
+    pub popped: Option<Note>,
+}
+
 /// Moves a note in hand on if there is room, and says whether the next one can be sent.
 pub(crate) fn has_room(line: &mut Lane) -> bool
     ensures roomed { IsRoomed line.old line.new }
@@ -21,16 +28,25 @@ pub(crate) fn has_room(line: &mut Lane) -> bool
     line.out.room()
 }
 
+/// Whether no note is in hand at the line's sending end.
+#[inline(always)]
+pub(crate) fn has_none_in_hand(line: &Lane) -> bool
+    ensures { IsTrue result ↔ (in_hand line.now.out ≡ None) }
+{
+    line.out.has_none_in_hand()
+}
+
 /// Sends a note over a lane that has room for it.
 #[inline(always)]
 pub(crate) fn post(line: &mut Lane, note: Note)
     requires { in_hand line.old.out ≡ None }
     ensures { HasPosted note line.old line.new }
 {
-    let _ = line.out.push(note);
+    line.out.put(note);
 }
 
 /// Receives the next note.
+#[inline(always)]
 pub(crate) fn pop(line: &mut Lane) -> Option<Note>
     ensures received { MatchOption result (received line.new.into ≡ received line.old.into) (λ note. received line.new.into ≡ received line.old.into ++ note ∷ []) }
     ensures none { result ≡ None → seen line.new.into ≡ [] }
@@ -45,4 +61,25 @@ pub(crate) fn keep(line: &mut Lane, note: Option<Note>)
     ensures { line.new ≡ record line.old { kept = note } }
 {
     line.kept = note;
+}
+
+/// Looks for a note of a line that isn't handled yet: one that the line keeps, or else the next one of its lane, which is
+/// received then.
+#[inline(always)]
+pub(crate) fn look(line: &mut Lane, sender: usize) -> Option<Front>
+    ensures none { result ≡ None → HasNone line.old line.new }
+    ensures some { IfSome result (λ front. (front.sender ≡ sender) × Finds front.popped line.old line.new) }
+    ensures same { line.new.kept ≡ line.old.kept }
+{
+    if line.kept.is_some() {
+        return Some(Front {
+            sender,
+            popped: None,
+        });
+    }
+    let note = pop(line)?;
+    Some(Front {
+        sender,
+        popped: Some(note),
+    })
 }

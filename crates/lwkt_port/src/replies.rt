@@ -9,7 +9,7 @@ ghost use Rattle.lwkt_port.specs.Tellings.{Tells};
 
 use crate::deeds;
 use crate::lines::{Lane, has_room, post};
-use crate::mails::{Mail, mail_of, put_mail};
+use crate::mails::{Mail, mail_of};
 use crate::posts::Ports;
 use lwkt_base::{Fault, MsgId, Rec};
 use lwkt_core::Event;
@@ -168,8 +168,8 @@ impl Ports {
         ensures given { self.new ≡ record self.old { mails = slice_set self.old.mails msg.0 (record (mail_at self.old.mails msg.0) { done = None }) } }
     {
         let m = usize::from(msg.0);
-        let mail = mail_of(&self.mails, m);
-        put_mail(&mut self.mails, m, Mail { done: None, ..mail });
-        mail.done
+        let done = self.mails[m].done;
+        self.mails[m].done = None;
+        done
     }
 }
