@@ -61,6 +61,7 @@ fn given_back(msg: MsgId, told: Result<Rec, Fault>) -> Answer
 }
 
 /// Sends a message of the thread.
+#[inline(never)]
 pub(crate) fn send(
     ports: &mut Ports,
     book: &MsgBook,
@@ -83,6 +84,7 @@ pub(crate) fn send(
 }
 
 /// Sends a message of the thread, which then gives up everything and waits for the reply.
+#[inline(always)]
 pub(crate) fn send_and_wait(
     hold: &mut Hold,
     ports: &mut Ports,
@@ -115,6 +117,7 @@ pub(crate) fn send_and_wait(
 }
 
 /// Replies to a message that the thread was shown.
+#[inline(never)]
 pub(crate) fn reply(
     ports: &mut Ports,
     book: &MsgBook,
@@ -136,6 +139,7 @@ pub(crate) fn reply(
 }
 
 /// Asks for a message of the thread to be aborted.
+#[inline(never)]
 pub(crate) fn abort(
     ports: &mut Ports,
     book: &MsgBook,
@@ -155,6 +159,7 @@ pub(crate) fn abort(
 }
 
 /// Says whether a message that the thread was shown is to be aborted.
+#[inline(never)]
 pub(crate) fn is_aborted(ports: &mut Ports, book: &MsgBook, thread: u8, msg: MsgId) -> Answer
     requires table { ports.old.seat.table ≡ book.now.table }
     ensures hears { (told : Result Bool Fault) × (HearsMail thread msg ports.old ports.new told × (result ≡ bit_or told)) }
@@ -166,6 +171,7 @@ pub(crate) fn is_aborted(ports: &mut Ports, book: &MsgBook, thread: u8, msg: Msg
 }
 
 /// Drops a message of the thread that nobody has taken yet.
+#[inline(never)]
 pub(crate) fn drop_msg(
     ports: &mut Ports,
     book: &MsgBook,
@@ -185,6 +191,7 @@ pub(crate) fn drop_msg(
 }
 
 /// Gives the next item of the thread's port.
+#[inline(never)]
 pub(crate) fn get_port(
     ports: &mut Ports,
     book: &MsgBook,
@@ -204,6 +211,7 @@ pub(crate) fn get_port(
 }
 
 /// Gives the next item of the thread's port at once; without one the thread gives up everything and waits.
+#[inline(always)]
 pub(crate) fn wait_port(
     hold: &mut Hold,
     ports: &mut Ports,

@@ -1,10 +1,12 @@
-//! Times the steps of the layer beside the same steps written by hand on plain words. `lwkt_bench run` prints the table.
+//! Times the steps of the layer beside the same steps written by hand on plain words. `lwkt_bench run` prints the table,
+//! `lwkt_bench turns` its lines on turns.
 #![tactic(auto)]
 
 mod desks;
 mod hand_cpus;
 mod hand_messages;
 mod hand_ports;
+mod hand_seats;
 mod hands;
 mod lane_rounds;
 mod list_desks;
@@ -40,21 +42,34 @@ use token_races::race_tokens;
 use token_rounds::time_tokens;
 use turn_rounds::time_turns;
 
-const USAGE: &str = "lwkt_bench: run";
+const USAGE: &str = "lwkt_bench: run or turns";
 
-// Whether `run` is the one argument.
-fn is_run<R: Env + AllocGlobal>(rt: &R) -> io::Result<bool> {
+// What is timed.
+#[derive(Clone, Copy)]
+enum Part {
+    All,
+    Turns,
+}
+
+// What the one argument asks for: `run` for all, `turns` for the turns alone.
+fn part_asked<R: Env + AllocGlobal>(rt: &R) -> io::Result<Option<Part>> {
     let mut words = env::args(rt)?.skip(1);
     let Some(first) = words.next() else {
-        return Ok(false);
+        return Ok(None);
     };
-    Ok(first.as_str() == "run" && words.next().is_none())
+    if words.next().is_some() {
+        return Ok(None);
+    }
+    Ok(match first.as_str() {
+        "run" => Some(Part::All),
+        "turns" => Some(Part::Turns),
+        _ => None,
+    })
 }
 
 fn run<R: Threads + Sync + Wait + CpuClock + Clock + Print + AllocGlobal>(
     rt: &R,
 ) -> io::Result<()> {
-    println!(rt; "{HEAD}")?;
     time_tokens(rt)?;
     race_tokens(rt)?;
     time_lists(rt)?;
@@ -66,10 +81,14 @@ fn run<R: Threads + Sync + Wait + CpuClock + Clock + Print + AllocGlobal>(
 }
 
 fn main(rt: HostRuntime) -> io::Result<ExitCode> {
-    if !is_run(&rt)? {
+    let Some(part) = part_asked(&rt)? else {
         println!(rt; "{USAGE}")?;
         return Ok(ExitCode::from(1));
+    };
+    println!(rt; "{HEAD}")?;
+    match part {
+        Part::All => run(&rt)?,
+        Part::Turns => time_turns(&rt)?,
     }
-    run(&rt)?;
     Ok(ExitCode::SUCCESS)
 }

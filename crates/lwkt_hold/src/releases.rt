@@ -27,6 +27,7 @@ impl Hold {
     /// Refused with `NotHeld` exactly if the token is not on the list, else with `NotLast` exactly if the last reference is
     /// to another token; nothing changes then. `Broken` says that the reference ended a section whose row had broken its
     /// law: the row is the section's first row again, and the reference is given back.
+    #[inline]
     pub fn rel(
         &mut self,
         bank: &Bank,
