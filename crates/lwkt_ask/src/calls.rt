@@ -18,7 +18,7 @@ use lwkt_core::Event;
 use lwkt_hold::{Acquired, Hold};
 
 // The answer for a call that answers nothing.
-#[inline]
+#[inline(always)]
 pub(crate) fn done(told: Result<(), Fault>) -> Answer
     ensures { result ≡ done_or told }
 {

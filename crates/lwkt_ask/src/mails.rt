@@ -29,6 +29,7 @@ use lwkt_msg::MsgBook;
 use lwkt_port::Ports;
 
 // The answer for a look at a port.
+#[inline(always)]
 fn shown(told: Result<Option<Item>, Fault>) -> Answer
     ensures { result ≡ item_or told }
 {
@@ -40,6 +41,7 @@ fn shown(told: Result<Option<Item>, Fault>) -> Answer
 }
 
 // The answer to a question: 1 for yes, 0 for no.
+#[inline(always)]
 fn said(told: Result<bool, Fault>) -> Answer
     ensures { result ≡ bit_or told }
 {
@@ -51,6 +53,7 @@ fn said(told: Result<bool, Fault>) -> Answer
 }
 
 // The answer for a drop of a message: the message and the record that it was sent with.
+#[inline(always)]
 fn given_back(msg: MsgId, told: Result<Rec, Fault>) -> Answer
     ensures { result ≡ dropped_or msg told }
 {
@@ -61,7 +64,7 @@ fn given_back(msg: MsgId, told: Result<Rec, Fault>) -> Answer
 }
 
 /// Sends a message of the thread.
-#[inline(never)]
+#[inline(always)]
 pub(crate) fn send(
     ports: &mut Ports,
     book: &MsgBook,
@@ -117,7 +120,7 @@ pub(crate) fn send_and_wait(
 }
 
 /// Replies to a message that the thread was shown.
-#[inline(never)]
+#[inline(always)]
 pub(crate) fn reply(
     ports: &mut Ports,
     book: &MsgBook,
@@ -139,7 +142,7 @@ pub(crate) fn reply(
 }
 
 /// Asks for a message of the thread to be aborted.
-#[inline(never)]
+#[inline(always)]
 pub(crate) fn abort(
     ports: &mut Ports,
     book: &MsgBook,
@@ -159,7 +162,7 @@ pub(crate) fn abort(
 }
 
 /// Says whether a message that the thread was shown is to be aborted.
-#[inline(never)]
+#[inline(always)]
 pub(crate) fn is_aborted(ports: &mut Ports, book: &MsgBook, thread: u8, msg: MsgId) -> Answer
     requires table { ports.old.seat.table ≡ book.now.table }
     ensures hears { (told : Result Bool Fault) × (HearsMail thread msg ports.old ports.new told × (result ≡ bit_or told)) }
@@ -171,7 +174,7 @@ pub(crate) fn is_aborted(ports: &mut Ports, book: &MsgBook, thread: u8, msg: Msg
 }
 
 /// Drops a message of the thread that nobody has taken yet.
-#[inline(never)]
+#[inline(always)]
 pub(crate) fn drop_msg(
     ports: &mut Ports,
     book: &MsgBook,
@@ -191,7 +194,7 @@ pub(crate) fn drop_msg(
 }
 
 /// Gives the next item of the thread's port.
-#[inline(never)]
+#[inline(always)]
 pub(crate) fn get_port(
     ports: &mut Ports,
     book: &MsgBook,

@@ -81,6 +81,7 @@ impl HandThread {
     }
 
     // Looks after the thread: one that waits is ready once its port has an item.
+    #[inline(always)]
     fn wake(&mut self) {
         if matches!(self.stage, Stage::AwaitsItem)
             && let Some(note) = self.notes.pop()
@@ -94,6 +95,7 @@ impl HandThread {
         matches!(self.stage, Stage::Exited | Stage::Faulted(_))
     }
 
+    #[inline(never)]
     fn end(&mut self, stage: Stage) {
         self.list = HandRefs::new();
         self.stage = stage;
@@ -101,6 +103,7 @@ impl HandThread {
     }
 
     // Gives up the first so many references; whether no law was broken, else the thread ends.
+    #[inline(never)]
     fn block(&mut self, seat: &mut HandSeat<'_>, held: usize, trace: &mut Vec<Event>) -> bool {
         if seat.give_up(&self.list, held, trace) {
             self.end(Stage::Faulted(Fault::Broken));
@@ -110,6 +113,7 @@ impl HandThread {
     }
 
     // Asks for a reference; whether the thread goes on running.
+    #[inline(always)]
     fn get(&mut self, seat: &mut HandSeat<'_>, new: Ref, trace: &mut Vec<Event>) -> bool {
         self.last = match seat.get(&mut self.list, new, trace) {
             Ok(HandGot::Held) => Answer::Done,
@@ -125,7 +129,16 @@ impl HandThread {
         true
     }
 
+    #[inline(always)]
+    fn read(&mut self, seat: &mut HandSeat<'_>, tok: TokId, cell: u8, trace: &mut Vec<Event>) {
+        match seat.read(tok, cell, trace) {
+            Ok(value) => self.last = Answer::Value(value),
+            Err(fault) => self.last = Answer::Refused(fault),
+        }
+    }
+
     // Performs an ask after which the thread may not go on running; whether it does.
+    #[inline(never)]
     fn wait(&mut self, seat: &mut HandSeat<'_>, ask: Ask, trace: &mut Vec<Event>) -> bool {
         if matches!(ask, Ask::WaitPort)
             && let Some(note) = self.notes.pop()
@@ -153,10 +166,10 @@ impl HandThread {
             Ask::TryGet(tok) => done(seat.try_get(list, tok, trace)),
             Ask::Rel(tok) => done(seat.rel(list, tok, trace)),
             Ask::Swap => done(list.swap()),
-            Ask::Read(tok, cell) => match seat.read(tok, cell, trace) {
-                Ok(value) => Answer::Value(value),
-                Err(fault) => Answer::Refused(fault),
-            },
+            Ask::Read(tok, cell) => {
+                self.read(seat, tok, cell, trace);
+                return true;
+            }
             Ask::Write(tok, cell, value) => done(seat.write(tok, cell, value, trace)),
             Ask::Add(tok, k) => done(seat.add(tok, k, trace)),
             Ask::Send(..) | Ask::Do(..) | Ask::Reply(..) => Answer::Refused(Fault::NotOwner),
@@ -203,17 +216,31 @@ impl<'a> HandCpu<'a> {
         })
     }
 
+    // Takes notes of a lane in, so many at most; how many are left then.
+    #[inline(never)]
+    fn take_from(&mut self, from: usize, most: usize) -> usize {
+        let mut left = most;
+        let Some(lane) = self.lanes.get(from) else {
+            return left;
+        };
+        for _note in 0..most {
+            let Some(note) = lane.pop() else {
+                return left;
+            };
+            left = left.wrapping_sub(1);
+            if let Some(thread) = self.threads.get_mut(note.port as usize) {
+                let _ = thread.notes.push(note);
+            }
+        }
+        left
+    }
+
     fn take_notes(&mut self) {
-        let mut taken = 0usize;
-        for lane in &self.lanes {
-            for _note in taken..NOTES {
-                let Some(note) = lane.pop() else {
-                    break;
-                };
-                taken = taken.wrapping_add(1);
-                if let Some(thread) = self.threads.get_mut(note.port as usize) {
-                    let _ = thread.notes.push(note);
-                }
+        let mut left = NOTES;
+        for from in 0..self.lanes.len() {
+            let empty = self.lanes.get(from).is_none_or(|lane| lane.is_empty());
+            if !empty {
+                left = self.take_from(from, left);
             }
         }
     }
@@ -237,6 +264,7 @@ impl<'a> HandCpu<'a> {
     }
 
     // The first thread from the cursor on, round once, whose list is held now.
+    #[inline(never)]
     fn find(&mut self) -> Option<usize> {
         let count = self.threads.len();
         let mut at = self.cursor;

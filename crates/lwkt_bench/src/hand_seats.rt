@@ -151,6 +151,7 @@ impl<'a> HandSeat<'a> {
     }
 
     // Takes a reference: one more, or the first one.
+    #[inline(always)]
     fn take_one(&mut self, list: &HandRefs, new: Ref, trace: &mut Vec<Event>) -> Tried {
         let Ref { tok, mode } = new;
         let place = tok.0 as usize;
@@ -179,6 +180,7 @@ impl<'a> HandSeat<'a> {
     }
 
     // Puts a reference on the list and takes it.
+    #[inline(always)]
     fn push_and_take(
         &mut self,
         list: &mut HandRefs,
@@ -201,6 +203,7 @@ impl<'a> HandSeat<'a> {
     }
 
     /// Asks for a reference; one that is missed stays on the list, and an exclusive one marks its token.
+    #[inline(always)]
     pub fn get(
         &mut self,
         list: &mut HandRefs,
@@ -220,6 +223,7 @@ impl<'a> HandSeat<'a> {
         }
     }
 
+    #[inline(never)]
     fn mark(&mut self, new: Ref, trace: &mut Vec<Event>) {
         let Ref { tok, mode } = new;
         if mode == Mode::Exclusive
@@ -232,6 +236,7 @@ impl<'a> HandSeat<'a> {
     }
 
     /// Asks for an exclusive reference without blocking.
+    #[inline(never)]
     pub fn try_get(
         &mut self,
         list: &mut HandRefs,
@@ -250,6 +255,7 @@ impl<'a> HandSeat<'a> {
     }
 
     // Ends a section; whether its cell was restored.
+    #[inline(always)]
     fn end(&mut self, place: usize, tok: TokId, trace: &mut Vec<Event>) -> bool {
         let cpu = self.cpu;
         let Some(token) = self.tokens.get(place) else {
@@ -279,6 +285,7 @@ impl<'a> HandSeat<'a> {
     }
 
     // Gives a reference back; whether it ended a section whose cell was restored.
+    #[inline(always)]
     fn give_one(&mut self, tok: TokId, trace: &mut Vec<Event>) -> bool {
         let cpu = self.cpu;
         let place = tok.0 as usize;
@@ -296,6 +303,7 @@ impl<'a> HandSeat<'a> {
     }
 
     /// Gives the last reference back, which has to be to this token.
+    #[inline(always)]
     pub fn rel(
         &mut self,
         list: &mut HandRefs,
@@ -317,6 +325,7 @@ impl<'a> HandSeat<'a> {
     }
 
     /// Gives the first so many references back, the last one first; whether a cell was restored.
+    #[inline(never)]
     pub fn give_up(&mut self, list: &HandRefs, count: usize, trace: &mut Vec<Event>) -> bool {
         let mut broken = false;
         for given in 0..count {
@@ -328,6 +337,7 @@ impl<'a> HandSeat<'a> {
     }
 
     /// Takes all references of a list, or none: why the first that was missed was.
+    #[inline(never)]
     pub fn resume(&mut self, list: &HandRefs, trace: &mut Vec<Event>) -> Tried {
         for at in 0..list.count {
             let Some(new) = list.items.get(at).copied() else {
@@ -343,6 +353,7 @@ impl<'a> HandSeat<'a> {
     }
 
     /// Reads a cell.
+    #[inline(always)]
     pub fn read(&mut self, tok: TokId, cell: u8, trace: &mut Vec<Event>) -> Result<u64, Fault> {
         let place = tok.0 as usize;
         let Some(token) = self.tokens.get(place) else {
@@ -397,6 +408,7 @@ impl<'a> HandSeat<'a> {
     }
 
     /// Adds to the cell of a Tally token.
+    #[inline(always)]
     pub fn add(&mut self, tok: TokId, k: u64, trace: &mut Vec<Event>) -> Result<(), Fault> {
         let place = tok.0 as usize;
         let cpu = self.cpu;

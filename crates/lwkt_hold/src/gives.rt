@@ -90,7 +90,7 @@ fn give(seat: &mut CpuSeat, bank: &Bank, tok: TokId, trace: &mut Vec<Event>)
 }
 
 /// Gives a reference back, a section that it ends being mended before; says whether the section's cells were restored.
-#[inline]
+#[inline(always)]
 pub(crate) fn give_last(seat: &mut CpuSeat, bank: &Bank, tok: TokId, trace: &mut Vec<Event>) -> bool
     requires of { bank_of seat.old ≡ id_of bank.now }
     requires held { is_held (holding seat.old tok.0) ≡ true }
