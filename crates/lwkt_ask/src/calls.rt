@@ -18,6 +18,7 @@ use lwkt_core::Event;
 use lwkt_hold::{Acquired, Hold};
 
 // The answer for a call that answers nothing.
+#[inline(always)]
 pub(crate) fn done(told: Result<(), Fault>) -> Answer
     ensures { result ≡ done_or told }
 {
@@ -28,6 +29,7 @@ pub(crate) fn done(told: Result<(), Fault>) -> Answer
 }
 
 /// Asks for a reference. Where it is missed, the references before it are given up, and the thread is ready.
+#[inline(always)]
 pub(crate) fn get(
     hold: &mut Hold,
     bank: &Bank,
@@ -54,6 +56,7 @@ pub(crate) fn get(
 }
 
 /// Asks for an exclusive reference without blocking.
+#[inline(always)]
 pub(crate) fn try_get(
     hold: &mut Hold,
     bank: &Bank,
@@ -74,6 +77,7 @@ pub(crate) fn try_get(
 }
 
 /// Gives the last reference back.
+#[inline(always)]
 pub(crate) fn rel(
     hold: &mut Hold,
     bank: &Bank,
@@ -94,6 +98,7 @@ pub(crate) fn rel(
 }
 
 /// Exchanges the two last references.
+#[inline(always)]
 pub(crate) fn swap(list: &mut TokList) -> Answer
     ensures held { holding_of list.new ≡ holding_of list.old }
     ensures there { (n : ℕ) → All (λ r. r.tok.0 < n) list.old → All (λ r. r.tok.0 < n) list.new }
@@ -104,6 +109,7 @@ pub(crate) fn swap(list: &mut TokList) -> Answer
 }
 
 /// Reads a cell.
+#[inline(always)]
 pub(crate) fn read(
     hold: &mut Hold,
     bank: &Bank,
@@ -126,6 +132,7 @@ pub(crate) fn read(
 }
 
 /// Stores a value in a cell.
+#[inline(always)]
 pub(crate) fn write(
     hold: &mut Hold,
     bank: &Bank,
@@ -147,6 +154,7 @@ pub(crate) fn write(
 }
 
 /// Adds to the cell of a Tally token.
+#[inline(always)]
 pub(crate) fn add(
     hold: &mut Hold,
     bank: &Bank,

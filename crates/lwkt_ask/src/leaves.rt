@@ -15,6 +15,7 @@ use lwkt_core::Event;
 use lwkt_hold::{Blocked, Hold};
 
 // What comes next once everything was given up.
+#[inline(always)]
 fn after_blocking(meant: Next, blocked: Blocked) -> Next
     ensures { result ≡ unless_broken meant blocked }
 {
@@ -26,6 +27,7 @@ fn after_blocking(meant: Next, blocked: Blocked) -> Next
 
 /// Gives up the first `held` references of a list. What was meant to come next comes, unless a section had broken its law:
 /// then its first row was stored again, and the thread ends.
+#[inline(always)]
 pub(crate) fn give_up(
     hold: &mut Hold,
     bank: &Bank,
@@ -47,6 +49,7 @@ pub(crate) fn give_up(
 }
 
 /// Gives up a whole list.
+#[inline(always)]
 pub(crate) fn leave(
     hold: &mut Hold,
     bank: &Bank,

@@ -29,6 +29,7 @@ use lwkt_msg::MsgBook;
 use lwkt_port::Ports;
 
 // The answer for a look at a port.
+#[inline(always)]
 fn shown(told: Result<Option<Item>, Fault>) -> Answer
     ensures { result ≡ item_or told }
 {
@@ -40,6 +41,7 @@ fn shown(told: Result<Option<Item>, Fault>) -> Answer
 }
 
 // The answer to a question: 1 for yes, 0 for no.
+#[inline(always)]
 fn said(told: Result<bool, Fault>) -> Answer
     ensures { result ≡ bit_or told }
 {
@@ -51,6 +53,7 @@ fn said(told: Result<bool, Fault>) -> Answer
 }
 
 // The answer for a drop of a message: the message and the record that it was sent with.
+#[inline(always)]
 fn given_back(msg: MsgId, told: Result<Rec, Fault>) -> Answer
     ensures { result ≡ dropped_or msg told }
 {
@@ -61,6 +64,7 @@ fn given_back(msg: MsgId, told: Result<Rec, Fault>) -> Answer
 }
 
 /// Sends a message of the thread.
+#[inline(always)]
 pub(crate) fn send(
     ports: &mut Ports,
     book: &MsgBook,
@@ -83,6 +87,7 @@ pub(crate) fn send(
 }
 
 /// Sends a message of the thread, which then gives up everything and waits for the reply.
+#[inline(always)]
 pub(crate) fn send_and_wait(
     hold: &mut Hold,
     ports: &mut Ports,
@@ -115,6 +120,7 @@ pub(crate) fn send_and_wait(
 }
 
 /// Replies to a message that the thread was shown.
+#[inline(always)]
 pub(crate) fn reply(
     ports: &mut Ports,
     book: &MsgBook,
@@ -136,6 +142,7 @@ pub(crate) fn reply(
 }
 
 /// Asks for a message of the thread to be aborted.
+#[inline(always)]
 pub(crate) fn abort(
     ports: &mut Ports,
     book: &MsgBook,
@@ -155,6 +162,7 @@ pub(crate) fn abort(
 }
 
 /// Says whether a message that the thread was shown is to be aborted.
+#[inline(always)]
 pub(crate) fn is_aborted(ports: &mut Ports, book: &MsgBook, thread: u8, msg: MsgId) -> Answer
     requires table { ports.old.seat.table ≡ book.now.table }
     ensures hears { (told : Result Bool Fault) × (HearsMail thread msg ports.old ports.new told × (result ≡ bit_or told)) }
@@ -166,6 +174,7 @@ pub(crate) fn is_aborted(ports: &mut Ports, book: &MsgBook, thread: u8, msg: Msg
 }
 
 /// Drops a message of the thread that nobody has taken yet.
+#[inline(always)]
 pub(crate) fn drop_msg(
     ports: &mut Ports,
     book: &MsgBook,
@@ -185,6 +194,7 @@ pub(crate) fn drop_msg(
 }
 
 /// Gives the next item of the thread's port.
+#[inline(always)]
 pub(crate) fn get_port(
     ports: &mut Ports,
     book: &MsgBook,
@@ -204,6 +214,7 @@ pub(crate) fn get_port(
 }
 
 /// Gives the next item of the thread's port at once; without one the thread gives up everything and waits.
+#[inline(always)]
 pub(crate) fn wait_port(
     hold: &mut Hold,
     ports: &mut Ports,

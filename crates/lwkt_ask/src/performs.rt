@@ -23,6 +23,7 @@ use lwkt_hold::Hold;
 use lwkt_msg::MsgBook;
 use lwkt_port::Ports;
 
+#[inline]
 fn exclusive(tok: TokId) -> Ref
     ensures { (result.tok ≡ tok) × (result.mode ≡ Mode.Exclusive) }
 {
@@ -32,6 +33,7 @@ fn exclusive(tok: TokId) -> Ref
     }
 }
 
+#[inline]
 fn shared(tok: TokId) -> Ref
     ensures { (result.tok ≡ tok) × (result.mode ≡ Mode.Shared) }
 {
@@ -43,6 +45,7 @@ fn shared(tok: TokId) -> Ref
 
 /// Performs the ask of a running thread, whose list is held, and says what comes next for the thread. That the trace has
 /// room for 512 events is the caller's condition; no ask makes more than 288.
+#[inline(always)]
 pub fn perform(
     hold: &mut Hold,
     ports: &mut Ports,

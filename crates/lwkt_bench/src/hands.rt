@@ -1,5 +1,6 @@
 //! Tokens written by hand on shared words: the same steps without the bank.
 use crate::steps::Steps;
+use lwkt_base::{Law, Mode};
 use std::alloc::{AllocError, Global};
 use std::sync::atomic::{AtomicU64, Ordering};
 
@@ -14,20 +15,36 @@ const GENERATION: u64 = 262_144;
 
 const LAST: u64 = GENERATION * 70_368_744_177_663;
 
-/// A token in a block of 16 words.
+/// What a try to take a token answers.
+#[derive(Clone, Copy)]
+pub enum Tried {
+    Got,
+    Busy,
+    Again,
+    Worn,
+}
+
+/// A token in a block of 16 words, with what is declared of its one cell.
 #[derive(Drop)]
 pub struct HandToken {
     word: AtomicU64,
     cell: AtomicU64,
-    _rest: [u64; 14],
+    param: u64,
+    law: Law,
+    cells: u8,
+    _rest: [u64; 12],
 }
 
 impl HandToken {
-    pub fn new() -> HandToken {
+    /// A token whose law is this one, with a cell of 0.
+    pub fn new(law: Law) -> HandToken {
         HandToken {
             word: AtomicU64::new(0),
             cell: AtomicU64::new(0),
-            _rest: [0; 14],
+            param: 0,
+            law,
+            cells: 1,
+            _rest: [0; 12],
         }
     }
 
@@ -44,6 +61,56 @@ impl HandToken {
             return false;
         }
         self.swing(word, word & !MARK | EXCLUSIVE)
+    }
+
+    /// Tries to take the token in this mode; `alone` says that the list has no reference to another token.
+    pub fn try_take(&self, mode: Mode, alone: bool) -> Tried {
+        let word = self.word.load(Ordering::SeqCst);
+        let next = match mode {
+            Mode::Exclusive => {
+                if word % GENERATION & !MARK != 0 {
+                    return Tried::Busy;
+                }
+                if word >= LAST {
+                    return Tried::Worn;
+                }
+                word & !MARK | EXCLUSIVE
+            }
+            Mode::Shared => {
+                if word & EXCLUSIVE != 0 || alone && word & MARK != 0 {
+                    return Tried::Busy;
+                }
+                word.wrapping_add(REFERENCE)
+            }
+        };
+        if self.swing(word, next) {
+            Tried::Got
+        } else {
+            Tried::Again
+        }
+    }
+
+    /// Marks the token for an exclusive request.
+    pub fn mark(&self) {
+        self.word.fetch_or(MARK, Ordering::SeqCst);
+    }
+
+    /// How many cells there are.
+    pub fn cells(&self) -> u8 {
+        self.cells
+    }
+
+    pub fn is_tally(&self) -> bool {
+        self.law == Law::Tally
+    }
+
+    /// Whether the cell obeys the law at the end of a section.
+    pub fn is_lawful(&self) -> bool {
+        match self.law {
+            Law::Any | Law::Order | Law::Tally => true,
+            Law::Sum => self.load() == self.param,
+            Law::Cap => self.load() <= self.param,
+        }
     }
 
     fn share(&self) -> bool {
@@ -106,11 +173,11 @@ impl HandToken {
     }
 }
 
-/// So many tokens.
-pub fn hand_tokens(alloc: Global, count: u8) -> Result<Vec<HandToken>, AllocError> {
+/// So many tokens of this law.
+pub fn hand_tokens(alloc: Global, count: u8, law: Law) -> Result<Vec<HandToken>, AllocError> {
     let mut tokens = Vec::new(alloc);
     for _tok in 0..count {
-        tokens.push(HandToken::new())?;
+        tokens.push(HandToken::new(law))?;
     }
     Ok(tokens)
 }

@@ -95,7 +95,7 @@ fn race_pairs<R: Threads + Sync + Clock + Print + AllocGlobal>(
     rt: &R,
     ours: &mut Vec<Runner<Pairs<'_>>>,
 ) -> io::Result<()> {
-    let tokens = hand_tokens(rt.alloc(), 2)?;
+    let tokens = hand_tokens(rt.alloc(), 2, Law::Any)?;
     let mut plain = hands_crossed(rt.alloc(), tokens.as_slice())?;
     race_in_turn(rt, COUNT, ours, &mut plain)?.print_line(rt, CROSSED)
 }

@@ -92,7 +92,7 @@ fn time_beside<R: CpuClock + Print + AllocGlobal>(
     ours: &mut ListRounds<'_>,
     count: u8,
 ) -> io::Result<()> {
-    let tokens = hand_tokens(rt.alloc(), count)?;
+    let tokens = hand_tokens(rt.alloc(), count, Law::Any)?;
     let mut plain = plain_of(rt.alloc(), tokens.as_slice(), count)?;
     time_in_turn(rt, race, ours, &mut plain)
 }

@@ -1,10 +1,12 @@
-//! Times the steps of the layer beside the same steps written by hand on plain words. `lwkt_bench run` prints the table.
+//! Times the steps of the layer beside the same steps written by hand on plain words. `lwkt_bench run` prints the table, and
+//! `lwkt_bench run turns` its lines on turns alone; so for tokens, lists, lanes, messages and ports.
 #![tactic(auto)]
 
 mod desks;
 mod hand_cpus;
 mod hand_messages;
 mod hand_ports;
+mod hand_seats;
 mod hands;
 mod lane_rounds;
 mod list_desks;
@@ -104,8 +106,14 @@ fn run<R: Threads + Sync + Wait + CpuClock + Clock + Print + AllocGlobal>(
     println!(rt; "{HEAD}")?;
     match rows {
         Rows::All => run_all(rt),
-        Rows::Tokens => time_tokens(rt),
-        Rows::Lists => time_lists(rt),
+        Rows::Tokens => {
+            time_tokens(rt)?;
+            race_tokens(rt)
+        }
+        Rows::Lists => {
+            time_lists(rt)?;
+            race_lists(rt)
+        }
         Rows::Lanes => time_lanes(rt),
         Rows::Messages => time_messages(rt),
         Rows::Ports => time_ports(rt),

@@ -40,6 +40,11 @@ impl Ring {
             slots: array::from_fn(|_| Cell::new(Note::default())),
         }
     }
+
+    /// Whether no note is there.
+    pub fn is_empty(&self) -> bool {
+        self.head.load(Ordering::SeqCst) == self.tail.load(Ordering::SeqCst)
+    }
 }
 
 impl Queue for Ring {

@@ -91,7 +91,7 @@ fn race_at_one<R: Threads + Sync + Clock + Print + AllocGlobal>(
     rt: &R,
     ours: &mut Vec<Runner<Adds<'_>>>,
 ) -> io::Result<()> {
-    let token = HandToken::new();
+    let token = HandToken::new(Law::Tally);
     let mut plain = hands_adding(rt.alloc(), &token)?;
     race_in_turn(rt, COUNT, ours, &mut plain)?.print_rate_line(rt, ONE_TALLY)
 }
@@ -105,7 +105,7 @@ fn race_apart<R: Threads + Sync + Clock + Print + AllocGlobal>(
     rt: &R,
     ours: &mut Vec<Runner<Sections<'_>>>,
 ) -> io::Result<()> {
-    let tokens = hand_tokens(rt.alloc(), THREADS)?;
+    let tokens = hand_tokens(rt.alloc(), THREADS, Law::Any)?;
     let mut plain = hands_apart(rt.alloc(), tokens.as_slice())?;
     race_in_turn(rt, COUNT, ours, &mut plain)?.print_rate_line(rt, OWN_TOKENS)
 }

@@ -111,14 +111,14 @@ pub fn no_seat() -> io::Error {
 fn time_sections<R: CpuClock + Print + AllocGlobal>(rt: &R) -> io::Result<()> {
     let (bank, mut seats) = open(rt.alloc(), Law::Any, 1, 1).map_err(refused)?;
     let first = desk(rt.alloc(), &bank, &mut seats, TokId(0))?;
-    let token = HandToken::new();
+    let token = HandToken::new(Law::Any);
     time_in_turn(rt, SECTION, &mut Sections(first), &mut HandSections(&token))
 }
 
 fn time_shares<R: CpuClock + Print + AllocGlobal>(rt: &R) -> io::Result<()> {
     let (bank, mut seats) = open(rt.alloc(), Law::Any, 1, 1).map_err(refused)?;
     let first = desk(rt.alloc(), &bank, &mut seats, TokId(0))?;
-    let token = HandToken::new();
+    let token = HandToken::new(Law::Any);
     time_in_turn(rt, SHARED, &mut Shares(first), &mut HandShares(&token))
 }
 

@@ -8,16 +8,15 @@ ghost use Rattle.lwkt_bench.specs.Idle.{IsReady};
 ghost use Rattle.lwkt_bench.specs.Stations.{message};
 
 use crate::hand_cpus::{Asker, HandCpu};
+use crate::hand_seats::HandSeat;
 use crate::hands::hand_tokens;
-use crate::list_hands::HandList;
 use crate::message_rounds::spec;
-use crate::rings::Ring;
 use crate::rounds::Race;
 use crate::stations::{Ends, open_ports};
 use crate::steps::{STEPS, Steps, time_in_turn};
 use crate::token_rounds::{no_seat, open, refused};
 use lwkt_bank::{Bank, CpuSeat};
-use lwkt_base::{Answer, CpuId, Fault, Law};
+use lwkt_base::{CpuId, Fault, Law};
 use lwkt_core::Event;
 use lwkt_cpu::{Cpu, Turned};
 use lwkt_msg::{MsgBook, MsgSeat};
@@ -137,14 +136,11 @@ fn time_beside<R: CpuClock + Print + AllocGlobal>(
     ours: &mut Driver<'_>,
     body: Asker,
 ) -> io::Result<()> {
-    let tokens = hand_tokens(rt.alloc(), 1)?;
-    let list = HandList::new(rt.alloc(), tokens.as_slice(), &[], CpuId(0))?;
-    let mut plain = HandCpu {
-        list,
-        body,
-        last: Answer::Begin,
-        mail: Ring::new(),
+    let tokens = hand_tokens(rt.alloc(), 1, Law::Tally)?;
+    let Some(seat) = HandSeat::new(tokens.as_slice(), CpuId(0)) else {
+        return Err(no_seat());
     };
+    let mut plain = HandCpu::new(rt.alloc(), seat, body)?;
     time_in_turn(rt, race, ours, &mut plain)
 }
 

@@ -12,6 +12,7 @@ use lwkt_base::TokList;
 use lwkt_port::Ports;
 
 /// Ends a thread: its list is empty from now on.
+#[inline(never)]
 pub(crate) fn end(thread: &mut Thread, phase: Phase)
     ensures { thread.new ≡ ended_by phase thread.old }
 {
@@ -21,6 +22,7 @@ pub(crate) fn end(thread: &mut Thread, phase: Phase)
 }
 
 /// Closes the port of a thread, if it is to be.
+#[inline]
 pub(crate) fn close_if(ports: &mut Ports, number: u8, ends: bool)
     requires { number < ports.old.threads }
     ensures closes { ClosesIf ends number ports.old ports.new }
@@ -59,6 +61,7 @@ pub(crate) fn close_others(ports: &mut Ports, threads: &[Thread])
 }
 
 /// What comes next for a thread comes; says whether it goes on running.
+#[inline(always)]
 pub(crate) fn go_on(thread: &mut Thread, next: Next) -> bool
     ensures becomes { thread.new ≡ became thread.old next }
     ensures runs { result ≡ goes_on next }

@@ -22,6 +22,7 @@ impl Phase {
     ghost use Rattle.lwkt_cpu.specs.Ending.{is_worn};
 
     /// Whether it runs, or can run.
+    #[inline]
     pub(crate) fn is_live(self) -> bool
         ensures yes { result ≡ true → self ≡ Phase.Live }
         ensures no { result ≡ false → self ≢ Phase.Live }
@@ -30,6 +31,7 @@ impl Phase {
     }
 
     /// Whether this is an end.
+    #[inline]
     pub fn has_ended(self) -> bool
         ensures { result ≡ has_ended self }
     {

@@ -1,12 +1,13 @@
 //! A running thread polled: once, with the answer that is kept for it.
-ghost use Rattle.std.specs.Prelude.{◌≡◌, ◌+◌, ◌<◌, ◌≤◌, true, false, vec_len, vec_capacity};
+ghost use Rattle.std.specs.Prelude.{◌≡◌, ◌+◌, ◌<◌, ◌≤◌, true, false, None, vec_len, vec_capacity};
 ghost use Rattle.lwkt_base.specs.Holding.{holding_of, holds_nothing};
 ghost use Rattle.lwkt_base.specs.Refs.{IsLawful};
 ghost use Rattle.lwkt_bank.specs.Seats.{id_of, bank_of, holding};
 ghost use Rattle.lwkt_hold.specs.Holds.{seat_of};
 ghost use Rattle.lwkt_hold.specs.Fronts.{IsBetween};
 ghost use Rattle.lwkt_hold.specs.Runs.{Ran};
-ghost use Rattle.lwkt_cpu.specs.Processors.{IsSettled, Awaits};
+ghost use Rattle.lwkt_cpu.specs.Processors.{IsSettled, Awaits, has_ended};
+ghost use Rattle.lwkt_cpu.specs.Ending.{ClosesIf};
 ghost use Rattle.lwkt_msg.specs.Desks.{cpu_of, messages_of};
 ghost use Rattle.lwkt_port.specs.Posts.{IsSamePost};
 ghost use Rattle.lwkt_ask.specs.Telling.{TellsMail};
@@ -24,14 +25,40 @@ use lwkt_msg::MsgBook;
 use lwkt_port::Ports;
 
 // A list of references is always a lawful one.
+#[inline]
 fn is_lawful(list: &TokList)
     ensures { IsLawful list.now }
 {
     let _ = list.refs();
 }
 
+// No word that refused the thread's list is kept any more.
+#[inline]
+fn forget_refusal(thread: &mut Thread)
+    ensures { thread.new ≡ record thread.old { busy = None } }
+{
+    if thread.busy.is_some() {
+        thread.busy = None;
+    }
+}
+
+// Closes the port of a thread that has ended; one that goes on running hasn't.
+#[inline]
+fn close_ended(ports: &mut Ports, number: u8, thread: &Thread, runs: bool)
+    requires exists { number < ports.old.threads }
+    requires live { runs ≡ true → thread.now.phase ≡ Phase.Live }
+    ensures closes { ClosesIf (has_ended thread.now.phase) number ports.old ports.new }
+    ensures same { IsSamePost ports.old ports.new }
+    ensures seat { ports.new.seat ≡ ports.old.seat }
+{
+    if !runs {
+        close_if(ports, number, thread.phase.has_ended());
+    }
+}
+
 /// Polls a thread whose list is held with the answer that is kept for it, and performs its ask; a thread that ends then has
 /// its port closed. Says whether it goes on running.
+#[inline(always)]
 pub(crate) fn poll_one<B: Body>(
     hold: &mut Hold,
     ports: &mut Ports,
@@ -59,7 +86,7 @@ pub(crate) fn poll_one<B: Body>(
     ensures same { IsSamePost ports.old ports.new }
     ensures told { TellsMail ports.old.seat ports.new.seat trace.old.items trace.new.items }
 {
-    thread.busy = None;
+    forget_refusal(thread);
     let ask = body.poll(thread.last);
     let next = perform(
         hold,
@@ -73,6 +100,6 @@ pub(crate) fn poll_one<B: Body>(
     );
     let runs = go_on(thread, next);
     is_lawful(&thread.list);
-    close_if(ports, number, thread.phase.has_ended());
+    close_ended(ports, number, thread, runs);
     runs
 }

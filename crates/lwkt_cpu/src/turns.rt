@@ -46,6 +46,7 @@ impl<B> Cpu<B> {
     }
 
     // Takes mail in, and looks after the threads that wait.
+    #[inline]
     fn take_mail(&mut self, book: &MsgBook, trace: &mut Vec<Event>)
         requires table { self.old.post.seat.table ≡ book.now.table }
         requires room { vec_len trace.old + 2304 ≤ vec_capacity trace.old }
@@ -60,6 +61,7 @@ impl<B> Cpu<B> {
     }
 
     // The thread of this turn: the one that runs, or the one that a search finds, which runs from now on.
+    #[inline]
     fn choose(&mut self, bank: &Bank, trace: &mut Vec<Event>) -> Option<usize>
         requires of { bank_of self.old.seat ≡ id_of bank.now }
         requires room { vec_len trace.old + 1024 ≤ vec_capacity trace.old }
@@ -84,6 +86,7 @@ impl<B> Cpu<B> {
 
 impl<B: Body> Cpu<B> {
     // Polls the thread that runs.
+    #[inline]
     fn run_on(&mut self, bank: &Bank, book: &MsgBook, place: usize, trace: &mut Vec<Event>)
         requires of { bank_of self.old.seat ≡ id_of bank.now }
         requires table { self.old.post.seat.table ≡ book.now.table }

@@ -34,8 +34,9 @@ fn wake_by_reply(thread: &mut Thread, msg: MsgId, told: Option<Rec>)
     }
 }
 
-// Looks after a thread: one that waits is ready once what it waits for is there.
-fn wake_one(
+// Looks after a thread that waits: it is ready once what it waits for is there.
+#[inline(never)]
+fn wake_waiting(
     ports: &mut Ports,
     book: &MsgBook,
     number: u8,
@@ -66,7 +67,34 @@ fn wake_one(
     }
 }
 
+// Looks after a thread: one that waits is ready once what it waits for is there.
+#[inline(always)]
+fn wake_one(
+    ports: &mut Ports,
+    book: &MsgBook,
+    number: u8,
+    thread: &mut Thread,
+    trace: &mut Vec<Event>,
+)
+    requires table { ports.old.seat.table ≡ book.now.table }
+    requires exists { number < ports.old.threads }
+    requires awaits { Awaits (messages_of ports.old.seat) thread.old }
+    requires room { vec_len trace.old + 128 ≤ vec_capacity trace.old }
+    ensures wakes { Wakes thread.old.phase number ports.old ports.new trace.old trace.new thread.old thread.new }
+    ensures woken { IsWoken thread.old thread.new }
+    ensures live { thread.old.phase ≡ Phase.Live → thread.new ≡ thread.old }
+    ensures same { IsSamePost ports.old ports.new }
+    ensures grew { Grew (cpu_of ports.old.seat) 128 trace.old trace.new }
+    ensures told { Tells ports.old.seat ports.new.seat trace.old.items trace.new.items }
+{
+    match thread.phase {
+        Phase::Live => {}
+        _ => wake_waiting(ports, book, number, thread, trace),
+    }
+}
+
 /// Looks after each thread, by rising number.
+#[inline]
 pub(crate) fn wake_all(
     ports: &mut Ports,
     book: &MsgBook,

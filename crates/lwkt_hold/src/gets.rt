@@ -40,6 +40,7 @@ fn mark(seat: &mut CpuSeat, bank: &Bank, new: Ref, trace: &mut Vec<Event>)
 }
 
 /// Puts a reference on the list and takes it; where it is missed, it stays on the list.
+#[inline(always)]
 fn push_and_take(
     seat: &mut CpuSeat,
     bank: &Bank,
@@ -97,6 +98,7 @@ impl Hold {
     /// Refused with `NoToken` exactly if there is no such token, else with `ListFull` exactly if the list has 32 references,
     /// else with `Upgrade` exactly if the reference is exclusive and the first one to its token is shared, else with `Worn`
     /// if it is exclusive and the token is at its last generation; list and holding are then as before.
+    #[inline(always)]
     pub fn get(
         &mut self,
         bank: &Bank,
@@ -143,6 +145,7 @@ impl Hold {
     ///
     /// Refused with `NoToken`, `ListFull`, `Upgrade` and `Worn` as `get` is, else with `Busy` if the token is held, and with
     /// `Again` if another processor's step came between; list, holding and words are then as before.
+    #[inline(never)]
     pub fn try_get(
         &mut self,
         bank: &Bank,

@@ -16,6 +16,8 @@ use lwkt_base::{CpuId, Held, Mode, Ref, TokId};
 use lwkt_core::Event;
 
 /// Stores the first row of a section again, which has broken its law.
+#[cold]
+#[inline(never)]
 fn restore(seat: &mut CpuSeat, bank: &Bank, cpu: CpuId, tok: TokId, trace: &mut Vec<Event>)
     requires of { bank_of seat.old ≡ id_of bank.now }
     requires there { tok.0 < tokens_of (bank_of seat.old) }
@@ -34,6 +36,7 @@ fn restore(seat: &mut CpuSeat, bank: &Bank, cpu: CpuId, tok: TokId, trace: &mut 
 }
 
 /// Whether this is one exclusive reference, which ends its section when it is given back.
+#[inline]
 fn ends_section(held: Held) -> bool
     ensures yes { result ≡ true → held ≡ Holds Exclusive 0 }
     ensures no { result ≡ false → held ≢ Holds Exclusive 0 }
@@ -42,6 +45,7 @@ fn ends_section(held: Held) -> bool
 }
 
 /// Before a reference is given back: a section that it ends, and that has broken its law, gets its first row again.
+#[inline]
 fn mend(seat: &mut CpuSeat, bank: &Bank, tok: TokId, trace: &mut Vec<Event>) -> bool
     requires of { bank_of seat.old ≡ id_of bank.now }
     requires held { is_held (holding seat.old tok.0) ≡ true }
@@ -64,6 +68,7 @@ fn mend(seat: &mut CpuSeat, bank: &Bank, tok: TokId, trace: &mut Vec<Event>) -> 
 }
 
 /// Gives a reference to a token back, and says so in the trace.
+#[inline]
 fn give(seat: &mut CpuSeat, bank: &Bank, tok: TokId, trace: &mut Vec<Event>)
     requires of { bank_of seat.old ≡ id_of bank.now }
     requires held { is_held (holding seat.old tok.0) ≡ true }
@@ -85,6 +90,7 @@ fn give(seat: &mut CpuSeat, bank: &Bank, tok: TokId, trace: &mut Vec<Event>)
 }
 
 /// Gives a reference back, a section that it ends being mended before; says whether the section's cells were restored.
+#[inline(always)]
 pub(crate) fn give_last(seat: &mut CpuSeat, bank: &Bank, tok: TokId, trace: &mut Vec<Event>) -> bool
     requires of { bank_of seat.old ≡ id_of bank.now }
     requires held { is_held (holding seat.old tok.0) ≡ true }

@@ -18,6 +18,7 @@ impl Hold {
     ghost use Rattle.lwkt_hold.specs.Rows.{row, OnlyRow};
 
     // Refused with `NotHeld` if the token isn't on the list, else with `SharedWrite` if it is held shared.
+    #[inline]
     fn may_write(list: &TokList, tok: TokId) -> Result<(), Fault>
         ensures ok { OnOk result (first_mode list.now tok.0 ≡ Some Mode.Exclusive) }
         ensures not_held { (result ≡ Err Fault.NotHeld) ↔ (first_mode list.now tok.0 ≡ None) }
@@ -36,6 +37,7 @@ impl Hold {
     ///
     /// Refused with `NoToken` exactly if there is no such token, else with `NoCell` exactly if it has no such cell, else
     /// with `NotHeld` exactly if it isn't on the list.
+    #[inline]
     pub fn read(
         &mut self,
         bank: &Bank,
@@ -87,6 +89,7 @@ impl Hold {
     /// Refused with `NoToken` exactly if there is no such token, else with `NoCell` exactly if it has no such cell, else
     /// with `NotHeld` exactly if it isn't on the list, else with `SharedWrite` exactly if it is held shared, else with
     /// `TallyOnly` exactly if its law is Tally.
+    #[inline]
     pub fn write(
         &mut self,
         bank: &Bank,
@@ -138,6 +141,7 @@ impl Hold {
     /// Refused with `NoToken` exactly if there is no such token, else with `NotHeld` exactly if it isn't on the list, else
     /// with `SharedWrite` exactly if it is held shared, else with `TallyOnly` exactly if its law isn't Tally, else with
     /// `Overflow` exactly if the sum passes 18446744073709551615.
+    #[inline]
     pub fn add(
         &mut self,
         bank: &Bank,

@@ -27,6 +27,7 @@ impl Hold {
     /// Refused with `NotHeld` exactly if the token is not on the list, else with `NotLast` exactly if the last reference is
     /// to another token; nothing changes then. `Broken` says that the reference ended a section whose row had broken its
     /// law: the row is the section's first row again, and the reference is given back.
+    #[inline(always)]
     pub fn rel(
         &mut self,
         bank: &Bank,
@@ -55,6 +56,7 @@ impl Hold {
     /// Gives up the first `held` references of a list, in reverse order. A section that has broken its law gets its first
     /// row again before it ends; the first such token is named. That these references are held and that the trace has room
     /// for 256 events are the caller's conditions.
+    #[inline(never)]
     pub fn block(
         &mut self,
         bank: &Bank,

@@ -15,6 +15,7 @@ use lwkt_base::{CpuId, Mode, Ref, TokId};
 use lwkt_core::Event;
 
 /// Whether the list has no reference to another token.
+#[inline]
 fn has_only(refs: &[Ref], tok: TokId) -> bool
     ensures { result ≡ is_alone refs.now tok.0 }
 {
@@ -22,6 +23,7 @@ fn has_only(refs: &[Ref], tok: TokId) -> bool
 }
 
 /// The event of taking a first reference.
+#[inline]
 fn taken(cpu: CpuId, new: Ref) -> Event
     ensures { result ≡ taking cpu new.tok new.mode }
 {
@@ -32,6 +34,7 @@ fn taken(cpu: CpuId, new: Ref) -> Event
 }
 
 /// Takes the reference of this place, those before it being held. Of a miss it says why.
+#[inline]
 pub(crate) fn take_one(
     seat: &mut CpuSeat,
     bank: &Bank,

@@ -5,13 +5,14 @@ ghost use Rattle.lwkt_hold.specs.Rows.{writes};
 use lwkt_base::{CpuId, TokId};
 use lwkt_core::Event;
 
+#[inline(always)]
 pub(crate) fn note(trace: &mut Vec<Event>, event: Event)
     requires { vec_len trace.old < vec_capacity trace.old }
     ensures items { trace.new.items ≡ trace.old.items ++ event ∷ [] }
     ensures longer { vec_len trace.new ≡ vec_len trace.old + 1 }
     ensures room { vec_capacity trace.old ≤ vec_capacity trace.new }
 {
-    let _ = trace.push(event);
+    trace.push_reserved(event);
 }
 
 fn note_cell(trace: &mut Vec<Event>, cpu: CpuId, tok: TokId, cell: u8, value: Option<u64>)
