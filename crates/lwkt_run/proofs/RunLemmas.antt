@@ -1,13 +1,14 @@
-use Rattle.std.proofs.Common.{inl, inr, ◌≡◌, ◌⊎◌, ℕ, List, [], take, refl, rules, Option, None, Some, Err, Ok, sym, subst}
-use Rattle.std.specs.Io.KnownBytes.{Appends, Keeps}
+use Rattle.std.proofs.Common.{inl, inr, ◌≡◌, ◌⊎◌, ℕ, List, [], take, refl, rules, Option, None, Some, Result, Err, Ok, sym, subst}
+use Rattle.std.specs.Prelude.{string_bytes, IfOk, IfErr}
+use Rattle.std.specs.Io.KnownBytes.{Keeps}
 use Rattle.lwkt_base.specs.declared.faults.Fault.{Fault as Refusal}
 use Rattle.lwkt_base.specs.declared.faults.Fault.TheVariants.{Memory}
 use Rattle.lwkt_report.specs.declared.streams.RunFault.{RunFault}
 use Rattle.lwkt_report.specs.declared.streams.RunFault.TheVariants.{Fault, Stream}
 use Rattle.lwkt_report.specs.declared.sources.TheConstants.{READ_LIMIT}
-use Rattle.lwkt_report.specs.Stream.{AppendsFront}
+use Rattle.lwkt_run.specs.declared.reports.Done.{Done}
 use Rattle.lwkt_run.specs.declared.runs.End.{End}
-use Rattle.lwkt_run.specs.Run.{AreRead, Refuses, TellsBy}
+use Rattle.lwkt_run.specs.Run.{AreRead, Refuses, TellsBy, Concludes}
 
 -- what was written stays what it is
 keeps_itself : (o : Option (List ℕ)) → Keeps o o
@@ -27,17 +28,15 @@ tells_unread Run left old fault why =
       | inr is ↦ subst T (sym is) (keeps_itself old, ((some_read left).0, ((some_read left).1, tt)))
     ]
 
--- where the bytes are refused nothing is written
-pub tells_refused : (Run : List ℕ → End → List ℕ → Type 0) (left old : Option (List ℕ)) (bytes read : List ℕ) (fault : Refusal) → read ≡ bytes → AreRead left bytes → Refuses read fault → TellsBy Run left old old (Err (Fault fault))
-tells_refused Run left old bytes read fault same are refuses =
-    (keeps_itself old, (bytes, (are, subst (λ b. Refuses b fault) same refuses)))
-
--- a report that was written whole
-pub tells_done : (Run : List ℕ → End → List ℕ → Type 0) (left old new : Option (List ℕ)) (bytes read text written : List ℕ) (end : End) → read ≡ bytes → written ≡ text → AreRead left bytes → Run read end text → Appends old new written → TellsBy Run left old new (Ok end)
-tells_done Run left old new bytes read text written end same same_text are run appends =
-    (bytes, (are, (text, (subst (λ b. Run b end text) same run, subst (λ t. Appends old new t) same_text appends))))
-
--- a report of which a front was written
-pub tells_front : (Run : List ℕ → End → List ℕ → Type 0) (left old new : Option (List ℕ)) (bytes read text written : List ℕ) (end : End) → read ≡ bytes → written ≡ text → AreRead left bytes → Run read end text → AppendsFront old new written → TellsBy Run left old new (Err Stream)
-tells_front Run left old new bytes read text written end same same_text are run front =
-    inr (bytes, (are, (end, (text, (subst (λ b. Run b end text) same run, subst (λ t. AppendsFront old new t) same_text front)))))
+-- what was read, run and concluded
+pub tells_concluded : (Run : List ℕ → End → List ℕ → Type 0) (left old new : Option (List ℕ)) (bytes read : List ℕ) (outcome : Result Done Refusal) (answer : Result End RunFault) → read ≡ bytes → AreRead left bytes
+    → IfOk outcome (λ done. Run read done.end (string_bytes done.text)) → IfErr outcome (λ fault. Refuses read fault) → Concludes old new outcome answer → TellsBy Run left old new answer
+tells_concluded Run left old new bytes read (Ok done) (Ok end) same are run refused ends =
+    (bytes, (are, (string_bytes done.text, (subst (λ e. Run bytes e (string_bytes done.text)) (sym ends.0) (subst (λ b. Run b done.end (string_bytes done.text)) same run), ends.1))))
+tells_concluded Run left old new bytes read (Ok done) (Err Stream) same are run refused front =
+    inr (bytes, (are, (done.end, (string_bytes done.text, (subst (λ b. Run b done.end (string_bytes done.text)) same run, front)))))
+tells_concluded Run left old new bytes read (Ok done) (Err (Fault fault)) same are run refused none = absurd none
+tells_concluded Run left old new bytes read (Err refusal) (Ok end) same are run refused none = absurd none
+tells_concluded Run left old new bytes read (Err refusal) (Err Stream) same are run refused none = absurd none
+tells_concluded Run left old new bytes read (Err refusal) (Err (Fault fault)) same are run refused keeps =
+    (keeps.1, (bytes, (are, subst (λ f. Refuses bytes f) (sym keeps.0) (subst (λ b. Refuses b refusal) same refused))))

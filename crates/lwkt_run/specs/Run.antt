@@ -33,6 +33,7 @@ use Rattle.lwkt_run.specs.Values.{is_tally}
 use Rattle.lwkt_run.specs.Leaving.{Leaves}
 use Rattle.lwkt_run.specs.Running.{ShowThreads, scene, HasMadeRounds}
 use Rattle.lwkt_run.specs.Judging.{ids_of, ArePlansOf, AreEndsOf, Judges}
+use Rattle.lwkt_run.specs.declared.reports.Done.{Done}
 use Rattle.lwkt_run.specs.declared.runs.End.{End}
 use Rattle.lwkt_run.specs.declared.runs.TurnsRun.{TurnsRun}
 use Rattle.lwkt_run.specs.declared.runs.End.TheVariants.{Ended, TurnsOut, Unlawful as UnlawfulEnd}
@@ -153,6 +154,14 @@ TellsBy Run left old new (Err Stream) = Keeps old new ⊎ ((bytes : List ℕ) ×
 -- the same of a run in rounds
 abbrev pub Tells : Option (List ℕ) → Option (List ℕ) → Option (List ℕ) → Result End RunFault → Type 0
 Tells left old new answer = TellsBy HasRun left old new answer
+
+-- what a run's end says by its answer, of what was written before and after it: its report was written whole, or a front of it where
+-- the stream failed; of a refused run nothing
+abbrev pub Concludes : Option (List ℕ) → Option (List ℕ) → Result Done Refusal → Result End RunFault → Type 0
+Concludes old new (Ok done) (Ok end) = (end ≡ done.end) × Appends old new (string_bytes done.text)
+Concludes old new (Ok done) (Err Stream) = AppendsFront old new (string_bytes done.text)
+Concludes old new (Err refusal) (Err (Fault fault)) = (fault ≡ refusal) × Keeps old new
+Concludes old new _ _ = ⊥
 
 -- the exit status of the program (own)
 abbrev pub status_of : Result End RunFault → ℕ

@@ -5,6 +5,7 @@ mod endings;
 mod lines;
 mod programs;
 mod records;
+mod reports;
 mod rounds;
 mod runs;
 mod threaded;

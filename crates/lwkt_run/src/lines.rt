@@ -1,5 +1,5 @@
 //! The lines of tokens.
-ghost use Rattle.std.specs.Prelude.{◌≡◌, ◌<◌, ℕ, map, is_some, unwrap_or, [], false, length, take, slice_get, Some, IfOk};
+ghost use Rattle.std.specs.Prelude.{◌≡◌, ◌<◌, is_some, unwrap_or, [], false, length, slice_get, Some, IfOk};
 ghost use Rattle.lwkt_run.specs.Values.{is_tally, AreValuesOf, ShowTokens};
 
 use lwkt_base::{Cells, Law, TokSpec};

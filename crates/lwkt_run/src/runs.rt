@@ -1,4 +1,4 @@
-ghost use Rattle.std.specs.Prelude.{◌≡◌, ◌≤◌, ◌⊎◌, ℕ, map, is_some, length, IfOk, IfErr, OnOk, OnErr, Err, IsTrue, string_bytes};
+ghost use Rattle.std.specs.Prelude.{◌≡◌, ◌⊎◌, map, is_some, IfOk, IfErr, OnOk, Err, IsTrue, string_bytes};
 ghost use Rattle.std.specs.List.{list_all};
 ghost use Rattle.lwkt_core.specs.Opening.{AreWithin, AllOpenLawfully};
 ghost use Rattle.lwkt_run.specs.Judging.{ids_of};
@@ -8,14 +8,13 @@ ghost use Rattle.lwkt_run.specs.Run.{opening_of, RunsInRounds, IsJudgedBy, MayCl
 use crate::endings::{Left, left_by};
 use crate::lines::token_lines;
 use crate::records::Record;
+use crate::reports::{Done, conclude};
 use crate::rounds::make_rounds;
 use crate::verdicts::{ends_of, plans_of, verdict_of};
 use lwkt_base::{Fault, ThreadState};
 use lwkt_core::{Event, Final, State};
 use lwkt_machine::Machine;
-use lwkt_report::{
-    Closing, RunFault, Sink, Source, ThreadLine, Verdict, read_capped, report, write_whole,
-};
+use lwkt_report::{Closing, RunFault, Sink, Source, ThreadLine, Verdict, read_capped, report};
 use lwkt_script::{Script, read_script};
 use lwkt_verdict::{Poll, Turn};
 use std::alloc::{AllocError, Global};
@@ -177,13 +176,6 @@ fn has_ended(state: ThreadState) -> bool
     matches!(state, ThreadState::Exited | ThreadState::Faulted(_))
 }
 
-// A run that has ended: its report, and how it ended.
-#[derive(Drop)]
-struct Done {
-    text: String,
-    end: End,
-}
-
 // Runs the script that the bytes are, to the text of its report.
 fn done_of_bytes(alloc: Global, bytes: &[u8]) -> Result<Done, Fault>
     ensures ok { IfOk result (λ done. HasRun bytes.now done.end (string_bytes done.text)) }
@@ -213,12 +205,5 @@ pub fn run_turns<S: Source, K: Sink>(
         Ok(bytes) => bytes,
         Err(fault) => return Err(fault),
     };
-    let done = match done_of_bytes(alloc, &bytes) {
-        Ok(done) => done,
-        Err(fault) => return Err(RunFault::Fault(fault)),
-    };
-    match write_whole(sink, done.text.as_bytes()) {
-        Ok(()) => Ok(done.end),
-        Err(_) => Err(RunFault::Stream),
-    }
+    conclude(sink, done_of_bytes(alloc, &bytes))
 }

@@ -1,18 +1,19 @@
 //! Runs on threads.
-ghost use Rattle.std.specs.Prelude.{◌≡◌, ◌≤◌, ◌⊎◌, ℕ, map, is_some, IfOk, IfErr, OnOk, OnErr, Err, IsTrue, string_bytes};
+ghost use Rattle.std.specs.Prelude.{◌≡◌, ◌⊎◌, map, IfOk, IfErr, OnOk, Err, IsTrue, string_bytes};
 ghost use Rattle.lwkt_core.specs.Opening.{AreWithin, AllOpenLawfully};
 ghost use Rattle.lwkt_run.specs.Judging.{ids_of};
-ghost use Rattle.lwkt_run.specs.Values.{is_tally, AreValuesOf};
+ghost use Rattle.lwkt_run.specs.Values.{AreValuesOf};
 ghost use Rattle.lwkt_run.specs.Run.{Declines, Refuses};
 ghost use Rattle.lwkt_run.specs.Threaded.{RunsOnThreads, MayCloseOnThreads, HasThreadedRun, TellsOnThreads, lets_all};
 
 use crate::endings::{Left, left_by};
 use crate::lines::token_lines;
+use crate::reports::{Done, conclude};
 use crate::runs::{End, end_told};
 use lwkt_base::Fault;
 use lwkt_core::Final;
 use lwkt_machine::Machine;
-use lwkt_report::{Closing, RunFault, Sink, Source, Verdict, read_capped, report, write_whole};
+use lwkt_report::{Closing, RunFault, Sink, Source, Verdict, read_capped, report};
 use lwkt_script::{Script, read_script};
 use lwkt_threads::{Gate, Limits, OpenGate, Outcome, drive_machine};
 use std::alloc::{AllocError, Global};
@@ -85,13 +86,6 @@ fn closing_of_script<R: Threads + Wait + Sync, G: Gate + Sync>(
     }
 }
 
-// A run that has ended: its report, and how it ended.
-#[derive(Drop)]
-struct Done {
-    text: String,
-    end: End,
-}
-
 // Runs the script that the bytes are on threads, to the text of its report.
 fn done_of_bytes<R: Threads + Wait + Sync, G: Gate + Sync>(
     rt: &R,
@@ -129,14 +123,7 @@ pub fn run_threads_gated<R: Threads + Wait + Sync, G: Gate + Sync, S: Source, K:
         Ok(bytes) => bytes,
         Err(fault) => return Err(fault),
     };
-    let done = match done_of_bytes(rt, alloc, gate, &bytes) {
-        Ok(done) => done,
-        Err(fault) => return Err(RunFault::Fault(fault)),
-    };
-    match write_whole(sink, done.text.as_bytes()) {
-        Ok(()) => Ok(done.end),
-        Err(_) => Err(RunFault::Stream),
-    }
+    conclude(sink, done_of_bytes(rt, alloc, gate, &bytes))
 }
 
 /// Runs a script on threads, as `run_threads_gated` does with a gate that never says no.

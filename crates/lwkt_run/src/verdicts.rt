@@ -1,4 +1,4 @@
-ghost use Rattle.std.specs.Prelude.{◌≡◌, map, IfOk};
+ghost use Rattle.std.specs.Prelude.{◌≡◌, IfOk};
 ghost use Rattle.lwkt_run.specs.Judging.{ArePlansOf, AreEndsOf, Judges};
 
 use crate::records::Record;

@@ -1,19 +1,17 @@
 -- What the processors did, driven and stopped, are the parts of one run.
 use Rattle.std.proofs.Common.{◌≡◌, ◌≢◌, ℕ, zero, suc, ◌+◌, ◌<◌, ◌==◌, Bool, cond, List, [], ◌∷◌, ◌++◌, length, map, set, refl, ap, sym, ◌∙◌, subst, inl, inr, arith, append_assoc, append-nil, eq-eqb, ne_eqb, Option, Some, None}
-use Rattle.std.specs.Prelude.{All, Vec, filter, slice_get, option_map}
+use Rattle.std.specs.Prelude.{All, Vec, slice_get, option_map}
 use Rattle.std.specs.declared.alloc.Global.{Global}
 use Rattle.std.proofs.lemmas.Bool.{cases_eq}
-use Rattle.std.proofs.lemmas.List.{append_cancel_left, length-set, length-map}
+use Rattle.std.proofs.lemmas.List.{append_cancel_left, length-set}
 use Rattle.std.proofs.lemmas.List.Elements.{All-head, All-tail, filter-append}
 use Rattle.std.proofs.lemmas.Option.{slice_get-map, slice_get_within}
 use Rattle.lwkt_base.specs.declared.names.CpuId.{CpuId}
 use Rattle.lwkt_core.specs.declared.events.Event.{Event}
 use Rattle.lwkt_core.specs.declared.seats.SeatKind.{SeatKind}
 use Rattle.lwkt_core.specs.Events.{cpu_of}
-use Rattle.lwkt_bank.specs.declared.seats.CpuSeat.{CpuSeat}
-use Rattle.lwkt_bank.specs.Gathered.{IsClosed}
 use Rattle.lwkt_bank.specs.Seats.{BankId}
-use Rattle.lwkt_msg.specs.Desks.{Desk, Shelf, cpu_of as desk_cpu, AreClosed}
+use Rattle.lwkt_msg.specs.Desks.{Shelf, cpu_of as desk_cpu}
 use Rattle.lwkt_msg.specs.Views.{seat_cpu}
 use Rattle.lwkt_port.specs.Chains.{Chain}
 use Rattle.lwkt_cpu.specs.Processors.{Processor}

@@ -1,4 +1,3 @@
-use Rattle.lwkt_core.specs.declared.finals.Final.{Final}
 use Rattle.lwkt_threads.proofs.MachineMoves.{ok_both}
 use Rattle.lwkt_run.specs.declared.endings.Left.{Left}
 use Rattle.lwkt_run.specs.Leaving.{Leaves}

@@ -1,0 +1,29 @@
+//! The report of a run written, whichever way its processors were driven.
+ghost use Rattle.std.specs.Prelude.{◌≡◌, Err, IsTrue};
+ghost use Rattle.lwkt_run.specs.Run.{Concludes};
+
+use crate::runs::End;
+use lwkt_base::Fault;
+use lwkt_report::{RunFault, Sink, write_whole};
+
+/// A run that has ended: its report, and how it ended.
+#[derive(Drop)]
+pub struct Done {
+    pub text: String,
+    pub end: End,
+}
+
+/// Writes the report of a run that has ended, and says how it ended; of a refused one nothing is written.
+pub fn conclude<K: Sink>(sink: &mut K, outcome: Result<Done, Fault>) -> Result<End, RunFault>
+    ensures concludes { Concludes (K.contents sink.old) (K.contents sink.new) outcome result }
+    ensures stream { result ≡ Err RunFault.Stream → IsTrue (K.has_failed sink.new) }
+{
+    let done = match outcome {
+        Ok(done) => done,
+        Err(fault) => return Err(RunFault::Fault(fault)),
+    };
+    match write_whole(sink, done.text.as_bytes()) {
+        Ok(()) => Ok(done.end),
+        Err(_) => Err(RunFault::Stream),
+    }
+}
