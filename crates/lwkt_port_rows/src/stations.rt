@@ -302,3 +302,49 @@ pub fn run(alloc: Global, pair: &mut Pair, messages: usize, lines: &[Line]) -> R
     }
     Ok(())
 }
+
+/// Plays a table of calls by the two processors of a book of these messages, joined by lanes of this capacity.
+pub fn play_pair(
+    alloc: Global,
+    specs: &[MsgSpec],
+    capacity: usize,
+    lines: &[Line],
+) -> Result<(), Miss>
+    requires least { 2 ≤ capacity }
+    requires most { capacity ≤ 32 }
+{
+    match open(alloc, specs, capacity) {
+        Ok(mut pair) => run(alloc, &mut pair, specs.len(), lines),
+        Err(fault) => Err(Miss::Fault(fault)),
+    }
+}
+
+// Thread 0 of the first processor sends the first so many messages to thread 0 of the second.
+fn send_first(alloc: Global, pair: &mut Pair, messages: usize, count: u8) -> Result<(), Miss>
+    requires first { Sits pair.old.book messages pair.old.first }
+    requires second { Sits pair.old.book messages pair.old.second }
+    ensures first { Sits pair.new.book messages pair.new.first }
+    ensures second { Sits pair.new.book messages pair.new.second }
+{
+    for m in 0..count {
+        let line = first!(Ask::Send(0, m, 1, 0, 1, 1), Told::Done);
+        run(alloc, pair, messages, &[line])?;
+    }
+    Ok(())
+}
+
+/// Plays a table of calls once the first so many messages were sent by thread 0 of the first processor to that of the second.
+pub fn play_after_sends(
+    alloc: Global,
+    specs: &[MsgSpec],
+    count: u8,
+    lines: &[Line],
+) -> Result<(), Miss> {
+    match open(alloc, specs, 32) {
+        Ok(mut pair) => {
+            send_first(alloc, &mut pair, specs.len(), count)?;
+            run(alloc, &mut pair, specs.len(), lines)
+        }
+        Err(fault) => Err(Miss::Fault(fault)),
+    }
+}
