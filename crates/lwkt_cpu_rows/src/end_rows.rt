@@ -203,13 +203,9 @@ fn four_processors_close_even(rt: HostRuntime) -> Result<(), Fail> {
     let mut cpus = four(alloc, &board, &mut seats)?;
     drive_by_threads(&rt, alloc, &board.bank, &board.book, &mut cpus);
     let (closed, ends, counts) = close_four(alloc, board, cpus)?;
-    assert!(rt; counts.wrong == 0 && counts.calls[0] > 0, "{counts:?}");
-    assert_eq!(rt; first_miscounted(&closed, &counts), None, "{counts:?}");
+    assert!(rt; counts.wrong == 0 && counts.calls[0] > 0);
+    assert_eq!(rt; first_miscounted(&closed, &counts), None);
+    assert_eq!(rt; first_misplaced(&ends, &counts), None);
     assert!(rt; ends.len() == 4);
-    assert_eq!(rt;
-        first_misplaced(&ends, &counts),
-        None,
-        "{ends:?} {counts:?}"
-    );
     Ok(())
 }
