@@ -97,7 +97,7 @@ fn race_pairs<R: Threads + Sync + Clock + Print + AllocGlobal>(
 ) -> io::Result<()> {
     let tokens = hand_tokens(rt.alloc(), 2, Law::Any)?;
     let mut plain = hands_crossed(rt.alloc(), tokens.as_slice())?;
-    race_in_turn(rt, COUNT, ours, &mut plain)?.print_line(rt, CROSSED)
+    race_in_turn(rt, COUNT, ours, &mut plain).print_line(rt, CROSSED)
 }
 
 /// Times the two threads, and prints their line.

@@ -4,7 +4,7 @@ ghost use Rattle.lwkt_msg.specs.Desks.{AreSeats};
 
 use crate::hand_messages::{HandMessage, SharedRec, hand_sides};
 use crate::posts::Post;
-use crate::rounds::{Race, Rounds, Timed};
+use crate::rounds::{Race, Rounds, Timed, between};
 use crate::sides::Side;
 use crate::steps::{ROUNDS, STEPS, Steps, time_in_turn};
 use crate::token_rounds::{no_seat, refused};
@@ -128,14 +128,17 @@ fn serve<S: Side>(side: &mut S, round: u64) -> bool {
 }
 
 // Messages one after another, timed once the other side has answered a first one. The sum is that of the answers.
-fn ask_all<R: Clock, S: Side>(rt: &R, side: &mut S) -> io::Result<Timed> {
+fn ask_all<R: Clock, S: Side>(rt: &R, side: &mut S) -> Timed {
     let mut sum = ask(side, 0).unwrap_or(0);
-    let start = rt.monotonic()?;
+    let start = rt.monotonic().ok();
     for turn in 0..MESSAGES {
         sum = sum.wrapping_add(ask(side, turn).unwrap_or(0));
     }
-    let time = rt.monotonic()?.saturating_sub(start);
-    Ok(Timed { time, sum })
+    let end = rt.monotonic().ok();
+    Timed {
+        time: between(start, end),
+        sum,
+    }
 }
 
 // Answers the messages from this round on.
@@ -167,10 +170,7 @@ impl<S> Apart<S> {
 }
 
 // The messages of two threads.
-fn time_turns<R: Clock + Threads + Sync, S: Side + Send>(
-    rt: &R,
-    sides: &mut Apart<S>,
-) -> io::Result<Timed> {
+fn time_turns<R: Clock + Threads + Sync, S: Side + Send>(rt: &R, sides: &mut Apart<S>) -> Timed {
     let next = sides.next;
     sides.next = next.wrapping_add(MESSAGES + 1);
     let first = &mut sides.first;
@@ -237,13 +237,13 @@ fn time_pair<R: Clock + Threads + Sync, A: Side + Send, B: Side + Send>(
     ours: &mut Apart<A>,
     plain: &mut Apart<B>,
     plain_first: bool,
-) -> io::Result<(Timed, Timed)> {
+) -> (Timed, Timed) {
     if plain_first {
-        let beside = time_turns(rt, plain)?;
-        return Ok((time_turns(rt, ours)?, beside));
+        let beside = time_turns(rt, plain);
+        return (time_turns(rt, ours), beside);
     }
-    let timed = time_turns(rt, ours)?;
-    Ok((timed, time_turns(rt, plain)?))
+    let timed = time_turns(rt, ours);
+    (timed, time_turns(rt, plain))
 }
 
 /// Rounds of two threads, in turn.
@@ -255,8 +255,8 @@ pub fn race_apart<R: Clock + Threads + Sync + Print + AllocGlobal, A: Side + Sen
 ) -> io::Result<()> {
     let mut rounds = Rounds::new(rt.alloc());
     for pair in 0..ROUNDS {
-        let (timed, beside) = time_pair(rt, ours, plain, pair % 2 == 1)?;
-        rounds.add(timed, beside)?;
+        let (timed, beside) = time_pair(rt, ours, plain, pair % 2 == 1);
+        rounds.add(timed, beside);
     }
     rounds.print_line(rt, race)
 }

@@ -1,11 +1,11 @@
 //! Steps that threads make side by side, each thread its own.
-use crate::rounds::{Rounds, Timed};
+use crate::rounds::{Rounds, Timed, between};
 use crate::steps::Steps;
 use std::alloc::AllocError;
 use std::hint::spin_loop;
+use std::rt::Clock;
+use std::thread;
 use std::thread::Threads;
-use std::time::{Clock, Instant};
-use std::{io, thread};
 
 // How many races are timed of each side.
 const RACES: u32 = 101;
@@ -70,21 +70,24 @@ fn race<R: Threads + Sync + Clock, S: Steps + Send>(
     rt: &R,
     count: u64,
     runners: &mut Vec<Runner<S>>,
-) -> io::Result<Timed> {
+) -> Timed {
     let threads = runners.len().max(1);
-    let start = Instant::now(rt)?;
+    let start = rt.monotonic().ok();
     thread::for_each_mut(
         rt,
         runners.as_mut_slice(),
         threads,
         &|_place, runner| { runner.run(count) },
     );
-    let time = start.elapsed(rt)?;
+    let end = rt.monotonic().ok();
     let mut sum = 0u64;
     for runner in runners.iter() {
         sum = sum.wrapping_add(runner.made);
     }
-    Ok(Timed { time, sum })
+    Timed {
+        time: between(start, end),
+        sum,
+    }
 }
 
 /// Times races of ours and of the plain steps in turn, with so many steps for each thread.
@@ -93,11 +96,11 @@ pub fn race_in_turn<R: Threads + Sync + Clock + AllocGlobal, A: Steps + Send, B:
     count: u64,
     ours: &mut Vec<Runner<A>>,
     plain: &mut Vec<Runner<B>>,
-) -> io::Result<Rounds> {
+) -> Rounds {
     let mut rounds = Rounds::new(rt.alloc());
     for _race in 0..RACES {
-        let timed = race(rt, count, ours)?;
-        rounds.add(timed, race(rt, count, plain)?)?;
+        let timed = race(rt, count, ours);
+        rounds.add(timed, race(rt, count, plain));
     }
-    Ok(rounds)
+    rounds
 }

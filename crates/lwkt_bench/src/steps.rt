@@ -16,8 +16,8 @@ pub trait Steps {
 }
 
 // A round by this thread alone, in the thread's processor time. The sum is how many steps were made.
-fn round<R: CpuClock, S: Steps>(rt: &R, count: u64, steps: &mut S) -> io::Result<Timed> {
-    let start = rt.thread_cpu_time()?;
+fn round<R: CpuClock, S: Steps>(rt: &R, count: u64, steps: &mut S) -> Timed {
+    let start = rt.thread_cpu_time().ok();
     let mut made = 0u64;
     for _step in 0..count {
         made = made.wrapping_add(u64::from(steps.step()));
@@ -34,8 +34,8 @@ pub fn time_in_turn<R: CpuClock + Print + AllocGlobal, A: Steps, B: Steps>(
 ) -> io::Result<()> {
     let mut rounds = Rounds::new(rt.alloc());
     for _round in 0..ROUNDS {
-        let timed = round(rt, race.steps, ours)?;
-        rounds.add(timed, round(rt, race.steps, plain)?)?;
+        let timed = round(rt, race.steps, ours);
+        rounds.add(timed, round(rt, race.steps, plain));
     }
     rounds.print_line(rt, race)
 }

@@ -93,7 +93,7 @@ fn race_at_one<R: Threads + Sync + Clock + Print + AllocGlobal>(
 ) -> io::Result<()> {
     let token = HandToken::new(Law::Tally);
     let mut plain = hands_adding(rt.alloc(), &token)?;
-    race_in_turn(rt, COUNT, ours, &mut plain)?.print_rate_line(rt, ONE_TALLY)
+    race_in_turn(rt, COUNT, ours, &mut plain).print_rate_line(rt, ONE_TALLY)
 }
 
 fn time_adding<R: Threads + Sync + Clock + Print + AllocGlobal>(rt: &R) -> io::Result<()> {
@@ -107,7 +107,7 @@ fn race_apart<R: Threads + Sync + Clock + Print + AllocGlobal>(
 ) -> io::Result<()> {
     let tokens = hand_tokens(rt.alloc(), THREADS, Law::Any)?;
     let mut plain = hands_apart(rt.alloc(), tokens.as_slice())?;
-    race_in_turn(rt, COUNT, ours, &mut plain)?.print_rate_line(rt, OWN_TOKENS)
+    race_in_turn(rt, COUNT, ours, &mut plain).print_rate_line(rt, OWN_TOKENS)
 }
 
 fn time_apart<R: Threads + Sync + Clock + Print + AllocGlobal>(rt: &R) -> io::Result<()> {

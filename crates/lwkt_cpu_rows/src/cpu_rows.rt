@@ -4,7 +4,7 @@ ghost use Rattle.lwkt_bank.specs.Seats.{id_of};
 ghost use Rattle.lwkt_cpu_rows.specs.Free.{IsFree, IsGiven};
 
 use crate::drivers::{Board, Seats, add, next_driver};
-use crate::scenes::{Deed, PLAIN, Scene, Step, Token, first_other_deed, open_all, play};
+use crate::scenes::{Deed, PLAIN, Scene, Step, Token, expect, first_other_deed, open_all};
 use crate::scripts::Script;
 use lwkt_base::{Answer, Ask, Call, CpuId, Fault, Flags, Law, MsgId, ThreadId, ThreadState, TokId};
 use lwkt_core::Event;
@@ -84,9 +84,8 @@ const CROSSED: Scene = Scene {
 };
 
 #[test]
-fn crossed_lists(rt: HostRuntime) -> Result<(), Fail> {
-    assert_eq!(rt; play(rt.alloc(), &CROSSED)?, None);
-    Ok(())
+fn crossed_lists(rt: HostRuntime) {
+    expect(&rt, rt.alloc(), &CROSSED);
 }
 
 const CPU: CpuId = CpuId(0);
@@ -247,7 +246,6 @@ const OF_NOTHING: Scene = Scene {
 };
 
 #[test]
-fn asks_of_nothing(rt: HostRuntime) -> Result<(), Fail> {
-    assert_eq!(rt; play(rt.alloc(), &OF_NOTHING)?, None);
-    Ok(())
+fn asks_of_nothing(rt: HostRuntime) {
+    expect(&rt, rt.alloc(), &OF_NOTHING);
 }

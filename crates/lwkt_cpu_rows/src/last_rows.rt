@@ -1,9 +1,8 @@
 //! Threads that end while another waits for their answer: their ports are closed, and what is owed is replied to.
 use crate::mail_rows::{OWN, THERE};
-use crate::scenes::{Deed, Scene, Step, Token, play};
+use crate::scenes::{Deed, Scene, Step, Token, expect};
 use lwkt_base::{Answer, Ask, Call, CpuId, Fault, Item, Law, MsgId, ThreadState, TokId};
 use lwkt_core::Event;
-use std::test::Fail;
 
 const FIRST: Call = Call { arg: 10, op: 1 };
 
@@ -51,9 +50,8 @@ const ENDED: Scene = Scene {
 };
 
 #[test]
-fn ended_port(rt: HostRuntime) -> Result<(), Fail> {
-    assert_eq!(rt; play(rt.alloc(), &ENDED)?, None);
-    Ok(())
+fn ended_port(rt: HostRuntime) {
+    expect(&rt, rt.alloc(), &ENDED);
 }
 
 const REPLY: Event = Event::Reply {
@@ -86,9 +84,8 @@ const STOPPED: Scene = Scene {
 };
 
 #[test]
-fn stop_replies(rt: HostRuntime) -> Result<(), Fail> {
-    assert_eq!(rt; play(rt.alloc(), &STOPPED)?, None);
-    Ok(())
+fn stop_replies(rt: HostRuntime) {
+    expect(&rt, rt.alloc(), &STOPPED);
 }
 
 // A token at its last generation but one.
@@ -124,7 +121,6 @@ const WORN_OUT: Scene = Scene {
 };
 
 #[test]
-fn last_generation_closes_the_port(rt: HostRuntime) -> Result<(), Fail> {
-    assert_eq!(rt; play(rt.alloc(), &WORN_OUT)?, None);
-    Ok(())
+fn last_generation_closes_the_port(rt: HostRuntime) {
+    expect(&rt, rt.alloc(), &WORN_OUT);
 }

@@ -5,7 +5,7 @@ ghost use Rattle.lwkt_cpu_rows.specs.Free.{IsFree, IsGiven, SitsAt};
 
 use crate::closings::{close, end};
 use crate::drivers::{Board, Seats, next_cpu};
-use crate::scenes::{Deed, Scene, Step, open_all, play};
+use crate::scenes::{Deed, Scene, Step, expect, open_all};
 use crate::scripts::{Script, one};
 use lwkt_base::{
     Answer, Ask, Call, CpuId, Fault, Flags, Item, MsgEnd, MsgId, MsgSpec, Owner, ThreadId,
@@ -68,9 +68,8 @@ const CALL_AND_REPLY: Scene = Scene {
 };
 
 #[test]
-fn call_and_reply(rt: HostRuntime) -> Result<(), Fail> {
-    assert_eq!(rt; play(rt.alloc(), &CALL_AND_REPLY)?, None);
-    Ok(())
+fn call_and_reply(rt: HostRuntime) {
+    expect(&rt, rt.alloc(), &CALL_AND_REPLY);
 }
 
 macro_rules! sends {
@@ -110,9 +109,8 @@ const FULL_LANE: Scene = Scene {
 };
 
 #[test]
-fn full_lane(rt: HostRuntime) -> Result<(), Fail> {
-    assert_eq!(rt; play(rt.alloc(), &FULL_LANE)?, None);
-    Ok(())
+fn full_lane(rt: HostRuntime) {
+    expect(&rt, rt.alloc(), &FULL_LANE);
 }
 
 // Stops two processors and closes bank and book: what the messages are then.

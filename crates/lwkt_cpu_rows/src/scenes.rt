@@ -9,6 +9,7 @@ use lwkt_base::{Answer, Ask, Fault, Law, MsgSpec, ThreadState, TokId, TokSpec};
 use lwkt_core::Event;
 use lwkt_cpu::{Body, Drove, Turned};
 use std::alloc::{AllocError, Global};
+use std::process::Abort;
 
 /// A token at its opening.
 pub struct Token {
@@ -268,8 +269,8 @@ pub fn open_all(
     }
 }
 
-/// Plays a scene. The place of its first step that goes otherwise than it is told.
-pub fn play(alloc: Global, scene: &Scene) -> Result<Option<usize>, Fault> {
+// Plays a scene. The place of its first step that goes otherwise than it is told.
+fn play(alloc: Global, scene: &Scene) -> Result<Option<usize>, Fault> {
     let cpus = scene.asks.len() + usize::from(scene.watched);
     let (board, mut seats) = open_all(alloc, scene.tokens, scene.messages, cpus)?;
     let mut watch = if scene.watched {
@@ -279,4 +280,10 @@ pub fn play(alloc: Global, scene: &Scene) -> Result<Option<usize>, Fault> {
     };
     let mut drivers = drivers_of(alloc, &board, &mut seats, scene.asks)?;
     first_other(&mut drivers, &mut watch, scene.steps)
+}
+
+/// Fails where a scene goes otherwise than it is told, and says at which step.
+pub fn expect(rt: &impl Abort, alloc: Global, scene: &Scene) {
+    let other = play(alloc, scene);
+    assert!(rt; other == Ok(None), "{other:?}");
 }

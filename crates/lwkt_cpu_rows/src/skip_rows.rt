@@ -1,9 +1,8 @@
 //! Threads that are passed over without a try while the word that refused them stands.
-use crate::scenes::{Deed, PLAIN, Scene, Step, play};
+use crate::scenes::{Deed, PLAIN, Scene, Step, expect};
 use lwkt_base::{Ask, CpuId, TokId};
 use lwkt_core::Event;
 use lwkt_cpu::Turned;
-use std::test::Fail;
 
 const FIRST: TokId = TokId(0);
 
@@ -70,7 +69,6 @@ const SKIPPED: Scene = Scene {
 };
 
 #[test]
-fn skipped_tries(rt: HostRuntime) -> Result<(), Fail> {
-    assert_eq!(rt; play(rt.alloc(), &SKIPPED)?, None);
-    Ok(())
+fn skipped_tries(rt: HostRuntime) {
+    expect(&rt, rt.alloc(), &SKIPPED);
 }

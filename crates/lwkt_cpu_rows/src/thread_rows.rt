@@ -9,7 +9,6 @@ use crate::scripts::one;
 use lwkt_base::{Answer, Ask, Fault, TokId};
 use lwkt_cpu::Body;
 use std::alloc::Global;
-use std::test::Fail;
 use std::thread;
 use std::thread::Threads;
 
@@ -159,11 +158,14 @@ fn is_added(alloc: Global, board: &Board, seats: &mut Seats) -> Result<bool, Fau
     Ok(drove.all_exited && has_heard(&reader, &READ))
 }
 
-#[test]
-fn four_threads_add_up(rt: HostRuntime) -> Result<(), Fail> {
-    let alloc = rt.alloc();
+// Whether what four threads added is read then.
+fn adds_up<R: Threads + Sync>(rt: &R, alloc: Global) -> Result<bool, Fault> {
     let (board, mut seats) = open_all(alloc, &[TALLY, TALLY], &[], 5)?;
-    add_up(&rt, alloc, &board, &mut seats)?;
-    assert!(rt; is_added(alloc, &board, &mut seats)?);
-    Ok(())
+    add_up(rt, alloc, &board, &mut seats)?;
+    is_added(alloc, &board, &mut seats)
+}
+
+#[test]
+fn four_threads_add_up(rt: HostRuntime) {
+    assert!(rt; adds_up(&rt, rt.alloc()) == Ok(true));
 }

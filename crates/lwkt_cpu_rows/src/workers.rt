@@ -6,7 +6,7 @@ use lwkt_cpu::Body;
 const SERVED: TokId = TokId(2);
 
 /// What bodies have asked for and seen. An ask is performed in the turn in which it is made.
-#[derive(Clone, Copy, Debug, Default, PartialEq, Eq)]
+#[derive(Clone, Copy, Default)]
 pub struct Counts {
     /// What each processor has added to the first token, to the second and to the third.
     pub first: [u64; 4],

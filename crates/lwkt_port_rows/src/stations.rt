@@ -23,7 +23,7 @@ pub const FREE: Flags = Flags {
 };
 
 /// A call on the ports of a processor.
-#[derive(Clone, Copy, Debug)]
+#[derive(Clone, Copy)]
 pub enum Ask {
     /// A thread sends a message to a thread: its number, the message, the target's processor and number, op and arg.
     Send(u8, u8, u8, u8, u32, u64),
@@ -58,7 +58,7 @@ pub enum Told {
 }
 
 /// A call by the first or the second processor, and the answer that is wanted.
-#[derive(Clone, Copy, Debug)]
+#[derive(Clone, Copy)]
 pub struct Line {
     pub second: bool,
     pub ask: Ask,
@@ -233,6 +233,69 @@ pub fn listed<T: Drop>(alloc: Global, first: T, second: T) -> Result<Vec<T>, Fau
     Ok(list)
 }
 
+// A processor's ends of the lanes.
+#[derive(Drop)]
+struct Ends {
+    outs: Vec<LaneOut>,
+    ins: Vec<LaneIn>,
+}
+
+// A lane from the processor with these sending ends to the one with these receiving ends.
+fn join(
+    alloc: Global,
+    capacity: usize,
+    outs: &mut Vec<LaneOut>,
+    ins: &mut Vec<LaneIn>,
+) -> Result<(), Fault>
+    requires least { 2 ≤ capacity }
+    requires most { capacity ≤ 32 }
+{
+    let (out, into) = lane(alloc, capacity)?;
+    if outs.push(out).is_err() || ins.push(into).is_err() {
+        return Err(Fault::Memory);
+    }
+    Ok(())
+}
+
+// The ends of two processors' lanes, from each to itself and to the other.
+fn join_both(
+    alloc: Global,
+    capacity: usize,
+    first: &mut Ends,
+    second: &mut Ends,
+) -> Result<(), Fault>
+    requires least { 2 ≤ capacity }
+    requires most { capacity ≤ 32 }
+{
+    join(alloc, capacity, &mut first.outs, &mut first.ins)?;
+    join(alloc, capacity, &mut first.outs, &mut second.ins)?;
+    join(alloc, capacity, &mut second.outs, &mut first.ins)?;
+    join(alloc, capacity, &mut second.outs, &mut second.ins)
+}
+
+fn no_ends(alloc: Global) -> Ends {
+    Ends {
+        outs: Vec::new(alloc),
+        ins: Vec::new(alloc),
+    }
+}
+
+// The ports of a processor with these ends.
+fn ports_of(
+    alloc: Global,
+    seat: MsgSeat,
+    book: &MsgBook,
+    specs: &[MsgSpec],
+    ends: Ends,
+) -> Result<Ports, Fault>
+    requires opened { (cpu : ℕ) × IsOpened cpu book.now seat }
+    requires specs { book.now.specs ≡ specs.now }
+    ensures { IfOk result (λ ports. Sits book.now (length specs.now) ports) }
+{
+    let Ends { outs, ins } = ends;
+    open_ports(alloc, seat, book, specs, outs, ins)
+}
+
 /// A book of these messages, with two processors, joined by lanes of this capacity.
 pub fn open(alloc: Global, specs: &[MsgSpec], capacity: usize) -> Result<Pair, Fault>
     requires least { 2 ≤ capacity }
@@ -243,16 +306,11 @@ pub fn open(alloc: Global, specs: &[MsgSpec], capacity: usize) -> Result<Pair, F
     let Some((seat, other)) = both(seats, &book) else {
         return Err(Fault::Memory);
     };
-    let (out_same, in_same) = lane(alloc, capacity)?;
-    let (out_there, in_there) = lane(alloc, capacity)?;
-    let (out_back, in_back) = lane(alloc, capacity)?;
-    let (out_other, in_other) = lane(alloc, capacity)?;
-    let outs = listed(alloc, out_same, out_there)?;
-    let ins = listed(alloc, in_same, in_back)?;
-    let first = open_ports(alloc, seat, &book, specs, outs, ins)?;
-    let outs = listed(alloc, out_back, out_other)?;
-    let ins = listed(alloc, in_there, in_other)?;
-    let second = open_ports(alloc, other, &book, specs, outs, ins)?;
+    let mut here = no_ends(alloc);
+    let mut there = no_ends(alloc);
+    join_both(alloc, capacity, &mut here, &mut there)?;
+    let first = ports_of(alloc, seat, &book, specs, here)?;
+    let second = ports_of(alloc, other, &book, specs, there)?;
     Ok(Pair {
         book,
         first,
@@ -301,4 +359,50 @@ pub fn run(alloc: Global, pair: &mut Pair, messages: usize, lines: &[Line]) -> R
         }
     }
     Ok(())
+}
+
+/// Plays a table of calls by the two processors of a book of these messages, joined by lanes of this capacity.
+pub fn play_pair(
+    alloc: Global,
+    specs: &[MsgSpec],
+    capacity: usize,
+    lines: &[Line],
+) -> Result<(), Miss>
+    requires least { 2 ≤ capacity }
+    requires most { capacity ≤ 32 }
+{
+    match open(alloc, specs, capacity) {
+        Ok(mut pair) => run(alloc, &mut pair, specs.len(), lines),
+        Err(fault) => Err(Miss::Fault(fault)),
+    }
+}
+
+// Thread 0 of the first processor sends the first so many messages to thread 0 of the second.
+fn send_first(alloc: Global, pair: &mut Pair, messages: usize, count: u8) -> Result<(), Miss>
+    requires first { Sits pair.old.book messages pair.old.first }
+    requires second { Sits pair.old.book messages pair.old.second }
+    ensures first { Sits pair.new.book messages pair.new.first }
+    ensures second { Sits pair.new.book messages pair.new.second }
+{
+    for m in 0..count {
+        let line = first!(Ask::Send(0, m, 1, 0, 1, 1), Told::Done);
+        run(alloc, pair, messages, &[line])?;
+    }
+    Ok(())
+}
+
+/// Plays a table of calls once the first so many messages were sent by thread 0 of the first processor to that of the second.
+pub fn play_after_sends(
+    alloc: Global,
+    specs: &[MsgSpec],
+    count: u8,
+    lines: &[Line],
+) -> Result<(), Miss> {
+    match open(alloc, specs, 32) {
+        Ok(mut pair) => {
+            send_first(alloc, &mut pair, specs.len(), count)?;
+            run(alloc, &mut pair, specs.len(), lines)
+        }
+        Err(fault) => Err(Miss::Fault(fault)),
+    }
 }
