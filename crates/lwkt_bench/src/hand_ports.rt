@@ -196,6 +196,7 @@ impl<'a, T: Slot, Q: Queue> HandStation<'a, T, Q> {
     }
 
     // Empties a ring, while the queue has room.
+    #[inline]
     fn empty(&mut self, lane: &'a Q) {
         for _note in 0..TAKEN_IN {
             if self.queue.is_full() {

@@ -42,7 +42,8 @@ use token_races::race_tokens;
 use token_rounds::time_tokens;
 use turn_rounds::time_turns;
 
-const USAGE: &str = "lwkt_bench: run, or run and one of tokens, lists, lanes, messages, ports, turns";
+const USAGE: &str =
+    "lwkt_bench: run, or run and one of tokens, lists, lanes, messages, ports, turns";
 
 /// What is timed.
 #[derive(Clone, Copy)]

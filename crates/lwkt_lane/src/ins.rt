@@ -1,4 +1,5 @@
-ghost use Rattle.std.specs.Prelude.{◌≡◌, ◌≤◌, [], ◌∷◌, ◌++◌, length, None, MatchOption};
+ghost use Rattle.std.specs.Prelude.{◌≡◌, ◌≤◌, ◌↔◌, [], ◌∷◌, ◌++◌, true, length, None, IsTrue, MatchOption};
+ghost use mathlib.Core.List.{IsPrefix};
 ghost use Rattle.rtrb.specs.Ring.{sent as pushed};
 
 use crate::notes::Note;
@@ -29,6 +30,19 @@ impl LaneIn {
             return None;
         }
         Some(self.ring.pop_known())
+    }
+
+    /// Whether the queue was empty at one moment of the call. As with `pop`, no clause says when notes that weren't seen yet are
+    /// found.
+    #[inline(always)]
+    pub fn is_empty(&mut self) -> bool
+        ensures value { IsTrue result ↔ (length (seen self.new) ≡ 0) }
+        ensures none { result ≡ true → seen self.new ≡ [] }
+        ensures keeps { IsPrefix (seen self.old) (seen self.new) }
+        ensures received { received self.new ≡ received self.old }
+        ensures lane { in_lane self.new ≡ in_lane self.old }
+    {
+        self.ring.slots() == 0
     }
 
     // Sees every note that is left in the queue, beside the sending end, and says how many there are.

@@ -1,19 +1,17 @@
--- Lanes without notes are passed over, and the lane of a front is emptied; where nothing is to be done before that, it is taking
+-- Lanes without notes are passed over, and the first one with a note is emptied; where nothing is to be done before that, it is taking
 -- notes in.
-use Rattle.std.proofs.Common.{◌≡◌, ℕ, zero, suc, ◌+◌, ◌-◌, ◌<◌, ◌≤◌, List, [], ◌∷◌, ◌++◌, length, get_or, set, inr, refl, ap, sym, ◌∙◌, subst, arith, append_assoc}
+use Rattle.std.proofs.Common.{◌≡◌, ℕ, zero, suc, ◌+◌, ◌-◌, ◌<◌, ◌≤◌, List, [], ◌∷◌, ◌++◌, length, get_or, set, ⊎_elim, inr, refl, ap, sym, ◌∙◌, subst, arith}
 use Rattle.std.proofs.Math.ListN.{length-set}
 use Rattle.std.proofs.lemmas.List.{append-nil, set-get_or, get_or_default, get_or-set_same, set-set}
-use Rattle.std.specs.Prelude.{Option, Some, None, MatchOption, IfSome, slice_index_or, slice_set, option_to_list}
+use Rattle.std.specs.Prelude.{Option, None, slice_index_or, slice_set}
 use Rattle.lwkt_lane.specs.declared.notes.Note.{Note}
 use Rattle.lwkt_lane.specs.Lane.{received}
-use Rattle.lwkt_port.specs.declared.handlings.Fate.{Fate}
-use Rattle.lwkt_port.specs.declared.lines.Front.{Front}
 use Rattle.lwkt_port.specs.declared.lines.Lane.{Lane}
 use Rattle.lwkt_port.specs.declared.queues.Port.{Port}
 use Rattle.lwkt_port.specs.Chains.{Chain}
 use Rattle.lwkt_port.specs.Hints.{OwesNone}
-use Rattle.lwkt_port.specs.Intakes.{Payer, Desks, desks_of, Handles, HandlesAll, Pops, EmptiesKept, Empties, Intake, EmptiesFrom, untaken, IsFronted, Clearing, ClearsAt, Hall, TakesIn}
-use Rattle.lwkt_port.specs.Lines.{IsRoomed, HasNone, HasGiven, Finds}
+use Rattle.lwkt_port.specs.Intakes.{Payer, Desks, desks_of, Pops, EmptiesKept, Empties, Intake, EmptiesFrom, untaken, IsFronted, Clearing, ClearsAt, Hall, TakesIn}
+use Rattle.lwkt_port.specs.Lines.{IsRoomed, HasNone, IsLooked, IsFound}
 use Rattle.lwkt_port.specs.Posts.{Changes}
 use Rattle.lwkt_port.specs.Works.{Work}
 use Rattle.lwkt_port.proofs.Chaining.{chain_more}
@@ -71,92 +69,64 @@ passes_more limit sender w ports before lanes old new there was none chain =
     chain_more Intake (EmptiesFrom limit) sender (untaken w ports before) x y chain (0, changes, refl)
 
 -- a lane has a note
-pub fronted : (limit sender : ℕ) (front : Front) (w : Work) (ports : List Port) (before lanes : List Lane) (old new : Lane) → sender < length lanes → old ≡ slice_index_or lanes sender old → front.sender ≡ sender → Finds front.popped old new → length lanes ≡ length before → Chain Intake (EmptiesFrom limit) sender (untaken w ports before) (untaken w ports lanes) → IsFronted limit front w ports before (slice_set lanes sender new)
-fronted limit sender front w ports before lanes old new there was is does same chain =
-    let F : ℕ → Type 0 = λ n. Chain Intake (EmptiesFrom limit) n (untaken w ports before) (untaken w ports lanes) in record {
-      passed = lanes;
-      passes = subst F (sym is) chain;
-      found = changed Lane (Finds front.popped) front.sender sender lanes old new there was (sym is) does;
-      as_many = omega (arith, length-set lanes sender new, same);
-    }
+pub fronted : (limit sender : ℕ) (w : Work) (ports : List Port) (before lanes : List Lane) (old new : Lane) → sender < length lanes → old ≡ slice_index_or lanes sender old → IsFound old new → length lanes ≡ length before → Chain Intake (EmptiesFrom limit) sender (untaken w ports before) (untaken w ports lanes) → IsFronted limit sender w ports before (slice_set lanes sender new)
+fronted limit sender w ports before lanes old new there was found same chain = record {
+  passed = lanes;
+  passes = chain;
+  found = changed Lane IsFound sender sender lanes old new there was refl found;
+  as_many = omega (arith, length-set lanes sender new, same);
+}
 
-pub front_there : (limit : ℕ) (front : Front) (w : Work) (ports : List Port) (before now : List Lane) → IsFronted limit front w ports before now → front.sender < length now
-front_there limit front w ports before now f = omega (arith, f.found.there, length-set f.passed front.sender f.found.new, ap length f.found.now)
+pub front_there : (limit first : ℕ) (w : Work) (ports : List Port) (before now : List Lane) → IsFronted limit first w ports before now → first < length now
+front_there limit first w ports before now f = omega (arith, f.found.there, length-set f.passed first f.found.new, ap length f.found.now)
 
--- the line of a front, as it was before
-found_at : (limit : ℕ) (front : Front) (w : Work) (ports : List Port) (before now : List Lane) (line : Lane) (f : IsFronted limit front w ports before now) → line ≡ slice_index_or now front.sender line → Finds front.popped f.found.old line
-found_at limit front w ports before now line f was =
-    let at : line ≡ f.found.new = was ∙ ap (λ l. slice_index_or l front.sender line) f.found.now ∙ get_or-set_same f.passed front.sender f.found.new line f.found.there in
-    let F : Lane → Type 0 = Finds front.popped f.found.old in
-    subst F (sym at) f.found.does
-
-given_none : (popped : Option Note) (line line' : Lane) → Finds popped line line' → IfSome popped (λ _. line'.kept ≡ None)
-given_none (Some note) line line' h = h.kept_same ∙ h.none
-given_none None line line' h = tt
-
-pub front_none : (limit : ℕ) (front : Front) (w : Work) (ports : List Port) (before now : List Lane) (line : Lane) → IsFronted limit front w ports before now → line ≡ slice_index_or now front.sender line → IfSome front.popped (λ _. line.kept ≡ None)
-front_none limit front w ports before now line f was = given_none front.popped f.found.old line (found_at limit front w ports before now line f was)
-
--- the note that was popped was handled, and then more of its lane
-pub given_empties : (most count : ℕ) (note : Note) (how : Fate) (line0 line1 line2 : Lane) (x y z : Desks) → 0 < most → HasGiven note line0 line1 → Handles note x y (Some how) → Pops (most - 1) count line1 line2 y z → Empties most (1 + count) line0 line2 x z
-given_empties most count note how line0 line1 line2 x y z some h handles p =
-    let F : Option Note → Type 0 = λ o. EmptiesKept o most (1 + count) line0 line2 x z in
-    let pops : Pops most (1 + count) line0 line2 x z = record {
-      popped = note ∷ p.popped;
-      done = note ∷ p.done;
+-- emptying a lane that was looked at is emptying it
+looked_empties : (most count : ℕ) (line0 line1 line2 : Lane) (x y : Desks) → IsLooked line0 line1 → Empties most count line1 line2 x y → Empties most count line0 line2 x y
+looked_empties most count line0 line1 line2 x y l e =
+    let F : Option Note → Type 0 = λ o. EmptiesKept o most count line1 line2 x y in
+    let G : Option Note → Type 0 = λ o. EmptiesKept o most count line0 line2 x y in
+    let p : Pops most count line1 line2 x y = subst F (l.kept_same ∙ l.none) e in
+    let pops : Pops most count line0 line2 x y = record {
+      popped = p.popped;
+      done = p.done;
       between = p.between;
-      received_is = p.received_is ∙ ap (λ l. l ++ p.popped) h.received_is ∙ append_assoc (received line0.into) (note ∷ []) p.popped;
-      as_many = omega (arith, p.as_many);
-      within = omega (arith, p.within);
-      flow = ap (λ l. note ∷ l) p.flow;
-      handles = (y, how, handles, p.handles);
+      received_is = p.received_is ∙ ap (λ r. r ++ p.popped) l.received_same;
+      as_many = p.as_many;
+      within = p.within;
+      flow = p.flow;
+      handles = p.handles;
       last = p.last;
-      emptied = λ fewer none. p.emptied (omega arith) none;
-      out_same = p.out_same ∙ h.out_same;
-      lane_same = p.lane_same ∙ h.lane_same;
+      emptied = p.emptied;
+      out_same = p.out_same ∙ l.out_same;
+      lane_same = p.lane_same ∙ l.lane_same;
     } in
-    subst F (sym h.none) pops
+    subst G (sym l.none) pops
 
--- it found its port's queue full
-pub given_full : (most : ℕ) (note : Note) (line0 line1 line2 : Lane) (x y : Desks) → 0 < most → HasGiven note line0 line1 → Handles note x y None → line2 ≡ record line1 { kept = Some note } → Empties most 1 line0 line2 x y
-given_full most note line0 line1 line2 x y some h handles is =
-    let F : Option Note → Type 0 = λ o. EmptiesKept o most 1 line0 (record line1 { kept = Some note }) x y in
-    let G : Lane → Type 0 = λ l. Empties most 1 line0 l x y in
-    let pops : Pops most 1 line0 (record line1 { kept = Some note }) x y = record {
-      popped = note ∷ [];
-      done = [];
-      between = x;
-      received_is = h.received_is;
-      as_many = refl;
-      within = omega arith;
-      flow = refl;
-      handles = refl;
-      last = handles;
-      emptied = λ _ none. absurd (let e : Some note ≡ None = none in cc);
-      out_same = h.out_same;
-      lane_same = h.lane_same;
-    } in
-    subst G (sym is) (subst F (sym h.none) pops)
+found_empties : (most count : ℕ) (line0 line1 line2 : Lane) (x y : Desks) → IsFound line0 line1 → Empties most count line1 line2 x y → Empties most count line0 line2 x y
+found_empties most count line0 line1 line2 x y found e = ⊎_elim
+    (λ (same : line1 ≡ line0). let F : Lane → Type 0 = λ l. Empties most count l line2 x y in subst F same e)
+    (λ (l : IsLooked line0 line1). looked_empties most count line0 line1 line2 x y l e)
+    found
 
-pub found_empties : (most count : ℕ) (line0 line1 line2 : Lane) (x y : Desks) → line1 ≡ line0 → Empties most count line1 line2 x y → Empties most count line0 line2 x y
-found_empties most count line0 line1 line2 x y same e = let F : Lane → Type 0 = λ l. Empties most count l line2 x y in subst F same e
-
--- the lane of a front was emptied
-pub front_emptied : (limit k : ℕ) (front : Front) (w w' : Work) (ports ports' : List Port) (before now : List Lane) (line new : Lane) → IsFronted limit front w ports before now → line ≡ slice_index_or now front.sender line → ((old : Lane) → Finds front.popped old line → Empties limit k old new (record { work = w; ports = ports }) (record { work = w'; ports = ports' })) → Chain Intake (EmptiesFrom limit) (front.sender + 1) (untaken w ports before) (record { work = w'; lanes = slice_set now front.sender new; ports = ports'; count = k })
-front_emptied limit k front w w' ports ports' before now line new f was does =
-    let found : Finds front.popped f.found.old line = found_at limit front w ports before now line f was in
+-- the first lane with a note was emptied
+pub front_emptied : (limit k first : ℕ) (w w' : Work) (ports ports' : List Port) (before now : List Lane) (line new : Lane) → IsFronted limit first w ports before now → line ≡ slice_index_or now first line → Empties limit k line new (record { work = w; ports = ports }) (record { work = w'; ports = ports' }) → Chain Intake (EmptiesFrom limit) (first + 1) (untaken w ports before) (record { work = w'; lanes = slice_set now first new; ports = ports'; count = k })
+front_emptied limit k first w w' ports ports' before now line new f was does =
+    let c = f.found in
+    let at : line ≡ c.new = was ∙ ap (λ l. slice_index_or l first line) c.now ∙ get_or-set_same f.passed first c.new line c.there in
+    let E : Lane → Type 0 = IsFound c.old in
+    let found : IsFound c.old line = subst E (sym at) c.does in
     let x : Intake = untaken w ports f.passed in
-    let y : Intake = record { work = w'; lanes = slice_set now front.sender new; ports = ports'; count = k } in
+    let y : Intake = record { work = w'; lanes = slice_set now first new; ports = ports'; count = k } in
     let R : Lane → Lane → Type 0 = λ a b. Empties (limit - 0) k a b (desks_of x) (desks_of y) in
-    let changes : Changes R front.sender f.passed (slice_set now front.sender new) = record {
-      old = f.found.old;
+    let changes : Changes R first f.passed (slice_set now first new) = record {
+      old = c.old;
       new = new;
-      there = f.found.there;
-      was = f.found.was;
-      now = ap (λ l. slice_set l front.sender new) f.found.now ∙ set-set f.passed front.sender f.found.new new;
-      does = (let G : ℕ → Type 0 = λ n. Empties n k f.found.old new (desks_of x) (desks_of y) in let e : limit ≡ limit - 0 = omega arith in subst G e (does f.found.old found));
+      there = c.there;
+      was = c.was;
+      now = ap (λ l. slice_set l first new) c.now ∙ set-set f.passed first c.new new;
+      does = (let G : ℕ → Type 0 = λ n. Empties n k c.old new (desks_of x) (desks_of y) in let e : limit ≡ limit - 0 = omega arith in subst G e (found_empties limit k c.old line new (desks_of x) (desks_of y) found does));
     } in
-    chain_more Intake (EmptiesFrom limit) front.sender (untaken w ports before) x y f.passes (k, changes, omega arith)
+    chain_more Intake (EmptiesFrom limit) first (untaken w ports before) x y f.passes (k, changes, omega arith)
 
 -- where nothing is owed, and no note in hand is moved on, taking notes in is emptying the lanes and clearing the closed ports
 pub calm_takes : (limit left : ℕ) (w : Work) (ports : List Port) (before : List Lane) (emptied : Intake) (y : Hall) → OwesNone w.mails → Chain Intake (EmptiesFrom limit) (length before) (untaken w ports before) emptied → Chain Clearing ClearsAt 16 (record { work = emptied.work; ports = emptied.ports; left = 16 }) (record { work = y.work; ports = y.ports; left = left }) → y.lanes ≡ emptied.lanes → TakesIn limit (record { work = w; lanes = before; ports = ports }) y emptied.count

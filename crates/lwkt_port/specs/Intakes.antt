@@ -15,13 +15,12 @@ use Rattle.lwkt_base.specs.declared.records.Rec.{Rec}
 use Rattle.lwkt_port.specs.declared.deeds.Claim.TheVariants as claim
 use Rattle.lwkt_port.specs.declared.handlings.Fate.{Fate}
 use Rattle.lwkt_port.specs.declared.handlings.Fate.TheVariants as fate
-use Rattle.lwkt_port.specs.declared.lines.Front.{Front}
 use Rattle.lwkt_port.specs.declared.lines.Lane.{Lane}
 use Rattle.lwkt_port.specs.declared.mails.Mail.{Mail}
 use Rattle.lwkt_port.specs.declared.queues.Port.{Port}
 use Rattle.lwkt_port.specs.Chains.{Chain}
 use Rattle.lwkt_port.specs.Deeds.{Takes, Reaps}
-use Rattle.lwkt_port.specs.Lines.{IsRoomed, Finds}
+use Rattle.lwkt_port.specs.Lines.{IsRoomed, IsFound}
 use Rattle.lwkt_port.specs.Mails.{mail_at}
 use Rattle.lwkt_port.specs.Posts.{Post, Changes, work_of}
 use Rattle.lwkt_port.specs.Queues.{NamesBoth}
@@ -116,11 +115,11 @@ EmptiesFrom limit sender x y = (k : ℕ) × Changes (λ a b. Empties (limit - x.
 abbrev pub untaken : Work → List Port → List Lane → Intake
 untaken w ports lanes = record { work = w; lanes = lanes; ports = ports; count = 0 }
 
--- the lanes before a front had no notes, and its own one has
-pub record IsFronted (limit : ℕ) (front : Front) (w : Work) (ports : List Port) (before now : List Lane) : Type 0 where
+-- the lanes before the first one with a note were passed over, and that was looked at
+pub record IsFronted (limit first : ℕ) (w : Work) (ports : List Port) (before now : List Lane) : Type 0 where
   pub passed : List Lane
-  pub passes : Chain Intake (EmptiesFrom limit) front.sender (untaken w ports before) (untaken w ports passed)
-  pub found : Changes (Finds front.popped) front.sender passed now
+  pub passes : Chain Intake (EmptiesFrom limit) first (untaken w ports before) (untaken w ports passed)
+  pub found : Changes IsFound first passed now
   pub as_many : length now ≡ length before
 
 -- a note of a closed port: a request is taken and owed a reply, an answer is reaped; a request whose take was lost stays

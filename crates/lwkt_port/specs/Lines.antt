@@ -1,4 +1,4 @@
-use Rattle.std.specs.Prelude.{◌≡◌, ◌⊎◌, [], ◌∷◌, ◌++◌, Option, Some, None}
+use Rattle.std.specs.Prelude.{◌≡◌, ◌⊎◌, [], ◌∷◌, ◌++◌, None}
 use Rattle.lwkt_lane.specs.declared.notes.Note.{Note}
 use Rattle.lwkt_lane.specs.Lane.{sent, in_hand, out_lane, received, seen, in_lane}
 use Rattle.lwkt_port.specs.declared.lines.Lane.{Lane}
@@ -27,15 +27,14 @@ pub record HasNone (line line' : Lane) : Type 0 where
   pub out_same : line'.out ≡ line.out
   pub kept_same : line'.kept ≡ line.kept
 
--- the next note of a line that keeps none was received
-pub record HasGiven (note : Note) (line line' : Lane) : Type 0 where
+-- the lane of a line that keeps no note was looked at
+pub record IsLooked (line line' : Lane) : Type 0 where
   pub none : line.kept ≡ None
-  pub received_is : received line'.into ≡ received line.into ++ note ∷ []
+  pub received_same : received line'.into ≡ received line.into
   pub lane_same : in_lane line'.into ≡ in_lane line.into
   pub out_same : line'.out ≡ line.out
   pub kept_same : line'.kept ≡ line.kept
 
--- a line was found with a note: the next one of its lane was received, or it keeps one and none was
-abbrev pub Finds : Option Note → Lane → Lane → Type 0
-Finds (Some note) line line' = HasGiven note line line'
-Finds None line line' = line' ≡ line
+-- a line was found with a note: it keeps one, or its lane was looked at
+abbrev pub IsFound : Lane → Lane → Type 0
+IsFound line line' = (line' ≡ line) ⊎ IsLooked line line'

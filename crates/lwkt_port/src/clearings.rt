@@ -106,6 +106,8 @@ fn clear(
 }
 
 // Clears the closed ports, by rising number.
+#[cold]
+#[inline(never)]
 fn clear_each(
     book: &MsgBook,
     seat: &mut MsgSeat,
@@ -145,6 +147,7 @@ fn has_notes_left(ports: &Vec<Port>) -> bool
 }
 
 /// Clears the closed ports, of at most 16 notes; `uncleared` says whether one may have a note.
+#[inline]
 pub(crate) fn clear_all(
     book: &MsgBook,
     seat: &mut MsgSeat,

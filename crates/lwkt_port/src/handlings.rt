@@ -1,9 +1,7 @@
 //! One note that came over a lane, and one lane.
-ghost use Rattle.std.specs.Prelude.{◌≡◌, ◌↔◌, ◌+◌, ◌<◌, ◌≤◌, true, false, length, All, None, Some, IsTrue, IfSome, MatchOption, vec_len, vec_capacity};
-ghost use Rattle.lwkt_port.specs.declared.lines.Lane.{Lane};
+ghost use Rattle.std.specs.Prelude.{◌≡◌, ◌↔◌, ◌+◌, ◌<◌, ◌≤◌, true, false, length, All, None, Some, IsTrue, MatchOption, vec_len, vec_capacity};
 ghost use Rattle.lwkt_lane.specs.Lane.{received, in_lane};
 ghost use Rattle.lwkt_msg.specs.Desks.{cpu_of, cpus_of, messages_of, IsSameDesk};
-ghost use Rattle.lwkt_port.specs.Lines.{Finds};
 ghost use Rattle.lwkt_port.specs.Mails.{mail_at, AreMails};
 ghost use Rattle.lwkt_port.specs.Works.{work, Grew, away_count, standing, Keeps};
 ghost use Rattle.lwkt_port.specs.Posts.{KeepsNamed};
@@ -137,6 +135,7 @@ fn pop_all(
 
 /// Empties the lane from a processor, as far as the limit and the queues of its notes' ports allow, the note that was kept
 /// first. Answers how many notes were popped.
+#[inline]
 pub(crate) fn empty(
     book: &MsgBook,
     seat: &mut MsgSeat,
@@ -168,51 +167,4 @@ pub(crate) fn empty(
     };
     keep(line, None);
     pop_all(book, seat, mails, line, ports, uncleared, most, trace)
-}
-
-/// Empties a lane that was found with a note, as far as the limit and the queues of its notes' ports allow: the note that was
-/// popped from it, or else the one that it keeps, is handled first. Answers how many notes were popped, that one too.
-pub(crate) fn empty_found(
-    book: &MsgBook,
-    seat: &mut MsgSeat,
-    mails: &mut Vec<Mail>,
-    line: &mut Lane,
-    ports: &mut Vec<Port>,
-    uncleared: &mut bool,
-    found: Option<Note>,
-    most: usize,
-    trace: &mut Vec<Event>,
-) -> usize
-    requires table { seat.old.table ≡ book.now.table }
-    requires kept { AreMails seat.old mails.old.items }
-    requires ports { vec_len ports.old ≡ 16 }
-    requires named { All (HasNamed (vec_len mails.old)) ports.old.items }
-    requires hint { uncleared.old ≡ false → AreClear ports.old.items }
-    requires room { away_count mails.old.items + vec_len trace.old < vec_capacity trace.old }
-    requires line { KeepsNamed (vec_len mails.old) line.old }
-    requires some { 0 < most }
-    requires none { IfSome found (λ _. line.old.kept ≡ None) }
-    ensures empties { (before : Lane) → Finds found before line.old → Empties most result before line.new (desks (work seat.old mails.old trace.old) ports.old) (desks (work seat.new mails.new trace.new) ports.new) }
-    ensures within { result ≤ most }
-    ensures keeps { Keeps (standing seat.old mails.old trace.old ports.old) (standing seat.new mails.new trace.new ports.new) }
-    ensures line { KeepsNamed (vec_len mails.new) line.new }
-    ensures hint { uncleared.new ≡ false → AreClear ports.new.items }
-{
-    let Some(note) = found else {
-        return empty(book, seat, mails, line, ports, uncleared, most, trace);
-    };
-    let Some(_fate) = handle(book, seat, mails, ports, uncleared, note, trace) else {
-        keep(line, found);
-        return 1;
-    };
-    1 + pop_all(
-        book,
-        seat,
-        mails,
-        line,
-        ports,
-        uncleared,
-        most - 1,
-        trace,
-    )
 }

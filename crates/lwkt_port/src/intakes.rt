@@ -16,8 +16,8 @@ ghost use Rattle.lwkt_port.specs.Closings.{PostPays};
 ghost use Rattle.lwkt_port.specs.Tellings.{Tells};
 
 use crate::clearings::clear_all;
-use crate::handlings::{empty, empty_found};
-use crate::lines::{Front, Lane, has_none_in_hand, has_room, look};
+use crate::handlings::empty;
+use crate::lines::{Lane, has_none_in_hand, has_note, has_room};
 use crate::mails::{Mail, mail_of};
 use crate::posts::Ports;
 use crate::queues::Port;
@@ -184,7 +184,7 @@ fn empty_all(
     count
 }
 
-// Empties the lanes from a front on. Answers how many notes were popped, that of the front too.
+// Empties the lanes from the first one with a note on. Answers how many notes were popped.
 fn empty_front(
     book: &MsgBook,
     seat: &mut MsgSeat,
@@ -192,7 +192,7 @@ fn empty_front(
     mails: &mut Vec<Mail>,
     ports: &mut Vec<Port>,
     uncleared: &mut bool,
-    front: Front,
+    first: usize,
     limit: usize,
     trace: &mut Vec<Event>,
 ) -> usize
@@ -203,51 +203,48 @@ fn empty_front(
     requires lanes { All (KeepsNamed (vec_len mails.old)) lanes.old.items }
     requires hint { uncleared.old ≡ false → AreClear ports.old.items }
     requires room { away_count mails.old.items + vec_len trace.old < vec_capacity trace.old }
-    requires some { 0 < limit }
-    requires front { (before : List Lane) × IsFronted limit front (work seat.old mails.old trace.old) ports.old.items before lanes.old.items }
-    ensures notes { (before : List Lane) → IsFronted limit front (work seat.old mails.old trace.old) ports.old.items before lanes.old.items → Chain Intake (EmptiesFrom limit) (vec_len lanes.old) (untaken (work seat.old mails.old trace.old) ports.old.items before) (intake (work seat.new mails.new trace.new) lanes.new ports.new result) }
+    requires front { (before : List Lane) × IsFronted limit first (work seat.old mails.old trace.old) ports.old.items before lanes.old.items }
+    ensures notes { (before : List Lane) → IsFronted limit first (work seat.old mails.old trace.old) ports.old.items before lanes.old.items → Chain Intake (EmptiesFrom limit) (vec_len lanes.old) (untaken (work seat.old mails.old trace.old) ports.old.items before) (intake (work seat.new mails.new trace.new) lanes.new ports.new result) }
     ensures within { result ≤ limit }
     ensures keeps { Keeps (standing seat.old mails.old trace.old ports.old) (standing seat.new mails.new trace.new ports.new) }
     ensures len { vec_len lanes.new ≡ vec_len lanes.old }
     ensures lanes { All (KeepsNamed (vec_len mails.new)) lanes.new.items }
     ensures hint { uncleared.new ≡ false → AreClear ports.new.items }
 {
-    let Front { sender, popped } = front;
-    let taken = empty_found(
+    let taken = empty(
         book,
         seat,
         mails,
-        &mut lanes[sender],
+        &mut lanes[first],
         ports,
         uncleared,
-        popped,
         limit,
         trace,
     );
-    let next = sender + 1;
+    let next = first + 1;
     empty_all(
         book, seat, lanes, mails, ports, uncleared, next, taken, limit, trace,
     )
 }
 
-// Passes over the lanes that have no note. None if none has one.
+// Passes over the lanes that have no note, and gives the sender of the first that has. None if none has one.
 #[inline(always)]
-fn pass_empty(lanes: &mut Vec<Lane>) -> Option<Front>
+fn pass_empty(lanes: &mut Vec<Lane>) -> Option<usize>
     ensures none { result ≡ None → (limit : ℕ) (w : Work) (ports : List Port) → Chain Intake (EmptiesFrom limit) (vec_len lanes.old) (untaken w ports lanes.old.items) (untaken w ports lanes.new.items) }
-    ensures some { IfSome result (λ front. (limit : ℕ) (w : Work) (ports : List Port) → IsFronted limit front w ports lanes.old.items lanes.new.items) }
+    ensures some { IfSome result (λ first. (limit : ℕ) (w : Work) (ports : List Port) → IsFronted limit first w ports lanes.old.items lanes.new.items) }
     ensures len { vec_len lanes.new ≡ vec_len lanes.old }
     ensures named { (n : ℕ) → All (KeepsNamed n) lanes.old.items → All (KeepsNamed n) lanes.new.items }
 {
     let senders = lanes.len();
     for sender in 0..senders {
-        if let Some(front) = look(&mut lanes[sender], sender) {
-            return Some(front);
+        if has_note(&mut lanes[sender]) {
+            return Some(sender);
         }
     }
     None
 }
 
-// Takes the notes in from a front on, where nothing was to be done before.
+// Takes the notes in from the first lane with a note on, where nothing was to be done before.
 #[inline(never)]
 fn take_rest(
     book: &MsgBook,
@@ -257,7 +254,7 @@ fn take_rest(
     ports: &mut Vec<Port>,
     owing: &mut bool,
     uncleared: &mut bool,
-    front: Front,
+    first: usize,
     limit: usize,
     trace: &mut Vec<Event>,
 ) -> usize
@@ -269,10 +266,9 @@ fn take_rest(
     requires hint { uncleared.old ≡ false → AreClear ports.old.items }
     requires lanes { vec_len lanes.old ≡ cpus_of seat.old }
     requires keep { All (KeepsNamed (vec_len mails.old)) lanes.old.items }
-    requires some { 0 < limit }
-    requires front { (before : List Lane) × IsFronted limit front (work seat.old mails.old trace.old) ports.old.items before lanes.old.items }
+    requires front { (before : List Lane) × IsFronted limit first (work seat.old mails.old trace.old) ports.old.items before lanes.old.items }
     requires room { vec_len trace.old + 256 ≤ vec_capacity trace.old }
-    ensures takes { (before : List Lane) → IsFronted limit front (work seat.old mails.old trace.old) ports.old.items before lanes.old.items → TakesIn limit (record { work = work seat.old mails.old trace.old; lanes = before; ports = ports.old.items }) (hall (work seat.new mails.new trace.new) lanes.new ports.new) result }
+    ensures takes { (before : List Lane) → IsFronted limit first (work seat.old mails.old trace.old) ports.old.items before lanes.old.items → TakesIn limit (record { work = work seat.old mails.old trace.old; lanes = before; ports = ports.old.items }) (hall (work seat.new mails.new trace.new) lanes.new ports.new) result }
     ensures within { result ≤ limit }
     ensures stands { Stands 256 seat.old mails.old trace.old seat.new mails.new trace.new }
     ensures ports { vec_len ports.new ≡ 16 }
@@ -282,7 +278,9 @@ fn take_rest(
     ensures owing { owing.new ≡ false → OwesNone mails.new.items }
     ensures hint { uncleared.new ≡ false → AreClear ports.new.items }
 {
-    let count = empty_front(book, seat, lanes, mails, ports, uncleared, front, limit, trace);
+    let count = empty_front(
+        book, seat, lanes, mails, ports, uncleared, first, limit, trace,
+    );
     let cleared = *uncleared;
     clear_all(book, seat, mails, ports, uncleared, trace);
     *owing = may_owe(false, cleared, mails);
@@ -373,16 +371,16 @@ fn take_in(
     ensures owing { owing.new ≡ false → OwesNone mails.new.items }
     ensures hint { uncleared.new ≡ false → AreClear ports.new.items }
 {
-    if limit == 0 || *owing || *uncleared || !have_none_in_hand(lanes) {
+    if *owing || *uncleared || !have_none_in_hand(lanes) {
         return take_all(
             book, seat, lanes, mails, ports, owing, uncleared, limit, trace,
         );
     }
-    let Some(front) = pass_empty(lanes) else {
+    let Some(first) = pass_empty(lanes) else {
         return 0;
     };
     take_rest(
-        book, seat, lanes, mails, ports, owing, uncleared, front, limit, trace,
+        book, seat, lanes, mails, ports, owing, uncleared, first, limit, trace,
     )
 }
 

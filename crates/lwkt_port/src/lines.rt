@@ -1,7 +1,7 @@
 //! The two lanes that join a processor with another one, or with itself.
-ghost use Rattle.std.specs.Prelude.{◌≡◌, ◌++◌, ◌∷◌, [], ◌↔◌, None, IsTrue, IsSome, IfSome, Some, true, MatchOption};
+ghost use Rattle.std.specs.Prelude.{◌≡◌, ◌++◌, ◌∷◌, [], ◌↔◌, None, IsTrue, IsSome, IfSome, Some, true, false, MatchOption};
 ghost use Rattle.lwkt_lane.specs.Lane.{sent, in_hand, received, seen, in_lane};
-ghost use Rattle.lwkt_port.specs.Lines.{IsRoomed, HasPosted, HasNone, Finds};
+ghost use Rattle.lwkt_port.specs.Lines.{IsRoomed, HasPosted, HasNone, IsFound};
 
 use lwkt_lane::{LaneIn, LaneOut, Note};
 
@@ -11,13 +11,6 @@ pub struct Lane {
     pub(crate) out: LaneOut,
     pub(crate) into: LaneIn,
     pub(crate) kept: Option<Note>,
-}
-
-/// The first line that has a note, by its sender, and the note that was received from it. If none was, the line keeps one.
-#[derive(Clone, Copy, Debug, PartialEq, Eq)]
-pub struct Front {
-    pub sender: usize,
-    pub popped: Option<Note>,
 }
 
 /// Moves a note in hand on if there is room, and says whether the next one can be sent.
@@ -63,23 +56,15 @@ pub(crate) fn keep(line: &mut Lane, note: Option<Note>)
     line.kept = note;
 }
 
-/// Looks for a note of a line that isn't handled yet: one that the line keeps, or else the next one of its lane, which is
-/// received then.
+/// Whether a line has a note that isn't handled yet: one that it keeps, or one in the queue of its lane.
 #[inline(always)]
-pub(crate) fn look(line: &mut Lane, sender: usize) -> Option<Front>
-    ensures none { result ≡ None → HasNone line.old line.new }
-    ensures some { IfSome result (λ front. (front.sender ≡ sender) × Finds front.popped line.old line.new) }
+pub(crate) fn has_note(line: &mut Lane) -> bool
+    ensures none { result ≡ false → HasNone line.old line.new }
+    ensures found { result ≡ true → IsFound line.old line.new }
     ensures same { line.new.kept ≡ line.old.kept }
 {
     if line.kept.is_some() {
-        return Some(Front {
-            sender,
-            popped: None,
-        });
+        return true;
     }
-    let note = pop(line)?;
-    Some(Front {
-        sender,
-        popped: Some(note),
-    })
+    !line.into.is_empty()
 }

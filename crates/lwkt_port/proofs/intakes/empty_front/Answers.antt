@@ -10,14 +10,14 @@ use Rattle.lwkt_port.proofs.intakes.empty_front.Goals as goal
 
 pub returns-clause-notes : goal.returns-clause-notes
 returns-clause-notes c = λ before front.
-    let e = c.empty_found-taken in
+    let e = c.empty-taken in
     let w : Work = work c.args.seat.now c.args.mails.now c.args.trace.now in
     let w' : Work = work e.new.seat e.new.mails e.new.trace in
-    c.empty_all.ensures.notes (untaken w c.args.ports.now.items before) (front_emptied c.args.limit e.result c.args.front w w' c.args.ports.now.items e.new.ports.items before c.args.lanes.now.items c.index_mut.result.now e.new.line front c.index_mut.ensures.value e.ensures.empties)
+    c.empty_all.ensures.notes (untaken w c.args.ports.now.items before) (front_emptied c.args.limit e.result c.args.first w w' c.args.ports.now.items e.new.ports.items before c.args.lanes.now.items c.index_mut.result.now e.new.line front c.index_mut.ensures.value e.ensures.empties)
 
 pub returns-clause-keeps : goal.returns-clause-keeps
 returns-clause-keeps c =
-    let e = c.empty_found-taken in
+    let e = c.empty-taken in
     let a = c.empty_all in
     let s : Standing = standing c.args.seat.now c.args.mails.now c.args.trace.now c.args.ports.now in
     let s1 : Standing = standing e.new.seat e.new.mails e.new.trace e.new.ports in

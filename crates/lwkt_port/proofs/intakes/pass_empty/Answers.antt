@@ -8,25 +8,25 @@ use Rattle.lwkt_port.proofs.intakes.pass_empty.Goals as goal
 pub loop-sender-init : goal.loop-sender-init
 loop-sender-init c = record { passes = λ limit w ports. chain_none Intake (EmptiesFrom limit) (untaken w ports c.args.lanes.now.items); len = refl; named = λ n h. h }
 
-pub returns-in-Some-clause-some : goal.returns-in-Some-clause-some
-returns-in-Some-clause-some c = λ limit w ports.
-    let l = c.loop-sender in
-    let there : l.sender < length l.lanes.items = search rules in
-    let now : vec_len l.lanes ≡ length l.lanes.items = search rules in
-    let before : vec_len c.args.lanes.now ≡ length c.args.lanes.now.items = search rules in
-    fronted limit l.sender c.in-Some.front w ports c.args.lanes.now.items l.lanes.items c.index_mut.result.now c.look.new.line there c.index_mut.ensures.value c.in-Some.ensures.some.0 c.in-Some.ensures.some.1 (sym now ∙ l.invariant.len ∙ before) (l.invariant.passes limit w ports)
-
-pub returns-in-Some-clause-named : goal.returns-in-Some-clause-named
-returns-in-Some-clause-named c = λ n h.
-    let l = c.loop-sender in
-    let there : l.sender < length l.lanes.items = search rules in
-    line_kept n l.lanes.items l.sender c.index_mut.result.now c.look.new.line there c.index_mut.ensures.value c.in-Some.ensures.same (l.invariant.named n h)
-
 pub loop-sender-preserved : goal.loop-sender-preserved
 loop-sender-preserved c =
     let l = c.loop-sender in
     let there : l.sender < length l.lanes.items = search rules in record {
-      passes = λ limit w ports. passes_more limit l.sender w ports c.args.lanes.now.items l.lanes.items c.index_mut.result.now c.look.new.line there c.index_mut.ensures.value (search rules) (l.invariant.passes limit w ports);
+      passes = λ limit w ports. passes_more limit l.sender w ports c.args.lanes.now.items l.lanes.items c.index_mut.result.now c.has_note.new.line there c.index_mut.ensures.value (c.has_note.ensures.none c.if-has_note.false) (l.invariant.passes limit w ports);
       len = l.invariant.len;
-      named = λ n h. line_kept n l.lanes.items l.sender c.index_mut.result.now c.look.new.line there c.index_mut.ensures.value c.look.ensures.same (l.invariant.named n h);
+      named = λ n h. line_kept n l.lanes.items l.sender c.index_mut.result.now c.has_note.new.line there c.index_mut.ensures.value c.has_note.ensures.same (l.invariant.named n h);
     }
+
+pub returns-then-has_note-clause-some : goal.returns-then-has_note-clause-some
+returns-then-has_note-clause-some c = λ limit w ports.
+    let l = c.loop-sender in
+    let there : l.sender < length l.lanes.items = search rules in
+    let now : vec_len l.lanes ≡ length l.lanes.items = search rules in
+    let before : vec_len c.args.lanes.now ≡ length c.args.lanes.now.items = search rules in
+    fronted limit l.sender w ports c.args.lanes.now.items l.lanes.items c.index_mut.result.now c.has_note.new.line there c.index_mut.ensures.value (c.has_note.ensures.found c.if-has_note.true) (sym now ∙ l.invariant.len ∙ before) (l.invariant.passes limit w ports)
+
+pub returns-then-has_note-clause-named : goal.returns-then-has_note-clause-named
+returns-then-has_note-clause-named c = λ n h.
+    let l = c.loop-sender in
+    let there : l.sender < length l.lanes.items = search rules in
+    line_kept n l.lanes.items l.sender c.index_mut.result.now c.has_note.new.line there c.index_mut.ensures.value c.has_note.ensures.same (l.invariant.named n h)
