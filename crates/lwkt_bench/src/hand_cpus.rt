@@ -216,31 +216,18 @@ impl<'a> HandCpu<'a> {
         })
     }
 
-    // Takes notes of a lane in, so many at most; how many are left then.
     #[inline(never)]
-    fn take_from(&mut self, from: usize, most: usize) -> usize {
-        let mut left = most;
-        let Some(lane) = self.lanes.get(from) else {
-            return left;
-        };
-        for _note in 0..most {
-            let Some(note) = lane.pop() else {
-                return left;
-            };
-            left = left.wrapping_sub(1);
-            if let Some(thread) = self.threads.get_mut(note.port as usize) {
-                let _ = thread.notes.push(note);
-            }
-        }
-        left
-    }
-
     fn take_notes(&mut self) {
-        let mut left = NOTES;
-        for from in 0..self.lanes.len() {
-            let empty = self.lanes.get(from).is_none_or(|lane| lane.is_empty());
-            if !empty {
-                left = self.take_from(from, left);
+        let mut taken = 0usize;
+        for lane in &self.lanes {
+            for _note in taken..NOTES {
+                let Some(note) = lane.pop() else {
+                    break;
+                };
+                taken = taken.wrapping_add(1);
+                if let Some(thread) = self.threads.get_mut(note.port as usize) {
+                    let _ = thread.notes.push(note);
+                }
             }
         }
     }
@@ -288,7 +275,9 @@ impl<'a> HandCpu<'a> {
 
     fn turn(&mut self) -> Result<Turned, AllocError> {
         self.trace.reserve(EVENTS)?;
-        self.take_notes();
+        if self.lanes.iter().any(|lane| !lane.is_empty()) {
+            self.take_notes();
+        }
         for thread in &mut self.threads {
             thread.wake();
         }
