@@ -216,19 +216,29 @@ impl<'a> HandCpu<'a> {
         })
     }
 
+    // Takes notes of a lane in, so many at most; how many more may be taken then.
+    fn take_from(&mut self, from: usize, most: usize) -> usize {
+        let mut left = most;
+        let Some(lane) = self.lanes.get(from) else {
+            return left;
+        };
+        for _note in 0..most {
+            let Some(note) = lane.pop() else {
+                return left;
+            };
+            left = left.wrapping_sub(1);
+            if let Some(thread) = self.threads.get_mut(note.port as usize) {
+                let _ = thread.notes.push(note);
+            }
+        }
+        left
+    }
+
     #[inline(never)]
     fn take_notes(&mut self) {
-        let mut taken = 0usize;
-        for lane in &self.lanes {
-            for _note in taken..NOTES {
-                let Some(note) = lane.pop() else {
-                    break;
-                };
-                taken = taken.wrapping_add(1);
-                if let Some(thread) = self.threads.get_mut(note.port as usize) {
-                    let _ = thread.notes.push(note);
-                }
-            }
+        let mut left = NOTES;
+        for from in 0..self.lanes.len() {
+            left = self.take_from(from, left);
         }
     }
 
