@@ -216,8 +216,7 @@ impl<'a> HandCpu<'a> {
         })
     }
 
-    // Takes notes of a lane in, so many at most; how many are left then.
-    #[inline(never)]
+    // Takes notes of a lane in, so many at most; how many more may be taken then.
     fn take_from(&mut self, from: usize, most: usize) -> usize {
         let mut left = most;
         let Some(lane) = self.lanes.get(from) else {
@@ -235,13 +234,11 @@ impl<'a> HandCpu<'a> {
         left
     }
 
+    #[inline(never)]
     fn take_notes(&mut self) {
         let mut left = NOTES;
         for from in 0..self.lanes.len() {
-            let empty = self.lanes.get(from).is_none_or(|lane| lane.is_empty());
-            if !empty {
-                left = self.take_from(from, left);
-            }
+            left = self.take_from(from, left);
         }
     }
 
@@ -288,7 +285,9 @@ impl<'a> HandCpu<'a> {
 
     fn turn(&mut self) -> Result<Turned, AllocError> {
         self.trace.reserve(EVENTS)?;
-        self.take_notes();
+        if self.lanes.iter().any(|lane| !lane.is_empty()) {
+            self.take_notes();
+        }
         for thread in &mut self.threads {
             thread.wake();
         }

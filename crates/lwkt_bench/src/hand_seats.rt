@@ -124,6 +124,14 @@ impl HandRefs {
     }
 }
 
+// Appends an event to a trace that has room.
+#[inline(always)]
+fn note(trace: &mut Vec<Event>, event: Event) {
+    if trace.len() < trace.capacity() {
+        trace.push_reserved(event);
+    }
+}
+
 /// What asking for a reference answers where it isn't refused.
 #[derive(Clone, Copy)]
 pub enum HandGot {
@@ -163,7 +171,7 @@ impl<'a> HandSeat<'a> {
         if held.references > 0 {
             token.again();
             held.references = held.references.wrapping_add(1);
-            let _ = trace.push(Event::Again { cpu, tok });
+            note(trace, Event::Again { cpu, tok });
             return Tried::Got;
         }
         let tried = token.try_take(mode, list.has_only(tok));
@@ -171,10 +179,13 @@ impl<'a> HandSeat<'a> {
             held.references = 1;
             held.mode = mode;
             held.stored = false;
-            let _ = trace.push(match mode {
-                Mode::Exclusive => Event::Take { cpu, tok },
-                Mode::Shared => Event::Share { cpu, tok },
-            });
+            note(
+                trace,
+                match mode {
+                    Mode::Exclusive => Event::Take { cpu, tok },
+                    Mode::Shared => Event::Share { cpu, tok },
+                },
+            );
         }
         tried
     }
@@ -231,7 +242,7 @@ impl<'a> HandSeat<'a> {
         {
             token.mark();
             let cpu = self.cpu;
-            let _ = trace.push(Event::Mark { cpu, tok });
+            note(trace, Event::Mark { cpu, tok });
         }
     }
 
@@ -267,20 +278,26 @@ impl<'a> HandSeat<'a> {
             let value = held.first;
             held.last = value;
             token.store(value);
-            let _ = trace.push(Event::Write {
-                cpu,
-                tok,
-                cell: 0,
-                value,
-            });
+            note(
+                trace,
+                Event::Write {
+                    cpu,
+                    tok,
+                    cell: 0,
+                    value,
+                },
+            );
         }
         let written = held.stored && held.first != held.last;
         token.give(written);
-        let _ = trace.push(if written {
-            Event::GiveWritten { cpu, tok }
-        } else {
-            Event::GiveClean { cpu, tok }
-        });
+        note(
+            trace,
+            if written {
+                Event::GiveWritten { cpu, tok }
+            } else {
+                Event::GiveClean { cpu, tok }
+            },
+        );
         broken
     }
 
@@ -298,7 +315,7 @@ impl<'a> HandSeat<'a> {
             return self.end(place, tok, trace);
         }
         token.give_one();
-        let _ = trace.push(Event::GiveOne { cpu, tok });
+        note(trace, Event::GiveOne { cpu, tok });
         false
     }
 
@@ -366,12 +383,15 @@ impl<'a> HandSeat<'a> {
             return Err(Fault::NotHeld);
         }
         let value = token.load();
-        let _ = trace.push(Event::Read {
-            cpu: self.cpu,
-            tok,
-            cell,
-            value,
-        });
+        note(
+            trace,
+            Event::Read {
+                cpu: self.cpu,
+                tok,
+                cell,
+                value,
+            },
+        );
         Ok(value)
     }
 
@@ -398,12 +418,15 @@ impl<'a> HandSeat<'a> {
         }
         held.begin(token);
         held.store(token, value);
-        let _ = trace.push(Event::Write {
-            cpu,
-            tok,
-            cell,
-            value,
-        });
+        note(
+            trace,
+            Event::Write {
+                cpu,
+                tok,
+                cell,
+                value,
+            },
+        );
         Ok(())
     }
 
@@ -426,12 +449,15 @@ impl<'a> HandSeat<'a> {
         };
         held.tally = held.tally.wrapping_add(k);
         held.store(token, value);
-        let _ = trace.push(Event::Write {
-            cpu,
-            tok,
-            cell: 0,
-            value,
-        });
+        note(
+            trace,
+            Event::Write {
+                cpu,
+                tok,
+                cell: 0,
+                value,
+            },
+        );
         Ok(())
     }
 }

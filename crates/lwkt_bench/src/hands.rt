@@ -64,6 +64,7 @@ impl HandToken {
     }
 
     /// Tries to take the token in this mode; `alone` says that the list has no reference to another token.
+    #[inline(always)]
     pub fn try_take(&self, mode: Mode, alone: bool) -> Tried {
         let word = self.word.load(Ordering::SeqCst);
         let next = match mode {
@@ -105,6 +106,7 @@ impl HandToken {
     }
 
     /// Whether the cell obeys the law at the end of a section.
+    #[inline(always)]
     pub fn is_lawful(&self) -> bool {
         match self.law {
             Law::Any | Law::Order | Law::Tally => true,

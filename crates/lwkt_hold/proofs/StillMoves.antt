@@ -4,7 +4,6 @@ use Rattle.std.specs.Prelude.{◌⊎◌, IsSomeAnd, slice_get}
 use Rattle.std.proofs.lemmas.Bool.{eqb-true, eqb-false, cases_Bool}
 use Rattle.std.proofs.lemmas.Option.{slice_get-get_or, slice_get_within}
 use Rattle.std.proofs.lemmas.List.{append-nil}
-use Rattle.lwkt_base.specs.declared.names.Mode.{Mode}
 use Rattle.lwkt_base.specs.declared.names.Ref.{Ref}
 use Rattle.lwkt_base.specs.declared.words.Decision.TheVariants.{Held, Marked}
 use Rattle.lwkt_core.specs.declared.seats.WordStep.{WordStep}

@@ -45,7 +45,7 @@ fn ends_section(held: Held) -> bool
 }
 
 /// Before a reference is given back: a section that it ends, and that has broken its law, gets its first row again.
-#[inline]
+#[inline(always)]
 fn mend(seat: &mut CpuSeat, bank: &Bank, tok: TokId, trace: &mut Vec<Event>) -> bool
     requires of { bank_of seat.old ≡ id_of bank.now }
     requires held { is_held (holding seat.old tok.0) ≡ true }

@@ -10,22 +10,40 @@ ghost use Rattle.lwkt_hold.specs.Runs.{Ran};
 use crate::holds::Hold;
 use crate::traces::note;
 use lwkt_bank::Bank;
-use lwkt_base::{Fault, Mode, TokId, TokList};
+use lwkt_base::{Fault, Held, Mode, TokId, TokList};
 use lwkt_core::Event;
 
 impl Hold {
     ghost use Rattle.lwkt_hold.specs.Holds.{seat_of};
     ghost use Rattle.lwkt_hold.specs.Rows.{row, OnlyRow};
 
-    // Refused with `NotHeld` if the token isn't on the list, else with `SharedWrite` if it is held shared.
-    #[inline]
-    fn may_write(list: &TokList, tok: TokId) -> Result<(), Fault>
+    // The mode of the first reference to the token on the list that is held, if there is one: the seat knows it at once.
+    #[inline(always)]
+    fn mode(&self, bank: &Bank, list: &TokList, tok: TokId) -> Option<Mode>
+        requires of { bank_of (seat_of self.now) ≡ id_of bank.now }
+        requires there { tok.0 < tokens_of (bank_of (seat_of self.now)) }
+        requires held { holding (seat_of self.now) ≡ holding_of list.now }
+        ensures { result ≡ first_mode list.now tok.0 }
+    {
+        let _ = list;
+        match self.seat.held(bank, tok) {
+            Held::Nothing => None,
+            Held::Holds(mode, _) => Some(mode),
+        }
+    }
+
+    // Refused with `NotHeld` if the token isn't on the list that is held, else with `SharedWrite` if it is held shared.
+    #[inline(always)]
+    fn may_write(&self, bank: &Bank, list: &TokList, tok: TokId) -> Result<(), Fault>
+        requires of { bank_of (seat_of self.now) ≡ id_of bank.now }
+        requires there { tok.0 < tokens_of (bank_of (seat_of self.now)) }
+        requires held { holding (seat_of self.now) ≡ holding_of list.now }
         ensures ok { OnOk result (first_mode list.now tok.0 ≡ Some Mode.Exclusive) }
         ensures not_held { (result ≡ Err Fault.NotHeld) ↔ (first_mode list.now tok.0 ≡ None) }
         ensures shared { (result ≡ Err Fault.SharedWrite) ↔ (first_mode list.now tok.0 ≡ Some Mode.Shared) }
         ensures only { OnErr result ((result ≡ Err Fault.NotHeld) ⊎ (result ≡ Err Fault.SharedWrite)) }
     {
-        match list.mode(tok) {
+        match self.mode(bank, list, tok) {
             None => Err(Fault::NotHeld),
             Some(Mode::Shared) => Err(Fault::SharedWrite),
             Some(Mode::Exclusive) => Ok(()),
@@ -66,7 +84,7 @@ impl Hold {
         if cell as usize >= bank.cells(tok) {
             return Err(Fault::NoCell);
         }
-        if list.mode(tok).is_none() {
+        if self.mode(bank, list, tok).is_none() {
             return Err(Fault::NotHeld);
         }
         let cpu = self.seat.cpu();
@@ -120,7 +138,7 @@ impl Hold {
         if cell as usize >= bank.cells(tok) {
             return Err(Fault::NoCell);
         }
-        Hold::may_write(list, tok)?;
+        self.may_write(bank, list, tok)?;
         let cpu = self.seat.cpu();
         self.seat.store(bank, tok, cell, value)?;
         note(
@@ -168,7 +186,7 @@ impl Hold {
         if tok.0 as usize >= bank.tokens() {
             return Err(Fault::NoToken);
         }
-        Hold::may_write(list, tok)?;
+        self.may_write(bank, list, tok)?;
         let cpu = self.seat.cpu();
         let value = self.seat.add(bank, tok, k)?;
         note(
