@@ -1,5 +1,7 @@
 //! The clerk of a table rests: its seat is needed at the opening and at the close alone. A seat can't be shared by threads;
 //! at rest on a perch it lets them share what it belongs to, and costs nothing meanwhile. Bank and book keep their clerks so.
+#![tactic(auto)]
+
 ghost use Rattle.std.specs.Prelude.{◌≡◌, [], IfOk, IfSome};
 
 use atomic_table::{Perch, Seat};
