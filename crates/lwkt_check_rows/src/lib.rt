@@ -1,5 +1,10 @@
-//! The checker of traces on worked examples: what it says of each need that isn't met and of each value that differs.
+//! The checker of traces on worked examples: what it says of each need that isn't met and of each value that
+//! differs; and on traces with one event changed.
 #![tactic(auto)]
 
+#[cfg(test)]
+mod changes;
+#[cfg(test)]
+mod outputs;
 #[cfg(test)]
 mod rows;

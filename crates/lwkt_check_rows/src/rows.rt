@@ -1,6 +1,5 @@
-use lwkt_checker::run_checker;
-use lwkt_report::Page;
-use std::alloc::{AllocError, Global};
+use crate::outputs::said;
+use std::alloc::Global;
 use std::process::Abort;
 use std::test::Fail;
 
@@ -16,31 +15,6 @@ const GENS: &str = "[0,0,70368744177663]";
 const TALLIES: &str = "[[],[0,0,0],[]]";
 
 const ENDS: &str = "[[\"rest\",0,0],[\"rest\",1,2251799813685247]]";
-
-// What the program answered, wrote, and said of errors.
-#[derive(Drop)]
-struct Output {
-    status: u8,
-    text: Vec<u8>,
-    errors: Vec<u8>,
-}
-
-// What the program says of these bytes, with so many arguments.
-fn said(alloc: Global, bytes: &[u8], arguments: usize) -> Result<Output, AllocError> {
-    let mut source = bytes;
-    let mut page = Page::with_room(alloc, 0)?;
-    let mut errors = Page::with_room(alloc, 0)?;
-    let mut words = Vec::new(alloc);
-    for _word in 0..arguments {
-        words.push(String::from_str(alloc, "turns")?)?;
-    }
-    let status = run_checker(alloc, &words, &mut source, &mut page, &mut errors);
-    Ok(Output {
-        status,
-        text: page.text,
-        errors: errors.text,
-    })
-}
 
 // Fails unless the program finds this of the bytes.
 fn expect(rt: &impl Abort, alloc: Global, bytes: &[u8], want: &str) -> Result<(), Fail> {

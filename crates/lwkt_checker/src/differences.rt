@@ -1,7 +1,8 @@
 use crate::holdings::show_holders;
-use crate::words::{show_numbers, show_owner};
+use crate::words::show_owner;
 use lwkt_base::{Law, MsgEnd, MsgId, TokId};
 use lwkt_core::{Final, Message, State, Token};
+use lwkt_trace::words::show_numbers;
 use std::alloc::{AllocError, Global};
 
 // Whether these are the tallies that a token shows.

@@ -1,6 +1,7 @@
 use crate::holdings::show_holders;
-use crate::words::{Subject, law_name, show_event, show_numbers, show_owner, subject_of};
+use crate::words::{show_event, show_owner};
 use lwkt_core::{Event, Lack, Message, State, Token};
+use lwkt_trace::words::{Subject, law_name, show_numbers, subject_of};
 use std::alloc::{AllocError, Global};
 
 // Appends the row and the first row of a token.

@@ -1,4 +1,6 @@
-use crate::layouts::{COLUMN, CPU_LIMIT, Layout, ROW, TOKEN_LIMIT, slot_of};
+use crate::layouts::{CPU_LIMIT, Layout, ROW, TOKEN_LIMIT, slot_of};
+use crate::shapes::{show_rect, show_text_at};
+use crate::words::{mode_word, show_number, show_size};
 use lwkt_base::Mode;
 use lwkt_core::Event;
 use std::alloc::{AllocError, Global};
@@ -42,7 +44,50 @@ fn sides(y: usize, to_y: usize) -> (usize, usize) {
     }
 }
 
-// Appends an arrow between two processors, from the middle of a round to the middle of another; dashed for a reply.
+// Appends the title of a message on its way, as far as it says where it began.
+fn show_way(out: &mut String, msg: usize, way: Way) -> Result<(), AllocError> {
+    let word = if way.is_reply {
+        "<g><title>reply to message "
+    } else {
+        "<g><title>message "
+    };
+    show_size(out, word, msg)?;
+    show_number(out, ", round ", way.round)?;
+    show_size(out, ": from processor ", way.cpu)?;
+    show_size(out, " in round ", way.since)
+}
+
+// Appends the name of a message on its way.
+fn show_mail(out: &mut String, x: usize, y: usize, msg: usize, way: Way) -> Result<(), AllocError> {
+    show_text_at(out, x, y, "")?;
+    show_size(out, "m", msg)?;
+    show_number(out, " r", way.round)?;
+    out.push_str("</text></g>\n")
+}
+
+// Appends the line of an arrow; dashed for a reply.
+fn show_line(
+    out: &mut String,
+    layout: &Layout,
+    way: Way,
+    cpu: usize,
+    until: usize,
+) -> Result<(), AllocError> {
+    let (y, to_y) = (layout.top(way.cpu), layout.top(cpu));
+    let (down, up) = sides(y, to_y);
+    show_size(out, "<line x1=\"", layout.middle(way.since))?;
+    show_size(out, "\" y1=\"", y.saturating_add(down))?;
+    show_size(out, "\" x2=\"", layout.middle(until))?;
+    show_size(out, "\" y2=\"", to_y.saturating_add(up))?;
+    out.push_str(if way.is_reply {
+        "\" class=\"way\" stroke-dasharray=\"5 3\""
+    } else {
+        "\" class=\"way\""
+    })?;
+    out.push_str(" marker-end=\"url(#head)\"/>")
+}
+
+// Appends an arrow between two processors, from the middle of a round to the middle of another.
 fn draw_arrow(
     out: &mut String,
     layout: &Layout,
@@ -51,82 +96,94 @@ fn draw_arrow(
     cpu: usize,
     until: usize,
 ) -> Result<(), AllocError> {
-    let word = if way.is_reply {
-        "reply to message"
+    show_way(out, msg, way)?;
+    show_size(out, " to processor ", cpu)?;
+    show_size(out, " in round ", until)?;
+    out.push_str("</title>")?;
+    show_line(out, layout, way, cpu, until)?;
+    let y = layout.top(way.cpu);
+    let (down, _) = sides(y, layout.top(cpu));
+    let y = if down == 0 {
+        y.saturating_sub(4)
     } else {
-        "message"
+        y.saturating_add(ROW + 11)
     };
-    write!(out, "<g><title>{} {}, round {}: ", word, msg, way.round)?;
-    write!(out, "from processor {} in round {} ", way.cpu, way.since)?;
-    write!(out, "to processor {cpu} in round {until}</title>")?;
-    let (x, y) = (layout.x(way.since), layout.top(way.cpu));
-    let (to_x, to_y) = (layout.x(until), layout.top(cpu));
-    let (down, up) = sides(y, to_y);
-    let dashes = if way.is_reply {
-        " stroke-dasharray=\"5 3\""
-    } else {
-        ""
-    };
-    write!(
-        out,
-        "<line x1=\"{}\" y1=\"{}\"",
-        x.saturating_add(COLUMN / 2),
-        y.saturating_add(down)
-    )?;
-    write!(
-        out,
-        " x2=\"{}\" y2=\"{}\"",
-        to_x.saturating_add(COLUMN / 2),
-        to_y.saturating_add(up)
-    )?;
-    write!(out, " class=\"way\"{dashes} marker-end=\"url(#head)\"/>")?;
-    write!(
-        out,
-        "<text x=\"{}\" y=\"{}\">m{} r{}</text></g>\n",
-        x.saturating_add(COLUMN / 2 + 3),
-        if down == 0 {
-            y.saturating_sub(4)
-        } else {
-            y.saturating_add(ROW + 11)
-        },
-        msg,
-        way.round
-    )
+    show_mail(out, layout.middle(way.since).saturating_add(3), y, msg, way)
 }
 
 // Appends a message that is still on its way at the end: a line that ends in a ring.
 fn draw_lost(out: &mut String, layout: &Layout, msg: usize, way: Way) -> Result<(), AllocError> {
-    let (x, y) = (layout.x(way.since), layout.top(way.cpu));
-    let (x, y) = (x.saturating_add(COLUMN / 2), y.saturating_add(ROW));
-    let word = if way.is_reply {
-        "reply to message"
+    let x = layout.middle(way.since);
+    let y = layout.top(way.cpu).saturating_add(ROW);
+    show_way(out, msg, way)?;
+    show_size(out, ", not taken</title><path d=\"M", x)?;
+    show_size(out, " ", y)?;
+    show_size(out, "v9\" class=\"way\"/><circle cx=\"", x)?;
+    show_size(out, "\" cy=\"", y.saturating_add(12))?;
+    out.push_str("\" r=\"3\" class=\"way\"/>")?;
+    show_mail(out, x.saturating_add(6), y.saturating_add(14), msg, way)
+}
+
+// Appends what a bar says, and its end.
+fn show_bar_title(
+    out: &mut String,
+    cpu: usize,
+    tok: usize,
+    bar: Bar,
+    until: usize,
+) -> Result<(), AllocError> {
+    show_size(out, "><title>token ", tok)?;
+    out.push_str(" held ")?;
+    out.push_str(mode_word(bar.mode))?;
+    show_size(out, " by processor ", cpu)?;
+    show_size(out, ", rounds ", bar.since)?;
+    show_size(out, " to ", until)?;
+    out.push_str("</title></rect>\n")
+}
+
+// Appends the tick of a mark in a row.
+fn show_tick(
+    out: &mut String,
+    x: usize,
+    y: usize,
+    by: usize,
+    tok: usize,
+    round: usize,
+) -> Result<(), AllocError> {
+    show_size(out, "<path d=\"M", x)?;
+    show_size(out, " ", y.saturating_sub(3))?;
+    show_size(out, "v", ROW + 2)?;
+    show_size(out, "\" class=\"tick\"><title>token ", tok)?;
+    show_size(out, " marked by processor ", by)?;
+    show_size(out, " in round ", round)?;
+    out.push_str("</title></path>\n")
+}
+
+// A bar with a reference more, or a new one.
+fn with_one_more(bar: Option<Bar>, mode: Mode, since: usize) -> Bar {
+    match bar {
+        None => Bar {
+            since,
+            mode,
+            references: 1,
+        },
+        Some(bar) => Bar {
+            references: bar.references.saturating_add(1),
+            ..bar
+        },
+    }
+}
+
+// A bar with a reference less, if one is left.
+fn with_one_less(bar: Bar) -> Option<Bar> {
+    if bar.references > 1 {
+        Some(Bar {
+            references: bar.references - 1,
+            ..bar
+        })
     } else {
-        "message"
-    };
-    write!(out, "<g><title>{} {}, round {}: ", word, msg, way.round)?;
-    write!(
-        out,
-        "from processor {} in round {}, not taken</title>",
-        way.cpu, way.since
-    )?;
-    write!(
-        out,
-        "<path d=\"M{} {}v9\" class=\"way\"/><circle cx=\"{}\"",
-        x, y, x
-    )?;
-    write!(
-        out,
-        " cy=\"{}\" r=\"3\" class=\"way\"/>",
-        y.saturating_add(12)
-    )?;
-    write!(
-        out,
-        "<text x=\"{}\" y=\"{}\">m{} r{}</text></g>\n",
-        x.saturating_add(6),
-        y.saturating_add(14),
-        msg,
-        way.round
-    )
+        None
+    }
 }
 
 impl Drawing {
@@ -159,39 +216,21 @@ impl Drawing {
         if !self.is_shown(bar.since, until) {
             return Ok(());
         }
-        let (word, class) = match bar.mode {
-            Mode::Exclusive => ("exclusively", "full"),
-            Mode::Shared => ("shared", "hatched"),
+        let class = match bar.mode {
+            Mode::Exclusive => "full",
+            Mode::Shared => "hatched",
         };
         let x = self.layout.x(bar.since).saturating_add(2);
         let end = self.layout.x(until.saturating_add(1)).saturating_sub(2);
-        write!(out, "<rect x=\"{}\" y=\"{}\"", x, self.layout.row(cpu, tok))?;
-        write!(
-            out,
-            " width=\"{}\" height=\"{}\" class=\"{}\">",
-            end.saturating_sub(x),
-            ROW - 4,
-            class
-        )?;
-        write!(out, "<title>token {tok} held {word} by processor {cpu}")?;
-        write!(out, ", rounds {} to {}</title></rect>\n", bar.since, until)
+        let y = self.layout.row(cpu, tok);
+        show_rect(out, x, y, end.saturating_sub(x), ROW - 4, class)?;
+        show_bar_title(out, cpu, tok, bar, until)
     }
 
     // A processor has a reference more, from this round on.
     fn add(&mut self, cpu: usize, tok: usize, mode: Mode, round: usize) {
         if let Some(slot) = self.bars.get_mut(slot_of(cpu, tok)) {
-            let bar = match *slot {
-                None => Bar {
-                    since: round,
-                    mode,
-                    references: 1,
-                },
-                Some(bar) => Bar {
-                    references: bar.references.saturating_add(1),
-                    ..bar
-                },
-            };
-            *slot = Some(bar);
+            *slot = Some(with_one_more(*slot, mode, round));
         }
     }
 
@@ -207,14 +246,7 @@ impl Drawing {
         let Some(bar) = held else {
             return Ok(());
         };
-        let left = if bar.references > 1 {
-            Some(Bar {
-                references: bar.references - 1,
-                ..bar
-            })
-        } else {
-            None
-        };
+        let left = with_one_less(bar);
         if let Some(slot) = self.bars.get_mut(slot_of(cpu, tok)) {
             *slot = left;
         }
@@ -233,22 +265,11 @@ impl Drawing {
         tok: usize,
         round: usize,
     ) -> Result<(), AllocError> {
-        let x = self.layout.x(round).saturating_add(COLUMN / 2);
         let y = self.layout.row(cpu, tok);
         if y == 0 || !self.is_shown(round, round) {
             return Ok(());
         }
-        write!(
-            out,
-            "<path d=\"M{} {}v{}\" class=\"tick\">",
-            x,
-            y.saturating_sub(3),
-            ROW + 2
-        )?;
-        write!(
-            out,
-            "<title>token {tok} marked by processor {by} in round {round}</title></path>\n"
-        )
+        show_tick(out, self.layout.middle(round), y, by, tok, round)
     }
 
     // Appends the ticks of a mark: in the rows of those that hold the token, or of who marks it.

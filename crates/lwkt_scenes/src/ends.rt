@@ -1,6 +1,6 @@
 use crate::replays::Replay;
 use crate::stories::{Logged, Story};
-use crate::words::{show_ask, show_fault, show_thread};
+use crate::words::{show_ask, show_fault, show_number, show_thread};
 use lwkt_base::{Entry, ThreadState};
 use lwkt_report::ThreadLine;
 use std::alloc::AllocError;
@@ -15,11 +15,11 @@ fn show_rule(out: &mut String, replay: &Replay, story: &Story) -> Result<(), All
         return Ok(());
     };
     match replay.state.token(tok) {
-        Some(token) => write!(
-            out,
-            ": token {} is at generation {}, the last, and is wanted exclusively",
-            tok.0, token.generation
-        ),
+        Some(token) => {
+            show_number(out, ": token ", u64::from(tok.0))?;
+            show_number(out, " is at generation ", token.generation)?;
+            out.push_str(", the last, and is wanted exclusively")
+        }
         None => Ok(()),
     }
 }
@@ -44,16 +44,35 @@ fn show_end(out: &mut String, replay: &Replay, story: &Story) -> Result<(), Allo
     }
 }
 
+// Appends three numbers of an entry.
+fn show_three(
+    out: &mut String,
+    word: &str,
+    first: u64,
+    second: u64,
+    third: u64,
+) -> Result<(), AllocError> {
+    show_number(out, word, first)?;
+    show_number(out, ":", second)?;
+    show_number(out, ":", third)
+}
+
 // Appends an entry of a log, as in a report.
 fn show_entry(out: &mut String, entry: Entry) -> Result<(), AllocError> {
     match entry {
-        Entry::Value(value) => write!(out, "v={value}"),
-        Entry::Aborted(asked) => write!(out, "a={}", u8::from(asked)),
-        Entry::Request(msg, call) => write!(out, "q={}:{}:{}", msg.0, call.op, call.arg),
-        Entry::Reply(msg, error, outcome) => write!(out, "r={}:{}:{}", msg.0, error, outcome),
+        Entry::Value(value) => show_number(out, "v=", value),
+        Entry::Aborted(asked) => show_number(out, "a=", u64::from(asked)),
+        Entry::Request(msg, call) => {
+            show_three(out, "q=", u64::from(msg.0), u64::from(call.op), call.arg)
+        }
+        Entry::Reply(msg, error, outcome) => {
+            show_three(out, "r=", u64::from(msg.0), u64::from(error), outcome)
+        }
         Entry::NoMessage => out.push_str("n"),
-        Entry::Dropped(msg, call) => write!(out, "d={}:{}:{}", msg.0, call.op, call.arg),
-        Entry::Refused(number) => write!(out, "f={number}"),
+        Entry::Dropped(msg, call) => {
+            show_three(out, "d=", u64::from(msg.0), u64::from(call.op), call.arg)
+        }
+        Entry::Refused(number) => show_number(out, "f=", u64::from(number)),
     }
 }
 
@@ -87,11 +106,8 @@ fn show_log(out: &mut String, story: &Story, line: &ThreadLine) -> Result<(), Al
     }
     let kept = entries.len() as u64;
     if story.entries > kept {
-        write!(
-            out,
-            "  {} further entries are cut off: a log has the first 32\n",
-            story.entries - kept
-        )?;
+        show_number(out, "  ", story.entries - kept)?;
+        out.push_str(" further entries are cut off: a log has the first 32\n")?;
     }
     Ok(())
 }

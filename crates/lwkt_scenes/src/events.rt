@@ -1,36 +1,9 @@
 use crate::tokens::{Runners, show_holders, word_of};
-use lwkt_base::{MsgId, Owner, TokId};
+use crate::words::show_number;
+use lwkt_base::{Owner, TokId};
 use lwkt_core::{Event, Message, State, Token};
+use lwkt_trace::words::{Subject, subject_of};
 use std::alloc::AllocError;
-
-/// What an event is at, by its number.
-#[derive(Clone, Copy)]
-pub enum Subject {
-    Token(TokId),
-    Message(MsgId),
-}
-
-/// The token or message that an event is at.
-pub fn subject_of(event: &Event) -> Subject {
-    match *event {
-        Event::Load { tok, .. }
-        | Event::Take { tok, .. }
-        | Event::Share { tok, .. }
-        | Event::Again { tok, .. }
-        | Event::Mark { tok, .. }
-        | Event::GiveOne { tok, .. }
-        | Event::GiveClean { tok, .. }
-        | Event::GiveWritten { tok, .. }
-        | Event::Read { tok, .. }
-        | Event::Write { tok, .. } => Subject::Token(tok),
-        Event::Send { msg, .. }
-        | Event::TakeMsg { msg, .. }
-        | Event::DropMsg { msg, .. }
-        | Event::Reply { msg, .. }
-        | Event::Reap { msg, .. }
-        | Event::Abort { msg, .. } => Subject::Message(msg),
-    }
-}
 
 /// What stood before an event at what it is at: a token's word, and the cell that is written.
 #[derive(Clone, Copy)]
@@ -75,6 +48,24 @@ fn show_held(
     show_holders(out, token, runners)
 }
 
+// Appends what an event did to a token's word.
+fn show_word_change(
+    out: &mut String,
+    token: &Token,
+    event: &Event,
+    before: u64,
+    runners: &Runners,
+) -> Result<(), AllocError> {
+    show_number(out, "word ", before)?;
+    show_number(out, " -> ", word_of(token))?;
+    match *event {
+        Event::Mark { .. } => out.push_str(", marked for an exclusive request"),
+        Event::GiveClean { .. } => out.push_str(", free, not written"),
+        Event::GiveWritten { .. } => show_number(out, ", free, generation ", token.generation),
+        _ => show_held(out, token, event, runners),
+    }
+}
+
 // Appends what an event did to a token.
 fn show_token_change(
     out: &mut String,
@@ -84,29 +75,27 @@ fn show_token_change(
     runners: &Runners,
 ) -> Result<(), AllocError> {
     match *event {
-        Event::Load { .. } => return out.push_str("looked at"),
-        Event::Read { cell, value, .. } => return write!(out, "cell {cell} is {value}"),
-        Event::Write { cell, value, .. } => {
-            return write!(out, "cell {} {} -> {}", cell, before.cell, value);
+        Event::Load { .. } => out.push_str("looked at"),
+        Event::Read { cell, value, .. } => {
+            show_number(out, "cell ", u64::from(cell))?;
+            show_number(out, " is ", value)
         }
-        _ => {}
-    }
-    write!(out, "word {} -> {}", before.word, word_of(token))?;
-    match *event {
-        Event::Mark { .. } => out.push_str(", marked for an exclusive request"),
-        Event::GiveClean { .. } => out.push_str(", free, not written"),
-        Event::GiveWritten { .. } => write!(out, ", free, generation {}", token.generation),
-        _ => show_held(out, token, event, runners),
+        Event::Write { cell, value, .. } => {
+            show_number(out, "cell ", u64::from(cell))?;
+            show_number(out, " ", before.cell)?;
+            show_number(out, " -> ", value)
+        }
+        _ => show_word_change(out, token, event, before.word, runners),
     }
 }
 
 /// Appends where a message is: `out to 1`.
 pub fn show_owner(out: &mut String, owner: Owner) -> Result<(), AllocError> {
     match owner {
-        Owner::Rest { origin } => write!(out, "at rest with {}", origin.0),
-        Owner::Out { target, .. } => write!(out, "out to {}", target.0),
-        Owner::With { target, .. } => write!(out, "with {}", target.0),
-        Owner::Back { origin, .. } => write!(out, "back to {}", origin.0),
+        Owner::Rest { origin } => show_number(out, "at rest with ", u64::from(origin.0)),
+        Owner::Out { target, .. } => show_number(out, "out to ", u64::from(target.0)),
+        Owner::With { target, .. } => show_number(out, "with ", u64::from(target.0)),
+        Owner::Back { origin, .. } => show_number(out, "back to ", u64::from(origin.0)),
     }
 }
 
@@ -116,7 +105,8 @@ fn show_message_change(
     message: &Message,
     event: &Event,
 ) -> Result<(), AllocError> {
-    write!(out, "round {}, ", message.round)?;
+    show_number(out, "round ", message.round)?;
+    out.push_str(", ")?;
     show_owner(out, message.owner)?;
     match *event {
         Event::Abort { .. } => out.push_str(", to be aborted"),
@@ -135,14 +125,16 @@ pub fn show_event(
 ) -> Result<(), AllocError> {
     match subject_of(event) {
         Subject::Token(tok) => {
-            write!(out, "token {}: ", tok.0)?;
+            show_number(out, "token ", u64::from(tok.0))?;
+            out.push_str(": ")?;
             match state.token(tok) {
                 Some(token) => show_token_change(out, token, event, before, runners),
                 None => out.push_str("there is none"),
             }
         }
         Subject::Message(msg) => {
-            write!(out, "message {}: ", msg.0)?;
+            show_number(out, "message ", u64::from(msg.0))?;
+            out.push_str(": ")?;
             match state.message(msg) {
                 Some(message) => show_message_change(out, message, event),
                 None => out.push_str("there is none"),

@@ -101,6 +101,11 @@ impl Layout {
         LEFT.saturating_add(column.saturating_mul(COLUMN))
     }
 
+    /// Where the middle of a round is.
+    pub fn middle(&self, round: usize) -> usize {
+        self.x(round).saturating_add(COLUMN / 2)
+    }
+
     /// Where a processor's turns stand.
     pub fn top(&self, cpu: usize) -> usize {
         self.tops.get(cpu).copied().unwrap_or(0)

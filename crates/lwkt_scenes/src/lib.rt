@@ -10,10 +10,13 @@ mod places;
 mod reels;
 mod refusals;
 mod replays;
+mod scenes;
+mod shapes;
 mod shows;
 mod stories;
 mod tokens;
 mod traces;
+mod tries;
 mod turns;
 mod words;
 

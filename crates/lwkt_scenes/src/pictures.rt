@@ -1,11 +1,14 @@
 use crate::drawings::Drawing;
-use crate::events::{Subject, subject_of};
 use crate::layouts::{COLUMN, Layout, ROW};
 use crate::reels::{Chosen, Reel};
 use crate::replays::Replay;
-use crate::turns::{Scene, scene_of, show_turn};
+use crate::scenes::{Scene, scene_of};
+use crate::shapes::{BOLD, show_label, show_rect, show_text_at};
+use crate::turns::{pass_turn, show_turn};
+use crate::words::show_size;
 use lwkt_base::{Answer, Fault, ThreadState};
 use lwkt_core::Event;
+use lwkt_trace::words::{Subject, subject_of};
 use std::alloc::{AllocError, Global};
 
 /// The most turns that a picture shows.
@@ -20,6 +23,31 @@ const BELOW: usize = 58;
 const STYLE: &str =
     "<style>text{font:10px monospace;paint-order:stroke;stroke:#fff;stroke-width:2px}.full{fill:#000;stroke:#000}.hatched{fill:url(#lines);stroke:#000}.turn{fill:#fff;stroke:#000}.idle{fill:#fff;stroke:#bbb}.way{stroke:#000;fill:none}.tick{stroke:#000;stroke-width:2.5;fill:none}.fault{stroke:#000;stroke-width:2;fill:none}.bold{font-weight:bold}</style>\n<defs><pattern id=\"lines\" width=\"4\" height=\"4\" patternUnits=\"userSpaceOnUse\" patternTransform=\"rotate(45)\"><rect width=\"4\" height=\"4\" fill=\"#fff\"/><path d=\"M1 0v4\" stroke=\"#000\"/></pattern><marker id=\"head\" viewBox=\"0 0 8 8\" refX=\"8\" refY=\"4\" markerWidth=\"7\" markerHeight=\"7\" orient=\"auto\"><path d=\"M0 0L8 4L0 8z\"/></marker></defs>\n";
 
+// Appends the size of a picture.
+fn draw_size(out: &mut String, width: usize, height: usize) -> Result<(), AllocError> {
+    show_size(
+        out,
+        "<svg xmlns=\"http://www.w3.org/2000/svg\" width=\"",
+        width,
+    )?;
+    show_size(out, "\" height=\"", height)?;
+    show_size(out, "\" viewBox=\"0 0 ", width)?;
+    show_size(out, " ", height)?;
+    out.push_str("\">\n")
+}
+
+// Appends the numbers of rounds.
+fn draw_rounds(out: &mut String, layout: &Layout) -> Result<(), AllocError> {
+    for round in layout.first..layout.last.saturating_add(1) {
+        if round % 5 == 0 || round == layout.first {
+            let x = layout.x(round).saturating_add(COLUMN / 4);
+            show_label(out, x, 14, "", "", round)?;
+            out.push_str("\n")?;
+        }
+    }
+    Ok(())
+}
+
 // Appends the beginning of a picture: its size, how its parts are drawn, and the numbers of rounds.
 fn draw_head(out: &mut String, layout: &Layout) -> Result<(), AllocError> {
     let width = layout
@@ -27,49 +55,27 @@ fn draw_head(out: &mut String, layout: &Layout) -> Result<(), AllocError> {
         .saturating_add(RIGHT)
         .max(620);
     let height = layout.height.saturating_add(BELOW);
-    out.push_str("<svg xmlns=\"http://www.w3.org/2000/svg\" ")?;
-    write!(
-        out,
-        "width=\"{width}\" height=\"{height}\" viewBox=\"0 0 {width} {height}\">\n"
-    )?;
+    draw_size(out, width, height)?;
     out.push_str(
         "<title>a run of a script: processors from top to bottom, rounds from left to right</title>\n",
     )?;
     out.push_str(STYLE)?;
-    write!(
-        out,
-        "<rect width=\"{width}\" height=\"{height}\" fill=\"#fff\"/>\n<text x=\"4\" y=\"14\">round</text>\n"
-    )?;
-    for round in layout.first..layout.last.saturating_add(1) {
-        if round % 5 == 0 || round == layout.first {
-            write!(
-                out,
-                "<text x=\"{}\" y=\"14\">{}</text>\n",
-                layout.x(round).saturating_add(COLUMN / 4),
-                round
-            )?;
-        }
-    }
-    Ok(())
+    show_size(out, "<rect width=\"", width)?;
+    show_size(out, "\" height=\"", height)?;
+    out.push_str("\" fill=\"#fff\"/>\n<text x=\"4\" y=\"14\">round</text>\n")?;
+    draw_rounds(out, layout)
 }
 
 // Appends the names of a processor and of its tokens.
 fn draw_names(out: &mut String, layout: &Layout, cpu: usize) -> Result<(), AllocError> {
-    write!(
-        out,
-        "<text x=\"4\" y=\"{}\" class=\"bold\">processor {}</text>\n",
-        layout.top(cpu).saturating_add(ROW - 3),
-        cpu
-    )?;
+    let y = layout.top(cpu).saturating_add(ROW - 3);
+    show_label(out, 4, y, BOLD, "processor ", cpu)?;
+    out.push_str("\n")?;
     for tok in 0..64usize {
         let row = layout.row(cpu, tok);
         if row > 0 {
-            write!(
-                out,
-                "<text x=\"16\" y=\"{}\">token {}</text>\n",
-                row.saturating_add(ROW - 5),
-                tok
-            )?;
+            show_label(out, 16, row.saturating_add(ROW - 5), "", "token ", tok)?;
+            out.push_str("\n")?;
         }
     }
     Ok(())
@@ -102,20 +108,19 @@ fn draw_fault(
     ends: bool,
 ) -> Result<(), AllocError> {
     if ends {
-        write!(
-            out,
-            "<path d=\"M{} {}l20 14m0 -14l-20 14\" class=\"fault\"/>",
-            x.saturating_add(2),
-            y
-        )?;
+        show_size(out, "<path d=\"M", x.saturating_add(2))?;
+        show_size(out, " ", y)?;
+        out.push_str("l20 14m0 -14l-20 14\" class=\"fault\"/>")?;
     }
-    write!(
+    let word = if ends { "x" } else { "!" };
+    let number = usize::from(fault.number());
+    show_label(
         out,
-        "<text x=\"{}\" y=\"{}\" class=\"bold\">{}{}</text>",
         x.saturating_add(3),
         y.saturating_sub(3),
-        if ends { "x" } else { "!" },
-        fault.number()
+        BOLD,
+        word,
+        number,
     )
 }
 
@@ -130,22 +135,21 @@ fn draw_turn(
     let x = layout.x(scene.round);
     let y = layout.top(usize::from(scene.cpu));
     let class = if scene.poll.is_some() { "turn" } else { "idle" };
-    write!(out, "<g><title>{line}</title>")?;
-    write!(
-        out,
-        "<rect x=\"{}\" y=\"{}\" width=\"{}\"",
-        x.saturating_add(2),
-        y,
-        COLUMN - 4
-    )?;
-    write!(out, " height=\"{ROW}\" class=\"{class}\"/>")?;
+    out.push_str("<g><title>")?;
+    out.push_str(line)?;
+    out.push_str("</title>")?;
+    show_rect(out, x.saturating_add(2), y, COLUMN - 4, ROW, class)?;
+    out.push_str("/>")?;
     if let Some(poll) = scene.poll {
-        write!(
+        let left = if poll.thread.thread > 9 { 6 } else { 9 };
+        let number = usize::from(poll.thread.thread);
+        show_label(
             out,
-            "<text x=\"{}\" y=\"{}\">{}</text>",
-            x.saturating_add(if poll.thread.thread > 9 { 6 } else { 9 }),
+            x.saturating_add(left),
             y.saturating_add(ROW - 3),
-            poll.thread.thread
+            "",
+            "",
+            number,
         )?;
     }
     if let (Some(fault), ends) = fault_of(replay, scene) {
@@ -178,6 +182,23 @@ fn draw_events(
     Ok(())
 }
 
+// Makes a turn happen, and appends it if it is shown.
+fn play_turn(
+    alloc: Global,
+    out: &mut String,
+    layout: &Layout,
+    replay: &mut Replay,
+    scene: &Scene,
+    first: usize,
+) -> Result<(), AllocError> {
+    if scene.number < first {
+        return pass_turn(alloc, replay, scene);
+    }
+    let mut line = String::new(alloc);
+    show_turn(alloc, replay, &mut line, scene)?;
+    draw_turn(out, layout, replay, scene, line.as_str().trim_end())
+}
+
 // Appends the turns up to the last that is shown.
 fn draw_turns(
     alloc: Global,
@@ -188,25 +209,14 @@ fn draw_turns(
     shown: Shown,
 ) -> Result<(), AllocError> {
     let mut from = 0usize;
-    let mut line = String::new(alloc);
     let mut over = String::new(alloc);
     for (number, turn) in run.turns.iter().enumerate() {
         if number > shown.last {
             break;
         }
         let scene = scene_of(run, number, turn, from);
-        line.clear();
-        show_turn(alloc, replay, &mut line, &scene)?;
+        play_turn(alloc, out, &drawing.layout, replay, &scene, shown.first)?;
         draw_events(&mut over, drawing, replay, &scene)?;
-        if number >= shown.first {
-            draw_turn(
-                out,
-                &drawing.layout,
-                replay,
-                &scene,
-                line.as_str().trim_end(),
-            )?;
-        }
         from = from.saturating_add(usize::from(turn.events));
     }
     drawing.draw_rest(&mut over)?;
@@ -232,6 +242,35 @@ fn shown_of(run: &Reel, chosen: Chosen) -> Shown {
     Shown { first, last }
 }
 
+// Appends a sign, and what it means.
+fn draw_sign(
+    out: &mut String,
+    x: usize,
+    y: usize,
+    class: &str,
+    word: &str,
+) -> Result<(), AllocError> {
+    show_rect(out, x, y, 20, 10, class)?;
+    out.push_str("/>")?;
+    show_text_at(out, x.saturating_add(24), y.saturating_add(9), "")?;
+    out.push_str(word)?;
+    out.push_str("</text>")
+}
+
+// Appends what the parts mean.
+fn draw_signs(out: &mut String, y: usize) -> Result<(), AllocError> {
+    draw_sign(out, 4, y, "full", "exclusive")?;
+    draw_sign(out, 94, y, "hatched", "shared")?;
+    show_size(out, "<path d=\"M170 ", y.saturating_sub(3))?;
+    out.push_str("v16\" class=\"tick\"/>")?;
+    show_text_at(out, 176, y.saturating_add(9), "")?;
+    out.push_str("marked</text>")?;
+    show_text_at(out, 4, y.saturating_add(24), "")?;
+    out.push_str(
+        "!23: refused; x19: ended faulted; m0 r1: message 0, round 1; dashed: its reply</text>\n",
+    )
+}
+
 // Appends what the parts mean, and what is left out.
 fn draw_foot(
     out: &mut String,
@@ -240,39 +279,16 @@ fn draw_foot(
     shown: Shown,
 ) -> Result<(), AllocError> {
     let y = layout.height;
-    write!(
-        out,
-        "<rect x=\"4\" y=\"{y}\" width=\"20\" height=\"10\" class=\"full\"/><text x=\"28\" y=\"{}\">exclusive</text>",
-        y.saturating_add(9)
-    )?;
-    write!(
-        out,
-        "<rect x=\"94\" y=\"{y}\" width=\"20\" height=\"10\" class=\"hatched\"/><text x=\"118\" y=\"{}\">shared</text>",
-        y.saturating_add(9)
-    )?;
-    write!(
-        out,
-        "<path d=\"M170 {}v16\" class=\"tick\"/><text x=\"176\" y=\"{}\">marked</text>",
-        y.saturating_sub(3),
-        y.saturating_add(9)
-    )?;
-    write!(
-        out,
-        "<text x=\"4\" y=\"{}\">!23: refused; x19: ended faulted; m0 r1: message 0, round 1; dashed: its reply</text>\n",
-        y.saturating_add(24)
-    )?;
+    draw_signs(out, y)?;
     if shown.first == 0 && shown.last >= turns.saturating_sub(1) {
         return Ok(());
     }
-    write!(
-        out,
-        "<text x=\"4\" y=\"{}\">turns {} to {} of {} in all; at most {} are shown, chosen by --turns A..B</text>\n",
-        y.saturating_add(38),
-        shown.first,
-        shown.last,
-        turns,
-        PICTURE_LIMIT
-    )
+    show_text_at(out, 4, y.saturating_add(38), "")?;
+    show_size(out, "turns ", shown.first)?;
+    show_size(out, " to ", shown.last)?;
+    show_size(out, " of ", turns)?;
+    show_size(out, " in all; at most ", PICTURE_LIMIT)?;
+    out.push_str(" are shown, chosen by --turns A..B</text>\n")
 }
 
 // Appends the picture.

@@ -1,3 +1,4 @@
+use crate::words::{show_number, show_size};
 use serde_json::Value;
 use std::alloc::{AllocError, Global};
 
@@ -55,7 +56,7 @@ fn items_at(value: &Value, name: &str) -> Option<usize> {
 }
 
 // Appends what is bad of a member that has to be a number; says whether something is.
-fn show_number(
+fn show_member(
     alloc: Global,
     out: &mut String,
     value: &Value,
@@ -65,16 +66,23 @@ fn show_number(
         None => write!(out, "{} is missing", within.name)?,
         Some(member) if is_within(member, within) => return Ok(false),
         Some(member) => {
-            write!(out, "{} is ", within.name)?;
+            out.push_str(within.name)?;
+            out.push_str(" is ")?;
             show_value(alloc, out, member)?;
-            write!(
-                out,
-                ", and has to be a whole number {} to {}",
-                within.low, within.high
-            )?;
+            show_number(out, ", and has to be a whole number ", within.low)?;
+            show_number(out, " to ", within.high)?;
         }
     }
     Ok(true)
+}
+
+// Appends names, each after a space.
+fn show_names(out: &mut String, names: &[&'static str]) -> Result<(), AllocError> {
+    for name in names {
+        out.push_str(" ")?;
+        out.push_str(*name)?;
+    }
+    Ok(())
 }
 
 // Appends which of these members a part lacks, or that it has others; says whether it does.
@@ -93,18 +101,13 @@ fn show_members(
             return Ok(true);
         }
     }
-    if members.len() != names.len() {
-        write!(
-            out,
-            "it has {} members, and has to have exactly",
-            members.len()
-        )?;
-        for name in names {
-            write!(out, " {name}")?;
-        }
-        return Ok(true);
+    if members.len() == names.len() {
+        return Ok(false);
     }
-    Ok(false)
+    show_size(out, "it has ", members.len())?;
+    out.push_str(" members, and has to have exactly")?;
+    show_names(out, names)?;
+    Ok(true)
 }
 
 // Appends what is bad of a member that has to be a list of at most so many items; says whether something is.
@@ -117,7 +120,9 @@ fn show_list(
     match items_at(value, name) {
         None => write!(out, "{name} is no list")?,
         Some(count) if count > most => {
-            write!(out, "{name} has {count} items, and may have {most}")?;
+            out.push_str(name)?;
+            show_size(out, " has ", count)?;
+            show_size(out, " items, and may have ", most)?;
         }
         Some(_) => return Ok(false),
     }
@@ -198,8 +203,8 @@ fn show_token(alloc: Global, out: &mut String, value: &Value) -> Result<bool, Al
     Ok(
         show_members(out, value, &["cells", "law", "param", "gen"])?
             || show_cells(out, value)?
-            || show_number(alloc, out, value, range("param", 0, WHOLE))?
-            || show_number(alloc, out, value, range("gen", 0, 70_368_744_177_663))?,
+            || show_member(alloc, out, value, range("param", 0, WHOLE))?
+            || show_member(alloc, out, value, range("gen", 0, 70_368_744_177_663))?,
     )
 }
 
@@ -221,10 +226,10 @@ fn show_origin(out: &mut String, value: &Value, cpus: u64) -> Result<bool, Alloc
     if cpu < cpus && thread < 16 {
         return Ok(false);
     }
-    write!(
-        out,
-        "of is {cpu}, {thread}; there are {cpus} processors, with threads 0 to 15"
-    )?;
+    show_number(out, "of is ", cpu)?;
+    show_number(out, ", ", thread)?;
+    show_number(out, "; there are ", cpus)?;
+    out.push_str(" processors, with threads 0 to 15")?;
     Ok(true)
 }
 
@@ -238,7 +243,7 @@ fn show_message(
     Ok(
         show_members(out, value, &["of", "round"])?
             || show_origin(out, value, cpus)?
-            || show_number(alloc, out, value, range("round", 0, 2_251_799_813_685_247))?,
+            || show_member(alloc, out, value, range("round", 0, 2_251_799_813_685_247))?,
     )
 }
 
@@ -250,8 +255,8 @@ fn show_thread(
     cpus: u64,
 ) -> Result<bool, AllocError> {
     if show_members(out, value, &["cpu", "repeat", "steps"])?
-        || show_number(alloc, out, value, range("cpu", 0, cpus.saturating_sub(1)))?
-        || show_number(alloc, out, value, range("repeat", 1, 1_000_000))?
+        || show_member(alloc, out, value, range("cpu", 0, cpus.saturating_sub(1)))?
+        || show_member(alloc, out, value, range("repeat", 1, 1_000_000))?
         || show_list(out, value, "steps", 256)?
     {
         return Ok(true);
@@ -281,10 +286,8 @@ fn show_step_numbers(out: &mut String, value: &Value, limits: &[u64]) -> Result<
         let part = i.saturating_add(1);
         let number = number_at(value, part);
         if number.is_none() || number > Some(*limit) {
-            return write!(
-                out,
-                " has a part {part} that is no whole number 0 to {limit}"
-            );
+            show_size(out, " has a part ", part)?;
+            return show_number(out, " that is no whole number 0 to ", *limit);
         }
     }
     out.push_str(" is no step of version 1")
@@ -309,7 +312,10 @@ fn show_step(alloc: Global, out: &mut String, value: &Value) -> Result<(), Alloc
     };
     let wanted = limits.len().saturating_add(1);
     if count != wanted {
-        return write!(out, " has {count} parts, {word} has {wanted}");
+        show_size(out, " has ", count)?;
+        out.push_str(" parts, ")?;
+        out.push_str(word)?;
+        return show_size(out, " has ", wanted);
     }
     show_step_numbers(out, value, limits)
 }
@@ -324,9 +330,16 @@ fn show_name(out: &mut String, threads: &Value, place: usize) -> Result<(), Allo
         }
     }
     match cpu {
-        Some(cpu) => write!(out, "thread {cpu}.{number}: "),
-        None => write!(out, "thread {place} of the list: "),
+        Some(cpu) => {
+            show_number(out, "thread ", cpu)?;
+            show_size(out, ".", number)?;
+        }
+        None => {
+            show_size(out, "thread ", place)?;
+            out.push_str(" of the list")?;
+        }
     }
+    out.push_str(": ")
 }
 
 // The processor of a thread of the list.
@@ -342,31 +355,46 @@ fn cpus_of(whole: &Value) -> u64 {
     }
 }
 
-// Appends what is bad of an item of a list, and of which.
+// Appends what is bad of an item of a list of this name.
 fn show_item(
+    alloc: Global,
+    out: &mut String,
+    item: &Value,
+    name: &'static str,
+    cpus: u64,
+) -> Result<bool, AllocError> {
+    match name {
+        "tokens" => show_token(alloc, out, item),
+        "messages" => show_message(alloc, out, item, cpus),
+        _ => show_thread(alloc, out, item, cpus),
+    }
+}
+
+// The item at a place of a list of the whole.
+fn item_of<'a>(whole: &'a Value, name: &str, place: usize) -> Option<&'a Value> {
+    whole.get(name)?.get(place)
+}
+
+// Appends what is bad of an item of a list, and of which.
+fn show_item_at(
     alloc: Global,
     out: &mut String,
     whole: &Value,
     name: &'static str,
     place: usize,
 ) -> Result<bool, AllocError> {
-    let cpus = cpus_of(whole);
-    let Some(list) = whole.get(name) else {
-        return Ok(false);
-    };
-    let Some(item) = list.get(place) else {
+    let Some(item) = item_of(whole, name, place) else {
         return Ok(false);
     };
     if place >= 64 && name != "threads" {
         write!(out, "there are more than 64 {name}")?;
         return Ok(true);
     }
-    write!(out, "item {place} of {name}: ")?;
-    match name {
-        "tokens" => show_token(alloc, out, item),
-        "messages" => show_message(alloc, out, item, cpus),
-        _ => show_thread(alloc, out, item, cpus),
-    }
+    show_size(out, "item ", place)?;
+    out.push_str(" of ")?;
+    out.push_str(name)?;
+    out.push_str(": ")?;
+    show_item(alloc, out, item, name, cpus_of(whole))
 }
 
 // Step j of thread n.
@@ -404,13 +432,13 @@ pub fn show_place(
     let place = place as usize;
     let told = match place {
         1 => show_whole(out, whole)?,
-        2 => show_number(alloc, out, whole, range("version", 1, 1))?,
-        3 => show_number(alloc, out, whole, range("turns", 1, 1_000_000))?,
-        4 => show_number(alloc, out, whole, range("idle", 1, 100_000_000))?,
-        5 => show_number(alloc, out, whole, range("cpus", 1, 8))?,
-        1000..=1999 => show_item(alloc, out, whole, "tokens", place - 1000)?,
-        2000..=2999 => show_item(alloc, out, whole, "messages", place - 2000)?,
-        3000..=3999 => show_item(alloc, out, whole, "threads", place - 3000)?,
+        2 => show_member(alloc, out, whole, range("version", 1, 1))?,
+        3 => show_member(alloc, out, whole, range("turns", 1, 1_000_000))?,
+        4 => show_member(alloc, out, whole, range("idle", 1, 100_000_000))?,
+        5 => show_member(alloc, out, whole, range("cpus", 1, 8))?,
+        1000..=1999 => show_item_at(alloc, out, whole, "tokens", place - 1000)?,
+        2000..=2999 => show_item_at(alloc, out, whole, "messages", place - 2000)?,
+        3000..=3999 => show_item_at(alloc, out, whole, "threads", place - 3000)?,
         100_000.. => {
             let at = place - 100_000;
             show_step_at(alloc, out, whole, at / 1000, at % 1000)?

@@ -1,11 +1,14 @@
-use crate::events::{Subject, show_event, stood_before, subject_of};
+use crate::events::{show_event, stood_before};
+use crate::scenes::Scene;
 use crate::stories::{Doing, Outcome, Story, doing_after};
 use crate::tokens::Runners;
-use crate::words::{show_breach, show_numbers};
+use crate::tries::{held_after, taker};
+use crate::words::{show_breach, show_number};
 use lwkt_base::{Answer, Ask, Fault, MsgId, ThreadId, ThreadState, TokId};
 use lwkt_core::{Event, State};
 use lwkt_report::ThreadLine;
 use lwkt_script::{Script, ThreadSpec};
+use lwkt_trace::words::{Subject, show_numbers, subject_of};
 use lwkt_verdict::Poll;
 use std::alloc::{AllocError, Global};
 
@@ -46,22 +49,15 @@ fn story_of(alloc: Global, script: &Script, line: &ThreadLine) -> Story {
     Story::new(alloc, line.id, steps, repeat, line.state)
 }
 
-// Whether an ask stores what its thread says, so that a write is its own.
-fn stores(ask: Option<Ask>) -> bool {
-    matches!(ask, Some(Ask::Write(..)) | Some(Ask::Add(..)))
-}
-
-// Whether some event gives back a reference.
-fn has_give(part: &[Event]) -> bool {
-    for event in part {
-        if let Event::GiveOne { .. }
-        | Event::GiveClean { .. }
-        | Event::GiveWritten { .. } = *event
-        {
-            return true;
-        }
+// Whether the ask of a turn stores what its thread says, so that a write is its own.
+fn stores(turn: Option<&Scene>) -> bool {
+    let Some(scene) = turn else {
+        return false;
+    };
+    match scene.poll {
+        Some(poll) => matches!(poll.ask, Ask::Write(..) | Ask::Add(..)),
+        None => false,
     }
-    false
 }
 
 impl Replay {
@@ -117,14 +113,10 @@ impl Replay {
         let Some(place) = self.place_of(id) else {
             return false;
         };
-        let Some(story) = self.stories.get_mut(place) else {
-            return false;
-        };
-        if story.doing == Doing::WaitsForPort || story.doing == Doing::WaitsForReply(msg) {
-            story.doing = Doing::WantsList;
-            return true;
+        match self.stories.get_mut(place) {
+            Some(story) => story.wake(msg),
+            None => false,
         }
-        false
     }
 
     /// Lets those go on that the mail of a turn wakes, and says whether mail came that wakes nobody: what was asked for.
@@ -141,38 +133,12 @@ impl Replay {
         asked_for
     }
 
-    // The only thread of a processor that wants its list.
-    fn only_ready(&self, cpu: u8) -> Option<ThreadId> {
-        let mut found = None;
-        for story in &self.stories {
-            if story.id.cpu.0 == cpu && story.doing == Doing::WantsList {
-                if found.is_some() {
-                    return None;
-                }
-                found = Some(story.id);
-            }
-        }
-        found
+    // Whether a processor runs a thread between two turns.
+    fn is_running(&self, cpu: u8) -> bool {
+        matches!(self.runners.get(usize::from(cpu)), Some(Some(_)))
     }
 
-    /// Notes the thread for which a processor holds tokens during a turn, where that is sure.
-    pub fn note_runner(&mut self, cpu: u8, poll: &Option<Poll>, part: &[Event]) {
-        let before = self.runners.get(usize::from(cpu)).copied().unwrap_or(None);
-        let only = self.only_ready(cpu);
-        let runner = match poll {
-            None => only,
-            Some(poll) => {
-                let id = Some(poll.thread);
-                if before == id || only == id || !has_give(part) {
-                    id
-                } else {
-                    None
-                }
-            }
-        };
-        self.set_runner(cpu, runner);
-    }
-
+    // Notes the thread that a processor runs, or takes tokens for.
     fn set_runner(&mut self, cpu: u8, runner: Option<ThreadId>) {
         if let Some(slot) = self.runners.get_mut(usize::from(cpu)) {
             *slot = runner;
@@ -184,35 +150,82 @@ impl Replay {
         let Some(token) = self.state.token(tok) else {
             return Ok(());
         };
-        write!(out, "token {}: ", tok.0)?;
+        show_number(out, "token ", u64::from(tok.0))?;
+        out.push_str(": ")?;
         show_breach(out, token.law, token.param, token.row.as_slice())?;
         out.push_str("; first row")?;
         show_numbers(out, token.first.as_slice())?;
         out.push_str(" was stored again")
     }
 
-    /// Makes the events of a turn happen, in which a thread asked this, and appends each by what it changed. What is told of
-    /// a section that broke its law goes into `why` too.
+    // Notes for whom an event's processor holds tokens, which so far has so many references of this turn; says how many it
+    // then has.
+    fn note_taker(&mut self, scene: &Scene, place: usize, event: &Event, held: usize) -> usize {
+        if held == 0 && event.adds_reference() {
+            let found = taker(self, scene, place);
+            self.set_runner(scene.cpu, found);
+        }
+        held_after(held, event)
+    }
+
+    // If an event stores again a cell of a section that broke its law, notes that and tells it.
+    fn note_broken(
+        &self,
+        why: &mut String,
+        event: &Event,
+        stores: bool,
+        broken: Option<TokId>,
+    ) -> Result<Option<TokId>, AllocError> {
+        match *event {
+            Event::Write { tok, .. } if !stores && broken != Some(tok) => {
+                why.clear();
+                self.show_broken(why, tok)?;
+                Ok(Some(tok))
+            }
+            _ => Ok(broken),
+        }
+    }
+
+    /// Makes events happen, those of a turn or of the stop, and appends each by what it changed. What is told of a section
+    /// that broke its law goes into `why` too.
     pub fn play(
         &mut self,
         out: &mut String,
         why: &mut String,
         part: &[Event],
-        asked: Option<Ask>,
+        turn: Option<&Scene>,
     ) -> Result<bool, AllocError> {
         let mut broken = None;
-        for event in part {
-            if let Event::Write { tok, .. } = *event {
-                if !stores(asked) && broken != Some(tok) {
-                    broken = Some(tok);
-                    why.truncate(0);
-                    self.show_broken(why, tok)?;
-                    out.push_str("; ")?;
-                    out.push_str(why.as_str())?;
-                }
+        let mut held = 0usize;
+        let stores = stores(turn);
+        let runs = match turn {
+            Some(scene) => self.is_running(scene.cpu),
+            None => true,
+        };
+        for (place, event) in part.iter().enumerate() {
+            let told = self.note_broken(why, event, stores, broken)?;
+            if told != broken {
+                broken = told;
+                out.push_str("; ")?;
+                out.push_str(why.as_str())?;
+            }
+            match turn {
+                Some(scene) if !runs => held = self.note_taker(scene, place, event, held),
+                _ => {}
             }
             out.push_str("; ")?;
             self.play_one(out, event)?;
+        }
+        Ok(broken.is_some())
+    }
+
+    /// Makes the events of a turn happen, which isn't shown. What is told of a section that broke its law goes into `why`.
+    pub fn pass(&mut self, why: &mut String, scene: &Scene) -> Result<bool, AllocError> {
+        let mut broken = None;
+        let stores = stores(Some(scene));
+        for event in scene.part {
+            broken = self.note_broken(why, event, stores, broken)?;
+            let _ = self.state.step(event);
         }
         Ok(broken.is_some())
     }
@@ -241,8 +254,8 @@ impl Replay {
         }
     }
 
-    /// Notes what a poll came to, and of a section that broke its law what is said of it.
-    pub fn note(
+    // Notes what a poll came to, and of a section that broke its law what is said of it.
+    fn note_poll(
         &mut self,
         alloc: Global,
         poll: &Poll,
@@ -250,12 +263,11 @@ impl Replay {
         why: &str,
     ) -> Result<(), AllocError> {
         self.note_sending(poll);
-        let runner = if outcome.doing == Doing::Runs {
-            Some(poll.thread)
-        } else {
-            None
-        };
-        self.set_runner(poll.thread.cpu.0, runner);
+        let runs = outcome.doing == Doing::Runs;
+        self.set_runner(
+            poll.thread.cpu.0,
+            if runs { Some(poll.thread) } else { None },
+        );
         let Some(place) = self.place_of(poll.thread) else {
             return Ok(());
         };
@@ -265,41 +277,52 @@ impl Replay {
         }
     }
 
-    /// Ends the threads of a processor that can't have their lists, since a token on them is at its last generation: in a
-    /// turn that ran no thread.
-    pub fn end_worn(&mut self, cpu: u8, turn: usize) {
-        for place in 0..self.stories.len() {
-            let worn = match self.stories.get(place) {
-                Some(story) => {
-                    story.id.cpu.0 == cpu
-                        && story.end == ThreadState::Faulted(Fault::Worn)
-                        && story.doing == Doing::WantsList
-                        && story.worn(&self.state).is_some()
-                }
-                None => false,
-            };
-            if worn {
-                if let Some(story) = self.stories.get_mut(place) {
-                    story.doing = Doing::Ended;
-                    story.ended_in = Some(turn);
-                }
+    /// Notes what a turn came to, and of a section that broke its law what is said of it.
+    pub fn note(
+        &mut self,
+        alloc: Global,
+        scene: &Scene,
+        outcome: Option<Outcome>,
+        why: &str,
+    ) -> Result<(), AllocError> {
+        let Some(outcome) = outcome else {
+            return Ok(());
+        };
+        match &scene.poll {
+            Some(poll) => self.note_poll(alloc, poll, outcome, why),
+            None => Ok(()),
+        }
+    }
+
+    // Ends the threads of a processor that can't have their lists, since a token on them is at its last generation: in a
+    // turn that ran no thread.
+    fn end_worn(&mut self, cpu: u8, turn: usize) {
+        self.set_runner(cpu, None);
+        for story in self.stories.iter_mut() {
+            if story.id.cpu.0 == cpu {
+                story.end_worn(&self.state, turn);
             }
         }
     }
 
-    /// What a poll comes to: what its thread does next.
-    pub fn outcome(poll: &Poll, part: &[Event], turn: usize, mail: bool, broken: bool) -> Outcome {
-        let doing = doing_after(poll, part, mail);
-        let doing = if broken && !matches!(poll.ask, Ask::Rel(_)) {
+    /// What the events of a turn come to, which have happened: what the polled thread does next, if there is one. Where there
+    /// is none, threads that can't have their lists end.
+    pub fn outcome(&mut self, scene: &Scene, mail: bool, broken: bool) -> Option<Outcome> {
+        let Some(poll) = scene.poll else {
+            self.end_worn(scene.cpu, scene.number);
+            return None;
+        };
+        let ends = broken && !matches!(poll.ask, Ask::Rel(_));
+        let doing = if ends {
             Doing::Ended
         } else {
-            doing
+            doing_after(&poll, scene.part, mail)
         };
-        Outcome {
-            turn,
+        Some(Outcome {
+            turn: scene.number,
             doing,
             broken,
-        }
+        })
     }
 }
 

@@ -4,7 +4,9 @@ ghost use Rattle.lwkt_scenes.specs.Shown.{EndsInReport};
 use crate::ends::show_ends;
 use crate::reels::{Chosen, Reel};
 use crate::replays::Replay;
-use crate::turns::{part_of, scene_of, show_turn};
+use crate::scenes::{part_of, scene_of};
+use crate::turns::{pass_turn, show_turn};
+use crate::words::show_size;
 use lwkt_base::Fault;
 use lwkt_report::report;
 use std::alloc::{AllocError, Global};
@@ -16,13 +18,14 @@ pub const TURN_LIMIT: usize = 10_000;
 fn show_choice(out: &mut String, chosen: Chosen, turns: usize) -> Result<(), AllocError> {
     let end = last_shown(chosen);
     if chosen.first > 0 {
-        write!(out, "turns before turn {} are not shown\n", chosen.first)?;
+        show_size(out, "turns before turn ", chosen.first)?;
+        out.push_str(" are not shown\n")?;
     }
     if end < turns.saturating_sub(1) {
-        write!(
-            out,
-            "turns behind turn {end} are not shown, of {turns} in all; at most {TURN_LIMIT} are, chosen by --turns A..B\n"
-        )?;
+        show_size(out, "turns behind turn ", end)?;
+        show_size(out, " are not shown, of ", turns)?;
+        show_size(out, " in all; at most ", TURN_LIMIT)?;
+        out.push_str(" are, chosen by --turns A..B\n")?;
     }
     Ok(())
 }
@@ -32,7 +35,7 @@ fn last_shown(chosen: Chosen) -> usize {
     chosen.last.min(chosen.first.saturating_add(TURN_LIMIT - 1))
 }
 
-// Appends the lines of the turns that are shown.
+// Makes all turns happen, appends the lines of those that are shown, and says where the events of the stop begin.
 fn show_turns(
     alloc: Global,
     out: &mut String,
@@ -41,14 +44,13 @@ fn show_turns(
     chosen: Chosen,
 ) -> Result<usize, AllocError> {
     let mut from = 0usize;
-    let mut line = String::new(alloc);
     let end = last_shown(chosen);
     for (number, turn) in run.turns.iter().enumerate() {
         let scene = scene_of(run, number, turn, from);
-        line.clear();
-        show_turn(alloc, replay, &mut line, &scene)?;
         if chosen.first <= number && number <= end {
-            out.push_str(line.as_str())?;
+            show_turn(alloc, replay, out, &scene)?;
+        } else {
+            pass_turn(alloc, replay, &scene)?;
         }
         from = from.saturating_add(usize::from(turn.events));
     }

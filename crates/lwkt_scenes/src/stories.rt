@@ -1,8 +1,8 @@
 use crate::events::show_owner;
 use crate::tokens::{Runners, excludes, show_holders, show_word};
-use crate::words::{mode_word, show_thread};
+use crate::words::{mode_word, show_number, show_thread};
 use lwkt_base::{
-    Answer, Ask, LAST_GENERATION, Mode, MsgId, Ref, ThreadId, ThreadState, TokId, TokList,
+    Answer, Ask, Fault, LAST_GENERATION, Mode, MsgId, Ref, ThreadId, ThreadState, TokId, TokList,
 };
 use lwkt_core::{Event, State, Token};
 use lwkt_verdict::{Poll, entry_of};
@@ -125,6 +125,26 @@ impl Story {
         }
     }
 
+    /// If the thread waits for what a message brings, lets it go on; says whether it did.
+    pub fn wake(&mut self, msg: MsgId) -> bool {
+        let waits = self.doing == Doing::WaitsForPort || self.doing == Doing::WaitsForReply(msg);
+        if waits {
+            self.doing = Doing::WantsList;
+        }
+        waits
+    }
+
+    /// If the thread can't have its list, since a token on it is at its last generation, ends it in this turn.
+    pub fn end_worn(&mut self, state: &State, turn: usize) {
+        let is_worn = self.end == ThreadState::Faulted(Fault::Worn)
+            && self.doing == Doing::WantsList
+            && self.worn(state).is_some();
+        if is_worn {
+            self.doing = Doing::Ended;
+            self.ended_in = Some(turn);
+        }
+    }
+
     /// A thread before its first poll, that makes so many steps so many times, and ends so.
     pub fn new(alloc: Global, id: ThreadId, steps: u64, repeat: u64, end: ThreadState) -> Self {
         Story {
@@ -200,9 +220,10 @@ impl Story {
         if self.steps == 0 || polls / self.steps >= self.repeat {
             return out.push_str("after its steps");
         }
-        write!(out, "step {}", polls % self.steps)?;
+        show_number(out, "step ", polls % self.steps)?;
         if self.repeat > 1 {
-            write!(out, " of time {}", (polls / self.steps).saturating_add(1))?;
+            let time = (polls / self.steps).saturating_add(1);
+            show_number(out, " of time ", time)?;
         }
         Ok(())
     }
@@ -241,12 +262,9 @@ impl Story {
         let Some(wanted) = self.lacks(state) else {
             return out.push_str("is ready");
         };
-        write!(
-            out,
-            "waits for token {} {}",
-            wanted.tok.0,
-            mode_word(wanted.mode)
-        )?;
+        show_number(out, "waits for token ", u64::from(wanted.tok.0))?;
+        out.push_str(" ")?;
+        out.push_str(mode_word(wanted.mode))?;
         match state.token(wanted.tok) {
             Some(token) => show_hindrance(out, token, runners),
             None => Ok(()),
@@ -279,7 +297,7 @@ impl Story {
             Doing::WantsList => self.show_want(out, state, runners),
             Doing::WaitsForPort => out.push_str("waits for its port, which has nothing"),
             Doing::WaitsForReply(msg) => {
-                write!(out, "waits for the reply to message {}", msg.0)?;
+                show_number(out, "waits for the reply to message ", u64::from(msg.0))?;
                 match state.message(msg) {
                     Some(message) => {
                         out.push_str(", which is ")?;

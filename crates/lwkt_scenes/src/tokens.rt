@@ -1,4 +1,4 @@
-use crate::words::{mode_word, show_thread};
+use crate::words::{mode_word, show_number, show_thread};
 use lwkt_base::{CpuId, Held, LAST_GENERATION, Mode, Ref, ThreadId};
 use lwkt_core::Token;
 use std::alloc::AllocError;
@@ -34,19 +34,12 @@ pub fn word_of(token: &Token) -> u64 {
 
 /// Appends the parts of a token's word: `word 1 (exclusive bit 1, mark 0, count 0, generation 0)`.
 pub fn show_word(out: &mut String, token: &Token) -> Result<(), AllocError> {
-    write!(
-        out,
-        "word {} (exclusive bit {}, mark {}, ",
-        word_of(token),
-        u8::from(!token.is_open()),
-        u8::from(token.mark)
-    )?;
-    write!(
-        out,
-        "count {}, generation {})",
-        count_of(token),
-        token.generation
-    )
+    show_number(out, "word ", word_of(token))?;
+    show_number(out, " (exclusive bit ", u64::from(!token.is_open()))?;
+    show_number(out, ", mark ", u64::from(token.mark))?;
+    show_number(out, ", count ", count_of(token))?;
+    show_number(out, ", generation ", token.generation)?;
+    out.push_str(")")
 }
 
 // Appends who holds for a processor: the thread that it runs, if that is known.
@@ -65,7 +58,9 @@ pub fn show_holders(out: &mut String, token: &Token, runners: &Runners) -> Resul
             if some {
                 out.push_str(", ")?;
             } else {
-                write!(out, "held {} by ", mode_word(mode))?;
+                out.push_str("held ")?;
+                out.push_str(mode_word(mode))?;
+                out.push_str(" by ")?;
             }
             show_runner(out, cpu, runners)?;
             some = true;

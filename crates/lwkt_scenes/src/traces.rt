@@ -1,15 +1,16 @@
 use crate::reels::Reel;
-use crate::words::law_name;
+use crate::words::{show_behind, show_number};
 use lwkt_base::{Fault, MsgEnd, MsgSpec, Owner, TokSpec};
 use lwkt_core::Event;
 use lwkt_report::{Closing, TokenLine};
+use lwkt_trace::words::{Subject, event_word, law_name, subject_of};
 use std::alloc::{AllocError, Global};
 
 // Appends numbers as a JSON list.
 fn show_list(out: &mut String, numbers: &[u64]) -> Result<(), AllocError> {
     let mut before = "[";
     for number in numbers {
-        write!(out, "{before}{number}")?;
+        show_number(out, before, *number)?;
         before = ",";
     }
     out.push_str(if numbers.is_empty() { "[]" } else { "]" })
@@ -19,97 +20,60 @@ fn show_list(out: &mut String, numbers: &[u64]) -> Result<(), AllocError> {
 fn show_token(out: &mut String, spec: &TokSpec) -> Result<(), AllocError> {
     out.push_str("{\"cells\":")?;
     show_list(out, spec.cells.as_slice())?;
-    write!(
-        out,
-        ",\"law\":\"{}\",\"param\":{},\"gen\":{}",
-        law_name(spec.law),
-        spec.param,
-        spec.generation
-    )?;
+    out.push_str(",\"law\":\"")?;
+    out.push_str(law_name(spec.law))?;
+    show_number(out, "\",\"param\":", spec.param)?;
+    show_number(out, ",\"gen\":", spec.generation)?;
     out.push_str("}")
 }
 
 // Appends a message of the opening.
 fn show_message(out: &mut String, spec: &MsgSpec) -> Result<(), AllocError> {
-    out.push_str("{\"of\":[")?;
-    write!(
-        out,
-        "{},{}],\"round\":{}",
-        spec.origin.cpu.0, spec.origin.thread, spec.round
-    )?;
+    show_number(out, "{\"of\":[", u64::from(spec.origin.cpu.0))?;
+    show_number(out, ",", u64::from(spec.origin.thread))?;
+    show_number(out, "],\"round\":", spec.round)?;
     out.push_str("}")
-}
-
-// The word of an event in a trace.
-fn event_word(event: &Event) -> &'static str {
-    match event {
-        Event::Load { .. } => "load",
-        Event::Take { .. } => "take",
-        Event::Share { .. } => "share",
-        Event::Again { .. } => "again",
-        Event::Mark { .. } => "mark",
-        Event::GiveOne { .. } => "give_one",
-        Event::GiveClean { .. } => "give_clean",
-        Event::GiveWritten { .. } => "give_written",
-        Event::Read { .. } => "read",
-        Event::Write { .. } => "write",
-        Event::Send { .. } => "send",
-        Event::TakeMsg { .. } => "take_msg",
-        Event::DropMsg { .. } => "drop",
-        Event::Reply { .. } => "reply",
-        Event::Reap { .. } => "reap",
-        Event::Abort { .. } => "abort",
-    }
 }
 
 // Appends what an event is at, and what else it says.
 fn show_event_numbers(out: &mut String, event: &Event) -> Result<(), AllocError> {
+    let place = match subject_of(event) {
+        Subject::Token(tok) => u64::from(tok.0),
+        Subject::Message(msg) => u64::from(msg.0),
+    };
     match *event {
-        Event::Load { tok, .. }
-        | Event::Take { tok, .. }
-        | Event::Share { tok, .. }
-        | Event::Again { tok, .. }
-        | Event::Mark { tok, .. }
-        | Event::GiveOne { tok, .. }
-        | Event::GiveClean { tok, .. }
-        | Event::GiveWritten { tok, .. } => write!(out, ",{}", tok.0),
-        Event::Read {
-            tok,
-            cell,
-            value,
-            ..
+        Event::Read { cell, value, .. } | Event::Write { cell, value, .. } => {
+            show_behind(out, &[place, u64::from(cell), value])
         }
-        | Event::Write {
-            tok,
-            cell,
-            value,
-            ..
-        } => { write!(out, ",{},{},{}", tok.0, cell, value) }
-        Event::Send { msg, to, round, .. } => write!(out, ",{},{},{}", msg.0, to.0, round),
-        Event::TakeMsg { msg, round, .. } => write!(out, ",{},{}", msg.0, round),
-        Event::DropMsg { msg, .. }
-        | Event::Reply { msg, .. }
-        | Event::Reap { msg, .. }
-        | Event::Abort { msg, .. } => write!(out, ",{}", msg.0),
+        Event::Send { to, round, .. } => show_behind(out, &[place, u64::from(to.0), round]),
+        Event::TakeMsg { round, .. } => show_behind(out, &[place, round]),
+        _ => show_behind(out, &[place]),
     }
 }
 
 // Appends an event.
 fn show_event(out: &mut String, event: &Event) -> Result<(), AllocError> {
-    write!(out, "[\"{}\",{}", event_word(event), event.cpu().0)?;
+    out.push_str("[\"")?;
+    out.push_str(event_word(event))?;
+    show_number(out, "\",", u64::from(event.cpu().0))?;
     show_event_numbers(out, event)?;
     out.push_str("]")
 }
 
 // Appends where a message is, and its round.
 fn show_end(out: &mut String, end: &MsgEnd) -> Result<(), AllocError> {
-    match end.state {
-        Owner::Rest { origin } => write!(out, "[\"rest\",{}", origin.0)?,
-        Owner::Out { origin, target } => write!(out, "[\"out\",{},{}", origin.0, target.0)?,
-        Owner::With { origin, target } => write!(out, "[\"with\",{},{}", origin.0, target.0)?,
-        Owner::Back { origin, target } => write!(out, "[\"back\",{},{}", origin.0, target.0)?,
+    let (word, origin, target) = match end.state {
+        Owner::Rest { origin } => ("[\"rest\",", origin, None),
+        Owner::Out { origin, target } => ("[\"out\",", origin, Some(target)),
+        Owner::With { origin, target } => ("[\"with\",", origin, Some(target)),
+        Owner::Back { origin, target } => ("[\"back\",", origin, Some(target)),
+    };
+    show_number(out, word, u64::from(origin.0))?;
+    if let Some(target) = target {
+        show_number(out, ",", u64::from(target.0))?;
     }
-    write!(out, ",{}]", end.round)
+    show_number(out, ",", end.round)?;
+    out.push_str("]")
 }
 
 // What stands between the parts of a list, before the part of this number.
@@ -119,11 +83,8 @@ fn between(number: usize) -> &'static str {
 
 // Appends the opening.
 fn show_opening(out: &mut String, run: &Reel) -> Result<(), AllocError> {
-    write!(
-        out,
-        "\"version\":1,\"cpus\":{},\n\"tokens\":[",
-        run.script.cpus
-    )?;
+    show_number(out, "\"version\":1,\"cpus\":", u64::from(run.script.cpus))?;
+    out.push_str(",\n\"tokens\":[")?;
     for (number, spec) in run.script.tokens.as_slice().iter().enumerate() {
         out.push_str(between(number))?;
         show_token(out, spec)?;
@@ -153,7 +114,7 @@ fn show_row(out: &mut String, line: &TokenLine) -> Result<(), AllocError> {
 
 // Appends the generation of a token at the close.
 fn show_generation(out: &mut String, line: &TokenLine) -> Result<(), AllocError> {
-    write!(out, "{}", line.generation)
+    show_number(out, "", line.generation)
 }
 
 // Appends the tallies of a token at the close.

@@ -1,34 +1,10 @@
-use crate::reels::Reel;
 use crate::replays::Replay;
+use crate::scenes::Scene;
 use crate::stories::{Doing, Outcome, Story};
-use crate::words::{show_answer, show_ask, show_fault, show_thread};
+use crate::words::{show_answer, show_ask, show_fault, show_number, show_size, show_thread};
 use lwkt_base::ThreadState;
-use lwkt_core::Event;
-use lwkt_verdict::turns::poll_of;
-use lwkt_verdict::{Poll, Turn};
+use lwkt_verdict::Poll;
 use std::alloc::{AllocError, Global};
-
-/// One turn of a run: its number, its processor, what it asked, and its events.
-#[derive(Clone, Copy)]
-pub struct Scene<'a> {
-    pub number: usize,
-    pub round: usize,
-    pub cpu: u8,
-    pub poll: Option<Poll>,
-    pub part: &'a [Event],
-}
-
-/// At most so many events from a place on.
-pub fn part_of(events: &[Event], from: usize, count: usize) -> &[Event] {
-    if from > events.len() {
-        return &[];
-    }
-    let rest = &events[from..];
-    if count > rest.len() {
-        return rest;
-    }
-    &rest[..count]
-}
 
 // Appends the answer to an ask that doesn't end its thread, and whether the thread waits before it has it.
 fn show_outcome(out: &mut String, poll: &Poll, outcome: Outcome) -> Result<(), AllocError> {
@@ -121,16 +97,20 @@ fn show_idle(out: &mut String, replay: &Replay, scene: &Scene) -> Result<(), All
     out.push_str(": no thread is left")
 }
 
-// Makes a turn without a poll happen, and appends its line.
-fn idle_turn(
-    replay: &mut Replay,
+// Appends what the polled thread of a turn asked, or why no thread runs.
+fn show_doing(
     out: &mut String,
+    replay: &Replay,
     scene: &Scene,
-    events: &str,
+    outcome: Option<Outcome>,
 ) -> Result<(), AllocError> {
-    replay.end_worn(scene.cpu, scene.number);
-    show_idle(out, replay, scene)?;
-    out.push_str(events)
+    let Some(outcome) = outcome else {
+        return show_idle(out, replay, scene);
+    };
+    match &scene.poll {
+        Some(poll) => show_poll(out, replay, poll, outcome),
+        None => Ok(()),
+    }
 }
 
 /// Makes a turn happen, and appends its line.
@@ -140,45 +120,25 @@ pub fn show_turn(
     out: &mut String,
     scene: &Scene,
 ) -> Result<(), AllocError> {
-    write!(
-        out,
-        "turn {}, round {}, processor {}",
-        scene.number, scene.round, scene.cpu
-    )?;
     let mail = replay.take_mail(scene.part);
-    replay.note_runner(scene.cpu, &scene.poll, scene.part);
     let mut events = String::new(alloc);
     let mut why = String::new(alloc);
-    let asked = match scene.poll {
-        Some(poll) => Some(poll.ask),
-        None => None,
-    };
-    let broken = replay.play(&mut events, &mut why, scene.part, asked)?;
-    match scene.poll {
-        None => idle_turn(replay, out, scene, events.as_str())?,
-        Some(poll) => {
-            let outcome = Replay::outcome(&poll, scene.part, scene.number, mail, broken);
-            show_poll(out, replay, &poll, outcome)?;
-            out.push_str(events.as_str())?;
-            replay.note(alloc, &poll, outcome, why.as_str())?;
-        }
-    }
-    out.push_str("\n")
+    let broken = replay.play(&mut events, &mut why, scene.part, Some(scene))?;
+    let outcome = replay.outcome(scene, mail, broken);
+    show_size(out, "turn ", scene.number)?;
+    show_size(out, ", round ", scene.round)?;
+    show_number(out, ", processor ", u64::from(scene.cpu))?;
+    show_doing(out, replay, scene, outcome)?;
+    out.push_str(events.as_str())?;
+    out.push_str("\n")?;
+    replay.note(alloc, scene, outcome, why.as_str())
 }
 
-/// The turn of a number, whose events begin at a place of the trace.
-pub fn scene_of<'a>(run: &Reel<'a>, number: usize, turn: &Turn, from: usize) -> Scene<'a> {
-    let cpus = usize::from(run.script.cpus);
-    let (round, cpu) = if cpus == 0 {
-        (0, 0)
-    } else {
-        (number / cpus, number % cpus)
-    };
-    Scene {
-        number,
-        round,
-        cpu: u8::try_from(cpu).unwrap_or(0),
-        poll: poll_of(run.polls, turn),
-        part: part_of(run.trace, from, usize::from(turn.events)),
-    }
+/// Makes a turn happen that isn't shown.
+pub fn pass_turn(alloc: Global, replay: &mut Replay, scene: &Scene) -> Result<(), AllocError> {
+    let mail = replay.take_mail(scene.part);
+    let mut why = String::new(alloc);
+    let broken = replay.pass(&mut why, scene)?;
+    let outcome = replay.outcome(scene, mail, broken);
+    replay.note(alloc, scene, outcome, why.as_str())
 }

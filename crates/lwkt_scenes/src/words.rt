@@ -1,20 +1,21 @@
-use lwkt_base::{Answer, Ask, Fault, Item, Law, Mode, ThreadId};
+use lwkt_base::{Answer, Ask, Call, Fault, Item, Law, Mode, MsgId, ThreadId};
+use lwkt_trace::words::show_numbers;
 use std::alloc::AllocError;
 
 /// Appends a thread by its processor and its number: `1.0`.
 pub fn show_thread(out: &mut String, id: ThreadId) -> Result<(), AllocError> {
-    write!(out, "{}.{}", id.cpu.0, id.thread)
+    show_number(out, "", u64::from(id.cpu.0))?;
+    show_number(out, ".", u64::from(id.thread))
 }
 
-/// Appends numbers, each after a space, or ` -` where there are none.
-pub fn show_numbers(out: &mut String, numbers: &[u64]) -> Result<(), AllocError> {
-    if numbers.is_empty() {
-        return out.push_str(" -");
-    }
-    for number in numbers {
-        write!(out, " {number}")?;
-    }
-    Ok(())
+/// Appends a text, and a number behind it.
+pub fn show_number(out: &mut String, before: &str, number: u64) -> Result<(), AllocError> {
+    write!(out, "{before}{number}")
+}
+
+/// Appends a text, and a number of parts behind it.
+pub fn show_size(out: &mut String, before: &str, number: usize) -> Result<(), AllocError> {
+    write!(out, "{before}{number}")
 }
 
 /// The word of an ask, as in a script.
@@ -41,57 +42,102 @@ pub fn ask_word(ask: Ask) -> &'static str {
     }
 }
 
-// Appends the numbers of an ask, each after a comma.
-fn show_ask_numbers(out: &mut String, ask: Ask) -> Result<(), AllocError> {
+/// Appends numbers, each after a comma.
+pub fn show_behind(out: &mut String, numbers: &[u64]) -> Result<(), AllocError> {
+    for number in numbers {
+        show_number(out, ",", *number)?;
+    }
+    Ok(())
+}
+
+// Appends the numbers of an ask for a token.
+fn show_token_ask(out: &mut String, ask: Ask) -> Result<(), AllocError> {
     match ask {
         Ask::Get(tok) | Ask::GetShared(tok) | Ask::TryGet(tok) | Ask::Rel(tok) => {
-            write!(out, ",{}", tok.0)
+            show_behind(out, &[u64::from(tok.0)])
         }
-        Ask::Read(tok, cell) => write!(out, ",{},{}", tok.0, cell),
-        Ask::Write(tok, cell, value) => write!(out, ",{},{},{}", tok.0, cell, value),
-        Ask::Add(tok, more) => write!(out, ",{},{}", tok.0, more),
+        Ask::Read(tok, cell) => show_behind(out, &[u64::from(tok.0), u64::from(cell)]),
+        Ask::Write(tok, cell, value) => {
+            show_behind(out, &[u64::from(tok.0), u64::from(cell), value])
+        }
+        Ask::Add(tok, more) => show_behind(out, &[u64::from(tok.0), more]),
+        _ => Ok(()),
+    }
+}
+
+// Appends a message, a thread and a call.
+fn show_call(out: &mut String, msg: MsgId, to: ThreadId, call: Call) -> Result<(), AllocError> {
+    show_behind(
+        out,
+        &[
+            u64::from(msg.0),
+            u64::from(to.cpu.0),
+            u64::from(to.thread),
+            u64::from(call.op),
+            call.arg,
+        ],
+    )
+}
+
+// Appends the numbers of an ask.
+fn show_ask_numbers(out: &mut String, ask: Ask) -> Result<(), AllocError> {
+    match ask {
         Ask::Send(msg, to, call, flags) => {
-            write!(out, ",{},{},{}", msg.0, to.cpu.0, to.thread)?;
+            show_call(out, msg, to, call)?;
             let flags = u8::from(flags.dropable) + 2 * u8::from(flags.abortable);
-            write!(out, ",{},{},{}", call.op, call.arg, flags)
+            show_behind(out, &[u64::from(flags)])
         }
-        Ask::Do(msg, to, call) => {
-            write!(out, ",{},{},{}", msg.0, to.cpu.0, to.thread)?;
-            write!(out, ",{},{}", call.op, call.arg)
+        Ask::Do(msg, to, call) => show_call(out, msg, to, call),
+        Ask::Reply(msg, error, outcome) => {
+            show_behind(out, &[u64::from(msg.0), u64::from(error), outcome])
         }
-        Ask::Reply(msg, error, outcome) => write!(out, ",{},{},{}", msg.0, error, outcome),
-        Ask::Abort(msg) | Ask::IsAborted(msg) | Ask::DropMsg(msg) => write!(out, ",{}", msg.0),
-        Ask::Swap | Ask::GetPort | Ask::WaitPort | Ask::Yield | Ask::Exit => Ok(()),
+        Ask::Abort(msg) | Ask::IsAborted(msg) | Ask::DropMsg(msg) => {
+            show_behind(out, &[u64::from(msg.0)])
+        }
+        _ => show_token_ask(out, ask),
     }
 }
 
 /// Appends an ask as the step of a script that stands for it: `["add",0,5]`.
 pub fn show_ask(out: &mut String, ask: Ask) -> Result<(), AllocError> {
-    write!(out, "[\"{}\"", ask_word(ask))?;
+    out.push_str("[\"")?;
+    out.push_str(ask_word(ask))?;
+    out.push_str("\"")?;
     show_ask_numbers(out, ask)?;
     out.push_str("]")
 }
 
 /// Appends a fault by its number and its text: `23, token busy`.
 pub fn show_fault(out: &mut String, fault: Fault) -> Result<(), AllocError> {
-    write!(out, "{}, {}", fault.number(), fault)
+    show_number(out, "", u64::from(fault.number()))?;
+    write!(out, ", {fault}")
+}
+
+// Appends a message with two numbers, each behind its words.
+fn show_values(
+    out: &mut String,
+    words: [&str; 3],
+    msg: MsgId,
+    first: u64,
+    second: u64,
+) -> Result<(), AllocError> {
+    let [before, middle, behind] = words;
+    show_number(out, before, u64::from(msg.0))?;
+    show_number(out, middle, first)?;
+    show_number(out, behind, second)
 }
 
 // Appends an item of a port.
 fn show_item(out: &mut String, item: Item) -> Result<(), AllocError> {
     match item {
         Item::Request(msg, call) => {
-            write!(
-                out,
-                "the request message {}, op {}, arg {}",
-                msg.0, call.op, call.arg
-            )
+            let words = ["the request message ", ", op ", ", arg "];
+            show_values(out, words, msg, u64::from(call.op), call.arg)
         }
-        Item::Answered(msg, error, outcome) => write!(
-            out,
-            "the reply to message {}, error {}, result {}",
-            msg.0, error, outcome
-        ),
+        Item::Answered(msg, error, outcome) => {
+            let words = ["the reply to message ", ", error ", ", result "];
+            show_values(out, words, msg, u64::from(error), outcome)
+        }
     }
 }
 
@@ -100,13 +146,10 @@ pub fn show_answer(out: &mut String, answer: Answer) -> Result<(), AllocError> {
     match answer {
         Answer::Begin => out.push_str("not asked before"),
         Answer::Done => out.push_str("done"),
-        Answer::Value(value) => write!(out, "value {value}"),
+        Answer::Value(value) => show_number(out, "value ", value),
         Answer::Dropped(msg, rec) => {
-            write!(
-                out,
-                "message {} taken back, op {}, arg {}",
-                msg.0, rec.op, rec.arg
-            )
+            let words = ["message ", " taken back, op ", ", arg "];
+            show_values(out, words, msg, u64::from(rec.op), rec.arg)
         }
         Answer::Got(item) => show_item(out, item),
         Answer::NoMsg => out.push_str("nothing at the port"),
@@ -125,17 +168,6 @@ pub fn mode_word(mode: Mode) -> &'static str {
     }
 }
 
-/// The name of a law, as in a script.
-pub fn law_name(law: Law) -> &'static str {
-    match law {
-        Law::Any => "any",
-        Law::Sum => "sum",
-        Law::Order => "order",
-        Law::Cap => "cap",
-        Law::Tally => "tally",
-    }
-}
-
 /// Appends how cells break a law: `cells 9 5 do not add up to 10`.
 pub fn show_breach(
     out: &mut String,
@@ -147,9 +179,9 @@ pub fn show_breach(
     show_numbers(out, cells)?;
     match law {
         Law::Any => out.push_str(" obey every law"),
-        Law::Sum => write!(out, " do not add up to {param}"),
+        Law::Sum => show_number(out, " do not add up to ", param),
         Law::Order => out.push_str(" are not in rising order"),
-        Law::Cap => write!(out, " are not all at most {param}"),
-        Law::Tally => write!(out, " are not the one cell {param}"),
+        Law::Cap => show_number(out, " are not all at most ", param),
+        Law::Tally => show_number(out, " are not the one cell ", param),
     }
 }

@@ -1,4 +1,5 @@
-//! Reads a trace: the tokens and messages at the opening, the events of the processors, and the closing values.
+//! Reads a trace: the tokens and messages at the opening, the events of the processors, and the closing values. The words of
+//! events and laws stand here for all that tell of them.
 #![tactic(auto)]
 
 mod closings;
@@ -6,6 +7,7 @@ mod events;
 mod openings;
 mod readers;
 mod traces;
+pub mod words;
 
 pub use readers::{LENGTH_LIMIT, read_trace};
 pub use traces::{Closing, Trace};

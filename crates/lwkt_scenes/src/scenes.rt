@@ -1,0 +1,43 @@
+use crate::reels::Reel;
+use lwkt_core::Event;
+use lwkt_verdict::turns::poll_of;
+use lwkt_verdict::{Poll, Turn};
+
+/// One turn of a run: its number, its processor, what it asked, and its events.
+#[derive(Clone, Copy)]
+pub struct Scene<'a> {
+    pub number: usize,
+    pub round: usize,
+    pub cpu: u8,
+    pub poll: Option<Poll>,
+    pub part: &'a [Event],
+}
+
+/// At most so many events from a place on.
+pub fn part_of(events: &[Event], from: usize, count: usize) -> &[Event] {
+    if from > events.len() {
+        return &[];
+    }
+    let rest = &events[from..];
+    if count > rest.len() {
+        return rest;
+    }
+    &rest[..count]
+}
+
+/// The turn of a number, whose events begin at a place of the trace.
+pub fn scene_of<'a>(run: &Reel<'a>, number: usize, turn: &Turn, from: usize) -> Scene<'a> {
+    let cpus = usize::from(run.script.cpus);
+    let (round, cpu) = if cpus == 0 {
+        (0, 0)
+    } else {
+        (number / cpus, number % cpus)
+    };
+    Scene {
+        number,
+        round,
+        cpu: u8::try_from(cpu).unwrap_or(0),
+        poll: poll_of(run.polls, turn),
+        part: part_of(run.trace, from, usize::from(turn.events)),
+    }
+}
