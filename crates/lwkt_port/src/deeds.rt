@@ -29,7 +29,7 @@ pub const ABORTED: u32 = 4;
 pub const NO_PORT: u32 = 30;
 
 // A message was taken.
-#[inline]
+#[inline(always)]
 fn take_up(mail: &mut Mail, who: Claim, aborted: bool, round: u64)
     ensures { mail.new ≡ taken_mail who aborted round mail.old }
 {
@@ -42,6 +42,7 @@ fn take_up(mail: &mut Mail, who: Claim, aborted: bool, round: u64)
 }
 
 // Keeps what a take answered.
+#[inline(always)]
 fn keep_taken(mails: &mut Vec<Mail>, who: Claim, note: Note, answer: Taken)
     requires { note.msg.0 < vec_len mails.old }
     ensures items { mails.new.items ≡ mails_taken who note answer mails.old.items }
@@ -55,6 +56,7 @@ fn keep_taken(mails: &mut Vec<Mail>, who: Claim, note: Note, answer: Taken)
 }
 
 // The event of a take, at the end of the trace.
+#[inline(always)]
 fn tell_taken(trace: &mut Vec<Event>, cpu: CpuId, note: Note, answer: Taken)
     requires { vec_len trace.old < vec_capacity trace.old }
     ensures items { trace.new.items ≡ trace.old.items ++ take_events cpu note answer }
@@ -70,6 +72,7 @@ fn tell_taken(trace: &mut Vec<Event>, cpu: CpuId, note: Note, answer: Taken)
 }
 
 /// Takes the message of a note, if it is in the note's round and on its way to this processor.
+#[inline(always)]
 #[tactic(auto, using(crate::proofs::Deeding::taken_keeps, crate::proofs::Deeding::taken_away))]
 pub(crate) fn take(
     book: &MsgBook,
@@ -97,7 +100,7 @@ pub(crate) fn take(
 }
 
 // A message was reaped.
-#[inline]
+#[inline(always)]
 fn come_home(mail: &mut Mail, keep: bool, rec: Rec)
     ensures { mail.new ≡ reaped_mail keep rec mail.old }
 {
@@ -108,6 +111,7 @@ fn come_home(mail: &mut Mail, keep: bool, rec: Rec)
 }
 
 // Keeps what a reap answered.
+#[inline(always)]
 fn keep_reaped(mails: &mut Vec<Mail>, keep: bool, note: Note, answer: Reaped)
     requires { note.msg.0 < vec_len mails.old }
     ensures items { mails.new.items ≡ mails_reaped keep note answer mails.old.items }
@@ -121,6 +125,7 @@ fn keep_reaped(mails: &mut Vec<Mail>, keep: bool, note: Note, answer: Reaped)
 }
 
 // The event of a reap, at the end of the trace.
+#[inline(always)]
 fn tell_reaped(trace: &mut Vec<Event>, cpu: CpuId, note: Note, answer: Reaped)
     requires { vec_len trace.old < vec_capacity trace.old }
     ensures items { trace.new.items ≡ trace.old.items ++ reap_events cpu note answer }
@@ -135,6 +140,7 @@ fn tell_reaped(trace: &mut Vec<Event>, cpu: CpuId, note: Note, answer: Reaped)
 
 /// Takes the message of a note back, if it is in the note's round and was replied to. `keep` says that its record is kept
 /// for the thread that waits for it.
+#[inline(always)]
 #[tactic(auto, using(crate::proofs::Deeding::reaped_keeps, crate::proofs::Deeding::reaped_away))]
 pub(crate) fn reap(
     book: &MsgBook,

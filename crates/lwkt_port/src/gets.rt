@@ -33,6 +33,7 @@ pub enum Served {
 }
 
 // What becomes of a request.
+#[inline(always)]
 fn serve_request(msg: MsgId, answer: Taken) -> Served
     ensures { result ≡ served_request msg answer }
 {
@@ -50,6 +51,7 @@ fn serve_request(msg: MsgId, answer: Taken) -> Served
 }
 
 // What becomes of an answer.
+#[inline(always)]
 fn serve_answer(msg: MsgId, answer: Reaped) -> Served
     ensures { result ≡ served_answer msg answer }
 {
@@ -60,6 +62,7 @@ fn serve_answer(msg: MsgId, answer: Reaped) -> Served
 }
 
 // Serves a thread with a note of its port.
+#[inline(always)]
 fn serve_note(
     book: &MsgBook,
     seat: &mut MsgSeat,
@@ -100,6 +103,7 @@ fn pass(port: &mut Port, owing: &mut bool)
 }
 
 // Serves a thread from its port. A note that is passed over may have left a reply owed.
+#[inline(always)]
 fn serve(
     book: &MsgBook,
     seat: &mut MsgSeat,

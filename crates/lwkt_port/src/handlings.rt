@@ -31,6 +31,7 @@ pub enum Fate {
 }
 
 // Whether a note names a message and a port.
+#[inline(always)]
 fn names_both(mails: &Vec<Mail>, note: Note) -> bool
     ensures { IsTrue result ↔ NamesBoth (vec_len mails.now) note }
 {
@@ -38,6 +39,7 @@ fn names_both(mails: &Vec<Mail>, note: Note) -> bool
 }
 
 // Whether a note is the answer to this processor's last send of its message, which was synchronous.
+#[inline(always)]
 fn is_sync_answer(mails: &Vec<Mail>, note: Note) -> bool
     requires { note.msg.0 < vec_len mails.now }
     ensures { IsTrue result ↔ IsSyncAnswer note mails.now.items }
@@ -46,6 +48,7 @@ fn is_sync_answer(mails: &Vec<Mail>, note: Note) -> bool
 }
 
 // Whether a port is closed.
+#[inline(always)]
 fn is_closed(ports: &Vec<Port>, port: u8) -> bool
     requires { port < vec_len ports.now }
     ensures { IsPortClosed port ports.now.items result }
@@ -54,6 +57,7 @@ fn is_closed(ports: &Vec<Port>, port: u8) -> bool
 }
 
 // Handles a note that came over a lane. None if its port's queue is full.
+#[inline(always)]
 fn handle(
     book: &MsgBook,
     seat: &mut MsgSeat,

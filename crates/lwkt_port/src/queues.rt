@@ -28,6 +28,7 @@ pub(crate) fn empty_port(closed: bool) -> Port
 }
 
 /// How many notes the queue has.
+#[inline(always)]
 pub(crate) fn count(port: &Port) -> usize
     ensures count { result ≡ length (queue_of port.now) }
     ensures few { result ≤ 64 }
@@ -36,6 +37,7 @@ pub(crate) fn count(port: &Port) -> usize
 }
 
 /// The first note of the queue.
+#[inline(always)]
 pub(crate) fn front(port: &Port) -> Option<Note>
     ensures { MatchOption result (queue_of port.now ≡ []) (λ note. (rest : List Note) × (queue_of port.now ≡ note ∷ rest)) }
 {
@@ -43,6 +45,7 @@ pub(crate) fn front(port: &Port) -> Option<Note>
 }
 
 /// Takes the first note off the queue.
+#[inline(always)]
 pub(crate) fn drop_front(port: &mut Port)
     requires { 0 < length (queue_of port.old) }
     ensures { (note : Note) → (rest : List Note) → queue_of port.old ≡ note ∷ rest → (queue_of port.new ≡ rest) × (port.new.closed ≡ port.old.closed) }
@@ -51,6 +54,7 @@ pub(crate) fn drop_front(port: &mut Port)
 }
 
 /// Puts a note at the end of the queue, if that has room.
+#[inline(always)]
 pub(crate) fn enqueue(port: &mut Port, note: Note) -> bool
     ensures { IsQueued note port.old port.new result }
 {

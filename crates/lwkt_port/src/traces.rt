@@ -3,11 +3,12 @@ ghost use Rattle.std.specs.Prelude.{◌≡◌, ◌+◌, ◌<◌, ◌≤◌, [], 
 
 use lwkt_core::Event;
 
+#[inline(always)]
 pub(crate) fn note_event(trace: &mut Vec<Event>, event: Event)
     requires { vec_len trace.old < vec_capacity trace.old }
     ensures items { trace.new.items ≡ trace.old.items ++ event ∷ [] }
     ensures longer { vec_len trace.new ≡ vec_len trace.old + 1 }
     ensures room { vec_capacity trace.old ≤ vec_capacity trace.new }
 {
-    let _ = trace.push(event);
+    trace.push_reserved(event);
 }
