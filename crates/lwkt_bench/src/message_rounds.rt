@@ -20,7 +20,7 @@ use std::{io, thread};
 // How many messages one thread sends to the other in a round, and how often one looks for the other's step at most.
 pub const MESSAGES: u64 = 500;
 
-const TRIES: u32 = 100_000_000;
+const TRIES: u32 = 4_000_000_000;
 
 // A thread that finds nothing lets others run after so many looks.
 const PATIENCE: u32 = 256;
