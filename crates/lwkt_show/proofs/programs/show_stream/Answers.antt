@@ -1,8 +1,9 @@
 use Rattle.std.proofs.Common.{inl, inr, ◌≡◌, ◌⊎◌}
 use Rattle.lwkt_base.specs.declared.faults.Fault.TheVariants.{Memory}
 use Rattle.lwkt_report.specs.declared.streams.RunFault.TheVariants.{Fault, Stream}
-use Rattle.lwkt_run.proofs.RunLemmas.{tells_unread, tells_refused, tells_done, tells_front}
+use Rattle.lwkt_run.proofs.RunLemmas.{tells_unread}
 use Rattle.lwkt_show.specs.Showing.{IsShown}
+use Rattle.lwkt_show.proofs.Telling.{tells_refused, tells_done, tells_front}
 use Rattle.lwkt_show.proofs.programs.show_stream.Goals as goal
 
 pub returns-in-Err-clause-tells : goal.returns-in-Err-clause-tells

@@ -1,0 +1,26 @@
+use Rattle.std.proofs.Common.{inr, ◌≡◌, ℕ, List, rules, Option, Err, Ok, subst}
+use Rattle.std.specs.Io.KnownBytes.{Appends, Keeps}
+use Rattle.lwkt_base.specs.declared.faults.Fault.{Fault as Refusal}
+use Rattle.lwkt_report.specs.declared.streams.RunFault.TheVariants.{Fault, Stream}
+use Rattle.lwkt_report.specs.Stream.{AppendsFront}
+use Rattle.lwkt_run.specs.declared.runs.End.{End}
+use Rattle.lwkt_run.specs.Run.{AreRead, Refuses, TellsBy}
+
+-- what was written stays what it is
+keeps_itself : (o : Option (List ℕ)) → Keeps o o
+keeps_itself o = search rules
+
+-- where the bytes are refused nothing is written
+pub tells_refused : (Run : List ℕ → End → List ℕ → Type 0) (left old : Option (List ℕ)) (bytes read : List ℕ) (fault : Refusal) → read ≡ bytes → AreRead left bytes → Refuses read fault → TellsBy Run left old old (Err (Fault fault))
+tells_refused Run left old bytes read fault same are refuses =
+    (keeps_itself old, (bytes, (are, subst (λ b. Refuses b fault) same refuses)))
+
+-- a report that was written whole
+pub tells_done : (Run : List ℕ → End → List ℕ → Type 0) (left old new : Option (List ℕ)) (bytes read text written : List ℕ) (end : End) → read ≡ bytes → written ≡ text → AreRead left bytes → Run read end text → Appends old new written → TellsBy Run left old new (Ok end)
+tells_done Run left old new bytes read text written end same same_text are run appends =
+    (bytes, (are, (text, (subst (λ b. Run b end text) same run, subst (λ t. Appends old new t) same_text appends))))
+
+-- a report of which a front was written
+pub tells_front : (Run : List ℕ → End → List ℕ → Type 0) (left old new : Option (List ℕ)) (bytes read text written : List ℕ) (end : End) → read ≡ bytes → written ≡ text → AreRead left bytes → Run read end text → AppendsFront old new written → TellsBy Run left old new (Err Stream)
+tells_front Run left old new bytes read text written end same same_text are run front =
+    inr (bytes, (are, (end, (text, (subst (λ b. Run b end text) same run, subst (λ t. AppendsFront old new t) same_text front)))))
