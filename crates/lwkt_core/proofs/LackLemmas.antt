@@ -37,15 +37,15 @@ cell_there row cell value is =
 
 token_refutes : (tok : Token) (e : Event) (lack : Lack) → TokenLacks tok e lack → TokenNeeds tok e → ⊥
 token_refutes tok (Load cpu t) lack h needs = h
-token_refutes tok (Take cpu t) lack h needs = elim h [ inl x ↦ x.1 needs.0 | inr x ↦ x.1 needs.1 ]
-token_refutes tok (Share cpu t) lack h needs = elim h [ inl x ↦ x.1 needs.0 | inr x ↦ x.1 needs.1 ]
+token_refutes tok (Take cpu t) lack h needs = elim h [ inl x ↦ x.1 needs.0 | inr x ↦ x.1.1 needs.1 ]
+token_refutes tok (Share cpu t) lack h needs = elim h [ inl x ↦ x.1 needs.0 | inr x ↦ x.1.1 needs.1 ]
 token_refutes tok (Again cpu t) lack h needs = h.1 needs
 token_refutes tok (Mark cpu t) lack h needs = h
-token_refutes tok (GiveOne cpu t) lack h needs = elim h [ inl x ↦ x.1 (held_to_give (held_by tok cpu.0) needs) | inr x ↦ x.1 needs ]
-token_refutes tok (GiveClean cpu t) lack h needs = elim h [ inl x ↦ x.1 (ap is_exclusive needs.0) | inr y ↦ elim y [ inl x ↦ x.1 needs.0 | inr x ↦ x.1 needs.1 ] ]
-token_refutes tok (GiveWritten cpu t) lack h needs = elim h [ inl x ↦ x.1 (ap is_exclusive needs.0) | inr y ↦ elim y [ inl x ↦ x.1 needs.0 | inr z ↦ elim z [ inl x ↦ x.1 needs.1 | inr x ↦ x.1 needs.2 ] ] ]
-token_refutes tok (Read cpu t cell value) lack h needs = elim h [ inl x ↦ x.1 needs.0 | inr y ↦ elim y [ inl x ↦ x.1 (cell_there tok.row cell value needs.1) | inr x ↦ x.1 needs.1 ] ]
-token_refutes tok (Write cpu t cell value) lack h needs = elim h [ inl x ↦ x.1 needs.0 | inr y ↦ elim y [ inl x ↦ x.1 needs.1 | inr x ↦ x.1 needs.2 ] ]
+token_refutes tok (GiveOne cpu t) lack h needs = elim h [ inl x ↦ x.1 (held_to_give (held_by tok cpu.0) needs) | inr x ↦ x.1.1 needs ]
+token_refutes tok (GiveClean cpu t) lack h needs = elim h [ inl x ↦ x.1 (ap is_exclusive needs.0) | inr y ↦ elim y.1 [ inl x ↦ x.1 needs.0 | inr x ↦ x.1.1 needs.1 ] ]
+token_refutes tok (GiveWritten cpu t) lack h needs = elim h [ inl x ↦ x.1 (ap is_exclusive needs.0) | inr y ↦ elim y.1 [ inl x ↦ x.1 needs.0 | inr z ↦ elim z.1 [ inl x ↦ x.1 needs.1 | inr x ↦ x.1.1 needs.2 ] ] ]
+token_refutes tok (Read cpu t cell value) lack h needs = elim h [ inl x ↦ x.1 needs.0 | inr y ↦ elim y.1 [ inl x ↦ x.1 (cell_there tok.row cell value needs.1) | inr x ↦ x.1.1 needs.1 ] ]
+token_refutes tok (Write cpu t cell value) lack h needs = elim h [ inl x ↦ x.1 needs.0 | inr y ↦ elim y.1 [ inl x ↦ x.1 needs.1 | inr x ↦ x.1.1 needs.2 ] ]
 token_refutes tok (Send cpu msg to round) lack h needs = needs
 token_refutes tok (TakeMsg cpu msg round) lack h needs = needs
 token_refutes tok (DropMsg cpu msg) lack h needs = needs
@@ -54,8 +54,8 @@ token_refutes tok (Reap cpu msg) lack h needs = needs
 token_refutes tok (Abort cpu msg) lack h needs = needs
 
 message_refutes : (cpus : ℕ) (msg : Message) (e : Event) (lack : Lack) → MessageLacks cpus msg e lack → MessageNeeds cpus msg e → ⊥
-message_refutes cpus msg (Send cpu m to round) lack h needs = elim h [ inl x ↦ x.1 needs.0 | inr y ↦ elim y [ inl x ↦ x.1 needs.1 | inr z ↦ elim z [ inl x ↦ x.1 needs.3 | inr x ↦ x.1 needs.2 ] ] ]
-message_refutes cpus msg (TakeMsg cpu m round) lack h needs = elim h [ inl x ↦ x.1 needs.0 | inr x ↦ x.1 needs.1 ]
+message_refutes cpus msg (Send cpu m to round) lack h needs = elim h [ inl x ↦ x.1 needs.0 | inr y ↦ elim y.1 [ inl x ↦ x.1 needs.1 | inr z ↦ elim z.1 [ inl x ↦ x.1 needs.3 | inr x ↦ x.1.1 needs.2 ] ] ]
+message_refutes cpus msg (TakeMsg cpu m round) lack h needs = elim h [ inl x ↦ x.1 needs.0 | inr x ↦ x.1.1 needs.1 ]
 message_refutes cpus msg (DropMsg cpu m) lack h needs = h.1 needs
 message_refutes cpus msg (Reply cpu m) lack h needs = h.1 needs
 message_refutes cpus msg (Reap cpu m) lack h needs = h.1 needs
@@ -84,7 +84,7 @@ place_refutes m e (AtToken i) lack h needs = token_part (slice_get m.tokens i) e
 place_refutes m e (AtMessage i) lack h needs = message_part m.cpus (slice_get m.messages i) e lack _ h needs
 
 pub refutes : LackRefutes
-refutes m e lack h needs = elim h [ inl x ↦ x.1 needs.processor | inr y ↦ elim y [ inl x ↦ x.1 needs.room | inr x ↦ place_refutes m e (place_of e) lack x needs.place ] ]
+refutes m e lack h needs = elim h [ inl x ↦ x.1 needs.processor | inr y ↦ elim y.1 [ inl x ↦ x.1 needs.room | inr x ↦ place_refutes m e (place_of e) lack x.1 needs.place ] ]
 
 -- nothing is told exactly where the needs are met
 pub told_exactly : (m : Machine) (e : Event) (told : Option Lack) → MatchOption told (Needs m e) (λ lack. Lacks m e lack) → (told ≡ None) ↔ Needs m e

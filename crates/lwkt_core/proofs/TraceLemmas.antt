@@ -54,12 +54,16 @@ FailsAt-stop m events last i mid stop =
       fails = event_fails (slice_get events i) mid last found.0 found.1 stop.fails;
     }
 
+-- a whole run is one of so many events as there are
+pub Run_taken : (m : Machine) (events : List Event) (n : Machine) → Run m events n → Run m (take (length events) events) n
+Run_taken m events n run = subst (λ (es : List Event). Run m es n) (sym (take_all (length events) events (omega arith))) run
+
 -- a trace fails at its end
 pub FailsAt-close : (m : Machine) (events : List Event) (last : Final) (mid : Machine) → Run m events mid → (Closes mid last → ⊥) → FailsAt m events last (length events)
 FailsAt-close m events last mid run not_closes = record {
   within = omega arith;
   mid = mid;
-  before = subst (λ (es : List Event). Run m es mid) (sym (take_all (length events) events (omega arith))) run;
+  before = Run_taken m events mid run;
   fails = (let F : Option Event → Type 0 = λ o. MatchOption o (¬ Closes mid last) (λ x. ¬ Needs mid x) in
       subst F (sym (slice_get_past events (length events) (omega arith))) not_closes);
 }

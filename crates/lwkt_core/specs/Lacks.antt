@@ -1,4 +1,4 @@
--- Which of an event's needs isn't met (own).
+-- Which of an event's needs is the first that isn't met (own).
 use Rattle.std.specs.Prelude.{◌≡◌, ◌≢◌, ◌⊎◌, ℕ, ◌+◌, ◌<◌, ◌≤◌, true, length, Option, Some, slice_get, slice_index, MatchOption}
 use Rattle.lwkt_base.specs.declared.names.Mode.TheVariants.{Exclusive}
 use Rattle.lwkt_base.specs.declared.holdings.Held.TheVariants.{Nothing, Holds}
@@ -23,18 +23,22 @@ use Rattle.lwkt_core.specs.Machine.{Machine, references_of, Needs}
 abbrev pub Fails : Lack → Lack → Type 0 → Type 0
 Fails lack name Need = (lack ≡ name) × (¬ Need)
 
--- which of an event's needs of its token isn't met; a message's event has no token
+-- the same of the first of some needs; or that one is met, and the lack is of the needs after it
+abbrev pub FirstFails : Lack → Lack → Type 0 → Type 0 → Type 0
+FirstFails lack name Need Later = Fails lack name Need ⊎ (Need × Later)
+
+-- which of an event's needs of its token is the first that isn't met; a message's event has no token
 abbrev pub TokenLacks : Token → Event → Lack → Type 0
 TokenLacks tok (Load cpu t) lack = ⊥
-TokenLacks tok (Take cpu t) lack = Fails lack Held (IsFree tok) ⊎ Fails lack LastGeneration (tok.generation < LAST_GENERATION)
-TokenLacks tok (Share cpu t) lack = Fails lack HeldExclusively (IsOpen tok) ⊎ Fails lack HeldAlready (held_by tok cpu.0 ≡ Nothing)
+TokenLacks tok (Take cpu t) lack = FirstFails lack Held (IsFree tok) (Fails lack LastGeneration (tok.generation < LAST_GENERATION))
+TokenLacks tok (Share cpu t) lack = FirstFails lack HeldExclusively (IsOpen tok) (Fails lack HeldAlready (held_by tok cpu.0 ≡ Nothing))
 TokenLacks tok (Again cpu t) lack = Fails lack NotHeld (IsHolder tok cpu.0)
 TokenLacks tok (Mark cpu t) lack = ⊥
-TokenLacks tok (GiveOne cpu t) lack = Fails lack NotHeld (IsHolder tok cpu.0) ⊎ Fails lack LastExclusive (IsNotLastExclusive (held_by tok cpu.0))
-TokenLacks tok (GiveClean cpu t) lack = Fails lack NotHeldExclusively (IsExclusiveHolder tok cpu.0) ⊎ (Fails lack FurtherReferences (held_by tok cpu.0 ≡ Holds Exclusive 0) ⊎ Fails lack RowChanged (tok.row ≡ tok.first))
-TokenLacks tok (GiveWritten cpu t) lack = Fails lack NotHeldExclusively (IsExclusiveHolder tok cpu.0) ⊎ (Fails lack FurtherReferences (held_by tok cpu.0 ≡ Holds Exclusive 0) ⊎ (Fails lack RowUnchanged (tok.row ≢ tok.first) ⊎ Fails lack LawBroken (MeetsLaw tok.law tok.param tok.row)))
-TokenLacks tok (Read cpu t cell value) lack = Fails lack NotHeld (IsHolder tok cpu.0) ⊎ (Fails lack NoCell (cell < length tok.row) ⊎ Fails lack OtherValue (slice_get tok.row cell ≡ Some value))
-TokenLacks tok (Write cpu t cell value) lack = Fails lack NotHeldExclusively (IsExclusiveHolder tok cpu.0) ⊎ (Fails lack NoCell (cell < length tok.row) ⊎ Fails lack LessThanBefore (MayWrite tok.law (slice_index tok.row cell) value))
+TokenLacks tok (GiveOne cpu t) lack = FirstFails lack NotHeld (IsHolder tok cpu.0) (Fails lack LastExclusive (IsNotLastExclusive (held_by tok cpu.0)))
+TokenLacks tok (GiveClean cpu t) lack = FirstFails lack NotHeldExclusively (IsExclusiveHolder tok cpu.0) (FirstFails lack FurtherReferences (held_by tok cpu.0 ≡ Holds Exclusive 0) (Fails lack RowChanged (tok.row ≡ tok.first)))
+TokenLacks tok (GiveWritten cpu t) lack = FirstFails lack NotHeldExclusively (IsExclusiveHolder tok cpu.0) (FirstFails lack FurtherReferences (held_by tok cpu.0 ≡ Holds Exclusive 0) (FirstFails lack RowUnchanged (tok.row ≢ tok.first) (Fails lack LawBroken (MeetsLaw tok.law tok.param tok.row))))
+TokenLacks tok (Read cpu t cell value) lack = FirstFails lack NotHeld (IsHolder tok cpu.0) (FirstFails lack NoCell (cell < length tok.row) (Fails lack OtherValue (slice_get tok.row cell ≡ Some value)))
+TokenLacks tok (Write cpu t cell value) lack = FirstFails lack NotHeldExclusively (IsExclusiveHolder tok cpu.0) (FirstFails lack NoCell (cell < length tok.row) (Fails lack LessThanBefore (MayWrite tok.law (slice_index tok.row cell) value)))
 TokenLacks tok (Send cpu msg to round) lack = lack ≡ NoToken
 TokenLacks tok (TakeMsg cpu msg round) lack = lack ≡ NoToken
 TokenLacks tok (DropMsg cpu msg) lack = lack ≡ NoToken
@@ -42,10 +46,10 @@ TokenLacks tok (Reply cpu msg) lack = lack ≡ NoToken
 TokenLacks tok (Reap cpu msg) lack = lack ≡ NoToken
 TokenLacks tok (Abort cpu msg) lack = lack ≡ NoToken
 
--- which of an event's needs of its message isn't met; a token's event has no message
+-- which of an event's needs of its message is the first that isn't met; a token's event has no message
 abbrev pub MessageLacks : ℕ → Message → Event → Lack → Type 0
-MessageLacks cpus msg (Send cpu m to round) lack = Fails lack NotAtRest (msg.owner ≡ Rest cpu) ⊎ (Fails lack NoTarget (to.0 < cpus) ⊎ (Fails lack LastRound (round ≤ LAST_ROUND) ⊎ Fails lack OtherRound (round ≡ msg.round + 1)))
-MessageLacks cpus msg (TakeMsg cpu m round) lack = Fails lack NotOut (IsOutTo cpu msg.owner) ⊎ Fails lack OtherRound (round ≡ msg.round)
+MessageLacks cpus msg (Send cpu m to round) lack = FirstFails lack NotAtRest (msg.owner ≡ Rest cpu) (FirstFails lack NoTarget (to.0 < cpus) (FirstFails lack LastRound (round ≤ LAST_ROUND) (Fails lack OtherRound (round ≡ msg.round + 1))))
+MessageLacks cpus msg (TakeMsg cpu m round) lack = FirstFails lack NotOut (IsOutTo cpu msg.owner) (Fails lack OtherRound (round ≡ msg.round))
 MessageLacks cpus msg (DropMsg cpu m) lack = Fails lack NotOut (IsOutFrom cpu msg.owner)
 MessageLacks cpus msg (Reply cpu m) lack = Fails lack NotTaken (IsWith cpu msg.owner)
 MessageLacks cpus msg (Reap cpu m) lack = Fails lack NotReplied (IsBackTo cpu msg.owner)
@@ -61,16 +65,16 @@ MessageLacks cpus msg (GiveWritten cpu t) lack = lack ≡ NoMessage
 MessageLacks cpus msg (Read cpu t cell value) lack = lack ≡ NoMessage
 MessageLacks cpus msg (Write cpu t cell value) lack = lack ≡ NoMessage
 
--- what isn't met at a place: there is nothing of its number, or what it has doesn't meet a need
+-- what isn't met at a place: there is nothing of its number, or the first need that what it has doesn't meet
 abbrev pub PlaceLacks : Machine → Event → Place → Lack → Type 0
 PlaceLacks m e (AtToken i) lack = MatchOption (slice_get m.tokens i) (lack ≡ NoToken) (λ tok. TokenLacks tok e lack)
 PlaceLacks m e (AtMessage i) lack = MatchOption (slice_get m.messages i) (lack ≡ NoMessage) (λ msg. MessageLacks m.cpus msg e lack)
 
--- which of an event's needs isn't met
+-- which of an event's needs is the first that isn't met
 abbrev pub Lacks : Machine → Event → Lack → Type 0
-Lacks m e lack = Fails lack NoProcessor (cpu_of e < m.cpus) ⊎ (Fails lack TooManyReferences (adds_reference e ≡ true → references_of m.tokens (cpu_of e) < 32) ⊎ PlaceLacks m e (place_of e) lack)
+Lacks m e lack = FirstFails lack NoProcessor (cpu_of e < m.cpus) (FirstFails lack TooManyReferences (adds_reference e ≡ true → references_of m.tokens (cpu_of e) < 32) (PlaceLacks m e (place_of e) lack))
 
--- what is told of an event's needs of its token, or of its message: nothing where they are met, or which isn't
+-- what is told of an event's needs of its token, or of its message: nothing where they are met, or the first that isn't
 abbrev pub TellsOfToken : Token → Event → Option Lack → Type 0
 TellsOfToken tok e told = MatchOption told (TokenNeeds tok e) (λ lack. TokenLacks tok e lack)
 

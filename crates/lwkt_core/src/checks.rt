@@ -1,6 +1,6 @@
-ghost use Rattle.std.specs.Prelude.{◌≡◌, ℕ, List, OnOk, IfErr};
+ghost use Rattle.std.specs.Prelude.{◌≡◌, ℕ, List, take, OnOk, IfErr};
 ghost use Rattle.lwkt_core.specs.Machine.{Machine};
-ghost use Rattle.lwkt_core.specs.Trace.{Run, CanHappen, IsLawfulTrace, StopsAt, FailsAt, StopRefutes, FailureRefutes, FailureIsOnly};
+ghost use Rattle.lwkt_core.specs.Trace.{Run, Closes, CanHappen, IsLawfulTrace, StopsAt, FailsAt, StopRefutes, FailureRefutes, FailureIsOnly};
 
 use crate::events::Event;
 use crate::finals::Final;
@@ -30,6 +30,8 @@ pub fn play(state: &mut State, events: &[Event]) -> Result<(), usize>
 pub fn play_to_close(state: &mut State, events: &[Event], last: &Final) -> Result<(), usize>
     ensures lawful { OnOk result (IsLawfulTrace state.old events.now last.now) }
     ensures failed { IfErr result (λ index. FailsAt state.old events.now last.now index) }
+    ensures closed { OnOk result (Run state.old events.now state.new × Closes state.new last.now) }
+    ensures left { IfErr result (λ index. Run state.old (take index events.now) state.new) }
 {
     match play(state, events) {
         Ok(()) => {}
