@@ -677,51 +677,28 @@ are_raises m (e ∷ events) n t tok last safe run here there tally cpu =
     let next : raised_by t cpu run.0 events ≡ raised_by t cpu (after m e) events = ap (λ (x : Machine). raised_by t cpu x events) run.1.0.1 in
     omega arith
 
--- how an event at a message changes how often each thing was done with it
-sends_grow : (i cpus : ℕ) (msg : Message) (e : Event) → place_of e ≡ AtMessage i → MessageNeeds cpus msg e → (message_after msg e).sends ≡ msg.sends + one_if (sends i e)
-sends_grow i cpus msg (Send cpu m to round) at needs = ap (λ (b : Bool). msg.sends + one_if b) (sym (is_at i m.0 at))
-sends_grow i cpus msg (TakeMsg cpu m round) at needs = omega arith
-sends_grow i cpus msg (DropMsg cpu m) at needs = omega arith
-sends_grow i cpus msg (Reply cpu m) at needs = omega arith
-sends_grow i cpus msg (Reap cpu m) at needs = omega arith
-sends_grow i cpus msg (Abort cpu m) at needs = omega arith
-sends_grow i cpus msg e at needs = absurd needs
+-- an event at a message raises by 1 how often that was done with it, and leaves the rest
+record HasGrown (i : ℕ) (msg msg' : Message) (e : Event) : Type 0 where
+  sent : msg'.sends ≡ msg.sends + one_if (sends i e)
+  taken : msg'.takes ≡ msg.takes + one_if (takes i e)
+  dropped : msg'.drops ≡ msg.drops + one_if (drops i e)
+  replied : msg'.replies ≡ msg.replies + one_if (replies i e)
+  reaped : msg'.reaps ≡ msg.reaps + one_if (reaps i e)
 
-takes_grow : (i cpus : ℕ) (msg : Message) (e : Event) → place_of e ≡ AtMessage i → MessageNeeds cpus msg e → (message_after msg e).takes ≡ msg.takes + one_if (takes i e)
-takes_grow i cpus msg (TakeMsg cpu m round) at needs = ap (λ (b : Bool). msg.takes + one_if b) (sym (is_at i m.0 at))
-takes_grow i cpus msg (Send cpu m to round) at needs = omega arith
-takes_grow i cpus msg (DropMsg cpu m) at needs = omega arith
-takes_grow i cpus msg (Reply cpu m) at needs = omega arith
-takes_grow i cpus msg (Reap cpu m) at needs = omega arith
-takes_grow i cpus msg (Abort cpu m) at needs = omega arith
-takes_grow i cpus msg e at needs = absurd needs
+one_more : (i m n : ℕ) → AtMessage m ≡ AtMessage i → n + 1 ≡ n + one_if (m == i)
+one_more i m n at = ap (λ (b : Bool). n + one_if b) (sym (is_at i m at))
 
-drops_grow : (i cpus : ℕ) (msg : Message) (e : Event) → place_of e ≡ AtMessage i → MessageNeeds cpus msg e → (message_after msg e).drops ≡ msg.drops + one_if (drops i e)
-drops_grow i cpus msg (DropMsg cpu m) at needs = ap (λ (b : Bool). msg.drops + one_if b) (sym (is_at i m.0 at))
-drops_grow i cpus msg (Send cpu m to round) at needs = omega arith
-drops_grow i cpus msg (TakeMsg cpu m round) at needs = omega arith
-drops_grow i cpus msg (Reply cpu m) at needs = omega arith
-drops_grow i cpus msg (Reap cpu m) at needs = omega arith
-drops_grow i cpus msg (Abort cpu m) at needs = omega arith
-drops_grow i cpus msg e at needs = absurd needs
+none_more : (n : ℕ) → n ≡ n + 0
+none_more n = omega arith
 
-replies_grow : (i cpus : ℕ) (msg : Message) (e : Event) → place_of e ≡ AtMessage i → MessageNeeds cpus msg e → (message_after msg e).replies ≡ msg.replies + one_if (replies i e)
-replies_grow i cpus msg (Reply cpu m) at needs = ap (λ (b : Bool). msg.replies + one_if b) (sym (is_at i m.0 at))
-replies_grow i cpus msg (Send cpu m to round) at needs = omega arith
-replies_grow i cpus msg (TakeMsg cpu m round) at needs = omega arith
-replies_grow i cpus msg (DropMsg cpu m) at needs = omega arith
-replies_grow i cpus msg (Reap cpu m) at needs = omega arith
-replies_grow i cpus msg (Abort cpu m) at needs = omega arith
-replies_grow i cpus msg e at needs = absurd needs
-
-reaps_grow : (i cpus : ℕ) (msg : Message) (e : Event) → place_of e ≡ AtMessage i → MessageNeeds cpus msg e → (message_after msg e).reaps ≡ msg.reaps + one_if (reaps i e)
-reaps_grow i cpus msg (Reap cpu m) at needs = ap (λ (b : Bool). msg.reaps + one_if b) (sym (is_at i m.0 at))
-reaps_grow i cpus msg (Send cpu m to round) at needs = omega arith
-reaps_grow i cpus msg (TakeMsg cpu m round) at needs = omega arith
-reaps_grow i cpus msg (DropMsg cpu m) at needs = omega arith
-reaps_grow i cpus msg (Reply cpu m) at needs = omega arith
-reaps_grow i cpus msg (Abort cpu m) at needs = omega arith
-reaps_grow i cpus msg e at needs = absurd needs
+counts_grow : (i cpus : ℕ) (msg : Message) (e : Event) → place_of e ≡ AtMessage i → MessageNeeds cpus msg e → HasGrown i msg (message_after msg e) e
+counts_grow i cpus msg (Send cpu m to round) at needs = record { sent = one_more i m.0 msg.sends at; taken = none_more msg.takes; dropped = none_more msg.drops; replied = none_more msg.replies; reaped = none_more msg.reaps }
+counts_grow i cpus msg (TakeMsg cpu m round) at needs = record { sent = none_more msg.sends; taken = one_more i m.0 msg.takes at; dropped = none_more msg.drops; replied = none_more msg.replies; reaped = none_more msg.reaps }
+counts_grow i cpus msg (DropMsg cpu m) at needs = record { sent = none_more msg.sends; taken = none_more msg.takes; dropped = one_more i m.0 msg.drops at; replied = none_more msg.replies; reaped = none_more msg.reaps }
+counts_grow i cpus msg (Reply cpu m) at needs = record { sent = none_more msg.sends; taken = none_more msg.takes; dropped = none_more msg.drops; replied = one_more i m.0 msg.replies at; reaped = none_more msg.reaps }
+counts_grow i cpus msg (Reap cpu m) at needs = record { sent = none_more msg.sends; taken = none_more msg.takes; dropped = none_more msg.drops; replied = none_more msg.replies; reaped = one_more i m.0 msg.reaps at }
+counts_grow i cpus msg (Abort cpu m) at needs = record { sent = none_more msg.sends; taken = none_more msg.takes; dropped = none_more msg.drops; replied = none_more msg.replies; reaped = none_more msg.reaps }
+counts_grow i cpus msg e at needs = absurd needs
 
 -- a number of a message that each event of one kind raises by 1, and no other event does
 module _ (i : ℕ) (f : Message → ℕ) (p : Event → Bool) (grows : (cpus : ℕ) (msg : Message) (e : Event) → place_of e ≡ AtMessage i → MessageNeeds cpus msg e → f (message_after msg e) ≡ f msg + one_if (p e)) (at_p : (e : Event) → p e ≡ true → place_of e ≡ AtMessage i) where
@@ -756,9 +733,9 @@ module _ (i : ℕ) (f : Message → ℕ) (p : Event → Bool) (grows : (cpus : �
 
 pub are_events : CountsAreEvents
 are_events m events n i msg last run here there = (
-  grows_along i (λ x. x.sends) (sends i) (sends_grow i) (at_sends i) events m n msg last here there run,
-  grows_along i (λ x. x.takes) (takes i) (takes_grow i) (at_takes i) events m n msg last here there run,
-  grows_along i (λ x. x.drops) (drops i) (drops_grow i) (at_drops i) events m n msg last here there run,
-  grows_along i (λ x. x.replies) (replies i) (replies_grow i) (at_replies i) events m n msg last here there run,
-  grows_along i (λ x. x.reaps) (reaps i) (reaps_grow i) (at_reaps i) events m n msg last here there run,
+  grows_along i (λ x. x.sends) (sends i) (λ cpus msg e at needs. (counts_grow i cpus msg e at needs).sent) (at_sends i) events m n msg last here there run,
+  grows_along i (λ x. x.takes) (takes i) (λ cpus msg e at needs. (counts_grow i cpus msg e at needs).taken) (at_takes i) events m n msg last here there run,
+  grows_along i (λ x. x.drops) (drops i) (λ cpus msg e at needs. (counts_grow i cpus msg e at needs).dropped) (at_drops i) events m n msg last here there run,
+  grows_along i (λ x. x.replies) (replies i) (λ cpus msg e at needs. (counts_grow i cpus msg e at needs).replied) (at_replies i) events m n msg last here there run,
+  grows_along i (λ x. x.reaps) (reaps i) (λ cpus msg e at needs. (counts_grow i cpus msg e at needs).reaped) (at_reaps i) events m n msg last here there run,
 )

@@ -4,6 +4,8 @@ use Rattle.lwkt_base.specs.declared.faults.Fault.TheVariants.{Worn as WornOut}
 use Rattle.lwkt_port.specs.Chains.{Chain}
 use Rattle.lwkt_port.specs.Closings.{PostCloses}
 use Rattle.lwkt_port.specs.Posts.{Post}
+use Rattle.lwkt_cpu.specs.declared.phases.ToClose.{ToClose}
+use Rattle.lwkt_cpu.specs.declared.phases.ToClose.TheVariants.{Worn, Others}
 use Rattle.lwkt_cpu.specs.declared.phases.Phase.{Phase}
 use Rattle.lwkt_cpu.specs.declared.phases.Phase.TheVariants.{Faulted}
 use Rattle.lwkt_cpu.specs.declared.threads.Thread.{Thread}
@@ -30,3 +32,8 @@ is_worn _ = false
 -- whether a thread hasn't ended
 abbrev pub has_not_ended : Phase → Bool
 has_not_ended phase = not (has_ended phase)
+
+-- whether the ports of threads that do so are among those that are closed
+abbrev pub includes : ToClose → Phase → Bool
+includes Worn = is_worn
+includes Others = has_not_ended

@@ -7,11 +7,14 @@ use Rattle.lwkt_base.specs.declared.faults.Fault.{Fault}
 use Rattle.lwkt_base.specs.declared.names.MsgId.{MsgId}
 use Rattle.lwkt_base.specs.declared.records.Rec.{Rec}
 use Rattle.lwkt_core.specs.declared.events.Event.{Event}
+use Rattle.lwkt_msg.specs.Desks.{cpu_of}
 use Rattle.lwkt_port.specs.Chains.{Chain}
 use Rattle.lwkt_port.specs.Mails.{mail_at}
-use Rattle.lwkt_port.specs.Posts.{Post}
+use Rattle.lwkt_port.specs.Posts.{Post, IsSamePost}
 use Rattle.lwkt_port.specs.Servings.{PostGets}
 use Rattle.lwkt_port.specs.Intakes.{PostTakesIn}
+use Rattle.lwkt_port.specs.Tellings.{Tells}
+use Rattle.lwkt_port.specs.Works.{Grew}
 use Rattle.lwkt_cpu.specs.declared.phases.Phase.{Phase}
 use Rattle.lwkt_cpu.specs.declared.phases.Phase.TheVariants.{Live, AwaitsItem, AwaitsReply, Exited, Faulted}
 use Rattle.lwkt_cpu.specs.declared.threads.Thread.{Thread}
@@ -75,3 +78,12 @@ IsWoken old new = (new ≡ old) ⊎ ((new.phase ≡ Live) × (new.list ≡ old.l
 -- each thread was woken or not; one that can run stays as it is
 abbrev pub AreWoken : List Thread → List Thread → Type 0
 AreWoken olds news = (length news ≡ length olds) × ((k : ℕ) (new : Thread) → slice_get news k ≡ Some new → (old : Thread) × ((slice_get olds k ≡ Some old) × IsWoken old new × (old.phase ≡ Live → new ≡ old)))
+
+-- a thread was looked after: it is woken by what it waits for, and one that can run stays as it is
+pub record LooksAfter (number : ℕ) (p q : Post) (t u : Vec Event Global) (old new : Thread) : Type 0 where
+  pub wakes : Wakes old.phase number p q t u old new
+  pub woken : IsWoken old new
+  pub live : old.phase ≡ Live → new ≡ old
+  pub same : IsSamePost p q
+  pub grew : Grew (cpu_of p.seat) 128 t u
+  pub told : Tells p.seat q.seat t.items u.items

@@ -2,10 +2,10 @@
 ghost use Rattle.std.specs.Prelude.{◌≡◌, ◌<◌, ◌≤◌, length};
 ghost use Rattle.lwkt_port.specs.Posts.{IsSamePost};
 ghost use Rattle.lwkt_cpu.specs.Searches.{ended_by};
-ghost use Rattle.lwkt_cpu.specs.Ending.{ClosesIf, Closes, is_worn, has_not_ended};
+ghost use Rattle.lwkt_cpu.specs.Ending.{ClosesIf, Closes, includes};
 ghost use Rattle.lwkt_cpu.specs.Polling.{became, goes_on};
 
-use crate::phases::Phase;
+use crate::phases::{Phase, ToClose};
 use crate::threads::Thread;
 use lwkt_ask::Next;
 use lwkt_base::TokList;
@@ -34,29 +34,17 @@ pub(crate) fn close_if(ports: &mut Ports, number: u8, ends: bool)
     }
 }
 
-/// Closes the ports of the threads that met a last generation, by rising number; those of earlier turns are closed already.
-pub(crate) fn close_worn(ports: &mut Ports, threads: &[Thread])
+/// Closes the ports of such threads, by rising number.
+#[inline]
+pub(crate) fn close_all(ports: &mut Ports, threads: &[Thread], which: ToClose)
     requires ported { ports.old.threads ≡ length threads.now }
     requires few { length threads.now ≤ 16 }
-    ensures closes { Closes is_worn threads.now ports.old ports.new }
+    ensures closes { Closes (includes which) threads.now ports.old ports.new }
     ensures same { IsSamePost ports.old ports.new }
     ensures seat { ports.new.seat ≡ ports.old.seat }
 {
     for at in 0..threads.len() {
-        close_if(ports, at as u8, threads[at].phase.is_worn());
-    }
-}
-
-/// Closes the ports of the threads that haven't ended, by rising number.
-pub(crate) fn close_others(ports: &mut Ports, threads: &[Thread])
-    requires ported { ports.old.threads ≡ length threads.now }
-    requires few { length threads.now ≤ 16 }
-    ensures closes { Closes has_not_ended threads.now ports.old ports.new }
-    ensures same { IsSamePost ports.old ports.new }
-    ensures seat { ports.new.seat ≡ ports.old.seat }
-{
-    for at in 0..threads.len() {
-        close_if(ports, at as u8, !threads[at].phase.has_ended());
+        close_if(ports, at as u8, which.includes(threads[at].phase));
     }
 }
 

@@ -45,3 +45,27 @@ impl Phase {
         matches!(self, Phase::Faulted(Fault::Worn))
     }
 }
+
+/// Which threads' ports are closed.
+#[derive(Clone, Copy)]
+pub(crate) enum ToClose {
+    /// Those of the threads that met a last generation; those of earlier turns are closed already.
+    Worn,
+    /// Those of the threads that haven't ended.
+    Others,
+}
+
+impl ToClose {
+    ghost use Rattle.lwkt_cpu.specs.Ending.{includes};
+
+    /// Whether these are the ports of threads that do so.
+    #[inline]
+    pub(crate) fn includes(self, phase: Phase) -> bool
+        ensures { result ≡ includes self phase }
+    {
+        match self {
+            ToClose::Worn => phase.is_worn(),
+            ToClose::Others => !phase.has_ended(),
+        }
+    }
+}

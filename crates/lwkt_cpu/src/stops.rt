@@ -17,8 +17,8 @@ ghost use Rattle.lwkt_cpu.specs.Ending.{Closes, has_not_ended};
 ghost use Rattle.lwkt_cpu.specs.Stopping.{stopped, AreStopped, Halts, HaltsRunning, Stops};
 
 use crate::cpus::Cpu;
-use crate::ends::{close_others, end, go_on};
-use crate::phases::Phase;
+use crate::ends::{close_all, end, go_on};
+use crate::phases::{Phase, ToClose};
 use crate::threads::Thread;
 use crate::turns::TURN_EVENTS;
 use lwkt_ask::exit;
@@ -91,7 +91,7 @@ impl<B> Cpu<B> {
         ensures none { self.new.running ≡ None }
         ensures empty { holding self.new.seat ≡ holds_nothing }
     {
-        close_others(&mut self.ports, &self.threads);
+        close_all(&mut self.ports, &self.threads, ToClose::Others);
         stop_all(&mut self.threads);
     }
 

@@ -10,7 +10,8 @@ ghost use Rattle.lwkt_ask.specs.Telling.{TellsMail, IsQuiet};
 
 use crate::answers::Turned;
 use crate::cpus::Cpu;
-use crate::ends::close_worn;
+use crate::ends::close_all;
+use crate::phases::ToClose;
 use crate::polls::poll_one;
 use crate::searches::find;
 use crate::wakes::wake_all;
@@ -75,7 +76,7 @@ impl<B> Cpu<B> {
             Some(place) => Some(place),
             None => {
                 let found = find(&mut self.hold, bank, &mut self.threads, self.cursor, trace);
-                close_worn(&mut self.ports, &self.threads);
+                close_all(&mut self.ports, &self.threads, ToClose::Worn);
                 self.running = found;
                 self.cursor = past(self.cursor, found);
                 found

@@ -5,7 +5,7 @@ ghost use Rattle.lwkt_port.specs.Posts.{IsSamePost};
 ghost use Rattle.lwkt_port.specs.Tellings.{Tells};
 ghost use Rattle.lwkt_port.specs.Works.{Grew};
 ghost use Rattle.lwkt_cpu.specs.Processors.{Awaits, AllAwait};
-ghost use Rattle.lwkt_cpu.specs.Waking.{woken_by, replied_by, Wakes, WakesAll, ward, IsWoken, AreWoken};
+ghost use Rattle.lwkt_cpu.specs.Waking.{woken_by, replied_by, LooksAfter, WakesAll, ward, AreWoken};
 
 use crate::phases::Phase;
 use crate::threads::Thread;
@@ -47,12 +47,7 @@ fn wake_waiting(
     requires exists { number < ports.old.threads }
     requires awaits { Awaits (messages_of ports.old.seat) thread.old }
     requires room { vec_len trace.old + 128 ≤ vec_capacity trace.old }
-    ensures wakes { Wakes thread.old.phase number ports.old ports.new trace.old trace.new thread.old thread.new }
-    ensures woken { IsWoken thread.old thread.new }
-    ensures live { thread.old.phase ≡ Phase.Live → thread.new ≡ thread.old }
-    ensures same { IsSamePost ports.old ports.new }
-    ensures grew { Grew (cpu_of ports.old.seat) 128 trace.old trace.new }
-    ensures told { Tells ports.old.seat ports.new.seat trace.old.items trace.new.items }
+    ensures { LooksAfter number ports.old ports.new trace.old trace.new thread.old thread.new }
 {
     match thread.phase {
         Phase::AwaitsItem => {
@@ -80,12 +75,7 @@ fn wake_one(
     requires exists { number < ports.old.threads }
     requires awaits { Awaits (messages_of ports.old.seat) thread.old }
     requires room { vec_len trace.old + 128 ≤ vec_capacity trace.old }
-    ensures wakes { Wakes thread.old.phase number ports.old ports.new trace.old trace.new thread.old thread.new }
-    ensures woken { IsWoken thread.old thread.new }
-    ensures live { thread.old.phase ≡ Phase.Live → thread.new ≡ thread.old }
-    ensures same { IsSamePost ports.old ports.new }
-    ensures grew { Grew (cpu_of ports.old.seat) 128 trace.old trace.new }
-    ensures told { Tells ports.old.seat ports.new.seat trace.old.items trace.new.items }
+    ensures { LooksAfter number ports.old ports.new trace.old trace.new thread.old thread.new }
 {
     match thread.phase {
         Phase::Live => {}

@@ -2,20 +2,10 @@
 #![tactic(auto)]
 
 use lwkt_checker::run_checker;
-use lwkt_report::{Program, ReaderSource, WriterSink, refuse_arguments};
-use std::alloc::{AllocError, Global};
+use lwkt_report::{Program, ReaderSource, WriterSink, refuse_arguments, words_of};
+use std::alloc::Global;
+use std::io;
 use std::process::ExitCode;
-use std::rt::Env;
-use std::{env, io};
-
-// The arguments without the program's own name.
-fn words_of<R: Env + AllocGlobal>(rt: &R) -> io::Result<Vec<String>> {
-    let mut words = Vec::new(rt.alloc());
-    for word in env::args(rt)?.skip(1) {
-        words.push(word).map_err(AllocError::from)?;
-    }
-    Ok(words)
-}
 
 fn main(rt: HostRuntime) -> ExitCode {
     let alloc: Global = rt.alloc();

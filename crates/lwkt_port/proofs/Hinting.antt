@@ -1,10 +1,10 @@
 -- What the ports remember stays true, and where it says that work isn't there, passing over that work is the same as looking at it.
-use Rattle.std.proofs.Common.{◌≡◌, ◌≢◌, ⊎_elim, ℕ, zero, suc, ◌-◌, ◌<◌, ◌≤◌, Bool, true, false, true≢false, inl, inr, List, [], ◌∷◌, ◌++◌, length, map, set, get_or, refl, ap, sym, ◌∙◌, subst, arith}
+use Rattle.std.proofs.Common.{◌≡◌, ◌≢◌, ⊎_elim, ℕ, zero, suc, ◌-◌, ◌<◌, ◌≤◌, Bool, true, false, inl, inr, List, [], ◌∷◌, ◌++◌, length, map, set, get_or, refl, ap, sym, ◌∙◌, subst, arith}
 use Rattle.std.proofs.lemmas.Bool.{cases_lt}
 use Rattle.std.proofs.lemmas.List.{set-get_or, get_or_default, get_or_past}
 use Rattle.std.proofs.lemmas.Option.{slice_get-get_or}
 use Rattle.std.proofs.lemmas.List.Elements.{All-set, All-get_or, All-nil, All-cons}
-use Rattle.std.specs.Prelude.{All, Option, Some, None, Result, Ok, Err, OnOk, IfOk, IfErr, MatchOption, slice_index_or, slice_get}
+use Rattle.std.specs.Prelude.{Option, Some, None, Result, Ok, Err, OnOk, IfOk, IfErr, MatchOption, slice_index_or}
 use Rattle.lwkt_base.specs.declared.faults.Fault.{Fault}
 use Rattle.lwkt_base.specs.declared.faults.Fault.TheVariants.{NotOwner, LaneFull, RoundsOut, Again}
 use Rattle.lwkt_base.specs.declared.asks.Item.{Item}
@@ -34,8 +34,7 @@ use Rattle.lwkt_port.specs.Hints.{IsUnowed, OwesNone, IsClear, AreClear}
 use Rattle.lwkt_port.specs.Intakes.{Payer, PaysOwed, Pays, Desks, Handles, HandlesAll, Pops, EmptiesKept, Intake, EmptiesFrom, ClearsClosed, Clearing, ClearsAt}
 use Rattle.lwkt_port.specs.Mails.{no_mail, mail_at}
 use Rattle.lwkt_port.specs.Openings.{new_mail, AreNew}
-use Rattle.lwkt_port.specs.Posts.{Changes}
-use Rattle.lwkt_port.specs.Queues.{queue_of, IsQueued}
+use Rattle.lwkt_port.specs.Queues.{queue_of}
 use Rattle.lwkt_port.specs.Sendings.{WhyUnsent, HasSentNote, ReplyMeans, Answers}
 use Rattle.lwkt_port.specs.Servings.{served_request, ServesAs, Serves, GetMeans}
 use Rattle.lwkt_port.specs.Withdrawals.{MayDrop, Drops, IsUntouched}

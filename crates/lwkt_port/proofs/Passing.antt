@@ -1,6 +1,6 @@
 -- Lanes without notes are passed over, and the first one with a note is emptied; where nothing is to be done before that, it is taking
 -- notes in.
-use Rattle.std.proofs.Common.{◌≡◌, ℕ, zero, suc, ◌+◌, ◌-◌, ◌<◌, ◌≤◌, List, [], ◌∷◌, ◌++◌, length, get_or, set, ⊎_elim, inr, refl, ap, sym, ◌∙◌, subst, arith}
+use Rattle.std.proofs.Common.{◌≡◌, ℕ, zero, suc, ◌+◌, ◌-◌, ◌<◌, ◌≤◌, List, [], ◌∷◌, ◌++◌, length, get_or, ⊎_elim, inr, refl, ap, sym, ◌∙◌, subst, arith}
 use Rattle.std.proofs.Math.ListN.{length-set}
 use Rattle.std.proofs.lemmas.List.{append-nil, set-get_or, get_or_default, get_or-set_same, set-set}
 use Rattle.std.specs.Prelude.{Option, None, slice_index_or, slice_set}
@@ -10,7 +10,7 @@ use Rattle.lwkt_port.specs.declared.lines.Lane.{Lane}
 use Rattle.lwkt_port.specs.declared.queues.Port.{Port}
 use Rattle.lwkt_port.specs.Chains.{Chain}
 use Rattle.lwkt_port.specs.Hints.{OwesNone}
-use Rattle.lwkt_port.specs.Intakes.{Payer, Desks, desks_of, Pops, EmptiesKept, Empties, Intake, EmptiesFrom, untaken, IsFronted, Clearing, ClearsAt, Hall, TakesIn}
+use Rattle.lwkt_port.specs.Intakes.{Desks, desks_of, Pops, EmptiesKept, Empties, Intake, EmptiesFrom, untaken, IsFronted, Clearing, ClearsAt, Hall, TakesIn}
 use Rattle.lwkt_port.specs.Lines.{IsRoomed, HasNone, IsLooked, IsFound}
 use Rattle.lwkt_port.specs.Posts.{Changes}
 use Rattle.lwkt_port.specs.Works.{Work}

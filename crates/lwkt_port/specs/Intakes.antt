@@ -1,6 +1,6 @@
 -- What a processor does with the notes that came over its lanes. The lanes stand for the inter-processor messages by which
 -- msgport(9) reaches another processor's port; owed replies, closed ports and the limits are own.
-use Rattle.std.specs.Prelude.{◌≡◌, ◌⊎◌, ℕ, ◌+◌, ◌-◌, ◌<◌, ◌≤◌, Bool, true, false, List, [], ◌∷◌, ◌++◌, length, Option, Some, None, MatchOption, Vec, option_to_list}
+use Rattle.std.specs.Prelude.{◌≡◌, ◌⊎◌, ℕ, ◌+◌, ◌-◌, ◌<◌, ◌≤◌, Bool, true, false, List, [], ◌∷◌, ◌++◌, length, All, Option, Some, None, MatchOption, Vec, vec_len, vec_capacity, option_to_list}
 use Rattle.std.specs.declared.alloc.Global.{Global}
 use Rattle.lwkt_core.specs.declared.events.Event.{Event}
 use Rattle.lwkt_lane.specs.declared.notes.Note.{Note}
@@ -11,6 +11,7 @@ use Rattle.lwkt_msg.specs.declared.answers.Taken.{Taken}
 use Rattle.lwkt_msg.specs.declared.answers.Taken.TheVariants as taken
 use Rattle.lwkt_msg.specs.declared.answers.Reaped.{Reaped}
 use Rattle.lwkt_msg.specs.declared.answers.Reaped.TheVariants as reaped_
+use Rattle.lwkt_msg.specs.Desks.{Desk, cpus_of}
 use Rattle.lwkt_base.specs.declared.records.Rec.{Rec}
 use Rattle.lwkt_port.specs.declared.deeds.Claim.TheVariants as claim
 use Rattle.lwkt_port.specs.declared.handlings.Fate.{Fate}
@@ -20,13 +21,13 @@ use Rattle.lwkt_port.specs.declared.mails.Mail.{Mail}
 use Rattle.lwkt_port.specs.declared.queues.Port.{Port}
 use Rattle.lwkt_port.specs.Chains.{Chain}
 use Rattle.lwkt_port.specs.Deeds.{Takes, Reaps}
+use Rattle.lwkt_port.specs.Hints.{OwesNone, AreClear}
 use Rattle.lwkt_port.specs.Lines.{IsRoomed, IsFound}
-use Rattle.lwkt_port.specs.Mails.{mail_at}
-use Rattle.lwkt_port.specs.Posts.{Post, Changes, work_of}
-use Rattle.lwkt_port.specs.Queues.{NamesBoth}
-use Rattle.lwkt_port.specs.Queues.{queue_of, IsQueued}
+use Rattle.lwkt_port.specs.Mails.{mail_at, AreMails}
+use Rattle.lwkt_port.specs.Posts.{Post, Changes, KeepsNamed, work_of}
+use Rattle.lwkt_port.specs.Queues.{NamesBoth, HasNamed, queue_of, IsQueued}
 use Rattle.lwkt_port.specs.Sendings.{Answers}
-use Rattle.lwkt_port.specs.Works.{Work}
+use Rattle.lwkt_port.specs.Works.{Work, work, away_count, Stands}
 
 -- what paying an owed reply changes
 pub record Payer : Type 0 where
@@ -43,6 +44,15 @@ PaysOwed (Some error) m x y = (made : Bool) × Answers (record { 0 = m }) error 
 
 abbrev pub Pays : ℕ → Payer → Payer → Type 0
 Pays m x y = PaysOwed (mail_at x.work.mails m).owed m x y
+
+-- so many messages were gone over, by number, and the replies that are owed to them made as lanes have room, by at most so many
+-- events; what that changes stays in order
+pub record PaysFirst (count most : ℕ) (seat : Desk) (lanes : Vec Lane Global) (mails : Vec Mail Global) (trace : Vec Event Global) (seat' : Desk) (lanes' : Vec Lane Global) (mails' : Vec Mail Global) (trace' : Vec Event Global) : Type 0 where
+  pub pays : Chain Payer Pays count (payer (work seat mails trace) lanes) (payer (work seat' mails' trace') lanes')
+  pub stands : Stands most seat mails trace seat' mails' trace'
+  pub as_many : vec_len lanes' ≡ vec_len lanes
+  pub named : All (KeepsNamed (vec_len mails')) lanes'.items
+  pub away : away_count mails'.items ≡ away_count mails.items
 
 -- what handling a note changes
 pub record Desks : Type 0 where
@@ -197,6 +207,28 @@ pub record TakesIn (limit : ℕ) (x y : Hall) (count : ℕ) : Type 0 where
   pub closed : Chain Clearing ClearsAt 16 (record { work = emptied.work; ports = emptied.ports; left = 16 }) (record { work = y.work; ports = y.ports; left = left })
   pub lanes_are : y.lanes ≡ emptied.lanes
   pub count_is : count ≡ emptied.count
+
+-- what taking notes in needs: all that it changes is in order, where `uncleared` isn't set no closed port has a note, and the trace
+-- has room for 256 events
+pub record IsReady (seat : Desk) (lanes : Vec Lane Global) (mails : Vec Mail Global) (ports : Vec Port Global) (uncleared : Bool) (trace : Vec Event Global) : Type 0 where
+  pub kept : AreMails seat mails.items
+  pub as_many_ports : vec_len ports ≡ 16
+  pub named : All (HasNamed (vec_len mails)) ports.items
+  pub hint : uncleared ≡ false → AreClear ports.items
+  pub as_many_lanes : vec_len lanes ≡ cpus_of seat
+  pub keep : All (KeepsNamed (vec_len mails)) lanes.items
+  pub room : vec_len trace + 256 ≤ vec_capacity trace
+
+-- what taking notes in leaves: it took so many, which are within the limit, all that it changed is in order, and the hints are right
+pub record LeavesReady (limit count : ℕ) (seat : Desk) (lanes : Vec Lane Global) (mails : Vec Mail Global) (trace : Vec Event Global) (seat' : Desk) (lanes' : Vec Lane Global) (mails' : Vec Mail Global) (ports' : Vec Port Global) (owing' uncleared' : Bool) (trace' : Vec Event Global) : Type 0 where
+  pub within : count ≤ limit
+  pub stands : Stands 256 seat mails trace seat' mails' trace'
+  pub as_many_ports : vec_len ports' ≡ 16
+  pub named : All (HasNamed (vec_len mails')) ports'.items
+  pub as_many_lanes : vec_len lanes' ≡ vec_len lanes
+  pub keep : All (KeepsNamed (vec_len mails')) lanes'.items
+  pub owed : owing' ≡ false → OwesNone mails'.items
+  pub hint : uncleared' ≡ false → AreClear ports'.items
 
 -- a processor's call to take in did so
 pub record PostTakesIn (limit : ℕ) (p p' : Post) (trace trace' : Vec Event Global) (count : ℕ) : Type 0 where

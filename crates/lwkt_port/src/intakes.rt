@@ -10,8 +10,8 @@ ghost use Rattle.lwkt_port.specs.Lines.{IsRoomed};
 ghost use Rattle.lwkt_port.specs.Mails.{mail_at, AreMails};
 ghost use Rattle.lwkt_port.specs.Posts.{Changes, KeepsNamed, IsSamePost};
 ghost use Rattle.lwkt_port.specs.Queues.{HasNamed};
-ghost use Rattle.lwkt_port.specs.Works.{Work, work, Grew, away_count, standing, Keeps, Stands};
-ghost use Rattle.lwkt_port.specs.Intakes.{Payer, payer, Pays, Intake, intake, EmptiesFrom, untaken, IsFronted, hall, TakesIn, PostTakesIn};
+ghost use Rattle.lwkt_port.specs.Works.{Work, work, Grew, away_count, standing, Keeps};
+ghost use Rattle.lwkt_port.specs.Intakes.{payer, Pays, PaysFirst, Intake, intake, EmptiesFrom, untaken, IsFronted, hall, TakesIn, IsReady, LeavesReady, PostTakesIn};
 ghost use Rattle.lwkt_port.specs.Closings.{PostPays};
 ghost use Rattle.lwkt_port.specs.Tellings.{Tells};
 
@@ -89,11 +89,7 @@ fn pay_all(
     requires lanes { vec_len lanes.old ≡ cpus_of seat.old }
     requires named { All (KeepsNamed (vec_len mails.old)) lanes.old.items }
     requires room { vec_len trace.old + 64 ≤ vec_capacity trace.old }
-    ensures pays { Chain Payer Pays (vec_len mails.old) (payer (work seat.old mails.old trace.old) lanes.old) (payer (work seat.new mails.new trace.new) lanes.new) }
-    ensures stands { Stands 64 seat.old mails.old trace.old seat.new mails.new trace.new }
-    ensures lanes { vec_len lanes.new ≡ vec_len lanes.old }
-    ensures named { All (KeepsNamed (vec_len mails.new)) lanes.new.items }
-    ensures away { away_count mails.new.items ≡ away_count mails.old.items }
+    ensures { PaysFirst (vec_len mails.old) 64 seat.old lanes.old mails.old trace.old seat.new lanes.new mails.new trace.new }
 {
     let count = count_messages(seat);
     for m in 0..count {
@@ -116,11 +112,7 @@ fn pay_owed(
     requires named { All (KeepsNamed (vec_len mails.old)) lanes.old.items }
     requires hint { owing ≡ false → OwesNone mails.old.items }
     requires room { vec_len trace.old + 64 ≤ vec_capacity trace.old }
-    ensures pays { Chain Payer Pays (vec_len mails.old) (payer (work seat.old mails.old trace.old) lanes.old) (payer (work seat.new mails.new trace.new) lanes.new) }
-    ensures stands { Stands 64 seat.old mails.old trace.old seat.new mails.new trace.new }
-    ensures lanes { vec_len lanes.new ≡ vec_len lanes.old }
-    ensures named { All (KeepsNamed (vec_len mails.new)) lanes.new.items }
-    ensures away { away_count mails.new.items ≡ away_count mails.old.items }
+    ensures pays { PaysFirst (vec_len mails.old) 64 seat.old lanes.old mails.old trace.old seat.new lanes.new mails.new trace.new }
     ensures hint { owing ≡ false → OwesNone mails.new.items }
 {
     if owing {
@@ -259,24 +251,11 @@ fn take_rest(
     trace: &mut Vec<Event>,
 ) -> usize
     requires table { seat.old.table ≡ book.now.table }
-    requires kept { AreMails seat.old mails.old.items }
-    requires ports { vec_len ports.old ≡ 16 }
-    requires named { All (HasNamed (vec_len mails.old)) ports.old.items }
+    requires ready { IsReady seat.old lanes.old mails.old ports.old uncleared.old trace.old }
     requires owing { OwesNone mails.old.items }
-    requires hint { uncleared.old ≡ false → AreClear ports.old.items }
-    requires lanes { vec_len lanes.old ≡ cpus_of seat.old }
-    requires keep { All (KeepsNamed (vec_len mails.old)) lanes.old.items }
     requires front { (before : List Lane) × IsFronted limit first (work seat.old mails.old trace.old) ports.old.items before lanes.old.items }
-    requires room { vec_len trace.old + 256 ≤ vec_capacity trace.old }
     ensures takes { (before : List Lane) → IsFronted limit first (work seat.old mails.old trace.old) ports.old.items before lanes.old.items → TakesIn limit (record { work = work seat.old mails.old trace.old; lanes = before; ports = ports.old.items }) (hall (work seat.new mails.new trace.new) lanes.new ports.new) result }
-    ensures within { result ≤ limit }
-    ensures stands { Stands 256 seat.old mails.old trace.old seat.new mails.new trace.new }
-    ensures ports { vec_len ports.new ≡ 16 }
-    ensures named { All (HasNamed (vec_len mails.new)) ports.new.items }
-    ensures lanes { vec_len lanes.new ≡ vec_len lanes.old }
-    ensures keep { All (KeepsNamed (vec_len mails.new)) lanes.new.items }
-    ensures owing { owing.new ≡ false → OwesNone mails.new.items }
-    ensures hint { uncleared.new ≡ false → AreClear ports.new.items }
+    ensures leaves { LeavesReady limit result seat.old lanes.old mails.old trace.old seat.new lanes.new mails.new ports.new owing.new uncleared.new trace.new }
 {
     let count = empty_front(
         book, seat, lanes, mails, ports, uncleared, first, limit, trace,
@@ -302,23 +281,10 @@ fn take_all(
     trace: &mut Vec<Event>,
 ) -> usize
     requires table { seat.old.table ≡ book.now.table }
-    requires kept { AreMails seat.old mails.old.items }
-    requires ports { vec_len ports.old ≡ 16 }
-    requires named { All (HasNamed (vec_len mails.old)) ports.old.items }
+    requires ready { IsReady seat.old lanes.old mails.old ports.old uncleared.old trace.old }
     requires owing { owing.old ≡ false → OwesNone mails.old.items }
-    requires hint { uncleared.old ≡ false → AreClear ports.old.items }
-    requires lanes { vec_len lanes.old ≡ cpus_of seat.old }
-    requires keep { All (KeepsNamed (vec_len mails.old)) lanes.old.items }
-    requires room { vec_len trace.old + 256 ≤ vec_capacity trace.old }
     ensures takes { TakesIn limit (hall (work seat.old mails.old trace.old) lanes.old ports.old) (hall (work seat.new mails.new trace.new) lanes.new ports.new) result }
-    ensures within { result ≤ limit }
-    ensures stands { Stands 256 seat.old mails.old trace.old seat.new mails.new trace.new }
-    ensures ports { vec_len ports.new ≡ 16 }
-    ensures named { All (HasNamed (vec_len mails.new)) ports.new.items }
-    ensures lanes { vec_len lanes.new ≡ vec_len lanes.old }
-    ensures keep { All (KeepsNamed (vec_len mails.new)) lanes.new.items }
-    ensures owing { owing.new ≡ false → OwesNone mails.new.items }
-    ensures hint { uncleared.new ≡ false → AreClear ports.new.items }
+    ensures leaves { LeavesReady limit result seat.old lanes.old mails.old trace.old seat.new lanes.new mails.new ports.new owing.new uncleared.new trace.new }
 {
     make_room(lanes);
     pay_owed(book, seat, lanes, mails, *owing, trace);
@@ -353,23 +319,10 @@ fn take_in(
     trace: &mut Vec<Event>,
 ) -> usize
     requires table { seat.old.table ≡ book.now.table }
-    requires kept { AreMails seat.old mails.old.items }
-    requires ports { vec_len ports.old ≡ 16 }
-    requires named { All (HasNamed (vec_len mails.old)) ports.old.items }
+    requires ready { IsReady seat.old lanes.old mails.old ports.old uncleared.old trace.old }
     requires owing { owing.old ≡ false → OwesNone mails.old.items }
-    requires hint { uncleared.old ≡ false → AreClear ports.old.items }
-    requires lanes { vec_len lanes.old ≡ cpus_of seat.old }
-    requires keep { All (KeepsNamed (vec_len mails.old)) lanes.old.items }
-    requires room { vec_len trace.old + 256 ≤ vec_capacity trace.old }
     ensures takes { TakesIn limit (hall (work seat.old mails.old trace.old) lanes.old ports.old) (hall (work seat.new mails.new trace.new) lanes.new ports.new) result }
-    ensures within { result ≤ limit }
-    ensures stands { Stands 256 seat.old mails.old trace.old seat.new mails.new trace.new }
-    ensures ports { vec_len ports.new ≡ 16 }
-    ensures named { All (HasNamed (vec_len mails.new)) ports.new.items }
-    ensures lanes { vec_len lanes.new ≡ vec_len lanes.old }
-    ensures keep { All (KeepsNamed (vec_len mails.new)) lanes.new.items }
-    ensures owing { owing.new ≡ false → OwesNone mails.new.items }
-    ensures hint { uncleared.new ≡ false → AreClear ports.new.items }
+    ensures leaves { LeavesReady limit result seat.old lanes.old mails.old trace.old seat.new lanes.new mails.new ports.new owing.new uncleared.new trace.new }
 {
     if *owing || *uncleared || !have_none_in_hand(lanes) {
         return take_all(

@@ -1,6 +1,7 @@
 //! The report that a run ends with, as text, and the streams that a run reads from and writes to.
 #![tactic(auto)]
 
+mod arguments;
 pub mod closings;
 pub mod complaints;
 mod listings;
@@ -11,6 +12,7 @@ pub mod sinks;
 pub mod sources;
 pub mod streams;
 
+pub use arguments::words_of;
 pub use closings::{Closing, ThreadLine, TokenLine, Verdict};
 pub use complaints::{
     Complaint, Program, complain, complaint_line, complaint_of, refuse_arguments,

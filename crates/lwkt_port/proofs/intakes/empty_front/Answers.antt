@@ -1,8 +1,4 @@
-use Rattle.std.proofs.Common.{◌≡◌, ◌+◌, ◌∙◌, refl, vec_len, slice_set}
-use Rattle.std.specs.Prelude.{List}
-use Rattle.lwkt_port.specs.declared.lines.Lane.{Lane}
-use Rattle.lwkt_port.specs.Chains.{Chain}
-use Rattle.lwkt_port.specs.Intakes.{Intake, EmptiesFrom, untaken}
+use Rattle.lwkt_port.specs.Intakes.{untaken}
 use Rattle.lwkt_port.specs.Works.{Work, work, Standing, standing}
 use Rattle.lwkt_port.proofs.Emptying.{keeps_then}
 use Rattle.lwkt_port.proofs.Passing.{front_emptied}

@@ -3,7 +3,7 @@ use Rattle.lwkt_port.specs.declared.lines.Lane.{Lane}
 use Rattle.lwkt_port.specs.Chains.{Chain}
 use Rattle.lwkt_port.specs.Lines.{IsRoomed}
 use Rattle.lwkt_port.specs.Posts.{Changes}
-use Rattle.lwkt_port.specs.Intakes.{Intake, Payer, Pays, intake, payer, EmptiesFrom, hall}
+use Rattle.lwkt_port.specs.Intakes.{Intake, Payer, Pays, intake, payer, EmptiesFrom}
 use Rattle.lwkt_port.specs.declared.mails.Mail.{Mail}
 use Rattle.lwkt_port.specs.Hints.{OwesNone}
 use Rattle.lwkt_port.specs.Works.{Standing, standing, work}
@@ -12,11 +12,20 @@ use Rattle.lwkt_port.proofs.Hinting.{emptied_owes}
 use Rattle.lwkt_port.proofs.Intaking.{stands_in_all}
 use Rattle.lwkt_port.proofs.intakes.take_all.Goals as goal
 
-pub returns-clause-stands : goal.returns-clause-stands
-returns-clause-stands c =
+pub returns-clause-leaves : goal.returns-clause-leaves
+returns-clause-leaves c =
     let s1 : Standing = standing c.pay_owed.new.seat c.pay_owed.new.mails c.pay_owed.new.trace c.args.ports.now in
     let s2 : Standing = standing c.empty_all-count.new.seat c.empty_all-count.new.mails c.empty_all-count.new.trace c.empty_all-count.new.ports in
-    stands_in_all c.args.seat.now c.args.mails.now c.args.trace.now s1 s2 c.clear_all.new.seat c.clear_all.new.mails c.clear_all.new.trace c.requires.kept c.pay_owed.ensures.stands c.pay_owed.ensures.away c.empty_all-count.ensures.keeps c.clear_all.ensures.stands
+    record {
+      within = c.empty_all-count.ensures.within;
+      stands = stands_in_all c.args.seat.now c.args.mails.now c.args.trace.now s1 s2 c.clear_all.new.seat c.clear_all.new.mails c.clear_all.new.trace c.requires.ready.kept c.pay_owed.ensures.pays.stands c.pay_owed.ensures.pays.away c.empty_all-count.ensures.keeps c.clear_all.ensures.stands;
+      as_many_ports = c.clear_all.ensures.ports;
+      named = c.clear_all.ensures.named;
+      as_many_lanes = search rules;
+      keep = search rules;
+      owed = c.may_owe.ensures;
+      hint = c.clear_all.ensures.hint;
+    }
 
 pub may_owe-requires : goal.may_owe-requires
 may_owe-requires c = record {
@@ -46,7 +55,7 @@ returns-clause-takes c =
       emptied = emptied;
       left = c.clear_all.ensures.clears.0;
       rooms = subst F lines c.make_room.ensures.rooms;
-      owed = subst G letters p.ensures.pays;
+      owed = subst G letters p.ensures.pays.pays;
       notes = subst H lanes (e.ensures.notes start (chain_none Intake (EmptiesFrom c.args.limit) start));
       closed = c.clear_all.ensures.clears.1;
       lanes_are = refl;

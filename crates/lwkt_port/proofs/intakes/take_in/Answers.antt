@@ -14,4 +14,4 @@ returns-in_default-clause-takes c =
     let F : ℕ → Type 0 = λ n. Chain Intake (EmptiesFrom c.args.limit) n x y in
     let lines : vec_len c.args.lanes.now ≡ length c.args.lanes.now.items = search rules in
     let none : c.pass_empty.result ≡ None = search rules in
-    calm_takes c.args.limit 16 w c.args.ports.now.items c.args.lanes.now.items y (hall w c.pass_empty.new.lanes c.args.ports.now) (c.requires.owing c.if-owing.false) (subst F lines (c.pass_empty.ensures.none none c.args.limit w c.args.ports.now.items)) (clears_none 16 (clearing w c.args.ports.now 16) (omega (arith, c.requires.ports)) (c.requires.hint c.if-uncleared.false)) refl
+    calm_takes c.args.limit 16 w c.args.ports.now.items c.args.lanes.now.items y (hall w c.pass_empty.new.lanes c.args.ports.now) (c.requires.owing c.if-owing.false) (subst F lines (c.pass_empty.ensures.none none c.args.limit w c.args.ports.now.items)) (clears_none 16 (clearing w c.args.ports.now 16) (omega (arith, c.requires.ready.as_many_ports)) (c.requires.ready.hint c.if-uncleared.false)) refl

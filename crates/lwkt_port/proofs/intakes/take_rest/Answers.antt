@@ -1,4 +1,4 @@
-use Rattle.std.proofs.Common.{◌≡◌, ℕ, ◌≤◌, ◌∙◌, List, length, sym, subst, refl, rules, arith, vec_len}
+use Rattle.std.proofs.Common.{◌≡◌, ℕ, ◌∙◌, List, length, sym, subst, refl, rules, arith, vec_len}
 use Rattle.lwkt_port.specs.declared.lines.Lane.{Lane}
 use Rattle.lwkt_port.specs.declared.mails.Mail.{Mail}
 use Rattle.lwkt_port.specs.Chains.{Chain}
@@ -22,13 +22,22 @@ returns-clause-takes c = λ before front.
     let many : vec_len c.args.lanes.now ≡ length before = now ∙ front.as_many in
     calm_takes c.args.limit c.clear_all.ensures.clears.0 w c.args.ports.now.items before y (hall (work c.clear_all.new.seat c.clear_all.new.mails c.clear_all.new.trace) e.new.lanes c.clear_all.new.ports) c.requires.owing (subst F many (e.ensures.notes before front)) c.clear_all.ensures.clears.1 refl
 
-pub returns-clause-stands : goal.returns-clause-stands
-returns-clause-stands c =
+pub returns-clause-leaves : goal.returns-clause-leaves
+returns-clause-leaves c =
     let e = c.empty_front-count in
     let s1 : Standing = standing c.args.seat.now c.args.mails.now c.args.trace.now c.args.ports.now in
     let s2 : Standing = standing e.new.seat e.new.mails e.new.trace e.new.ports in
-    let still : Stands 64 c.args.seat.now c.args.mails.now c.args.trace.now c.args.seat.now c.args.mails.now c.args.trace.now = stands_is 0 64 c.args.seat.now c.args.seat.now c.args.mails.now c.args.mails.now c.args.trace.now c.args.trace.now (omega arith) (stands_none c.args.seat.now c.args.mails.now c.args.trace.now c.requires.kept) in
-    stands_in_all c.args.seat.now c.args.mails.now c.args.trace.now s1 s2 c.clear_all.new.seat c.clear_all.new.mails c.clear_all.new.trace c.requires.kept still refl e.ensures.keeps c.clear_all.ensures.stands
+    let still : Stands 64 c.args.seat.now c.args.mails.now c.args.trace.now c.args.seat.now c.args.mails.now c.args.trace.now = stands_is 0 64 c.args.seat.now c.args.seat.now c.args.mails.now c.args.mails.now c.args.trace.now c.args.trace.now (omega arith) (stands_none c.args.seat.now c.args.mails.now c.args.trace.now c.requires.ready.kept) in
+    record {
+      within = e.ensures.within;
+      stands = stands_in_all c.args.seat.now c.args.mails.now c.args.trace.now s1 s2 c.clear_all.new.seat c.clear_all.new.mails c.clear_all.new.trace c.requires.ready.kept still refl e.ensures.keeps c.clear_all.ensures.stands;
+      as_many_ports = c.clear_all.ensures.ports;
+      named = c.clear_all.ensures.named;
+      as_many_lanes = e.ensures.len;
+      keep = search rules;
+      owed = c.may_owe.ensures;
+      hint = c.clear_all.ensures.hint;
+    }
 
 pub may_owe-requires : goal.may_owe-requires
 may_owe-requires c = record {

@@ -24,10 +24,10 @@ pub invariant_of-self : goal.invariant_of-self
 invariant_of-self g c =
     let i = c.self.inside in
     let f = c.find-found in
-    let q = c.close_worn.new.ports in
+    let q = c.close_all.new.ports in
     let F : List Thread → Type 0 = λ xs. IsAtRest {B = g.row.B.Denot} (processor_of f.new.hold.seat q i.bodies.items xs f.result c.past-self-inside.result) in
     let G : List Thread → Type 0 = λ xs. Finds i.hold.seat f.new.hold.seat xs f.new.threads i.cursor f.result in
     let long : length f.new.threads ≡ i.threads.len = finds_many i.hold.seat f.new.hold.seat c.deref_mut.result.now f.new.threads i.cursor f.result f.ensures.finds ∙ c.deref_mut.ensures.len in
     subst F (sym (refilled f.new.threads i.threads.items i.threads.len long))
-    (rest_posted {B = g.row.B.Denot} f.new.hold.seat i.ports q i.bodies.items f.new.threads f.result c.past-self-inside.result c.close_worn.ensures.same
+    (rest_posted {B = g.row.B.Denot} f.new.hold.seat i.ports q i.bodies.items f.new.threads f.result c.past-self-inside.result c.close_all.ensures.same
     (rest_found {B = g.row.B.Denot} i.hold.seat f.new.hold.seat i.ports i.bodies.items i.threads.items f.new.threads i.running i.cursor c.past-self-inside.result f.result c.self.invariant f.ensures.ran.bank f.ensures.ran.cpu (subst G c.deref_mut.ensures.value f.ensures.finds) c.past-self-inside.ensures))

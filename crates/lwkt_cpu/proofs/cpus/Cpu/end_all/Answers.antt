@@ -11,7 +11,7 @@ pub invariant_of-self : goal.invariant_of-self
 invariant_of-self g c =
     let i = c.self.inside in
     let s = c.stop_all in
-    let q = c.close_others.new.ports in
+    let q = c.close_all.new.ports in
     let news = s.new.threads in
     let none : i.running ≡ None = ap (λ (x : Processor g.row.B.Denot). x.running) c.self.view_is ∙ c.requires in
     let F : List Thread → Type 0 = λ xs. IsAtRest {B = g.row.B.Denot} (processor_of i.hold.seat q i.bodies.items xs i.running i.cursor) in
@@ -19,4 +19,4 @@ invariant_of-self g c =
     let long : length news ≡ i.threads.len = long_stopped c.deref_mut.result.now news s.ensures ∙ c.deref_mut.ensures.len in
     subst F (sym (refilled news i.threads.items i.threads.len long))
     (rest_stopped {B = g.row.B.Denot} i.hold.seat q i.bodies.items i.threads.items news i.running i.cursor none (subst G c.deref_mut.ensures.value s.ensures)
-    (rest_posted {B = g.row.B.Denot} i.hold.seat i.ports q i.bodies.items i.threads.items i.running i.cursor c.close_others.ensures.same c.self.invariant))
+    (rest_posted {B = g.row.B.Denot} i.hold.seat i.ports q i.bodies.items i.threads.items i.running i.cursor c.close_all.ensures.same c.self.invariant))

@@ -12,4 +12,4 @@ returns-clause-told c =
     let i = c.self.inside in
     let r = c.pay_owed in
     let F : Desk → Type 0 = λ d. Tells d r.new.seat c.args.trace.now.items r.new.trace.items in
-    subst F (ap (λ (p : Post). p.seat) c.self.view_is) (owed_all_told _ (payer (work i.seat i.mails c.args.trace.now) c.make_room.new.lanes) (payer (work r.new.seat r.new.mails r.new.trace) r.new.lanes) r.ensures.pays)
+    subst F (ap (λ (p : Post). p.seat) c.self.view_is) (owed_all_told _ (payer (work i.seat i.mails c.args.trace.now) c.make_room.new.lanes) (payer (work r.new.seat r.new.mails r.new.trace) r.new.lanes) r.ensures.pays.pays)
