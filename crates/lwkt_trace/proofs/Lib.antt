@@ -1,2 +1,1 @@
-pub mod EachItem
 pub mod TraceTexts
