@@ -1,5 +1,5 @@
 // The fields of a script's parts.
-ghost use Rattle.std.specs.Prelude.{◌≡◌, ◌≤◌, is_some, option_map, IfOk, IfSome};
+ghost use Rattle.std.specs.Prelude.{◌≡◌, ◌≤◌, is_some, option_map, Err, IfOk, IfSome, OnErr};
 ghost use Rattle.serde_json.specs.Find.{get};
 ghost use Rattle.serde_json.specs.View.{view, items_view};
 ghost use Rattle.lwkt_script.specs.Field.{has_members, item_count, number, number_in, list_in};
@@ -59,6 +59,7 @@ pub fn number_in(value: &Value, name: &str, low: u64, high: u64) -> Option<u64>
 pub fn number_at(place: u32, value: &Value, name: &str, low: u64, high: u64) -> Result<u64, Fault>
     ensures exact { Gives (λ n. n) result (part place (number_in name.now low high (view value.now))) }
     ensures within { IfOk result (λ n. (low ≤ n) × (n ≤ high)) }
+    ensures only { OnErr result (result ≡ Err (Fault.Script place)) }
 {
     match number_in(value, name, low, high) {
         Some(n) => Ok(n),
@@ -68,7 +69,8 @@ pub fn number_at(place: u32, value: &Value, name: &str, low: u64, high: u64) -> 
 
 /// The member of this name as a list, as part of what stands at a place.
 pub fn list_at<'v>(place: u32, value: &'v Value, name: &str) -> Result<&'v Vec<Value>, Fault>
-    ensures { Gives (λ v. items_view v.now.items) result (part place (list_in name.now (view value.now))) }
+    ensures exact { Gives (λ v. items_view v.now.items) result (part place (list_in name.now (view value.now))) }
+    ensures only { OnErr result (result ≡ Err (Fault.Script place)) }
 {
     match value.get(name).and_then(Value::as_array) {
         Some(list) => Ok(list),

@@ -1,4 +1,4 @@
-ghost use Rattle.std.specs.Prelude.{◌≡◌, ◌<◌, ◌≤◌, [], length, All, IfOk, IfSome};
+ghost use Rattle.std.specs.Prelude.{◌≡◌, ◌<◌, ◌≤◌, [], length, All, Err, IfOk, IfSome, OnErr};
 ghost use Rattle.serde_json.specs.View.{view, items_view};
 ghost use Rattle.lwkt_script.specs.Outcome.{Gives, each};
 ghost use Rattle.lwkt_script.specs.Member.{thread_of, origin_in};
@@ -48,6 +48,7 @@ pub fn message_at(cpus: u8, place: u32, value: &Value) -> Result<MsgSpec, Fault>
     requires { 0 < cpus }
     ensures exact { Gives (λ m. m) result (message_at cpus place (view value.now)) }
     ensures within { IfOk result (IsMessage cpus) }
+    ensures only { OnErr result (result ≡ Err (Fault.Script place)) }
 {
     if !has_members(value, 2) {
         return Err(Fault::Script { place });

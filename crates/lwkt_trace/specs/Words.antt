@@ -1,5 +1,7 @@
 -- The events of a trace and the ends of messages, by their words and how many items they have (own).
-use Rattle.std.specs.Prelude.{ℕ, ◌==◌, List, codes, bytes_eq, if◌then◌else◌, Option, Some, None, option_and_then}
+use Rattle.std.specs.Prelude.{◌≡◌, ℕ, ◌==◌, List, [], ◌∷◌, ◌++◌, codes, bytes_eq, if◌then◌else◌, Option, Some, None, option_and_then}
+use Rattle.std.specs.Fmt.{decimal}
+use Rattle.std.specs.List.{flat_map}
 use Rattle.serde_json.specs.Data.{Data}
 use Rattle.serde_json.specs.Find.{at, as_str}
 use Rattle.lwkt_base.specs.declared.names.CpuId.{CpuId}
@@ -9,8 +11,12 @@ use Rattle.lwkt_base.specs.declared.owners.Owner.TheVariants.{Rest, Out, With, B
 use Rattle.lwkt_base.specs.declared.owners.MsgEnd.{MsgEnd}
 use Rattle.lwkt_core.specs.declared.events.Event.{Event}
 use Rattle.lwkt_core.specs.declared.events.Event.TheVariants.{Load, Take, Share, Again, Mark, GiveOne, GiveClean, GiveWritten, Read, Write, Send, TakeMsg, DropMsg, Reply, Reap, Abort}
+use Rattle.lwkt_core.specs.declared.events.Place.{Place}
+use Rattle.lwkt_core.specs.declared.events.Place.TheVariants.{AtToken, AtMessage}
 use Rattle.lwkt_script.specs.Field.{item_count}
 use Rattle.lwkt_script.specs.Step.{◌>>=◌, small_at, whole_at}
+use Rattle.lwkt_trace.specs.declared.words.Subject.{Subject}
+use Rattle.lwkt_trace.specs.declared.words.Subject.TheVariants.{Token, Message}
 
 -- a processor, a token and a message by their numbers
 abbrev pub cpu_id : ℕ → CpuId
@@ -93,3 +99,36 @@ ended word count d =
 -- a message's end: a word, and the numbers that go with it
 abbrev pub message_end_of : Data → Option MsgEnd
 message_end_of d = item_count d >>= λ count. (at 0 d >>= as_str) >>= λ word. ended word count d
+
+-- a word is that of an event: with the numbers of the event it is read as this event
+abbrev pub IsWordOf : List ℕ → Event → Type 0
+IsWordOf word (Load cpu tok) = with_place word cpu.0 tok.0 ≡ Some (Load cpu tok)
+IsWordOf word (Take cpu tok) = with_place word cpu.0 tok.0 ≡ Some (Take cpu tok)
+IsWordOf word (Share cpu tok) = with_place word cpu.0 tok.0 ≡ Some (Share cpu tok)
+IsWordOf word (Again cpu tok) = with_place word cpu.0 tok.0 ≡ Some (Again cpu tok)
+IsWordOf word (Mark cpu tok) = with_place word cpu.0 tok.0 ≡ Some (Mark cpu tok)
+IsWordOf word (GiveOne cpu tok) = with_place word cpu.0 tok.0 ≡ Some (GiveOne cpu tok)
+IsWordOf word (GiveClean cpu tok) = with_place word cpu.0 tok.0 ≡ Some (GiveClean cpu tok)
+IsWordOf word (GiveWritten cpu tok) = with_place word cpu.0 tok.0 ≡ Some (GiveWritten cpu tok)
+IsWordOf word (Read cpu tok cell value) = with_value word cpu.0 tok.0 cell value ≡ Some (Read cpu tok cell value)
+IsWordOf word (Write cpu tok cell value) = with_value word cpu.0 tok.0 cell value ≡ Some (Write cpu tok cell value)
+IsWordOf word (Send cpu msg to round) = with_value word cpu.0 msg.0 to.0 round ≡ Some (Send cpu msg to round)
+IsWordOf word (TakeMsg cpu msg round) = with_round word cpu.0 msg.0 round ≡ Some (TakeMsg cpu msg round)
+IsWordOf word (DropMsg cpu msg) = with_place word cpu.0 msg.0 ≡ Some (DropMsg cpu msg)
+IsWordOf word (Reply cpu msg) = with_place word cpu.0 msg.0 ≡ Some (Reply cpu msg)
+IsWordOf word (Reap cpu msg) = with_place word cpu.0 msg.0 ≡ Some (Reap cpu msg)
+IsWordOf word (Abort cpu msg) = with_place word cpu.0 msg.0 ≡ Some (Abort cpu msg)
+
+-- what an event is at, as a place
+abbrev pub place_at : Subject → Place
+place_at (Token tok) = AtToken tok.0
+place_at (Message msg) = AtMessage msg.0
+
+-- numbers, each after a space
+abbrev pub spaced : List ℕ → List ℕ
+spaced numbers = flat_map (λ n. codes " " ++ decimal n) numbers
+
+-- the same, or a `-` after a space where there is none
+abbrev pub numbers_text : List ℕ → List ℕ
+numbers_text [] = codes " -"
+numbers_text (n ∷ ns) = spaced (n ∷ ns)

@@ -1,9 +1,16 @@
+ghost use Rattle.std.specs.Prelude.{◌≡◌, ◌++◌, OnOk, Some, string_bytes};
+ghost use Rattle.lwkt_core.specs.Events.{place_of};
+ghost use Rattle.lwkt_script.specs.Member.{law_of};
+ghost use Rattle.lwkt_trace.specs.Words.{IsWordOf, place_at, spaced, numbers_text};
+
 use lwkt_base::{Law, MsgId, TokId};
 use lwkt_core::Event;
 use std::alloc::AllocError;
 
-/// The word of an event.
-pub fn event_word(event: &Event) -> &'static str {
+/// The word of an event: the one that reading a trace takes for it.
+pub fn event_word(event: &Event) -> &'static str
+    ensures { IsWordOf result.now event.now }
+{
     match event {
         Event::Load { .. } => "load",
         Event::Take { .. } => "take",
@@ -32,7 +39,9 @@ pub enum Subject {
 }
 
 /// The token or message that an event is at.
-pub fn subject_of(event: &Event) -> Subject {
+pub fn subject_of(event: &Event) -> Subject
+    ensures { place_at result ≡ place_of event.now }
+{
     match *event {
         Event::Load { tok, .. }
         | Event::Take { tok, .. }
@@ -53,8 +62,10 @@ pub fn subject_of(event: &Event) -> Subject {
     }
 }
 
-/// The name of a law.
-pub fn law_name(law: Law) -> &'static str {
+/// The name of a law: the one that reading a script or a trace takes for it.
+pub fn law_name(law: Law) -> &'static str
+    ensures { law_of result.now ≡ Some law }
+{
     match law {
         Law::Any => "any",
         Law::Sum => "sum",
@@ -64,13 +75,23 @@ pub fn law_name(law: Law) -> &'static str {
     }
 }
 
-/// Appends numbers, each after a space, or ` -` where there are none.
-pub fn show_numbers(out: &mut String, numbers: &[u64]) -> Result<(), AllocError> {
-    if numbers.is_empty() {
-        return out.push_str(" -");
-    }
+// Appends numbers, each after a space.
+fn show_spaced(out: &mut String, numbers: &[u64]) -> Result<(), AllocError>
+    ensures { OnOk result (string_bytes out.new ≡ string_bytes out.old ++ spaced numbers.now) }
+{
     for number in numbers {
         write!(out, " {number}")?;
     }
     Ok(())
+}
+
+/// Appends numbers, each after a space, or ` -` where there are none.
+pub fn show_numbers(out: &mut String, numbers: &[u64]) -> Result<(), AllocError>
+    ensures { OnOk result (string_bytes out.new ≡ string_bytes out.old ++ numbers_text numbers.now) }
+{
+    if numbers.is_empty() {
+        out.push_str(" -")
+    } else {
+        show_spaced(out, numbers)
+    }
 }
