@@ -1,6 +1,7 @@
 use crate::layouts::{CPU_LIMIT, Layout, ROW, TOKEN_LIMIT, slot_of};
+use crate::pages::Page;
 use crate::shapes::{show_rect, show_text_at};
-use crate::words::{mode_word, show_number, show_size};
+use crate::words::mode_word;
 use lwkt_base::Mode;
 use lwkt_core::Event;
 use std::alloc::{AllocError, Global};
@@ -27,7 +28,7 @@ struct Way {
 
 /// What is held and what is on its way while a picture is drawn.
 #[derive(Drop)]
-pub struct Drawing {
+pub(crate) struct Drawing {
     pub layout: Layout,
     bars: Vec<Option<Bar>>,
     ways: [Option<Way>; MESSAGE_LIMIT],
@@ -45,62 +46,49 @@ fn sides(y: usize, to_y: usize) -> (usize, usize) {
 }
 
 // Appends the title of a message on its way, as far as it says where it began.
-fn show_way(out: &mut String, msg: usize, way: Way) -> Result<(), AllocError> {
+fn show_way(out: &mut Page, msg: usize, way: Way) {
     let word = if way.is_reply {
         "<g><title>reply to message "
     } else {
         "<g><title>message "
     };
-    show_size(out, word, msg)?;
-    show_number(out, ", round ", way.round)?;
-    show_size(out, ": from processor ", way.cpu)?;
-    show_size(out, " in round ", way.since)
+    out.size(word, msg);
+    out.number(", round ", way.round);
+    out.size(": from processor ", way.cpu);
+    out.size(" in round ", way.since);
 }
 
 // Appends the name of a message on its way.
-fn show_mail(out: &mut String, x: usize, y: usize, msg: usize, way: Way) -> Result<(), AllocError> {
-    show_text_at(out, x, y, "")?;
-    show_size(out, "m", msg)?;
-    show_number(out, " r", way.round)?;
-    out.push_str("</text></g>\n")
+fn show_mail(out: &mut Page, x: usize, y: usize, msg: usize, way: Way) {
+    show_text_at(out, x, y, "");
+    out.size("m", msg);
+    out.number(" r", way.round);
+    out.add("</text></g>\n");
 }
 
 // Appends the line of an arrow; dashed for a reply.
-fn show_line(
-    out: &mut String,
-    layout: &Layout,
-    way: Way,
-    cpu: usize,
-    until: usize,
-) -> Result<(), AllocError> {
+fn show_line(out: &mut Page, layout: &Layout, way: Way, cpu: usize, until: usize) {
     let (y, to_y) = (layout.top(way.cpu), layout.top(cpu));
     let (down, up) = sides(y, to_y);
-    show_size(out, "<line x1=\"", layout.middle(way.since))?;
-    show_size(out, "\" y1=\"", y.saturating_add(down))?;
-    show_size(out, "\" x2=\"", layout.middle(until))?;
-    show_size(out, "\" y2=\"", to_y.saturating_add(up))?;
-    out.push_str(if way.is_reply {
+    out.size("<line x1=\"", layout.middle(way.since));
+    out.size("\" y1=\"", y.saturating_add(down));
+    out.size("\" x2=\"", layout.middle(until));
+    out.size("\" y2=\"", to_y.saturating_add(up));
+    out.add(if way.is_reply {
         "\" class=\"way\" stroke-dasharray=\"5 3\""
     } else {
         "\" class=\"way\""
-    })?;
-    out.push_str(" marker-end=\"url(#head)\"/>")
+    });
+    out.add(" marker-end=\"url(#head)\"/>");
 }
 
 // Appends an arrow between two processors, from the middle of a round to the middle of another.
-fn draw_arrow(
-    out: &mut String,
-    layout: &Layout,
-    msg: usize,
-    way: Way,
-    cpu: usize,
-    until: usize,
-) -> Result<(), AllocError> {
-    show_way(out, msg, way)?;
-    show_size(out, " to processor ", cpu)?;
-    show_size(out, " in round ", until)?;
-    out.push_str("</title>")?;
-    show_line(out, layout, way, cpu, until)?;
+fn draw_arrow(out: &mut Page, layout: &Layout, msg: usize, way: Way, cpu: usize, until: usize) {
+    show_way(out, msg, way);
+    out.size(" to processor ", cpu);
+    out.size(" in round ", until);
+    out.add("</title>");
+    show_line(out, layout, way, cpu, until);
     let y = layout.top(way.cpu);
     let (down, _) = sides(y, layout.top(cpu));
     let y = if down == 0 {
@@ -108,55 +96,42 @@ fn draw_arrow(
     } else {
         y.saturating_add(ROW + 11)
     };
-    show_mail(out, layout.middle(way.since).saturating_add(3), y, msg, way)
+    show_mail(out, layout.middle(way.since).saturating_add(3), y, msg, way);
 }
 
 // Appends a message that is still on its way at the end: a line that ends in a ring.
-fn draw_lost(out: &mut String, layout: &Layout, msg: usize, way: Way) -> Result<(), AllocError> {
+fn draw_lost(out: &mut Page, layout: &Layout, msg: usize, way: Way) {
     let x = layout.middle(way.since);
     let y = layout.top(way.cpu).saturating_add(ROW);
-    show_way(out, msg, way)?;
-    show_size(out, ", not taken</title><path d=\"M", x)?;
-    show_size(out, " ", y)?;
-    show_size(out, "v9\" class=\"way\"/><circle cx=\"", x)?;
-    show_size(out, "\" cy=\"", y.saturating_add(12))?;
-    out.push_str("\" r=\"3\" class=\"way\"/>")?;
-    show_mail(out, x.saturating_add(6), y.saturating_add(14), msg, way)
+    show_way(out, msg, way);
+    out.size(", not taken</title><path d=\"M", x);
+    out.size(" ", y);
+    out.size("v9\" class=\"way\"/><circle cx=\"", x);
+    out.size("\" cy=\"", y.saturating_add(12));
+    out.add("\" r=\"3\" class=\"way\"/>");
+    show_mail(out, x.saturating_add(6), y.saturating_add(14), msg, way);
 }
 
 // Appends what a bar says, and its end.
-fn show_bar_title(
-    out: &mut String,
-    cpu: usize,
-    tok: usize,
-    bar: Bar,
-    until: usize,
-) -> Result<(), AllocError> {
-    show_size(out, "><title>token ", tok)?;
-    out.push_str(" held ")?;
-    out.push_str(mode_word(bar.mode))?;
-    show_size(out, " by processor ", cpu)?;
-    show_size(out, ", rounds ", bar.since)?;
-    show_size(out, " to ", until)?;
-    out.push_str("</title></rect>\n")
+fn show_bar_title(out: &mut Page, cpu: usize, tok: usize, bar: Bar, until: usize) {
+    out.size("><title>token ", tok);
+    out.add(" held ");
+    out.add(mode_word(bar.mode));
+    out.size(" by processor ", cpu);
+    out.size(", rounds ", bar.since);
+    out.size(" to ", until);
+    out.add("</title></rect>\n");
 }
 
 // Appends the tick of a mark in a row.
-fn show_tick(
-    out: &mut String,
-    x: usize,
-    y: usize,
-    by: usize,
-    tok: usize,
-    round: usize,
-) -> Result<(), AllocError> {
-    show_size(out, "<path d=\"M", x)?;
-    show_size(out, " ", y.saturating_sub(3))?;
-    show_size(out, "v", ROW + 2)?;
-    show_size(out, "\" class=\"tick\"><title>token ", tok)?;
-    show_size(out, " marked by processor ", by)?;
-    show_size(out, " in round ", round)?;
-    out.push_str("</title></path>\n")
+fn show_tick(out: &mut Page, x: usize, y: usize, by: usize, tok: usize, round: usize) {
+    out.size("<path d=\"M", x);
+    out.size(" ", y.saturating_sub(3));
+    out.size("v", ROW + 2);
+    out.size("\" class=\"tick\"><title>token ", tok);
+    out.size(" marked by processor ", by);
+    out.size(" in round ", round);
+    out.add("</title></path>\n");
 }
 
 // A bar with a reference more, or a new one.
@@ -186,15 +161,21 @@ fn with_one_less(bar: Bar) -> Option<Bar> {
     }
 }
 
+// The bars before the first round.
+fn no_bars(alloc: Global) -> Result<Vec<Option<Bar>>, AllocError> {
+    let mut bars = Vec::new(alloc);
+    for _slot in 0..CPU_LIMIT * TOKEN_LIMIT {
+        bars.push(None)?;
+    }
+    Ok(bars)
+}
+
 impl Drawing {
-    pub fn new(alloc: Global, layout: Layout) -> Result<Self, AllocError> {
-        let mut bars = Vec::new(alloc);
-        for _slot in 0..CPU_LIMIT * TOKEN_LIMIT {
-            bars.push(None)?;
-        }
+    /// A picture of this layout before its first round.
+    pub(crate) fn new(alloc: Global, layout: Layout) -> Result<Self, AllocError> {
         Ok(Drawing {
             layout,
-            bars,
+            bars: no_bars(alloc)?,
             ways: [None; MESSAGE_LIMIT],
         })
     }
@@ -205,16 +186,9 @@ impl Drawing {
     }
 
     // Appends the bar of a token that a processor held until this round.
-    fn draw_bar(
-        &self,
-        out: &mut String,
-        cpu: usize,
-        tok: usize,
-        bar: Bar,
-        until: usize,
-    ) -> Result<(), AllocError> {
+    fn draw_bar(&self, out: &mut Page, cpu: usize, tok: usize, bar: Bar, until: usize) {
         if !self.is_shown(bar.since, until) {
-            return Ok(());
+            return;
         }
         let class = match bar.mode {
             Mode::Exclusive => "full",
@@ -223,8 +197,13 @@ impl Drawing {
         let x = self.layout.x(bar.since).saturating_add(2);
         let end = self.layout.x(until.saturating_add(1)).saturating_sub(2);
         let y = self.layout.row(cpu, tok);
-        show_rect(out, x, y, end.saturating_sub(x), ROW - 4, class)?;
-        show_bar_title(out, cpu, tok, bar, until)
+        show_rect(out, x, y, end.saturating_sub(x), ROW - 4, class);
+        show_bar_title(out, cpu, tok, bar, until);
+    }
+
+    // The bar of a token that a processor holds.
+    fn bar(&self, cpu: usize, tok: usize) -> Option<Bar> {
+        self.bars.get(slot_of(cpu, tok)).copied().unwrap_or(None)
     }
 
     // A processor has a reference more, from this round on.
@@ -235,62 +214,40 @@ impl Drawing {
     }
 
     // A processor gives back a reference in this round; the bar is drawn with the last one.
-    fn give(
-        &mut self,
-        out: &mut String,
-        cpu: usize,
-        tok: usize,
-        round: usize,
-    ) -> Result<(), AllocError> {
-        let held = self.bars.get(slot_of(cpu, tok)).copied().unwrap_or(None);
-        let Some(bar) = held else {
-            return Ok(());
+    fn give(&mut self, out: &mut Page, cpu: usize, tok: usize, round: usize) {
+        let Some(bar) = self.bar(cpu, tok) else {
+            return;
         };
         let left = with_one_less(bar);
         if let Some(slot) = self.bars.get_mut(slot_of(cpu, tok)) {
             *slot = left;
         }
-        if left.is_some() {
-            return Ok(());
+        if left.is_none() {
+            self.draw_bar(out, cpu, tok, bar, round);
         }
-        self.draw_bar(out, cpu, tok, bar, round)
     }
 
     // Appends the tick of a mark in the row of a processor.
-    fn draw_tick(
-        &self,
-        out: &mut String,
-        cpu: usize,
-        by: usize,
-        tok: usize,
-        round: usize,
-    ) -> Result<(), AllocError> {
+    fn draw_tick(&self, out: &mut Page, cpu: usize, by: usize, tok: usize, round: usize) {
         let y = self.layout.row(cpu, tok);
         if y == 0 || !self.is_shown(round, round) {
-            return Ok(());
+            return;
         }
-        show_tick(out, self.layout.middle(round), y, by, tok, round)
+        show_tick(out, self.layout.middle(round), y, by, tok, round);
     }
 
     // Appends the ticks of a mark: in the rows of those that hold the token, or of who marks it.
-    fn draw_mark(
-        &self,
-        out: &mut String,
-        by: usize,
-        tok: usize,
-        round: usize,
-    ) -> Result<(), AllocError> {
+    fn draw_mark(&self, out: &mut Page, by: usize, tok: usize, round: usize) {
         let mut some = false;
         for cpu in 0..CPU_LIMIT {
-            if let Some(Some(_)) = self.bars.get(slot_of(cpu, tok)) {
-                self.draw_tick(out, cpu, by, tok, round)?;
+            if self.bar(cpu, tok).is_some() {
+                self.draw_tick(out, cpu, by, tok, round);
                 some = true;
             }
         }
-        if some {
-            return Ok(());
+        if !some {
+            self.draw_tick(out, by, by, tok, round);
         }
-        self.draw_tick(out, by, by, tok, round)
     }
 
     // A message leaves a processor.
@@ -301,24 +258,17 @@ impl Drawing {
     }
 
     // A message arrives at a processor, or is taken back; its arrow is drawn.
-    fn arrive(
-        &mut self,
-        out: &mut String,
-        msg: usize,
-        cpu: usize,
-        round: usize,
-    ) -> Result<Option<u64>, AllocError> {
+    fn arrive(&mut self, out: &mut Page, msg: usize, cpu: usize, round: usize) {
         let way = match self.ways.get_mut(msg) {
             Some(slot) => slot.take(),
             None => None,
         };
         let Some(way) = way else {
-            return Ok(None);
+            return;
         };
         if self.is_shown(way.since, round) {
-            draw_arrow(out, &self.layout, msg, way, cpu, round)?;
+            draw_arrow(out, &self.layout, msg, way, cpu, round);
         }
-        Ok(Some(way.round))
     }
 
     // A message's taker replies to it.
@@ -335,22 +285,12 @@ impl Drawing {
     }
 
     /// Notes an event of a round, and appends what it completes. `sent` is the round of the message that it is at.
-    pub fn draw_event(
-        &mut self,
-        out: &mut String,
-        event: &Event,
-        round: usize,
-        sent: u64,
-    ) -> Result<(), AllocError> {
+    pub(crate) fn draw_event(&mut self, out: &mut Page, event: &Event, round: usize, sent: u64) {
         let cpu = usize::from(event.cpu().0);
         match *event {
-            Event::Take { tok, .. } => {
-                self.add(cpu, usize::from(tok.0), Mode::Exclusive, round);
-                Ok(())
-            }
+            Event::Take { tok, .. } => self.add(cpu, usize::from(tok.0), Mode::Exclusive, round),
             Event::Share { tok, .. } | Event::Again { tok, .. } => {
-                self.add(cpu, usize::from(tok.0), Mode::Shared, round);
-                Ok(())
+                self.add(cpu, usize::from(tok.0), Mode::Shared, round)
             }
             Event::Mark { tok, .. } => self.draw_mark(out, cpu, usize::from(tok.0), round),
             Event::GiveOne { tok, .. }
@@ -367,37 +307,31 @@ impl Drawing {
                     round: number,
                     is_reply: false,
                 };
-                self.send(usize::from(msg.0), way);
-                Ok(())
+                self.send(usize::from(msg.0), way)
             }
-            Event::Reply { msg, .. } => {
-                self.reply(usize::from(msg.0), cpu, round, sent);
-                Ok(())
-            }
+            Event::Reply { msg, .. } => self.reply(usize::from(msg.0), cpu, round, sent),
             Event::TakeMsg { msg, .. } | Event::Reap { msg, .. } | Event::DropMsg { msg, .. } => {
-                self.arrive(out, usize::from(msg.0), cpu, round)?;
-                Ok(())
+                self.arrive(out, usize::from(msg.0), cpu, round)
             }
-            _ => Ok(()),
+            _ => {}
         }
     }
 
     /// Appends what is still held and still on its way behind the last round.
-    pub fn draw_rest(&self, out: &mut String) -> Result<(), AllocError> {
+    pub(crate) fn draw_rest(&self, out: &mut Page) {
         for cpu in 0..CPU_LIMIT {
             for tok in 0..TOKEN_LIMIT {
-                if let Some(Some(bar)) = self.bars.get(slot_of(cpu, tok)) {
-                    self.draw_bar(out, cpu, tok, *bar, self.layout.last)?;
+                if let Some(bar) = self.bar(cpu, tok) {
+                    self.draw_bar(out, cpu, tok, bar, self.layout.last);
                 }
             }
         }
         for (msg, way) in self.ways.iter().enumerate() {
             if let Some(way) = way {
                 if self.is_shown(way.since, way.since) {
-                    draw_lost(out, &self.layout, msg, *way)?;
+                    draw_lost(out, &self.layout, msg, *way);
                 }
             }
         }
-        Ok(())
     }
 }

@@ -2,14 +2,14 @@ use lwkt_core::Event;
 use std::alloc::{AllocError, Global};
 
 /// The most processors of a script, and the most tokens.
-pub const CPU_LIMIT: usize = 8;
+pub(crate) const CPU_LIMIT: usize = 8;
 
-pub const TOKEN_LIMIT: usize = 64;
+pub(crate) const TOKEN_LIMIT: usize = 64;
 
 /// The width of a round, and the height of a row.
-pub const COLUMN: usize = 24;
+pub(crate) const COLUMN: usize = 24;
 
-pub const ROW: usize = 14;
+pub(crate) const ROW: usize = 14;
 
 // What stands left of the first round and above the first processor, and between two processors.
 const LEFT: usize = 76;
@@ -20,12 +20,12 @@ const GAP: usize = 26;
 
 /// Where the parts of a picture stand.
 #[derive(Drop)]
-pub struct Layout {
+pub(crate) struct Layout {
     /// The rounds that are shown.
     pub first: usize,
     pub last: usize,
-    /// Of each processor where its turns stand.
-    pub tops: [usize; CPU_LIMIT],
+    // Of each processor where its turns stand.
+    tops: [usize; CPU_LIMIT],
     // Of each processor's tokens where they stand, 64 for each processor; 0 for one that it never holds.
     rows: Vec<usize>,
     /// How high all processors are.
@@ -33,7 +33,7 @@ pub struct Layout {
 }
 
 // The place of a token of a processor in a table.
-pub fn slot_of(cpu: usize, tok: usize) -> usize {
+pub(crate) fn slot_of(cpu: usize, tok: usize) -> usize {
     cpu.saturating_mul(TOKEN_LIMIT).saturating_add(tok)
 }
 
@@ -65,7 +65,7 @@ fn place_rows(rows: &mut [usize], cpu: usize, top: usize) -> usize {
 
 impl Layout {
     /// The layout of so many processors over these rounds of a run with this trace.
-    pub fn new(
+    pub(crate) fn new(
         alloc: Global,
         cpus: usize,
         first: usize,
@@ -95,24 +95,24 @@ impl Layout {
     }
 
     /// Where a round begins. One before those shown stands at their beginning, one behind them at their end.
-    pub fn x(&self, round: usize) -> usize {
+    pub(crate) fn x(&self, round: usize) -> usize {
         let end = self.last.saturating_add(1);
         let column = round.min(end).saturating_sub(self.first);
         LEFT.saturating_add(column.saturating_mul(COLUMN))
     }
 
     /// Where the middle of a round is.
-    pub fn middle(&self, round: usize) -> usize {
+    pub(crate) fn middle(&self, round: usize) -> usize {
         self.x(round).saturating_add(COLUMN / 2)
     }
 
     /// Where a processor's turns stand.
-    pub fn top(&self, cpu: usize) -> usize {
+    pub(crate) fn top(&self, cpu: usize) -> usize {
         self.tops.get(cpu).copied().unwrap_or(0)
     }
 
     /// Where a token of a processor stands.
-    pub fn row(&self, cpu: usize, tok: usize) -> usize {
+    pub(crate) fn row(&self, cpu: usize, tok: usize) -> usize {
         self.rows.get(slot_of(cpu, tok)).copied().unwrap_or(0)
     }
 }

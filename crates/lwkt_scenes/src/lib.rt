@@ -5,6 +5,7 @@ mod drawings;
 mod ends;
 mod events;
 mod layouts;
+mod pages;
 mod pictures;
 mod places;
 mod reels;
@@ -20,8 +21,8 @@ mod tries;
 mod turns;
 mod words;
 
-pub use pictures::{PICTURE_LIMIT, picture_of};
+pub use pictures::picture_of;
 pub use reels::{Chosen, Reel};
 pub use refusals::show_refusal;
-pub use shows::{TURN_LIMIT, lines_of};
+pub use shows::lines_of;
 pub use traces::trace_of;

@@ -1,23 +1,24 @@
 use crate::events::{show_event, stood_before};
+use crate::pages::Page;
 use crate::scenes::Scene;
 use crate::stories::{Doing, Outcome, Story, doing_after};
 use crate::tokens::Runners;
 use crate::tries::{held_after, taker};
-use crate::words::{show_breach, show_number};
+use crate::words::show_breach;
 use lwkt_base::{Answer, Ask, Fault, MsgId, ThreadId, ThreadState, TokId};
 use lwkt_core::{Event, State};
 use lwkt_report::ThreadLine;
 use lwkt_script::{Script, ThreadSpec};
-use lwkt_trace::words::{Subject, show_numbers, subject_of};
+use lwkt_trace::words::{Subject, subject_of};
 use lwkt_verdict::Poll;
-use std::alloc::{AllocError, Global};
+use std::alloc::Global;
 
 // The most messages of a script.
 const MESSAGE_LIMIT: usize = 64;
 
 /// A run that is made again event by event, and how far its threads have come.
 #[derive(Drop)]
-pub struct Replay {
+pub(crate) struct Replay {
     pub state: State,
     /// The threads as they end, by processor, then number.
     pub stories: Vec<Story>,
@@ -62,7 +63,11 @@ fn stores(turn: Option<&Scene>) -> bool {
 
 impl Replay {
     /// A run of a script before its first turn, whose threads end as these lines say.
-    pub fn open(alloc: Global, script: &Script, lines: &[ThreadLine]) -> Result<Self, Fault> {
+    pub(crate) fn open(
+        alloc: Global,
+        script: &Script,
+        lines: &[ThreadLine],
+    ) -> Result<Self, Fault> {
         let state = State::open(
             alloc,
             script.tokens.as_slice(),
@@ -84,8 +89,8 @@ impl Replay {
         })
     }
 
-    /// Where the story of a thread stands.
-    pub fn place_of(&self, id: ThreadId) -> Option<usize> {
+    // Where the story of a thread stands.
+    fn place_of(&self, id: ThreadId) -> Option<usize> {
         for (place, story) in self.stories.iter().enumerate() {
             if story.id == id {
                 return Some(place);
@@ -95,7 +100,7 @@ impl Replay {
     }
 
     /// The story of a thread.
-    pub fn story(&self, id: ThreadId) -> Option<&Story> {
+    pub(crate) fn story(&self, id: ThreadId) -> Option<&Story> {
         self.stories.get(self.place_of(id)?)
     }
 
@@ -119,14 +124,22 @@ impl Replay {
         }
     }
 
+    // Lets the thread go on that waits for what an event brings; says whether it brings something that nobody waits for.
+    fn deliver(&mut self, event: &Event) -> bool {
+        let Some(id) = self.receiver(event) else {
+            return false;
+        };
+        match msg_of(event) {
+            Some(msg) => !self.wake(id, msg),
+            None => false,
+        }
+    }
+
     /// Lets those go on that the mail of a turn wakes, and says whether mail came that wakes nobody: what was asked for.
-    pub fn take_mail(&mut self, part: &[Event]) -> bool {
+    pub(crate) fn take_mail(&mut self, part: &[Event]) -> bool {
         let mut asked_for = false;
         for event in part {
-            let (Some(id), Some(msg)) = (self.receiver(event), msg_of(event)) else {
-                continue;
-            };
-            if !self.wake(id, msg) {
+            if self.deliver(event) {
                 asked_for = true;
             }
         }
@@ -135,7 +148,10 @@ impl Replay {
 
     // Whether a processor runs a thread between two turns.
     fn is_running(&self, cpu: u8) -> bool {
-        matches!(self.runners.get(usize::from(cpu)), Some(Some(_)))
+        match self.runners.get(usize::from(cpu)) {
+            Some(runner) => runner.is_some(),
+            None => false,
+        }
     }
 
     // Notes the thread that a processor runs, or takes tokens for.
@@ -146,16 +162,16 @@ impl Replay {
     }
 
     // Appends how the row of a token breaks its law, and what is done about it.
-    fn show_broken(&self, out: &mut String, tok: TokId) -> Result<(), AllocError> {
+    fn show_broken(&self, out: &mut Page, tok: TokId) {
         let Some(token) = self.state.token(tok) else {
-            return Ok(());
+            return;
         };
-        show_number(out, "token ", u64::from(tok.0))?;
-        out.push_str(": ")?;
-        show_breach(out, token.law, token.param, token.row.as_slice())?;
-        out.push_str("; first row")?;
-        show_numbers(out, token.first.as_slice())?;
-        out.push_str(" was stored again")
+        out.number("token ", u64::from(tok.0));
+        out.add(": ");
+        show_breach(out, token.law, token.param, token.row.as_slice());
+        out.add("; first row");
+        out.numbers(token.first.as_slice());
+        out.add(" was stored again");
     }
 
     // Notes for whom an event's processor holds tokens, which so far has so many references of this turn; says how many it
@@ -171,30 +187,30 @@ impl Replay {
     // If an event stores again a cell of a section that broke its law, notes that and tells it.
     fn note_broken(
         &self,
-        why: &mut String,
+        why: &mut Page,
         event: &Event,
         stores: bool,
         broken: Option<TokId>,
-    ) -> Result<Option<TokId>, AllocError> {
+    ) -> Option<TokId> {
         match *event {
             Event::Write { tok, .. } if !stores && broken != Some(tok) => {
                 why.clear();
-                self.show_broken(why, tok)?;
-                Ok(Some(tok))
+                self.show_broken(why, tok);
+                Some(tok)
             }
-            _ => Ok(broken),
+            _ => broken,
         }
     }
 
     /// Makes events happen, those of a turn or of the stop, and appends each by what it changed. What is told of a section
     /// that broke its law goes into `why` too.
-    pub fn play(
+    pub(crate) fn play(
         &mut self,
-        out: &mut String,
-        why: &mut String,
+        out: &mut Page,
+        why: &mut Page,
         part: &[Event],
         turn: Option<&Scene>,
-    ) -> Result<bool, AllocError> {
+    ) -> bool {
         let mut broken = None;
         let mut held = 0usize;
         let stores = stores(turn);
@@ -203,40 +219,40 @@ impl Replay {
             None => true,
         };
         for (place, event) in part.iter().enumerate() {
-            let told = self.note_broken(why, event, stores, broken)?;
+            let told = self.note_broken(why, event, stores, broken);
             if told != broken {
                 broken = told;
-                out.push_str("; ")?;
-                out.push_str(why.as_str())?;
+                out.add("; ");
+                out.add_page(why);
             }
             match turn {
                 Some(scene) if !runs => held = self.note_taker(scene, place, event, held),
                 _ => {}
             }
-            out.push_str("; ")?;
-            self.play_one(out, event)?;
+            out.add("; ");
+            self.play_one(out, event);
         }
-        Ok(broken.is_some())
+        broken.is_some()
     }
 
     /// Makes the events of a turn happen, which isn't shown. What is told of a section that broke its law goes into `why`.
-    pub fn pass(&mut self, why: &mut String, scene: &Scene) -> Result<bool, AllocError> {
+    pub(crate) fn pass(&mut self, why: &mut Page, scene: &Scene) -> bool {
         let mut broken = None;
         let stores = stores(Some(scene));
         for event in scene.part {
-            broken = self.note_broken(why, event, stores, broken)?;
+            broken = self.note_broken(why, event, stores, broken);
             let _ = self.state.step(event);
         }
-        Ok(broken.is_some())
+        broken.is_some()
     }
 
     // Makes an event happen, and appends what it changed.
-    fn play_one(&mut self, out: &mut String, event: &Event) -> Result<(), AllocError> {
+    fn play_one(&mut self, out: &mut Page, event: &Event) {
         let old = stood_before(&self.state, event);
         if self.state.step(event).is_err() {
-            out.push_str("an event that can't happen: ")?;
+            out.add("an event that can't happen: ");
         }
-        show_event(out, &self.state, event, old, &self.runners)
+        show_event(out, &self.state, event, old, &self.runners);
     }
 
     // Notes the thread that a message is sent to.
@@ -255,13 +271,7 @@ impl Replay {
     }
 
     // Notes what a poll came to, and of a section that broke its law what is said of it.
-    fn note_poll(
-        &mut self,
-        alloc: Global,
-        poll: &Poll,
-        outcome: Outcome,
-        why: &str,
-    ) -> Result<(), AllocError> {
+    fn note_poll(&mut self, poll: &Poll, outcome: Outcome, why: Page) {
         self.note_sending(poll);
         let runs = outcome.doing == Doing::Runs;
         self.set_runner(
@@ -269,28 +279,20 @@ impl Replay {
             if runs { Some(poll.thread) } else { None },
         );
         let Some(place) = self.place_of(poll.thread) else {
-            return Ok(());
+            return;
         };
-        match self.stories.get_mut(place) {
-            Some(story) => story.note(alloc, poll, outcome, why),
-            None => Ok(()),
+        if let Some(story) = self.stories.get_mut(place) {
+            story.note(poll, outcome, why);
         }
     }
 
     /// Notes what a turn came to, and of a section that broke its law what is said of it.
-    pub fn note(
-        &mut self,
-        alloc: Global,
-        scene: &Scene,
-        outcome: Option<Outcome>,
-        why: &str,
-    ) -> Result<(), AllocError> {
+    pub(crate) fn note(&mut self, scene: &Scene, outcome: Option<Outcome>, why: Page) {
         let Some(outcome) = outcome else {
-            return Ok(());
+            return;
         };
-        match &scene.poll {
-            Some(poll) => self.note_poll(alloc, poll, outcome, why),
-            None => Ok(()),
+        if let Some(poll) = &scene.poll {
+            self.note_poll(poll, outcome, why);
         }
     }
 
@@ -307,7 +309,7 @@ impl Replay {
 
     /// What the events of a turn come to, which have happened: what the polled thread does next, if there is one. Where there
     /// is none, threads that can't have their lists end.
-    pub fn outcome(&mut self, scene: &Scene, mail: bool, broken: bool) -> Option<Outcome> {
+    pub(crate) fn outcome(&mut self, scene: &Scene, mail: bool, broken: bool) -> Option<Outcome> {
         let Some(poll) = scene.poll else {
             self.end_worn(scene.cpu, scene.number);
             return None;

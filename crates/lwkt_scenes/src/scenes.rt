@@ -5,7 +5,7 @@ use lwkt_verdict::{Poll, Turn};
 
 /// One turn of a run: its number, its processor, what it asked, and its events.
 #[derive(Clone, Copy)]
-pub struct Scene<'a> {
+pub(crate) struct Scene<'a> {
     pub number: usize,
     pub round: usize,
     pub cpu: u8,
@@ -14,7 +14,7 @@ pub struct Scene<'a> {
 }
 
 /// At most so many events from a place on.
-pub fn part_of(events: &[Event], from: usize, count: usize) -> &[Event] {
+pub(crate) fn part_of(events: &[Event], from: usize, count: usize) -> &[Event] {
     if from > events.len() {
         return &[];
     }
@@ -26,7 +26,7 @@ pub fn part_of(events: &[Event], from: usize, count: usize) -> &[Event] {
 }
 
 /// The turn of a number, whose events begin at a place of the trace.
-pub fn scene_of<'a>(run: &Reel<'a>, number: usize, turn: &Turn, from: usize) -> Scene<'a> {
+pub(crate) fn scene_of<'a>(run: &Reel<'a>, number: usize, turn: &Turn, from: usize) -> Scene<'a> {
     let cpus = usize::from(run.script.cpus);
     let (round, cpu) = if cpus == 0 {
         (0, 0)

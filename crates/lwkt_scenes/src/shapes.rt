@@ -1,46 +1,45 @@
-use crate::words::show_size;
-use std::alloc::AllocError;
+use crate::pages::Page;
 
 /// The class of a text in bold.
-pub const BOLD: &str = " class=\"bold\"";
+pub(crate) const BOLD: &str = " class=\"bold\"";
 
 /// Appends a rectangle up to its class.
-pub fn show_rect(
-    out: &mut String,
+pub(crate) fn show_rect(
+    out: &mut Page,
     x: usize,
     y: usize,
     width: usize,
     height: usize,
     class: &str,
-) -> Result<(), AllocError> {
-    show_size(out, "<rect x=\"", x)?;
-    show_size(out, "\" y=\"", y)?;
-    show_size(out, "\" width=\"", width)?;
-    show_size(out, "\" height=\"", height)?;
-    out.push_str("\" class=\"")?;
-    out.push_str(class)?;
-    out.push_str("\"")
+) {
+    out.size("<rect x=\"", x);
+    out.size("\" y=\"", y);
+    out.size("\" width=\"", width);
+    out.size("\" height=\"", height);
+    out.add("\" class=\"");
+    out.add(class);
+    out.add("\"");
 }
 
 /// Appends the beginning of a text at a place, of a class or none.
-pub fn show_text_at(out: &mut String, x: usize, y: usize, class: &str) -> Result<(), AllocError> {
-    show_size(out, "<text x=\"", x)?;
-    show_size(out, "\" y=\"", y)?;
-    out.push_str("\"")?;
-    out.push_str(class)?;
-    out.push_str(">")
+pub(crate) fn show_text_at(out: &mut Page, x: usize, y: usize, class: &str) {
+    out.size("<text x=\"", x);
+    out.size("\" y=\"", y);
+    out.add("\"");
+    out.add(class);
+    out.add(">");
 }
 
 /// Appends a text at a place that is a word and a number.
-pub fn show_label(
-    out: &mut String,
+pub(crate) fn show_label(
+    out: &mut Page,
     x: usize,
     y: usize,
     class: &str,
     word: &str,
     number: usize,
-) -> Result<(), AllocError> {
-    show_text_at(out, x, y, class)?;
-    show_size(out, word, number)?;
-    out.push_str("</text>")
+) {
+    show_text_at(out, x, y, class);
+    out.size(word, number);
+    out.add("</text>");
 }

@@ -2,32 +2,31 @@ ghost use Rattle.std.specs.Prelude.{IfOk, string_bytes};
 ghost use Rattle.lwkt_scenes.specs.Shown.{EndsInReport};
 
 use crate::ends::show_ends;
+use crate::pages::Page;
 use crate::reels::{Chosen, Reel};
 use crate::replays::Replay;
 use crate::scenes::{part_of, scene_of};
 use crate::turns::{pass_turn, show_turn};
-use crate::words::show_size;
 use lwkt_base::Fault;
 use lwkt_report::report;
-use std::alloc::{AllocError, Global};
+use std::alloc::Global;
 
-/// The most turns that are shown as lines.
-pub const TURN_LIMIT: usize = 10_000;
+// The most turns that are shown as lines.
+const TURN_LIMIT: usize = 10_000;
 
 // Appends which turns are shown, if not all are.
-fn show_choice(out: &mut String, chosen: Chosen, turns: usize) -> Result<(), AllocError> {
+fn show_choice(out: &mut Page, chosen: Chosen, turns: usize) {
     let end = last_shown(chosen);
     if chosen.first > 0 {
-        show_size(out, "turns before turn ", chosen.first)?;
-        out.push_str(" are not shown\n")?;
+        out.size("turns before turn ", chosen.first);
+        out.add(" are not shown\n");
     }
     if end < turns.saturating_sub(1) {
-        show_size(out, "turns behind turn ", end)?;
-        show_size(out, " are not shown, of ", turns)?;
-        show_size(out, " in all; at most ", TURN_LIMIT)?;
-        out.push_str(" are, chosen by --turns A..B\n")?;
+        out.size("turns behind turn ", end);
+        out.size(" are not shown, of ", turns);
+        out.size(" in all; at most ", TURN_LIMIT);
+        out.add(" are, chosen by --turns A..B\n");
     }
-    Ok(())
 }
 
 // The last turn that is shown.
@@ -38,63 +37,52 @@ fn last_shown(chosen: Chosen) -> usize {
 // Makes all turns happen, appends the lines of those that are shown, and says where the events of the stop begin.
 fn show_turns(
     alloc: Global,
-    out: &mut String,
+    out: &mut Page,
     run: &Reel,
     replay: &mut Replay,
     chosen: Chosen,
-) -> Result<usize, AllocError> {
+) -> usize {
     let mut from = 0usize;
     let end = last_shown(chosen);
     for (number, turn) in run.turns.iter().enumerate() {
         let scene = scene_of(run, number, turn, from);
         if chosen.first <= number && number <= end {
-            show_turn(alloc, replay, out, &scene)?;
+            show_turn(alloc, replay, out, &scene);
         } else {
-            pass_turn(alloc, replay, &scene)?;
+            pass_turn(alloc, replay, &scene);
         }
         from = from.saturating_add(usize::from(turn.events));
     }
-    Ok(from)
+    from
 }
 
 // Appends what is given up at the end.
-fn show_stop(
-    alloc: Global,
-    out: &mut String,
-    run: &Reel,
-    replay: &mut Replay,
-    from: usize,
-) -> Result<(), AllocError> {
+fn show_stop(alloc: Global, out: &mut Page, run: &Reel, replay: &mut Replay, from: usize) {
     let rest = part_of(run.trace, from, run.trace.len());
     if rest.is_empty() {
-        return Ok(());
+        return;
     }
-    let mut why = String::new(alloc);
-    out.push_str("at the end the running threads give up their tokens")?;
-    replay.play(out, &mut why, rest, None)?;
-    out.push_str("\n")
+    let mut why = Page::new(alloc);
+    out.add("at the end the running threads give up their tokens");
+    replay.play(out, &mut why, rest, None);
+    out.add("\n");
 }
 
 // Appends all that is said of a run before its report.
-fn show_run(
-    alloc: Global,
-    out: &mut String,
-    run: &Reel,
-    replay: &mut Replay,
-    chosen: Chosen,
-) -> Result<(), AllocError> {
-    let from = show_turns(alloc, out, run, replay, chosen)?;
-    show_choice(out, chosen, run.turns.len())?;
-    show_ends(out, replay, &run.closing.threads)?;
-    show_stop(alloc, out, run, replay, from)
+fn show_run(alloc: Global, out: &mut Page, run: &Reel, replay: &mut Replay, chosen: Chosen) {
+    let from = show_turns(alloc, out, run, replay, chosen);
+    show_choice(out, chosen, run.turns.len());
+    show_ends(out, replay, &run.closing.threads);
+    show_stop(alloc, out, run, replay, from);
 }
 
 // All that is said of a run before its report.
 fn front_of(alloc: Global, run: &Reel, chosen: Chosen) -> Result<String, Fault> {
     let mut replay = Replay::open(alloc, run.script, &run.closing.threads)?;
-    let mut out = String::new(alloc);
-    match show_run(alloc, &mut out, run, &mut replay, chosen) {
-        Ok(()) => Ok(out),
+    let mut out = Page::new(alloc);
+    show_run(alloc, &mut out, run, &mut replay, chosen);
+    match out.whole() {
+        Ok(text) => Ok(text),
         Err(_) => Err(Fault::Memory),
     }
 }

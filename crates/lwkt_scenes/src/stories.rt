@@ -1,19 +1,20 @@
 use crate::events::show_owner;
+use crate::pages::Page;
 use crate::tokens::{Runners, excludes, show_holders, show_word};
-use crate::words::{mode_word, show_number, show_thread};
+use crate::words::{mode_word, show_thread};
 use lwkt_base::{
     Answer, Ask, Fault, LAST_GENERATION, Mode, MsgId, Ref, ThreadId, ThreadState, TokId, TokList,
 };
 use lwkt_core::{Event, State, Token};
 use lwkt_verdict::{Poll, entry_of};
-use std::alloc::{AllocError, Global};
+use std::alloc::Global;
 
 // The most entries of a log.
 const LOG_LIMIT: usize = 32;
 
 /// What a thread is doing between two turns.
 #[derive(Clone, Copy, PartialEq, Eq)]
-pub enum Doing {
+pub(crate) enum Doing {
     /// It runs, and its processor holds its tokens.
     Runs,
     /// It goes on once its list can be had.
@@ -28,33 +29,33 @@ pub enum Doing {
 
 /// What a thread has come to after some turns.
 #[derive(Drop)]
-pub struct Story {
+pub(crate) struct Story {
     pub id: ThreadId,
     pub doing: Doing,
     /// The references that it wants or holds.
     pub list: TokList,
     /// How many polls it has had.
     pub polls: u64,
-    /// How many steps it makes, and how many times over.
-    pub steps: u64,
-    pub repeat: u64,
-    /// What it asked last.
-    pub asked: Option<Ask>,
+    // How many steps it makes, and how many times over.
+    steps: u64,
+    repeat: u64,
     /// How it ends.
     pub end: ThreadState,
     /// The turn in which it ended, if it has.
     pub ended_in: Option<usize>,
     /// Of a section that broke its law, or a token at its last generation, what is said of it.
-    pub why: Option<String>,
+    pub why: Option<Page>,
     /// Of each entry of the log the ask that it answers, by its number among the thread's asks.
     pub logged: Vec<Logged>,
+    /// Whether memory was refused for one of these.
+    pub is_lost: bool,
     /// How many entries the log would have without a limit.
     pub entries: u64,
 }
 
 /// An ask whose answer is in the log.
 #[derive(Clone, Copy)]
-pub struct Logged {
+pub(crate) struct Logged {
     pub ask: Ask,
     /// How many asks the thread had made before.
     pub number: u64,
@@ -62,7 +63,7 @@ pub struct Logged {
 
 /// What a poll came to.
 #[derive(Clone, Copy)]
-pub struct Outcome {
+pub(crate) struct Outcome {
     /// The number of its turn.
     pub turn: usize,
     /// What the thread does next.
@@ -90,7 +91,7 @@ fn has_send(part: &[Event]) -> bool {
 }
 
 /// What a poll leaves its thread doing, by its turn's events; `mail` says that an item of its port came to it.
-pub fn doing_after(poll: &Poll, part: &[Event], mail: bool) -> Doing {
+pub(crate) fn doing_after(poll: &Poll, part: &[Event], mail: bool) -> Doing {
     if let Some(Answer::Refused(_)) = poll.answer {
         return Doing::Runs;
     }
@@ -126,7 +127,7 @@ impl Story {
     }
 
     /// If the thread waits for what a message brings, lets it go on; says whether it did.
-    pub fn wake(&mut self, msg: MsgId) -> bool {
+    pub(crate) fn wake(&mut self, msg: MsgId) -> bool {
         let waits = self.doing == Doing::WaitsForPort || self.doing == Doing::WaitsForReply(msg);
         if waits {
             self.doing = Doing::WantsList;
@@ -135,7 +136,7 @@ impl Story {
     }
 
     /// If the thread can't have its list, since a token on it is at its last generation, ends it in this turn.
-    pub fn end_worn(&mut self, state: &State, turn: usize) {
+    pub(crate) fn end_worn(&mut self, state: &State, turn: usize) {
         let is_worn = self.end == ThreadState::Faulted(Fault::Worn)
             && self.doing == Doing::WantsList
             && self.worn(state).is_some();
@@ -146,7 +147,13 @@ impl Story {
     }
 
     /// A thread before its first poll, that makes so many steps so many times, and ends so.
-    pub fn new(alloc: Global, id: ThreadId, steps: u64, repeat: u64, end: ThreadState) -> Self {
+    pub(crate) fn new(
+        alloc: Global,
+        id: ThreadId,
+        steps: u64,
+        repeat: u64,
+        end: ThreadState,
+    ) -> Self {
         Story {
             id,
             doing: Doing::WantsList,
@@ -154,31 +161,33 @@ impl Story {
             polls: 0,
             steps,
             repeat,
-            asked: None,
             end,
             ended_in: None,
             why: None,
             logged: Vec::new(alloc),
+            is_lost: false,
             entries: 0,
         }
     }
 
     // Notes the entry that an answer makes in the log.
-    fn note_entry(&mut self, poll: &Poll) -> Result<(), AllocError> {
+    fn note_entry(&mut self, poll: &Poll) {
         let Some(answer) = poll.answer else {
-            return Ok(());
+            return;
         };
         if entry_of(poll.ask, answer).is_none() {
-            return Ok(());
+            return;
         }
         self.entries = self.entries.saturating_add(1);
         if self.logged.len() < LOG_LIMIT {
-            self.logged.push(Logged {
+            let logged = Logged {
                 ask: poll.ask,
                 number: self.polls,
-            })?;
+            };
+            if self.logged.push(logged).is_err() {
+                self.is_lost = true;
+            }
         }
-        Ok(())
     }
 
     // Notes what an answer says of the list.
@@ -194,38 +203,30 @@ impl Story {
     }
 
     /// Notes a poll and what it came to; of a section that broke its law what is said of it.
-    pub fn note(
-        &mut self,
-        alloc: Global,
-        poll: &Poll,
-        outcome: Outcome,
-        why: &str,
-    ) -> Result<(), AllocError> {
-        self.note_entry(poll)?;
+    pub(crate) fn note(&mut self, poll: &Poll, outcome: Outcome, why: Page) {
+        self.note_entry(poll);
         self.note_list(poll);
-        self.asked = Some(poll.ask);
         self.doing = outcome.doing;
         self.polls = self.polls.saturating_add(1);
         if outcome.doing == Doing::Ended {
             self.ended_in = Some(outcome.turn);
         }
         if outcome.broken {
-            self.why = Some(String::from_str(alloc, why)?);
+            self.why = Some(why);
         }
-        Ok(())
     }
 
     /// Appends which of its steps a thread makes: `step 2`, and where it makes them several times which time, from 1.
-    pub fn show_step(&self, out: &mut String, polls: u64) -> Result<(), AllocError> {
+    pub(crate) fn show_step(&self, out: &mut Page, polls: u64) {
         if self.steps == 0 || polls / self.steps >= self.repeat {
-            return out.push_str("after its steps");
+            out.add("after its steps");
+            return;
         }
-        show_number(out, "step ", polls % self.steps)?;
+        out.number("step ", polls % self.steps);
         if self.repeat > 1 {
             let time = (polls / self.steps).saturating_add(1);
-            show_number(out, " of time ", time)?;
+            out.number(" of time ", time);
         }
-        Ok(())
     }
 
     // Whether the list has no reference to another token than this.
@@ -253,26 +254,22 @@ impl Story {
     }
 
     // Appends which token of its list a thread can't have.
-    fn show_want(
-        &self,
-        out: &mut String,
-        state: &State,
-        runners: &Runners,
-    ) -> Result<(), AllocError> {
+    fn show_want(&self, out: &mut Page, state: &State, runners: &Runners) {
         let Some(wanted) = self.lacks(state) else {
-            return out.push_str("is ready");
+            out.add("is ready");
+            return;
         };
-        show_number(out, "waits for token ", u64::from(wanted.tok.0))?;
-        out.push_str(" ")?;
-        out.push_str(mode_word(wanted.mode))?;
+        out.number("waits for token ", u64::from(wanted.tok.0));
+        out.add(" ");
+        out.add(mode_word(wanted.mode));
         match state.token(wanted.tok) {
             Some(token) => show_hindrance(out, token, runners),
-            None => Ok(()),
+            None => {}
         }
     }
 
     /// The token of the list that is wanted exclusively at its last generation.
-    pub fn worn(&self, state: &State) -> Option<TokId> {
+    pub(crate) fn worn(&self, state: &State) -> Option<TokId> {
         for wanted in self.list.refs() {
             if let Some(token) = state.token(wanted.tok) {
                 if wanted.mode == Mode::Exclusive && token.generation >= LAST_GENERATION {
@@ -284,37 +281,32 @@ impl Story {
     }
 
     /// Appends why a thread doesn't run, or that it does.
-    pub fn show_why(
-        &self,
-        out: &mut String,
-        state: &State,
-        runners: &Runners,
-    ) -> Result<(), AllocError> {
-        show_thread(out, self.id)?;
-        out.push_str(" ")?;
+    pub(crate) fn show_why(&self, out: &mut Page, state: &State, runners: &Runners) {
+        show_thread(out, self.id);
+        out.add(" ");
         match self.doing {
-            Doing::Runs => out.push_str("runs"),
+            Doing::Runs => out.add("runs"),
             Doing::WantsList => self.show_want(out, state, runners),
-            Doing::WaitsForPort => out.push_str("waits for its port, which has nothing"),
+            Doing::WaitsForPort => out.add("waits for its port, which has nothing"),
             Doing::WaitsForReply(msg) => {
-                show_number(out, "waits for the reply to message ", u64::from(msg.0))?;
+                out.number("waits for the reply to message ", u64::from(msg.0));
                 match state.message(msg) {
                     Some(message) => {
-                        out.push_str(", which is ")?;
+                        out.add(", which is ");
                         show_owner(out, message.owner)
                     }
-                    None => Ok(()),
+                    None => {}
                 }
             }
-            Doing::Ended => out.push_str("has ended"),
+            Doing::Ended => out.add("has ended"),
         }
     }
 }
 
 // Appends what keeps a token from a thread: its word in parts, and who holds it.
-fn show_hindrance(out: &mut String, token: &Token, runners: &Runners) -> Result<(), AllocError> {
-    out.push_str(", ")?;
-    show_word(out, token)?;
-    out.push_str(", ")?;
-    show_holders(out, token, runners)
+fn show_hindrance(out: &mut Page, token: &Token, runners: &Runners) {
+    out.add(", ");
+    show_word(out, token);
+    out.add(", ");
+    show_holders(out, token, runners);
 }

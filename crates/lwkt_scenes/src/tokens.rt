@@ -1,10 +1,10 @@
-use crate::words::{mode_word, show_number, show_thread};
+use crate::pages::Page;
+use crate::words::{mode_word, show_thread};
 use lwkt_base::{CpuId, Held, LAST_GENERATION, Mode, Ref, ThreadId};
 use lwkt_core::Token;
-use std::alloc::AllocError;
 
 /// Of each processor the thread that it runs between two turns, which holds what the processor holds.
-pub type Runners = [Option<ThreadId>; 8];
+pub(crate) type Runners = [Option<ThreadId>; 8];
 
 // What a holding adds to the count of a token's word: a shared one all its references, an exclusive one its further ones.
 fn counted(held: Held) -> u64 {
@@ -25,7 +25,7 @@ fn count_of(token: &Token) -> u64 {
 }
 
 /// The word that shows a token: the exclusive bit, the mark, the count and the generation.
-pub fn word_of(token: &Token) -> u64 {
+pub(crate) fn word_of(token: &Token) -> u64 {
     let low = u64::from(!token.is_open()) + 2 * u64::from(token.mark);
     let high = token.generation.saturating_mul(262_144);
     high.saturating_add(count_of(token).saturating_mul(4))
@@ -33,45 +33,47 @@ pub fn word_of(token: &Token) -> u64 {
 }
 
 /// Appends the parts of a token's word: `word 1 (exclusive bit 1, mark 0, count 0, generation 0)`.
-pub fn show_word(out: &mut String, token: &Token) -> Result<(), AllocError> {
-    show_number(out, "word ", word_of(token))?;
-    show_number(out, " (exclusive bit ", u64::from(!token.is_open()))?;
-    show_number(out, ", mark ", u64::from(token.mark))?;
-    show_number(out, ", count ", count_of(token))?;
-    show_number(out, ", generation ", token.generation)?;
-    out.push_str(")")
+pub(crate) fn show_word(out: &mut Page, token: &Token) {
+    out.number("word ", word_of(token));
+    out.number(" (exclusive bit ", u64::from(!token.is_open()));
+    out.number(", mark ", u64::from(token.mark));
+    out.number(", count ", count_of(token));
+    out.number(", generation ", token.generation);
+    out.add(")");
 }
 
 // Appends who holds for a processor: the thread that it runs, if that is known.
-fn show_runner(out: &mut String, cpu: u8, runners: &Runners) -> Result<(), AllocError> {
+fn show_runner(out: &mut Page, cpu: u8, runners: &Runners) {
     match runners.get(usize::from(cpu)) {
         Some(Some(id)) => show_thread(out, *id),
-        _ => write!(out, "processor {cpu}"),
+        _ => out.number("processor ", u64::from(cpu)),
     }
 }
 
 /// Appends who holds a token: `held shared by 0.0, 1.2`, or `free`.
-pub fn show_holders(out: &mut String, token: &Token, runners: &Runners) -> Result<(), AllocError> {
+pub(crate) fn show_holders(out: &mut Page, token: &Token, runners: &Runners) {
     let mut some = false;
     for cpu in 0..8u8 {
         if let Held::Holds(mode, _) = token.held_by(CpuId(cpu)) {
             if some {
-                out.push_str(", ")?;
+                out.add(", ");
             } else {
-                out.push_str("held ")?;
-                out.push_str(mode_word(mode))?;
-                out.push_str(" by ")?;
+                out.add("held ");
+                out.add(mode_word(mode));
+                out.add(" by ");
             }
-            show_runner(out, cpu, runners)?;
+            show_runner(out, cpu, runners);
             some = true;
         }
     }
-    if some { Ok(()) } else { out.push_str("free") }
+    if !some {
+        out.add("free");
+    }
 }
 
 /// Whether a processor that holds nothing of a token can't have a reference to it now; `alone` says that its thread's list
 /// has none to another token.
-pub fn excludes(token: &Token, wanted: Ref, alone: bool) -> bool {
+pub(crate) fn excludes(token: &Token, wanted: Ref, alone: bool) -> bool {
     match wanted.mode {
         Mode::Exclusive => !token.is_free() || token.generation >= LAST_GENERATION,
         Mode::Shared => !token.is_open() || (token.mark && alone),

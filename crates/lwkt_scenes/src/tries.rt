@@ -7,7 +7,7 @@ use lwkt_base::{Mode, Ref, ThreadId};
 use lwkt_core::Event;
 
 /// How many references a processor has after an event, of those that it took in this turn.
-pub fn held_after(held: usize, event: &Event) -> usize {
+pub(crate) fn held_after(held: usize, event: &Event) -> usize {
     match *event {
         Event::Take { .. } | Event::Share { .. } | Event::Again { .. } => held.saturating_add(1),
         Event::GiveOne { .. } | Event::GiveClean { .. } | Event::GiveWritten { .. } => {
@@ -85,7 +85,7 @@ fn missed_by(replay: &Replay, scene: &Scene, part: &[Event]) -> Option<ThreadId>
 }
 
 /// The thread that a processor takes tokens for, from this place of a turn's events on, where that is sure.
-pub fn taker(replay: &Replay, scene: &Scene, place: usize) -> Option<ThreadId> {
+pub(crate) fn taker(replay: &Replay, scene: &Scene, place: usize) -> Option<ThreadId> {
     let rest = part_of(scene.part, place, scene.part.len());
     let Some(count) = given_back(rest) else {
         return Some(scene.poll?.thread);
