@@ -100,12 +100,12 @@ is_same() {
 
 # Whether the program that is there is the shipped one, and wasn't built here.
 is_from_shipped() {
-    grep -qxF -- "from ${shipped#"$top"/}" "$stamp"
+    grep -qsxF -- "from ${shipped#"$top"/}" "$stamp"
 }
 
 # Whether the program that is there was built here by the kit $1.
 is_made_by() {
-    grep -qxF -- "by $1" "$stamp"
+    grep -qsxF -- "by $1" "$stamp"
 }
 
 # What is said of the shipped program: the digests of its sources and of itself, and the kit that made it.

@@ -40,13 +40,10 @@ take_shipped() {
 
 # Which program would be started.
 tell_program() {
-    local lack
+    local lack origin='built here' where=crates/$program_crate/out/$program_name
+    ! is_from_shipped || origin=shipped
     if is_current || is_same; then
-        if is_from_shipped; then
-            echo "shipped, crates/$program_crate/out/$program_name"
-        else
-            echo "built here, crates/$program_crate/out/$program_name"
-        fi
+        echo "$origin, $where"
         return
     fi
     read_crates "$top"
@@ -58,7 +55,7 @@ tell_program() {
     if [[ -z $lack ]]; then
         echo 'none yet; the next start builds it'
     elif [[ -x $program ]]; then
-        echo "built here of older sources, crates/$program_crate/out/$program_name; $lack"
+        echo "$origin, $where, of older sources; $lack"
     else
         echo "none; $lack"
     fi
