@@ -53,7 +53,7 @@ wants_help() {
 # The words that are the program's into `words`, and into `file` what stands behind them: the last word that is no mode,
 # no option and no option's value, if there is one (`has_file`). `is_known` says whether the program will read.
 sort_words() {
-    local word behind='' value='' plain=() at
+    local word behind='' value='' plain=() first=0 at
     words=() file='' has_file='' is_known=yes
     for word in "$@"; do
         if [[ -n $value ]]; then
@@ -72,13 +72,14 @@ sort_words() {
         fi
         words+=("$word")
     done
-    if ((${#modes[@]} > 0)); then
-        ((${#plain[@]} > 0)) && is_among "${words[${plain[0]}]}" "${modes[@]}" || is_known=
-        plain=("${plain[@]:1}")
+    ((${#modes[@]} == 0)) || first=1
+    if ((${#plain[@]} < first || ${#plain[@]} > first + 1)); then
+        is_known=
+    elif ((first == 1)) && ! is_among "${words[${plain[0]}]}" "${modes[@]}"; then
+        is_known=
     fi
-    ((${#plain[@]} > 0)) || return 0
-    ((${#plain[@]} == 1)) || is_known=
-    at=${plain[${#plain[@]} - 1]}
+    ((${#plain[@]} > first)) || return 0
+    at=${plain[-1]}
     file=${words[at]}
     has_file=yes
     words=("${words[@]:0:at}" "${words[@]:at+1}")

@@ -81,7 +81,7 @@ source_digest() {
 # and so nothing newer.)
 is_current() {
     local lines=() path
-    [[ -x $program && -r $stamp ]] && { mapfile -t lines <"$stamp"; } 2>/dev/null || return 1
+    [[ -x $program && -r $stamp ]] && { mapfile -t lines <"$stamp"; } 2>/dev/null && ((${#lines[@]} > 1)) || return 1
     for path in "${lines[@]:1}"; do
         [[ ! $top/$path -nt $stamp ]] || return 1
     done

@@ -26,16 +26,21 @@ find_shipped_lack() {
     fi
 }
 
-# Puts the shipped program in its place, of the sources at the time $1. Not where another build or check is at work in
-# the program's crate: it may put one there itself.
-take_shipped() {
-    local lock status
-    [[ -w ${program%/*} ]] && command -v flock >/dev/null || return
-    exec {lock}<"$top/crates/$program_crate" || return
-    flock -n "$lock" && { is_current || install_program "$shipped" "$top" "$shipped_sources  -" "$1" "from ${shipped#"$top"/}"; } 2>/dev/null
-    status=$?
-    exec {lock}<&-
-    return "$status"
+# Starts the shipped program, unless `lack` then says why it isn't used. It is put in its place first, but not where another
+# build or check is at work in the program's crate: that may put one there itself.
+start_shipped() {
+    local lock since place=''
+    if command -v flock >/dev/null && { exec {lock}<"$top/crates/$program_crate"; } 2>/dev/null; then
+        flock -n "$lock" && mkdir -p "${program%/*}" 2>/dev/null && [[ -w ${program%/*} ]] && place=$program
+    fi
+    # The folder's time counts as that of a source, so this is taken behind it.
+    since=$(date +%s.%N)
+    find_shipped_lack
+    if [[ -z $lack && -n $place ]]; then
+        { is_current || install_program "$shipped" "$top" "$shipped_sources  -" "$since" "from ${shipped#"$top"/}"; } 2>/dev/null || place=
+    fi
+    [[ ! -v lock ]] || exec {lock}<&-
+    [[ -n $lack ]] || start_program "${place:-$shipped}"
 }
 
 # Which program would be started.
@@ -80,17 +85,10 @@ open_file
 choose_notice
 
 ! is_current || start_program "$program"
-# Its folder's time is that of a source too: it is made before the time is taken that the sources are of.
-[[ -d ${program%/*} || ! -e $shipped.from ]] || mkdir -p "${program%/*}" 2>/dev/null
-since=$(date +%s.%N)
 ! is_same || start_program "$program"
 read_crates "$top"
 if read_shipped; then
-    find_shipped_lack
-    if [[ -z $lack ]]; then
-        ! take_shipped "$since" || start_program "$program"
-        start_program "$shipped"
-    fi
+    start_shipped
     say "$lack"
 fi
 
