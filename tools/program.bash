@@ -1,9 +1,22 @@
-# A program's sources, their digest, and the stamp beside the program that names both. Read by lwkt_run, lwkt_check, lwkt_show, check
-# and tools/build, with the tree in `top`, the program's crate in `program_crate` and its name in `program_name`. The
-# stamp's first line is the digest; the paths of the sources follow. Its time is that of the sources: what is newer has
-# changed since.
-program=$top/crates/$program_crate/out/$program_name
-stamp=$program.stamp
+# The programs of this tree: a program's sources, their digest, the stamp beside the program that names both, and the
+# program that is shipped in dist/. Read by tools/start.bash, tools/build, tools/ship, tools/install and check, with the
+# tree in `top`; `choose_program` chooses one. The stamp's first line is the digest; the paths of the sources follow, and
+# last `by` and the kit that built the program here, or `from` and the place that it was taken from. The stamp's time is
+# that of the sources: what is newer has changed since.
+# shellcheck disable=SC2034,SC2154 # Of these names some are used, and some are set, where this is read.
+
+# The programs, each with its crate.
+programs=(lwkt_run lwkt_check lwkt_show)
+declare -gA crate_of=([lwkt_run]=lwkt [lwkt_check]=lwkt_judge [lwkt_show]=lwkt_view)
+
+# Chooses the program of this name.
+choose_program() {
+    program_name=$1
+    program_crate=${crate_of[$1]}
+    program=$top/crates/$program_crate/out/$program_name
+    stamp=$program.stamp
+    shipped=$top/dist/x86_64-linux/$program_name
+}
 
 declare -gA below=() line_of=()
 crates=()
@@ -64,16 +77,54 @@ source_digest() {
     } | sha256sum
 }
 
+# Whether the program is there and no source is newer than its stamp, which names them all. (Its last line names no file,
+# and so nothing newer.)
+is_current() {
+    local lines=() path
+    [[ -x $program && -r $stamp ]] && { mapfile -t lines <"$stamp"; } 2>/dev/null && ((${#lines[@]} > 1)) || return 1
+    for path in "${lines[@]:1}"; do
+        [[ ! $top/$path -nt $stamp ]] || return 1
+    done
+}
+
 # Whether the program is there and its sources have the stamp's digest, whatever their times. They then count as old.
 is_same() {
     local since said
-    [[ -x $program && -r $stamp ]] || return 1
+    [[ -x $program && -r $stamp ]] && { read -r said <"$stamp"; } 2>/dev/null || return 1
     since=$(date +%s.%N)
     read_crates "$top"
-    read -r said <"$stamp"
     [[ $(source_digest "$top") = "$said" ]] || return 1
     touch -c -d "@$since" "$stamp" 2>/dev/null
     return 0
+}
+
+# Whether the program that is there is the shipped one, and wasn't built here.
+is_from_shipped() {
+    grep -qsxF -- "from ${shipped#"$top"/}" "$stamp"
+}
+
+# Whether the program that is there was built here by the kit $1.
+is_made_by() {
+    grep -qsxF -- "by $1" "$stamp"
+}
+
+# What is said of the shipped program: the digests of its sources and of itself, and the kit that made it.
+read_shipped() {
+    local word rest
+    shipped_sources='' shipped_kit='' shipped_digest=''
+    [[ -f $shipped && -r $shipped.from ]] || return 1
+    while read -r word rest; do
+        case $word in
+            sources) shipped_sources=$rest ;;
+            kit) shipped_kit=$rest ;;
+            program) shipped_digest=$rest ;;
+        esac
+    done <"$shipped.from"
+}
+
+# Whether the shipped program is the one that is spoken of: one that was cut off must not be started.
+is_shipped_whole() {
+    [[ $(sha256sum <"$shipped") = "$shipped_digest  -" ]]
 }
 
 # What a build lacks, if anything.
@@ -85,8 +136,8 @@ lacking() {
     fi
 }
 
-# Puts the built program $1 in its place, of the sources of the tree $2 with the digest $3 at the time $4. At no moment
-# does a stamp stand beside another program than its own.
+# Puts the program $1 in its place, of the sources of the tree $2 with the digest $3 at the time $4, with what the stamp
+# ends with in $5. At no moment does a stamp stand beside another program than its own.
 install_program() {
     mkdir -p "${program%/*}" && cp "$1" "$program.new" && chmod 755 "$program.new" || return
     rm -f "$stamp"
@@ -94,5 +145,6 @@ install_program() {
     {
         printf '%s\n' "$3"
         source_paths "$2"
+        printf '%s\n' "$5"
     } >"$stamp.new" && touch -d "@$4" "$stamp.new" && mv "$stamp.new" "$stamp"
 }

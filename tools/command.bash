@@ -1,0 +1,124 @@
+# How the commands lwkt_run, lwkt_check and lwkt_show understand their words, in the tree and installed: help, a file in
+# place of standard input, the line for a terminal. Read with the command's name in `program_name` and the folder of its
+# help in `help_folder`; "$@" are the words of the call.
+# shellcheck disable=SC2154 # These two are set where this is read.
+
+# What a command reads; the words of which one has to stand first; its options without a value and with one; and a
+# small input that it says `lawful` of, with the words that go with it, by which is tried whether a program runs here.
+modes=() flags=() valued=()
+case $program_name in
+    lwkt_run)
+        reads=script modes=(turns threads)
+        ;;
+    lwkt_show)
+        reads=script modes=(turns) flags=(--svg --trace) valued=(--turns --rounds)
+        ;;
+    lwkt_check)
+        reads=trace
+        ;;
+esac
+small_script='{"version":1,"turns":1,"idle":1,"cpus":1,"tokens":[],"messages":[],"threads":[]}'
+small_trace='{"version":1,"cpus":1,"tokens":[],"messages":[],"events":[],"last":null}'
+
+say() {
+    printf '%s: %s\n' "$program_name" "$*" >&2
+}
+
+# Whether the word $1 is one of those behind it.
+is_among() {
+    local word
+    for word in "${@:2}"; do
+        [[ $1 != "$word" ]] || return 0
+    done
+    return 1
+}
+
+show_help() {
+    cat -- "$help_folder/$program_name.txt"
+}
+
+# Whether these words ask for the help.
+wants_help() {
+    local word
+    [[ ${1:-} != help ]] || return 0
+    for word in "$@"; do
+        case $word in
+            --help | -h) return 0 ;;
+            --) return 1 ;;
+        esac
+    done
+    return 1
+}
+
+# The words that are the program's into `words`, and into `file` what stands behind them: the last word that is no mode,
+# no option and no option's value, if there is one (`has_file`). `is_known` says whether the program will read.
+sort_words() {
+    local word behind='' value='' plain=() first=0 at
+    words=() file='' has_file='' is_known=yes
+    for word in "$@"; do
+        if [[ -n $value ]]; then
+            value=
+        elif [[ -z $behind && $word = -- ]]; then
+            behind=yes
+            continue
+        elif [[ -z $behind && $word = -?* ]]; then
+            if is_among "$word" "${valued[@]}"; then
+                value=yes
+            elif ! is_among "$word" "${flags[@]}"; then
+                is_known=
+            fi
+        else
+            plain+=("${#words[@]}")
+        fi
+        words+=("$word")
+    done
+    ((${#modes[@]} == 0)) || first=1
+    if ((${#plain[@]} < first || ${#plain[@]} > first + 1)); then
+        is_known=
+    elif ((first == 1)) && ! is_among "${words[${plain[0]}]}" "${modes[@]}"; then
+        is_known=
+    fi
+    ((${#plain[@]} > first)) || return 0
+    at=${plain[-1]}
+    file=${words[at]}
+    has_file=yes
+    words=("${words[@]:0:at}" "${words[@]:at+1}")
+}
+
+# Makes the file standard input. It is opened once, since a pipe can't be opened twice.
+open_file() {
+    local told
+    [[ -n $has_file && $file != - ]] || return 0
+    if [[ -d $file ]]; then
+        told='Is a directory'
+    elif { exec <"$file"; } 2>/dev/null; then
+        return 0
+    else
+        told=$({ : <"$file"; } 2>&1)
+    fi
+    say "$file: ${told##*: }"
+    exit 3
+}
+
+# What is said before the program starts to read, into `notice`.
+choose_notice() {
+    notice=
+    [[ -z $is_known || ! -t 0 ]] || notice="reading a $reads from the terminal; end it with Ctrl-D"
+}
+
+# Starts the program $1 on the words.
+start_program() {
+    [[ -z $notice ]] || say "$notice"
+    exec "$1" "${words[@]}"
+}
+
+# Whether the program $1 works on this machine. A program that the system can't load may end with status 1 too, so it has
+# to do some work.
+runs_here() {
+    local said input=$small_script try=("$1")
+    [[ -x $1 ]] || return
+    ((${#modes[@]} == 0)) || try+=("${modes[0]}")
+    [[ $reads = script ]] || input=$small_trace
+    { said=$(printf '%s' "$input" | "${try[@]}"); } 2>/dev/null
+    [[ ${said##*$'\n'} = lawful ]]
+}
