@@ -1,4 +1,4 @@
-use Rattle.std.specs.Prelude.{◌≡◌, ◌⊎◌, ℕ, ◌+◌, ◌<◌, ◌≤◌, ◌==◌, Bool, List, [], ◌∷◌, length, All, filter, take, count_by, MatchOption, slice_get, slice_index_or, slice_set}
+use Rattle.std.specs.Prelude.{◌≡◌, ◌⊎◌, ℕ, ◌+◌, ◌<◌, ◌≤◌, ◌==◌, List, [], ◌∷◌, length, All, filter, take, count_by, MatchOption, slice_get, slice_index_or, slice_set}
 use Rattle.lwkt_base.specs.declared.sections.Section.{Section}
 
 -- the rows and generations of tokens, by token; of a token that isn't there no cell, and 0
@@ -78,3 +78,11 @@ SectionFailureRefutes = (first last : RowsAt) (sections : List Section) (index :
 -- a law: sections fail at one index only
 abbrev pub SectionFailureIsOnly : Type 0
 SectionFailureIsOnly = (first last : RowsAt) (sections : List Section) (index other : ℕ) → SectionsFailAt first last sections index → SectionsFailAt first last sections other → index ≡ other
+
+-- a checker's place in a list: the sections before the index go on with their tokens' chains, the tokens before this one have
+-- come to their closing generation, and the others are at their opening
+pub record IsUpTo (first last : RowsAt) (sections : List Section) (tok index : ℕ) : Type 0 where
+  pub within : index ≤ length sections
+  pub gone : GoOn last first (take index sections)
+  pub done : (t : ℕ) → t < tok → generation_at last t ≤ generation_at (rows_after_all first (take index sections)) t
+  pub later : (t : ℕ) → tok ≤ t → slice_index_or (rows_after_all first (take index sections)) t ([], 0) ≡ slice_index_or first t ([], 0)
