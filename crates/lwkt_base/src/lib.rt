@@ -14,6 +14,8 @@ pub mod names;
 pub mod openings;
 pub mod owners;
 pub mod records;
+pub mod rows;
+pub mod sections;
 pub mod threads;
 pub mod words;
 
@@ -29,5 +31,7 @@ pub use names::{CpuId, Mode, MsgId, Ref, ThreadId, TokId};
 pub use openings::{MsgSpec, TokSpec};
 pub use owners::{MsgEnd, Owner};
 pub use records::{Call, Flags, Rec};
+pub use rows::{Row, Rows};
+pub use sections::Section;
 pub use threads::ThreadState;
 pub use words::{Decision, LAST_GENERATION, TokWord};

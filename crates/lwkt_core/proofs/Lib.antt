@@ -12,3 +12,4 @@ pub mod PictureLemmas
 pub mod SafetyLemmas
 pub mod RunLemmas
 pub mod ShareLemmas
+pub mod ChainLemmas

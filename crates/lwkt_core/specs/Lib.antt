@@ -11,3 +11,4 @@ pub mod Seating
 pub mod History
 pub mod Safety
 pub mod Headline
+pub mod SectionChain

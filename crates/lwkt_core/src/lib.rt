@@ -1,5 +1,5 @@
 //! The model of the threading layer as plain data: a machine of tokens and messages, the events of its processors, what
-//! each event needs and leaves, and a checker of traces.
+//! each event needs and leaves, a checker of traces, and one of the written sections of tokens.
 #![tactic(auto)]
 
 pub mod checks;
@@ -13,6 +13,7 @@ mod openings;
 mod rules;
 pub mod safety;
 pub mod seats;
+pub mod sections;
 pub mod states;
 pub mod tokens;
 
@@ -23,5 +24,6 @@ pub use lacks::Lack;
 pub use messages::Message;
 pub use openings::are_within;
 pub use seats::{Chapter, Deed, Operation, SeatKind, WordStep};
+pub use sections::check_sections;
 pub use states::State;
 pub use tokens::Token;
