@@ -298,7 +298,7 @@ fn rows_by_value(rt: HostRuntime) {
     let mut items = Vec::new(rt.alloc());
     items.push((seven, 3)).expect(&rt, "memory");
     let back = Rows::from_vec(items).into_vec();
-    assert!(rt; back.as_slice() == &[(Cells::of(&[7]), 3)]);
+    assert!(rt; back.as_slice() == [(Cells::of(&[7]), 3)].as_slice());
 }
 
 #[test]
