@@ -147,7 +147,7 @@ sections_at-other : (t : ℕ) (s : Section) (sections : List Section) → s.tok.
 sections_at-other t s sections differ = ap (λ (b : Bool). cond b (s ∷ sections_at t sections) (sections_at t sections)) (ne_eqb s.tok.0 t differ)
 
 -- a token that no section is of has none
-sections_at-none : (t : ℕ) (sections : List Section) → All (λ s. s.tok.0 ≢ t) sections → sections_at t sections ≡ []
+pub sections_at-none : (t : ℕ) (sections : List Section) → All (λ s. s.tok.0 ≢ t) sections → sections_at t sections ≡ []
 sections_at-none t [] none = refl
 sections_at-none t (s ∷ sections) none =
     sections_at-other t s sections (All-head (λ (x : Section). x.tok.0 ≢ t) s sections none)
@@ -199,7 +199,7 @@ same_rows (x ∷ xs) (y ∷ ys) long same =
     ap (λ (r : List ℕ × ℕ). r ∷ xs) head ∙ ap (λ (rs : RowsAt). y ∷ rs) tail
 
 -- a chain between equal ends, with equal sections
-chain_as : (opening opening' : List ℕ) (first first' : ℕ) (closing : List ℕ) (last : ℕ) (sections sections' : List Section) → opening ≡ opening' → first ≡ first' → sections ≡ sections' → IsSectionChain opening first closing last sections → IsSectionChain opening' first' closing last sections'
+pub chain_as : (opening opening' : List ℕ) (first first' : ℕ) (closing : List ℕ) (last : ℕ) (sections sections' : List Section) → opening ≡ opening' → first ≡ first' → sections ≡ sections' → IsSectionChain opening first closing last sections → IsSectionChain opening' first' closing last sections'
 chain_as opening opening' first first' closing last sections sections' row generation list chain =
     subst (λ (xs : List Section). IsSectionChain opening' first' closing last xs) list
     (subst (λ (g : ℕ). IsSectionChain opening' g closing last sections) generation

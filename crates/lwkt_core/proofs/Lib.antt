@@ -13,3 +13,4 @@ pub mod SafetyLemmas
 pub mod RunLemmas
 pub mod ShareLemmas
 pub mod ChainLemmas
+pub mod RunChainLemmas

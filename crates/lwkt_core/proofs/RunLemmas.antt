@@ -449,7 +449,7 @@ answers_match m events n front part rest origin to cpu msg round other e run is 
 abbrev TokenTurns : Event → ℕ → Token → Token → Type 0
 TokenTurns e t tok tok' = ((place_of e ≡ AtToken t) × (TokenNeeds tok e × (tok' ≡ token_after tok e))) ⊎ ((place_of e ≢ AtToken t) × (tok' ≡ tok))
 
-token_left : (m n : Machine) (e : Event) (t : ℕ) (tok : Token) → slice_get m.tokens t ≡ Some tok → Happens m e n → (tok' : Token) × ((slice_get n.tokens t ≡ Some tok') × TokenTurns e t tok tok')
+pub token_left : (m n : Machine) (e : Event) (t : ℕ) (tok : Token) → slice_get m.tokens t ≡ Some tok → Happens m e n → (tok' : Token) × ((slice_get n.tokens t ≡ Some tok') × TokenTurns e t tok tok')
 token_left m n e t tok there happens = go (place_of e) refl happens.0.place
   where
     left : (place : Place) → place_of e ≡ place → n ≡ after_at m e place

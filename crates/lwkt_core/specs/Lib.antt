@@ -12,3 +12,4 @@ pub mod History
 pub mod Safety
 pub mod Headline
 pub mod SectionChain
+pub mod RunSections

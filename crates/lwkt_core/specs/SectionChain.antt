@@ -50,8 +50,8 @@ abbrev pub rows_after_all : RowsAt → List Section → RowsAt
 rows_after_all rows [] = rows
 rows_after_all rows (s ∷ sections) = rows_after_all (rows_after rows s) sections
 
--- a section goes on with its token's chain, which has come to these rows: it begins with the row and at the generation that the
--- token is at, which is below the token's closing one; and each earlier token is at its closing generation
+-- a section goes on with its token's chain, where the chains have come to these rows: it begins with the row and at the generation
+-- that its token has come to, which is below the token's closing one; and no earlier token is below its closing one
 pub record GoesOn (last rows : RowsAt) (s : Section) : Type 0 where
   pub known : s.tok.0 < length rows
   pub row : s.before ≡ row_at rows s.tok.0
@@ -79,8 +79,8 @@ SectionFailureRefutes = (first last : RowsAt) (sections : List Section) (index :
 abbrev pub SectionFailureIsOnly : Type 0
 SectionFailureIsOnly = (first last : RowsAt) (sections : List Section) (index other : ℕ) → SectionsFailAt first last sections index → SectionsFailAt first last sections other → index ≡ other
 
--- a checker's place in a list: the sections before the index go on with their tokens' chains, the tokens before this one have
--- come to their closing generation, and the others are at their opening
+-- a checker's place in a list: the sections before the index go on with their tokens' chains, no token before this one is below its
+-- closing generation, and the others are as at the opening
 pub record IsUpTo (first last : RowsAt) (sections : List Section) (tok index : ℕ) : Type 0 where
   pub within : index ≤ length sections
   pub gone : GoOn last first (take index sections)

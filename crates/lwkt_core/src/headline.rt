@@ -1,3 +1,4 @@
+ghost use Rattle.lwkt_core.specs.RunSections.{RunsWriteChains, TracesWriteChains};
 ghost use Rattle.lwkt_core.specs.Headline.{RunsAreCompatible, RunsKeepLaws, TalliesAreRaises, CountsAreEvents, MessagesGoRound, EachSendIsAnsweredOnce, AnswersAreOfTheirSend, SectionsAreChain, RowsStandBetweenSections};
 
 /// The law that in every machine of a run from a safe one each token has one exclusive holder or only shared ones.
@@ -46,4 +47,15 @@ pub fn sections_are_chain()
 /// The law that the row that a written section left stands until the next one, where nobody holds the token exclusively.
 pub fn rows_stand_between_sections()
     ensures { RowsStandBetweenSections }
+{}
+
+/// The law that the written sections of a run pass the checker of sections: put by token and in order, they are chains from
+/// the rows and generations at its beginning to those at its end, where nobody holds a token exclusively at either.
+pub fn runs_write_chains()
+    ensures { RunsWriteChains }
+{}
+
+/// The law that the written sections of a lawful trace pass the checker of sections, up to the closing rows and generations.
+pub fn traces_write_chains()
+    ensures { TracesWriteChains }
 {}
