@@ -7,6 +7,7 @@ mod pages;
 mod parts;
 mod refusals;
 mod rows;
+mod sayings;
 mod scripts;
 mod texts;
 mod traces;
@@ -14,3 +15,4 @@ mod words;
 
 pub use pages::{Page, show_breach};
 pub use refusals::{Document, refusal};
+pub use sayings::Speaker;

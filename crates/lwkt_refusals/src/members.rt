@@ -75,12 +75,7 @@ pub(crate) fn show_members(out: &mut Words, part: Part<'_>, names: &[&'static st
 }
 
 /// Appends what is bad of a member that has to be a list of at most so many items; says whether something is.
-pub(crate) fn show_list(
-    out: &mut Words,
-    part: Part<'_>,
-    name: &'static str,
-    most: usize,
-) -> bool {
+pub(crate) fn show_list(out: &mut Words, part: Part<'_>, name: &'static str, most: usize) -> bool {
     let Some(list) = part.member(name) else {
         show_missing(out, name);
         return true;

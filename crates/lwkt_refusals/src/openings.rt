@@ -1,5 +1,5 @@
 //! What is bad of tokens and messages.
-use crate::members::{range, show_list, show_member, show_members, show_numbers, WHOLE};
+use crate::members::{WHOLE, range, show_list, show_member, show_members, show_numbers};
 use crate::parts::Part;
 use crate::words::Words;
 
@@ -18,7 +18,9 @@ fn show_law(out: &mut Words, token: Part<'_>, count: usize) -> bool {
         out.size("law tally has exactly one cell, and here are ", count);
         return true;
     }
-    if let Some(text) = law.string() && is_law(text.as_str().unwrap_or("")) {
+    if let Some(text) = law.string()
+        && is_law(text.as_str().unwrap_or(""))
+    {
         return false;
     }
     out.add("law is ");

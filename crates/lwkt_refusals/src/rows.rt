@@ -59,8 +59,18 @@ fn step_limits(word: &str) -> Option<&'static [u64]> {
 // The largest numbers behind the word of an event.
 fn event_limits(word: &str) -> Option<&'static [u64]> {
     match word {
-        "load" | "take" | "share" | "again" | "mark" | "give_one" | "give_clean"
-        | "give_written" | "drop" | "reply" | "reap" | "abort" => Some(&[SMALL, SMALL]),
+        "load"
+        | "take"
+        | "share"
+        | "again"
+        | "mark"
+        | "give_one"
+        | "give_clean"
+        | "give_written"
+        | "drop"
+        | "reply"
+        | "reap"
+        | "abort" => Some(&[SMALL, SMALL]),
         "take_msg" => Some(&[SMALL, SMALL, WHOLE]),
         "read" | "write" | "send" => Some(&[SMALL, SMALL, SMALL, WHOLE]),
         _ => None,

@@ -55,12 +55,7 @@ fn show_gens(out: &mut Words, whole: Part<'_>) -> Option<bool> {
 }
 
 // Points at the item at a place of a list of the closing values, and appends which it is; none where it is one too many.
-fn show_item<'a>(
-    out: &mut Words,
-    whole: Part<'a>,
-    name: &str,
-    place: usize,
-) -> Option<Part<'a>> {
+fn show_item<'a>(out: &mut Words, whole: Part<'a>, name: &str, place: usize) -> Option<Part<'a>> {
     let item = whole.member("last")?.member(name)?.item(place)?;
     out.point(item);
     if place >= LIMIT {
