@@ -1,22 +1,30 @@
-//! The program: reads a script from standard input, runs it, and writes its report to standard output.
+//! The program: reads a script from standard input, runs it, and writes its report to standard output. Why there is none it
+//! says on standard error.
 #![tactic(auto)]
 
-use lwkt_report::{Program, ReaderSource, WriterSink, refuse_arguments, words_of};
-use lwkt_run::run_program;
+mod tellings;
+
+use crate::tellings::run_told;
+use lwkt_refusals::Speaker;
+use lwkt_report::{
+    NotedReader, NotedWriter, Program, ReaderSource, WriterSink, refuse_arguments, words_of,
+};
 use std::alloc::Global;
 use std::io;
 use std::process::ExitCode;
 
 fn main(rt: HostRuntime) -> ExitCode {
     let alloc: Global = rt.alloc();
-    let mut sink = WriterSink::new(rt.stdout());
+    let mut sink = WriterSink::new(NotedWriter::new(rt.stdout()));
+    let mut errors = WriterSink::new(rt.stderr());
     let status = match words_of(&rt) {
         Ok(words) => {
-            let mut source = ReaderSource::new(rt.stdin());
-            run_program(&rt, alloc, &words, &mut source, &mut sink)
+            let mut source = ReaderSource::new(NotedReader::new(alloc, rt.stdin()));
+            run_told(&rt, alloc, &words, &mut source, &mut sink, &mut errors)
         }
         Err(error) => {
             let memory = error.kind() == io::ErrorKind::OutOfMemory;
+            Speaker::Run.say_arguments(&mut errors, memory);
             refuse_arguments(&mut sink, Program::Run, memory)
         }
     };

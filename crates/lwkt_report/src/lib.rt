@@ -6,6 +6,7 @@ pub mod closings;
 pub mod complaints;
 mod listings;
 pub mod logs;
+pub mod notes;
 mod parts;
 pub mod reports;
 pub mod sinks;
@@ -19,6 +20,7 @@ pub use complaints::{
 };
 pub use logs::Log;
 pub use lwkt_base::Entry;
+pub use notes::{NotedReader, NotedWriter};
 pub use reports::report;
 pub use sinks::{Page, Sink, WriterSink, write_whole};
 pub use sources::{READ_LIMIT, ReaderSource, Source, read_capped, read_up_to};

@@ -1,0 +1,18 @@
+//! Why a script or a trace is refused, in words: what is bad of it, and at which line and column.
+#![tactic(auto)]
+
+mod members;
+mod openings;
+mod pages;
+mod parts;
+mod refusals;
+mod rows;
+mod sayings;
+mod scripts;
+mod texts;
+mod traces;
+mod words;
+
+pub use pages::{Page, show_breach};
+pub use refusals::{Document, refusal};
+pub use sayings::Speaker;

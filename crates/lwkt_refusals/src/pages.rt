@@ -1,0 +1,110 @@
+use lwkt_base::{Fault, Law};
+use std::alloc::{AllocError, Global};
+
+/// A text that is made piece by piece. Once memory is refused for a piece, the text is lost: it takes no more, and only
+/// `whole` says so.
+#[derive(Drop)]
+pub struct Page {
+    text: String,
+    is_lost: bool,
+}
+
+impl Page {
+    /// An empty text.
+    pub fn new(alloc: Global) -> Page {
+        Page {
+            text: String::new(alloc),
+            is_lost: false,
+        }
+    }
+
+    /// Appends a text.
+    pub fn add(&mut self, text: &str) {
+        if !self.is_lost && self.text.push_str(text).is_err() {
+            self.is_lost = true;
+        }
+    }
+
+    /// Appends a character.
+    pub fn letter(&mut self, letter: char) {
+        if !self.is_lost && self.text.push(letter).is_err() {
+            self.is_lost = true;
+        }
+    }
+
+    /// Appends a text, and a number behind it.
+    pub fn number(&mut self, before: &str, number: u64) {
+        self.add(before);
+        if !self.is_lost && write!(self.text, "{number}").is_err() {
+            self.is_lost = true;
+        }
+    }
+
+    /// Appends a text, and a number of parts behind it.
+    pub fn size(&mut self, before: &str, number: usize) {
+        self.number(before, number as u64);
+    }
+
+    /// Appends numbers, each after a space, or ` -` where there are none.
+    pub fn numbers(&mut self, numbers: &[u64]) {
+        for number in numbers {
+            self.number(" ", *number);
+        }
+        if numbers.is_empty() {
+            self.add(" -");
+        }
+    }
+
+    /// Appends a text, and that of a fault behind it.
+    pub fn fault(&mut self, before: &str, fault: Fault) {
+        self.add(before);
+        if !self.is_lost && write!(self.text, "{fault}").is_err() {
+            self.is_lost = true;
+        }
+    }
+
+    /// Appends what was made on another page.
+    pub fn add_page(&mut self, page: &Page) {
+        self.add(page.text.as_str());
+        self.is_lost = self.is_lost || page.is_lost;
+    }
+
+    /// Appends what was made on another page, without white space at its end.
+    pub fn add_line(&mut self, page: &Page) {
+        self.add(page.text.as_str().trim_end());
+        self.is_lost = self.is_lost || page.is_lost;
+    }
+
+    /// Takes all of it back.
+    pub fn clear(&mut self) {
+        self.text.clear();
+    }
+
+    /// Notes that memory was refused for a piece.
+    pub fn lose(&mut self) {
+        self.is_lost = true;
+    }
+
+    /// The text.
+    ///
+    /// Refused where memory was refused for a piece of it.
+    pub fn whole(self) -> Result<String, AllocError> {
+        if self.is_lost {
+            return Err(AllocError);
+        }
+        Ok(self.text)
+    }
+}
+
+/// Appends how cells break a law: `cells 9 5 do not add up to 10`.
+pub fn show_breach(out: &mut Page, law: Law, param: u64, cells: &[u64]) {
+    out.add("cells");
+    out.numbers(cells);
+    match law {
+        Law::Any => out.add(" obey every law"),
+        Law::Sum => out.number(" do not add up to ", param),
+        Law::Order => out.add(" are not in rising order"),
+        Law::Cap => out.number(" are not all at most ", param),
+        Law::Tally => out.number(" are not the one cell ", param),
+    }
+}

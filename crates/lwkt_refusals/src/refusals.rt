@@ -1,0 +1,162 @@
+use crate::pages::{Page, show_breach};
+use crate::parts::Part;
+use crate::scripts::show_script_place;
+use crate::texts::{byte_at, line_of, place_of};
+use crate::traces::show_trace_place;
+use crate::words::Words;
+use lwkt_base::{Fault, TokSpec};
+use lwkt_script::tokens::tokens_of;
+use serde_json::Value;
+use std::alloc::{AllocError, Global};
+
+/// What a text that was refused had to be.
+#[derive(Clone, Copy, Debug, PartialEq, Eq)]
+pub enum Document {
+    /// A script.
+    Script,
+    /// A trace.
+    Trace,
+}
+
+impl Document {
+    // What it is called.
+    fn name(self) -> &'static str {
+        match self {
+            Document::Script => "the script",
+            Document::Trace => "the trace",
+        }
+    }
+
+    // The most bytes that it may have.
+    fn limit(self) -> usize {
+        match self {
+            Document::Script => 1_048_576,
+            Document::Trace => 268_435_456,
+        }
+    }
+
+    // Appends what is bad at a place.
+    fn show_place(self, out: &mut Words, whole: Part<'_>, place: u32) {
+        match self {
+            Document::Script => show_script_place(out, whole, place),
+            Document::Trace => show_trace_place(out, whole, place),
+        }
+    }
+}
+
+// Appends a line and a column.
+fn show_line(out: &mut Page, bytes: &[u8], place: usize) {
+    let (line, column) = line_of(bytes, place);
+    out.size("line ", line);
+    out.size(", column ", column);
+    out.add(": ");
+}
+
+// Whether a text begins with a byte order mark.
+fn has_mark(bytes: &[u8]) -> bool {
+    byte_at(bytes, 0) == 0xef && byte_at(bytes, 1) == 0xbb && byte_at(bytes, 2) == 0xbf
+}
+
+// Whether a comment begins at a place.
+fn is_comment(bytes: &[u8], place: usize) -> bool {
+    byte_at(bytes, place) == b'/' && matches!(byte_at(bytes, place.saturating_add(1)), b'/' | b'*')
+}
+
+// Appends what the reader says of bytes that are no JSON text.
+fn show_error(alloc: Global, out: &mut Page, bytes: &[u8], error: &serde_json::Error) {
+    let place = place_of(bytes, error.line(), error.column());
+    if is_comment(bytes, place) {
+        show_line(out, bytes, place);
+        return out.add("JSON has no comments");
+    }
+    out.add("it is no JSON text: ");
+    match error.to_string(alloc) {
+        Ok(text) => out.add(text.as_str()),
+        Err(_) => out.lose(),
+    }
+}
+
+// Appends why bytes are no JSON text, or none of a length that is read.
+fn show_text(alloc: Global, out: &mut Page, document: Document, bytes: &[u8]) {
+    if bytes.len() > document.limit() {
+        out.add(document.name());
+        return out.size(" has more bytes than ", document.limit());
+    }
+    if bytes.is_empty() {
+        out.add(document.name());
+        return out.add(" is empty");
+    }
+    if has_mark(bytes) {
+        return out.add(
+            "line 1, column 1: the text begins with a byte order mark, which JSON doesn't have",
+        );
+    }
+    match Value::from_slice(alloc, bytes) {
+        Ok(_) => out.add("it is no JSON text"),
+        Err(error) => show_error(alloc, out, bytes, &error),
+    }
+}
+
+// Appends words, behind the line and the column of the part that they are about.
+fn show_words(out: &mut Page, bytes: &[u8], words: &Words) {
+    show_line(out, bytes, words.place);
+    out.add_page(&words.page);
+}
+
+// Appends why the part at a place is refused.
+fn show_part(alloc: Global, out: &mut Page, document: Document, bytes: &[u8], place: u32) {
+    let mut words = Words::new(alloc);
+    document.show_place(&mut words, Part::whole(alloc, bytes), place);
+    show_words(out, bytes, &words);
+}
+
+// The tokens of a list.
+fn tokens_in(alloc: Global, list: Part<'_>) -> Option<Vec<TokSpec>> {
+    let value = Value::from_str(alloc, list.written()).ok()?;
+    tokens_of(alloc, value.as_array()?.as_slice()).ok()
+}
+
+// Appends the first token whose opening breaks its law, if there is one.
+fn show_opening(alloc: Global, out: &mut Words, whole: Part<'_>) -> Option<()> {
+    let list = whole.member("tokens")?;
+    let tokens = tokens_in(alloc, list)?;
+    for (number, spec) in tokens.iter().enumerate() {
+        if !spec.law.holds(spec.cells.as_slice(), spec.param) {
+            out.point(list.item(number)?);
+            out.size("the opening of token ", number);
+            out.add(": ");
+            show_breach(&mut out.page, spec.law, spec.param, spec.cells.as_slice());
+            return Some(());
+        }
+    }
+    None
+}
+
+// Appends why the opening is refused.
+fn show_opening_fault(alloc: Global, out: &mut Page, bytes: &[u8]) {
+    let mut words = Words::new(alloc);
+    match show_opening(alloc, &mut words, Part::whole(alloc, bytes)) {
+        Some(()) => show_words(out, bytes, &words),
+        None => out.fault("", Fault::LawBroken),
+    }
+}
+
+/// Why these bytes are refused with this fault, in words and without a line end: what is bad, and the line and the column
+/// at which it stands, both counted from 1; a column is a byte. Of any other fault than `Script` and `LawBroken` its text.
+///
+/// Refused if memory is.
+pub fn refusal(
+    alloc: Global,
+    document: Document,
+    bytes: &[u8],
+    fault: Fault,
+) -> Result<String, AllocError> {
+    let mut out = Page::new(alloc);
+    match fault {
+        Fault::Script { place: 0 } => show_text(alloc, &mut out, document, bytes),
+        Fault::Script { place } => show_part(alloc, &mut out, document, bytes, place),
+        Fault::LawBroken => show_opening_fault(alloc, &mut out, bytes),
+        _ => out.fault("", fault),
+    }
+    out.whole()
+}

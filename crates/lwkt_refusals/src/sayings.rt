@@ -1,0 +1,166 @@
+//! What a program says where its errors go, beside its line.
+use crate::refusals::{Document, refusal};
+use lwkt_base::Fault;
+use lwkt_report::{Sink, write_whole};
+use std::alloc::Global;
+use std::io;
+
+const RUN_USAGE: &str = "\
+usage: lwkt_run turns < SCRIPT     run a script in rounds, on one thread, and write its report
+       lwkt_run threads < SCRIPT   the same with a thread for each processor
+       lwkt_run --help             say more
+example: ./lwkt_run turns < examples/tally_add.json
+";
+
+const CHECK_USAGE: &str = "\
+usage: lwkt_check < TRACE   say whether a trace is lawful, and else which event isn't and why
+       lwkt_check --help    say more
+example: ./lwkt_check < examples/traces/take_under_readers.json
+";
+
+const SHOW_USAGE: &str = "\
+usage: lwkt_show turns [--turns A..B] [--svg] < SCRIPT   run a script and show the run, or turns A to B of it
+       lwkt_show turns --trace < SCRIPT                  the same, and write its trace for lwkt_check
+       lwkt_show --help                                  say more
+example: ./lwkt_show turns < examples/crossed_lists.json
+";
+
+/// A program that says why it refused what it was given.
+#[derive(Clone, Copy, Debug, PartialEq, Eq)]
+pub enum Speaker {
+    /// `lwkt_run`.
+    Run,
+    /// `lwkt_check`.
+    Check,
+    /// `lwkt_show`.
+    Show,
+}
+
+impl Speaker {
+    // What each of its lines begins with.
+    fn name(self) -> &'static str {
+        match self {
+            Speaker::Run => "lwkt_run: ",
+            Speaker::Check => "lwkt_check: ",
+            Speaker::Show => "lwkt_show: ",
+        }
+    }
+
+    // How it is called.
+    fn usage(self) -> &'static str {
+        match self {
+            Speaker::Run => RUN_USAGE,
+            Speaker::Check => CHECK_USAGE,
+            Speaker::Show => SHOW_USAGE,
+        }
+    }
+
+    // What it reads.
+    fn document(self) -> Document {
+        match self {
+            Speaker::Run | Speaker::Show => Document::Script,
+            Speaker::Check => Document::Trace,
+        }
+    }
+
+    // What is said of a read that failed.
+    fn read_failure(self) -> &'static str {
+        match self {
+            Speaker::Run | Speaker::Show => "the script could not be read",
+            Speaker::Check => "the trace could not be read",
+        }
+    }
+
+    // What is said of a write that failed.
+    fn write_failure(self) -> &'static str {
+        match self {
+            Speaker::Run => "the report could not be written",
+            Speaker::Check => "what was found could not be written",
+            Speaker::Show => "the run could not be shown",
+        }
+    }
+
+    // Writes a line. What can't be written is let go.
+    fn say<E: Sink>(self, errors: &mut E, text: &str) {
+        let _ = write_whole(errors, self.name().as_bytes());
+        let _ = write_whole(errors, text.as_bytes());
+        let _ = write_whole(errors, b"\n");
+    }
+
+    /// Says how the program is called.
+    pub fn say_usage<E: Sink>(self, errors: &mut E) {
+        let _ = write_whole(errors, self.usage().as_bytes());
+    }
+
+    /// Says why these bytes, if they are still known, are refused with this fault.
+    pub fn say_refusal<E: Sink>(
+        self,
+        alloc: Global,
+        errors: &mut E,
+        bytes: Option<&[u8]>,
+        fault: Fault,
+    ) {
+        let words = match bytes {
+            Some(bytes) => refusal(alloc, self.document(), bytes, fault).ok(),
+            None => None,
+        };
+        match words {
+            Some(text) => self.say(errors, text.as_str()),
+            None => self.say(errors, "there is no memory to say why it is refused"),
+        }
+    }
+
+    /// Says that there was no memory.
+    pub fn say_memory<E: Sink>(self, errors: &mut E) {
+        self.say(errors, "out of memory");
+    }
+
+    /// Says what is the matter where the arguments can't be told: no memory, or how the program is called.
+    pub fn say_arguments<E: Sink>(self, errors: &mut E, memory: bool) {
+        if memory {
+            self.say_memory(errors);
+        } else {
+            self.say_usage(errors);
+        }
+    }
+
+    // Writes a line of a call that failed.
+    fn say_failure<E: Sink>(
+        self,
+        alloc: Global,
+        errors: &mut E,
+        text: &str,
+        error: &Option<io::Error>,
+    ) {
+        let Some(error) = error else {
+            return self.say(errors, text);
+        };
+        let _ = write_whole(errors, self.name().as_bytes());
+        let _ = write_whole(errors, text.as_bytes());
+        if let Ok(why) = error.to_string(alloc) {
+            let _ = write_whole(errors, b": ");
+            let _ = write_whole(errors, why.as_bytes());
+        }
+        let _ = write_whole(errors, b"\n");
+    }
+
+    /// Says that a read failed, and why.
+    pub fn say_unread<E: Sink>(self, alloc: Global, errors: &mut E, error: &Option<io::Error>) {
+        self.say_failure(alloc, errors, self.read_failure(), error);
+    }
+
+    /// Says that a write failed, and why; nothing where nobody reads any more what is written.
+    pub fn say_unwritten<E: Sink>(self, alloc: Global, errors: &mut E, error: &Option<io::Error>) {
+        if !is_pipe(error) {
+            self.say_failure(alloc, errors, self.write_failure(), error);
+        }
+    }
+}
+
+// Whether the reader of a pipe went away.
+fn is_pipe(error: &Option<io::Error>) -> bool {
+    match error {
+        Some(error) => error.kind() == io::ErrorKind::BrokenPipe,
+        None => false,
+    }
+}

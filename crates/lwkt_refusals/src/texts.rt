@@ -1,0 +1,130 @@
+//! Where the parts of a JSON text begin and end.
+
+/// Where a part of a text begins, and where what is behind it does.
+#[derive(Clone, Copy, Debug, PartialEq, Eq)]
+pub struct Span {
+    pub from: usize,
+    pub to: usize,
+}
+
+/// The byte at a place, or 0 behind the end.
+pub fn byte_at(text: &[u8], at: usize) -> u8 {
+    match text.get(at) {
+        Some(byte) => *byte,
+        None => 0,
+    }
+}
+
+// Whether a byte is white space.
+fn is_space(byte: u8) -> bool {
+    matches!(byte, b' ' | b'\t' | b'\n' | b'\r')
+}
+
+/// The place of the first byte from here on that is no white space.
+pub fn past_space(text: &[u8], from: usize) -> usize {
+    for at in from..text.len() {
+        if !is_space(byte_at(text, at)) {
+            return at;
+        }
+    }
+    text.len()
+}
+
+// The place behind the string that begins here.
+fn past_string(text: &[u8], from: usize) -> usize {
+    let mut is_escaped = false;
+    for at in from.saturating_add(1)..text.len() {
+        let byte = byte_at(text, at);
+        if byte == b'"' && !is_escaped {
+            return at.saturating_add(1);
+        }
+        is_escaped = byte == b'\\' && !is_escaped;
+    }
+    text.len()
+}
+
+// The place behind the number or word that begins here.
+fn past_scalar(text: &[u8], from: usize) -> usize {
+    for at in from..text.len() {
+        let byte = byte_at(text, at);
+        if is_space(byte) || matches!(byte, b',' | b']' | b'}' | b':') {
+            return at;
+        }
+    }
+    text.len()
+}
+
+// The place behind the list or object that begins here.
+fn past_group(text: &[u8], from: usize) -> usize {
+    let mut depth = 0usize;
+    let mut at = from;
+    for _turn in from..text.len() {
+        let byte = byte_at(text, at);
+        if byte == b'"' {
+            at = past_string(text, at);
+            continue;
+        }
+        at = at.saturating_add(1);
+        match byte {
+            b'{' | b'[' => depth = depth.saturating_add(1),
+            b'}' | b']' => depth = depth.saturating_sub(1),
+            _ => {}
+        }
+        if depth == 0 {
+            return at;
+        }
+    }
+    text.len()
+}
+
+/// The place behind the part that begins here.
+pub fn past_value(text: &[u8], from: usize) -> usize {
+    match byte_at(text, from) {
+        b'"' => past_string(text, from),
+        b'{' | b'[' => past_group(text, from),
+        _ => past_scalar(text, from),
+    }
+}
+
+/// The part that begins at the first byte from here on that is no white space.
+pub fn span_from(text: &[u8], from: usize) -> Span {
+    let from = past_space(text, from);
+    Span {
+        from,
+        to: past_value(text, from),
+    }
+}
+
+/// The place behind the next byte that is no white space: behind the comma or the colon between two parts.
+pub fn past_mark(text: &[u8], from: usize) -> usize {
+    past_space(text, from).saturating_add(1)
+}
+
+/// The line and the column of a place, both counted from 1. A column is a byte.
+pub fn line_of(text: &[u8], place: usize) -> (usize, usize) {
+    let mut line = 1usize;
+    let mut column = 1usize;
+    for byte in text.iter().take(place) {
+        if *byte == b'\n' {
+            line = line.saturating_add(1);
+            column = 1;
+        } else {
+            column = column.saturating_add(1);
+        }
+    }
+    (line, column)
+}
+
+/// The place of a line and a column.
+pub fn place_of(text: &[u8], line: usize, column: usize) -> usize {
+    let mut left = line;
+    for (at, byte) in text.iter().enumerate() {
+        if left <= 1 {
+            return at.saturating_add(column.saturating_sub(1));
+        }
+        if *byte == b'\n' {
+            left = left.saturating_sub(1);
+        }
+    }
+    text.len()
+}

@@ -1,0 +1,82 @@
+use crate::pages::Page;
+use crate::parts::Part;
+use std::alloc::Global;
+
+// The longest part that is shown whole, in bytes.
+const PART_LIMIT: usize = 200;
+
+/// What is said of a bad part, and the place of the text at which the part begins.
+#[derive(Drop)]
+pub(crate) struct Words {
+    pub(crate) page: Page,
+    pub(crate) place: usize,
+}
+
+impl Words {
+    /// No words, of the beginning of the text.
+    pub(crate) fn new(alloc: Global) -> Words {
+        Words {
+            page: Page::new(alloc),
+            place: 0,
+        }
+    }
+
+    /// Notes that this is the bad part.
+    pub(crate) fn point(&mut self, part: Part<'_>) {
+        self.place = part.from();
+    }
+
+    /// Appends a text.
+    pub(crate) fn add(&mut self, text: &str) {
+        self.page.add(text);
+    }
+
+    /// Appends a text, and a number behind it.
+    pub(crate) fn number(&mut self, before: &str, number: u64) {
+        self.page.number(before, number);
+    }
+
+    /// Appends a text, and a number of parts behind it.
+    pub(crate) fn size(&mut self, before: &str, number: usize) {
+        self.page.size(before, number);
+    }
+
+    // Appends a text without white space, but for that in its strings.
+    fn close(&mut self, text: &str) {
+        let mut is_inside = false;
+        let mut is_escaped = false;
+        for letter in text.chars() {
+            if is_inside || !letter.is_ascii_whitespace() {
+                self.page.letter(letter);
+            }
+            if letter == '"' && !is_escaped {
+                is_inside = !is_inside;
+            }
+            is_escaped = letter == '\\' && !is_escaped;
+        }
+    }
+
+    /// Appends a part as it was written, on one line, where it is short.
+    pub(crate) fn part(&mut self, part: Part<'_>) {
+        if part.len() > PART_LIMIT {
+            self.size("a part of ", part.len());
+            self.add(" bytes");
+        } else {
+            self.close(part.written());
+        }
+    }
+
+    /// Appends names, each after a space.
+    pub(crate) fn names(&mut self, names: &[&'static str]) {
+        for name in names {
+            self.add(" ");
+            self.add(*name);
+        }
+    }
+
+    /// Appends a number of parts of a list: `2 parts`.
+    pub(crate) fn parts(&mut self, before: &str, count: usize) {
+        self.size(before, count);
+        self.add(if count == 1 { " part" } else { " parts" });
+    }
+}

@@ -1,0 +1,99 @@
+//! A reader and a writer that note what a program has to say of them when it ends.
+ghost use Rattle.std.specs.Prelude.{◌≡◌, ◌++◌, IfSome, None};
+
+use std::alloc::Global;
+use std::io;
+use std::io::{Read, Write};
+
+/// Any reader, with a copy of what it gave and the error of its last call that failed. It gives what the reader gives.
+#[derive(Debug, Drop)]
+pub struct NotedReader<R> {
+    pub reader: R,
+    /// What was given so far; nothing once memory for it was refused.
+    pub given: Option<Vec<u8>>,
+    pub error: Option<io::Error>,
+}
+
+impl<R: Read> NotedReader<R> {
+    /// The reader, with nothing noted yet. Takes no memory.
+    pub fn new(alloc: Global, reader: R) -> Self
+        ensures reader { result.reader ≡ reader }
+        ensures error { result.error ≡ None }
+    {
+        NotedReader {
+            reader,
+            given: Some(Vec::new(alloc)),
+            error: None,
+        }
+    }
+}
+
+// What was given with these bytes behind it, or nothing where memory for them is refused.
+fn with_bytes(given: Option<Vec<u8>>, bytes: &[u8]) -> Option<Vec<u8>>
+    ensures more { IfSome given (λ before. IfSome result (λ after. after.items ≡ before.items ++ bytes.now)) }
+    ensures none { given ≡ None → result ≡ None }
+{
+    let mut given = given?;
+    given.extend_from_slice(bytes).ok()?;
+    Some(given)
+}
+
+impl<R: Read> Read for NotedReader<R> {
+    ghost remaining = { λ noted. R.remaining noted.reader };
+
+    fn read(&mut self, buf: &mut [u8]) -> io::Result<usize> {
+        match self.reader.read(buf) {
+            Ok(count) => {
+                self.given = with_bytes(self.given.take(), &buf[..count]);
+                Ok(count)
+            }
+            Err(error) => {
+                self.error = Some(error);
+                Err(error)
+            }
+        }
+    }
+}
+
+/// Any writer, with the error of its last call that failed. It takes what the writer takes.
+#[derive(Debug, Drop)]
+pub struct NotedWriter<W> {
+    pub writer: W,
+    pub error: Option<io::Error>,
+}
+
+impl<W: Write> NotedWriter<W> {
+    /// The writer, with nothing noted yet.
+    pub fn new(writer: W) -> Self
+        ensures { result ≡ record { writer = writer; error = None } }
+    {
+        NotedWriter {
+            writer,
+            error: None,
+        }
+    }
+}
+
+impl<W: Write> Write for NotedWriter<W> {
+    ghost contents = { λ noted. W.contents noted.writer };
+
+    fn write(&mut self, buf: &[u8]) -> io::Result<usize> {
+        match self.writer.write(buf) {
+            Ok(count) => Ok(count),
+            Err(error) => {
+                self.error = Some(error);
+                Err(error)
+            }
+        }
+    }
+
+    fn flush(&mut self) -> io::Result<()> {
+        match self.writer.flush() {
+            Ok(()) => Ok(()),
+            Err(error) => {
+                self.error = Some(error);
+                Err(error)
+            }
+        }
+    }
+}
