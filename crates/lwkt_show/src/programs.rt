@@ -10,7 +10,7 @@ use lwkt_scenes::{Chosen, Reel, lines_of, picture_of, show_refusal, trace_of};
 use std::alloc::Global;
 
 // What is said where the arguments are none of the program's.
-const USAGE: &str = "lwkt_show: turns, and behind it --turns A..B, and --svg or --trace\n";
+const USAGE: &str = "lwkt_show: turns, and behind it --turns A..B or --rounds A..B, and --svg or --trace\n";
 
 // What is said where there is no memory.
 const MEMORY: &str = "lwkt_show: fault 32: out of memory\n";
@@ -37,6 +37,7 @@ fn text_of(alloc: Global, options: &Options, run: &TurnsRun) -> Result<String, F
         closing: &run.closing,
     };
     let chosen = Chosen {
+        counted: options.counted,
         first: options.first,
         last: options.last,
     };
