@@ -66,17 +66,34 @@ pub(crate) fn box_class(content: Content) -> &'static str {
 
 /// Appends a box with what it says, crossed at its right if a thread ended faulted in it.
 pub(crate) fn show_box(out: &mut Page, x: usize, y: usize, content: Content, crossed: bool) {
-    show_rect(out, x.saturating_add(2), y, COLUMN - 4, ROW, box_class(content));
+    show_rect(
+        out,
+        x.saturating_add(2),
+        y,
+        COLUMN - 4,
+        ROW,
+        box_class(content),
+    );
     out.add("/>");
     let width = letters(content).saturating_mul(6);
-    let inset = if crossed { 5 } else { COLUMN.saturating_sub(width) / 2 };
+    let inset = if crossed {
+        5
+    } else {
+        COLUMN.saturating_sub(width) / 2
+    };
     if !crossed || width < 13 {
         show_text_at(out, x.saturating_add(inset), y.saturating_add(ROW - 4), "");
         show_content(out, content);
         out.add("</text>");
     }
     if crossed {
-        show_path(out, x.saturating_add(19), y.saturating_add(3), "l8 8m0 -8l-8 8", "cross");
+        show_path(
+            out,
+            x.saturating_add(19),
+            y.saturating_add(3),
+            "l8 8m0 -8l-8 8",
+            "cross",
+        );
         out.add("/>");
     }
 }
@@ -115,7 +132,13 @@ fn draw_label(out: &mut Page, layout: &Layout, label: &Label) {
     let y = layout.label(label.round, label.cpu, label.line);
     match label.tag {
         Tag::Refused(fault) => show_fault_label(out, label, y, ["!", "refused "], fault),
-        Tag::Ended(fault) => show_fault_label(out, label, y, ["x", "a thread ended faulted "], fault),
+        Tag::Ended(fault) => show_fault_label(
+            out,
+            label,
+            y,
+            ["x", "a thread ended faulted "],
+            fault,
+        ),
         Tag::Mail(msg, round) => {
             show_text_at(out, label.x, y, "");
             out.number("m", u64::from(msg.0));

@@ -220,7 +220,11 @@ pub(crate) fn show_ring(out: &mut Page, x: usize, y: usize) {
 // Appends the title of a message on its way.
 fn show_way(out: &mut Page, way: &Way) {
     out.add("<g><title>");
-    out.add(if way.is_reply { "reply to message " } else { "message " });
+    out.add(if way.is_reply {
+        "reply to message "
+    } else {
+        "message "
+    });
     out.number("", u64::from(way.msg.0));
     out.number(", round ", way.round);
     out.size(": from processor ", way.cpu);

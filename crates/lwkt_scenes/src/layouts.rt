@@ -13,6 +13,9 @@ pub(crate) const ROW: usize = 14;
 
 const LINE: usize = 11;
 
+// How far above a box its lowest label stands: an arrow's head fits between them.
+const LIFT: usize = 8;
+
 // The most rounds beside each other.
 const BAND: usize = 40;
 
@@ -108,8 +111,9 @@ pub(crate) fn seat_of(band: usize, cpu: usize) -> usize {
 // Notes in a table of rows which tokens a trace lets processors hold or mark.
 fn note_used(rows: &mut [usize], trace: &[Event]) {
     for event in trace {
-        if let Event::Take { cpu, tok } | Event::Share { cpu, tok } | Event::Mark { cpu, tok } =
-            *event
+        if let Event::Take { cpu, tok }
+        | Event::Share { cpu, tok }
+        | Event::Mark { cpu, tok } = *event
         {
             let slot = slot_of(usize::from(cpu.0), usize::from(tok.0));
             if let Some(row) = rows.get_mut(slot) {
@@ -144,7 +148,7 @@ fn place_band(
     let mut at = from;
     for (cpu, depth) in depths.iter().enumerate() {
         let count = lines.get(seat_of(band, cpu)).copied().unwrap_or(0);
-        let above = count.max(1).saturating_mul(LINE).saturating_add(GAP);
+        let above = count.max(1).saturating_mul(LINE).saturating_add(LIFT + 2);
         let top = at.saturating_add(above);
         tops.push(top)?;
         if *depth > 0 {
@@ -223,6 +227,6 @@ impl Layout {
     /// Where a line of labels stands above a processor's turns in a round.
     pub(crate) fn label(&self, round: usize, cpu: usize, line: usize) -> usize {
         let top = self.top(self.grid.band(round), cpu);
-        top.saturating_sub(line.saturating_mul(LINE).saturating_add(3))
+        top.saturating_sub(line.saturating_mul(LINE).saturating_add(LIFT))
     }
 }

@@ -224,7 +224,13 @@ fn add_rows(legend: &mut Legend, sketch: &Sketch) {
         let y = at.y.saturating_add(2);
         show_rect(&mut legend.page, at.x, y, 2 * SIGN, 10, "full");
         legend.page.add("/>");
-        show_stored(&mut legend.page, at.x.saturating_add(3), y.saturating_add(9), stored, 7);
+        show_stored(
+            &mut legend.page,
+            at.x.saturating_add(3),
+            y.saturating_add(9),
+            stored,
+            7,
+        );
         legend.mean(at, 2 * SIGN, meaning);
     }
     if !sketch.marks.is_empty() {
@@ -292,33 +298,48 @@ fn fault_of(label: &Label, ends: bool) -> Option<Fault> {
     }
 }
 
+// Whether this is the same fault.
+fn is_same(old: Option<Fault>, fault: Fault) -> bool {
+    match old {
+        Some(old) => old.number() == fault.number(),
+        None => false,
+    }
+}
+
 // Notes a fault in a list without it that has room; says whether it was noted.
 fn note_fault(noted: &mut [Option<Fault>; FAULT_LIMIT], fault: Fault) -> bool {
     for slot in noted.iter_mut() {
-        match *slot {
-            Some(old) if old.number() == fault.number() => return false,
-            Some(_) => {}
-            None => {
-                *slot = Some(fault);
-                return true;
-            }
+        let old = *slot;
+        if old.is_none() {
+            *slot = Some(fault);
+            return true;
+        }
+        if is_same(old, fault) {
+            return false;
         }
     }
     false
 }
 
+// What the sign before a fault's number means.
+fn fault_meaning(ends: bool) -> &'static str {
+    if ends {
+        "a thread ended:"
+    } else {
+        "what was asked was refused:"
+    }
+}
+
 // Appends the faults of refusals or of threads' ends, each one once.
 fn add_faults(legend: &mut Legend, labels: &[Label], ends: bool) {
     let mut noted = [None; FAULT_LIMIT];
-    let (sign, meaning) = if ends {
-        ("x", "a thread ended:")
-    } else {
-        ("!", "what was asked was refused:")
-    };
+    let mut some = false;
+    let sign = if ends { "x" } else { "!" };
     for label in labels {
         if let Some(fault) = fault_of(label, ends) {
-            if noted[0].is_none() {
-                legend.add_word(sign, meaning);
+            if !some {
+                legend.add_word(sign, fault_meaning(ends));
+                some = true;
             }
             if note_fault(&mut noted, fault) {
                 legend.add_fault(sign, fault);

@@ -34,6 +34,9 @@ pub struct Chosen {
 }
 
 impl Chosen {
+    ghost use Rattle.std.specs.Prelude.{◌↔◌, ◌≤◌, IsTrue};
+    ghost use Rattle.lwkt_scenes.specs.Shown.{first_turn};
+
     /// The same as turns of so many processors.
     pub(crate) fn in_turns(&self, cpus: u8) -> Chosen {
         let cpus = usize::from(cpus).max(1);
@@ -51,9 +54,16 @@ impl Chosen {
         }
     }
 
-    /// Whether all that is chosen is behind the end of a run.
-    pub fn is_past(&self, run: &Reel) -> bool {
-        let first = self.in_turns(run.script.cpus).first;
-        first > 0 && first >= run.turns.len()
+    /// Whether all that is chosen lies behind the end of a run of so many processors that made so many turns.
+    pub fn is_past(&self, cpus: u8, turns: usize) -> bool
+        ensures { IsTrue result ↔ (turns ≤ first_turn self.now.counted self.now.first cpus) }
+    {
+        match self.counted {
+            Counted::Turns => turns <= self.first,
+            Counted::Rounds => match self.first.checked_mul(usize::from(cpus)) {
+                Some(first) => turns <= first,
+                None => true,
+            },
+        }
     }
 }

@@ -235,7 +235,14 @@ impl Sketch {
         }
         self.end_value(&bar, value.round);
         let place = Some(self.values.len());
-        self.set_bar(value.cpu, value.tok, Some(Bar { value: place, ..bar }));
+        self.set_bar(
+            value.cpu,
+            value.tok,
+            Some(Bar {
+                value: place,
+                ..bar
+            }),
+        );
         self.values.push(value)?;
         Ok(())
     }
@@ -284,7 +291,9 @@ impl Sketch {
         let cpu = usize::from(event.cpu().0);
         match *event {
             Event::Send {
-                msg, round: sent, ..
+                msg,
+                round: sent,
+                ..
             } => self.leave(way_from(msg, sent, false, cpu, round)),
             Event::Reply { msg, .. } => self.leave(way_from(msg, sent, true, cpu, round)),
             Event::TakeMsg { msg, .. } | Event::Reap { msg, .. } | Event::DropMsg { msg, .. } => {
@@ -296,7 +305,12 @@ impl Sketch {
     }
 
     /// Notes an event of a round. `sent` is the round of the message that it is at.
-    pub(crate) fn note(&mut self, event: &Event, round: usize, sent: u64) -> Result<(), AllocError> {
+    pub(crate) fn note(
+        &mut self,
+        event: &Event,
+        round: usize,
+        sent: u64,
+    ) -> Result<(), AllocError> {
         let cpu = usize::from(event.cpu().0);
         match *event {
             Event::Take { tok, .. } => self.hold(cpu, usize::from(tok.0), Mode::Exclusive, round),
@@ -308,7 +322,10 @@ impl Sketch {
             | Event::GiveClean { tok, .. }
             | Event::GiveWritten { tok, .. } => return self.give(cpu, usize::from(tok.0), round),
             Event::Write {
-                tok, cell, value, ..
+                tok,
+                cell,
+                value,
+                ..
             } => {
                 let tok = usize::from(tok.0);
                 return self.store(value_of(cpu, tok, round, cell, value));

@@ -57,7 +57,11 @@ fn with(idle: Idle, want: Want) -> Idle {
         },
         Some(first) if first == want => idle,
         Some(first) => Idle {
-            want: Some(if rank(want) < rank(first) { want } else { first }),
+            want: Some(if rank(want) < rank(first) {
+                want
+            } else {
+                first
+            }),
             more: true,
         },
     }

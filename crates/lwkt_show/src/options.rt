@@ -1,3 +1,5 @@
+ghost use Rattle.std.specs.Prelude.{◌≤◌, IfSome};
+
 use lwkt_scenes::Counted;
 
 /// How a run is shown.
@@ -31,17 +33,12 @@ fn bound(text: &str, without: usize) -> Option<usize> {
     text.parse::<usize>().ok()
 }
 
-// These options with the range `A..B`, if it has anything.
+// These options with the range `A..B`.
 fn with_range(options: Options, text: &str) -> Option<Options> {
     let (first, last) = text.split_once("..")?;
-    let first = bound(first, 0)?;
-    let last = bound(last, usize::MAX)?;
-    if first > last {
-        return None;
-    }
     Some(Options {
-        first,
-        last,
+        first: bound(first, 0)?,
+        last: bound(last, usize::MAX)?,
         ..options
     })
 }
@@ -97,12 +94,17 @@ fn read_options(words: &[String]) -> Option<Options> {
 
 /// The options that the arguments are: `turns`, then any of a range and one of `--svg` and `--trace`. The range is
 /// `--turns A..B` or `--rounds A..B`, with A at most B. A trace is always whole.
-pub fn options_of(words: &[String]) -> Option<Options> {
+pub fn options_of(words: &[String]) -> Option<Options>
+    ensures { IfSome result (λ options. options.first ≤ options.last) }
+{
     let (first, rest) = words.split_first()?;
     if first.as_str() != "turns" {
         return None;
     }
     let options = read_options(rest)?;
+    if options.first > options.last {
+        return None;
+    }
     let whole = options.first == 0 && options.last == usize::MAX;
     if options.view == View::Trace && !whole {
         return None;
