@@ -1,8 +1,15 @@
 -- What is shown of a run (own).
-use Rattle.std.specs.Prelude.{◌≡◌, ◌++◌, ℕ, List}
+use Rattle.std.specs.Prelude.{◌*◌, ◌≡◌, ◌++◌, ℕ, List}
 use Rattle.lwkt_report.specs.declared.closings.Closing.{Closing}
 use Rattle.lwkt_report.specs.Report.{report_text}
+use Rattle.lwkt_scenes.specs.declared.reels.Counted.{Counted}
+use Rattle.lwkt_scenes.specs.declared.reels.Counted.TheVariants.{Turns, Rounds}
 
 -- the text ends with the report, byte for byte
 abbrev pub EndsInReport : Closing → List ℕ → Type 0
 EndsInReport closing text = (front : List ℕ) × (text ≡ front ++ report_text closing)
+
+-- the first turn of a range that begins with this turn or round, in a run of so many processors
+abbrev pub first_turn : Counted → ℕ → ℕ → ℕ
+first_turn Turns first cpus = first
+first_turn Rounds first cpus = first * cpus

@@ -1,337 +1,260 @@
-use crate::layouts::{CPU_LIMIT, Layout, ROW, TOKEN_LIMIT, slot_of};
+//! How the parts of a picture are drawn that stand below and between the boxes of turns: bars, values, marks and messages.
+use crate::labels::digits;
+use crate::layouts::{COLUMN, Layout, ROW};
 use crate::pages::Page;
-use crate::shapes::{show_rect, show_text_at};
+use crate::shapes::{Point, VALUE, show_line, show_path, show_rect, show_text_at};
+use crate::sketches::{Bar, Marked, Stored, Way};
 use crate::words::mode_word;
 use lwkt_base::Mode;
-use lwkt_core::Event;
-use std::alloc::{AllocError, Global};
 
-// The most messages of a script.
-const MESSAGE_LIMIT: usize = 64;
+// How far right of a round's beginning messages leave and arrive.
+const STALK: usize = 24;
 
-/// A token that a processor holds: since which round, how, and how many references.
-#[derive(Clone, Copy)]
-struct Bar {
-    since: usize,
-    mode: Mode,
-    references: usize,
+/// The class of a bar.
+pub(crate) fn bar_class(mode: Mode) -> &'static str {
+    match mode {
+        Mode::Exclusive => "full",
+        Mode::Shared => "hatched",
+    }
 }
 
-/// A message that is on its way: since which round, and from which processor.
-#[derive(Clone, Copy)]
-struct Way {
-    since: usize,
-    cpu: usize,
-    round: u64,
-    is_reply: bool,
+// Appends what a bar says, and its end.
+fn show_bar_title(out: &mut Page, bar: &Bar) {
+    out.size("><title>token ", bar.tok);
+    out.add(" held ");
+    out.add(mode_word(bar.mode));
+    out.size(" by processor ", bar.cpu);
+    out.size(", rounds ", bar.since);
+    out.size(" to ", bar.until);
+    out.add("</title></rect>\n");
 }
 
-/// What is held and what is on its way while a picture is drawn.
-#[derive(Drop)]
-pub(crate) struct Drawing {
-    pub layout: Layout,
-    bars: Vec<Option<Bar>>,
-    ways: [Option<Way>; MESSAGE_LIMIT],
+// Where a bar begins in a band: at the band's edge if it goes on from before.
+fn bar_begin(layout: &Layout, bar: &Bar, band: usize) -> usize {
+    let begin = layout.grid.begin(band);
+    if bar.since < begin {
+        return layout.grid.x(begin);
+    }
+    layout.grid.x(bar.since).saturating_add(2)
 }
 
-// How far below two processors' turns an arrow from the one to the other begins and ends.
-fn sides(y: usize, to_y: usize) -> (usize, usize) {
-    if to_y > y {
+// Where a bar ends in a band: at the band's edge if it goes on behind it.
+fn bar_end(layout: &Layout, bar: &Bar, band: usize) -> usize {
+    if bar.until > layout.grid.end(band) {
+        return layout.grid.right(band);
+    }
+    layout.grid.x(bar.until).saturating_add(COLUMN - 2)
+}
+
+// Appends a bar in each band in which it stands.
+fn draw_bar(out: &mut Page, layout: &Layout, bar: &Bar) {
+    let last = layout.grid.band(bar.until);
+    for band in layout.grid.band(bar.since)..last.saturating_add(1) {
+        if let Some(y) = layout.row(band, bar.cpu, bar.tok) {
+            let x = bar_begin(layout, bar, band);
+            let width = bar_end(layout, bar, band).saturating_sub(x);
+            show_rect(out, x, y, width, ROW - 4, bar_class(bar.mode));
+            show_bar_title(out, bar);
+        }
+    }
+}
+
+/// Appends the bars of tokens that processors held.
+pub(crate) fn draw_bars(out: &mut Page, layout: &Layout, bars: &[Bar]) {
+    for bar in bars {
+        draw_bar(out, layout, bar);
+    }
+}
+
+// The first digits of a number, so many.
+fn front_of(number: u64, count: usize) -> u64 {
+    let mut rest = number;
+    for _place in 0..digits(number).saturating_sub(count) {
+        rest /= 10;
+    }
+    rest
+}
+
+// Appends a value in so many letters: the cell and its value, or its first digits where it is longer.
+fn show_value(out: &mut Page, stored: &Stored, room: usize) {
+    let cell = u64::from(stored.cell);
+    let before = digits(cell).saturating_add(1);
+    let behind = if stored.more { 2 } else { 0 };
+    let all = before
+        .saturating_add(digits(stored.value))
+        .saturating_add(behind);
+    out.number("", cell);
+    out.add(":");
+    if all <= room {
+        out.number("", stored.value);
+    } else {
+        let left = room.saturating_sub(before.saturating_add(2));
+        if left > 0 {
+            out.number("", front_of(stored.value, left));
+        }
+    }
+    if all > room || stored.more {
+        out.add("..");
+    }
+}
+
+/// Appends a value where it fits into so many letters.
+pub(crate) fn show_stored(out: &mut Page, x: usize, y: usize, stored: &Stored, room: usize) {
+    show_text_at(out, x, y, VALUE);
+    out.size("<title>token ", stored.tok);
+    out.number(": cell ", u64::from(stored.cell));
+    out.number(" is now ", stored.value);
+    if stored.more {
+        out.add("; further cells are stored in the same turn");
+    }
+    out.add("</title>");
+    show_value(out, stored, room);
+    out.add("</text>\n");
+}
+
+// Appends a value on its token's bar.
+fn draw_value(out: &mut Page, layout: &Layout, stored: &Stored) {
+    let band = layout.grid.band(stored.round);
+    let Some(y) = layout.row(band, stored.cpu, stored.tok) else {
+        return;
+    };
+    let behind = layout.grid.end(band).saturating_add(1);
+    let rounds = stored.until.min(behind).saturating_sub(stored.round).max(1);
+    let room = rounds.saturating_mul(COLUMN).saturating_sub(1) / 6;
+    let x = layout.grid.x(stored.round).saturating_add(2);
+    show_stored(out, x, y.saturating_add(9), stored, room);
+}
+
+/// Appends the values that were stored.
+pub(crate) fn draw_values(out: &mut Page, layout: &Layout, values: &[Stored]) {
+    for stored in values {
+        draw_value(out, layout, stored);
+    }
+}
+
+/// Appends the flag of a mark.
+pub(crate) fn show_flag(out: &mut Page, x: usize, y: usize) {
+    show_path(out, x, y, "v14m0 -14l9 4l-9 4", "flag");
+}
+
+// Appends a mark in the row of the processor that set it.
+fn draw_mark(out: &mut Page, layout: &Layout, mark: &Marked) {
+    let band = layout.grid.band(mark.round);
+    let Some(y) = layout.row(band, mark.cpu, mark.tok) else {
+        return;
+    };
+    let x = layout.grid.x(mark.round).saturating_add(COLUMN / 2);
+    show_flag(out, x, y.saturating_sub(2));
+    out.size("><title>token ", mark.tok);
+    out.size(" marked by processor ", mark.cpu);
+    out.size(" in round ", mark.round);
+    out.add("</title></path>\n");
+}
+
+/// Appends the marks.
+pub(crate) fn draw_marks(out: &mut Page, layout: &Layout, marks: &[Marked]) {
+    for mark in marks {
+        draw_mark(out, layout, mark);
+    }
+}
+
+// How far below two processors' turns a line from the one to the other begins and ends.
+fn sides(cpu: usize, to: usize) -> (usize, usize) {
+    if to > cpu {
         (ROW, 0)
-    } else if to_y < y {
+    } else if to < cpu {
         (0, ROW)
     } else {
         (ROW + 3, ROW + 3)
     }
 }
 
-// Appends the title of a message on its way, as far as it says where it began.
-fn show_way(out: &mut Page, msg: usize, way: Way) {
-    let word = if way.is_reply {
-        "<g><title>reply to message "
+// Where a line meets the turn of a processor in a round, so far below its upper edge.
+fn point(layout: &Layout, round: usize, cpu: usize, below: usize) -> Point {
+    let top = layout.top(layout.grid.band(round), cpu);
+    Point {
+        x: layout.grid.x(round).saturating_add(STALK),
+        y: top.saturating_add(below),
+    }
+}
+
+// Where a line between two processors leaves a band or comes into it.
+fn halfway(layout: &Layout, band: usize, cpu: usize, to: usize, x: usize) -> Point {
+    let (top, to_top) = (layout.top(band, cpu), layout.top(band, to));
+    let (down, up) = sides(cpu, to);
+    let sum = top
+        .saturating_add(down)
+        .saturating_add(to_top)
+        .saturating_add(up);
+    Point { x, y: sum / 2 }
+}
+
+// Appends the lines of a message that arrives at a processor in a round: one, or where it arrives in another band two.
+fn draw_arrow(out: &mut Page, layout: &Layout, way: &Way, cpu: usize, until: usize) {
+    let grid = layout.grid;
+    let (down, up) = sides(way.cpu, cpu);
+    let from = point(layout, way.since, way.cpu, down);
+    let to = point(layout, until, cpu, up);
+    let (band, to_band) = (grid.band(way.since), grid.band(until));
+    let begins = way.since >= grid.first;
+    if begins && band == to_band {
+        return show_line(out, from, to, way.is_reply, true);
+    }
+    if begins {
+        let edge = halfway(layout, band, way.cpu, cpu, grid.right(band));
+        show_line(out, from, edge, way.is_reply, false);
+    }
+    let x = grid.x(grid.begin(to_band));
+    let edge = halfway(layout, to_band, way.cpu, cpu, x);
+    show_line(out, edge, to, way.is_reply, true);
+}
+
+/// Appends the ring of a message that nobody took.
+pub(crate) fn show_ring(out: &mut Page, x: usize, y: usize) {
+    show_path(out, x, y, "v7", "way");
+    out.size("/><circle cx=\"", x);
+    out.size("\" cy=\"", y.saturating_add(10));
+    out.add("\" r=\"3\" class=\"way\"/>");
+}
+
+// Appends the title of a message on its way.
+fn show_way(out: &mut Page, way: &Way) {
+    out.add("<g><title>");
+    out.add(if way.is_reply {
+        "reply to message "
     } else {
-        "<g><title>message "
-    };
-    out.size(word, msg);
+        "message "
+    });
+    out.number("", u64::from(way.msg.0));
     out.number(", round ", way.round);
     out.size(": from processor ", way.cpu);
     out.size(" in round ", way.since);
-}
-
-// Appends the name of a message on its way.
-fn show_mail(out: &mut Page, x: usize, y: usize, msg: usize, way: Way) {
-    show_text_at(out, x, y, "");
-    out.size("m", msg);
-    out.number(" r", way.round);
-    out.add("</text></g>\n");
-}
-
-// Appends the line of an arrow; dashed for a reply.
-fn show_line(out: &mut Page, layout: &Layout, way: Way, cpu: usize, until: usize) {
-    let (y, to_y) = (layout.top(way.cpu), layout.top(cpu));
-    let (down, up) = sides(y, to_y);
-    out.size("<line x1=\"", layout.middle(way.since));
-    out.size("\" y1=\"", y.saturating_add(down));
-    out.size("\" x2=\"", layout.middle(until));
-    out.size("\" y2=\"", to_y.saturating_add(up));
-    out.add(if way.is_reply {
-        "\" class=\"way\" stroke-dasharray=\"5 3\""
-    } else {
-        "\" class=\"way\""
-    });
-    out.add(" marker-end=\"url(#head)\"/>");
-}
-
-// Appends an arrow between two processors, from the middle of a round to the middle of another.
-fn draw_arrow(out: &mut Page, layout: &Layout, msg: usize, way: Way, cpu: usize, until: usize) {
-    show_way(out, msg, way);
-    out.size(" to processor ", cpu);
-    out.size(" in round ", until);
+    match way.end {
+        Some((cpu, until)) => {
+            out.size(" to processor ", cpu);
+            out.size(" in round ", until);
+        }
+        None => out.add(", not taken"),
+    }
     out.add("</title>");
-    show_line(out, layout, way, cpu, until);
-    let y = layout.top(way.cpu);
-    let (down, _) = sides(y, layout.top(cpu));
-    let y = if down == 0 {
-        y.saturating_sub(4)
-    } else {
-        y.saturating_add(ROW + 11)
-    };
-    show_mail(out, layout.middle(way.since).saturating_add(3), y, msg, way);
 }
 
-// Appends a message that is still on its way at the end: a line that ends in a ring.
-fn draw_lost(out: &mut Page, layout: &Layout, msg: usize, way: Way) {
-    let x = layout.middle(way.since);
-    let y = layout.top(way.cpu).saturating_add(ROW);
-    show_way(out, msg, way);
-    out.size(", not taken</title><path d=\"M", x);
-    out.size(" ", y);
-    out.size("v9\" class=\"way\"/><circle cx=\"", x);
-    out.size("\" cy=\"", y.saturating_add(12));
-    out.add("\" r=\"3\" class=\"way\"/>");
-    show_mail(out, x.saturating_add(6), y.saturating_add(14), msg, way);
+// Appends a message on its way.
+fn draw_way(out: &mut Page, layout: &Layout, way: &Way) {
+    show_way(out, way);
+    match way.end {
+        Some((cpu, until)) => draw_arrow(out, layout, way, cpu, until),
+        None => {
+            let from = point(layout, way.since, way.cpu, ROW);
+            show_ring(out, from.x, from.y)
+        }
+    }
+    out.add("</g>\n");
 }
 
-// Appends what a bar says, and its end.
-fn show_bar_title(out: &mut Page, cpu: usize, tok: usize, bar: Bar, until: usize) {
-    out.size("><title>token ", tok);
-    out.add(" held ");
-    out.add(mode_word(bar.mode));
-    out.size(" by processor ", cpu);
-    out.size(", rounds ", bar.since);
-    out.size(" to ", until);
-    out.add("</title></rect>\n");
-}
-
-// Appends the tick of a mark in a row.
-fn show_tick(out: &mut Page, x: usize, y: usize, by: usize, tok: usize, round: usize) {
-    out.size("<path d=\"M", x);
-    out.size(" ", y.saturating_sub(3));
-    out.size("v", ROW + 2);
-    out.size("\" class=\"tick\"><title>token ", tok);
-    out.size(" marked by processor ", by);
-    out.size(" in round ", round);
-    out.add("</title></path>\n");
-}
-
-// A bar with a reference more, or a new one.
-fn with_one_more(bar: Option<Bar>, mode: Mode, since: usize) -> Bar {
-    match bar {
-        None => Bar {
-            since,
-            mode,
-            references: 1,
-        },
-        Some(bar) => Bar {
-            references: bar.references.saturating_add(1),
-            ..bar
-        },
-    }
-}
-
-// A bar with a reference less, if one is left.
-fn with_one_less(bar: Bar) -> Option<Bar> {
-    if bar.references > 1 {
-        Some(Bar {
-            references: bar.references - 1,
-            ..bar
-        })
-    } else {
-        None
-    }
-}
-
-// The bars before the first round.
-fn no_bars(alloc: Global) -> Result<Vec<Option<Bar>>, AllocError> {
-    let mut bars = Vec::new(alloc);
-    for _slot in 0..CPU_LIMIT * TOKEN_LIMIT {
-        bars.push(None)?;
-    }
-    Ok(bars)
-}
-
-impl Drawing {
-    /// A picture of this layout before its first round.
-    pub(crate) fn new(alloc: Global, layout: Layout) -> Result<Self, AllocError> {
-        Ok(Drawing {
-            layout,
-            bars: no_bars(alloc)?,
-            ways: [None; MESSAGE_LIMIT],
-        })
-    }
-
-    // Whether something that goes on from a round to another is in the picture.
-    fn is_shown(&self, since: usize, until: usize) -> bool {
-        until >= self.layout.first && since <= self.layout.last
-    }
-
-    // Appends the bar of a token that a processor held until this round.
-    fn draw_bar(&self, out: &mut Page, cpu: usize, tok: usize, bar: Bar, until: usize) {
-        if !self.is_shown(bar.since, until) {
-            return;
-        }
-        let class = match bar.mode {
-            Mode::Exclusive => "full",
-            Mode::Shared => "hatched",
-        };
-        let x = self.layout.x(bar.since).saturating_add(2);
-        let end = self.layout.x(until.saturating_add(1)).saturating_sub(2);
-        let y = self.layout.row(cpu, tok);
-        show_rect(out, x, y, end.saturating_sub(x), ROW - 4, class);
-        show_bar_title(out, cpu, tok, bar, until);
-    }
-
-    // The bar of a token that a processor holds.
-    fn bar(&self, cpu: usize, tok: usize) -> Option<Bar> {
-        self.bars.get(slot_of(cpu, tok)).copied().unwrap_or(None)
-    }
-
-    // A processor has a reference more, from this round on.
-    fn add(&mut self, cpu: usize, tok: usize, mode: Mode, round: usize) {
-        if let Some(slot) = self.bars.get_mut(slot_of(cpu, tok)) {
-            *slot = Some(with_one_more(*slot, mode, round));
-        }
-    }
-
-    // A processor gives back a reference in this round; the bar is drawn with the last one.
-    fn give(&mut self, out: &mut Page, cpu: usize, tok: usize, round: usize) {
-        let Some(bar) = self.bar(cpu, tok) else {
-            return;
-        };
-        let left = with_one_less(bar);
-        if let Some(slot) = self.bars.get_mut(slot_of(cpu, tok)) {
-            *slot = left;
-        }
-        if left.is_none() {
-            self.draw_bar(out, cpu, tok, bar, round);
-        }
-    }
-
-    // Appends the tick of a mark in the row of a processor.
-    fn draw_tick(&self, out: &mut Page, cpu: usize, by: usize, tok: usize, round: usize) {
-        let y = self.layout.row(cpu, tok);
-        if y == 0 || !self.is_shown(round, round) {
-            return;
-        }
-        show_tick(out, self.layout.middle(round), y, by, tok, round);
-    }
-
-    // Appends the ticks of a mark: in the rows of those that hold the token, or of who marks it.
-    fn draw_mark(&self, out: &mut Page, by: usize, tok: usize, round: usize) {
-        let mut some = false;
-        for cpu in 0..CPU_LIMIT {
-            if self.bar(cpu, tok).is_some() {
-                self.draw_tick(out, cpu, by, tok, round);
-                some = true;
-            }
-        }
-        if !some {
-            self.draw_tick(out, by, by, tok, round);
-        }
-    }
-
-    // A message leaves a processor.
-    fn send(&mut self, msg: usize, way: Way) {
-        if let Some(slot) = self.ways.get_mut(msg) {
-            *slot = Some(way);
-        }
-    }
-
-    // A message arrives at a processor, or is taken back; its arrow is drawn.
-    fn arrive(&mut self, out: &mut Page, msg: usize, cpu: usize, round: usize) {
-        let way = match self.ways.get_mut(msg) {
-            Some(slot) => slot.take(),
-            None => None,
-        };
-        let Some(way) = way else {
-            return;
-        };
-        if self.is_shown(way.since, round) {
-            draw_arrow(out, &self.layout, msg, way, cpu, round);
-        }
-    }
-
-    // A message's taker replies to it.
-    fn reply(&mut self, msg: usize, cpu: usize, since: usize, round: u64) {
-        self.send(
-            msg,
-            Way {
-                since,
-                cpu,
-                round,
-                is_reply: true,
-            },
-        );
-    }
-
-    /// Notes an event of a round, and appends what it completes. `sent` is the round of the message that it is at.
-    pub(crate) fn draw_event(&mut self, out: &mut Page, event: &Event, round: usize, sent: u64) {
-        let cpu = usize::from(event.cpu().0);
-        match *event {
-            Event::Take { tok, .. } => self.add(cpu, usize::from(tok.0), Mode::Exclusive, round),
-            Event::Share { tok, .. } | Event::Again { tok, .. } => {
-                self.add(cpu, usize::from(tok.0), Mode::Shared, round)
-            }
-            Event::Mark { tok, .. } => self.draw_mark(out, cpu, usize::from(tok.0), round),
-            Event::GiveOne { tok, .. }
-            | Event::GiveClean { tok, .. }
-            | Event::GiveWritten { tok, .. } => self.give(out, cpu, usize::from(tok.0), round),
-            Event::Send {
-                msg,
-                round: number,
-                ..
-            } => {
-                let way = Way {
-                    since: round,
-                    cpu,
-                    round: number,
-                    is_reply: false,
-                };
-                self.send(usize::from(msg.0), way)
-            }
-            Event::Reply { msg, .. } => self.reply(usize::from(msg.0), cpu, round, sent),
-            Event::TakeMsg { msg, .. } | Event::Reap { msg, .. } | Event::DropMsg { msg, .. } => {
-                self.arrive(out, usize::from(msg.0), cpu, round)
-            }
-            _ => {}
-        }
-    }
-
-    /// Appends what is still held and still on its way behind the last round.
-    pub(crate) fn draw_rest(&self, out: &mut Page) {
-        for cpu in 0..CPU_LIMIT {
-            for tok in 0..TOKEN_LIMIT {
-                if let Some(bar) = self.bar(cpu, tok) {
-                    self.draw_bar(out, cpu, tok, bar, self.layout.last);
-                }
-            }
-        }
-        for (msg, way) in self.ways.iter().enumerate() {
-            if let Some(way) = way {
-                if self.is_shown(way.since, way.since) {
-                    draw_lost(out, &self.layout, msg, *way);
-                }
-            }
-        }
+/// Appends the messages and replies.
+pub(crate) fn draw_ways(out: &mut Page, layout: &Layout, ways: &[Way]) {
+    for way in ways {
+        draw_way(out, layout, way);
     }
 }

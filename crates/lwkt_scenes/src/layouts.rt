@@ -6,41 +6,115 @@ pub(crate) const CPU_LIMIT: usize = 8;
 
 pub(crate) const TOKEN_LIMIT: usize = 64;
 
-/// The width of a round, and the height of a row.
-pub(crate) const COLUMN: usize = 24;
+/// The width of a round, the height of a row, and that of a line of labels.
+pub(crate) const COLUMN: usize = 32;
 
 pub(crate) const ROW: usize = 14;
 
-// What stands left of the first round and above the first processor, and between two processors.
+const LINE: usize = 11;
+
+// How far above a box its lowest label stands: an arrow's head fits between them.
+const LIFT: usize = 8;
+
+// The most rounds beside each other.
+const BAND: usize = 40;
+
+// What stands left of a band's first round and right of its last, how wide a picture is at least, and what stands above all
+// bands and between two processors.
 const LEFT: usize = 76;
 
-const TOP: usize = 34;
+const RIGHT: usize = 12;
 
-const GAP: usize = 26;
+const NARROWEST: usize = 620;
+
+const HEAD: usize = 14;
+
+const GAP: usize = 8;
+
+/// The rounds that a picture shows, in bands of at most 40 below each other.
+#[derive(Clone, Copy)]
+pub(crate) struct Grid {
+    pub first: usize,
+    pub last: usize,
+}
+
+impl Grid {
+    // Which one of those shown a round is, from 0. One before them counts as the first, one behind them as the last.
+    fn place(&self, round: usize) -> usize {
+        round.min(self.last).saturating_sub(self.first)
+    }
+
+    /// The band in which a round stands.
+    pub(crate) fn band(&self, round: usize) -> usize {
+        self.place(round) / BAND
+    }
+
+    /// How many bands there are.
+    pub(crate) fn bands(&self) -> usize {
+        self.band(self.last).saturating_add(1)
+    }
+
+    /// The first round of a band.
+    pub(crate) fn begin(&self, band: usize) -> usize {
+        self.first.saturating_add(band.saturating_mul(BAND))
+    }
+
+    /// The last round of a band.
+    pub(crate) fn end(&self, band: usize) -> usize {
+        self.begin(band).saturating_add(BAND - 1).min(self.last)
+    }
+
+    /// Where a round begins.
+    pub(crate) fn x(&self, round: usize) -> usize {
+        LEFT.saturating_add((self.place(round) % BAND).saturating_mul(COLUMN))
+    }
+
+    /// Where a band ends.
+    pub(crate) fn right(&self, band: usize) -> usize {
+        self.x(self.end(band)).saturating_add(COLUMN)
+    }
+
+    /// How wide the picture is.
+    pub(crate) fn width(&self) -> usize {
+        self.right(0).saturating_add(RIGHT).max(NARROWEST)
+    }
+
+    /// Whether something that goes on from a round to another is in the picture.
+    pub(crate) fn is_shown(&self, since: usize, until: usize) -> bool {
+        until >= self.first && since <= self.last
+    }
+}
 
 /// Where the parts of a picture stand.
 #[derive(Drop)]
 pub(crate) struct Layout {
-    /// The rounds that are shown.
-    pub first: usize,
-    pub last: usize,
-    // Of each processor where its turns stand.
-    tops: [usize; CPU_LIMIT],
-    // Of each processor's tokens where they stand, 64 for each processor; 0 for one that it never holds.
+    pub grid: Grid,
+    // Of each band where its numbers of rounds stand, and where the turns of each of 8 processors do.
+    heads: Vec<usize>,
+    tops: Vec<usize>,
+    // Of each processor's tokens how far below its turns they stand, 64 for each processor; 0 for one without a row.
     rows: Vec<usize>,
-    /// How high all processors are.
+    /// How high all bands are.
     pub height: usize,
 }
 
-// The place of a token of a processor in a table.
+/// The place of a token of a processor in a table.
 pub(crate) fn slot_of(cpu: usize, tok: usize) -> usize {
     cpu.saturating_mul(TOKEN_LIMIT).saturating_add(tok)
 }
 
-// Notes in a table of rows which tokens a trace lets processors hold.
+/// The place of a processor in a band in a table.
+pub(crate) fn seat_of(band: usize, cpu: usize) -> usize {
+    band.saturating_mul(CPU_LIMIT).saturating_add(cpu)
+}
+
+// Notes in a table of rows which tokens a trace lets processors hold or mark.
 fn note_used(rows: &mut [usize], trace: &[Event]) {
     for event in trace {
-        if let Event::Take { cpu, tok } | Event::Share { cpu, tok } = *event {
+        if let Event::Take { cpu, tok }
+        | Event::Share { cpu, tok }
+        | Event::Mark { cpu, tok } = *event
+        {
             let slot = slot_of(usize::from(cpu.0), usize::from(tok.0));
             if let Some(row) = rows.get_mut(slot) {
                 *row = 1;
@@ -49,9 +123,9 @@ fn note_used(rows: &mut [usize], trace: &[Event]) {
     }
 }
 
-// Puts the rows of a processor below its turns at this height, and says where the next processor stands.
-fn place_rows(rows: &mut [usize], cpu: usize, top: usize) -> usize {
-    let mut at = top.saturating_add(ROW + 6);
+// Puts the rows of a processor below its turns, and says how high turns and rows are together.
+fn place_rows(rows: &mut [usize], cpu: usize) -> usize {
+    let mut at = ROW + 6;
     for tok in 0..TOKEN_LIMIT {
         if let Some(row) = rows.get_mut(slot_of(cpu, tok)) {
             if *row > 0 {
@@ -60,59 +134,99 @@ fn place_rows(rows: &mut [usize], cpu: usize, top: usize) -> usize {
             }
         }
     }
-    at.saturating_add(GAP)
+    at
+}
+
+// Puts the processors of a band below each other from this height on, each below its lines of labels; says where they end.
+fn place_band(
+    tops: &mut Vec<usize>,
+    band: usize,
+    depths: &[usize],
+    lines: &[usize],
+    from: usize,
+) -> Result<usize, AllocError> {
+    let mut at = from;
+    for (cpu, depth) in depths.iter().enumerate() {
+        let count = lines.get(seat_of(band, cpu)).copied().unwrap_or(0);
+        let above = count.max(1).saturating_mul(LINE).saturating_add(LIFT + 2);
+        let top = at.saturating_add(above);
+        tops.push(top)?;
+        if *depth > 0 {
+            at = top.saturating_add(*depth);
+        }
+    }
+    Ok(at.saturating_add(3 * GAP))
+}
+
+// The rows of all tokens that a trace lets so many processors hold, and how high each processor is; 0 for one that isn't there.
+fn rows_of(
+    alloc: Global,
+    cpus: usize,
+    trace: &[Event],
+) -> Result<(Vec<usize>, [usize; CPU_LIMIT]), AllocError> {
+    let mut rows = Vec::new(alloc);
+    for _slot in 0..CPU_LIMIT * TOKEN_LIMIT {
+        rows.push(0usize)?;
+    }
+    note_used(&mut rows, trace);
+    let mut depths = [0usize; CPU_LIMIT];
+    for (cpu, depth) in depths.iter_mut().enumerate() {
+        if cpu < cpus {
+            *depth = place_rows(&mut rows, cpu);
+        }
+    }
+    Ok((rows, depths))
 }
 
 impl Layout {
-    /// The layout of so many processors over these rounds of a run with this trace.
+    /// The layout of so many processors over these rounds of a run with this trace, with so many lines of labels above each
+    /// processor of each band.
     pub(crate) fn new(
         alloc: Global,
         cpus: usize,
-        first: usize,
-        last: usize,
+        grid: Grid,
         trace: &[Event],
+        lines: &[usize],
     ) -> Result<Self, AllocError> {
-        let mut rows = Vec::new(alloc);
-        for _slot in 0..CPU_LIMIT * TOKEN_LIMIT {
-            rows.push(0usize)?;
-        }
-        note_used(&mut rows, trace);
-        let mut tops = [0usize; CPU_LIMIT];
-        let mut at = TOP;
-        for (cpu, top) in tops.iter_mut().enumerate() {
-            if cpu < cpus {
-                *top = at;
-                at = place_rows(&mut rows, cpu, at);
-            }
+        let (rows, depths) = rows_of(alloc, cpus, trace)?;
+        let mut heads = Vec::new(alloc);
+        let mut tops = Vec::new(alloc);
+        let mut at = HEAD;
+        for band in 0..grid.bands() {
+            heads.push(at)?;
+            at = place_band(&mut tops, band, &depths, lines, at)?;
         }
         Ok(Layout {
-            first,
-            last,
+            grid,
+            heads,
             tops,
             rows,
             height: at,
         })
     }
 
-    /// Where a round begins. One before those shown stands at their beginning, one behind them at their end.
-    pub(crate) fn x(&self, round: usize) -> usize {
-        let end = self.last.saturating_add(1);
-        let column = round.min(end).saturating_sub(self.first);
-        LEFT.saturating_add(column.saturating_mul(COLUMN))
+    /// Where the numbers of a band's rounds stand.
+    pub(crate) fn head(&self, band: usize) -> usize {
+        self.heads.get(band).copied().unwrap_or(0)
     }
 
-    /// Where the middle of a round is.
-    pub(crate) fn middle(&self, round: usize) -> usize {
-        self.x(round).saturating_add(COLUMN / 2)
+    /// Where a processor's turns stand in a band.
+    pub(crate) fn top(&self, band: usize, cpu: usize) -> usize {
+        self.tops.get(seat_of(band, cpu)).copied().unwrap_or(0)
     }
 
-    /// Where a processor's turns stand.
-    pub(crate) fn top(&self, cpu: usize) -> usize {
-        self.tops.get(cpu).copied().unwrap_or(0)
+    /// Where a token of a processor stands in a band, if it has a row.
+    pub(crate) fn row(&self, band: usize, cpu: usize, tok: usize) -> Option<usize> {
+        let below = self.rows.get(slot_of(cpu, tok)).copied().unwrap_or(0);
+        if below == 0 {
+            return None;
+        }
+        Some(self.top(band, cpu).saturating_add(below))
     }
 
-    /// Where a token of a processor stands.
-    pub(crate) fn row(&self, cpu: usize, tok: usize) -> usize {
-        self.rows.get(slot_of(cpu, tok)).copied().unwrap_or(0)
+    /// Where a line of labels stands above a processor's turns in a round.
+    pub(crate) fn label(&self, round: usize, cpu: usize, line: usize) -> usize {
+        let top = self.top(self.grid.band(round), cpu);
+        top.saturating_sub(line.saturating_mul(LINE).saturating_add(LIFT))
     }
 }

@@ -1,10 +1,13 @@
 //! Shows a run of a script turn by turn: as lines, as a trace for `lwkt_check`, or as a picture; and why a script is refused.
 #![tactic(auto)]
 
+mod boxes;
 mod drawings;
 mod ends;
 mod events;
+mod labels;
 mod layouts;
+mod legends;
 mod pages;
 mod pictures;
 mod places;
@@ -14,15 +17,17 @@ mod replays;
 mod scenes;
 mod shapes;
 mod shows;
+mod sketches;
 mod stories;
 mod tokens;
 mod traces;
 mod tries;
 mod turns;
+mod waits;
 mod words;
 
 pub use pictures::picture_of;
-pub use reels::{Chosen, Reel};
+pub use reels::{Chosen, Counted, Reel};
 pub use refusals::show_refusal;
 pub use shows::lines_of;
 pub use traces::trace_of;

@@ -1,11 +1,16 @@
-use crate::drawings::Drawing;
-use crate::layouts::{COLUMN, Layout, ROW};
+use crate::boxes::{draw_boxes, draw_labels};
+use crate::drawings::{draw_bars, draw_marks, draw_values, draw_ways};
+use crate::labels::Tag;
+use crate::layouts::{Grid, Layout, ROW};
+use crate::legends::legend_of;
 use crate::pages::Page;
 use crate::reels::{Chosen, Reel};
 use crate::replays::Replay;
 use crate::scenes::{Scene, scene_of};
-use crate::shapes::{BOLD, show_label, show_rect, show_text_at};
+use crate::shapes::{BOLD, show_label, show_text_at, show_word};
+use crate::sketches::{Content, Sketch, TurnBox};
 use crate::turns::{pass_turn, show_turn};
+use crate::waits::idle_of;
 use lwkt_base::{Answer, Fault, ThreadState};
 use lwkt_core::Event;
 use lwkt_trace::words::{Subject, subject_of};
@@ -14,14 +19,9 @@ use std::alloc::{AllocError, Global};
 // The most turns that a picture shows.
 const PICTURE_LIMIT: usize = 2_000;
 
-// What stands behind the last round, and below the last processor.
-const RIGHT: usize = 20;
-
-const BELOW: usize = 58;
-
 // How the parts are drawn, and what hatches and arrow heads are.
 const STYLE: &str =
-    "<style>text{font:10px monospace;paint-order:stroke;stroke:#fff;stroke-width:2px}.full{fill:#000;stroke:#000}.hatched{fill:url(#lines);stroke:#000}.turn{fill:#fff;stroke:#000}.idle{fill:#fff;stroke:#bbb}.way{stroke:#000;fill:none}.tick{stroke:#000;stroke-width:2.5;fill:none}.fault{stroke:#000;stroke-width:2;fill:none}.bold{font-weight:bold}</style>\n<defs><pattern id=\"lines\" width=\"4\" height=\"4\" patternUnits=\"userSpaceOnUse\" patternTransform=\"rotate(45)\"><rect width=\"4\" height=\"4\" fill=\"#fff\"/><path d=\"M1 0v4\" stroke=\"#000\"/></pattern><marker id=\"head\" viewBox=\"0 0 8 8\" refX=\"8\" refY=\"4\" markerWidth=\"7\" markerHeight=\"7\" orient=\"auto\"><path d=\"M0 0L8 4L0 8z\"/></marker></defs>\n";
+    "<style>text{font:10px monospace;paint-order:stroke;stroke:#fff;stroke-width:2px}.full{fill:#000;stroke:#000}.hatched{fill:url(#lines);stroke:#000}.turn{fill:#fff;stroke:#000}.idle{fill:#fff;stroke:#666;stroke-dasharray:2 2}.way{stroke:#000;fill:none}.flag{stroke:#000;stroke-width:1.5}.cross{stroke:#000;stroke-width:2;fill:none}.bold{font-weight:bold}.value{fill:#fff;stroke:#000}</style>\n<defs><pattern id=\"lines\" width=\"4\" height=\"4\" patternUnits=\"userSpaceOnUse\" patternTransform=\"rotate(45)\"><rect width=\"4\" height=\"4\" fill=\"#fff\"/><path d=\"M1 0v4\" stroke=\"#000\"/></pattern><marker id=\"head\" viewBox=\"0 0 8 8\" refX=\"8\" refY=\"4\" markerWidth=\"7\" markerHeight=\"7\" orient=\"auto\"><path d=\"M0 0L8 4L0 8z\"/></marker></defs>\n";
 
 // Appends the size of a picture.
 fn draw_size(out: &mut Page, width: usize, height: usize) {
@@ -32,24 +32,8 @@ fn draw_size(out: &mut Page, width: usize, height: usize) {
     out.add("\">\n");
 }
 
-// Appends the numbers of rounds.
-fn draw_rounds(out: &mut Page, layout: &Layout) {
-    for round in layout.first..layout.last.saturating_add(1) {
-        if round % 5 == 0 || round == layout.first {
-            let x = layout.x(round).saturating_add(COLUMN / 4);
-            show_label(out, x, 14, "", "", round);
-            out.add("\n");
-        }
-    }
-}
-
-// Appends the beginning of a picture: its size, how its parts are drawn, and the numbers of rounds.
-fn draw_head(out: &mut Page, layout: &Layout) {
-    let width = layout
-        .x(layout.last.saturating_add(1))
-        .saturating_add(RIGHT)
-        .max(620);
-    let height = layout.height.saturating_add(BELOW);
+// Appends the beginning of a picture: its size, and how its parts are drawn.
+fn draw_head(out: &mut Page, width: usize, height: usize) {
     draw_size(out, width, height);
     out.add(
         "<title>a run of a script: processors from top to bottom, rounds from left to right</title>\n",
@@ -57,20 +41,41 @@ fn draw_head(out: &mut Page, layout: &Layout) {
     out.add(STYLE);
     out.size("<rect width=\"", width);
     out.size("\" height=\"", height);
-    out.add("\" fill=\"#fff\"/>\n<text x=\"4\" y=\"14\">round</text>\n");
-    draw_rounds(out, layout);
+    out.add("\" fill=\"#fff\"/>\n");
 }
 
-// Appends the names of a processor and of its tokens.
-fn draw_names(out: &mut Page, layout: &Layout, cpu: usize) {
-    let y = layout.top(cpu).saturating_add(ROW - 3);
-    show_label(out, 4, y, BOLD, "processor ", cpu);
+// Appends the numbers of a band's rounds: its first, and every fifth.
+fn draw_rounds(out: &mut Page, layout: &Layout, band: usize) {
+    let y = layout.head(band);
+    let begin = layout.grid.begin(band);
+    show_word(out, 4, y, "", "round");
+    for round in begin..layout.grid.end(band).saturating_add(1) {
+        if round % 5 == 0 || round == begin {
+            let x = layout.grid.x(round).saturating_add(4);
+            show_label(out, x, y, "", "", round);
+        }
+    }
     out.add("\n");
+}
+
+// Appends the names of a processor and of its tokens in a band.
+fn draw_names(out: &mut Page, layout: &Layout, band: usize, cpu: usize) {
+    let y = layout.top(band, cpu).saturating_add(ROW - 4);
+    show_label(out, 4, y, BOLD, "processor ", cpu);
     for tok in 0..64usize {
-        let row = layout.row(cpu, tok);
-        if row > 0 {
+        if let Some(row) = layout.row(band, cpu, tok) {
             show_label(out, 16, row.saturating_add(ROW - 5), "", "token ", tok);
-            out.add("\n");
+        }
+    }
+    out.add("\n");
+}
+
+// Appends all names and numbers of rounds.
+fn draw_bands(out: &mut Page, layout: &Layout, cpus: usize) {
+    for band in 0..layout.grid.bands() {
+        draw_rounds(out, layout, band);
+        for cpu in 0..cpus {
+            draw_names(out, layout, band, cpu);
         }
     }
 }
@@ -95,53 +100,15 @@ fn refused_by(scene: &Scene) -> Option<Fault> {
     }
 }
 
-// Appends the mark of a fault beside a turn: its number in a ring for a refusal, a cross for a thread's end.
-fn draw_fault(out: &mut Page, x: usize, y: usize, fault: Fault, ends: bool) {
-    if ends {
-        out.size("<path d=\"M", x.saturating_add(2));
-        out.size(" ", y);
-        out.add("l20 14m0 -14l-20 14\" class=\"fault\"/>");
-    }
-    let word = if ends { "x" } else { "!" };
-    let number = usize::from(fault.number());
-    show_label(
-        out,
-        x.saturating_add(3),
-        y.saturating_sub(3),
-        BOLD,
-        word,
-        number,
-    );
-}
-
-// Appends a turn: a box with the number of the thread that was polled, and its line of text.
-fn draw_turn(out: &mut Page, layout: &Layout, replay: &Replay, scene: &Scene, line: &Page) {
-    let x = layout.x(scene.round);
-    let y = layout.top(usize::from(scene.cpu));
-    let class = if scene.poll.is_some() { "turn" } else { "idle" };
-    out.add("<g><title>");
-    out.add_line(line);
-    out.add("</title>");
-    show_rect(out, x.saturating_add(2), y, COLUMN - 4, ROW, class);
-    out.add("/>");
-    if let Some(poll) = scene.poll {
-        let left = if poll.thread.thread > 9 { 6 } else { 9 };
-        let number = usize::from(poll.thread.thread);
-        show_label(
-            out,
-            x.saturating_add(left),
-            y.saturating_add(ROW - 3),
-            "",
-            "",
-            number,
-        );
-    }
+// The fault that stands above a turn.
+fn fault_of(replay: &Replay, scene: &Scene) -> Option<Tag> {
     if let Some(fault) = ended_by(replay, scene) {
-        draw_fault(out, x, y, fault, true);
-    } else if let Some(fault) = refused_by(scene) {
-        draw_fault(out, x, y, fault, false);
+        return Some(Tag::Ended(fault));
     }
-    out.add("</g>\n");
+    match refused_by(scene) {
+        Some(fault) => Some(Tag::Refused(fault)),
+        None => None,
+    }
 }
 
 // The round of the message that an event is at.
@@ -155,52 +122,65 @@ fn sent_in(replay: &Replay, event: &Event) -> u64 {
     }
 }
 
-// Notes the events of a turn and appends what they complete.
-fn draw_events(out: &mut Page, drawing: &mut Drawing, replay: &Replay, scene: &Scene) {
-    for event in scene.part {
-        drawing.draw_event(out, event, scene.round, sent_in(replay, event));
+// What the box of a turn says, which has been made.
+fn content_of(replay: &Replay, scene: &Scene) -> Content {
+    match scene.poll {
+        Some(poll) => Content::Thread(usize::from(poll.thread.thread)),
+        None => Content::Idle(idle_of(replay, scene.cpu)),
     }
 }
 
-// Makes a turn happen, and appends it if it is shown.
+// Makes a turn happen, and notes its box.
 fn play_turn(
     alloc: Global,
-    out: &mut Page,
-    layout: &Layout,
+    sketch: &mut Sketch,
     replay: &mut Replay,
     scene: &Scene,
-    first: usize,
-) {
-    if scene.number < first {
-        return pass_turn(alloc, replay, scene);
-    }
+) -> Result<(), AllocError> {
     let mut line = Page::new(alloc);
     show_turn(alloc, replay, &mut line, scene);
-    draw_turn(out, layout, replay, scene, &line);
+    let fault = fault_of(replay, scene);
+    let turn = TurnBox {
+        round: scene.round,
+        cpu: usize::from(scene.cpu),
+        content: content_of(replay, scene),
+        crossed: matches!(fault, Some(Tag::Ended(_))),
+        line,
+    };
+    sketch.add_box(turn, fault)
 }
 
-// Appends the turns up to the last that is shown.
-fn draw_turns(
+// Notes the events of a turn, which has been made.
+fn note_events(sketch: &mut Sketch, replay: &Replay, scene: &Scene) -> Result<(), AllocError> {
+    for event in scene.part {
+        sketch.note(event, scene.round, sent_in(replay, event))?;
+    }
+    Ok(())
+}
+
+// Notes the turns up to the last that is shown.
+fn note_turns(
     alloc: Global,
-    out: &mut Page,
     run: &Reel,
-    drawing: &mut Drawing,
+    sketch: &mut Sketch,
     replay: &mut Replay,
     shown: Shown,
-) {
+) -> Result<(), AllocError> {
     let mut from = 0usize;
-    let mut over = Page::new(alloc);
     for (number, turn) in run.turns.iter().enumerate() {
         if number > shown.last {
             break;
         }
         let scene = scene_of(run, number, turn, from);
-        play_turn(alloc, out, &drawing.layout, replay, &scene, shown.first);
-        draw_events(&mut over, drawing, replay, &scene);
+        if number < shown.first {
+            pass_turn(alloc, replay, &scene);
+        } else {
+            play_turn(alloc, sketch, replay, &scene)?;
+        }
+        note_events(sketch, replay, &scene)?;
         from = from.saturating_add(usize::from(turn.events));
     }
-    drawing.draw_rest(&mut over);
-    out.add_page(&over);
+    sketch.finish()
 }
 
 // The turns that a picture shows.
@@ -213,6 +193,7 @@ struct Shown {
 // The turns of a run that these options show.
 fn shown_of(run: &Reel, chosen: Chosen) -> Shown {
     let end = run.turns.len().saturating_sub(1);
+    let chosen = chosen.in_turns(run.script.cpus);
     let first = chosen.first.min(end);
     let last = chosen
         .last
@@ -222,42 +203,28 @@ fn shown_of(run: &Reel, chosen: Chosen) -> Shown {
     Shown { first, last }
 }
 
-// Appends a sign, and what it means.
-fn draw_sign(out: &mut Page, x: usize, y: usize, class: &str, word: &str) {
-    show_rect(out, x, y, 20, 10, class);
-    out.add("/>");
-    show_text_at(out, x.saturating_add(24), y.saturating_add(9), "");
-    out.add(word);
-    out.add("</text>");
-}
-
-// Appends what the parts mean.
-fn draw_signs(out: &mut Page, y: usize) {
-    draw_sign(out, 4, y, "full", "exclusive");
-    draw_sign(out, 94, y, "hatched", "shared");
-    out.size("<path d=\"M170 ", y.saturating_sub(3));
-    out.add("v16\" class=\"tick\"/>");
-    show_text_at(out, 176, y.saturating_add(9), "");
-    out.add("marked</text>");
-    show_text_at(out, 4, y.saturating_add(24), "");
-    out.add(
-        "!23: refused; x19: ended faulted; m0 r1: message 0, round 1; dashed: its reply</text>\n",
-    );
-}
-
-// Appends what the parts mean, and what is left out.
-fn draw_foot(out: &mut Page, layout: &Layout, turns: usize, shown: Shown) {
-    let y = layout.height;
-    draw_signs(out, y);
+// Appends which turns are shown, if not all are.
+fn draw_choice(out: &mut Page, y: usize, turns: usize, shown: Shown) {
     if shown.first == 0 && shown.last >= turns.saturating_sub(1) {
         return;
     }
-    show_text_at(out, 4, y.saturating_add(38), "");
+    show_text_at(out, 4, y, "");
     out.size("turns ", shown.first);
     out.size(" to ", shown.last);
     out.size(" of ", turns);
     out.size(" in all; at most ", PICTURE_LIMIT);
-    out.add(" are shown, chosen by --turns A..B</text>\n");
+    out.add(" are shown, chosen by --turns A..B or --rounds A..B</text>\n");
+}
+
+// Appends all parts of a picture: what lies behind first.
+fn draw_parts(out: &mut Page, layout: &Layout, sketch: &Sketch, cpus: usize) {
+    draw_bands(out, layout, cpus);
+    draw_ways(out, layout, &sketch.ways);
+    draw_bars(out, layout, &sketch.bars);
+    draw_boxes(out, layout, &sketch.boxes);
+    draw_marks(out, layout, &sketch.marks);
+    draw_values(out, layout, &sketch.values);
+    draw_labels(out, layout, &sketch.labels.list);
 }
 
 // The picture of a run that is made again.
@@ -269,21 +236,19 @@ fn draw(
 ) -> Result<String, AllocError> {
     let cpus = usize::from(run.script.cpus).max(1);
     let shown = shown_of(run, chosen);
-    let layout = Layout::new(
-        alloc,
-        cpus,
-        shown.first / cpus,
-        shown.last / cpus,
-        run.trace,
-    )?;
-    let mut drawing = Drawing::new(alloc, layout)?;
+    let grid = Grid {
+        first: shown.first / cpus,
+        last: shown.last / cpus,
+    };
+    let mut sketch = Sketch::new(alloc, grid)?;
+    note_turns(alloc, run, &mut sketch, replay, shown)?;
+    let layout = Layout::new(alloc, cpus, grid, run.trace, &sketch.labels.lines)?;
+    let (legend, end) = legend_of(alloc, &sketch, layout.height, grid.width());
     let mut out = Page::new(alloc);
-    draw_head(&mut out, &drawing.layout);
-    for cpu in 0..cpus {
-        draw_names(&mut out, &drawing.layout, cpu);
-    }
-    draw_turns(alloc, &mut out, run, &mut drawing, replay, shown);
-    draw_foot(&mut out, &drawing.layout, run.turns.len(), shown);
+    draw_head(&mut out, grid.width(), end.saturating_add(20));
+    draw_parts(&mut out, &layout, &sketch, cpus);
+    out.add_page(&legend);
+    draw_choice(&mut out, end.saturating_add(10), run.turns.len(), shown);
     out.add("</svg>\n");
     out.whole()
 }

@@ -16,9 +16,54 @@ pub struct Reel<'a> {
     pub closing: &'a Closing,
 }
 
-/// Which turns are shown: from the first to the last, counted from 0. Either may be behind the end of the run.
+/// What a range counts.
+#[derive(Clone, Copy, Debug, PartialEq, Eq)]
+pub enum Counted {
+    /// Turns of processors.
+    Turns,
+    /// Rounds: one turn of each processor.
+    Rounds,
+}
+
+/// Which turns or rounds are shown: from the first to the last, counted from 0. Either may be behind the end of the run.
 #[derive(Clone, Copy)]
 pub struct Chosen {
+    pub counted: Counted,
     pub first: usize,
     pub last: usize,
+}
+
+impl Chosen {
+    ghost use Rattle.std.specs.Prelude.{◌↔◌, ◌≤◌, IsTrue};
+    ghost use Rattle.lwkt_scenes.specs.Shown.{first_turn};
+
+    /// The same as turns of so many processors.
+    pub(crate) fn in_turns(&self, cpus: u8) -> Chosen {
+        let cpus = usize::from(cpus).max(1);
+        match self.counted {
+            Counted::Turns => *self,
+            Counted::Rounds => Chosen {
+                counted: Counted::Turns,
+                first: self.first.saturating_mul(cpus),
+                last: self
+                    .last
+                    .saturating_add(1)
+                    .saturating_mul(cpus)
+                    .saturating_sub(1),
+            },
+        }
+    }
+
+    /// Whether all that is chosen lies behind the end of a run of so many processors that made so many turns.
+    pub fn is_past(&self, cpus: u8, turns: usize) -> bool
+        ensures { IsTrue result ↔ (turns ≤ first_turn self.now.counted self.now.first cpus) }
+    {
+        match self.counted {
+            Counted::Turns => turns <= self.first,
+            Counted::Rounds => match self.first.checked_mul(usize::from(cpus)) {
+                Some(first) => turns <= first,
+                None => true,
+            },
+        }
+    }
 }

@@ -104,9 +104,10 @@ impl Replay {
         self.stories.get(self.place_of(id)?)
     }
 
-    // The thread that a message comes to by an event.
+    // The thread that a message comes to by an event: none if it is to be aborted, since then it is replied to and not given.
     fn receiver(&self, event: &Event) -> Option<ThreadId> {
         match *event {
+            Event::TakeMsg { msg, .. } if self.state.message(msg)?.asked => None,
             Event::TakeMsg { msg, .. } => self.sent_to.get(usize::from(msg.0)).copied(),
             Event::Reap { msg, .. } => Some(self.state.message(msg)?.origin),
             _ => None,
@@ -124,11 +125,23 @@ impl Replay {
         }
     }
 
-    // Lets the thread go on that waits for what an event brings; says whether it brings something that nobody waits for.
+    // Whether a thread hasn't ended.
+    fn is_left(&self, id: ThreadId) -> bool {
+        match self.story(id) {
+            Some(story) => story.doing != Doing::Ended,
+            None => false,
+        }
+    }
+
+    // Lets the thread go on that waits for what an event brings; says whether it brings a thread something that it doesn't
+    // wait for. What comes to a thread that has ended is given to nobody.
     fn deliver(&mut self, event: &Event) -> bool {
         let Some(id) = self.receiver(event) else {
             return false;
         };
+        if !self.is_left(id) {
+            return false;
+        }
         match msg_of(event) {
             Some(msg) => !self.wake(id, msg),
             None => false,

@@ -1,7 +1,17 @@
 use crate::pages::Page;
 
-/// The class of a text in bold.
+/// The class of a text in bold, and of one on a full bar.
 pub(crate) const BOLD: &str = " class=\"bold\"";
+
+pub(crate) const VALUE: &str = " class=\"value\"";
+
+/// How wide so many letters are.
+pub(crate) fn text_width(letters: usize) -> usize {
+    letters
+        .saturating_mul(6)
+        .saturating_add(letters / 16)
+        .saturating_add(1)
+}
 
 /// Appends a rectangle up to its class.
 pub(crate) fn show_rect(
@@ -42,4 +52,44 @@ pub(crate) fn show_label(
     show_text_at(out, x, y, class);
     out.size(word, number);
     out.add("</text>");
+}
+
+/// Appends a text at a place.
+pub(crate) fn show_word(out: &mut Page, x: usize, y: usize, class: &str, word: &str) {
+    show_text_at(out, x, y, class);
+    out.add(word);
+    out.add("</text>");
+}
+
+/// Appends a path of a class that begins at a place.
+pub(crate) fn show_path(out: &mut Page, x: usize, y: usize, path: &str, class: &str) {
+    out.size("<path d=\"M", x);
+    out.size(" ", y);
+    out.add(path);
+    out.add("\" class=\"");
+    out.add(class);
+    out.add("\"");
+}
+
+/// A place in a picture.
+#[derive(Clone, Copy)]
+pub(crate) struct Point {
+    pub x: usize,
+    pub y: usize,
+}
+
+/// Appends a line of a message, dashed for a reply; with an arrow head where it arrives.
+pub(crate) fn show_line(out: &mut Page, from: Point, to: Point, is_reply: bool, arrives: bool) {
+    out.size("<line x1=\"", from.x);
+    out.size("\" y1=\"", from.y);
+    out.size("\" x2=\"", to.x);
+    out.size("\" y2=\"", to.y);
+    out.add("\" class=\"way\"");
+    if is_reply {
+        out.add(" stroke-dasharray=\"5 3\"");
+    }
+    if arrives {
+        out.add(" marker-end=\"url(#head)\"");
+    }
+    out.add("/>");
 }

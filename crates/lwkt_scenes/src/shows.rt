@@ -25,7 +25,7 @@ fn show_choice(out: &mut Page, chosen: Chosen, turns: usize) {
         out.size("turns behind turn ", end);
         out.size(" are not shown, of ", turns);
         out.size(" in all; at most ", TURN_LIMIT);
-        out.add(" are, chosen by --turns A..B\n");
+        out.add(" are, chosen by --turns A..B or --rounds A..B\n");
     }
 }
 
@@ -70,6 +70,7 @@ fn show_stop(alloc: Global, out: &mut Page, run: &Reel, replay: &mut Replay, fro
 
 // Appends all that is said of a run before its report.
 fn show_run(alloc: Global, out: &mut Page, run: &Reel, replay: &mut Replay, chosen: Chosen) {
+    let chosen = chosen.in_turns(run.script.cpus);
     let from = show_turns(alloc, out, run, replay, chosen);
     show_choice(out, chosen, run.turns.len());
     show_ends(out, replay, &run.closing.threads);

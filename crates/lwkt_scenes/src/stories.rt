@@ -239,8 +239,8 @@ impl Story {
         true
     }
 
-    // The first reference of the list that can't be had.
-    fn lacks(&self, state: &State) -> Option<Ref> {
+    /// The first reference of the list that can't be had.
+    pub(crate) fn lacks(&self, state: &State) -> Option<Ref> {
         for wanted in self.list.refs() {
             if let Some(token) = state.token(wanted.tok) {
                 if !token.held_by(self.id.cpu).is_held()

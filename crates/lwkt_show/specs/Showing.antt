@@ -1,13 +1,17 @@
 -- What the program shows of a run (own).
-use Rattle.std.specs.Prelude.{◌≡◌, ℕ, List, Option, Result}
+use Rattle.std.specs.Prelude.{◌≡◌, ◌≤◌, ℕ, length, List, Option, Result, Ok, Err}
+use Rattle.std.specs.Io.KnownBytes.{Keeps}
 use Rattle.lwkt_report.specs.declared.closings.Closing.{Closing}
 use Rattle.lwkt_report.specs.declared.streams.RunFault.{RunFault}
-use Rattle.lwkt_run.specs.Run.{IsTurnsRun, end_told, TellsBy, status_of}
+use Rattle.lwkt_run.specs.Run.{AreRead, IsTurnsRun, end_told, TellsBy, status_of}
 use Rattle.lwkt_run.specs.declared.runs.End.{End}
 use Rattle.lwkt_run.specs.declared.runs.TurnsRun.{TurnsRun}
-use Rattle.lwkt_scenes.specs.Shown.{EndsInReport}
+use Rattle.lwkt_scenes.specs.Shown.{EndsInReport, first_turn}
+use Rattle.lwkt_show.specs.declared.options.Options.{Options}
 use Rattle.lwkt_show.specs.declared.options.View.{View}
 use Rattle.lwkt_show.specs.declared.options.View.TheVariants.{Lines, Trace, Picture}
+use Rattle.lwkt_show.specs.declared.programs.Outcome.{Outcome}
+use Rattle.lwkt_show.specs.declared.programs.Outcome.TheVariants.{Shown, Past}
 
 -- what is said of a text that shows what was kept: lines end with the report; of a trace and of a picture nothing is said
 abbrev pub ShowsAs : View → Closing → List ℕ → Type 0
@@ -22,6 +26,29 @@ pub record IsShown (view : View) (bytes : List ℕ) (end : End) (text : List ℕ
   pub is_end : end ≡ end_told run.closing
   pub shows : ShowsAs view run.closing text
 
--- a run that was asked for: it is shown or refused as a run is, and the status is that of its outcome
+-- a run ended before the first turn that was chosen
+abbrev pub IsPast : Options → TurnsRun → Type 0
+IsPast options run = length run.turns.items ≤ first_turn options.counted options.first run.script.cpus
+
+-- there is a run of the script that these bytes are that ended before the first turn that was chosen
+pub record IsPastIn (options : Options) (bytes : List ℕ) : Type 0 where
+  pub run : TurnsRun
+  pub is_run : IsTurnsRun bytes run
+  pub is_past : IsPast options run
+
+-- what is said by the answer, of what was left to read and of what was written before and after it: the run is shown, or refused as a
+-- run is; or nothing is written, since it ended before the first turn that was chosen
+abbrev pub TellsShown : Options → Option (List ℕ) → Option (List ℕ) → Option (List ℕ) → Result Outcome RunFault → Type 0
+TellsShown options left old new (Ok (Shown end)) = TellsBy (IsShown options.view) left old new (Ok end)
+TellsShown options left old new (Ok Past) = Keeps old new × ((bytes : List ℕ) × (AreRead left bytes × IsPastIn options bytes))
+TellsShown options left old new (Err fault) = TellsBy (IsShown options.view) left old new (Err fault)
+
+-- the status of an outcome: that of a run, and 1 where nothing is shown
+abbrev pub status_shown : Result Outcome RunFault → ℕ
+status_shown (Ok (Shown end)) = status_of (Ok end)
+status_shown (Ok Past) = 1
+status_shown (Err fault) = status_of (Err fault)
+
+-- a run that was asked for: it is shown or refused, and the status is that of its outcome
 abbrev pub IsShowing : Option (List ℕ) → Option (List ℕ) → Option (List ℕ) → ℕ → Type 0
-IsShowing left old new status = (view : View) × ((outcome : Result End RunFault) × (TellsBy (IsShown view) left old new outcome × (status ≡ status_of outcome)))
+IsShowing left old new status = (options : Options) × ((outcome : Result Outcome RunFault) × (TellsShown options left old new outcome × (status ≡ status_shown outcome)))

@@ -5,4 +5,4 @@ mod options;
 mod programs;
 
 pub use options::{Options, View, options_of};
-pub use programs::{refuse_arguments, run_show, show_stream};
+pub use programs::{Outcome, refuse_arguments, run_show, show_stream};

@@ -1,6 +1,7 @@
-ghost use Rattle.std.specs.Prelude.{◌≡◌, ◌⊎◌, Err, IsTrue, IfOk, IfErr, string_bytes};
-ghost use Rattle.lwkt_run.specs.Run.{IsTurnsRun, Refuses, TellsBy, status_of};
-ghost use Rattle.lwkt_show.specs.Showing.{ShowsAs, IsShown, IsShowing};
+ghost use Rattle.std.specs.Prelude.{◌≡◌, ◌≤◌, ◌⊎◌, Err, IsTrue, IfOk, IfErr, IfSome, IsNone, length, string_bytes};
+ghost use Rattle.lwkt_run.specs.Run.{IsTurnsRun, Refuses};
+ghost use Rattle.lwkt_scenes.specs.Shown.{first_turn};
+ghost use Rattle.lwkt_show.specs.Showing.{ShowsAs, IsShown, IsPast, IsPastIn, TellsShown, IsShowing, status_shown};
 
 use crate::options::{Options, View, options_of};
 use lwkt_base::Fault;
@@ -10,7 +11,8 @@ use lwkt_scenes::{Chosen, Reel, lines_of, picture_of, show_refusal, trace_of};
 use std::alloc::Global;
 
 // What is said where the arguments are none of the program's.
-const USAGE: &str = "lwkt_show: turns, and behind it --turns A..B, and --svg or --trace\n";
+const USAGE: &str =
+    "lwkt_show: turns, and behind it --turns A..B or --rounds A..B, and --svg or --trace\n";
 
 // What is said where there is no memory.
 const MEMORY: &str = "lwkt_show: fault 32: out of memory\n";
@@ -18,11 +20,41 @@ const MEMORY: &str = "lwkt_show: fault 32: out of memory\n";
 // What is said where the reader or the writer failed.
 const STREAM: &str = "lwkt_show: stream\n";
 
+// What is said where the run ended before the range that was chosen.
+const PAST: &str = "lwkt_show: the range lies behind the end of the run\n";
+
+/// What came of a run that was to be shown.
+#[derive(Clone, Copy, Debug, PartialEq, Eq)]
+pub enum Outcome {
+    /// It is shown, and ended so.
+    Shown(End),
+    /// It ended before the first turn that was chosen, and nothing is shown.
+    Past,
+}
+
 // A run that is shown: the text, and how it ended.
 #[derive(Drop)]
 struct Done {
     text: String,
     end: End,
+}
+
+// The range of these options.
+fn chosen_of(options: &Options) -> Chosen
+    ensures { (result.counted ≡ options.now.counted) × (result.first ≡ options.now.first) }
+{
+    Chosen {
+        counted: options.counted,
+        first: options.first,
+        last: options.last,
+    }
+}
+
+// Whether a run ended before the first turn that was chosen.
+fn is_past(options: &Options, run: &TurnsRun) -> bool
+    ensures { IsTrue result → IsPast options.now run.now }
+{
+    chosen_of(options).is_past(run.script.cpus, run.turns.len())
 }
 
 // The text that shows a run. It has no other fault than want of memory.
@@ -36,10 +68,7 @@ fn text_of(alloc: Global, options: &Options, run: &TurnsRun) -> Result<String, F
         turns: &run.turns,
         closing: &run.closing,
     };
-    let chosen = Chosen {
-        first: options.first,
-        last: options.last,
-    };
+    let chosen = chosen_of(options);
     match options.view {
         View::Lines => lines_of(alloc, &reel, chosen),
         View::Trace => trace_of(alloc, &reel),
@@ -47,15 +76,20 @@ fn text_of(alloc: Global, options: &Options, run: &TurnsRun) -> Result<String, F
     }
 }
 
-// Runs the script that the bytes are, to the text that shows it.
-fn done_of_bytes(alloc: Global, options: &Options, bytes: &[u8]) -> Result<Done, Fault>
-    ensures ok { IfOk result (λ done. IsShown options.now.view bytes.now done.end (string_bytes done.text)) }
+// Runs the script that the bytes are, to the text that shows it; there is none where the run ended before the first turn that
+// was chosen.
+fn done_of_bytes(alloc: Global, options: &Options, bytes: &[u8]) -> Result<Option<Done>, Fault>
+    ensures shown { IfOk result (λ shown. IfSome shown (λ done. IsShown options.now.view bytes.now done.end (string_bytes done.text))) }
+    ensures past { IfOk result (λ shown. IsNone shown → IsPastIn options.now bytes.now) }
     ensures refused { IfErr result (λ fault. Refuses bytes.now fault) }
 {
     let run = turns_run(alloc, bytes)?;
+    if is_past(options, &run) {
+        return Ok(None);
+    }
     let end = end_told(&run.closing);
     match text_of(alloc, options, &run) {
-        Ok(text) => Ok(Done { text, end }),
+        Ok(text) => Ok(Some(Done { text, end })),
         Err(_) => Err(Fault::Memory),
     }
 }
@@ -72,7 +106,8 @@ fn complain<E: Sink>(alloc: Global, errors: &mut E, bytes: &[u8], fault: Fault) 
 }
 
 /// Reads a script to its end, or to 1048577 bytes, runs it on one thread, and writes what shows the run, which is whole in
-/// memory before its first byte is written. Why a script or its opening is refused goes to where errors go, in one line.
+/// memory before its first byte is written. Why a script or its opening is refused goes to where errors go, in one line. A run
+/// that ended before the first turn that was chosen is answered as `Past`, and nothing is written.
 ///
 /// Refused with `Fault` and nothing written: `Script` with the place of its first bad part, `Limits` or `LawBroken` for its
 /// opening, `Memory` for a refused allocation; with `Stream` only if a call of the source or the sink failed, and then a
@@ -83,35 +118,39 @@ pub fn show_stream<S: Source, K: Sink, E: Sink>(
     source: &mut S,
     sink: &mut K,
     errors: &mut E,
-) -> Result<End, RunFault>
-    ensures tells { TellsBy (IsShown options.now.view) (S.left source.old) (K.contents sink.old) (K.contents sink.new) result }
+) -> Result<Outcome, RunFault>
+    ensures tells { TellsShown options.now (S.left source.old) (K.contents sink.old) (K.contents sink.new) result }
     ensures stream { result ≡ Err RunFault.Stream → IsTrue (S.has_failed source.new) ⊎ IsTrue (K.has_failed sink.new) }
 {
     let bytes = match read_capped(alloc, source) {
         Ok(bytes) => bytes,
         Err(fault) => return Err(fault),
     };
-    let done = match done_of_bytes(alloc, options, &bytes) {
-        Ok(done) => done,
+    let shown = match done_of_bytes(alloc, options, &bytes) {
+        Ok(shown) => shown,
         Err(fault) => {
             complain(alloc, errors, &bytes, fault);
             return Err(RunFault::Fault(fault));
         }
     };
+    let Some(done) = shown else {
+        return Ok(Outcome::Past);
+    };
     match write_whole(sink, done.text.as_bytes()) {
-        Ok(()) => Ok(done.end),
+        Ok(()) => Ok(Outcome::Shown(done.end)),
         Err(_) => Err(RunFault::Stream),
     }
 }
 
 // The exit status of an outcome.
-fn status_of(outcome: &Result<End, RunFault>) -> u8
-    ensures { result ≡ status_of outcome.now }
+fn status_of(outcome: &Result<Outcome, RunFault>) -> u8
+    ensures { result ≡ status_shown outcome.now }
 {
     match outcome {
-        Ok(End::Ended) => 0,
-        Ok(End::TurnsOut) => 2,
-        Ok(End::Unlawful) => 4,
+        Ok(Outcome::Shown(End::Ended)) => 0,
+        Ok(Outcome::Shown(End::TurnsOut)) => 2,
+        Ok(Outcome::Shown(End::Unlawful)) => 4,
+        Ok(Outcome::Past) => 1,
         Err(RunFault::Fault(Fault::Memory)) | Err(RunFault::Stream) => 3,
         Err(RunFault::Fault(_)) => 1,
     }
@@ -126,7 +165,7 @@ pub fn refuse_arguments<E: Sink>(errors: &mut E, memory: bool) -> u8 {
 
 /// The whole program: its arguments without its own name, what it reads, what it writes, and where its errors go. The
 /// answer is its exit status, as that of `lwkt_run`: 0 every thread ended; 1 arguments, or a script or opening that was
-/// refused; 2 turns used up; 3 want of memory, or a stream that failed; 4 an unlawful trace.
+/// refused, or a run that ended before the first turn that was chosen; 2 turns used up; 3 want of memory, or a stream that failed; 4 an unlawful trace.
 ///
 /// The arguments are looked at before anything is read; where they are wrong nothing is read or written but the line of the
 /// error.
@@ -143,6 +182,10 @@ pub fn run_show<S: Source, K: Sink, E: Sink>(
         return refuse_arguments(errors, false);
     };
     let outcome = show_stream(alloc, &options, source, sink, errors);
+    if outcome == Ok(Outcome::Past) {
+        let _ = write_whole(errors, PAST.as_bytes());
+        let _ = write_whole(errors, USAGE.as_bytes());
+    }
     if outcome == Err(RunFault::Stream) {
         let _ = write_whole(errors, STREAM.as_bytes());
     }

@@ -1,0 +1,131 @@
+//! Labels above turns: what was refused, whose thread ended, which message was sent. No two of them overlap.
+use crate::layouts::{CPU_LIMIT, Grid, seat_of};
+use crate::shapes::text_width;
+use lwkt_base::{Fault, MsgId};
+use std::alloc::{AllocError, Global};
+
+// The most lines of labels above a processor.
+const LINE_LIMIT: usize = 70;
+
+/// What a label says of a turn.
+#[derive(Clone, Copy)]
+pub(crate) enum Tag {
+    /// What was asked was refused.
+    Refused(Fault),
+    /// A thread ended faulted.
+    Ended(Fault),
+    /// A message of a round was sent or replied to, or arrived from another band.
+    Mail(MsgId, u64),
+    /// A message was to be aborted.
+    Abort(MsgId),
+}
+
+/// A label and where it stands: above the turns of a processor in a round, on which line from below, and how far from the left.
+#[derive(Clone, Copy)]
+pub(crate) struct Label {
+    pub round: usize,
+    pub cpu: usize,
+    pub line: usize,
+    pub x: usize,
+    pub tag: Tag,
+}
+
+/// The labels of a picture, which come by rising round.
+#[derive(Drop)]
+pub(crate) struct Labels {
+    grid: Grid,
+    // The band of the last label, and where its lines' last labels end, so many for each processor.
+    band: usize,
+    ends: [usize; CPU_LIMIT * LINE_LIMIT],
+    pub list: Vec<Label>,
+    /// How many lines there are, 8 processors for each band.
+    pub lines: Vec<usize>,
+}
+
+/// How many digits a number has.
+pub(crate) fn digits(number: u64) -> usize {
+    let mut rest = number;
+    let mut count = 1usize;
+    for _place in 0..20u8 {
+        if rest > 9 {
+            rest /= 10;
+            count = count.saturating_add(1);
+        }
+    }
+    count
+}
+
+// How many letters a label has.
+fn letters(tag: Tag) -> usize {
+    match tag {
+        Tag::Refused(_) | Tag::Ended(_) => 3,
+        Tag::Mail(msg, round) => digits(u64::from(msg.0))
+            .saturating_add(digits(round))
+            .saturating_add(3),
+        Tag::Abort(msg) => digits(u64::from(msg.0)).saturating_add(7),
+    }
+}
+
+impl Labels {
+    /// No labels yet in these rounds.
+    pub(crate) fn new(alloc: Global, grid: Grid) -> Result<Self, AllocError> {
+        let mut lines = Vec::new(alloc);
+        for _seat in 0..seat_of(grid.bands(), 0) {
+            lines.push(0usize)?;
+        }
+        Ok(Labels {
+            grid,
+            band: 0,
+            ends: [0; CPU_LIMIT * LINE_LIMIT],
+            list: Vec::new(alloc),
+            lines,
+        })
+    }
+
+    // The lowest line above a processor that is free from here on, which is then taken up to there.
+    fn take_line(&mut self, cpu: usize, from: usize, to: usize) -> Option<usize> {
+        for line in 0..LINE_LIMIT {
+            let place = cpu.saturating_mul(LINE_LIMIT).saturating_add(line);
+            if let Some(end) = self.ends.get_mut(place) {
+                if *end <= from {
+                    *end = to;
+                    return Some(line);
+                }
+            }
+        }
+        None
+    }
+
+    // Begins a new band if this round stands in one.
+    fn turn_to(&mut self, round: usize) -> usize {
+        let band = self.grid.band(round);
+        if band != self.band {
+            self.band = band;
+            self.ends = [0; CPU_LIMIT * LINE_LIMIT];
+        }
+        band
+    }
+
+    /// Adds a label above a turn, on the lowest line where nothing is in its way. One that finds none is left out.
+    pub(crate) fn add(&mut self, round: usize, cpu: usize, tag: Tag) -> Result<(), AllocError> {
+        let band = self.turn_to(round);
+        let width = text_width(letters(tag));
+        let right = self.grid.width().saturating_sub(2);
+        let x = self.grid.x(round).saturating_add(2);
+        let x = x.min(right.saturating_sub(width));
+        let Some(line) = self.take_line(cpu, x, x.saturating_add(width).saturating_add(4)) else {
+            return Ok(());
+        };
+        if let Some(lines) = self.lines.get_mut(seat_of(band, cpu)) {
+            *lines = line.saturating_add(1).max(*lines);
+        }
+        self.list.push(Label {
+            round,
+            cpu,
+            line,
+            x,
+            tag,
+        })?;
+        Ok(())
+    }
+}
