@@ -55,3 +55,15 @@ impl Gate for First {
         turn < self.0
     }
 }
+
+/// A gate that stops one processor after so many turns, and no other.
+#[derive(Clone, Copy)]
+pub struct OneStops(pub u8, pub u64);
+
+impl Gate for OneStops {
+    ghost answers = { λ gate cpu turn result. result ≡ result };
+
+    fn pass(&self, cpu: CpuId, turn: u64) -> bool {
+        cpu.0 != self.0 || turn < self.1
+    }
+}

@@ -4,4 +4,6 @@
 #[cfg(test)]
 mod gates;
 #[cfg(test)]
+mod stop_rows;
+#[cfg(test)]
 mod thread_rows;
