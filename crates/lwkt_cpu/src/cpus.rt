@@ -29,6 +29,8 @@ pub struct Cpu<B> {
     pub(crate) threads: Vec<Thread>,
     pub(crate) running: Option<usize>,
     pub(crate) cursor: usize,
+    /// How many notes were taken in so far, of which nothing is claimed.
+    pub(crate) popped: u64,
 }
 
 impl<B> Model for Cpu<B> {
@@ -107,6 +109,7 @@ impl<B> Cpu<B> {
             threads,
             running: None,
             cursor: 0,
+            popped: 0,
         })
     }
 

@@ -2,6 +2,7 @@
 #![tactic(auto)]
 
 pub mod answers;
+pub mod counts;
 pub mod cpus;
 pub mod drives;
 mod ends;
@@ -15,5 +16,6 @@ pub mod turns;
 mod wakes;
 
 pub use answers::{Drove, Status, Turned};
+pub use counts::Progress;
 pub use cpus::Cpu;
 pub use lwkt_ask::Body;

@@ -150,6 +150,7 @@ impl<B> Cpu<B> {
             threads: _,
             running: _,
             cursor: _,
+            popped: _,
         } = self;
         (hold.into_seat(), ports.retire(), bodies)
     }

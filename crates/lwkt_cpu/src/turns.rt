@@ -57,7 +57,8 @@ impl<B> Cpu<B> {
         ensures woken { AreWoken self.old.threads self.new.threads }
         ensures table { self.new.post.seat.table ≡ self.old.post.seat.table }
     {
-        self.ports.take_in(book, TURN_NOTES, trace);
+        let count = self.ports.take_in(book, TURN_NOTES, trace);
+        self.popped = self.popped.wrapping_add(count as u64);
         wake_all(&mut self.ports, book, &mut self.threads, trace);
     }
 

@@ -301,6 +301,11 @@ impl<B> Driver<'_, B> {
         Some(self.cpu.thread(i)?.list.len())
     }
 
+    /// How many messages are owed a reply.
+    pub fn owed(&self) -> usize {
+        self.cpu.owed()
+    }
+
     /// The body of thread `i`.
     pub fn body(&self, i: usize) -> Option<&B> {
         self.cpu.body(i)

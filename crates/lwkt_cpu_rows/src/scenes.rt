@@ -69,6 +69,8 @@ pub enum Deed {
     State(ThreadState),
     /// Its thread has so many references.
     References(usize),
+    /// So many messages are owed a reply by it.
+    Owed(usize),
 }
 
 /// A step of a scene.
@@ -115,6 +117,7 @@ fn acts<B: Body>(driver: &mut Driver<B>, deed: &Deed) -> Result<bool, Fault> {
         Deed::Trace(events) => Ok(driver.trace() == *events),
         Deed::State(state) => Ok(driver.state(0) == Some(*state)),
         Deed::References(count) => Ok(driver.references(0) == Some(*count)),
+        Deed::Owed(count) => Ok(driver.owed() == *count),
     }
 }
 

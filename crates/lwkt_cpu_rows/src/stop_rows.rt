@@ -149,8 +149,10 @@ const OWES: Scene = Scene {
         Step::HeardLast(1, 33, &[Answer::Done]),
         Step::At(1, Deed::Stop),
         Step::At(1, Deed::State(ThreadState::Exited)),
+        Step::At(1, Deed::Owed(1)),
         Step::At(0, Deed::Turned(RAN)),
         Step::At(1, Deed::Made(Turned::AllExited, &[REPLY])),
+        Step::At(1, Deed::Owed(0)),
         Step::At(1, Deed::Made(Turned::AllExited, &[])),
     ],
 };

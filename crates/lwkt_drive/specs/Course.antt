@@ -13,7 +13,7 @@ use Rattle.lwkt_cpu.specs.Driving.{Made, counted, none_driven}
 use Rattle.lwkt_drive.specs.declared.driven.Driven.{Driven}
 use Rattle.lwkt_drive.specs.declared.driven.Limits.{Limits}
 use Rattle.lwkt_drive.specs.declared.driven.Ending.{Ending}
-use Rattle.lwkt_drive.specs.declared.driven.Ending.TheVariants.{NotDriven, Stopped, TurnsOut, IdleOut, AllExited, NoMemory}
+use Rattle.lwkt_drive.specs.declared.driven.Ending.TheVariants.{NotDriven, Stopped, TurnsOut, IdleOut, AllExited, NoMemory, CalledOff, Quiet}
 
 -- a processor at this bank and book
 pub record IsAt {B : Type 0} (bank : BankId) (book : TableId) (d : Driven B) : Type 0 where
@@ -35,7 +35,9 @@ pub record GoesOn (answers : CpuId → ℕ → Bool → Type 0) (limits : Limits
   pub idle : drove.idle < limits.idle
   pub passed : answers cpu turns true
 
--- after so many turns, counted so, a processor makes no other, and why. That the others' threads have ended isn't claimed
+-- after so many turns, counted so, a processor makes no other, and why. Nothing is claimed of the others: neither that their threads
+-- have ended, nor that they were refused memory, nor that no turn of theirs can change anything; but one that ends as quiet has made a
+-- turn that ran no thread
 abbrev pub EndsBy : (CpuId → ℕ → Bool → Type 0) → Limits → CpuId → ℕ → Drove → Ending → Type 0
 EndsBy answers limits cpu turns drove NotDriven = ⊥
 EndsBy answers limits cpu turns drove Stopped = answers cpu turns false
@@ -43,6 +45,8 @@ EndsBy answers limits cpu turns drove TurnsOut = drove.ran ≡ limits.turns
 EndsBy answers limits cpu turns drove IdleOut = drove.idle ≡ limits.idle
 EndsBy answers limits cpu turns drove AllExited = drove.all_exited ≡ true
 EndsBy answers limits cpu turns drove NoMemory = Unit {0}
+EndsBy answers limits cpu turns drove CalledOff = Unit {0}
+EndsBy answers limits cpu turns drove Quiet = 0 < drove.idle
 
 -- a processor makes its turn of this number, which is counted
 pub record MakesOne {B : Type 0} (polled : B → Answer → Ask → B → Type 0) (answers : CpuId → ℕ → Bool → Type 0) (bank : BankId) (limits : Limits) (turn : ℕ) (old new : Driven B) : Type 0 where

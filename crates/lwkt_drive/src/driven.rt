@@ -22,6 +22,11 @@ pub enum Ending {
     AllExited,
     /// A turn was refused for want of memory.
     NoMemory,
+    /// A turn of another processor was refused for want of memory.
+    CalledOff,
+    /// No turn of any processor could change anything any more: each had stopped, or its last turn was one that polled no thread,
+    /// appended no event, moved no note and ended no thread.
+    Quiet,
 }
 
 /// How many turns a processor makes at most.

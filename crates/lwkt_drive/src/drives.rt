@@ -5,37 +5,26 @@ ghost use Rattle.lwkt_bank.specs.Seats.{id_of};
 ghost use Rattle.lwkt_cpu.specs.Driving.{none_driven};
 ghost use Rattle.lwkt_drive.specs.Course.{IsAt, IsWithin, IsDriven, MakesOne, Stays};
 
+use crate::boards::Board;
 use crate::driven::{Driven, Ending, Limits};
-use crate::exits::Exits;
 use crate::gates::Gate;
+use crate::watches::Watch;
 use lwkt_bank::Bank;
 use lwkt_cpu::{Body, Drove, Turned};
 use lwkt_msg::MsgBook;
+use std::thread;
 use std::thread::Threads;
-use std::{hint, thread};
-
-// The most hints of a pause.
-const LONGEST_PAUSE: u32 = 512;
-
-// Waits a little, and says how long the next pause is.
-fn pause(hints: u32) -> u32 {
-    for made in 0..hints {
-        hint::spin_loop();
-    }
-    hints.saturating_mul(2).min(LONGEST_PAUSE)
-}
 
 impl<B: Body> Driven<B> {
     // Makes one turn more, or says why none. After a turn that ran no thread there is a pause.
     fn step<G: Gate>(
         &mut self,
         gate: &G,
-        exits: &Exits,
+        watch: &mut Watch<'_>,
         limits: &Limits,
         bank: &Bank,
         book: &MsgBook,
         turn: u64,
-        hints: &mut u32,
     ) -> Option<Ending>
         requires at { IsAt (id_of bank.now) book.now.table self.old }
         requires within { IsWithin limits.now self.old.drove }
@@ -44,13 +33,16 @@ impl<B: Body> Driven<B> {
         ensures at { IsAt (id_of bank.now) book.now.table self.new }
         ensures same { self.new.id ≡ self.old.id }
     {
-        if let Some(ending) = self.ends(gate, exits, limits, turn) {
+        if let Some(ending) = self.ends(gate, watch, limits, turn) {
             return Some(ending);
         }
-        match self.advance(exits, bank, book) {
-            Ok(Turned::Ran { .. }) => *hints = 1,
-            Ok(Turned::Idle | Turned::AllExited) => *hints = pause(*hints),
-            Err(_) => return Some(Ending::NoMemory),
+        match self.advance(watch, bank, book) {
+            Ok(Turned::Ran { .. }) => watch.ran(),
+            Ok(Turned::Idle | Turned::AllExited) => self.rest(watch),
+            Err(_) => {
+                watch.board().call_off();
+                return Some(Ending::NoMemory);
+            }
         }
         None
     }
@@ -59,7 +51,7 @@ impl<B: Body> Driven<B> {
     fn go_on<G: Gate>(
         &mut self,
         gate: &G,
-        exits: &Exits,
+        watch: &mut Watch<'_>,
         limits: &Limits,
         bank: &Bank,
         book: &MsgBook,
@@ -69,9 +61,8 @@ impl<B: Body> Driven<B> {
         ensures driven { IsDriven B.polled (G.answers gate.now) (id_of bank.now) limits.now self.old self.new result }
         ensures at { IsAt (id_of bank.now) book.now.table self.new }
     {
-        let mut hints = 1;
         for turn in 0..u64::from(limits.turns) + u64::from(limits.idle) {
-            if let Some(ending) = self.step(gate, exits, limits, bank, book, turn, &mut hints) {
+            if let Some(ending) = self.step(gate, watch, limits, bank, book, turn) {
                 return ending;
             }
         }
@@ -82,7 +73,8 @@ impl<B: Body> Driven<B> {
     fn drive<G: Gate>(
         &mut self,
         gate: &G,
-        exits: &Exits,
+        board: &Board,
+        number: usize,
         limits: &Limits,
         bank: &Bank,
         book: &MsgBook,
@@ -96,7 +88,17 @@ impl<B: Body> Driven<B> {
             idle: 0,
             all_exited: false,
         };
-        self.ending = self.go_on(gate, exits, limits, bank, book);
+        let mut watch = Watch::new(board, number);
+        self.ending = self.go_on(gate, &mut watch, limits, bank, book);
+        watch.stop();
+    }
+}
+
+// How many processors there are, with those that aren't driven here.
+fn peers<B>(all: &[Driven<B>]) -> usize {
+    match all.first() {
+        Some(driven) => driven.cpu.cpus(),
+        None => 0,
     }
 }
 
@@ -117,12 +119,12 @@ pub fn drive_all<R: Threads + Sync, G: Gate + Sync, B: Body + Send>(
     ensures driven { AllZip (λ old new. IsDriven B.polled (G.answers gate.now) (id_of bank.now) limits.now old new new.ending) all.old all.new }
     ensures at { All (IsAt (id_of bank.now) book.now.table) all.new }
 {
-    let exits = Exits::new(all.len());
+    let board = Board::new(all.len(), peers(all));
     let threads = all.len().max(1);
     thread::for_each_mut(
         rt,
         all,
         threads,
-        &|_, driven| { driven.drive(gate, &exits, limits, bank, book) },
+        &|number, driven| { driven.drive(gate, &board, number, limits, bank, book) },
     );
 }

@@ -2,12 +2,13 @@
 //! limits allow.
 #![tactic(auto)]
 
+mod boards;
 pub mod driven;
 mod drives;
-mod exits;
 mod gates;
 pub mod laws;
 mod turns;
+mod watches;
 
 pub use driven::{Driven, Ending, Limits};
 pub use drives::drive_all;

@@ -6,8 +6,8 @@ ghost use Rattle.lwkt_cpu.specs.Turning.{MakesTurn};
 ghost use Rattle.lwkt_drive.specs.Course.{IsAt, IsWithin, GoesOn, EndsBy};
 
 use crate::driven::{Driven, Ending, Limits};
-use crate::exits::Exits;
 use crate::gates::Gate;
+use crate::watches::{Sight, Watch};
 use lwkt_bank::Bank;
 use lwkt_base::Fault;
 use lwkt_cpu::drives::count;
@@ -19,7 +19,7 @@ impl<B> Driven<B> {
     pub(crate) fn ends<G: Gate>(
         &self,
         gate: &G,
-        exits: &Exits,
+        watch: &Watch<'_>,
         limits: &Limits,
         turn: u64,
     ) -> Option<Ending>
@@ -34,8 +34,14 @@ impl<B> Driven<B> {
         if self.drove.idle >= u64::from(limits.idle) {
             return Some(Ending::IdleOut);
         }
-        if self.drove.all_exited && exits.have_all_said() {
+        if self.drove.all_exited && watch.board().have_all_exited() {
             return Some(Ending::AllExited);
+        }
+        if watch.board().is_called_off() {
+            return Some(Ending::CalledOff);
+        }
+        if self.drove.idle > 0 && watch.is_over() {
+            return Some(Ending::Quiet);
         }
         if gate.pass(self.id, turn) {
             None
@@ -45,15 +51,33 @@ impl<B> Driven<B> {
     }
 
     // Counts a turn that was made. The first one that says that every thread has ended is told to all.
-    fn note(&mut self, exits: &Exits, turned: Turned)
+    fn note(&mut self, watch: &Watch<'_>, turned: Turned)
         requires { self.old.drove.ran + self.old.drove.idle + 1 < 2 ^ 64 }
         ensures { self.new ≡ record self.old { drove = counted self.old.drove turned } }
     {
         let had_exited = self.drove.all_exited;
         self.drove = count(self.drove, turned);
         if self.drove.all_exited && !had_exited {
-            exits.say();
+            watch.board().say_exited();
         }
+    }
+}
+
+impl<B> Driven<B> {
+    // What a turn has left.
+    fn sight(&self) -> Sight {
+        Sight {
+            events: self.trace.len(),
+            progress: self.cpu.progress(),
+        }
+    }
+
+    /// A turn has polled no thread: it is looked at once the pauses are long, and there is a pause.
+    pub(crate) fn rest(&self, watch: &mut Watch<'_>) {
+        if watch.is_patient() {
+            watch.look(self.sight());
+        }
+        watch.pause();
     }
 }
 
@@ -61,7 +85,7 @@ impl<B: Body> Driven<B> {
     /// Makes a turn, and counts it. Refused with `Memory` as `Cpu::turn` is.
     pub(crate) fn advance(
         &mut self,
-        exits: &Exits,
+        watch: &Watch<'_>,
         bank: &Bank,
         book: &MsgBook,
     ) -> Result<Turned, Fault>
@@ -73,7 +97,7 @@ impl<B: Body> Driven<B> {
         ensures same { self.new.id ≡ self.old.id }
     {
         let turned = self.cpu.turn(bank, book, &mut self.trace)?;
-        self.note(exits, turned);
+        self.note(watch, turned);
         Ok(turned)
     }
 }

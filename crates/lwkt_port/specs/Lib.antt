@@ -14,3 +14,4 @@ pub mod Tellings
 pub mod Withdrawals
 pub mod Closings
 pub mod Hints
+pub mod Counts

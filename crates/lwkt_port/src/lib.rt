@@ -3,6 +3,7 @@
 
 mod clearings;
 mod closings;
+pub mod counts;
 pub mod deeds;
 pub mod gets;
 pub mod handlings;
@@ -18,4 +19,5 @@ mod sendings;
 mod traces;
 mod withdrawals;
 
+pub use counts::Notes;
 pub use posts::Ports;

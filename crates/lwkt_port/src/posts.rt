@@ -33,6 +33,7 @@ impl Model for Ports {
 }
 
 impl Ports {
+    ghost use Rattle.lwkt_msg.specs.Desks.{cpus_of};
     ghost use Rattle.lwkt_port.specs.Posts.{IsPost};
 
     /// How many threads have a port, 0 to 16.
@@ -42,6 +43,14 @@ impl Ports {
         ensures order { IsPost self.now }
     {
         self.threads
+    }
+
+    /// How many processors the book has seats for, 1 to 8.
+    pub fn cpus(&self) -> usize
+        ensures count { result ≡ cpus_of self.now.seat }
+        ensures few { result ≤ 8 }
+    {
+        self.seat.cpus()
     }
 
     /// Gives up the ports, and gives the processor's seat at the book back.

@@ -3,6 +3,7 @@ ghost use Rattle.std.specs.Prelude.{◌≡◌};
 
 use lwkt_base::CpuId;
 use lwkt_run::Gate;
+use std::hint;
 use std::sync::atomic::{AtomicU64, Ordering};
 
 // The most looks of a processor that waits.
@@ -56,14 +57,62 @@ impl Gate for First {
     }
 }
 
-/// A gate that stops one processor after so many turns, and no other.
-#[derive(Clone, Copy)]
-pub struct OneStops(pub u8, pub u64);
+/// A gate that counts how often it is asked, and says yes.
+#[derive(Drop)]
+pub struct Counting {
+    asked: AtomicU64,
+}
 
-impl Gate for OneStops {
+impl Counting {
+    pub fn new() -> Self {
+        Counting {
+            asked: AtomicU64::new(0),
+        }
+    }
+
+    /// How often it was asked.
+    pub fn asked(&self) -> u64 {
+        self.asked.load(Ordering::SeqCst)
+    }
+}
+
+impl Gate for Counting {
+    ghost answers = { λ gate cpu turn result. result ≡ result };
+
+    fn pass(&self, _cpu: CpuId, _turn: u64) -> bool {
+        self.asked.fetch_add(1, Ordering::SeqCst);
+        true
+    }
+}
+
+/// A gate before which one processor waits each time, so long that the others find nothing to do many times over.
+#[derive(Clone, Copy)]
+pub struct Slow(pub CpuId);
+
+// The hints of such a wait.
+const WAIT: u32 = 200_000;
+
+impl Gate for Slow {
+    ghost answers = { λ gate cpu turn result. result ≡ result };
+
+    fn pass(&self, cpu: CpuId, _turn: u64) -> bool {
+        if cpu == self.0 {
+            for _hint in 0..WAIT {
+                hint::spin_loop();
+            }
+        }
+        true
+    }
+}
+
+/// A gate that stops one processor after so many turns, and no other one.
+#[derive(Clone, Copy)]
+pub struct Stops(pub CpuId, pub u64);
+
+impl Gate for Stops {
     ghost answers = { λ gate cpu turn result. result ≡ result };
 
     fn pass(&self, cpu: CpuId, turn: u64) -> bool {
-        cpu.0 != self.0 || turn < self.1
+        cpu != self.0 || turn < self.1
     }
 }

@@ -2,6 +2,8 @@
 #![tactic(auto)]
 
 #[cfg(test)]
+mod end_rows;
+#[cfg(test)]
 mod gates;
 #[cfg(test)]
 mod stop_rows;

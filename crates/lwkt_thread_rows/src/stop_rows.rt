@@ -1,7 +1,8 @@
 //! Processors that stop for good after each number of turns: the others go on, and what is left keeps the rules.
 
-use crate::gates::OneStops;
+use crate::gates::Stops;
 use crate::thread_rows::run;
+use lwkt_base::CpuId;
 use lwkt_run::{End, Gate};
 use std::alloc::Global;
 use std::sync::Wait;
@@ -89,7 +90,7 @@ fn is_stopped<R: Threads + Wait + Sync>(
     rt: &R,
     alloc: Global,
     row: &Stopping,
-    gate: OneStops,
+    gate: Stops,
 ) -> bool {
     match run(rt, alloc, row.0, &gate) {
         (Ok(End::Ended | End::TurnsOut), Some(page)) => {
@@ -107,7 +108,7 @@ fn first_other<R: Threads + Wait + Sync>(
     cpu: u8,
 ) -> Option<u64> {
     for turns in 0..11 {
-        if !is_stopped(rt, alloc, row, OneStops(cpu, turns)) {
+        if !is_stopped(rt, alloc, row, Stops(CpuId(cpu), turns)) {
             return Some(turns);
         }
     }

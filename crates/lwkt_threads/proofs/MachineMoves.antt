@@ -19,7 +19,7 @@ use Rattle.lwkt_drive.specs.declared.driven.Ending.TheVariants.{NoMemory}
 use Rattle.lwkt_drive.specs.Course.{IsAt, IsDriven}
 use Rattle.lwkt_machine.specs.Bodies.{Scripted, IsPolled}
 use Rattle.lwkt_machine.specs.Machines.{IsOf, AreParts}
-use Rattle.lwkt_threads.specs.Driven.{IsFresh, WasDriven, AreDriven}
+use Rattle.lwkt_threads.specs.Driven.{IsFresh, IsAmple, WasDriven, AreDriven}
 
 -- one more
 pub fresh_more : (xs : List (Processor Scripted)) (ys : List (Driven Scripted)) (p : Processor Scripted) (d : Driven Scripted) → AllZip IsFresh xs ys → d.cpu ≡ p → d.trace.items ≡ [] → AllZip IsFresh (xs ++ p ∷ []) (ys ++ d ∷ [])
@@ -68,7 +68,7 @@ module _ (answers : CpuId → ℕ → Bool → Type 0) (limits : Limits) (bank :
   pub driven_long : AllZip IsFresh cpus olds → AllZip Drove olds news → length news ≡ length cpus
   driven_long fresh drove = zip_long Drove olds news drove ∙ zip_long IsFresh cpus olds fresh
 
-  driven_each : AllZip IsFresh cpus olds → AllZip Drove olds news → All (λ (d : Driven Scripted). d.ending ≢ NoMemory) news → (k : ℕ) (p q : Processor Scripted) (trace : Vec Event Global) → slice_get cpus k ≡ Some p → slice_get (map (λ (d : Driven Scripted). d.cpu) news) k ≡ Some q → slice_get (map (λ (d : Driven Scripted). d.trace) news) k ≡ Some trace → WasDriven answers limits bank p q trace
+  driven_each : AllZip IsFresh cpus olds → AllZip Drove olds news → All (λ (d : Driven Scripted). IsAmple d.ending) news → (k : ℕ) (p q : Processor Scripted) (trace : Vec Event Global) → slice_get cpus k ≡ Some p → slice_get (map (λ (d : Driven Scripted). d.cpu) news) k ≡ Some q → slice_get (map (λ (d : Driven Scripted). d.trace) news) k ≡ Some trace → WasDriven answers limits bank p q trace
   driven_each fresh drove ample k p q trace at to told =
       let within : k < length cpus = slice_get_within cpus k p at in
       let olds_within : k < length olds = omega (arith, zip_long IsFresh cpus olds fresh, within) in
@@ -86,7 +86,7 @@ module _ (answers : CpuId → ℕ → Bool → Type 0) (limits : Limits) (bank :
         trace_is = mapped_at (λ (x : Driven Scripted). x.trace) news k trace d told news_within;
       }
 
-  pub are_driven : AllZip IsFresh cpus olds → AllZip Drove olds news → All (λ (d : Driven Scripted). d.ending ≢ NoMemory) news → AreDriven answers limits bank cpus (map (λ (d : Driven Scripted). d.cpu) news) (map (λ (d : Driven Scripted). d.trace) news)
+  pub are_driven : AllZip IsFresh cpus olds → AllZip Drove olds news → All (λ (d : Driven Scripted). IsAmple d.ending) news → AreDriven answers limits bank cpus (map (λ (d : Driven Scripted). d.cpu) news) (map (λ (d : Driven Scripted). d.trace) news)
   are_driven fresh drove ample = record {
     as_many = length-map news (λ (d : Driven Scripted). d.cpu) ∙ driven_long fresh drove;
     traces_are = length-map news (λ (d : Driven Scripted). d.trace) ∙ driven_long fresh drove;
@@ -94,7 +94,7 @@ module _ (answers : CpuId → ℕ → Bool → Type 0) (limits : Limits) (bank :
   }
 
   -- the processors and the events of those that were driven, taken apart
-  pub apart_driven : {X : Type 0} (cpus_in : X → List (Processor Scripted)) (traces_in : X → List (Vec Event Global)) (r : Result X Fault) (xs : List (Driven Scripted)) → xs ≡ news → IfOk r (λ x. cpus_in x ≡ map (λ (d : Driven Scripted). d.cpu) xs) → IfOk r (λ x. traces_in x ≡ map (λ (d : Driven Scripted). d.trace) xs) → AllZip IsFresh cpus olds → AllZip Drove olds news → All (λ (d : Driven Scripted). d.ending ≢ NoMemory) news → IfOk r (λ x. AreDriven answers limits bank cpus (cpus_in x) (traces_in x))
+  pub apart_driven : {X : Type 0} (cpus_in : X → List (Processor Scripted)) (traces_in : X → List (Vec Event Global)) (r : Result X Fault) (xs : List (Driven Scripted)) → xs ≡ news → IfOk r (λ x. cpus_in x ≡ map (λ (d : Driven Scripted). d.cpu) xs) → IfOk r (λ x. traces_in x ≡ map (λ (d : Driven Scripted). d.trace) xs) → AllZip IsFresh cpus olds → AllZip Drove olds news → All (λ (d : Driven Scripted). IsAmple d.ending) news → IfOk r (λ x. AreDriven answers limits bank cpus (cpus_in x) (traces_in x))
   apart_driven cpus_in traces_in r xs same cs ts fresh drove ample =
       ok_both r (λ x. cpus_in x ≡ map (λ (d : Driven Scripted). d.cpu) xs) (λ x. traces_in x ≡ map (λ (d : Driven Scripted). d.trace) xs) (λ x. AreDriven answers limits bank cpus (cpus_in x) (traces_in x)) (λ x c t.
       let C : List (Processor Scripted) → Type 0 = λ ps. AreDriven answers limits bank cpus ps (traces_in x) in

@@ -7,7 +7,8 @@ use Rattle.lwkt_bank.specs.Seats.{BankId}
 use Rattle.lwkt_cpu.specs.Processors.{Processor}
 use Rattle.lwkt_drive.specs.declared.driven.Driven.{Driven}
 use Rattle.lwkt_drive.specs.declared.driven.Limits.{Limits}
-use Rattle.lwkt_drive.specs.declared.driven.Ending.TheVariants.{NoMemory}
+use Rattle.lwkt_drive.specs.declared.driven.Ending.{Ending}
+use Rattle.lwkt_drive.specs.declared.driven.Ending.TheVariants.{NoMemory, CalledOff}
 use Rattle.lwkt_drive.specs.Course.{IsDriven}
 use Rattle.lwkt_machine.specs.Bodies.{Scripted, IsPolled}
 use Rattle.lwkt_machine.specs.Machines.{Rig}
@@ -17,13 +18,17 @@ pub record IsFresh (p : Processor Scripted) (d : Driven Scripted) : Type 0 where
   pub cpu : d.cpu ≡ p
   pub trace : d.trace.items ≡ []
 
+-- an end that isn't for want of memory, its own or another processor's
+abbrev pub IsAmple : Ending → Type 0
+IsAmple ending = (ending ≢ NoMemory) × (ending ≢ CalledOff)
+
 -- a processor was driven from its first turn on, with this trace, and not ended for want of memory
 pub record WasDriven (answers : CpuId → ℕ → Bool → Type 0) (limits : Limits) (bank : BankId) (p q : Processor Scripted) (trace : Vec Event Global) : Type 0 where
   pub old : Driven Scripted
   pub new : Driven Scripted
   pub fresh : IsFresh p old
   pub driven : IsDriven IsPolled answers bank limits old new new.ending
-  pub ample : new.ending ≢ NoMemory
+  pub ample : IsAmple new.ending
   pub cpu : new.cpu ≡ q
   pub trace_is : new.trace ≡ trace
 

@@ -1,10 +1,9 @@
 //! A machine whose processors are driven on threads.
-ghost use Rattle.std.specs.Prelude.{◌≡◌, ◌≢◌, false, All, IfOk, OnErr, Err, map};
+ghost use Rattle.std.specs.Prelude.{◌≡◌, false, All, IfOk, OnErr, Err, map};
 ghost use Rattle.std.specs.List.{AllZip};
-ghost use Rattle.lwkt_drive.specs.declared.driven.Ending.TheVariants.{NoMemory};
 ghost use Rattle.lwkt_bank.specs.Seats.{id_of};
 ghost use Rattle.lwkt_machine.specs.Machines.{IsOf};
-ghost use Rattle.lwkt_threads.specs.Driven.{IsFresh, AreDriven, IsDrivenMachine};
+ghost use Rattle.lwkt_threads.specs.Driven.{IsFresh, IsAmple, AreDriven, IsDrivenMachine};
 
 use lwkt_bank::Bank;
 use lwkt_base::{CpuId, Fault};
@@ -60,11 +59,18 @@ fn take_apart(alloc: Global, all: Vec<Driven<ScriptBody>>) -> Result<Apart, Faul
     Ok(Apart { cpus, traces })
 }
 
-// Whether a processor's driving ended for want of memory.
-fn was_short(all: &[Driven<ScriptBody>]) -> bool
-    ensures { result ≡ false → All (λ d. d.ending ≢ NoMemory) all.now }
+// Whether this is an end for want of memory.
+fn is_short(ending: Ending) -> bool
+    ensures { result ≡ false → IsAmple ending }
 {
-    all.iter().any(|driven| driven.ending == Ending::NoMemory)
+    matches!(ending, Ending::NoMemory | Ending::CalledOff)
+}
+
+// Whether a processor's driving ended for want of memory, its own or another's.
+fn was_short(all: &[Driven<ScriptBody>]) -> bool
+    ensures { result ≡ false → All (λ d. IsAmple d.ending) all.now }
+{
+    all.iter().any(|driven| is_short(driven.ending))
 }
 
 // Drives these processors, and gives them back with the events of each.

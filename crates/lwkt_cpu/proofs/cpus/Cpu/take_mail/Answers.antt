@@ -20,13 +20,13 @@ invariant_of-self g c =
     let F : List Thread → Type 0 = λ xs. IsAtRest {B = g.row.B.Denot} (processor_of i.hold.seat w.new.ports i.bodies.items xs i.running i.cursor) in
     let G : List Thread → Type 0 = λ xs. AreWoken xs w.new.threads in
     subst F (sym (refilled w.new.threads i.threads.items i.threads.len (w.ensures.woken.0 ∙ c.deref_mut.ensures.len)))
-    (rest_mailed {B = g.row.B.Denot} i.hold.seat i.ports w.new.ports i.bodies.items i.threads.items w.new.threads i.running i.cursor (post_then i.ports c.take_in.new.self w.new.ports c.take_in.ensures.same w.ensures.same) (subst G c.deref_mut.ensures.value w.ensures.woken) c.self.invariant)
+    (rest_mailed {B = g.row.B.Denot} i.hold.seat i.ports w.new.ports i.bodies.items i.threads.items w.new.threads i.running i.cursor (post_then i.ports c.take_in-count.new.self w.new.ports c.take_in-count.ensures.same w.ensures.same) (subst G c.deref_mut.ensures.value w.ensures.woken) c.self.invariant)
 
 pub returns-clause-mail : goal.returns-clause-mail
 returns-clause-mail g c =
     let i = c.self.inside in
     let w = c.wake_all in
-    let t = c.take_in in
+    let t = c.take_in-count in
     let old = processor_of {B = g.row.B.Denot} i.hold.seat i.ports i.bodies.items i.threads.items i.running i.cursor in
     let new : List Thread → Processor g.row.B.Denot = λ xs. processor_of i.hold.seat w.new.ports i.bodies.items xs i.running i.cursor in
     let F : List Thread → Type 0 = λ xs. TakesMail {B = g.row.B.Denot} c.args.self.now (new xs) c.args.trace.now w.new.trace in
@@ -49,7 +49,7 @@ pub returns-clause-ran : goal.returns-clause-ran
 returns-clause-ran g c =
     let i = c.self.inside in
     let w = c.wake_all in
-    let t = c.take_in in
+    let t = c.take_in-count in
     let F : Processor g.row.B.Denot → Type 0 = λ p. Ran (IsMailed p.threads) 2304 p.seat i.hold.seat c.args.trace.now w.new.trace in
     let few : length c.deref_mut.result.now ≤ 16 = omega (arith, c.self.invariant.few, ap length c.deref_mut.ensures.value) in
     subst F c.self.view_is (ran_mail (IsMailed i.threads.items) (cpu_of i.ports.seat) 2304 i.hold.seat c.args.trace.now w.new.trace c.self.invariant.mine (held_mailed i.hold.seat i.threads.items i.running c.self.invariant.held)
@@ -59,7 +59,7 @@ pub returns-clause-told : goal.returns-clause-told
 returns-clause-told g c =
     let i = c.self.inside in
     let w = c.wake_all in
-    let t = c.take_in in
+    let t = c.take_in-count in
     let F : Processor g.row.B.Denot → Type 0 = λ p. TellsMail p.post.seat w.new.ports.seat c.args.trace.now.items w.new.trace.items in
     let few : length c.deref_mut.result.now ≤ 16 = omega (arith, c.self.invariant.few, ap length c.deref_mut.ensures.value) in
     subst F c.self.view_is (mail_told (cpu_of i.ports.seat) 2304 i.ports.seat w.new.ports.seat c.args.trace.now w.new.trace

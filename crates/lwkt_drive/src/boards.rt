@@ -1,0 +1,110 @@
+//! What processors that are driven together tell each other of themselves, so that none goes on for nothing. All of it lies outside
+//! the model, and nothing is claimed of it: by it processors end earlier than by their limits.
+//!
+//! A turn is quiet where it polled no thread, appended no event, moved no note and ended no thread. A processor has come to rest at
+//! a count of changes where a quiet turn of it began after that count was read; every change that it made earlier was counted before
+//! that. A turn that isn't quiet takes its rest back.
+//!
+//! Where every processor rests at one count, or has stopped for good with its changes counted, and the count still stands, no turn of
+//! any of them can change anything. For think of the first change after the earliest of these readings. It is made in some turn. That
+//! isn't counted yet, since the count stands; so its processor hasn't stopped, and the turn comes after the quiet turn by which that
+//! processor came to rest, since a rest is told only after all earlier changes were counted. But the quiet turn found nothing to do,
+//! and between it and the later turn nothing has changed, here or elsewhere: the later one does what the quiet one did, which is
+//! nothing. A word that is exchanged by somebody else just then needs no telling: an exchange is lost to another one's change.
+
+use std::sync::atomic::{AtomicU64, Ordering};
+
+/// The most processors of a board. A bank has no more.
+const PLACES: usize = 8;
+
+/// A processor that doesn't rest.
+pub(crate) const AWAKE: u64 = 0;
+
+/// A processor that makes no further turn.
+pub(crate) const STOPPED: u64 = u64::MAX;
+
+/// What the processors tell: plain counts.
+#[derive(Drop)]
+pub(crate) struct Board {
+    cpus: usize,
+    whole: bool,
+    exited: AtomicU64,
+    called_off: AtomicU64,
+    changes: AtomicU64,
+    rests: [AtomicU64; PLACES],
+}
+
+// A processor that has told nothing.
+fn awake() -> AtomicU64 {
+    AtomicU64::new(AWAKE)
+}
+
+impl Board {
+    /// A board for so many processors out of so many of the book. None has told anything.
+    pub(crate) fn new(cpus: usize, all: usize) -> Board {
+        Board {
+            cpus,
+            whole: cpus == all && cpus <= PLACES,
+            exited: AtomicU64::new(0),
+            called_off: AtomicU64::new(0),
+            changes: AtomicU64::new(AWAKE + 1),
+            rests: [
+                awake(),
+                awake(),
+                awake(),
+                awake(),
+                awake(),
+                awake(),
+                awake(),
+                awake(),
+            ],
+        }
+    }
+
+    /// One more processor has said that every thread of its own has ended.
+    pub(crate) fn say_exited(&self) {
+        self.exited.fetch_add(1, Ordering::SeqCst);
+    }
+
+    /// Whether all have said so.
+    pub(crate) fn have_all_exited(&self) -> bool {
+        self.exited.load(Ordering::SeqCst) >= self.cpus as u64
+    }
+
+    /// A turn was refused for want of memory: nobody goes on.
+    pub(crate) fn call_off(&self) {
+        self.called_off.store(1, Ordering::SeqCst);
+    }
+
+    /// Whether a turn was refused.
+    pub(crate) fn is_called_off(&self) -> bool {
+        self.called_off.load(Ordering::SeqCst) != 0
+    }
+
+    /// The count of changes.
+    pub(crate) fn changes(&self) -> u64 {
+        self.changes.load(Ordering::SeqCst)
+    }
+
+    /// There were changes since they were counted last.
+    pub(crate) fn count_changes(&self) {
+        self.changes.fetch_add(1, Ordering::SeqCst);
+    }
+
+    /// A processor tells where it rests.
+    pub(crate) fn tell(&self, number: usize, rest: u64) {
+        if let Some(place) = self.rests.get(number) {
+            place.store(rest, Ordering::SeqCst);
+        }
+    }
+
+    /// Whether every processor rests at this count, or has stopped, and the count still stands. The rests are read before it.
+    pub(crate) fn is_at_rest(&self, count: u64) -> bool {
+        self.whole
+            && self.rests.iter().take(self.cpus).all(|place| {
+                let rest = place.load(Ordering::SeqCst);
+                rest == count || rest == STOPPED
+            })
+            && self.changes() == count
+    }
+}

@@ -1,0 +1,119 @@
+//! How long a processor that finds nothing to do waits, and what it tells the others of it.
+
+use crate::boards::{AWAKE, Board, STOPPED};
+use lwkt_cpu::Progress;
+use std::{hint, thread};
+
+// The most hints of a pause.
+const LONGEST_PAUSE: u32 = 512;
+
+/// What a turn that polled no thread left: how many events there are, and how far the processor has come.
+#[derive(Clone, Copy, Debug, PartialEq, Eq)]
+pub(crate) struct Sight {
+    pub(crate) events: usize,
+    pub(crate) progress: Progress,
+}
+
+/// One processor's place at the board.
+#[derive(Drop)]
+pub(crate) struct Watch<'a> {
+    board: &'a Board,
+    number: usize,
+    // The hints of the next pause.
+    hints: u32,
+    // What the last turn left, where that came after a longest pause.
+    last: Option<Sight>,
+    // The count of changes that was read before the turn to come, where all changes of this processor are in it.
+    count: Option<u64>,
+    // What was told last.
+    rest: u64,
+}
+
+impl<'a> Watch<'a> {
+    /// A processor that has told nothing.
+    pub(crate) fn new(board: &'a Board, number: usize) -> Watch<'a> {
+        Watch {
+            board,
+            number,
+            hints: 1,
+            last: None,
+            count: None,
+            rest: AWAKE,
+        }
+    }
+
+    /// What the processors tell.
+    pub(crate) fn board(&self) -> &'a Board {
+        self.board
+    }
+
+    // Tells the others, if this is something else than was told last.
+    fn tell(&mut self, rest: u64) {
+        if self.rest != rest {
+            self.rest = rest;
+            self.board.tell(self.number, rest);
+        }
+    }
+
+    // A turn that wasn't quiet: the processor doesn't rest, and has changes that aren't counted.
+    fn wake(&mut self, last: Option<Sight>) {
+        self.last = last;
+        self.count = None;
+        self.tell(AWAKE);
+    }
+
+    /// A turn has polled a thread.
+    pub(crate) fn ran(&mut self) {
+        self.hints = 1;
+        if self.last.is_some() {
+            self.wake(None);
+        }
+    }
+
+    // A turn was quiet. The first one of several makes the earlier changes known.
+    fn was_quiet(&mut self) {
+        match self.count {
+            Some(count) => self.tell(count),
+            None => self.board.count_changes(),
+        }
+        self.count = Some(self.board.changes());
+    }
+
+    /// Whether the pauses are the longest ones: from then on each turn that polled no thread is looked at.
+    pub(crate) fn is_patient(&self) -> bool {
+        self.hints == LONGEST_PAUSE
+    }
+
+    /// A turn that polled no thread has left this.
+    pub(crate) fn look(&mut self, now: Sight) {
+        if self.last == Some(now) {
+            self.was_quiet();
+        } else {
+            self.wake(Some(now));
+        }
+    }
+
+    /// Waits a little, longer each time; after longest pauses another thread may run.
+    pub(crate) fn pause(&mut self) {
+        for _hint in 0..self.hints {
+            hint::spin_loop();
+        }
+        if self.is_patient() {
+            thread::yield_now();
+        }
+        self.hints = self.hints.saturating_mul(2).min(LONGEST_PAUSE);
+    }
+
+    /// Whether no turn of any processor can change anything.
+    pub(crate) fn is_over(&self) -> bool {
+        self.rest != AWAKE && self.board.is_at_rest(self.rest)
+    }
+
+    /// The processor makes no further turn.
+    pub(crate) fn stop(&mut self) {
+        if self.count.is_none() {
+            self.board.count_changes();
+        }
+        self.tell(STOPPED);
+    }
+}
