@@ -129,7 +129,8 @@ const BROKEN: [Deed; 6] = [
     Deed::Trace(&RESTORED),
 ];
 
-const SUM: Token = Token {
+/// Two cells whose sum is 10.
+pub const SUM: Token = Token {
     law: Law::Sum,
     param: 10,
     generation: 0,

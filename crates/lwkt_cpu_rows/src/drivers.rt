@@ -301,6 +301,11 @@ impl<B> Driver<'_, B> {
         Some(self.cpu.thread(i)?.list.len())
     }
 
+    /// How many messages are owed a reply.
+    pub fn owed(&self) -> usize {
+        self.cpu.owed()
+    }
+
     /// The body of thread `i`.
     pub fn body(&self, i: usize) -> Option<&B> {
         self.cpu.body(i)
@@ -311,16 +316,22 @@ impl<B> Driver<'_, B> {
         self.trace.clear();
     }
 
-    /// Stops the processor.
+    /// Stops the processor. Where memory was refused the call is made again: nothing has changed then.
     pub fn stop(&mut self) -> Result<(), Fault> {
-        self.cpu.stop(self.bank, self.book, &mut self.trace)
+        match self.cpu.stop(self.bank, self.book, &mut self.trace) {
+            Err(Fault::Memory) => self.cpu.stop(self.bank, self.book, &mut self.trace),
+            answer => answer,
+        }
     }
 }
 
 impl<B: Body> Driver<'_, B> {
-    /// Makes a turn.
+    /// Makes a turn. Where memory was refused the call is made again: nothing has changed then.
     pub fn turn(&mut self) -> Result<Turned, Fault> {
-        self.cpu.turn(self.bank, self.book, &mut self.trace)
+        match self.cpu.turn(self.bank, self.book, &mut self.trace) {
+            Err(Fault::Memory) => self.cpu.turn(self.bank, self.book, &mut self.trace),
+            answer => answer,
+        }
     }
 
     /// Makes turns.

@@ -20,6 +20,8 @@ mod scripts;
 #[cfg(test)]
 mod skip_rows;
 #[cfg(test)]
+mod stop_rows;
+#[cfg(test)]
 mod thread_rows;
 #[cfg(test)]
 mod workers;

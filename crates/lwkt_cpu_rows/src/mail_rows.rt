@@ -16,7 +16,8 @@ use lwkt_cpu::Cpu;
 use std::alloc::Global;
 use std::test::Fail;
 
-const FLAGS: Flags = Flags {
+/// Leave for nothing.
+pub const FLAGS: Flags = Flags {
     dropable: false,
     abortable: false,
 };

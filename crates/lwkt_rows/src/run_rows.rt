@@ -125,6 +125,31 @@ const TURNS_USED_UP: Run = Run(
     "token 0 gen 1 cells 15\ntally 0 5\nthread 0.0 running list 0x log -\nlawful\n",
 );
 
+// Sections that break their law: their cells are as they were.
+const BROKEN_ORDER: Run = Run(
+    "{\"version\":1,\"turns\":50,\"idle\":5,\"cpus\":1,\"tokens\":[{\"cells\":[1,2,3],\"law\":\"order\",\"param\":0,\"gen\":0}],\"messages\":[],\"threads\":[{\"cpu\":0,\"repeat\":1,\"steps\":[[\"get\",0],[\"write\",0,1,9],[\"rel\",0]]}]}",
+    0,
+    "token 0 gen 0 cells 1 2 3\nthread 0.0 exited list - log f=19\nlawful\n",
+);
+
+const BROKEN_CAP: Run = Run(
+    "{\"version\":1,\"turns\":50,\"idle\":5,\"cpus\":1,\"tokens\":[{\"cells\":[5,0],\"law\":\"cap\",\"param\":5,\"gen\":0}],\"messages\":[],\"threads\":[{\"cpu\":0,\"repeat\":1,\"steps\":[[\"get\",0],[\"write\",0,1,6],[\"yield\"]]}]}",
+    0,
+    "token 0 gen 0 cells 5 0\nthread 0.0 faulted 19 list - log -\nlawful\n",
+);
+
+// A sum doesn't wrap.
+const BROKEN_SUM: Run = Run(
+    "{\"version\":1,\"turns\":50,\"idle\":5,\"cpus\":1,\"tokens\":[{\"cells\":[0,0],\"law\":\"sum\",\"param\":0,\"gen\":0}],\"messages\":[],\"threads\":[{\"cpu\":0,\"repeat\":1,\"steps\":[[\"get\",0],[\"write\",0,0,18446744073709551615],[\"write\",0,1,1],[\"rel\",0]]}]}",
+    0,
+    "token 0 gen 0 cells 0 0\nthread 0.0 exited list - log f=19\nlawful\n",
+);
+
+#[test]
+fn broken_sections(rt: HostRuntime) {
+    play(&rt, rt.alloc(), &[BROKEN_ORDER, BROKEN_CAP, BROKEN_SUM]);
+}
+
 #[test]
 fn empty_machine(rt: HostRuntime) {
     play(&rt, rt.alloc(), &[EMPTY_MACHINE]);

@@ -6,4 +6,6 @@ mod end_rows;
 #[cfg(test)]
 mod gates;
 #[cfg(test)]
+mod stop_rows;
+#[cfg(test)]
 mod thread_rows;

@@ -23,8 +23,8 @@ const CROSSED_CALLS_REPORT: &[u8] =
 const CROSSED_LISTS: &[u8] =
     b"{\"version\":1,\"turns\":50,\"idle\":1000,\"cpus\":2,\"tokens\":[{\"cells\":[0],\"law\":\"cap\",\"param\":8,\"gen\":0},{\"cells\":[0],\"law\":\"any\",\"param\":0,\"gen\":0}],\"messages\":[],\"threads\":[{\"cpu\":0,\"repeat\":1,\"steps\":[[\"get\",0],[\"get\",1],[\"read\",0,0],[\"write\",0,0,8],[\"yield\"],[\"read\",0,0],[\"rel\",1],[\"rel\",0]]},{\"cpu\":1,\"repeat\":1,\"steps\":[[\"get\",1],[\"get\",0],[\"write\",0,0,7],[\"rel\",0],[\"rel\",1]]}]}";
 
-// A run through a gate: how it ends, and its report.
-fn run<R: Threads + Wait + Sync, G: Gate + Sync>(
+/// A run through a gate: how it ends, and its report.
+pub fn run<R: Threads + Wait + Sync, G: Gate + Sync>(
     rt: &R,
     alloc: Global,
     script: &[u8],

@@ -1,0 +1,92 @@
+"""What bench/refused, bench/failing and bench/spoil share: the programs, and runs of them over bench/faults.c."""
+
+import os
+import subprocess
+import sys
+
+TOP = os.path.dirname(os.path.dirname(os.path.abspath(__file__)))
+# Each program by its name, the file that is run, and whether its line about a failure goes to standard output.
+RUN = ("lwkt_run", "crates/lwkt/out/lwkt_run", True)
+CHECK = ("lwkt_check", "crates/lwkt_judge/out/lwkt_check", False)
+SHOW = ("lwkt_show", "crates/lwkt_view/out/lwkt_show", False)
+# How long a run may take, in seconds.
+LONGEST = 60
+
+
+def fail(text):
+    sys.exit("%s: %s" % (os.path.relpath(sys.argv[0], os.getcwd()), text))
+
+
+def example(name):
+    with open(os.path.join(TOP, "examples", name), "rb") as file:
+        return file.read()
+
+
+# Builds a program by a call that reads nothing of a script, where it isn't there or is old.
+def build(program):
+    done = subprocess.run([os.path.join(TOP, program[0]), "no such word"], stdin=subprocess.DEVNULL, capture_output=True)
+    if done.returncode != 1 or not os.path.exists(os.path.join(TOP, program[1])):
+        fail("%s isn't built: %s" % (program[0], done.stderr.decode()[-300:]))
+
+
+class Answer:
+    """What a run came to: its status, or None where it didn't end in time, and what it wrote."""
+
+    def __init__(self, status, out, err, calls):
+        self.status, self.out, self.err, self.calls = status, out, err, calls
+
+    def is_as(self, other):
+        return (self.status, self.out, self.err) == (other.status, other.out, other.err)
+
+    def text(self):
+        if self.status is None:
+            return "no end after %d s" % LONGEST
+        return "status %d, %r, %r" % (self.status, self.out[:200], self.err[:200])
+
+
+# One run without faults.
+def run(program, words, given):
+    try:
+        done = subprocess.run([os.path.join(TOP, program[1])] + words, input=given, capture_output=True, timeout=LONGEST)
+    except subprocess.TimeoutExpired:
+        return Answer(None, b"", b"", None)
+    return Answer(done.returncode, done.stdout, done.stderr, None)
+
+
+class Faults:
+    """Runs in which some calls of a kind go wrong. `folder` is an empty one, for the library."""
+
+    KINDS = ("alloc", "read", "write")
+
+    def __init__(self, folder):
+        self.library = os.path.join(folder, "faults.so")
+        self.counts = os.path.join(folder, "counts")
+        source = os.path.join(TOP, "bench/faults.c")
+        words = [os.environ.get("CC", "cc"), "-O2", "-shared", "-fPIC", "-o", self.library, source, "-ldl"]
+        try:
+            built = subprocess.run(words).returncode == 0
+        except FileNotFoundError:
+            built = False
+        if not built:
+            fail("bench/faults.c couldn't be compiled")
+
+    # A run in which the calls `first` to `last` of this kind go wrong; `last` is None for all from the first on. Its calls
+    # are counted for each kind.
+    def run(self, program, words, given, kind=None, how=None, first=None, last=None):
+        faults = {"LD_PRELOAD": self.library, "COUNTS": self.counts}
+        if kind:
+            faults.update(FAULT=kind, HOW=str(how), FIRST=str(first))
+        if last:
+            faults.update(LAST=str(last))
+        if os.path.exists(self.counts):
+            os.remove(self.counts)
+        command = [os.path.join(TOP, program[1])] + words
+        try:
+            done = subprocess.run(command, input=given, capture_output=True, timeout=LONGEST, env=faults)
+        except subprocess.TimeoutExpired:
+            return Answer(None, b"", b"", None)
+        except BrokenPipeError:
+            fail("a run closed its input")
+        with open(self.counts) as file:
+            calls = dict(zip(self.KINDS, map(int, file.read().split())))
+        return Answer(done.returncode, done.stdout, done.stderr, calls)
