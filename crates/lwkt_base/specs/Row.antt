@@ -1,5 +1,5 @@
 use Rattle.std.specs.Prelude.{◌≡◌, ℕ, ◌-◌, ◌≤◌, List, ◌++◌, length, take, drop, replicate}
-use Rattle.std.proofs.Common.{ap, ◌∙◌, sym, arith}
+use Rattle.std.proofs.Common.{ap, ◌∙◌, sym, subst}
 use Rattle.std.proofs.lemmas.List.{take-append-drop, length-take-le}
 use Rattle.lwkt_base.specs.declared.rows.Row.TheInside.{Inside}
 
@@ -20,9 +20,8 @@ inside cells len = record { cells = cells; len = len }
 -- the row gives its cells back
 pub given_back : (cells : List ℕ) (len : ℕ) → IsFilledUp cells len → inside (filled (take len cells)) (length (take len cells)) ≡ inside cells len
 given_back cells len is =
-    let few = is.few in
-    let four = is.four in
-    let long : length (take len cells) ≡ len = length-take-le len cells (omega arith) in
+    let within : len ≤ length cells = subst (λ (n : ℕ). len ≤ n) (sym is.four) is.few in
+    let long : length (take len cells) ≡ len = length-take-le len cells within in
     let all : filled (take len cells) ≡ cells =
     ap (λ (n : ℕ). take len cells ++ replicate (4 - n) 0) long
     ∙ ap (λ (xs : List ℕ). take len cells ++ xs) (sym is.others)
