@@ -1,8 +1,13 @@
 //! The program: reads a trace from standard input, checks it, and writes what it finds to standard output.
 #![tactic(auto)]
 
-use lwkt_checker::run_checker;
-use lwkt_report::{Program, ReaderSource, WriterSink, refuse_arguments, words_of};
+mod tellings;
+
+use crate::tellings::check_told;
+use lwkt_refusals::Speaker;
+use lwkt_report::{
+    NotedReader, NotedWriter, Program, ReaderSource, WriterSink, refuse_arguments, words_of,
+};
 use std::alloc::Global;
 use std::io;
 use std::process::ExitCode;
@@ -12,13 +17,15 @@ fn main(rt: HostRuntime) -> ExitCode {
     let mut errors = WriterSink::new(rt.stderr());
     let status = match words_of(&rt) {
         Ok(words) => {
-            let mut source = ReaderSource::new(rt.stdin());
-            let mut sink = WriterSink::new(rt.stdout());
-            run_checker(alloc, &words, &mut source, &mut sink, &mut errors)
+            let mut source = ReaderSource::new(NotedReader::new(alloc, rt.stdin()));
+            let mut sink = WriterSink::new(NotedWriter::new(rt.stdout()));
+            check_told(alloc, &words, &mut source, &mut sink, &mut errors)
         }
         Err(error) => {
             let memory = error.kind() == io::ErrorKind::OutOfMemory;
-            refuse_arguments(&mut errors, Program::Check, memory)
+            let status = refuse_arguments(&mut errors, Program::Check, memory);
+            Speaker::Check.say_arguments(&mut errors, memory);
+            status
         }
     };
     ExitCode::from(status)

@@ -15,4 +15,4 @@ mod words;
 
 pub use pages::{Page, show_breach};
 pub use refusals::{Document, refusal};
-pub use sayings::Speaker;
+pub use sayings::{Speaker, has_no_reader};

@@ -3,9 +3,11 @@ use crate::members::{WHOLE, range, show_list, show_member, show_members, show_nu
 use crate::parts::Part;
 use crate::words::Words;
 
-// Whether a text is the name of a law.
-fn is_law(text: &str) -> bool {
-    matches!(text, "any" | "sum" | "order" | "cap" | "tally")
+// Whether a part is the name of a law.
+fn is_law(part: Part<'_>) -> bool {
+    ["any", "sum", "order", "cap", "tally"]
+        .iter()
+        .any(|name| part.is_text(name))
 }
 
 // Appends what is bad of a law over so many cells; says whether something is.
@@ -18,9 +20,7 @@ fn show_law(out: &mut Words, token: Part<'_>, count: usize) -> bool {
         out.size("law tally has exactly one cell, and here are ", count);
         return true;
     }
-    if let Some(text) = law.string()
-        && is_law(text.as_str().unwrap_or(""))
-    {
+    if is_law(law) {
         return false;
     }
     out.add("law is ");

@@ -1,21 +1,18 @@
-use crate::texts::{Span, byte_at, past_mark, past_space, span_from};
-use serde_json::Value;
-use std::alloc::Global;
+use crate::texts::{Span, byte_at, is_string_of, past_mark, past_space, span_from};
 use std::str;
 
 /// A part of a JSON text, by where it stands there.
 #[derive(Clone, Copy)]
 pub(crate) struct Part<'a> {
-    alloc: Global,
     text: &'a [u8],
     span: Span,
 }
 
 impl<'a> Part<'a> {
     /// The whole of a text.
-    pub(crate) fn whole(alloc: Global, text: &'a [u8]) -> Part<'a> {
+    pub(crate) fn whole(text: &'a [u8]) -> Part<'a> {
         let span = span_from(text, 0);
-        Part { alloc, text, span }
+        Part { text, span }
     }
 
     // The part of the same text at another place.
@@ -56,20 +53,14 @@ impl<'a> Part<'a> {
         self.first() == b'['
     }
 
-    /// The value that a string is: with its escapes read.
-    pub(crate) fn string(&self) -> Option<Value> {
-        if self.first() != b'"' {
-            return None;
-        }
-        Value::from_str(self.alloc, self.written()).ok()
+    /// Whether it is a string.
+    pub(crate) fn is_string(&self) -> bool {
+        self.first() == b'"'
     }
 
-    /// Whether it is the string that has this text.
-    pub(crate) fn is_text(&self, text: &str) -> bool {
-        match self.string() {
-            Some(value) => value.as_str() == Some(text),
-            None => false,
-        }
+    /// Whether it is the string of these characters, which are ASCII's.
+    pub(crate) fn is_text(&self, letters: &str) -> bool {
+        is_string_of(self.text, self.span.from, letters)
     }
 
     /// The whole number that it is.

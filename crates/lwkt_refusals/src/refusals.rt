@@ -106,7 +106,7 @@ fn show_words(out: &mut Page, bytes: &[u8], words: &Words) {
 // Appends why the part at a place is refused.
 fn show_part(alloc: Global, out: &mut Page, document: Document, bytes: &[u8], place: u32) {
     let mut words = Words::new(alloc);
-    document.show_place(&mut words, Part::whole(alloc, bytes), place);
+    document.show_place(&mut words, Part::whole(bytes), place);
     show_words(out, bytes, &words);
 }
 
@@ -135,7 +135,7 @@ fn show_opening(alloc: Global, out: &mut Words, whole: Part<'_>) -> Option<()> {
 // Appends why the opening is refused.
 fn show_opening_fault(alloc: Global, out: &mut Page, bytes: &[u8]) {
     let mut words = Words::new(alloc);
-    match show_opening(alloc, &mut words, Part::whole(alloc, bytes)) {
+    match show_opening(alloc, &mut words, Part::whole(bytes)) {
         Some(()) => show_words(out, bytes, &words),
         None => out.fault("", Fault::LawBroken),
     }

@@ -2,7 +2,6 @@
 use crate::members::WHOLE;
 use crate::parts::Part;
 use crate::words::Words;
-use serde_json::Value;
 
 const SMALL: u64 = 255;
 
@@ -31,59 +30,74 @@ impl Kind {
         }
     }
 
-    // The largest numbers that may stand behind a word, if there is one such list.
-    fn limits(self, word: &str) -> Option<&'static [u64]> {
+    // The words that it may begin with, and the largest numbers that may stand behind each.
+    fn forms(self) -> &'static [Form] {
         match self {
-            Kind::Step => step_limits(word),
-            Kind::Event => event_limits(word),
-            Kind::End => end_limits(word),
+            Kind::Step => &STEPS,
+            Kind::Event => &EVENTS,
+            Kind::End => &ENDS,
         }
     }
 }
 
-// The largest numbers behind the word of a step.
-fn step_limits(word: &str) -> Option<&'static [u64]> {
-    match word {
-        "swap" | "getport" | "wait" | "yield" | "exit" => Some(&[]),
-        "get" | "gets" | "try" | "rel" | "abort" | "isab" | "drop" => Some(&[SMALL]),
-        "read" => Some(&[SMALL, SMALL]),
-        "add" => Some(&[SMALL, WHOLE]),
-        "write" => Some(&[SMALL, SMALL, WHOLE]),
-        "reply" => Some(&[SMALL, CODE, WHOLE]),
-        "do" => Some(&[SMALL, SMALL, SMALL, CODE, WHOLE]),
-        "send" => Some(&[SMALL, SMALL, SMALL, CODE, WHOLE, FLAGS]),
-        _ => None,
-    }
-}
+// A word, and the largest numbers that may stand behind it.
+type Form = (&'static str, &'static [u64]);
 
-// The largest numbers behind the word of an event.
-fn event_limits(word: &str) -> Option<&'static [u64]> {
-    match word {
-        "load"
-        | "take"
-        | "share"
-        | "again"
-        | "mark"
-        | "give_one"
-        | "give_clean"
-        | "give_written"
-        | "drop"
-        | "reply"
-        | "reap"
-        | "abort" => Some(&[SMALL, SMALL]),
-        "take_msg" => Some(&[SMALL, SMALL, WHOLE]),
-        "read" | "write" | "send" => Some(&[SMALL, SMALL, SMALL, WHOLE]),
-        _ => None,
-    }
-}
+const STEPS: [Form; 18] = [
+    ("get", &[SMALL]),
+    ("gets", &[SMALL]),
+    ("try", &[SMALL]),
+    ("rel", &[SMALL]),
+    ("swap", &[]),
+    ("read", &[SMALL, SMALL]),
+    ("write", &[SMALL, SMALL, WHOLE]),
+    ("add", &[SMALL, WHOLE]),
+    ("send", &[SMALL, SMALL, SMALL, CODE, WHOLE, FLAGS]),
+    ("do", &[SMALL, SMALL, SMALL, CODE, WHOLE]),
+    ("reply", &[SMALL, CODE, WHOLE]),
+    ("abort", &[SMALL]),
+    ("isab", &[SMALL]),
+    ("drop", &[SMALL]),
+    ("getport", &[]),
+    ("wait", &[]),
+    ("yield", &[]),
+    ("exit", &[]),
+];
 
-// The largest numbers behind the word of a message's end.
-fn end_limits(word: &str) -> Option<&'static [u64]> {
-    match word {
-        "rest" => Some(&[SMALL, WHOLE]),
-        "out" | "with" | "back" => Some(&[SMALL, SMALL, WHOLE]),
-        _ => None,
+const EVENTS: [Form; 16] = [
+    ("load", &[SMALL, SMALL]),
+    ("take", &[SMALL, SMALL]),
+    ("share", &[SMALL, SMALL]),
+    ("again", &[SMALL, SMALL]),
+    ("mark", &[SMALL, SMALL]),
+    ("give_one", &[SMALL, SMALL]),
+    ("give_clean", &[SMALL, SMALL]),
+    ("give_written", &[SMALL, SMALL]),
+    ("read", &[SMALL, SMALL, SMALL, WHOLE]),
+    ("write", &[SMALL, SMALL, SMALL, WHOLE]),
+    ("send", &[SMALL, SMALL, SMALL, WHOLE]),
+    ("take_msg", &[SMALL, SMALL, WHOLE]),
+    ("drop", &[SMALL, SMALL]),
+    ("reply", &[SMALL, SMALL]),
+    ("reap", &[SMALL, SMALL]),
+    ("abort", &[SMALL, SMALL]),
+];
+
+const ENDS: [Form; 4] = [
+    ("rest", &[SMALL, WHOLE]),
+    ("out", &[SMALL, SMALL, WHOLE]),
+    ("with", &[SMALL, SMALL, WHOLE]),
+    ("back", &[SMALL, SMALL, WHOLE]),
+];
+
+// The form that begins with a word, if there is one.
+fn form_of(word: Part<'_>, kind: Kind) -> Option<Form> {
+    for form in kind.forms() {
+        if word.is_text(form.0) {
+            return Some(*form);
+        }
     }
+    None
 }
 
 // Appends which number of a list is bad.
@@ -103,8 +117,9 @@ fn show_number(out: &mut Words, list: Part<'_>, limits: &[u64]) {
     out.add(" is refused");
 }
 
-// Appends what is bad of a list with a word that a list of its kind can have.
-fn show_parts(out: &mut Words, list: Part<'_>, word: &str, limits: &[u64]) {
+// Appends what is bad of a list that has the word of a form.
+fn show_parts(out: &mut Words, list: Part<'_>, form: Form) {
+    let (word, limits) = form;
     let count = list.count().unwrap_or(0);
     let wanted = limits.len().saturating_add(1);
     if count == wanted {
@@ -116,19 +131,16 @@ fn show_parts(out: &mut Words, list: Part<'_>, word: &str, limits: &[u64]) {
     out.size(" has ", wanted);
 }
 
-// The word that a list begins with.
-fn word_of(list: Part<'_>) -> Option<Value> {
-    list.item(0)?.string()
-}
-
 // Appends what is bad of a list behind its text.
 fn show_behind(out: &mut Words, list: Part<'_>, kind: Kind) {
-    let Some(text) = word_of(list) else {
+    let Some(word) = list.item(0) else {
         return out.add(" doesn't begin with a word");
     };
-    let word = text.as_str().unwrap_or("");
-    match kind.limits(word) {
-        Some(limits) => show_parts(out, list, word, limits),
+    if !word.is_string() {
+        return out.add(" doesn't begin with a word");
+    }
+    match form_of(word, kind) {
+        Some(form) => show_parts(out, list, form),
         None => {
             out.add(" has a word that no ");
             out.add(kind.name());

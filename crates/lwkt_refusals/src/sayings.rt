@@ -1,8 +1,9 @@
 //! What a program says where its errors go, beside its line.
+use crate::pages::Page;
 use crate::refusals::{Document, refusal};
 use lwkt_base::Fault;
 use lwkt_report::{Sink, write_whole};
-use std::alloc::Global;
+use std::alloc::{AllocError, Global};
 use std::io;
 
 const RUN_USAGE: &str = "\
@@ -87,6 +88,16 @@ impl Speaker {
         let _ = write_whole(errors, b"\n");
     }
 
+    // Why these bytes are refused with this fault, behind its number where the program has no other line.
+    fn words(self, alloc: Global, bytes: &[u8], fault: Fault) -> Result<String, AllocError> {
+        let mut out = Page::new(alloc);
+        if self == Speaker::Show {
+            show_number(&mut out, fault);
+        }
+        out.add(refusal(alloc, self.document(), bytes, fault)?.as_str());
+        out.whole()
+    }
+
     /// Says how the program is called.
     pub fn say_usage<E: Sink>(self, errors: &mut E) {
         let _ = write_whole(errors, self.usage().as_bytes());
@@ -101,7 +112,7 @@ impl Speaker {
         fault: Fault,
     ) {
         let words = match bytes {
-            Some(bytes) => refusal(alloc, self.document(), bytes, fault).ok(),
+            Some(bytes) => self.words(alloc, bytes, fault).ok(),
             None => None,
         };
         match words {
@@ -112,7 +123,10 @@ impl Speaker {
 
     /// Says that there was no memory.
     pub fn say_memory<E: Sink>(self, errors: &mut E) {
-        self.say(errors, "out of memory");
+        match self {
+            Speaker::Run | Speaker::Check => self.say(errors, "out of memory"),
+            Speaker::Show => self.say(errors, "fault 32: out of memory"),
+        }
     }
 
     /// Says what is the matter where the arguments can't be told: no memory, or how the program is called.
@@ -151,14 +165,23 @@ impl Speaker {
 
     /// Says that a write failed, and why; nothing where nobody reads any more what is written.
     pub fn say_unwritten<E: Sink>(self, alloc: Global, errors: &mut E, error: &Option<io::Error>) {
-        if !is_pipe(error) {
+        if !has_no_reader(error) {
             self.say_failure(alloc, errors, self.write_failure(), error);
         }
     }
 }
 
-// Whether the reader of a pipe went away.
-fn is_pipe(error: &Option<io::Error>) -> bool {
+// Appends a fault by its number, and its place where it has one.
+fn show_number(out: &mut Page, fault: Fault) {
+    out.number("fault ", u64::from(fault.number()));
+    if let Fault::Script { place } = fault {
+        out.number(" at ", u64::from(place));
+    }
+    out.add(": ");
+}
+
+/// Whether a write failed since nobody reads any more what is written.
+pub fn has_no_reader(error: &Option<io::Error>) -> bool {
     match error {
         Some(error) => error.kind() == io::ErrorKind::BrokenPipe,
         None => false,

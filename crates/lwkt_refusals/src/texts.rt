@@ -128,3 +128,65 @@ pub fn place_of(text: &[u8], line: usize, column: usize) -> usize {
     }
     text.len()
 }
+
+// The value of a hexadecimal digit.
+fn digit_of(byte: u8) -> u32 {
+    match byte {
+        b'0'..=b'9' => u32::from(byte - b'0'),
+        b'a'..=b'f' => u32::from(byte - b'a') + 10,
+        b'A'..=b'F' => u32::from(byte - b'A') + 10,
+        _ => 0,
+    }
+}
+
+// The number that four hexadecimal digits are.
+fn code_at(text: &[u8], at: usize) -> u32 {
+    let mut code = 0u32;
+    for i in 0..4usize {
+        let digit = digit_of(byte_at(text, at.saturating_add(i)));
+        code = code.saturating_mul(16).saturating_add(digit);
+    }
+    code
+}
+
+// The character that stands behind a backslash, if that is one of ASCII's.
+fn escaped(mark: u8) -> u32 {
+    match mark {
+        b'b' => 8,
+        b't' => 9,
+        b'n' => 10,
+        b'f' => 12,
+        b'r' => 13,
+        _ => u32::from(mark),
+    }
+}
+
+// The character of a string at a place, if it is one of ASCII's, and the place behind it.
+fn letter_at(text: &[u8], at: usize) -> (u32, usize) {
+    let byte = byte_at(text, at);
+    if byte != b'\\' {
+        return (u32::from(byte), at.saturating_add(1));
+    }
+    let mark = byte_at(text, at.saturating_add(1));
+    let behind = at.saturating_add(2);
+    if mark == b'u' {
+        return (code_at(text, behind), behind.saturating_add(4));
+    }
+    (escaped(mark), behind)
+}
+
+/// Whether the part that begins here is the string of these characters, which are ASCII's.
+pub fn is_string_of(text: &[u8], from: usize, letters: &str) -> bool {
+    if byte_at(text, from) != b'"' {
+        return false;
+    }
+    let mut at = from.saturating_add(1);
+    for wanted in letters.as_bytes() {
+        let (letter, behind) = letter_at(text, at);
+        if letter != u32::from(*wanted) {
+            return false;
+        }
+        at = behind;
+    }
+    byte_at(text, at) == b'"'
+}
