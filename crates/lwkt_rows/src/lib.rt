@@ -16,3 +16,5 @@ mod report_rows;
 mod run_rows;
 #[cfg(test)]
 mod script_rows;
+#[cfg(test)]
+mod spoil_rows;
