@@ -106,9 +106,10 @@ fn done_of_bytes<R: Threads + Wait + Sync, G: Gate + Sync>(
 /// Reads a script to its end, or to 1048577 bytes, drives each of its processors on a thread of its own where one can be made,
 /// and writes the report, which is whole in memory before its first byte is written. The gate is asked before each turn of a
 /// processor, and no stops that processor. A processor also stops after the script's `turns` turns that ran a thread, after its
-/// `idle` turns that ran none, or once every processor has said that all its threads have ended.
+/// `idle` turns that ran none, once every processor has said that all its threads have ended, or once no turn of any processor
+/// can change anything.
 ///
-/// Refused as `run_turns` is.
+/// Refused as `run_turns` is; what is refused for want of memory to one processor stops all of them.
 pub fn run_threads_gated<R: Threads + Wait + Sync, G: Gate + Sync, S: Source, K: Sink>(
     rt: &R,
     alloc: Global,
