@@ -8,3 +8,5 @@ mod changes;
 mod outputs;
 #[cfg(test)]
 mod rows;
+#[cfg(test)]
+mod spoil_rows;

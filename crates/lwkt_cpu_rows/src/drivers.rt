@@ -246,11 +246,29 @@ pub fn next_cpu<B: Drop>(
     ensures mails { All (IsGiven board.now.book) seats.new.mails.items }
     ensures cpu { IfOk result (λ cpu. SitsAt (id_of board.now.bank) board.now.book.table cpu.seat cpu.post) }
 {
+    let threads = bodies.len();
+    next_cpu_of(alloc, board, seats, threads, bodies)
+}
+
+/// The same over ports of so many threads.
+pub fn next_cpu_of<B: Drop>(
+    alloc: Global,
+    board: &Board,
+    seats: &mut Seats,
+    threads: usize,
+    bodies: Vec<B>,
+) -> Result<Cpu<B>, Fault>
+    requires seats { All (IsFree (id_of board.now.bank)) seats.old.seats.items }
+    requires mails { All (IsGiven board.now.book) seats.old.mails.items }
+    ensures seats { All (IsFree (id_of board.now.bank)) seats.new.seats.items }
+    ensures mails { All (IsGiven board.now.book) seats.new.mails.items }
+    ensures cpu { IfOk result (λ cpu. SitsAt (id_of board.now.bank) board.now.book.table cpu.seat cpu.post) }
+{
     let Some(seat) = seats.seats.pop() else {
         return Err(Fault::Limits);
     };
     let id = seat.cpu();
-    let ports = next_ports(alloc, board, seats, id, bodies.len())?;
+    let ports = next_ports(alloc, board, seats, id, threads)?;
     Cpu::new(alloc, id, seat, ports, bodies)
 }
 

@@ -12,6 +12,8 @@ mod end_rows;
 #[cfg(test)]
 mod last_rows;
 #[cfg(test)]
+mod limit_rows;
+#[cfg(test)]
 mod mail_rows;
 #[cfg(test)]
 mod scenes;

@@ -687,7 +687,7 @@ const FAR_TOKEN: TokId = TokId(64);
 const FAR_MESSAGE: MsgId = MsgId(64);
 
 // Events that name a processor, token, cell or message that is not there.
-const PLACELESS: [Placeless; 22] = [
+const PLACELESS: [Placeless; 35] = [
     Placeless(Event::Load {
         cpu: FAR,
         tok: TOKEN,
@@ -790,6 +790,63 @@ const PLACELESS: [Placeless; 22] = [
     Placeless(Event::Abort {
         cpu: FAR,
         msg: MESSAGE,
+    }),
+    Placeless(Event::Share {
+        cpu: FIRST,
+        tok: FAR_TOKEN,
+    }),
+    Placeless(Event::Again {
+        cpu: FIRST,
+        tok: FAR_TOKEN,
+    }),
+    Placeless(Event::GiveOne {
+        cpu: FIRST,
+        tok: FAR_TOKEN,
+    }),
+    Placeless(Event::GiveClean {
+        cpu: FIRST,
+        tok: FAR_TOKEN,
+    }),
+    Placeless(Event::Read {
+        cpu: FIRST,
+        tok: FAR_TOKEN,
+        cell: 0,
+        value: 6,
+    }),
+    Placeless(Event::Write {
+        cpu: FIRST,
+        tok: FAR_TOKEN,
+        cell: 0,
+        value: 7,
+    }),
+    Placeless(Event::TakeMsg {
+        cpu: FIRST,
+        msg: FAR_MESSAGE,
+        round: 7,
+    }),
+    Placeless(Event::DropMsg {
+        cpu: FAR,
+        msg: MESSAGE,
+    }),
+    Placeless(Event::DropMsg {
+        cpu: FIRST,
+        msg: FAR_MESSAGE,
+    }),
+    Placeless(Event::Reply {
+        cpu: FAR,
+        msg: MESSAGE,
+    }),
+    Placeless(Event::Reply {
+        cpu: FIRST,
+        msg: FAR_MESSAGE,
+    }),
+    Placeless(Event::Reap {
+        cpu: FAR,
+        msg: MESSAGE,
+    }),
+    Placeless(Event::Abort {
+        cpu: FIRST,
+        msg: FAR_MESSAGE,
     }),
 ];
 

@@ -18,3 +18,5 @@ mod run_rows;
 mod script_rows;
 #[cfg(test)]
 mod section_rows;
+#[cfg(test)]
+mod spoil_rows;

@@ -14,8 +14,8 @@ const STREAM: &[u8] = b"lwkt_run: stream\n";
 const TALLY_REPORT: &[u8] =
     b"token 0 gen 1 cells 15\ntally 0 5\nthread 0.0 exited list - log -\nlawful\n";
 
-// The status of the program after a run in rounds.
-fn run_of(alloc: Global, source: &mut impl Source, sink: &mut impl Sink) -> u8 {
+/// The status of the program after a run in rounds.
+pub fn run_of(alloc: Global, source: &mut impl Source, sink: &mut impl Sink) -> u8 {
     let outcome = run_turns(alloc, source, sink);
     finish(sink, &outcome)
 }
