@@ -1,4 +1,4 @@
-//! Shows a run of a script turn by turn: as lines, as a trace for `lwkt_check`, or as a picture; and why a script is refused.
+//! Shows a run of a script turn by turn: as lines, as a trace for `lwkt_check`, or as a picture.
 #![tactic(auto)]
 
 mod drawings;
@@ -7,9 +7,7 @@ mod events;
 mod layouts;
 mod pages;
 mod pictures;
-mod places;
 mod reels;
-mod refusals;
 mod replays;
 mod scenes;
 mod shapes;
@@ -23,6 +21,5 @@ mod words;
 
 pub use pictures::picture_of;
 pub use reels::{Chosen, Reel};
-pub use refusals::show_refusal;
 pub use shows::lines_of;
 pub use traces::trace_of;
