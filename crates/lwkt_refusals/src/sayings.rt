@@ -7,23 +7,26 @@ use std::alloc::{AllocError, Global};
 use std::io;
 
 const RUN_USAGE: &str = "\
-usage: lwkt_run turns < SCRIPT     run a script in rounds, on one thread, and write its report
-       lwkt_run threads < SCRIPT   the same with a thread for each processor
-       lwkt_run --help             say more
-example: ./lwkt_run turns < examples/tally_add.json
+usage: lwkt_run turns [FILE]     run a script in rounds, on one thread, and write its report
+       lwkt_run threads [FILE]   the same with a thread for each processor
+       lwkt_run --help           say more
+example: ./lwkt_run turns examples/tally_add.json
 ";
 
 const CHECK_USAGE: &str = "\
-usage: lwkt_check < TRACE   say whether a trace is lawful, and else which event isn't and why
-       lwkt_check --help    say more
-example: ./lwkt_check < examples/traces/take_under_readers.json
+usage: lwkt_check [FILE]   say whether a trace is lawful, and else which event isn't and why
+       lwkt_check --help   say more
+example: ./lwkt_check examples/traces/take_under_readers.json
 ";
 
 const SHOW_USAGE: &str = "\
-usage: lwkt_show turns [--turns A..B] [--svg] < SCRIPT   run a script and show the run, or turns A to B of it
-       lwkt_show turns --trace < SCRIPT                  the same, and write its trace for lwkt_check
-       lwkt_show --help                                  say more
-example: ./lwkt_show turns < examples/crossed_lists.json
+usage: lwkt_show turns [--turns A..B | --rounds A..B] [--svg] [FILE]
+                      run a script and show the run, or turns or rounds A to B of it
+       lwkt_show turns --trace [FILE]
+                      the same, and write its trace for lwkt_check
+       lwkt_show --help
+                      say more
+example: ./lwkt_show turns examples/crossed_lists.json
 ";
 
 /// A program that says why it refused what it was given.

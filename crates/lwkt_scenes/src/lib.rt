@@ -1,4 +1,4 @@
-//! Shows a run of a script turn by turn: as lines, as a trace for `lwkt_check`, or as a picture; and why a script is refused.
+//! Shows a run of a script turn by turn: as lines, as a trace for `lwkt_check`, or as a picture.
 #![tactic(auto)]
 
 mod boxes;
@@ -10,9 +10,7 @@ mod layouts;
 mod legends;
 mod pages;
 mod pictures;
-mod places;
 mod reels;
-mod refusals;
 mod replays;
 mod scenes;
 mod shapes;
@@ -28,6 +26,5 @@ mod words;
 
 pub use pictures::picture_of;
 pub use reels::{Chosen, Counted, Reel};
-pub use refusals::show_refusal;
 pub use shows::lines_of;
 pub use traces::trace_of;

@@ -1,5 +1,5 @@
 use crate::pages::Page;
-use lwkt_base::{Answer, Ask, Call, Fault, Item, Law, Mode, MsgId, ThreadId};
+use lwkt_base::{Answer, Ask, Call, Fault, Item, Mode, MsgId, ThreadId};
 
 /// Appends a thread by its processor and its number: `1.0`.
 pub(crate) fn show_thread(out: &mut Page, id: ThreadId) {
@@ -142,18 +142,5 @@ pub(crate) fn mode_word(mode: Mode) -> &'static str {
     match mode {
         Mode::Exclusive => "exclusively",
         Mode::Shared => "shared",
-    }
-}
-
-/// Appends how cells break a law: `cells 9 5 do not add up to 10`.
-pub(crate) fn show_breach(out: &mut Page, law: Law, param: u64, cells: &[u64]) {
-    out.add("cells");
-    out.numbers(cells);
-    match law {
-        Law::Any => out.add(" obey every law"),
-        Law::Sum => out.number(" do not add up to ", param),
-        Law::Order => out.add(" are not in rising order"),
-        Law::Cap => out.number(" are not all at most ", param),
-        Law::Tally => out.number(" are not the one cell ", param),
     }
 }

@@ -5,20 +5,15 @@ ghost use Rattle.lwkt_show.specs.Showing.{ShowsAs, IsShown, IsPast, IsPastIn, Te
 
 use crate::options::{Options, View, options_of};
 use lwkt_base::Fault;
+use lwkt_refusals::Speaker;
 use lwkt_report::{RunFault, Sink, Source, read_capped, write_whole};
 use lwkt_run::{End, TurnsRun, end_told, turns_run};
-use lwkt_scenes::{Chosen, Reel, lines_of, picture_of, show_refusal, trace_of};
+use lwkt_scenes::{Chosen, Reel, lines_of, picture_of, trace_of};
 use std::alloc::Global;
 
 // What is said where the arguments are none of the program's.
 const USAGE: &str =
     "lwkt_show: turns, and behind it --turns A..B or --rounds A..B, and --svg or --trace\n";
-
-// What is said where there is no memory.
-const MEMORY: &str = "lwkt_show: fault 32: out of memory\n";
-
-// What is said where the reader or the writer failed.
-const STREAM: &str = "lwkt_show: stream\n";
 
 // What is said where the run ended before the range that was chosen.
 const PAST: &str = "lwkt_show: the range lies behind the end of the run\n";
@@ -94,15 +89,11 @@ fn done_of_bytes(alloc: Global, options: &Options, bytes: &[u8]) -> Result<Optio
     }
 }
 
-// Writes why a run was refused; where no memory is left for the words, that there is none.
+// Says why a run was refused, but for want of memory.
 fn complain<E: Sink>(alloc: Global, errors: &mut E, bytes: &[u8], fault: Fault) {
-    let mut line = String::new(alloc);
-    let told = show_refusal(alloc, &mut line, bytes, fault);
-    let text = match told {
-        Ok(()) if fault != Fault::Memory => line.as_str(),
-        _ => MEMORY,
-    };
-    let _ = write_whole(errors, text.as_bytes());
+    if fault != Fault::Memory {
+        Speaker::Show.say_refusal(alloc, errors, Some(bytes), fault);
+    }
 }
 
 /// Reads a script to its end, or to 1048577 bytes, runs it on one thread, and writes what shows the run, which is whole in
@@ -156,19 +147,28 @@ fn status_of(outcome: &Result<Outcome, RunFault>) -> u8
     }
 }
 
-/// The line and the status where the arguments are none of the program's, or can't be told: 3 for want of memory, else 1.
+/// What is said and the status where the arguments are none of the program's, or can't be told: 3 for want of memory, else 1.
 pub fn refuse_arguments<E: Sink>(errors: &mut E, memory: bool) -> u8 {
-    let (line, status) = if memory { (MEMORY, 3) } else { (USAGE, 1) };
-    let _ = write_whole(errors, line.as_bytes());
-    status
+    if !memory {
+        let _ = write_whole(errors, USAGE.as_bytes());
+    }
+    Speaker::Show.say_arguments(errors, memory);
+    if memory { 3 } else { 1 }
+}
+
+// Says that the run ended before the range that was chosen, and how the program is called.
+fn say_past<E: Sink>(errors: &mut E) {
+    let _ = write_whole(errors, PAST.as_bytes());
+    Speaker::Show.say_usage(errors);
 }
 
 /// The whole program: its arguments without its own name, what it reads, what it writes, and where its errors go. The
 /// answer is its exit status, as that of `lwkt_run`: 0 every thread ended; 1 arguments, or a script or opening that was
-/// refused, or a run that ended before the first turn that was chosen; 2 turns used up; 3 want of memory, or a stream that failed; 4 an unlawful trace.
+/// refused, or a run that ended before the first turn that was chosen; 2 turns used up; 3 want of memory, or a stream that
+/// failed; 4 an unlawful trace.
 ///
-/// The arguments are looked at before anything is read; where they are wrong nothing is read or written but the line of the
-/// error.
+/// The arguments are looked at before anything is read; where they are wrong nothing is read or written but what goes to
+/// where errors go. Of a stream that failed nothing is said there: only who has the stream can say why.
 pub fn run_show<S: Source, K: Sink, E: Sink>(
     alloc: Global,
     words: &[String],
@@ -182,12 +182,10 @@ pub fn run_show<S: Source, K: Sink, E: Sink>(
         return refuse_arguments(errors, false);
     };
     let outcome = show_stream(alloc, &options, source, sink, errors);
-    if outcome == Ok(Outcome::Past) {
-        let _ = write_whole(errors, PAST.as_bytes());
-        let _ = write_whole(errors, USAGE.as_bytes());
-    }
-    if outcome == Err(RunFault::Stream) {
-        let _ = write_whole(errors, STREAM.as_bytes());
+    match outcome {
+        Ok(Outcome::Past) => say_past(errors),
+        Err(RunFault::Fault(Fault::Memory)) => Speaker::Show.say_memory(errors),
+        _ => {}
     }
     status_of(&outcome)
 }

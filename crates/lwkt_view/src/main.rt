@@ -1,8 +1,11 @@
 //! The program: reads a script from standard input, runs it, and shows the run on standard output.
 #![tactic(auto)]
 
-use lwkt_report::{ReaderSource, WriterSink, words_of};
-use lwkt_show::{refuse_arguments, run_show};
+mod tellings;
+
+use crate::tellings::show_told;
+use lwkt_report::{NotedReader, NotedWriter, ReaderSource, WriterSink, words_of};
+use lwkt_show::refuse_arguments;
 use std::alloc::Global;
 use std::io;
 use std::process::ExitCode;
@@ -12,9 +15,9 @@ fn main(rt: HostRuntime) -> ExitCode {
     let mut errors = WriterSink::new(rt.stderr());
     let status = match words_of(&rt) {
         Ok(words) => {
-            let mut source = ReaderSource::new(rt.stdin());
-            let mut sink = WriterSink::new(rt.stdout());
-            run_show(alloc, &words, &mut source, &mut sink, &mut errors)
+            let mut source = ReaderSource::new(NotedReader::new(alloc, rt.stdin()));
+            let mut sink = WriterSink::new(NotedWriter::new(rt.stdout()));
+            show_told(alloc, &words, &mut source, &mut sink, &mut errors)
         }
         Err(error) => {
             let memory = error.kind() == io::ErrorKind::OutOfMemory;

@@ -1,0 +1,29 @@
+ghost use Rattle.std.specs.Prelude.{◌≡◌, ◌⊎◌};
+ghost use Rattle.lwkt_show.specs.Showing.{IsShowing};
+
+use lwkt_refusals::Speaker;
+use lwkt_report::{NotedReader, NotedWriter, ReaderSource, Sink, WriterSink};
+use lwkt_show::run_show;
+use std::alloc::Global;
+use std::io::{Read, Write};
+
+/// The whole program, as `run_show`, which also says where errors go how a stream failed. What it reads, what it writes and
+/// its status are those of `run_show`.
+pub fn show_told<I: Read, O: Write, E: Sink>(
+    alloc: Global,
+    words: &[String],
+    source: &mut ReaderSource<NotedReader<I>>,
+    sink: &mut WriterSink<NotedWriter<O>>,
+    errors: &mut E,
+) -> u8
+    ensures { ((source.new ≡ source.old) × (sink.new ≡ sink.old)) ⊎ IsShowing (I.remaining source.old.reader.reader) (O.contents sink.old.writer.writer) (O.contents sink.new.writer.writer) result }
+{
+    let status = run_show(alloc, words, source, sink, errors);
+    if source.failed {
+        Speaker::Show.say_unread(alloc, errors, &source.reader.error);
+    }
+    if sink.failed {
+        Speaker::Show.say_unwritten(alloc, errors, &sink.writer.error);
+    }
+    status
+}
