@@ -10,7 +10,7 @@ RUN = ("lwkt_run", "crates/lwkt/out/lwkt_run", True)
 CHECK = ("lwkt_check", "crates/lwkt_judge/out/lwkt_check", False)
 SHOW = ("lwkt_show", "crates/lwkt_view/out/lwkt_show", False)
 # How long a run may take, in seconds.
-LONGEST = 60
+LONGEST = int(os.environ.get("LONGEST", "60"))
 
 
 def fail(text):
