@@ -89,6 +89,9 @@ class Faults:
             return Answer(None, b"", b"", None)
         except BrokenPipeError:
             fail("a run closed its input")
-        with open(self.counts) as file:
-            calls = dict(zip(self.KINDS, map(int, file.read().split())))
+        # A run that was killed has left no counts.
+        calls = None
+        if os.path.exists(self.counts):
+            with open(self.counts) as file:
+                calls = dict(zip(self.KINDS, map(int, file.read().split())))
         return Answer(done.returncode, done.stdout, done.stderr, calls)
