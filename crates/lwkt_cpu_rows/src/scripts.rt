@@ -18,7 +18,7 @@ pub struct Script {
 impl Script {
     pub fn new(alloc: Global, listed: &[Ask]) -> Result<Script, AllocError> {
         let asks = listed.to_vec(alloc)?;
-        let answers = Vec::with_capacity(alloc, 32)?;
+        let answers = Vec::with_capacity(alloc, 64)?;
         Ok(Script {
             asks,
             next: 0,
