@@ -1,4 +1,4 @@
-use Rattle.std.proofs.Common.{inr, ◌≡◌, ℕ, List, rules, Option, Err, Ok, subst}
+use Rattle.std.proofs.Common.{inr, ◌≡◌, ℕ, List, rules, Option, None, IsNone, Err, Ok, subst}
 use Rattle.std.specs.Io.KnownBytes.{Appends, Keeps}
 use Rattle.lwkt_base.specs.declared.faults.Fault.{Fault as Refusal}
 use Rattle.lwkt_report.specs.declared.streams.RunFault.TheVariants.{Fault, Stream}
@@ -32,3 +32,7 @@ tells_front Run left old new bytes read text written end same same_text are run 
 pub tells_past : (options : Options) (left old : Option (List ℕ)) (bytes read : List ℕ) → read ≡ bytes → AreRead left bytes → IsPastIn options read → TellsShown options left old old (Ok Past)
 tells_past options left old bytes read same are past =
     (keeps_itself old, (bytes, (are, subst (λ b. IsPastIn options b) same past)))
+
+-- what is none of a thing
+pub is_none_of : (T : Type 0) (o : Option T) → o ≡ None → IsNone o
+is_none_of T o same = search rules

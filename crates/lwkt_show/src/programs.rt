@@ -124,8 +124,9 @@ pub fn show_stream<S: Source, K: Sink, E: Sink>(
             return Err(RunFault::Fault(fault));
         }
     };
-    let Some(done) = shown else {
-        return Ok(Outcome::Past);
+    let done = match shown {
+        Some(done) => done,
+        None => return Ok(Outcome::Past),
     };
     match write_whole(sink, done.text.as_bytes()) {
         Ok(()) => Ok(Outcome::Shown(done.end)),

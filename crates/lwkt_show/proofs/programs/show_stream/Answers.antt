@@ -1,9 +1,9 @@
-use Rattle.std.proofs.Common.{inl, inr, ◌≡◌, ◌⊎◌}
+use Rattle.std.proofs.Common.{inl, inr, subst, IfSome, string_bytes, ◌≡◌, ◌⊎◌}
 use Rattle.lwkt_base.specs.declared.faults.Fault.TheVariants.{Memory}
 use Rattle.lwkt_report.specs.declared.streams.RunFault.TheVariants.{Fault, Stream}
 use Rattle.lwkt_run.proofs.RunLemmas.{tells_unread}
 use Rattle.lwkt_show.specs.Showing.{IsShown}
-use Rattle.lwkt_show.proofs.Telling.{tells_refused, tells_done, tells_front}
+use Rattle.lwkt_show.proofs.Telling.{tells_refused, tells_done, tells_front, tells_past, is_none_of}
 use Rattle.lwkt_show.proofs.programs.show_stream.Goals as goal
 
 pub returns-in-Err-clause-tells : goal.returns-in-Err-clause-tells
@@ -17,12 +17,17 @@ returns-in-Err-done_of_bytes-clause-tells g c =
     tells_refused (IsShown c.args.options.now.view) (g.S.Source.left c.args.source.now) (g.K.Sink.contents c.args.sink.now) c.in-Ok.bytes.items c.deref.result.now c.in-Err-done_of_bytes.fault
     c.deref.ensures.value c.in-Ok.ensures.bytes c.in-Err-done_of_bytes.ensures.refused
 
+pub returns-in-None-clause-tells : goal.returns-in-None-clause-tells
+returns-in-None-clause-tells g c =
+    tells_past c.args.options.now (g.S.Source.left c.args.source.now) (g.K.Sink.contents c.args.sink.now) c.in-Ok.bytes.items c.deref.result.now
+    c.deref.ensures.value c.in-Ok.ensures.bytes (c.in-Ok-done_of_bytes.ensures.past (is_none_of _ c.in-Ok-done_of_bytes.shown c.in-None.is))
+
 pub returns-in-Ok-write_whole-clause-tells : goal.returns-in-Ok-write_whole-clause-tells
 returns-in-Ok-write_whole-clause-tells g c =
-    tells_done (IsShown c.args.options.now.view) (g.S.Source.left c.args.source.now) (g.K.Sink.contents c.args.sink.now) (g.K.Sink.contents c.write_whole.new.sink) c.in-Ok.bytes.items c.deref.result.now _ c.as_bytes.result.now c.in-Ok-done_of_bytes.done.end
-    c.deref.ensures.value c.as_bytes.ensures.value c.in-Ok.ensures.bytes c.in-Ok-done_of_bytes.ensures.ok c.in-Ok-write_whole.ensures.whole
+    tells_done (IsShown c.args.options.now.view) (g.S.Source.left c.args.source.now) (g.K.Sink.contents c.args.sink.now) (g.K.Sink.contents c.write_whole.new.sink) c.in-Ok.bytes.items c.deref.result.now _ c.as_bytes.result.now c.in-Some.done.end
+    c.deref.ensures.value c.as_bytes.ensures.value c.in-Ok.ensures.bytes (subst (λ s. IfSome s (λ d. IsShown c.args.options.now.view c.deref.result.now d.end (string_bytes d.text))) c.in-Some.is c.in-Ok-done_of_bytes.ensures.shown) c.in-Ok-write_whole.ensures.whole
 
 pub returns-clause-tells : goal.returns-clause-tells
 returns-clause-tells g c =
-    tells_front (IsShown c.args.options.now.view) (g.S.Source.left c.args.source.now) (g.K.Sink.contents c.args.sink.now) (g.K.Sink.contents c.write_whole.new.sink) c.in-Ok.bytes.items c.deref.result.now _ c.as_bytes.result.now c.in-Ok-done_of_bytes.done.end
-    c.deref.ensures.value c.as_bytes.ensures.value c.in-Ok.ensures.bytes c.in-Ok-done_of_bytes.ensures.ok c.in-Err-write_whole.ensures.front
+    tells_front (IsShown c.args.options.now.view) (g.S.Source.left c.args.source.now) (g.K.Sink.contents c.args.sink.now) (g.K.Sink.contents c.write_whole.new.sink) c.in-Ok.bytes.items c.deref.result.now _ c.as_bytes.result.now c.in-Some.done.end
+    c.deref.ensures.value c.as_bytes.ensures.value c.in-Ok.ensures.bytes (subst (λ s. IfSome s (λ d. IsShown c.args.options.now.view c.deref.result.now d.end (string_bytes d.text))) c.in-Some.is c.in-Ok-done_of_bytes.ensures.shown) c.in-Err-write_whole.ensures.front
