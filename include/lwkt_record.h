@@ -1,0 +1,1214 @@
+// lwkt_record: records what the threads of a kernel or of a threaded program do with their own tokens and messages, and
+// writes it as a trace that `lwkt_check` judges (docs/TRACES.md). C11 or C++17; one file, nothing to link.
+//
+//     static lwkt_record recorder;
+//     static const uint64_t cells[2] = {60, 40};
+//
+//     lwkt_record_open(&recorder, 4, 1, 0, 100000);        // processors, tokens, messages, events of each processor
+//     lwkt_record_token(&recorder, 0, LWKT_RECORD_SUM, 100, 0, cells, 2);
+//     ..                                                   // the threads run, and make the calls below
+//     lwkt_record_end(&recorder);                          // nobody holds a token any more
+//     lwkt_record_to_file(&recorder, stdout);              // | ./lwkt_check
+//     lwkt_record_close(&recorder);
+//
+// Processor. Who can hold a token: a processor of a kernel whose threads give up their tokens when they switch, or a thread of
+// a program. It is a number from 0. Each has a buffer of its own, so that its calls touch what it shares with the others once:
+// at the count of all events, from which each event takes its stamp. The trace has the events in the order of their stamps.
+//
+// Where the calls stand. What takes is recorded after it succeeded, and what gives before it is done, so that each event is
+// stamped inside the holding that it is of:
+//
+//     after   take, share, again, mark, take_message, drop, reap
+//     before  give, send, reply
+//     inside  read, write: beside the load or store, while the token is held; abort: while the message is away
+//
+// Errors. Each call answers 0 (LWKT_RECORD_OK) or a number of `lwkt_record_error`. No call waits, none takes memory but
+// `lwkt_record_open`, and none is undefined but for what is said under "Who may call". An event that couldn't be recorded, but
+// should have been, leaves a gap in the stamps; the trace ends before the first gap. So a trace is always a front of what
+// happened, and what can't be recorded is never told as a fault of the recorded program.
+//
+// Who may call. `open`, `token`, `message`, `end*` and `close`: one thread, while nobody records. Events: any number of threads
+// at once. Two calls at once for one processor are no fault: the second is answered LWKT_RECORD_BUSY (an interrupt that comes
+// into a call of the processor that it interrupts is such a case). `to_*`: one thread at a time, also while others record; it
+// writes the events that are there when it begins. The recorder must stay where it is from `open` on, and not be copied.
+//
+// Before the include may be defined: LWKT_RECORD_FREESTANDING, for no stdio.h and stdlib.h (then `lwkt_record_open`,
+// `lwkt_record_close` and `lwkt_record_to_file` aren't there); LWKT_RECORD_BYTES_MOST, for shorter traces.
+#ifndef LWKT_RECORD_H
+#define LWKT_RECORD_H
+
+#include <stdbool.h>
+#include <stddef.h>
+#include <stdint.h>
+#ifndef LWKT_RECORD_FREESTANDING
+#include <stdio.h>
+#include <stdlib.h>
+#endif
+
+#ifdef __cplusplus
+#include <atomic>
+#define LWKT_RECORD_ATOMIC(TYPE) std::atomic<TYPE>
+#define LWKT_RECORD_IN(NAME) std::NAME
+#else
+#include <stdatomic.h>
+#define LWKT_RECORD_ATOMIC(TYPE) _Atomic(TYPE)
+#define LWKT_RECORD_IN(NAME) NAME
+#endif
+
+// The limits of a trace (docs/TRACES.md, "Trace, version 1"). That of its events, 50000000, is not reached: so many have more
+// bytes than a trace.
+#define LWKT_RECORD_PROCESSORS 8
+#define LWKT_RECORD_TOKENS 64
+#define LWKT_RECORD_MESSAGES 64
+#define LWKT_RECORD_CELLS 4
+#define LWKT_RECORD_REFERENCES 32
+#define LWKT_RECORD_LAST_GENERATION UINT64_C(70368744177663)
+#define LWKT_RECORD_LAST_ROUND UINT64_C(2251799813685247)
+#ifndef LWKT_RECORD_BYTES_MOST
+#define LWKT_RECORD_BYTES_MOST UINT64_C(268435456)
+#endif
+
+// What a call answers.
+enum lwkt_record_error {
+    LWKT_RECORD_OK = 0,
+    LWKT_RECORD_CLOSED = 1,       // there is no recorder (NULL), or it isn't open; nothing was done
+    LWKT_RECORD_LIMIT = 2,        // a limit of the trace format is passed, or a number names nothing; nothing was done
+    LWKT_RECORD_MEMORY = 3,       // no memory; nothing was done
+    LWKT_RECORD_LATE = 4,         // tokens and messages are declared before the first event; nothing was done
+    LWKT_RECORD_NO_PROCESSOR = 5, // no such processor; the event left a gap
+    LWKT_RECORD_NO_TOKEN = 6,     // no such token; nothing was recorded, and no gap left: other tokens don't need it
+    LWKT_RECORD_NO_CELL = 7,      // the token has no such cell; nothing was recorded, and no gap left
+    LWKT_RECORD_NO_MESSAGE = 8,   // no such message; nothing was recorded, and no gap left
+    LWKT_RECORD_FULL = 9,         // the processor's buffer is full; the event left a gap
+    LWKT_RECORD_TOO_MANY = 10,    // the processor has 32 references, the most that a trace can tell; the event left a gap
+    LWKT_RECORD_BUSY = 11,        // another call for the same processor is under way; the event left a gap
+    LWKT_RECORD_CUT = 12,         // the trace was written up to the first gap, or as long as a trace may be; it is a good one
+    LWKT_RECORD_STREAM = 13,      // the trace couldn't be written
+    LWKT_RECORD_NO_ROOM = 14      // the bytes given have no room for the trace
+};
+
+// The law of a token's cells, asked at the end of each section that wrote (docs/MODEL.md, "Laws").
+enum lwkt_record_law {
+    LWKT_RECORD_ANY,   // nothing
+    LWKT_RECORD_SUM,   // the cells add up to the parameter
+    LWKT_RECORD_ORDER, // no cell is less than the one before it
+    LWKT_RECORD_CAP,   // each cell is at most the parameter
+    LWKT_RECORD_TALLY  // one cell, which begins as the parameter and is only raised
+};
+
+// How an exclusive holding's reference is given back, for `lwkt_record_give_as`.
+enum lwkt_record_give {
+    LWKT_RECORD_ONE,    // there are more references, or the token is held shared
+    LWKT_RECORD_CLEAN,  // the last one; the cells are as they were when the token was taken
+    LWKT_RECORD_WRITTEN // the last one; the cells have changed
+};
+
+// The events, by the places of their words in `lwkt_record_word`.
+enum lwkt_record_kind {
+    LWKT_RECORD_KIND_GIVE_ONE = LWKT_RECORD_ONE,
+    LWKT_RECORD_KIND_GIVE_CLEAN = LWKT_RECORD_CLEAN,
+    LWKT_RECORD_KIND_GIVE_WRITTEN = LWKT_RECORD_WRITTEN,
+    LWKT_RECORD_KIND_GIVE, // one of the three, which is found out when the trace is written
+    LWKT_RECORD_KIND_LOAD,
+    LWKT_RECORD_KIND_TAKE,
+    LWKT_RECORD_KIND_SHARE,
+    LWKT_RECORD_KIND_AGAIN,
+    LWKT_RECORD_KIND_MARK,
+    LWKT_RECORD_KIND_READ,
+    LWKT_RECORD_KIND_WRITE,
+    LWKT_RECORD_KIND_SEND,
+    LWKT_RECORD_KIND_TAKE_MESSAGE,
+    LWKT_RECORD_KIND_DROP,
+    LWKT_RECORD_KIND_REPLY,
+    LWKT_RECORD_KIND_REAP,
+    LWKT_RECORD_KIND_ABORT
+};
+
+// One event of a processor: 24 bytes.
+typedef struct lwkt_record_event {
+    uint64_t stamp;
+    uint64_t value;
+    uint8_t kind;
+    uint8_t place; // the token or message
+    uint8_t part;  // the cell, or the processor that a message is sent to
+    uint8_t spare;
+} lwkt_record_event;
+
+// What a processor records into. Its members are the recorder's own, as are those of all types below.
+typedef struct lwkt_record_seat {
+    LWKT_RECORD_ATOMIC(bool) busy;
+    LWKT_RECORD_ATOMIC(size_t) used;
+    lwkt_record_event *events;
+    unsigned references;
+    uint8_t held[LWKT_RECORD_TOKENS];
+    char apart[64]; // no two seats in one cache line
+} lwkt_record_seat;
+
+// A token as it was declared, and its end as it was told.
+typedef struct lwkt_record_token_spec {
+    uint64_t param;
+    uint64_t generation;
+    uint64_t end_generation;
+    uint64_t cells[LWKT_RECORD_CELLS];
+    uint64_t end_cells[LWKT_RECORD_CELLS];
+    unsigned count;
+    unsigned law;
+    bool has_end_cells;
+    bool has_end_generation;
+} lwkt_record_token_spec;
+
+// A message as it was declared, and the round of its last send.
+typedef struct lwkt_record_message_spec {
+    LWKT_RECORD_ATOMIC(uint64_t) last_round;
+    uint64_t round;
+    unsigned processor;
+    unsigned thread;
+} lwkt_record_message_spec;
+
+// What the events lead to, as far as they are written.
+typedef struct lwkt_record_model {
+    uint64_t row[LWKT_RECORD_TOKENS][LWKT_RECORD_CELLS];
+    uint64_t first[LWKT_RECORD_TOKENS][LWKT_RECORD_CELLS];
+    uint64_t tally[LWKT_RECORD_TOKENS][LWKT_RECORD_PROCESSORS];
+    uint64_t generation[LWKT_RECORD_TOKENS];
+    uint64_t round[LWKT_RECORD_MESSAGES];
+    size_t heads[LWKT_RECORD_PROCESSORS];
+    uint8_t references[LWKT_RECORD_PROCESSORS][LWKT_RECORD_TOKENS];
+    bool is_exclusive[LWKT_RECORD_PROCESSORS][LWKT_RECORD_TOKENS];
+    uint8_t state[LWKT_RECORD_MESSAGES];
+    uint8_t target[LWKT_RECORD_MESSAGES];
+} lwkt_record_model;
+
+// A recorder, some 30 KB. One that is all zeros, as a static one, isn't open.
+typedef struct lwkt_record {
+    unsigned processors;
+    unsigned tokens;
+    unsigned messages;
+    size_t room;
+    bool owns_events;
+    bool has_ended;
+    lwkt_record_token_spec token[LWKT_RECORD_TOKENS];
+    lwkt_record_message_spec message[LWKT_RECORD_MESSAGES];
+    lwkt_record_model model;
+    char before[64]; // the next stamp has a cache line for itself
+    LWKT_RECORD_ATOMIC(uint64_t) next;
+    char behind[64];
+    LWKT_RECORD_ATOMIC(int) lost;
+    lwkt_record_seat seats[LWKT_RECORD_PROCESSORS];
+} lwkt_record;
+
+// Takes bytes of a trace; 0 if it has them all.
+typedef int (*lwkt_record_sink)(void *context, const char *bytes, size_t count);
+
+// ---------------------------------------------------------------------------------------------------------------------------
+// Opening
+
+// Opens a recorder over memory of the caller's: `processors` times `room` events, which stay the recorder's until it is no
+// longer used. There are 1 to 8 processors, at most 64 tokens and at most 64 messages; each processor can record `room` events.
+// Tokens have the law ANY and no cells, messages are of thread 0 of processor 0, until they are declared.
+// LIMIT where a number is past its limit, CLOSED without a recorder, MEMORY without events.
+static inline int lwkt_record_open_in(lwkt_record *recorder, unsigned processors, unsigned tokens, unsigned messages,
+                                      lwkt_record_event *events, size_t room);
+
+#ifndef LWKT_RECORD_FREESTANDING
+// The same over memory of the recorder's own, which `lwkt_record_close` frees. MEMORY where it is refused.
+static inline int lwkt_record_open(lwkt_record *recorder, unsigned processors, unsigned tokens, unsigned messages,
+                                   size_t room);
+
+// Ends a recorder. Calls on it are then answered CLOSED. It may be opened again.
+static inline void lwkt_record_close(lwkt_record *recorder);
+#endif
+
+// Declares a token: its law and the law's parameter, its generation, and its cells as they are now, 0 to 4 of them, under TALLY
+// one. A kernel without generations says 0: each section that wrote then counts as one. Whether the cells obey the law is
+// for `lwkt_check` to say. LATE after the first event, NO_TOKEN, LIMIT.
+static inline int lwkt_record_token(lwkt_record *recorder, unsigned token, enum lwkt_record_law law, uint64_t param,
+                                    uint64_t generation, const uint64_t *cells, unsigned count);
+
+// Declares a message: the processor that sends it, and the thread there, 0 to 15; its round, which is a count of its sends.
+// LATE after the first event, NO_MESSAGE, LIMIT.
+static inline int lwkt_record_message(lwkt_record *recorder, unsigned message, unsigned processor, unsigned thread,
+                                      uint64_t round);
+
+// ---------------------------------------------------------------------------------------------------------------------------
+// Events of tokens. Each is answered CLOSED, NO_PROCESSOR, NO_TOKEN, BUSY or FULL where that is so.
+
+// The processor has taken the token exclusively, or shared. Called after the step that took it. TOO_MANY.
+static inline int lwkt_record_take(lwkt_record *recorder, unsigned processor, unsigned token);
+static inline int lwkt_record_share(lwkt_record *recorder, unsigned processor, unsigned token);
+
+// The processor, which has the token already, has taken a further reference to it, in whichever mode. TOO_MANY.
+static inline int lwkt_record_again(lwkt_record *recorder, unsigned processor, unsigned token);
+
+// The processor has marked the token for an exclusive request.
+static inline int lwkt_record_mark(lwkt_record *recorder, unsigned processor, unsigned token);
+
+// The processor is about to give its last reference to the token back. Called before the step that gives it up. Whether others
+// are left, and whether the section wrote, is found out from what is recorded.
+static inline int lwkt_record_give(lwkt_record *recorder, unsigned processor, unsigned token);
+
+// The same, told by the caller. LIMIT, with a gap, for what is none of the three.
+static inline int lwkt_record_give_as(lwkt_record *recorder, unsigned processor, unsigned token, enum lwkt_record_give how);
+
+// The processor, which holds the token, has read the value in the cell, or writes it there: then exclusively. Called beside the
+// load or store, in the order in which the processor makes them. NO_CELL for one that wasn't declared.
+static inline int lwkt_record_read(lwkt_record *recorder, unsigned processor, unsigned token, unsigned cell, uint64_t value);
+static inline int lwkt_record_write(lwkt_record *recorder, unsigned processor, unsigned token, unsigned cell, uint64_t value);
+
+// The processor has looked at the token's word, as when it was refused. It may always; a trace needs none of these.
+static inline int lwkt_record_load(lwkt_record *recorder, unsigned processor, unsigned token);
+
+// How many references to the token the processor has by what was recorded; 0 where there is no such thing. For a program that
+// doesn't know whether a share is a first or a further one. Called by the processor itself.
+static inline unsigned lwkt_record_held(const lwkt_record *recorder, unsigned processor, unsigned token);
+
+// ---------------------------------------------------------------------------------------------------------------------------
+// Events of messages. Each is answered CLOSED, NO_PROCESSOR, NO_MESSAGE, BUSY or FULL where that is so.
+
+// The message's origin is about to send it to a processor. Called before the target can find it. `round` is the round that the
+// message carries: one more at each send; 0 where it carries none, for the recorder to count.
+static inline int lwkt_record_send(lwkt_record *recorder, unsigned processor, unsigned message, unsigned target,
+                                   uint64_t round);
+
+// The processor has taken the message from its port, and found this round in it; 0 where it carries none.
+static inline int lwkt_record_take_message(lwkt_record *recorder, unsigned processor, unsigned message, uint64_t round);
+
+// The origin has taken the message back before anybody took it.
+static inline int lwkt_record_drop(lwkt_record *recorder, unsigned processor, unsigned message);
+
+// The processor that took the message is about to reply to it. Called before its origin can find the reply.
+static inline int lwkt_record_reply(lwkt_record *recorder, unsigned processor, unsigned message);
+
+// The origin has taken the reply.
+static inline int lwkt_record_reap(lwkt_record *recorder, unsigned processor, unsigned message);
+
+// The origin asks for the message, which is away, to be aborted.
+static inline int lwkt_record_abort(lwkt_record *recorder, unsigned processor, unsigned message);
+
+// ---------------------------------------------------------------------------------------------------------------------------
+// The end, and the trace
+
+// Says that the recording is at its end: nobody holds a token. The trace then has closing values, those that the events lead
+// to, but for what the next two tell; else it has none, and its events alone are judged. CLOSED.
+static inline int lwkt_record_end(lwkt_record *recorder);
+
+// The same, and tells what a token's cells are now, in memory, as many as were declared; or its generation, where the recorded
+// program counts its sections. They are judged by what the events lead to. CLOSED, NO_TOKEN, NO_CELL, LIMIT.
+static inline int lwkt_record_end_cells(lwkt_record *recorder, unsigned token, const uint64_t *cells, unsigned count);
+static inline int lwkt_record_end_generation(lwkt_record *recorder, unsigned token, uint64_t generation);
+
+// Writes the trace to a sink, some bytes at a time. CUT where it ends before the last event; it has no closing values then.
+// STREAM where the sink didn't take it; it isn't called again then. CLOSED.
+static inline int lwkt_record_to_sink(lwkt_record *recorder, lwkt_record_sink sink, void *context);
+
+#ifndef LWKT_RECORD_FREESTANDING
+// Writes the trace to a stream, and flushes it. CUT, STREAM, CLOSED.
+static inline int lwkt_record_to_file(lwkt_record *recorder, FILE *file);
+#endif
+
+// Writes the trace into `room` bytes, without a 0 at its end, and says how many bytes it has. NO_ROOM where they are more than
+// `room`: then a front of them is there. CUT, CLOSED.
+static inline int lwkt_record_to_bytes(lwkt_record *recorder, char *bytes, size_t room, size_t *length);
+
+// Why the first event that left a gap couldn't be recorded, or 0.
+static inline int lwkt_record_lost(const lwkt_record *recorder);
+
+// An error in words.
+static inline const char *lwkt_record_words(int error);
+
+// ---------------------------------------------------------------------------------------------------------------------------
+// How it is done: the buffers
+
+// The count of all events gives each its stamp. It orders nothing else: the order of two stamps is that in which the recorded
+// program orders its own steps, where it does (docs/TRACES.md).
+static inline uint64_t lwkt_record_stamp(lwkt_record *recorder)
+{
+    return LWKT_RECORD_IN(atomic_fetch_add_explicit)(&recorder->next, 1, LWKT_RECORD_IN(memory_order_relaxed));
+}
+
+// An event that isn't recorded takes a stamp, which is then in no buffer.
+static inline int lwkt_record_lose(lwkt_record *recorder, int error)
+{
+    int none = 0;
+    (void)lwkt_record_stamp(recorder);
+    (void)LWKT_RECORD_IN(atomic_compare_exchange_strong_explicit)(&recorder->lost, &none, error,
+                                                                  LWKT_RECORD_IN(memory_order_relaxed),
+                                                                  LWKT_RECORD_IN(memory_order_relaxed));
+    return error;
+}
+
+static inline bool lwkt_record_is_open(const lwkt_record *recorder)
+{
+    return recorder != NULL && recorder->processors != 0;
+}
+
+// Makes a processor's buffer this call's own.
+static inline int lwkt_record_enter(lwkt_record *recorder, unsigned processor)
+{
+    if (processor >= recorder->processors)
+        return lwkt_record_lose(recorder, LWKT_RECORD_NO_PROCESSOR);
+    if (LWKT_RECORD_IN(atomic_exchange_explicit)(&recorder->seats[processor].busy, true,
+                                                 LWKT_RECORD_IN(memory_order_acquire)))
+        return lwkt_record_lose(recorder, LWKT_RECORD_BUSY);
+    return LWKT_RECORD_OK;
+}
+
+static inline int lwkt_record_leave(lwkt_record_seat *seat, int error)
+{
+    LWKT_RECORD_IN(atomic_store_explicit)(&seat->busy, false, LWKT_RECORD_IN(memory_order_release));
+    return error;
+}
+
+static inline size_t lwkt_record_used(const lwkt_record_seat *seat)
+{
+    return LWKT_RECORD_IN(atomic_load_explicit)(&seat->used, LWKT_RECORD_IN(memory_order_acquire));
+}
+
+// Stamps an event and appends it to a buffer that is this call's own.
+static inline int lwkt_record_append(lwkt_record *recorder, lwkt_record_seat *seat, lwkt_record_event event)
+{
+    size_t used = lwkt_record_used(seat);
+    if (used >= recorder->room)
+        return lwkt_record_lose(recorder, LWKT_RECORD_FULL);
+    event.stamp = lwkt_record_stamp(recorder);
+    seat->events[used] = event;
+    LWKT_RECORD_IN(atomic_store_explicit)(&seat->used, used + 1, LWKT_RECORD_IN(memory_order_release));
+    return LWKT_RECORD_OK;
+}
+
+static inline lwkt_record_event lwkt_record_made(int kind, unsigned place, unsigned part, uint64_t value)
+{
+    lwkt_record_event event = {0, value, (uint8_t)kind, (uint8_t)place, (uint8_t)part, 0};
+    return event;
+}
+
+// Records an event of a processor.
+static inline int lwkt_record_note(lwkt_record *recorder, unsigned processor, lwkt_record_event event)
+{
+    int error = lwkt_record_enter(recorder, processor);
+    lwkt_record_seat *seat;
+    if (error != LWKT_RECORD_OK)
+        return error;
+    seat = &recorder->seats[processor];
+    return lwkt_record_leave(seat, lwkt_record_append(recorder, seat, event));
+}
+
+// Records that a processor has a reference more.
+static inline int lwkt_record_note_more(lwkt_record *recorder, unsigned processor, int kind, unsigned token)
+{
+    lwkt_record_seat *seat;
+    int error;
+    if (!lwkt_record_is_open(recorder))
+        return LWKT_RECORD_CLOSED;
+    if (token >= recorder->tokens)
+        return LWKT_RECORD_NO_TOKEN;
+    error = lwkt_record_enter(recorder, processor);
+    if (error != LWKT_RECORD_OK)
+        return error;
+    seat = &recorder->seats[processor];
+    if (seat->references >= LWKT_RECORD_REFERENCES)
+        return lwkt_record_leave(seat, lwkt_record_lose(recorder, LWKT_RECORD_TOO_MANY));
+    error = lwkt_record_append(recorder, seat, lwkt_record_made(kind, token, 0, 0));
+    if (error == LWKT_RECORD_OK) {
+        seat->references += 1;
+        seat->held[token] = (uint8_t)(seat->held[token] + 1);
+    }
+    return lwkt_record_leave(seat, error);
+}
+
+// Records that a processor has a reference less, if it has one.
+static inline int lwkt_record_note_less(lwkt_record *recorder, unsigned processor, int kind, unsigned token)
+{
+    lwkt_record_seat *seat;
+    int error;
+    if (!lwkt_record_is_open(recorder))
+        return LWKT_RECORD_CLOSED;
+    if (token >= recorder->tokens)
+        return LWKT_RECORD_NO_TOKEN;
+    error = lwkt_record_enter(recorder, processor);
+    if (error != LWKT_RECORD_OK)
+        return error;
+    seat = &recorder->seats[processor];
+    error = lwkt_record_append(recorder, seat, lwkt_record_made(kind, token, 0, 0));
+    if (error == LWKT_RECORD_OK && seat->held[token] > 0) {
+        seat->references -= 1;
+        seat->held[token] = (uint8_t)(seat->held[token] - 1);
+    }
+    return lwkt_record_leave(seat, error);
+}
+
+// Records an event of a processor at a token that changes no reference.
+static inline int lwkt_record_note_token(lwkt_record *recorder, unsigned processor, int kind, unsigned token)
+{
+    if (!lwkt_record_is_open(recorder))
+        return LWKT_RECORD_CLOSED;
+    if (token >= recorder->tokens)
+        return LWKT_RECORD_NO_TOKEN;
+    return lwkt_record_note(recorder, processor, lwkt_record_made(kind, token, 0, 0));
+}
+
+static inline int lwkt_record_note_cell(lwkt_record *recorder, unsigned processor, int kind, unsigned token, unsigned cell,
+                                        uint64_t value)
+{
+    if (!lwkt_record_is_open(recorder))
+        return LWKT_RECORD_CLOSED;
+    if (token >= recorder->tokens)
+        return LWKT_RECORD_NO_TOKEN;
+    if (cell >= recorder->token[token].count)
+        return LWKT_RECORD_NO_CELL;
+    return lwkt_record_note(recorder, processor, lwkt_record_made(kind, token, cell, value));
+}
+
+static inline int lwkt_record_note_message(lwkt_record *recorder, unsigned processor, int kind, unsigned message)
+{
+    if (!lwkt_record_is_open(recorder))
+        return LWKT_RECORD_CLOSED;
+    if (message >= recorder->messages)
+        return LWKT_RECORD_NO_MESSAGE;
+    return lwkt_record_note(recorder, processor, lwkt_record_made(kind, message, 0, 0));
+}
+
+static inline uint64_t lwkt_record_last_round(const lwkt_record *recorder, unsigned message)
+{
+    return LWKT_RECORD_IN(atomic_load_explicit)(&recorder->message[message].last_round, LWKT_RECORD_IN(memory_order_relaxed));
+}
+
+static inline void lwkt_record_set_last_round(lwkt_record *recorder, unsigned message, uint64_t round)
+{
+    LWKT_RECORD_IN(atomic_store_explicit)(&recorder->message[message].last_round, round, LWKT_RECORD_IN(memory_order_relaxed));
+}
+
+// ---------------------------------------------------------------------------------------------------------------------------
+// The calls on events
+
+static inline int lwkt_record_take(lwkt_record *recorder, unsigned processor, unsigned token)
+{
+    return lwkt_record_note_more(recorder, processor, LWKT_RECORD_KIND_TAKE, token);
+}
+
+static inline int lwkt_record_share(lwkt_record *recorder, unsigned processor, unsigned token)
+{
+    return lwkt_record_note_more(recorder, processor, LWKT_RECORD_KIND_SHARE, token);
+}
+
+static inline int lwkt_record_again(lwkt_record *recorder, unsigned processor, unsigned token)
+{
+    return lwkt_record_note_more(recorder, processor, LWKT_RECORD_KIND_AGAIN, token);
+}
+
+static inline int lwkt_record_mark(lwkt_record *recorder, unsigned processor, unsigned token)
+{
+    return lwkt_record_note_token(recorder, processor, LWKT_RECORD_KIND_MARK, token);
+}
+
+static inline int lwkt_record_give(lwkt_record *recorder, unsigned processor, unsigned token)
+{
+    return lwkt_record_note_less(recorder, processor, LWKT_RECORD_KIND_GIVE, token);
+}
+
+static inline int lwkt_record_give_as(lwkt_record *recorder, unsigned processor, unsigned token, enum lwkt_record_give how)
+{
+    if (!lwkt_record_is_open(recorder))
+        return LWKT_RECORD_CLOSED;
+    if (how != LWKT_RECORD_ONE && how != LWKT_RECORD_CLEAN && how != LWKT_RECORD_WRITTEN)
+        return lwkt_record_lose(recorder, LWKT_RECORD_LIMIT);
+    return lwkt_record_note_less(recorder, processor, (int)how, token);
+}
+
+static inline int lwkt_record_read(lwkt_record *recorder, unsigned processor, unsigned token, unsigned cell, uint64_t value)
+{
+    return lwkt_record_note_cell(recorder, processor, LWKT_RECORD_KIND_READ, token, cell, value);
+}
+
+static inline int lwkt_record_write(lwkt_record *recorder, unsigned processor, unsigned token, unsigned cell, uint64_t value)
+{
+    return lwkt_record_note_cell(recorder, processor, LWKT_RECORD_KIND_WRITE, token, cell, value);
+}
+
+static inline int lwkt_record_load(lwkt_record *recorder, unsigned processor, unsigned token)
+{
+    return lwkt_record_note_token(recorder, processor, LWKT_RECORD_KIND_LOAD, token);
+}
+
+static inline unsigned lwkt_record_held(const lwkt_record *recorder, unsigned processor, unsigned token)
+{
+    if (!lwkt_record_is_open(recorder) || processor >= recorder->processors || token >= recorder->tokens)
+        return 0;
+    return recorder->seats[processor].held[token];
+}
+
+static inline int lwkt_record_send(lwkt_record *recorder, unsigned processor, unsigned message, unsigned target,
+                                   uint64_t round)
+{
+    if (!lwkt_record_is_open(recorder))
+        return LWKT_RECORD_CLOSED;
+    if (message >= recorder->messages)
+        return LWKT_RECORD_NO_MESSAGE;
+    if (target >= recorder->processors)
+        return lwkt_record_lose(recorder, LWKT_RECORD_NO_PROCESSOR);
+    if (round == 0)
+        round = lwkt_record_last_round(recorder, message) + 1;
+    lwkt_record_set_last_round(recorder, message, round);
+    return lwkt_record_note(recorder, processor, lwkt_record_made(LWKT_RECORD_KIND_SEND, message, target, round));
+}
+
+static inline int lwkt_record_take_message(lwkt_record *recorder, unsigned processor, unsigned message, uint64_t round)
+{
+    if (!lwkt_record_is_open(recorder))
+        return LWKT_RECORD_CLOSED;
+    if (message >= recorder->messages)
+        return LWKT_RECORD_NO_MESSAGE;
+    if (round == 0)
+        round = lwkt_record_last_round(recorder, message);
+    return lwkt_record_note(recorder, processor, lwkt_record_made(LWKT_RECORD_KIND_TAKE_MESSAGE, message, 0, round));
+}
+
+static inline int lwkt_record_drop(lwkt_record *recorder, unsigned processor, unsigned message)
+{
+    return lwkt_record_note_message(recorder, processor, LWKT_RECORD_KIND_DROP, message);
+}
+
+static inline int lwkt_record_reply(lwkt_record *recorder, unsigned processor, unsigned message)
+{
+    return lwkt_record_note_message(recorder, processor, LWKT_RECORD_KIND_REPLY, message);
+}
+
+static inline int lwkt_record_reap(lwkt_record *recorder, unsigned processor, unsigned message)
+{
+    return lwkt_record_note_message(recorder, processor, LWKT_RECORD_KIND_REAP, message);
+}
+
+static inline int lwkt_record_abort(lwkt_record *recorder, unsigned processor, unsigned message)
+{
+    return lwkt_record_note_message(recorder, processor, LWKT_RECORD_KIND_ABORT, message);
+}
+
+// ---------------------------------------------------------------------------------------------------------------------------
+// Opening and end
+
+static inline void lwkt_record_clear_token(lwkt_record_token_spec *token)
+{
+    token->param = 0;
+    token->generation = 0;
+    token->count = 0;
+    token->law = LWKT_RECORD_ANY;
+    token->has_end_cells = false;
+    token->has_end_generation = false;
+}
+
+static inline void lwkt_record_clear_seat(lwkt_record_seat *seat, lwkt_record_event *events)
+{
+    unsigned token;
+    seat->events = events;
+    seat->references = 0;
+    for (token = 0; token < LWKT_RECORD_TOKENS; token++)
+        seat->held[token] = 0;
+    LWKT_RECORD_IN(atomic_store_explicit)(&seat->used, 0, LWKT_RECORD_IN(memory_order_relaxed));
+    LWKT_RECORD_IN(atomic_store_explicit)(&seat->busy, false, LWKT_RECORD_IN(memory_order_relaxed));
+}
+
+static inline void lwkt_record_clear_messages(lwkt_record *recorder)
+{
+    unsigned message;
+    for (message = 0; message < LWKT_RECORD_MESSAGES; message++) {
+        recorder->message[message].processor = 0;
+        recorder->message[message].thread = 0;
+        recorder->message[message].round = 0;
+        lwkt_record_set_last_round(recorder, message, 0);
+    }
+}
+
+static inline bool lwkt_record_is_within(unsigned processors, unsigned tokens, unsigned messages, size_t room)
+{
+    return processors > 0 && processors <= LWKT_RECORD_PROCESSORS && tokens <= LWKT_RECORD_TOKENS &&
+           messages <= LWKT_RECORD_MESSAGES && room <= SIZE_MAX / sizeof(lwkt_record_event) / processors;
+}
+
+static inline int lwkt_record_open_in(lwkt_record *recorder, unsigned processors, unsigned tokens, unsigned messages,
+                                      lwkt_record_event *events, size_t room)
+{
+    unsigned each;
+    if (recorder == NULL)
+        return LWKT_RECORD_CLOSED;
+    if (!lwkt_record_is_within(processors, tokens, messages, room))
+        return LWKT_RECORD_LIMIT;
+    if (events == NULL && room > 0)
+        return LWKT_RECORD_MEMORY;
+    recorder->tokens = tokens;
+    recorder->messages = messages;
+    recorder->room = room;
+    recorder->owns_events = false;
+    recorder->has_ended = false;
+    LWKT_RECORD_IN(atomic_store_explicit)(&recorder->next, 0, LWKT_RECORD_IN(memory_order_relaxed));
+    LWKT_RECORD_IN(atomic_store_explicit)(&recorder->lost, 0, LWKT_RECORD_IN(memory_order_relaxed));
+    for (each = 0; each < LWKT_RECORD_TOKENS; each++)
+        lwkt_record_clear_token(&recorder->token[each]);
+    lwkt_record_clear_messages(recorder);
+    for (each = 0; each < processors; each++)
+        lwkt_record_clear_seat(&recorder->seats[each], room > 0 ? events + each * room : NULL);
+    recorder->processors = processors;
+    return LWKT_RECORD_OK;
+}
+
+#ifndef LWKT_RECORD_FREESTANDING
+static inline int lwkt_record_open(lwkt_record *recorder, unsigned processors, unsigned tokens, unsigned messages,
+                                   size_t room)
+{
+    lwkt_record_event *events;
+    int error;
+    if (recorder == NULL)
+        return LWKT_RECORD_CLOSED;
+    if (!lwkt_record_is_within(processors, tokens, messages, room))
+        return LWKT_RECORD_LIMIT;
+    events = (lwkt_record_event *)malloc(room == 0 ? 1 : processors * room * sizeof(lwkt_record_event));
+    if (events == NULL)
+        return LWKT_RECORD_MEMORY;
+    error = lwkt_record_open_in(recorder, processors, tokens, messages, events, room);
+    recorder->seats[0].events = events;
+    recorder->owns_events = true;
+    return error;
+}
+
+static inline void lwkt_record_close(lwkt_record *recorder)
+{
+    if (!lwkt_record_is_open(recorder))
+        return;
+    if (recorder->owns_events)
+        free(recorder->seats[0].events);
+    recorder->processors = 0;
+}
+#endif
+
+static inline bool lwkt_record_has_begun(const lwkt_record *recorder)
+{
+    return LWKT_RECORD_IN(atomic_load_explicit)(&recorder->next, LWKT_RECORD_IN(memory_order_relaxed)) != 0;
+}
+
+static inline int lwkt_record_token(lwkt_record *recorder, unsigned token, enum lwkt_record_law law, uint64_t param,
+                                    uint64_t generation, const uint64_t *cells, unsigned count)
+{
+    lwkt_record_token_spec *spec;
+    unsigned cell;
+    if (!lwkt_record_is_open(recorder))
+        return LWKT_RECORD_CLOSED;
+    if (lwkt_record_has_begun(recorder))
+        return LWKT_RECORD_LATE;
+    if (token >= recorder->tokens)
+        return LWKT_RECORD_NO_TOKEN;
+    if (count > LWKT_RECORD_CELLS || (count > 0 && cells == NULL) || generation > LWKT_RECORD_LAST_GENERATION ||
+        (unsigned)law > LWKT_RECORD_TALLY || (law == LWKT_RECORD_TALLY && count != 1))
+        return LWKT_RECORD_LIMIT;
+    spec = &recorder->token[token];
+    spec->law = (unsigned)law;
+    spec->param = param;
+    spec->generation = generation;
+    spec->count = count;
+    for (cell = 0; cell < count; cell++)
+        spec->cells[cell] = cells[cell];
+    return LWKT_RECORD_OK;
+}
+
+static inline int lwkt_record_message(lwkt_record *recorder, unsigned message, unsigned processor, unsigned thread,
+                                      uint64_t round)
+{
+    if (!lwkt_record_is_open(recorder))
+        return LWKT_RECORD_CLOSED;
+    if (lwkt_record_has_begun(recorder))
+        return LWKT_RECORD_LATE;
+    if (message >= recorder->messages)
+        return LWKT_RECORD_NO_MESSAGE;
+    if (processor >= recorder->processors || thread > 15 || round > LWKT_RECORD_LAST_ROUND)
+        return LWKT_RECORD_LIMIT;
+    recorder->message[message].processor = processor;
+    recorder->message[message].thread = thread;
+    recorder->message[message].round = round;
+    lwkt_record_set_last_round(recorder, message, round);
+    return LWKT_RECORD_OK;
+}
+
+static inline int lwkt_record_end(lwkt_record *recorder)
+{
+    if (!lwkt_record_is_open(recorder))
+        return LWKT_RECORD_CLOSED;
+    recorder->has_ended = true;
+    return LWKT_RECORD_OK;
+}
+
+static inline int lwkt_record_end_cells(lwkt_record *recorder, unsigned token, const uint64_t *cells, unsigned count)
+{
+    lwkt_record_token_spec *spec;
+    unsigned cell;
+    if (!lwkt_record_is_open(recorder))
+        return LWKT_RECORD_CLOSED;
+    if (token >= recorder->tokens)
+        return LWKT_RECORD_NO_TOKEN;
+    spec = &recorder->token[token];
+    if (count != spec->count || (count > 0 && cells == NULL))
+        return LWKT_RECORD_NO_CELL;
+    for (cell = 0; cell < count; cell++)
+        spec->end_cells[cell] = cells[cell];
+    spec->has_end_cells = true;
+    return lwkt_record_end(recorder);
+}
+
+static inline int lwkt_record_end_generation(lwkt_record *recorder, unsigned token, uint64_t generation)
+{
+    if (!lwkt_record_is_open(recorder))
+        return LWKT_RECORD_CLOSED;
+    if (token >= recorder->tokens)
+        return LWKT_RECORD_NO_TOKEN;
+    if (generation > LWKT_RECORD_LAST_GENERATION)
+        return LWKT_RECORD_LIMIT;
+    recorder->token[token].end_generation = generation;
+    recorder->token[token].has_end_generation = true;
+    return lwkt_record_end(recorder);
+}
+
+// ---------------------------------------------------------------------------------------------------------------------------
+// What the events lead to
+
+enum lwkt_record_state { LWKT_RECORD_AT_REST, LWKT_RECORD_OUT, LWKT_RECORD_WITH, LWKT_RECORD_BACK };
+
+static inline void lwkt_record_copy_row(uint64_t *to, const uint64_t *from)
+{
+    unsigned cell;
+    for (cell = 0; cell < LWKT_RECORD_CELLS; cell++)
+        to[cell] = from[cell];
+}
+
+static inline void lwkt_record_begin_token(lwkt_record *recorder, unsigned token)
+{
+    lwkt_record_model *model = &recorder->model;
+    unsigned processor;
+    lwkt_record_copy_row(model->row[token], recorder->token[token].cells);
+    lwkt_record_copy_row(model->first[token], recorder->token[token].cells);
+    model->generation[token] = recorder->token[token].generation;
+    for (processor = 0; processor < LWKT_RECORD_PROCESSORS; processor++) {
+        model->tally[token][processor] = 0;
+        model->references[processor][token] = 0;
+        model->is_exclusive[processor][token] = false;
+    }
+}
+
+static inline void lwkt_record_begin(lwkt_record *recorder)
+{
+    lwkt_record_model *model = &recorder->model;
+    unsigned each;
+    for (each = 0; each < recorder->tokens; each++)
+        lwkt_record_begin_token(recorder, each);
+    for (each = 0; each < recorder->messages; each++) {
+        model->round[each] = recorder->message[each].round;
+        model->state[each] = LWKT_RECORD_AT_REST;
+        model->target[each] = 0;
+    }
+    for (each = 0; each < LWKT_RECORD_PROCESSORS; each++)
+        model->heads[each] = 0;
+}
+
+static inline bool lwkt_record_is_written(const lwkt_record *recorder, unsigned token)
+{
+    unsigned cell;
+    for (cell = 0; cell < recorder->token[token].count; cell++)
+        if (recorder->model.row[token][cell] != recorder->model.first[token][cell])
+            return true;
+    return false;
+}
+
+// Which of the three a give is that wasn't told.
+static inline int lwkt_record_found(const lwkt_record *recorder, unsigned processor, unsigned token)
+{
+    const lwkt_record_model *model = &recorder->model;
+    if (!model->is_exclusive[processor][token] || model->references[processor][token] != 1)
+        return LWKT_RECORD_KIND_GIVE_ONE;
+    return lwkt_record_is_written(recorder, token) ? LWKT_RECORD_KIND_GIVE_WRITTEN : LWKT_RECORD_KIND_GIVE_CLEAN;
+}
+
+static inline void lwkt_record_follow_more(lwkt_record_model *model, unsigned processor, int kind, unsigned token)
+{
+    uint8_t *references = &model->references[processor][token];
+    *references = (uint8_t)(*references + 1);
+    if (kind == LWKT_RECORD_KIND_TAKE) {
+        model->is_exclusive[processor][token] = true;
+        lwkt_record_copy_row(model->first[token], model->row[token]);
+    }
+}
+
+static inline void lwkt_record_follow_less(lwkt_record_model *model, unsigned processor, int kind, unsigned token)
+{
+    uint8_t *references = &model->references[processor][token];
+    if (*references > 0)
+        *references = (uint8_t)(*references - 1);
+    if (*references == 0)
+        model->is_exclusive[processor][token] = false;
+    if (kind == LWKT_RECORD_KIND_GIVE_WRITTEN)
+        model->generation[token] += 1;
+}
+
+static inline void lwkt_record_follow_write(lwkt_record_model *model, unsigned processor, const lwkt_record_event *event)
+{
+    uint64_t *cell = &model->row[event->place][event->part];
+    model->tally[event->place][processor] += event->value - *cell;
+    *cell = event->value;
+}
+
+static inline void lwkt_record_follow_message(lwkt_record_model *model, int kind, const lwkt_record_event *event)
+{
+    unsigned message = event->place;
+    if (kind == LWKT_RECORD_KIND_SEND) {
+        model->state[message] = LWKT_RECORD_OUT;
+        model->target[message] = event->part;
+        model->round[message] = event->value;
+    } else if (kind == LWKT_RECORD_KIND_TAKE_MESSAGE) {
+        model->state[message] = LWKT_RECORD_WITH;
+    } else if (kind == LWKT_RECORD_KIND_REPLY) {
+        model->state[message] = LWKT_RECORD_BACK;
+    } else if (kind == LWKT_RECORD_KIND_DROP || kind == LWKT_RECORD_KIND_REAP) {
+        model->state[message] = LWKT_RECORD_AT_REST;
+    }
+}
+
+// What is so after an event, if it can happen; of others nothing matters, since the trace is judged no further than there.
+static inline void lwkt_record_follow(lwkt_record_model *model, unsigned processor, int kind, const lwkt_record_event *event)
+{
+    switch (kind) {
+    case LWKT_RECORD_KIND_TAKE:
+    case LWKT_RECORD_KIND_SHARE:
+    case LWKT_RECORD_KIND_AGAIN:
+        lwkt_record_follow_more(model, processor, kind, event->place);
+        break;
+    case LWKT_RECORD_KIND_GIVE_ONE:
+    case LWKT_RECORD_KIND_GIVE_CLEAN:
+    case LWKT_RECORD_KIND_GIVE_WRITTEN:
+        lwkt_record_follow_less(model, processor, kind, event->place);
+        break;
+    case LWKT_RECORD_KIND_WRITE:
+        lwkt_record_follow_write(model, processor, event);
+        break;
+    case LWKT_RECORD_KIND_LOAD:
+    case LWKT_RECORD_KIND_MARK:
+    case LWKT_RECORD_KIND_READ:
+        break;
+    default:
+        lwkt_record_follow_message(model, kind, event);
+    }
+}
+
+// ---------------------------------------------------------------------------------------------------------------------------
+// The text
+
+// What is being written.
+typedef struct lwkt_record_page {
+    lwkt_record_sink sink;
+    void *context;
+    uint64_t length;
+    size_t count;
+    bool has_failed;
+    char bytes[512];
+} lwkt_record_page;
+
+static inline void lwkt_record_flush(lwkt_record_page *page)
+{
+    if (!page->has_failed && page->count > 0)
+        page->has_failed = page->sink(page->context, page->bytes, page->count) != 0;
+    page->count = 0;
+}
+
+static inline void lwkt_record_put(lwkt_record_page *page, const char *text)
+{
+    for (; *text != '\0'; text++) {
+        if (page->count == sizeof page->bytes)
+            lwkt_record_flush(page);
+        page->bytes[page->count++] = *text;
+        page->length += 1;
+    }
+}
+
+static inline void lwkt_record_put_number(lwkt_record_page *page, const char *before, uint64_t number)
+{
+    char digits[21];
+    size_t place = sizeof digits - 1;
+    digits[place] = '\0';
+    do {
+        digits[--place] = (char)('0' + number % 10);
+        number /= 10;
+    } while (number > 0);
+    lwkt_record_put(page, before);
+    lwkt_record_put(page, &digits[place]);
+}
+
+static inline void lwkt_record_put_row(lwkt_record_page *page, const char *before, const uint64_t *numbers, unsigned count)
+{
+    unsigned each;
+    lwkt_record_put(page, before);
+    lwkt_record_put(page, "[");
+    for (each = 0; each < count; each++)
+        lwkt_record_put_number(page, each == 0 ? "" : ",", numbers[each]);
+    lwkt_record_put(page, "]");
+}
+
+static inline const char *lwkt_record_law_word(unsigned law)
+{
+    static const char *const words[] = {"any", "sum", "order", "cap", "tally"};
+    return words[law];
+}
+
+static inline const char *lwkt_record_word(int kind)
+{
+    static const char *const words[] = {"give_one", "give_clean", "give_written", "give", "load", "take",
+                                        "share",    "again",      "mark",         "read", "write", "send",
+                                        "take_msg", "drop",       "reply",        "reap", "abort"};
+    return words[kind];
+}
+
+// Between two parts of a list.
+static inline const char *lwkt_record_comma(unsigned each)
+{
+    return each == 0 ? "" : ",";
+}
+
+static inline void lwkt_record_put_tokens(const lwkt_record *recorder, lwkt_record_page *page)
+{
+    unsigned each;
+    for (each = 0; each < recorder->tokens; each++) {
+        const lwkt_record_token_spec *token = &recorder->token[each];
+        lwkt_record_put(page, each == 0 ? "" : ",\n  ");
+        lwkt_record_put_row(page, "{\"cells\":", token->cells, token->count);
+        lwkt_record_put(page, ",\"law\":\"");
+        lwkt_record_put(page, lwkt_record_law_word(token->law));
+        lwkt_record_put_number(page, "\",\"param\":", token->param);
+        lwkt_record_put_number(page, ",\"gen\":", token->generation);
+        lwkt_record_put(page, "}");
+    }
+}
+
+static inline void lwkt_record_put_messages(const lwkt_record *recorder, lwkt_record_page *page)
+{
+    unsigned each;
+    for (each = 0; each < recorder->messages; each++) {
+        const lwkt_record_message_spec *message = &recorder->message[each];
+        lwkt_record_put(page, each == 0 ? "" : ",\n  ");
+        lwkt_record_put_number(page, "{\"of\":[", message->processor);
+        lwkt_record_put_number(page, ",", message->thread);
+        lwkt_record_put_number(page, "],\"round\":", message->round);
+        lwkt_record_put(page, "}");
+    }
+}
+
+static inline void lwkt_record_put_opening(const lwkt_record *recorder, lwkt_record_page *page)
+{
+    lwkt_record_put_number(page, "{\"version\":1,\"cpus\":", recorder->processors);
+    lwkt_record_put(page, ",\n \"tokens\":[");
+    lwkt_record_put_tokens(recorder, page);
+    lwkt_record_put(page, "],\n \"messages\":[");
+    lwkt_record_put_messages(recorder, page);
+    lwkt_record_put(page, "],\n \"events\":[");
+}
+
+static inline void lwkt_record_put_event(lwkt_record_page *page, unsigned processor, int kind, const lwkt_record_event *event)
+{
+    bool has_part = kind == LWKT_RECORD_KIND_READ || kind == LWKT_RECORD_KIND_WRITE || kind == LWKT_RECORD_KIND_SEND;
+    lwkt_record_put(page, "[\"");
+    lwkt_record_put(page, lwkt_record_word(kind));
+    lwkt_record_put_number(page, "\",", processor);
+    lwkt_record_put_number(page, ",", event->place);
+    if (has_part)
+        lwkt_record_put_number(page, ",", event->part);
+    if (has_part || kind == LWKT_RECORD_KIND_TAKE_MESSAGE)
+        lwkt_record_put_number(page, ",", event->value);
+    lwkt_record_put(page, "]");
+}
+
+// The processor whose next event has this stamp, or the number of processors.
+static inline unsigned lwkt_record_whose(const lwkt_record *recorder, uint64_t stamp)
+{
+    unsigned processor;
+    for (processor = 0; processor < recorder->processors; processor++) {
+        size_t head = recorder->model.heads[processor];
+        if (head < lwkt_record_used(&recorder->seats[processor]) && recorder->seats[processor].events[head].stamp == stamp)
+            break;
+    }
+    return processor;
+}
+
+// Writes the event of this stamp, if it is there.
+static inline bool lwkt_record_put_stamp(lwkt_record *recorder, lwkt_record_page *page, uint64_t stamp)
+{
+    unsigned processor = lwkt_record_whose(recorder, stamp);
+    const lwkt_record_event *event;
+    int kind;
+    if (processor == recorder->processors)
+        return false;
+    event = &recorder->seats[processor].events[recorder->model.heads[processor]];
+    kind = event->kind;
+    if (kind == LWKT_RECORD_KIND_GIVE)
+        kind = lwkt_record_found(recorder, processor, event->place);
+    lwkt_record_put(page, stamp == 0 ? "\n" : ",\n");
+    lwkt_record_put_event(page, processor, kind, event);
+    lwkt_record_follow(&recorder->model, processor, kind, event);
+    recorder->model.heads[processor] += 1;
+    return true;
+}
+
+// Writes the events by rising stamps, up to the first that isn't there, and while there is room for one and for the closing
+// values, which have fewer than 32000 bytes. Whether these are all.
+static inline bool lwkt_record_put_events(lwkt_record *recorder, lwkt_record_page *page)
+{
+    uint64_t count = LWKT_RECORD_IN(atomic_load_explicit)(&recorder->next, LWKT_RECORD_IN(memory_order_relaxed));
+    uint64_t stamp;
+    for (stamp = 0; stamp < count; stamp++)
+        if (page->length + 32000 + 64 > LWKT_RECORD_BYTES_MOST || !lwkt_record_put_stamp(recorder, page, stamp))
+            return false;
+    return true;
+}
+
+static inline void lwkt_record_put_end_rows(const lwkt_record *recorder, lwkt_record_page *page)
+{
+    unsigned each;
+    for (each = 0; each < recorder->tokens; each++) {
+        const lwkt_record_token_spec *token = &recorder->token[each];
+        lwkt_record_put_row(page, lwkt_record_comma(each), token->has_end_cells ? token->end_cells : recorder->model.row[each],
+                            token->count);
+    }
+}
+
+static inline void lwkt_record_put_end_generations(const lwkt_record *recorder, lwkt_record_page *page)
+{
+    unsigned each;
+    for (each = 0; each < recorder->tokens; each++) {
+        const lwkt_record_token_spec *token = &recorder->token[each];
+        lwkt_record_put_number(page, lwkt_record_comma(each),
+                               token->has_end_generation ? token->end_generation : recorder->model.generation[each]);
+    }
+}
+
+static inline void lwkt_record_put_end_tallies(const lwkt_record *recorder, lwkt_record_page *page)
+{
+    unsigned each;
+    for (each = 0; each < recorder->tokens; each++)
+        lwkt_record_put_row(page, lwkt_record_comma(each), recorder->model.tally[each],
+                            recorder->token[each].law == LWKT_RECORD_TALLY ? recorder->processors : 0);
+}
+
+static inline void lwkt_record_put_end_messages(const lwkt_record *recorder, lwkt_record_page *page)
+{
+    static const char *const words[] = {"[\"rest\",", "[\"out\",", "[\"with\",", "[\"back\","};
+    unsigned each;
+    for (each = 0; each < recorder->messages; each++) {
+        unsigned state = recorder->model.state[each];
+        lwkt_record_put(page, lwkt_record_comma(each));
+        lwkt_record_put_number(page, words[state], recorder->message[each].processor);
+        if (state != LWKT_RECORD_AT_REST)
+            lwkt_record_put_number(page, ",", recorder->model.target[each]);
+        lwkt_record_put_number(page, ",", recorder->model.round[each]);
+        lwkt_record_put(page, "]");
+    }
+}
+
+static inline void lwkt_record_put_end(const lwkt_record *recorder, lwkt_record_page *page, bool has_values)
+{
+    lwkt_record_put(page, "],\n \"last\":");
+    if (!has_values) {
+        lwkt_record_put(page, "null}\n");
+        return;
+    }
+    lwkt_record_put(page, "{\"rows\":[");
+    lwkt_record_put_end_rows(recorder, page);
+    lwkt_record_put(page, "],\"gens\":[");
+    lwkt_record_put_end_generations(recorder, page);
+    lwkt_record_put(page, "],\"tallies\":[");
+    lwkt_record_put_end_tallies(recorder, page);
+    lwkt_record_put(page, "],\"messages\":[");
+    lwkt_record_put_end_messages(recorder, page);
+    lwkt_record_put(page, "]}}\n");
+}
+
+static inline int lwkt_record_to_sink(lwkt_record *recorder, lwkt_record_sink sink, void *context)
+{
+    lwkt_record_page page;
+    bool is_whole;
+    if (!lwkt_record_is_open(recorder) || sink == NULL)
+        return LWKT_RECORD_CLOSED;
+    page.sink = sink;
+    page.context = context;
+    page.length = 0;
+    page.count = 0;
+    page.has_failed = false;
+    lwkt_record_begin(recorder);
+    lwkt_record_put_opening(recorder, &page);
+    is_whole = lwkt_record_put_events(recorder, &page);
+    lwkt_record_put_end(recorder, &page, recorder->has_ended && is_whole);
+    lwkt_record_flush(&page);
+    if (page.has_failed)
+        return LWKT_RECORD_STREAM;
+    return is_whole ? LWKT_RECORD_OK : LWKT_RECORD_CUT;
+}
+
+#ifndef LWKT_RECORD_FREESTANDING
+static inline int lwkt_record_into_file(void *context, const char *bytes, size_t count)
+{
+    return fwrite(bytes, 1, count, (FILE *)context) == count ? 0 : 1;
+}
+
+static inline int lwkt_record_to_file(lwkt_record *recorder, FILE *file)
+{
+    int error = file == NULL ? LWKT_RECORD_STREAM : lwkt_record_to_sink(recorder, lwkt_record_into_file, file);
+    if ((error == LWKT_RECORD_OK || error == LWKT_RECORD_CUT) && fflush(file) != 0)
+        return LWKT_RECORD_STREAM;
+    return error;
+}
+#endif
+
+// The bytes of a caller's, and how many the trace has so far.
+typedef struct lwkt_record_bytes {
+    char *bytes;
+    size_t room;
+    size_t length;
+} lwkt_record_bytes;
+
+static inline int lwkt_record_into_bytes(void *context, const char *bytes, size_t count)
+{
+    lwkt_record_bytes *into = (lwkt_record_bytes *)context;
+    size_t each;
+    for (each = 0; each < count && into->length + each < into->room; each++)
+        into->bytes[into->length + each] = bytes[each];
+    into->length += count;
+    return 0;
+}
+
+static inline int lwkt_record_to_bytes(lwkt_record *recorder, char *bytes, size_t room, size_t *length)
+{
+    lwkt_record_bytes into = {bytes, bytes == NULL ? 0 : room, 0};
+    int error = lwkt_record_to_sink(recorder, lwkt_record_into_bytes, &into);
+    if (length != NULL)
+        *length = into.length;
+    return into.length > into.room ? LWKT_RECORD_NO_ROOM : error;
+}
+
+static inline int lwkt_record_lost(const lwkt_record *recorder)
+{
+    if (!lwkt_record_is_open(recorder))
+        return LWKT_RECORD_CLOSED;
+    return LWKT_RECORD_IN(atomic_load_explicit)(&recorder->lost, LWKT_RECORD_IN(memory_order_relaxed));
+}
+
+static inline const char *lwkt_record_words(int error)
+{
+    static const char *const words[] = {"no error",
+                                        "the recorder isn't open",
+                                        "a limit of traces is passed",
+                                        "out of memory",
+                                        "tokens and messages are declared before the first event",
+                                        "no such processor",
+                                        "no such token",
+                                        "no such cell",
+                                        "no such message",
+                                        "the processor's buffer is full",
+                                        "the processor has 32 references",
+                                        "another call for the processor is under way",
+                                        "the trace ends before the last event",
+                                        "the trace could not be written",
+                                        "the trace has more bytes than there is room for"};
+    return error >= LWKT_RECORD_OK && error <= LWKT_RECORD_NO_ROOM ? words[error] : "no such error";
+}
+
+#endif
