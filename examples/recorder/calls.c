@@ -1,0 +1,567 @@
+// Tries the calls of lwkt_record.h, with each error that they can answer. `./calls` prints the names of its scenes;
+// `./calls NAME` plays one and writes its trace, `./calls all` plays all of them. It ends with 1, and a line on standard error,
+// where a call answered something else than it has to. calls.out has what `lwkt_check` says of each trace.
+#define LWKT_RECORD_BYTES_MOST UINT64_C(60000)
+#include "lwkt_record.h"
+#include <pthread.h>
+#include <stdatomic.h>
+#include <string.h>
+
+static lwkt_record recorder;
+static const char *scene_name;
+static _Atomic(bool) has_failed;
+
+static void want_at(int line, int error, int wanted)
+{
+    if (error == wanted)
+        return;
+    has_failed = true;
+    fprintf(stderr, "calls.c:%d: %s: %d (%s), wanted %d (%s)\n", line, scene_name, error, lwkt_record_words(error), wanted,
+            lwkt_record_words(wanted));
+}
+#define WANT(WANTED, CALL) want_at(__LINE__, CALL, LWKT_RECORD_##WANTED)
+
+static void open_scene(unsigned processors, unsigned tokens, unsigned messages, size_t room)
+{
+    WANT(OK, lwkt_record_open(&recorder, processors, tokens, messages, room));
+}
+
+// A token with cells of which law asks something.
+static void open_sum(void)
+{
+    static const uint64_t cells[2] = {60, 40};
+    open_scene(2, 1, 0, 100);
+    WANT(OK, lwkt_record_token(&recorder, 0, LWKT_RECORD_SUM, 100, 5, cells, 2));
+}
+
+static void nothing_happens(void)
+{
+    open_scene(1, 0, 0, 0);
+    WANT(OK, lwkt_record_end(&recorder));
+    WANT(OK, lwkt_record_to_file(&recorder, stdout));
+}
+
+// Sections of each kind, nested, with a row of the caller's as its end.
+static void sections(void)
+{
+    static const uint64_t cells[2] = {50, 50};
+    open_sum();
+    WANT(OK, lwkt_record_take(&recorder, 0, 0));
+    WANT(OK, lwkt_record_again(&recorder, 0, 0));
+    want_at(__LINE__, (int)lwkt_record_held(&recorder, 0, 0), 2);
+    WANT(OK, lwkt_record_mark(&recorder, 1, 0));
+    WANT(OK, lwkt_record_load(&recorder, 1, 0));
+    WANT(OK, lwkt_record_read(&recorder, 0, 0, 0, 60));
+    WANT(OK, lwkt_record_write(&recorder, 0, 0, 0, 50));
+    WANT(OK, lwkt_record_give(&recorder, 0, 0));
+    WANT(OK, lwkt_record_write(&recorder, 0, 0, 1, 50));
+    WANT(OK, lwkt_record_give(&recorder, 0, 0));
+    WANT(OK, lwkt_record_share(&recorder, 0, 0));
+    WANT(OK, lwkt_record_share(&recorder, 1, 0));
+    WANT(OK, lwkt_record_read(&recorder, 1, 0, 1, 50));
+    WANT(OK, lwkt_record_give(&recorder, 0, 0));
+    WANT(OK, lwkt_record_give_as(&recorder, 1, 0, LWKT_RECORD_ONE));
+    WANT(OK, lwkt_record_take(&recorder, 1, 0));
+    WANT(OK, lwkt_record_write(&recorder, 1, 0, 0, 1));
+    WANT(OK, lwkt_record_write(&recorder, 1, 0, 0, 50));
+    WANT(OK, lwkt_record_give(&recorder, 1, 0));
+    WANT(OK, lwkt_record_end_cells(&recorder, 0, cells, 2));
+    WANT(OK, lwkt_record_end_generation(&recorder, 0, 6));
+    WANT(OK, lwkt_record_to_file(&recorder, stdout));
+}
+
+// A second writing is the same as the first; a section that the caller calls written is not clean.
+static void told_give(void)
+{
+    char first[1000], second[1000];
+    size_t first_length, second_length;
+    open_sum();
+    WANT(OK, lwkt_record_take(&recorder, 0, 0));
+    WANT(OK, lwkt_record_give_as(&recorder, 0, 0, LWKT_RECORD_CLEAN));
+    WANT(OK, lwkt_record_take(&recorder, 1, 0));
+    WANT(OK, lwkt_record_give_as(&recorder, 1, 0, LWKT_RECORD_WRITTEN));
+    WANT(OK, lwkt_record_to_bytes(&recorder, first, sizeof first, &first_length));
+    WANT(OK, lwkt_record_to_bytes(&recorder, second, sizeof second, &second_length));
+    want_at(__LINE__, first_length == second_length && memcmp(first, second, first_length) == 0, 1);
+    WANT(OK, lwkt_record_to_file(&recorder, stdout));
+}
+
+static void tallies(void)
+{
+    static const uint64_t begin[1] = {10}, end[1] = {17};
+    open_scene(3, 1, 0, 100);
+    WANT(OK, lwkt_record_token(&recorder, 0, LWKT_RECORD_TALLY, 10, 0, begin, 1));
+    WANT(OK, lwkt_record_take(&recorder, 2, 0));
+    WANT(OK, lwkt_record_write(&recorder, 2, 0, 0, 15));
+    WANT(OK, lwkt_record_give(&recorder, 2, 0));
+    WANT(OK, lwkt_record_take(&recorder, 0, 0));
+    WANT(OK, lwkt_record_write(&recorder, 0, 0, 0, 17));
+    WANT(OK, lwkt_record_give(&recorder, 0, 0));
+    WANT(OK, lwkt_record_end_cells(&recorder, 0, end, 1));
+    WANT(OK, lwkt_record_to_file(&recorder, stdout));
+}
+
+static void law(enum lwkt_record_law law, uint64_t param, uint64_t second)
+{
+    static const uint64_t cells[3] = {1, 2, 3};
+    open_scene(1, 1, 0, 100);
+    WANT(OK, lwkt_record_token(&recorder, 0, law, param, 0, cells, 3));
+    WANT(OK, lwkt_record_take(&recorder, 0, 0));
+    WANT(OK, lwkt_record_write(&recorder, 0, 0, 1, second));
+    WANT(OK, lwkt_record_give(&recorder, 0, 0));
+    WANT(OK, lwkt_record_to_file(&recorder, stdout));
+}
+
+static void law_order(void)
+{
+    law(LWKT_RECORD_ORDER, 0, 4);
+}
+
+static void law_cap(void)
+{
+    law(LWKT_RECORD_CAP, 9, 10);
+}
+
+static void law_any(void)
+{
+    law(LWKT_RECORD_ANY, 0, UINT64_MAX);
+}
+
+static void opening_law(void)
+{
+    law(LWKT_RECORD_SUM, 7, 2);
+}
+
+static void give_without_take(void)
+{
+    open_sum();
+    WANT(OK, lwkt_record_give(&recorder, 1, 0));
+    want_at(__LINE__, (int)lwkt_record_held(&recorder, 1, 0), 0);
+    WANT(OK, lwkt_record_to_file(&recorder, stdout));
+}
+
+static void give_twice(void)
+{
+    open_sum();
+    WANT(OK, lwkt_record_take(&recorder, 0, 0));
+    WANT(OK, lwkt_record_give(&recorder, 0, 0));
+    WANT(OK, lwkt_record_give(&recorder, 0, 0));
+    WANT(OK, lwkt_record_to_file(&recorder, stdout));
+}
+
+static void write_when_shared(void)
+{
+    open_sum();
+    WANT(OK, lwkt_record_share(&recorder, 0, 0));
+    WANT(OK, lwkt_record_write(&recorder, 0, 0, 0, 61));
+    WANT(OK, lwkt_record_to_file(&recorder, stdout));
+}
+
+// A value that nobody wrote is in memory at the end.
+static void other_end(void)
+{
+    static const uint64_t cells[2] = {60, 41};
+    open_sum();
+    WANT(OK, lwkt_record_share(&recorder, 0, 0));
+    WANT(OK, lwkt_record_give(&recorder, 0, 0));
+    WANT(OK, lwkt_record_end_cells(&recorder, 0, cells, 2));
+    WANT(OK, lwkt_record_to_file(&recorder, stdout));
+}
+
+static void other_generation(void)
+{
+    open_sum();
+    WANT(OK, lwkt_record_end_generation(&recorder, 0, 6));
+    WANT(OK, lwkt_record_to_file(&recorder, stdout));
+}
+
+static void held_at_the_end(void)
+{
+    open_sum();
+    WANT(OK, lwkt_record_share(&recorder, 1, 0));
+    WANT(OK, lwkt_record_end(&recorder));
+    WANT(OK, lwkt_record_to_file(&recorder, stdout));
+}
+
+// Messages: there and back, dropped and sent again, aborted, on their way at the end.
+static void messages(void)
+{
+    open_scene(3, 0, 4, 100);
+    WANT(OK, lwkt_record_message(&recorder, 0, 0, 15, 0));
+    WANT(OK, lwkt_record_message(&recorder, 1, 1, 0, 7));
+    WANT(OK, lwkt_record_send(&recorder, 0, 0, 1, 0));
+    WANT(OK, lwkt_record_take_message(&recorder, 1, 0, 0));
+    WANT(OK, lwkt_record_reply(&recorder, 1, 0));
+    WANT(OK, lwkt_record_reap(&recorder, 0, 0));
+    WANT(OK, lwkt_record_send(&recorder, 1, 1, 2, 8));
+    WANT(OK, lwkt_record_drop(&recorder, 1, 1));
+    WANT(OK, lwkt_record_send(&recorder, 1, 1, 2, 0));
+    WANT(OK, lwkt_record_take_message(&recorder, 2, 1, 9));
+    WANT(OK, lwkt_record_abort(&recorder, 1, 1));
+    WANT(OK, lwkt_record_send(&recorder, 0, 2, 2, 1));
+    WANT(OK, lwkt_record_send(&recorder, 0, 3, 1, 1));
+    WANT(OK, lwkt_record_take_message(&recorder, 1, 3, 1));
+    WANT(OK, lwkt_record_reply(&recorder, 1, 3));
+    WANT(OK, lwkt_record_end(&recorder));
+    WANT(OK, lwkt_record_to_file(&recorder, stdout));
+}
+
+static void reply_twice(void)
+{
+    open_scene(2, 0, 1, 100);
+    WANT(OK, lwkt_record_send(&recorder, 0, 0, 1, 0));
+    WANT(OK, lwkt_record_take_message(&recorder, 1, 0, 0));
+    WANT(OK, lwkt_record_reply(&recorder, 1, 0));
+    WANT(OK, lwkt_record_reply(&recorder, 1, 0));
+    WANT(OK, lwkt_record_to_file(&recorder, stdout));
+}
+
+// A message that was dropped and sent again is taken as it was the first time.
+static void stale_take(void)
+{
+    open_scene(2, 0, 1, 100);
+    WANT(OK, lwkt_record_send(&recorder, 0, 0, 1, 1));
+    WANT(OK, lwkt_record_drop(&recorder, 0, 0));
+    WANT(OK, lwkt_record_send(&recorder, 0, 0, 1, 2));
+    WANT(OK, lwkt_record_take_message(&recorder, 1, 0, 1));
+    WANT(OK, lwkt_record_to_file(&recorder, stdout));
+}
+
+// The trace ends before the first event of a processor whose buffer is full, whatever the others still record.
+static void full(void)
+{
+    open_scene(2, 1, 0, 3);
+    WANT(OK, lwkt_record_take(&recorder, 0, 0));
+    WANT(OK, lwkt_record_give(&recorder, 0, 0));
+    WANT(OK, lwkt_record_take(&recorder, 0, 0));
+    want_at(__LINE__, lwkt_record_lost(&recorder), 0);
+    WANT(FULL, lwkt_record_give(&recorder, 0, 0));
+    WANT(OK, lwkt_record_take(&recorder, 1, 0));
+    WANT(FULL, lwkt_record_take(&recorder, 0, 0));
+    WANT(FULL, lwkt_record_lost(&recorder));
+    WANT(OK, lwkt_record_end(&recorder));
+    WANT(CUT, lwkt_record_to_file(&recorder, stdout));
+}
+
+static void no_room(void)
+{
+    open_scene(1, 1, 0, 0);
+    WANT(FULL, lwkt_record_take(&recorder, 0, 0));
+    WANT(CUT, lwkt_record_to_file(&recorder, stdout));
+}
+
+static void references(void)
+{
+    unsigned each;
+    open_scene(1, 2, 0, 100);
+    WANT(OK, lwkt_record_share(&recorder, 0, 0));
+    WANT(OK, lwkt_record_take(&recorder, 0, 1));
+    for (each = 2; each < 32; each++)
+        WANT(OK, lwkt_record_again(&recorder, 0, each % 2));
+    WANT(TOO_MANY, lwkt_record_again(&recorder, 0, 0));
+    for (each = 0; each < 32; each++)
+        WANT(OK, lwkt_record_give(&recorder, 0, each % 2));
+    WANT(CUT, lwkt_record_to_file(&recorder, stdout));
+}
+
+// What is at another token, cell or message than those of the recorder doesn't touch what is recorded.
+static void unknown_things(void)
+{
+    open_sum();
+    WANT(OK, lwkt_record_take(&recorder, 0, 0));
+    WANT(NO_TOKEN, lwkt_record_take(&recorder, 0, 1));
+    WANT(NO_TOKEN, lwkt_record_mark(&recorder, 0, 256));
+    WANT(NO_TOKEN, lwkt_record_give(&recorder, 0, 1));
+    WANT(NO_TOKEN, lwkt_record_read(&recorder, 0, 1, 0, 5));
+    WANT(NO_CELL, lwkt_record_write(&recorder, 0, 0, 2, 5));
+    WANT(NO_MESSAGE, lwkt_record_send(&recorder, 0, 0, 1, 0));
+    WANT(NO_MESSAGE, lwkt_record_take_message(&recorder, 0, 64, 0));
+    WANT(NO_MESSAGE, lwkt_record_reap(&recorder, 0, 64));
+    WANT(OK, lwkt_record_give(&recorder, 0, 0));
+    want_at(__LINE__, lwkt_record_lost(&recorder), 0);
+    WANT(OK, lwkt_record_end(&recorder));
+    WANT(OK, lwkt_record_to_file(&recorder, stdout));
+}
+
+static void unknown_processor(void)
+{
+    open_sum();
+    WANT(OK, lwkt_record_take(&recorder, 0, 0));
+    WANT(OK, lwkt_record_give(&recorder, 0, 0));
+    WANT(NO_PROCESSOR, lwkt_record_take(&recorder, 2, 0));
+    WANT(OK, lwkt_record_take(&recorder, 0, 0));
+    WANT(NO_PROCESSOR, lwkt_record_lost(&recorder));
+    WANT(CUT, lwkt_record_to_file(&recorder, stdout));
+}
+
+static void unknown_target(void)
+{
+    open_scene(2, 0, 1, 100);
+    WANT(NO_PROCESSOR, lwkt_record_send(&recorder, 0, 0, 2, 0));
+    WANT(CUT, lwkt_record_to_file(&recorder, stdout));
+}
+
+static void unknown_give(void)
+{
+    open_sum();
+    WANT(OK, lwkt_record_take(&recorder, 0, 0));
+    WANT(LIMIT, lwkt_record_give_as(&recorder, 0, 0, (enum lwkt_record_give)3));
+    WANT(CUT, lwkt_record_to_file(&recorder, stdout));
+}
+
+// A call that comes into another one for the same processor, as that of an interrupt would.
+static void busy(void)
+{
+    open_sum();
+    WANT(OK, lwkt_record_share(&recorder, 0, 0));
+    WANT(OK, lwkt_record_enter(&recorder, 1));
+    WANT(BUSY, lwkt_record_share(&recorder, 1, 0));
+    lwkt_record_leave(&recorder.seats[1], 0);
+    WANT(OK, lwkt_record_give(&recorder, 1, 0));
+    WANT(BUSY, lwkt_record_lost(&recorder));
+    WANT(CUT, lwkt_record_to_file(&recorder, stdout));
+}
+
+// As many events as a trace of so few bytes has room for.
+static void too_long(void)
+{
+    unsigned each;
+    char bytes[1];
+    size_t length;
+    open_scene(1, 1, 0, 5000);
+    for (each = 0; each < 2500; each++) {
+        WANT(OK, lwkt_record_take(&recorder, 0, 0));
+        WANT(OK, lwkt_record_give(&recorder, 0, 0));
+    }
+    WANT(OK, lwkt_record_end(&recorder));
+    WANT(NO_ROOM, lwkt_record_to_bytes(&recorder, bytes, sizeof bytes, &length));
+    want_at(__LINE__, bytes[0] == '{' && length > 20000 && length <= 60000, 1);
+    WANT(CUT, lwkt_record_to_file(&recorder, stdout));
+}
+
+// As many things as a trace can have, and its longest closing values.
+static void largest(void)
+{
+    static const uint64_t cells[4] = {UINT64_MAX, UINT64_MAX, UINT64_MAX, UINT64_MAX};
+    unsigned each;
+    open_scene(8, 64, 64, 10);
+    for (each = 0; each < 64; each++) {
+        WANT(OK, lwkt_record_token(&recorder, each, LWKT_RECORD_CAP, UINT64_MAX, LWKT_RECORD_LAST_GENERATION, cells, 4));
+        WANT(OK, lwkt_record_message(&recorder, each, each % 8, each % 16, LWKT_RECORD_LAST_ROUND));
+    }
+    WANT(OK, lwkt_record_load(&recorder, 7, 63));
+    WANT(OK, lwkt_record_end(&recorder));
+    WANT(OK, lwkt_record_to_file(&recorder, stdout));
+}
+
+static int refuse(void *context, const char *bytes, size_t count)
+{
+    (void)bytes;
+    (void)count;
+    *(int *)context += 1;
+    return 1;
+}
+
+static void refused_declarations(void)
+{
+    static const uint64_t cells[5] = {0, 0, 0, 0, 0};
+    open_scene(2, 2, 1, 10);
+    WANT(NO_TOKEN, lwkt_record_token(&recorder, 2, LWKT_RECORD_ANY, 0, 0, NULL, 0));
+    WANT(LIMIT, lwkt_record_token(&recorder, 0, LWKT_RECORD_ANY, 0, 0, cells, 5));
+    WANT(LIMIT, lwkt_record_token(&recorder, 0, LWKT_RECORD_ANY, 0, 0, NULL, 1));
+    WANT(LIMIT, lwkt_record_token(&recorder, 0, LWKT_RECORD_TALLY, 0, 0, cells, 2));
+    WANT(LIMIT, lwkt_record_token(&recorder, 0, (enum lwkt_record_law)5, 0, 0, cells, 2));
+    WANT(LIMIT, lwkt_record_token(&recorder, 0, LWKT_RECORD_ANY, 0, LWKT_RECORD_LAST_GENERATION + 1, cells, 2));
+    WANT(NO_MESSAGE, lwkt_record_message(&recorder, 1, 0, 0, 0));
+    WANT(LIMIT, lwkt_record_message(&recorder, 0, 2, 0, 0));
+    WANT(LIMIT, lwkt_record_message(&recorder, 0, 0, 16, 0));
+    WANT(LIMIT, lwkt_record_message(&recorder, 0, 0, 0, LWKT_RECORD_LAST_ROUND + 1));
+    WANT(NO_TOKEN, lwkt_record_end_cells(&recorder, 2, NULL, 0));
+    WANT(NO_CELL, lwkt_record_end_cells(&recorder, 0, cells, 1));
+    WANT(NO_TOKEN, lwkt_record_end_generation(&recorder, 2, 0));
+    WANT(LIMIT, lwkt_record_end_generation(&recorder, 0, LWKT_RECORD_LAST_GENERATION + 1));
+    WANT(OK, lwkt_record_share(&recorder, 1, 1));
+    WANT(LATE, lwkt_record_token(&recorder, 0, LWKT_RECORD_ANY, 0, 0, NULL, 0));
+    WANT(LATE, lwkt_record_message(&recorder, 0, 0, 0, 0));
+    WANT(OK, lwkt_record_to_file(&recorder, stdout));
+}
+
+static void refused_openings(void)
+{
+    static lwkt_record_event events[2][10];
+    WANT(LIMIT, lwkt_record_open(&recorder, 0, 1, 0, 10));
+    WANT(LIMIT, lwkt_record_open(&recorder, 9, 1, 0, 10));
+    WANT(LIMIT, lwkt_record_open(&recorder, 1, 65, 0, 10));
+    WANT(LIMIT, lwkt_record_open(&recorder, 1, 1, 65, 10));
+    WANT(LIMIT, lwkt_record_open(&recorder, 8, 1, 0, SIZE_MAX / 8));
+    WANT(CLOSED, lwkt_record_open(NULL, 1, 1, 0, 10));
+    WANT(CLOSED, lwkt_record_open_in(NULL, 1, 1, 0, events[0], 10));
+    WANT(MEMORY, lwkt_record_open_in(&recorder, 2, 1, 0, NULL, 10));
+    WANT(CLOSED, lwkt_record_take(&recorder, 0, 0));
+    WANT(OK, lwkt_record_open_in(&recorder, 2, 1, 0, events[0], 10));
+    WANT(OK, lwkt_record_take(&recorder, 1, 0));
+    WANT(OK, lwkt_record_to_file(&recorder, stdout));
+}
+
+// All calls on a recorder that isn't open.
+static void closed_calls(lwkt_record *closed)
+{
+    int count = 0;
+    WANT(CLOSED, lwkt_record_token(closed, 0, LWKT_RECORD_ANY, 0, 0, NULL, 0));
+    WANT(CLOSED, lwkt_record_message(closed, 0, 0, 0, 0));
+    WANT(CLOSED, lwkt_record_take(closed, 0, 0));
+    WANT(CLOSED, lwkt_record_share(closed, 0, 0));
+    WANT(CLOSED, lwkt_record_again(closed, 0, 0));
+    WANT(CLOSED, lwkt_record_mark(closed, 0, 0));
+    WANT(CLOSED, lwkt_record_give(closed, 0, 0));
+    WANT(CLOSED, lwkt_record_give_as(closed, 0, 0, LWKT_RECORD_ONE));
+    WANT(CLOSED, lwkt_record_read(closed, 0, 0, 0, 0));
+    WANT(CLOSED, lwkt_record_write(closed, 0, 0, 0, 0));
+    WANT(CLOSED, lwkt_record_send(closed, 0, 0, 0, 0));
+    WANT(CLOSED, lwkt_record_take_message(closed, 0, 0, 0));
+    WANT(CLOSED, lwkt_record_drop(closed, 0, 0));
+    WANT(CLOSED, lwkt_record_end(closed));
+    WANT(CLOSED, lwkt_record_end_cells(closed, 0, NULL, 0));
+    WANT(CLOSED, lwkt_record_end_generation(closed, 0, 0));
+    WANT(CLOSED, lwkt_record_to_sink(closed, refuse, &count));
+    WANT(CLOSED, lwkt_record_to_bytes(closed, NULL, 0, NULL));
+    WANT(CLOSED, lwkt_record_lost(closed));
+    want_at(__LINE__, count + (int)lwkt_record_held(closed, 0, 0), 0);
+    lwkt_record_close(closed);
+}
+
+static void closed(void)
+{
+    static lwkt_record other;
+    closed_calls(NULL);
+    closed_calls(&other);
+    open_sum();
+    lwkt_record_close(&recorder);
+    closed_calls(&recorder);
+    nothing_happens();
+}
+
+// A sink that doesn't take what it is given isn't asked again.
+static void streams(void)
+{
+    int count = 0;
+    FILE *file = fopen("/dev/full", "w");
+    open_scene(8, 64, 64, 10);
+    WANT(STREAM, lwkt_record_to_sink(&recorder, refuse, &count));
+    want_at(__LINE__, count, 1);
+    WANT(STREAM, lwkt_record_to_file(&recorder, NULL));
+    if (file != NULL) {
+        WANT(STREAM, lwkt_record_to_file(&recorder, file));
+        fclose(file);
+    }
+    WANT(OK, lwkt_record_to_file(&recorder, stdout));
+}
+
+static void *record_shares(void *argument)
+{
+    unsigned processor = *(unsigned *)argument, each;
+    for (each = 0; each < 5000; each++) {
+        WANT(OK, lwkt_record_share(&recorder, processor, 0));
+        WANT(OK, lwkt_record_give(&recorder, processor, 0));
+    }
+    return NULL;
+}
+
+// A trace that is written while others record is a front of what they do.
+static void while_others_record(void)
+{
+    static unsigned numbers[2] = {0, 1};
+    static char bytes[60000];
+    pthread_t threads[2];
+    size_t length = 0;
+    int error = LWKT_RECORD_OK;
+    unsigned each;
+    open_scene(2, 1, 0, 10000);
+    for (each = 0; each < 2; each++)
+        pthread_create(&threads[each], NULL, record_shares, &numbers[each]);
+    for (each = 0; each < 10 || length < 1000; each++)
+        error = lwkt_record_to_bytes(&recorder, bytes, sizeof bytes, &length);
+    want_at(__LINE__, error == LWKT_RECORD_OK || error == LWKT_RECORD_CUT, 1);
+    for (each = 0; each < 2; each++)
+        pthread_join(threads[each], NULL);
+    fwrite(bytes, 1, length, stdout);
+}
+
+static void *record_looks(void *argument)
+{
+    unsigned each;
+    (void)argument;
+    for (each = 0; each < 200; each++) {
+        int error = lwkt_record_load(&recorder, 0, 0);
+        want_at(__LINE__, error == LWKT_RECORD_OK || error == LWKT_RECORD_BUSY, 1);
+    }
+    return NULL;
+}
+
+// Two threads that both say they are processor 0.
+static void two_on_one_processor(void)
+{
+    pthread_t threads[2];
+    unsigned each;
+    open_scene(1, 1, 0, 1000);
+    for (each = 0; each < 2; each++)
+        pthread_create(&threads[each], NULL, record_looks, NULL);
+    for (each = 0; each < 2; each++)
+        pthread_join(threads[each], NULL);
+    want_at(__LINE__, lwkt_record_to_file(&recorder, stdout),
+            lwkt_record_lost(&recorder) == LWKT_RECORD_OK ? LWKT_RECORD_OK : LWKT_RECORD_CUT);
+}
+
+static const struct scene {
+    const char *name;
+    void (*play)(void);
+} scenes[] = {
+    {"nothing_happens", nothing_happens},
+    {"sections", sections},
+    {"told_give", told_give},
+    {"tallies", tallies},
+    {"law_order", law_order},
+    {"law_cap", law_cap},
+    {"law_any", law_any},
+    {"opening_law", opening_law},
+    {"give_without_take", give_without_take},
+    {"give_twice", give_twice},
+    {"write_when_shared", write_when_shared},
+    {"other_end", other_end},
+    {"other_generation", other_generation},
+    {"held_at_the_end", held_at_the_end},
+    {"messages", messages},
+    {"reply_twice", reply_twice},
+    {"stale_take", stale_take},
+    {"full", full},
+    {"no_room", no_room},
+    {"references", references},
+    {"unknown_things", unknown_things},
+    {"unknown_processor", unknown_processor},
+    {"unknown_target", unknown_target},
+    {"unknown_give", unknown_give},
+    {"busy", busy},
+    {"too_long", too_long},
+    {"largest", largest},
+    {"refused_declarations", refused_declarations},
+    {"refused_openings", refused_openings},
+    {"closed", closed},
+    {"streams", streams},
+    {"while_others_record", while_others_record},
+    {"two_on_one_processor", two_on_one_processor},
+};
+
+int main(int count, char **arguments)
+{
+    size_t each;
+    for (each = 0; each < sizeof scenes / sizeof scenes[0]; each++) {
+        scene_name = scenes[each].name;
+        if (count < 2) {
+            puts(scene_name);
+        } else if (strcmp(arguments[1], scene_name) == 0 || strcmp(arguments[1], "all") == 0) {
+            scenes[each].play();
+            lwkt_record_close(&recorder);
+        }
+    }
+    return has_failed ? 1 : 0;
+}
