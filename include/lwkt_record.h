@@ -179,7 +179,7 @@ typedef struct lwkt_record_model {
     uint8_t target[LWKT_RECORD_MESSAGES];
 } lwkt_record_model;
 
-// A recorder, some 30 KB. One that is all zeros, as a static one, isn't open.
+// A recorder, some 20 KB. One that is all zeros, as a static one, isn't open.
 typedef struct lwkt_record {
     unsigned processors;
     unsigned tokens;
