@@ -32,8 +32,8 @@
 // into a call of the processor that it interrupts is such a case). `to_*`: one thread at a time, also while others record; it
 // writes the events that are there when it begins. The recorder must stay where it is from `open` on, and not be copied.
 //
-// Before the include may be defined: LWKT_RECORD_FREESTANDING, for no stdio.h and stdlib.h (then `lwkt_record_open`,
-// `lwkt_record_close` and `lwkt_record_to_file` aren't there); LWKT_RECORD_BYTES_MOST, for shorter traces.
+// Before the include may be defined: LWKT_RECORD_FREESTANDING, for no stdio.h and stdlib.h (then `lwkt_record_open` and
+// `lwkt_record_to_file` aren't there); LWKT_RECORD_BYTES_MOST, for shorter traces. Atomic words of 64 bits are needed.
 #ifndef LWKT_RECORD_H
 #define LWKT_RECORD_H
 
@@ -72,7 +72,7 @@
 enum lwkt_record_error {
     LWKT_RECORD_OK = 0,
     LWKT_RECORD_CLOSED = 1,       // there is no recorder (NULL), or it isn't open; nothing was done
-    LWKT_RECORD_LIMIT = 2,        // a limit of the trace format is passed, or a number names nothing; nothing was done
+    LWKT_RECORD_LIMIT = 2,        // a limit of the trace format is passed, or a number names nothing
     LWKT_RECORD_MEMORY = 3,       // no memory; nothing was done
     LWKT_RECORD_LATE = 4,         // tokens and messages are declared before the first event; nothing was done
     LWKT_RECORD_NO_PROCESSOR = 5, // no such processor; the event left a gap
@@ -206,7 +206,8 @@ typedef int (*lwkt_record_sink)(void *context, const char *bytes, size_t count);
 // Opens a recorder over memory of the caller's: `processors` times `room` events, which stay the recorder's until it is no
 // longer used. There are 1 to 8 processors, at most 64 tokens and at most 64 messages; each processor can record `room` events.
 // Tokens have the law ANY and no cells, messages are of thread 0 of processor 0, until they are declared.
-// LIMIT where a number is past its limit, CLOSED without a recorder, MEMORY without events.
+// One that is open is closed before it is opened again. LIMIT where a number is past its limit, CLOSED without a recorder, MEMORY
+// without events.
 static inline int lwkt_record_open_in(lwkt_record *recorder, unsigned processors, unsigned tokens, unsigned messages,
                                       lwkt_record_event *events, size_t room);
 
@@ -214,10 +215,10 @@ static inline int lwkt_record_open_in(lwkt_record *recorder, unsigned processors
 // The same over memory of the recorder's own, which `lwkt_record_close` frees. MEMORY where it is refused.
 static inline int lwkt_record_open(lwkt_record *recorder, unsigned processors, unsigned tokens, unsigned messages,
                                    size_t room);
-
-// Ends a recorder. Calls on it are then answered CLOSED. It may be opened again.
-static inline void lwkt_record_close(lwkt_record *recorder);
 #endif
+
+// Closes a recorder. Calls on it are then answered CLOSED. It may be opened again.
+static inline void lwkt_record_close(lwkt_record *recorder);
 
 // Declares a token: its law and the law's parameter, its generation, and its cells as they are now, 0 to 4 of them, under TALLY
 // one. A kernel without generations says 0: each section that wrote then counts as one. Whether the cells obey the law is
@@ -668,16 +669,18 @@ static inline int lwkt_record_open(lwkt_record *recorder, unsigned processors, u
     recorder->owns_events = true;
     return error;
 }
+#endif
 
 static inline void lwkt_record_close(lwkt_record *recorder)
 {
     if (!lwkt_record_is_open(recorder))
         return;
+#ifndef LWKT_RECORD_FREESTANDING
     if (recorder->owns_events)
         free(recorder->seats[0].events);
+#endif
     recorder->processors = 0;
 }
-#endif
 
 static inline bool lwkt_record_has_begun(const lwkt_record *recorder)
 {
@@ -1126,8 +1129,10 @@ static inline int lwkt_record_to_sink(lwkt_record *recorder, lwkt_record_sink si
 {
     lwkt_record_page page;
     bool is_whole;
-    if (!lwkt_record_is_open(recorder) || sink == NULL)
+    if (!lwkt_record_is_open(recorder))
         return LWKT_RECORD_CLOSED;
+    if (sink == NULL)
+        return LWKT_RECORD_STREAM;
     page.sink = sink;
     page.context = context;
     page.length = 0;

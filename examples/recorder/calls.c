@@ -449,6 +449,7 @@ static void streams(void)
     open_scene(8, 64, 64, 10);
     WANT(STREAM, lwkt_record_to_sink(&recorder, refuse, &count));
     want_at(__LINE__, count, 1);
+    WANT(STREAM, lwkt_record_to_sink(&recorder, NULL, NULL));
     WANT(STREAM, lwkt_record_to_file(&recorder, NULL));
     if (file != NULL) {
         WANT(STREAM, lwkt_record_to_file(&recorder, file));
