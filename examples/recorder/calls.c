@@ -4,6 +4,7 @@
 #define LWKT_RECORD_BYTES_MOST UINT64_C(60000)
 #include "lwkt_record.h"
 #include <pthread.h>
+#include <sched.h>
 #include <stdatomic.h>
 #include <string.h>
 
@@ -458,13 +459,27 @@ static void streams(void)
     WANT(OK, lwkt_record_to_file(&recorder, stdout));
 }
 
+static _Atomic(unsigned) at_work;
+static _Atomic(unsigned) writings;
+
+// Waits until the trace was written once from its beginning to its end. It orders nothing.
+static void await_writing(void)
+{
+    unsigned before = atomic_load_explicit(&writings, memory_order_relaxed);
+    while (atomic_load_explicit(&writings, memory_order_relaxed) < before + 2)
+        sched_yield();
+}
+
 static void *record_shares(void *argument)
 {
     unsigned processor = *(unsigned *)argument, each;
-    for (each = 0; each < 5000; each++) {
+    for (each = 0; each < 100; each++) {
         WANT(OK, lwkt_record_share(&recorder, processor, 0));
         WANT(OK, lwkt_record_give(&recorder, processor, 0));
+        if (each % 10 == 0)
+            await_writing();
     }
+    atomic_fetch_sub(&at_work, 1);
     return NULL;
 }
 
@@ -475,14 +490,16 @@ static void while_others_record(void)
     static char bytes[60000];
     pthread_t threads[2];
     size_t length = 0;
-    int error = LWKT_RECORD_OK;
     unsigned each;
-    open_scene(2, 1, 0, 10000);
+    open_scene(2, 1, 0, 200);
+    atomic_store(&at_work, 2);
     for (each = 0; each < 2; each++)
         pthread_create(&threads[each], NULL, record_shares, &numbers[each]);
-    for (each = 0; each < 10 || length < 1000; each++)
-        error = lwkt_record_to_bytes(&recorder, bytes, sizeof bytes, &length);
-    want_at(__LINE__, error == LWKT_RECORD_OK || error == LWKT_RECORD_CUT, 1);
+    while (atomic_load(&at_work) > 0) {
+        int error = lwkt_record_to_bytes(&recorder, bytes, sizeof bytes, &length);
+        want_at(__LINE__, error == LWKT_RECORD_OK || error == LWKT_RECORD_CUT, 1);
+        atomic_fetch_add_explicit(&writings, 1, memory_order_relaxed);
+    }
     for (each = 0; each < 2; each++)
         pthread_join(threads[each], NULL);
     fwrite(bytes, 1, length, stdout);

@@ -159,8 +159,8 @@ static uint64_t cell_read(struct thread *self, struct token *token, unsigned cel
 
 static void cell_write(struct thread *self, struct token *token, unsigned cell, uint64_t value)
 {
-    lwkt_record_write(&recorder, self->number, token->number, cell, value);
     token->cells[cell] = value;
+    lwkt_record_write(&recorder, self->number, token->number, cell, value);
 }
 
 #endif
