@@ -184,10 +184,10 @@ static void held_at_the_end(void)
     WANT(OK, lwkt_record_to_file(&recorder, stdout));
 }
 
-// Messages: there and back, dropped and sent again, aborted, on their way at the end.
+// Messages: there and back, dropped and sent again, aborted, on their way at the end, dropped at the end.
 static void messages(void)
 {
-    open_scene(3, 0, 4, 100);
+    open_scene(3, 0, 5, 100);
     WANT(OK, lwkt_record_message(&recorder, 0, 0, 15, 0));
     WANT(OK, lwkt_record_message(&recorder, 1, 1, 0, 7));
     WANT(OK, lwkt_record_send(&recorder, 0, 0, 1, 0));
@@ -203,6 +203,8 @@ static void messages(void)
     WANT(OK, lwkt_record_send(&recorder, 0, 3, 1, 1));
     WANT(OK, lwkt_record_take_message(&recorder, 1, 3, 1));
     WANT(OK, lwkt_record_reply(&recorder, 1, 3));
+    WANT(OK, lwkt_record_send(&recorder, 0, 4, 0, 0));
+    WANT(OK, lwkt_record_drop(&recorder, 0, 4));
     WANT(OK, lwkt_record_end(&recorder));
     WANT(OK, lwkt_record_to_file(&recorder, stdout));
 }
