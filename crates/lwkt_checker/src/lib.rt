@@ -10,4 +10,4 @@ mod programs;
 mod words;
 
 pub use judges::{Finding, judge};
-pub use programs::{check_stream, run_checker};
+pub use programs::{check_stream, run_checker, say_outcome, status_of};

@@ -62,8 +62,9 @@ pub fn check_stream<S: Source, K: Sink>(
     }
 }
 
-// The exit status of an outcome.
-fn status_of(outcome: &Result<bool, RunFault>) -> u8
+/// The exit status of what came of a check: 0 lawful; 4 unlawful; 1 a trace or opening that was refused; 3 want of memory, or a
+/// stream that failed.
+pub fn status_of(outcome: &Result<bool, RunFault>) -> u8
     ensures { result ≡ status_of outcome.now }
 {
     match outcome {
@@ -74,8 +75,8 @@ fn status_of(outcome: &Result<bool, RunFault>) -> u8
     }
 }
 
-// Writes the line that an outcome asks for: none beside a finding.
-fn close<E: Sink>(errors: &mut E, outcome: &Result<bool, RunFault>)
+/// Writes the line that what came of a check asks for: none beside a finding.
+pub fn say_outcome<E: Sink>(errors: &mut E, outcome: &Result<bool, RunFault>)
     ensures { Complains (E.has_failed errors.new) (E.contents errors.old) (E.contents errors.new) outcome.now }
 {
     match *outcome {
@@ -106,6 +107,6 @@ pub fn run_checker<S: Source, K: Sink, E: Sink>(
         return 1;
     }
     let outcome = check_stream(alloc, source, sink);
-    close(errors, &outcome);
+    say_outcome(errors, &outcome);
     status_of(&outcome)
 }

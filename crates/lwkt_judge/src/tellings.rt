@@ -1,16 +1,23 @@
-ghost use Rattle.std.specs.Prelude.{◌≡◌, ◌≢◌, [], ℕ, Bool, List, Option};
-ghost use Rattle.lwkt_checker.specs.Output.{ChecksAs};
+ghost use Rattle.std.specs.Prelude.{◌≡◌, ◌≢◌, ◌↔◌, [], IsTrue};
+ghost use Rattle.lwkt_report.specs.Complaint.{fault_line};
+ghost use Rattle.lwkt_refusals.specs.Sayings.{Adds};
+ghost use Rattle.lwkt_judge.specs.Told.{IsSaidFirst, ComplainsFirst, IsUnread, ChecksAloud};
 
 use lwkt_base::Fault;
-use lwkt_checker::run_checker;
+use lwkt_checker::{check_stream, say_outcome, status_of};
 use lwkt_refusals::{Speaker, has_no_reader};
-use lwkt_report::{Line, NotedReader, NotedWriter, ReaderSource, Sink, WriterSink, write_whole};
+use lwkt_report::{
+    Complaint, NotedReader, NotedWriter, Program, ReaderSource, RunFault, Sink, WriterSink,
+    complain,
+};
 use lwkt_trace::read_trace;
 use std::alloc::Global;
 use std::io::{Read, Write};
 
 // Says why the trace that was given is refused.
-fn say_refusal<E: Sink>(alloc: Global, errors: &mut E, given: &Option<Vec<u8>>) {
+fn say_refusal<E: Sink>(alloc: Global, errors: &mut E, given: &Option<Vec<u8>>)
+    ensures { Adds (E.has_failed errors.old) (E.has_failed errors.new) (E.contents errors.old) (E.contents errors.new) }
+{
     let Some(bytes) = given else {
         return Speaker::Check.say_refusal(alloc, errors, None, Fault::Memory);
     };
@@ -21,22 +28,48 @@ fn say_refusal<E: Sink>(alloc: Global, errors: &mut E, given: &Option<Vec<u8>>) 
     Speaker::Check.say_refusal(alloc, errors, Some(bytes.as_slice()), fault);
 }
 
-// Says why a check without arguments ended with this status, behind its line, if it found nothing; not where nobody reads any
-// more what is written.
+// Says why nothing was found, behind the line.
 fn say_why<I, O, E: Sink>(
     alloc: Global,
     errors: &mut E,
-    status: u8,
+    fault: RunFault,
     source: &ReaderSource<NotedReader<I>>,
     sink: &WriterSink<NotedWriter<O>>,
-) {
-    match status {
-        1 => say_refusal(alloc, errors, &source.reader.given),
-        3 if source.failed => Speaker::Check.say_unread(alloc, errors, &source.reader.error),
-        3 if sink.failed => Speaker::Check.say_unwritten(alloc, errors, &sink.writer.error),
-        3 => Speaker::Check.say_memory(errors),
-        _ => {}
+)
+    ensures { Adds (E.has_failed errors.old) (E.has_failed errors.new) (E.contents errors.old) (E.contents errors.new) }
+{
+    match fault {
+        RunFault::Fault(Fault::Memory) => Speaker::Check.say_memory(errors),
+        RunFault::Fault(_) => say_refusal(alloc, errors, &source.reader.given),
+        RunFault::Stream if source.failed => {
+            Speaker::Check.say_unread(alloc, errors, &source.reader.error)
+        }
+        RunFault::Stream => Speaker::Check.say_unwritten(alloc, errors, &sink.writer.error),
     }
+}
+
+// Says what came of a check: nothing beside a finding, else its line and why nothing was found; nothing where nobody reads any
+// more what is written.
+fn say_all<I, O, E: Sink>(
+    alloc: Global,
+    errors: &mut E,
+    outcome: &Result<bool, RunFault>,
+    source: &ReaderSource<NotedReader<I>>,
+    sink: &WriterSink<NotedWriter<O>>,
+)
+    ensures { ComplainsFirst (E.has_failed errors.new) (E.contents errors.old) (E.contents errors.new) outcome.now }
+{
+    say_outcome(errors, outcome);
+    if let Err(fault) = *outcome {
+        say_why(alloc, errors, fault, source, sink);
+    }
+}
+
+// Whether the output has failed since nobody reads any more what is written.
+fn is_unread<O>(sink: &WriterSink<NotedWriter<O>>) -> bool
+    ensures { IsTrue result ↔ IsUnread sink.now.failed sink.now.writer.error }
+{
+    sink.failed && has_no_reader(&sink.writer.error)
 }
 
 /// The whole program, as `run_checker`, which also says where errors go, behind the line, why nothing was found: the part of
@@ -50,21 +83,19 @@ pub fn check_told<I: Read, O: Write, E: Sink>(
     sink: &mut WriterSink<NotedWriter<O>>,
     errors: &mut E,
 ) -> u8
-    ensures checks { words.now ≡ [] → (failed : Bool) × ((before : Option (List ℕ)) × ((after : Option (List ℕ)) × ChecksAs (I.remaining source.old.reader.reader) (O.contents sink.old.writer.writer) (O.contents sink.new.writer.writer) failed before after result)) }
-    ensures usage { words.now ≢ [] → result ≡ 1 }
+    ensures checks { words.now ≡ [] → ChecksAloud (I.remaining source.old.reader.reader) (O.contents sink.old.writer.writer) (O.contents sink.new.writer.writer) (IsUnread sink.new.failed sink.new.writer.error) (E.has_failed errors.new) (E.contents errors.old) (E.contents errors.new) result }
+    ensures usage { words.now ≢ [] → (result ≡ 1) × IsSaidFirst (E.has_failed errors.new) (E.contents errors.old) (E.contents errors.new) (fault_line Program.Check Complaint.Usage) }
     ensures unread { words.now ≢ [] → source.new ≡ source.old }
     ensures unwritten { words.now ≢ [] → sink.new ≡ sink.old }
 {
-    let mut line = Line::new();
-    let status = run_checker(alloc, words, source, sink, &mut line);
-    if sink.failed && has_no_reader(&sink.writer.error) {
-        return status;
-    }
-    let _ = write_whole(errors, line.text.as_slice());
-    if words.is_empty() {
-        say_why(alloc, errors, status, source, sink);
-    } else {
+    if !words.is_empty() {
+        complain(errors, Program::Check, Complaint::Usage);
         Speaker::Check.say_usage(errors);
+        return 1;
     }
-    status
+    let outcome = check_stream(alloc, source, sink);
+    if !is_unread(sink) {
+        say_all(alloc, errors, &outcome, source, sink);
+    }
+    status_of(&outcome)
 }

@@ -1,4 +1,7 @@
 //! What a program says where its errors go, beside its line.
+ghost use Rattle.std.specs.Prelude.{◌↔◌, IsTrue};
+ghost use Rattle.lwkt_refusals.specs.Sayings.{Adds, HasNoReader};
+
 use crate::pages::Page;
 use crate::refusals::{Document, refusal};
 use lwkt_base::Fault;
@@ -38,6 +41,13 @@ pub enum Speaker {
     Check,
     /// `lwkt_show`.
     Show,
+}
+
+// Writes a text. What can't be written is let go.
+fn put<E: Sink>(errors: &mut E, text: &str)
+    ensures { Adds (E.has_failed errors.old) (E.has_failed errors.new) (E.contents errors.old) (E.contents errors.new) }
+{
+    let _ = write_whole(errors, text.as_bytes());
 }
 
 impl Speaker {
@@ -85,10 +95,12 @@ impl Speaker {
     }
 
     // Writes a line. What can't be written is let go.
-    fn say<E: Sink>(self, errors: &mut E, text: &str) {
-        let _ = write_whole(errors, self.name().as_bytes());
-        let _ = write_whole(errors, text.as_bytes());
-        let _ = write_whole(errors, b"\n");
+    fn say<E: Sink>(self, errors: &mut E, text: &str)
+        ensures { Adds (E.has_failed errors.old) (E.has_failed errors.new) (E.contents errors.old) (E.contents errors.new) }
+    {
+        put(errors, self.name());
+        put(errors, text);
+        put(errors, "\n");
     }
 
     // Why these bytes are refused with this fault, behind its number where the program has no other line.
@@ -102,8 +114,10 @@ impl Speaker {
     }
 
     /// Says how the program is called.
-    pub fn say_usage<E: Sink>(self, errors: &mut E) {
-        let _ = write_whole(errors, self.usage().as_bytes());
+    pub fn say_usage<E: Sink>(self, errors: &mut E)
+        ensures { Adds (E.has_failed errors.old) (E.has_failed errors.new) (E.contents errors.old) (E.contents errors.new) }
+    {
+        put(errors, self.usage());
     }
 
     /// Says why these bytes, if they are still known, are refused with this fault.
@@ -113,7 +127,9 @@ impl Speaker {
         errors: &mut E,
         bytes: Option<&[u8]>,
         fault: Fault,
-    ) {
+    )
+        ensures { Adds (E.has_failed errors.old) (E.has_failed errors.new) (E.contents errors.old) (E.contents errors.new) }
+    {
         let words = match bytes {
             Some(bytes) => self.words(alloc, bytes, fault).ok(),
             None => None,
@@ -125,7 +141,9 @@ impl Speaker {
     }
 
     /// Says that there was no memory.
-    pub fn say_memory<E: Sink>(self, errors: &mut E) {
+    pub fn say_memory<E: Sink>(self, errors: &mut E)
+        ensures { Adds (E.has_failed errors.old) (E.has_failed errors.new) (E.contents errors.old) (E.contents errors.new) }
+    {
         match self {
             Speaker::Run | Speaker::Check => self.say(errors, "out of memory"),
             Speaker::Show => self.say(errors, "fault 32: out of memory"),
@@ -133,7 +151,9 @@ impl Speaker {
     }
 
     /// Says what is the matter where the arguments can't be told: no memory, or how the program is called.
-    pub fn say_arguments<E: Sink>(self, errors: &mut E, memory: bool) {
+    pub fn say_arguments<E: Sink>(self, errors: &mut E, memory: bool)
+        ensures { Adds (E.has_failed errors.old) (E.has_failed errors.new) (E.contents errors.old) (E.contents errors.new) }
+    {
         if memory {
             self.say_memory(errors);
         } else {
@@ -148,26 +168,32 @@ impl Speaker {
         errors: &mut E,
         text: &str,
         error: &Option<io::Error>,
-    ) {
+    )
+        ensures { Adds (E.has_failed errors.old) (E.has_failed errors.new) (E.contents errors.old) (E.contents errors.new) }
+    {
         let Some(error) = error else {
             return self.say(errors, text);
         };
-        let _ = write_whole(errors, self.name().as_bytes());
-        let _ = write_whole(errors, text.as_bytes());
+        put(errors, self.name());
+        put(errors, text);
         if let Ok(why) = error.to_string(alloc) {
-            let _ = write_whole(errors, b": ");
-            let _ = write_whole(errors, why.as_bytes());
+            put(errors, ": ");
+            put(errors, why.as_str());
         }
-        let _ = write_whole(errors, b"\n");
+        put(errors, "\n");
     }
 
     /// Says that a read failed, and why.
-    pub fn say_unread<E: Sink>(self, alloc: Global, errors: &mut E, error: &Option<io::Error>) {
+    pub fn say_unread<E: Sink>(self, alloc: Global, errors: &mut E, error: &Option<io::Error>)
+        ensures { Adds (E.has_failed errors.old) (E.has_failed errors.new) (E.contents errors.old) (E.contents errors.new) }
+    {
         self.say_failure(alloc, errors, self.read_failure(), error);
     }
 
     /// Says that a write failed, and why; nothing where nobody reads any more what is written.
-    pub fn say_unwritten<E: Sink>(self, alloc: Global, errors: &mut E, error: &Option<io::Error>) {
+    pub fn say_unwritten<E: Sink>(self, alloc: Global, errors: &mut E, error: &Option<io::Error>)
+        ensures { Adds (E.has_failed errors.old) (E.has_failed errors.new) (E.contents errors.old) (E.contents errors.new) }
+    {
         if !has_no_reader(error) {
             self.say_failure(alloc, errors, self.write_failure(), error);
         }
@@ -184,7 +210,9 @@ fn show_number(out: &mut Page, fault: Fault) {
 }
 
 /// Whether a write failed since nobody reads any more what is written.
-pub fn has_no_reader(error: &Option<io::Error>) -> bool {
+pub fn has_no_reader(error: &Option<io::Error>) -> bool
+    ensures { IsTrue result ↔ HasNoReader error.now }
+{
     match error {
         Some(error) => error.kind() == io::ErrorKind::BrokenPipe,
         None => false,

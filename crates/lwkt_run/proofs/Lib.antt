@@ -1,3 +1,4 @@
+pub mod ChainMoves
 pub mod CloseMoves
 pub mod IdMoves
 pub mod JudgeMoves

@@ -1,3 +1,4 @@
+pub mod Chains
 pub mod Judging
 pub mod Leaving
 pub mod Run

@@ -29,6 +29,7 @@ use Rattle.lwkt_verdict.specs.declared.turns.Poll.{Poll}
 use Rattle.lwkt_verdict.specs.declared.turns.Turn.{Turn}
 use Rattle.lwkt_machine.specs.Machines.{Rig}
 use Rattle.lwkt_machine.specs.Opened.{IsOpenedMachine, Declines as IsDeclined}
+use Rattle.lwkt_run.specs.Chains.{WritesChains}
 use Rattle.lwkt_run.specs.Values.{is_tally}
 use Rattle.lwkt_run.specs.Leaving.{Leaves}
 use Rattle.lwkt_run.specs.Running.{ShowThreads, scene, HasMadeRounds}
@@ -66,7 +67,8 @@ pub record RunsInRounds (script : Script) (lines : List ThreadLine) (trace : Lis
   pub trace_is : trace ≡ whole.items
 
 -- a report gives its verdict on this trace and these turns with their polls, as on a run of the script from its opening to the
--- values and the threads' ends that it shows (own)
+-- values and the threads' ends that it shows; where the verdict is lawful, the written sections of the trace are chains from the
+-- opening rows to those of the token lines (own)
 pub record IsJudgedBy (script : Script) (closing : Closing) (trace : List Event) (polls : List Poll) (turns : List Turn) : Type 0 where
   pub plans : List ThreadPlan
   pub ends : List ThreadEnd
@@ -76,6 +78,7 @@ pub record IsJudgedBy (script : Script) (closing : Closing) (trace : List Event)
   pub shows : ShowsClosing closing last
   pub runs : RunsInRounds script closing.threads.items trace last
   pub by : Judges closing.verdict (opening_of script) script.turns plans ends last trace polls turns
+  pub chains : closing.verdict ≡ Lawful → WritesChains (opening_of script) trace last
 
 -- there are a trace and turns with their polls on which the report gives its verdict
 pub record IsJudged (script : Script) (closing : Closing) : Type 0 where

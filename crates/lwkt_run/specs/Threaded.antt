@@ -4,6 +4,7 @@ use Rattle.std.specs.Prelude.{codes, length, All, string_bytes, String, Vec, ◌
 use Rattle.lwkt_base.specs.declared.names.CpuId.{CpuId}
 use Rattle.lwkt_core.specs.declared.events.Event.{Event}
 use Rattle.lwkt_core.specs.declared.finals.Final.{Final}
+use Rattle.lwkt_core.specs.History.{events_in}
 use Rattle.lwkt_core.specs.Opening.{opening, AreWithin, AllOpenLawfully}
 use Rattle.lwkt_bank.specs.Told.{first_machine}
 use Rattle.lwkt_msg.specs.Steps.{machine_of}
@@ -20,6 +21,7 @@ use Rattle.lwkt_report.specs.Report.{report_text}
 use Rattle.lwkt_script.specs.declared.scripts.Script.{Script}
 use Rattle.lwkt_script.specs.Format.{script_of}
 use Rattle.lwkt_run.specs.declared.runs.End.{End}
+use Rattle.lwkt_run.specs.Chains.{WritesChains}
 use Rattle.lwkt_run.specs.Judging.{ids_of}
 use Rattle.lwkt_run.specs.Leaving.{Leaves}
 use Rattle.lwkt_run.specs.Running.{ShowThreads}
@@ -47,7 +49,8 @@ pub record RunsOnThreads (answers : CpuId → ℕ → Bool → Type 0) (script :
   pub messages_from : machine_of opened.book.cpus (first_mails opened.book.specs) ≡ opening script.cpus [] script.messages
 
 -- the values may be those of a run of the script on threads: its opening was accepted, a tally line stands exactly under a Tally
--- token, each thread has its line, they are those of such a run, and the report says no more than that bank and book were closed
+-- token, each thread has its line, they are those of such a run, the written sections of that run are chains from the opening rows to
+-- those of the token lines, and the report says no more than that bank and book were closed
 pub record MayCloseOnThreads (answers : CpuId → ℕ → Bool → Type 0) (script : Script) (closing : Closing) : Type 0 where
   pub within : AreWithin script.cpus script.tokens script.messages
   pub lawful_opening : AllOpenLawfully script.tokens
@@ -57,6 +60,7 @@ pub record MayCloseOnThreads (answers : CpuId → ℕ → Bool → Type 0) (scri
   pub last : Final
   pub shows : ShowsClosing closing last
   pub runs : RunsOnThreads answers script closing.threads.items last
+  pub chains : WritesChains (opening script.cpus script.tokens []) (events_in runs.tells.tokens.history) last
 
 -- these bytes are a script, and a run of it on threads may end so, with this report
 pub record HasThreadedRun (answers : CpuId → ℕ → Bool → Type 0) (bytes : List ℕ) (end : End) (text : List ℕ) : Type 0 where

@@ -56,6 +56,8 @@ fn closing_of(
 ) -> Result<Closing, AllocError>
     requires opening { opening ≡ opening_of script.now }
     requires again { again ≡ opening_of script.now }
+    requires within { AreWithin script.now.cpus script.now.tokens script.now.messages }
+    requires lawful { AllOpenLawfully script.now.tokens }
     requires values { AreValuesOf script.now.tokens left.last }
     requires threads { map (λ line. line.id) left.threads.items ≡ ids_of script.now.cpus script.now.threads }
     requires runs { RunsInRounds script.now left.threads.items trace.now left.last }

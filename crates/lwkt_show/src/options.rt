@@ -1,4 +1,5 @@
-ghost use Rattle.std.specs.Prelude.{◌≤◌, IfSome};
+ghost use Rattle.std.specs.Prelude.{◌≡◌, ◌≤◌, ◌∷◌, [], ◌++◌, codes, IfSome, map, string_bytes};
+ghost use Rattle.lwkt_show.specs.Arguments.{IsBound, IsRange, no_end, view_words, range_word, IsChosen, AreOptions};
 
 use lwkt_scenes::Counted;
 
@@ -25,34 +26,34 @@ pub struct Options {
     pub last: usize,
 }
 
+// All turns, or rounds, from one to another.
+#[derive(Clone, Copy)]
+struct Range {
+    counted: Counted,
+    first: usize,
+    last: usize,
+}
+
+const ALL: Range = Range {
+    counted: Counted::Turns,
+    first: 0,
+    last: usize::MAX,
+};
+
 // One end of a range of turns or rounds, or what stands for one that is left out.
-fn bound(text: &str, without: usize) -> Option<usize> {
+fn bound(text: &str, without: usize) -> Option<usize>
+    ensures { IfSome result (λ n. IsBound without text.now n) }
+{
     if text.is_empty() {
         return Some(without);
     }
     text.parse::<usize>().ok()
 }
 
-// These options with the range `A..B`.
-fn with_range(options: Options, text: &str) -> Option<Options> {
-    let (first, last) = text.split_once("..")?;
-    Some(Options {
-        first: bound(first, 0)?,
-        last: bound(last, usize::MAX)?,
-        ..options
-    })
-}
-
-// These options with a view, if they have none yet.
-fn with_view(options: Options, view: View) -> Option<Options> {
-    if options.view != View::Lines {
-        return None;
-    }
-    Some(Options { view, ..options })
-}
-
 // What a word says is counted by the range behind it.
-fn counted_by(word: &str) -> Option<Counted> {
+fn counted_by(word: &str) -> Option<Counted>
+    ensures { IfSome result (λ counted. word.now ≡ range_word counted) }
+{
     match word {
         "--turns" => Some(Counted::Turns),
         "--rounds" => Some(Counted::Rounds),
@@ -60,54 +61,94 @@ fn counted_by(word: &str) -> Option<Counted> {
     }
 }
 
-// The options that stand behind `turns`: at most one range.
-fn read_options(words: &[String]) -> Option<Options> {
-    let mut options = Options {
-        view: View::Lines,
-        counted: Counted::Turns,
-        first: 0,
-        last: usize::MAX,
-    };
-    let mut wants_range = false;
-    let mut has_range = false;
-    for word in words {
-        if wants_range {
-            options = with_range(options, word.as_str())?;
-            wants_range = false;
-        } else if let Some(counted) = counted_by(word.as_str()) {
-            if has_range {
-                return None;
-            }
-            options = Options { counted, ..options };
-            has_range = true;
-            wants_range = true;
-        } else {
-            options = match word.as_str() {
-                "--trace" => with_view(options, View::Trace)?,
-                "--svg" => with_view(options, View::Picture)?,
-                _ => return None,
-            };
-        }
+// The range `A..B`.
+fn range_of(counted: Counted, text: &str) -> Option<Range>
+    ensures { IfSome result (λ range. (range.counted ≡ counted) × IsRange text.now range.first range.last) }
+{
+    let (from, to) = text.split_once("..")?;
+    Some(Range {
+        counted,
+        first: bound(from, 0)?,
+        last: bound(to, usize::MAX)?,
+    })
+}
+
+// The view that a word asks for.
+fn view_by(word: &str) -> Option<View>
+    ensures { IfSome result (λ view. view_words view ≡ word.now ∷ []) }
+{
+    match word {
+        "--trace" => Some(View::Trace),
+        "--svg" => Some(View::Picture),
+        _ => None,
     }
-    if wants_range { None } else { Some(options) }
+}
+
+// The options of a range and a view, if the range rises and a trace is whole.
+fn options_for(range: Range, view: View) -> Option<Options>
+    ensures { IfSome result (λ options. (options ≡ record { view = view; counted = range.counted; first = range.first; last = range.last }) × (options.first ≤ options.last) × (view ≡ View.Trace → (range.first ≡ 0) × (range.last ≡ no_end))) }
+{
+    let Range {
+        counted,
+        first,
+        last,
+    } = range;
+    if first > last {
+        return None;
+    }
+    if view == View::Trace && !(first == 0 && last == usize::MAX) {
+        return None;
+    }
+    Some(Options {
+        view,
+        counted,
+        first,
+        last,
+    })
+}
+
+// The options of two words behind `turns`: they are a range.
+fn ranged(word: &str, text: &str, view: View) -> Option<Options>
+    ensures before { IfSome result (λ options. AreOptions (codes "turns" ∷ word.now ∷ text.now ∷ view_words view) options) }
+    ensures behind { IfSome result (λ options. AreOptions (codes "turns" ∷ view_words view ++ word.now ∷ text.now ∷ []) options) }
+{
+    let counted = counted_by(word)?;
+    let range = range_of(counted, text)?;
+    options_for(range, view)
+}
+
+// The options of three words behind `turns`: a range and a view, in either order.
+fn both(first: &str, second: &str, third: &str) -> Option<Options>
+    ensures { IfSome result (λ options. AreOptions (codes "turns" ∷ first.now ∷ second.now ∷ third.now ∷ []) options) }
+{
+    if let Some(view) = view_by(first) {
+        return ranged(second, third, view);
+    }
+    let view = view_by(third)?;
+    ranged(first, second, view)
+}
+
+// The options of the words behind `turns`.
+fn read_options(words: &[String]) -> Option<Options>
+    ensures { IfSome result (λ options. AreOptions (codes "turns" ∷ map string_bytes words.now) options) }
+{
+    match words {
+        [] => options_for(ALL, View::Lines),
+        [view] => options_for(ALL, view_by(view.as_str())?),
+        [word, text] => ranged(word.as_str(), text.as_str(), View::Lines),
+        [first, second, third] => both(first.as_str(), second.as_str(), third.as_str()),
+        _ => None,
+    }
 }
 
 /// The options that the arguments are: `turns`, then any of a range and one of `--svg` and `--trace`. The range is
 /// `--turns A..B` or `--rounds A..B`, with A at most B. A trace is always whole.
 pub fn options_of(words: &[String]) -> Option<Options>
-    ensures { IfSome result (λ options. options.first ≤ options.last) }
+    ensures { IfSome result (λ options. AreOptions (map string_bytes words.now) options) }
 {
     let (first, rest) = words.split_first()?;
     if first.as_str() != "turns" {
         return None;
     }
-    let options = read_options(rest)?;
-    if options.first > options.last {
-        return None;
-    }
-    let whole = options.first == 0 && options.last == usize::MAX;
-    if options.view == View::Trace && !whole {
-        return None;
-    }
-    Some(options)
+    read_options(rest)
 }

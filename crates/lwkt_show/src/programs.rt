@@ -1,4 +1,4 @@
-ghost use Rattle.std.specs.Prelude.{◌≡◌, ◌≤◌, ◌⊎◌, Err, IsTrue, IfOk, IfErr, IfSome, IsNone, length, string_bytes};
+ghost use Rattle.std.specs.Prelude.{◌≡◌, ◌≤◌, ◌⊎◌, if◌then◌else◌, Err, IsTrue, IfOk, IfErr, IfSome, IsNone, length, map, string_bytes};
 ghost use Rattle.lwkt_run.specs.Run.{IsTurnsRun, Refuses};
 ghost use Rattle.lwkt_scenes.specs.Shown.{first_turn};
 ghost use Rattle.lwkt_show.specs.Showing.{ShowsAs, IsShown, IsPast, IsPastIn, TellsShown, IsShowing, status_shown};
@@ -149,7 +149,9 @@ fn status_of(outcome: &Result<Outcome, RunFault>) -> u8
 }
 
 /// What is said and the status where the arguments are none of the program's, or can't be told: 3 for want of memory, else 1.
-pub fn refuse_arguments<E: Sink>(errors: &mut E, memory: bool) -> u8 {
+pub fn refuse_arguments<E: Sink>(errors: &mut E, memory: bool) -> u8
+    ensures { result ≡ (if memory then 3 else 1) }
+{
     if !memory {
         let _ = write_whole(errors, USAGE.as_bytes());
     }
@@ -177,7 +179,7 @@ pub fn run_show<S: Source, K: Sink, E: Sink>(
     sink: &mut K,
     errors: &mut E,
 ) -> u8
-    ensures { ((source.new ≡ source.old) × (sink.new ≡ sink.old)) ⊎ IsShowing (S.left source.old) (K.contents sink.old) (K.contents sink.new) result }
+    ensures { ((result ≡ 1) × (source.new ≡ source.old) × (sink.new ≡ sink.old)) ⊎ IsShowing (map string_bytes words.now) (S.left source.old) (K.contents sink.old) (K.contents sink.new) result }
 {
     let Some(options) = options_of(words) else {
         return refuse_arguments(errors, false);

@@ -13,3 +13,5 @@ returns-clause-judged c =
     record { rows = sym shown.rows; gens = sym shown.gens; tallies = sym shown.tallies; messages = refl }
     c.requires.runs
     c.verdict_of-verdict.ensures
+    c.requires.within
+    c.requires.lawful

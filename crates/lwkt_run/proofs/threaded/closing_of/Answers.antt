@@ -1,6 +1,7 @@
 use Rattle.std.proofs.Common.{List, refl, sym, subst}
 use Rattle.lwkt_base.specs.declared.openings.TokSpec.{TokSpec}
 use Rattle.lwkt_run.specs.Values.{ShowTokens}
+use Rattle.lwkt_run.proofs.ChainMoves.{tokens_chain}
 use Rattle.lwkt_run.proofs.threaded.closing_of.Goals as goal
 
 pub returns : goal.returns
@@ -17,4 +18,5 @@ returns g c =
       last = c.args.left.last;
       shows = record { rows = sym shown.rows; gens = sym shown.gens; tallies = sym shown.tallies; messages = refl };
       runs = r.runs;
+      chains = tokens_chain c.args.script.now.cpus c.args.script.now.tokens c.args.script.now.messages _ _ _ _ c.args.left.last r.within r.lawful r.runs.tokens_from r.runs.tells.tokens.run r.runs.tells.tokens.ends r.runs.leaves.rows r.runs.leaves.gens;
     }

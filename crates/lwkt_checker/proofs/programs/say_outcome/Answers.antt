@@ -1,5 +1,5 @@
 use Rattle.lwkt_checker.proofs.Tellings.{complains}
-use Rattle.lwkt_checker.proofs.programs.close.Goals as goal
+use Rattle.lwkt_checker.proofs.programs.say_outcome.Goals as goal
 
 pub returns-in-Err : goal.returns-in-Err
 returns-in-Err g c =
