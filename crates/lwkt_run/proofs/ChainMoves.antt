@@ -1,5 +1,5 @@
 -- The written sections of a run are chains to the values that its report shows.
-use Rattle.std.proofs.Common.{◌≡◌, ℕ, zero, suc, ◌≤◌, ◌<◌, List, [], ◌∷◌, length, map, All, refl, ap, sym, subst, ◌∙◌, get_or, replicate, false, arith}
+use Rattle.std.proofs.Common.{◌≡◌, ℕ, zero, suc, List, [], ◌∷◌, map, All, refl, ap, sym, subst, ◌∙◌, get_or, replicate, arith}
 use Rattle.std.specs.Prelude.{zip, Vec}
 use Rattle.std.specs.declared.alloc.Global.{Global}
 use Rattle.std.proofs.lemmas.List.Elements.{All-nil, All-map, All-weaker}
@@ -16,7 +16,7 @@ use Rattle.lwkt_core.specs.Tokens.{IsFree, IsOpen}
 use Rattle.lwkt_core.specs.Machine.{Machine}
 use Rattle.lwkt_core.specs.Trace.{Run, IsLawfulTrace}
 use Rattle.lwkt_core.specs.Opening.{opening, opened_token, IsMessageWithin, AreWithin, AllOpenLawfully}
-use Rattle.lwkt_core.specs.SectionChain.{RowsAt, AreInOrder, AreSectionChains}
+use Rattle.lwkt_core.specs.SectionChain.{RowsAt, AreSectionChains}
 use Rattle.lwkt_core.specs.RunSections.{sections_in, values_of, rows_of}
 use Rattle.lwkt_core.proofs.OpeningLemmas.{IsSafe-opening}
 use Rattle.lwkt_core.proofs.RunChainLemmas.{write_chains, write_traces}
@@ -44,7 +44,7 @@ without_messages cpus tokens messages within = record {
   processors = within.processors;
   token_limit = within.token_limit;
   each_token = within.each_token;
-  message_limit = (let none : length {A = MsgSpec} [] ≤ 64 = arith in none);
+  message_limit = omega arith;
   each_message = All-nil (IsMessageWithin cpus);
 }
 
