@@ -25,8 +25,9 @@ example: ./lwkt_check examples/traces/take_under_readers.json
 const SHOW_USAGE: &str = "\
 usage: lwkt_show turns [--turns A..B | --rounds A..B] [--svg] [FILE]
                       run a script and show the run, or turns or rounds A to B of it
-       lwkt_show turns --trace [FILE]
-                      the same, and write its trace for lwkt_check
+       lwkt_show turns --trace | --chains [FILE]
+                      the same, and write its trace for lwkt_check, or the
+                      written sections of each token
        lwkt_show --help
                       say more
 example: ./lwkt_show turns examples/crossed_lists.json

@@ -1,7 +1,9 @@
-//! Shows a run of a script turn by turn: as lines, as a trace for `lwkt_check`, or as a picture.
+//! Shows a run of a script turn by turn: as lines, as a trace for `lwkt_check`, as a picture, or as the sections of
+//! each token.
 #![tactic(auto)]
 
 mod boxes;
+mod chains;
 mod drawings;
 mod ends;
 mod events;
@@ -24,6 +26,7 @@ mod turns;
 mod waits;
 mod words;
 
+pub use chains::chains_of;
 pub use pictures::picture_of;
 pub use reels::{Chosen, Counted, Reel};
 pub use shows::lines_of;

@@ -1,10 +1,10 @@
 -- What the arguments of the program say (own).
-use Rattle.std.specs.Prelude.{◌≡◌, ◌⊎◌, ℕ, ◌<◌, ◌≤◌, ◌^◌, List, [], ◌∷◌, ◌++◌, codes}
+use Rattle.std.specs.Prelude.{◌≡◌, ◌⊎◌, Bool, true, false, ℕ, ◌<◌, ◌≤◌, ◌^◌, List, [], ◌∷◌, ◌++◌, codes}
 use Rattle.std.specs.Str.Parse.{digits_value, without_leading_plus, IsNumeral}
 use Rattle.lwkt_scenes.specs.declared.reels.Counted.{Counted}
 use Rattle.lwkt_scenes.specs.declared.reels.Counted.TheVariants.{Turns, Rounds}
 use Rattle.lwkt_show.specs.declared.options.View.{View}
-use Rattle.lwkt_show.specs.declared.options.View.TheVariants.{Lines, Trace, Picture}
+use Rattle.lwkt_show.specs.declared.options.View.TheVariants.{Lines, Trace, Picture, Chains}
 use Rattle.lwkt_show.specs.declared.options.Options.{Options}
 
 -- an end of a range that is left out
@@ -29,6 +29,14 @@ abbrev pub view_words : View → List (List ℕ)
 view_words Lines = []
 view_words Trace = codes "--trace" ∷ []
 view_words Picture = codes "--svg" ∷ []
+view_words Chains = codes "--chains" ∷ []
+
+-- whether a view is of turns that are chosen, and not of the whole run
+abbrev pub has_range : View → Bool
+has_range Lines = true
+has_range Trace = false
+has_range Picture = true
+has_range Chains = false
 
 -- the word before a range, by what it counts
 abbrev pub range_word : Counted → List ℕ
@@ -43,10 +51,10 @@ IsChosen (word ∷ text ∷ []) counted first last = (word ≡ range_word counte
 IsChosen (word ∷ text ∷ more ∷ words) counted first last = ⊥
 
 -- the options that the arguments are: `turns`, and behind it the words for a range and those for a view, in either order; a range
--- rises, and a trace is whole
+-- rises, and a view that isn't of chosen turns is of all
 pub record AreOptions (words : List (List ℕ)) (options : Options) : Type 0 where
   pub range : List (List ℕ)
   pub chosen : IsChosen range options.counted options.first options.last
   pub are : (words ≡ codes "turns" ∷ range ++ view_words options.view) ⊎ (words ≡ codes "turns" ∷ view_words options.view ++ range)
   pub rises : options.first ≤ options.last
-  pub whole : options.view ≡ Trace → (options.first ≡ 0) × (options.last ≡ no_end)
+  pub whole : has_range options.view ≡ false → (options.first ≡ 0) × (options.last ≡ no_end)

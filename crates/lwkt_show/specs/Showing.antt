@@ -10,15 +10,16 @@ use Rattle.lwkt_scenes.specs.Shown.{EndsInReport, first_turn}
 use Rattle.lwkt_show.specs.Arguments.{AreOptions}
 use Rattle.lwkt_show.specs.declared.options.Options.{Options}
 use Rattle.lwkt_show.specs.declared.options.View.{View}
-use Rattle.lwkt_show.specs.declared.options.View.TheVariants.{Lines, Trace, Picture}
+use Rattle.lwkt_show.specs.declared.options.View.TheVariants.{Lines, Trace, Picture, Chains}
 use Rattle.lwkt_show.specs.declared.programs.Outcome.{Outcome}
 use Rattle.lwkt_show.specs.declared.programs.Outcome.TheVariants.{Shown, Past}
 
--- what is said of a text that shows what was kept: lines end with the report; of a trace and of a picture nothing is said
+-- what is said of a text that shows what was kept: lines end with the report; of the other views nothing is said
 abbrev pub ShowsAs : View → Closing → List ℕ → Type 0
 ShowsAs Lines closing text = EndsInReport closing text
 ShowsAs Trace closing text = Unit {0}
 ShowsAs Picture closing text = Unit {0}
+ShowsAs Chains closing text = Unit {0}
 
 -- there is a run of the script that these bytes are, with all that was kept of it, that ends so, and the text shows it
 pub record IsShown (view : View) (bytes : List ℕ) (end : End) (text : List ℕ) : Type 0 where

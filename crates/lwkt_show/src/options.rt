@@ -1,5 +1,5 @@
-ghost use Rattle.std.specs.Prelude.{◌≡◌, ◌≤◌, ◌∷◌, [], ◌++◌, codes, IfSome, map, string_bytes};
-ghost use Rattle.lwkt_show.specs.Arguments.{IsBound, IsRange, no_end, view_words, range_word, IsChosen, AreOptions};
+ghost use Rattle.std.specs.Prelude.{◌≡◌, ◌≤◌, ◌∷◌, [], ◌++◌, false, codes, IfSome, map, string_bytes};
+ghost use Rattle.lwkt_show.specs.Arguments.{IsBound, IsRange, no_end, view_words, range_word, has_range, AreOptions};
 
 use lwkt_scenes::Counted;
 
@@ -12,6 +12,8 @@ pub enum View {
     Trace,
     /// A picture.
     Picture,
+    /// The written sections of each token.
+    Chains,
 }
 
 /// How a run is shown, and which of its turns.
@@ -80,13 +82,21 @@ fn view_by(word: &str) -> Option<View>
     match word {
         "--trace" => Some(View::Trace),
         "--svg" => Some(View::Picture),
+        "--chains" => Some(View::Chains),
         _ => None,
     }
 }
 
-// The options of a range and a view, if the range rises and a trace is whole.
+// Whether a view is of turns that are chosen, and not of the whole run.
+fn has_range(view: View) -> bool
+    ensures { result ≡ has_range view }
+{
+    matches!(view, View::Lines | View::Picture)
+}
+
+// The options of a range and a view, if the range rises, and is that of the whole run where the view is.
 fn options_for(range: Range, view: View) -> Option<Options>
-    ensures { IfSome result (λ options. (options ≡ record { view = view; counted = range.counted; first = range.first; last = range.last }) × (options.first ≤ options.last) × (view ≡ View.Trace → (range.first ≡ 0) × (range.last ≡ no_end))) }
+    ensures { IfSome result (λ options. (options ≡ record { view = view; counted = range.counted; first = range.first; last = range.last }) × (options.first ≤ options.last) × (has_range view ≡ false → (range.first ≡ 0) × (range.last ≡ no_end))) }
 {
     let Range {
         counted,
@@ -96,7 +106,7 @@ fn options_for(range: Range, view: View) -> Option<Options>
     if first > last {
         return None;
     }
-    if view == View::Trace && !(first == 0 && last == usize::MAX) {
+    if !has_range(view) && !(first == 0 && last == usize::MAX) {
         return None;
     }
     Some(Options {
@@ -141,8 +151,8 @@ fn read_options(words: &[String]) -> Option<Options>
     }
 }
 
-/// The options that the arguments are: `turns`, then any of a range and one of `--svg` and `--trace`. The range is
-/// `--turns A..B` or `--rounds A..B`, with A at most B. A trace is always whole.
+/// The options that the arguments are: `turns`, then any of a range and one of `--svg`, `--trace` and `--chains`. The range is
+/// `--turns A..B` or `--rounds A..B`, with A at most B. A trace and chains are always of the whole run.
 pub fn options_of(words: &[String]) -> Option<Options>
     ensures { IfSome result (λ options. AreOptions (map string_bytes words.now) options) }
 {

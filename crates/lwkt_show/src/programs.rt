@@ -8,12 +8,12 @@ use lwkt_base::Fault;
 use lwkt_refusals::Speaker;
 use lwkt_report::{RunFault, Sink, Source, read_capped, write_whole};
 use lwkt_run::{End, TurnsRun, end_told, turns_run};
-use lwkt_scenes::{Chosen, Reel, lines_of, picture_of, trace_of};
+use lwkt_scenes::{Chosen, Reel, chains_of, lines_of, picture_of, trace_of};
 use std::alloc::Global;
 
 // What is said where the arguments are none of the program's.
 const USAGE: &str =
-    "lwkt_show: turns, and behind it --turns A..B or --rounds A..B, and --svg or --trace\n";
+    "lwkt_show: turns, and behind it --turns A..B or --rounds A..B, and --svg, --trace or --chains\n";
 
 // What is said where the run ended before the range that was chosen.
 const PAST: &str = "lwkt_show: the range lies behind the end of the run\n";
@@ -68,6 +68,7 @@ fn text_of(alloc: Global, options: &Options, run: &TurnsRun) -> Result<String, F
         View::Lines => lines_of(alloc, &reel, chosen),
         View::Trace => trace_of(alloc, &reel),
         View::Picture => picture_of(alloc, &reel, chosen),
+        View::Chains => chains_of(alloc, &reel),
     }
 }
 
