@@ -4,7 +4,6 @@
 mod arguments;
 pub mod closings;
 pub mod complaints;
-pub mod kept;
 mod listings;
 pub mod logs;
 pub mod notes;
@@ -19,7 +18,6 @@ pub use closings::{Closing, ThreadLine, TokenLine, Verdict};
 pub use complaints::{
     Complaint, Program, complain, complaint_line, complaint_of, refuse_arguments,
 };
-pub use kept::Line;
 pub use logs::Log;
 pub use lwkt_base::Entry;
 pub use notes::{NotedReader, NotedWriter};
