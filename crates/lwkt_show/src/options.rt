@@ -1,5 +1,6 @@
-ghost use Rattle.std.specs.Prelude.{◌≡◌, ◌≤◌, ◌∷◌, [], ◌++◌, false, codes, IfSome, map, string_bytes};
-ghost use Rattle.lwkt_show.specs.Arguments.{IsBound, IsRange, no_end, view_words, range_word, has_range, AreOptions};
+ghost use Rattle.std.specs.Prelude.{◌≡◌, ◌≢◌, ◌≤◌, ◌∷◌, [], false, ℕ, List, None, Some, IfSome, map, string_bytes};
+ghost use Rattle.std.specs.List.{before_first, after_first};
+ghost use Rattle.lwkt_show.specs.Arguments.{is_stop, IsBound, IsRange, no_end, IsView, range_word, has_range, Choose, Say, AreOptions};
 
 use lwkt_scenes::Counted;
 
@@ -44,7 +45,8 @@ const ALL: Range = Range {
 
 // One end of a range of turns or rounds, or what stands for one that is left out.
 fn bound(text: &str, without: usize) -> Option<usize>
-    ensures { IfSome result (λ n. IsBound without text.now n) }
+    ensures some { IfSome result (λ n. IsBound without text.now n) }
+    ensures only { (n : ℕ) → IsBound without text.now n → result ≡ Some n }
 {
     if text.is_empty() {
         return Some(without);
@@ -54,7 +56,8 @@ fn bound(text: &str, without: usize) -> Option<usize>
 
 // What a word says is counted by the range behind it.
 fn counted_by(word: &str) -> Option<Counted>
-    ensures { IfSome result (λ counted. word.now ≡ range_word counted) }
+    ensures some { IfSome result (λ counted. word.now ≡ range_word counted) }
+    ensures only { (counted : Counted) → word.now ≡ range_word counted → result ≡ Some counted }
 {
     match word {
         "--turns" => Some(Counted::Turns),
@@ -63,11 +66,22 @@ fn counted_by(word: &str) -> Option<Counted>
     }
 }
 
+// What stands before the two full stops of a range, and behind them.
+fn ends_of(text: &str) -> Option<(&str, &str)>
+    ensures some { IfSome result (λ ends. (ends.0.now ≡ before_first is_stop text.now) × (after_first is_stop text.now ≡ 46 ∷ ends.1.now)) }
+    ensures only { result ≡ None → (to : List ℕ) → after_first is_stop text.now ≢ 46 ∷ to }
+{
+    let (from, rest) = text.split_once('.')?;
+    let to = rest.strip_prefix('.')?;
+    Some((from, to))
+}
+
 // The range `A..B`.
 fn range_of(counted: Counted, text: &str) -> Option<Range>
-    ensures { IfSome result (λ range. (range.counted ≡ counted) × IsRange text.now range.first range.last) }
+    ensures some { IfSome result (λ range. (range.counted ≡ counted) × IsRange text.now range.first range.last) }
+    ensures only { (first last : ℕ) → IsRange text.now first last → result ≡ Some (record { counted = counted; first = first; last = last }) }
 {
-    let (from, to) = text.split_once("..")?;
+    let (from, to) = ends_of(text)?;
     Some(Range {
         counted,
         first: bound(from, 0)?,
@@ -77,7 +91,8 @@ fn range_of(counted: Counted, text: &str) -> Option<Range>
 
 // The view that a word asks for.
 fn view_by(word: &str) -> Option<View>
-    ensures { IfSome result (λ view. view_words view ≡ word.now ∷ []) }
+    ensures some { IfSome result (λ view. IsView word.now view) }
+    ensures only { (view : View) → IsView word.now view → result ≡ Some view }
 {
     match word {
         "--trace" => Some(View::Trace),
@@ -96,7 +111,8 @@ fn has_range(view: View) -> bool
 
 // The options of a range and a view, if the range rises, and is that of the whole run where the view is.
 fn options_for(range: Range, view: View) -> Option<Options>
-    ensures { IfSome result (λ options. (options ≡ record { view = view; counted = range.counted; first = range.first; last = range.last }) × (options.first ≤ options.last) × (has_range view ≡ false → (range.first ≡ 0) × (range.last ≡ no_end))) }
+    ensures some { IfSome result (λ options. (options ≡ record { view = view; counted = range.counted; first = range.first; last = range.last }) × (options.first ≤ options.last) × (has_range view ≡ false → (range.first ≡ 0) × (range.last ≡ no_end))) }
+    ensures only { range.first ≤ range.last → (has_range view ≡ false → (range.first ≡ 0) × (range.last ≡ no_end)) → result ≡ Some (record { view = view; counted = range.counted; first = range.first; last = range.last }) }
 {
     let Range {
         counted,
@@ -117,19 +133,20 @@ fn options_for(range: Range, view: View) -> Option<Options>
     })
 }
 
-// The options of two words behind `turns`: they are a range.
+// The options of a range and a view.
 fn ranged(word: &str, text: &str, view: View) -> Option<Options>
-    ensures before { IfSome result (λ options. AreOptions (codes "turns" ∷ word.now ∷ text.now ∷ view_words view) options) }
-    ensures behind { IfSome result (λ options. AreOptions (codes "turns" ∷ view_words view ++ word.now ∷ text.now ∷ []) options) }
+    ensures some { IfSome result (λ options. Choose word.now text.now options × (options.view ≡ view) × (options.first ≤ options.last) × (has_range view ≡ false → (options.first ≡ 0) × (options.last ≡ no_end))) }
+    ensures only { (options : Options) → Choose word.now text.now options → options.view ≡ view → options.first ≤ options.last → (has_range view ≡ false → (options.first ≡ 0) × (options.last ≡ no_end)) → result ≡ Some options }
 {
     let counted = counted_by(word)?;
     let range = range_of(counted, text)?;
     options_for(range, view)
 }
 
-// The options of three words behind `turns`: a range and a view, in either order.
+// The options of a range and a view, in either order.
 fn both(first: &str, second: &str, third: &str) -> Option<Options>
-    ensures { IfSome result (λ options. AreOptions (codes "turns" ∷ first.now ∷ second.now ∷ third.now ∷ []) options) }
+    ensures some { IfSome result (λ options. Say (first.now ∷ second.now ∷ third.now ∷ []) options × (options.first ≤ options.last) × (has_range options.view ≡ false → (options.first ≡ 0) × (options.last ≡ no_end))) }
+    ensures only { (options : Options) → Say (first.now ∷ second.now ∷ third.now ∷ []) options → options.first ≤ options.last → (has_range options.view ≡ false → (options.first ≡ 0) × (options.last ≡ no_end)) → result ≡ Some options }
 {
     if let Some(view) = view_by(first) {
         return ranged(second, third, view);
@@ -140,7 +157,8 @@ fn both(first: &str, second: &str, third: &str) -> Option<Options>
 
 // The options of the words behind `turns`.
 fn read_options(words: &[String]) -> Option<Options>
-    ensures { IfSome result (λ options. AreOptions (codes "turns" ∷ map string_bytes words.now) options) }
+    ensures some { IfSome result (λ options. Say (map string_bytes words.now) options × (options.first ≤ options.last) × (has_range options.view ≡ false → (options.first ≡ 0) × (options.last ≡ no_end))) }
+    ensures only { (options : Options) → Say (map string_bytes words.now) options → options.first ≤ options.last → (has_range options.view ≡ false → (options.first ≡ 0) × (options.last ≡ no_end)) → result ≡ Some options }
 {
     match words {
         [] => options_for(ALL, View::Lines),
@@ -154,7 +172,8 @@ fn read_options(words: &[String]) -> Option<Options>
 /// The options that the arguments are: `turns`, then any of a range and one of `--svg`, `--trace` and `--chains`. The range is
 /// `--turns A..B` or `--rounds A..B`, with A at most B. A trace and chains are always of the whole run.
 pub fn options_of(words: &[String]) -> Option<Options>
-    ensures { IfSome result (λ options. AreOptions (map string_bytes words.now) options) }
+    ensures some { IfSome result (λ options. AreOptions (map string_bytes words.now) options) }
+    ensures only { (options : Options) → AreOptions (map string_bytes words.now) options → result ≡ Some options }
 {
     let (first, rest) = words.split_first()?;
     if first.as_str() != "turns" {
