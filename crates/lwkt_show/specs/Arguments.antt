@@ -12,7 +12,8 @@ use Rattle.lwkt_show.specs.declared.options.Options.{Options}
 abbrev pub no_end : ℕ
 no_end = 18446744073709551615
 
--- an end of a range is this number, which is written there in decimal digits, or what stands for one that is left out
+-- an end of a range is this number, which is written there in decimal digits, with or without a plus before them, or what stands
+-- for one that is left out
 abbrev pub IsBound : ℕ → List ℕ → ℕ → Type 0
 IsBound without [] n = n ≡ without
 IsBound without (digit ∷ digits) n = IsNumeral 10 (without_leading_plus (digit ∷ digits)) × ((digits_value 10 (without_leading_plus (digit ∷ digits)) < 2 ^ 64) × (n ≡ digits_value 10 (without_leading_plus (digit ∷ digits))))
