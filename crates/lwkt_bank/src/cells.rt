@@ -71,6 +71,47 @@ impl CpuSeat {
         }
     }
 
+    // The value of a cell in the section's first row, and its value, if the cell was stored to.
+    #[inline]
+    fn kept_change(&self, bank: &Bank, tok: TokId, cell: u8) -> Option<Change>
+        requires of { bank_of self.now ≡ id_of bank.now }
+        requires there { tok.0 < tokens_of (bank_of self.now) }
+        requires held { is_exclusive (holding self.now tok.0) ≡ true }
+        requires inside { cell < (plan_of (bank_of self.now) tok.0).cells }
+        ensures { MatchOption result ((is_touched (entry self.now tok.0) cell ≡ false) × (slice_index (entry self.now tok.0).row cell ≡ slice_index (entry self.now tok.0).first cell)) (λ change. (is_touched (entry self.now tok.0) cell ≡ true) × (change.first ≡ slice_index (entry self.now tok.0).first cell) × (change.last ≡ slice_index (entry self.now tok.0).row cell)) }
+    {
+        let note = &self.notes[tok.0 as usize];
+        let cell = cell as usize;
+        match note.cells[cell] {
+            Touch::Untouched => None,
+            Touch::Same | Touch::Other => Some(Change {
+                first: note.first[cell],
+                last: note.last[cell],
+            }),
+        }
+    }
+
+    // The value of a cell in the section's first row, and its value: kept, if the cell was stored to, else loaded once.
+    #[inline]
+    pub(crate) fn change_of(&mut self, bank: &Bank, tok: TokId, cell: u8) -> Change
+        requires of { bank_of self.old ≡ id_of bank.now }
+        requires there { tok.0 < tokens_of (bank_of self.old) }
+        requires held { is_exclusive (holding self.old tok.0) ≡ true }
+        requires inside { cell < (plan_of (bank_of self.old) tok.0).cells }
+        ensures first { result.first ≡ slice_index (entry self.old tok.0).first cell }
+        ensures last { result.last ≡ slice_index (entry self.old tok.0).row cell }
+        ensures knowing { Knowing self.old self.new tok.0 (entry self.old tok.0) (first_load self.old.cpu tok.0 (entry self.old tok.0) cell) }
+    {
+        if let Some(change) = self.kept_change(bank, tok, cell) {
+            return change;
+        }
+        let value = self.load(bank, tok, cell);
+        Change {
+            first: value,
+            last: value,
+        }
+    }
+
     // The value of a cell in the section's first row: kept, if the cell was stored to, else loaded.
     #[inline]
     fn first_value(&mut self, bank: &Bank, tok: TokId, cell: u8) -> u64
@@ -148,7 +189,7 @@ impl CpuSeat {
         }
         Some(Change {
             first: note.first[0],
-            last: note.last,
+            last: note.last[0],
         })
     }
 
