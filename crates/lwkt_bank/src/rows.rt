@@ -95,7 +95,7 @@ impl CpuSeat {
         requires inside { cell < (plan_of (bank_of self.old) tok.0).cells }
         ensures { MatchOption result (IsUnchanged self.old self.new × (is_touched (entry self.old tok.0) cell ≡ false) × (slice_index (entry self.old tok.0).row cell ≡ slice_index (entry self.old tok.0).first cell)) (λ value. (is_touched (entry self.old tok.0) cell ≡ true) × (value ≡ slice_index (entry self.old tok.0).first cell) × Changes self.old self.new tok.0 (stored (entry self.old tok.0) cell value) (writes self.old.cpu tok.0 cell value ∷ [])) }
     {
-        let Some(first) = self.kept_first(bank, tok, cell) else {
+        let Some(Change { first, .. }) = self.kept_change(bank, tok, cell) else {
             return None;
         };
         self.store_over(bank, tok, cell, Change { first, last: first });

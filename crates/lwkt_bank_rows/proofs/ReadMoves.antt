@@ -68,7 +68,7 @@ not_exclusive held is isnt = cc
 gave_shared : (s s' : CpuSeat) (tok : ℕ) (given : Given) → holding s tok ≡ Holds Shared 0 → Gave s s' tok given → Stepped s s' tok (less (entry s tok)) gives_one
 gave_shared s s' tok One is gave = gave.1
 gave_shared s s' tok Clean is gave = absurd (not_exclusive (holding s tok) is gave.0)
-gave_shared s s' tok Written is gave = absurd (not_exclusive (holding s tok) is gave.0)
+gave_shared s s' tok (Written section) is gave = absurd (not_exclusive (holding s tok) is gave.0)
 
 given_reads : (s0 s1 s2 s3 : CpuSeat) (tok cell generation value : ℕ) (alone : Bool) (given : Given) → Reads s0 s1 s2 s3 tok cell generation value alone given → Stepped s2 s3 tok (less (entry s2 tok)) gives_one
 given_reads s0 s1 s2 s3 tok cell generation value alone given r = gave_shared s2 s3 tok given (loaded_shared s0 s1 s2 tok cell generation alone r.took r.loaded) r.gave

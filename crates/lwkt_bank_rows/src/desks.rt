@@ -11,7 +11,7 @@ use lwkt_bank::laws::{calls_change_holdings, references_are_counted};
 use lwkt_bank::seats::CpuSeat;
 use lwkt_base::list_laws::{acquiring_adds, lists_are_held, releasing_removes};
 use lwkt_base::lists::LIST_LIMIT;
-use lwkt_base::{Fault, Mode, Ref, TokId, TokList, TokSpec};
+use lwkt_base::{Fault, Mode, Ref, Section, TokId, TokList, TokSpec};
 use std::alloc::{AllocError, Global};
 
 /// A seat, and the references that it holds.
@@ -35,6 +35,11 @@ pub enum Ask {
     Give,
 }
 
+/// A written section: its generation, how many cells its token has, and their values before and after it; past the last cell
+/// zeros.
+#[derive(Clone, Copy, Debug, PartialEq, Eq)]
+pub struct Wrote(pub u64, pub usize, pub [u64; 4], pub [u64; 4]);
+
 /// What a call answered.
 #[derive(Clone, Copy, Debug, PartialEq, Eq)]
 pub enum Told {
@@ -43,7 +48,12 @@ pub enum Told {
     Value(u64),
     Done,
     Refused(Fault),
-    Given(Given),
+    /// One reference less.
+    One,
+    /// The end of a section that wrote nothing.
+    Clean,
+    /// The end of a written section.
+    Written(Wrote),
     /// There is no such seat, token or cell, or a condition of the call isn't met.
     Unfit,
 }
@@ -240,8 +250,40 @@ fn ask_give(bank: &Bank, desk: &mut ListedSeat, tok: TokId) -> Told
         return Told::Unfit;
     }
     match give(bank, &mut desk.seat, &mut desk.refs, tok) {
-        Some(given) => Told::Given(given),
+        Some(given) => told_of(tok, given),
         None => Told::Unfit,
+    }
+}
+
+// The cells of a row; past its end zeros.
+fn four_cells(cells: &[u64]) -> [u64; 4] {
+    let mut four = [0; 4];
+    for (place, cell) in four.iter_mut().zip(cells.iter()) {
+        *place = *cell;
+    }
+    four
+}
+
+// A written section of this token. Its rows have as many cells.
+fn told_section(tok: TokId, section: Section) -> Told {
+    let before = section.before.as_slice();
+    let after = section.after.as_slice();
+    if section.tok != tok || before.len() != after.len() {
+        return Told::Unfit;
+    }
+    Told::Written(Wrote(
+        section.generation,
+        before.len(),
+        four_cells(before),
+        four_cells(after),
+    ))
+}
+
+fn told_of(tok: TokId, given: Given) -> Told {
+    match given {
+        Given::One => Told::One,
+        Given::Clean => Told::Clean,
+        Given::Written(section) => told_section(tok, section),
     }
 }
 
