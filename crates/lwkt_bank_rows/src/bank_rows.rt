@@ -5,12 +5,12 @@ ghost use Rattle.lwkt_bank_rows.specs.Desks.{Sits};
 ghost use Rattle.lwkt_bank_rows.specs.Readings.{IsEmpty};
 
 use crate::desks::{Ask, Line, ListedSeat, Miss, Told, Wrote, call, close, open, play, seat_of};
-use crate::readers::{Reading, read_around};
+use crate::readers::{Reading, read_after, read_around};
 use lwkt_bank::answers::Try;
 use lwkt_bank::banks::Bank;
 use lwkt_bank::closed::Closed;
 use lwkt_bank::seats::CpuSeat;
-use lwkt_base::{Cells, Fault, Law, Mode, TokId};
+use lwkt_base::{Cells, Fault, Law, Mode, Section, TokId};
 use lwkt_fixtures::{Opened, Row, first_wrong, tokens};
 use std::alloc::Global;
 use std::process::Abort;
@@ -372,4 +372,29 @@ const LATER: Reading = Reading {
 fn readings_are_fresh(rt: HostRuntime) {
     assert!(rt; readings(rt.alloc(), 7) == Some((FIRST, LATER)));
     assert!(rt; readings(rt.alloc(), 3) == Some((FIRST, FIRST)));
+}
+
+// A section that stores this value, as it is told, and what its seat then reads.
+fn reading_after(alloc: Global, value: u64) -> Option<(Section, Reading)> {
+    let specs = tokens(alloc, &[Opened(Law::Any, 0, 0, &[3])]).ok()?;
+    let (bank, mut desks) = open(alloc, &specs, 1).ok()?;
+    let mut desk = desks.pop()?;
+    if bank.tokens() == 0 || bank.cells(TokId(0)) == 0 {
+        return None;
+    }
+    let _ = call(&bank, &mut desk, TokId(0), TAKE);
+    let _ = call(&bank, &mut desk, TokId(0), Ask::Store(0, value));
+    read_after(&bank, &mut desk, TokId(0))
+}
+
+#[test]
+fn what_a_section_left_is_read(rt: HostRuntime) {
+    let Some((section, reading)) = reading_after(rt.alloc(), 7) else {
+        assert!(rt; false);
+        return;
+    };
+    assert_eq!(rt; section.generation, 0);
+    assert_eq!(rt; section.before.as_slice(), [3].as_slice());
+    assert_eq!(rt; section.after.as_slice(), [7].as_slice());
+    assert_eq!(rt; reading, LATER);
 }

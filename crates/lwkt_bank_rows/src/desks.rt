@@ -1,7 +1,7 @@
 //! Seats at a bank with the lists of what they hold, and tables of calls on them.
 ghost use Rattle.std.specs.Prelude.{◌≡◌, ◌≢◌, ◌↔◌, ◌+◌, ◌<◌, true, [], ◌∷◌, ◌++◌, length, map, All, None, Some, IsTrue, IfSome, IfOk};
 ghost use Rattle.lwkt_base.specs.Refs.{first_mode};
-ghost use Rattle.lwkt_bank.specs.Seats.{id_of, tokens_of, cpus_of};
+ghost use Rattle.lwkt_bank.specs.Seats.{id_of, tokens_of, cpus_of, Gave};
 ghost use Rattle.lwkt_bank_rows.specs.Desks.{Sits, MayGive};
 
 use lwkt_bank::answers::{Given, Try};
@@ -121,8 +121,8 @@ fn again(bank: &Bank, seat: &mut CpuSeat, refs: &mut TokList, tok: TokId)
     push(refs, Ref { tok, mode });
 }
 
-// Whether a reference may be given back.
-fn may_give(bank: &Bank, seat: &mut CpuSeat, refs: &TokList, tok: TokId) -> bool
+/// Whether a reference may be given back.
+pub fn may_give(bank: &Bank, seat: &mut CpuSeat, refs: &TokList, tok: TokId) -> bool
     requires sits { Sits (id_of bank.now) seat.old refs.now }
     requires there { tok.0 < tokens_of (id_of bank.now) }
     ensures sits { Sits (id_of bank.now) seat.new refs.now }
@@ -137,11 +137,13 @@ fn may_give(bank: &Bank, seat: &mut CpuSeat, refs: &TokList, tok: TokId) -> bool
     }
 }
 
-fn give(bank: &Bank, seat: &mut CpuSeat, refs: &mut TokList, tok: TokId) -> Option<Given>
+/// Gives a reference back, with what the bank says of it.
+pub fn give(bank: &Bank, seat: &mut CpuSeat, refs: &mut TokList, tok: TokId) -> Option<Given>
     requires sits { Sits (id_of bank.now) seat.old refs.old }
     requires there { tok.0 < tokens_of (id_of bank.now) }
     requires may { MayGive seat.old tok.0 }
-    ensures { Sits (id_of bank.now) seat.new refs.new }
+    ensures sits { Sits (id_of bank.now) seat.new refs.new }
+    ensures gave { IfSome result (λ given. Gave seat.old seat.new tok.0 given) }
 {
     acquiring_adds();
     releasing_removes();
