@@ -377,8 +377,8 @@ fn readings_are_fresh(rt: HostRuntime) {
 // A section that stores this value, as it is told, and what its seat then reads.
 fn reading_after(alloc: Global, value: u64) -> Option<(Section, Reading)> {
     let specs = tokens(alloc, &[Opened(Law::Any, 0, 0, &[3])]).ok()?;
-    let (bank, mut desks) = open(alloc, &specs, 1).ok()?;
-    let mut desk = desks.pop()?;
+    let (bank, desks) = open(alloc, &specs, 2).ok()?;
+    let (_reader, mut desk) = pair_of(desks, &bank)?;
     if bank.tokens() == 0 || bank.cells(TokId(0)) == 0 {
         return None;
     }
