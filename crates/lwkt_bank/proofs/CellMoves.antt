@@ -1,12 +1,14 @@
 use Rattle.std.proofs.Common.{Bool, true, false, cond, ◌≡◌, ℕ, zero, suc, ◌+◌, ◌<◌, ◌≤◌, List, [], ◌∷◌, ◌++◌, length, take, set, get_or, Option, Some, None, refl, ap, sym, ◌∙◌, subst, arith, length-take}
 use Rattle.std.specs.Prelude.{slice_index}
 use Rattle.lwkt_base.specs.declared.names.CpuId.{CpuId}
+use Rattle.lwkt_base.specs.declared.sections.Section.{Section}
 use Rattle.lwkt_core.specs.declared.seats.Deed.{Deed}
 use Rattle.lwkt_bank.specs.declared.seats.CpuSeat.{CpuSeat}
-use Rattle.lwkt_bank.specs.Views.{is_touched, read, stored, raised}
-use Rattle.lwkt_bank.specs.Deeds.{reads, writes, reads_all, writes_all}
-use Rattle.lwkt_bank.specs.Seats.{entry, Changes, Knowing, first_load}
-use Rattle.lwkt_bank.proofs.ChangeMoves.{knowing_none, knowing_read, knowing_then, knowing_more}
+use Rattle.lwkt_bank.specs.declared.views.TokenEntry.{TokenEntry}
+use Rattle.lwkt_bank.specs.Views.{is_touched, read, stored, raised, ended}
+use Rattle.lwkt_bank.specs.Deeds.{reads, writes, reads_all, writes_all, gives_written}
+use Rattle.lwkt_bank.specs.Seats.{bank_of, plan_of, entry, Changes, Knowing, Stepped, first_load, last_loads, section_of, SectionEnded}
+use Rattle.lwkt_bank.proofs.ChangeMoves.{changed_twice, knowing_none, knowing_read, knowing_then, knowing_more, knowing_both}
 
 -- the first value of a cell is kept, and nothing is loaded
 pub first_known : (s : CpuSeat) (tok cell : ℕ) → is_touched (entry s tok) cell ≡ true → Knowing s s tok (entry s tok) (first_load s.cpu tok (entry s tok) cell)
@@ -59,6 +61,30 @@ row_more s mid s' tok cell value low is first second =
     ∙ sym (reads_snoc s.cpu tok 0 cell (slice_index row cell) (take cell row) (omega arith))
     ∙ ap (λ (xs : List ℕ). reads_all s.cpu tok 0 xs) (sym (take_more row cell low)) in
     subst G deeds (knowing_more s mid s' tok cell (reads_all s.cpu tok 0 (take cell row)) (reads s.cpu tok cell value ∷ []) first (subst F first.changes.cpu second))
+
+-- one cell more at the end of a written section
+pub loads_more : (s mid s' : CpuSeat) (tok cell : ℕ) → Knowing s mid tok (entry s tok) (last_loads s.cpu tok (entry s tok) cell) → Knowing mid s' tok (entry mid tok) (first_load mid.cpu tok (entry mid tok) cell) → Knowing s s' tok (entry s tok) (last_loads s.cpu tok (entry s tok) (cell + 1))
+loads_more s mid s' tok cell first second =
+    let F : CpuId → TokenEntry → Type 0 = λ c e. Knowing mid s' tok (entry mid tok) (first_load c tok e cell) in
+    let loaded = subst (λ (e : TokenEntry). F s.cpu e) first.changes.here (subst (λ (c : CpuId). F c (entry mid tok)) first.changes.cpu second) in
+    let G : ℕ → Type 0 = λ n. Knowing s s' tok (entry s tok) (last_loads s.cpu tok (entry s tok) n) in
+    let one : suc cell ≡ cell + 1 = omega arith in
+    subst G one (knowing_both s mid s' tok (last_loads s.cpu tok (entry s tok) cell) (first_load s.cpu tok (entry s tok) cell) first loaded)
+
+-- a section by its parts
+pub section_told : (tok : ℕ) (e : TokenEntry) (section : Section) → section.before ≡ e.first → section.after ≡ e.row → section.generation ≡ e.generation → section.tok.0 ≡ tok → section ≡ section_of tok e
+section_told tok e section before after generation is = λ i. record { before = before i; after = after i; generation = generation i; tok = record { 0 = is i } }
+
+-- the end of a written section after its loads
+pub section_ended : (s mid s' : CpuSeat) (tok : ℕ) (section : Section) → section ≡ section_of tok (entry s tok) → Knowing s mid tok (entry s tok) (last_loads s.cpu tok (entry s tok) (plan_of (bank_of s) tok).cells) → Stepped mid s' tok (ended (entry mid tok)) gives_written → SectionEnded s s' tok section
+section_ended s mid s' tok section told first second =
+    let F : CpuId → TokenEntry → Type 0 = λ c e. Changes mid s' tok (ended e) (gives_written c tok second.found ∷ []) in
+    let gave = subst (λ (e : TokenEntry). F s.cpu e) first.changes.here (subst (λ (c : CpuId). F c (entry mid tok)) first.changes.cpu second.changes) in
+    record {
+      told = told;
+      found = second.found;
+      changes = changed_twice s mid s' tok (record (entry s tok) { known = first.known }) (ended (entry s tok)) (last_loads s.cpu tok (entry s tok) (plan_of (bank_of s) tok).cells) (gives_written s.cpu tok second.found ∷ []) first.changes gave;
+    }
 
 -- an empty list of values is no store, and one value more is one store more
 writes_none : (made : List (Option ℕ)) (i : ℕ) (cpu : CpuId) (tok : ℕ) → ((k : ℕ) → get_or made k None ≡ None) → writes_all cpu tok i made ≡ []

@@ -1,4 +1,4 @@
-use Rattle.std.proofs.Common.{eq-eqb, ⊎_elim, Bool, true, cond, ◌≡◌, ℕ, ◌+◌, ◌<◌, ◌≤◌, List, [], ◌∷◌, ◌++◌, length, refl, ap, sym, ◌∙◌, subst, arith, set, zero, suc, take, get_or, Option, None, length-take, get_or-set_same}
+use Rattle.std.proofs.Common.{eq-eqb, ⊎_elim, Bool, true, cond, ◌≡◌, ℕ, ◌+◌, ◌<◌, ◌≤◌, List, [], ◌∷◌, ◌++◌, length, refl, ap, sym, ◌∙◌, subst, arith, set, zero, suc, take, get_or, Option, None, length-take, get_or-set_same, append_assoc}
 use Rattle.std.specs.Prelude.{slice_get, slice_index, All, Some}
 use Rattle.atomic_table.specs.declared.shared.Seat.{Seat}
 use Rattle.lwkt_base.specs.declared.names.CpuId.{CpuId}
@@ -121,6 +121,21 @@ knowing_more s mid s' tok cell made more first second =
       changes = changed_twice s mid s' tok (record (entry s tok) { known = first.known }) (record (entry s tok) { known = one ∷ first.known }) made more first.changes (subst F there second);
     }
 
+-- two calls by which more is known
+pub knowing_both : (s mid s' : CpuSeat) (tok : ℕ) (made more : List Deed) → Knowing s mid tok (entry s tok) made → Knowing mid s' tok (entry mid tok) more → Knowing s s' tok (entry s tok) (made ++ more)
+knowing_both s mid s' tok made more first second =
+    let F : TokenEntry → Type 0 = λ e. Changes mid s' tok (record e { known = second.known }) more in
+    record {
+      known = second.known;
+      new = second.new ++ first.new;
+      grown =
+          second.grown
+          ∙ ap (λ (e : TokenEntry). second.new ++ e.known) first.changes.here
+          ∙ ap (λ (xs : List KnownCell). second.new ++ xs) first.grown
+          ∙ sym (append_assoc second.new first.new (entry s tok).known);
+      changes = changed_twice s mid s' tok (record (entry s tok) { known = first.known }) (record (entry s tok) { known = second.known }) made more first.changes (subst F first.changes.here second.changes);
+    }
+
 -- what a seat keeps after a look
 pub keeps_seen : (s : CpuSeat) (w : View) (tok g : ℕ) (between : List Deed) (d : Deed) → tok < length s.seat.me.0.plans → w ≡ noted between s.seat.me.0 (seen (entry s tok) g) d → Keeps s.notes s.cpu w
 keeps_seen s w tok g between d there is =
@@ -231,12 +246,16 @@ plan_is bank s tok of = ap (λ (b : BankId). plan_at b.plans tok) of
 pub short_row : (bank : Bank) (s : CpuSeat) (tok : ℕ) → bank_of s ≡ id_of bank → (plan_at s.seat.me.0.plans tok).cells ≤ 4
 short_row bank s tok of = let e = ap (λ (p : Plan). p.cells) (plan_is bank s tok of) in let h = bank.short tok in omega arith
 
+-- so many cells of a list that are those of a row
+pub cells_read : (values row : List ℕ) (cells : ℕ) → length row ≡ cells → cells ≤ 4 → length values ≡ 4 → ((cell : ℕ) → cell < cells → slice_index values cell ≡ slice_index row cell) → take cells values ≡ row
+cells_read values row cells long short four same =
+    let few = length-take cells values in
+    ext_get_or 0 (take cells values) row (omega arith) (λ cell inside. let low : cell < cells = omega arith in get_or-take cells values cell 0 low ∙ same cell low)
+
 -- the row that was loaded cell by cell
 pub row_read : (s : CpuSeat) (tok : ℕ) (values : List ℕ) (cells : ℕ) → tok < length s.seat.me.0.plans → is_held (holding s tok) ≡ true → cells ≡ (plan_at s.seat.me.0.plans tok).cells → cells ≤ 4 → length values ≡ 4 → ((cell : ℕ) → cell < cells → slice_index values cell ≡ slice_index (entry s tok).row cell) → take cells values ≡ (entry s tok).row
 row_read s tok values cells there held are short four same =
-    let long = ((s.kept.each tok there).long held).1 in
-    let few = length-take cells values in
-    ext_get_or 0 (take cells values) (entry s tok).row (omega arith) (λ cell inside. let low : cell < cells = omega arith in get_or-take cells values cell 0 low ∙ same cell low)
+    cells_read values (entry s tok).row cells (((s.kept.each tok there).long held).1 ∙ sym are) short four same
 
 -- an empty list of values stores nothing
 written_none : (made : List (Option ℕ)) (i : ℕ) (row : List ℕ) → ((k : ℕ) → get_or made k None ≡ None) → written_over i made row ≡ row

@@ -42,7 +42,7 @@ again_adds s s' tok stepped = held_after s s' tok _ _ (one_more (holding s tok) 
 pub giving_removes : GivingRemoves
 giving_removes s s' tok One gave = held_after s s' tok _ _ (one_less (holding s tok)) gave.1.changes refl (removed (holding s) tok) (at_token s tok one_less (one_less (holding s tok)) refl)
 giving_removes s s' tok Clean gave = held_after s s' tok _ _ (one_less (holding s tok)) gave.2.changes refl (removed (holding s) tok) (at_token s tok one_less (one_less (holding s tok)) refl)
-giving_removes s s' tok Written gave = held_after s s' tok _ _ Nothing gave.2.changes refl (removed (holding s) tok) (at_token s tok one_less Nothing (ap one_less gave.0))
+giving_removes s s' tok (Written section) gave = held_after s s' tok _ _ Nothing gave.2.changes refl (removed (holding s) tok) (at_token s tok one_less Nothing (ap one_less gave.0))
 
 nothing_from : (k n : ℕ) → count_from k n holds_nothing ≡ 0
 nothing_from k zero = refl

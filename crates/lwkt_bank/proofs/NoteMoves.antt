@@ -51,9 +51,11 @@ IsNoted-same plan cpu e e' note held first row added touched noted' = record {
       let F : List ℕ → List ℕ → Type 0 = λ f r. IsTouched (touch_at note cell) (slice_index note.first cell) (slice_index f cell) (slice_index r cell) in
       subst (λ (r : List ℕ). F e'.first r) (sym row) (subst (λ (f : List ℕ). F f e.row) (sym first) (noted'.touched cell (sym (ap is_exclusive held) ∙ is)));
   stored_to = λ cell inside is. noted'.stored_to cell inside (sym (ap is_exclusive held) ∙ is) ∙ ap (λ (cells : List ℕ). list_any (λ c. eqb c cell) cells) (sym touched);
-  latest = λ tally is stored_to.
-      let l = noted'.latest tally (sym (ap is_exclusive held) ∙ is) stored_to in
-      (l.0 ∙ ap (λ (r : List ℕ). slice_index r 0) (sym row), subst (λ (xs : List Added). amount cpu xs ≤ note.last) (sym added) l.1);
+  lasts = noted'.lasts;
+  latest = λ cell is stored_to. noted'.latest cell (sym (ap is_exclusive held) ∙ is) stored_to ∙ ap (λ (r : List ℕ). slice_index r cell) (sym row);
+  covered = λ tally is stored_to.
+      let F : List Added → List ℕ → Type 0 = λ xs r. amount cpu xs ≤ slice_index r 0 in
+      subst (λ (r : List ℕ). F e'.added r) (sym row) (subst (λ (xs : List Added). F xs e.row) (sym added) (noted'.covered tally (sym (ap is_exclusive held) ∙ is) stored_to));
 }
 
 -- a look changes nothing of what is noted
@@ -72,7 +74,9 @@ IsNoted-nothing plan cpu e e' note held added noted' = record {
   mode = λ is. absurd (false≢true (sym (ap is_held held) ∙ is));
   touched = λ cell is. absurd (false≢true (sym (ap is_exclusive held) ∙ is));
   stored_to = λ cell inside is. absurd (false≢true (sym (ap is_exclusive held) ∙ is));
-  latest = λ tally is stored_to. absurd (false≢true (sym (ap is_exclusive held) ∙ is));
+  lasts = noted'.lasts;
+  latest = λ cell is stored_to. absurd (false≢true (sym (ap is_exclusive held) ∙ is));
+  covered = λ tally is stored_to. absurd (false≢true (sym (ap is_exclusive held) ∙ is));
 }
 
 -- another holding of a token that is held, in the same mode
@@ -87,7 +91,9 @@ IsNoted-held plan cpu e h references note was same count noted' = record {
   mode = λ is. same is ∙ noted'.mode was;
   touched = λ cell is. noted'.touched cell (sym (same (exclusive_held h is)) ∙ is);
   stored_to = λ cell inside is. noted'.stored_to cell inside (sym (same (exclusive_held h is)) ∙ is);
-  latest = λ tally is stored_to. noted'.latest tally (sym (same (exclusive_held h is)) ∙ is) stored_to;
+  lasts = noted'.lasts;
+  latest = λ cell is stored_to. noted'.latest cell (sym (same (exclusive_held h is)) ∙ is) stored_to;
+  covered = λ tally is stored_to. noted'.covered tally (sym (same (exclusive_held h is)) ∙ is) stored_to;
 }
 
 -- one reference less keeps the mode, and so does one more
@@ -168,7 +174,9 @@ IsNoted-taken plan cpu e word Exclusive row note long noted' =
           let F : Touch → Type 0 = λ t. IsTouched t (slice_index note.first cell) (slice_index row cell) (slice_index row cell) in
           subst F (sym (untouched_at cell)) (record { first_kept = λ s. absurd (false≢true s); same = λ s. refl; other = λ o. absurd (false≢true o) });
       stored_to = λ cell inside is. ap is_stored (untouched_at cell);
-      latest = λ tally is stored_to. absurd (false≢true stored_to);
+      lasts = noted'.lasts;
+      latest = λ cell is stored_to. absurd (false≢true (sym (ap is_stored (untouched_at cell)) ∙ stored_to));
+      covered = λ tally is stored_to. absurd (false≢true stored_to);
     }
 IsNoted-taken plan cpu e word Shared row note long noted' =
     let k = seen-keeps e (generation_in word) in
@@ -182,7 +190,9 @@ IsNoted-taken plan cpu e word Shared row note long noted' =
       mode = λ is. refl;
       touched = λ cell is. absurd (false≢true is);
       stored_to = λ cell inside is. absurd (false≢true is);
-      latest = λ tally is stored_to. absurd (false≢true is);
+      lasts = noted'.lasts;
+      latest = λ cell is stored_to. absurd (false≢true is);
+      covered = λ tally is stored_to. absurd (false≢true is);
     }
 
 -- after an entry of a token that exists has changed, no other token is held
@@ -318,6 +328,19 @@ module _ (plan : Plan) (cpu : ℕ) (e : TokenEntry) (note : TokenNote) (noted' :
       ap is_stored (get_or-set_other note.cells cell k (touch_of change) Untouched away) ∙ noted'.stored_to k there is ∙ sym (touched_other e cell k away))
       (cases_eq k cell)
 
+  -- the value of each cell that was stored to
+  pub last_there : (k : ℕ) → is_stored (touch_at (note_changed note cell change) k) ≡ true → slice_index (note_changed note cell change).last k ≡ slice_index row k
+  last_there k stored_to = ⊎_elim
+      (λ (same : k ≡ cell).
+      let l = noted'.lasts in
+      let F : ℕ → Type 0 = λ j. slice_index (note_changed note cell change).last j ≡ slice_index row j in
+      subst F (sym same) (get_or-set_same note.last cell change.last 0 (omega arith) ∙ sym row_here))
+      (λ away.
+      get_or-set_other note.last cell k change.last 0 away
+      ∙ noted'.latest k is (ap is_stored (sym (get_or-set_other note.cells cell k (touch_of change) Untouched away)) ∙ stored_to)
+      ∙ sym (get_or-set_other e.row cell k change.last 0 away))
+      (cases_eq k cell)
+
   pub IsNoted-stored : plan.law ≢ Tally → IsNoted plan cpu (stored e cell change.last) (note_changed note cell change)
   IsNoted-stored untallied = record {
     four = length-set note.cells cell (touch_of change) ∙ noted'.four;
@@ -329,12 +352,14 @@ module _ (plan : Plan) (cpu : ℕ) (e : TokenEntry) (note : TokenNote) (noted' :
     mode = noted'.mode;
     touched = λ k h. touched_there k;
     stored_to = λ k there h. stored_there k there;
-    latest = λ tally h stored_to. absurd (untallied tally);
+    lasts = length-set note.last cell change.last ∙ noted'.lasts;
+    latest = λ k h stored_to. last_there k stored_to;
+    covered = λ tally h stored_to. absurd (untallied tally);
   }
 
 -- a Tally token's cell that was raised
 pub IsNoted-raised : (plan : Plan) (cpu : CpuId) (e : TokenEntry) (note : TokenNote) (noted' : IsNoted plan cpu.0 e note) → is_exclusive e.held ≡ true → plan.cells ≤ 4 → (change : Change) (k : ℕ) → 0 < plan.cells → change.first ≡ slice_index e.first 0 → change.last ≡ slice_index e.row 0 + k → amount cpu.0 e.added ≤ slice_index e.row 0
-    → IsNoted plan cpu.0 (raised e cpu k) (record (note_changed note 0 change) { tally = note.tally + k; last = change.last })
+    → IsNoted plan cpu.0 (raised e cpu k) (record (note_changed note 0 change) { tally = note.tally + k })
 IsNoted-raised plan cpu e note noted' is within change k inside first_is last_is under =
     let own_sum = sum_by-cons (λ (x : Added). cond (eqb x.cpu.0 cpu.0) x.amount 0) (record { cpu = cpu; amount = k }) e.added in
     let test = ap (λ b. cond b k 0) (eq-eqb cpu.0 cpu.0 refl) in
@@ -352,10 +377,15 @@ IsNoted-raised plan cpu e note noted' is within change k inside first_is last_is
       references = noted'.references;
       mode = noted'.mode;
       stored_to = λ j there h. stored_there plan cpu.0 e note noted' is within 0 change inside first_is j there;
-      latest = λ tally h stored_to.
+      lasts = length-set note.last 0 change.last ∙ noted'.lasts;
+      latest = λ j h stored_to.
+          let F : ℕ → Type 0 = λ last. slice_index (note_changed note 0 change).last j ≡ slice_index (slice_set e.row 0 last) j in
+          subst F last_is (last_there plan cpu.0 e note noted' is within 0 change inside first_is j stored_to);
+      covered = λ tally h stored_to.
           let l = (noted'.long (exclusive_held e.held is)).1 in
           let low : 0 < length e.row = omega arith in
-          (last_is ∙ sym (get_or-set_same e.row 0 (slice_index e.row 0 + k) 0 low), omega arith);
+          let grown = get_or-set_same e.row 0 (slice_index e.row 0 + k) 0 low in
+          omega arith;
       touched = λ j h.
           let F : ℕ → Type 0 = λ last. IsTouched (touch_at (note_changed note 0 change) j) (slice_index (note_changed note 0 change).first j) (slice_index e.first j) (slice_index (slice_set e.row 0 last) j) in
           subst F last_is (touched_there plan cpu.0 e note noted' is within 0 change inside first_is j);
@@ -373,7 +403,9 @@ IsNoted-missed plan cpu e Shared note held noted' = record {
   mode = λ is. absurd (false≢true (sym (ap is_held held) ∙ is));
   touched = λ cell is. absurd (false≢true (sym (ap is_exclusive held) ∙ is));
   stored_to = λ cell inside is. absurd (false≢true (sym (ap is_exclusive held) ∙ is));
-  latest = λ tally is stored_to. absurd (false≢true (sym (ap is_exclusive held) ∙ is));
+  lasts = noted'.lasts;
+  latest = λ cell is stored_to. absurd (false≢true (sym (ap is_exclusive held) ∙ is));
+  covered = λ tally is stored_to. absurd (false≢true (sym (ap is_exclusive held) ∙ is));
 }
 IsNoted-missed plan cpu e Exclusive note held noted' = record {
   four = refl;
@@ -385,5 +417,7 @@ IsNoted-missed plan cpu e Exclusive note held noted' = record {
   mode = λ is. absurd (false≢true (sym (ap is_held held) ∙ is));
   touched = λ cell is. absurd (false≢true (sym (ap is_exclusive held) ∙ is));
   stored_to = λ cell inside is. absurd (false≢true (sym (ap is_exclusive held) ∙ is));
-  latest = λ tally is stored_to. absurd (false≢true (sym (ap is_exclusive held) ∙ is));
+  lasts = noted'.lasts;
+  latest = λ cell is stored_to. absurd (false≢true (sym (ap is_exclusive held) ∙ is));
+  covered = λ tally is stored_to. absurd (false≢true (sym (ap is_exclusive held) ∙ is));
 }

@@ -177,7 +177,9 @@ Keeps-new cpu v w kind is =
             mode = λ held. absurd (false≢true held);
             touched = λ cell held. absurd (false≢true held);
             stored_to = λ cell inside held. absurd (false≢true held);
-            latest = λ tally held stored_to. absurd (false≢true held);
+            lasts = refl;
+            latest = λ cell held stored_to. absurd (false≢true held);
+            covered = λ tally held stored_to. absurd (false≢true held);
           });
       within = λ tok held. absurd (false≢true held);
     })

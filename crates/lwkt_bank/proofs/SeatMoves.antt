@@ -302,7 +302,7 @@ module _ (plans : List Plan) (cpus id : ℕ) (v : View) (tok : ℕ) (kind : v.ki
       let a = word_step s r here (ended e) between notes (x + one_section) (GiveWritten cpu t) (at-tok v.tokens tok) refl refl (sym m.held ∙ last, (λ same. written (own.2 ∙ same ∙ sym own.1)), meets) (λ adds. absurd (false≢true adds))
       (turns_give_written r.model.cpus (plan_at plans tok) (token_at r.model tok) cpu e x (cells s r here) m last t) in
       let b = left_as s r here (noted between v (ended e) (deed_by cpu (GiveWritten cpu t) notes)) (GiveWritten cpu t) (x + one_section) ((x + one_section) % 2 ^ 64) (omega arith) a in
-      (ended e, (b.0, (b.1, refl)))
+      (ended e, (b.0, (b.1, (generation_is r.model.cpus (plan_at plans tok) tk cpu e x (cells s r here) m ∙ sym own.0, refl))))
 
   -- a cell that is read
   pub read_steps : is_held e.held ≡ true → (cell : ℕ) → cell < (plan_at plans tok).cells → Steps plans cpus id v (cell_word tok cell) (λ x. x) (λ x. Read cpu t cell x) (λ _. []) (λ between x w. ReadsCell between tok cell v x w)

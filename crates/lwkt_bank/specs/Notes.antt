@@ -31,7 +31,7 @@ clerk_number Spent = 0
 
 -- what is kept of a token that was never taken, and what stands for a note past the last
 abbrev pub no_note : TokenNote
-no_note = record { first = 0 ∷ 0 ∷ 0 ∷ 0 ∷ []; tally = 0; last = 0; cells = Untouched ∷ Untouched ∷ Untouched ∷ Untouched ∷ []; mode = Exclusive; references = 0 }
+no_note = record { first = 0 ∷ 0 ∷ 0 ∷ 0 ∷ []; last = 0 ∷ 0 ∷ 0 ∷ 0 ∷ []; tally = 0; cells = Untouched ∷ Untouched ∷ Untouched ∷ Untouched ∷ []; mode = Exclusive; references = 0 }
 
 abbrev pub note_at : List TokenNote → ℕ → TokenNote
 note_at notes tok = slice_index_or notes tok no_note
@@ -53,7 +53,7 @@ begun note Exclusive = record note { cells = Untouched ∷ Untouched ∷ Untouch
 begun note Shared = record note { mode = Shared; references = 1 }
 
 abbrev pub note_changed : TokenNote → ℕ → Change → TokenNote
-note_changed note cell change = record note { first = slice_set note.first cell change.first; cells = slice_set note.cells cell (touch_of change) }
+note_changed note cell change = record note { first = slice_set note.first cell change.first; last = slice_set note.last cell change.last; cells = slice_set note.cells cell (touch_of change) }
 
 -- whether a cell was stored to, and whether it has another value than its first
 abbrev pub is_stored : Touch → Bool
@@ -73,10 +73,11 @@ pub record IsTouched (touch : Touch) (kept first value : ℕ) : Type 0 where
   pub other : is_other touch ≡ true → value ≢ first
 
 -- what a seat keeps at run time of a token is what its view says; how the cells stand only while it is held exclusively, and the
--- value of a Tally token's cell only where it was added to in the section
+-- value of a cell only where it was stored to in the section
 pub record IsNoted (plan : Plan) (cpu : ℕ) (e : TokenEntry) (note : TokenNote) : Type 0 where
   pub four : length note.cells ≡ 4
   pub firsts : length note.first ≡ 4
+  pub lasts : length note.last ≡ 4
   pub tally : note.tally ≡ amount cpu e.added
   pub own : (other : ℕ) → other ≢ cpu → amount other e.added ≡ 0
   pub long : is_held e.held ≡ true → (length e.first ≡ plan.cells) × (length e.row ≡ plan.cells)
@@ -84,7 +85,8 @@ pub record IsNoted (plan : Plan) (cpu : ℕ) (e : TokenEntry) (note : TokenNote)
   pub mode : is_held e.held ≡ true → is_exclusive e.held ≡ is_exclusive (Holds note.mode 0)
   pub touched : (cell : ℕ) → is_exclusive e.held ≡ true → IsTouched (touch_at note cell) (slice_index note.first cell) (slice_index e.first cell) (slice_index e.row cell)
   pub stored_to : (cell : ℕ) → cell < plan.cells → is_exclusive e.held ≡ true → is_stored (touch_at note cell) ≡ is_touched e cell
-  pub latest : plan.law ≡ Tally → is_exclusive e.held ≡ true → is_stored (touch_at note 0) ≡ true → (note.last ≡ slice_index e.row 0) × (amount cpu e.added ≤ note.last)
+  pub latest : (cell : ℕ) → is_exclusive e.held ≡ true → is_stored (touch_at note cell) ≡ true → slice_index note.last cell ≡ slice_index e.row cell
+  pub covered : plan.law ≡ Tally → is_exclusive e.held ≡ true → is_stored (touch_at note 0) ≡ true → amount cpu e.added ≤ slice_index e.row 0
 
 -- what a seat keeps at run time is what its view says, the view is that of its processor, and it holds no token that isn't there
 pub record Keeps (notes : List TokenNote) (cpu : CpuId) (v : View) : Type 0 where

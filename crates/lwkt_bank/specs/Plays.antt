@@ -46,7 +46,8 @@ Exchanges mode old new between tok v n w =
 abbrev pub exchanges : Mode → Step (Unit {0}) → Me (Unit {0}) View → ℕ → Me (Unit {0}) View → Type 0
 exchanges mode st = at_word (Exchanges mode st.first st.second) st
 
--- a further reference, a mark, and the three ways of giving a reference back
+-- a further reference, a mark, and the three ways of giving a reference back; the end of a written section finds the generation
+-- that the seat knows
 abbrev pub AddsOne : List Deed → ℕ → View → ℕ → View → Type 0
 AddsOne between tok v n w = w ≡ noted between v (more (at v.tokens tok)) (adds_one (who v) tok n)
 
@@ -60,7 +61,7 @@ abbrev pub GivesClean : List Deed → ℕ → View → ℕ → View → Type 0
 GivesClean between tok v n w = w ≡ noted between v (less (at v.tokens tok)) (gives_clean (who v) tok n)
 
 abbrev pub GivesWritten : List Deed → ℕ → View → ℕ → View → Type 0
-GivesWritten between tok v n w = w ≡ noted between v (ended (at v.tokens tok)) (gives_written (who v) tok n)
+GivesWritten between tok v n w = (generation_in n ≡ (at v.tokens tok).generation) × (w ≡ noted between v (ended (at v.tokens tok)) (gives_written (who v) tok n))
 
 -- a cell that is read, which is at least what any processor has added if the token keeps tallies; one that is stored to, and the cell of a Tally token that is raised
 abbrev pub ReadsCell : List Deed → ℕ → ℕ → View → ℕ → View → Type 0

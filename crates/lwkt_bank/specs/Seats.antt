@@ -1,4 +1,4 @@
-use Rattle.std.specs.Prelude.{◌≡◌, ◌≢◌, ◌⊎◌, ℕ, ◌+◌, ◌<◌, ◌≤◌, suc, if◌then◌else◌, Bool, true, List, [], ◌∷◌, ◌++◌, length, Option, Some, None, slice_get, slice_index, slice_set}
+use Rattle.std.specs.Prelude.{◌≡◌, ◌≢◌, ◌⊎◌, ℕ, ◌+◌, ◌<◌, ◌≤◌, zero, suc, if◌then◌else◌, Bool, true, List, [], ◌∷◌, ◌++◌, length, Option, Some, None, slice_get, slice_index, slice_set}
 use Rattle.atomic_table.specs.Seated.{TableId}
 use Rattle.atomic_table.specs.declared.shared.Seat.{Seat}
 use Rattle.lwkt_base.specs.declared.names.CpuId.{CpuId}
@@ -8,6 +8,7 @@ use Rattle.lwkt_base.specs.declared.laws.Law.{Law}
 use Rattle.lwkt_base.specs.declared.laws.Law.TheVariants.{Any, Sum, Order, Cap, Tally}
 use Rattle.lwkt_base.specs.declared.holdings.Held.TheVariants.{Holds}
 use Rattle.lwkt_core.specs.Tokens.{IsNotLastExclusive}
+use Rattle.lwkt_base.specs.declared.sections.Section.{Section}
 use Rattle.lwkt_base.specs.declared.words.TokWord.{TokWord}
 use Rattle.lwkt_base.specs.declared.words.Decision.{Decision}
 use Rattle.lwkt_base.specs.declared.words.Decision.TheVariants.{Take, Held, Marked, Worn as IsWorn}
@@ -29,7 +30,7 @@ use Rattle.lwkt_bank.specs.declared.answers.Given.TheVariants.{One, Clean, Writt
 use Rattle.lwkt_core.specs.declared.seats.Deed.{Deed}
 use Rattle.lwkt_core.specs.declared.events.Event.{Event}
 use Rattle.lwkt_core.specs.History.{steps_by, events_by, AreOwn, Grows}
-use Rattle.lwkt_bank.specs.Views.{at, count_from, held_of, generation_in, is_touched, looked, taken, less, ended, who}
+use Rattle.lwkt_bank.specs.Views.{at, count_from, held_of, generation_in, is_touched, looked, taken, less, ended, who, named}
 use Rattle.lwkt_bank.specs.Deeds.{loads, takes, loses, gives_one, gives_clean, gives_written, reads, writes_all}
 use Rattle.lwkt_bank.specs.Plays.{IsTakenRow}
 use Rattle.lwkt_bank.specs.Rule.{plan_at}
@@ -156,11 +157,30 @@ pub record Stepped (s s' : CpuSeat) (tok : ℕ) (e : TokenEntry) (deed : CpuId �
   pub found : ℕ
   pub changes : Changes s s' tok e (deed s.cpu tok found ∷ [])
 
--- what giving a reference back tells, by its answer: Written exactly if row and first row differ
+-- the load of a cell of a token, if it wasn't stored to since the section began: before the first store to it, or at the end
+abbrev pub first_load : CpuId → ℕ → TokenEntry → ℕ → List Deed
+first_load cpu tok e cell = if is_touched e cell then [] else (reads cpu tok cell (slice_index e.first cell) ∷ [])
+
+-- the loads at the end of a written section: of each cell below a number that wasn't stored to since the section began, rising
+abbrev pub last_loads : CpuId → ℕ → TokenEntry → ℕ → List Deed
+last_loads cpu tok e zero = []
+last_loads cpu tok e (suc cells) = last_loads cpu tok e cells ++ first_load cpu tok e cells
+
+-- the section that a holder ends: its first row, its row, and the generation at which it began
+abbrev pub section_of : ℕ → TokenEntry → Section
+section_of tok e = record { before = e.first; after = e.row; generation = e.generation; tok = named tok }
+
+-- the end of a written section, which is told: each cell that wasn't stored to in it was loaded once before, and no other
+pub record SectionEnded (s s' : CpuSeat) (tok : ℕ) (section : Section) : Type 0 where
+  pub told : section ≡ section_of tok (entry s tok)
+  pub found : ℕ
+  pub changes : Changes s s' tok (ended (entry s tok)) (last_loads s.cpu tok (entry s tok) (plan_of (bank_of s) tok).cells ++ gives_written s.cpu tok found ∷ [])
+
+-- what giving a reference back tells, by its answer: Written exactly if row and first row differ, and then the section
 abbrev pub Gave : CpuSeat → CpuSeat → ℕ → Given → Type 0
 Gave s s' tok One = IsNotLastExclusive (holding s tok) × Stepped s s' tok (less (entry s tok)) gives_one
 Gave s s' tok Clean = (holding s tok ≡ Holds Exclusive 0) × ((entry s tok).row ≡ (entry s tok).first) × Stepped s s' tok (less (entry s tok)) gives_clean
-Gave s s' tok Written = (holding s tok ≡ Holds Exclusive 0) × ((entry s tok).row ≢ (entry s tok).first) × Stepped s s' tok (ended (entry s tok)) gives_written
+Gave s s' tok (Written section) = (holding s tok ≡ Holds Exclusive 0) × ((entry s tok).row ≢ (entry s tok).first) × SectionEnded s s' tok section
 
 -- a call that leaves this entry, apart from the known cells, of which there may be more; it has done these deeds
 pub record Knowing (s s' : CpuSeat) (tok : ℕ) (e : TokenEntry) (deeds : List Deed) : Type 0 where
@@ -175,10 +195,6 @@ pub record IsUnchanged (s s' : CpuSeat) : Type 0 where
   pub cpu : s'.cpu ≡ s.cpu
   pub entries : (tok : ℕ) → entry s' tok ≡ entry s tok
   pub past : past_of s' ≡ past_of s
-
--- the load of a cell of a token before the first store to it in a section
-abbrev pub first_load : CpuId → ℕ → TokenEntry → ℕ → List Deed
-first_load cpu tok e cell = if is_touched e cell then [] else (reads cpu tok cell (slice_index e.first cell) ∷ [])
 
 -- the loads of a token's row in a question for its law: none where the law asks nothing of a row
 abbrev pub lawful_loads : Law → List Deed → List Deed

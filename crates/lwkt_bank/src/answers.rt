@@ -1,3 +1,5 @@
+use lwkt_base::Section;
+
 /// What a try to take a token answers.
 #[derive(Clone, Copy, Debug, PartialEq, Eq)]
 pub enum Try {
@@ -18,6 +20,6 @@ pub enum Given {
     One,
     /// The last reference of an exclusive holding, with the row as at the beginning of the section.
     Clean,
-    /// The last reference of an exclusive holding, with another row.
-    Written,
+    /// The last reference of an exclusive holding, with another row; the section that it ended.
+    Written(Section),
 }

@@ -51,39 +51,50 @@ impl CpuSeat {
         requires inside { cell < (plan_of (bank_of self.old) tok.0).cells }
         ensures { Knowing self.old self.new tok.0 (stored (entry self.old tok.0) cell value) (first_load self.old.cpu tok.0 (entry self.old tok.0) cell ++ writes self.old.cpu tok.0 cell value ∷ []) }
     {
-        let first = self.first_value(bank, tok, cell);
+        let Change { first, .. } = self.change_of(bank, tok, cell);
         self.store_over(bank, tok, cell, Change { first, last: value });
     }
 
-    // The value of a cell in the section's first row, if the cell was stored to.
+    // The value of a cell in the section's first row, and its value, if the cell was stored to.
     #[inline]
-    pub(crate) fn kept_first(&self, bank: &Bank, tok: TokId, cell: u8) -> Option<u64>
+    pub(crate) fn kept_change(&self, bank: &Bank, tok: TokId, cell: u8) -> Option<Change>
         requires of { bank_of self.now ≡ id_of bank.now }
         requires there { tok.0 < tokens_of (bank_of self.now) }
         requires held { is_exclusive (holding self.now tok.0) ≡ true }
         requires inside { cell < (plan_of (bank_of self.now) tok.0).cells }
-        ensures { MatchOption result ((is_touched (entry self.now tok.0) cell ≡ false) × (slice_index (entry self.now tok.0).row cell ≡ slice_index (entry self.now tok.0).first cell)) (λ value. (is_touched (entry self.now tok.0) cell ≡ true) × (value ≡ slice_index (entry self.now tok.0).first cell)) }
+        ensures { MatchOption result ((is_touched (entry self.now tok.0) cell ≡ false) × (slice_index (entry self.now tok.0).row cell ≡ slice_index (entry self.now tok.0).first cell)) (λ change. (is_touched (entry self.now tok.0) cell ≡ true) × (change.first ≡ slice_index (entry self.now tok.0).first cell) × (change.last ≡ slice_index (entry self.now tok.0).row cell)) }
     {
-        let at = tok.0 as usize;
-        match self.notes[at].cells[cell as usize] {
+        let note = &self.notes[tok.0 as usize];
+        let cell = cell as usize;
+        match note.cells[cell] {
             Touch::Untouched => None,
-            Touch::Same | Touch::Other => Some(self.notes[at].first[cell as usize]),
+            Touch::Same | Touch::Other => Some(Change {
+                first: note.first[cell],
+                last: note.last[cell],
+            }),
         }
     }
 
-    // The value of a cell in the section's first row: kept, if the cell was stored to, else loaded.
+    // The value of a cell in the section's first row, and its value: kept, if the cell was stored to, else loaded once.
     #[inline]
-    fn first_value(&mut self, bank: &Bank, tok: TokId, cell: u8) -> u64
+    pub(crate) fn change_of(&mut self, bank: &Bank, tok: TokId, cell: u8) -> Change
         requires of { bank_of self.old ≡ id_of bank.now }
         requires there { tok.0 < tokens_of (bank_of self.old) }
         requires held { is_exclusive (holding self.old tok.0) ≡ true }
         requires inside { cell < (plan_of (bank_of self.old) tok.0).cells }
-        ensures value { result ≡ slice_index (entry self.old tok.0).first cell }
+        ensures first { result.first ≡ slice_index (entry self.old tok.0).first cell }
+        ensures last { result.last ≡ slice_index (entry self.old tok.0).row cell }
         ensures knowing { Knowing self.old self.new tok.0 (entry self.old tok.0) (first_load self.old.cpu tok.0 (entry self.old tok.0) cell) }
     {
-        match self.kept_first(bank, tok, cell) {
-            Some(value) => value,
-            None => self.load(bank, tok, cell),
+        match self.kept_change(bank, tok, cell) {
+            Some(change) => change,
+            None => {
+                let value = self.load(bank, tok, cell);
+                Change {
+                    first: value,
+                    last: value,
+                }
+            }
         }
     }
 
@@ -148,7 +159,7 @@ impl CpuSeat {
         }
         Some(Change {
             first: note.first[0],
-            last: note.last,
+            last: note.last[0],
         })
     }
 

@@ -7,14 +7,15 @@ ghost use Rattle.lwkt_bank.specs.Views.{less, ended};
 ghost use Rattle.lwkt_bank.specs.Deeds.{gives_one, gives_clean, gives_written};
 ghost use Rattle.lwkt_core.specs.Tokens.{IsNotLastExclusive};
 ghost use Rattle.lwkt_bank.specs.Notes.{is_other};
-ghost use Rattle.lwkt_bank.specs.Seats.{id_of, bank_of, tokens_of, plan_of, entry, holding, Stepped, Gave};
+ghost use Rattle.lwkt_bank.specs.Seats.{id_of, bank_of, tokens_of, plan_of, entry, holding, Stepped, SectionEnded, Gave};
 
 use crate::answers::Given;
 use crate::banks::Bank;
 use crate::notes::Touch;
+use crate::places::generation_in;
 use crate::seats::CpuSeat;
 use crate::steps;
-use lwkt_base::{Held, Mode, TokId};
+use lwkt_base::{Held, Mode, Row, Section, TokId};
 
 // Whether the cell was stored to, and has another value than its first.
 fn is_other(touch: Touch) -> bool
@@ -76,17 +77,41 @@ impl CpuSeat {
         self.notes[tok.0 as usize].references = 0;
     }
 
+    // Ends a written section, and answers the generation at which it began.
     #[inline]
-    fn end_written(&mut self, bank: &Bank, tok: TokId)
+    fn end_written(&mut self, bank: &Bank, tok: TokId) -> u64
         requires of { bank_of self.old ≡ id_of bank.now }
         requires there { tok.0 < tokens_of (bank_of self.old) }
         requires last { holding self.old tok.0 ≡ Held.Holds Mode.Exclusive 0 }
         requires written { (entry self.old tok.0).row ≢ (entry self.old tok.0).first }
         requires lawful { MeetsLaw (plan_of (bank_of self.old) tok.0).law (plan_of (bank_of self.old) tok.0).param (entry self.old tok.0).row }
-        ensures { Stepped self.old self.new tok.0 (ended (entry self.old tok.0)) gives_written }
+        ensures stepped { Stepped self.old self.new tok.0 (ended (entry self.old tok.0)) gives_written }
+        ensures generation { result ≡ (entry self.old tok.0).generation }
     {
-        steps::give_written(bank, &mut self.seat, tok);
+        let found = steps::give_written(bank, &mut self.seat, tok);
         self.notes[tok.0 as usize].references = 0;
+        generation_in(found)
+    }
+
+    // Ends a written section, and tells it.
+    #[inline]
+    fn end_told(&mut self, bank: &Bank, tok: TokId) -> Section
+        requires of { bank_of self.old ≡ id_of bank.now }
+        requires there { tok.0 < tokens_of (bank_of self.old) }
+        requires last { holding self.old tok.0 ≡ Held.Holds Mode.Exclusive 0 }
+        requires written { (entry self.old tok.0).row ≢ (entry self.old tok.0).first }
+        requires lawful { MeetsLaw (plan_of (bank_of self.old) tok.0).law (plan_of (bank_of self.old) tok.0).param (entry self.old tok.0).row }
+        ensures { SectionEnded self.old self.new tok.0 result }
+    {
+        let cells = bank.cells(tok);
+        let (before, after) = self.both_rows(bank, tok);
+        let generation = self.end_written(bank, tok);
+        Section {
+            before: Row::of(&before[..cells]),
+            after: Row::of(&after[..cells]),
+            generation,
+            tok,
+        }
     }
 
     // Ends a section.
@@ -99,15 +124,15 @@ impl CpuSeat {
         ensures { Gave self.old self.new tok.0 result }
     {
         if self.has_written(bank, tok) {
-            self.end_written(bank, tok);
-            return Given::Written;
+            return Given::Written(self.end_told(bank, tok));
         }
         self.end_clean(bank, tok);
         Given::Clean
     }
 
     /// Gives a reference back. That the seat holds the token is the caller's condition, and if that ends a section, that the
-    /// row is its first row or obeys the law.
+    /// row is its first row or obeys the law. A written section is told: its rows before and after it, and the generation at
+    /// which it began. Each cell that it didn't store to is loaded once for that, before the reference is given back.
     #[inline(always)]
     pub fn give(&mut self, bank: &Bank, tok: TokId) -> Given
         requires of { bank_of self.old ≡ id_of bank.now }

@@ -41,11 +41,10 @@ pub enum Touch {
 pub struct TokenNote {
     /// The first values of the cells that were stored to since the section began.
     pub first: [u64; 4],
+    /// Their values now. They count only while the token is held exclusively.
+    pub last: [u64; 4],
     /// What this processor has added to the cell of a Tally token.
     pub tally: u64,
-    /// The value of the cell of a Tally token. It counts only while the token is held exclusively and was added to since the
-    /// section began.
-    pub last: u64,
     /// How each cell stands. It counts only while the token is held exclusively.
     pub cells: [Touch; 4],
     /// The mode of the first reference that the seat has.
@@ -61,8 +60,8 @@ impl TokenNote {
     {
         TokenNote {
             first: [0; 4],
+            last: [0; 4],
             tally: 0,
-            last: 0,
             cells: [Touch::Untouched; 4],
             mode: Mode::Exclusive,
             references: 0,
@@ -97,22 +96,24 @@ impl TokenNote {
     #[inline]
     pub(crate) fn change(&mut self, cell: usize, change: Change)
         requires first { cell < length self.old.first }
+        requires last { cell < length self.old.last }
         requires inside { cell < length self.old.cells }
         ensures { self.new ≡ note_changed self.old cell change }
     {
         self.first[cell] = change.first;
+        self.last[cell] = change.last;
         self.cells[cell] = change.touch();
     }
 
     /// This much more is added to the cell of a Tally token.
     pub(crate) fn raise(&mut self, change: Change, k: u64)
         requires first { 0 < length self.old.first }
+        requires last { 0 < length self.old.last }
         requires inside { 0 < length self.old.cells }
         requires fits { self.old.tally + k < 2 ^ 64 }
-        ensures { self.new ≡ record (note_changed self.old 0 change) { tally = self.old.tally + k; last = change.last } }
+        ensures { self.new ≡ record (note_changed self.old 0 change) { tally = self.old.tally + k } }
     {
         self.change(0, change);
         self.tally += k;
-        self.last = change.last;
     }
 }

@@ -5,7 +5,7 @@ ghost use Rattle.lwkt_base.specs.Law.{MeetsLaw};
 ghost use Rattle.lwkt_bank.specs.Views.{is_touched, stored};
 ghost use Rattle.lwkt_core.specs.declared.seats.Deed.{Deed};
 ghost use Rattle.lwkt_bank.specs.Deeds.{reads_all, writes};
-ghost use Rattle.lwkt_bank.specs.Seats.{id_of, bank_of, tokens_of, plan_of, entry, holding, Changes, Knowing, IsUnchanged, Restored, lawful_loads};
+ghost use Rattle.lwkt_bank.specs.Seats.{id_of, bank_of, tokens_of, plan_of, entry, holding, Changes, Knowing, IsUnchanged, Restored, lawful_loads, last_loads};
 
 use crate::banks::Bank;
 use crate::notes::Change;
@@ -36,6 +36,27 @@ impl CpuSeat {
             values[cell] = self.load(bank, tok, cell as u8);
         }
         values
+    }
+
+    // The row of the section's beginning, and the row; past their ends zeros. Each cell that wasn't stored to is loaded once.
+    #[inline]
+    pub(crate) fn both_rows(&mut self, bank: &Bank, tok: TokId) -> ([u64; 4], [u64; 4])
+        requires of { bank_of self.old ≡ id_of bank.now }
+        requires there { tok.0 < tokens_of (bank_of self.old) }
+        requires held { is_exclusive (holding self.old tok.0) ≡ true }
+        ensures four { (length result.0 ≡ 4) × (length result.1 ≡ 4) }
+        ensures first { (cell : ℕ) → cell < (plan_of (bank_of self.old) tok.0).cells → slice_index result.0 cell ≡ slice_index (entry self.old tok.0).first cell }
+        ensures row { (cell : ℕ) → cell < (plan_of (bank_of self.old) tok.0).cells → slice_index result.1 cell ≡ slice_index (entry self.old tok.0).row cell }
+        ensures knowing { Knowing self.old self.new tok.0 (entry self.old tok.0) (last_loads self.old.cpu tok.0 (entry self.old tok.0) (plan_of (bank_of self.old) tok.0).cells) }
+    {
+        let mut before = [0u64; 4];
+        let mut after = [0u64; 4];
+        for cell in 0..bank.cells(tok) {
+            let Change { first, last } = self.change_of(bank, tok, cell as u8);
+            before[cell] = first;
+            after[cell] = last;
+        }
+        (before, after)
     }
 
     // The same as `lawful`, each cell loaded.
@@ -74,7 +95,7 @@ impl CpuSeat {
         requires inside { cell < (plan_of (bank_of self.old) tok.0).cells }
         ensures { MatchOption result (IsUnchanged self.old self.new × (is_touched (entry self.old tok.0) cell ≡ false) × (slice_index (entry self.old tok.0).row cell ≡ slice_index (entry self.old tok.0).first cell)) (λ value. (is_touched (entry self.old tok.0) cell ≡ true) × (value ≡ slice_index (entry self.old tok.0).first cell) × Changes self.old self.new tok.0 (stored (entry self.old tok.0) cell value) (writes self.old.cpu tok.0 cell value ∷ [])) }
     {
-        let Some(first) = self.kept_first(bank, tok, cell) else {
+        let Some(Change { first, .. }) = self.kept_change(bank, tok, cell) else {
             return None;
         };
         self.store_over(bank, tok, cell, Change { first, last: first });

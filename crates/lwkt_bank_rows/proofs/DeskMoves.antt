@@ -125,7 +125,7 @@ sits_again agains counts adds bank s s' refs refs' r sits there shared stepped i
 gave_bank : (s s' : CpuSeat) (tok : ℕ) (given : Given) → Gave s s' tok given → bank_of s' ≡ bank_of s
 gave_bank s s' tok One gave = gave.1.changes.bank
 gave_bank s s' tok Clean gave = gave.2.changes.bank
-gave_bank s s' tok Written gave = gave.2.changes.bank
+gave_bank s s' tok (Written section) gave = gave.2.changes.bank
 
 pub sits_given : GivingRemoves → AddedCounts → AcquiringAdds → ReleasingRemoves → (bank : BankId) (s s' : CpuSeat) (refs front : List Ref) (r : Ref) (tok : ℕ) (given : Given) → Sits bank s refs → tok < tokens_of bank → Gave s s' tok given → refs ≡ front ++ r ∷ [] → r.tok.0 ≡ tok → Sits bank s' front
 sits_given giving counts adds releases bank s s' refs front r tok given sits there gave is here =

@@ -1,4 +1,4 @@
-use Rattle.std.proofs.Common.{◌≡◌, ℕ, ◌<◌, ◌≤◌, Bool, true, false, cond, eqb, List, [], ◌∷◌, Some, refl, ap, sym, ◌∙◌, subst, arith}
+use Rattle.std.proofs.Common.{◌≡◌, ◌≢◌, ℕ, ◌+◌, ◌<◌, ◌≤◌, Bool, true, false, cond, eqb, List, [], ◌∷◌, Some, refl, ap, sym, ◌∙◌, subst, arith}
 use Rattle.std.specs.Prelude.{All, slice_get, slice_index}
 use Rattle.std.proofs.lemmas.Bool.{eqb-true}
 use Rattle.std.proofs.lemmas.Option.{get_or_from_slice_get}
@@ -6,17 +6,20 @@ use Rattle.lwkt_base.specs.declared.names.Mode.{Mode}
 use Rattle.lwkt_base.specs.declared.names.Mode.TheVariants.{Exclusive, Shared}
 use Rattle.lwkt_base.specs.declared.holdings.Held.{Held}
 use Rattle.lwkt_base.specs.declared.holdings.Held.TheVariants.{Nothing, Holds}
-use Rattle.lwkt_base.specs.Holding.{Holding, is_held, added, removed, holds_nothing, RemovingUndoesAdding}
+use Rattle.lwkt_base.specs.declared.names.Ref.{Ref}
+use Rattle.lwkt_base.specs.declared.sections.Section.{Section}
+use Rattle.lwkt_base.specs.Holding.{Holding, is_held, added, removed, holds_nothing, holding_of, RemovingUndoesAdding}
 use Rattle.lwkt_core.specs.declared.seats.Deed.{Deed}
 use Rattle.lwkt_bank.specs.declared.views.TokenEntry.{TokenEntry}
 use Rattle.lwkt_bank.specs.declared.views.KnownCell.{KnownCell}
 use Rattle.lwkt_bank.specs.declared.seats.CpuSeat.{CpuSeat}
 use Rattle.lwkt_bank.specs.declared.answers.Given.{Given}
 use Rattle.lwkt_bank.specs.declared.answers.Given.TheVariants.{One, Clean, Written}
-use Rattle.lwkt_bank.specs.Views.{count_from, generation_in, looked, read, less}
+use Rattle.lwkt_bank.specs.Views.{count_from, generation_in, looked, read, less, numbered}
 use Rattle.lwkt_bank.specs.Deeds.{gives_one, reads}
 use Rattle.lwkt_bank.specs.Seats.{BankId, bank_of, tokens_of, entry, holding, references, Changes, Looked, Took, Lost, Stepped, Gave}
 use Rattle.lwkt_bank.specs.Holdings.{TakingAdds, GivingRemoves, OthersKeep, NothingCounts}
+use Rattle.lwkt_bank_rows.specs.Desks.{Sits}
 use Rattle.lwkt_bank_rows.specs.Readings.{IsEmpty, HasRead, IsFresh}
 use Rattle.lwkt_bank_rows.proofs.DeskMoves.{looked-held}
 
@@ -68,7 +71,7 @@ not_exclusive held is isnt = cc
 gave_shared : (s s' : CpuSeat) (tok : ℕ) (given : Given) → holding s tok ≡ Holds Shared 0 → Gave s s' tok given → Stepped s s' tok (less (entry s tok)) gives_one
 gave_shared s s' tok One is gave = gave.1
 gave_shared s s' tok Clean is gave = absurd (not_exclusive (holding s tok) is gave.0)
-gave_shared s s' tok Written is gave = absurd (not_exclusive (holding s tok) is gave.0)
+gave_shared s s' tok (Written section) is gave = absurd (not_exclusive (holding s tok) is gave.0)
 
 given_reads : (s0 s1 s2 s3 : CpuSeat) (tok cell generation value : ℕ) (alone : Bool) (given : Given) → Reads s0 s1 s2 s3 tok cell generation value alone given → Stepped s2 s3 tok (less (entry s2 tok)) gives_one
 given_reads s0 s1 s2 s3 tok cell generation value alone given r = gave_shared s2 s3 tok given (loaded_shared s0 s1 s2 tok cell generation alone r.took r.loaded) r.gave
@@ -133,4 +136,26 @@ fresh_read s0 s1 s2 s3 tok cell generation value earlier was alone given r had =
           let at_word : (entry s0 tok).generation ≡ generation_in r.took.word = had.generation_is ∙ is ∙ r.took.generation_is in
           sym (first_known r.took.row (entry s0 tok).known had.before cell was had.read (r.took.found.fresh at_word))
           ∙ sym (value_read s0 s1 s2 s3 tok cell generation value alone given r);
+    }
+
+-- a seat whose list is empty holds nothing
+pub empty_list : (bank : BankId) (s : CpuSeat) (refs : List Ref) → refs ≡ [] → Sits bank s refs → IsEmpty bank s
+empty_list bank s refs none sits = record { of = sits.of; empty = sits.held ∙ ap holding_of none }
+
+-- the first cell of a row is the first that is known of it
+numbered_first : (row : List ℕ) (known : List KnownCell) → row ≢ [] → known ≡ numbered 0 row → (before : List KnownCell) × (known ≡ record { at = 0; value = slice_index row 0 } ∷ before)
+numbered_first [] known some is = absurd (some refl)
+numbered_first (x ∷ row) known some is = (numbered 1 row, is)
+
+-- what a seat knows after a section that it was told: the row that was left, as if it had read it
+pub left_read : (s s' : CpuSeat) (tok : ℕ) (section : Section) → section.after ≢ [] → Gave s s' tok (Written section) → HasRead s' tok 0 (section.generation + 1) (slice_index section.after 0)
+left_read s s' tok section some gave =
+    let ended = gave.2 in
+    let here = ended.changes.here in
+    let row : (entry s tok).row ≡ section.after = sym (ap (λ (x : Section). x.after) ended.told) in
+    let known = numbered_first section.after (entry s' tok).known some (ap (λ (e : TokenEntry). e.known) here ∙ ap (λ (r : List ℕ). numbered 0 r) row) in
+    record {
+      generation_is = ap (λ (e : TokenEntry). e.generation) here ∙ ap (λ (x : Section). x.generation + 1) (sym ended.told);
+      before = known.0;
+      read = known.1;
     }

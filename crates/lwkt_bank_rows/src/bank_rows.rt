@@ -4,13 +4,13 @@ ghost use Rattle.lwkt_bank.specs.Seats.{id_of};
 ghost use Rattle.lwkt_bank_rows.specs.Desks.{Sits};
 ghost use Rattle.lwkt_bank_rows.specs.Readings.{IsEmpty};
 
-use crate::desks::{Ask, Line, ListedSeat, Miss, Told, call, close, open, play, seat_of};
-use crate::readers::{Reading, read_around};
-use lwkt_bank::answers::{Given, Try};
+use crate::desks::{Ask, Line, ListedSeat, Miss, Told, Wrote, call, close, open, play, seat_of};
+use crate::readers::{Reading, read_after, read_around};
+use lwkt_bank::answers::Try;
 use lwkt_bank::banks::Bank;
 use lwkt_bank::closed::Closed;
 use lwkt_bank::seats::CpuSeat;
-use lwkt_base::{Cells, Fault, Law, Mode, TokId};
+use lwkt_base::{Cells, Fault, Law, Mode, Section, TokId};
 use lwkt_fixtures::{Opened, Row, first_wrong, tokens};
 use std::alloc::Global;
 use std::process::Abort;
@@ -29,11 +29,13 @@ const GOT: Told = Told::Tried(Try::Got { generation: 0 });
 
 const GOT_AT_1: Told = Told::Tried(Try::Got { generation: 1 });
 
-const ONE: Told = Told::Given(Given::One);
+const ONE: Told = Told::One;
 
-const CLEAN: Told = Told::Given(Given::Clean);
+const CLEAN: Told = Told::Clean;
 
-const WRITTEN: Told = Told::Given(Given::Written);
+const ZERO_TO_SEVEN: Told = Told::Written(Wrote(0, 1, [0; 4], [7, 0, 0, 0]));
+
+const TEN_TO_FIFTEEN: Told = Told::Written(Wrote(0, 1, [10, 0, 0, 0], [15, 0, 0, 0]));
 
 // A token's closing cells, generation and tallies.
 struct End(&'static [u64], u64, &'static [u64]);
@@ -91,7 +93,7 @@ const EXCLUSIVE_1_AND_2: Played = Played {
         Line(0, 0, Ask::Word, Told::Word(1)),
         Line(1, 0, TAKE, Told::Tried(Try::Busy { word: 1 })),
         Line(0, 0, Ask::Store(0, 7), Told::Done),
-        Line(0, 0, Ask::Give, WRITTEN),
+        Line(0, 0, Ask::Give, ZERO_TO_SEVEN),
         Line(0, 0, Ask::Word, Told::Word(262_144)),
         Line(1, 0, TAKE, GOT_AT_1),
         Line(1, 0, Ask::Word, Told::Word(262_145)),
@@ -120,7 +122,7 @@ const EXCLUSIVE_3: Played = Played {
             Ask::Add(18_446_744_073_709_551_615),
             Told::Refused(Fault::Overflow),
         ),
-        Line(0, 0, Ask::Give, WRITTEN),
+        Line(0, 0, Ask::Give, TEN_TO_FIFTEEN),
     ],
     ends: &[End(&[15], 1, &[5, 0])],
 };
@@ -128,6 +130,64 @@ const EXCLUSIVE_3: Played = Played {
 #[test]
 fn bank_exclusive_3(rt: HostRuntime) {
     expect(&rt, rt.alloc(), &EXCLUSIVE_3);
+}
+
+// Of a token's three cells the second is stored to; then each of them, two with the values that they have; then one that gets
+// its value back.
+const SECTIONS_OF_THREE_CELLS: Played = Played {
+    tokens: &[BARE, Opened(Law::Any, 0, 5, &[1, 2, 3])],
+    cpus: 2,
+    lines: &[
+        Line(0, 1, TAKE, Told::Tried(Try::Got { generation: 5 })),
+        Line(0, 1, Ask::Store(1, 8), Told::Done),
+        Line(0, 1, Ask::Store(1, 9), Told::Done),
+        Line(0, 1, Ask::Give, SECOND_CELL),
+        Line(1, 1, TAKE, Told::Tried(Try::Got { generation: 6 })),
+        Line(1, 1, Ask::Store(2, 3), Told::Done),
+        Line(1, 1, Ask::Store(0, 7), Told::Done),
+        Line(1, 1, Ask::Store(1, 9), Told::Done),
+        Line(1, 1, Ask::Again, Told::Done),
+        Line(1, 1, Ask::Give, ONE),
+        Line(1, 1, Ask::Give, FIRST_CELL),
+        Line(0, 1, TAKE, Told::Tried(Try::Got { generation: 7 })),
+        Line(0, 1, Ask::Store(1, 4), Told::Done),
+        Line(0, 1, Ask::Store(1, 9), Told::Done),
+        Line(0, 1, Ask::Give, CLEAN),
+    ],
+    ends: &[End(&[], 0, &[]), End(&[7, 9, 3], 7, &[])],
+};
+
+const SECOND_CELL: Told = Told::Written(Wrote(5, 3, [1, 2, 3, 0], [1, 9, 3, 0]));
+
+const FIRST_CELL: Told = Told::Written(Wrote(6, 3, [1, 9, 3, 0], [7, 9, 3, 0]));
+
+#[test]
+fn a_written_section_is_told(rt: HostRuntime) {
+    expect(&rt, rt.alloc(), &SECTIONS_OF_THREE_CELLS);
+}
+
+// Two sections on a tally, each of two additions.
+const TALLY_SECTIONS: Played = Played {
+    tokens: &[Opened(Law::Tally, 10, 0, &[10])],
+    cpus: 2,
+    lines: &[
+        Line(0, 0, TAKE, GOT),
+        Line(0, 0, Ask::Add(2), Told::Value(12)),
+        Line(0, 0, Ask::Add(3), Told::Value(15)),
+        Line(0, 0, Ask::Give, TEN_TO_FIFTEEN),
+        Line(1, 0, TAKE, GOT_AT_1),
+        Line(1, 0, Ask::Add(0), Told::Value(15)),
+        Line(1, 0, Ask::Add(1), Told::Value(16)),
+        Line(1, 0, Ask::Give, FIFTEEN_TO_SIXTEEN),
+    ],
+    ends: &[End(&[16], 2, &[5, 1])],
+};
+
+const FIFTEEN_TO_SIXTEEN: Told = Told::Written(Wrote(1, 1, [15, 0, 0, 0], [16, 0, 0, 0]));
+
+#[test]
+fn a_tally_section_is_told(rt: HostRuntime) {
+    expect(&rt, rt.alloc(), &TALLY_SECTIONS);
 }
 
 // Tokens of which no bank of one processor is opened, and why.
@@ -235,7 +295,7 @@ fn add_once(bank: &Bank, desk: &mut ListedSeat) -> bool
 {
     take_at_last(bank, desk)
         && matches!(call(bank, desk, TokId(0), Ask::Add(3)), Told::Value(_))
-        && call(bank, desk, TokId(0), Ask::Give) == Told::Given(Given::Written)
+        && matches!(call(bank, desk, TokId(0), Ask::Give), Told::Written(_))
 }
 
 fn add_often(bank: &Bank, desk: &mut ListedSeat)
@@ -312,4 +372,29 @@ const LATER: Reading = Reading {
 fn readings_are_fresh(rt: HostRuntime) {
     assert!(rt; readings(rt.alloc(), 7) == Some((FIRST, LATER)));
     assert!(rt; readings(rt.alloc(), 3) == Some((FIRST, FIRST)));
+}
+
+// A section that stores this value, as it is told, and what its seat then reads.
+fn reading_after(alloc: Global, value: u64) -> Option<(Section, Reading)> {
+    let specs = tokens(alloc, &[Opened(Law::Any, 0, 0, &[3])]).ok()?;
+    let (bank, desks) = open(alloc, &specs, 2).ok()?;
+    let (_reader, mut desk) = pair_of(desks, &bank)?;
+    if bank.tokens() == 0 || bank.cells(TokId(0)) == 0 {
+        return None;
+    }
+    let _ = call(&bank, &mut desk, TokId(0), TAKE);
+    let _ = call(&bank, &mut desk, TokId(0), Ask::Store(0, value));
+    read_after(&bank, &mut desk, TokId(0))
+}
+
+#[test]
+fn what_a_section_left_is_read(rt: HostRuntime) {
+    let Some((section, reading)) = reading_after(rt.alloc(), 7) else {
+        assert!(rt; false);
+        return;
+    };
+    assert_eq!(rt; section.generation, 0);
+    assert_eq!(rt; section.before.as_slice(), [3].as_slice());
+    assert_eq!(rt; section.after.as_slice(), [7].as_slice());
+    assert_eq!(rt; reading, LATER);
 }

@@ -4,7 +4,7 @@ ghost use Rattle.lwkt_bank.specs.Seats.{id_of, cpus_of};
 ghost use Rattle.lwkt_bank_rows.specs.Desks.{Sits};
 
 use crate::desks::{Ask, ListedSeat, Miss, Told, call, close, open};
-use lwkt_bank::answers::{Given, Try};
+use lwkt_bank::answers::Try;
 use lwkt_bank::banks::Bank;
 use lwkt_bank::closed::Closed;
 use lwkt_base::{Fault, Law, Mode, TokId};
@@ -77,7 +77,7 @@ impl Counts {
     // A section on one of the two tokens has ended, and had added so much.
     fn count(&mut self, second: bool, k: u64, given: Told) {
         self.made = self.made.wrapping_add(1);
-        if given == Told::Given(Given::Written) {
+        if matches!(given, Told::Written(_)) {
             let at = usize::from(second);
             self.written[at] = self.written[at].wrapping_add(1);
             self.added[at] = self.added[at].wrapping_add(k);

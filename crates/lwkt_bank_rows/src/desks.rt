@@ -1,7 +1,7 @@
 //! Seats at a bank with the lists of what they hold, and tables of calls on them.
 ghost use Rattle.std.specs.Prelude.{◌≡◌, ◌≢◌, ◌↔◌, ◌+◌, ◌<◌, true, [], ◌∷◌, ◌++◌, length, map, All, None, Some, IsTrue, IfSome, IfOk};
 ghost use Rattle.lwkt_base.specs.Refs.{first_mode};
-ghost use Rattle.lwkt_bank.specs.Seats.{id_of, tokens_of, cpus_of};
+ghost use Rattle.lwkt_bank.specs.Seats.{id_of, tokens_of, cpus_of, Gave};
 ghost use Rattle.lwkt_bank_rows.specs.Desks.{Sits, MayGive};
 
 use lwkt_bank::answers::{Given, Try};
@@ -11,7 +11,7 @@ use lwkt_bank::laws::{calls_change_holdings, references_are_counted};
 use lwkt_bank::seats::CpuSeat;
 use lwkt_base::list_laws::{acquiring_adds, lists_are_held, releasing_removes};
 use lwkt_base::lists::LIST_LIMIT;
-use lwkt_base::{Fault, Mode, Ref, TokId, TokList, TokSpec};
+use lwkt_base::{Fault, Mode, Ref, Section, TokId, TokList, TokSpec};
 use std::alloc::{AllocError, Global};
 
 /// A seat, and the references that it holds.
@@ -35,6 +35,11 @@ pub enum Ask {
     Give,
 }
 
+/// A written section: its generation, how many cells its token has, and their values before and after it; past the last cell
+/// zeros.
+#[derive(Clone, Copy, Debug, PartialEq, Eq)]
+pub struct Wrote(pub u64, pub usize, pub [u64; 4], pub [u64; 4]);
+
 /// What a call answered.
 #[derive(Clone, Copy, Debug, PartialEq, Eq)]
 pub enum Told {
@@ -43,7 +48,12 @@ pub enum Told {
     Value(u64),
     Done,
     Refused(Fault),
-    Given(Given),
+    /// One reference less.
+    One,
+    /// The end of a section that wrote nothing.
+    Clean,
+    /// The end of a written section.
+    Written(Wrote),
     /// There is no such seat, token or cell, or a condition of the call isn't met.
     Unfit,
 }
@@ -111,8 +121,8 @@ fn again(bank: &Bank, seat: &mut CpuSeat, refs: &mut TokList, tok: TokId)
     push(refs, Ref { tok, mode });
 }
 
-// Whether a reference may be given back.
-fn may_give(bank: &Bank, seat: &mut CpuSeat, refs: &TokList, tok: TokId) -> bool
+/// Whether a reference may be given back.
+pub fn may_give(bank: &Bank, seat: &mut CpuSeat, refs: &TokList, tok: TokId) -> bool
     requires sits { Sits (id_of bank.now) seat.old refs.now }
     requires there { tok.0 < tokens_of (id_of bank.now) }
     ensures sits { Sits (id_of bank.now) seat.new refs.now }
@@ -127,11 +137,13 @@ fn may_give(bank: &Bank, seat: &mut CpuSeat, refs: &TokList, tok: TokId) -> bool
     }
 }
 
-fn give(bank: &Bank, seat: &mut CpuSeat, refs: &mut TokList, tok: TokId) -> Option<Given>
+/// Gives a reference back, with what the bank says of it.
+pub fn give(bank: &Bank, seat: &mut CpuSeat, refs: &mut TokList, tok: TokId) -> Option<Given>
     requires sits { Sits (id_of bank.now) seat.old refs.old }
     requires there { tok.0 < tokens_of (id_of bank.now) }
     requires may { MayGive seat.old tok.0 }
-    ensures { Sits (id_of bank.now) seat.new refs.new }
+    ensures sits { Sits (id_of bank.now) seat.new refs.new }
+    ensures gave { IfSome result (λ given. Gave seat.old seat.new tok.0 given) }
 {
     acquiring_adds();
     releasing_removes();
@@ -240,8 +252,40 @@ fn ask_give(bank: &Bank, desk: &mut ListedSeat, tok: TokId) -> Told
         return Told::Unfit;
     }
     match give(bank, &mut desk.seat, &mut desk.refs, tok) {
-        Some(given) => Told::Given(given),
+        Some(given) => told_of(tok, given),
         None => Told::Unfit,
+    }
+}
+
+// The cells of a row; past its end zeros.
+fn four_cells(cells: &[u64]) -> [u64; 4] {
+    let mut four = [0; 4];
+    for (place, cell) in four.iter_mut().zip(cells.iter()) {
+        *place = *cell;
+    }
+    four
+}
+
+// A written section of this token. Its rows have as many cells.
+fn told_section(tok: TokId, section: Section) -> Told {
+    let before = section.before.as_slice();
+    let after = section.after.as_slice();
+    if section.tok != tok || before.len() != after.len() {
+        return Told::Unfit;
+    }
+    Told::Written(Wrote(
+        section.generation,
+        before.len(),
+        four_cells(before),
+        four_cells(after),
+    ))
+}
+
+fn told_of(tok: TokId, given: Given) -> Told {
+    match given {
+        Given::One => Told::One,
+        Given::Clean => Told::Clean,
+        Given::Written(section) => told_section(tok, section),
     }
 }
 

@@ -3,8 +3,8 @@ ghost use Rattle.std.specs.Prelude.{◌≡◌, ◌<◌, ◌≤◌, All, length};
 ghost use Rattle.lwkt_bank.specs.Seats.{id_of};
 ghost use Rattle.lwkt_bank_rows.specs.Desks.{Sits};
 
-use crate::desks::{Ask, ListedSeat, Miss, Told, call, close, open};
-use lwkt_bank::answers::{Given, Try};
+use crate::desks::{Ask, ListedSeat, Miss, Told, Wrote, call, close, open};
+use lwkt_bank::answers::Try;
 use lwkt_bank::banks::Bank;
 use lwkt_bank::closed::Closed;
 use lwkt_base::{Fault, Law, Mode, TokId, TokSpec};
@@ -50,6 +50,11 @@ fn got(generation: u64) -> Told {
     Told::Tried(Try::Got { generation })
 }
 
+// A section on a token's one cell.
+fn section(generation: u64, was: u64, now: u64) -> Told {
+    Told::Written(Wrote(generation, 1, [was, 0, 0, 0], [now, 0, 0, 0]))
+}
+
 // The calls of a seat on a token, with their answers, after the seats before it: a section that changes the cell, and then a
 // shared reference.
 fn calls(cpu: u8, tok: u8) -> [(Ask, Told); 6]
@@ -58,28 +63,34 @@ fn calls(cpu: u8, tok: u8) -> [(Ask, Told); 6]
     let turn = u64::from(cpu);
     let more = turn + 1;
     let first = u64::from(tok);
-    let before = first + BEFORE[cpu as usize];
+    let [was, between, now] = if is_tally(tok) {
+        let before = first + BEFORE[cpu as usize];
+        [
+            before,
+            before.wrapping_add(more),
+            before.wrapping_add(more).wrapping_add(more),
+        ]
+    } else {
+        [first + turn, first + turn, first + more]
+    };
     let [one, other] = if is_tally(tok) {
         [
-            (Ask::Add(more), Told::Value(before.wrapping_add(more))),
-            (
-                Ask::Add(more),
-                Told::Value(before.wrapping_add(more).wrapping_add(more)),
-            ),
+            (Ask::Add(more), Told::Value(between)),
+            (Ask::Add(more), Told::Value(now)),
         ]
     } else {
         [
-            (Ask::Load(0), Told::Value(first + turn)),
-            (Ask::Store(0, first + more), Told::Done),
+            (Ask::Load(0), Told::Value(between)),
+            (Ask::Store(0, now), Told::Done),
         ]
     };
     [
         (Ask::Take(Mode::Exclusive, true), got(turn)),
         one,
         other,
-        (Ask::Give, Told::Given(Given::Written)),
+        (Ask::Give, section(turn, was, now)),
         (Ask::Take(Mode::Shared, true), got(more)),
-        (Ask::Give, Told::Given(Given::One)),
+        (Ask::Give, Told::One),
     ]
 }
 

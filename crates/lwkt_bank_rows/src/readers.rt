@@ -1,16 +1,16 @@
 //! A section that one seat writes and another reads before and after: what a reader may rely on.
-ghost use Rattle.std.specs.Prelude.{◌≡◌, ℕ, ◌<◌, ◌≤◌, IfSome};
+ghost use Rattle.std.specs.Prelude.{◌≡◌, ℕ, ◌+◌, ◌<◌, ◌≤◌, IfSome, slice_index};
 ghost use Rattle.lwkt_bank.specs.Seats.{id_of, tokens_of, plan_of, entry};
 ghost use Rattle.lwkt_bank_rows.specs.Desks.{Sits};
 ghost use Rattle.lwkt_bank_rows.specs.Readings.{IsEmpty, HasRead, IsFresh};
 
-use crate::desks::{Ask, ListedSeat, call};
-use lwkt_bank::answers::Try;
+use crate::desks::{Ask, ListedSeat, call, give, may_give};
+use lwkt_bank::answers::{Given, Try};
 use lwkt_bank::banks::Bank;
 use lwkt_bank::laws::{calls_change_holdings, references_are_counted};
 use lwkt_bank::seats::CpuSeat;
 use lwkt_base::list_laws::removing_undoes_adding;
-use lwkt_base::{Mode, TokId};
+use lwkt_base::{Mode, Section, TokId};
 
 /// What a shared section found: the generation, and the value of a cell.
 #[derive(Clone, Copy, Debug, PartialEq, Eq)]
@@ -52,6 +52,28 @@ fn write(bank: &Bank, desk: &mut ListedSeat, tok: TokId, cell: u8, value: u64)
     let _ = call(bank, desk, tok, Ask::Take(Mode::Exclusive, true));
     let _ = call(bank, desk, tok, Ask::Store(cell, value));
     let _ = call(bank, desk, tok, Ask::Give);
+}
+
+/// Ends a section of the last token that a seat holds, and reads the token's first cell then. The generation that it finds isn't
+/// lower than the one to which the section left its row, and where it is that one, the value is the one that was left.
+pub fn read_after(bank: &Bank, desk: &mut ListedSeat, tok: TokId) -> Option<(Section, Reading)>
+    requires sits { Sits (id_of bank.now) desk.old.seat desk.old.refs }
+    requires there { tok.0 < tokens_of (id_of bank.now) }
+    requires inside { 0 < (plan_of (id_of bank.now) tok.0).cells }
+    ensures { IfSome result (λ r. IsFresh (r.0.generation + 1) (slice_index r.0.after 0) r.1.generation r.1.value) }
+{
+    if !may_give(bank, &mut desk.seat, &desk.refs, tok) {
+        return None;
+    }
+    let given = give(bank, &mut desk.seat, &mut desk.refs, tok)?;
+    let Given::Written(section) = given else {
+        return None;
+    };
+    if !desk.refs.is_empty() || section.after.as_slice().is_empty() {
+        return None;
+    }
+    let reading = read(bank, &mut desk.seat, tok, 0)?;
+    Some((section, reading))
 }
 
 /// Reads a cell, lets another seat write it, and reads it again. The generation doesn't fall, and where it is equal the value

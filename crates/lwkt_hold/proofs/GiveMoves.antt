@@ -1,4 +1,4 @@
-use Rattle.std.proofs.Common.{◌≡◌, ◌≢◌, ◌⊎◌, ℕ, suc, ◌+◌, ◌-◌, ◌<◌, ◌≤◌, Bool, true, false, cond, eqb, List, [], ◌∷◌, ◌++◌, length, take, get_or, refl, ap, sym, ◌∙◌, subst, arith, inl, inr, eq-eqb}
+use Rattle.std.proofs.Common.{◌≡◌, ◌≢◌, ◌⊎◌, ℕ, zero, suc, ◌+◌, ◌-◌, ◌<◌, ◌≤◌, Bool, true, false, cond, eqb, List, [], ◌∷◌, ◌++◌, length, take, get_or, refl, ap, sym, ◌∙◌, subst, arith, inl, inr, eq-eqb}
 use Rattle.std.specs.Prelude.{All, filter, Vec, vec_len, vec_capacity, Option, Some, None, slice_get, slice_index}
 use Rattle.std.specs.List.{AllZip}
 use Rattle.std.specs.declared.alloc.Global.{Global}
@@ -24,15 +24,16 @@ use Rattle.lwkt_bank.specs.declared.seats.CpuSeat.{CpuSeat}
 use Rattle.lwkt_core.specs.declared.seats.WordStep.{WordStep}
 use Rattle.lwkt_core.specs.declared.seats.Deed.{Deed}
 use Rattle.lwkt_core.specs.History.{events_in, steps_in}
+use Rattle.lwkt_core.proofs.HistoryLemmas.{events_in-append, steps_in-append}
 use Rattle.lwkt_bank.specs.Views.{is_touched}
 use Rattle.lwkt_bank.specs.Deeds.{reads, reads_all, writes_all}
-use Rattle.lwkt_bank.specs.Seats.{BankId, bank_of, plan_of, entry, holding, Knowing, Restored, first_load, lawful_loads, written_over}
+use Rattle.lwkt_bank.specs.Seats.{BankId, bank_of, plan_of, entry, holding, Knowing, Restored, first_load, last_loads, lawful_loads, written_over}
 use Rattle.lwkt_hold.specs.Steps.{is_counted, is_of_token, is_on_word, ShowsEvent, Tells}
 use Rattle.lwkt_hold.specs.Runs.{Moves, Ran}
 use Rattle.lwkt_hold.specs.Rows.{row, first_row, MeetsItsLaw, IsBroken, SameRow, writes, GivesBack, Mends}
 use Rattle.lwkt_hold.specs.Givings.{StoresFirst}
 use Rattle.lwkt_hold.proofs.HoldingMoves.{holding_of_more}
-use Rattle.lwkt_hold.proofs.RunMoves.{ran_quiet, ran_weaker, holding_kept}
+use Rattle.lwkt_hold.proofs.RunMoves.{Tells-append, ran_quiet, ran_weaker, holding_kept}
 
 -- stores are no steps on a token word, are by their processor, and keep every holding
 writes_off : (cpu : CpuId) (tok : TokId) (cell : ℕ) (values : List (Option ℕ)) → filter is_on_word (writes cpu tok cell values) ≡ []
@@ -111,6 +112,24 @@ first_untold s tok cell = go (is_touched (entry s tok) cell)
     go : (b : Bool) → IsUntold (cond b [] (reads s.cpu tok cell (slice_index (entry s tok).first cell) ∷ []))
     go true = (refl, refl)
     go false = (inl (refl, refl), refl)
+
+-- deeds that aren't told, before others
+pub tells_behind : (deeds more : List Deed) (told : List Event) → IsUntold deeds → Tells (events_in more) told → Tells (events_in (deeds ++ more)) told
+tells_behind deeds more told untold tells =
+    let F : List Event → Type 0 = λ es. Tells es told in
+    subst F (sym (events_in-append deeds more)) (Tells-append (events_in deeds) (events_in more) [] told untold.0 tells)
+
+pub steps_behind : (deeds more : List Deed) → IsUntold deeds → steps_in (deeds ++ more) ≡ steps_in more
+steps_behind deeds more untold = steps_in-append deeds more ∙ ap (λ (xs : List WordStep). xs ++ steps_in more) untold.1
+
+-- the loads at the end of a written section
+pub last_untold : (s : CpuSeat) (tok cells : ℕ) → IsUntold (last_loads s.cpu tok (entry s tok) cells)
+last_untold s tok zero = (refl, refl)
+last_untold s tok (suc cells) =
+    let before = last_loads s.cpu tok (entry s tok) cells in
+    let one = first_load s.cpu tok (entry s tok) cells in
+    let untold = last_untold s tok cells in
+    (tells_behind before one [] untold (first_untold s tok cells).0, steps_behind before one untold ∙ (first_untold s tok cells).1)
 
 -- the loads of a question for the law
 pub lawful_untold : (law : Law) (cpu : CpuId) (tok : ℕ) (row : List ℕ) → IsUntold (lawful_loads law (reads_all cpu tok 0 row))

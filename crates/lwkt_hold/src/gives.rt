@@ -85,7 +85,7 @@ fn give(seat: &mut CpuSeat, bank: &Bank, tok: TokId, trace: &mut Vec<Event>)
     match seat.give(bank, tok) {
         Given::One => note(trace, Event::GiveOne { cpu, tok }),
         Given::Clean => note(trace, Event::GiveClean { cpu, tok }),
-        Given::Written => note(trace, Event::GiveWritten { cpu, tok }),
+        Given::Written(_) => note(trace, Event::GiveWritten { cpu, tok }),
     }
 }
 

@@ -18,3 +18,9 @@ returns-then-eq-clause-ran c =
 
 pub returns-else-eq-clause-ran : goal.returns-else-eq-clause-ran
 returns-else-eq-clause-ran c = ran_still (λ h. h ≡ holding c.args.seat.now) 1 c.args.seat.now c.args.trace.now
+
+pub returns-then-eq-clause-kept : goal.returns-then-eq-clause-kept
+returns-then-eq-clause-kept c =
+    let s = c.args.seat.now in
+    let t = c.args.new.tok.0 in
+    holding_kept s c.mark.new.self t (entry s t) _ c.mark.ensures.changes refl

@@ -1,11 +1,16 @@
-use Rattle.std.proofs.Common.{◌≡◌, ◌∷◌, [], refl, ap, sym}
+use Rattle.std.proofs.Common.{◌≡◌, List, ◌∷◌, ◌++◌, [], refl, ap, sym, subst}
+use Rattle.std.specs.Prelude.{filter}
+use Rattle.std.specs.List.{AllZip}
 use Rattle.lwkt_base.specs.declared.names.CpuId.{CpuId}
 use Rattle.lwkt_base.specs.declared.holdings.Held.{Held}
 use Rattle.lwkt_base.specs.Holding.{one_less, removed}
 use Rattle.lwkt_core.specs.declared.events.Event.TheVariants.{GiveOne, GiveClean, GiveWritten}
 use Rattle.lwkt_bank.specs.Views.{less, ended}
 use Rattle.lwkt_bank.specs.Deeds.{gives_one, gives_clean, gives_written}
-use Rattle.lwkt_bank.specs.Seats.{entry, holding}
+use Rattle.lwkt_core.specs.declared.seats.WordStep.{WordStep}
+use Rattle.lwkt_bank.specs.Seats.{bank_of, plan_of, entry, holding, last_loads}
+use Rattle.lwkt_hold.specs.Steps.{is_counted, is_on_word, ShowsEvent}
+use Rattle.lwkt_hold.proofs.GiveMoves.{tells_behind, steps_behind, last_untold}
 use Rattle.lwkt_hold.proofs.RunMoves.{tells_one, ran_step, holding_changed}
 use Rattle.lwkt_hold.proofs.gives.give.Goals as goal
 
@@ -36,8 +41,15 @@ returns-in-Written-clause-ran c =
     let tok = c.args.tok in
     let g = c.in-Written.ensures.2 in
     let given = holding_changed s c.give.new.self tok.0 (ended (entry s tok.0)) _ (λ (x : Held). one_less x) g.changes (ap one_less (sym c.in-Written.ensures.0)) in
-    ran_step (λ h. h ≡ removed (holding s) tok.0) s c.give.new.self tok.0 (ended (entry s tok.0)) (gives_written s.cpu tok.0 g.found ∷ []) (GiveWritten c.cpu-cpu.result tok) c.args.trace.now c.note-in-Written.new.trace g.changes c.note-in-Written.ensures.items c.note-in-Written.ensures.longer c.note-in-Written.ensures.room
-    (ap (λ (x : CpuId). x.0) c.cpu-cpu.ensures.is) (tells_one (GiveWritten s.cpu tok) (GiveWritten c.cpu-cpu.result tok) refl (ap (λ (x : CpuId). GiveWritten x tok) c.cpu-cpu.ensures.is)) ((refl, refl), tt) given given
+    let cells = (plan_of (bank_of s) tok.0).cells in
+    let loads = last_loads s.cpu tok.0 (entry s tok.0) cells in
+    let untold = last_untold s tok.0 cells in
+    let step = gives_written s.cpu tok.0 g.found ∷ [] in
+    let event = GiveWritten c.cpu-cpu.result tok in
+    let told = tells_one (GiveWritten s.cpu tok) event refl (ap (λ (x : CpuId). GiveWritten x tok) c.cpu-cpu.ensures.is) in
+    let F : List WordStep → Type 0 = λ xs. AllZip ShowsEvent (filter is_counted xs) (filter is_on_word (event ∷ [])) in
+    ran_step (λ h. h ≡ removed (holding s) tok.0) s c.give.new.self tok.0 (ended (entry s tok.0)) (loads ++ step) event c.args.trace.now c.note-in-Written.new.trace g.changes c.note-in-Written.ensures.items c.note-in-Written.ensures.longer c.note-in-Written.ensures.room
+    (ap (λ (x : CpuId). x.0) c.cpu-cpu.ensures.is) (tells_behind loads step (event ∷ []) untold told) (subst F (sym (steps_behind loads step untold)) ((refl, refl), tt)) given given
 
 pub returns-in-One-clause-given : goal.returns-in-One-clause-given
 returns-in-One-clause-given c =

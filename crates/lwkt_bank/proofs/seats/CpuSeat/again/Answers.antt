@@ -17,7 +17,7 @@ overflow_add-self c =
     let count = (s.kept.each t c.requires.there).references in
     let h = count-at (length s.seat.me.0.plans) 0 t (holding s) (omega arith) (omega arith) in
     let f = c.requires.few in
-    let none : TokenNote = record { first = []; tally = 0; last = 0; cells = []; mode = Exclusive; references = 0 } in
+    let none : TokenNote = record { first = []; last = []; tally = 0; cells = []; mode = Exclusive; references = 0 } in
     let same : (get_or s.notes t none).references ≡ (note_at s.notes t).references = ap (λ (n : TokenNote). n.references) (note_read s t none (room_of c.args.bank.now s t c.requires.of c.requires.there)) in
     omega (arith, same, count, h, f)
 

@@ -13,13 +13,16 @@ invariant_of-self c =
     let t = c.args.tok.0 in
     let noted' = IsNoted-nothing _ s.cpu.0 (entry s t) (ended (entry s t)) (note_at s.notes t) refl refl (s.kept.each t c.requires.there) in
     record {
-      kept = keeps_part s c.give_written.new.seat.me.0 t (ended (entry s t)) c.give_written.ensures.gives.0 _ (λ m. record m { references = 0 }) _ (room_of c.args.bank.now s t c.requires.of c.requires.there) c.give_written.ensures.gives.1.1 c.requires.there (entry_tok s t) noted';
-      quiet = still_quiet s.seat c.give_written.new.seat c.give_written.ensures.same s.quiet;
+      kept = keeps_part s c.give_written-found.new.seat.me.0 t (ended (entry s t)) c.give_written-found.ensures.gives.0 _ (λ m. record m { references = 0 }) _ (room_of c.args.bank.now s t c.requires.of c.requires.there) c.give_written-found.ensures.gives.1.1.1 c.requires.there (entry_tok s t) noted';
+      quiet = still_quiet s.seat c.give_written-found.new.seat c.give_written-found.ensures.same s.quiet;
       sized = length-set s.notes t _ ∙ s.sized;
     }
 
-pub returns : goal.returns
-returns c =
+pub returns-clause-stepped : goal.returns-clause-stepped
+returns-clause-stepped c =
     let s = c.args.self.now in
     let t = c.args.tok.0 in
-    record { found = c.give_written.result; changes = changed s _ t (ended (entry s t)) c.give_written.ensures.gives.0 (λ cpu. gives_written cpu t c.give_written.result) c.give_written.ensures.same refl refl c.give_written.ensures.gives.1.0 c.give_written.ensures.gives.1.1 (entry_tok s t) }
+    record { found = c.give_written-found.result; changes = changed s _ t (ended (entry s t)) c.give_written-found.ensures.gives.0 (λ cpu. gives_written cpu t c.give_written-found.result) c.give_written-found.ensures.same refl refl c.give_written-found.ensures.gives.1.0 c.give_written-found.ensures.gives.1.1.1 (entry_tok s t) }
+
+pub returns-clause-generation : goal.returns-clause-generation
+returns-clause-generation c = c.generation_in.ensures ∙ c.give_written-found.ensures.gives.1.1.0

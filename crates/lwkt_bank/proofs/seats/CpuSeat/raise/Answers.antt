@@ -20,7 +20,7 @@ invariant_of-self c =
     let inside : 0 < plan.cells = omega arith in
     let noted' = IsNoted-raised plan s.cpu e (note_at s.notes t) (s.kept.each t c.requires.there) c.requires.held (short_row c.args.bank.now s t c.requires.of) c.args.change k inside c.requires.first c.requires.last c.requires.under in
     record {
-      kept = keeps_changed s c.raise_cell.new.seat.me.0 t (raised e s.cpu k) c.raise_cell.ensures.raises.0 _ (λ m. record (note_changed m 0 c.args.change) { tally = m.tally + k; last = c.args.change.last }) _ c.raise.new.self (room_of c.args.bank.now s t c.requires.of c.requires.there) (raised_is s c.raise_cell.new.seat.me.0 t k c.args.change.last c.raise_cell.ensures.raises.0 (c.raise_cell.ensures.raises.1.1 k c.requires.last)) c.requires.there (entry_tok s t) c.raise.ensures noted';
+      kept = keeps_changed s c.raise_cell.new.seat.me.0 t (raised e s.cpu k) c.raise_cell.ensures.raises.0 _ (λ m. record (note_changed m 0 c.args.change) { tally = m.tally + k }) _ c.raise.new.self (room_of c.args.bank.now s t c.requires.of c.requires.there) (raised_is s c.raise_cell.new.seat.me.0 t k c.args.change.last c.raise_cell.ensures.raises.0 (c.raise_cell.ensures.raises.1.1 k c.requires.last)) c.requires.there (entry_tok s t) c.raise.ensures noted';
       quiet = still_quiet s.seat c.raise_cell.new.seat c.raise_cell.ensures.same s.quiet;
       sized = length-set s.notes t _ ∙ s.sized;
     }
