@@ -7,6 +7,7 @@ pub mod driven;
 mod drives;
 mod gates;
 pub mod laws;
+mod slices;
 mod turns;
 mod watches;
 

@@ -64,20 +64,26 @@ impl<B> Driven<B> {
 }
 
 impl<B> Driven<B> {
-    // What a turn has left.
-    fn sight(&self) -> Sight {
+    /// What a turn has left.
+    pub(crate) fn sight(&self) -> Sight {
         Sight {
+            ran: self.drove.ran,
             events: self.trace.len(),
             progress: self.cpu.progress(),
         }
     }
 
-    /// A turn has polled no thread: it is looked at once the pauses are long, and there is a pause.
-    pub(crate) fn rest(&self, watch: &mut Watch<'_>) {
+    /// A turn has polled no thread: whether the processor leaves its slice. If not, the turn is looked at once the pauses are long,
+    /// and there is a pause.
+    pub(crate) fn rests(&self, watch: &mut Watch<'_>) -> bool {
+        if watch.leaves() {
+            return true;
+        }
         if watch.is_patient() {
             watch.look(self.sight());
         }
         watch.pause();
+        false
     }
 }
 
