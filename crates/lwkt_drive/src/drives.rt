@@ -98,8 +98,8 @@ impl<B: Body> Driven<B> {
         self.ending = Ending::NotDriven;
     }
 
-    /// Drives the processor in a slice, if it hasn't ended. It waits for so many longest pauses for others to come under way, before
-    /// it leaves the slice for them.
+    /// Drives the processor in a slice, if it hasn't ended. It waits so many longest pauses for others to come under way, before it
+    /// leaves the slice for them.
     pub(crate) fn drive_on<G: Gate>(
         &mut self,
         gate: &G,
@@ -156,7 +156,24 @@ pub fn drive_all<R: Threads + Sync, G: Gate + Sync, B: Body + Send>(
     ensures driven { AllZip (λ old new. IsDriven B.polled (G.answers gate.now) (id_of bank.now) limits.now old new new.ending) all.old all.new }
     ensures at { All (IsAt (id_of bank.now) book.now.table) all.new }
 {
+    drive_on_threads(rt, all.len(), gate, limits, bank, book, all);
+}
+
+/// Drives processors as `drive_all` does, on at most so many threads, with this one.
+pub fn drive_on_threads<R: Threads + Sync, G: Gate + Sync, B: Body + Send>(
+    rt: &R,
+    threads: usize,
+    gate: &G,
+    limits: &Limits,
+    bank: &Bank,
+    book: &MsgBook,
+    all: &mut [Driven<B>],
+)
+    requires at { All (IsAt (id_of bank.now) book.now.table) all.old }
+    ensures driven { AllZip (λ old new. IsDriven B.polled (G.answers gate.now) (id_of bank.now) limits.now old new new.ending) all.old all.new }
+    ensures at { All (IsAt (id_of bank.now) book.now.table) all.new }
+{
     let board = Board::new(all.len(), peers(all));
     begin_all(rt, all);
-    drive_slices(rt, gate, &board, limits, bank, book, all);
+    drive_slices(rt, threads, gate, &board, limits, bank, book, all);
 }

@@ -12,5 +12,5 @@ mod turns;
 mod watches;
 
 pub use driven::{Driven, Ending, Limits};
-pub use drives::drive_all;
+pub use drives::{drive_all, drive_on_threads};
 pub use gates::{Gate, OpenGate};

@@ -14,13 +14,28 @@ use lwkt_msg::MsgBook;
 use std::thread;
 use std::thread::Threads;
 
-// For how many longest pauses a processor waits for others before it leaves a slice for them: some milliseconds.
-const LONG: u32 = 200;
+// For how many longest pauses a processor waits for others before it leaves a slice for them: some hundredths of a second.
+const LONG: u32 = 5000;
 
-// How long others are waited for in the slice of this number. A thread that was made may begin late, so the first two slices wait long.
-// The more slices there were, the less likely is one for each processor, and the rarer are the slices that wait.
-fn waits(number: u64) -> u32 {
-    if number.count_ones() <= 1 { LONG } else { 0 }
+// Whether a thread can be made just now.
+fn can_start<R: Threads>(rt: &R) -> bool {
+    match thread::spawn(rt, || ()) {
+        Ok(started) => {
+            started.join(rt);
+            true
+        }
+        Err(_) => false,
+    }
+}
+
+// How long others are waited for in the slice of this number. A thread that was made may begin late. Where threads can be made, though
+// not for all, there are many slices, and few of them wait.
+fn waits<R: Threads>(rt: &R, number: u64) -> u32 {
+    if number == 0 || number.count_ones() == 1 && can_start(rt) {
+        LONG
+    } else {
+        0
+    }
 }
 
 /// None of the processors has made a turn, and none has ended.
@@ -37,9 +52,10 @@ fn is_one_left<B>(all: &[Driven<B>]) -> bool
     all.iter().any(|driven| !driven.has_ended())
 }
 
-// Drives the processors that haven't ended, each on a thread of its own where one can be made, until each has ended or left the slice.
+// Drives the processors that haven't ended, on at most so many threads where they can be made, until each has ended or left the slice.
 fn drive_slice<R: Threads + Sync, G: Gate + Sync, B: Body + Send>(
     rt: &R,
+    threads: usize,
     gate: &G,
     board: &Board,
     waits: u32,
@@ -54,19 +70,19 @@ fn drive_slice<R: Threads + Sync, G: Gate + Sync, B: Body + Send>(
     ensures at { All (IsAt (id_of bank.now) book.now.table) all.new }
     ensures within { All (λ d. IsWithin limits.now d.drove) all.new }
 {
-    let threads = all.len().max(1);
     thread::for_each_mut(
         rt,
         all,
-        threads,
+        threads.max(1),
         &|number, driven| { driven.drive_on(gate, board, number, waits, limits, bank, book) },
     );
 }
 
-/// Drives the processors in slices until each has ended. Each slice makes a turn of each that hasn't, so there are no more slices than
-/// turns that a processor may make, and one.
+/// Drives the processors in slices, on at most so many threads, until each has ended. Each slice makes a turn of each that hasn't, so
+/// there are no more slices than turns that a processor may make, and one.
 pub(crate) fn drive_slices<R: Threads + Sync, G: Gate + Sync, B: Body + Send>(
     rt: &R,
+    threads: usize,
     gate: &G,
     board: &Board,
     limits: &Limits,
@@ -80,8 +96,13 @@ pub(crate) fn drive_slices<R: Threads + Sync, G: Gate + Sync, B: Body + Send>(
     ensures at { All (IsAt (id_of bank.now) book.now.table) all.new }
 {
     for number in 0..u64::from(limits.turns) + u64::from(limits.idle) + 1 {
+        let waits = if threads < all.len() {
+            0
+        } else {
+            waits(rt, number)
+        };
         board.open_slice();
-        drive_slice(rt, gate, board, waits(number), limits, bank, book, all);
+        drive_slice(rt, threads, gate, board, waits, limits, bank, book, all);
         if !is_one_left(all) {
             return;
         }

@@ -7,6 +7,9 @@ use std::{hint, thread};
 // The most hints of a pause.
 const LONGEST_PAUSE: u32 = 512;
 
+// The most longest pauses between two idle turns of a processor that waits for others to come under way.
+const WAITS: u32 = 64;
+
 /// What a turn has left: how many turns ran a thread, how many events there are, and how far the processor has come.
 #[derive(Clone, Copy, Debug, PartialEq, Eq)]
 pub(crate) struct Sight {
@@ -20,7 +23,7 @@ pub(crate) struct Sight {
 pub(crate) struct Watch<'a> {
     board: &'a Board,
     number: usize,
-    // For how many longest pauses the processor waits for others to come under way before it leaves a slice.
+    // How many longest pauses more the processor waits for others to come under way before it leaves the slice.
     waits: u32,
     // The hints of the next pause.
     hints: u32,
@@ -115,23 +118,24 @@ impl<'a> Watch<'a> {
         self.hints = self.hints.saturating_mul(2).min(LONGEST_PAUSE);
     }
 
-    // Whether all others that haven't ended come under way. None does so once one has left.
-    fn others_come(&self) -> bool {
-        for _wait in 0..self.waits {
-            if self.board.has_one_left() {
-                return false;
+    // Waits a while for the others that haven't ended to come under way. None does so once one has left.
+    fn wait_for_others(&mut self) {
+        for _wait in 0..WAITS {
+            if self.waits == 0 || self.board.has_one_left() || !self.board.is_one_outside() {
+                return;
             }
             self.wait();
-            if !self.board.is_one_outside() {
-                return true;
-            }
+            self.waits = self.waits.saturating_sub(1);
         }
-        false
     }
 
-    /// Whether the processor leaves the slice after an idle turn: another that hasn't ended isn't under way, and doesn't come.
-    pub(crate) fn leaves(&self) -> bool {
-        (self.waits == 0 || self.is_patient()) && self.board.is_one_outside() && !self.others_come()
+    /// Whether the processor leaves the slice after an idle turn: another that hasn't ended isn't under way, and was waited for.
+    pub(crate) fn leaves(&mut self) -> bool {
+        if self.waits > 0 && !self.is_patient() || !self.board.is_one_outside() {
+            return false;
+        }
+        self.wait_for_others();
+        (self.waits == 0 || self.board.has_one_left()) && self.board.is_one_outside()
     }
 
     /// Whether no turn of any processor can change anything.

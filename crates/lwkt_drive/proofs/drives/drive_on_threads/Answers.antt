@@ -1,6 +1,6 @@
 use Rattle.lwkt_bank.specs.Seats.{id_of}
 use Rattle.lwkt_drive.proofs.CourseMoves.{are_driven, all_at, all_within}
-use Rattle.lwkt_drive.proofs.drives.drive_all.Goals as goal
+use Rattle.lwkt_drive.proofs.drives.drive_on_threads.Goals as goal
 
 pub returns-clause-driven : goal.returns-clause-driven
 returns-clause-driven g c =
