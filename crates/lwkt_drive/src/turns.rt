@@ -10,7 +10,6 @@ use crate::gates::Gate;
 use crate::watches::{Sight, Watch};
 use lwkt_bank::Bank;
 use lwkt_base::Fault;
-use lwkt_cpu::drives::count;
 use lwkt_cpu::{Body, Turned};
 use lwkt_msg::MsgBook;
 
@@ -55,10 +54,16 @@ impl<B> Driven<B> {
         requires { self.old.drove.ran + self.old.drove.idle + 1 < 2 ^ 64 }
         ensures { self.new ≡ record self.old { drove = counted self.old.drove turned } }
     {
-        let had_exited = self.drove.all_exited;
-        self.drove = count(self.drove, turned);
-        if self.drove.all_exited && !had_exited {
-            watch.board().say_exited();
+        match turned {
+            Turned::Ran { .. } => self.drove.ran += 1,
+            Turned::Idle => self.drove.idle += 1,
+            Turned::AllExited => {
+                self.drove.idle += 1;
+                if !self.drove.all_exited {
+                    self.drove.all_exited = true;
+                    watch.board().say_exited();
+                }
+            }
         }
     }
 }
