@@ -1,12 +1,13 @@
 use Rattle.std.proofs.Common.{◌≡◌, ℕ, suc, ◌+◌, ◌<◌, ◌≤◌, List, [], ◌∷◌, ◌++◌, length, take, refl, ap, sym, ◌∙◌, subst, arith, inl, inr}
 use Rattle.std.specs.Prelude.{Bool, Vec, slice_index_or}
-use Rattle.std.specs.List.{AllZip}
+use Rattle.std.specs.List.{All, AllZip}
+use Rattle.std.proofs.lemmas.List.Elements.{AllZip-get_or, length_all_zip}
 use Rattle.std.specs.declared.alloc.Global.{Global}
 use Rattle.std.proofs.lemmas.List.Sums.{fold-append}
 use Rattle.std.proofs.lemmas.List.{take-append-le, take_all}
 use lib.ListN.{length-append}
 use Rattle.std.proofs.lemmas.Bool.{cases_lt}
-use Rattle.lwkt_drive.specs.declared.driven.Ending.TheVariants.{TurnsOut}
+use Rattle.lwkt_drive.specs.declared.driven.Ending.TheVariants.{NotDriven, TurnsOut}
 use Rattle.atomic_table.specs.Seated.{TableId}
 use Rattle.lwkt_base.specs.declared.names.CpuId.{CpuId}
 use Rattle.lwkt_base.specs.declared.asks.Ask.{Ask}
@@ -22,7 +23,7 @@ use Rattle.lwkt_cpu.specs.Driving.{Made, counted, none_driven}
 use Rattle.lwkt_drive.specs.declared.driven.Driven.{Driven}
 use Rattle.lwkt_drive.specs.declared.driven.Limits.{Limits}
 use Rattle.lwkt_drive.specs.declared.driven.Ending.{Ending}
-use Rattle.lwkt_drive.specs.Course.{IsAt, IsWithin, GoesOn, EndsBy, MakesOne, Stays, IsDriven, counts}
+use Rattle.lwkt_drive.specs.Course.{IsAt, IsWithin, GoesOn, EndsBy, MakesOne, Stays, IsDriven, IsUnderWay, IsSo, ComesTo, GoesTo, DrivesOn, DrivesOut, begun, counts}
 
 -- a turn more, after others
 pub made_more : {B : Type 0} (polled : B → Answer → Ask → B → Type 0) (bank : BankId) (old mid new : Processor B) (t v u : Vec Event Global) (turns : List Turned) (turned : Turned) → Made polled bank old mid t v turns → MakesTurn polled bank mid new v u turned → Made polled bank old new t u (turns ++ turned ∷ [])
@@ -33,32 +34,16 @@ made_more {B} polled bank old mid new t v u [] turned made last =
 made_more polled bank old mid new t v u (x ∷ turns) turned made last =
     (made.0, (made.1.0, (made.1.1.0, made_more polled bank made.0 mid new made.1.0 v u turns turned made.1.1.1 last)))
 
--- turns made so far
-pub record IsUnderWay {B : Type 0} (polled : B → Answer → Ask → B → Type 0) (answers : CpuId → ℕ → Bool → Type 0) (bank : BankId) (book : TableId) (limits : Limits) (old new : Driven B) (count : ℕ) : Type 0 where
-  pub turns : List Turned
-  pub made : Made polled bank old.cpu new.cpu old.trace new.trace turns
-  pub long : length turns ≡ count
-  pub going : (k : ℕ) → k < length turns → GoesOn answers limits old.id k (counts (take k turns))
-  pub drove : new.drove ≡ counts turns
-  pub total : new.drove.ran + new.drove.idle ≡ count
-  pub within : IsWithin limits new.drove
-  pub same : new.id ≡ old.id
-  pub seat : new.cpu.seat.cpu ≡ old.cpu.seat.cpu
-  pub at : IsAt bank book new
-
 -- no turn was made yet
-pub under_none : {B : Type 0} (polled : B → Answer → Ask → B → Type 0) (answers : CpuId → ℕ → Bool → Type 0) (bank : BankId) (book : TableId) (limits : Limits) (d : Driven B) → IsAt bank book d → d.drove ≡ none_driven → IsUnderWay polled answers bank book limits d d 0
-under_none polled answers bank book limits d at fresh = record {
+pub under_none : {B : Type 0} (polled : B → Answer → Ask → B → Type 0) (answers : CpuId → ℕ → Bool → Type 0) (bank : BankId) (limits : Limits) (d : Driven B) → IsUnderWay polled answers bank limits d (begun d)
+under_none polled answers bank limits d = record {
   turns = [];
   made = (refl, refl);
-  long = refl;
   going = λ k less. absurd (omega (arith, less));
-  drove = fresh;
-  total = let F : Drove → Type 0 = λ x. x.ran + x.idle ≡ 0 in subst F (sym fresh) (omega arith);
-  within = let F : Drove → Type 0 = λ x. IsWithin limits x in subst F (sym fresh) (record { ran = omega arith; idle = omega arith });
+  drove = refl;
+  all = refl;
   same = refl;
   seat = refl;
-  at = at;
 }
 
 counted_ran : (drove : Drove) (turned : Turned) → (counted drove turned).ran ≤ drove.ran + 1
@@ -89,35 +74,43 @@ going_more answers limits cpu turns turned going last k less =
     subst F (sym (take-append-le k turns (turned ∷ []) within)) here
 
 -- a turn more
-pub under_more : {B : Type 0} (polled : B → Answer → Ask → B → Type 0) (answers : CpuId → ℕ → Bool → Type 0) (bank : BankId) (book : TableId) (limits : Limits) (old mid new : Driven B) (count : ℕ) → IsUnderWay polled answers bank book limits old mid count → MakesOne polled answers bank limits count mid new → IsAt bank book new → new.id ≡ mid.id → IsUnderWay polled answers bank book limits old new (count + 1)
-under_more polled answers bank book limits old mid new count u m at same =
-    let I : CpuId → Type 0 = λ id. GoesOn answers limits id count mid.drove in
+pub under_more : {B : Type 0} (polled : B → Answer → Ask → B → Type 0) (answers : CpuId → ℕ → Bool → Type 0) (bank : BankId) (limits : Limits) (old mid new : Driven B) (turn : ℕ) → mid.drove.ran + mid.drove.idle ≡ turn → IsUnderWay polled answers bank limits old mid → MakesOne polled answers bank limits turn mid new → new.id ≡ mid.id → IsUnderWay polled answers bank limits old new
+under_more {B} polled answers bank limits old mid new turn total u m same =
+    let long : length u.turns ≡ turn = sym u.all ∙ total in
+    let I : CpuId → Type 0 = λ id. GoesOn answers limits id turn mid.drove in
     let N : ℕ → Type 0 = λ n. GoesOn answers limits old.id n mid.drove in
     let D : Drove → Type 0 = λ d. GoesOn answers limits old.id (length u.turns) d in
-    let last : GoesOn answers limits old.id (length u.turns) (counts u.turns) = subst D u.drove (subst N (sym u.long) (subst I u.same m.goes)) in
-    let W : Drove → Type 0 = λ d. IsWithin limits d in
-    let T : Drove → Type 0 = λ d. d.ran + d.idle ≡ count + 1 in
+    let last : GoesOn answers limits old.id (length u.turns) (counts u.turns) = subst D u.drove (subst N (sym long) (subst I u.same m.goes)) in
+    let T : Drove → Type 0 = λ d. d.ran + d.idle ≡ length (u.turns ++ m.turned ∷ []) in
     record {
       turns = u.turns ++ m.turned ∷ [];
       made = made_more polled bank old.cpu mid.cpu new.cpu old.trace mid.trace new.trace u.turns m.turned u.made m.makes;
-      long = length-append u.turns (m.turned ∷ []) ∙ ap (λ n. n + 1) u.long;
       going = going_more answers limits old.id u.turns m.turned u.going last;
       drove = m.drove ∙ (ap (λ d. counted d m.turned) u.drove ∙ sym (fold-append counted none_driven u.turns (m.turned ∷ [])));
-      total = subst T (sym m.drove) (omega (arith, counted_all mid.drove m.turned, u.total));
-      within = subst W (sym m.drove) (record {
-        ran = omega (arith, counted_ran mid.drove m.turned, m.goes.ran);
-        idle = omega (arith, counted_idle mid.drove m.turned, m.goes.idle);
-      });
+      all = subst T (sym m.drove) (omega (arith, counted_all mid.drove m.turned, u.all, length-append u.turns (m.turned ∷ [])));
       same = same ∙ u.same;
       seat = m.makes.ran.cpu ∙ u.seat;
-      at = at;
     }
 
+within_more : {B : Type 0} (polled : B → Answer → Ask → B → Type 0) (answers : CpuId → ℕ → Bool → Type 0) (bank : BankId) (limits : Limits) (mid new : Driven B) (turn : ℕ) → MakesOne polled answers bank limits turn mid new → IsWithin limits new.drove
+within_more polled answers bank limits mid new turn m =
+    let W : Drove → Type 0 = λ d. IsWithin limits d in
+    subst W (sym m.drove) (record {
+      ran = omega (arith, counted_ran mid.drove m.turned, m.goes.ran);
+      idle = omega (arith, counted_idle mid.drove m.turned, m.goes.idle);
+    })
+
+total_more : {B : Type 0} (polled : B → Answer → Ask → B → Type 0) (answers : CpuId → ℕ → Bool → Type 0) (bank : BankId) (limits : Limits) (mid new : Driven B) (turn : ℕ) → mid.drove.ran + mid.drove.idle ≡ turn → MakesOne polled answers bank limits turn mid new → new.drove.ran + new.drove.idle ≡ turn + 1
+total_more polled answers bank limits mid new turn total m =
+    let T : Drove → Type 0 = λ d. d.ran + d.idle ≡ turn + 1 in
+    subst T (sym m.drove) (omega (arith, counted_all mid.drove m.turned, total))
+
 -- there was a reason to make no further turn
-pub driven_by : {B : Type 0} (polled : B → Answer → Ask → B → Type 0) (answers : CpuId → ℕ → Bool → Type 0) (bank : BankId) (book : TableId) (limits : Limits) (old mid new : Driven B) (ending : Ending) (count : ℕ) → IsUnderWay polled answers bank book limits old mid count → Stays answers limits count mid new ending → new.id ≡ mid.id → IsDriven polled answers bank limits old new ending
-driven_by {B} polled answers bank book limits old mid new ending count u s same =
+driven_by : {B : Type 0} (polled : B → Answer → Ask → B → Type 0) (answers : CpuId → ℕ → Bool → Type 0) (bank : BankId) (limits : Limits) (old mid new : Driven B) (ending : Ending) (turn : ℕ) → mid.drove.ran + mid.drove.idle ≡ turn → IsUnderWay polled answers bank limits old mid → Stays answers limits turn mid new ending → new.id ≡ mid.id → IsDriven polled answers bank limits old new ending
+driven_by {B} polled answers bank limits old mid new ending turn total u s same =
+    let long : length u.turns ≡ turn = sym u.all ∙ total in
     let M : Processor B → Type 0 = λ p. Made polled bank old.cpu p old.trace mid.trace u.turns in
-    let I : CpuId → Type 0 = λ id. EndsBy answers limits id count mid.drove ending in
+    let I : CpuId → Type 0 = λ id. EndsBy answers limits id turn mid.drove ending in
     let N : ℕ → Type 0 = λ n. EndsBy answers limits old.id n mid.drove ending in
     let D : Drove → Type 0 = λ d. EndsBy answers limits old.id (length u.turns) d ending in
     record {
@@ -127,24 +120,200 @@ driven_by {B} polled answers bank book limits old mid new ending count u s same 
       trace = s.trace;
       going = u.going;
       drove = s.drove ∙ u.drove;
-      ends = subst D (sym s.drove) (subst N (sym u.long) (subst I u.same s.ends));
+      ends = subst D (sym s.drove) (subst N (sym long) (subst I u.same s.ends));
       same = same ∙ u.same;
       seat = ap (λ p. p.seat.cpu) s.cpu ∙ u.seat;
     }
 
 -- both limits are reached
-pub driven_out : {B : Type 0} (polled : B → Answer → Ask → B → Type 0) (answers : CpuId → ℕ → Bool → Type 0) (bank : BankId) (book : TableId) (limits : Limits) (old new : Driven B) (count : ℕ) → limits.turns + limits.idle ≤ count → IsUnderWay polled answers bank book limits old new count → IsDriven polled answers bank limits old new TurnsOut
-driven_out polled answers bank book limits old new count all u = record {
+driven_out : {B : Type 0} (polled : B → Answer → Ask → B → Type 0) (answers : CpuId → ℕ → Bool → Type 0) (bank : BankId) (limits : Limits) (old new : Driven B) → limits.turns + limits.idle ≤ new.drove.ran + new.drove.idle → IsWithin limits new.drove → IsUnderWay polled answers bank limits old new → IsDriven polled answers bank limits old new TurnsOut
+driven_out polled answers bank limits old new reached within u = record {
   turns = u.turns;
   v = new.trace;
   made = u.made;
   trace = refl;
   going = u.going;
   drove = u.drove;
-  ends = omega (arith, all, u.total, u.within.ran, u.within.idle);
+  ends = omega (arith, reached, within.ran, within.idle);
   same = u.same;
   seat = u.seat;
 }
+
+-- a processor going through its turns: wherever it was under way from, it still is, after so many turns
+pub record IsGoing {B : Type 0} (polled : B → Answer → Ask → B → Type 0) (answers : CpuId → ℕ → Bool → Type 0) (bank : BankId) (book : TableId) (limits : Limits) (first now : Driven B) (turn : ℕ) : Type 0 where
+  pub under : (old : Driven B) → IsUnderWay polled answers bank limits old first → IsUnderWay polled answers bank limits old now
+  pub total : now.drove.ran + now.drove.idle ≡ turn
+  pub least : first.drove.ran + first.drove.idle ≤ turn
+  pub within : IsWithin limits now.drove
+  pub at : IsAt bank book now
+
+pub going_none : {B : Type 0} (polled : B → Answer → Ask → B → Type 0) (answers : CpuId → ℕ → Bool → Type 0) (bank : BankId) (book : TableId) (limits : Limits) (d : Driven B) → IsAt bank book d → IsWithin limits d.drove → IsGoing polled answers bank book limits d d (d.drove.ran + d.drove.idle)
+going_none polled answers bank book limits d at within = record {
+  under = λ old u. u;
+  total = refl;
+  least = omega arith;
+  within = within;
+  at = at;
+}
+
+pub going_one : {B : Type 0} (polled : B → Answer → Ask → B → Type 0) (answers : CpuId → ℕ → Bool → Type 0) (bank : BankId) (book : TableId) (limits : Limits) (first mid new : Driven B) (turn : ℕ) → IsGoing polled answers bank book limits first mid turn → MakesOne polled answers bank limits turn mid new → IsAt bank book new → new.id ≡ mid.id → IsGoing polled answers bank book limits first new (turn + 1)
+going_one polled answers bank book limits first mid new turn g m at same = record {
+  under = λ old u. under_more polled answers bank limits old mid new turn g.total (g.under old u) m same;
+  total = total_more polled answers bank limits mid new turn g.total m;
+  least = let l = g.least in omega (arith, l);
+  within = within_more polled answers bank limits mid new turn m;
+  at = at;
+}
+
+pub going_to : {B : Type 0} (polled : B → Answer → Ask → B → Type 0) (answers : CpuId → ℕ → Bool → Type 0) (bank : BankId) (book : TableId) (limits : Limits) (first mid new : Driven B) (turn : ℕ) (ending : Ending) → IsGoing polled answers bank book limits first mid turn → ComesTo polled answers bank limits turn mid new ending → new.id ≡ mid.id → GoesTo polled answers bank limits first new ending
+going_to polled answers bank book limits first mid new turn ending g comes same old u = elim comes [
+  | inl made ↦ inl (made.0, under_more polled answers bank limits old mid new turn g.total (g.under old u) made.1 same)
+  | inr stays ↦ inr (driven_by polled answers bank limits old mid new ending turn g.total (g.under old u) stays same)
+]
+
+pub going_out : {B : Type 0} (polled : B → Answer → Ask → B → Type 0) (answers : CpuId → ℕ → Bool → Type 0) (bank : BankId) (book : TableId) (limits : Limits) (first now : Driven B) (turn : ℕ) → limits.turns + limits.idle ≤ turn → IsGoing polled answers bank book limits first now turn → GoesTo polled answers bank limits first now TurnsOut
+going_out polled answers bank book limits first now turn reached g old u =
+    let t = g.total in inr (driven_out polled answers bank limits old now (omega (arith, t, reached)) g.within (g.under old u))
+
+-- none ends as one that wasn't driven
+never : (answers : CpuId → ℕ → Bool → Type 0) (limits : Limits) (cpu : CpuId) (turns : ℕ) (drove : Drove) (ending : Ending) → ending ≡ NotDriven → EndsBy answers limits cpu turns drove ending → ⊥
+never answers limits cpu turns drove ending is ends =
+    let F : Ending → Type 0 = λ e. EndsBy answers limits cpu turns drove e in
+    subst F is ends
+
+pub comes_more : {B : Type 0} (polled : B → Answer → Ask → B → Type 0) (answers : CpuId → ℕ → Bool → Type 0) (bank : BankId) (book : TableId) (limits : Limits) (first mid new : Driven B) (turn : ℕ) (ending : Ending) → IsGoing polled answers bank book limits first mid turn → ComesTo polled answers bank limits turn mid new ending → ending ≡ NotDriven → first.drove.ran + first.drove.idle < new.drove.ran + new.drove.idle
+comes_more polled answers bank book limits first mid new turn ending g comes is = elim comes [
+  | inl made ↦ let t = total_more polled answers bank limits mid new turn g.total made.1 in let l = g.least in omega (arith, t, l)
+  | inr stays ↦ absurd (never answers limits mid.id turn mid.drove ending is stays.ends)
+]
+
+pub comes_within : {B : Type 0} (polled : B → Answer → Ask → B → Type 0) (answers : CpuId → ℕ → Bool → Type 0) (bank : BankId) (book : TableId) (limits : Limits) (first mid new : Driven B) (turn : ℕ) (ending : Ending) → IsGoing polled answers bank book limits first mid turn → ComesTo polled answers bank limits turn mid new ending → IsWithin limits new.drove
+comes_within polled answers bank book limits first mid new turn ending g comes = elim comes [
+  | inl made ↦ within_more polled answers bank limits mid new turn made.1
+  | inr stays ↦ let W : Drove → Type 0 = λ d. IsWithin limits d in subst W (sym stays.drove) g.within
+]
+
+-- an end that is noted changes nothing else
+under_noted : {B : Type 0} (polled : B → Answer → Ask → B → Type 0) (answers : CpuId → ℕ → Bool → Type 0) (bank : BankId) (limits : Limits) (old new : Driven B) (noted : Ending) → IsUnderWay polled answers bank limits old new → IsUnderWay polled answers bank limits old (record new { ending = noted })
+under_noted polled answers bank limits old new noted u = record { turns = u.turns; made = u.made; going = u.going; drove = u.drove; all = u.all; same = u.same; seat = u.seat }
+
+driven_noted : {B : Type 0} (polled : B → Answer → Ask → B → Type 0) (answers : CpuId → ℕ → Bool → Type 0) (bank : BankId) (limits : Limits) (old new : Driven B) (noted ending : Ending) → IsDriven polled answers bank limits old new ending → IsDriven polled answers bank limits old (record new { ending = noted }) ending
+driven_noted polled answers bank limits old new noted ending d = record { turns = d.turns; v = d.v; made = d.made; trace = d.trace; going = d.going; drove = d.drove; ends = d.ends; same = d.same; seat = d.seat }
+
+so_noted : {B : Type 0} (polled : B → Answer → Ask → B → Type 0) (answers : CpuId → ℕ → Bool → Type 0) (bank : BankId) (limits : Limits) (old new : Driven B) (noted ending : Ending) → IsSo polled answers bank limits old new ending → IsSo polled answers bank limits old (record new { ending = noted }) ending
+so_noted polled answers bank limits old new noted ending so = elim so [
+  | inl under ↦ inl (under.0, under_noted polled answers bank limits old new noted under.1)
+  | inr driven ↦ inr (driven_noted polled answers bank limits old new noted ending driven)
+]
+
+-- a processor that has ended is left as it is
+pub drives_none : {B : Type 0} (polled : B → Answer → Ask → B → Type 0) (answers : CpuId → ℕ → Bool → Type 0) (bank : BankId) (limits : Limits) (d : Driven B) → (d.ending ≡ NotDriven → ⊥) → DrivesOn polled answers bank limits d d
+drives_none polled answers bank limits d ended = record { so = λ old so. so; more = λ is. absurd (ended is) }
+
+-- one that hasn't goes on
+pub drives_more : {B : Type 0} (polled : B → Answer → Ask → B → Type 0) (answers : CpuId → ℕ → Bool → Type 0) (bank : BankId) (limits : Limits) (mid new : Driven B) (ending : Ending) → mid.ending ≡ NotDriven → GoesTo polled answers bank limits mid new ending → (ending ≡ NotDriven → mid.drove.ran + mid.drove.idle < new.drove.ran + new.drove.idle) → DrivesOn polled answers bank limits mid (record new { ending = ending })
+drives_more polled answers bank limits mid new ending is goes more = record {
+  so = λ old so. elim so [
+    | inl under ↦ so_noted polled answers bank limits old new ending ending (goes old under.1)
+    | inr driven ↦ absurd (never answers limits old.id (length driven.turns) mid.drove mid.ending is driven.ends)
+  ];
+  more = λ none. (is, more none);
+}
+
+-- slices of a processor's driving: it has gone on, and where it hasn't ended, it has made so many turns
+pub record Went {B : Type 0} (polled : B → Answer → Ask → B → Type 0) (answers : CpuId → ℕ → Bool → Type 0) (bank : BankId) (limits : Limits) (least : ℕ) (mid new : Driven B) : Type 0 where
+  pub so : (old : Driven B) → IsSo polled answers bank limits old mid mid.ending → IsSo polled answers bank limits old new new.ending
+  pub more : new.ending ≡ NotDriven → least ≤ new.drove.ran + new.drove.idle
+
+went_none : {B : Type 0} (polled : B → Answer → Ask → B → Type 0) (answers : CpuId → ℕ → Bool → Type 0) (bank : BankId) (limits : Limits) (d : Driven B) → Went polled answers bank limits 0 d d
+went_none polled answers bank limits d = record { so = λ old so. so; more = λ is. omega arith }
+
+went_more : {B : Type 0} (polled : B → Answer → Ask → B → Type 0) (answers : CpuId → ℕ → Bool → Type 0) (bank : BankId) (limits : Limits) (least : ℕ) (first mid new : Driven B) → Went polled answers bank limits least first mid → DrivesOn polled answers bank limits mid new → Went polled answers bank limits (least + 1) first new
+went_more polled answers bank limits least first mid new w d = record {
+  so = λ old so. d.so old (w.so old so);
+  more = λ is. let m = d.more is in let l = w.more m.0 in let k = m.1 in omega (arith, l, k);
+}
+
+out_ended : {B : Type 0} (polled : B → Answer → Ask → B → Type 0) (answers : CpuId → ℕ → Bool → Type 0) (bank : BankId) (limits : Limits) (least : ℕ) (first now : Driven B) → Went polled answers bank limits least first now → (now.ending ≡ NotDriven → ⊥) → DrivesOut polled answers bank limits first now
+out_ended polled answers bank limits least first now w ended old so = elim (w.so old so) [
+  | inl under ↦ absurd (ended under.0)
+  | inr driven ↦ driven
+]
+
+out_left : {B : Type 0} (polled : B → Answer → Ask → B → Type 0) (answers : CpuId → ℕ → Bool → Type 0) (bank : BankId) (limits : Limits) (least : ℕ) (first now : Driven B) → limits.turns + limits.idle < least → Went polled answers bank limits least first now → IsWithin limits now.drove → DrivesOut polled answers bank limits first now
+out_left polled answers bank limits least first now many w within old so = elim (w.so old so) [
+  | inl under ↦ let l = w.more under.0 in absurd (omega (arith, l, many, within.ran, within.idle))
+  | inr driven ↦ driven
+]
+
+zip_refl : {A : Type 0} (R : A → A → Type 0) → ((x : A) → R x x) → (xs : List A) → AllZip R xs xs
+zip_refl R same [] = tt
+zip_refl R same (x ∷ xs) = (same x, zip_refl R same xs)
+
+zip_then : {A : Type 0} (R S T : A → A → Type 0) → ((x y z : A) → R x y → S y z → T x z) → (xs ys zs : List A) → AllZip R xs ys → AllZip S ys zs → AllZip T xs zs
+zip_then R S T step [] [] [] r s = tt
+zip_then R S T step [] [] (z ∷ zs) r s = absurd s
+zip_then R S T step [] (y ∷ ys) zs r s = absurd r
+zip_then R S T step (x ∷ xs) [] zs r s = absurd r
+zip_then R S T step (x ∷ xs) (y ∷ ys) [] r s = absurd s
+zip_then R S T step (x ∷ xs) (y ∷ ys) (z ∷ zs) r s = (step x y z r.0 s.0, zip_then R S T step xs ys zs r.1 s.1)
+
+zip_with : {A : Type 0} (R T : A → A → Type 0) (P : A → Type 0) → ((x y : A) → R x y → P y → T x y) → (xs ys : List A) → AllZip R xs ys → All P ys → AllZip T xs ys
+zip_with R T P step [] [] r p = tt
+zip_with R T P step [] (y ∷ ys) r p = absurd r
+zip_with R T P step (x ∷ xs) [] r p = absurd r
+zip_with R T P step (x ∷ xs) (y ∷ ys) r p = (step x y r.0 (p 0 y (omega arith)), zip_with R T P step xs ys r.1 (λ k d less. p (suc k) d (omega (arith, less))))
+
+-- processors between two slices
+pub record AreGoing {B : Type 0} (polled : B → Answer → Ask → B → Type 0) (answers : CpuId → ℕ → Bool → Type 0) (bank : BankId) (book : TableId) (limits : Limits) (first now : List (Driven B)) (least : ℕ) : Type 0 where
+  pub went : AllZip (Went polled answers bank limits least) first now
+  pub at : All (IsAt bank book) now
+  pub within : All (λ d. IsWithin limits d.drove) now
+
+pub are_none : {B : Type 0} (polled : B → Answer → Ask → B → Type 0) (answers : CpuId → ℕ → Bool → Type 0) (bank : BankId) (book : TableId) (limits : Limits) (all : List (Driven B)) → All (IsAt bank book) all → All (λ d. IsWithin limits d.drove) all → AreGoing polled answers bank book limits all all 0
+are_none polled answers bank book limits all at within = record { went = zip_refl (Went polled answers bank limits 0) (went_none polled answers bank limits) all; at = at; within = within }
+
+pub are_more : {B : Type 0} (polled : B → Answer → Ask → B → Type 0) (answers : CpuId → ℕ → Bool → Type 0) (bank : BankId) (book : TableId) (limits : Limits) (first mid new : List (Driven B)) (least : ℕ) → AreGoing polled answers bank book limits first mid least → AllZip (DrivesOn polled answers bank limits) mid new → All (IsAt bank book) new → All (λ d. IsWithin limits d.drove) new → AreGoing polled answers bank book limits first new (least + 1)
+are_more polled answers bank book limits first mid new least g on at within = record {
+  went = zip_then (Went polled answers bank limits least) (DrivesOn polled answers bank limits) (Went polled answers bank limits (least + 1)) (went_more polled answers bank limits least) first mid new g.went on;
+  at = at;
+  within = within;
+}
+
+pub are_ended : {B : Type 0} (polled : B → Answer → Ask → B → Type 0) (answers : CpuId → ℕ → Bool → Type 0) (bank : BankId) (book : TableId) (limits : Limits) (first now : List (Driven B)) (least : ℕ) → AreGoing polled answers bank book limits first now least → All (λ d. d.ending ≡ NotDriven → ⊥) now → AllZip (DrivesOut polled answers bank limits) first now
+are_ended polled answers bank book limits first now least g ended = zip_with (Went polled answers bank limits least) (DrivesOut polled answers bank limits) (λ d. d.ending ≡ NotDriven → ⊥) (out_ended polled answers bank limits least) first now g.went ended
+
+pub are_out : {B : Type 0} (polled : B → Answer → Ask → B → Type 0) (answers : CpuId → ℕ → Bool → Type 0) (bank : BankId) (book : TableId) (limits : Limits) (first now : List (Driven B)) (least : ℕ) → limits.turns + limits.idle < least → AreGoing polled answers bank book limits first now least → AllZip (DrivesOut polled answers bank limits) first now
+are_out polled answers bank book limits first now least many g = zip_with (Went polled answers bank limits least) (DrivesOut polled answers bank limits) (λ d. IsWithin limits d.drove) (λ x y w within. out_left polled answers bank limits least x y many w within) first now g.went g.within
+
+-- from before their first turns to their ends
+driven_whole : {B : Type 0} (polled : B → Answer → Ask → B → Type 0) (answers : CpuId → ℕ → Bool → Type 0) (bank : BankId) (limits : Limits) (old mid new : Driven B) → mid ≡ begun old → DrivesOut polled answers bank limits mid new → IsDriven polled answers bank limits old new new.ending
+driven_whole {B} polled answers bank limits old mid new is out =
+    let F : Driven B → Type 0 = λ d. DrivesOut polled answers bank limits d new in
+    subst F is out old (inl (refl, under_none polled answers bank limits old))
+
+pub are_driven : {B : Type 0} (polled : B → Answer → Ask → B → Type 0) (answers : CpuId → ℕ → Bool → Type 0) (bank : BankId) (limits : Limits) (olds mids news : List (Driven B)) → AllZip (λ old new. new ≡ begun old) olds mids → AllZip (DrivesOut polled answers bank limits) mids news → AllZip (λ old new. IsDriven polled answers bank limits old new new.ending) olds news
+are_driven polled answers bank limits olds mids news begins out = zip_then (λ old new. new ≡ begun old) (DrivesOut polled answers bank limits) (λ old new. IsDriven polled answers bank limits old new new.ending) (driven_whole polled answers bank limits) olds mids news begins out
+
+at_begun : {B : Type 0} (bank : BankId) (book : TableId) (old new : Driven B) → new ≡ begun old → IsAt bank book old → IsAt bank book new
+at_begun {B} bank book old new is at =
+    let F : Driven B → Type 0 = λ d. IsAt bank book d in
+    subst F (sym is) (record { bank_is = at.bank_is; book_is = at.book_is })
+
+pub all_at : {B : Type 0} (bank : BankId) (book : TableId) (olds news : List (Driven B)) → AllZip (λ old new. new ≡ begun old) olds news → All (IsAt bank book) olds → All (IsAt bank book) news
+all_at bank book olds news zip at k d less =
+    let less' : k < length olds = omega (arith, less, length_all_zip (λ old new. new ≡ begun old) olds news zip) in
+    at_begun bank book (slice_index_or olds k d) (slice_index_or news k d) (AllZip-get_or (λ old new. new ≡ begun old) olds news k d d zip less') (at k d less')
+
+within_begun : {B : Type 0} (limits : Limits) (old new : Driven B) → new ≡ begun old → IsWithin limits new.drove
+within_begun {B} limits old new is =
+    let F : Driven B → Type 0 = λ d. IsWithin limits d.drove in
+    subst F (sym is) (record { ran = omega arith; idle = omega arith })
+
+pub all_within : {B : Type 0} (limits : Limits) (olds news : List (Driven B)) → AllZip (λ old new. new ≡ begun old) olds news → All (λ d. IsWithin limits d.drove) news
+all_within limits olds news zip k d less =
+    let less' : k < length olds = omega (arith, less, length_all_zip (λ old new. new ≡ begun old) olds news zip) in
+    within_begun limits (slice_index_or olds k d) (slice_index_or news k d) (AllZip-get_or (λ old new. new ≡ begun old) olds news k d d zip less')
 
 -- a fact of the elements at each place of two lists that are as long
 pub zip_each : {A : Type 0} (R : A → A → Type 0) (xs ys : List A) → length ys ≡ length xs → ((i : ℕ) (d : A) → i < length xs → R (slice_index_or xs i d) (slice_index_or ys i d)) → AllZip R xs ys

@@ -1,4 +1,4 @@
-use Rattle.std.specs.Prelude.{◌≡◌, ℕ, ◌<◌, ◌≤◌, Bool, true, false, List, length, take, fold, Vec}
+use Rattle.std.specs.Prelude.{◌≡◌, ◌⊎◌, ℕ, ◌+◌, ◌<◌, ◌≤◌, Bool, true, false, List, length, take, fold, Vec}
 use Rattle.std.specs.declared.alloc.Global.{Global}
 use Rattle.atomic_table.specs.Seated.{TableId}
 use Rattle.lwkt_base.specs.declared.names.CpuId.{CpuId}
@@ -74,3 +74,39 @@ pub record IsDriven {B : Type 0} (polled : B → Answer → Ask → B → Type 0
   pub ends : EndsBy answers limits old.id (length turns) new.drove ending
   pub same : new.id ≡ old.id
   pub seat : new.cpu.seat.cpu ≡ old.cpu.seat.cpu
+
+-- a processor before its first turn of a drive
+abbrev pub begun : {B : Type 0} → Driven B → Driven B
+begun d = record d { drove = none_driven; ending = NotDriven }
+
+-- a processor is being driven: so far it has made these turns one after the other, each where it went on; the trace grew by theirs
+-- (own)
+pub record IsUnderWay {B : Type 0} (polled : B → Answer → Ask → B → Type 0) (answers : CpuId → ℕ → Bool → Type 0) (bank : BankId) (limits : Limits) (old new : Driven B) : Type 0 where
+  pub turns : List Turned
+  pub made : Made polled bank old.cpu new.cpu old.trace new.trace turns
+  pub going : (k : ℕ) → k < length turns → GoesOn answers limits old.id k (counts (take k turns))
+  pub drove : new.drove ≡ counts turns
+  pub all : new.drove.ran + new.drove.idle ≡ length turns
+  pub same : new.id ≡ old.id
+  pub seat : new.cpu.seat.cpu ≡ old.cpu.seat.cpu
+
+-- a processor's driving so far: it is under way and hasn't ended, or it was driven and ended so
+abbrev pub IsSo : {B : Type 0} → (B → Answer → Ask → B → Type 0) → (CpuId → ℕ → Bool → Type 0) → BankId → Limits → Driven B → Driven B → Ending → Type 0
+IsSo polled answers bank limits old new ending = ((ending ≡ NotDriven) × IsUnderWay polled answers bank limits old new) ⊎ IsDriven polled answers bank limits old new ending
+
+-- what asking for a turn comes to: none is made, and why; or one is made, after which the processor leaves its slice
+abbrev pub ComesTo : {B : Type 0} → (B → Answer → Ask → B → Type 0) → (CpuId → ℕ → Bool → Type 0) → BankId → Limits → ℕ → Driven B → Driven B → Ending → Type 0
+ComesTo polled answers bank limits turn old new ending = ((ending ≡ NotDriven) × MakesOne polled answers bank limits turn old new) ⊎ Stays answers limits turn old new ending
+
+-- a processor goes on: from wherever it was under way, it still is, or it ends so
+abbrev pub GoesTo : {B : Type 0} → (B → Answer → Ask → B → Type 0) → (CpuId → ℕ → Bool → Type 0) → BankId → Limits → Driven B → Driven B → Ending → Type 0
+GoesTo {B} polled answers bank limits mid new ending = (old : Driven B) → IsUnderWay polled answers bank limits old mid → IsSo polled answers bank limits old new ending
+
+-- a slice of a processor's driving: wherever it came from, it has gone on from there; and where it hasn't ended, it has made a turn
+pub record DrivesOn {B : Type 0} (polled : B → Answer → Ask → B → Type 0) (answers : CpuId → ℕ → Bool → Type 0) (bank : BankId) (limits : Limits) (mid new : Driven B) : Type 0 where
+  pub so : (old : Driven B) → IsSo polled answers bank limits old mid mid.ending → IsSo polled answers bank limits old new new.ending
+  pub more : new.ending ≡ NotDriven → (mid.ending ≡ NotDriven) × (mid.drove.ran + mid.drove.idle < new.drove.ran + new.drove.idle)
+
+-- the rest of a processor's driving: wherever it came from, it was driven from there to its end
+abbrev pub DrivesOut : {B : Type 0} → (B → Answer → Ask → B → Type 0) → (CpuId → ℕ → Bool → Type 0) → BankId → Limits → Driven B → Driven B → Type 0
+DrivesOut {B} polled answers bank limits mid new = (old : Driven B) → IsSo polled answers bank limits old mid mid.ending → IsDriven polled answers bank limits old new new.ending

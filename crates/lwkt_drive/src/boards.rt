@@ -11,6 +11,11 @@
 //! processor came to rest, since a rest is told only after all earlier changes were counted. But the quiet turn found nothing to do,
 //! and between it and the later turn nothing has changed, here or elsewhere: the later one does what the quiet one did, which is
 //! nothing. A word that is exchanged by somebody else just then needs no telling: an exchange is lost to another one's change.
+//!
+//! Where threads can't be made for all processors, they are driven in slices: one that finds nothing to do leaves its slice where
+//! another that hasn't ended isn't under way, so that this one may begin on the same thread. A slice is over once each has ended or
+//! left. Where in a whole slice none has ended or changed anything, each that hasn't ended has made an idle turn in it, and nothing
+//! has changed from before the first of these turns to after the last. So the next turn of each would do what that one did.
 
 use std::sync::atomic::{AtomicU64, Ordering};
 
@@ -32,6 +37,12 @@ pub(crate) struct Board {
     called_off: AtomicU64,
     changes: AtomicU64,
     rests: [AtomicU64; PLACES],
+    // How many that haven't ended aren't under way.
+    outside: AtomicU64,
+    // Whether one has left this slice.
+    left: AtomicU64,
+    // Whether one has changed something in this slice, or has ended.
+    moved: AtomicU64,
 }
 
 // A processor that has told nothing.
@@ -58,6 +69,9 @@ impl Board {
                 awake(),
                 awake(),
             ],
+            outside: AtomicU64::new(cpus as u64),
+            left: AtomicU64::new(0),
+            moved: AtomicU64::new(0),
         }
     }
 
@@ -106,5 +120,57 @@ impl Board {
                 rest == count || rest == STOPPED
             })
             && self.changes() == count
+    }
+
+    /// What a processor told last.
+    pub(crate) fn told(&self, number: usize) -> u64 {
+        match self.rests.get(number) {
+            Some(place) => place.load(Ordering::SeqCst),
+            None => AWAKE,
+        }
+    }
+
+    /// A slice begins.
+    pub(crate) fn open_slice(&self) {
+        self.left.store(0, Ordering::SeqCst);
+        self.moved.store(0, Ordering::SeqCst);
+    }
+
+    /// A processor that hasn't ended is under way.
+    pub(crate) fn enter(&self) {
+        self.outside.fetch_sub(1, Ordering::SeqCst);
+    }
+
+    /// It leaves the slice.
+    pub(crate) fn leave(&self) {
+        self.outside.fetch_add(1, Ordering::SeqCst);
+        self.left.store(1, Ordering::SeqCst);
+    }
+
+    /// Whether one that hasn't ended isn't under way.
+    pub(crate) fn is_one_outside(&self) -> bool {
+        self.outside.load(Ordering::SeqCst) != 0
+    }
+
+    /// Whether one has left this slice.
+    pub(crate) fn has_one_left(&self) -> bool {
+        self.left.load(Ordering::SeqCst) != 0
+    }
+
+    /// A processor has changed something in this slice, or has ended.
+    pub(crate) fn say_moved(&self) {
+        self.moved.store(1, Ordering::SeqCst);
+    }
+
+    /// A slice is over. Where none has changed anything in it, all that haven't ended rest at the count of changes.
+    pub(crate) fn close_slice(&self) {
+        if self.whole && self.moved.load(Ordering::SeqCst) == 0 {
+            let count = self.changes();
+            for place in self.rests.iter() {
+                if place.load(Ordering::SeqCst) != STOPPED {
+                    place.store(count, Ordering::SeqCst);
+                }
+            }
+        }
     }
 }

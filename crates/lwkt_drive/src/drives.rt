@@ -1,22 +1,32 @@
 //! Processors driven, each on a thread of its own.
-ghost use Rattle.std.specs.Prelude.{◌≡◌, ◌+◌, ◌<◌, ◌≤◌, ◌^◌, IfSome, All, None};
+ghost use Rattle.std.specs.Prelude.{◌≡◌, ◌≢◌, true, false, ◌+◌, ◌<◌, ◌≤◌, ◌^◌, IfSome, All, None};
 ghost use Rattle.std.specs.List.{AllZip};
 ghost use Rattle.lwkt_bank.specs.Seats.{id_of};
-ghost use Rattle.lwkt_cpu.specs.Driving.{none_driven};
-ghost use Rattle.lwkt_drive.specs.Course.{IsAt, IsWithin, IsDriven, MakesOne, Stays};
+ghost use Rattle.lwkt_drive.specs.Course.{IsAt, IsWithin, IsDriven, MakesOne, ComesTo, GoesTo, DrivesOn, begun};
 
 use crate::boards::Board;
 use crate::driven::{Driven, Ending, Limits};
 use crate::gates::Gate;
+use crate::slices::{begin_all, drive_slices};
 use crate::watches::Watch;
 use lwkt_bank::Bank;
 use lwkt_cpu::{Body, Drove, Turned};
 use lwkt_msg::MsgBook;
-use std::thread;
 use std::thread::Threads;
 
+impl<B> Driven<B> {
+    /// Whether it makes no further turn.
+    pub(crate) fn has_ended(&self) -> bool
+        ensures no { result ≡ false → self.now.ending ≡ Ending.NotDriven }
+        ensures yes { result ≡ true → self.now.ending ≢ Ending.NotDriven }
+    {
+        !matches!(self.ending, Ending::NotDriven)
+    }
+}
+
 impl<B: Body> Driven<B> {
-    // Makes one turn more, or says why none. After a turn that ran no thread there is a pause.
+    // Makes one turn more, or says why none. After a turn that ran no thread there is a pause, or the processor leaves its slice: that
+    // is told as `NotDriven`, since it hasn't ended.
     fn step<G: Gate>(
         &mut self,
         gate: &G,
@@ -28,7 +38,7 @@ impl<B: Body> Driven<B> {
     ) -> Option<Ending>
         requires at { IsAt (id_of bank.now) book.now.table self.old }
         requires within { IsWithin limits.now self.old.drove }
-        ensures some { IfSome result (λ ending. Stays (G.answers gate.now) limits.now turn self.old self.new ending) }
+        ensures some { IfSome result (λ ending. ComesTo B.polled (G.answers gate.now) (id_of bank.now) limits.now turn self.old self.new ending) }
         ensures none { result ≡ None → MakesOne B.polled (G.answers gate.now) (id_of bank.now) limits.now turn self.old self.new }
         ensures at { IsAt (id_of bank.now) book.now.table self.new }
         ensures same { self.new.id ≡ self.old.id }
@@ -38,7 +48,11 @@ impl<B: Body> Driven<B> {
         }
         match self.advance(watch, bank, book) {
             Ok(Turned::Ran { .. }) => watch.ran(),
-            Ok(Turned::Idle | Turned::AllExited) => self.rest(watch),
+            Ok(Turned::Idle | Turned::AllExited) => {
+                if self.rests(watch) {
+                    return Some(Ending::NotDriven);
+                }
+            }
             Err(_) => {
                 watch.board().call_off();
                 return Some(Ending::NoMemory);
@@ -47,7 +61,7 @@ impl<B: Body> Driven<B> {
         None
     }
 
-    // Makes turns, and says why it makes no further one.
+    // Makes turns, and says why it makes no further one: with `NotDriven` it goes on in a later slice.
     fn go_on<G: Gate>(
         &mut self,
         gate: &G,
@@ -57,11 +71,14 @@ impl<B: Body> Driven<B> {
         book: &MsgBook,
     ) -> Ending
         requires at { IsAt (id_of bank.now) book.now.table self.old }
-        requires fresh { self.old.drove ≡ none_driven }
-        ensures driven { IsDriven B.polled (G.answers gate.now) (id_of bank.now) limits.now self.old self.new result }
+        requires within { IsWithin limits.now self.old.drove }
+        ensures goes { GoesTo B.polled (G.answers gate.now) (id_of bank.now) limits.now self.old self.new result }
+        ensures more { result ≡ Ending.NotDriven → self.old.drove.ran + self.old.drove.idle < self.new.drove.ran + self.new.drove.idle }
         ensures at { IsAt (id_of bank.now) book.now.table self.new }
+        ensures within { IsWithin limits.now self.new.drove }
     {
-        for turn in 0..u64::from(limits.turns) + u64::from(limits.idle) {
+        let made = self.drove.ran + self.drove.idle;
+        for turn in made..u64::from(limits.turns) + u64::from(limits.idle) {
             if let Some(ending) = self.step(gate, watch, limits, bank, book, turn) {
                 return ending;
             }
@@ -69,28 +86,47 @@ impl<B: Body> Driven<B> {
         Ending::TurnsOut
     }
 
-    // Drives the processor.
-    fn drive<G: Gate>(
-        &mut self,
-        gate: &G,
-        board: &Board,
-        number: usize,
-        limits: &Limits,
-        bank: &Bank,
-        book: &MsgBook,
-    )
-        requires at { IsAt (id_of bank.now) book.now.table self.old }
-        ensures driven { IsDriven B.polled (G.answers gate.now) (id_of bank.now) limits.now self.old self.new self.new.ending }
-        ensures at { IsAt (id_of bank.now) book.now.table self.new }
+    /// Has made no turn, and hasn't ended.
+    pub(crate) fn begin(&mut self)
+        ensures { self.new ≡ begun self.old }
     {
         self.drove = Drove {
             ran: 0,
             idle: 0,
             all_exited: false,
         };
-        let mut watch = Watch::new(board, number);
+        self.ending = Ending::NotDriven;
+    }
+
+    /// Drives the processor in a slice, if it hasn't ended. It waits so many longest pauses for others to come under way, before it
+    /// leaves the slice for them.
+    pub(crate) fn drive_on<G: Gate>(
+        &mut self,
+        gate: &G,
+        board: &Board,
+        number: usize,
+        waits: u32,
+        limits: &Limits,
+        bank: &Bank,
+        book: &MsgBook,
+    )
+        requires at { IsAt (id_of bank.now) book.now.table self.old }
+        requires within { IsWithin limits.now self.old.drove }
+        ensures on { DrivesOn B.polled (G.answers gate.now) (id_of bank.now) limits.now self.old self.new }
+        ensures at { IsAt (id_of bank.now) book.now.table self.new }
+        ensures within { IsWithin limits.now self.new.drove }
+    {
+        if self.has_ended() {
+            return;
+        }
+        let before = self.sight();
+        let mut watch = Watch::new(board, number, waits);
         self.ending = self.go_on(gate, &mut watch, limits, bank, book);
-        watch.stop();
+        if self.has_ended() {
+            watch.stop();
+        } else {
+            watch.leave(self.sight() != before);
+        }
     }
 }
 
@@ -106,7 +142,8 @@ fn peers<B>(all: &[Driven<B>]) -> usize {
 /// limit is reached, until every thread of every processor has ended, or until a turn is refused for want of memory; what ended it
 /// is kept. That the processors are of this bank and book is the caller's condition.
 ///
-/// The list is halved and both halves run at once, down to one processor each; where no thread can be made, one after the other.
+/// The list is halved and both halves run at once, down to one processor each; where no thread can be made, those of both halves
+/// take turns on one thread, each as long as it finds something to do.
 pub fn drive_all<R: Threads + Sync, G: Gate + Sync, B: Body + Send>(
     rt: &R,
     gate: &G,
@@ -119,12 +156,24 @@ pub fn drive_all<R: Threads + Sync, G: Gate + Sync, B: Body + Send>(
     ensures driven { AllZip (λ old new. IsDriven B.polled (G.answers gate.now) (id_of bank.now) limits.now old new new.ending) all.old all.new }
     ensures at { All (IsAt (id_of bank.now) book.now.table) all.new }
 {
+    drive_on_threads(rt, all.len(), gate, limits, bank, book, all);
+}
+
+/// Drives processors as `drive_all` does, on at most so many threads, with this one.
+pub fn drive_on_threads<R: Threads + Sync, G: Gate + Sync, B: Body + Send>(
+    rt: &R,
+    threads: usize,
+    gate: &G,
+    limits: &Limits,
+    bank: &Bank,
+    book: &MsgBook,
+    all: &mut [Driven<B>],
+)
+    requires at { All (IsAt (id_of bank.now) book.now.table) all.old }
+    ensures driven { AllZip (λ old new. IsDriven B.polled (G.answers gate.now) (id_of bank.now) limits.now old new new.ending) all.old all.new }
+    ensures at { All (IsAt (id_of bank.now) book.now.table) all.new }
+{
     let board = Board::new(all.len(), peers(all));
-    let threads = all.len().max(1);
-    thread::for_each_mut(
-        rt,
-        all,
-        threads,
-        &|number, driven| { driven.drive(gate, &board, number, limits, bank, book) },
-    );
+    begin_all(rt, all);
+    drive_slices(rt, threads, gate, &board, limits, bank, book, all);
 }

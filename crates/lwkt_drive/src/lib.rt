@@ -7,9 +7,10 @@ pub mod driven;
 mod drives;
 mod gates;
 pub mod laws;
+mod slices;
 mod turns;
 mod watches;
 
 pub use driven::{Driven, Ending, Limits};
-pub use drives::drive_all;
+pub use drives::{drive_all, drive_on_threads};
 pub use gates::{Gate, OpenGate};

@@ -10,7 +10,6 @@ use crate::gates::Gate;
 use crate::watches::{Sight, Watch};
 use lwkt_bank::Bank;
 use lwkt_base::Fault;
-use lwkt_cpu::drives::count;
 use lwkt_cpu::{Body, Turned};
 use lwkt_msg::MsgBook;
 
@@ -55,29 +54,41 @@ impl<B> Driven<B> {
         requires { self.old.drove.ran + self.old.drove.idle + 1 < 2 ^ 64 }
         ensures { self.new ≡ record self.old { drove = counted self.old.drove turned } }
     {
-        let had_exited = self.drove.all_exited;
-        self.drove = count(self.drove, turned);
-        if self.drove.all_exited && !had_exited {
-            watch.board().say_exited();
+        match turned {
+            Turned::Ran { .. } => self.drove.ran += 1,
+            Turned::Idle => self.drove.idle += 1,
+            Turned::AllExited => {
+                self.drove.idle += 1;
+                if !self.drove.all_exited {
+                    self.drove.all_exited = true;
+                    watch.board().say_exited();
+                }
+            }
         }
     }
 }
 
 impl<B> Driven<B> {
-    // What a turn has left.
-    fn sight(&self) -> Sight {
+    /// What a turn has left.
+    pub(crate) fn sight(&self) -> Sight {
         Sight {
+            ran: self.drove.ran,
             events: self.trace.len(),
             progress: self.cpu.progress(),
         }
     }
 
-    /// A turn has polled no thread: it is looked at once the pauses are long, and there is a pause.
-    pub(crate) fn rest(&self, watch: &mut Watch<'_>) {
+    /// A turn has polled no thread: whether the processor leaves its slice. If not, the turn is looked at once the pauses are long,
+    /// and there is a pause.
+    pub(crate) fn rests(&self, watch: &mut Watch<'_>) -> bool {
+        if watch.leaves() {
+            return true;
+        }
         if watch.is_patient() {
             watch.look(self.sight());
         }
         watch.pause();
+        false
     }
 }
 

@@ -7,9 +7,13 @@ use std::{hint, thread};
 // The most hints of a pause.
 const LONGEST_PAUSE: u32 = 512;
 
-/// What a turn that polled no thread left: how many events there are, and how far the processor has come.
+// The most longest pauses between two idle turns of a processor that waits for others to come under way.
+const WAITS: u32 = 64;
+
+/// What a turn has left: how many turns ran a thread, how many events there are, and how far the processor has come.
 #[derive(Clone, Copy, Debug, PartialEq, Eq)]
 pub(crate) struct Sight {
+    pub(crate) ran: u64,
     pub(crate) events: usize,
     pub(crate) progress: Progress,
 }
@@ -19,6 +23,8 @@ pub(crate) struct Sight {
 pub(crate) struct Watch<'a> {
     board: &'a Board,
     number: usize,
+    // How many longest pauses more the processor waits for others to come under way before it leaves the slice.
+    waits: u32,
     // The hints of the next pause.
     hints: u32,
     // What the last turn left, where that came after a longest pause.
@@ -30,15 +36,18 @@ pub(crate) struct Watch<'a> {
 }
 
 impl<'a> Watch<'a> {
-    /// A processor that has told nothing.
-    pub(crate) fn new(board: &'a Board, number: usize) -> Watch<'a> {
+    /// A processor comes under way in a slice.
+    pub(crate) fn new(board: &'a Board, number: usize, waits: u32) -> Watch<'a> {
+        board.enter();
+        let rest = board.told(number);
         Watch {
             board,
             number,
+            waits,
             hints: 1,
             last: None,
-            count: None,
-            rest: AWAKE,
+            count: if rest == AWAKE { None } else { Some(rest) },
+            rest,
         }
     }
 
@@ -93,15 +102,40 @@ impl<'a> Watch<'a> {
         }
     }
 
-    /// Waits a little, longer each time; after longest pauses another thread may run.
-    pub(crate) fn pause(&mut self) {
+    // Waits as long as the next pause; after longest pauses another thread may run.
+    fn wait(&self) {
         for _hint in 0..self.hints {
             hint::spin_loop();
         }
         if self.is_patient() {
             thread::yield_now();
         }
+    }
+
+    /// Waits a little, longer each time.
+    pub(crate) fn pause(&mut self) {
+        self.wait();
         self.hints = self.hints.saturating_mul(2).min(LONGEST_PAUSE);
+    }
+
+    // Waits a while for the others that haven't ended to come under way. None does so once one has left.
+    fn wait_for_others(&mut self) {
+        for _wait in 0..WAITS {
+            if self.waits == 0 || self.board.has_one_left() || !self.board.is_one_outside() {
+                return;
+            }
+            self.wait();
+            self.waits = self.waits.saturating_sub(1);
+        }
+    }
+
+    /// Whether the processor leaves the slice after an idle turn: another that hasn't ended isn't under way, and was waited for.
+    pub(crate) fn leaves(&mut self) -> bool {
+        if self.waits > 0 && !self.is_patient() || !self.board.is_one_outside() {
+            return false;
+        }
+        self.wait_for_others();
+        (self.waits == 0 || self.board.has_one_left()) && self.board.is_one_outside()
     }
 
     /// Whether no turn of any processor can change anything.
@@ -115,5 +149,15 @@ impl<'a> Watch<'a> {
             self.board.count_changes();
         }
         self.tell(STOPPED);
+        self.board.say_moved();
+    }
+
+    /// The processor leaves the slice, in which it has changed nothing or something.
+    pub(crate) fn leave(&mut self, has_moved: bool) {
+        self.tell(AWAKE);
+        if has_moved {
+            self.board.say_moved();
+        }
+        self.board.leave();
     }
 }

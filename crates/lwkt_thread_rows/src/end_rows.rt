@@ -9,16 +9,16 @@ use std::sync::Wait;
 use std::test::Fail;
 use std::thread::Threads;
 
-// The most turns of a run here; `idle` allows each processor a thousand times as many.
-const FEW: u64 = 100_000;
+/// The most turns of a run here; `idle` allows each processor a thousand times as many.
+pub const FEW: u64 = 100_000;
 
-const CALLS_THAT_WAIT: &[u8] =
+pub const CALLS_THAT_WAIT: &[u8] =
     b"{\"version\":1,\"turns\":10,\"idle\":100000000,\"cpus\":2,\"tokens\":[],\"messages\":[{\"of\":[0,0],\"round\":0},{\"of\":[1,0],\"round\":0}],\"threads\":[{\"cpu\":0,\"repeat\":1,\"steps\":[[\"do\",0,1,0,1,10],[\"wait\"],[\"reply\",1,0,21]]},{\"cpu\":1,\"repeat\":1,\"steps\":[[\"do\",1,0,0,2,20],[\"wait\"],[\"reply\",0,0,11]]}]}";
 
 const CALLS_THAT_WAIT_REPORT: &[u8] =
     b"message 0 round 1 out\nmessage 1 round 1 out\nthread 0.0 waiting list - log -\nthread 1.0 waiting list - log -\nclosed\n";
 
-const YIELDS_ON: &[u8] =
+pub const YIELDS_ON: &[u8] =
     b"{\"version\":1,\"turns\":20,\"idle\":100000000,\"cpus\":2,\"tokens\":[],\"messages\":[{\"of\":[0,0],\"round\":0}],\"threads\":[{\"cpu\":0,\"repeat\":1,\"steps\":[[\"do\",0,1,0,1,10]]},{\"cpu\":1,\"repeat\":100,\"steps\":[[\"yield\"]]}]}";
 
 const YIELDS_ON_REPORT: &[u8] =
@@ -36,14 +36,14 @@ const HELD_FOR_GOOD: &[u8] =
 const HELD_FOR_GOOD_REPORT: &[u8] =
     b"token 0 gen 0 cells 0\nmessage 0 round 1 back\nthread 0.0 running list 0x log -\nthread 1.0 ready list 0x log q=0:1:10\nclosed\n";
 
-const CROSSED_CALLS: &[u8] =
+pub const CROSSED_CALLS: &[u8] =
     b"{\"version\":1,\"turns\":50,\"idle\":100000000,\"cpus\":2,\"tokens\":[],\"messages\":[{\"of\":[0,0],\"round\":0},{\"of\":[1,0],\"round\":0}],\"threads\":[{\"cpu\":0,\"repeat\":1,\"steps\":[[\"do\",0,1,0,1,10],[\"wait\"],[\"reply\",1,0,21]]},{\"cpu\":1,\"repeat\":1,\"steps\":[[\"wait\"],[\"reply\",0,0,11],[\"do\",1,0,0,2,20]]}]}";
 
 const CROSSED_CALLS_REPORT: &[u8] =
     b"message 0 round 1 rest\nmessage 1 round 1 rest\nthread 0.0 exited list - log r=0:0:11 q=1:2:20\nthread 1.0 exited list - log q=0:1:10 r=1:0:21\nclosed\n";
 
 // Each of three asks the next one, and serves the one before.
-const ROUND_OF_CALLS: &[u8] =
+pub const ROUND_OF_CALLS: &[u8] =
     b"{\"version\":1,\"turns\":50,\"idle\":100000000,\"cpus\":3,\"tokens\":[],\"messages\":[{\"of\":[0,0],\"round\":0},{\"of\":[1,0],\"round\":0},{\"of\":[2,0],\"round\":0}],\"threads\":[{\"cpu\":0,\"repeat\":1,\"steps\":[[\"do\",0,1,0,1,10],[\"wait\"],[\"reply\",2,0,33]]},{\"cpu\":1,\"repeat\":1,\"steps\":[[\"wait\"],[\"reply\",0,0,11],[\"do\",1,2,0,2,20]]},{\"cpu\":2,\"repeat\":1,\"steps\":[[\"wait\"],[\"reply\",1,0,22],[\"do\",2,0,0,3,30]]}]}";
 
 const ROUND_OF_CALLS_REPORT: &[u8] =

@@ -4,6 +4,8 @@
 #[cfg(test)]
 mod end_rows;
 #[cfg(test)]
+mod few_rows;
+#[cfg(test)]
 mod gates;
 #[cfg(test)]
 mod stop_rows;

@@ -8,7 +8,7 @@ use std::sync::Wait;
 use std::test::Fail;
 use std::thread::Threads;
 
-const FOUR_PROCESSORS_TALLY: &[u8] =
+pub const FOUR_PROCESSORS_TALLY: &[u8] =
     b"{\"version\":1,\"turns\":10000,\"idle\":100000000,\"cpus\":4,\"tokens\":[{\"cells\":[0],\"law\":\"tally\",\"param\":0,\"gen\":0}],\"messages\":[],\"threads\":[{\"cpu\":0,\"repeat\":1000,\"steps\":[[\"get\",0],[\"add\",0,3],[\"rel\",0]]},{\"cpu\":1,\"repeat\":1000,\"steps\":[[\"get\",0],[\"add\",0,3],[\"rel\",0]]},{\"cpu\":2,\"repeat\":1000,\"steps\":[[\"get\",0],[\"add\",0,3],[\"rel\",0]]},{\"cpu\":3,\"repeat\":1000,\"steps\":[[\"get\",0],[\"add\",0,3],[\"rel\",0]]}]}";
 
 const FOUR_PROCESSORS_REPORT: &[u8] =

@@ -5,4 +5,4 @@ pub mod laws;
 pub mod machines;
 
 pub use lwkt_drive::{Gate, Limits, OpenGate};
-pub use machines::{Outcome, drive_machine};
+pub use machines::{Outcome, drive_machine, drive_machine_on_threads};

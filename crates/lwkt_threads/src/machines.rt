@@ -9,7 +9,7 @@ use lwkt_bank::Bank;
 use lwkt_base::{CpuId, Fault};
 use lwkt_core::Event;
 use lwkt_cpu::Cpu;
-use lwkt_drive::{Driven, Ending, Gate, Limits, drive_all};
+use lwkt_drive::{Driven, Ending, Gate, Limits, drive_on_threads};
 use lwkt_machine::{Machine, ScriptBody};
 use lwkt_msg::MsgBook;
 use std::alloc::Global;
@@ -73,9 +73,10 @@ fn was_short(all: &[Driven<ScriptBody>]) -> bool
     all.iter().any(|driven| is_short(driven.ending))
 }
 
-// Drives these processors, and gives them back with the events of each.
+// Drives these processors on at most so many threads, and gives them back with the events of each.
 fn drive_parts<R: Threads + Sync, G: Gate + Sync>(
     rt: &R,
+    threads: usize,
     alloc: Global,
     gate: &G,
     limits: &Limits,
@@ -89,7 +90,7 @@ fn drive_parts<R: Threads + Sync, G: Gate + Sync>(
     ensures only { OnErr result (result ≡ Err Fault.Memory) }
 {
     let mut all = undriven(alloc, cpus)?;
-    drive_all(rt, gate, limits, bank, book, &mut all);
+    drive_on_threads(rt, threads, gate, limits, bank, book, &mut all);
     if was_short(&all) {
         return Err(Fault::Memory);
     }
@@ -110,8 +111,26 @@ pub fn drive_machine<R: Threads + Sync, G: Gate + Sync>(
     ensures ok { IfOk result (λ outcome. IsDrivenMachine (G.answers gate.now) limits.now machine outcome.machine outcome.traces.items) }
     ensures only { OnErr result (result ≡ Err Fault.Memory) }
 {
+    let threads = machine.cpus();
+    drive_machine_on_threads(rt, threads, alloc, gate, limits, machine)
+}
+
+/// Drives the processors of a machine as `drive_machine` does, on at most so many threads, with this one.
+///
+/// Refused as `drive_machine` is.
+pub fn drive_machine_on_threads<R: Threads + Sync, G: Gate + Sync>(
+    rt: &R,
+    threads: usize,
+    alloc: Global,
+    gate: &G,
+    limits: &Limits,
+    machine: Machine,
+) -> Result<Outcome, Fault>
+    ensures ok { IfOk result (λ outcome. IsDrivenMachine (G.answers gate.now) limits.now machine outcome.machine outcome.traces.items) }
+    ensures only { OnErr result (result ≡ Err Fault.Memory) }
+{
     let (bank, book, cpus) = machine.take_apart();
-    let Apart { cpus, traces } = drive_parts(rt, alloc, gate, limits, &bank, &book, cpus)?;
+    let Apart { cpus, traces } = drive_parts(rt, threads, alloc, gate, limits, &bank, &book, cpus)?;
     let machine = Machine::put_together(bank, book, cpus);
     Ok(Outcome { machine, traces })
 }

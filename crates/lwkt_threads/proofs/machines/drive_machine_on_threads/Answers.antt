@@ -1,6 +1,6 @@
 use Rattle.lwkt_bank.specs.Seats.{id_of, cpus_of}
 use Rattle.lwkt_threads.proofs.MachineMoves.{parts_again}
-use Rattle.lwkt_threads.proofs.machines.drive_machine.Goals as goal
+use Rattle.lwkt_threads.proofs.machines.drive_machine_on_threads.Goals as goal
 
 pub put_together-machine-requires : goal.put_together-machine-requires
 put_together-machine-requires g c =
