@@ -7,6 +7,7 @@ use Rattle.lwkt_run.specs.Run.{AreRead, IsTurnsRun, end_told, TellsBy, status_of
 use Rattle.lwkt_run.specs.declared.runs.End.{End}
 use Rattle.lwkt_run.specs.declared.runs.TurnsRun.{TurnsRun}
 use Rattle.lwkt_scenes.specs.Shown.{EndsInReport, first_turn}
+use Rattle.lwkt_show.specs.Arguments.{AreOptions}
 use Rattle.lwkt_show.specs.declared.options.Options.{Options}
 use Rattle.lwkt_show.specs.declared.options.View.{View}
 use Rattle.lwkt_show.specs.declared.options.View.TheVariants.{Lines, Trace, Picture, Chains}
@@ -50,6 +51,6 @@ status_shown (Ok (Shown end)) = status_of (Ok end)
 status_shown (Ok Past) = 1
 status_shown (Err fault) = status_of (Err fault)
 
--- a run that is asked for with these options: it is shown as they say or refused, and the status is that of its outcome
-abbrev pub IsShowing : Options → Option (List ℕ) → Option (List ℕ) → Option (List ℕ) → ℕ → Type 0
-IsShowing options left old new status = (outcome : Result Outcome RunFault) × (TellsShown options left old new outcome × (status ≡ status_shown outcome))
+-- a run that these arguments ask for: it is shown as they say or refused, and the status is that of its outcome
+abbrev pub IsShowing : List (List ℕ) → Option (List ℕ) → Option (List ℕ) → Option (List ℕ) → ℕ → Type 0
+IsShowing words left old new status = (options : Options) × (AreOptions words options × ((outcome : Result Outcome RunFault) × (TellsShown options left old new outcome × (status ≡ status_shown outcome))))

@@ -1,6 +1,4 @@
-ghost use Rattle.std.specs.Prelude.{◌≡◌, map, string_bytes};
-ghost use Rattle.lwkt_show.specs.declared.options.Options.{Options};
-ghost use Rattle.lwkt_show.specs.Arguments.{AreOptions};
+ghost use Rattle.std.specs.Prelude.{◌≡◌, ◌⊎◌, map, string_bytes};
 ghost use Rattle.lwkt_show.specs.Showing.{IsShowing};
 
 use lwkt_refusals::Speaker;
@@ -18,8 +16,7 @@ pub fn show_told<I: Read, O: Write, E: Sink>(
     sink: &mut WriterSink<NotedWriter<O>>,
     errors: &mut E,
 ) -> u8
-    ensures shows { (options : Options) → AreOptions (map string_bytes words.now) options → IsShowing options (I.remaining source.old.reader.reader) (O.contents sink.old.writer.writer) (O.contents sink.new.writer.writer) result }
-    ensures usage { ((options : Options) → ¬ AreOptions (map string_bytes words.now) options) → (result ≡ 1) × (source.new ≡ source.old) × (sink.new ≡ sink.old) }
+    ensures { ((result ≡ 1) × (source.new ≡ source.old) × (sink.new ≡ sink.old)) ⊎ IsShowing (map string_bytes words.now) (I.remaining source.old.reader.reader) (O.contents sink.old.writer.writer) (O.contents sink.new.writer.writer) result }
 {
     let status = run_show(alloc, words, source, sink, errors);
     if source.failed {
