@@ -14,3 +14,4 @@ pub mod RunLemmas
 pub mod ShareLemmas
 pub mod ChainLemmas
 pub mod RunChainLemmas
+pub mod TellLemmas
