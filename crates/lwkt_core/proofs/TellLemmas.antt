@@ -1,8 +1,8 @@
-use Rattle.std.proofs.Common.{◌≡◌, inl, inr, ⊎_elim, ℕ, zero, suc, ◌+◌, ◌<◌, ◌≤◌, ◌==◌, Bool, true, false, cond, List, [], ◌∷◌, ◌++◌, length, map, set, All, refl, ap, sym, ◌∙◌, subst, arith, Option, Some, None, eqb-true}
+use Rattle.std.proofs.Common.{◌≡◌, ⊎_elim, ℕ, ◌<◌, ◌==◌, Bool, true, false, cond, List, [], ◌∷◌, length, map, set, All, refl, ap, sym, ◌∙◌, subst, arith, Option, Some, None, eqb-true, length-set}
 use Rattle.std.specs.Prelude.{slice_get}
 use Rattle.std.specs.Option.{option_map_or}
 use Rattle.std.proofs.lemmas.Bool.{cases_Bool}
-use Rattle.std.proofs.lemmas.List.Elements.{All-nil, All-cons, length-set}
+use Rattle.std.proofs.lemmas.List.Elements.{All-nil, All-cons}
 use Rattle.std.proofs.lemmas.Option.{slice_get_within}
 use Rattle.lwkt_base.specs.declared.sections.Section.{Section}
 use Rattle.lwkt_core.specs.declared.events.Event.{Event}
@@ -12,7 +12,7 @@ use Rattle.lwkt_core.specs.declared.events.Place.TheVariants.{AtToken, AtMessage
 use Rattle.lwkt_core.specs.declared.tokens.Token.{Token}
 use Rattle.lwkt_core.specs.Events.{place_of}
 use Rattle.lwkt_core.specs.Tokens.{IsOpen, section_at, TokenNeeds, token_after}
-use Rattle.lwkt_core.specs.Machine.{Machine, IsSafe, Needs, Happens, after, after_at}
+use Rattle.lwkt_core.specs.Machine.{Machine, IsSafe, Needs, after, after_at}
 use Rattle.lwkt_core.specs.Trace.{Run}
 use Rattle.lwkt_core.specs.Headline.{Section as Written, section_of, sections_of}
 use Rattle.lwkt_core.specs.SectionChain.{row_at, generation_at, IsSectionChain, sections_at, AreSectionChains}
