@@ -14,3 +14,5 @@ pub mod RunLemmas
 pub mod ShareLemmas
 pub mod ChainLemmas
 pub mod RunChainLemmas
+pub mod PartLemmas
+pub mod SectionParts
