@@ -16,3 +16,4 @@ pub mod ChainLemmas
 pub mod RunChainLemmas
 pub mod PartLemmas
 pub mod SectionParts
+pub mod TellLemmas

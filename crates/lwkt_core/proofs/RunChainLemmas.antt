@@ -68,7 +68,7 @@ module _ (written : ℕ → List Written) where
   all_own t [] = refl
   all_own t (w ∷ ws) = ap (λ (b : Bool). cond b (of_token t w ∷ sections_at t (map (of_token t) ws)) (sections_at t (map (of_token t) ws))) (eq-eqb t t refl) ∙ ap (λ (xs : List Section). of_token t w ∷ xs) (all_own t ws)
 
-  sections_of_one : (a n t : ℕ) → a ≤ t → t < a + n → sections_at t (of_tokens a n) ≡ map (of_token t) (written t)
+  pub sections_of_one : (a n t : ℕ) → a ≤ t → t < a + n → sections_at t (of_tokens a n) ≡ map (of_token t) (written t)
   sections_of_one a zero t low high = absurd (omega arith)
   sections_of_one a (suc n) t low high = filter-append (λ (s : Section). s.tok.0 == t) (map (of_token a) (written a)) (of_tokens (a + 1) n) ∙ ⊎_elim
       (λ (same : a ≡ t).
@@ -101,7 +101,7 @@ token_at : (tokens : List Token) (t : ℕ) → t < length tokens → (tok : Toke
 token_at [] t inside = absurd (omega arith)
 token_at (x ∷ tokens) t inside = (get_or (x ∷ tokens) t x, slice_get-get_or (x ∷ tokens) t x inside)
 
-length-rows : (tokens : List Token) → length (map values_of tokens) ≡ length tokens
+pub length-rows : (tokens : List Token) → length (map values_of tokens) ≡ length tokens
 length-rows [] = refl
 length-rows (x ∷ tokens) = let rest = length-rows tokens in omega arith
 
