@@ -15,6 +15,8 @@ use Rattle.lwkt_core.specs.declared.seats.Deed.{Deed}
 use Rattle.lwkt_core.specs.History.{part_by, events_by, events_in, AreOthers}
 use Rattle.lwkt_core.specs.SectionChain.{RowsAt, row_at, generation_at, IsSectionChain, sections_at, AreSectionChains, Precedes, AreInOrder}
 use Rattle.lwkt_core.proofs.ChainLemmas.{is_of, count-yes, count-no, count-none, sections_at-own, sections_at-other, sections_at-none}
+use Rattle.lwkt_core.specs.RunSections.{rows_of, section_in, PartsTellChains}
+use Rattle.lwkt_core.proofs.TellLemmas.{told_chains}
 use Rattle.lwkt_core.proofs.PartLemmas.{permutation_same, permutation-filter, flat_map-parted}
 
 -- a token's chain, with its sections in another order
@@ -232,3 +234,8 @@ chains_once first last sections chains t g = elim (cases_order t (length first))
 -- chains that are sorted by token and then by generation are in order
 pub sorted_in_order : (first last : RowsAt) (sections : List Section) → IsSortedBy is_before sections → AreSectionChains first last sections → AreInOrder sections
 sorted_in_order first last sections sorted chains = rises_in_order sections (sorted_rises sections sorted) (chains_once first last sections chains)
+
+-- of a run, the sections that its processors tell, one processor's after another's, are chains
+pub parts_tell : PartsTellChains
+parts_tell m history n cpus safe run opened closed others =
+    parts_are_chains (rows_of m) (rows_of n) section_in cpus history (deeds_below cpus history others) (told_chains m (events_in history) n safe run opened closed)
