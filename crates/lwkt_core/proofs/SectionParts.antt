@@ -15,7 +15,11 @@ use Rattle.lwkt_core.specs.declared.seats.Deed.{Deed}
 use Rattle.lwkt_core.specs.History.{part_by, events_by, events_in, AreOthers}
 use Rattle.lwkt_core.specs.SectionChain.{RowsAt, row_at, generation_at, IsSectionChain, sections_at, AreSectionChains, Precedes, AreInOrder}
 use Rattle.lwkt_core.proofs.ChainLemmas.{is_of, count-yes, count-no, count-none, sections_at-own, sections_at-other, sections_at-none}
-use Rattle.lwkt_core.specs.RunSections.{rows_of, section_in, PartsTellChains}
+use Rattle.lwkt_core.specs.RunSections.{rows_of, section_in, sections_by, PartsTellChains}
+use Rattle.lwkt_core.specs.Machine.{Machine}
+use Rattle.lwkt_core.specs.Trace.{Run}
+use Rattle.lwkt_core.proofs.RunChainLemmas.{IsSettled, open_settled}
+use Rattle.lwkt_core.proofs.SafetyLemmas.{stays}
 use Rattle.lwkt_core.proofs.TellLemmas.{told_chains}
 use Rattle.lwkt_core.proofs.PartLemmas.{permutation_same, permutation-filter, flat_map-parted}
 
@@ -236,6 +240,8 @@ pub sorted_in_order : (first last : RowsAt) (sections : List Section) → IsSort
 sorted_in_order first last sections sorted chains = rises_in_order sections (sorted_rises sections sorted) (chains_once first last sections chains)
 
 -- of a run, the sections that its processors tell, one processor's after another's, are chains
+pub parts_chains : (m : Machine) (history : List Deed) (n : Machine) (cpus : ℕ) → Run m (events_in history) n → All IsSettled m.tokens → All IsSettled n.tokens → ((cpu : ℕ) → cpus ≤ cpu → AreOthers cpu history) → AreSectionChains (rows_of m) (rows_of n) (sections_by cpus history)
+parts_chains m history n cpus run opened closed others = parts_are_chains (rows_of m) (rows_of n) section_in cpus history (deeds_below cpus history others) (told_chains m (events_in history) n run opened closed)
+
 pub parts_tell : PartsTellChains
-parts_tell m history n cpus safe run opened closed others =
-    parts_are_chains (rows_of m) (rows_of n) section_in cpus history (deeds_below cpus history others) (told_chains m (events_in history) n safe run opened closed)
+parts_tell m history n cpus safe run opened closed others = parts_chains m history n cpus run (open_settled m safe opened) (open_settled n (stays m (events_in history) n safe run) closed) others
