@@ -11,14 +11,14 @@ use Rattle.lwkt_core.specs.declared.events.Place.{Place}
 use Rattle.lwkt_core.specs.declared.events.Place.TheVariants.{AtToken, AtMessage}
 use Rattle.lwkt_core.specs.declared.tokens.Token.{Token}
 use Rattle.lwkt_core.specs.Events.{place_of}
-use Rattle.lwkt_core.specs.Tokens.{IsOpen, section_at, TokenNeeds, token_after}
-use Rattle.lwkt_core.specs.Machine.{Machine, IsSafe, Needs, after, after_at}
+use Rattle.lwkt_core.specs.Tokens.{section_at, TokenNeeds, token_after}
+use Rattle.lwkt_core.specs.Machine.{Machine, Needs, after, after_at}
 use Rattle.lwkt_core.specs.Trace.{Run}
 use Rattle.lwkt_core.specs.Headline.{Section as Written, section_of, sections_of}
 use Rattle.lwkt_core.specs.SectionChain.{row_at, generation_at, IsSectionChain, sections_at, AreSectionChains}
 use Rattle.lwkt_core.specs.RunSections.{of_token, rows_of, sections_told, RunsTellSections}
 use Rattle.lwkt_core.proofs.RunLemmas.{there_is, one_section, no_section}
-use Rattle.lwkt_core.proofs.RunChainLemmas.{write_chains, sections_of_one, length-rows}
+use Rattle.lwkt_core.proofs.RunChainLemmas.{IsSettled, settled_chains, sections_of_one, length-rows}
 
 -- what one event more tells of a token
 tell_step : (m : Machine) (e : Event) (events : List Event) (t : ℕ) → Needs m e → sections_at t (sections_told events) ≡ map (of_token t) (sections_of t (after m e) events) → sections_at t (sections_told (e ∷ events)) ≡ map (of_token t) (sections_of t m (e ∷ events))
@@ -78,10 +78,10 @@ known m (e ∷ events) n run =
     known_step m e events run.1.0.0 (subst (λ (count : ℕ). All (IsThere count) (sections_told events)) many rest)
 
 -- the sections told are chains
-pub told_chains : (m : Machine) (events : List Event) (n : Machine) → IsSafe m → Run m events n → All IsOpen m.tokens → All IsOpen n.tokens → AreSectionChains (rows_of m) (rows_of n) (sections_told events)
-told_chains m events n safe run opened closed =
+pub told_chains : (m : Machine) (events : List Event) (n : Machine) → Run m events n → All IsSettled m.tokens → All IsSettled n.tokens → AreSectionChains (rows_of m) (rows_of n) (sections_told events)
+told_chains m events n run opened closed =
     let long = length-rows m.tokens in
-    let chains = (write_chains m events n safe run opened closed).1.chains in
+    let chains = (settled_chains m events n run opened closed).1.chains in
     record {
       known = subst (λ (count : ℕ). All (IsThere count) (sections_told events)) (sym long) (known m events n run);
       chains = λ t low. (
