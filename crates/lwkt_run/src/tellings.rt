@@ -1,7 +1,6 @@
 //! The written sections that a run's traces tell: gathered, put in order, and checked.
-ghost use Rattle.std.specs.Prelude.{◌≡◌, ◌≤◌, ◌++◌, ◌↔◌, All, length, map, zip, IfOk, OnOk, IsPermutation};
+ghost use Rattle.std.specs.Prelude.{◌≡◌, ◌≤◌, ◌++◌, All, length, IfOk, OnOk, IsPermutation};
 ghost use Rattle.lwkt_core.specs.RunSections.{sections_told};
-ghost use Rattle.lwkt_core.specs.SectionChain.{AreInOrder, AreSectionChains, SectionsFailAt};
 ghost use Rattle.lwkt_run.specs.Telling.{sections_of_all, AreSorted, opening_rows, closing_rows, IsVerdictOn};
 
 use lwkt_base::{Fault, Row, Rows, Section, TokSpec};

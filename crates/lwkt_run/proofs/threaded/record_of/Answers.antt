@@ -1,0 +1,1 @@
+use Rattle.lwkt_run.proofs.threaded.record_of.Goals as goal
