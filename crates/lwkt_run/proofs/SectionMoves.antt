@@ -1,5 +1,5 @@
 -- What is told of a run on threads, in order, is its written sections, and passes the checker of sections.
-use Rattle.std.proofs.Common.{◌≡◌, ℕ, ◌≤◌, List, [], ◌∷◌, length, map, All, refl, ap, sym, ◌∙◌, subst, arith, IsPermutation}
+use Rattle.std.proofs.Common.{◌≡◌, ℕ, ◌≤◌, List, [], ◌∷◌, length, map, All, refl, ap, sym, ◌∙◌, subst, arith}
 use Rattle.std.specs.Prelude.{Bool, Vec}
 use Rattle.std.specs.declared.alloc.Global.{Global}
 use Rattle.std.proofs.lemmas.List.Elements.{All-map, All-weaker}
@@ -47,7 +47,6 @@ safe_opening : (script : Script) → AreWithin script.cpus script.tokens script.
 safe_opening script within lawful = IsSafe-opening script.cpus script.tokens [] (without_messages script.cpus script.tokens script.messages within) lawful
 
 module _ (answers : CpuId → ℕ → Bool → Type 0) (script : Script) (lines : List ThreadLine) (last : Final) (within : AreWithin script.cpus script.tokens script.messages) (lawful : AllOpenLawfully script.tokens) (runs : RunsOnThreads answers script lines last) where
-
   run : Run (opening script.cpus script.tokens []) (events_in runs.tells.tokens.history) runs.tells.tokens.last
   run = subst (λ (x : Machine). Run x (events_in runs.tells.tokens.history) runs.tells.tokens.last) runs.tokens_from runs.tells.tokens.run
 

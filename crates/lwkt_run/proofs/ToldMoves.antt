@@ -1,5 +1,5 @@
 -- What the traces of a run on threads tell are the written sections that its processors tell of the run.
-use Rattle.std.proofs.Common.{◌≡◌, ◌⊎◌, inl, inr, ⊎_elim, ℕ, zero, suc, ◌+◌, ◌<◌, ◌==◌, Bool, true, false, cond, List, [], ◌∷◌, ◌++◌, length, All, filter, flat_map, refl, ap, sym, ◌∙◌, subst, arith, append_assoc, IsPermutation, Some, true≢false}
+use Rattle.std.proofs.Common.{◌≡◌, inl, inr, ℕ, suc, ◌+◌, ◌<◌, ◌==◌, Bool, true, false, cond, List, [], ◌∷◌, ◌++◌, length, All, filter, flat_map, refl, ap, sym, ◌∙◌, arith, append_assoc, IsPermutation, Some, true≢false}
 use Rattle.std.specs.Prelude.{Vec, slice_get}
 use Rattle.std.specs.List.{range_with_len}
 use Rattle.std.specs.declared.alloc.Global.{Global}
@@ -7,13 +7,13 @@ use Rattle.std.proofs.lemmas.List.Concat.{flat_map-append}
 use Rattle.std.proofs.lemmas.List.Sorted.{IsPermutation-refl, IsPermutation-sym, IsPermutation-trans, IsPermutation-append_left, IsPermutation-append_right, IsPermutation-append_comm}
 use Rattle.lwkt_base.specs.declared.sections.Section.{Section}
 use Rattle.lwkt_core.specs.declared.events.Event.{Event}
-use Rattle.lwkt_core.specs.declared.events.Event.TheVariants.{Load, Take, Share, Again, Mark, GiveOne, GiveClean, GiveWritten, Read, Write, Send, TakeMsg, DropMsg, Reply, Reap, Abort}
+use Rattle.lwkt_core.specs.declared.events.Event.TheVariants.{GiveWritten}
 use Rattle.lwkt_core.specs.declared.seats.Deed.{Deed}
 use Rattle.lwkt_core.specs.Events.{cpu_of}
 use Rattle.lwkt_core.specs.History.{events_by}
 use Rattle.lwkt_core.specs.RunSections.{section_in, sections_told, sections_by}
 use Rattle.lwkt_core.proofs.PartLemmas.{permutation_same, flat_map-kept, flat_map-parted}
-use Rattle.lwkt_hold.specs.Steps.{is_look, may_be_untold, is_of_token, Tells}
+use Rattle.lwkt_hold.specs.Steps.{may_be_untold, is_of_token, Tells}
 use Rattle.lwkt_threads.specs.Parts.{of_cpu, parts_of}
 use Rattle.lwkt_run.specs.Telling.{sections_of_all}
 
