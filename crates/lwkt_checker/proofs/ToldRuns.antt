@@ -14,7 +14,7 @@ use Rattle.lwkt_core.specs.Trace.{Run, StopsAt}
 use Rattle.lwkt_core.proofs.TraceLemmas.{Run_more, Run_all, StopsAt-event}
 use Rattle.lwkt_trace.specs.declared.traces.Told.{Told}
 use Rattle.lwkt_trace.specs.declared.traces.Told.TheVariants.{Whole, Given}
-use Rattle.lwkt_checker.specs.Told.{no_section, section_now, event_told, events_told, IsTold, AreTold, ToldIsOnly}
+use Rattle.lwkt_checker.specs.Told.{no_section, event_told, events_told, IsTold, ToldIsOnly}
 
 -- as many events as are told
 pub length-events_told : (m : Machine) (told : List Told) → length (events_told m told) ≡ length told

@@ -1,7 +1,6 @@
 -- The numbers of a list, and the row that they are.
 use Rattle.std.proofs.Common.{◌≡◌, ℕ, ◌+◌, ◌<◌, ◌≤◌, List, [], ◌∷◌, ◌++◌, length, drop, take, slice_set, get_or, Option, Some, None, refl, sym, ◌∙◌, ap, arith, le-leb}
 use Rattle.std.proofs.lemmas.List.{take_more_set, drop_more, drop_all}
-use Rattle.serde_json.specs.Data.{Items, Data}
 use Rattle.serde_json.specs.View.{view, items_view}
 use Rattle.serde_json.specs.declared.value.Value.{Value}
 use Rattle.lwkt_script.proofs.Counts.{items_counted}

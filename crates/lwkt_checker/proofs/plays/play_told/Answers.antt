@@ -14,7 +14,7 @@ returns-in-Err-clause-stopped c =
     c.event_told-event.ensures ∙ ap (λ (x : Told). event_told c.loop-i.state x) c.index-told-i.is in
     subst (λ (m : Machine). StopsAt c.args.state.now (events_told c.args.state.now told) c.loop-i.i m) (sym c.in-Err.ensures.unchanged)
     (told_stops c.args.state.now told c.loop-i.i c.index-told-i.result c.loop-i.state c.loop-i-test.true c.loop-i.invariant
-      (subst (λ (e : Event). ¬ Needs c.loop-i.state e) same c.in-Err.ensures.refused))
+    (subst (λ (e : Event). ¬ Needs c.loop-i.state e) same c.in-Err.ensures.refused))
 
 pub loop-i-preserved : goal.loop-i-preserved
 loop-i-preserved c =

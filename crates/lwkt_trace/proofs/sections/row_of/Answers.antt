@@ -1,10 +1,9 @@
-use Rattle.std.proofs.Common.{◌≡◌, ◌<◌, ◌≤◌, ℕ, List, [], Some, None, Option, length, take, drop, get_or, refl, sym, ◌∙◌, ap, arith, subst}
+use Rattle.std.proofs.Common.{◌≡◌, ◌<◌, ◌≤◌, Some, length, get_or, sym, ◌∙◌, arith, subst}
 use Rattle.std.proofs.lemmas.List.{length-set}
-use Rattle.serde_json.specs.View.{view, items_view}
+use Rattle.serde_json.specs.View.{view}
 use Rattle.serde_json.specs.declared.value.Value.{Value}
 use Rattle.lwkt_script.specs.Field.{whole}
-use Rattle.lwkt_trace.specs.Words.{numbers_behind}
-use Rattle.lwkt_trace.proofs.RowTexts.{row_short, row_read, number_read}
+use Rattle.lwkt_trace.proofs.RowTexts.{row_read, number_read}
 use Rattle.lwkt_trace.proofs.sections.row_of.Goals as goal
 
 pub loop-place-preserved : goal.loop-place-preserved

@@ -1,4 +1,4 @@
-use Rattle.std.proofs.Common.{◌≡◌, [], ◌≤◌, length, take, drop}
+use Rattle.std.proofs.Common.{◌≡◌, [], length, take, drop}
 use Rattle.serde_json.specs.View.{items_view}
 use Rattle.lwkt_trace.specs.Words.{numbers_behind}
 use Rattle.lwkt_trace.proofs.sections.row_of.Given as goal
