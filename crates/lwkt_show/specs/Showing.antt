@@ -51,6 +51,11 @@ status_shown (Ok (Shown end)) = status_of (Ok end)
 status_shown (Ok Past) = 1
 status_shown (Err fault) = status_of (Err fault)
 
--- a run that these arguments ask for: it is shown as they say or refused, and the status is that of its outcome
-abbrev pub IsShowing : List (List ℕ) → Option (List ℕ) → Option (List ℕ) → Option (List ℕ) → ℕ → Type 0
-IsShowing words left old new status = (options : Options) × (AreOptions words options × ((outcome : Result Outcome RunFault) × (TellsShown options left old new outcome × (status ≡ status_shown outcome))))
+-- what the program does where its arguments are these options: the run is shown as they say or refused, and the status is that of its
+-- outcome
+abbrev pub IsShowing : Options → Option (List ℕ) → Option (List ℕ) → Option (List ℕ) → ℕ → Type 0
+IsShowing options left old new status = (outcome : Result Outcome RunFault) × (TellsShown options left old new outcome × (status ≡ status_shown outcome))
+
+-- the arguments are no options
+abbrev pub IsMisused : List (List ℕ) → Type 0
+IsMisused words = (options : Options) → ¬ AreOptions words options

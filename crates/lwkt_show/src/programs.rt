@@ -1,7 +1,8 @@
 ghost use Rattle.std.specs.Prelude.{◌≡◌, ◌≤◌, ◌⊎◌, if◌then◌else◌, Err, IsTrue, IfOk, IfErr, IfSome, IsNone, length, map, string_bytes};
 ghost use Rattle.lwkt_run.specs.Run.{IsTurnsRun, Refuses};
 ghost use Rattle.lwkt_scenes.specs.Shown.{first_turn};
-ghost use Rattle.lwkt_show.specs.Showing.{ShowsAs, IsShown, IsPast, IsPastIn, TellsShown, IsShowing, status_shown};
+ghost use Rattle.lwkt_show.specs.Arguments.{AreOptions};
+ghost use Rattle.lwkt_show.specs.Showing.{ShowsAs, IsShown, IsPast, IsPastIn, TellsShown, IsShowing, IsMisused, status_shown};
 
 use crate::options::{Options, View, options_of};
 use lwkt_base::Fault;
@@ -180,7 +181,8 @@ pub fn run_show<S: Source, K: Sink, E: Sink>(
     sink: &mut K,
     errors: &mut E,
 ) -> u8
-    ensures { ((result ≡ 1) × (source.new ≡ source.old) × (sink.new ≡ sink.old)) ⊎ IsShowing (map string_bytes words.now) (S.left source.old) (K.contents sink.old) (K.contents sink.new) result }
+    ensures shows { (options : Options) → AreOptions (map string_bytes words.now) options → IsShowing options (S.left source.old) (K.contents sink.old) (K.contents sink.new) result }
+    ensures usage { IsMisused (map string_bytes words.now) → (result ≡ 1) × (source.new ≡ source.old) × (sink.new ≡ sink.old) }
 {
     let Some(options) = options_of(words) else {
         return refuse_arguments(errors, false);

@@ -1,5 +1,7 @@
-ghost use Rattle.std.specs.Prelude.{◌≡◌, ◌⊎◌, map, string_bytes};
-ghost use Rattle.lwkt_show.specs.Showing.{IsShowing};
+ghost use Rattle.std.specs.Prelude.{◌≡◌, map, string_bytes};
+ghost use Rattle.lwkt_show.specs.declared.options.Options.{Options};
+ghost use Rattle.lwkt_show.specs.Arguments.{AreOptions};
+ghost use Rattle.lwkt_show.specs.Showing.{IsShowing, IsMisused};
 
 use lwkt_refusals::Speaker;
 use lwkt_report::{NotedReader, NotedWriter, ReaderSource, Sink, WriterSink};
@@ -16,7 +18,8 @@ pub fn show_told<I: Read, O: Write, E: Sink>(
     sink: &mut WriterSink<NotedWriter<O>>,
     errors: &mut E,
 ) -> u8
-    ensures { ((result ≡ 1) × (source.new ≡ source.old) × (sink.new ≡ sink.old)) ⊎ IsShowing (map string_bytes words.now) (I.remaining source.old.reader.reader) (O.contents sink.old.writer.writer) (O.contents sink.new.writer.writer) result }
+    ensures shows { (options : Options) → AreOptions (map string_bytes words.now) options → IsShowing options (I.remaining source.old.reader.reader) (O.contents sink.old.writer.writer) (O.contents sink.new.writer.writer) result }
+    ensures usage { IsMisused (map string_bytes words.now) → (result ≡ 1) × (source.new ≡ source.old) × (sink.new ≡ sink.old) }
 {
     let status = run_show(alloc, words, source, sink, errors);
     if source.failed {
