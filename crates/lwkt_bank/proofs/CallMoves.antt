@@ -19,7 +19,7 @@ use Rattle.lwkt_bank.specs.declared.views.Plan.{Plan}
 use Rattle.lwkt_bank.specs.declared.views.View.{View}
 use Rattle.lwkt_bank.specs.declared.rules.Key.{Key}
 use Rattle.lwkt_bank.specs.declared.banks.Bank.{Bank}
-use Rattle.lwkt_bank.specs.Views.{at, count_from, held_of, who, named, exchange, one_section}
+use Rattle.lwkt_bank.specs.Views.{at, count_from, held_of, who, named, section_of, exchange, one_section}
 use Rattle.lwkt_bank.specs.Deeds.{deed_by, loads, adds_one, marks, gives_one, gives_clean, gives_written, reads, writes}
 use Rattle.lwkt_bank.specs.Told.{Told, Deeds}
 use Rattle.lwkt_bank.specs.Rule.{token_word, cell_word, plan_at}
@@ -106,7 +106,7 @@ module _ (bank : Bank) (seat : Seat (Unit {0}) View) (tok : ℕ) (of : IsOf bank
     pub give_written_asks : (at v.tokens tok).held ≡ Holds Exclusive 0 → (at v.tokens tok).row ≢ (at v.tokens tok).first → MeetsLaw (plan_at bank.key.plans.items tok).law (plan_at bank.key.plans.items tok).param (at v.tokens tok).row → Asks word (λ n. (n + one_section) % 2 ^ 64) (at_word GivesWritten (step slots word one_section 0 none) seat.me)
     give_written_asks last written lawful =
         let F : Plan → Type 0 = λ p. MeetsLaw p.law p.param (at v.tokens tok).row in
-        asks_word word is (λ n. (n + one_section) % 2 ^ 64) (λ n. gives_written cpu tok n) GivesWritten one_section 0 (give_written_deeds key.plans.items key.cpus seat.id v of.named tok there' last written (subst F (sym plan_there) lawful))
+        asks_word word is (λ n. (n + one_section) % 2 ^ 64) (λ n. gives_written (section_of tok (at v.tokens tok)) cpu tok n) GivesWritten one_section 0 (give_written_deeds key.plans.items key.cpus seat.id v of.named tok there' last written (subst F (sym plan_there) lawful))
 
   module _ (word cell : ℕ) (is : word ≡ cell_word tok cell) where
     few_cells' : cell < (plan_at bank.key.plans.items tok).cells → cell < 4

@@ -27,7 +27,7 @@ use Rattle.lwkt_core.proofs.ViewLemmas.{Views-between, Views-noted}
 use Rattle.lwkt_bank.specs.declared.views.Plan.{Plan}
 use Rattle.lwkt_bank.specs.declared.views.TokenEntry.{TokenEntry}
 use Rattle.lwkt_bank.specs.declared.views.View.{View}
-use Rattle.lwkt_bank.specs.Views.{at, count_from, held_of, who, noted, page_of, named, one_section}
+use Rattle.lwkt_bank.specs.Views.{at, count_from, held_of, who, noted, page_of, named, section_of, one_section}
 use Rattle.lwkt_bank.specs.Deeds.{deed_by, loads, adds_one, marks, gives_one, gives_clean, gives_written, reads, writes}
 use Rattle.lwkt_bank.specs.Rule.{Bench, Rule, token_word, cell_word, plan_at}
 use Rattle.lwkt_bank.specs.Told.{IsAtCell, IsOperation, word_in, IsDone, first_machine, Told, IsNext, Deeds}
@@ -149,8 +149,8 @@ module _ (plans : List Plan) (cpus id : ℕ) (v : View) (kind : v.kind ≡ Of (w
     pub give_clean_deeds : e.held ≡ Holds Exclusive 0 → e.row ≡ e.first → Deeds plans cpus id v (token_word tok) (λ n. (n + (2 ^ 64 - 1)) % 2 ^ 64) (λ n. gives_clean cpu tok n) (λ n w. Amid v (λ between. GivesClean between tok v n w))
     give_clean_deeds last clean = word_deeds (Sub 1) (λ _. GiveClean cpu t) (λ between n w. GivesClean between tok v n w) (λ n. refl) (λ n. (refl, refl)) (λ n. refl) (give_clean_steps plans cpus id v tok kind there last clean)
 
-    pub give_written_deeds : e.held ≡ Holds Exclusive 0 → e.row ≢ e.first → MeetsLaw (plan_at plans tok).law (plan_at plans tok).param e.row → Deeds plans cpus id v (token_word tok) (λ n. (n + one_section) % 2 ^ 64) (λ n. gives_written cpu tok n) (λ n w. Amid v (λ between. GivesWritten between tok v n w))
-    give_written_deeds last written lawful = word_deeds (Add one_section) (λ _. GiveWritten cpu t) (λ between n w. GivesWritten between tok v n w) (λ n. refl) (λ n. (refl, refl)) (λ n. refl) (give_written_steps plans cpus id v tok kind there last written lawful)
+    pub give_written_deeds : e.held ≡ Holds Exclusive 0 → e.row ≢ e.first → MeetsLaw (plan_at plans tok).law (plan_at plans tok).param e.row → Deeds plans cpus id v (token_word tok) (λ n. (n + one_section) % 2 ^ 64) (λ n. gives_written (section_of tok e) cpu tok n) (λ n w. Amid v (λ between. GivesWritten between tok v n w))
+    give_written_deeds last written lawful = word_deeds (Add one_section) (λ _. GiveWritten cpu t (section_of tok e)) (λ between n w. GivesWritten between tok v n w) (λ n. refl) (λ n. (refl, refl)) (λ n. refl) (give_written_steps plans cpus id v tok kind there last written lawful)
 
     pub read_deeds : is_held e.held ≡ true → (cell : ℕ) → cell < (plan_at plans tok).cells → Deeds plans cpus id v (cell_word tok cell) (λ n. n) (λ n. reads cpu tok cell n) (λ n w. Amid v (λ between. ReadsCell between tok cell v n w))
     read_deeds held cell within = cell_deeds (cell_word tok cell) (λ n. n) (λ n. Read cpu t cell n) (λ between n w. ReadsCell between tok cell v n w) (λ n. (tt, refl)) (read_steps plans cpus id v tok kind there held cell within)

@@ -30,14 +30,14 @@ use Rattle.lwkt_core.specs.declared.events.Event.{Event}
 use Rattle.lwkt_core.specs.declared.events.Event.TheVariants.{Load, Take, Share, Again, Mark, GiveOne, GiveClean, GiveWritten, Read, Write}
 use Rattle.lwkt_core.specs.declared.events.Place.TheVariants.{AtToken}
 use Rattle.lwkt_core.specs.Events.{cpu_of, place_of, adds_reference}
-use Rattle.lwkt_core.specs.Tokens.{tally_of, IsNotLastExclusive, MayWrite, TokenNeeds, token_after}
+use Rattle.lwkt_core.specs.Tokens.{tally_of, IsNotLastExclusive, MayWrite, section_at, TokenNeeds, token_after}
 use Rattle.lwkt_core.specs.Picture.{picture_of}
 use Rattle.lwkt_core.specs.Machine.{Happens}
 use Rattle.lwkt_core.proofs.MachineMoves.{references_le}
 use Rattle.lwkt_bank.specs.declared.views.Plan.{Plan}
 use Rattle.lwkt_bank.specs.declared.views.TokenEntry.{TokenEntry}
 use Rattle.lwkt_bank.specs.declared.views.View.{View}
-use Rattle.lwkt_bank.specs.Views.{at, amount, generation_in, count_from, held_of, looked, taken, more, less, ended, read, stored, raised, who, noted, load, exchange, add, sub, or, one_section}
+use Rattle.lwkt_bank.specs.Views.{at, amount, generation_in, count_from, held_of, looked, taken, more, less, ended, section_of, read, stored, raised, who, noted, load, exchange, add, sub, or, one_section}
 use Rattle.lwkt_bank.specs.Deeds.{deed_by, writes}
 use Rattle.lwkt_bank.specs.Rule.{IsOpeningRow, Bench, Rule, Seen, seen_by, column, token_word, cell_word, plan_at, token_at}
 use Rattle.lwkt_bank.specs.Plays.{Looks, IsTakenRow, Exchanges, AddsOne, Marks, GivesOne, GivesClean, GivesWritten, ReadsCell, StoresCell, RaisesCell}
@@ -80,6 +80,10 @@ abbrev pub Steps : List Plan → ℕ → ℕ → View → ℕ → (ℕ → ℕ) 
 Steps plans cpus id v i f event steps then = (s : Bench) (r : Rule plans cpus s) (between : List Deed) → get_elem? s.views id ≡ some v → slice_index s.words i < 18446744073709551616
     → (e : TokenEntry) × ((q : Rule plans cpus (stepped s i (f (slice_index s.words i)) id [] (noted between v e (deed_by (who v) (event (slice_index s.words i)) (steps (slice_index s.words i)))) keeps))
     × (Happens r.model (event (slice_index s.words i)) q.model × then between (slice_index s.words i) (noted between v e (deed_by (who v) (event (slice_index s.words i)) (steps (slice_index s.words i))))))
+
+-- what a holder knows of its section is the token's
+section_known : (t : TokId) (e : TokenEntry) (tk : Token) → e.generation ≡ tk.generation → e.first ≡ tk.first → e.row ≡ tk.row → section_of t.0 e ≡ section_at t tk
+section_known t e tk generation first row = λ i. record { before = first i; after = row i; generation = generation i; tok = t }
 
 module _ (plans : List Plan) (cpus id : ℕ) (v : View) (tok : ℕ) (kind : v.kind ≡ Of (who v)) (exists' : tok < length plans) where
   abbrev cpu : CpuId
@@ -287,7 +291,7 @@ module _ (plans : List Plan) (cpus id : ℕ) (v : View) (tok : ℕ) (kind : v.ki
       (less e, (b.0, (b.1, refl)))
 
   -- and with another row
-  pub give_written_steps : e.held ≡ Holds Exclusive 0 → e.row ≢ e.first → MeetsLaw (plan_at plans tok).law (plan_at plans tok).param e.row → Steps plans cpus id v (token_word tok) (λ x. (x + one_section) % 2 ^ 64) (λ _. GiveWritten cpu t) (λ x. add tok one_section x ∷ []) (λ between x w. GivesWritten between tok v x w)
+  pub give_written_steps : e.held ≡ Holds Exclusive 0 → e.row ≢ e.first → MeetsLaw (plan_at plans tok).law (plan_at plans tok).param e.row → Steps plans cpus id v (token_word tok) (λ x. (x + one_section) % 2 ^ 64) (λ _. GiveWritten cpu t (section_of tok e)) (λ x. add tok one_section x ∷ []) (λ between x w. GivesWritten between tok v x w)
   give_written_steps last written lawful s r between here fits =
       let m = sight s r here in
       let x = found s r here in
@@ -299,9 +303,9 @@ module _ (plans : List Plan) (cpus id : ℕ) (v : View) (tok : ℕ) (kind : v.ki
       let G : ℕ → Type 0 = λ p. MeetsLaw (plan_at plans tok).law p tk.row in
       let H : List ℕ → Type 0 = λ row. MeetsLaw (plan_at plans tok).law (plan_at plans tok).param row in
       let meets : MeetsLaw tk.law tk.param tk.row = subst F (sym m.law) (subst G (sym m.param) (subst H own.2 lawful)) in
-      let a = word_step s r here (ended e) between notes (x + one_section) (GiveWritten cpu t) (at-tok v.tokens tok) refl refl (sym m.held ∙ last, (λ same. written (own.2 ∙ same ∙ sym own.1)), meets) (λ adds. absurd (false≢true adds))
-      (turns_give_written r.model.cpus (plan_at plans tok) (token_at r.model tok) cpu e x (cells s r here) m last t) in
-      let b = left_as s r here (noted between v (ended e) (deed_by cpu (GiveWritten cpu t) notes)) (GiveWritten cpu t) (x + one_section) ((x + one_section) % 2 ^ 64) (omega arith) a in
+      let a = word_step s r here (ended e) between notes (x + one_section) (GiveWritten cpu t (section_of tok e)) (at-tok v.tokens tok) refl refl (sym m.held ∙ last, (λ same. written (own.2 ∙ same ∙ sym own.1)), meets, section_known t e tk own.0 own.1 own.2) (λ adds. absurd (false≢true adds))
+      (turns_give_written r.model.cpus (plan_at plans tok) (token_at r.model tok) cpu e x (cells s r here) m last t (section_of tok e)) in
+      let b = left_as s r here (noted between v (ended e) (deed_by cpu (GiveWritten cpu t (section_of tok e)) notes)) (GiveWritten cpu t (section_of tok e)) (x + one_section) ((x + one_section) % 2 ^ 64) (omega arith) a in
       (ended e, (b.0, (b.1, (generation_is r.model.cpus (plan_at plans tok) tk cpu e x (cells s r here) m ∙ sym own.0, refl))))
 
   -- a cell that is read

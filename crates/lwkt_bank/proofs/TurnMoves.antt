@@ -19,6 +19,7 @@ use Rattle.lwkt_base.specs.declared.words.TheConstants.{LAST_GENERATION}
 use Rattle.lwkt_base.specs.Holding.{references_in, is_exclusive, is_held, one_more, one_less}
 use Rattle.lwkt_base.specs.Law.{MeetsLaw}
 use Rattle.lwkt_base.specs.TokenWord.{bit, word_of, decision}
+use Rattle.lwkt_base.specs.declared.sections.Section.{Section}
 use Rattle.lwkt_core.specs.declared.tokens.Token.{Token}
 use Rattle.lwkt_core.specs.declared.tokens.TheConstants.{CPU_LIMIT}
 use Rattle.lwkt_core.specs.declared.events.Event.TheVariants.{Take, Share, Again, Mark, GiveOne, GiveClean, GiveWritten, Write}
@@ -293,8 +294,8 @@ module _ (cpus : ℕ) (plan : Plan) (tok : Token) (cpu : CpuId) (e : TokenEntry)
         turns_moved h tok.mark (less e) word (omega arith) (ap one_less sight.held) refl refl
         (record { not_above = sight.knows.not_above; cells = sight.knows.cells; holder = λ held. sight.knows.holder (ap is_held last) })
 
-    pub turns_give_written : (t : TokId) → Turns plan tok (token_after tok (GiveWritten cpu t)) cpu.0 e (ended e) (n + one_section) cells
-    turns_give_written t =
+    pub turns_give_written : (t : TokId) (section : Section) → Turns plan tok (token_after tok (GiveWritten cpu t section)) cpu.0 e (ended e) (n + one_section) cells
+    turns_give_written t section =
         let h = one_less (held_by tok cpu.0) in
         let f = word_freed in
         let own = sight.knows.holder (ap is_held last) in

@@ -2,6 +2,7 @@ use Rattle.std.specs.Prelude.{ℕ, suc, List, [], ◌∷◌, Option, Some, None}
 use Rattle.lwkt_base.specs.declared.names.CpuId.{CpuId}
 use Rattle.lwkt_base.specs.declared.names.TokId.{TokId}
 use Rattle.lwkt_base.specs.declared.names.Mode.{Mode}
+use Rattle.lwkt_base.specs.declared.sections.Section.{Section}
 use Rattle.lwkt_base.specs.declared.names.Mode.TheVariants.{Exclusive, Shared}
 use Rattle.lwkt_core.specs.declared.events.Event.{Event}
 use Rattle.lwkt_core.specs.declared.events.Event.TheVariants.{Load, Take, Share, Again, Mark, GiveOne, GiveClean, GiveWritten, Read, Write}
@@ -41,8 +42,8 @@ gives_one cpu tok found = deed_by cpu (GiveOne cpu (named tok)) (sub tok 4 found
 abbrev pub gives_clean : CpuId → ℕ → ℕ → Deed
 gives_clean cpu tok found = deed_by cpu (GiveClean cpu (named tok)) (sub tok 1 found ∷ [])
 
-abbrev pub gives_written : CpuId → ℕ → ℕ → Deed
-gives_written cpu tok found = deed_by cpu (GiveWritten cpu (named tok)) (add tok one_section found ∷ [])
+abbrev pub gives_written : Section → CpuId → ℕ → ℕ → Deed
+gives_written section cpu tok found = deed_by cpu (GiveWritten cpu (named tok) section) (add tok one_section found ∷ [])
 
 -- the deed of a step on a cell: a load of this value, and a store of it
 abbrev pub reads : CpuId → ℕ → ℕ → ℕ → Deed

@@ -23,7 +23,7 @@ use Rattle.lwkt_core.specs.History.{IsStepOver, AreOthers, IsPastOf, Passes, eve
 use Rattle.lwkt_bank.specs.declared.views.Plan.{Plan}
 use Rattle.lwkt_bank.specs.declared.views.View.{View}
 use Rattle.lwkt_bank.specs.declared.seats.CpuSeat.{CpuSeat}
-use Rattle.lwkt_bank.specs.Views.{one_section, at, who, page_of, named, count_from, held_of, exchange, first_view, clerk_after, new_seat, joined, spent}
+use Rattle.lwkt_bank.specs.Views.{one_section, section_of, at, who, page_of, named, count_from, held_of, exchange, first_view, clerk_after, new_seat, joined, spent}
 use Rattle.lwkt_bank.specs.Deeds.{deed_by, loads, adds_one, marks, gives_one, gives_clean, gives_written, reads, writes}
 use Rattle.lwkt_bank.specs.Rule.{Bench, token_word, cell_word, plan_at, token_at, Knows, Pictures}
 use Rattle.lwkt_bank.specs.Opened.{plans_of, opening_words}
@@ -80,7 +80,7 @@ IsCellMade words words' (Again cpu tok) = Unit {0}
 IsCellMade words words' (Mark cpu tok) = Unit {0}
 IsCellMade words words' (GiveOne cpu tok) = Unit {0}
 IsCellMade words words' (GiveClean cpu tok) = Unit {0}
-IsCellMade words words' (GiveWritten cpu tok) = Unit {0}
+IsCellMade words words' (GiveWritten cpu tok section) = Unit {0}
 IsCellMade words words' (Send cpu msg to round) = Unit {0}
 IsCellMade words words' (TakeMsg cpu msg round) = Unit {0}
 IsCellMade words words' (DropMsg cpu msg) = Unit {0}
@@ -139,7 +139,7 @@ SubIsGiveClean = AtSeat (λ plans cpus id v tok. (at v.tokens tok).held ≡ Hold
 
 abbrev pub AddIsGiveWritten : Type 0
 AddIsGiveWritten = AtSeat (λ plans cpus id v tok. (at v.tokens tok).held ≡ Holds Exclusive 0 → (at v.tokens tok).row ≢ (at v.tokens tok).first → MeetsLaw (plan_at plans tok).law (plan_at plans tok).param (at v.tokens tok).row
-    → Deeds plans cpus id v (token_word tok) (λ n. (n + one_section) % 2 ^ 64) (λ n. gives_written (who v) tok n) (λ n w. Amid v (λ between. GivesWritten between tok v n w)))
+    → Deeds plans cpus id v (token_word tok) (λ n. (n + one_section) % 2 ^ 64) (λ n. gives_written (section_of tok (at v.tokens tok)) (who v) tok n) (λ n w. Amid v (λ between. GivesWritten between tok v n w)))
 
 abbrev pub CellLoadIsRead : Type 0
 CellLoadIsRead = AtSeat (λ plans cpus id v tok. is_held (at v.tokens tok).held ≡ true → (cell : ℕ) → cell < (plan_at plans tok).cells → Deeds plans cpus id v (cell_word tok cell) (λ n. n) (λ n. reads (who v) tok cell n) (λ n w. Amid v (λ between. ReadsCell between tok cell v n w)))

@@ -8,7 +8,7 @@ use Rattle.lwkt_core.specs.History.{AreOthers}
 use Rattle.lwkt_bank.specs.declared.views.Plan.{Plan}
 use Rattle.lwkt_bank.specs.declared.views.TokenEntry.{TokenEntry}
 use Rattle.lwkt_bank.specs.declared.views.View.{View}
-use Rattle.lwkt_bank.specs.Views.{at, amount, generation_in, looked, taken, more, less, ended, read, stored, raised, who, noted}
+use Rattle.lwkt_bank.specs.Views.{at, amount, generation_in, looked, taken, more, less, ended, section_of, read, stored, raised, who, noted}
 use Rattle.lwkt_bank.specs.Deeds.{loads, takes, loses, adds_one, marks, gives_one, gives_clean, gives_written, reads, writes}
 use Rattle.lwkt_bank.specs.Rule.{token_word, cell_word, IsOpeningRow, plan_at}
 
@@ -61,7 +61,7 @@ abbrev pub GivesClean : List Deed → ℕ → View → ℕ → View → Type 0
 GivesClean between tok v n w = w ≡ noted between v (less (at v.tokens tok)) (gives_clean (who v) tok n)
 
 abbrev pub GivesWritten : List Deed → ℕ → View → ℕ → View → Type 0
-GivesWritten between tok v n w = (generation_in n ≡ (at v.tokens tok).generation) × (w ≡ noted between v (ended (at v.tokens tok)) (gives_written (who v) tok n))
+GivesWritten between tok v n w = (generation_in n ≡ (at v.tokens tok).generation) × (w ≡ noted between v (ended (at v.tokens tok)) (gives_written (section_of tok (at v.tokens tok)) (who v) tok n))
 
 -- a cell that is read, which is at least what any processor has added if the token keeps tallies; one that is stored to, and the cell of a Tally token that is raised
 abbrev pub ReadsCell : List Deed → ℕ → ℕ → View → ℕ → View → Type 0

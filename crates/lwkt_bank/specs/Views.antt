@@ -2,6 +2,7 @@ use Rattle.std.specs.Prelude.{ℕ, Bool, max, ◌+◌, ◌/◌, ◌==◌, zero, 
 use Rattle.lwkt_base.specs.declared.names.CpuId.{CpuId}
 use Rattle.std.specs.List.{list_any}
 use Rattle.lwkt_base.specs.declared.names.TokId.{TokId}
+use Rattle.lwkt_base.specs.declared.sections.Section.{Section}
 use Rattle.lwkt_base.specs.declared.names.Mode.{Mode}
 use Rattle.lwkt_base.specs.declared.names.Mode.TheVariants.{Shared}
 use Rattle.lwkt_base.specs.declared.holdings.Held.TheVariants.{Nothing, Holds}
@@ -121,6 +122,10 @@ page_of v = record { kind = v.kind; past = v.past; chapters = v.chapters }
 -- a token by its number
 abbrev pub named : ℕ → TokId
 named tok = record { 0 = tok }
+
+-- the section that a holder ends: its first row, its row, and the generation at which it began
+abbrev pub section_of : ℕ → TokenEntry → Section
+section_of tok e = record { before = e.first; after = e.row; generation = e.generation; tok = named tok }
 
 -- the view of the clerk at the opening
 abbrev pub first_view : List Plan → View

@@ -3,7 +3,7 @@ ghost use Rattle.std.specs.Prelude.{◌≡◌, ◌≢◌, ◌⊎◌, ◌+◌, �
 ghost use Rattle.std.specs.List.{list_any};
 ghost use Rattle.lwkt_base.specs.Holding.{is_held, is_exclusive};
 ghost use Rattle.lwkt_base.specs.Law.{MeetsLaw};
-ghost use Rattle.lwkt_bank.specs.Views.{less, ended};
+ghost use Rattle.lwkt_bank.specs.Views.{less, ended, section_of};
 ghost use Rattle.lwkt_bank.specs.Deeds.{gives_one, gives_clean, gives_written};
 ghost use Rattle.lwkt_core.specs.Tokens.{IsNotLastExclusive};
 ghost use Rattle.lwkt_bank.specs.Notes.{is_other};
@@ -85,7 +85,7 @@ impl CpuSeat {
         requires last { holding self.old tok.0 ≡ Held.Holds Mode.Exclusive 0 }
         requires written { (entry self.old tok.0).row ≢ (entry self.old tok.0).first }
         requires lawful { MeetsLaw (plan_of (bank_of self.old) tok.0).law (plan_of (bank_of self.old) tok.0).param (entry self.old tok.0).row }
-        ensures stepped { Stepped self.old self.new tok.0 (ended (entry self.old tok.0)) gives_written }
+        ensures stepped { Stepped self.old self.new tok.0 (ended (entry self.old tok.0)) (gives_written (section_of tok.0 (entry self.old tok.0))) }
         ensures generation { result ≡ (entry self.old tok.0).generation }
     {
         let found = steps::give_written(bank, &mut self.seat, tok);

@@ -9,7 +9,7 @@ use Rattle.lwkt_base.specs.declared.sections.Section.{Section}
 use Rattle.lwkt_core.specs.SectionChain.{RowsAt, row_at, generation_at, IsSectionChain, sections_at, AreSectionChains, Precedes, AreInOrder, rows_after, rows_after_all, GoesOn, GoOn, SectionsFailAt, SectionFailureRefutes, SectionFailureIsOnly, IsUpTo}
 
 -- whether a section is of a generation
-abbrev is_of : ℕ → Section → Bool
+abbrev pub is_of : ℕ → Section → Bool
 is_of g s = s.generation == g
 
 -- what is so of two things of each element
@@ -17,18 +17,18 @@ both : {X : Type 0} (P Q : X → Type 0) (xs : List X) → All P xs → All Q xs
 both P Q xs p q = λ k d low. (p k d low, q k d low)
 
 -- how many there are in a list with one more in front: by whether that one counts
-count-yes : (g : ℕ) (s : Section) (sections : List Section) → s.generation ≡ g → count_by (is_of g) (s ∷ sections) ≡ 1 + count_by (is_of g) sections
+pub count-yes : (g : ℕ) (s : Section) (sections : List Section) → s.generation ≡ g → count_by (is_of g) (s ∷ sections) ≡ 1 + count_by (is_of g) sections
 count-yes g s sections is =
     sum_by-cons (λ (x : Section). cond (is_of g x) 1 0) s sections
     ∙ ap (λ (b : Bool). cond b 1 0 + count_by (is_of g) sections) (eq-eqb s.generation g is)
 
-count-no : (g : ℕ) (s : Section) (sections : List Section) → s.generation ≢ g → count_by (is_of g) (s ∷ sections) ≡ count_by (is_of g) sections
+pub count-no : (g : ℕ) (s : Section) (sections : List Section) → s.generation ≢ g → count_by (is_of g) (s ∷ sections) ≡ count_by (is_of g) sections
 count-no g s sections differ =
     let step = sum_by-cons (λ (x : Section). cond (is_of g x) 1 0) s sections in
     let none = ap (λ (b : Bool). cond b 1 0 + count_by (is_of g) sections) (ne_eqb s.generation g differ) in
     omega arith
 
-count-none : (g : ℕ) (sections : List Section) → All (λ s. s.generation ≢ g) sections → count_by (is_of g) sections ≡ 0
+pub count-none : (g : ℕ) (sections : List Section) → All (λ s. s.generation ≢ g) sections → count_by (is_of g) sections ≡ 0
 count-none g [] none = refl
 count-none g (s ∷ sections) none =
     count-no g s sections (All-head (λ (x : Section). x.generation ≢ g) s sections none)
@@ -140,10 +140,10 @@ module _ (opening : List ℕ) (first : ℕ) (closing : List ℕ) (last : ℕ) (s
   }
 
 -- a token's sections of a list with one more in front: by whether that one is the token's
-sections_at-own : (t : ℕ) (s : Section) (sections : List Section) → s.tok.0 ≡ t → sections_at t (s ∷ sections) ≡ s ∷ sections_at t sections
+pub sections_at-own : (t : ℕ) (s : Section) (sections : List Section) → s.tok.0 ≡ t → sections_at t (s ∷ sections) ≡ s ∷ sections_at t sections
 sections_at-own t s sections is = ap (λ (b : Bool). cond b (s ∷ sections_at t sections) (sections_at t sections)) (eq-eqb s.tok.0 t is)
 
-sections_at-other : (t : ℕ) (s : Section) (sections : List Section) → s.tok.0 ≢ t → sections_at t (s ∷ sections) ≡ sections_at t sections
+pub sections_at-other : (t : ℕ) (s : Section) (sections : List Section) → s.tok.0 ≢ t → sections_at t (s ∷ sections) ≡ sections_at t sections
 sections_at-other t s sections differ = ap (λ (b : Bool). cond b (s ∷ sections_at t sections) (sections_at t sections)) (ne_eqb s.tok.0 t differ)
 
 -- a token that no section is of has none

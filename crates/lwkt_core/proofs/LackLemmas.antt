@@ -43,7 +43,7 @@ token_refutes tok (Again cpu t) lack h needs = h.1 needs
 token_refutes tok (Mark cpu t) lack h needs = h
 token_refutes tok (GiveOne cpu t) lack h needs = elim h [ inl x ↦ x.1 (held_to_give (held_by tok cpu.0) needs) | inr x ↦ x.1.1 needs ]
 token_refutes tok (GiveClean cpu t) lack h needs = elim h [ inl x ↦ x.1 (ap is_exclusive needs.0) | inr y ↦ elim y.1 [ inl x ↦ x.1 needs.0 | inr x ↦ x.1.1 needs.1 ] ]
-token_refutes tok (GiveWritten cpu t) lack h needs = elim h [ inl x ↦ x.1 (ap is_exclusive needs.0) | inr y ↦ elim y.1 [ inl x ↦ x.1 needs.0 | inr z ↦ elim z.1 [ inl x ↦ x.1 needs.1 | inr x ↦ x.1.1 needs.2 ] ] ]
+token_refutes tok (GiveWritten cpu t section) lack h needs = elim h [ inl x ↦ x.1 (ap is_exclusive needs.0) | inr y ↦ elim y.1 [ inl x ↦ x.1 needs.0 | inr z ↦ elim z.1 [ inl x ↦ x.1 needs.1 | inr w ↦ elim w.1 [ inl x ↦ x.1 needs.2 | inr x ↦ x.1.1 needs.3 ] ] ] ]
 token_refutes tok (Read cpu t cell value) lack h needs = elim h [ inl x ↦ x.1 needs.0 | inr y ↦ elim y.1 [ inl x ↦ x.1 (cell_there tok.row cell value needs.1) | inr x ↦ x.1.1 needs.1 ] ]
 token_refutes tok (Write cpu t cell value) lack h needs = elim h [ inl x ↦ x.1 needs.0 | inr y ↦ elim y.1 [ inl x ↦ x.1 needs.1 | inr x ↦ x.1.1 needs.2 ] ]
 token_refutes tok (Send cpu msg to round) lack h needs = needs
@@ -67,7 +67,7 @@ message_refutes cpus msg (Again cpu t) lack h needs = needs
 message_refutes cpus msg (Mark cpu t) lack h needs = needs
 message_refutes cpus msg (GiveOne cpu t) lack h needs = needs
 message_refutes cpus msg (GiveClean cpu t) lack h needs = needs
-message_refutes cpus msg (GiveWritten cpu t) lack h needs = needs
+message_refutes cpus msg (GiveWritten cpu t section) lack h needs = needs
 message_refutes cpus msg (Read cpu t cell value) lack h needs = needs
 message_refutes cpus msg (Write cpu t cell value) lack h needs = needs
 

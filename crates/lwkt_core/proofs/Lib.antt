@@ -14,3 +14,6 @@ pub mod RunLemmas
 pub mod ShareLemmas
 pub mod ChainLemmas
 pub mod RunChainLemmas
+pub mod PartLemmas
+pub mod SectionParts
+pub mod TellLemmas

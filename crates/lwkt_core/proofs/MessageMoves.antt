@@ -144,7 +144,7 @@ after_owned cpus msg o (Again cpu tok) s needs = absurd needs
 after_owned cpus msg o (Mark cpu tok) s needs = absurd needs
 after_owned cpus msg o (GiveOne cpu tok) s needs = absurd needs
 after_owned cpus msg o (GiveClean cpu tok) s needs = absurd needs
-after_owned cpus msg o (GiveWritten cpu tok) s needs = absurd needs
+after_owned cpus msg o (GiveWritten cpu tok section) s needs = absurd needs
 after_owned cpus msg o (Read cpu tok cell value) s needs = absurd needs
 after_owned cpus msg o (Write cpu tok cell value) s needs = absurd needs
 

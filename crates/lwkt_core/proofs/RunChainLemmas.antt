@@ -10,13 +10,18 @@ use Rattle.lwkt_core.specs.declared.tokens.Token.{Token}
 use Rattle.lwkt_base.specs.declared.holdings.Held.{Held}
 use Rattle.lwkt_base.specs.Holding.{is_exclusive}
 use Rattle.lwkt_core.specs.Tokens.{IsFree, IsOpen}
-use Rattle.lwkt_core.specs.Machine.{Machine}
+use Rattle.lwkt_core.specs.Machine.{Machine, IsSafe}
 use Rattle.lwkt_core.specs.Trace.{Run}
 use Rattle.lwkt_core.specs.Headline.{Section as Written, sections_of, IsChain}
 use Rattle.lwkt_core.specs.SectionChain.{RowsAt, row_at, generation_at, IsSectionChain, sections_at, AreSectionChains, Precedes, AreInOrder}
 use Rattle.lwkt_core.specs.RunSections.{of_token, sections_in, values_of, rows_of, RunsWriteChains, TracesWriteChains}
 use Rattle.lwkt_core.proofs.ChainLemmas.{chain-nil, chain-cons, chain_as, sections_at-none}
-use Rattle.lwkt_core.proofs.RunLemmas.{token_left, rows_stand}
+use Rattle.lwkt_core.proofs.RunLemmas.{token_left, are_chain}
+use Rattle.lwkt_core.proofs.SafetyLemmas.{stays}
+
+-- a token's row is its first row: nothing was written since its section began
+abbrev pub IsSettled : Token → Type 0
+IsSettled tok = tok.row ≡ tok.first
 
 -- a chain of a run's sections is one of the token's sections
 chain_of_run : (t g : ℕ) (row : List ℕ) (written : List Written) (end : ℕ) (end_row : List ℕ) → IsChain g row written end end_row → IsSectionChain row g end_row end (map (of_token t) written)
@@ -68,7 +73,7 @@ module _ (written : ℕ → List Written) where
   all_own t [] = refl
   all_own t (w ∷ ws) = ap (λ (b : Bool). cond b (of_token t w ∷ sections_at t (map (of_token t) ws)) (sections_at t (map (of_token t) ws))) (eq-eqb t t refl) ∙ ap (λ (xs : List Section). of_token t w ∷ xs) (all_own t ws)
 
-  sections_of_one : (a n t : ℕ) → a ≤ t → t < a + n → sections_at t (of_tokens a n) ≡ map (of_token t) (written t)
+  pub sections_of_one : (a n t : ℕ) → a ≤ t → t < a + n → sections_at t (of_tokens a n) ≡ map (of_token t) (written t)
   sections_of_one a zero t low high = absurd (omega arith)
   sections_of_one a (suc n) t low high = filter-append (λ (s : Section). s.tok.0 == t) (map (of_token a) (written a)) (of_tokens (a + 1) n) ∙ ⊎_elim
       (λ (same : a ≡ t).
@@ -101,7 +106,7 @@ token_at : (tokens : List Token) (t : ℕ) → t < length tokens → (tok : Toke
 token_at [] t inside = absurd (omega arith)
 token_at (x ∷ tokens) t inside = (get_or (x ∷ tokens) t x, slice_get-get_or (x ∷ tokens) t x inside)
 
-length-rows : (tokens : List Token) → length (map values_of tokens) ≡ length tokens
+pub length-rows : (tokens : List Token) → length (map values_of tokens) ≡ length tokens
 length-rows [] = refl
 length-rows (x ∷ tokens) = let rest = length-rows tokens in omega arith
 
@@ -111,13 +116,17 @@ row_of [] t tok here = absurd (cc)
 row_of (x ∷ tokens) zero tok here = ap values_of (same_Some x tok here)
 row_of (x ∷ tokens) (suc t) tok here = row_of tokens t tok here
 
-open_at : (tokens : List Token) (t : ℕ) (tok : Token) → slice_get tokens t ≡ Some tok → All IsOpen tokens → IsOpen tok
-open_at [] t tok here all = absurd (cc)
-open_at (x ∷ tokens) zero tok here all = subst IsOpen (same_Some x tok here) (All-head IsOpen x tokens all)
-open_at (x ∷ tokens) (suc t) tok here all = open_at tokens t tok here (All-tail IsOpen x tokens all)
+settled_at : (tokens : List Token) (t : ℕ) (tok : Token) → slice_get tokens t ≡ Some tok → All IsSettled tokens → IsSettled tok
+settled_at [] t tok here all = absurd (cc)
+settled_at (x ∷ tokens) zero tok here all = subst IsSettled (same_Some x tok here) (All-head IsSettled x tokens all)
+settled_at (x ∷ tokens) (suc t) tok here all = settled_at tokens t tok here (All-tail IsSettled x tokens all)
 
-pub write_chains : RunsWriteChains
-write_chains m events n safe run opened closed = (
+-- in a safe machine a token that nobody holds exclusively is settled
+pub open_settled : (m : Machine) → IsSafe m → All IsOpen m.tokens → All IsSettled m.tokens
+open_settled m safe opened k d low = (safe.each_token k d low).settled (opened k d low)
+
+pub settled_chains : (m : Machine) (events : List Event) (n : Machine) → Run m events n → All IsSettled m.tokens → All IsSettled n.tokens → AreInOrder (sections_in m events) × AreSectionChains (rows_of m) (rows_of n) (sections_in m events)
+settled_chains m events n run opened closed = (
   in_order (λ t. sections_of t m events) 0 (length m.tokens) (λ t low high.
       let tok = token_at m.tokens t (omega arith) in
       let last = still_there m events n t tok.0 run tok.1 in
@@ -140,10 +149,16 @@ write_chains m events n safe run opened closed = (
 )
   where
     chain_at : (t : ℕ) (tok last : Token) → slice_get m.tokens t ≡ Some tok → slice_get n.tokens t ≡ Some last → IsChain tok.generation tok.row (sections_of t m events) last.generation last.row
-    chain_at t tok last here there = rows_stand m events n t tok last safe run here there (open_at m.tokens t tok here opened) (open_at n.tokens t last there closed)
+    chain_at t tok last here there =
+        let F : List ℕ → Type 0 = λ row. IsChain tok.generation row (sections_of t m events) last.generation last.first in
+        let G : List ℕ → Type 0 = λ row. IsChain tok.generation tok.row (sections_of t m events) last.generation row in
+        subst G (sym (settled_at n.tokens t last there closed)) (subst F (sym (settled_at m.tokens t tok here opened)) (are_chain m events n t tok last run here there).0)
+
+pub write_chains : RunsWriteChains
+write_chains m events n safe run opened closed = settled_chains m events n run (open_settled m safe opened) (open_settled n (stays m events n safe run) closed)
 
 -- rows and generations, put together again
-zipped : (tokens : List Token) → zip (map (λ (tok : Token). tok.row) tokens) (map (λ (tok : Token). tok.generation) tokens) ≡ map values_of tokens
+pub zipped : (tokens : List Token) → zip (map (λ (tok : Token). tok.row) tokens) (map (λ (tok : Token). tok.generation) tokens) ≡ map values_of tokens
 zipped [] = refl
 zipped (x ∷ tokens) = ap (λ (rows : RowsAt). values_of x ∷ rows) (zipped tokens)
 

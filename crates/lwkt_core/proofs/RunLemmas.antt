@@ -57,7 +57,7 @@ get-set_else (z ∷ zs) (suc i) zero x differ = refl
 get-set_else (z ∷ zs) (suc i) (suc j) x differ = get-set_else zs i j x (λ e. differ (ap suc e))
 
 -- an element that is there
-there_is : {A : Type 0} (o : Option A) (P : A → Type 0) → IsSomeAnd o P → (x : A) × ((o ≡ Some x) × P x)
+pub there_is : {A : Type 0} (o : Option A) (P : A → Type 0) → IsSomeAnd o P → (x : A) × ((o ≡ Some x) × P x)
 there_is None P h = absurd h
 there_is (Some x) P h = (x, (refl, h))
 
@@ -479,7 +479,7 @@ token_left m n e t tok there happens = go (place_of e) refl happens.0.place
         (cases_eq k t)
 
 at_written : (t : ℕ) (e : Event) → ends_written t e ≡ true → place_of e ≡ AtToken t
-at_written t (GiveWritten cpu tok) is = ap (λ (j : ℕ). AtToken j) (eqb-true tok.0 t is)
+at_written t (GiveWritten cpu tok section) is = ap (λ (j : ℕ). AtToken j) (eqb-true tok.0 t is)
 at_written t e is = absurd (false≢true is)
 
 -- what a token's generation, first row and law are after an event that doesn't end a written section of it
@@ -493,7 +493,7 @@ abbrev stands_here : (tok : Token) → Stands tok tok
 stands_here tok = record { generation = refl; first = refl; law = refl; param = refl }
 
 stands_after : (t : ℕ) (tok : Token) (e : Event) → place_of e ≡ AtToken t → TokenNeeds tok e → ends_written t e ≡ false → Stands tok (token_after tok e)
-stands_after t tok (GiveWritten cpu k) at needs none = absurd (false≢true (sym none ∙ eq-eqb k.0 t (ap (λ (p : Place). number_of p) at)))
+stands_after t tok (GiveWritten cpu k section) at needs none = absurd (false≢true (sym none ∙ eq-eqb k.0 t (ap (λ (p : Place). number_of p) at)))
 stands_after t tok (Load cpu k) at needs none = record { generation = refl; first = refl; law = refl; param = refl }
 stands_after t tok (Take cpu k) at needs none = record { generation = refl; first = refl; law = refl; param = refl }
 stands_after t tok (Share cpu k) at needs none = record { generation = refl; first = refl; law = refl; param = refl }
@@ -515,16 +515,16 @@ pub record Moves (tok tok' : Token) : Type 0 where
   pub lawful : MeetsLaw tok.law tok.param tok.row
 
 moves_after : (t : ℕ) (tok : Token) (e : Event) → TokenNeeds tok e → ends_written t e ≡ true → Moves tok (token_after tok e)
-moves_after t tok (GiveWritten cpu k) needs is = record { generation = refl; first = refl; law = refl; param = refl; another = needs.1; lawful = needs.2 }
+moves_after t tok (GiveWritten cpu k section) needs is = record { generation = refl; first = refl; law = refl; param = refl; another = needs.1; lawful = needs.2 }
 moves_after t tok e needs is = absurd (false≢true is)
 
 -- the sections of a list of events, by whether the first one ends one
-one_section : (t : ℕ) (m : Machine) (e : Event) (events : List Event) (tok : Token) → slice_get m.tokens t ≡ Some tok → ends_written t e ≡ true → sections_of t m (e ∷ events) ≡ section_of tok ∷ sections_of t (after m e) events
+pub one_section : (t : ℕ) (m : Machine) (e : Event) (events : List Event) (tok : Token) → slice_get m.tokens t ≡ Some tok → ends_written t e ≡ true → sections_of t m (e ∷ events) ≡ section_of tok ∷ sections_of t (after m e) events
 one_section t m e events tok there is =
     ap (λ (b : Bool). cond b (map (λ (k : Token). section_of k) (option_to_list (slice_get m.tokens t))) [] ++ sections_of t (after m e) events) is
     ∙ ap (λ (o : Option Token). map (λ (k : Token). section_of k) (option_to_list o) ++ sections_of t (after m e) events) there
 
-no_section : (t : ℕ) (m : Machine) (e : Event) (events : List Event) → ends_written t e ≡ false → sections_of t m (e ∷ events) ≡ sections_of t (after m e) events
+pub no_section : (t : ℕ) (m : Machine) (e : Event) (events : List Event) → ends_written t e ≡ false → sections_of t m (e ∷ events) ≡ sections_of t (after m e) events
 no_section t m e events is =
     ap (λ (b : Bool). cond b (map (λ (k : Token). section_of k) (option_to_list (slice_get m.tokens t))) [] ++ sections_of t (after m e) events) is
 
@@ -627,7 +627,7 @@ raised_after t cpu m tok (Again by k) here at needs tally eight low = omega arit
 raised_after t cpu m tok (Mark by k) here at needs tally eight low = omega arith
 raised_after t cpu m tok (GiveOne by k) here at needs tally eight low = omega arith
 raised_after t cpu m tok (GiveClean by k) here at needs tally eight low = omega arith
-raised_after t cpu m tok (GiveWritten by k) here at needs tally eight low = omega arith
+raised_after t cpu m tok (GiveWritten by k section) here at needs tally eight low = omega arith
 raised_after t cpu m tok (Read by k cell value) here at needs tally eight low = omega arith
 raised_after t cpu m tok e here at needs tally eight low = absurd needs
 
@@ -646,7 +646,7 @@ law_stays tok (Again cpu t) = refl
 law_stays tok (Mark cpu t) = refl
 law_stays tok (GiveOne cpu t) = refl
 law_stays tok (GiveClean cpu t) = refl
-law_stays tok (GiveWritten cpu t) = refl
+law_stays tok (GiveWritten cpu t section) = refl
 law_stays tok (Read cpu t cell value) = refl
 law_stays tok (Write cpu t cell value) = refl
 law_stays tok e = refl

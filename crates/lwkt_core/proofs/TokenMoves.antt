@@ -276,7 +276,7 @@ IsSafeToken-after cpus tok (GiveClean cpu t) few here safe needs =
     subst S (sym (ap one_less needs.0))
     (IsSafeToken-moved cpus tok cpu.0 Nothing tok.generation tok.first few here safe
     (ended cpus tok cpu.0 tok.generation tok.first safe (ap is_exclusive needs.0) needs.1 safe.lawful safe.in_range))
-IsSafeToken-after cpus tok (GiveWritten cpu t) few here safe needs =
+IsSafeToken-after cpus tok (GiveWritten cpu t section) few here safe needs =
     let S : Held → Type 0 = λ held. IsSafeToken cpus (record tok { holders = set tok.holders cpu.0 held; generation = tok.generation + 1; first = tok.row }) in
     let unworn = safe.not_worn cpu.0 (ap is_exclusive needs.0) in
     subst S (sym (ap one_less needs.0))
@@ -337,7 +337,7 @@ references-after tok (Share cpu t) one here = references_set tok cpu.0 (one_more
 references-after tok (Again cpu t) one here = references_set tok cpu.0 (one_more (held_by tok cpu.0) Shared) one here (let e = references_more (held_by tok cpu.0) Shared in omega arith)
 references-after tok (GiveOne cpu t) one here = let h = references_set_less tok cpu.0 (one_less (held_by tok cpu.0)) one here (references_less (held_by tok cpu.0)) in omega arith
 references-after tok (GiveClean cpu t) one here = let h = references_set_less tok cpu.0 (one_less (held_by tok cpu.0)) one here (references_less (held_by tok cpu.0)) in omega arith
-references-after tok (GiveWritten cpu t) one here = let h = references_set_less tok cpu.0 (one_less (held_by tok cpu.0)) one here (references_less (held_by tok cpu.0)) in omega arith
+references-after tok (GiveWritten cpu t section) one here = let h = references_set_less tok cpu.0 (one_less (held_by tok cpu.0)) one here (references_less (held_by tok cpu.0)) in omega arith
 references-after tok (Send cpu msg to round) one here = omega arith
 references-after tok (TakeMsg cpu msg round) one here = omega arith
 references-after tok (DropMsg cpu msg) one here = omega arith

@@ -111,7 +111,7 @@ section_of tok = record { generation = tok.generation; before = tok.first; left 
 
 -- an event ends a written section of a token
 abbrev pub ends_written : ℕ → Event → Bool
-ends_written t (GiveWritten cpu tok) = tok.0 == t
+ends_written t (GiveWritten cpu tok section) = tok.0 == t
 ends_written t e = false
 
 -- the written sections of a token in a run, in order

@@ -9,13 +9,13 @@ use Rattle.lwkt_core.specs.declared.tokens.Token.{Token}
 use Rattle.lwkt_core.specs.declared.messages.Message.{Message}
 use Rattle.lwkt_core.specs.declared.messages.TheConstants.{LAST_ROUND}
 use Rattle.lwkt_core.specs.declared.lacks.Lack.{Lack}
-use Rattle.lwkt_core.specs.declared.lacks.Lack.TheVariants.{NoProcessor, NoToken, NoMessage, TooManyReferences, Held, HeldExclusively, HeldAlready, LastGeneration, NotHeld, NotHeldExclusively, LastExclusive, FurtherReferences, RowChanged, RowUnchanged, LawBroken, NoCell, OtherValue, LessThanBefore, NotAtRest, NoTarget, LastRound, OtherRound, NotOut, NotTaken, NotReplied, NotAway}
+use Rattle.lwkt_core.specs.declared.lacks.Lack.TheVariants.{NoProcessor, NoToken, NoMessage, TooManyReferences, Held, HeldExclusively, HeldAlready, LastGeneration, NotHeld, NotHeldExclusively, LastExclusive, FurtherReferences, RowChanged, RowUnchanged, LawBroken, OtherSection, NoCell, OtherValue, LessThanBefore, NotAtRest, NoTarget, LastRound, OtherRound, NotOut, NotTaken, NotReplied, NotAway}
 use Rattle.lwkt_core.specs.declared.events.Event.{Event}
 use Rattle.lwkt_core.specs.declared.events.Event.TheVariants.{Load, Take, Share, Again, Mark, GiveOne, GiveClean, GiveWritten, Read, Write, Send, TakeMsg, DropMsg, Reply, Reap, Abort}
 use Rattle.lwkt_core.specs.declared.events.Place.{Place}
 use Rattle.lwkt_core.specs.declared.events.Place.TheVariants.{AtToken, AtMessage}
 use Rattle.lwkt_core.specs.Events.{cpu_of, place_of, adds_reference}
-use Rattle.lwkt_core.specs.Tokens.{held_by, IsFree, IsOpen, IsHolder, IsExclusiveHolder, IsNotLastExclusive, MayWrite, TokenNeeds}
+use Rattle.lwkt_core.specs.Tokens.{held_by, IsFree, IsOpen, IsHolder, IsExclusiveHolder, IsNotLastExclusive, MayWrite, section_at, TokenNeeds}
 use Rattle.lwkt_core.specs.Messages.{IsOutTo, IsOutFrom, IsWith, IsBackTo, MayBeAborted, MessageNeeds}
 use Rattle.lwkt_core.specs.Machine.{Machine, references_of, Needs}
 
@@ -36,7 +36,7 @@ TokenLacks tok (Again cpu t) lack = Fails lack NotHeld (IsHolder tok cpu.0)
 TokenLacks tok (Mark cpu t) lack = ⊥
 TokenLacks tok (GiveOne cpu t) lack = FirstFails lack NotHeld (IsHolder tok cpu.0) (Fails lack LastExclusive (IsNotLastExclusive (held_by tok cpu.0)))
 TokenLacks tok (GiveClean cpu t) lack = FirstFails lack NotHeldExclusively (IsExclusiveHolder tok cpu.0) (FirstFails lack FurtherReferences (held_by tok cpu.0 ≡ Holds Exclusive 0) (Fails lack RowChanged (tok.row ≡ tok.first)))
-TokenLacks tok (GiveWritten cpu t) lack = FirstFails lack NotHeldExclusively (IsExclusiveHolder tok cpu.0) (FirstFails lack FurtherReferences (held_by tok cpu.0 ≡ Holds Exclusive 0) (FirstFails lack RowUnchanged (tok.row ≢ tok.first) (Fails lack LawBroken (MeetsLaw tok.law tok.param tok.row))))
+TokenLacks tok (GiveWritten cpu t section) lack = FirstFails lack NotHeldExclusively (IsExclusiveHolder tok cpu.0) (FirstFails lack FurtherReferences (held_by tok cpu.0 ≡ Holds Exclusive 0) (FirstFails lack RowUnchanged (tok.row ≢ tok.first) (FirstFails lack LawBroken (MeetsLaw tok.law tok.param tok.row) (Fails lack OtherSection (section ≡ section_at t tok)))))
 TokenLacks tok (Read cpu t cell value) lack = FirstFails lack NotHeld (IsHolder tok cpu.0) (FirstFails lack NoCell (cell < length tok.row) (Fails lack OtherValue (slice_get tok.row cell ≡ Some value)))
 TokenLacks tok (Write cpu t cell value) lack = FirstFails lack NotHeldExclusively (IsExclusiveHolder tok cpu.0) (FirstFails lack NoCell (cell < length tok.row) (Fails lack LessThanBefore (MayWrite tok.law (slice_index tok.row cell) value)))
 TokenLacks tok (Send cpu msg to round) lack = lack ≡ NoToken
@@ -61,7 +61,7 @@ MessageLacks cpus msg (Again cpu t) lack = lack ≡ NoMessage
 MessageLacks cpus msg (Mark cpu t) lack = lack ≡ NoMessage
 MessageLacks cpus msg (GiveOne cpu t) lack = lack ≡ NoMessage
 MessageLacks cpus msg (GiveClean cpu t) lack = lack ≡ NoMessage
-MessageLacks cpus msg (GiveWritten cpu t) lack = lack ≡ NoMessage
+MessageLacks cpus msg (GiveWritten cpu t section) lack = lack ≡ NoMessage
 MessageLacks cpus msg (Read cpu t cell value) lack = lack ≡ NoMessage
 MessageLacks cpus msg (Write cpu t cell value) lack = lack ≡ NoMessage
 

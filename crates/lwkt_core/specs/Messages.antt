@@ -120,7 +120,7 @@ MessageNeeds cpus msg (Again cpu tok) = ⊥
 MessageNeeds cpus msg (Mark cpu tok) = ⊥
 MessageNeeds cpus msg (GiveOne cpu tok) = ⊥
 MessageNeeds cpus msg (GiveClean cpu tok) = ⊥
-MessageNeeds cpus msg (GiveWritten cpu tok) = ⊥
+MessageNeeds cpus msg (GiveWritten cpu tok section) = ⊥
 MessageNeeds cpus msg (Read cpu tok cell value) = ⊥
 MessageNeeds cpus msg (Write cpu tok cell value) = ⊥
 
@@ -146,6 +146,6 @@ message_after msg (Again cpu tok) = msg
 message_after msg (Mark cpu tok) = msg
 message_after msg (GiveOne cpu tok) = msg
 message_after msg (GiveClean cpu tok) = msg
-message_after msg (GiveWritten cpu tok) = msg
+message_after msg (GiveWritten cpu tok section) = msg
 message_after msg (Read cpu tok cell value) = msg
 message_after msg (Write cpu tok cell value) = msg

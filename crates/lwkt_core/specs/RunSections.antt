@@ -1,14 +1,17 @@
-use Rattle.std.specs.Prelude.{ℕ, List, map, length, flat_map, zip, All}
+use Rattle.std.specs.Prelude.{◌≡◌, ℕ, ◌≤◌, List, [], ◌∷◌, map, length, flat_map, zip, All}
 use Rattle.std.specs.List.{range_with_len}
 use Rattle.lwkt_base.specs.declared.sections.Section.{Section}
 use Rattle.lwkt_core.specs.declared.events.Event.{Event}
+use Rattle.lwkt_core.specs.declared.events.Event.TheVariants.{GiveWritten}
+use Rattle.lwkt_core.specs.declared.seats.Deed.{Deed}
+use Rattle.lwkt_core.specs.History.{AreOthers, events_in, events_by}
 use Rattle.lwkt_core.specs.declared.tokens.Token.{Token}
 use Rattle.lwkt_core.specs.Tokens.{IsOpen}
 use Rattle.lwkt_core.specs.Machine.{Machine, IsSafe}
 use Rattle.lwkt_core.specs.Trace.{Run, IsLawfulTrace}
 use Rattle.lwkt_core.specs.declared.finals.Final.{Final}
 use Rattle.lwkt_core.specs.Headline.{Section as Written, sections_of}
-use Rattle.lwkt_core.specs.SectionChain.{RowsAt, AreInOrder, AreSectionChains}
+use Rattle.lwkt_core.specs.SectionChain.{RowsAt, sections_at, AreInOrder, AreSectionChains}
 
 -- a written section of a token
 abbrev pub of_token : ℕ → Written → Section
@@ -17,6 +20,18 @@ of_token t s = record { before = s.before; after = s.left; generation = s.genera
 -- the written sections of a run, by token and in order: of each GiveWritten the token, its generation, first row and row
 abbrev pub sections_in : Machine → List Event → List Section
 sections_in m events = flat_map (λ t. map (of_token t) (sections_of t m events)) (range_with_len 0 (length m.tokens))
+
+-- the section that an event tells, if it ends a written one, and those that some events tell, in order
+abbrev pub section_in : Event → List Section
+section_in (GiveWritten cpu tok section) = section ∷ []
+section_in e = []
+
+abbrev pub sections_told : List Event → List Section
+sections_told events = flat_map section_in events
+
+-- the sections that so many processors tell of what was done, one processor's after another's
+abbrev pub sections_by : ℕ → List Deed → List Section
+sections_by cpus history = flat_map (λ cpu. sections_told (events_by cpu history)) (range_with_len 0 cpus)
 
 -- the row and generation of a token, and of each token of a machine
 abbrev pub values_of : Token → List ℕ × ℕ
@@ -36,3 +51,13 @@ RunsWriteChains = (m : Machine) (events : List Event) (n : Machine) → IsSafe m
 abbrev pub TracesWriteChains : Type 0
 TracesWriteChains = (m : Machine) (events : List Event) (last : Final) → IsSafe m → All IsOpen m.tokens → IsLawfulTrace m events last
     → AreInOrder (sections_in m events) × AreSectionChains (rows_of m) (zip last.rows.items last.gens.items) (sections_in m events)
+
+-- a law: what the events of a run tell of a token are its written sections, in order (own)
+abbrev pub RunsTellSections : Type 0
+RunsTellSections = (m : Machine) (events : List Event) (n : Machine) → Run m events n → (t : ℕ) → sections_at t (sections_told events) ≡ map (of_token t) (sections_of t m events)
+
+-- a law: the sections that processors tell of one run, each of what it did itself, put together in any order of the processors, are
+-- chains from the rows and generations of the machine that the run begins with to those of the one that it ends with (own)
+abbrev pub PartsTellChains : Type 0
+PartsTellChains = (m : Machine) (history : List Deed) (n : Machine) (cpus : ℕ) → IsSafe m → Run m (events_in history) n → All IsOpen m.tokens → All IsOpen n.tokens → ((cpu : ℕ) → cpus ≤ cpu → AreOthers cpu history)
+    → AreSectionChains (rows_of m) (rows_of n) (sections_by cpus history)

@@ -1,5 +1,7 @@
 use Rattle.std.specs.Prelude.{◌≡◌, ◌≢◌, ℕ, ◌+◌, ◌-◌, ◌<◌, ◌≤◌, true, false, List, length, Some, slice_get, slice_index, slice_index_or, slice_set}
 use Rattle.lwkt_base.specs.declared.names.Mode.{Mode}
+use Rattle.lwkt_base.specs.declared.names.TokId.{TokId}
+use Rattle.lwkt_base.specs.declared.sections.Section.{Section}
 use Rattle.lwkt_base.specs.declared.names.Mode.TheVariants.{Exclusive, Shared}
 use Rattle.lwkt_base.specs.declared.laws.Law.{Law}
 use Rattle.lwkt_base.specs.declared.laws.Law.TheVariants.{Any, Sum, Order, Cap, Tally}
@@ -66,6 +68,10 @@ MayWrite Sum old value = Unit {0}
 MayWrite Order old value = Unit {0}
 MayWrite Cap old value = Unit {0}
 
+-- the section of this number's token that would end now: its generation, its first row and its row (own)
+abbrev pub section_at : TokId → Token → Section
+section_at t tok = record { before = tok.first; after = tok.row; generation = tok.generation; tok = t }
+
 -- what an event needs of its token (token(9) and lwkt_token.c's comments; laws and generations are own)
 abbrev pub TokenNeeds : Token → Event → Type 0
 TokenNeeds tok (Load cpu t) = Unit {0}
@@ -75,7 +81,7 @@ TokenNeeds tok (Again cpu t) = IsHolder tok cpu.0
 TokenNeeds tok (Mark cpu t) = Unit {0}
 TokenNeeds tok (GiveOne cpu t) = IsNotLastExclusive (held_by tok cpu.0)
 TokenNeeds tok (GiveClean cpu t) = (held_by tok cpu.0 ≡ Holds Exclusive 0) × (tok.row ≡ tok.first)
-TokenNeeds tok (GiveWritten cpu t) = (held_by tok cpu.0 ≡ Holds Exclusive 0) × (tok.row ≢ tok.first) × MeetsLaw tok.law tok.param tok.row
+TokenNeeds tok (GiveWritten cpu t section) = (held_by tok cpu.0 ≡ Holds Exclusive 0) × (tok.row ≢ tok.first) × MeetsLaw tok.law tok.param tok.row × (section ≡ section_at t tok)
 TokenNeeds tok (Read cpu t cell value) = IsHolder tok cpu.0 × (slice_get tok.row cell ≡ Some value)
 TokenNeeds tok (Write cpu t cell value) = IsExclusiveHolder tok cpu.0 × (cell < length tok.row) × MayWrite tok.law (slice_index tok.row cell) value
 TokenNeeds tok (Send cpu msg to round) = ⊥
@@ -110,7 +116,7 @@ token_after tok (Again cpu t) = with_more tok cpu.0 Shared
 token_after tok (Mark cpu t) = record tok { mark = true }
 token_after tok (GiveOne cpu t) = with_less tok cpu.0
 token_after tok (GiveClean cpu t) = with_less tok cpu.0
-token_after tok (GiveWritten cpu t) = record (with_less tok cpu.0) { generation = tok.generation + 1; first = tok.row }
+token_after tok (GiveWritten cpu t section) = record (with_less tok cpu.0) { generation = tok.generation + 1; first = tok.row }
 token_after tok (Read cpu t cell value) = tok
 token_after tok (Write cpu t cell value) = record tok { row = slice_set tok.row cell value; tallies = tallies_after tok.law tok.tallies cpu.0 (value - slice_index tok.row cell) }
 token_after tok (Send cpu msg to round) = tok

@@ -1,4 +1,4 @@
-use lwkt_base::{CpuId, MsgId, TokId};
+use lwkt_base::{CpuId, MsgId, Section, TokId};
 
 /// One atomic step of one processor on one token or message.
 #[derive(Clone, Copy, Debug, PartialEq, Eq)]
@@ -38,10 +38,11 @@ pub enum Event {
         cpu: CpuId,
         tok: TokId,
     },
-    /// The last reference of an exclusive holding was given back, and the row had changed.
+    /// The last reference of an exclusive holding was given back, and the row had changed: this section was written.
     GiveWritten {
         cpu: CpuId,
         tok: TokId,
+        section: Section,
     },
     /// A cell of a token that is held was read, and had this value.
     Read {

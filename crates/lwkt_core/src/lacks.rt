@@ -6,7 +6,7 @@ ghost use Rattle.lwkt_core.specs.Lacks.{Fails, TokenLacks, MessageLacks, TellsOf
 use crate::events::Event;
 use crate::messages::{LAST_ROUND, Message};
 use crate::tokens::Token;
-use lwkt_base::{CpuId, LAST_GENERATION, Owner};
+use lwkt_base::{CpuId, LAST_GENERATION, Owner, Section, TokId};
 
 /// The first need of an event that isn't met.
 #[derive(Clone, Copy, Debug, PartialEq, Eq)]
@@ -41,6 +41,8 @@ pub enum Lack {
     RowUnchanged,
     /// GiveWritten: the row breaks the token's law.
     LawBroken,
+    /// GiveWritten: the section isn't the token's generation, the row at its beginning and its row.
+    OtherSection,
     /// Read, Write: the token has no such cell.
     NoCell,
     /// Read: the cell has another value.
@@ -133,8 +135,8 @@ impl Token {
     }
 
     // The first need of a GiveWritten that isn't met.
-    fn give_written_lack(&self, cpu: CpuId) -> Option<Lack>
-        ensures { TellsOfToken self.now (Event.GiveWritten cpu (record { 0 = 0 })) result }
+    fn give_written_lack(&self, cpu: CpuId, tok: TokId, section: &Section) -> Option<Lack>
+        ensures { TellsOfToken self.now (Event.GiveWritten cpu tok section.now) result }
     {
         if !self.held_by(cpu).is_exclusive() {
             return Some(Lack::NotHeldExclusively);
@@ -147,6 +149,9 @@ impl Token {
         }
         if !self.is_lawful() {
             return Some(Lack::LawBroken);
+        }
+        if !self.has_section(tok, section) {
+            return Some(Lack::OtherSection);
         }
         None
     }
@@ -194,7 +199,9 @@ impl Token {
             Event::Again { cpu, .. } => self.again_lack(cpu),
             Event::GiveOne { cpu, .. } => self.give_one_lack(cpu),
             Event::GiveClean { cpu, .. } => self.give_clean_lack(cpu),
-            Event::GiveWritten { cpu, .. } => self.give_written_lack(cpu),
+            Event::GiveWritten { cpu, tok, section } => {
+                self.give_written_lack(cpu, tok, &section)
+            }
             Event::Read {
                 cpu,
                 cell,

@@ -1,7 +1,7 @@
 ghost use Rattle.std.specs.Prelude.{◌≡◌, ◌↔◌, ℕ, ◌+◌, true, ◌<◌, ◌≤◌, ◌^◌, ◌-◌, length, slice_index, slice_set, IsTrue, Some, slice_get, option_and_then};
 
 use crate::events::Event;
-use lwkt_base::{Cells, CpuId, Held, LAST_GENERATION, Law, Mode};
+use lwkt_base::{Cells, CpuId, Held, LAST_GENERATION, Law, Mode, Section, TokId};
 
 /// The most processors of a machine.
 pub const CPU_LIMIT: usize = 8;
@@ -29,7 +29,7 @@ pub struct Token {
 impl Token {
     ghost use Rattle.lwkt_base.specs.Law.{MeetsLaw, IsTallied};
     ghost use Rattle.lwkt_base.specs.Holding.{references_in, is_held, is_exclusive};
-    ghost use Rattle.lwkt_core.specs.Tokens.{held_by, IsFree, IsOpen, IsHolder, IsExclusiveHolder, IsNotLastExclusive, MayWrite, TokenNeeds, IsSafeToken, token_after, tallies_after, with_more, with_less};
+    ghost use Rattle.lwkt_core.specs.Tokens.{held_by, IsFree, IsOpen, IsHolder, IsExclusiveHolder, IsNotLastExclusive, MayWrite, section_at, TokenNeeds, IsSafeToken, token_after, tallies_after, with_more, with_less};
     ghost use Rattle.lwkt_core.specs.Events.{cpu_of, adds_reference};
     ghost use Rattle.lwkt_core.specs.Values.{kept_tallies};
 
@@ -116,11 +116,24 @@ impl Token {
         }
     }
 
-    // Whether an exclusive holder of one reference may end its section with a written row.
-    fn may_give_written(&self, cpu: CpuId) -> bool
-        ensures { IsTrue result ↔ TokenNeeds self.now (Event.GiveWritten cpu (record { 0 = 0 })) }
+    // Whether the section is that of this number's token that would end now.
+    pub(crate) fn has_section(&self, tok: TokId, section: &Section) -> bool
+        ensures { IsTrue result ↔ (section.now ≡ section_at tok self.now) }
     {
-        self.is_last_exclusive(cpu) && !self.is_clean() && self.is_lawful()
+        section.tok == tok
+            && section.generation == self.generation
+            && section.before.as_slice() == self.first.as_slice()
+            && section.after.as_slice() == self.row.as_slice()
+    }
+
+    // Whether an exclusive holder of one reference may end its section with a written row, and it is this section.
+    fn may_give_written(&self, cpu: CpuId, tok: TokId, section: &Section) -> bool
+        ensures { IsTrue result ↔ TokenNeeds self.now (Event.GiveWritten cpu tok section.now) }
+    {
+        self.is_last_exclusive(cpu)
+            && !self.is_clean()
+            && self.is_lawful()
+            && self.has_section(tok, section)
     }
 
     /// Whether the event can happen to the token.
@@ -134,7 +147,7 @@ impl Token {
             Event::Again { cpu, .. } => self.held_by(cpu).is_held(),
             Event::GiveOne { cpu, .. } => self.may_give_one(cpu),
             Event::GiveClean { cpu, .. } => self.is_last_exclusive(cpu) && self.is_clean(),
-            Event::GiveWritten { cpu, .. } => self.may_give_written(cpu),
+            Event::GiveWritten { cpu, tok, section } => self.may_give_written(cpu, tok, &section),
             Event::Read {
                 cpu,
                 cell,
@@ -175,7 +188,7 @@ impl Token {
         requires exists { cpu.0 < CPU_LIMIT }
         requires in_range { self.old.generation < LAST_GENERATION }
         requires same_cells { length self.old.first ≡ length self.old.row }
-        ensures { self.new ≡ token_after self.old (Event.GiveWritten cpu (record { 0 = 0 })) }
+        ensures { self.new ≡ record (with_less self.old cpu.0) { generation = self.old.generation + 1; first = self.old.row } }
     {
         self.give_reference(cpu);
         self.generation += 1;

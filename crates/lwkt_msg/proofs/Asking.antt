@@ -162,7 +162,7 @@ asked_event cpus m deeds d msg after (Again cpu tok) is place needs left known =
 asked_event cpus m deeds d msg after (Mark cpu tok) is place needs left known = absurd needs
 asked_event cpus m deeds d msg after (GiveOne cpu tok) is place needs left known = absurd needs
 asked_event cpus m deeds d msg after (GiveClean cpu tok) is place needs left known = absurd needs
-asked_event cpus m deeds d msg after (GiveWritten cpu tok) is place needs left known = absurd needs
+asked_event cpus m deeds d msg after (GiveWritten cpu tok section) is place needs left known = absurd needs
 asked_event cpus m deeds d msg after (Read cpu tok cell value) is place needs left known = absurd needs
 asked_event cpus m deeds d msg after (Write cpu tok cell value) is place needs left known = absurd needs
 

@@ -57,7 +57,7 @@ same_rec (Again cpu tok) old a b records x y = absurd x
 same_rec (Mark cpu tok) old a b records x y = absurd x
 same_rec (GiveOne cpu tok) old a b records x y = absurd x
 same_rec (GiveClean cpu tok) old a b records x y = absurd x
-same_rec (GiveWritten cpu tok) old a b records x y = absurd x
+same_rec (GiveWritten cpu tok section) old a b records x y = absurd x
 same_rec (Read cpu tok cell value) old a b records x y = absurd x
 same_rec (Write cpu tok cell value) old a b records x y = absurd x
 
@@ -98,7 +98,7 @@ sent_alike (Again cpu tok) mail a b x y a_is b_is words = absurd x
 sent_alike (Mark cpu tok) mail a b x y a_is b_is words = absurd x
 sent_alike (GiveOne cpu tok) mail a b x y a_is b_is words = absurd x
 sent_alike (GiveClean cpu tok) mail a b x y a_is b_is words = absurd x
-sent_alike (GiveWritten cpu tok) mail a b x y a_is b_is words = absurd x
+sent_alike (GiveWritten cpu tok section) mail a b x y a_is b_is words = absurd x
 sent_alike (Read cpu tok cell value) mail a b x y a_is b_is words = absurd x
 sent_alike (Write cpu tok cell value) mail a b x y a_is b_is words = absurd x
 

@@ -142,7 +142,7 @@ posted_event cpus m deeds d mail after (Again cpu tok) is place needs left rec p
 posted_event cpus m deeds d mail after (Mark cpu tok) is place needs left rec p = absurd needs
 posted_event cpus m deeds d mail after (GiveOne cpu tok) is place needs left rec p = absurd needs
 posted_event cpus m deeds d mail after (GiveClean cpu tok) is place needs left rec p = absurd needs
-posted_event cpus m deeds d mail after (GiveWritten cpu tok) is place needs left rec p = absurd needs
+posted_event cpus m deeds d mail after (GiveWritten cpu tok section) is place needs left rec p = absurd needs
 posted_event cpus m deeds d mail after (Read cpu tok cell value) is place needs left rec p = absurd needs
 posted_event cpus m deeds d mail after (Write cpu tok cell value) is place needs left rec p = absurd needs
 

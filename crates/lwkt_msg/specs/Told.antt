@@ -48,7 +48,7 @@ IsOperation (Again cpu tok) operation met = ⊥
 IsOperation (Mark cpu tok) operation met = ⊥
 IsOperation (GiveOne cpu tok) operation met = ⊥
 IsOperation (GiveClean cpu tok) operation met = ⊥
-IsOperation (GiveWritten cpu tok) operation met = ⊥
+IsOperation (GiveWritten cpu tok section) operation met = ⊥
 IsOperation (Read cpu tok cell value) operation met = ⊥
 IsOperation (Write cpu tok cell value) operation met = ⊥
 
@@ -68,7 +68,7 @@ IsRecordOf (Again cpu tok) old new records = ⊥
 IsRecordOf (Mark cpu tok) old new records = ⊥
 IsRecordOf (GiveOne cpu tok) old new records = ⊥
 IsRecordOf (GiveClean cpu tok) old new records = ⊥
-IsRecordOf (GiveWritten cpu tok) old new records = ⊥
+IsRecordOf (GiveWritten cpu tok section) old new records = ⊥
 IsRecordOf (Read cpu tok cell value) old new records = ⊥
 IsRecordOf (Write cpu tok cell value) old new records = ⊥
 
@@ -87,7 +87,7 @@ IsSentAs (Again cpu tok) mail after = ⊥
 IsSentAs (Mark cpu tok) mail after = ⊥
 IsSentAs (GiveOne cpu tok) mail after = ⊥
 IsSentAs (GiveClean cpu tok) mail after = ⊥
-IsSentAs (GiveWritten cpu tok) mail after = ⊥
+IsSentAs (GiveWritten cpu tok section) mail after = ⊥
 IsSentAs (Read cpu tok cell value) mail after = ⊥
 IsSentAs (Write cpu tok cell value) mail after = ⊥
 

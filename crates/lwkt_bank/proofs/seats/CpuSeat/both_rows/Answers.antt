@@ -4,7 +4,7 @@ use Rattle.std.proofs.lemmas.Bool.{cases_eq}
 use Rattle.lwkt_bank.specs.declared.views.Plan.{Plan}
 use Rattle.lwkt_bank.specs.declared.views.TokenEntry.{TokenEntry}
 use Rattle.lwkt_bank.specs.Rule.{plan_at}
-use Rattle.lwkt_bank.specs.Seats.{entry, Knowing, last_loads}
+use Rattle.lwkt_bank.specs.Seats.{entry}
 use Rattle.lwkt_bank.proofs.ChangeMoves.{plan_is, short_row}
 use Rattle.lwkt_bank.proofs.CellMoves.{loads_more}
 use Rattle.lwkt_bank.proofs.seats.CpuSeat.both_rows.Goals as goal

@@ -1,4 +1,4 @@
-use Rattle.std.proofs.Common.{sym, ◌∙◌}
+use Rattle.std.proofs.Common.{◌∙◌}
 use Rattle.lwkt_bank.proofs.CellMoves.{first_known, first_loaded}
 use Rattle.lwkt_bank.proofs.seats.CpuSeat.tally_cell.Goals as goal
 
