@@ -15,6 +15,7 @@ mod pictures;
 mod reels;
 mod replays;
 mod scenes;
+mod sections;
 mod shapes;
 mod shows;
 mod sketches;
