@@ -23,7 +23,7 @@ use Rattle.lwkt_hold.specs.declared.answers.Acquired.{Acquired}
 use Rattle.lwkt_hold.specs.declared.answers.Acquired.TheVariants.{Got, MustSwitch}
 use Rattle.lwkt_hold.specs.Fronts.{names}
 use Rattle.lwkt_hold.specs.Givings.{gives, gives_all, Releases, ReleasesAll, ReleasesLast}
-use Rattle.lwkt_hold.specs.Rows.{writes}
+use Rattle.lwkt_hold.specs.Rows.{section_now, writes}
 use Rattle.lwkt_hold.specs.Steps.{taking}
 use Rattle.lwkt_hold.specs.Takings.{takes, takes_all}
 use Rattle.lwkt_msg.specs.Desks.{Desk, cpu_of, past_of}
@@ -155,7 +155,7 @@ plain_releases s held tok events r = elim r [
   | inr others ↦ elim others [
     | inl clean ↦ plain_is events (GiveClean s.cpu tok ∷ []) clean.3 refl
     | inr rest ↦ elim rest [
-      | inl written ↦ plain_is events (GiveWritten s.cpu tok ∷ []) written.3 refl
+      | inl written ↦ plain_is events (GiveWritten s.cpu tok (section_now s tok) ∷ []) written.3 refl
       | inr broken ↦ plain_is events (writes s.cpu tok 0 broken.2.0 ++ GiveClean s.cpu tok ∷ []) broken.2.1.1 (plain_append (writes s.cpu tok 0 broken.2.0) (GiveClean s.cpu tok ∷ []) (plain_writes s.cpu tok 0 broken.2.0) refl)
     ]
   ]

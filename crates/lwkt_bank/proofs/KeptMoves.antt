@@ -5,7 +5,7 @@ use Rattle.std.proofs.lemmas.List.Sums.{sum_by-append, sum_by-cons}
 use Rattle.std.proofs.lemmas.List.{ext_get_or, get_or_append_left, append-nil, get_or-map, get_or_default, length-map, length-take-le, get_or-take}
 use Rattle.std.proofs.Math.Nat.{le-max_left, le-max_right}
 use Rattle.std.proofs.Math.Seq.{get_or-append_seam}
-use Rattle.std.specs.Prelude.{max, slice_index, slice_get, sum}
+use Rattle.std.specs.Prelude.{max, slice_index, slice_get, sum, zip}
 use mathlib.Core.Option.{some, some-injective, some-ne-none}
 use lib.ListN.{get_elem?}
 use Rattle.lwkt_base.specs.declared.laws.Law.{Law}
@@ -16,11 +16,16 @@ use Rattle.lwkt_core.specs.declared.events.Event.{Event}
 use Rattle.lwkt_core.specs.declared.seats.Deed.{Deed}
 use Rattle.lwkt_core.specs.Tokens.{held_by}
 use Rattle.lwkt_core.specs.Machine.{Machine}
+use Rattle.lwkt_core.specs.RunSections.{rows_of, sections_by}
+use Rattle.lwkt_core.specs.SectionChain.{RowsAt, AreSectionChains}
+use Rattle.lwkt_core.proofs.RunChainLemmas.{IsSettled, zipped}
+use Rattle.lwkt_core.proofs.SectionParts.{parts_chains}
+use Rattle.lwkt_base.specs.Holding.{is_exclusive}
 use Rattle.lwkt_core.specs.Trace.{Run, shown_tallies}
-use Rattle.lwkt_core.specs.History.{IsPastOf, events_by, steps_by}
+use Rattle.lwkt_core.specs.History.{AreOthers, IsPastOf, events_by, steps_by}
 use Rattle.lwkt_core.proofs.HistoryLemmas.{Passes-run, events_by-past, steps_by-past}
 use Rattle.lwkt_core.proofs.ViewLemmas.{Views-part, Views-others}
-use Rattle.lwkt_bank.specs.Told.{IsDone, first_machine}
+use Rattle.lwkt_bank.specs.Told.{IsDone, first_token, first_machine}
 use Rattle.lwkt_base.specs.Law.{MeetsLaw, IsTallied}
 use Rattle.lwkt_bank.specs.declared.views.Plan.{Plan}
 use Rattle.lwkt_bank.specs.Rule.{table_words, token_word, cell_word, IsOpeningRow, plan_at, token_at, no_token}
@@ -420,6 +425,23 @@ module _ (bank : BankId) (cpus id : ℕ) (v : View) (words : List ℕ) (seats : 
   part_of : (s : CpuSeat) → IsChapter v s → IsPastOf history s.cpu.0 (past_of s)
   part_of s c = Views-part IsDone page_of (first_machine bank.plans cpus) last left.0.views left.1.0.chronicle id v left.1.1.0 cpus left.1.0.rule.seats gathered.made (length seats) gathered.desk (omega arith) c.0 (record { cpu = s.cpu; past = past_of s }) c.1
 
+  -- the sections that the processors tell go from the declared rows to the closing ones
+  declared_settled : (plans : List Plan) → All IsSettled (map first_token plans)
+  declared_settled [] = All-nil IsSettled
+  declared_settled (p ∷ plans) = All-cons IsSettled (first_token p) (map first_token plans) refl (declared_settled plans)
+
+  closed_sections : (closed : Closed) → AreRead bank.plans cpus words kept closed (length bank.plans) → AreSectionChains (rows_of (first_machine bank.plans cpus)) (zip closed.rows.items closed.gens.items) (sections_by cpus history)
+  closed_sections closed read =
+      let end = ends closed read in
+      let told = left.1.0 in
+      let opening : Machine = first_machine bank.plans cpus in
+      let run = Passes-run IsDone (λ m. m) done_runs opening history last told.chronicle.passes in
+      let settled_last : All IsSettled last.tokens = λ tok d low. (told.rule.safe.each_token tok d low).settled (λ cpu. ap is_exclusive (end.free tok d low cpu)) in
+      let others : (cpu : ℕ) → cpus ≤ cpu → AreOthers cpu history = λ cpu high. Views-others IsDone page_of opening last left.0.views told.chronicle id v left.1.1.0 cpus told.rule.seats gathered.made (length seats) gathered.desk (omega arith) cpu high in
+      let rows : rows_of last ≡ zip closed.rows.items closed.gens.items =
+      sym (ap (λ (rs : List (List ℕ)). zip rs closed.gens.items) end.rows ∙ ap (λ (gs : List ℕ). zip (map (λ (tok : Token). tok.row) last.tokens) gs) end.gens ∙ zipped last.tokens) in
+      subst (λ (rs : RowsAt). AreSectionChains (rows_of opening) rs (sections_by cpus history)) rows (parts_chains opening history last cpus run (declared_settled bank.plans) settled_last others)
+
   pub closed_history : (closed : Closed) → AreRead bank.plans cpus words kept closed (length bank.plans) → IsHistory bank cpus seats closed history
   closed_history closed read =
       let chapters : All (IsChapter v) seats = subst (λ (xs : List CpuSeat). All (IsChapter v) xs) (sym gathered.in_order) gathered.chapters in
@@ -431,6 +453,7 @@ module _ (bank : BankId) (cpus id : ℕ) (v : View) (words : List ℕ) (seats : 
         parts = All-weaker (IsChapter v) (λ (s : CpuSeat). IsPastOf history s.cpu.0 (past_of s)) (λ s c. part_of s c) seats chapters;
         events = All-weaker (IsChapter v) (λ (s : CpuSeat). events_of s ≡ events_by s.cpu.0 history) (λ s c. sym (events_by-past history s.cpu.0 (past_of s) (part_of s c))) seats chapters;
         steps = All-weaker (IsChapter v) (λ (s : CpuSeat). steps_of s ≡ steps_by s.cpu.0 history) (λ s c. sym (steps_by-past history s.cpu.0 (past_of s) (part_of s c))) seats chapters;
+        sections = closed_sections closed read;
         others = λ cpu high. Views-others IsDone page_of (first_machine bank.plans cpus) last left.0.views left.1.0.chronicle id v left.1.1.0 cpus left.1.0.rule.seats gathered.made (length seats) gathered.desk (omega arith) cpu high;
       }
 

@@ -1,4 +1,4 @@
-use Rattle.std.specs.Prelude.{◌≡◌, ◌≢◌, ℕ, ◌+◌, ◌<◌, ◌≤◌, List, [], ◌∷◌, length, map, All, Some, slice_get, slice_index, slice_index_or, sum}
+use Rattle.std.specs.Prelude.{◌≡◌, ◌≢◌, ℕ, ◌+◌, ◌<◌, ◌≤◌, List, [], ◌∷◌, length, map, All, Some, slice_get, slice_index, slice_index_or, sum, zip}
 use Rattle.lwkt_core.specs.declared.seats.SeatKind.TheVariants.{Clerk}
 use Rattle.lwkt_bank.specs.declared.banks.Bank.{Bank}
 use Rattle.lwkt_bank.specs.declared.clerks.ClerkDesk.{ClerkDesk}
@@ -12,6 +12,8 @@ use Rattle.lwkt_bank.specs.declared.closed.Closed.{Closed}
 use Rattle.lwkt_core.specs.declared.seats.Deed.{Deed}
 use Rattle.lwkt_core.specs.Tokens.{IsFree}
 use Rattle.lwkt_core.specs.Machine.{Machine}
+use Rattle.lwkt_core.specs.RunSections.{rows_of, sections_by}
+use Rattle.lwkt_core.specs.SectionChain.{AreSectionChains}
 use Rattle.lwkt_core.specs.Trace.{Run, shown_tallies}
 use Rattle.lwkt_core.specs.History.{Passes, AreOthers, IsPastOf, events_in, events_by, steps_by}
 use Rattle.lwkt_bank.specs.Rule.{IsOpeningRow}
@@ -77,8 +79,9 @@ pub record Ends (m : Machine) (closed : Closed) : Type 0 where
   pub messages : m.messages ≡ []
 
 -- one history of all seats: its deeds are done one after another from the machine that was declared to one with the closing
--- values, its events are a run of the model between the two, the events and steps of each seat are its processor's part, and no other
--- processor has a deed
+-- values, its events are a run of the model between the two, the events and steps of each seat are its processor's part, no other
+-- processor has a deed, and the sections that the processors' events tell, put together, are for each token one chain from the row
+-- and generation declared to the closing ones
 pub record IsHistory (bank : BankId) (cpus : ℕ) (seats : List CpuSeat) (closed : Closed) (history : List Deed) : Type 0 where
   pub last : Machine
   pub passes : Passes IsDone (first_machine bank.plans cpus) history last
@@ -88,6 +91,7 @@ pub record IsHistory (bank : BankId) (cpus : ℕ) (seats : List CpuSeat) (closed
   pub events : All (λ s. events_of s ≡ events_by s.cpu.0 history) seats
   pub steps : All (λ s. steps_of s ≡ steps_by s.cpu.0 history) seats
   pub others : (cpu : ℕ) → cpus ≤ cpu → AreOthers cpu history
+  pub sections : AreSectionChains (rows_of (first_machine bank.plans cpus)) (zip closed.rows.items closed.gens.items) (sections_by cpus history)
 
 -- the closing values of a bank of so many processors that took back these seats
 pub record IsClosed (bank : BankId) (cpus : ℕ) (seats : List CpuSeat) (closed : Closed) : Type 0 where

@@ -12,9 +12,9 @@ use Rattle.lwkt_base.specs.Holding.{Holding, is_held, is_exclusive, one_more, ad
 use Rattle.lwkt_bank.specs.declared.seats.CpuSeat.{CpuSeat}
 use Rattle.lwkt_bank.specs.Seats.{bank_of, holding}
 use Rattle.lwkt_hold.specs.Fronts.{names}
-use Rattle.lwkt_hold.specs.Rows.{row, first_row, IsBroken, SameRow, GivesBack, GivenUp, IsFirstSoFar, first_of}
+use Rattle.lwkt_hold.specs.Rows.{row, first_row, IsBroken, SameSection, GivesBack, GivenUp, IsFirstSoFar, first_of}
 use Rattle.lwkt_hold.proofs.HoldingMoves.{held_named}
-use Rattle.lwkt_hold.proofs.GiveMoves.{more_here, held_more, same_law}
+use Rattle.lwkt_hold.proofs.GiveMoves.{more_here, held_more, same_law, same_then}
 
 exclusive_more : (held : Held) (mode : Mode) → is_held held ≡ true → is_exclusive (one_more held mode) ≡ is_exclusive held
 exclusive_more Nothing mode is = cc
@@ -47,7 +47,7 @@ first_none s refs tok free broken = false≢true (sym free ∙ held_exclusive (h
 -- nothing was given up yet
 pub given_none : (s : CpuSeat) → GivenUp s s
 given_none s = record {
-  same = λ tok held. (record { row_is = refl; first_is = refl }, refl);
+  same = λ tok held. (record { row_is = refl; first_is = refl; generation_is = refl }, refl);
   given = λ tok free. (λ broken. absurd (false≢true (sym free ∙ held_exclusive (holding s tok) broken.exclusive)), λ fine. refl);
 }
 
@@ -62,7 +62,7 @@ module _ (a s s' : CpuSeat) (h : Holding) (tok : TokId) (mode : Mode) (restored 
   elsewhere : (other : ℕ) → eqb other tok.0 ≡ false → holding s' other ≡ holding s other
   elsewhere other away = ap (λ x. x other) now ∙ sym (more_elsewhere h tok.0 other mode away) ∙ ap (λ x. x other) (sym was)
 
-  kept : SameRow a s tok.0 × (is_exclusive (holding s tok.0) ≡ is_exclusive (holding a tok.0))
+  kept : SameSection a s tok.0 × (is_exclusive (holding s tok.0) ≡ is_exclusive (holding a tok.0))
   kept = up.same tok.0 held_here
 
   back_here : IsBroken s tok.0 → IsBroken a tok.0
@@ -71,9 +71,9 @@ module _ (a s s' : CpuSeat) (h : Holding) (tok : TokId) (mode : Mode) (restored 
   on_here : IsBroken a tok.0 → IsBroken s tok.0
   on_here = broken_on a s tok.0 bank kept.0.row_is kept.1
 
-  still_here : is_held (holding s' tok.0) ≡ true → SameRow a s' tok.0 × (is_exclusive (holding s' tok.0) ≡ is_exclusive (holding a tok.0))
+  still_here : is_held (holding s' tok.0) ≡ true → SameSection a s' tok.0 × (is_exclusive (holding s' tok.0) ≡ is_exclusive (holding a tok.0))
   still_here held = (
-    record { row_is = (back.still held).row_is ∙ kept.0.row_is; first_is = (back.still held).first_is ∙ kept.0.first_is },
+    same_then a s s' tok.0 kept.0 (back.still held),
     sym (exclusive_more (holding s' tok.0) mode held) ∙ ap is_exclusive (sym here) ∙ kept.1,
   )
 
@@ -94,13 +94,13 @@ module _ (a s s' : CpuSeat) (h : Holding) (tok : TokId) (mode : Mode) (restored 
     same = λ other held. elim (cases_Bool (eqb other tok.0)) [
       | inl is ↦
           let same = eqb-true other tok.0 is in
-          let F : ℕ → Type 0 = λ t. SameRow a s' t × (is_exclusive (holding s' t) ≡ is_exclusive (holding a t)) in
+          let F : ℕ → Type 0 = λ t. SameSection a s' t × (is_exclusive (holding s' t) ≡ is_exclusive (holding a t)) in
           subst F (sym same) (still_here (ap (λ t. is_held (holding s' t)) (sym same) ∙ held))
       | inr is ↦
           let e = elsewhere other is in
           let k = up.same other (ap is_held (sym e) ∙ held) in
           let m = back.others other (eqb-false other tok.0 is) in
-          (record { row_is = m.row_is ∙ k.0.row_is; first_is = m.first_is ∙ k.0.first_is }, ap is_exclusive e ∙ k.1)
+          (same_then a s s' other k.0 m, ap is_exclusive e ∙ k.1)
     ];
     given = λ other free. elim (cases_Bool (eqb other tok.0)) [
       | inl is ↦

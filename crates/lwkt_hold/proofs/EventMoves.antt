@@ -21,9 +21,9 @@ use Rattle.lwkt_hold.specs.declared.answers.Resumed.{Resumed}
 use Rattle.lwkt_hold.specs.declared.answers.Resumed.TheVariants.{All, Passed}
 use Rattle.lwkt_hold.specs.Fronts.{names}
 use Rattle.lwkt_hold.specs.Steps.{taking}
-use Rattle.lwkt_hold.specs.Rows.{row, first_row, MeetsItsLaw, SameRow, Mends, writes}
+use Rattle.lwkt_hold.specs.Rows.{row, first_row, section_now, MeetsItsLaw, SameSection, Mends, writes}
 use Rattle.lwkt_hold.specs.Takings.{takes, takes_all}
-use Rattle.lwkt_hold.proofs.GiveMoves.{same_law}
+use Rattle.lwkt_hold.proofs.GiveMoves.{same_law, section_same}
 use Rattle.lwkt_hold.specs.Givings.{gives, gives_all, GivesBy, StoresFirst, Releases, ReleasesAll}
 
 -- the first few references of a list and the one behind them
@@ -162,6 +162,9 @@ module _ (s m : CpuSeat) (tok : TokId) (restored : Bool) (t u v : List Event) (e
   same_first : restored ≡ false → (row m tok.0 ≡ first_row m tok.0 → row s tok.0 ≡ first_row s tok.0) × (row s tok.0 ≡ first_row s tok.0 → row m tok.0 ≡ first_row m tok.0)
   same_first is = (λ e. sym (mends.no is).0 ∙ e ∙ mends.first_is, λ e. (mends.no is).0 ∙ e ∙ sym mends.first_is)
 
+  goes_on : restored ≡ false → SameSection s m tok.0
+  goes_on is = record { row_is = (mends.no is).0; first_is = mends.first_is; generation_is = mends.generation_is is }
+
   only : restored ≡ false → Releases s (holding s tok.0) tok (event ∷ [])
   only is = elim by [
     | inl one ↦ inl (λ ends. one.0 (held_same ∙ ends), ap (λ e. e ∷ []) (one.1 ∙ ap (λ c. GiveOne c tok) mine))
@@ -171,7 +174,7 @@ module _ (s m : CpuSeat) (tok : TokId) (restored : Bool) (t u v : List Event) (e
           inr (inl (ends, (mends.no is).1 ends, (same_first is).0 clean.1, ap (λ e. e ∷ []) (clean.2 ∙ ap (λ c. GiveClean c tok) mine)))
       | inr written ↦
           let ends : holding s tok.0 ≡ Holds Exclusive 0 = sym held_same ∙ written.0 in
-          inr (inr (inl (ends, (mends.no is).1 ends, λ e. written.1 ((same_first is).1 e), ap (λ e. e ∷ []) (written.2 ∙ ap (λ c. GiveWritten c tok) mine))))
+          inr (inr (inl (ends, (mends.no is).1 ends, λ e. written.1 ((same_first is).1 e), ap (λ e. e ∷ []) (written.2 ∙ ap (λ c. GiveWritten c tok (section_now m tok)) mine ∙ ap (λ x. GiveWritten s.cpu tok x) (section_same s m tok (goes_on is))))))
     ]
   ]
 
@@ -197,13 +200,13 @@ module _ (s m : CpuSeat) (tok : TokId) (restored : Bool) (t u v : List Event) (e
   ]
 
 -- the events of giving a reference back are the same for a seat whose row of the token is the same
-pub released_before : (a s : CpuSeat) (tok : TokId) (held : Held) (done : List Event) → bank_of s ≡ bank_of a → s.cpu ≡ a.cpu → SameRow a s tok.0 → Releases s held tok done → Releases a held tok done
+pub released_before : (a s : CpuSeat) (tok : TokId) (held : Held) (done : List Event) → bank_of s ≡ bank_of a → s.cpu ≡ a.cpu → SameSection a s tok.0 → Releases s held tok done → Releases a held tok done
 released_before a s tok held done bank mine same r = elim r [
   | inl one ↦ inl (one.0, one.1 ∙ ap (λ c. GiveOne c tok ∷ []) mine)
   | inr end ↦ elim end [
     | inl clean ↦ inr (inl (clean.0, back clean.1, sym same.row_is ∙ clean.2 ∙ same.first_is, clean.3 ∙ ap (λ c. GiveClean c tok ∷ []) mine))
     | inr more ↦ elim more [
-      | inl wrote ↦ inr (inr (inl (wrote.0, back wrote.1, λ is. wrote.2 (same.row_is ∙ is ∙ sym same.first_is), wrote.3 ∙ ap (λ c. GiveWritten c tok ∷ []) mine)))
+      | inl wrote ↦ inr (inr (inl (wrote.0, back wrote.1, λ is. wrote.2 (same.row_is ∙ is ∙ sym same.first_is), wrote.3 ∙ ap (λ c. GiveWritten c tok (section_now s tok) ∷ []) mine ∙ ap (λ x. GiveWritten a.cpu tok x ∷ []) (section_same a s tok same))))
       | inr restored ↦ inr (inr (inr (restored.0, λ meets. restored.1 (there meets), stores restored.2)))
     ]
   ]

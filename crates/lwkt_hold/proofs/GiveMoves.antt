@@ -27,10 +27,10 @@ use Rattle.lwkt_core.specs.History.{events_in, steps_in}
 use Rattle.lwkt_core.proofs.HistoryLemmas.{events_in-append, steps_in-append}
 use Rattle.lwkt_bank.specs.Views.{is_touched}
 use Rattle.lwkt_bank.specs.Deeds.{reads, reads_all, writes_all}
-use Rattle.lwkt_bank.specs.Seats.{BankId, bank_of, plan_of, entry, holding, Knowing, Restored, first_load, last_loads, lawful_loads, written_over}
+use Rattle.lwkt_bank.specs.Seats.{BankId, bank_of, plan_of, entry, holding, Changes, Knowing, Restored, first_load, last_loads, lawful_loads, written_over}
 use Rattle.lwkt_hold.specs.Steps.{is_counted, is_of_token, is_on_word, ShowsEvent, Tells}
 use Rattle.lwkt_hold.specs.Runs.{Moves, Ran}
-use Rattle.lwkt_hold.specs.Rows.{row, first_row, MeetsItsLaw, IsBroken, SameRow, writes, GivesBack, Mends}
+use Rattle.lwkt_hold.specs.Rows.{row, first_row, MeetsItsLaw, IsBroken, SameSection, section_now, writes, GivesBack, Mends}
 use Rattle.lwkt_hold.specs.Givings.{StoresFirst}
 use Rattle.lwkt_hold.proofs.HoldingMoves.{holding_of_more}
 use Rattle.lwkt_hold.proofs.RunMoves.{Tells-append, ran_quiet, ran_weaker, holding_kept}
@@ -198,6 +198,24 @@ same_law s m tok bank same meets =
     let G : BankId → Type 0 = λ b. MeetsLaw (plan_of b tok).law (plan_of b tok).param (row m tok) in
     subst G (sym bank) (subst F (sym same) meets)
 
+-- a section that goes on, and goes on again
+pub same_then : (a b c : CpuSeat) (tok : ℕ) → SameSection a b tok → SameSection b c tok → SameSection a c tok
+same_then a b c tok first second = record {
+  row_is = second.row_is ∙ first.row_is;
+  first_is = second.first_is ∙ first.first_is;
+  generation_is = second.generation_is ∙ first.generation_is;
+}
+
+-- a change of one token lets the sections of the others go on
+pub same_else : (s m : CpuSeat) (tok : ℕ) (e : TokenEntry) (deeds : List Deed) → Changes s m tok e deeds → (other : ℕ) → other ≢ tok → SameSection s m other
+same_else s m tok e deeds c other away =
+    let k = c.else_ other away in
+    record { row_is = ap (λ (x : TokenEntry). x.row) k; first_is = ap (λ (x : TokenEntry). x.first) k; generation_is = ap (λ (x : TokenEntry). x.generation) k }
+
+-- a section that goes on is the same one
+pub section_same : (a b : CpuSeat) (tok : TokId) → SameSection a b tok.0 → section_now b tok ≡ section_now a tok
+section_same a b tok same = λ i. record { before = same.first_is i; after = same.row_is i; generation = same.generation_is i; tok = tok }
+
 -- a reference is given back after its section was mended
 module _ (s m : CpuSeat) (tok : ℕ) (restored : Bool) (held : is_held (holding s tok) ≡ true) (kept : holding m ≡ holding s) (bank : bank_of m ≡ bank_of s) (mends : Mends s m tok restored) where
   pub held_now : is_held (holding m tok) ≡ true
@@ -212,7 +230,7 @@ module _ (s m : CpuSeat) (tok : ℕ) (restored : Bool) (held : is_held (holding 
   pub given_now : removed (holding m) tok ≡ removed (holding s) tok
   given_now = ap (λ x. removed x tok) kept
 
-  module _ (s' : CpuSeat) (given : holding s' ≡ removed (holding m) tok) (others : (other : ℕ) → other ≢ tok → SameRow m s' other) (same : row s' tok ≡ row m tok) (still : is_held (holding s' tok) ≡ true → SameRow m s' tok) where
+  module _ (s' : CpuSeat) (given : holding s' ≡ removed (holding m) tok) (others : (other : ℕ) → other ≢ tok → SameSection m s' other) (same : row s' tok ≡ row m tok) (still : is_held (holding s' tok) ≡ true → SameSection m s' tok) where
     less : holding s' tok ≡ one_less (holding s tok)
     less = ap (λ x. x tok) given ∙ removed_here (holding m) tok ∙ ap (λ x. one_less (x tok)) kept
 
@@ -221,10 +239,10 @@ module _ (s m : CpuSeat) (tok : ℕ) (restored : Bool) (held : is_held (holding 
 
     pub gives_back : GivesBack s s' tok restored
     gives_back = record {
-      others = λ other away. record { row_is = (others other away).row_is ∙ (mends.others other away).row_is; first_is = (others other away).first_is ∙ (mends.others other away).first_is };
+      others = λ other away. same_then s m s' other (mends.others other away) (others other away);
       still = λ left. elim (cases_Bool restored) [
         | inl is ↦ absurd (false≢true (sym (ended is) ∙ left))
-        | inr is ↦ record { row_is = (still left).row_is ∙ (mends.no is).0; first_is = (still left).first_is ∙ mends.first_is }
+        | inr is ↦ record { row_is = (still left).row_is ∙ (mends.no is).0; first_is = (still left).first_is ∙ mends.first_is; generation_is = (still left).generation_is ∙ mends.generation_is is }
       ];
       yes = λ is. ((mends.yes is).0, same ∙ (mends.yes is).2, ended is);
       no = λ is. (
@@ -234,22 +252,23 @@ module _ (s m : CpuSeat) (tok : ℕ) (restored : Bool) (held : is_held (holding 
     }
 
 -- what learning of cells leaves of the rows
-same_rows : (s m : CpuSeat) (tok other : ℕ) (deeds : List Deed) → Knowing s m tok (entry s tok) deeds → SameRow s m other
+same_rows : (s m : CpuSeat) (tok other : ℕ) (deeds : List Deed) → Knowing s m tok (entry s tok) deeds → SameSection s m other
 same_rows s m tok other deeds k = elim (cases_Bool (eqb other tok)) [
   | inl is ↦
       let same = eqb-true other tok is in
-      let F : ℕ → Type 0 = λ t. SameRow s m t in
-      subst F (sym same) (record { row_is = ap (λ (e : TokenEntry). e.row) k.changes.here; first_is = ap (λ (e : TokenEntry). e.first) k.changes.here })
+      let F : ℕ → Type 0 = λ t. SameSection s m t in
+      subst F (sym same) (record { row_is = ap (λ (e : TokenEntry). e.row) k.changes.here; first_is = ap (λ (e : TokenEntry). e.first) k.changes.here; generation_is = ap (λ (e : TokenEntry). e.generation) k.changes.here })
   | inr is ↦
       let e = k.changes.else_ other (eqb-false other tok is) in
-      record { row_is = ap (λ (e : TokenEntry). e.row) e; first_is = ap (λ (e : TokenEntry). e.first) e }
+      record { row_is = ap (λ (e : TokenEntry). e.row) e; first_is = ap (λ (e : TokenEntry). e.first) e; generation_is = ap (λ (e : TokenEntry). e.generation) e }
 ]
 
 -- nothing is restored
 pub mends_none : (s : CpuSeat) (tok : ℕ) → (holding s tok ≡ Holds Exclusive 0 → ⊥) → Mends s s tok false
 mends_none s tok no_end = record {
   first_is = refl;
-  others = λ other away. record { row_is = refl; first_is = refl };
+  generation_is = λ is. refl;
+  others = λ other away. record { row_is = refl; first_is = refl; generation_is = refl };
   yes = λ is. cc;
   no = λ is. (refl, λ ends. absurd (no_end ends));
 }
@@ -257,6 +276,7 @@ mends_none s tok no_end = record {
 pub mends_lawful : (s m : CpuSeat) (tok : ℕ) (deeds : List Deed) → Knowing s m tok (entry s tok) deeds → MeetsItsLaw s tok → Mends s m tok false
 mends_lawful s m tok deeds k meets = record {
   first_is = (same_rows s m tok tok deeds k).first_is;
+  generation_is = λ is. (same_rows s m tok tok deeds k).generation_is;
   others = λ other away. same_rows s m tok other deeds k;
   yes = λ is. cc;
   no = λ is. ((same_rows s m tok tok deeds k).row_is, λ ends. meets);
@@ -268,10 +288,11 @@ still_broken s m tok deeds k ends broken = record {
   broken = λ meets. broken (same_law m s tok (sym k.changes.bank) (sym (same_rows s m tok tok deeds k).row_is) meets);
 }
 
-pub mends_broken : (s l m : CpuSeat) (tok : ℕ) (deeds : List Deed) → Knowing s l tok (entry s tok) deeds → holding s tok ≡ Holds Exclusive 0 → (MeetsItsLaw s tok → ⊥) → row m tok ≡ first_row l tok → first_row m tok ≡ first_row l tok → ((other : ℕ) → other ≢ tok → SameRow l m other) → Mends s m tok true
+pub mends_broken : (s l m : CpuSeat) (tok : ℕ) (deeds : List Deed) → Knowing s l tok (entry s tok) deeds → holding s tok ≡ Holds Exclusive 0 → (MeetsItsLaw s tok → ⊥) → row m tok ≡ first_row l tok → first_row m tok ≡ first_row l tok → ((other : ℕ) → other ≢ tok → SameSection l m other) → Mends s m tok true
 mends_broken s l m tok deeds k ends broken restored first others = record {
   first_is = first ∙ (same_rows s l tok tok deeds k).first_is;
-  others = λ other away. record { row_is = (others other away).row_is ∙ (same_rows s l tok other deeds k).row_is; first_is = (others other away).first_is ∙ (same_rows s l tok other deeds k).first_is };
+  generation_is = λ is. cc;
+  others = λ other away. same_then s l m other (same_rows s l tok other deeds k) (others other away);
   yes = λ is. (record { exclusive = exclusive_held (holding s tok) ends; broken = broken }, ends, restored ∙ (same_rows s l tok tok deeds k).first_is);
   no = λ is. cc;
 }

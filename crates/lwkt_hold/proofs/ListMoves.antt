@@ -17,7 +17,7 @@ use Rattle.lwkt_core.specs.History.{steps_in}
 use Rattle.lwkt_hold.specs.declared.answers.Missed.{Missed}
 use Rattle.lwkt_hold.specs.Runs.{Ran}
 use Rattle.lwkt_hold.specs.Misses.{Misses}
-use Rattle.lwkt_hold.specs.Rows.{row, first_row, SameRow, IsClean}
+use Rattle.lwkt_hold.specs.Rows.{row, first_row, SameRow, SameSection, IsClean}
 use Rattle.lwkt_hold.specs.Takings.{TakesRows}
 use Rattle.lwkt_hold.proofs.HoldingMoves.{holding_of_more, removed_added}
 use Rattle.lwkt_hold.proofs.GiveMoves.{more_here, held_more}
@@ -102,7 +102,7 @@ pub clean_empty : (s : CpuSeat) → holding s ≡ holds_nothing → IsClean s
 clean_empty s empty = record { each = λ tok held. absurd (false≢true (sym (ap (λ h. is_held (h tok)) empty) ∙ held)) }
 
 -- giving a reference back keeps a clean seat clean
-pub clean_given : (s s' : CpuSeat) (tok : ℕ) → is_held (holding s tok) ≡ true → holding s' ≡ removed (holding s) tok → ((other : ℕ) → other ≢ tok → SameRow s s' other) → (is_held (holding s' tok) ≡ true → SameRow s s' tok) → IsClean s → IsClean s'
+pub clean_given : (s s' : CpuSeat) (tok : ℕ) → is_held (holding s tok) ≡ true → holding s' ≡ removed (holding s) tok → ((other : ℕ) → other ≢ tok → SameSection s s' other) → (is_held (holding s' tok) ≡ true → SameSection s s' tok) → IsClean s → IsClean s'
 clean_given s s' tok was given others still clean = record {
   each = λ other held. elim (cases_Bool (eqb other tok)) [
     | inl is ↦

@@ -10,7 +10,7 @@ use Rattle.lwkt_core.specs.declared.events.Event.{Event}
 use Rattle.lwkt_core.specs.declared.events.Event.TheVariants.{GiveOne, GiveClean, GiveWritten}
 use Rattle.lwkt_bank.specs.declared.seats.CpuSeat.{CpuSeat}
 use Rattle.lwkt_bank.specs.Seats.{bank_of, plan_of, holding, written_over}
-use Rattle.lwkt_hold.specs.Rows.{row, first_row, MeetsItsLaw, GivesBack, writes}
+use Rattle.lwkt_hold.specs.Rows.{row, first_row, section_now, MeetsItsLaw, GivesBack, writes}
 
 -- the event of giving a reference to a token back of which so much is held, and whose row is its first row
 abbrev pub gives : CpuId → TokId → Held → Event
@@ -24,12 +24,12 @@ gives_all cpu front [] = []
 gives_all cpu front (r ∷ refs) = gives_all cpu (front ++ r ∷ []) refs ++ gives cpu r.tok (holding_of (front ++ r ∷ []) r.tok.0) ∷ []
 
 -- the event of giving a reference to a token back: one reference less, or the end of a section, which is written exactly if row
--- and first row differ (own)
+-- and first row differ, and then tells the section (own)
 abbrev pub GivesBy : CpuSeat → TokId → Event → Type 0
 GivesBy s tok event =
     ((holding s tok.0 ≢ Holds Exclusive 0) × (event ≡ GiveOne s.cpu tok))
     ⊎ ((holding s tok.0 ≡ Holds Exclusive 0) × (row s tok.0 ≡ first_row s tok.0) × (event ≡ GiveClean s.cpu tok))
-    ⊎ ((holding s tok.0 ≡ Holds Exclusive 0) × (row s tok.0 ≢ first_row s tok.0) × (event ≡ GiveWritten s.cpu tok))
+    ⊎ ((holding s tok.0 ≡ Holds Exclusive 0) × (row s tok.0 ≢ first_row s tok.0) × (event ≡ GiveWritten s.cpu tok (section_now s tok)))
 
 -- these values, stored in the cells of a token, make its row the section's first row, and each is stored in a cell that exists
 pub record StoresFirst (s : CpuSeat) (tok : ℕ) (values : List (Option ℕ)) : Type 0 where
@@ -42,7 +42,7 @@ abbrev pub Releases : CpuSeat → Held → TokId → List Event → Type 0
 Releases s held tok events =
     ((held ≢ Holds Exclusive 0) × (events ≡ GiveOne s.cpu tok ∷ []))
     ⊎ ((held ≡ Holds Exclusive 0) × MeetsItsLaw s tok.0 × (row s tok.0 ≡ first_row s tok.0) × (events ≡ GiveClean s.cpu tok ∷ []))
-    ⊎ ((held ≡ Holds Exclusive 0) × MeetsItsLaw s tok.0 × (row s tok.0 ≢ first_row s tok.0) × (events ≡ GiveWritten s.cpu tok ∷ []))
+    ⊎ ((held ≡ Holds Exclusive 0) × MeetsItsLaw s tok.0 × (row s tok.0 ≢ first_row s tok.0) × (events ≡ GiveWritten s.cpu tok (section_now s tok) ∷ []))
     ⊎ ((held ≡ Holds Exclusive 0) × ¬ MeetsItsLaw s tok.0 × ((values : List (Option ℕ)) × (StoresFirst s tok.0 values × (events ≡ writes s.cpu tok 0 values ++ GiveClean s.cpu tok ∷ []))))
 
 -- what the release of the last reference of a list tells, which is to this token: the list is the rest, the events are those of

@@ -12,6 +12,8 @@ use Rattle.lwkt_hold.specs.declared.answers.Blocked.{Blocked}
 use Rattle.lwkt_hold.specs.declared.answers.Blocked.TheVariants.{Clean, Restored}
 use Rattle.lwkt_hold.specs.Fronts.{names}
 use Rattle.lwkt_bank.specs.declared.seats.CpuSeat.{CpuSeat}
+use Rattle.lwkt_base.specs.declared.sections.Section.{Section}
+use Rattle.lwkt_bank.specs.Views.{section_of}
 use Rattle.lwkt_bank.specs.Seats.{bank_of, plan_of, entry, holding}
 
 -- the row of a token that a seat holds, and the first row of its section
@@ -35,6 +37,16 @@ pub record SameRow (old new : CpuSeat) (tok : ℕ) : Type 0 where
   pub row_is : row new tok ≡ row old tok
   pub first_is : first_row new tok ≡ first_row old tok
 
+-- row, first row and generation of a token are as before: a section that is open goes on
+pub record SameSection (old new : CpuSeat) (tok : ℕ) : Type 0 where
+  pub row_is : row new tok ≡ row old tok
+  pub first_is : first_row new tok ≡ first_row old tok
+  pub generation_is : (entry new tok).generation ≡ (entry old tok).generation
+
+-- the section of a token that would end now
+abbrev pub section_now : CpuSeat → TokId → Section
+section_now s tok = section_of tok.0 (entry s tok.0)
+
 -- the events of storing these values in the cells of a token, from a cell on
 abbrev pub writes : CpuId → TokId → ℕ → List (Option ℕ) → List Event
 writes cpu tok cell [] = []
@@ -44,8 +56,8 @@ writes cpu tok cell (Some value ∷ values) = Write cpu tok cell value ∷ write
 -- what is done to the row of a token when a reference to it is given back: a section that ends and has broken its law gets
 -- its first row back, and no other row changes
 pub record GivesBack (old new : CpuSeat) (tok : ℕ) (restored : Bool) : Type 0 where
-  pub others : (other : ℕ) → other ≢ tok → SameRow old new other
-  pub still : is_held (holding new tok) ≡ true → SameRow old new tok
+  pub others : (other : ℕ) → other ≢ tok → SameSection old new other
+  pub still : is_held (holding new tok) ≡ true → SameSection old new tok
   pub yes : restored ≡ true → IsBroken old tok × (row new tok ≡ first_row old tok) × (is_held (holding new tok) ≡ false)
   pub no : restored ≡ false → (row new tok ≡ row old tok) × (is_held (holding new tok) ≡ false → ¬ IsBroken old tok)
 
@@ -53,7 +65,8 @@ pub record GivesBack (old new : CpuSeat) (tok : ℕ) (restored : Bool) : Type 0 
 -- its law, the row becomes the first row; else no row changes, and one that is written obeys the law
 pub record Mends (old new : CpuSeat) (tok : ℕ) (restored : Bool) : Type 0 where
   pub first_is : first_row new tok ≡ first_row old tok
-  pub others : (other : ℕ) → other ≢ tok → SameRow old new other
+  pub generation_is : restored ≡ false → (entry new tok).generation ≡ (entry old tok).generation
+  pub others : (other : ℕ) → other ≢ tok → SameSection old new other
   pub yes : restored ≡ true → IsBroken old tok × (holding old tok ≡ Holds Exclusive 0) × (row new tok ≡ first_row old tok)
   pub no : restored ≡ false → (row new tok ≡ row old tok) × (holding old tok ≡ Holds Exclusive 0 → MeetsItsLaw old tok)
 
@@ -76,9 +89,9 @@ pub record IsFirstBroken (s : CpuSeat) (refs : List Ref) (tok : ℕ) : Type 0 wh
   pub others_in_front : (other : ℕ) → IsBroken s other → other ≢ tok → names (take place refs) other ≡ true
 
 -- what is done to the rows when references are given back: of a token that isn't held any more, a broken row is its first row
--- again, and any other row is as before; a token that is still held has its row and mode as before
+-- again, and any other row is as before; a token that is still held has its row, generation and mode as before
 pub record GivenUp (old now : CpuSeat) : Type 0 where
-  pub same : (tok : ℕ) → is_held (holding now tok) ≡ true → SameRow old now tok × (is_exclusive (holding now tok) ≡ is_exclusive (holding old tok))
+  pub same : (tok : ℕ) → is_held (holding now tok) ≡ true → SameSection old now tok × (is_exclusive (holding now tok) ≡ is_exclusive (holding old tok))
   pub given : (tok : ℕ) → is_held (holding now tok) ≡ false → (IsBroken old tok → row now tok ≡ first_row old tok) × (¬ IsBroken old tok → row now tok ≡ row old tok)
 
 -- the first token that was restored so far, if any was

@@ -6,7 +6,7 @@ ghost use Rattle.lwkt_base.specs.declared.names.Mode.TheVariants.{Exclusive};
 ghost use Rattle.lwkt_bank.specs.Seats.{id_of, bank_of, tokens_of, holding};
 ghost use Rattle.lwkt_hold.specs.Fronts.{IsFront};
 ghost use Rattle.lwkt_hold.specs.Runs.{Ran};
-ghost use Rattle.lwkt_hold.specs.Rows.{row, first_row, MeetsItsLaw, IsBroken, SameRow, Mends, GivesBack, IsClean, writes};
+ghost use Rattle.lwkt_hold.specs.Rows.{row, first_row, MeetsItsLaw, IsBroken, SameSection, Mends, GivesBack, IsClean, writes};
 ghost use Rattle.lwkt_hold.specs.Givings.{gives_all, GivesBy, StoresFirst, Releases};
 ghost use Rattle.lwkt_core.specs.declared.events.Event.{Event};
 
@@ -28,7 +28,7 @@ fn restore(seat: &mut CpuSeat, bank: &Bank, cpu: CpuId, tok: TokId, trace: &mut 
     ensures kept { holding seat.new ≡ holding seat.old }
     ensures restored { row seat.new tok.0 ≡ first_row seat.old tok.0 }
     ensures first { first_row seat.new tok.0 ≡ first_row seat.old tok.0 }
-    ensures others { (other : ℕ) → other ≢ tok.0 → SameRow seat.old seat.new other }
+    ensures others { (other : ℕ) → other ≢ tok.0 → SameSection seat.old seat.new other }
     ensures stored { (values : List (Option ℕ)) × (StoresFirst seat.old tok.0 values × (trace.new.items ≡ trace.old.items ++ writes seat.old.cpu tok 0 values)) }
 {
     let values = seat.restore(bank, tok);
@@ -76,16 +76,16 @@ fn give(seat: &mut CpuSeat, bank: &Bank, tok: TokId, trace: &mut Vec<Event>)
     requires room { vec_len trace.old < vec_capacity trace.old }
     ensures ran { Ran (λ h. h ≡ removed (holding seat.old) tok.0) 1 seat.old seat.new trace.old trace.new }
     ensures given { holding seat.new ≡ removed (holding seat.old) tok.0 }
-    ensures others { (other : ℕ) → other ≢ tok.0 → SameRow seat.old seat.new other }
+    ensures others { (other : ℕ) → other ≢ tok.0 → SameSection seat.old seat.new other }
     ensures row { row seat.new tok.0 ≡ row seat.old tok.0 }
-    ensures still { is_held (holding seat.new tok.0) ≡ true → SameRow seat.old seat.new tok.0 }
+    ensures still { is_held (holding seat.new tok.0) ≡ true → SameSection seat.old seat.new tok.0 }
     ensures told { (event : Event) × ((trace.new.items ≡ trace.old.items ++ event ∷ []) × GivesBy seat.old tok event) }
 {
     let cpu = seat.cpu();
     match seat.give(bank, tok) {
         Given::One => note(trace, Event::GiveOne { cpu, tok }),
         Given::Clean => note(trace, Event::GiveClean { cpu, tok }),
-        Given::Written(_) => note(trace, Event::GiveWritten { cpu, tok }),
+        Given::Written(section) => note(trace, Event::GiveWritten { cpu, tok, section }),
     }
 }
 

@@ -2,13 +2,14 @@
 
 use crate::fixtures::play;
 use lwkt_base::{
-    CpuId, Fault, Held, LAST_GENERATION, Law, Mode, MsgEnd, MsgId, MsgSpec, Owner, ThreadId, TokId,
+    CpuId, Fault, Held, LAST_GENERATION, Law, Mode, MsgEnd, MsgId, MsgSpec, Owner, Row as Values,
+    Section, ThreadId, TokId,
 };
 use lwkt_core::checks::{failure_is_only, failure_refutes};
 use lwkt_core::decisions::{decisions_are_events, pictures_fit};
 use lwkt_core::events::Place;
 use lwkt_core::messages::LAST_ROUND;
-use lwkt_core::{Event, Final, Message, State, Token, check};
+use lwkt_core::{Event, Final, Lack, Message, State, Token, check};
 use lwkt_fixtures::{Opened, Row, cells, tokens};
 use std::alloc::{AllocError, Global};
 
@@ -140,12 +141,51 @@ fn token_final(
     })
 }
 
+// A written give of the token: by which processor, at which generation its section began, with which row, and which it left.
+#[derive(Clone, Copy)]
+struct Written(CpuId, u64, &'static [u64], &'static [u64]);
+
+impl Written {
+    // Its event, of a token of this number.
+    fn event_at(&self, tok: TokId) -> Event {
+        let section = Section {
+            before: Values::of(self.2),
+            after: Values::of(self.3),
+            generation: self.1,
+            tok,
+        };
+        Event::GiveWritten {
+            cpu: self.0,
+            tok,
+            section,
+        }
+    }
+
+    fn event(&self) -> Event {
+        self.event_at(TOKEN)
+    }
+}
+
+// Events, and the written give behind them, if there is one.
+#[derive(Clone, Copy)]
+struct Events(&'static [Event], Option<Written>);
+
+impl Events {
+    fn list(&self, alloc: Global) -> Result<Vec<Event>, AllocError> {
+        let mut events = Vec::from_slice(alloc, self.0)?;
+        if let Some(written) = self.1 {
+            events.push(written.event())?;
+        }
+        Ok(events)
+    }
+}
+
 // Two processors and a token, events, its closing cells, generation and tallies, and the first event that isn't lawful, or
 // the number of events.
 #[derive(Clone, Copy)]
 struct Trace(
     Opened,
-    &'static [Event],
+    Events,
     &'static [u64],
     u64,
     &'static [u64],
@@ -170,8 +210,11 @@ impl Row for Trace {
         let Some(opening) = open(alloc, self.0) else {
             return false;
         };
+        let Ok(events) = self.1.list(alloc) else {
+            return false;
+        };
         match token_final(alloc, self.2, self.3, self.4) {
-            Ok(last) => refused_at(opening, self.1, &last) == self.5,
+            Ok(last) => refused_at(opening, &events, &last) == self.5,
             Err(_) => false,
         }
     }
@@ -197,11 +240,6 @@ const FIRST_GIVES_ONE: Event = Event::GiveOne {
     tok: TOKEN,
 };
 
-const FIRST_GIVES_WRITTEN: Event = Event::GiveWritten {
-    cpu: FIRST,
-    tok: TOKEN,
-};
-
 const SECOND_TAKES: Event = Event::Take {
     cpu: SECOND,
     tok: TOKEN,
@@ -218,11 +256,6 @@ const SECOND_TAKES_AGAIN: Event = Event::Again {
 };
 
 const SECOND_GIVES_ONE: Event = Event::GiveOne {
-    cpu: SECOND,
-    tok: TOKEN,
-};
-
-const SECOND_GIVES_WRITTEN: Event = Event::GiveWritten {
     cpu: SECOND,
     tok: TOKEN,
 };
@@ -328,38 +361,72 @@ const SECOND_WRITES_15: Event = Event::Write {
 
 const PLAIN: Opened = Opened(Law::Any, 0, 0, &[0]);
 
+const WRITES_7: &[Event] = &[FIRST_TAKES, FIRST_WRITES_7];
+
+const WROTE_7: Option<Written> = Some(Written(FIRST, 0, &[0], &[7]));
+
 const CHECKER_VERDICTS: [Trace; 4] = [
+    Trace(PLAIN, Events(WRITES_7, WROTE_7), &[7], 1, &[], None),
+    Trace(PLAIN, Events(WRITES_7, WROTE_7), &[7], 0, &[], Some(3)),
+    Trace(PLAIN, Events(WRITES_7, None), &[7], 0, &[], Some(2)),
     Trace(
         PLAIN,
-        &[FIRST_TAKES, FIRST_WRITES_7, FIRST_GIVES_WRITTEN],
-        &[7],
-        1,
-        &[],
-        None,
-    ),
-    Trace(
-        PLAIN,
-        &[FIRST_TAKES, FIRST_WRITES_7, FIRST_GIVES_WRITTEN],
-        &[7],
-        0,
-        &[],
-        Some(3),
-    ),
-    Trace(PLAIN, &[FIRST_TAKES, FIRST_WRITES_7], &[7], 0, &[], Some(2)),
-    Trace(
-        PLAIN,
-        &[
-            FIRST_TAKES,
-            SECOND_SHARES,
-            FIRST_WRITES_7,
-            FIRST_GIVES_WRITTEN,
-        ],
+        Events(&[FIRST_TAKES, SECOND_SHARES, FIRST_WRITES_7], WROTE_7),
         &[7],
         1,
         &[],
         Some(1),
     ),
 ];
+
+// A written give of `PLAIN` that tells another section than that of generation 0, from row 0 to row 7.
+struct Told(Written);
+
+impl Row for Told {
+    fn is_right(&self, alloc: Global) -> bool {
+        let events = Events(WRITES_7, Some(self.0));
+        Trace(PLAIN, events, &[7], 1, &[], Some(2)).is_right(alloc)
+    }
+}
+
+const OTHER_SECTIONS: [Told; 8] = [
+    Told(Written(FIRST, 1, &[0], &[7])),
+    Told(Written(FIRST, LAST_GENERATION, &[0], &[7])),
+    Told(Written(FIRST, 0, &[1], &[7])),
+    Told(Written(FIRST, 0, &[7], &[7])),
+    Told(Written(FIRST, 0, &[0], &[0])),
+    Told(Written(FIRST, 0, &[0], &[8])),
+    Told(Written(FIRST, 0, &[], &[7])),
+    Told(Written(FIRST, 0, &[0], &[7, 0])),
+];
+
+// The give of a section that names another token.
+fn is_of_its_token(alloc: Global) -> bool {
+    let Some(mut state) = open(alloc, PLAIN) else {
+        return false;
+    };
+    let section = Section {
+        before: Values::of(&[0]),
+        after: Values::of(&[7]),
+        generation: 0,
+        tok: TokId(1),
+    };
+    let gives = Event::GiveWritten {
+        cpu: FIRST,
+        tok: TOKEN,
+        section,
+    };
+    state.step(&FIRST_TAKES).is_ok()
+        && state.step(&FIRST_WRITES_7).is_ok()
+        && state.lack(&gives) == Some(Lack::OtherSection)
+        && is_refused(&mut state, &gives)
+}
+
+#[test]
+fn sections_that_do_not_fit(rt: HostRuntime) {
+    play(&rt, rt.alloc(), &OTHER_SECTIONS);
+    assert!(rt; is_of_its_token(rt.alloc()));
+}
 
 #[test]
 fn checker_verdicts(rt: HostRuntime) {
@@ -372,12 +439,12 @@ struct Deeds(&'static [Event], Option<usize>);
 impl Row for Deeds {
     fn is_right(&self, alloc: Global) -> bool {
         let opened = Opened(Law::Any, 0, 3, &[5, 6]);
-        Trace(opened, self.0, &[5, 6], 3, &[], self.1).is_right(alloc)
+        Trace(opened, Events(self.0, None), &[5, 6], 3, &[], self.1).is_right(alloc)
     }
 }
 
 // Each event of a token once where it can happen, and where it can't.
-const TOKEN_EVENTS: [Deeds; 21] = [
+const TOKEN_EVENTS: [Deeds; 20] = [
     Deeds(&[], None),
     Deeds(&[SECOND_LOADS, SECOND_MARKS, SECOND_LOADS], None),
     Deeds(
@@ -433,18 +500,31 @@ const TOKEN_EVENTS: [Deeds; 21] = [
     Deeds(&[FIRST_READS_5], Some(0)),
     Deeds(&[FIRST_TAKES, FIRST_READS_6], Some(1)),
     Deeds(&[FIRST_TAKES, FIRST_GIVES_ONE], Some(1)),
-    Deeds(&[FIRST_TAKES, FIRST_GIVES_WRITTEN], Some(1)),
     Deeds(&[FIRST_TAKES, FIRST_WRITES_9, FIRST_GIVES_CLEAN], Some(2)),
 ];
+
+// A section of the same token that was not written isn't given so.
+const UNWRITTEN: [Trace; 1] = [Trace(
+    Opened(Law::Any, 0, 3, &[5, 6]),
+    Events(&[FIRST_TAKES], Some(Written(FIRST, 3, &[5, 6], &[5, 6]))),
+    &[5, 6],
+    3,
+    &[],
+    Some(1),
+)];
 
 #[test]
 fn token_events(rt: HostRuntime) {
     play(&rt, rt.alloc(), &TOKEN_EVENTS);
+    play(&rt, rt.alloc(), &UNWRITTEN);
 }
 
 const TALLY: Opened = Opened(Law::Tally, 10, 0, &[10]);
 
-const ADDED: &[Event] = &[SECOND_TAKES, SECOND_WRITES_15, SECOND_GIVES_WRITTEN];
+const ADDED: Events = Events(
+    &[SECOND_TAKES, SECOND_WRITES_15],
+    Some(Written(SECOND, 0, &[10], &[15])),
+);
 
 // Laws and tallies at the end of a section and at the close.
 const TALLIES: [Trace; 4] = [
@@ -453,7 +533,7 @@ const TALLIES: [Trace; 4] = [
     Trace(TALLY, ADDED, &[15], 1, &[0, 5, 0], Some(3)),
     Trace(
         TALLY,
-        &[SECOND_TAKES, SECOND_WRITES_9],
+        Events(&[SECOND_TAKES, SECOND_WRITES_9], None),
         &[15],
         1,
         &[0, 0],
@@ -465,19 +545,20 @@ const SUM: Opened = Opened(Law::Sum, 10, 0, &[5, 5]);
 
 const WORN_SUM: Opened = Opened(Law::Sum, 10, LAST_GENERATION, &[5, 5]);
 
-const MOVED: &[Event] = &[
-    FIRST_TAKES,
-    FIRST_WRITES_4,
-    FIRST_WRITES_6_IN_CELL_1,
-    FIRST_GIVES_WRITTEN,
-];
+const MOVED: Events = Events(
+    &[FIRST_TAKES, FIRST_WRITES_4, FIRST_WRITES_6_IN_CELL_1],
+    Some(Written(FIRST, 0, &[5, 5], &[4, 6])),
+);
 
 // At the last generation no section begins, and a token can still be shared.
 const SUMS: [Trace; 4] = [
     Trace(SUM, MOVED, &[4, 6], 1, &[], None),
     Trace(
         SUM,
-        &[FIRST_TAKES, FIRST_WRITES_4, FIRST_GIVES_WRITTEN],
+        Events(
+            &[FIRST_TAKES, FIRST_WRITES_4],
+            Some(Written(FIRST, 0, &[5, 5], &[4, 5])),
+        ),
         &[4, 6],
         1,
         &[],
@@ -486,7 +567,7 @@ const SUMS: [Trace; 4] = [
     Trace(WORN_SUM, MOVED, &[4, 6], LAST_GENERATION, &[], Some(0)),
     Trace(
         WORN_SUM,
-        &[FIRST_SHARES, FIRST_GIVES_ONE],
+        Events(&[FIRST_SHARES, FIRST_GIVES_ONE], None),
         &[4, 6],
         LAST_GENERATION,
         &[],
@@ -687,7 +768,7 @@ const FAR_TOKEN: TokId = TokId(64);
 const FAR_MESSAGE: MsgId = MsgId(64);
 
 // Events that name a processor, token, cell or message that is not there.
-const PLACELESS: [Placeless; 35] = [
+const PLACELESS: [Placeless; 33] = [
     Placeless(Event::Load {
         cpu: FAR,
         tok: TOKEN,
@@ -716,10 +797,6 @@ const PLACELESS: [Placeless; 35] = [
         cpu: FAR,
         tok: TOKEN,
     }),
-    Placeless(Event::GiveWritten {
-        cpu: FAR,
-        tok: TOKEN,
-    }),
     Placeless(Event::Read {
         cpu: FAR,
         tok: TOKEN,
@@ -741,10 +818,6 @@ const PLACELESS: [Placeless; 35] = [
         tok: FAR_TOKEN,
     }),
     Placeless(Event::Mark {
-        cpu: FIRST,
-        tok: FAR_TOKEN,
-    }),
-    Placeless(Event::GiveWritten {
         cpu: FIRST,
         tok: FAR_TOKEN,
     }),
@@ -852,7 +925,10 @@ const PLACELESS: [Placeless; 35] = [
 
 #[test]
 fn events_without_a_place(rt: HostRuntime) {
+    let gives = Written(FAR, 3, &[5], &[6]).event();
+    let elsewhere = Written(FIRST, 3, &[5], &[6]).event_at(FAR_TOKEN);
     play(&rt, rt.alloc(), &PLACELESS);
+    play(&rt, rt.alloc(), &[Placeless(gives), Placeless(elsewhere)]);
 }
 
 // Whether nothing is told of a cell, a token and a processor that aren't there.
@@ -878,9 +954,10 @@ const GIVEN: [Option<u64>; 5] = [Some(6), Some(6), Some(4), Some(1), Some(0)];
 
 // Whether the section ends as it must.
 fn ends(state: &mut State, last: &Final) -> bool {
+    let gives = Written(FIRST, 3, &[5], &[6]).event();
     !state.closes(last)
-        && state.allows(&FIRST_GIVES_WRITTEN)
-        && state.step(&FIRST_GIVES_WRITTEN).is_ok()
+        && state.allows(&gives)
+        && state.step(&gives).is_ok()
         && state.closes(last)
         && shows(state, &GIVEN)
 }
@@ -950,10 +1027,11 @@ fn is_free(token: &Token) -> bool {
 }
 
 fn is_taken(token: &Token) -> bool {
+    let gives = Written(SECOND, 0, &[10], &[15]).event();
     !token.is_free()
         && !token.is_open()
         && !token.allows(&FIRST_TAKES)
-        && token.allows(&SECOND_GIVES_WRITTEN)
+        && token.allows(&gives)
         && token.held_by(SECOND) == ONCE
         && token.held_by(FAR) == Held::Nothing
 }

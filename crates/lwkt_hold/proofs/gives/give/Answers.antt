@@ -44,9 +44,10 @@ returns-in-Written-clause-ran c =
     let cells = (plan_of (bank_of s) tok.0).cells in
     let loads = last_loads s.cpu tok.0 (entry s tok.0) cells in
     let untold = last_untold s tok.0 cells in
-    let step = gives_written s.cpu tok.0 g.found ∷ [] in
-    let event = GiveWritten c.cpu-cpu.result tok in
-    let told = tells_one (GiveWritten s.cpu tok) event refl (ap (λ (x : CpuId). GiveWritten x tok) c.cpu-cpu.ensures.is) in
+    let section = c.in-Written.section in
+    let step = gives_written section s.cpu tok.0 g.found ∷ [] in
+    let event = GiveWritten c.cpu-cpu.result tok section in
+    let told = tells_one (GiveWritten s.cpu tok section) event refl (ap (λ (x : CpuId). GiveWritten x tok section) c.cpu-cpu.ensures.is) in
     let F : List WordStep → Type 0 = λ xs. AllZip ShowsEvent (filter is_counted xs) (filter is_on_word (event ∷ [])) in
     ran_step (λ h. h ≡ removed (holding s) tok.0) s c.give.new.self tok.0 (ended (entry s tok.0)) (loads ++ step) event c.args.trace.now c.note-in-Written.new.trace g.changes c.note-in-Written.ensures.items c.note-in-Written.ensures.longer c.note-in-Written.ensures.room
     (ap (λ (x : CpuId). x.0) c.cpu-cpu.ensures.is) (tells_behind loads step (event ∷ []) untold told) (subst F (sym (steps_behind loads step untold)) ((refl, refl), tt)) given given

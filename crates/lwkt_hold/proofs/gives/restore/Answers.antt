@@ -1,7 +1,7 @@
 use Rattle.std.proofs.Common.{refl, ap, ◌∙◌, ◌++◌}
 use Rattle.std.specs.Prelude.{◌≡◌}
 use Rattle.lwkt_bank.specs.Seats.{holding}
-use Rattle.lwkt_hold.proofs.GiveMoves.{not_tally, stored_ran, stored_kept, stores_first}
+use Rattle.lwkt_hold.proofs.GiveMoves.{not_tally, same_else, stored_ran, stored_kept, stores_first}
 use Rattle.lwkt_hold.specs.Rows.{writes}
 use Rattle.lwkt_hold.proofs.gives.restore.Goals as goal
 
@@ -18,3 +18,8 @@ returns-clause-stored c =
     let r = c.restore-values.ensures.restored (not_tally c.args.seat.now c.args.tok.0 c.requires.broken.broken) in
     let values = c.restore-values.result in
     (values, (stores_first c.args.seat.now c.restore-values.new.self c.args.tok.0 values r, c.note_cells.ensures.items ∙ ap (λ cpu. c.args.trace.now.items ++ writes cpu c.args.tok 0 values) c.requires.mine))
+
+pub returns-clause-others : goal.returns-clause-others
+returns-clause-others c =
+    let r = c.restore-values.ensures.restored (not_tally c.args.seat.now c.args.tok.0 c.requires.broken.broken) in
+    same_else c.args.seat.now c.restore-values.new.self c.args.tok.0 _ _ r.changes
