@@ -7,6 +7,8 @@ use crate::tokens::Runners;
 use crate::words::show_thread;
 use lwkt_base::{CpuId, Fault, Section};
 use lwkt_core::Event;
+use lwkt_report::Closing;
+use lwkt_script::Script;
 use std::alloc::Global;
 
 /// The thread that each processor polled last, and of each token what is shown of it so far.
@@ -83,4 +85,24 @@ pub fn chains_of(alloc: Global, run: &Reel) -> Result<String, Fault> {
     };
     chains.follow_run(run);
     chains.pages.whole(alloc, &run.closing.tokens)
+}
+
+/// The written sections of a run on threads, which are given in the order of their generations: of each token its opening row,
+/// then one line for each section, with its generation and the row before and after it, and then the closing row of the report.
+///
+/// Refused with `Memory` if an allocation is.
+pub fn chains_of_sections(
+    alloc: Global,
+    script: &Script,
+    sections: &[Section],
+    closing: &Closing,
+) -> Result<String, Fault> {
+    let mut pages = TokenPages::open(alloc, script.tokens.as_slice())?;
+    for section in sections {
+        if let Some(out) = pages.page(section.tok) {
+            out.number("generation ", section.generation);
+            show_change(out, section);
+        }
+    }
+    pages.whole(alloc, &closing.tokens)
 }
