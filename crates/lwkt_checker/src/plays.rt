@@ -25,7 +25,8 @@ fn section_at(tok: TokId, token: &Token) -> Section
 fn section_now(state: &State, tok: TokId) -> Section
     ensures { result ≡ section_now state.now tok }
 {
-    let _known_safe = state.cpus();
+    // A state is safe, as this call tells: the rows of its tokens have at most four cells.
+    let _cpus = state.cpus();
     match state.token(tok) {
         Some(token) => section_at(tok, token),
         None => Section {
