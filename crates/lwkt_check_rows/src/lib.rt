@@ -1,5 +1,6 @@
-//! The checker of traces on worked examples: what it says of each need that isn't met and of each value that
-//! differs; and on traces with one event, or the section of one, changed.
+//! What judges and what shows, on worked examples. The checker of traces: what it says of each need that isn't met and of each
+//! value that differs; and on traces with one event, or the section of one, changed. The check of runs, on runs by hand and on
+//! what one change makes of them. What is shown of the written sections of a run on threads.
 #![tactic(auto)]
 
 #[cfg(test)]
@@ -9,6 +10,14 @@ mod outputs;
 #[cfg(test)]
 mod rows;
 #[cfg(test)]
+mod run_changes;
+#[cfg(test)]
+mod run_rows;
+#[cfg(test)]
 mod section_rows;
+#[cfg(test)]
+mod sheets;
+#[cfg(test)]
+mod shown_rows;
 #[cfg(test)]
 mod spoil_rows;

@@ -1,7 +1,7 @@
 //! Rows Tally-Add, Two-Threads-One-Token, Crossed-Lists and Call-And-Reply as runs by hand: each is a run of its script. Of the changes at one place
 //! two leave it one: as many rounds as it has, and a law that was broken at its end.
 
-use crate::changes::{Change, make_change};
+use crate::run_changes::{Change, make_change};
 use crate::sheets::{Sheet, first_of};
 use lwkt_base::{
     Answer, Ask, Call, CpuId, Entry, Fault, Item, Law, MsgId, MsgSpec, Row, Section, ThreadId,
