@@ -11,7 +11,7 @@ case $program_name in
         reads=script modes=(turns threads)
         ;;
     lwkt_show)
-        reads=script modes=(turns) flags=(--svg --trace --chains) valued=(--turns --rounds)
+        reads=script modes=(turns threads) flags=(--svg --trace --chains) valued=(--turns --rounds)
         ;;
     lwkt_check)
         reads=trace

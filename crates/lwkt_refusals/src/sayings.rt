@@ -28,6 +28,8 @@ usage: lwkt_show turns [--turns A..B | --rounds A..B] [--svg] [FILE]
        lwkt_show turns --trace | --chains [FILE]
                       the same, and write its trace for lwkt_check, or the
                       written sections of each token
+       lwkt_show threads --chains [FILE]
+                      the sections of a run with a thread for each processor
        lwkt_show --help
                       say more
 example: ./lwkt_show turns examples/crossed_lists.json

@@ -2,52 +2,20 @@
 use crate::pages::Page;
 use crate::reels::Reel;
 use crate::scenes::{Scene, part_of, scene_of};
+use crate::sections::{TokenPages, show_change};
 use crate::tokens::Runners;
 use crate::words::show_thread;
-use lwkt_base::{CpuId, Fault, TokId, TokSpec};
-use lwkt_core::{Event, State};
-use lwkt_report::TokenLine;
-use lwkt_trace::words::law_name;
+use lwkt_base::{CpuId, Fault, Section};
+use lwkt_core::Event;
+use lwkt_report::Closing;
+use lwkt_script::Script;
 use std::alloc::Global;
 
-/// A run that is made again event by event, the thread that each processor polled last, and of each token what is shown of it
-/// so far.
+/// The thread that each processor polled last, and of each token what is shown of it so far.
 #[derive(Drop)]
 struct Chains {
-    state: State,
     polled: Runners,
-    pages: Vec<Page>,
-}
-
-// Appends a row.
-fn show_row(out: &mut Page, generation: u64, cells: &[u64]) {
-    out.number("generation ", generation);
-    out.add(", row");
-    out.numbers(cells);
-    out.add("\n");
-}
-
-// Appends a token with its law, and its opening row.
-fn show_opening(out: &mut Page, number: usize, spec: &TokSpec) {
-    out.size("token ", number);
-    out.add(", law ");
-    out.add(law_name(spec.law));
-    out.number(" ", spec.param);
-    out.add("\nopening: ");
-    show_row(out, spec.generation, spec.cells.as_slice());
-}
-
-// A page for each token, with its opening row.
-fn pages_of(alloc: Global, tokens: &[TokSpec]) -> Result<Vec<Page>, Fault> {
-    let mut pages = Vec::new(alloc);
-    for (number, spec) in tokens.iter().enumerate() {
-        let mut page = Page::new(alloc);
-        show_opening(&mut page, number, spec);
-        if pages.push(page).is_err() {
-            return Err(Fault::Memory);
-        }
-    }
-    Ok(pages)
+    pages: TokenPages,
 }
 
 // Appends who ended a section, and when: in a turn, or as its processor stopped.
@@ -66,89 +34,75 @@ fn show_end(out: &mut Page, cpu: CpuId, polled: &Runners, turn: Option<usize>) {
 }
 
 impl Chains {
-    // A run before its first turn.
-    fn open(alloc: Global, run: &Reel) -> Result<Self, Fault> {
-        let state = State::open(
-            alloc,
-            run.script.tokens.as_slice(),
-            run.script.messages.as_slice(),
-            usize::from(run.script.cpus),
-        )?;
-        Ok(Chains {
-            state,
-            polled: [None; 8],
-            pages: pages_of(alloc, run.script.tokens.as_slice())?,
-        })
-    }
-
     // Appends the section that a processor ends by giving a token back.
-    fn note(&mut self, cpu: CpuId, tok: TokId, turn: Option<usize>) {
-        let Some(token) = self.state.token(tok) else {
+    fn note(&mut self, cpu: CpuId, section: &Section, turn: Option<usize>) {
+        let Some(out) = self.pages.page(section.tok) else {
             return;
         };
-        let Some(out) = self.pages.get_mut(usize::from(tok.0)) else {
-            return;
-        };
-        out.number("generation ", token.generation);
+        out.number("generation ", section.generation);
         show_end(out, cpu, &self.polled, turn);
-        out.add(":");
-        out.numbers(token.first.as_slice());
-        out.add(" ->");
-        out.numbers(token.row.as_slice());
-        out.add("\n");
+        show_change(out, section);
     }
 
-    // Makes events happen, those of a turn or of the stop.
-    fn play(&mut self, part: &[Event], turn: Option<usize>) {
+    // Goes over events, those of a turn or of the stop.
+    fn follow(&mut self, part: &[Event], turn: Option<usize>) {
         for event in part {
-            if let Event::GiveWritten { cpu, tok } = *event {
-                self.note(cpu, tok, turn);
+            if let Event::GiveWritten { cpu, section, .. } = *event {
+                self.note(cpu, &section, turn);
             }
-            let _ = self.state.step(event);
         }
     }
 
-    // Makes a turn happen.
-    fn play_turn(&mut self, scene: &Scene) {
+    // Goes over a turn.
+    fn follow_turn(&mut self, scene: &Scene) {
         if let Some(poll) = scene.poll {
             if let Some(slot) = self.polled.get_mut(usize::from(scene.cpu)) {
                 *slot = Some(poll.thread);
             }
         }
-        self.play(scene.part, Some(scene.number));
+        self.follow(scene.part, Some(scene.number));
     }
 
-    // Makes all turns happen, and the stop.
-    fn play_run(&mut self, run: &Reel) {
+    // Goes over all turns, and the stop.
+    fn follow_run(&mut self, run: &Reel) {
         let mut from = 0usize;
         for (number, turn) in run.turns.iter().enumerate() {
-            self.play_turn(&scene_of(run, number, turn, from));
+            self.follow_turn(&scene_of(run, number, turn, from));
             from = from.saturating_add(usize::from(turn.events));
         }
-        self.play(part_of(run.trace, from, run.trace.len()), None);
-    }
-
-    // What is shown of the tokens, one after another, with their closing rows.
-    fn shown(&self, alloc: Global, closing: &[TokenLine]) -> Page {
-        let mut out = Page::new(alloc);
-        for (page, line) in self.pages.iter().zip(closing.iter()) {
-            out.add_page(page);
-            out.add("closing: ");
-            show_row(&mut out, line.generation, line.cells.as_slice());
-        }
-        out
+        self.follow(part_of(run.trace, from, run.trace.len()), None);
     }
 }
 
-/// The written sections of a run: of each token its opening row, then one line for each section in order, with its generation,
-/// its thread, the turn in which it ended, and the row before and after it, and then the closing row of the report.
+/// The written sections of a run in rounds: of each token its opening row, then one line for each section in order, with its
+/// generation, its thread, the turn in which it ended, and the row before and after it, and then the closing row of the report.
 ///
-/// Refused with `Memory` if an allocation is, and as `State::open` is for an opening that it refuses.
+/// Refused with `Memory` if an allocation is.
 pub fn chains_of(alloc: Global, run: &Reel) -> Result<String, Fault> {
-    let mut chains = Chains::open(alloc, run)?;
-    chains.play_run(run);
-    match chains.shown(alloc, &run.closing.tokens).whole() {
-        Ok(text) => Ok(text),
-        Err(_) => Err(Fault::Memory),
+    let mut chains = Chains {
+        polled: [None; 8],
+        pages: TokenPages::open(alloc, run.script.tokens.as_slice())?,
+    };
+    chains.follow_run(run);
+    chains.pages.whole(alloc, &run.closing.tokens)
+}
+
+/// The written sections of a run on threads, which are given in the order of their generations: of each token its opening row,
+/// then one line for each section, with its generation and the row before and after it, and then the closing row of the report.
+///
+/// Refused with `Memory` if an allocation is.
+pub fn chains_of_sections(
+    alloc: Global,
+    script: &Script,
+    sections: &[Section],
+    closing: &Closing,
+) -> Result<String, Fault> {
+    let mut pages = TokenPages::open(alloc, script.tokens.as_slice())?;
+    for section in sections {
+        if let Some(out) = pages.page(section.tok) {
+            out.number("generation ", section.generation);
+            show_change(out, section);
+        }
     }
+    pages.whole(alloc, &closing.tokens)
 }

@@ -15,6 +15,7 @@ mod pictures;
 mod reels;
 mod replays;
 mod scenes;
+mod sections;
 mod shapes;
 mod shows;
 mod sketches;
@@ -26,7 +27,7 @@ mod turns;
 mod waits;
 mod words;
 
-pub use chains::chains_of;
+pub use chains::{chains_of, chains_of_sections};
 pub use pictures::picture_of;
 pub use reels::{Chosen, Counted, Reel};
 pub use shows::lines_of;

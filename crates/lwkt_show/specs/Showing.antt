@@ -4,8 +4,12 @@ use Rattle.std.specs.Io.KnownBytes.{Keeps}
 use Rattle.lwkt_report.specs.declared.closings.Closing.{Closing}
 use Rattle.lwkt_report.specs.declared.streams.RunFault.{RunFault}
 use Rattle.lwkt_run.specs.Run.{AreRead, IsTurnsRun, end_told, TellsBy, status_of}
+use Rattle.lwkt_run.specs.Threaded.{IsThreadRecord, lets_all}
 use Rattle.lwkt_run.specs.declared.runs.End.{End}
 use Rattle.lwkt_run.specs.declared.runs.TurnsRun.{TurnsRun}
+use Rattle.lwkt_run.specs.declared.threaded.ThreadRecord.{ThreadRecord}
+use Rattle.lwkt_script.specs.declared.scripts.Script.{Script}
+use Rattle.lwkt_script.specs.Format.{script_of}
 use Rattle.lwkt_scenes.specs.Shown.{EndsInReport, first_turn}
 use Rattle.lwkt_show.specs.Arguments.{AreOptions}
 use Rattle.lwkt_show.specs.declared.options.Options.{Options}
@@ -51,6 +55,21 @@ status_shown (Ok (Shown end)) = status_of (Ok end)
 status_shown (Ok Past) = 1
 status_shown (Err fault) = status_of (Err fault)
 
--- a run that these arguments ask for: it is shown as they say or refused, and the status is that of its outcome
-abbrev pub IsShowing : List (List ℕ) → Option (List ℕ) → Option (List ℕ) → Option (List ℕ) → ℕ → Type 0
-IsShowing words left old new status = (options : Options) × (AreOptions words options × ((outcome : Result Outcome RunFault) × (TellsShown options left old new outcome × (status ≡ status_shown outcome))))
+-- what the program does where its arguments are these options: the run is shown as they say or refused, and the status is that of its
+-- outcome
+abbrev pub IsShowing : Options → Option (List ℕ) → Option (List ℕ) → Option (List ℕ) → ℕ → Type 0
+IsShowing options left old new status = (outcome : Result Outcome RunFault) × (TellsShown options left old new outcome × (status ≡ status_shown outcome))
+
+-- these bytes are a script, and there is a run of it on threads, with the written sections that were told of it in order, that ends so;
+-- that the text shows these sections is not said
+pub record IsShownOnThreads (bytes : List ℕ) (end : End) (text : List ℕ) : Type 0 where
+  pub script : Script
+  pub read : script_of bytes ≡ Ok script
+  pub kept : ThreadRecord
+  pub is_run : IsThreadRecord lets_all script kept
+  pub is_end : end ≡ end_told kept.closing
+
+-- what the program does where its arguments ask for the chains of a run on threads: they are shown or the script is refused, and the
+-- status is that of its outcome
+abbrev pub IsShowingThreads : Option (List ℕ) → Option (List ℕ) → Option (List ℕ) → ℕ → Type 0
+IsShowingThreads left old new status = (outcome : Result End RunFault) × (TellsBy IsShownOnThreads left old new outcome × (status ≡ status_of outcome))

@@ -3,6 +3,8 @@
 
 mod options;
 mod programs;
+mod threads;
 
-pub use options::{Options, View, options_of};
+pub use options::{Options, View, asks_threads, options_of};
 pub use programs::{Outcome, refuse_arguments, run_show, show_stream};
+pub use threads::show_threads;

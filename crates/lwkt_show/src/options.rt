@@ -1,6 +1,6 @@
-ghost use Rattle.std.specs.Prelude.{◌≡◌, ◌≢◌, ◌≤◌, ◌∷◌, [], false, ℕ, List, None, Some, IfSome, map, string_bytes};
+ghost use Rattle.std.specs.Prelude.{◌≡◌, ◌↔◌, ◌≢◌, ◌≤◌, ◌∷◌, [], false, ℕ, List, None, Some, IsTrue, IfSome, codes, map, string_bytes};
 ghost use Rattle.std.specs.List.{before_first, after_first};
-ghost use Rattle.lwkt_show.specs.Arguments.{is_stop, IsBound, IsRange, no_end, IsView, range_word, has_range, Choose, Say, AreOptions};
+ghost use Rattle.lwkt_show.specs.Arguments.{is_stop, IsBound, IsRange, no_end, IsView, range_word, has_range, Choose, Say, AreOptions, AskThreads};
 
 use lwkt_scenes::Counted;
 
@@ -180,4 +180,21 @@ pub fn options_of(words: &[String]) -> Option<Options>
         return None;
     }
     read_options(rest)
+}
+
+// Whether two words are `threads` and `--chains`.
+fn are_threads(mode: &str, view: &str) -> bool
+    ensures { IsTrue result ↔ ((mode.now ≡ codes "threads") × (view.now ≡ codes "--chains")) }
+{
+    mode == "threads" && view == "--chains"
+}
+
+/// Whether the arguments ask for the chains of a run on threads: `threads --chains`.
+pub fn asks_threads(words: &[String]) -> bool
+    ensures { IsTrue result ↔ AskThreads (map string_bytes words.now) }
+{
+    match words {
+        [mode, view] => are_threads(mode.as_str(), view.as_str()),
+        _ => false,
+    }
 }

@@ -1,19 +1,23 @@
 ghost use Rattle.std.specs.Prelude.{◌≡◌, ◌≤◌, ◌⊎◌, if◌then◌else◌, Err, IsTrue, IfOk, IfErr, IfSome, IsNone, length, map, string_bytes};
 ghost use Rattle.lwkt_run.specs.Run.{IsTurnsRun, Refuses};
 ghost use Rattle.lwkt_scenes.specs.Shown.{first_turn};
-ghost use Rattle.lwkt_show.specs.Showing.{ShowsAs, IsShown, IsPast, IsPastIn, TellsShown, IsShowing, status_shown};
+ghost use Rattle.lwkt_show.specs.Arguments.{AreOptions, AskThreads, AreMisused};
+ghost use Rattle.lwkt_show.specs.Showing.{ShowsAs, IsShown, IsPast, IsPastIn, TellsShown, IsShowing, IsShowingThreads, status_shown};
 
-use crate::options::{Options, View, options_of};
+use crate::options::{Options, View, asks_threads, options_of};
+use crate::threads::show_threads;
 use lwkt_base::Fault;
 use lwkt_refusals::Speaker;
 use lwkt_report::{RunFault, Sink, Source, read_capped, write_whole};
 use lwkt_run::{End, TurnsRun, end_told, turns_run};
 use lwkt_scenes::{Chosen, Reel, chains_of, lines_of, picture_of, trace_of};
 use std::alloc::Global;
+use std::sync::Wait;
+use std::thread::Threads;
 
 // What is said where the arguments are none of the program's.
 const USAGE: &str =
-    "lwkt_show: turns, and behind it --turns A..B or --rounds A..B, and --svg, --trace or --chains\n";
+    "lwkt_show: turns, and behind it --turns A..B or --rounds A..B, and --svg, --trace or --chains; or threads --chains\n";
 
 // What is said where the run ended before the range that was chosen.
 const PAST: &str = "lwkt_show: the range lies behind the end of the run\n";
@@ -27,11 +31,11 @@ pub enum Outcome {
     Past,
 }
 
-// A run that is shown: the text, and how it ended.
+/// A run that is shown: the text, and how it ended.
 #[derive(Drop)]
-struct Done {
-    text: String,
-    end: End,
+pub(crate) struct Done {
+    pub text: String,
+    pub end: End,
 }
 
 // The range of these options.
@@ -90,8 +94,8 @@ fn done_of_bytes(alloc: Global, options: &Options, bytes: &[u8]) -> Result<Optio
     }
 }
 
-// Says why a run was refused, but for want of memory.
-fn complain<E: Sink>(alloc: Global, errors: &mut E, bytes: &[u8], fault: Fault) {
+/// Says why a run was refused, but for want of memory.
+pub(crate) fn complain<E: Sink>(alloc: Global, errors: &mut E, bytes: &[u8], fault: Fault) {
     if fault != Fault::Memory {
         Speaker::Show.say_refusal(alloc, errors, Some(bytes), fault);
     }
@@ -166,6 +170,45 @@ fn say_past<E: Sink>(errors: &mut E) {
     Speaker::Show.say_usage(errors);
 }
 
+// Shows a run as these options ask for it, and answers the exit status.
+fn show_turns<S: Source, K: Sink, E: Sink>(
+    alloc: Global,
+    options: &Options,
+    source: &mut S,
+    sink: &mut K,
+    errors: &mut E,
+) -> u8
+    ensures { IsShowing options.now (S.left source.old) (K.contents sink.old) (K.contents sink.new) result }
+{
+    let outcome = show_stream(alloc, options, source, sink, errors);
+    match outcome {
+        Ok(Outcome::Past) => say_past(errors),
+        Err(RunFault::Fault(Fault::Memory)) => Speaker::Show.say_memory(errors),
+        _ => {}
+    }
+    status_of(&outcome)
+}
+
+// Shows the written sections of a run on threads, and answers the exit status.
+fn show_sections<R: Threads + Wait + Sync, S: Source, K: Sink, E: Sink>(
+    rt: &R,
+    alloc: Global,
+    source: &mut S,
+    sink: &mut K,
+    errors: &mut E,
+) -> u8
+    ensures { IsShowingThreads (S.left source.old) (K.contents sink.old) (K.contents sink.new) result }
+{
+    let shown = match show_threads(rt, alloc, source, sink, errors) {
+        Ok(end) => Ok(Outcome::Shown(end)),
+        Err(fault) => Err(fault),
+    };
+    if shown == Err(RunFault::Fault(Fault::Memory)) {
+        Speaker::Show.say_memory(errors);
+    }
+    status_of(&shown)
+}
+
 /// The whole program: its arguments without its own name, what it reads, what it writes, and where its errors go. The
 /// answer is its exit status, as that of `lwkt_run`: 0 every thread ended; 1 arguments, or a script or opening that was
 /// refused, or a run that ended before the first turn that was chosen; 2 turns used up; 3 want of memory, or a stream that
@@ -173,23 +216,23 @@ fn say_past<E: Sink>(errors: &mut E) {
 ///
 /// The arguments are looked at before anything is read; where they are wrong nothing is read or written but what goes to
 /// where errors go. Of a stream that failed nothing is said there: only who has the stream can say why.
-pub fn run_show<S: Source, K: Sink, E: Sink>(
+pub fn run_show<R: Threads + Wait + Sync, S: Source, K: Sink, E: Sink>(
+    rt: &R,
     alloc: Global,
     words: &[String],
     source: &mut S,
     sink: &mut K,
     errors: &mut E,
 ) -> u8
-    ensures { ((result ≡ 1) × (source.new ≡ source.old) × (sink.new ≡ sink.old)) ⊎ IsShowing (map string_bytes words.now) (S.left source.old) (K.contents sink.old) (K.contents sink.new) result }
+    ensures shows { (options : Options) → AreOptions (map string_bytes words.now) options → IsShowing options (S.left source.old) (K.contents sink.old) (K.contents sink.new) result }
+    ensures threads { AskThreads (map string_bytes words.now) → IsShowingThreads (S.left source.old) (K.contents sink.old) (K.contents sink.new) result }
+    ensures usage { AreMisused (map string_bytes words.now) → (result ≡ 1) × (source.new ≡ source.old) × (sink.new ≡ sink.old) }
 {
-    let Some(options) = options_of(words) else {
-        return refuse_arguments(errors, false);
-    };
-    let outcome = show_stream(alloc, &options, source, sink, errors);
-    match outcome {
-        Ok(Outcome::Past) => say_past(errors),
-        Err(RunFault::Fault(Fault::Memory)) => Speaker::Show.say_memory(errors),
-        _ => {}
+    if let Some(options) = options_of(words) {
+        return show_turns(alloc, &options, source, sink, errors);
     }
-    status_of(&outcome)
+    if asks_threads(words) {
+        return show_sections(rt, alloc, source, sink, errors);
+    }
+    refuse_arguments(errors, false)
 }

@@ -17,7 +17,7 @@ fn main(rt: HostRuntime) -> ExitCode {
         Ok(words) => {
             let mut source = ReaderSource::new(NotedReader::new(alloc, rt.stdin()));
             let mut sink = WriterSink::new(NotedWriter::new(rt.stdout()));
-            show_told(alloc, &words, &mut source, &mut sink, &mut errors)
+            show_told(&rt, alloc, &words, &mut source, &mut sink, &mut errors)
         }
         Err(error) => {
             let memory = error.kind() == io::ErrorKind::OutOfMemory;

@@ -1,24 +1,31 @@
-ghost use Rattle.std.specs.Prelude.{◌≡◌, ◌⊎◌, map, string_bytes};
-ghost use Rattle.lwkt_show.specs.Showing.{IsShowing};
+ghost use Rattle.std.specs.Prelude.{◌≡◌, map, string_bytes};
+ghost use Rattle.lwkt_show.specs.declared.options.Options.{Options};
+ghost use Rattle.lwkt_show.specs.Arguments.{AreOptions, AskThreads, AreMisused};
+ghost use Rattle.lwkt_show.specs.Showing.{IsShowing, IsShowingThreads};
 
 use lwkt_refusals::Speaker;
 use lwkt_report::{NotedReader, NotedWriter, ReaderSource, Sink, WriterSink};
 use lwkt_show::run_show;
 use std::alloc::Global;
 use std::io::{Read, Write};
+use std::sync::Wait;
+use std::thread::Threads;
 
 /// The whole program, as `run_show`, which also says where errors go how a stream failed. What it reads, what it writes and
 /// its status are those of `run_show`.
-pub fn show_told<I: Read, O: Write, E: Sink>(
+pub fn show_told<R: Threads + Wait + Sync, I: Read, O: Write, E: Sink>(
+    rt: &R,
     alloc: Global,
     words: &[String],
     source: &mut ReaderSource<NotedReader<I>>,
     sink: &mut WriterSink<NotedWriter<O>>,
     errors: &mut E,
 ) -> u8
-    ensures { ((result ≡ 1) × (source.new ≡ source.old) × (sink.new ≡ sink.old)) ⊎ IsShowing (map string_bytes words.now) (I.remaining source.old.reader.reader) (O.contents sink.old.writer.writer) (O.contents sink.new.writer.writer) result }
+    ensures shows { (options : Options) → AreOptions (map string_bytes words.now) options → IsShowing options (I.remaining source.old.reader.reader) (O.contents sink.old.writer.writer) (O.contents sink.new.writer.writer) result }
+    ensures threads { AskThreads (map string_bytes words.now) → IsShowingThreads (I.remaining source.old.reader.reader) (O.contents sink.old.writer.writer) (O.contents sink.new.writer.writer) result }
+    ensures usage { AreMisused (map string_bytes words.now) → (result ≡ 1) × (source.new ≡ source.old) × (sink.new ≡ sink.old) }
 {
-    let status = run_show(alloc, words, source, sink, errors);
+    let status = run_show(rt, alloc, words, source, sink, errors);
     if source.failed {
         Speaker::Show.say_unread(alloc, errors, &source.reader.error);
     }

@@ -1,0 +1,28 @@
+use Rattle.std.proofs.Common.{inl, inr, ◌≡◌, ◌⊎◌}
+use Rattle.lwkt_base.specs.declared.faults.Fault.TheVariants.{Memory}
+use Rattle.lwkt_report.specs.declared.streams.RunFault.TheVariants.{Fault, Stream}
+use Rattle.lwkt_run.proofs.RunLemmas.{tells_unread}
+use Rattle.lwkt_show.specs.Showing.{IsShownOnThreads}
+use Rattle.lwkt_show.proofs.Telling.{tells_refused, tells_done, tells_front}
+use Rattle.lwkt_show.proofs.threads.show_threads.Goals as goal
+
+pub returns-in-Err-clause-tells : goal.returns-in-Err-clause-tells
+returns-in-Err-clause-tells g c =
+    let why : (c.in-Err.fault ≡ Stream) ⊎ (c.in-Err.fault ≡ Fault Memory) =
+    elim c.in-Err.ensures.only [ inl is ↦ inl cc | inr is ↦ inr cc ] in
+    tells_unread IsShownOnThreads (g.S.Source.left c.args.source.now) (g.K.Sink.contents c.args.sink.now) c.in-Err.fault why
+
+pub returns-in-Err-done_of_bytes-clause-tells : goal.returns-in-Err-done_of_bytes-clause-tells
+returns-in-Err-done_of_bytes-clause-tells g c =
+    tells_refused IsShownOnThreads (g.S.Source.left c.args.source.now) (g.K.Sink.contents c.args.sink.now) c.in-Ok.bytes.items c.deref.result.now c.in-Err-done_of_bytes.fault
+    c.deref.ensures.value c.in-Ok.ensures.bytes c.in-Err-done_of_bytes.ensures.refused
+
+pub returns-in-Ok-write_whole-clause-tells : goal.returns-in-Ok-write_whole-clause-tells
+returns-in-Ok-write_whole-clause-tells g c =
+    tells_done IsShownOnThreads (g.S.Source.left c.args.source.now) (g.K.Sink.contents c.args.sink.now) (g.K.Sink.contents c.write_whole.new.sink) c.in-Ok.bytes.items c.deref.result.now _ c.as_bytes.result.now c.in-Ok-done_of_bytes.done.end
+    c.deref.ensures.value c.as_bytes.ensures.value c.in-Ok.ensures.bytes c.in-Ok-done_of_bytes.ensures.shown c.in-Ok-write_whole.ensures.whole
+
+pub returns-clause-tells : goal.returns-clause-tells
+returns-clause-tells g c =
+    tells_front IsShownOnThreads (g.S.Source.left c.args.source.now) (g.K.Sink.contents c.args.sink.now) (g.K.Sink.contents c.write_whole.new.sink) c.in-Ok.bytes.items c.deref.result.now _ c.as_bytes.result.now c.in-Ok-done_of_bytes.done.end
+    c.deref.ensures.value c.as_bytes.ensures.value c.in-Ok.ensures.bytes c.in-Ok-done_of_bytes.ensures.shown c.in-Err-write_whole.ensures.front

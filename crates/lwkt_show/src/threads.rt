@@ -1,0 +1,63 @@
+//! The written sections of a run on threads, shown.
+ghost use Rattle.std.specs.Prelude.{◌≡◌, ◌⊎◌, Err, IsTrue, IfOk, IfErr, string_bytes};
+ghost use Rattle.lwkt_run.specs.Run.{Refuses, TellsBy};
+ghost use Rattle.lwkt_show.specs.Showing.{IsShownOnThreads};
+
+use crate::programs::{Done, complain};
+use lwkt_base::Fault;
+use lwkt_report::{RunFault, Sink, Source, read_capped, write_whole};
+use lwkt_run::{End, ThreadRecord, end_told, read_script, record_threads};
+use lwkt_scenes::chains_of_sections;
+use std::alloc::Global;
+use std::sync::Wait;
+use std::thread::Threads;
+
+// Runs the script that the bytes are on threads, to the text that shows its written sections.
+fn done_of_bytes<R: Threads + Wait + Sync>(
+    rt: &R,
+    alloc: Global,
+    bytes: &[u8],
+) -> Result<Done, Fault>
+    ensures shown { IfOk result (λ done. IsShownOnThreads bytes.now done.end (string_bytes done.text)) }
+    ensures refused { IfErr result (λ fault. Refuses bytes.now fault) }
+{
+    let script = read_script(alloc, bytes)?;
+    let ThreadRecord { closing, sections } = record_threads(rt, alloc, &script)?;
+    let end = end_told(&closing);
+    match chains_of_sections(alloc, &script, &sections, &closing) {
+        Ok(text) => Ok(Done { text, end }),
+        Err(_) => Err(Fault::Memory),
+    }
+}
+
+/// Reads a script as `show_stream` does, runs it as `lwkt_run`'s `run_threads` does, with a thread for each processor where one
+/// can be made, and writes the written sections of each token, which are whole in memory before their first byte is written.
+/// Why a script or its opening is refused goes to where errors go, in one line.
+///
+/// Refused as `show_stream` is.
+pub fn show_threads<R: Threads + Wait + Sync, S: Source, K: Sink, E: Sink>(
+    rt: &R,
+    alloc: Global,
+    source: &mut S,
+    sink: &mut K,
+    errors: &mut E,
+) -> Result<End, RunFault>
+    ensures tells { TellsBy IsShownOnThreads (S.left source.old) (K.contents sink.old) (K.contents sink.new) result }
+    ensures stream { result ≡ Err RunFault.Stream → IsTrue (S.has_failed source.new) ⊎ IsTrue (K.has_failed sink.new) }
+{
+    let bytes = match read_capped(alloc, source) {
+        Ok(bytes) => bytes,
+        Err(fault) => return Err(fault),
+    };
+    let done = match done_of_bytes(rt, alloc, &bytes) {
+        Ok(done) => done,
+        Err(fault) => {
+            complain(alloc, errors, &bytes, fault);
+            return Err(RunFault::Fault(fault));
+        }
+    };
+    match write_whole(sink, done.text.as_bytes()) {
+        Ok(()) => Ok(done.end),
+        Err(_) => Err(RunFault::Stream),
+    }
+}
