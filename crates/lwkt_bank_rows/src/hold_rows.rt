@@ -9,7 +9,7 @@ use crate::hold_desks::{
 use lwkt_bank::{Bank, Closed, CpuSeat};
 use lwkt_base::{Answer, Ask, Cells, CpuId, Fault, Law, Mode, Ref, TokId, TokList};
 use lwkt_core::Event;
-use lwkt_fixtures::{Opened, tokens};
+use lwkt_fixtures::{Happening, Opened, are_these, tokens};
 use lwkt_hold::{Acquired, Blocked, Hold, Missed, Resumed};
 use std::alloc::{AllocError, Global};
 use std::process::Abort;
@@ -56,7 +56,7 @@ struct Played {
     cpus: usize,
     lines: &'static [Line],
     refs: &'static [Ref],
-    events: Option<&'static [Event]>,
+    events: Option<&'static [Happening]>,
 }
 
 // Why a table wasn't played to its end.
@@ -120,9 +120,9 @@ fn play_lines(desks: &mut Vec<ListedHold>, watch: &mut Watch, lines: &[Line]) ->
     Ok(())
 }
 
-fn has_events(desk: &ListedHold, events: Option<&[Event]>) -> bool {
+fn has_events(desk: &ListedHold, events: Option<&[Happening]>) -> bool {
     match events {
-        Some(want) => desk.trace() == want,
+        Some(want) => are_these(desk.trace(), want),
         None => true,
     }
 }
@@ -267,19 +267,19 @@ const REFUSALS: Played = Played {
     ],
     refs: &[],
     events: Some(&[
-        Event::Share {
+        Happening::Share {
             cpu: CpuId(0),
             tok: FIRST_TOKEN,
         },
-        Event::GiveOne {
+        Happening::GiveOne {
             cpu: CpuId(0),
             tok: FIRST_TOKEN,
         },
-        Event::Take {
+        Happening::Take {
             cpu: CpuId(0),
             tok: SECOND_TOKEN,
         },
-        Event::GiveClean {
+        Happening::GiveClean {
             cpu: CpuId(0),
             tok: SECOND_TOKEN,
         },
@@ -392,11 +392,11 @@ const MISSED_LIST: Played = Played {
     ],
     refs: &[],
     events: Some(&[
-        Event::Take {
+        Happening::Take {
             cpu: CpuId(0),
             tok: FIRST_TOKEN,
         },
-        Event::GiveClean {
+        Happening::GiveClean {
             cpu: CpuId(0),
             tok: FIRST_TOKEN,
         },

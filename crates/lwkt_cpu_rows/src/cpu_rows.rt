@@ -7,8 +7,8 @@ use crate::drivers::{Board, Seats, add, next_driver};
 use crate::scenes::{Deed, PLAIN, Scene, Step, Token, expect, first_other_deed, open_all};
 use crate::scripts::Script;
 use lwkt_base::{Answer, Ask, Call, CpuId, Fault, Flags, Law, MsgId, ThreadId, ThreadState, TokId};
-use lwkt_core::Event;
 use lwkt_cpu::{Body, Drove, Turned};
+use lwkt_fixtures::Happening;
 use std::alloc::Global;
 use std::test::Fail;
 
@@ -91,24 +91,24 @@ fn crossed_lists(rt: HostRuntime) {
 const CPU: CpuId = CpuId(0);
 
 // The cell is written, and has its first value again at the wait.
-const RESTORED: [Event; 4] = [
-    Event::Take {
+const RESTORED: [Happening; 4] = [
+    Happening::Take {
         cpu: CPU,
         tok: FIRST,
     },
-    Event::Write {
+    Happening::Write {
         cpu: CPU,
         tok: FIRST,
         cell: 0,
         value: 9,
     },
-    Event::Write {
+    Happening::Write {
         cpu: CPU,
         tok: FIRST,
         cell: 0,
         value: 5,
     },
-    Event::GiveClean {
+    Happening::GiveClean {
         cpu: CPU,
         tok: FIRST,
     },

@@ -2,7 +2,7 @@
 use crate::mail_rows::{OWN, THERE};
 use crate::scenes::{Deed, Scene, Step, Token, expect};
 use lwkt_base::{Answer, Ask, Call, CpuId, Fault, Item, Law, MsgId, ThreadState, TokId};
-use lwkt_core::Event;
+use lwkt_fixtures::Happening;
 
 const FIRST: Call = Call { arg: 10, op: 1 };
 
@@ -54,7 +54,7 @@ fn ended_port(rt: HostRuntime) {
     expect(&rt, rt.alloc(), &ENDED);
 }
 
-const REPLY: Event = Event::Reply {
+const REPLY: Happening = Happening::Reply {
     cpu: CpuId(1),
     msg: MSG,
 };

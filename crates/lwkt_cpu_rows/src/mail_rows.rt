@@ -11,8 +11,8 @@ use lwkt_base::{
     Answer, Ask, Call, CpuId, Fault, Flags, Item, MsgEnd, MsgId, MsgSpec, Owner, ThreadId,
     ThreadState,
 };
-use lwkt_core::Event;
 use lwkt_cpu::Cpu;
+use lwkt_fixtures::Happening;
 use std::alloc::Global;
 use std::test::Fail;
 
@@ -81,7 +81,7 @@ macro_rules! sends {
 
 macro_rules! sent {
     ($($m:literal)*) => {
-        [$(Event::Send { cpu: CpuId(0), msg: MsgId($m), to: CpuId(1), round: 1 }),*]
+        [$(Happening::Send { cpu: CpuId(0), msg: MsgId($m), to: CpuId(1), round: 1 }),*]
     };
 }
 
@@ -90,7 +90,7 @@ const SENDS: [Ask; 33] = sends!(
     0 1 2 3 4 5 6 7 8 9 10 11 12 13 14 15 16 17 18 19 20 21 22 23 24 25 26 27 28 29 30 31 32
 );
 
-const SENT: [Event; 32] = sent!(
+const SENT: [Happening; 32] = sent!(
     0 1 2 3 4 5 6 7 8 9 10 11 12 13 14 15 16 17 18 19 20 21 22 23 24 25 26 27 28 29 30 31
 );
 

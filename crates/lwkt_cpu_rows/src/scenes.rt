@@ -6,8 +6,8 @@ ghost use Rattle.lwkt_cpu_rows.specs.Free.{IsFree, IsGiven};
 use crate::drivers::{Board, Driver, Seats, Watch, add, next_driver, next_watch, open, token};
 use crate::scripts::{Script, one};
 use lwkt_base::{Answer, Ask, Fault, Law, MsgSpec, ThreadState, TokId, TokSpec};
-use lwkt_core::Event;
 use lwkt_cpu::{Body, Drove, Turned};
+use lwkt_fixtures::{Happening, are_these};
 use std::alloc::{AllocError, Global};
 use std::process::Abort;
 
@@ -54,7 +54,7 @@ pub enum Deed {
     /// It makes a turn, which answers so.
     Turned(Turned),
     /// It forgets its events and makes a turn, which answers so and makes these events.
-    Made(Turned, &'static [Event]),
+    Made(Turned, &'static [Happening]),
     /// It is driven for so many turns at most, which answers so.
     Drove(u64, Drove),
     /// It makes so many turns, each of which runs its thread.
@@ -64,7 +64,7 @@ pub enum Deed {
     /// Its events are forgotten.
     Forget,
     /// It has made these events.
-    Trace(&'static [Event]),
+    Trace(&'static [Happening]),
     /// Its thread is doing this.
     State(ThreadState),
     /// Its thread has so many references.
@@ -89,10 +89,14 @@ pub enum Step {
 }
 
 // Whether a turn answers so and makes these events alone.
-fn makes<B: Body>(driver: &mut Driver<B>, turned: Turned, events: &[Event]) -> Result<bool, Fault> {
+fn makes<B: Body>(
+    driver: &mut Driver<B>,
+    turned: Turned,
+    events: &[Happening],
+) -> Result<bool, Fault> {
     driver.forget();
     let made = driver.turn()?;
-    Ok(made == turned && driver.trace() == events)
+    Ok(made == turned && are_these(driver.trace(), events))
 }
 
 // Whether a processor that is made to do this does so, or is seen so.
@@ -114,7 +118,7 @@ fn acts<B: Body>(driver: &mut Driver<B>, deed: &Deed) -> Result<bool, Fault> {
             driver.forget();
             Ok(true)
         }
-        Deed::Trace(events) => Ok(driver.trace() == *events),
+        Deed::Trace(events) => Ok(are_these(driver.trace(), events)),
         Deed::State(state) => Ok(driver.state(0) == Some(*state)),
         Deed::References(count) => Ok(driver.references(0) == Some(*count)),
         Deed::Owed(count) => Ok(driver.owed() == *count),

@@ -1,8 +1,8 @@
 //! Threads that are passed over without a try while the word that refused them stands.
 use crate::scenes::{Deed, PLAIN, Scene, Step, expect};
 use lwkt_base::{Ask, CpuId, TokId};
-use lwkt_core::Event;
 use lwkt_cpu::Turned;
+use lwkt_fixtures::Happening;
 
 const FIRST: TokId = TokId(0);
 
@@ -12,27 +12,27 @@ const CPU: CpuId = CpuId(0);
 
 const RAN: Turned = Turned::Ran { thread: 0 };
 
-const TAKE_FIRST: Event = Event::Take {
+const TAKE_FIRST: Happening = Happening::Take {
     cpu: CPU,
     tok: FIRST,
 };
 
-const GIVE_FIRST: Event = Event::GiveClean {
+const GIVE_FIRST: Happening = Happening::GiveClean {
     cpu: CPU,
     tok: FIRST,
 };
 
-const TAKE_SECOND: Event = Event::Take {
+const TAKE_SECOND: Happening = Happening::Take {
     cpu: CPU,
     tok: SECOND,
 };
 
-const GIVE_SECOND: Event = Event::GiveClean {
+const GIVE_SECOND: Happening = Happening::GiveClean {
     cpu: CPU,
     tok: SECOND,
 };
 
-const MARK_SECOND: Event = Event::Mark {
+const MARK_SECOND: Happening = Happening::Mark {
     cpu: CPU,
     tok: SECOND,
 };
@@ -41,7 +41,7 @@ const WANTS: [Ask; 2] = [Ask::Get(FIRST), Ask::Get(SECOND)];
 
 const HOLDS: [Ask; 2] = [Ask::Get(SECOND), Ask::Rel(SECOND)];
 
-const TOOK_ALL: [Event; 4] = [TAKE_FIRST, TAKE_SECOND, GIVE_SECOND, GIVE_FIRST];
+const TOOK_ALL: [Happening; 4] = [TAKE_FIRST, TAKE_SECOND, GIVE_SECOND, GIVE_FIRST];
 
 // After a Get that has to switch nothing is kept, so the list is tried once; then it is passed over, and nothing is taken.
 // Once the other processor has released its token another word stands there, which is no refusal: the list is tried, and had.

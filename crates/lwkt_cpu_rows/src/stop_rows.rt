@@ -5,8 +5,8 @@ use crate::scenes::{Deed, PLAIN, Scene, Step, expect};
 use lwkt_base::{
     Answer, Ask, Call, CpuId, Fault, Item, MsgId, MsgSpec, ThreadId, ThreadState, TokId,
 };
-use lwkt_core::Event;
 use lwkt_cpu::Turned;
+use lwkt_fixtures::Happening;
 
 const TOKEN: TokId = TokId(0);
 
@@ -14,26 +14,26 @@ const CPU: CpuId = CpuId(0);
 
 const RAN: Turned = Turned::Ran { thread: 0 };
 
-const TAKE: Event = Event::Take {
+const TAKE: Happening = Happening::Take {
     cpu: CPU,
     tok: TOKEN,
 };
 
-const BREAK: Event = Event::Write {
+const BREAK: Happening = Happening::Write {
     cpu: CPU,
     tok: TOKEN,
     cell: 0,
     value: 9,
 };
 
-const RESTORE: Event = Event::Write {
+const RESTORE: Happening = Happening::Write {
     cpu: CPU,
     tok: TOKEN,
     cell: 0,
     value: 5,
 };
 
-const GIVE: Event = Event::GiveClean {
+const GIVE: Happening = Happening::GiveClean {
     cpu: CPU,
     tok: TOKEN,
 };
@@ -132,7 +132,7 @@ const BOTH_WAYS: [MsgSpec; 33] = [
     THEIRS, THEIRS, THEIRS, THEIRS, THEIRS, THEIRS, THEIRS, THEIRS, THEIRS,
 ];
 
-const REPLY: Event = Event::Reply {
+const REPLY: Happening = Happening::Reply {
     cpu: CpuId(1),
     msg: MSG,
 };

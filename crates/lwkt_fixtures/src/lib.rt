@@ -1,6 +1,9 @@
 //! What the tests of several crates share: tables of rows, and tokens as rows have them.
 #![tactic(auto)]
 
+mod happenings;
+
+pub use happenings::{Happening, are_these, events_of};
 use lwkt_base::{Cells, Law, TokSpec};
 use std::alloc::{AllocError, Global};
 

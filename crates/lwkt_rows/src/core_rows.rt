@@ -10,7 +10,7 @@ use lwkt_core::decisions::{decisions_are_events, pictures_fit};
 use lwkt_core::events::Place;
 use lwkt_core::messages::LAST_ROUND;
 use lwkt_core::{Event, Final, Lack, Message, State, Token, check};
-use lwkt_fixtures::{Opened, Row, cells, tokens};
+use lwkt_fixtures::{Happening, Opened, Row, cells, events_of, tokens};
 use std::alloc::{AllocError, Global};
 
 const FIRST: CpuId = CpuId(0);
@@ -146,33 +146,25 @@ fn token_final(
 struct Written(CpuId, u64, &'static [u64], &'static [u64]);
 
 impl Written {
-    // Its event, of a token of this number.
-    fn event_at(&self, tok: TokId) -> Event {
-        let section = Section {
-            before: Values::of(self.2),
-            after: Values::of(self.3),
-            generation: self.1,
-            tok,
-        };
-        Event::GiveWritten {
-            cpu: self.0,
-            tok,
-            section,
-        }
-    }
-
     fn event(&self) -> Event {
-        self.event_at(TOKEN)
+        let gives = Happening::GiveWritten {
+            cpu: self.0,
+            tok: TOKEN,
+            generation: self.1,
+            before: self.2,
+            after: self.3,
+        };
+        gives.event()
     }
 }
 
 // Events, and the written give behind them, if there is one.
 #[derive(Clone, Copy)]
-struct Events(&'static [Event], Option<Written>);
+struct Events(&'static [Happening], Option<Written>);
 
 impl Events {
     fn list(&self, alloc: Global) -> Result<Vec<Event>, AllocError> {
-        let mut events = Vec::from_slice(alloc, self.0)?;
+        let mut events = events_of(alloc, self.0)?;
         if let Some(written) = self.1 {
             events.push(written.event())?;
         }
@@ -220,139 +212,139 @@ impl Row for Trace {
     }
 }
 
-const FIRST_TAKES: Event = Event::Take {
+const FIRST_TAKES: Happening = Happening::Take {
     cpu: FIRST,
     tok: TOKEN,
 };
 
-const FIRST_SHARES: Event = Event::Share {
+const FIRST_SHARES: Happening = Happening::Share {
     cpu: FIRST,
     tok: TOKEN,
 };
 
-const FIRST_TAKES_AGAIN: Event = Event::Again {
+const FIRST_TAKES_AGAIN: Happening = Happening::Again {
     cpu: FIRST,
     tok: TOKEN,
 };
 
-const FIRST_GIVES_ONE: Event = Event::GiveOne {
+const FIRST_GIVES_ONE: Happening = Happening::GiveOne {
     cpu: FIRST,
     tok: TOKEN,
 };
 
-const SECOND_TAKES: Event = Event::Take {
+const SECOND_TAKES: Happening = Happening::Take {
     cpu: SECOND,
     tok: TOKEN,
 };
 
-const SECOND_SHARES: Event = Event::Share {
+const SECOND_SHARES: Happening = Happening::Share {
     cpu: SECOND,
     tok: TOKEN,
 };
 
-const SECOND_TAKES_AGAIN: Event = Event::Again {
+const SECOND_TAKES_AGAIN: Happening = Happening::Again {
     cpu: SECOND,
     tok: TOKEN,
 };
 
-const SECOND_GIVES_ONE: Event = Event::GiveOne {
+const SECOND_GIVES_ONE: Happening = Happening::GiveOne {
     cpu: SECOND,
     tok: TOKEN,
 };
 
-const FIRST_GIVES_CLEAN: Event = Event::GiveClean {
+const FIRST_GIVES_CLEAN: Happening = Happening::GiveClean {
     cpu: FIRST,
     tok: TOKEN,
 };
 
-const SECOND_LOADS: Event = Event::Load {
+const SECOND_LOADS: Happening = Happening::Load {
     cpu: SECOND,
     tok: TOKEN,
 };
 
-const SECOND_MARKS: Event = Event::Mark {
+const SECOND_MARKS: Happening = Happening::Mark {
     cpu: SECOND,
     tok: TOKEN,
 };
 
-const FIRST_READS_5: Event = Event::Read {
+const FIRST_READS_5: Happening = Happening::Read {
     cpu: FIRST,
     tok: TOKEN,
     cell: 0,
     value: 5,
 };
 
-const FIRST_READS_6: Event = Event::Read {
+const FIRST_READS_6: Happening = Happening::Read {
     cpu: FIRST,
     tok: TOKEN,
     cell: 0,
     value: 6,
 };
 
-const FIRST_READS_9: Event = Event::Read {
+const FIRST_READS_9: Happening = Happening::Read {
     cpu: FIRST,
     tok: TOKEN,
     cell: 0,
     value: 9,
 };
 
-const FIRST_READS_6_IN_CELL_1: Event = Event::Read {
+const FIRST_READS_6_IN_CELL_1: Happening = Happening::Read {
     cpu: FIRST,
     tok: TOKEN,
     cell: 1,
     value: 6,
 };
 
-const FIRST_WRITES_4: Event = Event::Write {
+const FIRST_WRITES_4: Happening = Happening::Write {
     cpu: FIRST,
     tok: TOKEN,
     cell: 0,
     value: 4,
 };
 
-const FIRST_WRITES_5: Event = Event::Write {
+const FIRST_WRITES_5: Happening = Happening::Write {
     cpu: FIRST,
     tok: TOKEN,
     cell: 0,
     value: 5,
 };
 
-const FIRST_WRITES_6: Event = Event::Write {
+const FIRST_WRITES_6: Happening = Happening::Write {
     cpu: FIRST,
     tok: TOKEN,
     cell: 0,
     value: 6,
 };
 
-const FIRST_WRITES_7: Event = Event::Write {
+const FIRST_WRITES_7: Happening = Happening::Write {
     cpu: FIRST,
     tok: TOKEN,
     cell: 0,
     value: 7,
 };
 
-const FIRST_WRITES_9: Event = Event::Write {
+const FIRST_WRITES_9: Happening = Happening::Write {
     cpu: FIRST,
     tok: TOKEN,
     cell: 0,
     value: 9,
 };
 
-const FIRST_WRITES_6_IN_CELL_1: Event = Event::Write {
+const FIRST_WRITES_6_IN_CELL_1: Happening = Happening::Write {
     cpu: FIRST,
     tok: TOKEN,
     cell: 1,
     value: 6,
 };
 
-const SECOND_WRITES_9: Event = Event::Write {
+const SECOND_WRITES_9: Happening = Happening::Write {
     cpu: SECOND,
     tok: TOKEN,
     cell: 0,
     value: 9,
 };
 
-const SECOND_WRITES_15: Event = Event::Write {
+const SECOND_WRITES_15: Happening = Happening::Write {
     cpu: SECOND,
     tok: TOKEN,
     cell: 0,
@@ -361,7 +353,7 @@ const SECOND_WRITES_15: Event = Event::Write {
 
 const PLAIN: Opened = Opened(Law::Any, 0, 0, &[0]);
 
-const WRITES_7: &[Event] = &[FIRST_TAKES, FIRST_WRITES_7];
+const WRITES_7: &[Happening] = &[FIRST_TAKES, FIRST_WRITES_7];
 
 const WROTE_7: Option<Written> = Some(Written(FIRST, 0, &[0], &[7]));
 
@@ -416,8 +408,8 @@ fn is_of_its_token(alloc: Global) -> bool {
         tok: TOKEN,
         section,
     };
-    state.step(&FIRST_TAKES).is_ok()
-        && state.step(&FIRST_WRITES_7).is_ok()
+    state.step(&FIRST_TAKES.event()).is_ok()
+        && state.step(&FIRST_WRITES_7.event()).is_ok()
         && state.lack(&gives) == Some(Lack::OtherSection)
         && is_refused(&mut state, &gives)
 }
@@ -434,7 +426,7 @@ fn checker_verdicts(rt: HostRuntime) {
 }
 
 // Events on a token of cells 5 and 6 that has them again at the end.
-struct Deeds(&'static [Event], Option<usize>);
+struct Deeds(&'static [Happening], Option<usize>);
 
 impl Row for Deeds {
     fn is_right(&self, alloc: Global) -> bool {
@@ -581,68 +573,68 @@ fn sections_and_tallies(rt: HostRuntime) {
     play(&rt, rt.alloc(), &SUMS);
 }
 
-const SENT: Event = Event::Send {
+const SENT: Happening = Happening::Send {
     cpu: FIRST,
     msg: MESSAGE,
     to: SECOND,
     round: 1,
 };
 
-const SENT_IN_ROUND_2: Event = Event::Send {
+const SENT_IN_ROUND_2: Happening = Happening::Send {
     cpu: FIRST,
     msg: MESSAGE,
     to: SECOND,
     round: 2,
 };
 
-const SENT_TO_ITSELF: Event = Event::Send {
+const SENT_TO_ITSELF: Happening = Happening::Send {
     cpu: FIRST,
     msg: MESSAGE,
     to: FIRST,
     round: 1,
 };
 
-const TAKEN: Event = Event::TakeMsg {
+const TAKEN: Happening = Happening::TakeMsg {
     cpu: SECOND,
     msg: MESSAGE,
     round: 1,
 };
 
-const TAKEN_OF_ROUND_2: Event = Event::TakeMsg {
+const TAKEN_OF_ROUND_2: Happening = Happening::TakeMsg {
     cpu: SECOND,
     msg: MESSAGE,
     round: 2,
 };
 
-const TAKEN_BY_ITSELF: Event = Event::TakeMsg {
+const TAKEN_BY_ITSELF: Happening = Happening::TakeMsg {
     cpu: FIRST,
     msg: MESSAGE,
     round: 1,
 };
 
-const REPLIED: Event = Event::Reply {
+const REPLIED: Happening = Happening::Reply {
     cpu: SECOND,
     msg: MESSAGE,
 };
 
-const REAPED: Event = Event::Reap {
+const REAPED: Happening = Happening::Reap {
     cpu: FIRST,
     msg: MESSAGE,
 };
 
-const DROPPED: Event = Event::DropMsg {
+const DROPPED: Happening = Happening::DropMsg {
     cpu: FIRST,
     msg: MESSAGE,
 };
 
-const ABORTED: Event = Event::Abort {
+const ABORTED: Happening = Happening::Abort {
     cpu: FIRST,
     msg: MESSAGE,
 };
 
 // Events of two processors on one message of 0.0, the owner and the round at the end, and the first event that isn't lawful,
 // or the number of events.
-struct Post(&'static [Event], Owner, u64, Option<usize>);
+struct Post(&'static [Happening], Owner, u64, Option<usize>);
 
 fn message_final(alloc: Global, round: u64, state: Owner) -> Result<Final, AllocError> {
     Ok(Final {
@@ -658,8 +650,11 @@ impl Row for Post {
         let Ok(opening) = State::open(alloc, &[], &[message(0, 0, 0)], 2) else {
             return false;
         };
+        let Ok(events) = events_of(alloc, self.0) else {
+            return false;
+        };
         match message_final(alloc, self.2, self.1) {
-            Ok(last) => refused_at(opening, self.0, &last) == self.3,
+            Ok(last) => refused_at(opening, &events, &last) == self.3,
             Err(_) => false,
         }
     }
@@ -719,8 +714,8 @@ fn book_basics_7_and_8(rt: HostRuntime) {
 fn held(alloc: Global) -> Option<State> {
     let specs = tokens(alloc, &[Opened(Law::Tally, 5, 3, &[5])]).ok()?;
     let mut state = State::open(alloc, &specs, &[message(0, 0, 7)], 2).ok()?;
-    state.step(&FIRST_TAKES).ok()?;
-    state.step(&FIRST_WRITES_6).ok()?;
+    state.step(&FIRST_TAKES.event()).ok()?;
+    state.step(&FIRST_WRITES_6.event()).ok()?;
     Some(state)
 }
 
@@ -736,7 +731,7 @@ fn shows(state: &State, want: &[Option<u64>; 5]) -> bool {
 const HELD: [Option<u64>; 5] = [Some(6), Some(5), Some(3), Some(1), Some(0)];
 
 // An event that can't happen, and changes nothing.
-struct Placeless(Event);
+struct Placeless(Happening);
 
 fn is_refused(state: &mut State, event: &Event) -> bool {
     !state.allows(event) && state.step(event) == Err(Fault::Unlawful { index: 0 })
@@ -745,7 +740,7 @@ fn is_refused(state: &mut State, event: &Event) -> bool {
 // Whether the checker refuses it right after an event that can happen.
 fn is_refused_in_trace(alloc: Global, state: State, event: Event) -> bool {
     match token_final(alloc, &[6], 4, &[1, 0]) {
-        Ok(last) => refused_at(state, &[FIRST_READS_6, event], &last) == Some(1),
+        Ok(last) => refused_at(state, &[FIRST_READS_6.event(), event], &last) == Some(1),
         Err(_) => false,
     }
 }
@@ -755,9 +750,10 @@ impl Row for Placeless {
         let Some(mut state) = held(alloc) else {
             return false;
         };
-        is_refused(&mut state, &self.0)
+        let event = self.0.event();
+        is_refused(&mut state, &event)
             && shows(&state, &HELD)
-            && is_refused_in_trace(alloc, state, self.0)
+            && is_refused_in_trace(alloc, state, event)
     }
 }
 
@@ -768,167 +764,178 @@ const FAR_TOKEN: TokId = TokId(64);
 const FAR_MESSAGE: MsgId = MsgId(64);
 
 // Events that name a processor, token, cell or message that is not there.
-const PLACELESS: [Placeless; 33] = [
-    Placeless(Event::Load {
+const PLACELESS: [Placeless; 35] = [
+    Placeless(Happening::Load {
         cpu: FAR,
         tok: TOKEN,
     }),
-    Placeless(Event::Take {
+    Placeless(Happening::Take {
         cpu: FAR,
         tok: TOKEN,
     }),
-    Placeless(Event::Share {
+    Placeless(Happening::Share {
         cpu: FAR,
         tok: TOKEN,
     }),
-    Placeless(Event::Again {
+    Placeless(Happening::Again {
         cpu: FAR,
         tok: TOKEN,
     }),
-    Placeless(Event::Mark {
+    Placeless(Happening::Mark {
         cpu: FAR,
         tok: TOKEN,
     }),
-    Placeless(Event::GiveOne {
+    Placeless(Happening::GiveOne {
         cpu: FAR,
         tok: TOKEN,
     }),
-    Placeless(Event::GiveClean {
+    Placeless(Happening::GiveClean {
         cpu: FAR,
         tok: TOKEN,
     }),
-    Placeless(Event::Read {
+    Placeless(Happening::Read {
         cpu: FAR,
         tok: TOKEN,
         cell: 0,
         value: 6,
     }),
-    Placeless(Event::Write {
+    Placeless(Happening::Write {
         cpu: FAR,
         tok: TOKEN,
         cell: 0,
         value: 7,
     }),
-    Placeless(Event::Load {
+    Placeless(Happening::Load {
         cpu: FIRST,
         tok: FAR_TOKEN,
     }),
-    Placeless(Event::Take {
+    Placeless(Happening::Take {
         cpu: FIRST,
         tok: FAR_TOKEN,
     }),
-    Placeless(Event::Mark {
+    Placeless(Happening::Mark {
         cpu: FIRST,
         tok: FAR_TOKEN,
     }),
-    Placeless(Event::Read {
+    Placeless(Happening::Read {
         cpu: FIRST,
         tok: TOKEN,
         cell: 4,
         value: 0,
     }),
-    Placeless(Event::Write {
+    Placeless(Happening::Write {
         cpu: FIRST,
         tok: TOKEN,
         cell: 4,
         value: 0,
     }),
-    Placeless(Event::Send {
+    Placeless(Happening::Send {
         cpu: FIRST,
         msg: MESSAGE,
         to: FAR,
         round: 8,
     }),
-    Placeless(Event::Send {
+    Placeless(Happening::Send {
         cpu: FAR,
         msg: MESSAGE,
         to: SECOND,
         round: 8,
     }),
-    Placeless(Event::Send {
+    Placeless(Happening::Send {
         cpu: FIRST,
         msg: FAR_MESSAGE,
         to: SECOND,
         round: 8,
     }),
-    Placeless(Event::TakeMsg {
+    Placeless(Happening::TakeMsg {
         cpu: FAR,
         msg: MESSAGE,
         round: 7,
     }),
-    Placeless(Event::Reap {
+    Placeless(Happening::Reap {
         cpu: FIRST,
         msg: FAR_MESSAGE,
     }),
-    Placeless(Event::Abort {
+    Placeless(Happening::Abort {
         cpu: FAR,
         msg: MESSAGE,
     }),
-    Placeless(Event::Share {
+    Placeless(Happening::Share {
         cpu: FIRST,
         tok: FAR_TOKEN,
     }),
-    Placeless(Event::Again {
+    Placeless(Happening::Again {
         cpu: FIRST,
         tok: FAR_TOKEN,
     }),
-    Placeless(Event::GiveOne {
+    Placeless(Happening::GiveOne {
         cpu: FIRST,
         tok: FAR_TOKEN,
     }),
-    Placeless(Event::GiveClean {
+    Placeless(Happening::GiveClean {
         cpu: FIRST,
         tok: FAR_TOKEN,
     }),
-    Placeless(Event::Read {
+    Placeless(Happening::Read {
         cpu: FIRST,
         tok: FAR_TOKEN,
         cell: 0,
         value: 6,
     }),
-    Placeless(Event::Write {
+    Placeless(Happening::Write {
         cpu: FIRST,
         tok: FAR_TOKEN,
         cell: 0,
         value: 7,
     }),
-    Placeless(Event::TakeMsg {
+    Placeless(Happening::TakeMsg {
         cpu: FIRST,
         msg: FAR_MESSAGE,
         round: 7,
     }),
-    Placeless(Event::DropMsg {
+    Placeless(Happening::DropMsg {
         cpu: FAR,
         msg: MESSAGE,
     }),
-    Placeless(Event::DropMsg {
+    Placeless(Happening::DropMsg {
         cpu: FIRST,
         msg: FAR_MESSAGE,
     }),
-    Placeless(Event::Reply {
+    Placeless(Happening::Reply {
         cpu: FAR,
         msg: MESSAGE,
     }),
-    Placeless(Event::Reply {
+    Placeless(Happening::Reply {
         cpu: FIRST,
         msg: FAR_MESSAGE,
     }),
-    Placeless(Event::Reap {
+    Placeless(Happening::Reap {
         cpu: FAR,
         msg: MESSAGE,
     }),
-    Placeless(Event::Abort {
+    Placeless(Happening::Abort {
         cpu: FIRST,
         msg: FAR_MESSAGE,
+    }),
+    Placeless(Happening::GiveWritten {
+        cpu: FAR,
+        tok: TOKEN,
+        generation: 3,
+        before: &[5],
+        after: &[6],
+    }),
+    Placeless(Happening::GiveWritten {
+        cpu: FIRST,
+        tok: FAR_TOKEN,
+        generation: 3,
+        before: &[5],
+        after: &[6],
     }),
 ];
 
 #[test]
 fn events_without_a_place(rt: HostRuntime) {
-    let gives = Written(FAR, 3, &[5], &[6]).event();
-    let elsewhere = Written(FIRST, 3, &[5], &[6]).event_at(FAR_TOKEN);
     play(&rt, rt.alloc(), &PLACELESS);
-    play(&rt, rt.alloc(), &[Placeless(gives), Placeless(elsewhere)]);
 }
 
 // Whether nothing is told of a cell, a token and a processor that aren't there.
@@ -988,11 +995,12 @@ fn readers_of_a_state(rt: HostRuntime) {
 }
 
 // An event, its processor, its place, and whether it adds a reference.
-struct Parts(Event, CpuId, Place, bool);
+struct Parts(Happening, CpuId, Place, bool);
 
 impl Row for Parts {
     fn is_right(&self, _alloc: Global) -> bool {
-        self.0.cpu() == self.1 && self.0.place() == self.2 && self.0.adds_reference() == self.3
+        let event = self.0.event();
+        event.cpu() == self.1 && event.place() == self.2 && event.adds_reference() == self.3
     }
 }
 
@@ -1023,14 +1031,14 @@ fn tally_token(alloc: Global) -> Result<Token, AllocError> {
 const ONCE: Held = Held::Holds(Mode::Exclusive, 0);
 
 fn is_free(token: &Token) -> bool {
-    token.is_free() && token.is_open() && token.allows(&SECOND_TAKES)
+    token.is_free() && token.is_open() && token.allows(&SECOND_TAKES.event())
 }
 
 fn is_taken(token: &Token) -> bool {
     let gives = Written(SECOND, 0, &[10], &[15]).event();
     !token.is_free()
         && !token.is_open()
-        && !token.allows(&FIRST_TAKES)
+        && !token.allows(&FIRST_TAKES.event())
         && token.allows(&gives)
         && token.held_by(SECOND) == ONCE
         && token.held_by(FAR) == Held::Nothing
@@ -1068,7 +1076,8 @@ fn parts_of_the_model(rt: HostRuntime) {
     play(&rt, rt.alloc(), &PARTS);
     assert!(rt; is_token_told(rt.alloc()));
     let message = AT_REST;
-    assert!(rt; message.allows(2, &SENT) && !message.allows(1, &SENT));
+    let sent = SENT.event();
+    assert!(rt; message.allows(2, &sent) && !message.allows(1, &sent));
     failure_refutes();
     failure_is_only();
     decisions_are_events();
