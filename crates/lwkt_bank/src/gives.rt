@@ -11,7 +11,7 @@ ghost use Rattle.lwkt_bank.specs.Seats.{id_of, bank_of, tokens_of, plan_of, entr
 
 use crate::answers::Given;
 use crate::banks::Bank;
-use crate::notes::Touch;
+use crate::notes::{Change, Touch};
 use crate::places::generation_in;
 use crate::seats::CpuSeat;
 use crate::steps;
@@ -93,8 +93,49 @@ impl CpuSeat {
         generation_in(found)
     }
 
+    // Ends a written section of a token with one cell, and tells it, without a loop.
+    #[inline(always)]
+    fn end_single(&mut self, bank: &Bank, tok: TokId) -> Section
+        requires of { bank_of self.old ≡ id_of bank.now }
+        requires there { tok.0 < tokens_of (bank_of self.old) }
+        requires single { (plan_of (bank_of self.old) tok.0).cells ≡ 1 }
+        requires last { holding self.old tok.0 ≡ Held.Holds Mode.Exclusive 0 }
+        requires written { (entry self.old tok.0).row ≢ (entry self.old tok.0).first }
+        requires lawful { MeetsLaw (plan_of (bank_of self.old) tok.0).law (plan_of (bank_of self.old) tok.0).param (entry self.old tok.0).row }
+        ensures { SectionEnded self.old self.new tok.0 result }
+    {
+        let Change { first, last } = self.change_of(bank, tok, 0);
+        let generation = self.end_written(bank, tok);
+        Section {
+            before: Row::of(&[first]),
+            after: Row::of(&[last]),
+            generation,
+            tok,
+        }
+    }
+
+    // The same of a token with any number of cells.
+    #[inline(always)]
+    fn end_whole(&mut self, bank: &Bank, tok: TokId) -> Section
+        requires of { bank_of self.old ≡ id_of bank.now }
+        requires there { tok.0 < tokens_of (bank_of self.old) }
+        requires last { holding self.old tok.0 ≡ Held.Holds Mode.Exclusive 0 }
+        requires written { (entry self.old tok.0).row ≢ (entry self.old tok.0).first }
+        requires lawful { MeetsLaw (plan_of (bank_of self.old) tok.0).law (plan_of (bank_of self.old) tok.0).param (entry self.old tok.0).row }
+        ensures { SectionEnded self.old self.new tok.0 result }
+    {
+        let (before, after) = self.both_rows(bank, tok);
+        let generation = self.end_written(bank, tok);
+        Section {
+            before,
+            after,
+            generation,
+            tok,
+        }
+    }
+
     // Ends a written section, and tells it.
-    #[inline]
+    #[inline(always)]
     fn end_told(&mut self, bank: &Bank, tok: TokId) -> Section
         requires of { bank_of self.old ≡ id_of bank.now }
         requires there { tok.0 < tokens_of (bank_of self.old) }
@@ -103,19 +144,14 @@ impl CpuSeat {
         requires lawful { MeetsLaw (plan_of (bank_of self.old) tok.0).law (plan_of (bank_of self.old) tok.0).param (entry self.old tok.0).row }
         ensures { SectionEnded self.old self.new tok.0 result }
     {
-        let cells = bank.cells(tok);
-        let (before, after) = self.both_rows(bank, tok);
-        let generation = self.end_written(bank, tok);
-        Section {
-            before: Row::of(&before[..cells]),
-            after: Row::of(&after[..cells]),
-            generation,
-            tok,
+        if bank.cells(tok) == 1 {
+            return self.end_single(bank, tok);
         }
+        self.end_whole(bank, tok)
     }
 
     // Ends a section.
-    #[inline]
+    #[inline(always)]
     fn end(&mut self, bank: &Bank, tok: TokId) -> Given
         requires of { bank_of self.old ≡ id_of bank.now }
         requires there { tok.0 < tokens_of (bank_of self.old) }

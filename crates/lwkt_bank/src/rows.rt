@@ -10,7 +10,7 @@ ghost use Rattle.lwkt_bank.specs.Seats.{id_of, bank_of, tokens_of, plan_of, entr
 use crate::banks::Bank;
 use crate::notes::Change;
 use crate::seats::CpuSeat;
-use lwkt_base::{Law, TokId};
+use lwkt_base::{Law, Row, TokId};
 
 // Whether the law asks nothing of a row.
 fn asks_nothing(law: Law) -> bool
@@ -38,9 +38,10 @@ impl CpuSeat {
         values
     }
 
-    // The row of the section's beginning, and the row; past their ends zeros. Each cell that wasn't stored to is loaded once.
+    // The cells of the row of the section's beginning, and of the row; past their ends zeros. Each cell that wasn't stored to
+    // is loaded once.
     #[inline]
-    pub(crate) fn both_rows(&mut self, bank: &Bank, tok: TokId) -> ([u64; 4], [u64; 4])
+    fn both_cells(&mut self, bank: &Bank, tok: TokId) -> ([u64; 4], [u64; 4])
         requires of { bank_of self.old ≡ id_of bank.now }
         requires there { tok.0 < tokens_of (bank_of self.old) }
         requires held { is_exclusive (holding self.old tok.0) ≡ true }
@@ -57,6 +58,21 @@ impl CpuSeat {
             after[cell] = last;
         }
         (before, after)
+    }
+
+    // The row of the section's beginning, and the row. Each cell that wasn't stored to is loaded once.
+    #[inline(never)]
+    pub(crate) fn both_rows(&mut self, bank: &Bank, tok: TokId) -> (Row, Row)
+        requires of { bank_of self.old ≡ id_of bank.now }
+        requires there { tok.0 < tokens_of (bank_of self.old) }
+        requires held { is_exclusive (holding self.old tok.0) ≡ true }
+        ensures first { result.0 ≡ (entry self.old tok.0).first }
+        ensures row { result.1 ≡ (entry self.old tok.0).row }
+        ensures knowing { Knowing self.old self.new tok.0 (entry self.old tok.0) (last_loads self.old.cpu tok.0 (entry self.old tok.0) (plan_of (bank_of self.old) tok.0).cells) }
+    {
+        let cells = bank.cells(tok);
+        let (before, after) = self.both_cells(bank, tok);
+        (Row::of(&before[..cells]), Row::of(&after[..cells]))
     }
 
     // The same as `lawful`, each cell loaded.

@@ -1,40 +1,31 @@
-use Rattle.std.proofs.Common.{⊎_elim, ◌≡◌, ◌+◌, ◌<◌, ℕ, length, List, set, ap, sym, ◌∙◌, subst, arith, length-set, get_or-set_same, get_or-set_other}
-use Rattle.std.specs.Prelude.{slice_index}
-use Rattle.std.proofs.lemmas.Bool.{cases_eq}
+use Rattle.std.proofs.Common.{◌≡◌, ◌∙◌, take, ap, sym, arith}
 use Rattle.lwkt_bank.specs.declared.views.Plan.{Plan}
-use Rattle.lwkt_bank.specs.declared.views.TokenEntry.{TokenEntry}
 use Rattle.lwkt_bank.specs.Rule.{plan_at}
 use Rattle.lwkt_bank.specs.Seats.{entry}
-use Rattle.lwkt_bank.proofs.ChangeMoves.{plan_is, short_row}
-use Rattle.lwkt_bank.proofs.CellMoves.{loads_more}
+use Rattle.lwkt_bank.proofs.ChangeMoves.{plan_is, short_row, cells_read}
+use Rattle.lwkt_bank.proofs.TurnMoves.{exclusive_held}
 use Rattle.lwkt_bank.proofs.seats.CpuSeat.both_rows.Goals as goal
 
--- one cell more of a list that is to have the cells of a row
-filled : (values row : List ℕ) (cell value : ℕ) → cell < length values → value ≡ slice_index row cell → ((k : ℕ) → k < cell → slice_index values k ≡ slice_index row k) → (k : ℕ) → k < cell + 1 → slice_index (set values cell value) k ≡ slice_index row k
-filled values row cell value inside is before k low = ⊎_elim
-    (λ (now : k ≡ cell).
-    let F : ℕ → Type 0 = λ j. slice_index (set values cell value) j ≡ slice_index row j in
-    subst F (sym now) (get_or-set_same values cell value 0 inside ∙ is))
-    (λ away. get_or-set_other values cell k value 0 away ∙ before k (omega arith))
-    (cases_eq k cell)
-
-pub loop-cell-preserved : goal.loop-cell-preserved
-loop-cell-preserved c =
+pub returns-clause-first : goal.returns-clause-first
+returns-clause-first c =
     let s = c.args.self.now in
     let t = c.args.tok.0 in
-    let i = c.loop-cell.invariant in
-    let cell = c.loop-cell.cell in
-    let change = c.change_of-first.result in
-    let cells : (plan_at s.seat.me.0.plans t).cells ≡ c.cells-cell-end.result = ap (λ (p : Plan). p.cells) (plan_is c.args.bank.now s t c.requires.of) ∙ sym c.cells-cell-end.ensures.is in
+    let r = c.both_cells in
+    let cells : c.cells-cells.result ≡ (plan_at s.seat.me.0.plans t).cells = c.cells-cells.ensures.is ∙ sym (ap (λ (p : Plan). p.cells) (plan_is c.args.bank.now s t c.requires.of)) in
     let short = short_row c.args.bank.now s t c.requires.of in
-    let test = c.loop-cell-test.true in
-    let first : change.first ≡ slice_index (entry s t).first cell = c.change_of-first.ensures.first ∙ ap (λ (e : TokenEntry). slice_index e.first cell) i.knowing.changes.here in
-    let last : change.last ≡ slice_index (entry s t).row cell = c.change_of-first.ensures.last ∙ ap (λ (e : TokenEntry). slice_index e.row cell) i.knowing.changes.here in
-    let before_long = i.four.0 in
-    let after_long = i.four.1 in
-    record {
-      four = (length-set c.loop-cell.before cell change.first ∙ i.four.0, length-set c.loop-cell.after cell change.last ∙ i.four.1);
-      first = filled c.loop-cell.before (entry s t).first cell change.first (omega arith) first i.first;
-      row = filled c.loop-cell.after (entry s t).row cell change.last (omega arith) last i.row;
-      knowing = loads_more s c.loop-cell.self c.change_of-first.new.self t cell i.knowing c.change_of-first.ensures.knowing;
-    }
+    let long = (s.kept.each t c.requires.there).long (exclusive_held (entry s t).held c.requires.held) in
+    let before : take c.cells-cells.result r.result.0 ≡ (entry s t).first
+    = cells_read r.result.0 (entry s t).first c.cells-cells.result (long.0 ∙ sym cells) (omega arith) r.ensures.four.0 (λ cell low. r.ensures.first cell (omega arith)) in
+    c.of.ensures ∙ before
+
+pub returns-clause-row : goal.returns-clause-row
+returns-clause-row c =
+    let s = c.args.self.now in
+    let t = c.args.tok.0 in
+    let r = c.both_cells in
+    let cells : c.cells-cells.result ≡ (plan_at s.seat.me.0.plans t).cells = c.cells-cells.ensures.is ∙ sym (ap (λ (p : Plan). p.cells) (plan_is c.args.bank.now s t c.requires.of)) in
+    let short = short_row c.args.bank.now s t c.requires.of in
+    let long = (s.kept.each t c.requires.there).long (exclusive_held (entry s t).held c.requires.held) in
+    let after : take c.cells-cells.result r.result.1 ≡ (entry s t).row
+    = cells_read r.result.1 (entry s t).row c.cells-cells.result (long.1 ∙ sym cells) (omega arith) r.ensures.four.1 (λ cell low. r.ensures.row cell (omega arith)) in
+    c.of-2.ensures ∙ after

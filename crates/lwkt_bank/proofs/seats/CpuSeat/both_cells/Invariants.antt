@@ -1,7 +1,7 @@
 use Rattle.std.proofs.Common.{◌≡◌, ℕ, ◌<◌, length}
 use Rattle.std.specs.Prelude.{slice_index}
 use Rattle.lwkt_bank.specs.Seats.{entry, Knowing, last_loads}
-use Rattle.lwkt_bank.proofs.seats.CpuSeat.both_rows.Given as goal
+use Rattle.lwkt_bank.proofs.seats.CpuSeat.both_cells.Given as goal
 
 abbrev pub invariant-loop-cell : goal.invariant-loop-cell
 invariant-loop-cell l = record {
