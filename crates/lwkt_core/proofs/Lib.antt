@@ -17,3 +17,4 @@ pub mod RunChainLemmas
 pub mod PartLemmas
 pub mod SectionParts
 pub mod TellLemmas
+pub mod OrderLemmas

@@ -30,15 +30,15 @@ none_held zero cpu = refl
 none_held (suc n) zero = refl
 none_held (suc n) (suc cpu) = none_held n cpu
 
-opens_open : (specs : List TokSpec) → All IsOpen (map opened_token specs)
+pub opens_open : (specs : List TokSpec) → All IsOpen (map opened_token specs)
 opens_open specs = All-map IsOpen opened_token specs (λ i d inside cpu. ap (λ (held : Held). is_exclusive held) (none_held CPU_LIMIT cpu))
 
 -- a token that nobody holds is held exclusively by nobody
-free_open : (tok : Token) → IsFree tok → IsOpen tok
+pub free_open : (tok : Token) → IsFree tok → IsOpen tok
 free_open tok free cpu = ap (λ (held : Held). is_exclusive held) (free cpu)
 
 -- an opening without its messages
-without_messages : (cpus : ℕ) (tokens : List TokSpec) (messages : List MsgSpec) → AreWithin cpus tokens messages → AreWithin cpus tokens []
+pub without_messages : (cpus : ℕ) (tokens : List TokSpec) (messages : List MsgSpec) → AreWithin cpus tokens messages → AreWithin cpus tokens []
 without_messages cpus tokens messages within = record {
   some_processor = within.some_processor;
   processors = within.processors;

@@ -7,3 +7,7 @@ pub mod RoundMoves
 pub mod RunLemmas
 pub mod ThreadedLemmas
 pub mod ThreadedMoves
+pub mod GatherMoves
+pub mod StopMoves
+pub mod ToldMoves
+pub mod SectionMoves

@@ -1,9 +1,10 @@
 -- What stands of a run on threads at its end.
-use Rattle.std.proofs.Common.{◌≡◌, ℕ, List, [], ◌∷◌, length, map, refl, ap, ◌∙◌}
+use Rattle.std.proofs.Common.{◌≡◌, ℕ, List, [], ◌∷◌, length, map, refl, ap, subst, ◌∙◌, IsPermutation}
 use Rattle.std.specs.Prelude.{Bool, Vec}
 use Rattle.std.specs.declared.alloc.Global.{Global}
 use Rattle.lwkt_base.specs.declared.names.CpuId.{CpuId}
 use Rattle.lwkt_base.specs.declared.openings.MsgSpec.{MsgSpec}
+use Rattle.lwkt_base.specs.declared.sections.Section.{Section}
 use Rattle.lwkt_core.specs.declared.events.Event.{Event}
 use Rattle.lwkt_core.specs.declared.finals.Final.{Final}
 use Rattle.lwkt_core.specs.declared.messages.Message.{Message}
@@ -24,7 +25,8 @@ use Rattle.lwkt_threads.specs.Driven.{IsDrivenMachine}
 use Rattle.lwkt_threads.proofs.PartMoves.{threads_tell}
 use Rattle.lwkt_run.specs.Leaving.{Leaves}
 use Rattle.lwkt_run.specs.Running.{HasThreads, ShowThreads}
-use Rattle.lwkt_run.specs.Threaded.{RunsOnThreads}
+use Rattle.lwkt_run.specs.Telling.{sections_of_all, AreSorted}
+use Rattle.lwkt_run.specs.Threaded.{EndsOnThreads}
 use Rattle.lwkt_run.proofs.IdMoves.{opened_has}
 use Rattle.lwkt_run.proofs.RoundMoves.{has_driven}
 
@@ -47,19 +49,25 @@ pub driven_has : (answers : CpuId → ℕ → Bool → Type 0) (script : Script)
 driven_has answers script opened driven traces opens drives =
     has_driven answers (record { turns = script.turns; idle = script.idle }) opened.bank script.cpus script.threads opened.cpus driven.cpus traces drives.cpus (opened_has script opened opens)
 
-pub ran : (answers : CpuId → ℕ → Bool → Type 0) (script : Script) (lines : List ThreadLine) (last : Final) (opened driven : Rig) (traces : List (Vec Event Global)) (none stops : Vec Event Global) → IsOpenedMachine script opened → AreWithin script.cpus script.tokens script.messages → IsDrivenMachine answers (record { turns = script.turns; idle = script.idle }) opened driven traces → none.items ≡ [] → ShowThreads lines driven → Leaves driven none stops last → RunsOnThreads answers script lines last
-ran answers script lines last opened driven traces none stops opens within drives empty shown leaves = record {
-  opened = opened;
-  driven = driven;
-  traces = traces;
-  none = none;
-  stops = stops;
-  opens = opens;
-  drives = drives;
-  empty = empty;
-  shown = shown;
-  leaves = leaves;
-  tells = threads_tell answers (record { turns = script.turns; idle = script.idle }) script opened driven leaves.stopped traces none stops leaves.closed opens drives empty leaves.stops leaves.closes;
-  tokens_from = tokens_from script opened opens within;
-  messages_from = messages_from script opened opens;
+-- what a run on threads left, with the sections that were told of it
+pub ended : (answers : CpuId → ℕ → Bool → Type 0) (script : Script) (lines : List ThreadLine) (last : Final) (opened driven : Rig) (traces : List (Vec Event Global)) (none stops : Vec Event Global) (told : List Event) (sections : List Section) → IsOpenedMachine script opened → AreWithin script.cpus script.tokens script.messages → IsDrivenMachine answers (record { turns = script.turns; idle = script.idle }) opened driven traces → none.items ≡ [] → ShowThreads lines driven → Leaves driven none stops last
+    → told ≡ stops.items → IsPermutation (sections_of_all traces told) sections → AreSorted sections → EndsOnThreads answers script lines last sections
+ended answers script lines last opened driven traces none stops told sections opens within drives empty shown leaves are same sorted = record {
+  runs = record {
+    opened = opened;
+    driven = driven;
+    traces = traces;
+    none = none;
+    stops = stops;
+    opens = opens;
+    drives = drives;
+    empty = empty;
+    shown = shown;
+    leaves = leaves;
+    tells = threads_tell answers (record { turns = script.turns; idle = script.idle }) script opened driven leaves.stopped traces none stops leaves.closed opens drives empty leaves.stops leaves.closes;
+    tokens_from = tokens_from script opened opens within;
+    messages_from = messages_from script opened opens;
+  };
+  told = subst (λ (events : List Event). IsPermutation (sections_of_all traces events) sections) are same;
+  sorted = sorted;
 }

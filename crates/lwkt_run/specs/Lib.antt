@@ -5,3 +5,4 @@ pub mod Run
 pub mod Running
 pub mod Values
 pub mod Threaded
+pub mod Telling

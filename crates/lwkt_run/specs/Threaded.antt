@@ -1,10 +1,12 @@
 -- What a run on threads writes and answers (own).
 use Rattle.std.specs.Global.{Global}
-use Rattle.std.specs.Prelude.{codes, length, All, string_bytes, String, Vec, ◌≡◌, ℕ, Bool, true, List, [], map, is_some, Option, Result, Ok}
+use Rattle.std.specs.Prelude.{codes, length, All, string_bytes, String, Vec, ◌≡◌, ℕ, Bool, true, List, [], map, is_some, Option, Result, Ok, IsPermutation}
 use Rattle.lwkt_base.specs.declared.names.CpuId.{CpuId}
 use Rattle.lwkt_core.specs.declared.events.Event.{Event}
 use Rattle.lwkt_core.specs.declared.finals.Final.{Final}
+use Rattle.lwkt_base.specs.declared.sections.Section.{Section}
 use Rattle.lwkt_core.specs.History.{events_in}
+use Rattle.lwkt_core.specs.RunSections.{sections_in}
 use Rattle.lwkt_core.specs.Opening.{opening, AreWithin, AllOpenLawfully}
 use Rattle.lwkt_bank.specs.Told.{first_machine}
 use Rattle.lwkt_msg.specs.Steps.{machine_of}
@@ -21,7 +23,9 @@ use Rattle.lwkt_report.specs.Report.{report_text}
 use Rattle.lwkt_script.specs.declared.scripts.Script.{Script}
 use Rattle.lwkt_script.specs.Format.{script_of}
 use Rattle.lwkt_run.specs.declared.runs.End.{End}
+use Rattle.lwkt_run.specs.declared.threaded.ThreadRecord.{ThreadRecord}
 use Rattle.lwkt_run.specs.Chains.{WritesChains}
+use Rattle.lwkt_run.specs.Telling.{sections_of_all, AreSorted, AreTold}
 use Rattle.lwkt_run.specs.Judging.{ids_of}
 use Rattle.lwkt_run.specs.Leaving.{Leaves}
 use Rattle.lwkt_run.specs.Running.{ShowThreads}
@@ -48,9 +52,17 @@ pub record RunsOnThreads (answers : CpuId → ℕ → Bool → Type 0) (script :
   pub tokens_from : first_machine opened.bank.plans (length opened.cpus) ≡ opening script.cpus script.tokens []
   pub messages_from : machine_of opened.book.cpus (first_mails opened.book.specs) ≡ opening script.cpus [] script.messages
 
+-- what stands of a run on threads at its end: its closing values, the lines of its threads, and the written sections that its traces
+-- and its stop tell, by token and generation
+pub record EndsOnThreads (answers : CpuId → ℕ → Bool → Type 0) (script : Script) (lines : List ThreadLine) (last : Final) (sections : List Section) : Type 0 where
+  pub runs : RunsOnThreads answers script lines last
+  pub told : IsPermutation (sections_of_all runs.traces runs.stops.items) sections
+  pub sorted : AreSorted sections
+
 -- the values may be those of a run of the script on threads: its opening was accepted, a tally line stands exactly under a Tally
 -- token, each thread has its line, they are those of such a run, the written sections of that run are chains from the opening rows to
--- those of the token lines, and the report says no more than that bank and book were closed
+-- those of the token lines; what its traces and its stop tell of them, in order, are these, and passes the checker of sections, so the
+-- report says that bank and book were closed
 pub record MayCloseOnThreads (answers : CpuId → ℕ → Bool → Type 0) (script : Script) (closing : Closing) : Type 0 where
   pub within : AreWithin script.cpus script.tokens script.messages
   pub lawful_opening : AllOpenLawfully script.tokens
@@ -61,6 +73,15 @@ pub record MayCloseOnThreads (answers : CpuId → ℕ → Bool → Type 0) (scri
   pub shows : ShowsClosing closing last
   pub runs : RunsOnThreads answers script closing.threads.items last
   pub chains : WritesChains (opening script.cpus script.tokens []) (events_in runs.tells.tokens.history) last
+  pub sections : List Section
+  pub told : AreTold (opening script.cpus script.tokens []) runs.traces runs.stops.items last sections
+  pub written : sections ≡ sections_in (opening script.cpus script.tokens []) (events_in runs.tells.tokens.history)
+
+-- what was kept of a run of the script on threads: what its report shows, and the written sections that its traces and its stop tell,
+-- in order
+pub record IsThreadRecord (answers : CpuId → ℕ → Bool → Type 0) (script : Script) (kept : ThreadRecord) : Type 0 where
+  pub closes : MayCloseOnThreads answers script kept.closing
+  pub sections_are : kept.sections.items ≡ closes.sections
 
 -- these bytes are a script, and a run of it on threads may end so, with this report
 pub record HasThreadedRun (answers : CpuId → ℕ → Bool → Type 0) (bytes : List ℕ) (end : End) (text : List ℕ) : Type 0 where

@@ -8,6 +8,7 @@ mod records;
 mod reports;
 mod rounds;
 mod runs;
+mod tellings;
 mod threaded;
 mod verdicts;
 
@@ -16,4 +17,4 @@ pub use lwkt_script::{Script, read_script};
 pub use lwkt_threads::{Gate, OpenGate};
 pub use programs::{finish, run_program};
 pub use runs::{End, TurnsRun, end_told, run_turns, turns_run};
-pub use threaded::{run_threads, run_threads_gated};
+pub use threaded::{ThreadRecord, record_threads, run_threads, run_threads_gated};

@@ -4,32 +4,50 @@ ghost use Rattle.lwkt_core.specs.Opening.{AreWithin, AllOpenLawfully};
 ghost use Rattle.lwkt_run.specs.Judging.{ids_of};
 ghost use Rattle.lwkt_run.specs.Values.{AreValuesOf};
 ghost use Rattle.lwkt_run.specs.Run.{Declines, Refuses};
-ghost use Rattle.lwkt_run.specs.Threaded.{RunsOnThreads, MayCloseOnThreads, HasThreadedRun, TellsOnThreads, lets_all};
+ghost use Rattle.lwkt_run.specs.Threaded.{EndsOnThreads, IsThreadRecord, HasThreadedRun, TellsOnThreads, lets_all};
 
 use crate::endings::{Left, left_by};
 use crate::lines::token_lines;
 use crate::reports::{Done, conclude};
 use crate::runs::{End, end_told};
-use lwkt_base::Fault;
+use crate::tellings::{judged, sections_in_order};
+use lwkt_base::{Fault, Section};
 use lwkt_core::Final;
 use lwkt_machine::Machine;
-use lwkt_report::{Closing, RunFault, Sink, Source, Verdict, read_capped, report};
+use lwkt_report::{Closing, RunFault, Sink, Source, read_capped, report};
 use lwkt_script::{Script, read_script};
 use lwkt_threads::{Gate, Limits, OpenGate, Outcome, drive_machine};
 use std::alloc::{AllocError, Global};
 use std::sync::Wait;
 use std::thread::Threads;
 
+/// A run of a script on threads: what its report shows, and the written sections that its processors told, by token and then by
+/// generation.
+#[derive(Drop)]
+pub struct ThreadRecord {
+    /// What the report shows; its verdict is that on these sections.
+    pub closing: Closing,
+    /// Of each token its sections are one chain from its opening row to that of its line.
+    pub sections: Vec<Section>,
+}
+
+// What a run on threads left, with the written sections that its processors told, by token and generation.
+#[derive(Drop)]
+struct Told {
+    left: Left,
+    sections: Vec<Section>,
+}
+
 // Drives the processors of a script on threads, and closes their machine.
-fn left_of<R: Threads + Wait + Sync, G: Gate + Sync>(
+fn told_of<R: Threads + Wait + Sync, G: Gate + Sync>(
     rt: &R,
     alloc: Global,
     gate: &G,
     script: &Script,
-) -> Result<Left, Fault>
-    ensures values { IfOk result (λ left. AreValuesOf script.now.tokens left.last) }
-    ensures runs { IfOk result (λ left. RunsOnThreads (G.answers gate.now) script.now left.threads.items left.last) }
-    ensures threads { IfOk result (λ left. map (λ line. line.id) left.threads.items ≡ ids_of script.now.cpus script.now.threads) }
+) -> Result<Told, Fault>
+    ensures values { IfOk result (λ told. AreValuesOf script.now.tokens told.left.last) }
+    ensures ends { IfOk result (λ told. EndsOnThreads (G.answers gate.now) script.now told.left.threads.items told.left.last told.sections.items) }
+    ensures threads { IfOk result (λ told. map (λ line. line.id) told.left.threads.items ≡ ids_of script.now.cpus script.now.threads) }
     ensures within { OnOk result (AreWithin script.now.cpus script.now.tokens script.now.messages) }
     ensures lawful { OnOk result (AllOpenLawfully script.now.tokens) }
     ensures refused { IfErr result (λ fault. Declines script.now fault) }
@@ -39,49 +57,56 @@ fn left_of<R: Threads + Wait + Sync, G: Gate + Sync>(
         turns: script.turns,
         idle: script.idle,
     };
-    let Outcome { machine, .. } = drive_machine(rt, alloc, gate, &limits, machine)?;
-    let mut trace = Vec::new(alloc);
-    left_by(alloc, script, machine, &mut trace)
+    let Outcome { machine, traces } = drive_machine(rt, alloc, gate, &limits, machine)?;
+    let mut stops = Vec::new(alloc);
+    let left = left_by(alloc, script, machine, &mut stops)?;
+    match sections_in_order(alloc, traces, &stops) {
+        Ok(sections) => Ok(Told { left, sections }),
+        Err(_) => Err(Fault::Memory),
+    }
 }
 
-// The report's contents: what a run on threads left.
-fn closing_of<G: Gate>(
+// What is kept of a run on threads: what its report shows, with the verdict on the sections that were told.
+fn record_of<G: Gate>(
     alloc: Global,
     gate: &G,
     script: &Script,
-    left: Left,
-) -> Result<Closing, AllocError>
+    told: Told,
+) -> Result<ThreadRecord, AllocError>
     requires within { AreWithin script.now.cpus script.now.tokens script.now.messages }
     requires lawful { AllOpenLawfully script.now.tokens }
-    requires values { AreValuesOf script.now.tokens left.last }
-    requires threads { map (λ line. line.id) left.threads.items ≡ ids_of script.now.cpus script.now.threads }
-    requires runs { RunsOnThreads (G.answers gate.now) script.now left.threads.items left.last }
-    ensures { IfOk result (λ closing. MayCloseOnThreads (G.answers gate.now) script.now closing) }
+    requires values { AreValuesOf script.now.tokens told.left.last }
+    requires threads { map (λ line. line.id) told.left.threads.items ≡ ids_of script.now.cpus script.now.threads }
+    requires ends { EndsOnThreads (G.answers gate.now) script.now told.left.threads.items told.left.last told.sections.items }
+    ensures { IfOk result (λ kept. IsThreadRecord (G.answers gate.now) script.now kept) }
 {
+    let Told { left, sections } = told;
     let Left { last, threads } = left;
+    let verdict = judged(alloc, script.tokens.as_slice(), &last, &sections)?;
     let tokens = token_lines(alloc, script.tokens.as_slice(), &last)?;
     let Final { messages, .. } = last;
-    Ok(Closing {
+    let closing = Closing {
         tokens,
         messages,
         threads,
-        verdict: Verdict::Closed,
-    })
+        verdict,
+    };
+    Ok(ThreadRecord { closing, sections })
 }
 
-// Runs a script on threads to the contents of its report.
-fn closing_of_script<R: Threads + Wait + Sync, G: Gate + Sync>(
+// Runs a script on threads, and keeps what its report shows and the sections that were told.
+fn record_of_script<R: Threads + Wait + Sync, G: Gate + Sync>(
     rt: &R,
     alloc: Global,
     gate: &G,
     script: &Script,
-) -> Result<Closing, Fault>
-    ensures ok { IfOk result (λ closing. MayCloseOnThreads (G.answers gate.now) script.now closing) }
+) -> Result<ThreadRecord, Fault>
+    ensures ok { IfOk result (λ kept. IsThreadRecord (G.answers gate.now) script.now kept) }
     ensures refused { IfErr result (λ fault. Declines script.now fault) }
 {
-    let left = left_of(rt, alloc, gate, script)?;
-    match closing_of(alloc, gate, script, left) {
-        Ok(closing) => Ok(closing),
+    let told = told_of(rt, alloc, gate, script)?;
+    match record_of(alloc, gate, script, told) {
+        Ok(kept) => Ok(kept),
         Err(_) => Err(Fault::Memory),
     }
 }
@@ -97,7 +122,7 @@ fn done_of_bytes<R: Threads + Wait + Sync, G: Gate + Sync>(
     ensures refused { IfErr result (λ fault. Refuses bytes.now fault) }
 {
     let script = read_script(alloc, bytes)?;
-    let closing = closing_of_script(rt, alloc, gate, &script)?;
+    let ThreadRecord { closing, .. } = record_of_script(rt, alloc, gate, &script)?;
     let end = end_told(&closing);
     let text = report(alloc, &closing)?;
     Ok(Done { text, end })
@@ -138,4 +163,18 @@ pub fn run_threads<R: Threads + Wait + Sync, S: Source, K: Sink>(
     ensures stream { result ≡ Err RunFault.Stream → IsTrue (S.has_failed source.new) ⊎ IsTrue (K.has_failed sink.new) }
 {
     run_threads_gated(rt, alloc, source, sink, &OpenGate)
+}
+
+/// Runs a script on threads, and keeps what its report shows and the written sections that its processors told, in order.
+///
+/// Refused as `run_threads` is once it has read its script.
+pub fn record_threads<R: Threads + Wait + Sync>(
+    rt: &R,
+    alloc: Global,
+    script: &Script,
+) -> Result<ThreadRecord, Fault>
+    ensures ok { IfOk result (λ kept. IsThreadRecord lets_all script.now kept) }
+    ensures refused { IfErr result (λ fault. Declines script.now fault) }
+{
+    record_of_script(rt, alloc, &OpenGate, script)
 }

@@ -8,6 +8,8 @@ mod few_rows;
 #[cfg(test)]
 mod gates;
 #[cfg(test)]
+mod section_rows;
+#[cfg(test)]
 mod stop_rows;
 #[cfg(test)]
 mod thread_rows;

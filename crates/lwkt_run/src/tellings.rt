@@ -1,0 +1,107 @@
+//! The written sections that a run's traces tell: gathered, put in order, and checked.
+ghost use Rattle.std.specs.Prelude.{◌≡◌, ◌≤◌, ◌++◌, All, length, IfOk, OnOk, IsPermutation};
+ghost use Rattle.lwkt_core.specs.RunSections.{sections_told};
+ghost use Rattle.lwkt_run.specs.Telling.{sections_of_all, AreSorted, opening_rows, closing_rows, IsVerdictOn};
+
+use lwkt_base::{Fault, Row, Rows, Section, TokSpec};
+use lwkt_core::{Event, Final, check_sections};
+use lwkt_report::Verdict;
+use std::alloc::{AllocError, Global};
+
+// Adds the sections that a trace tells to those told before.
+fn add_told(sections: &mut Vec<Section>, trace: &[Event]) -> Result<(), AllocError>
+    ensures { OnOk result (sections.new.items ≡ sections.old.items ++ sections_told trace.now) }
+{
+    for event in trace {
+        if let Event::GiveWritten { section, .. } = *event {
+            sections.push(section)?;
+        }
+    }
+    Ok(())
+}
+
+// The sections that traces tell, one trace's after another's, and then those that a stop tells.
+fn gathered(
+    alloc: Global,
+    traces: Vec<Vec<Event>>,
+    stops: &[Event],
+) -> Result<Vec<Section>, AllocError>
+    ensures { IfOk result (λ sections. sections.items ≡ sections_of_all traces.items stops.now) }
+{
+    let mut sections = Vec::new(alloc);
+    for trace in traces {
+        add_told(&mut sections, &trace)?;
+    }
+    add_told(&mut sections, stops)?;
+    Ok(sections)
+}
+
+/// The sections that traces and a stop tell, by token, and those of one token by generation.
+pub fn sections_in_order(
+    alloc: Global,
+    traces: Vec<Vec<Event>>,
+    stops: &[Event],
+) -> Result<Vec<Section>, AllocError>
+    ensures told { IfOk result (λ sections. IsPermutation (sections_of_all traces.items stops.now) sections.items) }
+    ensures sorted { IfOk result (λ sections. AreSorted sections.items) }
+{
+    let mut sections = gathered(alloc, traces, stops)?;
+    sections.sort_unstable_by_key(|section| (section.tok.0, section.generation));
+    Ok(sections)
+}
+
+// The rows and generations that tokens are opened with.
+fn rows_opened(alloc: Global, specs: &[TokSpec]) -> Result<Rows, AllocError>
+    requires { All (λ spec. length spec.cells ≤ 4) specs.now }
+    ensures { IfOk result (λ rows. rows ≡ opening_rows specs.now) }
+{
+    let mut rows = Vec::with_capacity(alloc, specs.len())?;
+    for spec in specs {
+        rows.push((Row::of(spec.cells.as_slice()), spec.generation))?;
+    }
+    Ok(Rows::from_vec(rows))
+}
+
+// Closing rows and generations.
+fn rows_closed(alloc: Global, last: &Final) -> Result<Rows, AllocError>
+    requires as_many { length last.now.gens.items ≡ length last.now.rows.items }
+    requires few { All (λ row. length row ≤ 4) last.now.rows.items }
+    ensures { IfOk result (λ rows. rows ≡ closing_rows last.now) }
+{
+    let mut rows = Vec::with_capacity(alloc, last.rows.len())?;
+    for (i, row) in last.rows.iter().enumerate() {
+        rows.push((Row::of(row.as_slice()), last.gens[i]))?;
+    }
+    Ok(Rows::from_vec(rows))
+}
+
+// The verdict on sections: `Closed` exactly if they are chains in order, else the index at which they fail.
+fn verdict_on(first: &Rows, last: &Rows, sections: &[Section]) -> Verdict
+    requires { length first.now ≡ length last.now }
+    ensures { IsVerdictOn result first.now last.now sections.now }
+{
+    match check_sections(first, last, sections) {
+        Ok(()) => Verdict::Closed,
+        Err(Fault::Unlawful { index }) => Verdict::Unlawful { index },
+        // it has no other refusal
+        Err(_) => Verdict::Unlawful { index: 0 },
+    }
+}
+
+/// The verdict on the sections of a run from an opening to its closing values.
+pub fn judged(
+    alloc: Global,
+    specs: &[TokSpec],
+    last: &Final,
+    sections: &[Section],
+) -> Result<Verdict, AllocError>
+    requires opened { length last.now.rows.items ≡ length specs.now }
+    requires as_many { length last.now.gens.items ≡ length last.now.rows.items }
+    requires few { All (λ spec. length spec.cells ≤ 4) specs.now }
+    requires few_closed { All (λ row. length row ≤ 4) last.now.rows.items }
+    ensures { IfOk result (λ verdict. IsVerdictOn verdict (opening_rows specs.now) (closing_rows last.now) sections.now) }
+{
+    let first = rows_opened(alloc, specs)?;
+    let closing = rows_closed(alloc, last)?;
+    Ok(verdict_on(&first, &closing, sections))
+}
