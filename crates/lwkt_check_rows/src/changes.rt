@@ -1,8 +1,8 @@
 //! Traces with one event changed: what the program finds of each is what `State::step` finds, event by event.
 use crate::outputs::said;
-use lwkt_base::Fault;
-use lwkt_core::State;
-use lwkt_trace::{Closing, Trace, read_trace};
+use lwkt_base::{Fault, Row, Section, TokId};
+use lwkt_core::{Event, State};
+use lwkt_trace::{Closing, Told, Trace, read_trace};
 use std::alloc::{AllocError, Global};
 use std::test::Fail;
 
@@ -195,9 +195,42 @@ fn text_of(
     Ok(out)
 }
 
-// The index at which a trace fails, event by event: the first one that `State::step` refuses, or their number where the
-// state doesn't close with the values.
-fn failing_at(alloc: Global, bytes: &[u8]) -> Result<Option<usize>, Fault> {
+// The row of so many cells.
+fn row_of(cells: &[u64]) -> Option<Row> {
+    if cells.len() > 4 {
+        return None;
+    }
+    Some(Row::of(cells))
+}
+
+// The section of a token that would end now, if there is such a token.
+fn section_of(state: &State, tok: TokId) -> Option<Section> {
+    let token = state.token(tok)?;
+    Some(Section {
+        before: row_of(token.first.as_slice())?,
+        after: row_of(token.row.as_slice())?,
+        generation: token.generation,
+        tok,
+    })
+}
+
+// Makes the event happen that is told; says whether it can. A written give whose section isn't told has that of its token.
+fn steps(state: &mut State, told: Told) -> bool {
+    let event = match told {
+        Told::Whole(event) => event,
+        Told::Given { cpu, tok } => {
+            let Some(section) = section_of(state, tok) else {
+                return false;
+            };
+            Event::GiveWritten { cpu, tok, section }
+        }
+    };
+    state.step(&event).is_ok()
+}
+
+/// The index at which a trace fails, event by event: the first one that `State::step` refuses, or their number where the
+/// state doesn't close with the values.
+pub fn failing_at(alloc: Global, bytes: &[u8]) -> Result<Option<usize>, Fault> {
     let Trace {
         cpus,
         tokens,
@@ -212,8 +245,8 @@ fn failing_at(alloc: Global, bytes: &[u8]) -> Result<Option<usize>, Fault> {
         usize::from(cpus),
     )?;
     let events = events.into_vec();
-    for (index, event) in events.iter().enumerate() {
-        if state.step(event).is_err() {
+    for (index, told) in events.iter().enumerate() {
+        if !steps(&mut state, *told) {
             return Ok(Some(index));
         }
     }
@@ -240,8 +273,8 @@ fn front_of(alloc: Global, index: Option<usize>) -> Result<String, AllocError> {
     }
 }
 
-// Whether the program finds of a trace that it fails at an index, or is lawful.
-fn is_found(alloc: Global, text: &str, index: Option<usize>) -> Result<bool, AllocError> {
+/// Whether the program finds of a trace that it fails at an index, or is lawful.
+pub fn is_found(alloc: Global, text: &str, index: Option<usize>) -> Result<bool, AllocError> {
     let front = front_of(alloc, index)?;
     let said = said(alloc, text.as_bytes(), 0)?;
     let status = if index.is_none() { 0 } else { 4 };

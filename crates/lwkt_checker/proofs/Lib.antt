@@ -1,1 +1,2 @@
+pub mod ToldRuns
 pub mod Tellings

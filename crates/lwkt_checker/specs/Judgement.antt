@@ -11,6 +11,7 @@ use Rattle.lwkt_core.specs.Trace.{CanHappen, IsLawfulTrace, StopsAt, FailsAt}
 use Rattle.lwkt_trace.specs.declared.traces.Closing.{Closing}
 use Rattle.lwkt_trace.specs.declared.traces.Trace.{Trace}
 use Rattle.lwkt_trace.specs.Format.{trace_of}
+use Rattle.lwkt_checker.specs.Told.{events_told}
 use Rattle.lwkt_checker.specs.declared.judges.Finding.{Finding}
 use Rattle.lwkt_checker.specs.declared.judges.Finding.TheVariants.{Lawful, Unlawful}
 
@@ -40,9 +41,9 @@ Finds m events (Some last) Lawful = IsLawfulTrace m events last
 Finds m events None (Unlawful index why) = (mid : Machine) × StopsAt m events index mid
 Finds m events (Some last) (Unlawful index why) = FailsAt m events last index
 
--- the finding is true of the trace
+-- the finding is true of the events that the trace tells
 abbrev pub IsFound : Trace → Finding → Type 0
-IsFound trace finding = (last : Option Final) × (AreClosing trace.last last × Finds (opening_of trace) trace.events last finding)
+IsFound trace finding = (last : Option Final) × (AreClosing trace.last last × Finds (opening_of trace) (events_told (opening_of trace) trace.events) last finding)
 
 -- why a trace is refused
 abbrev pub Declines : Trace → Refusal → Type 0

@@ -1,2 +1,3 @@
+pub mod Told
 pub mod Judgement
 pub mod Output

@@ -1,5 +1,5 @@
 -- What the program reads, writes and answers (own).
-use Rattle.std.specs.Prelude.{codes, [], ◌∷◌, ◌++◌, ◌≡◌, ◌⊎◌, ℕ, List, Bool, true, false, take, Option, IfSome, Result, Ok, Err}
+use Rattle.std.specs.Prelude.{◌≡◌, ◌⊎◌, ℕ, List, Bool, true, false, take, Option, IfSome, Result, Ok, Err}
 use Rattle.std.specs.Io.KnownBytes.{Appends, Keeps}
 use Rattle.lwkt_base.specs.declared.faults.Fault.TheVariants.{Memory}
 use Rattle.lwkt_report.specs.Complaint.{fault_line, complaint_of, IsSaid}

@@ -1,11 +1,13 @@
 ghost use Rattle.std.specs.Prelude.{◌≡◌, None, Some, IfOk, IfErr, string_bytes};
+ghost use Rattle.lwkt_checker.specs.Told.{events_told};
 ghost use Rattle.lwkt_checker.specs.Judgement.{opening_of, AreClosing, Finds, IsFound, Declines, finding_text};
 
 use crate::differences::difference;
 use crate::lacks::reason;
+use crate::plays::{play_told, play_told_to_close};
 use lwkt_base::Fault;
-use lwkt_core::{Event, Final, State, play, play_to_close};
-use lwkt_trace::{Closing, Trace};
+use lwkt_core::{Final, State};
+use lwkt_trace::{Closing, Told, Trace};
 use std::alloc::{AllocError, Global};
 
 /// What a trace was found to be.
@@ -45,22 +47,22 @@ fn last_of(last: Option<Closing>) -> Option<Final>
 fn why_of(
     alloc: Global,
     state: &State,
-    events: &[Event],
+    events: &[Told],
     index: usize,
     last: &Final,
 ) -> Result<String, AllocError> {
     match events.get(index) {
-        Some(event) => reason(alloc, state, index, event),
+        Some(told) => reason(alloc, state, index, told),
         None => difference(alloc, state, last),
     }
 }
 
 // What events alone are found to be, from an opening state.
-fn found_alone(alloc: Global, opening: State, events: &[Event]) -> Result<Finding, AllocError>
-    ensures { IfOk result (λ finding. Finds opening events.now None finding) }
+fn found_alone(alloc: Global, opening: State, events: &[Told]) -> Result<Finding, AllocError>
+    ensures { IfOk result (λ finding. Finds opening (events_told opening events.now) None finding) }
 {
     let mut state = opening;
-    match play(&mut state, events) {
+    match play_told(&mut state, events) {
         Ok(()) => Ok(Finding::Lawful),
         Err(index) => Ok(Finding::Unlawful {
             index,
@@ -73,13 +75,13 @@ fn found_alone(alloc: Global, opening: State, events: &[Event]) -> Result<Findin
 fn found_closing(
     alloc: Global,
     opening: State,
-    events: &[Event],
+    events: &[Told],
     last: &Final,
 ) -> Result<Finding, AllocError>
-    ensures { IfOk result (λ finding. Finds opening events.now (Some last.now) finding) }
+    ensures { IfOk result (λ finding. Finds opening (events_told opening events.now) (Some last.now) finding) }
 {
     let mut state = opening;
-    match play_to_close(&mut state, events, last) {
+    match play_told_to_close(&mut state, events, last) {
         Ok(()) => Ok(Finding::Lawful),
         Err(index) => Ok(Finding::Unlawful {
             index,
@@ -92,10 +94,10 @@ fn found_closing(
 fn found(
     alloc: Global,
     opening: State,
-    events: &[Event],
+    events: &[Told],
     last: &Option<Final>,
 ) -> Result<Finding, AllocError>
-    ensures { IfOk result (λ finding. Finds opening events.now last.now finding) }
+    ensures { IfOk result (λ finding. Finds opening (events_told opening events.now) last.now finding) }
 {
     match last {
         None => found_alone(alloc, opening, events),

@@ -1,6 +1,8 @@
 use crate::holdings::show_holders;
-use crate::words::{show_event, show_owner};
+use crate::plays::event_told;
+use crate::words::{show_owner, show_section, show_told};
 use lwkt_core::{Event, Lack, Message, State, Token};
+use lwkt_trace::Told;
 use lwkt_trace::words::{Subject, law_name, show_numbers, subject_of};
 use std::alloc::{AllocError, Global};
 
@@ -37,6 +39,17 @@ fn show_broken(out: &mut String, token: &Token) -> Result<(), AllocError> {
     )
 }
 
+// Appends the section of a token that would end now.
+fn show_own_section(out: &mut String, token: &Token) -> Result<(), AllocError> {
+    out.push_str("the section is of ")?;
+    show_section(
+        out,
+        token.generation,
+        token.first.as_slice(),
+        token.row.as_slice(),
+    )
+}
+
 // Appends why a token doesn't meet a need of an event.
 fn show_token_lack(
     out: &mut String,
@@ -54,6 +67,7 @@ fn show_token_lack(
         ),
         Lack::RowChanged | Lack::RowUnchanged => show_rows(out, token),
         Lack::LawBroken => show_broken(out, token),
+        Lack::OtherSection => show_own_section(out, token),
         Lack::NoCell | Lack::OtherValue => show_cell(out, token, event),
         Lack::LessThanBefore => {
             show_cell(out, token, event)?;
@@ -105,19 +119,20 @@ fn show_lack(out: &mut String, state: &State, event: &Event, lack: Lack) -> Resu
     }
 }
 
-/// The line that says which need of the event of an index isn't met in a state.
+/// The line that says which need of the event that is told at an index isn't met in a state.
 pub fn reason(
     alloc: Global,
     state: &State,
     index: usize,
-    event: &Event,
+    told: &Told,
 ) -> Result<String, AllocError> {
+    let event = event_told(state, told);
     let mut out = String::new(alloc);
     write!(out, "event {index}: ")?;
-    show_event(&mut out, event)?;
+    show_told(&mut out, &event, told)?;
     out.push_str(": ")?;
-    if let Some(lack) = state.lack(event) {
-        show_lack(&mut out, state, event, lack)?;
+    if let Some(lack) = state.lack(&event) {
+        show_lack(&mut out, state, &event, lack)?;
     }
     out.push_str("\n")?;
     Ok(out)

@@ -6,8 +6,10 @@ mod differences;
 mod holdings;
 mod judges;
 mod lacks;
+mod plays;
 mod programs;
 mod words;
 
 pub use judges::{Finding, judge};
+pub use plays::{event_told, play_told, play_told_to_close, told_is_only};
 pub use programs::{check_stream, run_checker, say_outcome, status_of};

@@ -1,6 +1,7 @@
 use lwkt_base::Owner;
 use lwkt_core::Event;
-use lwkt_trace::words::{Subject, event_word, subject_of};
+use lwkt_trace::Told;
+use lwkt_trace::words::{Subject, event_word, show_numbers, subject_of};
 use std::alloc::AllocError;
 
 // The word of an event, as in a trace, but for a message's taking.
@@ -31,11 +32,41 @@ fn show_rest(out: &mut String, event: &Event) -> Result<(), AllocError> {
     }
 }
 
-/// Appends an event in words: `take by 1 of token 0`.
-pub fn show_event(out: &mut String, event: &Event) -> Result<(), AllocError> {
+/// Appends a section in words: `generation 2, rows 1 2 to 3 4`.
+pub fn show_section(
+    out: &mut String,
+    generation: u64,
+    before: &[u64],
+    after: &[u64],
+) -> Result<(), AllocError> {
+    write!(out, "generation {generation}, rows")?;
+    show_numbers(out, before)?;
+    out.push_str(" to")?;
+    show_numbers(out, after)
+}
+
+// Appends the section that is told of a written give.
+fn show_told_section(out: &mut String, told: &Told) -> Result<(), AllocError> {
+    match told {
+        Told::Whole(Event::GiveWritten { section, .. }) => {
+            out.push_str(", ")?;
+            show_section(
+                out,
+                section.generation,
+                section.before.as_slice(),
+                section.after.as_slice(),
+            )
+        }
+        _ => Ok(()),
+    }
+}
+
+/// Appends an event in words: `take by 1 of token 0`; a written give's section only where it is told.
+pub fn show_told(out: &mut String, event: &Event, told: &Told) -> Result<(), AllocError> {
     write!(out, "{} by {}", word_of(event), event.cpu().0)?;
     show_place(out, event)?;
-    show_rest(out, event)
+    show_rest(out, event)?;
+    show_told_section(out, told)
 }
 
 /// Appends where a message is: `out from 0 to 1`.

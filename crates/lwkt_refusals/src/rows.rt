@@ -1,13 +1,30 @@
-//! What is bad of a list that begins with a word and goes on with numbers.
-use crate::members::WHOLE;
+//! What is bad of a list that begins with a word and goes on with numbers and rows.
+use crate::members;
+use crate::members::show_numbers;
 use crate::parts::Part;
 use crate::words::Words;
 
-const SMALL: u64 = 255;
+const SMALL: Want = Want::UpTo(255);
 
-const CODE: u64 = 4_294_967_295;
+const CODE: Want = Want::UpTo(4_294_967_295);
 
-const FLAGS: u64 = 3;
+const FLAGS: Want = Want::UpTo(3);
+
+const WHOLE: Want = Want::UpTo(members::WHOLE);
+
+const ROW: Want = Want::Row;
+
+// The most cells of a row.
+const CELL_LIMIT: usize = 4;
+
+// What may stand at a place of a list.
+#[derive(Clone, Copy)]
+enum Want {
+    // A whole number from 0 to this one.
+    UpTo(u64),
+    // A list of at most four whole numbers.
+    Row,
+}
 
 /// What a list stands for.
 #[derive(Clone, Copy)]
@@ -30,7 +47,7 @@ impl Kind {
         }
     }
 
-    // The words that it may begin with, and the largest numbers that may stand behind each.
+    // The words that it may begin with, and what may stand behind each.
     fn forms(self) -> &'static [Form] {
         match self {
             Kind::Step => &STEPS,
@@ -40,8 +57,8 @@ impl Kind {
     }
 }
 
-// A word, and the largest numbers that may stand behind it.
-type Form = (&'static str, &'static [u64]);
+// A word, and what may stand behind it.
+type Form = (&'static str, &'static [Want]);
 
 const STEPS: [Form; 18] = [
     ("get", &[SMALL]),
@@ -64,7 +81,7 @@ const STEPS: [Form; 18] = [
     ("exit", &[]),
 ];
 
-const EVENTS: [Form; 16] = [
+const EVENTS: [Form; 17] = [
     ("load", &[SMALL, SMALL]),
     ("take", &[SMALL, SMALL]),
     ("share", &[SMALL, SMALL]),
@@ -73,6 +90,7 @@ const EVENTS: [Form; 16] = [
     ("give_one", &[SMALL, SMALL]),
     ("give_clean", &[SMALL, SMALL]),
     ("give_written", &[SMALL, SMALL]),
+    ("give_written", &[SMALL, SMALL, WHOLE, ROW, ROW]),
     ("read", &[SMALL, SMALL, SMALL, WHOLE]),
     ("write", &[SMALL, SMALL, SMALL, WHOLE]),
     ("send", &[SMALL, SMALL, SMALL, WHOLE]),
@@ -90,45 +108,100 @@ const ENDS: [Form; 4] = [
     ("back", &[SMALL, SMALL, WHOLE]),
 ];
 
-// The form that begins with a word, if there is one.
-fn form_of(word: Part<'_>, kind: Kind) -> Option<Form> {
+// How many parts a list of a form has.
+fn count_of(form: Form) -> usize {
+    form.1.len().saturating_add(1)
+}
+
+// The form that begins with a word and has so many parts, if there is one.
+fn form_of(word: Part<'_>, count: usize, kind: Kind) -> Option<Form> {
     for form in kind.forms() {
-        if word.is_text(form.0) {
+        if word.is_text(form.0) && count_of(*form) == count {
             return Some(*form);
         }
     }
     None
 }
 
-// Appends which number of a list is bad.
-fn show_number(out: &mut Words, list: Part<'_>, limits: &[u64]) {
-    for (i, limit) in limits.iter().enumerate() {
+// Whether a part is a list of at most so many parts as a row has cells.
+fn is_short_list(part: Part<'_>) -> bool {
+    match part.count() {
+        Some(count) => count <= CELL_LIMIT,
+        None => false,
+    }
+}
+
+// Whether a part is a row.
+fn is_row(part: Part<'_>) -> bool {
+    if !is_short_list(part) {
+        return false;
+    }
+    for place in 0..CELL_LIMIT {
+        if let Some(cell) = part.item(place) {
+            if cell.number().is_none() {
+                return false;
+            }
+        }
+    }
+    true
+}
+
+// Whether a part is what is wanted.
+fn fits(part: Part<'_>, want: Want) -> bool {
+    match want {
+        Want::UpTo(limit) => part.number().is_some() && part.number() <= Some(limit),
+        Want::Row => is_row(part),
+    }
+}
+
+// Appends what is bad of a part that isn't a row.
+fn show_no_row(out: &mut Words, part: Part<'_>) {
+    if is_short_list(part) {
+        out.add(" in which ");
+        show_numbers(out, part, "a cell");
+    } else {
+        out.size(" that is no list of at most ", CELL_LIMIT);
+        out.add(" cells");
+    }
+}
+
+// Appends which part of a list is bad.
+fn show_part(out: &mut Words, list: Part<'_>, wants: &[Want]) {
+    for (i, want) in wants.iter().enumerate() {
         let place = i.saturating_add(1);
         let Some(part) = list.item(place) else {
             return;
         };
-        if part.number().is_none() || part.number() > Some(*limit) {
+        if !fits(part, *want) {
             out.point(part);
             out.size(" has a part ", place);
-            out.number(" that is no whole number 0 to ", *limit);
-            return;
+            return match *want {
+                Want::UpTo(limit) => out.number(" that is no whole number 0 to ", limit),
+                Want::Row => show_no_row(out, part),
+            };
         }
     }
     out.add(" is refused");
 }
 
-// Appends what is bad of a list that has the word of a form.
-fn show_parts(out: &mut Words, list: Part<'_>, form: Form) {
-    let (word, limits) = form;
-    let count = list.count().unwrap_or(0);
-    let wanted = limits.len().saturating_add(1);
-    if count == wanted {
-        return show_number(out, list, limits);
+// Appends how many parts a list with a word has, and how many it may have, if there is a form with the word; says whether
+// there is.
+fn show_count(out: &mut Words, word: Part<'_>, count: usize, kind: Kind) -> bool {
+    let mut is_known = false;
+    for form in kind.forms() {
+        if word.is_text(form.0) {
+            if is_known {
+                out.size(" or ", count_of(*form));
+            } else {
+                out.parts(" has ", count);
+                out.add(", ");
+                out.add(form.0);
+                out.size(" has ", count_of(*form));
+            }
+            is_known = true;
+        }
     }
-    out.parts(" has ", count);
-    out.add(", ");
-    out.add(word);
-    out.size(" has ", wanted);
+    is_known
 }
 
 // Appends what is bad of a list behind its text.
@@ -139,13 +212,14 @@ fn show_behind(out: &mut Words, list: Part<'_>, kind: Kind) {
     if !word.is_string() {
         return out.add(" doesn't begin with a word");
     }
-    match form_of(word, kind) {
-        Some(form) => show_parts(out, list, form),
-        None => {
-            out.add(" has a word that no ");
-            out.add(kind.name());
-            out.add(" has");
-        }
+    let count = list.count().unwrap_or(0);
+    if let Some(form) = form_of(word, count, kind) {
+        return show_part(out, list, form.1);
+    }
+    if !show_count(out, word, count, kind) {
+        out.add(" has a word that no ");
+        out.add(kind.name());
+        out.add(" has");
     }
 }
 

@@ -1,1 +1,2 @@
 pub mod TraceTexts
+pub mod RowTexts

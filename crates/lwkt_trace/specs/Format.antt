@@ -1,16 +1,16 @@
 -- A trace, version 1 (own): what it says, and the place of its first bad part.
-use Rattle.std.specs.Prelude.{ℕ, ◌+◌, ◌&&◌, nat_lt, nat_le, List, [], length, codes, Bool, is_some, if◌then◌else◌, Option, Some, None, Result, Ok, Err}
+use Rattle.std.specs.Prelude.{ℕ, ◌+◌, ◌&&◌, nat_lt, nat_le, List, [], length, codes, Bool, is_some, if◌then◌else◌, Option, Some, None, Result, Ok}
 use Rattle.std.specs.Str.{is_utf8}
 use Rattle.serde_json.specs.Data.{Data}
 use Rattle.serde_json.specs.Find.{get, as_null, as_array}
 use Rattle.serde_json.specs.Read.{read}
 use Rattle.lwkt_base.specs.declared.openings.MsgSpec.{MsgSpec}
 use Rattle.lwkt_base.specs.declared.owners.MsgEnd.{MsgEnd}
-use Rattle.lwkt_core.specs.declared.events.Event.{Event}
-use Rattle.lwkt_script.specs.Field.{has_members, whole, number_in, list_in}
+use Rattle.lwkt_script.specs.Field.{has_members, number_in, list_in}
 use Rattle.lwkt_script.specs.Format.{cell, token, message_at}
 use Rattle.lwkt_script.specs.Outcome.{◌>>=◌, ◌>>◌, part, demand, each}
 use Rattle.lwkt_trace.specs.declared.traces.Closing.{Closing}
+use Rattle.lwkt_trace.specs.declared.traces.Told.{Told}
 use Rattle.lwkt_trace.specs.declared.traces.Trace.{Trace}
 use Rattle.lwkt_trace.specs.Words.{event_of, message_end_of}
 
@@ -21,7 +21,7 @@ message cpus before d = do
   message_at cpus (2000 + length before) d
 
 -- the event after those, of which there are at most 50000000
-abbrev pub event : List Event → Data → Result Event ℕ
+abbrev pub event : List Told → Data → Result Told ℕ
 event before d = do
   demand 51000000 (nat_lt (length before) 50000000)
   part (1000000 + length before) (event_of d)

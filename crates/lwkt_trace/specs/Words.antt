@@ -1,20 +1,24 @@
 -- The events of a trace and the ends of messages, by their words and how many items they have (own).
-use Rattle.std.specs.Prelude.{◌≡◌, ℕ, ◌==◌, List, [], ◌∷◌, ◌++◌, codes, bytes_eq, if◌then◌else◌, Option, Some, None, option_and_then}
+use Rattle.std.specs.Prelude.{◌≡◌, ℕ, ◌==◌, nat_le, List, [], ◌∷◌, ◌++◌, codes, bytes_eq, if◌then◌else◌, Option, Some, None, option_map}
 use Rattle.std.specs.Fmt.{decimal}
 use Rattle.std.specs.List.{flat_map}
-use Rattle.serde_json.specs.Data.{Data}
-use Rattle.serde_json.specs.Find.{at, as_str}
+use Rattle.serde_json.specs.Data.{Data, Items, no_items, item}
+use Rattle.serde_json.specs.Events.{items_len}
+use Rattle.serde_json.specs.Find.{at, as_array, as_str}
 use Rattle.lwkt_base.specs.declared.names.CpuId.{CpuId}
 use Rattle.lwkt_base.specs.declared.names.TokId.{TokId}
 use Rattle.lwkt_base.specs.declared.names.MsgId.{MsgId}
 use Rattle.lwkt_base.specs.declared.owners.Owner.TheVariants.{Rest, Out, With, Back}
 use Rattle.lwkt_base.specs.declared.owners.MsgEnd.{MsgEnd}
+use Rattle.lwkt_base.specs.declared.sections.Section.{Section}
 use Rattle.lwkt_core.specs.declared.events.Event.{Event}
 use Rattle.lwkt_core.specs.declared.events.Event.TheVariants.{Load, Take, Share, Again, Mark, GiveOne, GiveClean, GiveWritten, Read, Write, Send, TakeMsg, DropMsg, Reply, Reap, Abort}
 use Rattle.lwkt_core.specs.declared.events.Place.{Place}
 use Rattle.lwkt_core.specs.declared.events.Place.TheVariants.{AtToken, AtMessage}
-use Rattle.lwkt_script.specs.Field.{item_count}
+use Rattle.lwkt_script.specs.Field.{item_count, whole}
 use Rattle.lwkt_script.specs.Step.{◌>>=◌, small_at, whole_at}
+use Rattle.lwkt_trace.specs.declared.traces.Told.{Told}
+use Rattle.lwkt_trace.specs.declared.traces.Told.TheVariants.{Whole, Given}
 use Rattle.lwkt_trace.specs.declared.words.Subject.{Subject}
 use Rattle.lwkt_trace.specs.declared.words.Subject.TheVariants.{Token, Message}
 
@@ -28,7 +32,7 @@ tok_id n = record { 0 = n }
 abbrev pub msg_id : ℕ → MsgId
 msg_id n = record { 0 = n }
 
--- the event of a word with a processor and a token
+-- the event of a word with a processor and a token, but for a written give
 abbrev pub with_token : List ℕ → ℕ → ℕ → Option Event
 with_token word cpu tok =
     if bytes_eq word (codes "load") then Some (Load (cpu_id cpu) (tok_id tok)) else (
@@ -37,8 +41,7 @@ with_token word cpu tok =
     if bytes_eq word (codes "again") then Some (Again (cpu_id cpu) (tok_id tok)) else (
     if bytes_eq word (codes "mark") then Some (Mark (cpu_id cpu) (tok_id tok)) else (
     if bytes_eq word (codes "give_one") then Some (GiveOne (cpu_id cpu) (tok_id tok)) else (
-    if bytes_eq word (codes "give_clean") then Some (GiveClean (cpu_id cpu) (tok_id tok)) else (
-    if bytes_eq word (codes "give_written") then Some (GiveWritten (cpu_id cpu) (tok_id tok)) else None)))))))
+    if bytes_eq word (codes "give_clean") then Some (GiveClean (cpu_id cpu) (tok_id tok)) else None))))))
 
 -- the event of a word with a processor and a message
 abbrev pub with_message : List ℕ → ℕ → ℕ → Option Event
@@ -68,15 +71,46 @@ with_value word cpu place part value =
     if bytes_eq word (codes "write") then Some (Write (cpu_id cpu) (tok_id place) part value) else (
     if bytes_eq word (codes "send") then Some (Send (cpu_id cpu) (msg_id place) (cpu_id part) value) else None))
 
--- the event of a word with so many items in all
-abbrev pub happened : List ℕ → ℕ → Data → Option Event
-happened word count d =
-    if count == 3 then (small_at 1 d >>= λ cpu. small_at 2 d >>= λ place. with_place word cpu place) else (
-    if count == 4 then (small_at 1 d >>= λ cpu. small_at 2 d >>= λ msg. whole_at 3 d >>= λ round. with_round word cpu msg round) else (
-    if count == 5 then (small_at 1 d >>= λ cpu. small_at 2 d >>= λ place. small_at 3 d >>= λ part. whole_at 4 d >>= λ value. with_value word cpu place part value) else None))
+-- the numbers of a list, behind those before them
+abbrev pub numbers_behind : List ℕ → Items → Option (List ℕ)
+numbers_behind before no_items = Some before
+numbers_behind before (item d ds) = whole d >>= λ n. numbers_behind (before ++ n ∷ []) ds
 
--- an event: a word, and the numbers that go with it
-abbrev pub event_of : Data → Option Event
+-- a row: at most four whole numbers
+abbrev pub row_of : Items → Option (List ℕ)
+row_of items = if nat_le (items_len items) 4 then numbers_behind [] items else None
+
+-- item i, a row
+abbrev pub row_at : ℕ → Data → Option (List ℕ)
+row_at i d = (at i d >>= as_array) >>= row_of
+
+-- items 3 to 5, a section of a token: its generation, and the rows at its beginning and at its end
+abbrev pub section_in : ℕ → Data → Option Section
+section_in tok d = whole_at 3 d >>= λ generation. row_at 4 d >>= λ before. row_at 5 d >>= λ after. Some (record { before = before; after = after; generation = generation; tok = tok_id tok })
+
+-- the event of a word with a processor and a section
+abbrev pub with_section : List ℕ → ℕ → Section → Option Event
+with_section word cpu section = if bytes_eq word (codes "give_written") then Some (GiveWritten (cpu_id cpu) section.tok section) else None
+
+-- an event that is told whole
+abbrev pub whole_event : Option Event → Option Told
+whole_event event = option_map Whole event
+
+-- what a word tells with a processor and the number of what it is at: a written give's section isn't told
+abbrev pub told_at : List ℕ → ℕ → ℕ → Option Told
+told_at word cpu place =
+    if bytes_eq word (codes "give_written") then Some (Given (cpu_id cpu) (tok_id place)) else whole_event (with_place word cpu place)
+
+-- what a word tells with so many items in all
+abbrev pub happened : List ℕ → ℕ → Data → Option Told
+happened word count d =
+    if count == 3 then (small_at 1 d >>= λ cpu. small_at 2 d >>= λ place. told_at word cpu place) else (
+    if count == 4 then whole_event (small_at 1 d >>= λ cpu. small_at 2 d >>= λ msg. whole_at 3 d >>= λ round. with_round word cpu msg round) else (
+    if count == 5 then whole_event (small_at 1 d >>= λ cpu. small_at 2 d >>= λ place. small_at 3 d >>= λ part. whole_at 4 d >>= λ value. with_value word cpu place part value) else (
+    if count == 6 then whole_event (small_at 1 d >>= λ cpu. (small_at 2 d >>= λ tok. section_in tok d) >>= with_section word cpu) else None)))
+
+-- an event as it is told: a word, and what goes with it
+abbrev pub event_of : Data → Option Told
 event_of d = item_count d >>= λ count. (at 0 d >>= as_str) >>= λ word. happened word count d
 
 -- a message's end by a word, its origin and its round
@@ -100,7 +134,8 @@ ended word count d =
 abbrev pub message_end_of : Data → Option MsgEnd
 message_end_of d = item_count d >>= λ count. (at 0 d >>= as_str) >>= λ word. ended word count d
 
--- a word is that of an event: with the numbers of the event it is read as this event
+-- a word is that of an event: with the numbers of the event it is read as this event; of a written give with its section, or
+-- without it as one whose section isn't told
 abbrev pub IsWordOf : List ℕ → Event → Type 0
 IsWordOf word (Load cpu tok) = with_place word cpu.0 tok.0 ≡ Some (Load cpu tok)
 IsWordOf word (Take cpu tok) = with_place word cpu.0 tok.0 ≡ Some (Take cpu tok)
@@ -109,7 +144,7 @@ IsWordOf word (Again cpu tok) = with_place word cpu.0 tok.0 ≡ Some (Again cpu 
 IsWordOf word (Mark cpu tok) = with_place word cpu.0 tok.0 ≡ Some (Mark cpu tok)
 IsWordOf word (GiveOne cpu tok) = with_place word cpu.0 tok.0 ≡ Some (GiveOne cpu tok)
 IsWordOf word (GiveClean cpu tok) = with_place word cpu.0 tok.0 ≡ Some (GiveClean cpu tok)
-IsWordOf word (GiveWritten cpu tok) = with_place word cpu.0 tok.0 ≡ Some (GiveWritten cpu tok)
+IsWordOf word (GiveWritten cpu tok section) = (with_section word cpu.0 (record section { tok = tok }) ≡ Some (GiveWritten cpu tok (record section { tok = tok }))) × (told_at word cpu.0 tok.0 ≡ Some (Given cpu tok))
 IsWordOf word (Read cpu tok cell value) = with_value word cpu.0 tok.0 cell value ≡ Some (Read cpu tok cell value)
 IsWordOf word (Write cpu tok cell value) = with_value word cpu.0 tok.0 cell value ≡ Some (Write cpu tok cell value)
 IsWordOf word (Send cpu msg to round) = with_value word cpu.0 msg.0 to.0 round ≡ Some (Send cpu msg to round)

@@ -1,10 +1,12 @@
 ghost use Rattle.std.specs.Prelude.{◌≡◌, []};
 ghost use Rattle.serde_json.specs.View.{view, items_view};
 ghost use Rattle.lwkt_script.specs.Outcome.{Gives, each};
-ghost use Rattle.lwkt_trace.specs.Words.{with_token, with_message, with_place, with_round, with_value, happened, event_of};
+ghost use Rattle.lwkt_trace.specs.Words.{with_token, with_message, with_place, with_round, with_value, with_section, told_at, happened, event_of};
 ghost use Rattle.lwkt_trace.specs.Format.{event};
 
-use lwkt_base::{CpuId, Fault, MsgId, TokId};
+use crate::sections::section_in;
+use crate::traces::Told;
+use lwkt_base::{CpuId, Fault, MsgId, Section, TokId};
 use lwkt_core::Event;
 use lwkt_script::fields::item_count;
 use lwkt_script::growth::push;
@@ -14,7 +16,7 @@ use std::alloc::Global;
 
 const EVENT_LIMIT: usize = 50_000_000;
 
-// The event of a word with a processor and a token.
+// The event of a word with a processor and a token, but for a written give.
 fn with_token(word: &str, cpu: u8, tok: u8) -> Option<Event>
     ensures { result ≡ with_token word.now cpu tok }
 {
@@ -28,7 +30,6 @@ fn with_token(word: &str, cpu: u8, tok: u8) -> Option<Event>
         "mark" => Some(Event::Mark { cpu, tok }),
         "give_one" => Some(Event::GiveOne { cpu, tok }),
         "give_clean" => Some(Event::GiveClean { cpu, tok }),
-        "give_written" => Some(Event::GiveWritten { cpu, tok }),
         _ => None,
     }
 }
@@ -100,31 +101,63 @@ fn with_value(word: &str, cpu: u8, place: u8, part: u8, value: u64) -> Option<Ev
     }
 }
 
-// The event of a word with so many items in all.
-fn happened(word: &str, count: usize, value: &Value) -> Option<Event>
+// The event of a word with a processor and a section.
+fn with_section(word: &str, cpu: u8, section: Section) -> Option<Event>
+    ensures { result ≡ with_section word.now cpu section }
+{
+    match word {
+        "give_written" => Some(Event::GiveWritten {
+            cpu: CpuId(cpu),
+            tok: section.tok,
+            section,
+        }),
+        _ => None,
+    }
+}
+
+// What a word tells with a processor and the number of what it is at: a written give's section isn't told.
+fn told_at(word: &str, cpu: u8, place: u8) -> Option<Told>
+    ensures { result ≡ told_at word.now cpu place }
+{
+    match word {
+        "give_written" => Some(Told::Given {
+            cpu: CpuId(cpu),
+            tok: TokId(place),
+        }),
+        _ => Some(Told::Whole(with_place(word, cpu, place)?)),
+    }
+}
+
+// What a word tells with so many items in all.
+fn happened(word: &str, count: usize, value: &Value) -> Option<Told>
     ensures { result ≡ happened word.now count (view value.now) }
 {
     match count {
-        3 => with_place(word, small_at(value, 1)?, small_at(value, 2)?),
-        4 => with_round(
+        3 => told_at(word, small_at(value, 1)?, small_at(value, 2)?),
+        4 => Some(Told::Whole(with_round(
             word,
             small_at(value, 1)?,
             small_at(value, 2)?,
             whole_at(value, 3)?,
-        ),
-        5 => with_value(
+        )?)),
+        5 => Some(Told::Whole(with_value(
             word,
             small_at(value, 1)?,
             small_at(value, 2)?,
             small_at(value, 3)?,
             whole_at(value, 4)?,
-        ),
+        )?)),
+        6 => Some(Told::Whole(with_section(
+            word,
+            small_at(value, 1)?,
+            section_in(small_at(value, 2)?, value)?,
+        )?)),
         _ => None,
     }
 }
 
-// The event that a list stands for.
-fn event_of(value: &Value) -> Option<Event>
+// What a list tells.
+fn event_of(value: &Value) -> Option<Told>
     ensures { result ≡ event_of (view value.now) }
 {
     let count = item_count(value)?;
@@ -132,7 +165,7 @@ fn event_of(value: &Value) -> Option<Event>
 }
 
 // The event after those.
-fn event(before: &[Event], value: &Value) -> Result<Event, Fault>
+fn event(before: &[Told], value: &Value) -> Result<Told, Fault>
     ensures { Gives (λ e. e) result (event before.now (view value.now)) }
 {
     if before.len() >= EVENT_LIMIT {
@@ -147,7 +180,7 @@ fn event(before: &[Event], value: &Value) -> Result<Event, Fault>
 }
 
 // The events of a trace.
-pub fn events_of(alloc: Global, items: &[Value]) -> Result<Vec<Event>, Fault>
+pub fn events_of(alloc: Global, items: &[Value]) -> Result<Vec<Told>, Fault>
     ensures { Gives (λ v. v.items) result (each event [] (items_view items.now)) }
 {
     let mut events = Vec::new(alloc);

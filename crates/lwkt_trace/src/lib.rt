@@ -6,8 +6,9 @@ mod closings;
 mod events;
 mod openings;
 mod readers;
+mod sections;
 mod traces;
 pub mod words;
 
 pub use readers::{LENGTH_LIMIT, read_trace};
-pub use traces::{Closing, Trace};
+pub use traces::{Closing, Told, Trace};

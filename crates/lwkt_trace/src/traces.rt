@@ -1,8 +1,17 @@
 ghost use Rattle.std.specs.Prelude.{◌≡◌};
 
-use lwkt_base::{Cells, MsgEnd, MsgSpec, TokSpec};
+use lwkt_base::{Cells, CpuId, MsgEnd, MsgSpec, TokId, TokSpec};
 use lwkt_core::{Event, Final};
 use lwkt_script::Parts;
+
+/// An event as a trace tells it.
+#[derive(Clone, Copy, Debug)]
+pub enum Told {
+    /// The whole event.
+    Whole(Event),
+    /// A written give, without its section.
+    Given { cpu: CpuId, tok: TokId },
+}
 
 /// The closing values of a trace.
 #[derive(Debug, Drop)]
@@ -43,8 +52,8 @@ pub struct Trace {
     pub tokens: Parts<TokSpec>,
     /// At most 64 messages, by their numbers.
     pub messages: Parts<MsgSpec>,
-    /// The events, in order.
-    pub events: Parts<Event>,
+    /// The events, in order, as they are told.
+    pub events: Parts<Told>,
     /// The closing values, or none where they were left out.
     pub last: Option<Closing>,
 }

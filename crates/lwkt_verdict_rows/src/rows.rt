@@ -4,7 +4,8 @@
 use crate::changes::{Change, make_change};
 use crate::sheets::{Sheet, first_of};
 use lwkt_base::{
-    Answer, Ask, Call, CpuId, Entry, Fault, Item, Law, MsgId, MsgSpec, ThreadId, ThreadState, TokId,
+    Answer, Ask, Call, CpuId, Entry, Fault, Item, Law, MsgId, MsgSpec, Row, Section, ThreadId,
+    ThreadState, TokId,
 };
 use lwkt_core::Event;
 use lwkt_verdict::laws::{
@@ -40,10 +41,18 @@ fn give_clean(cpu: u8, tok: u8) -> Event {
     }
 }
 
-fn give_written(cpu: u8, tok: u8) -> Event {
+// The end of a section of token 0, by the values of its cell.
+fn give_written(cpu: u8, generation: u64, before: u64, after: u64) -> Event {
+    let tok = TokId(0);
     Event::GiveWritten {
         cpu: CpuId(cpu),
-        tok: TokId(tok),
+        tok,
+        section: Section {
+            before: Row::of(&[before]),
+            after: Row::of(&[after]),
+            generation,
+            tok,
+        },
     }
 }
 
@@ -80,7 +89,7 @@ fn tally_add(alloc: Global) -> Result<Sheet, AllocError> {
     )?;
     sheet.asks(first_of(0), get, DONE, &[take(0, 0)])?;
     sheet.asks(first_of(0), add, DONE, &[write(0, 15)])?;
-    sheet.asks(first_of(0), rel, DONE, &[give_written(0, 0)])?;
+    sheet.asks(first_of(0), rel, DONE, &[give_written(0, 0, 10, 15)])?;
     sheet.asks(first_of(0), Ask::Exit, None, &[])?;
     sheet.idles(&[])?;
     Ok(sheet)
@@ -135,7 +144,8 @@ fn crossed_begins(sheet: &mut Sheet) -> Result<(), AllocError> {
         &[write(1, 7)],
     )?;
     sheet.idles(&[])?;
-    sheet.asks(first_of(1), Ask::Rel(TokId(0)), DONE, &[give_written(1, 0)])?;
+    let written = give_written(1, 0, 0, 7);
+    sheet.asks(first_of(1), Ask::Rel(TokId(0)), DONE, &[written])?;
     sheet.idles(&[take(0, 0), give_clean(0, 0)])?;
     sheet.asks(first_of(1), Ask::Rel(TokId(1)), DONE, &[give_clean(1, 1)])
 }
@@ -159,7 +169,7 @@ fn crossed_ends(sheet: &mut Sheet) -> Result<(), AllocError> {
         &[write(0, 8)],
     )?;
     sheet.idles(&[])?;
-    let gives = [give_clean(0, 1), give_written(0, 0)];
+    let gives = [give_clean(0, 1), give_written(0, 1, 7, 8)];
     sheet.asks(first_of(0), Ask::Yield, DONE, &gives)?;
     sheet.idles(&[])?;
     sheet.asks(
@@ -265,11 +275,12 @@ fn two_threads(alloc: Global) -> Result<Sheet, AllocError> {
     )?;
     sheet.asks(first_of(0), get, DONE, &[take(0, 0)])?;
     sheet.asks(first_of(0), one, DONE, &[write(0, 1)])?;
-    sheet.asks(first_of(0), Ask::Yield, DONE, &[give_written(0, 0)])?;
+    let written = give_written(0, 0, 0, 1);
+    sheet.asks(first_of(0), Ask::Yield, DONE, &[written])?;
     sheet.asks(SECOND, get, DONE, &[take(0, 0)])?;
     sheet.asks(SECOND, look, Some(Answer::Value(1)), &[read(0, 1)])?;
     sheet.asks(SECOND, two, DONE, &[write(0, 2)])?;
-    sheet.asks(SECOND, rel, DONE, &[give_written(0, 0)])?;
+    sheet.asks(SECOND, rel, DONE, &[give_written(0, 1, 1, 2)])?;
     sheet.asks(SECOND, Ask::Exit, None, &[])?;
     let seen = Some(Answer::Value(2));
     sheet.asks(first_of(0), look, seen, &[take(0, 0), read(0, 2)])?;
@@ -332,6 +343,8 @@ fn tally_add_with_changes(rt: HostRuntime) -> Result<(), Fail> {
         (Change::Made(2, 2, read(0, 15)), false),
         (Change::Made(0, 1, write(0, 20)), false),
         (Change::Other(1, write(0, 16)), false),
+        (Change::Other(2, give_written(0, 1, 10, 15)), false),
+        (Change::Other(2, give_written(0, 0, 15, 10)), false),
         (Change::Earlier(2), false),
         (Change::Ended(0, ThreadState::Running), false),
         (Change::Ended(0, ThreadState::Faulted(Fault::Worn)), false),
@@ -355,6 +368,7 @@ fn two_threads_with_changes(rt: HostRuntime) -> Result<(), Fail> {
         (Change::Polled(7, first_of(0)), false),
         (Change::Unasked(7), false),
         (Change::Answered(4, Some(Answer::Value(2))), false),
+        (Change::Other(6, give_written(0, 1, 0, 2)), false),
         (Change::Unlogged(1), false),
         (Change::LineLess, false),
     ];
