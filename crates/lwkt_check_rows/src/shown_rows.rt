@@ -1,5 +1,5 @@
 //! Sections, given in order, and the lines that show them between the opening rows and the closing ones.
-use lwkt_base::{Cells, Row, Section, TokId};
+use lwkt_base::{Cells, CpuId, Row, Section, TokId};
 use lwkt_report::{Closing, TokenLine, Verdict};
 use lwkt_scenes::chains_of_sections;
 use lwkt_script::read_script;
@@ -65,6 +65,7 @@ fn shows(
     alloc: Global,
     script: &str,
     written: &[Written],
+    givers: &[CpuId],
     last: &[At],
     want: &str,
 ) -> Result<bool, AllocError> {
@@ -74,7 +75,7 @@ fn shows(
     let sections = sections(alloc, written)?;
     let closing = closing(alloc, last)?;
     Ok(
-        match chains_of_sections(alloc, &script, &sections, &closing) {
+        match chains_of_sections(alloc, &script, &sections, givers, &closing) {
             Ok(text) => text.as_str() == want,
             Err(_) => false,
         },
@@ -82,7 +83,7 @@ fn shows(
 }
 
 #[test]
-fn sections_of_three_tokens(rt: HostRuntime) -> Result<(), Fail> {
+fn sections_with_their_processors_and_without(rt: HostRuntime) -> Result<(), Fail> {
     let shown = shows(
         rt.alloc(),
         THREE_TOKENS,
@@ -91,12 +92,13 @@ fn sections_of_three_tokens(rt: HostRuntime) -> Result<(), Fail> {
             Written(0, 1, &[8], &[11]),
             Written(1, 7, &[4, 6], &[10, 0]),
         ],
+        &[CpuId(0), CpuId(3)],
         &[At(2, &[11]), At(8, &[10, 0]), At(3, &[])],
         "\
 token 0, law tally 5
 opening: generation 0, row 5
-generation 0: 5 -> 8
-generation 1: 8 -> 11
+generation 0, processor 0: 5 -> 8
+generation 1, processor 3: 8 -> 11
 closing: generation 2, row 11
 token 1, law sum 10
 opening: generation 7, row 4 6
@@ -113,10 +115,11 @@ closing: generation 3, row -
 
 #[test]
 fn nothing_was_written(rt: HostRuntime) -> Result<(), Fail> {
-    assert!(rt; shows(rt.alloc(), NO_TOKENS, &[], &[], "")?);
+    assert!(rt; shows(rt.alloc(), NO_TOKENS, &[], &[], &[], "")?);
     let shown = shows(
         rt.alloc(),
         THREE_TOKENS,
+        &[],
         &[],
         &[At(0, &[5]), At(7, &[4, 6]), At(3, &[])],
         "\

@@ -2,6 +2,7 @@
 #![tactic(auto)]
 
 mod endings;
+mod givers;
 mod lines;
 mod programs;
 mod records;

@@ -7,11 +7,12 @@ ghost use Rattle.lwkt_run.specs.Run.{Declines, Refuses};
 ghost use Rattle.lwkt_run.specs.Threaded.{EndsOnThreads, IsThreadRecord, HasThreadedRun, TellsOnThreads, lets_all};
 
 use crate::endings::{Left, left_by};
+use crate::givers::givers_of;
 use crate::lines::token_lines;
 use crate::reports::{Done, conclude};
 use crate::runs::{End, end_told};
 use crate::tellings::{judged, sections_in_order};
-use lwkt_base::{Fault, Section};
+use lwkt_base::{CpuId, Fault, Section};
 use lwkt_core::Final;
 use lwkt_machine::Machine;
 use lwkt_report::{Closing, RunFault, Sink, Source, read_capped, report};
@@ -29,6 +30,8 @@ pub struct ThreadRecord {
     pub closing: Closing,
     /// Of each token its sections are one chain from its opening row to that of its line.
     pub sections: Vec<Section>,
+    /// Of each section the processor that ended it.
+    pub givers: Vec<CpuId>,
 }
 
 // What a run on threads left, with the written sections that its processors told, by token and generation.
@@ -36,14 +39,16 @@ pub struct ThreadRecord {
 struct Told {
     left: Left,
     sections: Vec<Section>,
+    givers: Vec<CpuId>,
 }
 
-// Drives the processors of a script on threads, and closes their machine.
+// Drives the processors of a script on threads, and closes their machine. Who ended a section is told where it is wanted.
 fn told_of<R: Threads + Wait + Sync, G: Gate + Sync>(
     rt: &R,
     alloc: Global,
     gate: &G,
     script: &Script,
+    with_givers: bool,
 ) -> Result<Told, Fault>
     ensures values { IfOk result (λ told. AreValuesOf script.now.tokens told.left.last) }
     ensures ends { IfOk result (λ told. EndsOnThreads (G.answers gate.now) script.now told.left.threads.items told.left.last told.sections.items) }
@@ -60,8 +65,13 @@ fn told_of<R: Threads + Wait + Sync, G: Gate + Sync>(
     let Outcome { machine, traces } = drive_machine(rt, alloc, gate, &limits, machine)?;
     let mut stops = Vec::new(alloc);
     let left = left_by(alloc, script, machine, &mut stops)?;
+    let givers = givers_of(alloc, with_givers, traces.as_slice(), stops.as_slice())?;
     match sections_in_order(alloc, traces, &stops) {
-        Ok(sections) => Ok(Told { left, sections }),
+        Ok(sections) => Ok(Told {
+            left,
+            sections,
+            givers,
+        }),
         Err(_) => Err(Fault::Memory),
     }
 }
@@ -80,7 +90,11 @@ fn record_of<G: Gate>(
     requires ends { EndsOnThreads (G.answers gate.now) script.now told.left.threads.items told.left.last told.sections.items }
     ensures { IfOk result (λ kept. IsThreadRecord (G.answers gate.now) script.now kept) }
 {
-    let Told { left, sections } = told;
+    let Told {
+        left,
+        sections,
+        givers,
+    } = told;
     let Left { last, threads } = left;
     let verdict = judged(alloc, script.tokens.as_slice(), &last, &sections)?;
     let tokens = token_lines(alloc, script.tokens.as_slice(), &last)?;
@@ -91,7 +105,11 @@ fn record_of<G: Gate>(
         threads,
         verdict,
     };
-    Ok(ThreadRecord { closing, sections })
+    Ok(ThreadRecord {
+        closing,
+        sections,
+        givers,
+    })
 }
 
 // Runs a script on threads, and keeps what its report shows and the sections that were told.
@@ -100,11 +118,12 @@ fn record_of_script<R: Threads + Wait + Sync, G: Gate + Sync>(
     alloc: Global,
     gate: &G,
     script: &Script,
+    with_givers: bool,
 ) -> Result<ThreadRecord, Fault>
     ensures ok { IfOk result (λ kept. IsThreadRecord (G.answers gate.now) script.now kept) }
     ensures refused { IfErr result (λ fault. Declines script.now fault) }
 {
-    let told = told_of(rt, alloc, gate, script)?;
+    let told = told_of(rt, alloc, gate, script, with_givers)?;
     match record_of(alloc, gate, script, told) {
         Ok(kept) => Ok(kept),
         Err(_) => Err(Fault::Memory),
@@ -122,7 +141,7 @@ fn done_of_bytes<R: Threads + Wait + Sync, G: Gate + Sync>(
     ensures refused { IfErr result (λ fault. Refuses bytes.now fault) }
 {
     let script = read_script(alloc, bytes)?;
-    let ThreadRecord { closing, .. } = record_of_script(rt, alloc, gate, &script)?;
+    let ThreadRecord { closing, .. } = record_of_script(rt, alloc, gate, &script, false)?;
     let end = end_told(&closing);
     let text = report(alloc, &closing)?;
     Ok(Done { text, end })
@@ -165,7 +184,8 @@ pub fn run_threads<R: Threads + Wait + Sync, S: Source, K: Sink>(
     run_threads_gated(rt, alloc, source, sink, &OpenGate)
 }
 
-/// Runs a script on threads, and keeps what its report shows and the written sections that its processors told, in order.
+/// Runs a script on threads, and keeps what its report shows and the written sections that its processors told, in order, each with
+/// its processor.
 ///
 /// Refused as `run_threads` is once it has read its script.
 pub fn record_threads<R: Threads + Wait + Sync>(
@@ -176,5 +196,5 @@ pub fn record_threads<R: Threads + Wait + Sync>(
     ensures ok { IfOk result (λ kept. IsThreadRecord lets_all script.now kept) }
     ensures refused { IfErr result (λ fault. Declines script.now fault) }
 {
-    record_of_script(rt, alloc, &OpenGate, script)
+    record_of_script(rt, alloc, &OpenGate, script, true)
 }

@@ -87,20 +87,30 @@ pub fn chains_of(alloc: Global, run: &Reel) -> Result<String, Fault> {
     chains.pages.whole(alloc, &run.closing.tokens)
 }
 
-/// The written sections of a run on threads, which are given in the order of their generations: of each token its opening row,
-/// then one line for each section, with its generation and the row before and after it, and then the closing row of the report.
+// Appends the processor that ended a section, where it is known.
+fn show_giver(out: &mut Page, giver: Option<&CpuId>) {
+    if let Some(cpu) = giver {
+        out.number(", processor ", u64::from(cpu.0));
+    }
+}
+
+/// The written sections of a run on threads, which are given in the order of their generations, with the processors that ended
+/// them in the same order: of each token its opening row, then one line for each section, with its generation, its processor where
+/// that is given, and the row before and after it, and then the closing row of the report.
 ///
 /// Refused with `Memory` if an allocation is.
 pub fn chains_of_sections(
     alloc: Global,
     script: &Script,
     sections: &[Section],
+    givers: &[CpuId],
     closing: &Closing,
 ) -> Result<String, Fault> {
     let mut pages = TokenPages::open(alloc, script.tokens.as_slice())?;
-    for section in sections {
+    for (place, section) in sections.iter().enumerate() {
         if let Some(out) = pages.page(section.tok) {
             out.number("generation ", section.generation);
+            show_giver(out, givers.get(place));
             show_change(out, section);
         }
     }

@@ -22,9 +22,13 @@ fn done_of_bytes<R: Threads + Wait + Sync>(
     ensures refused { IfErr result (λ fault. Refuses bytes.now fault) }
 {
     let script = read_script(alloc, bytes)?;
-    let ThreadRecord { closing, sections } = record_threads(rt, alloc, &script)?;
+    let ThreadRecord {
+        closing,
+        sections,
+        givers,
+    } = record_threads(rt, alloc, &script)?;
     let end = end_told(&closing);
-    match chains_of_sections(alloc, &script, &sections, &closing) {
+    match chains_of_sections(alloc, &script, &sections, &givers, &closing) {
         Ok(text) => Ok(Done { text, end }),
         Err(_) => Err(Fault::Memory),
     }

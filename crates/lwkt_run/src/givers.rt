@@ -1,0 +1,71 @@
+//! Which processor ended each written section, for whoever shows them.
+ghost use Rattle.std.specs.Prelude.{◌≡◌, Err, OnErr};
+
+use lwkt_base::{CpuId, Fault};
+use lwkt_core::Event;
+use std::alloc::{AllocError, Global};
+
+// A section, and the processor that ended it by giving the token back.
+#[derive(Clone, Copy)]
+struct Given {
+    tok: u8,
+    generation: u64,
+    cpu: CpuId,
+}
+
+// Adds the sections that a trace tells.
+fn add_given(given: &mut Vec<Given>, trace: &[Event]) -> Result<(), AllocError> {
+    for event in trace {
+        if let Event::GiveWritten { cpu, section, .. } = *event {
+            given.push(Given {
+                tok: section.tok.0,
+                generation: section.generation,
+                cpu,
+            })?;
+        }
+    }
+    Ok(())
+}
+
+// The sections that traces and a stop tell, by token and then by generation.
+fn given_in_order(
+    alloc: Global,
+    traces: &[Vec<Event>],
+    stops: &[Event],
+) -> Result<Vec<Given>, AllocError> {
+    let mut given = Vec::new(alloc);
+    for trace in traces {
+        add_given(&mut given, trace)?;
+    }
+    add_given(&mut given, stops)?;
+    given.sort_unstable_by_key(|one| (one.tok, one.generation));
+    Ok(given)
+}
+
+// Their processors.
+fn cpus_of(alloc: Global, given: &[Given]) -> Result<Vec<CpuId>, AllocError> {
+    let mut cpus = Vec::with_capacity(alloc, given.len())?;
+    for one in given {
+        cpus.push(one.cpu)?;
+    }
+    Ok(cpus)
+}
+
+/// Of each written section that traces and a stop tell, by token and then by generation, the processor that ended it; of none where
+/// they aren't wanted.
+///
+/// Refused with `Memory`.
+pub fn givers_of(
+    alloc: Global,
+    are_wanted: bool,
+    traces: &[Vec<Event>],
+    stops: &[Event],
+) -> Result<Vec<CpuId>, Fault>
+    ensures only { OnErr result (result ≡ Err Fault.Memory) }
+{
+    if !are_wanted {
+        return Ok(Vec::new(alloc));
+    }
+    let given = given_in_order(alloc, traces, stops).map_err(|_| Fault::Memory)?;
+    cpus_of(alloc, &given).map_err(|_| Fault::Memory)
+}
