@@ -73,7 +73,7 @@ fn script(alloc: Global, value: &Value) -> Result<Script, Fault>
 /// - 1000 + n: token n, which is 64 where there are more than 64.
 /// - 2000 + n: message n, which is 64 where there are more than 64.
 /// - 3000 + n: thread n: its members, more than 256 steps, or the 17th thread of its processor.
-/// - 100000 + 1000 * n + j: step j of thread n. The steps `abort`, `isab` and `drop` are not there yet.
+/// - 100000 + 1000 * n + j: step j of thread n.
 ///
 /// Of a member that stands twice the last one counts. A number with a fraction or an exponent, -0, and a number of
 /// more than 64 bits are no whole numbers.
