@@ -24,10 +24,12 @@
 //   is.
 //
 // Any number of threads may call at once: a call shares nothing with another one. No call waits, starts a thread, prints, reads a
-// file or ends the process. What memory it takes it gives back before it returns. The calls on words take none.
+// file or ends the process. What memory it takes it gives back before it returns. The calls on words take none,
+// and call nothing: the part of the archive that has them can be linked into a kernel.
 #ifndef LWKT_H
 #define LWKT_H
 
+#include <stdbool.h>
 #include <stddef.h>
 #include <stdint.h>
 
@@ -68,6 +70,53 @@ uint32_t lwkt_check_trace(const uint8_t *trace, size_t trace_length, uint8_t *te
 // that the arguments choose. With 1 and 3 the text says why, in words, or is empty.
 uint32_t lwkt_show_turns(const uint8_t *script, size_t script_length, const uint8_t *arguments, size_t arguments_length,
                          uint8_t *text, size_t room, lwkt_answer *answer);
+
+// The steps on a token's word, for those who keep the word themselves and have an atomic exchange of their own, as in a kernel. They
+// are decisions only: each makes of the word that was read the word to store in its place, or says why the step can't be made. The
+// caller exchanges the one for the other, and where another processor came between reads the word again and asks again:
+//
+//     uint64_t next, word = atomic_load(&token);
+//     while (!(refused = lwkt_word_take(word, &next)) && !atomic_compare_exchange_weak(&token, &word, next)) {}
+//
+// A word has, from the lowest bit: the exclusive bit, the mark of an exclusive request, 16 bits of count, 46 bits of generation.
+// Held shared, the count is the number of all references; held exclusively, that of the references beyond the first. Each word is
+// one that these calls take. A token that nobody holds at generation g has the word g << 18.
+//
+// A call answers 0 and stores the next word; or it answers a fault, as docs/FORMATS.md numbers them, and stores nothing. Which
+// references a processor has is not in the word: the caller knows it. In the model of docs/MODEL.md these steps are the events
+// Take, Share, Again, Mark, GiveOne, GiveClean and GiveWritten, which docs/C.md says more of.
+#define LWKT_WORD_EXCLUSIVE UINT64_C(1)
+#define LWKT_WORD_MARK UINT64_C(2)
+#define LWKT_WORD_COUNT(word) ((uint32_t)((word) >> 2 & 65535))
+#define LWKT_WORD_GENERATION(word) ((uint64_t)(word) >> 18)
+
+// Takes the token exclusively, for a processor that holds nothing of it; the mark is cleared. Refused with 20 at the last generation,
+// 70368744177663; else with 23 where anyone holds the token.
+uint32_t lwkt_word_take(uint64_t word, uint64_t *next);
+
+// Takes the token shared, for a processor that holds nothing of it. `alone` says that the asking thread has no reference to another
+// token: the mark then holds it off. Refused with 23 where the token is held exclusively or the mark holds the request off; else with
+// 39 where the word counts 65535 references.
+uint32_t lwkt_word_share(uint64_t word, bool alone, uint64_t *next);
+
+// A further reference of a processor that holds the token, in the mode of its first. Refused with 13 where nobody holds the token; with
+// 39 where the word counts 65535 references.
+uint32_t lwkt_word_again(uint64_t word, uint64_t *next);
+
+// The word with the mark of an exclusive request, which any processor may set. It is never refused.
+uint64_t lwkt_word_mark(uint64_t word);
+
+// A reference back that doesn't end an exclusive holding: a shared one, or one beyond the first of an exclusive holder. Refused with 13
+// where the word counts none.
+uint32_t lwkt_word_give_one(uint64_t word, uint64_t *next);
+
+// The last reference of an exclusive holder back, who has written nothing that the token guards. Refused with 13 where nobody holds the
+// token exclusively, and with 12 where its holder has references beyond the first.
+uint32_t lwkt_word_give_clean(uint64_t word, uint64_t *next);
+
+// The same of a holder who has written: the generation is one more. Refused with 20 at the last generation; else as
+// `lwkt_word_give_clean`.
+uint32_t lwkt_word_give_written(uint64_t word, uint64_t *next);
 
 #ifdef __cplusplus
 }
