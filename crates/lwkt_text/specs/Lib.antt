@@ -1,3 +1,5 @@
 pub mod Scanning
 pub mod Outcome
 pub mod Looking
+pub mod Naming
+pub mod Stepping

@@ -5,5 +5,7 @@ pub mod looks;
 pub mod many;
 pub mod names;
 pub mod scans;
+pub mod steps;
+pub mod tables;
 pub mod words;
 pub mod wrongs;
