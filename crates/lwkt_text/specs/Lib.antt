@@ -3,3 +3,6 @@ pub mod Outcome
 pub mod Looking
 pub mod Naming
 pub mod Stepping
+pub mod Parting
+pub mod Claiming
+pub mod Listing
