@@ -1,6 +1,6 @@
 "use strict";
 const at = (id) => document.getElementById(id);
-const windowSize = 10000, rowHeight = 28, mostCuts = 64, wholePicture = 120, pictureRounds = 40, quickTurns = 20000;
+const windowSize = 10000, rowHeight = 28, mostCuts = 64, wholePicture = 120, pictureRounds = 40, longestShown = 1000000;
 
 // ---- The worker, which has the module.
 
@@ -34,7 +34,7 @@ function ask(name, script, words) {
 }
 
 function settle(answer) {
-  if (answer.number === 0) return stopWorker(answer.error);
+  if (answer.number === 0) return stopWorker(`this browser doesn't take the module, which needs WebAssembly with 64-bit memory (${answer.error})`);
   const call = machine.calls.get(answer.number);
   machine.calls.delete(answer.number);
   if (answer.error) call?.reject(new Error(answer.error));
@@ -67,7 +67,7 @@ async function makeRun(script) {
   const read = readRun(whole.text);
   const opening = await show(cutScript(script, 1), "turns --chains");
   const { messages, cpus } = JSON.parse(script);
-  const made = { script, cpus, messages, whole: read, status: whole.status, milliseconds: whole.milliseconds, total: read.total, openings: readOpenings(opening.text), windows: new Map(), cuts: new Map() };
+  const made = { script, cpus, messages, whole: read, status: whole.status, milliseconds: whole.milliseconds, total: read.total, openings: readOpenings(opening.text), windows: new Map(), cuts: new Map(), parts: new Map() };
   made.rounds = Math.ceil(made.total / cpus);
   addWindow(made, 0, read.turns);
   return { made };
@@ -244,6 +244,7 @@ async function drawPicture(it, round) {
   const drawn = await show(it.script, `turns --rounds ${from}..${to} --svg`);
   if (it !== run) return;
   it.picture = from;
+  it.drawn = drawn.text;
   showPicture(at("drawing"), drawn.text);
   at("rounds").textContent = `rounds ${from} to ${to} of 0 to ${Math.max(0, it.rounds - 1)}`;
   at("rounds-back").hidden = at("rounds-forth").hidden = it.rounds <= wholePicture;
@@ -291,7 +292,7 @@ function showRun(it, turn) {
   showVerdict(it);
   at("ran").hidden = false;
   at("report").textContent = [...it.whole.ends, ...it.whole.report].join("\n");
-  for (const id of ["chains", "judged"]) at(id).textContent = "";
+  for (const id of ["chains", "judged", "chains-note", "trace-note"]) at(id).textContent = "";
   at("trace").value = "";
   at("turns").scrollTop = 0;
   drawOpenParts();
@@ -304,23 +305,42 @@ function drawOpenParts() {
   if (at("trace-part").open) fillPart("trace", "turns --trace", (text) => { at("trace").value = text; });
 }
 
+// Asks for a part once, and puts it where it is shown; one that is too long for that can be saved all the same.
 async function fillPart(name, words, put) {
   const it = run;
-  if (!it || it[name]) return;
-  it[name] = true;
-  if (it.total > quickTurns) put("..");
+  if (!it || it.parts.has(name)) return;
+  it.parts.set(name, null);
+  at(`${name}-note`).textContent = "..";
+  put("");
   try {
-    const answer = await show(it.script, words);
-    if (it === run) put(answer.text);
+    const { text } = await show(it.script, words);
+    if (it !== run) return;
+    it.parts.set(name, text);
+    const isLong = text.length > longestShown;
+    at(`${name}-note`).textContent = isLong ? `It has ${text.length} characters, too many to be shown here; it can be saved.` : "";
+    put(isLong ? "" : text);
   } catch (error) {
-    it[name] = false;
-    say(error.message);
+    it.parts.delete(name);
+    at(`${name}-note`).textContent = error.message;
   }
+}
+
+// Gives a text to the reader as a file.
+function save(name, text, type) {
+  const address = URL.createObjectURL(new Blob([text], { type }));
+  make("a", { href: address, download: name }).click();
+  setTimeout(() => URL.revokeObjectURL(address), 1000);
+}
+
+// The trace that is to be checked: the one in view, or of a long run the one that isn't shown.
+function traceText() {
+  const whole = run?.parts.get("trace") || "";
+  return at("trace").value || (whole.length > longestShown ? whole : "");
 }
 
 async function judge() {
   try {
-    const answer = await ask("lwkt_check_trace", at("trace").value);
+    const answer = await ask("lwkt_check_trace", traceText());
     at("judged").textContent = answer.text.trim() || `status ${answer.status}`;
   } catch (error) {
     at("judged").textContent = error.message;
@@ -476,6 +496,9 @@ function listen() {
   at("stop").addEventListener("click", () => stopWorker("it was stopped"));
   at("link").addEventListener("click", link);
   at("judge").addEventListener("click", judge);
+  at("save-chains").addEventListener("click", () => save("sections.txt", run.parts.get("chains") || "", "text/plain"));
+  at("save-trace").addEventListener("click", () => save("trace.json", traceText(), "application/json"));
+  at("save-picture").addEventListener("click", () => save("run.svg", run.drawn || "", "image/svg+xml"));
   at("example").addEventListener("change", () => openExample(at("example").value));
   at("script").addEventListener("input", () => { clearRefusal(); chooseExample(""); });
   at("script").addEventListener("scroll", followScroll);
