@@ -8,7 +8,6 @@ use crate::threaded::run_threads;
 use lwkt_base::Fault;
 use lwkt_report::{Complaint, Program, RunFault, Sink, Source, complain, complaint_of};
 use std::alloc::Global;
-use std::sync::Wait;
 use std::thread::Threads;
 
 // The exit status of an outcome.
@@ -56,7 +55,7 @@ fn asks_threads(words: &[String]) -> bool
 /// stream that failed; 4 an unlawful trace. With 1 and 3 one line stands in place of the report, or after a front of it.
 ///
 /// The arguments are checked before anything is read.
-pub fn run_program<R: Threads + Wait + Sync, S: Source, K: Sink>(
+pub fn run_program<R: Threads + Sync, S: Source, K: Sink>(
     rt: &R,
     alloc: Global,
     words: &[String],

@@ -12,7 +12,6 @@ use lwkt_report::{RunFault, Sink, Source, read_capped, write_whole};
 use lwkt_run::{End, TurnsRun, end_told, turns_run};
 use lwkt_scenes::{Chosen, Reel, chains_of, lines_of, picture_of, trace_of};
 use std::alloc::Global;
-use std::sync::Wait;
 use std::thread::Threads;
 
 // What is said where the arguments are none of the program's.
@@ -190,7 +189,7 @@ fn show_turns<S: Source, K: Sink, E: Sink>(
 }
 
 // Shows the written sections of a run on threads, and answers the exit status.
-fn show_sections<R: Threads + Wait + Sync, S: Source, K: Sink, E: Sink>(
+fn show_sections<R: Threads + Sync, S: Source, K: Sink, E: Sink>(
     rt: &R,
     alloc: Global,
     source: &mut S,
@@ -216,7 +215,7 @@ fn show_sections<R: Threads + Wait + Sync, S: Source, K: Sink, E: Sink>(
 ///
 /// The arguments are looked at before anything is read; where they are wrong nothing is read or written but what goes to
 /// where errors go. Of a stream that failed nothing is said there: only who has the stream can say why.
-pub fn run_show<R: Threads + Wait + Sync, S: Source, K: Sink, E: Sink>(
+pub fn run_show<R: Threads + Sync, S: Source, K: Sink, E: Sink>(
     rt: &R,
     alloc: Global,
     words: &[String],

@@ -5,7 +5,6 @@ use crate::thread_rows::run;
 use lwkt_base::CpuId;
 use lwkt_run::{End, Gate};
 use std::alloc::Global;
-use std::sync::Wait;
 use std::thread::Threads;
 
 // A script of two processors, and how each of the first lines of its report may begin.
@@ -86,7 +85,7 @@ fn has_lines(mut text: &[u8], lines: &[&[&[u8]]]) -> bool {
 }
 
 // Whether a run in which this processor stops after so many turns ends, with these lines.
-fn is_stopped<R: Threads + Wait + Sync>(
+fn is_stopped<R: Threads + Sync>(
     rt: &R,
     alloc: Global,
     row: &Stopping,
@@ -101,7 +100,7 @@ fn is_stopped<R: Threads + Wait + Sync>(
 }
 
 // The turns after which a run in which this processor stops ends otherwise.
-fn first_other<R: Threads + Wait + Sync>(
+fn first_other<R: Threads + Sync>(
     rt: &R,
     alloc: Global,
     row: &Stopping,

@@ -8,12 +8,11 @@ use lwkt_report::{NotedReader, NotedWriter, ReaderSource, Sink, WriterSink};
 use lwkt_show::run_show;
 use std::alloc::Global;
 use std::io::{Read, Write};
-use std::sync::Wait;
 use std::thread::Threads;
 
 /// The whole program, as `run_show`, which also says where errors go how a stream failed. What it reads, what it writes and
 /// its status are those of `run_show`.
-pub fn show_told<R: Threads + Wait + Sync, I: Read, O: Write, E: Sink>(
+pub fn show_told<R: Threads + Sync, I: Read, O: Write, E: Sink>(
     rt: &R,
     alloc: Global,
     words: &[String],
