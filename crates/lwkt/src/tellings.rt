@@ -62,8 +62,8 @@ pub fn run_told<R: Threads + Sync, I: Read, O: Write, E: Sink>(
     sink: &mut WriterSink<NotedWriter<O>>,
     errors: &mut E,
 ) -> u8
-    ensures turns { AsksTurns words.now → RunsAs sink.new.failed (I.remaining source.old.reader.reader) (O.contents sink.old.writer.writer) (O.contents sink.new.writer.writer) result }
-    ensures threads { AsksThreads words.now → RunsOnThreadsAs sink.new.failed (I.remaining source.old.reader.reader) (O.contents sink.old.writer.writer) (O.contents sink.new.writer.writer) result }
+    ensures turns { AsksTurns words.now → RunsAs source.new.failed sink.new.failed (I.remaining source.old.reader.reader) (O.contents sink.old.writer.writer) (O.contents sink.new.writer.writer) result }
+    ensures threads { AsksThreads words.now → RunsOnThreadsAs source.new.failed sink.new.failed (I.remaining source.old.reader.reader) (O.contents sink.old.writer.writer) (O.contents sink.new.writer.writer) result }
     ensures usage { IsMisused words.now → (result ≡ 1) × IsSaid sink.new.failed (O.contents sink.old.writer.writer) (O.contents sink.new.writer.writer) (fault_line Program.Run Complaint.Usage) }
     ensures unread { IsMisused words.now → source.new ≡ source.old }
 {
