@@ -177,7 +177,7 @@ fn show_turns<S: Source, K: Sink, E: Sink>(
     sink: &mut K,
     errors: &mut E,
 ) -> u8
-    ensures { IsShowing options.now (S.left source.old) (K.contents sink.old) (K.contents sink.new) result }
+    ensures { IsShowing options.now (S.has_failed source.new) (K.has_failed sink.new) (S.left source.old) (K.contents sink.old) (K.contents sink.new) result }
 {
     let outcome = show_stream(alloc, options, source, sink, errors);
     match outcome {
@@ -196,7 +196,7 @@ fn show_sections<R: Threads + Sync, S: Source, K: Sink, E: Sink>(
     sink: &mut K,
     errors: &mut E,
 ) -> u8
-    ensures { IsShowingThreads (S.left source.old) (K.contents sink.old) (K.contents sink.new) result }
+    ensures { IsShowingThreads (S.has_failed source.new) (K.has_failed sink.new) (S.left source.old) (K.contents sink.old) (K.contents sink.new) result }
 {
     let shown = match show_threads(rt, alloc, source, sink, errors) {
         Ok(end) => Ok(Outcome::Shown(end)),
@@ -223,8 +223,8 @@ pub fn run_show<R: Threads + Sync, S: Source, K: Sink, E: Sink>(
     sink: &mut K,
     errors: &mut E,
 ) -> u8
-    ensures shows { (options : Options) → AreOptions (map string_bytes words.now) options → IsShowing options (S.left source.old) (K.contents sink.old) (K.contents sink.new) result }
-    ensures threads { AskThreads (map string_bytes words.now) → IsShowingThreads (S.left source.old) (K.contents sink.old) (K.contents sink.new) result }
+    ensures shows { (options : Options) → AreOptions (map string_bytes words.now) options → IsShowing options (S.has_failed source.new) (K.has_failed sink.new) (S.left source.old) (K.contents sink.old) (K.contents sink.new) result }
+    ensures threads { AskThreads (map string_bytes words.now) → IsShowingThreads (S.has_failed source.new) (K.has_failed sink.new) (S.left source.old) (K.contents sink.old) (K.contents sink.new) result }
     ensures usage { AreMisused (map string_bytes words.now) → (result ≡ 1) × (source.new ≡ source.old) × (sink.new ≡ sink.old) }
 {
     if let Some(options) = options_of(words) {
