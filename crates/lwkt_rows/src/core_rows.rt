@@ -137,6 +137,7 @@ fn token_final(
         rows,
         gens,
         tallies,
+        blobs: vec![in alloc; None]?,
         messages: Vec::new(alloc),
     })
 }
@@ -641,6 +642,7 @@ fn message_final(alloc: Global, round: u64, state: Owner) -> Result<Final, Alloc
         rows: Vec::new(alloc),
         gens: Vec::new(alloc),
         tallies: Vec::new(alloc),
+        blobs: Vec::new(alloc),
         messages: Vec::from_slice(alloc, &[MsgEnd { round, state }])?,
     })
 }
