@@ -27,7 +27,7 @@ use Rattle.lwkt_machine.proofs.StopMoves.{AreOverBelow, over_more}
 use Rattle.lwkt_script.specs.declared.scripts.ThreadSpec.{ThreadSpec}
 use Rattle.lwkt_script.specs.Format.{threads_on}
 use Rattle.lwkt_threads.specs.Driven.{WasDriven, AreDriven}
-use Rattle.lwkt_run.specs.Running.{HasThreads, Scene, Going, going, says_over, both, TakesTurn, MakesRound, GoRounds, HasMadeRounds}
+use Rattle.lwkt_run.specs.Running.{HasThreads, Scene, Going, going, says_over, both, TakesTurn, MakesRound, HasMadeRounds}
 
 -- what each step of a chain keeps, the chain keeps
 chain_keeps : (A : Type 0) (Step : ℕ → A → A → Type 0) (P : A → Type 0) → ((k : ℕ) (x y : A) → Step k x y → P x → P y) → (n : ℕ) (x y : A) → Chain A Step n x y → P x → P y

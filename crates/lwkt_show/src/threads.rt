@@ -12,11 +12,7 @@ use std::alloc::Global;
 use std::thread::Threads;
 
 // Runs the script that the bytes are on threads, to the text that shows its written sections.
-fn done_of_bytes<R: Threads + Sync>(
-    rt: &R,
-    alloc: Global,
-    bytes: &[u8],
-) -> Result<Done, Fault>
+fn done_of_bytes<R: Threads + Sync>(rt: &R, alloc: Global, bytes: &[u8]) -> Result<Done, Fault>
     ensures shown { IfOk result (λ done. IsShownOnThreads bytes.now done.end (string_bytes done.text)) }
     ensures refused { IfErr result (λ fault. Refuses bytes.now fault) }
 {

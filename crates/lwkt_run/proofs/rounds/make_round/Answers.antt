@@ -1,4 +1,4 @@
-use Rattle.std.proofs.Common.{refl, ◌∙◌, ap, sym, arith}
+use Rattle.std.proofs.Common.{◌≡◌, refl, ◌∙◌, ap, sym, arith}
 use Rattle.std.specs.Prelude.{Bool, true}
 use Rattle.lwkt_port.proofs.Chaining.{chain_none, chain_more}
 use Rattle.lwkt_run.specs.Running.{Going, scene, going, says_over, both, TakesTurn}

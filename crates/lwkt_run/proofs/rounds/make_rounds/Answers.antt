@@ -19,9 +19,15 @@ returns-then-branch-clause-ok c =
     let l = c.loop-round in
     let F : Bool → Type 0 = λ over. RoundTold (scene l.machine l.trace) (scene c.make_round.new.machine c.make_round.new.trace) over in
     let told = subst F c.if-branch.true c.in_ok-make_round.ensures.ok in
-    inl (l._round, (c.loop-round-test.true, record {
-      mid = scene l.machine l.trace;
-      earlier = l.invariant;
-      last = told.round;
-      over = told.over_is refl;
-    }))
+    inl (
+      l._round,
+      (
+        c.loop-round-test.true,
+        record {
+          mid = scene l.machine l.trace;
+          earlier = l.invariant;
+          last = told.round;
+          over = told.over_is refl;
+        },
+      ),
+    )
