@@ -1,6 +1,7 @@
 -- What the calls of the library answer to C (own).
-use Rattle.std.specs.Prelude.{◌≡◌, ◌⊎◌, ℕ, ◌++◌, ◌==◌, Bool, true, false, List, length, take, drop, Option, None, Some, Result, Ok, Err, err}
+use Rattle.std.specs.Prelude.{◌≡◌, ◌⊎◌, ℕ, ◌++◌, ◌==◌, Bool, true, false, List, length, take, drop, Option, None, Some, Result, Ok, Err}
 use Rattle.std.specs.List.{slice_split}
+use Rattle.std.specs.Result.{result_err}
 use Rattle.std.specs.Str.{IsUtf8}
 use Rattle.lwkt_base.specs.declared.faults.Fault.{Fault}
 use Rattle.lwkt_base.specs.declared.faults.Fault.TheVariants.{Script, Memory}
@@ -66,7 +67,7 @@ pub record AnswersRun (script old new : List ℕ) (answer : LwktAnswer) (status 
   pub outcome : Result End Fault
   pub whole : List ℕ
   pub tells : TellsRun script outcome whole
-  pub fills : Fills old new answer whole (err outcome)
+  pub fills : Fills old new answer whole (result_err outcome)
   pub is_status : status ≡ status_of_run outcome
 
 -- the front of what was given that is read as a trace
@@ -89,7 +90,7 @@ pub record AnswersCheck (trace old new : List ℕ) (answer : LwktAnswer) (status
   pub outcome : Result Bool Fault
   pub whole : List ℕ
   pub tells : TellsCheck trace outcome whole
-  pub fills : Fills old new answer whole (err outcome)
+  pub fills : Fills old new answer whole (result_err outcome)
   pub is_status : status ≡ status_of_check outcome
 
 -- the words of arguments: the parts that blanks stand between
@@ -121,5 +122,5 @@ pub record AnswersShow (script arguments old new : List ℕ) (answer : LwktAnswe
   pub whole : List ℕ
   pub shows : IsUtf8 arguments → (options : Options) → AreOptions (words_in arguments) options → Displays options script outcome whole
   pub misused : AreMisused arguments → (outcome ≡ Ok Misused) ⊎ (outcome ≡ Err Memory)
-  pub fills : Fills old new answer whole (err outcome)
+  pub fills : Fills old new answer whole (result_err outcome)
   pub is_status : status ≡ status_of_show outcome

@@ -9,6 +9,8 @@ mod checks;
 mod fronts;
 mod runs;
 mod shows;
+#[cfg(test)]
+mod tests;
 mod words;
 
 pub use answers::LwktAnswer;
