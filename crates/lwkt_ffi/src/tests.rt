@@ -1,11 +1,13 @@
 //! Worked examples of the calls, their values by hand and from examples/.
 use crate::{LwktAnswer, lwkt_check_trace, lwkt_run_turns, lwkt_show_turns};
 
-const SCRIPT: &str = r#"{"version":1,"turns":50,"idle":100000000,"cpus":1,"tokens":[{"cells":[5],"law":"any","param":0,"gen":0}],"messages":[],"threads":[{"cpu":0,"repeat":1,"steps":[["get",0],["write",0,0,7],["rel",0]]}]}"#;
+const SCRIPT: &str =
+    r#"{"version":1,"turns":50,"idle":100000000,"cpus":1,"tokens":[{"cells":[5],"law":"any","param":0,"gen":0}],"messages":[],"threads":[{"cpu":0,"repeat":1,"steps":[["get",0],["write",0,0,7],["rel",0]]}]}"#;
 
 const REPORT: &str = "token 0 gen 1 cells 7\nthread 0.0 exited list - log -\nlawful\n";
 
-const TRACE: &str = r#"{"version":1,"cpus":2,"tokens":[{"cells":[0],"law":"any","param":0,"gen":0}],"messages":[],"events":[["take",0,0],["take",1,0]]}"#;
+const TRACE: &str =
+    r#"{"version":1,"cpus":2,"tokens":[{"cells":[0],"law":"any","param":0,"gen":0}],"messages":[],"events":[["take",0,0],["take",1,0]]}"#;
 
 // An answer that no call gives.
 fn unanswered() -> LwktAnswer {
@@ -27,9 +29,19 @@ fn report_and_its_front(rt: HostRuntime) {
             &mut buffer[..room],
             &mut answer,
         );
-        assert_eq!(rt; (status, answer.length, answer.fault, answer.place), (0, 60, 0, 0), "with room for {room}");
-        assert!(rt; buffer[..kept] == REPORT.as_bytes()[..kept], "the report with room for {room}");
-        assert!(rt; buffer[kept..].iter().all(|byte| *byte == 165), "what is behind it with room for {room}");
+        assert_eq!(rt;
+            (status, answer.length, answer.fault, answer.place),
+            (0, 60, 0, 0),
+            "with room for {room}"
+        );
+        assert!(rt;
+            buffer[..kept] == REPORT.as_bytes()[..kept],
+            "the report with room for {room}"
+        );
+        assert!(rt;
+            buffer[kept..].iter().all(|byte| *byte == 165),
+            "what is behind it with room for {room}"
+        );
     }
 }
 
@@ -39,7 +51,11 @@ fn refused_scripts(rt: HostRuntime) {
         let mut buffer = [0u8; 200];
         let mut answer = unanswered();
         let status = lwkt_run_turns(rt.alloc(), script.as_bytes(), &mut buffer, &mut answer);
-        assert_eq!(rt; (status, answer.fault, answer.place), (1, 33, place), "{script}");
+        assert_eq!(rt;
+            (status, answer.fault, answer.place),
+            (1, 33, place),
+            "{script}"
+        );
         assert!(rt; buffer.starts_with(b"lwkt_run: fault 33 at "), "{script}");
     }
 }
@@ -73,7 +89,11 @@ fn shown_script(rt: HostRuntime) {
             &mut buffer,
             &mut answer,
         );
-        assert_eq!(rt; (status, answer.fault, answer.place), (want, 0, 0), "{arguments}");
+        assert_eq!(rt;
+            (status, answer.fault, answer.place),
+            (want, 0, 0),
+            "{arguments}"
+        );
         assert!(rt; answer.length > 0, "{arguments}");
     }
 }
