@@ -44,7 +44,7 @@ typedef struct lwkt_answer {
     // 0, or the fault for which the call was refused, as docs/FORMATS.md numbers them: 32 memory was refused; 33 what was given
     // is no script or no trace; 39 a limit was passed; 40 an opening row breaks its law.
     uint32_t fault;
-    // With 33 the place of the first bad part, in bytes from 0; else 0.
+    // With 33 the place of the first bad part, as docs/FORMATS.md and docs/TRACES.md number the places; else 0.
     uint32_t place;
 } lwkt_answer;
 

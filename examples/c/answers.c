@@ -47,7 +47,7 @@ static void try_refused(const char *script, uint32_t fault, uint32_t place, cons
 }
 
 static void try_traces(void) {
-    static const char good[] = "{\"version\":1,\"cpus\":1,\"tokens\":[],\"messages\":[],\"events\":[]}";
+    static const char good[] = "{\"version\":1,\"cpus\":1,\"tokens\":[],\"messages\":[],\"events\":[],\"last\":null}";
     uint8_t text[64];
     lwkt_answer answer;
     uint32_t status = lwkt_check_trace(bytes(good), strlen(good), text, sizeof text, &answer);
@@ -93,7 +93,8 @@ int main(void) {
     for (size_t room = 0; room <= whole + 3; room += 1) try_room(room);
     try_room(4096);
     try_refused("", 33, 0, "lwkt_run: fault 33 at 0\nlwkt_run: ");
-    try_refused("{\"version\":1,", 33, 13, "lwkt_run: fault 33 at 13\nlwkt_run: ");
+    try_refused("{\"version\":1,\"turns\":0,\"idle\":1,\"cpus\":1,\"tokens\":[],\"messages\":[],\"threads\":[]}", 33, 3,
+                "lwkt_run: fault 33 at 3\nlwkt_run: line 1, column 22: ");
     try_refused("{\"version\":1,\"turns\":1,\"idle\":1,\"cpus\":1,\"tokens\":[{\"cells\":[1],\"law\":\"sum\",\"param\":2,\"gen\":0}],"
                 "\"messages\":[],\"threads\":[]}",
                 40, 0, "lwkt_run: fault 40\nlwkt_run: ");

@@ -7,7 +7,10 @@ const SCRIPT: &str =
 const REPORT: &str = "token 0 gen 1 cells 7\nthread 0.0 exited list - log -\nlawful\n";
 
 const TRACE: &str =
-    r#"{"version":1,"cpus":2,"tokens":[{"cells":[0],"law":"any","param":0,"gen":0}],"messages":[],"events":[["take",0,0],["take",1,0]]}"#;
+    r#"{"version":1,"cpus":2,"tokens":[{"cells":[0],"law":"any","param":0,"gen":0}],"messages":[],"events":[["take",0,0],["take",1,0]],"last":null}"#;
+
+const WITHOUT_TURNS: &str =
+    r#"{"version":1,"turns":0,"idle":1,"cpus":1,"tokens":[],"messages":[],"threads":[]}"#;
 
 // An answer that no call gives.
 fn unanswered() -> LwktAnswer {
@@ -47,7 +50,7 @@ fn report_and_its_front(rt: HostRuntime) {
 
 #[test]
 fn refused_scripts(rt: HostRuntime) {
-    for (script, place) in [("", 0), (r#"{"version":1,"#, 13)] {
+    for (script, place) in [("", 0), (WITHOUT_TURNS, 3)] {
         let mut buffer = [0u8; 200];
         let mut answer = unanswered();
         let status = lwkt_run_turns(rt.alloc(), script.as_bytes(), &mut buffer, &mut answer);

@@ -59,7 +59,7 @@ pub enum Finding {
 pub enum Refusal {
     /// What was given is no script, or no trace.
     Malformed {
-        /// The place of its first bad part, in bytes from 0.
+        /// The place of its first bad part, as docs/FORMATS.md and docs/TRACES.md number the places.
         place: u32,
         /// Why, in words.
         why: String,
@@ -150,8 +150,8 @@ fn run_of((status, answer, text): (u32, Answer, String)) -> Result<Run, Refusal>
 /// `Malformed` where the bytes are no script, `Limits` or `LawBroken` for its opening, `Memory` where memory was refused.
 ///
 /// ```
-/// let refused = lwkt::run_turns(b"{\"version\":1,").unwrap_err();
-/// assert!(matches!(refused, lwkt::Refusal::Malformed { place: 13, .. }));
+/// let refused = lwkt::run_turns(br#"{"version":2}"#).unwrap_err();
+/// assert!(matches!(refused, lwkt::Refusal::Malformed { place: 1, .. }));
 /// ```
 pub fn run_turns(script: &[u8]) -> Result<Run, Refusal> {
     run_of(called(|text, answer| {
@@ -169,7 +169,7 @@ pub fn run_turns(script: &[u8]) -> Result<Run, Refusal> {
 ///
 /// ```
 /// let trace = br#"{"version":1,"cpus":2,"tokens":[{"cells":[0],"law":"any","param":0,"gen":0}],"messages":[],
-///     "events":[["take",0,0],["take",1,0]]}"#;
+///     "events":[["take",0,0],["take",1,0]],"last":null}"#;
 /// let lwkt::Finding::Unlawful(why) = lwkt::check_trace(trace)? else { panic!() };
 /// assert!(why.starts_with("unlawful 1\n"));
 /// # Ok::<(), lwkt::Refusal>(())
