@@ -6,3 +6,6 @@ pub mod Stepping
 pub mod Parting
 pub mod Claiming
 pub mod Listing
+pub mod Drafting
+pub mod Reading
+pub mod Refusing

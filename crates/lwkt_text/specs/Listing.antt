@@ -1,5 +1,5 @@
 -- The names that a text gives, and how many processors it has (own).
-use Rattle.std.specs.Prelude.{ℕ, ◌+◌, ◌==◌, not, nat_le, List, [], ◌∷◌, ◌++◌, codes, Bool, true, false, bytes_eq, if◌then◌else◌, count_by, is_some, Result, Ok, Err}
+use Rattle.std.specs.Prelude.{ℕ, ◌+◌, ◌<◌, ◌≤◌, ◌==◌, not, nat_le, List, [], ◌∷◌, ◌++◌, codes, Bool, true, false, bytes_eq, if◌then◌else◌, count_by, is_some, ⊤, Result, Ok, Err}
 use Rattle.lwkt_base.specs.declared.names.ThreadId.{ThreadId}
 use Rattle.lwkt_text.specs.declared.listings.Listing.{Listing}
 use Rattle.lwkt_text.specs.declared.parts.CellList.{CellList}
@@ -19,6 +19,10 @@ no_names = record { tokens = []; cells = []; messages = []; threads = []; ids = 
 
 abbrev pub no_listing : Listing
 no_listing = record { names = no_names; is_said = false; faults = [] }
+
+-- there are 1 to 8 processors
+abbrev pub HasCpus : Listing → Type 0
+HasCpus l = (0 < l.names.cpus) × (l.names.cpus ≤ 8)
 
 -- word 1 is a name that none of these is
 abbrev pub fresh : List (List ℕ) → List Word → Result ⊤ Wrong
@@ -58,6 +62,10 @@ cpu_named ws = cpu_read (number_at ws 3 0 7)
 abbrev pub cpu_used : ℕ → Listing → Listing
 cpu_used cpu l = if l.is_said then l else (if nat_le (cpu + 1) l.names.cpus then l else record l { names = record l.names { cpus = cpu + 1 } })
 
+-- a thread of a processor is named
+abbrev pub thread_used : List Word → ℕ → Listing → Listing
+thread_used ws cpu l = cpu_used cpu (record l { names = thread_added ws cpu l.names })
+
 abbrev pub token_listed : Result ⊤ Wrong → List Word → Listing → Listing
 token_listed (Ok ok) ws l = record l { names = token_added ws l.names }
 token_listed (Err wrong) ws l = noted wrong l
@@ -67,7 +75,7 @@ message_listed (Ok ok) ws l = record l { names = message_added ws l.names }
 message_listed (Err wrong) ws l = noted wrong l
 
 abbrev pub thread_listed : Result ⊤ Wrong → List Word → Listing → Listing
-thread_listed (Ok ok) ws l = cpu_used (cpu_named ws) (record l { names = thread_added ws (cpu_named ws) l.names })
+thread_listed (Ok ok) ws l = thread_used ws (cpu_named ws) l
 thread_listed (Err wrong) ws l = noted wrong l
 
 -- `cpus N`; what is wrong with it is told where settings are read

@@ -1,5 +1,5 @@
 ghost use Rattle.std.specs.Prelude.{◌≡◌, ◌≤◌, ◌<◌, OnOk, OnErr, Err, IfOk};
-ghost use Rattle.lwkt_text.specs.Listing.{no_names, no_listing, fresh, names_read, noted, token_added, message_added, next_thread, thread_added, cpu_named, cpu_used, token_listed, message_listed, thread_listed, cpus_listed, listed, all_listed};
+ghost use Rattle.lwkt_text.specs.Listing.{no_names, no_listing, fresh, names_read, noted, token_added, message_added, next_thread, thread_added, cpu_named, cpu_used, thread_used, HasCpus, token_listed, message_listed, thread_listed, cpus_listed, listed, all_listed};
 ghost use Rattle.lwkt_text.specs.Looking.{number_at};
 ghost use Rattle.lwkt_text.specs.Parting.{cells_in};
 
@@ -119,6 +119,7 @@ impl Listing {
     fn list_token(&mut self, alloc: Global, words: &[Word]) -> Result<(), Slip>
         ensures ok { OnOk result (self.new ≡ token_listed (fresh self.old.names.tokens words.now) words.now self.old) }
         ensures only { OnErr result (result ≡ Err Slip.Memory) }
+        ensures cpus { OnOk result (HasCpus self.old → HasCpus self.new) }
     {
         match fresh(self.names.tokens.as_slice(), words) {
             Ok(()) => self.names.add_token(alloc, words),
@@ -129,6 +130,7 @@ impl Listing {
     fn list_message(&mut self, alloc: Global, words: &[Word]) -> Result<(), Slip>
         ensures ok { OnOk result (self.new ≡ message_listed (fresh self.old.names.messages words.now) words.now self.old) }
         ensures only { OnErr result (result ≡ Err Slip.Memory) }
+        ensures cpus { OnOk result (HasCpus self.old → HasCpus self.new) }
     {
         match fresh(self.names.messages.as_slice(), words) {
             Ok(()) => self.names.add_message(alloc, words),
@@ -139,30 +141,40 @@ impl Listing {
     // A thread is on this processor.
     fn use_cpu(&mut self, cpu: u8)
         requires { cpu ≤ 7 }
-        ensures { self.new ≡ cpu_used cpu self.old }
+        ensures exact { self.new ≡ cpu_used cpu self.old }
+        ensures cpus { HasCpus self.old → HasCpus self.new }
     {
         if !self.is_said && cpu + 1 > self.names.cpus {
             self.names.cpus = cpu + 1;
         }
     }
 
+    // A thread of this processor is named.
+    fn use_thread(&mut self, alloc: Global, words: &[Word], cpu: u8) -> Result<(), Slip>
+        requires { cpu ≤ 7 }
+        ensures ok { OnOk result (self.new ≡ thread_used words.now cpu self.old) }
+        ensures only { OnErr result (result ≡ Err Slip.Memory) }
+        ensures cpus { OnOk result (HasCpus self.old → HasCpus self.new) }
+    {
+        self.names.add_thread(alloc, words, cpu)?;
+        self.use_cpu(cpu);
+        Ok(())
+    }
+
     fn list_thread(&mut self, alloc: Global, words: &[Word]) -> Result<(), Slip>
         ensures ok { OnOk result (self.new ≡ thread_listed (fresh self.old.names.threads words.now) words.now self.old) }
         ensures only { OnErr result (result ≡ Err Slip.Memory) }
+        ensures cpus { OnOk result (HasCpus self.old → HasCpus self.new) }
     {
         match fresh(self.names.threads.as_slice(), words) {
-            Ok(()) => {
-                let cpu = cpu_named(words);
-                self.names.add_thread(alloc, words, cpu)?;
-                self.use_cpu(cpu);
-                Ok(())
-            }
+            Ok(()) => self.use_thread(alloc, words, cpu_named(words)),
             Err(wrong) => self.faults.push(wrong),
         }
     }
 
     fn list_cpus(&mut self, words: &[Word])
-        ensures { self.new ≡ cpus_listed (number_at words.now 1 1 8) self.old }
+        ensures exact { self.new ≡ cpus_listed (number_at words.now 1 1 8) self.old }
+        ensures cpus { HasCpus self.old → HasCpus self.new }
     {
         if let Ok(cpus) = number_at(words, 1, 1, 8) {
             self.names.cpus = cpus as u8;
@@ -175,6 +187,7 @@ impl Listing {
     fn list(&mut self, alloc: Global, words: &[Word]) -> Result<(), Slip>
         ensures ok { OnOk result (self.new ≡ listed words.now self.old) }
         ensures only { OnErr result (result ≡ Err Slip.Memory) }
+        ensures cpus { OnOk result (HasCpus self.old → HasCpus self.new) }
     {
         match text_at(words, 0) {
             "token" => self.list_token(alloc, words),
@@ -193,6 +206,7 @@ impl Listing {
 pub fn listing_of(alloc: Global, sentences: &[Sentence]) -> Result<Listing, Slip>
     ensures ok { IfOk result (λ listing. listing ≡ all_listed sentences.now no_listing) }
     ensures only { OnErr result (result ≡ Err Slip.Memory) }
+    ensures cpus { IfOk result HasCpus }
 {
     let mut listing = Listing::new(alloc);
     for sentence in sentences {
