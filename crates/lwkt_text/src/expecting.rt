@@ -5,10 +5,10 @@ ghost use Rattle.lwkt_text.specs.Claiming.{tally_at, generation_at, round_at, pl
 use crate::claims::{Claim, Comparison, Quantity, Relation, Standing};
 use crate::looks::{demand, ended, is_at, number_at, number_of, text_at, wrong_at};
 use crate::many::Many;
+use crate::slips::checked;
 use crate::steps::{call_at, call_end, last_number};
 use crate::tables::{Names, cell_at, message_at, named_thread, token_at};
 use crate::words::Word;
-use crate::slips::checked;
 use crate::wrongs::{Slip, Wanted, What, Wrong};
 use lwkt_base::{CpuId, Entry, MsgState, ThreadId};
 use std::alloc::Global;

@@ -2,19 +2,33 @@
 #![tactic(auto)]
 
 pub mod claims;
-pub mod drafts;
-pub mod expecting;
-pub mod listings;
-pub mod looks;
-pub mod many;
-pub mod names;
-pub mod parts;
-pub mod readers;
+mod drafts;
+mod expecting;
+pub mod jsons;
+mod listings;
+mod looks;
+mod many;
+mod names;
+mod pages;
+mod parts;
+mod readers;
+mod sames;
+mod sayings;
+mod scans;
+mod slips;
+mod steps;
+mod tables;
+mod unsaid;
+mod words;
+mod writers;
+mod wrongs;
 
-pub mod sayings;
-pub mod scans;
-pub mod slips;
-pub mod steps;
-pub mod tables;
-pub mod words;
-pub mod wrongs;
+pub use jsons::json_of;
+pub use many::Many;
+pub use names::Name;
+pub use readers::{Reading, Refusal, read_text};
+pub use tables::Names;
+pub use unsaid::Unsaid;
+pub use words::Word;
+pub use writers::text_of;
+pub use wrongs::{Slip, Wanted, What, Wrong};

@@ -71,7 +71,11 @@ pub fn read_text(alloc: Global, bytes: &[u8]) -> Result<Reading, Refusal>
     let Ok(listing) = listing_of(alloc, sentences.as_slice()) else {
         return Err(Refusal::Memory);
     };
-    let Listing { names, is_said: _, faults } = listing;
+    let Listing {
+        names,
+        is_said: _,
+        faults,
+    } = listing;
     match draft_of(alloc, &names, sentences.as_slice(), faults) {
         Ok(draft) => sealed(names, draft),
         Err(_) => Err(Refusal::Memory),
