@@ -24,6 +24,7 @@ mod writers;
 mod wrongs;
 
 pub use jsons::json_of;
+pub use listings::names_of;
 pub use many::Many;
 pub use names::Name;
 pub use readers::{Reading, Refusal, read_text};

@@ -1,5 +1,5 @@
 ghost use Rattle.std.specs.Prelude.{◌≡◌, ◌≤◌, ◌<◌, OnOk, OnErr, Err, IfOk};
-ghost use Rattle.lwkt_text.specs.Listing.{no_names, no_listing, fresh, names_read, noted, token_added, message_added, next_thread, thread_added, cpu_named, cpu_used, thread_used, HasCpus, token_listed, message_listed, thread_listed, cpus_listed, listed, all_listed};
+ghost use Rattle.lwkt_text.specs.Listing.{no_names, no_listing, fresh, names_read, noted, token_added, message_added, next_thread, thread_added, cpu_named, cpu_used, thread_used, HasCpus, token_listed, message_listed, thread_listed, cpus_listed, listed, all_listed, names_of};
 ghost use Rattle.lwkt_text.specs.Looking.{number_at};
 ghost use Rattle.lwkt_text.specs.Parting.{cells_in};
 
@@ -7,6 +7,7 @@ use crate::looks::{demand, name_at, number_at, text_at};
 use crate::many::Many;
 use crate::names::Name;
 use crate::parts::cells_in;
+use crate::scans::sentences_of;
 use crate::tables::{Names, position};
 use crate::words::{Sentence, Word};
 use crate::wrongs::{Slip, What, Wrong};
@@ -213,4 +214,13 @@ pub fn listing_of(alloc: Global, sentences: &[Sentence]) -> Result<Listing, Slip
         listing.list(alloc, sentence.words.as_slice())?;
     }
     Ok(listing)
+}
+
+/// The names that a text gives, whatever else is wrong with it. Refused only with `Memory`.
+pub fn names_of(alloc: Global, bytes: &[u8]) -> Result<Names, Slip>
+    ensures { IfOk result (λ names. names ≡ names_of bytes.now) }
+{
+    let sentences = sentences_of(alloc, bytes)?;
+    let listing = listing_of(alloc, sentences.as_slice())?;
+    Ok(listing.names)
 }
