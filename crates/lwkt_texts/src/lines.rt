@@ -1,6 +1,4 @@
 // Where something stands in a text.
-ghost use Rattle.std.specs.Prelude.{◌≤◌, length};
-
 /// A line of a text, and where something stands in it.
 #[derive(Clone, Copy, Debug, PartialEq, Eq)]
 pub struct Place {
@@ -15,9 +13,7 @@ pub struct Place {
 }
 
 // Where the line's end is.
-fn end_from(bytes: &[u8], at: usize) -> usize
-    ensures { result ≤ length bytes.now }
-{
+fn end_from(bytes: &[u8], at: usize) -> usize {
     let mut end = bytes.len();
     for (i, byte) in bytes.iter().enumerate() {
         if i >= at && *byte == b'\n' && i < end {
