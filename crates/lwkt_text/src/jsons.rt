@@ -1,6 +1,7 @@
 // A script as a JSON text of the format.
-ghost use Rattle.std.specs.Prelude.{◌≡◌, Ok, IfOk, IsTrue, string_bytes};
+ghost use Rattle.std.specs.Prelude.{◌≡◌, Ok, IfOk, OnOk, IsTrue, string_bytes};
 ghost use Rattle.lwkt_script.specs.Format.{script_of};
+ghost use Rattle.lwkt_script.specs.Limits.{IsWithinLimits};
 
 use crate::pages::Sheet;
 use crate::sames::same_script;
@@ -175,7 +176,8 @@ fn written(alloc: Global, script: &Script) -> Result<String, AllocError> {
 
 // Whether a text is the JSON of a script: it is read again.
 fn is_json_of(alloc: Global, text: &str, script: &Script) -> Result<bool, Unsaid>
-    ensures { IfOk result (λ is. IsTrue is → script_of text.now ≡ Ok script.now) }
+    ensures exact { IfOk result (λ is. IsTrue is → script_of text.now ≡ Ok script.now) }
+    ensures limits { IfOk result (λ is. IsTrue is → IsWithinLimits script.now) }
 {
     match read_script(alloc, text.as_bytes()) {
         Ok(read) => Ok(same_script(&read, script)),
@@ -188,7 +190,11 @@ fn is_json_of(alloc: Global, text: &str, script: &Script) -> Result<bool, Unsaid
 ///
 /// Refused with `Memory` if an allocation is, and with `Limits` if the script doesn't keep the limits of the format.
 pub fn json_of(alloc: Global, script: &Script) -> Result<String, Unsaid>
-    ensures { IfOk result (λ text. script_of (string_bytes text) ≡ Ok script.now) }
+    // The text is read as this script.
+    ensures exact { IfOk result (λ text. script_of (string_bytes text) ≡ Ok script.now) }
+
+    // What is written keeps the limits of the format.
+    ensures limits { OnOk result (IsWithinLimits script.now) }
 {
     let Ok(text) = written(alloc, script) else {
         return Err(Unsaid::Memory);
