@@ -64,7 +64,7 @@ enum Found {
     Other,
 }
 
-fn found(alloc: Global, bytes: &[u8]) -> Found {
+fn outcome_of(alloc: Global, bytes: &[u8]) -> Found {
     match read_text(alloc, bytes) {
         Ok(reading) => {
             if json_of(alloc, &reading.script).is_ok() && text_of(alloc, &reading.script).is_ok() {
@@ -96,7 +96,7 @@ fn tried(alloc: Global, count: usize, seed: u64) -> Result<(usize, usize), Alloc
     for _i in 0..count {
         seed = next(seed);
         let bytes = spoiled(alloc, seed)?;
-        match found(alloc, bytes.as_slice()) {
+        match outcome_of(alloc, bytes.as_slice()) {
             Found::Script => scripts = scripts.saturating_add(1),
             Found::Faults => {}
             Found::Other => others = others.saturating_add(1),
@@ -107,7 +107,7 @@ fn tried(alloc: Global, count: usize, seed: u64) -> Result<(usize, usize), Alloc
 
 #[test]
 fn the_text_itself_is_read(rt: HostRuntime) -> Result<(), Fail> {
-    assert!(rt; found(rt.alloc(), TEXT.as_bytes()) == Found::Script);
+    assert!(rt; outcome_of(rt.alloc(), TEXT.as_bytes()) == Found::Script);
     Ok(())
 }
 
