@@ -20,12 +20,12 @@
 //   during the call; those of any other can be read and written, and nobody else reads or writes them during the call. So the
 //   buffer, the answer and what is read don't overlap. No length is more than PTRDIFF_MAX.
 // - malloc, realloc and free are one allocator's, which aligns a block as C asks.
-// - A call isn't made from a signal handler, nor in the child of a fork of a process with threads, and has stack enough: 256 KiB
-//   is.
+// - A call isn't made from a signal handler, nor in the child of a fork of a process with threads, and has stack enough. All
+//   examples of the tree run in 128 KiB; no bound is proved, so 256 KiB or more is good.
 //
 // Any number of threads may call at once: a call shares nothing with another one. No call waits, starts a thread, prints, reads a
-// file or ends the process. What memory it takes it gives back before it returns. The calls on words take none,
-// and call nothing: the part of the archive that has them can be linked into a kernel.
+// file or ends the process. What memory it takes it gives back before it returns. The calls on words take none, and call nothing:
+// the part of the archive that has them can be linked into a kernel.
 #ifndef LWKT_H
 #define LWKT_H
 
