@@ -17,7 +17,6 @@ use Rattle.lwkt_report.specs.declared.closings.Closing.{Closing}
 use Rattle.lwkt_report.specs.declared.closings.ThreadLine.{ThreadLine}
 use Rattle.lwkt_text.specs.declared.claims.Claim.{Claim}
 use Rattle.lwkt_text.specs.declared.claims.Claim.TheVariants as claims
-use Rattle.lwkt_text.specs.declared.claims.Comparison.{Comparison}
 use Rattle.lwkt_text.specs.declared.claims.Relation.{Relation}
 use Rattle.lwkt_text.specs.declared.claims.Relation.TheVariants as relations
 use Rattle.lwkt_text.specs.declared.claims.Standing.{Standing}

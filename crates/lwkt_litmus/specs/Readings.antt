@@ -1,7 +1,5 @@
 -- The numbers that an outcome has (own).
 use Rattle.std.specs.Prelude.{ℕ, ◌+◌, nat_lt, List, [], ◌∷◌, slice_get, if◌then◌else◌, Option, Some, None, option_map, option_and_then}
-use Rattle.lwkt_base.specs.declared.names.CpuId.{CpuId}
-use Rattle.lwkt_base.specs.declared.names.TokId.{TokId}
 use Rattle.lwkt_report.specs.declared.closings.Closing.{Closing}
 use Rattle.lwkt_text.specs.declared.claims.Quantity.{Quantity}
 use Rattle.lwkt_text.specs.declared.claims.Quantity.TheVariants as quantities

@@ -1,7 +1,6 @@
 -- What the sentences of a text tell, one after the other (own).
-use Rattle.std.specs.Prelude.{ℕ, ◌==◌, nat_lt, nat_le, List, [], ◌∷◌, ◌++◌, length, codes, Bool, if◌then◌else◌, Option, Some, None, is_some, Result, Ok, Err}
+use Rattle.std.specs.Prelude.{ℕ, ◌==◌, nat_lt, nat_le, List, [], ◌∷◌, ◌++◌, length, codes, if◌then◌else◌, Option, Some, None, is_some, Result, Ok, Err}
 use Rattle.lwkt_base.specs.declared.asks.Ask.{Ask}
-use Rattle.lwkt_script.specs.declared.scripts.Script.{Script}
 use Rattle.lwkt_script.specs.Format.{threads_on}
 use Rattle.lwkt_text.specs.declared.claims.When.{When}
 use Rattle.lwkt_text.specs.declared.claims.When.TheVariants as whens
@@ -12,7 +11,6 @@ use Rattle.lwkt_text.specs.declared.sayings.Said.TheVariants as saids
 use Rattle.lwkt_text.specs.declared.tables.Names.{Names}
 use Rattle.lwkt_text.specs.declared.words.Sentence.{Sentence}
 use Rattle.lwkt_text.specs.declared.words.Word.{Word}
-use Rattle.lwkt_text.specs.declared.wrongs.What.{What}
 use Rattle.lwkt_text.specs.declared.wrongs.What.TheVariants as whats
 use Rattle.lwkt_text.specs.declared.wrongs.Wrong.{Wrong}
 use Rattle.lwkt_text.specs.Claiming.{claim_of}

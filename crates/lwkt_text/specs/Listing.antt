@@ -1,5 +1,5 @@
 -- The names that a text gives, and how many processors it has (own).
-use Rattle.std.specs.Prelude.{ℕ, ◌+◌, ◌<◌, ◌≤◌, ◌==◌, not, nat_le, List, [], ◌∷◌, ◌++◌, codes, Bool, true, false, bytes_eq, if◌then◌else◌, count_by, is_some, ⊤, Result, Ok, Err}
+use Rattle.std.specs.Prelude.{ℕ, ◌+◌, ◌<◌, ◌≤◌, ◌==◌, not, nat_le, List, [], ◌∷◌, ◌++◌, codes, true, false, if◌then◌else◌, count_by, is_some, ⊤, Result, Ok, Err}
 use Rattle.lwkt_base.specs.declared.names.ThreadId.{ThreadId}
 use Rattle.lwkt_text.specs.declared.listings.Listing.{Listing}
 use Rattle.lwkt_text.specs.declared.parts.CellList.{CellList}
@@ -10,7 +10,7 @@ use Rattle.lwkt_text.specs.declared.wrongs.What.TheVariants as whats
 use Rattle.lwkt_text.specs.declared.wrongs.Wrong.{Wrong}
 use Rattle.lwkt_text.specs.Looking.{text_at, is_at, demand, name_at, number_at}
 use Rattle.lwkt_text.specs.Naming.{position}
-use Rattle.lwkt_text.specs.Outcome.{◌>>=◌, ◌>>◌}
+use Rattle.lwkt_text.specs.Outcome.{◌>>◌}
 use Rattle.lwkt_text.specs.Parting.{cells_in}
 use Rattle.lwkt_text.specs.Scanning.{sentences_of}
 

@@ -1,6 +1,5 @@
 -- What names and numbers stand for (own).
-use Rattle.std.specs.Prelude.{ℕ, ◌+◌, List, [], ◌∷◌, slice_get, Bool, bytes_eq, codes, if◌then◌else◌, Option, Some, None, option_and_then, option_map, unwrap_or, is_some, Result, Ok}
-use Rattle.lwkt_base.specs.declared.names.CpuId.{CpuId}
+use Rattle.std.specs.Prelude.{ℕ, ◌+◌, List, [], ◌∷◌, slice_get, bytes_eq, codes, if◌then◌else◌, Option, Some, None, option_and_then, option_map, unwrap_or, Result, Ok}
 use Rattle.lwkt_base.specs.declared.names.MsgId.{MsgId}
 use Rattle.lwkt_base.specs.declared.names.ThreadId.{ThreadId}
 use Rattle.lwkt_base.specs.declared.names.TokId.{TokId}

@@ -1,5 +1,5 @@
 -- What reading gives: a value, or what is wrong and where (own).
-use Rattle.std.specs.Prelude.{◌≡◌, ◌<◌, List, length, Result, Ok, Err}
+use Rattle.std.specs.Prelude.{◌≡◌, Result, Ok, Err}
 use Rattle.lwkt_text.specs.declared.wrongs.Slip.{Slip}
 use Rattle.lwkt_text.specs.declared.wrongs.Slip.TheVariants as slips
 use Rattle.lwkt_text.specs.declared.wrongs.Wrong.{Wrong}

@@ -4,7 +4,6 @@ use Rattle.lwkt_text.specs.declared.scans.Kind.{Kind}
 use Rattle.lwkt_text.specs.declared.scans.Kind.TheVariants.{Blank, End, Remark, Letter, Sign, Point}
 use Rattle.lwkt_text.specs.declared.scans.Scan.{Scan}
 use Rattle.lwkt_text.specs.declared.words.Sentence.{Sentence}
-use Rattle.lwkt_text.specs.declared.words.Word.{Word}
 
 -- a letter, a digit or _
 abbrev pub is_letter : ℕ → Bool

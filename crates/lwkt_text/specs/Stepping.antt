@@ -1,5 +1,5 @@
 -- The steps of a thread (own): a word, and what goes with it.
-use Rattle.std.specs.Prelude.{ℕ, ◌+◌, List, codes, Bool, bytes_eq, if◌then◌else◌, Result, Ok, Err}
+use Rattle.std.specs.Prelude.{ℕ, ◌+◌, List, codes, if◌then◌else◌, Result, Ok, Err}
 use Rattle.lwkt_base.specs.declared.asks.Ask.{Ask}
 use Rattle.lwkt_base.specs.declared.asks.Ask.TheVariants as asks
 use Rattle.lwkt_base.specs.declared.names.MsgId.{MsgId}
@@ -12,7 +12,7 @@ use Rattle.lwkt_text.specs.declared.words.Word.{Word}
 use Rattle.lwkt_text.specs.declared.wrongs.Wanted.TheVariants.{Arrow}
 use Rattle.lwkt_text.specs.declared.wrongs.What.TheVariants as whats
 use Rattle.lwkt_text.specs.declared.wrongs.Wrong.{Wrong}
-use Rattle.lwkt_text.specs.Looking.{text_at, is_at, demand, ended, wrong_at, number_at, optional, after}
+use Rattle.lwkt_text.specs.Looking.{is_at, demand, ended, wrong_at, number_at, optional, after}
 use Rattle.lwkt_text.specs.Naming.{token_at, message_at, cell_at, thread_at, thread_length}
 use Rattle.lwkt_text.specs.Outcome.{◌>>=◌, ◌>>◌}
 
