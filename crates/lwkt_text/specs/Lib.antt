@@ -9,3 +9,4 @@ pub mod Listing
 pub mod Drafting
 pub mod Reading
 pub mod Refusing
+pub mod Within

@@ -1,5 +1,6 @@
 ghost use Rattle.std.specs.Prelude.{◌≡◌, ◌<◌, OnOk, OnErr, Err, IfOk};
 ghost use Rattle.lwkt_script.specs.Format.{threads_on};
+ghost use Rattle.lwkt_text.specs.Within.{IsDraft};
 ghost use Rattle.lwkt_text.specs.Drafting.{no_draft, blamed, crowded, closed, opened, stepped, put, told, all_told};
 
 use crate::claims::Expectation;
@@ -156,10 +157,12 @@ impl Draft {
     }
 
     // A sentence, told.
+    #[tactic(auto, using(crate::proofs::Keeping::put_within, crate::proofs::Keeping::blamed_within))]
     fn tell(&mut self, alloc: Global, names: &Names, words: &[Word]) -> Result<(), Slip>
         requires { 0 < names.now.cpus }
         ensures ok { OnOk result (self.new ≡ told names.now words.now self.old) }
         ensures only { OnErr result (result ≡ Err Slip.Memory) }
+        ensures keeps { OnOk result (IsDraft names.now.cpus self.old → IsDraft names.now.cpus self.new) }
     {
         match told_by(alloc, names, words) {
             Ok(told) => self.put(alloc, words, told),
@@ -170,6 +173,7 @@ impl Draft {
 }
 
 /// What sentences tell, behind what is wrong with the names that they give. Refused only with `Memory`.
+#[tactic(auto, using(crate::proofs::Keeping::closed_within, crate::proofs::Keeping::none_within))]
 pub fn draft_of(
     alloc: Global,
     names: &Names,
@@ -179,6 +183,7 @@ pub fn draft_of(
     requires { 0 < names.now.cpus }
     ensures ok { IfOk result (λ draft. draft ≡ closed (all_told names.now sentences.now (no_draft faults))) }
     ensures only { OnErr result (result ≡ Err Slip.Memory) }
+    ensures limits { IfOk result (IsDraft names.now.cpus) }
 {
     let mut draft = Draft::new(alloc, faults);
     for sentence in sentences {

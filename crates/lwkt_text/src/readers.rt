@@ -1,4 +1,6 @@
 ghost use Rattle.std.specs.Prelude.{◌≡◌, ◌<◌, ◌≤◌, length, Ok, Err, IfOk, IfErr};
+ghost use Rattle.lwkt_script.specs.Limits.{IsWithinLimits};
+ghost use Rattle.lwkt_text.specs.Within.{IsDraft};
 ghost use Rattle.lwkt_text.specs.Reading.{sealed, reading_of};
 ghost use Rattle.lwkt_text.specs.Refusing.{Refuses};
 
@@ -35,6 +37,7 @@ pub enum Refusal {
 fn sealed(names: Names, draft: Draft) -> Result<Reading, Refusal>
     ensures ok { IfOk result (λ reading. sealed names draft ≡ Ok reading) }
     ensures err { IfErr result (λ refusal. Refuses refusal (sealed names draft)) }
+    ensures limits { IsDraft names.cpus draft → 1 ≤ names.cpus → names.cpus ≤ 8 → IfOk result (λ reading. IsWithinLimits reading.script) }
 {
     if draft.faults.len() != 0 {
         return Err(Refusal::Wrongs(draft.faults));
@@ -61,6 +64,9 @@ fn sealed(names: Names, draft: Draft) -> Result<Reading, Refusal>
 pub fn read_text(alloc: Global, bytes: &[u8]) -> Result<Reading, Refusal>
     // What the bytes are.
     ensures ok { IfOk result (λ reading. reading_of bytes.now ≡ Ok reading) }
+
+    // Each script that is read keeps the limits of the format.
+    ensures limits { IfOk result (λ reading. IsWithinLimits reading.script) }
 
     // All that is wrong with them, and that is something.
     ensures err { IfErr result (λ refusal. Refuses refusal (reading_of bytes.now)) }

@@ -1,6 +1,7 @@
 ghost use Rattle.std.specs.Prelude.{◌≡◌, ◌<◌, ◌≤◌, length, IfOk};
 ghost use Rattle.lwkt_text.specs.Drafting.{setting, expected, claim_said, part_said, said};
 ghost use Rattle.lwkt_text.specs.Outcome.{Gives};
+ghost use Rattle.lwkt_text.specs.Within.{IsSaid};
 
 use crate::claims::{Expectation, When};
 use crate::expecting::claim_of;
@@ -48,7 +49,8 @@ fn setting(words: &[Word], high: u64) -> Result<u64, Wrong>
 // `always CLAIM`, or another word before it.
 fn expected(alloc: Global, names: &Names, words: &[Word], when: When) -> Result<Said, Slip>
     requires { length words.now ≤ 1000 }
-    ensures { Gives result (expected names.now words.now when) }
+    ensures exact { Gives result (expected names.now words.now when) }
+    ensures limits { IfOk result (IsSaid names.now.cpus) }
 {
     let claim = claim_of(alloc, names, words)?;
     Ok(Said::Expect(Expectation {
@@ -61,7 +63,8 @@ fn expected(alloc: Global, names: &Names, words: &[Word], when: When) -> Result<
 // An expectation, or a step.
 fn claim_said(alloc: Global, names: &Names, words: &[Word]) -> Result<Said, Slip>
     requires { length words.now ≤ 1000 }
-    ensures { Gives result (claim_said names.now words.now) }
+    ensures exact { Gives result (claim_said names.now words.now) }
+    ensures limits { IfOk result (IsSaid names.now.cpus) }
 {
     match text_at(words, 0) {
         "always" => expected(alloc, names, words, When::Always),
@@ -75,7 +78,8 @@ fn claim_said(alloc: Global, names: &Names, words: &[Word]) -> Result<Said, Slip
 fn part_said(alloc: Global, names: &Names, words: &[Word]) -> Result<Said, Slip>
     requires some { 0 < names.now.cpus }
     requires few { length words.now ≤ 1000 }
-    ensures { Gives result (part_said names.now words.now) }
+    ensures exact { Gives result (part_said names.now words.now) }
+    ensures limits { IfOk result (IsSaid names.now.cpus) }
 {
     match text_at(words, 0) {
         "token" => Ok(Said::Token(token_of(alloc, words)?)),
@@ -89,7 +93,8 @@ fn part_said(alloc: Global, names: &Names, words: &[Word]) -> Result<Said, Slip>
 #[tactic(auto, unfolding(crate::specs::Drafting::said))]
 pub fn told_by(alloc: Global, names: &Names, words: &[Word]) -> Result<Said, Slip>
     requires { 0 < names.now.cpus }
-    ensures { Gives result (said names.now words.now) }
+    ensures exact { Gives result (said names.now words.now) }
+    ensures limits { IfOk result (IsSaid names.now.cpus) }
 {
     checked(demand(words, 1000, What::Long, words.len() <= 1000))?;
     match text_at(words, 0) {
