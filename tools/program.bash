@@ -7,7 +7,7 @@
 
 # The programs, each with its crate.
 programs=(lwkt_run lwkt_check lwkt_show)
-declare -gA crate_of=([lwkt_run]=lwkt [lwkt_check]=lwkt_judge [lwkt_show]=lwkt_view)
+declare -gA crate_of=([lwkt_run]=lwkt [lwkt_check]=lwkt_judge [lwkt_show]=lwkt_view [lwkt_text]=lwkt_texts)
 
 # Chooses the program of this name.
 choose_program() {

@@ -10,7 +10,6 @@ use lwkt_run::run_program;
 use lwkt_script::read_script;
 use std::alloc::Global;
 use std::io::{Read, Write};
-use std::sync::Wait;
 use std::thread::Threads;
 
 // Whether the arguments are those of the program.
@@ -55,7 +54,7 @@ fn say_why<I, O, E: Sink>(
 /// The whole program, as `run_program`, which also says where errors go why there is no report: in one line the part of the
 /// script that is refused, with its place, or how a stream failed; of wrong arguments how the program is called. What it reads,
 /// what it writes and its status are those of `run_program`.
-pub fn run_told<R: Threads + Wait + Sync, I: Read, O: Write, E: Sink>(
+pub fn run_told<R: Threads + Sync, I: Read, O: Write, E: Sink>(
     rt: &R,
     alloc: Global,
     words: &[String],
@@ -63,8 +62,8 @@ pub fn run_told<R: Threads + Wait + Sync, I: Read, O: Write, E: Sink>(
     sink: &mut WriterSink<NotedWriter<O>>,
     errors: &mut E,
 ) -> u8
-    ensures turns { AsksTurns words.now → RunsAs sink.new.failed (I.remaining source.old.reader.reader) (O.contents sink.old.writer.writer) (O.contents sink.new.writer.writer) result }
-    ensures threads { AsksThreads words.now → RunsOnThreadsAs sink.new.failed (I.remaining source.old.reader.reader) (O.contents sink.old.writer.writer) (O.contents sink.new.writer.writer) result }
+    ensures turns { AsksTurns words.now → RunsAs source.new.failed sink.new.failed (I.remaining source.old.reader.reader) (O.contents sink.old.writer.writer) (O.contents sink.new.writer.writer) result }
+    ensures threads { AsksThreads words.now → RunsOnThreadsAs source.new.failed sink.new.failed (I.remaining source.old.reader.reader) (O.contents sink.old.writer.writer) (O.contents sink.new.writer.writer) result }
     ensures usage { IsMisused words.now → (result ≡ 1) × IsSaid sink.new.failed (O.contents sink.old.writer.writer) (O.contents sink.new.writer.writer) (fault_line Program.Run Complaint.Usage) }
     ensures unread { IsMisused words.now → source.new ≡ source.old }
 {

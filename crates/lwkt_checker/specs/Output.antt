@@ -6,7 +6,7 @@ use Rattle.lwkt_report.specs.Complaint.{fault_line, complaint_of, IsSaid}
 use Rattle.lwkt_report.specs.declared.complaints.Program.TheVariants.{Check}
 use Rattle.lwkt_report.specs.declared.streams.RunFault.{RunFault}
 use Rattle.lwkt_report.specs.declared.streams.RunFault.TheVariants.{Fault, Stream}
-use Rattle.lwkt_report.specs.Stream.{AppendsFront}
+use Rattle.lwkt_report.specs.Stream.{AppendsFront, BlamesFailed}
 use Rattle.lwkt_checker.specs.Judgement.{HasFinding, Refuses}
 
 -- these are the bytes that are read of a source that has so many left, where that is known
@@ -33,6 +33,7 @@ abbrev pub Complains : Bool → Option (List ℕ) → Option (List ℕ) → Resu
 Complains failed old new (Ok lawful) = Keeps old new
 Complains failed old new (Err fault) = IsSaid failed old new (fault_line Check (complaint_of fault))
 
--- what the program does where it has no arguments: it checks, complains if it can't, and answers the status
-abbrev pub ChecksAs : Option (List ℕ) → Option (List ℕ) → Option (List ℕ) → Bool → Option (List ℕ) → Option (List ℕ) → ℕ → Type 0
-ChecksAs left old new failed before after status = (outcome : Result Bool RunFault) × (Tells left old new outcome × (Complains failed before after outcome × (status ≡ status_of outcome)))
+-- what the program does where it has no arguments: it checks, complains if it can't, and answers the status; it blames a stream only
+-- where one has failed
+abbrev pub ChecksAs : Bool → Bool → Option (List ℕ) → Option (List ℕ) → Option (List ℕ) → Bool → Option (List ℕ) → Option (List ℕ) → ℕ → Type 0
+ChecksAs source_failed sink_failed left old new failed before after status = (outcome : Result Bool RunFault) × (Tells left old new outcome × (Complains failed before after outcome × (BlamesFailed source_failed sink_failed outcome × (status ≡ status_of outcome))))

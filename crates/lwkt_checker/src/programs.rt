@@ -97,7 +97,7 @@ pub fn run_checker<S: Source, K: Sink, E: Sink>(
     sink: &mut K,
     errors: &mut E,
 ) -> u8
-    ensures checks { words.now ≡ [] → ChecksAs (S.left source.old) (K.contents sink.old) (K.contents sink.new) (E.has_failed errors.new) (E.contents errors.old) (E.contents errors.new) result }
+    ensures checks { words.now ≡ [] → ChecksAs (S.has_failed source.new) (K.has_failed sink.new) (S.left source.old) (K.contents sink.old) (K.contents sink.new) (E.has_failed errors.new) (E.contents errors.old) (E.contents errors.new) result }
     ensures usage { words.now ≢ [] → (result ≡ 1) × IsSaid (E.has_failed errors.new) (E.contents errors.old) (E.contents errors.new) (fault_line Program.Check Complaint.Usage) }
     ensures unread { words.now ≢ [] → source.new ≡ source.old }
     ensures unwritten { words.now ≢ [] → sink.new ≡ sink.old }

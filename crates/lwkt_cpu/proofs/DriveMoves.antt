@@ -123,15 +123,17 @@ drives_over polled bank old mid new t v u drove next turned count limit less las
     }
 
 -- a turn was refused: those made so far stand
-pub short : {B : Type 0} (polled : B → Answer → Ask → B → Type 0) (bank : BankId) (old mid new : Processor B) (t v u : Vec Event Global) (drove : Drove) (count : ℕ) → IsDriven polled bank old mid t v drove count → new ≡ mid → HasSameEvents v u → DrivesShort polled bank old new t u
-short {B} polled bank old mid new t v u drove count d same is =
-    let F : Processor B → Type 0 = λ p. DrivesShort polled bank old p t u in
+pub short : {B : Type 0} (polled : B → Answer → Ask → B → Type 0) (bank : BankId) (old mid new : Processor B) (t v u : Vec Event Global) (drove : Drove) (count limit : ℕ) → count < limit → IsDriven polled bank old mid t v drove count → new ≡ mid → HasSameEvents v u → DrivesShort polled bank old new t u limit
+short {B} polled bank old mid new t v u drove count limit less d same is =
+    let F : Processor B → Type 0 = λ p. DrivesShort polled bank old p t u limit in
     subst F (sym same) (record {
       turns = d.turns;
       v = v;
       made = d.made;
       same = is;
       ran = ran_with_more (IsOfSome (stood polled bank old mid t v d.turns d.made)) (4096 * length d.turns) old.seat mid.seat t v u is (made_ran polled bank old mid t v d.turns d.made);
+      few = omega (arith, d.long, less);
+      going = d.going;
     })
 
 -- of a refusal, whichever it is

@@ -1,4 +1,4 @@
-use Rattle.std.specs.Prelude.{◌≡◌, ◌≢◌, ◌⊎◌, ℕ, ◌+◌, ◌*◌, ◌≤◌, true, false, List, [], ◌∷◌, ◌++◌, length, All, IsSomeAnd, fold, slice_get, Vec}
+use Rattle.std.specs.Prelude.{◌≡◌, ◌≢◌, ◌⊎◌, ℕ, ◌+◌, ◌*◌, ◌<◌, ◌≤◌, true, false, List, [], ◌∷◌, ◌++◌, length, All, IsSomeAnd, fold, slice_get, Vec}
 use Rattle.std.specs.declared.alloc.Global.{Global}
 use Rattle.lwkt_base.specs.declared.asks.Ask.{Ask}
 use Rattle.lwkt_base.specs.declared.asks.Answer.{Answer}
@@ -47,10 +47,13 @@ pub record Drives {B : Type 0} (polled : B → Answer → Ask → B → Type 0) 
   pub stops : (All (λ turned. turned ≢ AllExited) turns × (length turns ≡ limit))
       ⊎ ((earlier : List Turned) × (All (λ turned. turned ≢ AllExited) earlier × (turns ≡ earlier ++ AllExited ∷ []) × (length turns ≤ limit)))
 
--- a processor driven until a turn was refused: the turns made so far stand, and nothing else was done
-pub record DrivesShort {B : Type 0} (polled : B → Answer → Ask → B → Type 0) (bank : BankId) (old new : Processor B) (t u : Vec Event Global) : Type 0 where
+-- a processor driven until a turn was refused: the turns made so far stand, fewer than the limit, at none of which every thread had
+-- ended, and nothing else was done
+pub record DrivesShort {B : Type 0} (polled : B → Answer → Ask → B → Type 0) (bank : BankId) (old new : Processor B) (t u : Vec Event Global) (limit : ℕ) : Type 0 where
   pub turns : List Turned
   pub v : Vec Event Global
   pub made : Made polled bank old new t v turns
   pub same : HasSameEvents v u
   pub ran : Runs (IsOfSome (stood polled bank old new t v turns made)) (4096 * length turns) old.seat new.seat t u
+  pub few : length turns < limit
+  pub going : All (λ turned. turned ≢ AllExited) turns

@@ -11,7 +11,7 @@ use Rattle.lwkt_cpu.specs.declared.phases.Phase.TheVariants.{Live}
 use Rattle.lwkt_cpu.specs.declared.answers.Turned.{Turned}
 use Rattle.lwkt_cpu.specs.declared.answers.Turned.TheVariants.{Ran, Idle, AllExited}
 use Rattle.lwkt_cpu.specs.declared.threads.Thread.{Thread}
-use Rattle.lwkt_cpu.specs.Processors.{Processor, AllOver}
+use Rattle.lwkt_cpu.specs.Processors.{Processor, AllOver, IsAtRest}
 use Rattle.lwkt_cpu.specs.Searches.{Finds, IsOfOne}
 use Rattle.lwkt_cpu.specs.Ending.{is_worn, Closes}
 use Rattle.lwkt_cpu.specs.Polling.{Polls}
@@ -65,7 +65,8 @@ abbrev pub HasSameEvents : Vec Event Global → Vec Event Global → Type 0
 HasSameEvents t u = (u.items ≡ t.items) × (vec_len u ≡ vec_len t) × (vec_capacity t ≤ vec_capacity u)
 
 -- a whole turn: the trace is given room for 4,096 events, mail is taken in, and then the turn is made; each event is one of the seat's steps, and
--- after it the seat holds what a front of one thread's list holds
+-- after it the seat holds what a front of one thread's list holds; at its end the seat holds exactly the list of the thread that runs, in
+-- its modes, or nothing if none runs
 pub record MakesTurn {B : Type 0} (polled : B → Answer → Ask → B → Type 0) (bank : BankId) (old new : Processor B) (t u : Vec Event Global) (turned : Turned) : Type 0 where
   pub room : Vec Event Global
   pub same : room.items ≡ t.items
@@ -75,3 +76,4 @@ pub record MakesTurn {B : Type 0} (polled : B → Answer → Ask → B → Type 
   pub turns : Turns polled bank mid new v u turned
   pub ran : Runs (IsOfThread old.threads new.threads) 4096 old.seat new.seat t u
   pub told : TellsMail old.post.seat new.post.seat t.items u.items
+  pub rest : IsAtRest new

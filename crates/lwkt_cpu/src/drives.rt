@@ -64,7 +64,7 @@ impl<B: Body> Cpu<B> {
         requires of { bank_of self.old.seat ≡ id_of bank.now }
         requires table { self.old.post.seat.table ≡ book.now.table }
         ensures ok { IfOk result (λ drove. Drives B.polled (id_of bank.now) self.old self.new trace.old trace.new limit drove) }
-        ensures err { OnErr result (DrivesShort B.polled (id_of bank.now) self.old self.new trace.old trace.new) }
+        ensures err { OnErr result (DrivesShort B.polled (id_of bank.now) self.old self.new trace.old trace.new limit) }
         ensures only { OnErr result (result ≡ Err Fault.Memory) }
         ensures of { bank_of self.new.seat ≡ bank_of self.old.seat }
         ensures table { self.new.post.seat.table ≡ self.old.post.seat.table }

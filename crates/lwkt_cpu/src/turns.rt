@@ -2,7 +2,7 @@
 ghost use Rattle.std.specs.Prelude.{◌≡◌, ◌⊎◌, ℕ, ◌+◌, ◌<◌, ◌≤◌, ◌↔◌, IsTrue, IfOk, IfSome, OnErr, Some, None, Err, vec_len, vec_capacity};
 ghost use Rattle.lwkt_bank.specs.Seats.{id_of, bank_of};
 ghost use Rattle.lwkt_hold.specs.Runs.{Ran};
-ghost use Rattle.lwkt_cpu.specs.Processors.{AllOver};
+ghost use Rattle.lwkt_cpu.specs.Processors.{AllOver, IsAtRest};
 ghost use Rattle.lwkt_cpu.specs.Searches.{IsOfOne};
 ghost use Rattle.lwkt_cpu.specs.Turning.{cursor_after, Chooses, RunsOne, IsMailed, IsOfThread, HasSameEvents, MakesTurn};
 ghost use Rattle.lwkt_cpu.specs.Waking.{TakesMail, AreWoken};
@@ -41,7 +41,8 @@ fn past(cursor: usize, found: Option<usize>) -> usize
 impl<B> Cpu<B> {
     // Whether every thread has ended.
     pub(crate) fn all_over(&self) -> bool
-        ensures { IsTrue result ↔ AllOver self.now.threads }
+        ensures over { IsTrue result ↔ AllOver self.now.threads }
+        ensures rest { IsAtRest self.now }
     {
         self.threads.iter().all(|thread| thread.phase.has_ended())
     }
@@ -98,6 +99,7 @@ impl<B: Body> Cpu<B> {
         ensures ran { Ran (IsOfThread self.old.threads self.new.threads) 288 self.old.seat self.new.seat trace.old trace.new }
         ensures told { TellsMail self.old.post.seat self.new.post.seat trace.old.items trace.new.items }
         ensures table { self.new.post.seat.table ≡ self.old.post.seat.table }
+        ensures rest { IsAtRest self.new }
     {
         let body = &mut self.bodies[place];
         let thread = &mut self.threads[place];

@@ -5,6 +5,7 @@ use Rattle.std.specs.declared.io.Error.{Error}
 use Rattle.lwkt_report.specs.Complaint.{fault_line, complaint_of, IsSaid}
 use Rattle.lwkt_report.specs.declared.complaints.Program.TheVariants.{Check}
 use Rattle.lwkt_report.specs.declared.streams.RunFault.{RunFault}
+use Rattle.lwkt_report.specs.Stream.{BlamesFailed}
 use Rattle.lwkt_refusals.specs.Sayings.{HasNoReader}
 use Rattle.lwkt_checker.specs.Output.{Tells, status_of}
 
@@ -25,9 +26,10 @@ abbrev pub IsUnread : Bool → Option Error → Type 0
 IsUnread failed error = (failed ≡ true) × HasNoReader error
 
 -- what the program does where it has no arguments: it checks, answers the status, and complains if it can't, but not of a reader
--- that went away
-pub record ChecksAloud (left old new : Option (List ℕ)) (unread : Type 0) (failed : Bool) (before after : Option (List ℕ)) (status : ℕ) : Type 0 where
+-- that went away; it blames a stream only where one has failed
+pub record ChecksAloud (source_failed sink_failed : Bool) (left old new : Option (List ℕ)) (unread : Type 0) (failed : Bool) (before after : Option (List ℕ)) (status : ℕ) : Type 0 where
   pub outcome : Result Bool RunFault
   pub tells : Tells left old new outcome
   pub complains : (unread × Keeps before after) ⊎ ((unread → ⊥) × ComplainsFirst failed before after outcome)
+  pub blames : BlamesFailed source_failed sink_failed outcome
   pub is_status : status ≡ status_of outcome

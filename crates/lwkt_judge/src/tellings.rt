@@ -83,7 +83,7 @@ pub fn check_told<I: Read, O: Write, E: Sink>(
     sink: &mut WriterSink<NotedWriter<O>>,
     errors: &mut E,
 ) -> u8
-    ensures checks { words.now ≡ [] → ChecksAloud (I.remaining source.old.reader.reader) (O.contents sink.old.writer.writer) (O.contents sink.new.writer.writer) (IsUnread sink.new.failed sink.new.writer.error) (E.has_failed errors.new) (E.contents errors.old) (E.contents errors.new) result }
+    ensures checks { words.now ≡ [] → ChecksAloud source.new.failed sink.new.failed (I.remaining source.old.reader.reader) (O.contents sink.old.writer.writer) (O.contents sink.new.writer.writer) (IsUnread sink.new.failed sink.new.writer.error) (E.has_failed errors.new) (E.contents errors.old) (E.contents errors.new) result }
     ensures usage { words.now ≢ [] → (result ≡ 1) × IsSaidFirst (E.has_failed errors.new) (E.contents errors.old) (E.contents errors.new) (fault_line Program.Check Complaint.Usage) }
     ensures unread { words.now ≢ [] → source.new ≡ source.old }
     ensures unwritten { words.now ≢ [] → sink.new ≡ sink.old }

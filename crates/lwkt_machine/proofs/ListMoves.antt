@@ -49,7 +49,7 @@ pub flat_push : {A B : Type 0} (f : A → List B) (xs : List A) (x : A) → flat
 flat_push f [] x = append-nil (f x)
 flat_push f (y ∷ xs) x = ap (λ zs. f y ++ zs) (flat_push f xs x) ∙ sym (append_assoc (f y) (flat_map f xs) (f x))
 
-none_is_some : {A : Type 0} (x : A) → ◌≡◌ {A = Option A} None (Some x) → ⊥
+pub none_is_some : {A : Type 0} (x : A) → ◌≡◌ {A = Option A} None (Some x) → ⊥
 none_is_some x is = cc
 
 -- one more element with its place

@@ -1,6 +1,7 @@
 pub mod Bodies
 pub mod Closing
 pub mod Ended
+pub mod Lanes
 pub mod Laws
 pub mod Machines
 pub mod Opened

@@ -1,5 +1,6 @@
 //! The lanes of a machine, one from each processor to each one.
-ghost use Rattle.std.specs.Prelude.{◌≡◌, ◌+◌, ◌<◌, ◌≤◌, [], length, All, OnOk, OnErr, IfOk, Err, vec_len};
+ghost use Rattle.std.specs.Prelude.{◌≡◌, length, OnErr, IfOk, Err};
+ghost use Rattle.lwkt_machine.specs.Lanes.{HasEnd, HasEnds, AreLong, AreLanes};
 
 use lwkt_base::Fault;
 use lwkt_lane::{LaneIn, LaneOut, lane};
@@ -17,7 +18,8 @@ pub(crate) struct Lanes {
 
 // A list for each of so many processors, of the ends of the lanes to it.
 fn no_ends(alloc: Global, cpus: usize) -> Result<Vec<Vec<LaneIn>>, AllocError>
-    ensures { IfOk result (λ ins. length ins.items ≡ cpus) }
+    ensures as_many { IfOk result (λ ins. length ins.items ≡ cpus) }
+    ensures empty { IfOk result (λ ins. AreLong 0 ins.items) }
 {
     let mut ins = Vec::new(alloc);
     for made in 0..cpus {
@@ -28,6 +30,7 @@ fn no_ends(alloc: Global, cpus: usize) -> Result<Vec<Vec<LaneIn>>, AllocError>
 
 // A lane, whose receiving end goes to this list.
 fn lane_to(alloc: Global, ends: &mut Vec<LaneIn>) -> Result<LaneOut, Fault>
+    ensures ok { IfOk result (λ out. HasEnd ends.old.items ends.new.items out) }
     ensures only { OnErr result (result ≡ Err Fault.Memory) }
 {
     let (out, into) = lane(alloc, LANE_NOTES)?;
@@ -37,6 +40,7 @@ fn lane_to(alloc: Global, ends: &mut Vec<LaneIn>) -> Result<LaneOut, Fault>
 
 // The lanes from a processor to each one.
 fn lanes_to_all(alloc: Global, ins: &mut [Vec<LaneIn>]) -> Result<Vec<LaneOut>, Fault>
+    ensures ok { IfOk result (λ outs. HasEnds ins.old ins.new outs.items) }
     ensures only { OnErr result (result ≡ Err Fault.Memory) }
 {
     let mut outs = Vec::new(alloc);
@@ -49,7 +53,8 @@ fn lanes_to_all(alloc: Global, ins: &mut [Vec<LaneIn>]) -> Result<Vec<LaneOut>, 
 
 // The lanes from each processor.
 fn lanes_from_all(alloc: Global, ins: &mut [Vec<LaneIn>]) -> Result<Vec<Vec<LaneOut>>, Fault>
-    ensures ok { IfOk result (λ outs. length outs.items ≡ length ins.old) }
+    requires { AreLong 0 ins.old }
+    ensures ok { IfOk result (λ outs. AreLanes (length ins.old) (length ins.old) outs.items ins.new) }
     ensures only { OnErr result (result ≡ Err Fault.Memory) }
 {
     let mut outs = Vec::new(alloc);
@@ -62,8 +67,7 @@ fn lanes_from_all(alloc: Global, ins: &mut [Vec<LaneIn>]) -> Result<Vec<Vec<Lane
 
 /// The lanes of so many processors.
 pub(crate) fn open_lanes(alloc: Global, cpus: usize) -> Result<Lanes, Fault>
-    ensures outs { IfOk result (λ lanes. length lanes.outs.items ≡ cpus) }
-    ensures ins { IfOk result (λ lanes. length lanes.ins.items ≡ cpus) }
+    ensures ok { IfOk result (λ lanes. AreLanes cpus cpus lanes.outs.items lanes.ins.items) }
     ensures only { OnErr result (result ≡ Err Fault.Memory) }
 {
     let mut ins = no_ends(alloc, cpus).map_err(|_| Fault::Memory)?;

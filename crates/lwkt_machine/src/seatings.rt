@@ -3,7 +3,8 @@ ghost use Rattle.std.specs.Prelude.{◌≡◌, ℕ, ◌+◌, ◌<◌, length, ma
 ghost use Rattle.lwkt_base.specs.declared.openings.MsgSpec.{MsgSpec};
 ghost use Rattle.lwkt_bank.specs.Seats.{id_of};
 ghost use Rattle.lwkt_msg.specs.Desks.{cpu_of, IsOpened};
-ghost use Rattle.lwkt_port.specs.Openings.{new_mail, AreNewPorts};
+ghost use Rattle.lwkt_port.specs.Openings.{new_mail, AreNewPorts, ArePaired};
+ghost use Rattle.lwkt_machine.specs.Lanes.{HasLines, HaveLines, AreLeft};
 ghost use Rattle.lwkt_machine.specs.Opened.{bodies_on, IsSeat, IsOpenedCpu, AreOpenedCpus};
 
 use crate::bodies::ScriptBody;
@@ -65,6 +66,7 @@ fn open_ports(
     ensures desk { IfOk result (λ ports. IsOpened number book.now ports.seat) }
     ensures new { IfOk result (λ ports. AreNewPorts threads ports.ports) }
     ensures mails { IfOk result (λ ports. ports.mails ≡ map (new_mail (cpu_of ports.seat)) (map (λ (spec : MsgSpec). spec.origin) book.now.specs)) }
+    ensures lines { IfOk result (λ ports. ArePaired outs.items ins.items ports.lanes) }
     ensures only { OnErr result (result ≡ Err Fault.Memory) }
 {
     let id = mail.cpu();
@@ -88,6 +90,7 @@ fn seat_one(
     requires mails { ports.mails ≡ map (new_mail (cpu_of ports.seat)) (map (λ (spec : MsgSpec). spec.origin) book.now.specs) }
     requires bodies { bodies.items ≡ bodies_on number threads.now }
     ensures ok { IfOk result (λ cpu. IsOpenedCpu (id_of bank.now) book.now threads.now number cpu) }
+    ensures lines { IfOk result (λ cpu. cpu.post.lanes ≡ ports.lanes) }
     ensures only { OnErr result (result ≡ Err Fault.Memory) }
 {
     let id = seat.cpu();
@@ -111,6 +114,8 @@ impl Rest {
         requires rest { IsRest (id_of bank.now) book.now number self.old }
         requires origins { origins.now ≡ map (λ (spec : MsgSpec). spec.origin) book.now.specs }
         ensures ok { IfOk result (λ cpu. IsOpenedCpu (id_of bank.now) book.now threads.now number cpu) }
+        ensures lines { IfOk result (λ cpu. HasLines self.old.outs.items self.old.ins.items 0 cpu) }
+        ensures left { AreLeft 1 self.old self.new }
         ensures only { OnErr result (result ≡ Err Fault.Memory) }
         ensures rest { IsRest (id_of bank.now) book.now (number + 1) self.new }
         ensures fewer { length self.new.seats.items + 1 ≡ length self.old.seats.items }
@@ -137,6 +142,7 @@ impl Rest {
         requires origins { origins.now ≡ map (λ (spec : MsgSpec). spec.origin) book.now.specs }
         ensures as_many { IfOk result (λ cpus. length cpus.items ≡ length self.old.seats.items) }
         ensures each { IfOk result (λ cpus. AreOpenedCpus (id_of bank.now) book.now threads.now cpus.items) }
+        ensures lines { IfOk result (λ cpus. HaveLines self.old.outs.items self.old.ins.items cpus.items) }
         ensures only { OnErr result (result ≡ Err Fault.Memory) }
     {
         let mut cpus = Vec::new(alloc);

@@ -1,4 +1,4 @@
-ghost use Rattle.std.specs.Prelude.{◌≡◌, ◌++◌, ◌≤◌, ◌∷◌, [], length};
+ghost use Rattle.std.specs.Prelude.{◌≡◌, ◌++◌, ◌≤◌, ◌∷◌, [], length, if◌then◌else◌, IsTrue};
 ghost use Rattle.lwkt_report.specs.Complaint.{program_name, usage_text, fault_line, complaint_of, IsSaid};
 
 use crate::sinks::{Sink, write_whole};
@@ -85,9 +85,10 @@ pub fn complaint_line(program: Program, complaint: Complaint) -> ArrayString<48>
     }
 }
 
-/// Writes the line that a program says. If that fails, a front of it stands.
+/// Writes the line that a program says. If that fails, a front of it stands. A sink that had failed has failed still.
 pub fn complain<K: Sink>(sink: &mut K, program: Program, complaint: Complaint)
-    ensures { IsSaid (K.has_failed sink.new) (K.contents sink.old) (K.contents sink.new) (fault_line program complaint) }
+    ensures said { IsSaid (K.has_failed sink.new) (K.contents sink.old) (K.contents sink.new) (fault_line program complaint) }
+    ensures failed { IsTrue (K.has_failed sink.old) → IsTrue (K.has_failed sink.new) }
 {
     let line = complaint_line(program, complaint);
     let _ = write_whole(sink, line.as_bytes());
@@ -104,7 +105,10 @@ pub fn complaint_of(fault: RunFault) -> Complaint
 }
 
 /// The line and the status where a program's arguments can't be told: 3 for want of memory, else 1.
-pub fn refuse_arguments<K: Sink>(sink: &mut K, program: Program, memory: bool) -> u8 {
+pub fn refuse_arguments<K: Sink>(sink: &mut K, program: Program, memory: bool) -> u8
+    ensures status { result ≡ (if memory then 3 else 1) }
+    ensures said { IsSaid (K.has_failed sink.new) (K.contents sink.old) (K.contents sink.new) (fault_line program (if memory then Complaint.Fault Fault.Memory else Complaint.Usage)) }
+{
     if memory {
         complain(sink, program, Complaint::Fault(Fault::Memory));
         return 3;

@@ -1,6 +1,6 @@
 -- Turns and rounds keep the threads of a machine.
 use Rattle.std.proofs.Common.{◌≡◌, ℕ, zero, suc, ◌+◌, ◌<◌, ◌≤◌, List, [], ◌∷◌, length, set, refl, ap, sym, ◌∙◌, subst, inl, inr, arith, Option, Some, None}
-use Rattle.std.specs.Prelude.{Bool, Vec, slice_get}
+use Rattle.std.specs.Prelude.{Bool, true, false, Vec, slice_get}
 use Rattle.std.specs.declared.alloc.Global.{Global}
 use Rattle.std.proofs.lemmas.Bool.{cases_eq}
 use Rattle.std.proofs.lemmas.List.{length-set}
@@ -27,7 +27,7 @@ use Rattle.lwkt_machine.proofs.StopMoves.{AreOverBelow, over_more}
 use Rattle.lwkt_script.specs.declared.scripts.ThreadSpec.{ThreadSpec}
 use Rattle.lwkt_script.specs.Format.{threads_on}
 use Rattle.lwkt_threads.specs.Driven.{WasDriven, AreDriven}
-use Rattle.lwkt_run.specs.Running.{HasThreads, Scene, TakesTurn, MakesRound, MakesRounds}
+use Rattle.lwkt_run.specs.Running.{HasThreads, Scene, Going, going, says_over, both, TakesTurn, MakesRound, HasMadeRounds}
 
 -- what each step of a chain keeps, the chain keeps
 chain_keeps : (A : Type 0) (Step : ℕ → A → A → Type 0) (P : A → Type 0) → ((k : ℕ) (x y : A) → Step k x y → P x → P y) → (n : ℕ) (x y : A) → Chain A Step n x y → P x → P y
@@ -75,16 +75,29 @@ has_set cpus threads ps k p q at same has = record {
   ];
 }
 
-has_turn : (cpus : ℕ) (threads : List ThreadSpec) (cpu : ℕ) (x y : Scene) → TakesTurn cpu x y → HasThreads cpus threads x.machine.cpus → HasThreads cpus threads y.machine.cpus
+has_turn : (cpus : ℕ) (threads : List ThreadSpec) (cpu : ℕ) (x y : Going) → TakesTurn cpu x y → HasThreads cpus threads x.machine.cpus → HasThreads cpus threads y.machine.cpus
 has_turn cpus threads cpu x y turn has =
-    let d = turn.1 in
+    let d = turn.1.0 in
     let F : List (Processor Scripted) → Type 0 = λ ps. HasThreads cpus threads ps in
     subst F (sym d.cpus) (has_set cpus threads x.machine.cpus cpu d.before d.now d.at_before (turn_long IsPolled x.machine.bank d.before d.now x.trace y.trace turn.0 d.does) has)
 
-pub has_rounds : (cpus : ℕ) (threads : List ThreadSpec) (count : ℕ) (x y : Scene) → MakesRounds count x y → HasThreads cpus threads x.machine.cpus → HasThreads cpus threads y.machine.cpus
-has_rounds cpus threads count x y rounds has =
-    let P : Scene → Type 0 = λ z. HasThreads cpus threads z.machine.cpus in
-    chain_keeps Scene MakesRound P (λ k v w round p. chain_keeps Scene TakesTurn P (has_turn cpus threads) (length v.machine.cpus) v w round p) count x y rounds has
+-- what each turn keeps of a machine, a round keeps
+round_keeps : (P : Rig → Type 0) → ((cpu : ℕ) (x y : Going) → TakesTurn cpu x y → P x.machine → P y.machine) → (over : Bool) (number : ℕ) (x y : Scene) → MakesRound over number x y → P x.machine → P y.machine
+round_keeps P keeps over number x y round p = chain_keeps Going TakesTurn (λ z. P z.machine) keeps (length x.machine.cpus) (going x true) (going y over) round p
+
+-- the rounds of a run too
+rounds_keep : (P : Rig → Type 0) → ((cpu : ℕ) (x y : Going) → TakesTurn cpu x y → P x.machine → P y.machine) → (limit : ℕ) (x y : Scene) → HasMadeRounds limit x y → P x.machine → P y.machine
+rounds_keep P keeps limit x y rounds p =
+    let go : (k : ℕ) (v w : Scene) → MakesRound false k v w → P v.machine → P w.machine = λ k v w round q. round_keeps P keeps false k v w round q in
+    elim rounds [
+      | inl ended ↦
+          let e = ended.1.1 in
+          round_keeps P keeps true ended.0 e.mid y e.last (chain_keeps Scene (MakesRound false) (λ z. P z.machine) go ended.0 x e.mid e.earlier p)
+      | inr whole ↦ chain_keeps Scene (MakesRound false) (λ z. P z.machine) go limit x y whole p
+    ]
+
+pub has_rounds : (cpus : ℕ) (threads : List ThreadSpec) (limit : ℕ) (x y : Scene) → HasMadeRounds limit x y → HasThreads cpus threads x.machine.cpus → HasThreads cpus threads y.machine.cpus
+has_rounds cpus threads limit x y rounds has = rounds_keep (λ m. HasThreads cpus threads m.cpus) (has_turn cpus threads) limit x y rounds has
 
 -- a machine that was driven
 pub has_driven : (answers : CpuId → ℕ → Bool → Type 0) (limits : Limits) (bank : BankId) (cpus : ℕ) (threads : List ThreadSpec) (olds news : List (Processor Scripted)) (traces : List (Vec Event Global)) → AreDriven answers limits bank olds news traces → HasThreads cpus threads olds → HasThreads cpus threads news
@@ -112,8 +125,21 @@ pub over_all : (n : ℕ) (cpus : List (Processor Scripted)) → length cpus ≤ 
 over_all n cpus few below = λ k p at. below k p (omega (arith, few, slice_get_within cpus k p at)) at
 
 -- rounds keep the bank
-pub rounds_bank : (count : ℕ) (x y : Scene) → MakesRounds count x y → y.machine.bank ≡ x.machine.bank
-rounds_bank count x y rounds =
-    let P : Scene → Type 0 = λ z. z.machine.bank ≡ x.machine.bank in
-    let keeps : (cpu : ℕ) (v w : Scene) → TakesTurn cpu v w → P v → P w = λ cpu v w turn p. turn.1.bank ∙ p in
-    chain_keeps Scene MakesRound P (λ k v w round p. chain_keeps Scene TakesTurn P keeps (length v.machine.cpus) v w round p) count x y rounds refl
+pub rounds_bank : (limit : ℕ) (x y : Scene) → HasMadeRounds limit x y → y.machine.bank ≡ x.machine.bank
+rounds_bank limit x y rounds =
+    let P : Rig → Type 0 = λ m. m.bank ≡ x.machine.bank in
+    rounds_keep P (λ cpu v w turn p. turn.1.0.bank ∙ p) limit x y rounds refl
+
+false_is_true : false ≡ true → ⊥
+false_is_true is = cc
+
+-- both are so
+pub both_true : (a b : Bool) → both a b ≡ true → (a ≡ true) × (b ≡ true)
+both_true true b is = (refl, is)
+both_true false b is = absurd (false_is_true is)
+
+-- a turn that says so is one at which every thread had ended
+pub says_all : (turned : Turned) → says_over turned ≡ true → turned ≡ AllExited
+says_all (Ran thread) is = absurd (false_is_true is)
+says_all Idle is = absurd (false_is_true is)
+says_all AllExited is = refl

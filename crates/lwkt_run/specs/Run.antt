@@ -19,7 +19,7 @@ use Rattle.lwkt_report.specs.declared.streams.RunFault.{RunFault}
 use Rattle.lwkt_report.specs.declared.streams.RunFault.TheVariants.{Fault, Stream}
 use Rattle.lwkt_report.specs.declared.sources.TheConstants.{READ_LIMIT}
 use Rattle.lwkt_report.specs.Report.{report_text}
-use Rattle.lwkt_report.specs.Stream.{AppendsFront}
+use Rattle.lwkt_report.specs.Stream.{AppendsFront, BlamesFailed}
 use Rattle.lwkt_report.specs.Complaint.{fault_line, complaint_of, IsSaid}
 use Rattle.lwkt_script.specs.declared.scripts.Script.{Script}
 use Rattle.lwkt_script.specs.Format.{script_of}
@@ -180,9 +180,10 @@ abbrev pub SaysAfterRun : Bool → Option (List ℕ) → Option (List ℕ) → R
 SaysAfterRun failed old new (Ok end) = Keeps old new
 SaysAfterRun failed old new (Err fault) = IsSaid failed old new (fault_line RunProgram (complaint_of fault))
 
--- what the program does where its one argument is right: it runs, answers the status and writes the line
-abbrev pub RunsAs : Bool → Option (List ℕ) → Option (List ℕ) → Option (List ℕ) → ℕ → Type 0
-RunsAs failed left old new status = (outcome : Result End RunFault) × ((mid : Option (List ℕ)) × (Tells left old mid outcome × (SaysAfterRun failed mid new outcome × (status ≡ status_of outcome))))
+-- what the program does where its one argument is right: it runs, answers the status and writes the line; it blames a stream only
+-- where one has failed
+abbrev pub RunsAs : Bool → Bool → Option (List ℕ) → Option (List ℕ) → Option (List ℕ) → ℕ → Type 0
+RunsAs source_failed sink_failed left old new status = (outcome : Result End RunFault) × ((mid : Option (List ℕ)) × (Tells left old mid outcome × (SaysAfterRun sink_failed mid new outcome × (BlamesFailed source_failed sink_failed outcome × (status ≡ status_of outcome)))))
 
 -- the arguments are the one word `turns`
 abbrev pub AsksTurns : List (String Global) → Type 0

@@ -1,10 +1,11 @@
 -- What the machine of a script does in a run, and how the lines of a report show its threads (own).
-use Rattle.std.specs.Prelude.{◌≡◌, ◌⊎◌, ℕ, ◌≤◌, Bool, true, List, [], length, map, All, Option, Some, None, Vec, slice_get}
+use Rattle.std.specs.Prelude.{◌≡◌, ◌⊎◌, ℕ, ◌<◌, Bool, true, false, if◌then◌else◌, List, [], length, map, All, Option, Some, None, Vec, slice_get}
 use Rattle.std.specs.declared.alloc.Global.{Global}
 use Rattle.lwkt_base.specs.declared.entries.Entry.{Entry}
 use Rattle.lwkt_core.specs.declared.events.Event.{Event}
 use Rattle.lwkt_port.specs.Chains.{Chain}
 use Rattle.lwkt_cpu.specs.declared.answers.Turned.{Turned}
+use Rattle.lwkt_cpu.specs.declared.answers.Turned.TheVariants.{Ran, Idle, AllExited}
 use Rattle.lwkt_cpu.specs.Processors.{Processor}
 use Rattle.lwkt_machine.specs.Bodies.{Scripted}
 use Rattle.lwkt_machine.specs.Ended.{AreOver}
@@ -45,26 +46,49 @@ pub record Scene : Type 0 where
 abbrev pub scene : Rig → Vec Event Global → Scene
 scene machine trace = record { machine = machine; trace = trace }
 
+-- a scene within a round, and whether every processor that made its turn in it said that all its threads have ended
+pub record Going : Type 0 where
+  pub machine : Rig
+  pub trace : Vec Event Global
+  pub over : Bool
+
+abbrev pub going : Scene → Bool → Going
+going x over = record { machine = x.machine; trace = x.trace; over = over }
+
+-- whether a turn says that every thread of its processor has ended
+abbrev pub says_over : Turned → Bool
+says_over (Ran thread) = false
+says_over Idle = false
+says_over AllExited = true
+
+abbrev pub both : Bool → Bool → Bool
+both a b = if a then b else false
+
 -- the processor of this number makes a turn
-abbrev pub TakesTurn : ℕ → Scene → Scene → Type 0
-TakesTurn cpu x y = (turned : Turned) × TurnsAt cpu x.machine y.machine x.trace y.trace turned
+abbrev pub TakesTurn : ℕ → Going → Going → Type 0
+TakesTurn cpu x y = (turned : Turned) × (TurnsAt cpu x.machine y.machine x.trace y.trace turned × (y.over ≡ both x.over (says_over turned)))
 
--- a round: each processor makes one turn, by rising number
-abbrev pub MakesRound : ℕ → Scene → Scene → Type 0
-MakesRound number x y = Chain Scene TakesTurn (length x.machine.cpus) x y
+-- a round: each processor makes one turn, by rising number; it is over exactly if each of these turns says that every thread of its
+-- processor has ended
+abbrev pub MakesRound : Bool → ℕ → Scene → Scene → Type 0
+MakesRound over number x y = Chain Going TakesTurn (length x.machine.cpus) (going x true) (going y over)
 
--- so many rounds
-abbrev pub MakesRounds : ℕ → Scene → Scene → Type 0
-MakesRounds count x y = Chain Scene MakesRound count x y
+-- so many rounds, none of which was over
+abbrev pub GoRounds : ℕ → Scene → Scene → Type 0
+GoRounds count x y = Chain Scene (MakesRound false) count x y
 
--- a round was made; if it is told to be the last, every thread of each processor has ended
+-- a round was made, and told whether it was over; if it was, every thread of each processor has ended
 pub record RoundTold (x y : Scene) (over : Bool) : Type 0 where
-  pub round : MakesRound 0 x y
+  pub round : MakesRound over 0 x y
   pub over_is : over ≡ true → AreOver y.machine.cpus
 
--- rounds were made, so many as the limit says, or until every thread of each processor had ended
-pub record HasMadeRounds (limit : ℕ) (x y : Scene) : Type 0 where
-  pub count : ℕ
-  pub rounds : MakesRounds count x y
-  pub few : count ≤ limit
-  pub enough : (count ≡ limit) ⊎ AreOver y.machine.cpus
+-- so many rounds that weren't over, and then one that was: every thread of each processor has ended
+pub record EndRounds (count : ℕ) (x y : Scene) : Type 0 where
+  pub mid : Scene
+  pub earlier : GoRounds count x mid
+  pub last : MakesRound true count mid y
+  pub over : AreOver y.machine.cpus
+
+-- rounds were made up to the first that was over, or so many as the limit says, none of which was over
+abbrev pub HasMadeRounds : ℕ → Scene → Scene → Type 0
+HasMadeRounds limit x y = ((count : ℕ) × ((count < limit) × EndRounds count x y)) ⊎ GoRounds limit x y

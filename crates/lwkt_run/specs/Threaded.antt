@@ -20,6 +20,7 @@ use Rattle.lwkt_report.specs.declared.closings.ThreadLine.{ThreadLine}
 use Rattle.lwkt_report.specs.declared.closings.Verdict.TheVariants.{Closed}
 use Rattle.lwkt_report.specs.declared.streams.RunFault.{RunFault}
 use Rattle.lwkt_report.specs.Report.{report_text}
+use Rattle.lwkt_report.specs.Stream.{BlamesFailed}
 use Rattle.lwkt_script.specs.declared.scripts.Script.{Script}
 use Rattle.lwkt_script.specs.Format.{script_of}
 use Rattle.lwkt_run.specs.declared.runs.End.{End}
@@ -100,9 +101,10 @@ TellsOnThreads answers left old new answer = TellsBy (HasThreadedRun answers) le
 abbrev pub lets_all : CpuId → ℕ → Bool → Type 0
 lets_all cpu turn answer = answer ≡ true
 
--- what the program does where its one argument is `threads`: it runs, answers the status and writes the line
-abbrev pub RunsOnThreadsAs : Bool → Option (List ℕ) → Option (List ℕ) → Option (List ℕ) → ℕ → Type 0
-RunsOnThreadsAs failed left old new status = (outcome : Result End RunFault) × ((mid : Option (List ℕ)) × (TellsOnThreads lets_all left old mid outcome × (SaysAfterRun failed mid new outcome × (status ≡ status_of outcome))))
+-- what the program does where its one argument is `threads`: it runs, answers the status and writes the line; it blames a stream
+-- only where one has failed
+abbrev pub RunsOnThreadsAs : Bool → Bool → Option (List ℕ) → Option (List ℕ) → Option (List ℕ) → ℕ → Type 0
+RunsOnThreadsAs source_failed sink_failed left old new status = (outcome : Result End RunFault) × ((mid : Option (List ℕ)) × (TellsOnThreads lets_all left old mid outcome × (SaysAfterRun sink_failed mid new outcome × (BlamesFailed source_failed sink_failed outcome × (status ≡ status_of outcome)))))
 
 -- the arguments are the one word `threads`
 abbrev pub AsksThreads : List (String Global) → Type 0

@@ -8,7 +8,6 @@ use crate::threaded::run_threads;
 use lwkt_base::Fault;
 use lwkt_report::{Complaint, Program, RunFault, Sink, Source, complain, complaint_of};
 use std::alloc::Global;
-use std::sync::Wait;
 use std::thread::Threads;
 
 // The exit status of an outcome.
@@ -25,9 +24,10 @@ fn status_of(outcome: &Result<End, RunFault>) -> u8
 }
 
 /// Ends the program after a run: writes the line that stands in place of a report, if the outcome asks for one, and answers the
-/// exit status. If writing it fails, a front of it stands.
+/// exit status. If writing it fails, a front of it stands. A sink that had failed has failed still.
 pub fn finish<K: Sink>(sink: &mut K, outcome: &Result<End, RunFault>) -> u8
     ensures line { SaysAfterRun (K.has_failed sink.new) (K.contents sink.old) (K.contents sink.new) outcome.now }
+    ensures failed { IsTrue (K.has_failed sink.old) → IsTrue (K.has_failed sink.new) }
     ensures status { result ≡ status_of outcome.now }
 {
     match *outcome {
@@ -56,15 +56,15 @@ fn asks_threads(words: &[String]) -> bool
 /// stream that failed; 4 an unlawful trace. With 1 and 3 one line stands in place of the report, or after a front of it.
 ///
 /// The arguments are checked before anything is read.
-pub fn run_program<R: Threads + Wait + Sync, S: Source, K: Sink>(
+pub fn run_program<R: Threads + Sync, S: Source, K: Sink>(
     rt: &R,
     alloc: Global,
     words: &[String],
     source: &mut S,
     sink: &mut K,
 ) -> u8
-    ensures turns { AsksTurns words.now → RunsAs (K.has_failed sink.new) (S.left source.old) (K.contents sink.old) (K.contents sink.new) result }
-    ensures threads { AsksThreads words.now → RunsOnThreadsAs (K.has_failed sink.new) (S.left source.old) (K.contents sink.old) (K.contents sink.new) result }
+    ensures turns { AsksTurns words.now → RunsAs (S.has_failed source.new) (K.has_failed sink.new) (S.left source.old) (K.contents sink.old) (K.contents sink.new) result }
+    ensures threads { AsksThreads words.now → RunsOnThreadsAs (S.has_failed source.new) (K.has_failed sink.new) (S.left source.old) (K.contents sink.old) (K.contents sink.new) result }
     ensures usage { IsMisused words.now → (result ≡ 1) × IsSaid (K.has_failed sink.new) (K.contents sink.old) (K.contents sink.new) (fault_line Program.Run Complaint.Usage) }
     ensures unread { IsMisused words.now → source.new ≡ source.old }
 {

@@ -1,8 +1,8 @@
 //! The rounds of a run.
-ghost use Rattle.std.specs.Prelude.{◌≡◌, ◌<◌, length, true, IfOk, OnOk, OnErr, Err};
+ghost use Rattle.std.specs.Prelude.{◌≡◌, ◌<◌, length, IfOk, OnOk, OnErr, Err};
 ghost use Rattle.lwkt_cpu.specs.declared.answers.Turned.{Turned};
 ghost use Rattle.lwkt_machine.specs.Turns.{TurnsAt};
-ghost use Rattle.lwkt_run.specs.Running.{scene, RoundTold, HasMadeRounds};
+ghost use Rattle.lwkt_run.specs.Running.{scene, says_over, both as both_so, RoundTold, HasMadeRounds};
 
 use crate::records::{Polled, Record};
 use lwkt_base::{CpuId, Fault, ThreadId};
@@ -25,14 +25,14 @@ fn polled_at(machine: &Machine, cpu: usize, thread: usize) -> Option<Polled> {
 
 // Whether a turn says that every thread has ended.
 fn is_over(turned: Turned) -> bool
-    ensures { result ≡ true → turned ≡ Turned.AllExited }
+    ensures { result ≡ says_over turned }
 {
     matches!(turned, Turned::AllExited)
 }
 
 // Whether both are so.
 fn both(a: bool, b: bool) -> bool
-    ensures { result ≡ true → (a ≡ true) × (b ≡ true) }
+    ensures { result ≡ both_so a b }
 {
     a && b
 }
@@ -45,7 +45,7 @@ fn make_turn(
     kept: &mut Record,
 ) -> Result<bool, Fault>
     requires { cpu < length machine.old.cpus }
-    ensures ok { IfOk result (λ over. (turned : Turned) × (TurnsAt cpu machine.old machine.new trace.old trace.new turned × (over ≡ true → turned ≡ Turned.AllExited))) }
+    ensures ok { IfOk result (λ over. (turned : Turned) × (TurnsAt cpu machine.old machine.new trace.old trace.new turned × (over ≡ says_over turned))) }
     ensures as_many { length machine.new.cpus ≡ length machine.old.cpus }
     ensures only { OnErr result (result ≡ Err Fault.Memory) }
 {

@@ -19,7 +19,6 @@ use lwkt_report::{Closing, RunFault, Sink, Source, read_capped, report};
 use lwkt_script::{Script, read_script};
 use lwkt_threads::{Gate, Limits, OpenGate, Outcome, drive_machine};
 use std::alloc::{AllocError, Global};
-use std::sync::Wait;
 use std::thread::Threads;
 
 /// A run of a script on threads: what its report shows, and the written sections that its processors told, by token and then by
@@ -43,7 +42,7 @@ struct Told {
 }
 
 // Drives the processors of a script on threads, and closes their machine. Who ended a section is told where it is wanted.
-fn told_of<R: Threads + Wait + Sync, G: Gate + Sync>(
+fn told_of<R: Threads + Sync, G: Gate + Sync>(
     rt: &R,
     alloc: Global,
     gate: &G,
@@ -113,7 +112,7 @@ fn record_of<G: Gate>(
 }
 
 // Runs a script on threads, and keeps what its report shows and the sections that were told.
-fn record_of_script<R: Threads + Wait + Sync, G: Gate + Sync>(
+fn record_of_script<R: Threads + Sync, G: Gate + Sync>(
     rt: &R,
     alloc: Global,
     gate: &G,
@@ -131,7 +130,7 @@ fn record_of_script<R: Threads + Wait + Sync, G: Gate + Sync>(
 }
 
 // Runs the script that the bytes are on threads, to the text of its report.
-fn done_of_bytes<R: Threads + Wait + Sync, G: Gate + Sync>(
+fn done_of_bytes<R: Threads + Sync, G: Gate + Sync>(
     rt: &R,
     alloc: Global,
     gate: &G,
@@ -154,7 +153,7 @@ fn done_of_bytes<R: Threads + Wait + Sync, G: Gate + Sync>(
 /// can change anything.
 ///
 /// Refused as `run_turns` is; what is refused for want of memory to one processor stops all of them.
-pub fn run_threads_gated<R: Threads + Wait + Sync, G: Gate + Sync, S: Source, K: Sink>(
+pub fn run_threads_gated<R: Threads + Sync, G: Gate + Sync, S: Source, K: Sink>(
     rt: &R,
     alloc: Global,
     source: &mut S,
@@ -172,7 +171,7 @@ pub fn run_threads_gated<R: Threads + Wait + Sync, G: Gate + Sync, S: Source, K:
 }
 
 /// Runs a script on threads, as `run_threads_gated` does with a gate that never says no.
-pub fn run_threads<R: Threads + Wait + Sync, S: Source, K: Sink>(
+pub fn run_threads<R: Threads + Sync, S: Source, K: Sink>(
     rt: &R,
     alloc: Global,
     source: &mut S,
@@ -188,7 +187,7 @@ pub fn run_threads<R: Threads + Wait + Sync, S: Source, K: Sink>(
 /// its processor.
 ///
 /// Refused as `run_threads` is once it has read its script.
-pub fn record_threads<R: Threads + Wait + Sync>(
+pub fn record_threads<R: Threads + Sync>(
     rt: &R,
     alloc: Global,
     script: &Script,

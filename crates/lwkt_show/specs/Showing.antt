@@ -1,8 +1,9 @@
 -- What the program shows of a run (own).
-use Rattle.std.specs.Prelude.{◌≡◌, ◌≤◌, ℕ, length, List, Option, Result, Ok, Err}
+use Rattle.std.specs.Prelude.{◌≡◌, ◌≤◌, ℕ, Bool, length, List, Option, Result, Ok, Err}
 use Rattle.std.specs.Io.KnownBytes.{Keeps}
 use Rattle.lwkt_report.specs.declared.closings.Closing.{Closing}
 use Rattle.lwkt_report.specs.declared.streams.RunFault.{RunFault}
+use Rattle.lwkt_report.specs.Stream.{BlamesFailed}
 use Rattle.lwkt_run.specs.Run.{AreRead, IsTurnsRun, end_told, TellsBy, status_of}
 use Rattle.lwkt_run.specs.Threaded.{IsThreadRecord, lets_all}
 use Rattle.lwkt_run.specs.declared.runs.End.{End}
@@ -11,7 +12,6 @@ use Rattle.lwkt_run.specs.declared.threaded.ThreadRecord.{ThreadRecord}
 use Rattle.lwkt_script.specs.declared.scripts.Script.{Script}
 use Rattle.lwkt_script.specs.Format.{script_of}
 use Rattle.lwkt_scenes.specs.Shown.{EndsInReport, first_turn}
-use Rattle.lwkt_show.specs.Arguments.{AreOptions}
 use Rattle.lwkt_show.specs.declared.options.Options.{Options}
 use Rattle.lwkt_show.specs.declared.options.View.{View}
 use Rattle.lwkt_show.specs.declared.options.View.TheVariants.{Lines, Trace, Picture, Chains}
@@ -56,9 +56,9 @@ status_shown (Ok Past) = 1
 status_shown (Err fault) = status_of (Err fault)
 
 -- what the program does where its arguments are these options: the run is shown as they say or refused, and the status is that of its
--- outcome
-abbrev pub IsShowing : Options → Option (List ℕ) → Option (List ℕ) → Option (List ℕ) → ℕ → Type 0
-IsShowing options left old new status = (outcome : Result Outcome RunFault) × (TellsShown options left old new outcome × (status ≡ status_shown outcome))
+-- outcome; a stream is blamed only where one has failed
+abbrev pub IsShowing : Options → Bool → Bool → Option (List ℕ) → Option (List ℕ) → Option (List ℕ) → ℕ → Type 0
+IsShowing options source_failed sink_failed left old new status = (outcome : Result Outcome RunFault) × (TellsShown options left old new outcome × (BlamesFailed source_failed sink_failed outcome × (status ≡ status_shown outcome)))
 
 -- these bytes are a script, and there is a run of it on threads, with the written sections that were told of it in order, that ends so;
 -- that the text shows these sections is not said
@@ -70,6 +70,6 @@ pub record IsShownOnThreads (bytes : List ℕ) (end : End) (text : List ℕ) : T
   pub is_end : end ≡ end_told kept.closing
 
 -- what the program does where its arguments ask for the chains of a run on threads: they are shown or the script is refused, and the
--- status is that of its outcome
-abbrev pub IsShowingThreads : Option (List ℕ) → Option (List ℕ) → Option (List ℕ) → ℕ → Type 0
-IsShowingThreads left old new status = (outcome : Result End RunFault) × (TellsBy IsShownOnThreads left old new outcome × (status ≡ status_of outcome))
+-- status is that of its outcome; a stream is blamed only where one has failed
+abbrev pub IsShowingThreads : Bool → Bool → Option (List ℕ) → Option (List ℕ) → Option (List ℕ) → ℕ → Type 0
+IsShowingThreads source_failed sink_failed left old new status = (outcome : Result End RunFault) × (TellsBy IsShownOnThreads left old new outcome × (BlamesFailed source_failed sink_failed outcome × (status ≡ status_of outcome)))

@@ -12,7 +12,6 @@ use lwkt_report::{RunFault, Sink, Source, read_capped, write_whole};
 use lwkt_run::{End, TurnsRun, end_told, turns_run};
 use lwkt_scenes::{Chosen, Reel, chains_of, lines_of, picture_of, trace_of};
 use std::alloc::Global;
-use std::sync::Wait;
 use std::thread::Threads;
 
 // What is said where the arguments are none of the program's.
@@ -178,7 +177,7 @@ fn show_turns<S: Source, K: Sink, E: Sink>(
     sink: &mut K,
     errors: &mut E,
 ) -> u8
-    ensures { IsShowing options.now (S.left source.old) (K.contents sink.old) (K.contents sink.new) result }
+    ensures { IsShowing options.now (S.has_failed source.new) (K.has_failed sink.new) (S.left source.old) (K.contents sink.old) (K.contents sink.new) result }
 {
     let outcome = show_stream(alloc, options, source, sink, errors);
     match outcome {
@@ -190,14 +189,14 @@ fn show_turns<S: Source, K: Sink, E: Sink>(
 }
 
 // Shows the written sections of a run on threads, and answers the exit status.
-fn show_sections<R: Threads + Wait + Sync, S: Source, K: Sink, E: Sink>(
+fn show_sections<R: Threads + Sync, S: Source, K: Sink, E: Sink>(
     rt: &R,
     alloc: Global,
     source: &mut S,
     sink: &mut K,
     errors: &mut E,
 ) -> u8
-    ensures { IsShowingThreads (S.left source.old) (K.contents sink.old) (K.contents sink.new) result }
+    ensures { IsShowingThreads (S.has_failed source.new) (K.has_failed sink.new) (S.left source.old) (K.contents sink.old) (K.contents sink.new) result }
 {
     let shown = match show_threads(rt, alloc, source, sink, errors) {
         Ok(end) => Ok(Outcome::Shown(end)),
@@ -216,7 +215,7 @@ fn show_sections<R: Threads + Wait + Sync, S: Source, K: Sink, E: Sink>(
 ///
 /// The arguments are looked at before anything is read; where they are wrong nothing is read or written but what goes to
 /// where errors go. Of a stream that failed nothing is said there: only who has the stream can say why.
-pub fn run_show<R: Threads + Wait + Sync, S: Source, K: Sink, E: Sink>(
+pub fn run_show<R: Threads + Sync, S: Source, K: Sink, E: Sink>(
     rt: &R,
     alloc: Global,
     words: &[String],
@@ -224,8 +223,8 @@ pub fn run_show<R: Threads + Wait + Sync, S: Source, K: Sink, E: Sink>(
     sink: &mut K,
     errors: &mut E,
 ) -> u8
-    ensures shows { (options : Options) → AreOptions (map string_bytes words.now) options → IsShowing options (S.left source.old) (K.contents sink.old) (K.contents sink.new) result }
-    ensures threads { AskThreads (map string_bytes words.now) → IsShowingThreads (S.left source.old) (K.contents sink.old) (K.contents sink.new) result }
+    ensures shows { (options : Options) → AreOptions (map string_bytes words.now) options → IsShowing options (S.has_failed source.new) (K.has_failed sink.new) (S.left source.old) (K.contents sink.old) (K.contents sink.new) result }
+    ensures threads { AskThreads (map string_bytes words.now) → IsShowingThreads (S.has_failed source.new) (K.has_failed sink.new) (S.left source.old) (K.contents sink.old) (K.contents sink.new) result }
     ensures usage { AreMisused (map string_bytes words.now) → (result ≡ 1) × (source.new ≡ source.old) × (sink.new ≡ sink.old) }
 {
     if let Some(options) = options_of(words) {

@@ -9,15 +9,10 @@ use lwkt_report::{RunFault, Sink, Source, read_capped, write_whole};
 use lwkt_run::{End, ThreadRecord, end_told, read_script, record_threads};
 use lwkt_scenes::chains_of_sections;
 use std::alloc::Global;
-use std::sync::Wait;
 use std::thread::Threads;
 
 // Runs the script that the bytes are on threads, to the text that shows its written sections.
-fn done_of_bytes<R: Threads + Wait + Sync>(
-    rt: &R,
-    alloc: Global,
-    bytes: &[u8],
-) -> Result<Done, Fault>
+fn done_of_bytes<R: Threads + Sync>(rt: &R, alloc: Global, bytes: &[u8]) -> Result<Done, Fault>
     ensures shown { IfOk result (λ done. IsShownOnThreads bytes.now done.end (string_bytes done.text)) }
     ensures refused { IfErr result (λ fault. Refuses bytes.now fault) }
 {
@@ -39,7 +34,7 @@ fn done_of_bytes<R: Threads + Wait + Sync>(
 /// Why a script or its opening is refused goes to where errors go, in one line.
 ///
 /// Refused as `show_stream` is.
-pub fn show_threads<R: Threads + Wait + Sync, S: Source, K: Sink, E: Sink>(
+pub fn show_threads<R: Threads + Sync, S: Source, K: Sink, E: Sink>(
     rt: &R,
     alloc: Global,
     source: &mut S,

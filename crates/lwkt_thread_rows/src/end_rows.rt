@@ -5,7 +5,6 @@ use lwkt_base::CpuId;
 use lwkt_report::Page;
 use lwkt_run::{End, Gate, RunFault, run_threads_gated};
 use std::alloc::Global;
-use std::sync::Wait;
 use std::test::Fail;
 use std::thread::Threads;
 
@@ -50,7 +49,7 @@ const ROUND_OF_CALLS_REPORT: &[u8] =
     b"message 0 round 1 rest\nmessage 1 round 1 rest\nmessage 2 round 1 rest\nthread 0.0 exited list - log r=0:0:11 q=2:3:30\nthread 1.0 exited list - log q=0:1:10 r=1:0:22\nthread 2.0 exited list - log q=1:2:20 r=2:0:33\nclosed\n";
 
 // A run through a gate: how it ends, and its report.
-fn run<R: Threads + Wait + Sync, G: Gate + Sync>(
+fn run<R: Threads + Sync, G: Gate + Sync>(
     rt: &R,
     alloc: Global,
     script: &[u8],
@@ -65,7 +64,7 @@ fn run<R: Threads + Wait + Sync, G: Gate + Sync>(
 }
 
 // Whether a run through a gate ends so, with this report.
-fn ends_as<R: Threads + Wait + Sync, G: Gate + Sync>(
+fn ends_as<R: Threads + Sync, G: Gate + Sync>(
     rt: &R,
     alloc: Global,
     script: &[u8],
@@ -80,7 +79,7 @@ fn ends_as<R: Threads + Wait + Sync, G: Gate + Sync>(
 }
 
 // Whether a run that can't go on ends with its turns used up, this report, and few turns.
-fn ends_soon<R: Threads + Wait + Sync>(rt: &R, alloc: Global, script: &[u8], want: &[u8]) -> bool {
+fn ends_soon<R: Threads + Sync>(rt: &R, alloc: Global, script: &[u8], want: &[u8]) -> bool {
     let gate = Counting::new();
     ends_as(rt, alloc, script, &gate, End::TurnsOut, want) && gate.asked() < FEW
 }

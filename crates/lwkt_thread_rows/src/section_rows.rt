@@ -6,7 +6,6 @@ use lwkt_report::Verdict;
 use lwkt_run::{ThreadRecord, record_threads};
 use lwkt_script::read_script;
 use std::alloc::Global;
-use std::sync::Wait;
 use std::test::Fail;
 use std::thread::Threads;
 
@@ -25,11 +24,7 @@ fn section(tok: u8, generation: u64, before: u64, after: u64) -> Section {
 }
 
 // What is kept of a script on threads.
-fn kept_of<R: Threads + Wait + Sync>(
-    rt: &R,
-    alloc: Global,
-    script: &[u8],
-) -> Result<ThreadRecord, Fault> {
+fn kept_of<R: Threads + Sync>(rt: &R, alloc: Global, script: &[u8]) -> Result<ThreadRecord, Fault> {
     let script = read_script(alloc, script)?;
     record_threads(rt, alloc, &script)
 }

@@ -5,7 +5,6 @@ use crate::thread_rows::run;
 use lwkt_base::CpuId;
 use lwkt_run::{End, Gate};
 use std::alloc::Global;
-use std::sync::Wait;
 use std::thread::Threads;
 
 // A script of two processors, and how each of the first lines of its report may begin.
@@ -86,12 +85,7 @@ fn has_lines(mut text: &[u8], lines: &[&[&[u8]]]) -> bool {
 }
 
 // Whether a run in which this processor stops after so many turns ends, with these lines.
-fn is_stopped<R: Threads + Wait + Sync>(
-    rt: &R,
-    alloc: Global,
-    row: &Stopping,
-    gate: Stops,
-) -> bool {
+fn is_stopped<R: Threads + Sync>(rt: &R, alloc: Global, row: &Stopping, gate: Stops) -> bool {
     match run(rt, alloc, row.0, &gate) {
         (Ok(End::Ended | End::TurnsOut), Some(page)) => {
             has_lines(page.text.as_slice(), row.1) && page.text.ends_with(b"\nclosed\n")
@@ -101,12 +95,7 @@ fn is_stopped<R: Threads + Wait + Sync>(
 }
 
 // The turns after which a run in which this processor stops ends otherwise.
-fn first_other<R: Threads + Wait + Sync>(
-    rt: &R,
-    alloc: Global,
-    row: &Stopping,
-    cpu: u8,
-) -> Option<u64> {
+fn first_other<R: Threads + Sync>(rt: &R, alloc: Global, row: &Stopping, cpu: u8) -> Option<u64> {
     for turns in 0..11 {
         if !is_stopped(rt, alloc, row, Stops(CpuId(cpu), turns)) {
             return Some(turns);

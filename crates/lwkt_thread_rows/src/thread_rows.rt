@@ -4,7 +4,6 @@ use crate::gates::{First, Meeting};
 use lwkt_report::Page;
 use lwkt_run::{End, Gate, OpenGate, RunFault, run_program, run_threads, run_threads_gated};
 use std::alloc::{AllocError, Global};
-use std::sync::Wait;
 use std::test::Fail;
 use std::thread::Threads;
 
@@ -24,7 +23,7 @@ const CROSSED_LISTS: &[u8] =
     b"{\"version\":1,\"turns\":50,\"idle\":1000,\"cpus\":2,\"tokens\":[{\"cells\":[0],\"law\":\"cap\",\"param\":8,\"gen\":0},{\"cells\":[0],\"law\":\"any\",\"param\":0,\"gen\":0}],\"messages\":[],\"threads\":[{\"cpu\":0,\"repeat\":1,\"steps\":[[\"get\",0],[\"get\",1],[\"read\",0,0],[\"write\",0,0,8],[\"yield\"],[\"read\",0,0],[\"rel\",1],[\"rel\",0]]},{\"cpu\":1,\"repeat\":1,\"steps\":[[\"get\",1],[\"get\",0],[\"write\",0,0,7],[\"rel\",0],[\"rel\",1]]}]}";
 
 /// A run through a gate: how it ends, and its report.
-pub fn run<R: Threads + Wait + Sync, G: Gate + Sync>(
+pub fn run<R: Threads + Sync, G: Gate + Sync>(
     rt: &R,
     alloc: Global,
     script: &[u8],
@@ -39,7 +38,7 @@ pub fn run<R: Threads + Wait + Sync, G: Gate + Sync>(
 }
 
 // Whether a run through a gate ends so, with this report.
-fn ends_as<R: Threads + Wait + Sync, G: Gate + Sync>(
+fn ends_as<R: Threads + Sync, G: Gate + Sync>(
     rt: &R,
     alloc: Global,
     script: &[u8],
@@ -113,7 +112,7 @@ fn words(alloc: Global, items: &[&str]) -> Result<Vec<String>, AllocError> {
 }
 
 // The status of the program with these arguments, its output, and how much of the script it left.
-fn program<R: Threads + Wait + Sync>(
+fn program<R: Threads + Sync>(
     rt: &R,
     alloc: Global,
     items: &[&str],

@@ -21,9 +21,19 @@ use Rattle.lwkt_machine.specs.Bodies.{Scripted, IsPolled}
 use Rattle.lwkt_machine.specs.Machines.{IsOf, AreParts}
 use Rattle.lwkt_threads.specs.Driven.{IsFresh, IsAmple, WasDriven, AreDriven}
 
+behind : {A : Type 0} (xs ys : List A) (y : A) → slice_get (xs ++ y ∷ ys) (length xs) ≡ Some y
+behind [] ys y = refl
+behind (x ∷ xs) ys y = behind xs ys y
+
+-- the element behind a front of a list
+pub next_at : {A : Type 0} (xs ys : List A) (y : A) (all : List A) → xs ++ y ∷ ys ≡ all → slice_get all (length xs) ≡ Some y
+next_at {A} xs ys y all is =
+    let F : List A → Type 0 = λ zs. slice_get zs (length xs) ≡ Some y in
+    subst F is (behind xs ys y)
+
 -- one more
-pub fresh_more : (xs : List (Processor Scripted)) (ys : List (Driven Scripted)) (p : Processor Scripted) (d : Driven Scripted) → AllZip IsFresh xs ys → d.cpu ≡ p → d.trace.items ≡ [] → AllZip IsFresh (xs ++ p ∷ []) (ys ++ d ∷ [])
-fresh_more xs ys p d zip cpu none = AllZip-append IsFresh xs ys (p ∷ []) (d ∷ []) zip (record { cpu = cpu; trace = none }, tt)
+pub fresh_more : (xs : List (Processor Scripted)) (ys : List (Driven Scripted)) (p : Processor Scripted) (d : Driven Scripted) → AllZip IsFresh xs ys → d.cpu ≡ p → d.trace.items ≡ [] → d.id.0 ≡ p.seat.cpu.0 → AllZip IsFresh (xs ++ p ∷ []) (ys ++ d ∷ [])
+fresh_more xs ys p d zip cpu none id = AllZip-append IsFresh xs ys (p ∷ []) (d ∷ []) zip (record { cpu = cpu; trace = none; id = id }, tt)
 
 -- two lists that fit are as long, and fit at each place
 zip_long : {A B : Type 0} (R : A → B → Type 0) (xs : List A) (ys : List B) → AllZip R xs ys → length ys ≡ length xs

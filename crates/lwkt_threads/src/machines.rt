@@ -1,9 +1,9 @@
 //! A machine whose processors are driven on threads.
-ghost use Rattle.std.specs.Prelude.{◌≡◌, false, All, IfOk, OnErr, Err, map};
+ghost use Rattle.std.specs.Prelude.{◌≡◌, ◌≤◌, false, length, All, IfOk, OnErr, Err, map};
 ghost use Rattle.std.specs.List.{AllZip};
 ghost use Rattle.lwkt_bank.specs.Seats.{id_of};
 ghost use Rattle.lwkt_machine.specs.Machines.{IsOf};
-ghost use Rattle.lwkt_threads.specs.Driven.{IsFresh, IsAmple, AreDriven, IsDrivenMachine};
+ghost use Rattle.lwkt_threads.specs.Driven.{IsFresh, AreNumbered, IsAmple, AreDriven, IsDrivenMachine};
 
 use lwkt_bank::Bank;
 use lwkt_base::{CpuId, Fault};
@@ -24,6 +24,8 @@ pub struct Outcome {
 
 // The processors of a machine, each with its number and without events.
 fn undriven(alloc: Global, cpus: Vec<Cpu<ScriptBody>>) -> Result<Vec<Driven<ScriptBody>>, Fault>
+    requires few { length cpus.items ≤ 8 }
+    requires numbered { AreNumbered cpus.items }
     ensures ok { IfOk result (λ all. AllZip IsFresh cpus.items all.items) }
     ensures only { OnErr result (result ≡ Err Fault.Memory) }
 {
@@ -84,7 +86,9 @@ fn drive_parts<R: Threads + Sync, G: Gate + Sync>(
     book: &MsgBook,
     cpus: Vec<Cpu<ScriptBody>>,
 ) -> Result<Apart, Fault>
-    requires { All (IsOf (id_of bank.now) book.now) cpus.items }
+    requires of { All (IsOf (id_of bank.now) book.now) cpus.items }
+    requires few { length cpus.items ≤ 8 }
+    requires numbered { AreNumbered cpus.items }
     ensures ok { IfOk result (λ parts. AreDriven (G.answers gate.now) limits.now (id_of bank.now) cpus.items parts.cpus.items parts.traces.items) }
     ensures at { IfOk result (λ parts. All (IsOf (id_of bank.now) book.now) parts.cpus.items) }
     ensures only { OnErr result (result ≡ Err Fault.Memory) }

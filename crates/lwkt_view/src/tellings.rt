@@ -8,12 +8,11 @@ use lwkt_report::{NotedReader, NotedWriter, ReaderSource, Sink, WriterSink};
 use lwkt_show::run_show;
 use std::alloc::Global;
 use std::io::{Read, Write};
-use std::sync::Wait;
 use std::thread::Threads;
 
 /// The whole program, as `run_show`, which also says where errors go how a stream failed. What it reads, what it writes and
 /// its status are those of `run_show`.
-pub fn show_told<R: Threads + Wait + Sync, I: Read, O: Write, E: Sink>(
+pub fn show_told<R: Threads + Sync, I: Read, O: Write, E: Sink>(
     rt: &R,
     alloc: Global,
     words: &[String],
@@ -21,8 +20,8 @@ pub fn show_told<R: Threads + Wait + Sync, I: Read, O: Write, E: Sink>(
     sink: &mut WriterSink<NotedWriter<O>>,
     errors: &mut E,
 ) -> u8
-    ensures shows { (options : Options) → AreOptions (map string_bytes words.now) options → IsShowing options (I.remaining source.old.reader.reader) (O.contents sink.old.writer.writer) (O.contents sink.new.writer.writer) result }
-    ensures threads { AskThreads (map string_bytes words.now) → IsShowingThreads (I.remaining source.old.reader.reader) (O.contents sink.old.writer.writer) (O.contents sink.new.writer.writer) result }
+    ensures shows { (options : Options) → AreOptions (map string_bytes words.now) options → IsShowing options source.new.failed sink.new.failed (I.remaining source.old.reader.reader) (O.contents sink.old.writer.writer) (O.contents sink.new.writer.writer) result }
+    ensures threads { AskThreads (map string_bytes words.now) → IsShowingThreads source.new.failed sink.new.failed (I.remaining source.old.reader.reader) (O.contents sink.old.writer.writer) (O.contents sink.new.writer.writer) result }
     ensures usage { AreMisused (map string_bytes words.now) → (result ≡ 1) × (source.new ≡ source.old) × (sink.new ≡ sink.old) }
 {
     let status = run_show(rt, alloc, words, source, sink, errors);

@@ -1,5 +1,6 @@
-use Rattle.std.proofs.Common.{◌≡◌, length}
+use Rattle.std.proofs.Common.{length}
+use Rattle.lwkt_machine.specs.Lanes.{AreLanes}
 use Rattle.lwkt_machine.proofs.lanes.lanes_from_all.Given as goal
 
 abbrev pub invariant-loop-from : goal.invariant-loop-from
-invariant-loop-from l = (length l.outs.items ≡ l.from) × (length l.ins ≡ length l.initial.ins)
+invariant-loop-from l = AreLanes l.from (length l.initial.ins) l.outs.items l.ins

@@ -1,5 +1,6 @@
 use Rattle.std.proofs.Common.{◌∙◌, List, arith, sym, subst}
 use Rattle.lwkt_bank.specs.Seats.{id_of, cpus_of}
+use Rattle.lwkt_machine.proofs.LaneMoves.{wired}
 use Rattle.lwkt_machine.proofs.OpenMoves.{rest_first, opened_parts}
 use Rattle.lwkt_script.specs.declared.scripts.ThreadSpec.{ThreadSpec}
 use Rattle.lwkt_machine.specs.Opened.{AreOpenedCpus}
@@ -10,7 +11,7 @@ seat_all-requires-clause-rest c =
     let t = c.args.tables in
     let s = c.args.script.now in
     let f = c.in_ok-outs in
-    rest_first s.cpus s.tokens s.messages t.bank t.book (record { seats = t.seats; mails = t.mails; outs = f.field-0.outs; ins = f.field-0.ins }) c.requires.bank c.requires.book (f.ensures.outs ∙ c.from.ensures) (f.ensures.ins ∙ c.from.ensures)
+    rest_first s.cpus s.tokens s.messages t.bank t.book (record { seats = t.seats; mails = t.mails; outs = f.field-0.outs; ins = f.field-0.ins }) c.requires.bank c.requires.book (f.ensures.ok.outs_are ∙ c.from.ensures) (f.ensures.ok.ins_are ∙ c.from.ensures)
 
 pub invariant_of-result : goal.invariant_of-result
 invariant_of-result c =
@@ -23,11 +24,14 @@ invariant_of-result c =
 pub returns-clause-ok : goal.returns-clause-ok
 returns-clause-ok c =
     let t = c.args.tables in
+    let f = c.in_ok-outs in
     let F : List ThreadSpec → Type 0 = λ xs. AreOpenedCpus (id_of t.bank) t.book xs c.in_ok-cpus.cpus.items in
     record {
       plans = c.requires.bank.plans;
+      unguarded = c.requires.unguarded;
       specs = c.requires.book.specs_is;
       as_many = c.in_ok-cpus.ensures.as_many ∙ c.requires.bank.as_many;
       desks_are = c.requires.book.cpus_is;
       each = subst F c.as_slice-2.ensures c.in_ok-cpus.ensures.each;
+      wired = wired c.from.result f.field-0.outs.items f.field-0.ins.items c.in_ok-cpus.cpus.items f.ensures.ok c.in_ok-cpus.ensures.lines (c.in_ok-cpus.ensures.as_many ∙ c.requires.bank.as_many ∙ sym c.from.ensures);
     }

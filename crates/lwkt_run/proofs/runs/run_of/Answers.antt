@@ -7,16 +7,17 @@ use Rattle.lwkt_run.proofs.runs.run_of.Goals as goal
 
 pub left_by-requires-clause-bank : goal.left_by-requires-clause-bank
 left_by-requires-clause-bank c =
+    let s = c.args.script.now in
     let m = c.in_ok-machine.machine in
     let r = c.in_ok-make_rounds.ensures.ok in
-    ap (λ (bank : BankId). bank.plans) (rounds_bank r.count (scene m c.new-trace.result) (scene c.make_rounds.new.machine c.make_rounds.new.trace) r.rounds) ∙ c.in_ok-machine.ensures.ok.plans
+    ap (λ (bank : BankId). bank.plans) (rounds_bank s.turns (scene m c.new-trace.result) (scene c.make_rounds.new.machine c.make_rounds.new.trace) r) ∙ c.in_ok-machine.ensures.ok.plans
 
 pub left_by-requires-clause-threads : goal.left_by-requires-clause-threads
 left_by-requires-clause-threads c =
     let s = c.args.script.now in
     let m = c.in_ok-machine.machine in
     let r = c.in_ok-make_rounds.ensures.ok in
-    has_rounds s.cpus s.threads r.count (scene m c.new-trace.result) (scene c.make_rounds.new.machine c.make_rounds.new.trace) r.rounds (opened_has s m c.in_ok-machine.ensures.ok)
+    has_rounds s.cpus s.threads s.turns (scene m c.new-trace.result) (scene c.make_rounds.new.machine c.make_rounds.new.trace) r (opened_has s m c.in_ok-machine.ensures.ok)
 
 pub returns-clause-runs : goal.returns-clause-runs
 returns-clause-runs c = record {

@@ -12,7 +12,7 @@ use Rattle.lwkt_threads.proofs.machines.drive_parts.Goals as goal
 pub drive_on_threads-requires-clause-at : goal.drive_on_threads-requires-clause-at
 drive_on_threads-requires-clause-at g c κs within =
     let F : List (Driven Scripted) → Type 0 = λ xs. AllZip IsFresh c.args.cpus.items xs in
-    fresh_at (id_of c.args.bank.now) c.args.book.now c.args.cpus.items c.deref_mut.result.now (subst F (sym c.deref_mut.ensures.value) c.in_ok-all.ensures.ok) c.requires
+    fresh_at (id_of c.args.bank.now) c.args.book.now c.args.cpus.items c.deref_mut.result.now (subst F (sym c.deref_mut.ensures.value) c.in_ok-all.ensures.ok) c.requires.of
 
 pub returns-clause-ok : goal.returns-clause-ok
 returns-clause-ok g c =

@@ -132,3 +132,24 @@ returns-else-not-poll_one-clause-runs_one g c =
       running = runs ∙ ap (λ (b : Bool). if b then Some place else None) (sym c.if-not-poll_one.false);
       cursor = refl;
     })
+
+pub returns-then-not-poll_one-clause-rest : goal.returns-then-not-poll_one-clause-rest
+returns-then-not-poll_one-clause-rest g c =
+    let i = c.self.inside in
+    let e = c.poll_one.ensures in
+    let p = c.poll_one.new in
+    let within = placed i.hold.seat i.threads.items i.running c.args.place (ap (λ (x : Processor g.row.B.Denot). x.running) c.self.view_is ∙ c.requires.runs) c.self.invariant.held in
+    rest_polled {B = g.row.B.Denot} i.hold.seat p.hold.seat i.ports p.ports i.bodies.items i.threads.items i.running None i.cursor c.args.place p.body p.thread c.self.invariant within e.ran.bank e.ran.cpu e.same e.awaits e.settled (e.free c.if-not-poll_one.true)
+
+pub returns-else-not-poll_one-clause-rest : goal.returns-else-not-poll_one-clause-rest
+returns-else-not-poll_one-clause-rest g c =
+    let i = c.self.inside in
+    let e = c.poll_one.ensures in
+    let p = c.poll_one.new in
+    let place = c.args.place in
+    let runs : i.running ≡ Some place = ap (λ (x : Processor g.row.B.Denot). x.running) c.self.view_is ∙ c.requires.runs in
+    let within = placed i.hold.seat i.threads.items i.running place runs c.self.invariant.held in
+    let up = e.up c.if-not-poll_one.false in
+    let F : Option _ → Type 0 = λ o. HoldsFor p.hold.seat (set i.threads.items place p.thread) o in
+    rest_polled {B = g.row.B.Denot} i.hold.seat p.hold.seat i.ports p.ports i.bodies.items i.threads.items i.running i.running i.cursor place p.body p.thread c.self.invariant within e.ran.bank e.ran.cpu e.same e.awaits e.settled
+    (subst F (sym runs) (up_at p.hold.seat (set i.threads.items place p.thread) place p.thread (get_set_same i.threads.items place p.thread within) up.0 up.1))

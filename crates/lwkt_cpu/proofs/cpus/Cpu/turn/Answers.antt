@@ -24,6 +24,7 @@ returns-in-Some-clause-ok g c =
       turns = (mid, (c.choose.new.trace, (subst F c.in-Some.is c.choose.ensures.chooses, c.run_on.ensures.runs_one)));
       ran = turn_ran {B = g.row.B.Denot} old met mid new c.args.trace.now r c.take_mail.new.trace c.choose.new.trace c.run_on.new.trace met.running c.choose.result e.items e.len e.capacity c.take_mail.ensures.woken c.choose.ensures.chooses c.take_mail.ensures.ran c.choose.ensures.ran c.run_on.ensures.ran;
       told = mail_then old.post.seat mid.post.seat new.post.seat c.args.trace.now.items c.choose.new.trace.items c.run_on.new.trace.items (chosen_told old.post.seat met.post.seat mid.post.seat c.args.trace.now.items r.items c.take_mail.new.trace.items c.choose.new.trace.items e.items c.take_mail.ensures.told c.choose.ensures.quiet (chosen_post {B = g.row.B.Denot} met mid c.take_mail.new.trace c.choose.new.trace met.running c.choose.result c.choose.ensures.chooses)) c.run_on.ensures.told;
+      rest = c.run_on.ensures.rest;
     }
 
 pub returns-in-None-clause-ok : goal.returns-in-None-clause-ok
@@ -40,9 +41,10 @@ returns-in-None-clause-ok g c =
       mid = met;
       v = c.take_mail.new.trace;
       mail = c.take_mail.ensures.mail;
-      turns = (subst F c.in-None.is c.choose.ensures.chooses, c.all_over.ensures.0 c.if-all_over.true);
+      turns = (subst F c.in-None.is c.choose.ensures.chooses, c.all_over.ensures.over.0 c.if-all_over.true);
       ran = search_ran {B = g.row.B.Denot} old met new c.args.trace.now r c.take_mail.new.trace c.choose.new.trace e.items e.len e.capacity c.take_mail.ensures.woken c.take_mail.ensures.ran c.choose.ensures.ran;
       told = chosen_told old.post.seat met.post.seat new.post.seat c.args.trace.now.items r.items c.take_mail.new.trace.items c.choose.new.trace.items e.items c.take_mail.ensures.told c.choose.ensures.quiet (chosen_post {B = g.row.B.Denot} met new c.take_mail.new.trace c.choose.new.trace met.running c.choose.result c.choose.ensures.chooses);
+      rest = c.all_over.ensures.rest;
     }
 
 pub returns-in-None-2-clause-ok : goal.returns-in-None-2-clause-ok
@@ -59,9 +61,10 @@ returns-in-None-2-clause-ok g c =
       mid = met;
       v = c.take_mail.new.trace;
       mail = c.take_mail.ensures.mail;
-      turns = (subst F c.in-None.is c.choose.ensures.chooses, λ over. false≢true (sym c.if-all_over.false ∙ c.all_over.ensures.1 over));
+      turns = (subst F c.in-None.is c.choose.ensures.chooses, λ over. false≢true (sym c.if-all_over.false ∙ c.all_over.ensures.over.1 over));
       ran = search_ran {B = g.row.B.Denot} old met new c.args.trace.now r c.take_mail.new.trace c.choose.new.trace e.items e.len e.capacity c.take_mail.ensures.woken c.take_mail.ensures.ran c.choose.ensures.ran;
       told = chosen_told old.post.seat met.post.seat new.post.seat c.args.trace.now.items r.items c.take_mail.new.trace.items c.choose.new.trace.items e.items c.take_mail.ensures.told c.choose.ensures.quiet (chosen_post {B = g.row.B.Denot} met new c.take_mail.new.trace c.choose.new.trace met.running c.choose.result c.choose.ensures.chooses);
+      rest = c.all_over.ensures.rest;
     }
 
 pub returns-then-is_err-clause-told : goal.returns-then-is_err-clause-told

@@ -1,5 +1,9 @@
-use Rattle.std.proofs.Common.{◌<◌, length, arith}
+use Rattle.std.proofs.Common.{◌≡◌, ◌<◌, length, refl, ◌∙◌, arith}
+use Rattle.std.proofs.lemmas.Option.{slice_get_read}
+use Rattle.std.proofs.lemmas.Result.{IfOk-weaker}
 use Rattle.lwkt_bank.specs.Seats.{id_of}
+use Rattle.lwkt_machine.specs.Lanes.{HasLines}
+use Rattle.lwkt_machine.proofs.LaneMoves.{left_first}
 use Rattle.lwkt_machine.proofs.SeatMoves.{first_seat, first_desk, rest_more}
 use Rattle.lwkt_machine.proofs.seatings.Rest.next.Goals as goal
 
@@ -19,3 +23,26 @@ seat_one-requires-clause-seat c = first_seat (id_of c.args.bank.now) c.args.numb
 
 pub returns-clause-rest : goal.returns-clause-rest
 returns-clause-rest c = rest_more (id_of c.args.bank.now) c.args.book.now c.args.number c.args.self.now (record { seats = c.remove-seat.new.self; mails = c.remove-mail.new.self; outs = c.remove-outs.new.self; ins = c.remove-ins.new.self }) c.requires.some c.remove-seat.ensures.items c.remove-mail.ensures.items c.remove-outs.ensures.items c.remove-ins.ensures.items c.requires.rest
+
+pub returns-in_err-bodies-clause-left : goal.returns-in_err-bodies-clause-left
+returns-in_err-bodies-clause-left c = left_first c.args.self.now (record { seats = c.remove-seat.new.self; mails = c.remove-mail.new.self; outs = c.remove-outs.new.self; ins = c.remove-ins.new.self }) c.remove-outs.ensures.items c.remove-ins.ensures.items
+
+pub returns-in_err-ports-clause-left : goal.returns-in_err-ports-clause-left
+returns-in_err-ports-clause-left c = left_first c.args.self.now (record { seats = c.remove-seat.new.self; mails = c.remove-mail.new.self; outs = c.remove-outs.new.self; ins = c.remove-ins.new.self }) c.remove-outs.ensures.items c.remove-ins.ensures.items
+
+pub returns-clause-left : goal.returns-clause-left
+returns-clause-left c = left_first c.args.self.now (record { seats = c.remove-seat.new.self; mails = c.remove-mail.new.self; outs = c.remove-outs.new.self; ins = c.remove-ins.new.self }) c.remove-outs.ensures.items c.remove-ins.ensures.items
+
+pub returns-clause-lines : goal.returns-clause-lines
+returns-clause-lines c =
+    let outs = c.args.self.now.outs.items in
+    let ins = c.args.self.now.ins.items in
+    let some_out : 0 < length outs = omega (arith, c.requires.some, c.requires.rest.outs_are) in
+    let some_in : 0 < length ins = omega (arith, c.requires.some, c.requires.rest.ins_are) in
+    IfOk-weaker c.seat_one.result (λ cpu. cpu.post.lanes ≡ c.in_ok-ports.ports.lanes) (λ cpu. HasLines outs ins 0 cpu) (λ cpu same. record {
+      out = c.remove-outs.result;
+      into = c.remove-ins.result;
+      out_at = slice_get_read outs (length outs) 0 c.remove-outs.result refl some_out c.remove-outs.ensures.value;
+      in_at = slice_get_read ins (length ins) 0 c.remove-ins.result refl some_in c.remove-ins.ensures.value;
+      lines = same ∙ c.in_ok-ports.ensures.lines;
+    }) c.seat_one.ensures.lines

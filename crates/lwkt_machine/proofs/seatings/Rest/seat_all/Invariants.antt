@@ -1,5 +1,6 @@
 use Rattle.std.proofs.Common.{◌≡◌, ◌+◌, length}
 use Rattle.lwkt_bank.specs.Seats.{id_of}
+use Rattle.lwkt_machine.specs.Lanes.{HaveLines, AreLeft}
 use Rattle.lwkt_machine.specs.Opened.{AreOpenedCpus}
 use Rattle.lwkt_machine.specs.Seating.{IsRest}
 use Rattle.lwkt_machine.proofs.seatings.Rest.seat_all.Given as goal
@@ -10,4 +11,6 @@ invariant-loop-number l = record {
   left : length l.self.seats.items + l.number ≡ length l.initial.self.seats.items;
   made : length l.cpus.items ≡ l.number;
   each : AreOpenedCpus (id_of l.bank) l.book l.threads l.cpus.items;
+  gone : AreLeft l.number l.initial.self l.self;
+  lines : HaveLines l.initial.self.outs.items l.initial.self.ins.items l.cpus.items;
 }

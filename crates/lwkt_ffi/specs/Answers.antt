@@ -1,0 +1,126 @@
+-- What the calls of the library answer to C (own).
+use Rattle.std.specs.Prelude.{◌≡◌, ◌⊎◌, ℕ, ◌++◌, ◌==◌, Bool, true, false, List, length, take, drop, Option, None, Some, Result, Ok, Err}
+use Rattle.std.specs.List.{slice_split}
+use Rattle.std.specs.Result.{result_err}
+use Rattle.std.specs.Str.{IsUtf8}
+use Rattle.lwkt_base.specs.declared.faults.Fault.{Fault}
+use Rattle.lwkt_base.specs.declared.faults.Fault.TheVariants.{Script, Memory}
+use Rattle.lwkt_base.specs.Fault.{number_of}
+use Rattle.lwkt_report.specs.declared.sources.TheConstants.{READ_LIMIT}
+use Rattle.lwkt_run.specs.declared.runs.End.{End}
+use Rattle.lwkt_run.specs.declared.runs.End.TheVariants.{Ended, TurnsOut, Unlawful}
+use Rattle.lwkt_run.specs.Run.{HasRun, Refuses}
+use Rattle.lwkt_checker.specs.Judgement.{HasFinding, Refuses as IsNoTrace}
+use Rattle.lwkt_show.specs.Arguments.{AreOptions}
+use Rattle.lwkt_show.specs.Showing.{IsShown, IsPastIn}
+use Rattle.lwkt_show.specs.declared.options.Options.{Options}
+use Rattle.lwkt_ffi.specs.declared.answers.LwktAnswer.{LwktAnswer}
+use Rattle.lwkt_ffi.specs.declared.shows.Showing.{Showing}
+use Rattle.lwkt_ffi.specs.declared.shows.Showing.TheVariants.{Shown, Past, Misused}
+
+-- a buffer after a text was put into it: the text, or as much of its front as there is room for, and what stood behind that
+abbrev pub filled : List ℕ → List ℕ → List ℕ
+filled buffer whole = take (length buffer) whole ++ drop (length whole) buffer
+
+-- the place that a fault tells
+abbrev pub place_of : Fault → ℕ
+place_of (Script place) = place
+place_of _ = 0
+
+-- the answer of a call with a text of this length that was refused for this fault, if it was
+abbrev pub answer_of : ℕ → Option Fault → LwktAnswer
+answer_of whole None = record { length = whole; fault = 0; place = 0 }
+answer_of whole (Some fault) = record { length = whole; fault = number_of fault; place = place_of fault }
+
+-- the status of a run that ended so
+abbrev pub status_of_end : End → ℕ
+status_of_end Ended = 0
+status_of_end TurnsOut = 2
+status_of_end Unlawful = 4
+
+-- the status of a call that was refused
+abbrev pub status_of_fault : Fault → ℕ
+status_of_fault Memory = 3
+status_of_fault _ = 1
+
+-- what stands in the caller's buffer and answer after a call with this text that was refused for this fault, if it was
+pub record Fills (old new : List ℕ) (answer : LwktAnswer) (whole : List ℕ) (fault : Option Fault) : Type 0 where
+  pub is_text : new ≡ filled old whole
+  pub is_answer : answer ≡ answer_of (length whole) fault
+
+-- the front of what was given that is read
+abbrev pub read_of : List ℕ → List ℕ
+read_of given = take READ_LIMIT given
+
+-- what came of a script: a run of it may end so, with this report; or it is refused for this fault
+abbrev pub TellsRun : List ℕ → Result End Fault → List ℕ → Type 0
+TellsRun script (Ok end) whole = HasRun (read_of script) end whole
+TellsRun script (Err fault) whole = Refuses (read_of script) fault
+
+abbrev pub status_of_run : Result End Fault → ℕ
+status_of_run (Ok end) = status_of_end end
+status_of_run (Err fault) = status_of_fault fault
+
+-- what `lwkt_run_turns` answers: what came of the script, in its status, its answer and the buffer; a script that is refused has some
+-- text too
+pub record AnswersRun (script old new : List ℕ) (answer : LwktAnswer) (status : ℕ) : Type 0 where
+  pub outcome : Result End Fault
+  pub whole : List ℕ
+  pub tells : TellsRun script outcome whole
+  pub fills : Fills old new answer whole (result_err outcome)
+  pub is_status : status ≡ status_of_run outcome
+
+-- the front of what was given that is read as a trace
+abbrev pub trace_in : List ℕ → List ℕ
+trace_in given = take 268435457 given
+
+-- what came of a trace: whether it is lawful, with the text of what was found; or it is refused for this fault
+abbrev pub TellsCheck : List ℕ → Result Bool Fault → List ℕ → Type 0
+TellsCheck trace (Ok lawful) whole = HasFinding (trace_in trace) lawful whole
+TellsCheck trace (Err fault) whole = IsNoTrace (trace_in trace) fault
+
+abbrev pub status_of_check : Result Bool Fault → ℕ
+status_of_check (Ok true) = 0
+status_of_check (Ok false) = 4
+status_of_check (Err fault) = status_of_fault fault
+
+-- what `lwkt_check_trace` answers: what came of the trace, in its status, its answer and the buffer; a trace that is refused has some
+-- text too
+pub record AnswersCheck (trace old new : List ℕ) (answer : LwktAnswer) (status : ℕ) : Type 0 where
+  pub outcome : Result Bool Fault
+  pub whole : List ℕ
+  pub tells : TellsCheck trace outcome whole
+  pub fills : Fills old new answer whole (result_err outcome)
+  pub is_status : status ≡ status_of_check outcome
+
+-- the words of arguments: the parts that blanks stand between
+abbrev pub words_in : List ℕ → List (List ℕ)
+words_in arguments = slice_split (λ b. b == 32) arguments
+
+-- the arguments ask for no run in rounds
+abbrev pub AreMisused : List ℕ → Type 0
+AreMisused arguments = IsUtf8 arguments → (options : Options) → ¬ AreOptions (words_in arguments) options
+
+-- what came of a script that was to be shown with these options: a run of it ended so, and the text shows it; or it ended before the
+-- first turn that was chosen; or it is refused for this fault
+abbrev pub Displays : Options → List ℕ → Result Showing Fault → List ℕ → Type 0
+Displays options script (Ok (Shown end)) whole = IsShown options.view (read_of script) end whole
+Displays options script (Ok Past) whole = IsPastIn options (read_of script)
+Displays options script (Ok Misused) whole = ⊥
+Displays options script (Err fault) whole = Refuses (read_of script) fault
+
+abbrev pub status_of_show : Result Showing Fault → ℕ
+status_of_show (Ok (Shown end)) = status_of_end end
+status_of_show (Ok Past) = 1
+status_of_show (Ok Misused) = 1
+status_of_show (Err fault) = status_of_fault fault
+
+-- what `lwkt_show_turns` answers: where the arguments are options, what came of the script with these; where they are none, that they
+-- aren't, or want of memory; both in its status, its answer and the buffer
+pub record AnswersShow (script arguments old new : List ℕ) (answer : LwktAnswer) (status : ℕ) : Type 0 where
+  pub outcome : Result Showing Fault
+  pub whole : List ℕ
+  pub shows : IsUtf8 arguments → (options : Options) → AreOptions (words_in arguments) options → Displays options script outcome whole
+  pub misused : AreMisused arguments → (outcome ≡ Ok Misused) ⊎ (outcome ≡ Err Memory)
+  pub fills : Fills old new answer whole (result_err outcome)
+  pub is_status : status ≡ status_of_show outcome

@@ -1,0 +1,24 @@
+//! Texts and the buffers that they are put into.
+ghost use Rattle.std.specs.Prelude.{◌≡◌, [], vec_len, length};
+ghost use Rattle.lwkt_ffi.specs.Answers.{filled};
+
+use lwkt_report::Page;
+use std::alloc::Global;
+
+/// A page with nothing on it.
+pub fn blank(alloc: Global) -> Page
+    ensures { result.text.items ≡ [] }
+{
+    Page {
+        text: Vec::new(alloc),
+        failed: false,
+    }
+}
+
+/// Puts a text into a buffer, as far as this has room.
+pub fn fill(buffer: &mut [u8], whole: &[u8])
+    ensures { buffer.new ≡ filled buffer.old whole.now }
+{
+    let count = whole.len().min(buffer.len());
+    buffer[..count].copy_from_slice(&whole[..count]);
+}

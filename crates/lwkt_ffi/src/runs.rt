@@ -1,0 +1,79 @@
+ghost use Rattle.std.specs.Prelude.{◌≡◌, []};
+ghost use Rattle.lwkt_ffi.specs.Answers.{TellsRun, AnswersRun, status_of_run};
+
+use crate::answers::{LwktAnswer, status_of_end, status_of_fault};
+use crate::fronts::{blank, fill};
+use lwkt_base::Fault;
+use lwkt_refusals::Speaker;
+use lwkt_report::{Complaint, Page, Program, READ_LIMIT, RunFault, complain};
+use lwkt_run::{End, run_turns};
+use std::alloc::Global;
+
+// Runs a script, with its report on an empty page, which takes it where memory is there.
+fn report_onto(alloc: Global, script: &[u8], page: &mut Page) -> Result<End, Fault>
+    requires { page.old.text.items ≡ [] }
+    ensures { TellsRun script.now result page.new.text.items }
+{
+    let mut source = script;
+    match run_turns(alloc, &mut source, page) {
+        Ok(end) => Ok(end),
+        Err(RunFault::Fault(fault)) => Err(fault),
+        Err(RunFault::Stream) => Err(Fault::Memory),
+    }
+}
+
+// Says why there is no report: the line that the program writes, and behind it the words.
+fn say_why(alloc: Global, script: &[u8], fault: Fault, page: &mut Page) {
+    page.text.clear();
+    complain(page, Program::Run, Complaint::Fault(fault));
+    if fault == Fault::Memory {
+        return Speaker::Run.say_memory(page);
+    }
+    let read = &script[..script.len().min(READ_LIMIT)];
+    Speaker::Run.say_refusal(alloc, page, Some(read), fault);
+}
+
+// Runs a script, with its report on an empty page, or why there is none.
+fn run_onto(alloc: Global, script: &[u8], page: &mut Page) -> Result<End, Fault>
+    requires { page.old.text.items ≡ [] }
+    ensures { TellsRun script.now result page.new.text.items }
+{
+    match report_onto(alloc, script, page) {
+        Ok(end) => Ok(end),
+        Err(fault) => {
+            say_why(alloc, script, fault, page);
+            Err(fault)
+        }
+    }
+}
+
+// The status of a run.
+fn status_of(outcome: &Result<End, Fault>) -> u32
+    ensures { result ≡ status_of_run outcome.now }
+{
+    match *outcome {
+        Ok(end) => status_of_end(end),
+        Err(fault) => status_of_fault(fault),
+    }
+}
+
+/// Runs a script in rounds, on this thread, as `run_turns` of lwkt_run does, and puts its report into the buffer, or in words why
+/// there is none.
+///
+/// The status: 0 where every thread had ended, 2 where the turns were used up, 4 where the run was unlawful; 1 with the fault 33,
+/// 39 or 40 for a script or an opening that was refused; 3 with the fault 32 for want of memory.
+#[unsafe(no_mangle)]
+pub extern "C" fn lwkt_run_turns(
+    alloc: Global,
+    script: &[u8],
+    buffer: &mut [u8],
+    answer: &mut LwktAnswer,
+) -> u32
+    ensures { AnswersRun script.now buffer.old buffer.new answer.new result }
+{
+    let mut page = blank(alloc);
+    let outcome = run_onto(alloc, script, &mut page);
+    fill(buffer, &page.text);
+    *answer = LwktAnswer::new(page.text.len(), outcome.err());
+    status_of(&outcome)
+}

@@ -1,0 +1,3 @@
+pub mod Readings
+pub mod Claims
+pub mod Judging

@@ -1,0 +1,10 @@
+//! Judges what a text says of the outcomes of its script: always, sometimes or never.
+#![tactic(auto)]
+
+mod claims;
+mod judging;
+mod readings;
+
+pub use claims::holds;
+pub use judging::is_met;
+pub use readings::{reading, sum_of};

@@ -1,0 +1,19 @@
+use Rattle.std.proofs.Common.{◌≡◌, ◌∷◌, [], ◌++◌, arith}
+use Rattle.std.proofs.lemmas.Grind.{common_steps}
+use Rattle.lwkt_machine.proofs.lanes.lane_to.Goals as goal
+
+pub returns-clause-ok : goal.returns-clause-ok
+returns-clause-ok c =
+    let made = c.in_ok-out in
+    let grown : c.push.new.self.items ≡ c.args.ends.now.items ++ made.into ∷ [] = grind (arith, common_steps) in
+    record {
+      into = made.into;
+      grown = grown;
+      lane = record {
+        one = made.ensures.ends;
+        notes = made.ensures.capacity;
+        unsent = made.ensures.sent.0;
+        none_in_hand = made.ensures.sent.1;
+        unreceived = made.ensures.received;
+      };
+    }

@@ -1,0 +1,199 @@
+-- What a text says of outcomes (own).
+use Rattle.std.specs.Prelude.{ℕ, ◌+◌, ◌==◌, List, [], ◌∷◌, ◌++◌, codes, bytes_eq, if◌then◌else◌, Option, Some, None, Result, Ok, Err}
+use Rattle.lwkt_base.specs.declared.entries.Entry.{Entry}
+use Rattle.lwkt_base.specs.declared.entries.Entry.TheVariants as entries
+use Rattle.lwkt_base.specs.declared.message_words.MsgState.{MsgState}
+use Rattle.lwkt_base.specs.declared.message_words.MsgState.TheVariants as places
+use Rattle.lwkt_base.specs.declared.names.ThreadId.{ThreadId}
+use Rattle.lwkt_text.specs.declared.claims.Claim.{Claim}
+use Rattle.lwkt_text.specs.declared.claims.Claim.TheVariants as claims
+use Rattle.lwkt_text.specs.declared.claims.Quantity.{Quantity}
+use Rattle.lwkt_text.specs.declared.claims.Quantity.TheVariants as quantities
+use Rattle.lwkt_text.specs.declared.claims.Relation.{Relation}
+use Rattle.lwkt_text.specs.declared.claims.Relation.TheVariants as relations
+use Rattle.lwkt_text.specs.declared.claims.Standing.{Standing}
+use Rattle.lwkt_text.specs.declared.claims.Standing.TheVariants as standings
+use Rattle.lwkt_text.specs.declared.expecting.Sum.{Sum}
+use Rattle.lwkt_text.specs.declared.expecting.Term.{Term}
+use Rattle.lwkt_text.specs.declared.tables.Names.{Names}
+use Rattle.lwkt_text.specs.declared.words.Word.{Word}
+use Rattle.lwkt_text.specs.declared.wrongs.Wanted.TheVariants as wanted
+use Rattle.lwkt_text.specs.declared.wrongs.What.TheVariants as whats
+use Rattle.lwkt_text.specs.declared.wrongs.Wrong.{Wrong}
+use Rattle.lwkt_text.specs.Looking.{text_at, is_at, part, demand, ended, wrong_at, number_of, number_at}
+use Rattle.lwkt_text.specs.Naming.{token_at, message_at, cell_at, named_thread}
+use Rattle.lwkt_text.specs.Outcome.{◌>>=◌, ◌>>◌}
+use Rattle.lwkt_text.specs.Stepping.{call_at, call_end, last_number}
+
+-- a quantity, and the place behind it
+abbrev pub term : Quantity → ℕ → Term
+term quantity end = record { quantity = quantity; end = end }
+
+-- `tally T . P` from word i on
+unfoldable pub tally_at : Names → List Word → ℕ → Result Term Wrong
+tally_at names ws i = do
+  tok ← token_at names ws (i + 1)
+  demand ws (i + 2) (whats.Word wanted.Point) (is_at ws (i + 2) (codes "."))
+  cpu ← number_at ws (i + 3) 0 7
+  Ok (term (quantities.Tally tok (record { 0 = cpu })) (i + 4))
+
+-- `gen T` from word i on
+abbrev pub generation_at : Names → List Word → ℕ → Result Term Wrong
+generation_at names ws i = token_at names ws (i + 1) >>= λ tok. Ok (term (quantities.Generation tok) (i + 2))
+
+-- `round M` from word i on
+abbrev pub round_at : Names → List Word → ℕ → Result Term Wrong
+round_at names ws i = message_at names ws (i + 1) >>= λ msg. Ok (term (quantities.Round msg) (i + 2))
+
+-- word i, a number
+abbrev pub plain_at : List Word → ℕ → Result Term Wrong
+plain_at ws i = part ws i whats.Quantity (number_of (text_at ws i)) >>= λ n. Ok (term (quantities.Number n) (i + 1))
+
+-- `T.C` from word i on
+abbrev pub cell_term_at : Names → List Word → ℕ → Result Term Wrong
+cell_term_at names ws i = cell_at names ws i >>= λ p. Ok (term (quantities.Cell p.tok p.cell) (i + 3))
+
+-- a quantity that a word before it names, or a number
+abbrev pub named_term : Names → List Word → ℕ → Result Term Wrong
+named_term names ws i =
+    if is_at ws i (codes "gen") then generation_at names ws i else (
+    if is_at ws i (codes "round") then round_at names ws i else (
+    if is_at ws i (codes "tally") then tally_at names ws i else plain_at ws i))
+
+-- the quantity that word i begins: `T.C`, or another
+abbrev pub term_at : Names → List Word → ℕ → Result Term Wrong
+term_at names ws i =
+    if is_at ws (i + 1) (codes ".") then cell_term_at names ws i else named_term names ws i
+
+-- quantities with + between them from word i on, behind those that were read, as many as are left in `rest`
+abbrev pub sum_from : Names → List Word → List Quantity → ℕ → List Word → Result Sum Wrong
+sum_from names ws terms i [] = Err (wrong_at ws i whats.Quantity)
+sum_from names ws terms i (w ∷ rest) = term_at names ws i >>= λ t. if is_at ws t.end (codes "+") then sum_from names ws (terms ++ t.quantity ∷ []) (t.end + 1) rest else Ok (record { terms = terms ++ t.quantity ∷ []; end = t.end })
+
+-- the sum that word i begins
+abbrev pub sum_at : Names → List Word → ℕ → Result Sum Wrong
+sum_at names ws i = sum_from names ws [] i ws
+
+-- the relation of a word
+abbrev pub relation_of : List ℕ → Option Relation
+relation_of text =
+    if bytes_eq text (codes "=") then Some relations.Equal else (
+    if bytes_eq text (codes "!=") then Some relations.Unequal else (
+    if bytes_eq text (codes "<") then Some relations.Less else (
+    if bytes_eq text (codes "<=") then Some relations.AtMost else (
+    if bytes_eq text (codes ">") then Some relations.More else (
+    if bytes_eq text (codes ">=") then Some relations.AtLeast else None)))))
+
+-- word i, a relation
+abbrev pub relation_at : List Word → ℕ → Result Relation Wrong
+relation_at ws i = part ws i whats.Relation (relation_of (text_at ws i))
+
+-- `SUM RELATION SUM` from word 1 on
+unfoldable pub compared : Names → List Word → Result Claim Wrong
+compared names ws = do
+  left ← sum_at names ws 1
+  relation ← relation_at ws left.end
+  right ← sum_at names ws (left.end + 1)
+  ended ws right.end
+  Ok (claims.Compares (record { left = left.terms; relation = relation; right = right.terms }))
+
+-- the state of a word
+abbrev pub standing_of : List ℕ → Option Standing
+standing_of text =
+    if bytes_eq text (codes "ready") then Some standings.Ready else (
+    if bytes_eq text (codes "waiting") then Some standings.Waiting else (
+    if bytes_eq text (codes "running") then Some standings.Running else (
+    if bytes_eq text (codes "exited") then Some standings.Exited else (
+    if bytes_eq text (codes "faulted") then Some standings.Faulted else None))))
+
+-- the place of a word
+abbrev pub place_of : List ℕ → Option MsgState
+place_of text =
+    if bytes_eq text (codes "rest") then Some places.Rest else (
+    if bytes_eq text (codes "out") then Some places.Out else (
+    if bytes_eq text (codes "with") then Some places.With else (
+    if bytes_eq text (codes "back") then Some places.Back else None)))
+
+-- word 3, the state of a thread
+abbrev pub standing_at : List Word → Result Standing Wrong
+standing_at ws = part ws 3 whats.State (standing_of (text_at ws 3))
+
+-- word 3, the place of a message
+abbrev pub state_at : List Word → Result MsgState Wrong
+state_at ws = part ws 3 whats.State (place_of (text_at ws 3))
+
+-- word 1, the name of a thread
+abbrev pub subject : Names → List Word → Result ThreadId Wrong
+subject names ws = part ws 1 whats.Thread (named_thread names (text_at ws 1))
+
+-- `saw N`
+abbrev pub saw : List Word → Result Entry Wrong
+saw ws = number_at ws 3 0 18446744073709551615 >>= λ n. ended ws 4 >> Ok (entries.Value n)
+
+-- `refused N`
+abbrev pub refused : List Word → Result Entry Wrong
+refused ws = number_at ws 3 0 255 >>= λ n. ended ws 4 >> Ok (entries.Refused n)
+
+-- `aborted N`, 0 or 1
+abbrev pub aborted : List Word → Result Entry Wrong
+aborted ws = number_at ws 3 0 1 >>= λ n. ended ws 4 >> Ok (entries.Aborted (n == 1))
+
+-- `empty`
+abbrev pub empty : List Word → Result Entry Wrong
+empty ws = ended ws 3 >> Ok entries.NoMessage
+
+-- `took M op N arg N`
+abbrev pub took : Names → List Word → Result Entry Wrong
+took names ws = message_at names ws 3 >>= λ m. call_at ws 4 >>= λ call. ended ws (call_end ws 4) >> Ok (entries.Request m call)
+
+-- `lost M op N arg N`
+abbrev pub lost : Names → List Word → Result Entry Wrong
+lost names ws = message_at names ws 3 >>= λ m. call_at ws 4 >>= λ call. ended ws (call_end ws 4) >> Ok (entries.Dropped m call)
+
+-- `answered M ERROR RESULT`
+abbrev pub answered : Names → List Word → Result Entry Wrong
+answered names ws = message_at names ws 3 >>= λ m. last_number ws 4 4294967295 >>= λ e. last_number ws 5 18446744073709551615 >>= λ r. ended ws 6 >> Ok (entries.Reply m e r)
+
+-- `THREAD ENTRY`
+abbrev pub logged : Names → List Word → Result Entry Wrong → Result Claim Wrong
+logged names ws entry = subject names ws >>= λ id. entry >>= λ e. Ok (claims.Logged id e)
+
+-- `THREAD is STATE`
+abbrev pub stands : Names → List Word → Result Claim Wrong
+stands names ws = subject names ws >>= λ id. standing_at ws >>= λ s. ended ws 4 >> Ok (claims.Stands id s)
+
+-- `MESSAGE at PLACE`
+abbrev pub lies : Names → List Word → Result Claim Wrong
+lies names ws = message_at names ws 1 >>= λ m. state_at ws >>= λ s. ended ws 4 >> Ok (claims.Lies m s)
+
+-- what is said of messages, states and sums
+abbrev pub other_claim : Names → List Word → Result Claim Wrong
+other_claim names ws =
+    if is_at ws 2 (codes "is") then stands names ws else (
+    if is_at ws 2 (codes "at") then lies names ws else compared names ws)
+
+-- what is said of a thread's log, or else
+abbrev pub about : Names → List Word → Result Claim Wrong
+about names ws =
+    if is_at ws 2 (codes "saw") then logged names ws (saw ws) else (
+    if is_at ws 2 (codes "refused") then logged names ws (refused ws) else (
+    if is_at ws 2 (codes "aborted") then logged names ws (aborted ws) else (
+    if is_at ws 2 (codes "empty") then logged names ws (empty ws) else (
+    if is_at ws 2 (codes "took") then logged names ws (took names ws) else (
+    if is_at ws 2 (codes "lost") then logged names ws (lost names ws) else (
+    if is_at ws 2 (codes "answered") then logged names ws (answered names ws) else other_claim names ws))))))
+
+-- `fault N`
+abbrev pub faulted : List Word → Result Claim Wrong
+faulted ws = number_at ws 2 0 255 >>= λ n. ended ws 3 >> Ok (claims.Faulted n)
+
+-- a word alone
+abbrev pub alone : List Word → Claim → Result Claim Wrong
+alone ws claim = ended ws 2 >> Ok claim
+
+-- what is said from word 1 on
+abbrev pub claim_of : Names → List Word → Result Claim Wrong
+claim_of names ws =
+    if is_at ws 1 (codes "ended") then alone ws claims.Ended else (
+    if is_at ws 1 (codes "stuck") then alone ws claims.Stuck else (
+    if is_at ws 1 (codes "fault") then faulted ws else about names ws))

@@ -1,0 +1,102 @@
+-- What the sentences of a text tell, one after the other (own).
+use Rattle.std.specs.Prelude.{ℕ, ◌==◌, nat_lt, nat_le, List, [], ◌∷◌, ◌++◌, length, codes, if◌then◌else◌, Option, Some, None, is_some, Result, Ok, Err}
+use Rattle.lwkt_base.specs.declared.asks.Ask.{Ask}
+use Rattle.lwkt_script.specs.Format.{threads_on}
+use Rattle.lwkt_text.specs.declared.claims.When.{When}
+use Rattle.lwkt_text.specs.declared.claims.When.TheVariants as whens
+use Rattle.lwkt_text.specs.declared.drafts.Draft.{Draft}
+use Rattle.lwkt_text.specs.declared.parts.Head.{Head}
+use Rattle.lwkt_text.specs.declared.sayings.Said.{Said}
+use Rattle.lwkt_text.specs.declared.sayings.Said.TheVariants as saids
+use Rattle.lwkt_text.specs.declared.tables.Names.{Names}
+use Rattle.lwkt_text.specs.declared.words.Sentence.{Sentence}
+use Rattle.lwkt_text.specs.declared.words.Word.{Word}
+use Rattle.lwkt_text.specs.declared.wrongs.What.TheVariants as whats
+use Rattle.lwkt_text.specs.declared.wrongs.Wrong.{Wrong}
+use Rattle.lwkt_text.specs.Claiming.{claim_of}
+use Rattle.lwkt_text.specs.Looking.{is_at, place_at, wrong_at, demand, ended, number_at}
+use Rattle.lwkt_text.specs.Outcome.{◌>>=◌, ◌>>◌}
+use Rattle.lwkt_text.specs.Parting.{token_of, message_of, head_of}
+use Rattle.lwkt_text.specs.Stepping.{ask_of}
+
+-- `KEY N`
+abbrev pub setting : List Word → ℕ → Result ℕ Wrong
+setting ws high = number_at ws 1 1 high >>= λ n. ended ws 2 >> Ok n
+
+-- `always CLAIM`, or another word before it
+abbrev pub expected : Names → List Word → When → Result Said Wrong
+expected names ws when = claim_of names ws >>= λ claim. Ok (saids.Expect (record { when = when; claim = claim; at = place_at ws 0 }))
+
+-- an expectation, or a step
+abbrev pub claim_said : Names → List Word → Result Said Wrong
+claim_said names ws =
+    if is_at ws 0 (codes "always") then expected names ws whens.Always else (
+    if is_at ws 0 (codes "sometimes") then expected names ws whens.Sometimes else (
+    if is_at ws 0 (codes "never") then expected names ws whens.Never else (ask_of names ws >>= λ ask. Ok (saids.Step ask))))
+
+-- a token, a message, a thread, or else
+abbrev pub part_said : Names → List Word → Result Said Wrong
+part_said names ws =
+    if is_at ws 0 (codes "token") then (token_of ws >>= λ t. Ok (saids.Token t)) else (
+    if is_at ws 0 (codes "message") then (message_of names ws >>= λ m. Ok (saids.Message m)) else (
+    if is_at ws 0 (codes "thread") then (head_of names ws >>= λ h. Ok (saids.Thread h)) else claim_said names ws))
+
+-- what a sentence tells
+unfoldable pub said : Names → List Word → Result Said Wrong
+said names ws = demand ws 1000 whats.Long (nat_le (length ws) 1000) >> (
+    if is_at ws 0 (codes "turns") then (setting ws 1000000 >>= λ n. Ok (saids.Turns n)) else (
+    if is_at ws 0 (codes "idle") then (setting ws 100000000 >>= λ n. Ok (saids.Idle n)) else (
+    if is_at ws 0 (codes "cpus") then (setting ws 8 >>= λ n. Ok saids.Cpus) else part_said names ws)))
+
+-- before the first sentence: 10000 turns, 1000 idle ones, and what is wrong with the names
+abbrev pub no_draft : List Wrong → Draft
+no_draft faults = record { turns = 10000; idle = 1000; tokens = []; messages = []; threads = []; head = None; steps = []; expectations = []; faults = faults }
+
+-- one more fault
+abbrev pub blamed : Wrong → Draft → Draft
+blamed wrong d = record d { faults = d.faults ++ wrong ∷ [] }
+
+-- word 0 tells something that there is no room for
+abbrev pub crowded : List Word → Draft → Draft
+crowded ws d = blamed (wrong_at ws 0 whats.Crowd) d
+
+-- the thread whose steps were told, with them
+abbrev pub closed_by : Option Head → Draft → Draft
+closed_by None d = d
+closed_by (Some h) d = record d { threads = d.threads ++ (record { cpu = h.cpu; repeat = h.repeat; steps = d.steps }) ∷ []; steps = []; head = None }
+
+abbrev pub closed : Draft → Draft
+closed d = closed_by d.head d
+
+-- a thread begins, if its processor has fewer than 16
+abbrev pub opened : Head → List Word → Draft → Draft
+opened h ws d = if nat_lt (threads_on h.cpu.0 d.threads) 16 then record d { head = Some h } else crowded ws d
+
+-- a step of the thread, if there is one; only the first step without a thread is told
+abbrev pub stepped : Ask → List Word → Draft → Draft
+stepped a ws d =
+    if is_some d.head then (if nat_lt (length d.steps) 256 then record d { steps = d.steps ++ a ∷ [] } else crowded ws d)
+    else (if length d.faults == 0 then blamed (wrong_at ws 0 whats.NoThread) d else d)
+
+-- what was told, put behind what was told before: at most 64 tokens and as many messages
+abbrev pub put : List Word → Said → Draft → Draft
+put ws (saids.Turns n) d = record d { turns = n }
+put ws (saids.Idle n) d = record d { idle = n }
+put ws saids.Cpus d = d
+put ws (saids.Token t) d = if nat_lt (length d.tokens) 64 then record d { tokens = d.tokens ++ t ∷ [] } else crowded ws d
+put ws (saids.Message m) d = if nat_lt (length d.messages) 64 then record d { messages = d.messages ++ m ∷ [] } else crowded ws d
+put ws (saids.Thread h) d = opened h ws (closed d)
+put ws (saids.Step a) d = stepped a ws d
+put ws (saids.Expect e) d = record d { expectations = d.expectations ++ e ∷ [] }
+
+abbrev pub told_by : Result Said Wrong → List Word → Draft → Draft
+told_by (Ok s) ws d = put ws s d
+told_by (Err wrong) ws d = blamed wrong d
+
+-- a sentence, told
+abbrev pub told : Names → List Word → Draft → Draft
+told names ws d = told_by (said names ws) ws d
+
+abbrev pub all_told : Names → List Sentence → Draft → Draft
+all_told names [] d = d
+all_told names (s ∷ ss) d = all_told names ss (told names s.words d)

@@ -1,0 +1,12 @@
+pub mod Scanning
+pub mod Outcome
+pub mod Looking
+pub mod Naming
+pub mod Stepping
+pub mod Parting
+pub mod Claiming
+pub mod Listing
+pub mod Drafting
+pub mod Reading
+pub mod Refusing
+pub mod Within

@@ -1,0 +1,78 @@
+-- What the words of a sentence say, by their places (own).
+use Rattle.std.specs.Prelude.{ℕ, ◌+◌, ◌-◌, ◌*◌, ◌==◌, ◌&&◌, ◌||◌, nat_le, List, [], ◌∷◌, length, slice_get, Bool, false, bytes_eq, if◌then◌else◌, Option, Some, None, option_map, option_and_then, unwrap_or, Result, Ok, Err, ⊤}
+use Rattle.lwkt_text.specs.declared.words.Word.{Word}
+use Rattle.lwkt_text.specs.declared.wrongs.What.{What}
+use Rattle.lwkt_text.specs.declared.wrongs.What.TheVariants.{Number, Further, Name}
+use Rattle.lwkt_text.specs.declared.wrongs.Wrong.{Wrong}
+
+-- the characters of word i, and none behind the last word
+abbrev pub text_at : List Word → ℕ → List ℕ
+text_at ws i = unwrap_or (option_map (λ w. w.text) (slice_get ws i)) []
+
+-- whether word i is this one
+abbrev pub is_at : List Word → ℕ → List ℕ → Bool
+is_at ws i text = bytes_eq (text_at ws i) text
+
+-- where the last word ends
+abbrev pub end_of : List Word → ℕ
+end_of ws = unwrap_or (option_map (λ w. w.end) (slice_get ws (length ws - 1))) 0
+
+-- where word i begins, or where it is missing
+abbrev pub place_at : List Word → ℕ → ℕ
+place_at ws i = unwrap_or (option_map (λ w. w.at) (slice_get ws i)) (end_of ws)
+
+-- what is wrong with word i
+abbrev pub wrong_at : List Word → ℕ → What → Wrong
+wrong_at ws i what = record { at = place_at ws i; what = what }
+
+-- what word i is to be
+abbrev pub part : {A : Type 0} → List Word → ℕ → What → Option A → Result A Wrong
+part ws i what (Some x) = Ok x
+part ws i what None = Err (wrong_at ws i what)
+
+-- word i passes a test
+abbrev pub demand : List Word → ℕ → What → Bool → Result ⊤ Wrong
+demand ws i what ok = if ok then Ok tt else Err (wrong_at ws i what)
+
+-- nothing stands behind word i
+abbrev pub ended : List Word → ℕ → Result ⊤ Wrong
+ended ws i = demand ws i Further (nat_le (length ws) i)
+
+-- a number with one more digit, if that is one and 64 bits have room for it
+abbrev pub digit_added : ℕ → ℕ → Option ℕ
+digit_added n b =
+    if nat_le 48 b && nat_le b 57 && nat_le (n * 10 + (b - 48)) 18446744073709551615 then Some (n * 10 + (b - 48)) else None
+
+-- a number with more digits
+abbrev pub digits : ℕ → List ℕ → Option ℕ
+digits n [] = Some n
+digits n (b ∷ bs) = option_and_then (λ m. digits m bs) (digit_added n b)
+
+-- the number that decimal digits are, at least one
+abbrev pub number_of : List ℕ → Option ℕ
+number_of text = if length text == 0 then None else digits 0 text
+
+-- a number within limits
+abbrev pub within : ℕ → ℕ → ℕ → Option ℕ
+within low high n = if nat_le low n && nat_le n high then Some n else None
+
+-- word i, a number within limits
+abbrev pub number_at : List Word → ℕ → ℕ → ℕ → Result ℕ Wrong
+number_at ws i low high = part ws i (Number low high) (option_and_then (within low high) (number_of (text_at ws i)))
+
+-- the place behind a key and its value, where word i is this key, and else i
+abbrev pub after : List Word → ℕ → List ℕ → ℕ
+after ws i key = if is_at ws i key then i + 2 else i
+
+-- the value of the key that word i may be, or what stands for it
+abbrev pub optional : List Word → ℕ → List ℕ → ℕ → ℕ → ℕ → Result ℕ Wrong
+optional ws i key low high default = if is_at ws i key then number_at ws (i + 1) low high else Ok default
+
+-- a name begins with a letter or _
+abbrev pub is_name : List ℕ → Bool
+is_name [] = false
+is_name (b ∷ bs) = (nat_le 65 b && nat_le b 90) || (nat_le 97 b && nat_le b 122) || b == 95
+
+-- word i, a name
+abbrev pub name_at : List Word → ℕ → Result ⊤ Wrong
+name_at ws i = demand ws i Name (is_name (text_at ws i))

@@ -1,0 +1,38 @@
+-- What a text is: a script, its names and what is said of its outcomes, or all that is wrong with it (own).
+use Rattle.std.specs.Prelude.{◌≡◌, ℕ, ◌==◌, List, length, if◌then◌else◌, Result, Ok, Err}
+use Rattle.lwkt_script.specs.declared.scripts.Script.{Script}
+use Rattle.lwkt_text.specs.declared.drafts.Draft.{Draft}
+use Rattle.lwkt_text.specs.declared.listings.Listing.{Listing}
+use Rattle.lwkt_text.specs.declared.readers.Reading.{Reading}
+use Rattle.lwkt_text.specs.declared.tables.Names.{Names}
+use Rattle.lwkt_text.specs.declared.words.Sentence.{Sentence}
+use Rattle.lwkt_text.specs.declared.wrongs.Wrong.{Wrong}
+use Rattle.lwkt_text.specs.Drafting.{no_draft, closed, all_told}
+use Rattle.lwkt_text.specs.Listing.{no_listing, all_listed}
+use Rattle.lwkt_text.specs.Scanning.{sentences_of}
+
+-- what was told, if nothing of it is wrong
+abbrev pub sealed : Names → Draft → Result Reading (List Wrong)
+sealed names d =
+    if length d.faults == 0
+    then Ok (record { script = record { turns = d.turns; idle = d.idle; cpus = names.cpus; tokens = d.tokens; messages = d.messages; threads = d.threads }; names = names; expectations = d.expectations })
+    else Err d.faults
+
+-- names first, so that they stand for parts that are told later, and then what the sentences tell
+abbrev pub told_with : List Sentence → Listing → Result Reading (List Wrong)
+told_with sentences l = sealed l.names (closed (all_told l.names sentences (no_draft l.faults)))
+
+abbrev pub reading_of_sentences : List Sentence → Result Reading (List Wrong)
+reading_of_sentences sentences = told_with sentences (all_listed sentences no_listing)
+
+-- what the bytes are
+unfoldable pub reading_of : List ℕ → Result Reading (List Wrong)
+reading_of bytes = reading_of_sentences (sentences_of bytes)
+
+-- a text that is a script
+abbrev pub HasScript : Script → Result Reading (List Wrong) → Type 0
+HasScript s (Ok reading) = reading.script ≡ s
+HasScript s (Err wrongs) = ⊥
+
+abbrev pub IsTextOf : Script → List ℕ → Type 0
+IsTextOf s bytes = HasScript s (reading_of bytes)

@@ -1,0 +1,46 @@
+-- What a text tells keeps the limits of the format (own).
+use Rattle.std.specs.Prelude.{ℕ, ◌<◌, ◌≤◌, List, length, All, Option, Some, None}
+use Rattle.lwkt_script.specs.declared.scripts.ThreadSpec.{ThreadSpec}
+use Rattle.lwkt_script.specs.Format.{threads_on}
+use Rattle.lwkt_script.specs.Limits.{IsToken, IsMessage, IsThread}
+use Rattle.lwkt_text.specs.declared.drafts.Draft.{Draft}
+use Rattle.lwkt_text.specs.declared.parts.Head.{Head}
+use Rattle.lwkt_text.specs.declared.sayings.Said.{Said}
+use Rattle.lwkt_text.specs.declared.sayings.Said.TheVariants as saids
+
+-- a head that a script of so many processors may have
+pub record IsHead (cpus : ℕ) (h : Head) : Type 0 where
+  pub cpu : h.cpu.0 < cpus
+  pub some_repeats : 1 ≤ h.repeat
+  pub few_repeats : h.repeat ≤ 1000000
+
+-- a sentence that a script of so many processors may have
+abbrev pub IsSaid : ℕ → Said → Type 0
+IsSaid cpus (saids.Turns n) = (1 ≤ n) × (n ≤ 1000000)
+IsSaid cpus (saids.Idle n) = (1 ≤ n) × (n ≤ 100000000)
+IsSaid cpus saids.Cpus = Unit {0}
+IsSaid cpus (saids.Token t) = IsToken t
+IsSaid cpus (saids.Message m) = IsMessage cpus m
+IsSaid cpus (saids.Thread h) = IsHead cpus h
+IsSaid cpus (saids.Step a) = Unit {0}
+IsSaid cpus (saids.Expect e) = Unit {0}
+
+-- the thread whose steps are told has room behind the others
+abbrev pub HasRoom : ℕ → List ThreadSpec → Option Head → Type 0
+HasRoom cpus threads None = Unit {0}
+HasRoom cpus threads (Some h) = IsHead cpus h × (threads_on h.cpu.0 threads < 16)
+
+-- what was told keeps the limits
+pub record IsDraft (cpus : ℕ) (d : Draft) : Type 0 where
+  pub some_turns : 1 ≤ d.turns
+  pub few_turns : d.turns ≤ 1000000
+  pub some_idle : 1 ≤ d.idle
+  pub few_idle : d.idle ≤ 100000000
+  pub few_tokens : length d.tokens ≤ 64
+  pub tokens : All IsToken d.tokens
+  pub few_messages : length d.messages ≤ 64
+  pub messages : All (IsMessage cpus) d.messages
+  pub threads : All (IsThread cpus) d.threads
+  pub few_threads : (cpu : ℕ) → threads_on cpu d.threads ≤ 16
+  pub head : HasRoom cpus d.threads d.head
+  pub few_steps : length d.steps ≤ 256

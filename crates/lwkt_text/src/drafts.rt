@@ -1,0 +1,194 @@
+ghost use Rattle.std.specs.Prelude.{◌≡◌, ◌<◌, OnOk, OnErr, Err, IfOk};
+ghost use Rattle.lwkt_script.specs.Format.{threads_on};
+ghost use Rattle.lwkt_text.specs.Within.{IsDraft};
+ghost use Rattle.lwkt_text.specs.Drafting.{no_draft, blamed, crowded, closed, opened, stepped, put, told, all_told};
+
+use crate::claims::Expectation;
+use crate::looks::wrong_at;
+use crate::many::Many;
+use crate::parts::Head;
+use crate::sayings::{Said, told_by};
+use crate::tables::Names;
+use crate::words::{Sentence, Word};
+use crate::wrongs::{Slip, What, Wrong};
+use lwkt_base::{Ask, MsgSpec, TokSpec};
+use lwkt_script::{Parts, ThreadSpec};
+use std::alloc::Global;
+
+/// What a text told so far.
+#[derive(Drop)]
+pub struct Draft {
+    pub turns: u32,
+    pub idle: u32,
+    pub tokens: Many<TokSpec>,
+    pub messages: Many<MsgSpec>,
+    /// The threads whose steps were told.
+    pub threads: Many<ThreadSpec>,
+    /// The head of the thread whose steps are being told.
+    pub head: Option<Head>,
+    pub steps: Many<Ask>,
+    pub expectations: Many<Expectation>,
+    pub faults: Many<Wrong>,
+}
+
+const TOKEN_LIMIT: usize = 64;
+
+const MESSAGE_LIMIT: usize = 64;
+
+const THREAD_LIMIT: usize = 16;
+
+const STEP_LIMIT: usize = 256;
+
+// How many of these threads are of a processor.
+fn threads_on(cpu: u8, threads: &[ThreadSpec]) -> usize
+    ensures { result ≡ threads_on cpu threads.now }
+{
+    threads.iter().filter(|t| t.cpu.0 == cpu).count()
+}
+
+impl Draft {
+    fn new(alloc: Global, faults: Many<Wrong>) -> Self
+        ensures { result ≡ no_draft faults }
+    {
+        Draft {
+            turns: 10_000,
+            idle: 1000,
+            tokens: Many::new(alloc),
+            messages: Many::new(alloc),
+            threads: Many::new(alloc),
+            head: None,
+            steps: Many::new(alloc),
+            expectations: Many::new(alloc),
+            faults,
+        }
+    }
+
+    // Word 0 tells something that there is no room for.
+    fn crowd(&mut self, words: &[Word]) -> Result<(), Slip>
+        ensures ok { OnOk result (self.new ≡ crowded words.now self.old) }
+        ensures only { OnErr result (result ≡ Err Slip.Memory) }
+    {
+        self.faults.push(wrong_at(words, 0, What::Crowd))
+    }
+
+    // Ends the thread whose steps were told, if there is one.
+    fn close(&mut self, alloc: Global) -> Result<(), Slip>
+        ensures ok { OnOk result (self.new ≡ closed self.old) }
+        ensures only { OnErr result (result ≡ Err Slip.Memory) }
+    {
+        let Some(head) = self.head else {
+            return Ok(());
+        };
+        let steps = self.steps.take(alloc).into_vec();
+        self.head = None;
+        self.threads.push(ThreadSpec {
+            cpu: head.cpu,
+            repeat: head.repeat,
+            steps: Parts::from_vec(steps),
+        })
+    }
+
+    fn open(&mut self, words: &[Word], head: Head) -> Result<(), Slip>
+        ensures ok { OnOk result (self.new ≡ opened head words.now self.old) }
+        ensures only { OnErr result (result ≡ Err Slip.Memory) }
+    {
+        if threads_on(head.cpu.0, self.threads.as_slice()) >= THREAD_LIMIT {
+            return self.crowd(words);
+        }
+        self.head = Some(head);
+        Ok(())
+    }
+
+    fn step(&mut self, words: &[Word], ask: Ask) -> Result<(), Slip>
+        ensures ok { OnOk result (self.new ≡ stepped ask words.now self.old) }
+        ensures only { OnErr result (result ≡ Err Slip.Memory) }
+    {
+        if self.head.is_some() {
+            if self.steps.len() >= STEP_LIMIT {
+                return self.crowd(words);
+            }
+            return self.steps.push(ask);
+        }
+        if self.faults.len() != 0 {
+            return Ok(());
+        }
+        self.faults.push(wrong_at(words, 0, What::NoThread))
+    }
+
+    fn add_token(&mut self, words: &[Word], token: TokSpec) -> Result<(), Slip>
+        ensures ok { OnOk result (self.new ≡ put words.now (Said.Token token) self.old) }
+        ensures only { OnErr result (result ≡ Err Slip.Memory) }
+    {
+        if self.tokens.len() >= TOKEN_LIMIT {
+            return self.crowd(words);
+        }
+        self.tokens.push(token)
+    }
+
+    fn add_message(&mut self, words: &[Word], message: MsgSpec) -> Result<(), Slip>
+        ensures ok { OnOk result (self.new ≡ put words.now (Said.Message message) self.old) }
+        ensures only { OnErr result (result ≡ Err Slip.Memory) }
+    {
+        if self.messages.len() >= MESSAGE_LIMIT {
+            return self.crowd(words);
+        }
+        self.messages.push(message)
+    }
+
+    // Puts what was told behind what was told before.
+    fn put(&mut self, alloc: Global, words: &[Word], told: Said) -> Result<(), Slip>
+        ensures ok { OnOk result (self.new ≡ put words.now told self.old) }
+        ensures only { OnErr result (result ≡ Err Slip.Memory) }
+    {
+        match told {
+            Said::Turns(turns) => self.turns = turns,
+            Said::Idle(idle) => self.idle = idle,
+            Said::Cpus => {}
+            Said::Token(token) => self.add_token(words, token)?,
+            Said::Message(message) => self.add_message(words, message)?,
+            Said::Thread(head) => {
+                self.close(alloc)?;
+                self.open(words, head)?;
+            }
+            Said::Step(ask) => self.step(words, ask)?,
+            Said::Expect(expectation) => self.expectations.push(expectation)?,
+        }
+        Ok(())
+    }
+
+    // A sentence, told.
+    #[tactic(auto, using(crate::proofs::Keeping::put_within, crate::proofs::Keeping::blamed_within))]
+    fn tell(&mut self, alloc: Global, names: &Names, words: &[Word]) -> Result<(), Slip>
+        requires { 0 < names.now.cpus }
+        ensures ok { OnOk result (self.new ≡ told names.now words.now self.old) }
+        ensures only { OnErr result (result ≡ Err Slip.Memory) }
+        ensures keeps { OnOk result (IsDraft names.now.cpus self.old → IsDraft names.now.cpus self.new) }
+    {
+        match told_by(alloc, names, words) {
+            Ok(told) => self.put(alloc, words, told),
+            Err(Slip::Wrong(wrong)) => self.faults.push(wrong),
+            Err(Slip::Memory) => Err(Slip::Memory),
+        }
+    }
+}
+
+/// What sentences tell, behind what is wrong with the names that they give. Refused only with `Memory`.
+#[tactic(auto, using(crate::proofs::Keeping::closed_within, crate::proofs::Keeping::none_within))]
+pub fn draft_of(
+    alloc: Global,
+    names: &Names,
+    sentences: &[Sentence],
+    faults: Many<Wrong>,
+) -> Result<Draft, Slip>
+    requires { 0 < names.now.cpus }
+    ensures ok { IfOk result (λ draft. draft ≡ closed (all_told names.now sentences.now (no_draft faults))) }
+    ensures only { OnErr result (result ≡ Err Slip.Memory) }
+    ensures limits { IfOk result (IsDraft names.now.cpus) }
+{
+    let mut draft = Draft::new(alloc, faults);
+    for sentence in sentences {
+        draft.tell(alloc, names, sentence.words.as_slice())?;
+    }
+    draft.close(alloc)?;
+    Ok(draft)
+}

@@ -1,0 +1,403 @@
+ghost use Rattle.std.specs.Prelude.{◌≡◌, ◌≤◌, ◌+◌, length, IfOk, Ok};
+ghost use Rattle.lwkt_text.specs.Outcome.{Gives};
+ghost use Rattle.lwkt_text.specs.Claiming.{tally_at, generation_at, round_at, plain_at, cell_term_at, named_term, term_at, sum_at, relation_of, relation_at, compared, standing_of, place_of, standing_at, state_at, subject, saw, refused, aborted, empty, took, lost, answered, logged, stands, lies, other_claim, about, faulted, alone, claim_of};
+
+use crate::claims::{Claim, Comparison, Quantity, Relation, Standing};
+use crate::looks::{demand, ended, is_at, number_at, number_of, text_at, wrong_at};
+use crate::many::Many;
+use crate::slips::checked;
+use crate::steps::{call_at, call_end, last_number};
+use crate::tables::{Names, cell_at, message_at, named_thread, token_at};
+use crate::words::Word;
+use crate::wrongs::{Slip, Wanted, What, Wrong};
+use lwkt_base::{CpuId, Entry, MsgState, ThreadId};
+use std::alloc::Global;
+
+/// A quantity, and the place of the first word behind it.
+#[derive(Clone, Copy)]
+pub struct Term {
+    pub quantity: Quantity,
+    pub end: usize,
+}
+
+/// Quantities that are added, and the place of the first word behind them.
+#[derive(Drop)]
+pub struct Sum {
+    pub terms: Many<Quantity>,
+    pub end: usize,
+}
+
+const MOST_CODE: u64 = 4_294_967_295;
+
+// `tally T . P` from word i on.
+#[tactic(auto, unfolding(crate::specs::Claiming::tally_at))]
+fn tally_at(names: &Names, words: &[Word], i: usize) -> Result<Term, Wrong>
+    requires { i ≤ 10000 }
+    ensures exact { result ≡ tally_at names.now words.now i }
+    ensures most { IfOk result (λ t. t.end ≤ i + 4) }
+{
+    let tok = token_at(names, words, i + 1)?;
+    let is_point = is_at(words, i + 2, ".");
+    demand(words, i + 2, What::Word(Wanted::Point), is_point)?;
+    let cpu = number_at(words, i + 3, 0, 7)? as u8;
+    Ok(Term {
+        quantity: Quantity::Tally(tok, CpuId(cpu)),
+        end: i + 4,
+    })
+}
+
+// `gen T` from word i on.
+fn generation_at(names: &Names, words: &[Word], i: usize) -> Result<Term, Wrong>
+    requires { i ≤ 10000 }
+    ensures exact { result ≡ generation_at names.now words.now i }
+    ensures most { IfOk result (λ t. t.end ≤ i + 4) }
+{
+    let tok = token_at(names, words, i + 1)?;
+    Ok(Term {
+        quantity: Quantity::Generation(tok),
+        end: i + 2,
+    })
+}
+
+// `round M` from word i on.
+fn round_at(names: &Names, words: &[Word], i: usize) -> Result<Term, Wrong>
+    requires { i ≤ 10000 }
+    ensures exact { result ≡ round_at names.now words.now i }
+    ensures most { IfOk result (λ t. t.end ≤ i + 4) }
+{
+    let msg = message_at(names, words, i + 1)?;
+    Ok(Term {
+        quantity: Quantity::Round(msg),
+        end: i + 2,
+    })
+}
+
+// Word i, a number.
+fn plain_at(words: &[Word], i: usize) -> Result<Term, Wrong>
+    requires { i ≤ 10000 }
+    ensures exact { result ≡ plain_at words.now i }
+    ensures most { IfOk result (λ t. t.end ≤ i + 4) }
+{
+    match number_of(text_at(words, i)) {
+        Some(n) => Ok(Term {
+            quantity: Quantity::Number(n),
+            end: i + 1,
+        }),
+        None => Err(wrong_at(words, i, What::Quantity)),
+    }
+}
+
+// `T.C` from word i on.
+fn cell_term_at(names: &Names, words: &[Word], i: usize) -> Result<Term, Wrong>
+    requires { i ≤ 10000 }
+    ensures exact { result ≡ cell_term_at names.now words.now i }
+    ensures most { IfOk result (λ t. t.end ≤ i + 4) }
+{
+    let place = cell_at(names, words, i)?;
+    Ok(Term {
+        quantity: Quantity::Cell(place.tok, place.cell),
+        end: i + 3,
+    })
+}
+
+// A quantity that a word before it names, or a number.
+fn named_term(names: &Names, words: &[Word], i: usize) -> Result<Term, Wrong>
+    requires { i ≤ 10000 }
+    ensures exact { result ≡ named_term names.now words.now i }
+    ensures most { IfOk result (λ t. t.end ≤ i + 4) }
+{
+    match text_at(words, i) {
+        "gen" => generation_at(names, words, i),
+        "round" => round_at(names, words, i),
+        "tally" => tally_at(names, words, i),
+        _ => plain_at(words, i),
+    }
+}
+
+// The quantity that word i begins.
+fn term_at(names: &Names, words: &[Word], i: usize) -> Result<Term, Wrong>
+    requires { i ≤ 10000 }
+    ensures exact { result ≡ term_at names.now words.now i }
+    ensures most { IfOk result (λ t. t.end ≤ i + 4) }
+{
+    if is_at(words, i + 1, ".") {
+        cell_term_at(names, words, i)
+    } else {
+        named_term(names, words, i)
+    }
+}
+
+// The sum that word i begins.
+fn sum_at(alloc: Global, names: &Names, words: &[Word], i: usize) -> Result<Sum, Slip>
+    requires start { i ≤ 5002 }
+    requires few { length words.now ≤ 1000 }
+    ensures exact { Gives result (sum_at names.now words.now i) }
+    ensures most { IfOk result (λ s. s.end ≤ i + 5000) }
+{
+    let mut terms = Many::new(alloc);
+    let mut place = i;
+    for _word in words {
+        let term = checked(term_at(names, words, place))?;
+        terms.push(term.quantity)?;
+        if !is_at(words, term.end, "+") {
+            return Ok(Sum {
+                terms,
+                end: term.end,
+            });
+        }
+        place = term.end + 1;
+    }
+    Err(Slip::Wrong(wrong_at(words, place, What::Quantity)))
+}
+
+// The relation of a word.
+fn relation_of(text: &str) -> Option<Relation>
+    ensures { result ≡ relation_of text.now }
+{
+    match text {
+        "=" => Some(Relation::Equal),
+        "!=" => Some(Relation::Unequal),
+        "<" => Some(Relation::Less),
+        "<=" => Some(Relation::AtMost),
+        ">" => Some(Relation::More),
+        ">=" => Some(Relation::AtLeast),
+        _ => None,
+    }
+}
+
+// Word i, a relation.
+fn relation_at(words: &[Word], i: usize) -> Result<Relation, Wrong>
+    ensures { result ≡ relation_at words.now i }
+{
+    match relation_of(text_at(words, i)) {
+        Some(relation) => Ok(relation),
+        None => Err(wrong_at(words, i, What::Relation)),
+    }
+}
+
+// `SUM RELATION SUM` from word 1 on.
+#[tactic(auto, unfolding(crate::specs::Claiming::compared))]
+fn compared(alloc: Global, names: &Names, words: &[Word]) -> Result<Claim, Slip>
+    requires { length words.now ≤ 1000 }
+    ensures { Gives result (compared names.now words.now) }
+{
+    let left = sum_at(alloc, names, words, 1)?;
+    let relation = checked(relation_at(words, left.end))?;
+    let right = sum_at(alloc, names, words, left.end + 1)?;
+    checked(ended(words, right.end))?;
+    Ok(Claim::Compares(Comparison {
+        left: left.terms,
+        relation,
+        right: right.terms,
+    }))
+}
+
+// The state of a word.
+fn standing_of(text: &str) -> Option<Standing>
+    ensures { result ≡ standing_of text.now }
+{
+    match text {
+        "ready" => Some(Standing::Ready),
+        "waiting" => Some(Standing::Waiting),
+        "running" => Some(Standing::Running),
+        "exited" => Some(Standing::Exited),
+        "faulted" => Some(Standing::Faulted),
+        _ => None,
+    }
+}
+
+// The place of a word.
+fn place_of(text: &str) -> Option<MsgState>
+    ensures { result ≡ place_of text.now }
+{
+    match text {
+        "rest" => Some(MsgState::Rest),
+        "out" => Some(MsgState::Out),
+        "with" => Some(MsgState::With),
+        "back" => Some(MsgState::Back),
+        _ => None,
+    }
+}
+
+// Word 3, the state of a thread.
+fn standing_at(words: &[Word]) -> Result<Standing, Wrong>
+    ensures { result ≡ standing_at words.now }
+{
+    match standing_of(text_at(words, 3)) {
+        Some(standing) => Ok(standing),
+        None => Err(wrong_at(words, 3, What::State)),
+    }
+}
+
+// Word 3, the place of a message.
+fn state_at(words: &[Word]) -> Result<MsgState, Wrong>
+    ensures { result ≡ state_at words.now }
+{
+    match place_of(text_at(words, 3)) {
+        Some(state) => Ok(state),
+        None => Err(wrong_at(words, 3, What::State)),
+    }
+}
+
+// Word 1, the name of a thread.
+fn subject(names: &Names, words: &[Word]) -> Result<ThreadId, Wrong>
+    ensures { result ≡ subject names.now words.now }
+{
+    match named_thread(names, text_at(words, 1)) {
+        Some(id) => Ok(id),
+        None => Err(wrong_at(words, 1, What::Thread)),
+    }
+}
+
+// `saw N`
+fn saw(words: &[Word]) -> Result<Entry, Wrong>
+    ensures { result ≡ saw words.now }
+{
+    let n = number_at(words, 3, 0, u64::MAX)?;
+    ended(words, 4)?;
+    Ok(Entry::Value(n))
+}
+
+// `refused N`
+fn refused(words: &[Word]) -> Result<Entry, Wrong>
+    ensures { result ≡ refused words.now }
+{
+    let n = number_at(words, 3, 0, 255)? as u8;
+    ended(words, 4)?;
+    Ok(Entry::Refused(n))
+}
+
+// `aborted N`, 0 or 1
+fn aborted(words: &[Word]) -> Result<Entry, Wrong>
+    ensures { result ≡ aborted words.now }
+{
+    let n = number_at(words, 3, 0, 1)?;
+    ended(words, 4)?;
+    Ok(Entry::Aborted(n == 1))
+}
+
+// `empty`
+fn empty(words: &[Word]) -> Result<Entry, Wrong>
+    ensures { result ≡ empty words.now }
+{
+    ended(words, 3)?;
+    Ok(Entry::NoMessage)
+}
+
+// `took M op N arg N`
+fn took(names: &Names, words: &[Word]) -> Result<Entry, Wrong>
+    ensures { result ≡ took names.now words.now }
+{
+    let msg = message_at(names, words, 3)?;
+    let call = call_at(words, 4)?;
+    ended(words, call_end(words, 4))?;
+    Ok(Entry::Request(msg, call))
+}
+
+// `lost M op N arg N`
+fn lost(names: &Names, words: &[Word]) -> Result<Entry, Wrong>
+    ensures { result ≡ lost names.now words.now }
+{
+    let msg = message_at(names, words, 3)?;
+    let call = call_at(words, 4)?;
+    ended(words, call_end(words, 4))?;
+    Ok(Entry::Dropped(msg, call))
+}
+
+// `answered M ERROR RESULT`
+fn answered(names: &Names, words: &[Word]) -> Result<Entry, Wrong>
+    ensures { result ≡ answered names.now words.now }
+{
+    let msg = message_at(names, words, 3)?;
+    let error = last_number(words, 4, MOST_CODE)? as u32;
+    let outcome = last_number(words, 5, u64::MAX)?;
+    ended(words, 6)?;
+    Ok(Entry::Reply(msg, error, outcome))
+}
+
+// `THREAD ENTRY`
+fn logged(names: &Names, words: &[Word], entry: Result<Entry, Wrong>) -> Result<Claim, Wrong>
+    ensures { result ≡ logged names.now words.now entry }
+{
+    let id = subject(names, words)?;
+    Ok(Claim::Logged(id, entry?))
+}
+
+// `THREAD is STATE`
+fn stands(names: &Names, words: &[Word]) -> Result<Claim, Wrong>
+    ensures { result ≡ stands names.now words.now }
+{
+    let id = subject(names, words)?;
+    let standing = standing_at(words)?;
+    ended(words, 4)?;
+    Ok(Claim::Stands(id, standing))
+}
+
+// `MESSAGE at PLACE`
+fn lies(names: &Names, words: &[Word]) -> Result<Claim, Wrong>
+    ensures { result ≡ lies names.now words.now }
+{
+    let msg = message_at(names, words, 1)?;
+    let state = state_at(words)?;
+    ended(words, 4)?;
+    Ok(Claim::Lies(msg, state))
+}
+
+// What is said of messages, states and sums.
+fn other_claim(alloc: Global, names: &Names, words: &[Word]) -> Result<Claim, Slip>
+    requires { length words.now ≤ 1000 }
+    ensures { Gives result (other_claim names.now words.now) }
+{
+    match text_at(words, 2) {
+        "is" => checked(stands(names, words)),
+        "at" => checked(lies(names, words)),
+        _ => compared(alloc, names, words),
+    }
+}
+
+// What is said of a thread's log, or else.
+fn about(alloc: Global, names: &Names, words: &[Word]) -> Result<Claim, Slip>
+    requires { length words.now ≤ 1000 }
+    ensures { Gives result (about names.now words.now) }
+{
+    match text_at(words, 2) {
+        "saw" => checked(logged(names, words, saw(words))),
+        "refused" => checked(logged(names, words, refused(words))),
+        "aborted" => checked(logged(names, words, aborted(words))),
+        "empty" => checked(logged(names, words, empty(words))),
+        "took" => checked(logged(names, words, took(names, words))),
+        "lost" => checked(logged(names, words, lost(names, words))),
+        "answered" => checked(logged(names, words, answered(names, words))),
+        _ => other_claim(alloc, names, words),
+    }
+}
+
+// Some thread was ended by this fault.
+fn faulted(words: &[Word]) -> Result<Claim, Wrong>
+    ensures { result ≡ faulted words.now }
+{
+    let n = number_at(words, 2, 0, 255)? as u8;
+    ended(words, 3)?;
+    Ok(Claim::Faulted(n))
+}
+
+// One word alone says it all.
+fn alone(words: &[Word], claim: Claim) -> Result<Claim, Wrong>
+    ensures { result ≡ alone words.now claim }
+{
+    ended(words, 2)?;
+    Ok(claim)
+}
+
+/// What is said from word 1 on.
+pub fn claim_of(alloc: Global, names: &Names, words: &[Word]) -> Result<Claim, Slip>
+    requires { length words.now ≤ 1000 }
+    ensures { Gives result (claim_of names.now words.now) }
+{
+    match text_at(words, 1) {
+        "ended" => checked(alone(words, Claim::Ended)),
+        "stuck" => checked(alone(words, Claim::Stuck)),
+        "fault" => checked(faulted(words)),
+        _ => about(alloc, names, words),
+    }
+}

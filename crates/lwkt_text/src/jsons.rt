@@ -1,0 +1,208 @@
+// A script as a JSON text of the format.
+ghost use Rattle.std.specs.Prelude.{◌≡◌, Ok, IfOk, OnOk, IsTrue, string_bytes};
+ghost use Rattle.lwkt_script.specs.Format.{script_of};
+ghost use Rattle.lwkt_script.specs.Limits.{IsWithinLimits};
+
+use crate::pages::Sheet;
+use crate::sames::same_script;
+use crate::unsaid::Unsaid;
+use lwkt_base::{Ask, Call, Fault, Flags, Law, MsgId, MsgSpec, ThreadId, TokSpec};
+use lwkt_script::{Script, ThreadSpec, read_script};
+use std::alloc::{AllocError, Global};
+
+/// The name of a law.
+pub fn law_name(law: Law) -> &'static str {
+    match law {
+        Law::Any => "any",
+        Law::Sum => "sum",
+        Law::Order => "order",
+        Law::Cap => "cap",
+        Law::Tally => "tally",
+        Law::Len => "len",
+    }
+}
+
+fn write_token(page: &mut Sheet, token: &TokSpec) -> Result<(), AllocError> {
+    page.text("{\"cells\": [")?;
+    page.numbers(", ", token.cells.as_slice())?;
+    page.text("], \"law\": \"")?;
+    page.text(law_name(token.law))?;
+    page.tagged("\", \"param\": ", token.param)?;
+    page.tagged(", \"gen\": ", token.generation)?;
+    page.text("}")
+}
+
+fn write_message(page: &mut Sheet, message: &MsgSpec) -> Result<(), AllocError> {
+    page.tagged("{\"of\": [", u64::from(message.origin.cpu.0))?;
+    page.tagged(", ", u64::from(message.origin.thread))?;
+    page.tagged("], \"round\": ", message.round)?;
+    page.text("}")
+}
+
+// A word and a number: `"get",0`.
+fn write_one(page: &mut Sheet, word: &str, n: u8) -> Result<(), AllocError> {
+    page.text(word)?;
+    page.tagged("\", ", u64::from(n))
+}
+
+// What is sent: a message, a thread, op and arg.
+fn write_sending(
+    page: &mut Sheet,
+    word: &str,
+    msg: MsgId,
+    to: ThreadId,
+    call: Call,
+) -> Result<(), AllocError> {
+    write_one(page, word, msg.0)?;
+    page.tagged(", ", u64::from(to.cpu.0))?;
+    page.tagged(", ", u64::from(to.thread))?;
+    page.tagged(", ", u64::from(call.op))?;
+    page.tagged(", ", call.arg)
+}
+
+fn number_of_flags(flags: Flags) -> u64 {
+    let dropable = if flags.dropable { 1 } else { 0 };
+    let abortable = if flags.abortable { 2 } else { 0 };
+    dropable + abortable
+}
+
+// A word and two numbers.
+fn write_two(page: &mut Sheet, word: &str, first: u8, second: u64) -> Result<(), AllocError> {
+    write_one(page, word, first)?;
+    page.tagged(", ", second)
+}
+
+// What stands between the bracket and the word's quote that opens a step and the bracket that closes it.
+fn write_ask(page: &mut Sheet, ask: Ask) -> Result<(), AllocError> {
+    match ask {
+        Ask::Get(tok) => write_one(page, "get", tok.0),
+        Ask::GetShared(tok) => write_one(page, "gets", tok.0),
+        Ask::TryGet(tok) => write_one(page, "try", tok.0),
+        Ask::Rel(tok) => write_one(page, "rel", tok.0),
+        Ask::Abort(msg) => write_one(page, "abort", msg.0),
+        Ask::IsAborted(msg) => write_one(page, "isab", msg.0),
+        Ask::DropMsg(msg) => write_one(page, "drop", msg.0),
+        Ask::Swap => page.text("swap\""),
+        Ask::GetPort => page.text("getport\""),
+        Ask::WaitPort => page.text("wait\""),
+        Ask::Yield => page.text("yield\""),
+        Ask::Exit => page.text("exit\""),
+        other => write_more(page, other),
+    }
+}
+
+// An ask with several numbers.
+fn write_more(page: &mut Sheet, ask: Ask) -> Result<(), AllocError> {
+    match ask {
+        Ask::Read(tok, cell) => write_two(page, "read", tok.0, u64::from(cell)),
+        Ask::Write(tok, cell, value) => {
+            write_two(page, "write", tok.0, u64::from(cell))?;
+            page.tagged(", ", value)
+        }
+        Ask::Add(tok, more) => write_two(page, "add", tok.0, more),
+        Ask::Reply(msg, error, outcome) => {
+            write_two(page, "reply", msg.0, u64::from(error))?;
+            page.tagged(", ", outcome)
+        }
+        Ask::Do(msg, to, call) => write_sending(page, "do", msg, to, call),
+        Ask::Send(msg, to, call, flags) => {
+            write_sending(page, "send", msg, to, call)?;
+            page.tagged(", ", number_of_flags(flags))
+        }
+        _ => Ok(()),
+    }
+}
+
+fn write_steps(page: &mut Sheet, steps: &[Ask]) -> Result<(), AllocError> {
+    for (i, ask) in steps.iter().enumerate() {
+        page.text(if i > 0 { ", [\"" } else { "[\"" })?;
+        write_ask(page, *ask)?;
+        page.text("]")?;
+    }
+    Ok(())
+}
+
+fn write_thread(page: &mut Sheet, thread: &ThreadSpec) -> Result<(), AllocError> {
+    page.tagged("{\"cpu\": ", u64::from(thread.cpu.0))?;
+    page.tagged(", \"repeat\": ", u64::from(thread.repeat))?;
+    page.text(", \"steps\": [")?;
+    write_steps(page, thread.steps.as_slice())?;
+    page.text("]}")
+}
+
+// What stands before the item of a list that has this number.
+fn break_line(page: &mut Sheet, i: usize) -> Result<(), AllocError> {
+    page.text(if i > 0 { ",\n    " } else { "\n    " })
+}
+
+fn write_tokens(page: &mut Sheet, tokens: &[TokSpec]) -> Result<(), AllocError> {
+    for (i, token) in tokens.iter().enumerate() {
+        break_line(page, i)?;
+        write_token(page, token)?;
+    }
+    Ok(())
+}
+
+fn write_messages(page: &mut Sheet, messages: &[MsgSpec]) -> Result<(), AllocError> {
+    for (i, message) in messages.iter().enumerate() {
+        break_line(page, i)?;
+        write_message(page, message)?;
+    }
+    Ok(())
+}
+
+fn write_threads(page: &mut Sheet, threads: &[ThreadSpec]) -> Result<(), AllocError> {
+    for (i, thread) in threads.iter().enumerate() {
+        break_line(page, i)?;
+        write_thread(page, thread)?;
+    }
+    Ok(())
+}
+
+// The JSON text of a script, whatever it holds.
+fn written(alloc: Global, script: &Script) -> Result<String, AllocError> {
+    let mut page = Sheet::new(alloc);
+    page.tagged("{\"version\": 1, \"turns\": ", u64::from(script.turns))?;
+    page.tagged(", \"idle\": ", u64::from(script.idle))?;
+    page.tagged(", \"cpus\": ", u64::from(script.cpus))?;
+    page.text(",\n  \"tokens\": [")?;
+    write_tokens(&mut page, script.tokens.as_slice())?;
+    page.text("],\n  \"messages\": [")?;
+    write_messages(&mut page, script.messages.as_slice())?;
+    page.text("],\n  \"threads\": [")?;
+    write_threads(&mut page, script.threads.as_slice())?;
+    page.text("]}\n")?;
+    Ok(page.into_string())
+}
+
+// Whether a text is the JSON of a script: it is read again.
+fn is_json_of(alloc: Global, text: &str, script: &Script) -> Result<bool, Unsaid>
+    ensures exact { IfOk result (λ is. IsTrue is → script_of text.now ≡ Ok script.now) }
+    ensures limits { IfOk result (λ is. IsTrue is → IsWithinLimits script.now) }
+{
+    match read_script(alloc, text.as_bytes()) {
+        Ok(read) => Ok(same_script(&read, script)),
+        Err(Fault::Memory) => Err(Unsaid::Memory),
+        Err(_) => Ok(false),
+    }
+}
+
+/// A script as a JSON text of the format. What was written is read again and compared, so that it is the same script.
+///
+/// Refused with `Memory` if an allocation is, and with `Limits` if the script doesn't keep the limits of the format.
+pub fn json_of(alloc: Global, script: &Script) -> Result<String, Unsaid>
+    // The text is read as this script.
+    ensures exact { IfOk result (λ text. script_of (string_bytes text) ≡ Ok script.now) }
+
+    // What is written keeps the limits of the format.
+    ensures limits { OnOk result (IsWithinLimits script.now) }
+{
+    let Ok(text) = written(alloc, script) else {
+        return Err(Unsaid::Memory);
+    };
+    if is_json_of(alloc, text.as_str(), script)? {
+        Ok(text)
+    } else {
+        Err(Unsaid::Limits)
+    }
+}

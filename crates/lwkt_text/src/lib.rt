@@ -1,0 +1,35 @@
+//! Reads and writes scripts as a text that people write.
+#![tactic(auto)]
+
+pub mod claims;
+mod drafts;
+mod expecting;
+pub mod jsons;
+mod listings;
+mod looks;
+mod many;
+mod names;
+mod pages;
+mod parts;
+mod readers;
+mod sames;
+mod sayings;
+mod scans;
+mod slips;
+mod steps;
+mod tables;
+mod unsaid;
+mod words;
+mod writers;
+mod wrongs;
+
+pub use jsons::json_of;
+pub use listings::names_of;
+pub use many::Many;
+pub use names::Name;
+pub use readers::{Reading, Refusal, read_text};
+pub use tables::Names;
+pub use unsaid::Unsaid;
+pub use words::Word;
+pub use writers::text_of;
+pub use wrongs::{Slip, Wanted, What, Wrong};

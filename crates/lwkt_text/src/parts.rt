@@ -1,0 +1,282 @@
+ghost use Rattle.std.specs.Prelude.{◌≡◌, ◌≤◌, ◌<◌, ◌+◌, length, drop, IfOk, IfErr, OnOk, OnErr, Ok, Err};
+ghost use Rattle.lwkt_script.specs.Limits.{IsToken, IsMessage};
+ghost use Rattle.lwkt_script.specs.Member.{law_of, allows};
+ghost use Rattle.lwkt_text.specs.Outcome.{Gives, Fails};
+ghost use Rattle.lwkt_text.specs.Parting.{no_cells, cell_added, cell_named, cell_told, cells_told, cells_at, law_said, law_end, has_param, param_end, asks_nothing, law_at, param_of, cells_place, cells_in, token_of, message_of, head_of};
+
+use crate::looks::{after, demand, ended, is_at, is_name, number_at, number_of, optional, text_at};
+use crate::many::Many;
+use crate::names::Name;
+use crate::slips::checked;
+use crate::tables::{Names, thread_at, thread_length};
+use crate::words::Word;
+use crate::wrongs::{Slip, Wanted, What, Wrong};
+use lwkt_base::{Cells, CpuId, Law, MsgSpec, TokSpec};
+use std::alloc::Global;
+
+/// Cells that were told so far.
+#[derive(Drop)]
+pub struct CellList {
+    /// Of each cell its name; a cell without one has the empty name.
+    pub names: Many<Name>,
+    pub values: Many<u64>,
+    /// The name of the next cell, if it was told.
+    pub pending: Name,
+}
+
+/// What stands at the head of a thread.
+#[derive(Clone, Copy)]
+pub struct Head {
+    pub cpu: CpuId,
+    /// How many times the thread makes its steps, 1 to 1000000.
+    pub repeat: u32,
+}
+
+const LAST_GENERATION: u64 = 70_368_744_177_663;
+
+const LAST_ROUND: u64 = 2_251_799_813_685_247;
+
+const MOST_REPEATS: u64 = 1_000_000;
+
+impl CellList {
+    fn new(alloc: Global) -> Self
+        ensures { result ≡ no_cells }
+    {
+        CellList {
+            names: Many::new(alloc),
+            values: Many::new(alloc),
+            pending: Name::new(alloc),
+        }
+    }
+
+    fn add(&mut self, alloc: Global, n: u64) -> Result<(), Slip>
+        ensures ok { OnOk result (self.new ≡ cell_added n self.old) }
+        ensures only { OnErr result (result ≡ Err Slip.Memory) }
+    {
+        let name = self.pending.take(alloc);
+        self.names.push(name)?;
+        self.values.push(n)
+    }
+
+    // A word that is no number.
+    fn name(&mut self, alloc: Global, word: &Word) -> Result<(), Slip>
+        ensures ok { OnOk result (cell_named word.now self.old ≡ Ok self.new) }
+        ensures err { IfErr result (λ slip. Fails slip (cell_named word.now self.old)) }
+    {
+        let text = word.text.as_str();
+        let is_empty = self.pending.as_str().is_empty();
+        if text == "=" && !is_empty {
+            return Ok(());
+        }
+        if is_name(text) && is_empty {
+            self.pending = Name::of(alloc, text)?;
+            return Ok(());
+        }
+        Err(Slip::Wrong(Wrong {
+            at: word.at,
+            what: What::CellList,
+        }))
+    }
+
+    // One more word.
+    fn tell(&mut self, alloc: Global, word: &Word) -> Result<(), Slip>
+        ensures ok { OnOk result (cell_told word.now self.old ≡ Ok self.new) }
+        ensures err { IfErr result (λ slip. Fails slip (cell_told word.now self.old)) }
+    {
+        match number_of(word.text.as_str()) {
+            Some(n) => self.add(alloc, n),
+            None => self.name(alloc, word),
+        }
+    }
+}
+
+// The words from word i on.
+fn rest_of(words: &[Word], i: usize) -> &[Word]
+    ensures { result.now ≡ drop i words.now }
+{
+    if i <= words.len() { &words[i..] } else { &[] }
+}
+
+// Cells that are told by these words.
+fn cells_told(alloc: Global, words: &[Word]) -> Result<CellList, Slip>
+    ensures { Gives result (cells_told no_cells words.now) }
+{
+    let mut cells = CellList::new(alloc);
+    for word in words {
+        cells.tell(alloc, word)?;
+    }
+    Ok(cells)
+}
+
+// The cells from word i on.
+fn cells_at(alloc: Global, words: &[Word], i: usize) -> Result<CellList, Slip>
+    ensures { Gives result (cells_at words.now i) }
+{
+    let cells = cells_told(alloc, rest_of(words, i))?;
+    let what = What::Number {
+        low: 0,
+        high: u64::MAX,
+    };
+    let is_whole = cells.pending.as_str().is_empty();
+    checked(demand(words, words.len(), what, is_whole))?;
+    Ok(cells)
+}
+
+// The law of a name.
+fn law_of(name: &str) -> Option<Law>
+    ensures { result ≡ law_of name.now }
+{
+    match name {
+        "any" => Some(Law::Any),
+        "sum" => Some(Law::Sum),
+        "order" => Some(Law::Order),
+        "cap" => Some(Law::Cap),
+        "tally" => Some(Law::Tally),
+        _ => None,
+    }
+}
+
+// The law that word 2 may be.
+fn law_said(words: &[Word]) -> Option<Law>
+    ensures { result ≡ law_said words.now }
+{
+    law_of(text_at(words, 2))
+}
+
+fn law_end(words: &[Word]) -> usize
+    ensures exact { result ≡ law_end words.now }
+    ensures most { result ≤ 3 }
+{
+    if law_said(words).is_some() { 3 } else { 2 }
+}
+
+// Whether a number stands behind the law.
+fn has_param(words: &[Word]) -> bool
+    ensures { result ≡ has_param words.now }
+{
+    law_said(words).is_some() && number_of(text_at(words, 3)).is_some()
+}
+
+fn param_end(words: &[Word]) -> usize
+    ensures exact { result ≡ param_end words.now }
+    ensures most { result ≤ 4 }
+{
+    if has_param(words) { 4 } else { law_end(words) }
+}
+
+// Whether a law asks nothing of its parameter.
+fn asks_nothing(law: Law) -> bool
+    ensures { result ≡ asks_nothing law }
+{
+    match law {
+        Law::Any | Law::Order | Law::Len => true,
+        Law::Sum | Law::Cap | Law::Tally => false,
+    }
+}
+
+fn law_at(words: &[Word]) -> Law
+    ensures { result ≡ law_at words.now }
+{
+    law_said(words).unwrap_or(Law::Any)
+}
+
+fn param_of(words: &[Word]) -> Result<u64, Wrong>
+    ensures { result ≡ param_of words.now }
+{
+    if has_param(words) {
+        return number_at(words, 3, 0, u64::MAX);
+    }
+    let what = What::Number {
+        low: 0,
+        high: u64::MAX,
+    };
+    demand(words, law_end(words), what, asks_nothing(law_at(words)))?;
+    Ok(0)
+}
+
+// Where `cells` may stand.
+fn cells_place(words: &[Word]) -> usize
+    ensures exact { result ≡ cells_place words.now }
+    ensures most { result ≤ 6 }
+{
+    after(words, param_end(words), "gen")
+}
+
+/// The cells that a token's sentence tells.
+pub fn cells_in(alloc: Global, words: &[Word]) -> Result<CellList, Slip>
+    ensures { Gives result (cells_in words.now) }
+{
+    let place = cells_place(words);
+    if is_at(words, place, "cells") {
+        return cells_at(alloc, words, place + 1);
+    }
+    checked(ended(words, place))?;
+    Ok(CellList::new(alloc))
+}
+
+// Whether a token under this law may have so many cells.
+fn allows(law: Law, count: usize) -> bool
+    ensures { result ≡ allows law count }
+{
+    match law {
+        Law::Tally => count == 1,
+        Law::Len => 0 < count && count <= 4,
+        _ => count <= 4,
+    }
+}
+
+/// A token, by its sentence.
+#[tactic(auto, unfolding(crate::specs::Parting::token_of))]
+pub fn token_of(alloc: Global, words: &[Word]) -> Result<TokSpec, Slip>
+    ensures exact { Gives result (token_of words.now) }
+    ensures limits { IfOk result IsToken }
+{
+    let param = checked(param_of(words))?;
+    let end = param_end(words);
+    let generation = checked(optional(words, end, "gen", 0, LAST_GENERATION, 0))?;
+    let cells = cells_in(alloc, words)?;
+    let law = law_at(words);
+    let is_allowed = allows(law, cells.values.len());
+    checked(demand(words, words.len(), What::CellCount, is_allowed))?;
+    Ok(TokSpec {
+        cells: Cells::from_vec(cells.values.into_vec()),
+        law,
+        param,
+        generation,
+        blob: None,
+    })
+}
+
+/// A message, by its sentence.
+#[tactic(auto, unfolding(crate::specs::Parting::message_of))]
+pub fn message_of(names: &Names, words: &[Word]) -> Result<MsgSpec, Wrong>
+    ensures exact { result ≡ message_of names.now words.now }
+    ensures limits { IfOk result (IsMessage names.now.cpus) }
+{
+    demand(words, 2, What::Word(Wanted::Of), is_at(words, 2, "of"))?;
+    let origin = thread_at(names, words, 3)?;
+    let is_there = origin.cpu.0 < names.cpus && origin.thread <= 15;
+    demand(words, 3, What::Origin, is_there)?;
+    let end = 3 + thread_length(words, 3);
+    let round = optional(words, end, "round", 0, LAST_ROUND, 0)?;
+    ended(words, after(words, end, "round"))?;
+    Ok(MsgSpec { round, origin })
+}
+
+/// The head of a thread, by its sentence.
+#[tactic(auto, unfolding(crate::specs::Parting::head_of))]
+pub fn head_of(names: &Names, words: &[Word]) -> Result<Head, Wrong>
+    requires some { 0 < names.now.cpus }
+    ensures exact { result ≡ head_of names.now words.now }
+    ensures cpu { IfOk result (λ h. h.cpu.0 < names.now.cpus) }
+    ensures repeats { IfOk result (λ h. (1 ≤ h.repeat) × (h.repeat ≤ 1000000)) }
+{
+    demand(words, 2, What::Word(Wanted::On), is_at(words, 2, "on"))?;
+    let cpu = number_at(words, 3, 0, names.cpus as u64 - 1)? as u8;
+    let repeat = optional(words, 4, "repeat", 1, MOST_REPEATS, 1)? as u32;
+    ended(words, after(words, 4, "repeat"))?;
+    Ok(Head {
+        cpu: CpuId(cpu),
+        repeat,
+    })
+}

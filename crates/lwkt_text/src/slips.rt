@@ -1,0 +1,13 @@
+ghost use Rattle.lwkt_text.specs.Outcome.{Gives};
+
+use crate::wrongs::{Slip, Wrong};
+
+/// What was read, or what is wrong.
+pub fn checked<T: Drop>(read: Result<T, Wrong>) -> Result<T, Slip>
+    ensures { Gives result read }
+{
+    match read {
+        Ok(value) => Ok(value),
+        Err(wrong) => Err(Slip::Wrong(wrong)),
+    }
+}

@@ -1,0 +1,146 @@
+ghost use Rattle.std.specs.Prelude.{◌≡◌, ◌≤◌};
+ghost use Rattle.lwkt_text.specs.Naming.{position, reference, token_at, message_at, cells_of, cell_at, thread_length, numbered_thread, named_thread, thread_at};
+
+use crate::looks::{demand, is_at, number_at, number_of, text_at, wrong_at};
+use crate::many::Many;
+use crate::names::Name;
+use crate::words::Word;
+use crate::wrongs::{Wanted, What, Wrong};
+use lwkt_base::{CpuId, MsgId, ThreadId, TokId};
+
+/// The names of a text, each by the number of what it names.
+#[derive(Drop)]
+pub struct Names {
+    pub tokens: Many<Name>,
+    /// Of each token the names of its cells; a cell without one has the empty name.
+    pub cells: Many<Many<Name>>,
+    pub messages: Many<Name>,
+    pub threads: Many<Name>,
+    /// Of each thread's name the thread.
+    pub ids: Many<ThreadId>,
+    /// How many processors there are, 1 to 8.
+    pub cpus: u8,
+}
+
+/// A cell of a token.
+#[derive(Clone, Copy)]
+pub struct CellPlace {
+    pub tok: TokId,
+    pub cell: u8,
+}
+
+/// The place of a name in a list, the first where it stands twice.
+pub fn position(names: &[Name], text: &str) -> Option<usize>
+    ensures { result ≡ position names.now text.now }
+{
+    for (i, name) in names.iter().enumerate() {
+        if name.as_str() == text {
+            return Some(i);
+        }
+    }
+    None
+}
+
+// The number that a word is, or whose name it is.
+fn reference(names: &[Name], text: &str) -> Option<u8>
+    ensures { result ≡ reference names.now text.now }
+{
+    let n = match number_of(text) {
+        Some(n) => n,
+        None => position(names, text)? as u64,
+    };
+    if n <= 255 { Some(n as u8) } else { None }
+}
+
+/// Word i, a token: its name, or a number up to 255.
+pub fn token_at(names: &Names, words: &[Word], i: usize) -> Result<TokId, Wrong>
+    ensures { result ≡ token_at names.now words.now i }
+{
+    match reference(names.tokens.as_slice(), text_at(words, i)) {
+        Some(n) => Ok(TokId(n)),
+        None => Err(wrong_at(words, i, What::Token)),
+    }
+}
+
+/// Word i, a message: its name, or a number up to 255.
+pub fn message_at(names: &Names, words: &[Word], i: usize) -> Result<MsgId, Wrong>
+    ensures { result ≡ message_at names.now words.now i }
+{
+    match reference(names.messages.as_slice(), text_at(words, i)) {
+        Some(n) => Ok(MsgId(n)),
+        None => Err(wrong_at(words, i, What::Message)),
+    }
+}
+
+// The names of a token's cells.
+fn cells_of(names: &Names, tok: TokId) -> &[Name]
+    ensures { result.now ≡ cells_of names.now tok }
+{
+    match names.cells.as_slice().get(tok.0 as usize) {
+        Some(cells) => cells.as_slice(),
+        None => &[],
+    }
+}
+
+/// Words i to i + 2, a token, a full stop and a cell: its name, or a number up to 255.
+#[tactic(auto, unfolding(crate::specs::Naming::cell_at))]
+pub fn cell_at(names: &Names, words: &[Word], i: usize) -> Result<CellPlace, Wrong>
+    requires { i ≤ 100000 }
+    ensures { result ≡ cell_at names.now words.now i }
+{
+    let tok = token_at(names, words, i)?;
+    demand(
+        words,
+        i + 1,
+        What::Word(Wanted::Point),
+        is_at(words, i + 1, "."),
+    )?;
+    match reference(cells_of(names, tok), text_at(words, i + 2)) {
+        Some(cell) => Ok(CellPlace { tok, cell }),
+        None => Err(wrong_at(words, i + 2, What::Cell)),
+    }
+}
+
+/// How many words name the thread that word i begins: one, its name; or three, its processor, a full stop and its number there.
+pub fn thread_length(words: &[Word], i: usize) -> usize
+    requires { i ≤ 100000 }
+    ensures exact { result ≡ thread_length words.now i }
+    ensures most { result ≤ 3 }
+{
+    if is_at(words, i + 1, ".") { 3 } else { 1 }
+}
+
+// Words i to i + 2, a processor and a thread's number there.
+fn numbered_thread(words: &[Word], i: usize) -> Result<ThreadId, Wrong>
+    requires { i ≤ 100000 }
+    ensures { result ≡ numbered_thread words.now i }
+{
+    let cpu = number_at(words, i, 0, 255)? as u8;
+    let thread = number_at(words, i + 2, 0, 255)? as u8;
+    Ok(ThreadId {
+        cpu: CpuId(cpu),
+        thread,
+    })
+}
+
+/// The thread of a name.
+pub fn named_thread(names: &Names, text: &str) -> Option<ThreadId>
+    ensures { result ≡ named_thread names.now text.now }
+{
+    let i = position(names.threads.as_slice(), text)?;
+    names.ids.as_slice().get(i).copied()
+}
+
+/// The thread that word i begins.
+pub fn thread_at(names: &Names, words: &[Word], i: usize) -> Result<ThreadId, Wrong>
+    requires { i ≤ 100000 }
+    ensures { result ≡ thread_at names.now words.now i }
+{
+    if is_at(words, i + 1, ".") {
+        return numbered_thread(words, i);
+    }
+    match named_thread(names, text_at(words, i)) {
+        Some(id) => Ok(id),
+        None => Err(wrong_at(words, i, What::Thread)),
+    }
+}

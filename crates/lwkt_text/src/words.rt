@@ -1,0 +1,18 @@
+use crate::many::Many;
+use crate::names::Name;
+
+/// A word of a text, and where it stands.
+#[derive(Drop)]
+pub struct Word {
+    /// How many bytes stand before it.
+    pub at: usize,
+    /// How many bytes stand before what comes after it.
+    pub end: usize,
+    pub text: Name,
+}
+
+/// What stands on a line, or between two semicolons: some words.
+#[derive(Drop)]
+pub struct Sentence {
+    pub words: Many<Word>,
+}

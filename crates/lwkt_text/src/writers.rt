@@ -1,0 +1,244 @@
+// A script as a text.
+ghost use Rattle.std.specs.Prelude.{◌≡◌, Ok, IfOk, IsTrue, string_bytes};
+ghost use Rattle.lwkt_text.specs.Reading.{IsTextOf};
+
+use crate::jsons::law_name;
+use crate::pages::Sheet;
+use crate::readers::{Refusal, read_text};
+use crate::sames::same_script;
+use crate::unsaid::Unsaid;
+use lwkt_base::{Ask, Call, Flags, MsgId, MsgSpec, ThreadId, TokId, TokSpec};
+use lwkt_script::{Script, ThreadSpec};
+use std::alloc::{AllocError, Global};
+
+// How many tokens and messages have names.
+#[derive(Clone, Copy)]
+struct Known {
+    tokens: usize,
+    messages: usize,
+}
+
+fn write_token(page: &mut Sheet, i: usize, token: &TokSpec) -> Result<(), AllocError> {
+    page.tagged("token t", i as u64)?;
+    page.text(": ")?;
+    page.text(law_name(token.law))?;
+    page.tagged(" ", token.param)?;
+    if token.generation > 0 {
+        page.tagged(", gen ", token.generation)?;
+    }
+    if !token.cells.as_slice().is_empty() {
+        page.text(", cells ")?;
+        page.numbers(" ", token.cells.as_slice())?;
+    }
+    page.text("\n")
+}
+
+// A thread, by its processor and its number there.
+fn write_id(page: &mut Sheet, id: ThreadId) -> Result<(), AllocError> {
+    page.number(u64::from(id.cpu.0))?;
+    page.tagged(".", u64::from(id.thread))
+}
+
+fn write_message(page: &mut Sheet, i: usize, message: &MsgSpec) -> Result<(), AllocError> {
+    page.tagged("message m", i as u64)?;
+    page.text(" of ")?;
+    write_id(page, message.origin)?;
+    if message.round > 0 {
+        page.tagged(", round ", message.round)?;
+    }
+    page.text("\n")
+}
+
+// A word and a token: its name, if it has one, and else its number.
+fn write_tok(page: &mut Sheet, known: Known, word: &str, tok: TokId) -> Result<(), AllocError> {
+    page.text(word)?;
+    page.text(if usize::from(tok.0) < known.tokens {
+        " t"
+    } else {
+        " "
+    })?;
+    page.number(u64::from(tok.0))
+}
+
+// A word and a message: its name, if it has one, and else its number.
+fn write_msg(page: &mut Sheet, known: Known, word: &str, msg: MsgId) -> Result<(), AllocError> {
+    page.text(word)?;
+    page.text(if usize::from(msg.0) < known.messages {
+        " m"
+    } else {
+        " "
+    })?;
+    page.number(u64::from(msg.0))
+}
+
+fn write_sending(
+    page: &mut Sheet,
+    known: Known,
+    word: &str,
+    msg: MsgId,
+    to: ThreadId,
+    call: Call,
+) -> Result<(), AllocError> {
+    write_msg(page, known, word, msg)?;
+    page.text(" -> ")?;
+    write_id(page, to)?;
+    if call.op > 0 {
+        page.tagged(", op ", u64::from(call.op))?;
+    }
+    if call.arg > 0 {
+        page.tagged(", arg ", call.arg)?;
+    }
+    Ok(())
+}
+
+fn write_flags(page: &mut Sheet, flags: Flags) -> Result<(), AllocError> {
+    if flags.dropable {
+        page.text(", dropable")?;
+    }
+    if flags.abortable {
+        page.text(", abortable")?;
+    }
+    Ok(())
+}
+
+// A step of one word, or of a word and what it is of.
+fn write_ask(page: &mut Sheet, known: Known, ask: Ask) -> Result<(), AllocError> {
+    match ask {
+        Ask::Get(tok) => write_tok(page, known, "get", tok),
+        Ask::GetShared(tok) => write_tok(page, known, "gets", tok),
+        Ask::TryGet(tok) => write_tok(page, known, "try", tok),
+        Ask::Rel(tok) => write_tok(page, known, "rel", tok),
+        Ask::Abort(msg) => write_msg(page, known, "abort", msg),
+        Ask::IsAborted(msg) => write_msg(page, known, "isab", msg),
+        Ask::DropMsg(msg) => write_msg(page, known, "drop", msg),
+        Ask::Swap => page.text("swap"),
+        Ask::GetPort => page.text("getport"),
+        Ask::WaitPort => page.text("wait"),
+        Ask::Yield => page.text("yield"),
+        Ask::Exit => page.text("exit"),
+        other => write_more(page, known, other),
+    }
+}
+
+// A step with numbers.
+fn write_more(page: &mut Sheet, known: Known, ask: Ask) -> Result<(), AllocError> {
+    match ask {
+        Ask::Read(tok, cell) => {
+            write_tok(page, known, "read", tok)?;
+            page.tagged(".", u64::from(cell))
+        }
+        Ask::Write(tok, cell, value) => {
+            write_tok(page, known, "write", tok)?;
+            page.tagged(".", u64::from(cell))?;
+            page.tagged(" ", value)
+        }
+        Ask::Add(tok, more) => {
+            write_tok(page, known, "add", tok)?;
+            page.tagged(" ", more)
+        }
+        Ask::Reply(msg, error, outcome) => {
+            write_msg(page, known, "reply", msg)?;
+            page.tagged(" ", u64::from(error))?;
+            page.tagged(" ", outcome)
+        }
+        Ask::Do(msg, to, call) => write_sending(page, known, "do", msg, to, call),
+        Ask::Send(msg, to, call, flags) => {
+            write_sending(page, known, "send", msg, to, call)?;
+            write_flags(page, flags)
+        }
+        _ => Ok(()),
+    }
+}
+
+fn write_steps(page: &mut Sheet, known: Known, steps: &[Ask]) -> Result<(), AllocError> {
+    for ask in steps {
+        page.text("    ")?;
+        write_ask(page, known, *ask)?;
+        page.text("\n")?;
+    }
+    Ok(())
+}
+
+// The head of a thread, which is named by its place among all threads.
+fn write_thread(
+    page: &mut Sheet,
+    known: Known,
+    i: usize,
+    thread: &ThreadSpec,
+) -> Result<(), AllocError> {
+    page.tagged("\nthread p", i as u64)?;
+    page.tagged(" on ", u64::from(thread.cpu.0))?;
+    if thread.repeat != 1 {
+        page.tagged(", repeat ", u64::from(thread.repeat))?;
+    }
+    page.text(":\n")?;
+    write_steps(page, known, thread.steps.as_slice())
+}
+
+fn write_tokens(page: &mut Sheet, tokens: &[TokSpec]) -> Result<(), AllocError> {
+    for (i, token) in tokens.iter().enumerate() {
+        write_token(page, i, token)?;
+    }
+    Ok(())
+}
+
+fn write_messages(page: &mut Sheet, messages: &[MsgSpec]) -> Result<(), AllocError> {
+    for (i, message) in messages.iter().enumerate() {
+        write_message(page, i, message)?;
+    }
+    Ok(())
+}
+
+fn write_threads(page: &mut Sheet, known: Known, threads: &[ThreadSpec]) -> Result<(), AllocError> {
+    for (i, thread) in threads.iter().enumerate() {
+        write_thread(page, known, i, thread)?;
+    }
+    Ok(())
+}
+
+// The text of a script, whatever it holds.
+fn written(alloc: Global, script: &Script) -> Result<String, AllocError> {
+    let mut page = Sheet::new(alloc);
+    page.tagged("turns ", u64::from(script.turns))?;
+    page.tagged("; idle ", u64::from(script.idle))?;
+    page.tagged("; cpus ", u64::from(script.cpus))?;
+    page.text("\n\n")?;
+    let tokens = script.tokens.as_slice();
+    let messages = script.messages.as_slice();
+    let known = Known {
+        tokens: tokens.len(),
+        messages: messages.len(),
+    };
+    write_tokens(&mut page, tokens)?;
+    write_messages(&mut page, messages)?;
+    write_threads(&mut page, known, script.threads.as_slice())?;
+    Ok(page.into_string())
+}
+
+// Whether a text is one of a script: it is read again.
+fn is_text_of(alloc: Global, text: &str, script: &Script) -> Result<bool, Unsaid>
+    ensures { IfOk result (λ is. IsTrue is → IsTextOf script.now text.now) }
+{
+    match read_text(alloc, text.as_bytes()) {
+        Ok(reading) => Ok(same_script(&reading.script, script)),
+        Err(Refusal::Memory) => Err(Unsaid::Memory),
+        Err(Refusal::Wrongs(_)) => Ok(false),
+    }
+}
+
+/// A script as a text of the language: each token is named `t` and its number, each message `m` and its number, each thread `p`
+/// and its place among all threads. What was written is read again and compared, so that it is the same script.
+///
+/// Refused with `Memory` if an allocation is, and with `Limits` if the script doesn't keep the limits of the format.
+pub fn text_of(alloc: Global, script: &Script) -> Result<String, Unsaid>
+    ensures { IfOk result (λ text. IsTextOf script.now (string_bytes text)) }
+{
+    let Ok(text) = written(alloc, script) else {
+        return Err(Unsaid::Memory);
+    };
+    if is_text_of(alloc, text.as_str(), script)? {
+        Ok(text)
+    } else {
+        Err(Unsaid::Limits)
+    }
+}

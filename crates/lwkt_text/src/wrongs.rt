@@ -1,0 +1,72 @@
+/// What is wrong with a part of a text.
+#[derive(Clone, Copy, PartialEq, Eq)]
+pub enum What {
+    /// The sentence begins with no word of the language.
+    Keyword,
+    /// A name is wanted: a word that begins with a letter or `_`.
+    Name,
+    /// The name was given before to a part of the same kind.
+    Twice,
+    /// A whole number within these limits is wanted.
+    Number { low: u64, high: u64 },
+    /// A token is wanted: its name, or a number up to 255.
+    Token,
+    /// A cell of the token is wanted: its name, or a number up to 255.
+    Cell,
+    /// A message is wanted: its name, or a number up to 255.
+    Message,
+    /// A thread is wanted: its name, or its processor and its number there.
+    Thread,
+    /// The message's thread is none that the format allows.
+    Origin,
+    /// This word is wanted.
+    Word(Wanted),
+    /// A number, or a name and its number, is wanted among cells.
+    CellList,
+    /// The law doesn't allow so many cells.
+    CellCount,
+    /// A state of a thread or a place of a message is wanted.
+    State,
+    /// A number, a cell, or `gen`, `round` or `tally` with what it is of, is wanted.
+    Quantity,
+    /// A relation is wanted: `=`, `!=`, `<`, `<=`, `>` or `>=`.
+    Relation,
+    /// A sentence has at most 1000 words.
+    Long,
+    /// Nothing more may stand in this sentence.
+    Further,
+    /// A step stands before the first thread.
+    NoThread,
+    /// There are too many tokens, messages, threads of a processor, or steps of a thread.
+    Crowd,
+}
+
+/// A word that has to stand at its place.
+#[derive(Clone, Copy, PartialEq, Eq)]
+pub enum Wanted {
+    /// `->`
+    Arrow,
+    /// `.`
+    Point,
+    /// `of`
+    Of,
+    /// `on`
+    On,
+}
+
+/// What is wrong with a text, and where.
+#[derive(Clone, Copy, PartialEq, Eq)]
+pub struct Wrong {
+    /// How many bytes stand before the place.
+    pub at: usize,
+    pub what: What,
+}
+
+/// Why a part wasn't read.
+#[derive(Clone, Copy, PartialEq, Eq)]
+pub enum Slip {
+    /// Memory was refused.
+    Memory,
+    /// The part is wrong.
+    Wrong(Wrong),
+}

@@ -1,0 +1,41 @@
+/// How the program is called.
+pub const USAGE: &str = "lwkt_text: FILE, and behind it --json, --text or --run\n";
+
+/// What is done with a script.
+#[derive(Clone, Copy, Debug, PartialEq, Eq)]
+pub enum Mode {
+    /// It is written as JSON.
+    Json,
+    /// It is written as text.
+    Text,
+    /// It is run, and what it says of its outcome is judged.
+    Run,
+}
+
+/// What the arguments say.
+#[derive(Debug, Drop)]
+pub struct Options {
+    pub path: String,
+    pub mode: Mode,
+}
+
+// What a word asks for.
+fn mode_of(word: &str) -> Option<Mode> {
+    match word {
+        "--json" => Some(Mode::Json),
+        "--text" => Some(Mode::Text),
+        "--run" => Some(Mode::Run),
+        _ => None,
+    }
+}
+
+/// What the arguments say, if they are a file and one word of the program's.
+pub fn options_of(mut words: Vec<String>) -> Option<Options> {
+    if words.len() != 2 {
+        return None;
+    }
+    let word = words.pop()?;
+    let path = words.pop()?;
+    let mode = mode_of(word.as_str())?;
+    Some(Options { path, mode })
+}

@@ -1,0 +1,549 @@
+"use strict";
+const at = (id) => document.getElementById(id);
+const windowSize = 10000, rowHeight = 28, mostWindows = 12, mostCuts = 64, wholePicture = 120, pictureRounds = 40, longestShown = 1000000;
+
+// ---- The worker, which has the module.
+
+const machine = { worker: null, calls: new Map(), count: 0 };
+
+function moduleBytes() {
+  const text = atob(at("module").textContent.replace(/\s/g, ""));
+  return Uint8Array.from(text, (sign) => sign.charCodeAt(0));
+}
+
+function startWorker() {
+  const address = URL.createObjectURL(new Blob([at("worker").textContent], { type: "text/javascript" }));
+  const worker = new Worker(address);
+  URL.revokeObjectURL(address);
+  worker.onmessage = ({ data }) => settle(data);
+  worker.onerror = (event) => stopWorker(event.message || "the worker ended");
+  machine.worker = worker;
+  const bytes = moduleBytes();
+  worker.postMessage({ number: 0, bytes }, [bytes.buffer]);
+}
+
+// A call of the library by its name: what it wrote and its status. Refused where the module trapped, or the worker was stopped.
+function ask(name, script, words) {
+  if (!machine.worker) startWorker();
+  machine.count += 1;
+  const number = machine.count;
+  return new Promise((resolve, reject) => {
+    machine.calls.set(number, { resolve, reject });
+    machine.worker.postMessage({ number, name, script, words });
+  });
+}
+
+function settle(answer) {
+  if (answer.number === 0) return stopWorker(`this browser doesn't take the module, which needs WebAssembly with 64-bit memory (${answer.error})`);
+  const call = machine.calls.get(answer.number);
+  machine.calls.delete(answer.number);
+  if (answer.error) call?.reject(new Error(answer.error));
+  else call?.resolve(answer);
+}
+
+// The text that a call wrote.
+function textOf(answer) {
+  return new TextDecoder().decode(answer.bytes);
+}
+
+function stopWorker(why) {
+  machine.worker?.terminate();
+  machine.worker = null;
+  const calls = [...machine.calls.values()];
+  machine.calls.clear();
+  for (const call of calls) call.reject(new Error(why));
+}
+
+const show = (script, words) => ask("lwkt_show_turns", script, words);
+
+// ---- A run: its script, its lines as far as they were asked for, and the runs that are cut off after some rounds.
+
+let run = null;
+let chosen = 0;
+let wanted = 0;
+
+function statusWords(status) {
+  return { 0: "Every thread ended.", 2: "The turns were used up before every thread ended.", 4: "The run is unlawful." }[status] || `Status ${status}.`;
+}
+
+async function makeRun(script) {
+  const whole = await show(script, "turns");
+  if (whole.status === 1 || whole.status === 3) return { refused: whole };
+  const read = readRun(textOf(whole));
+  const opening = await show(cutScript(script, 1), "turns --chains");
+  const { messages, cpus } = JSON.parse(script);
+  const made = { script, cpus, messages, whole: read, status: whole.status, milliseconds: whole.milliseconds, total: read.total, openings: readOpenings(textOf(opening)), windows: new Map(), cuts: new Map(), parts: new Map() };
+  made.rounds = Math.ceil(made.total / cpus);
+  addWindow(made, 0, read.turns);
+  return { made };
+}
+
+// What stands before the first of some turns: at the start of the run its opening, else what the turns before left, if known.
+function stateBefore(it, number) {
+  if (number === 0) return openState(it.openings, it.messages);
+  const before = it.windows.get(number - 1);
+  if (!before) return unknownState(it.openings, it.messages);
+  return stateAfter(before, before.turns.length - 1);
+}
+
+function addWindow(it, number, turns) {
+  const before = stateBefore(it, number);
+  const from = number === 0 ? 0 : it.windows.has(number - 1) ? it.windows.get(number - 1).from : number * windowSize;
+  tellFirstWords(before, turns);
+  if (it.windows.size >= mostWindows) it.windows.delete([...it.windows.keys()].find((key) => key !== 0));
+  it.windows.set(number, { turns, before, from, marks: [] });
+}
+
+// What stands after a turn of a window. Every 256th state is kept, so that a step is quick.
+function stateAfter(part, last) {
+  let state = copyState(part.before), begin = 0;
+  for (let mark = Math.floor((last + 1) / 256); mark > 0; mark -= 1) {
+    if (!part.marks[mark]) continue;
+    state = copyState(part.marks[mark]);
+    begin = mark * 256;
+    break;
+  }
+  for (let i = begin; i <= last; i += 1) {
+    if (i % 256 === 0 && i > 0 && !part.marks[i / 256]) part.marks[i / 256] = copyState(state);
+    tell(state, part.turns[i]);
+  }
+  return state;
+}
+
+// The lines round a turn, asked for where they aren't there.
+async function windowOf(it, turn) {
+  const number = Math.floor(turn / windowSize);
+  if (!it.windows.has(number)) {
+    const from = number * windowSize;
+    const lines = await show(it.script, `turns --turns ${from}..${from + windowSize - 1}`);
+    addWindow(it, number, readRun(textOf(lines)).turns);
+  }
+  return it.windows.get(number);
+}
+
+// What is told of the run that ends after so many rounds.
+async function cutAfter(it, rounds) {
+  if (rounds >= it.rounds) return it.whole;
+  if (!it.cuts.has(rounds)) {
+    const cut = await show(cutScript(it.script, rounds), "turns --turns 0..0");
+    if (it.cuts.size >= mostCuts) it.cuts.delete(it.cuts.keys().next().value);
+    it.cuts.set(rounds, readRun(textOf(cut)));
+  }
+  return it.cuts.get(rounds);
+}
+
+// A thread as a cut run tells it; what the line of its processor's last turn says of it goes before.
+function threadOf(line, cut, last, moment) {
+  const thread = { ...line, said: cut.whys.get(line.id) || "ended", moment };
+  const idle = last?.idle?.get(line.id);
+  if (idle) Object.assign(thread, { said: idle, moment: `in turn ${last.number}` });
+  return thread;
+}
+
+// All threads as their processors' last turns left them. Threads change in turns of their own processor alone, so those of
+// processors that had no turn yet in this round are as the round before left them.
+async function threadsAfter(it, part, turn) {
+  const after = await cutAfter(it, turn.round + 1);
+  const before = turn.round > 0 ? await cutAfter(it, turn.round) : null;
+  const first = part.turns[0].number;
+  return after.threads.map((line) => {
+    const cpu = Number(line.id.split(".")[0]);
+    const had = cpu <= turn.cpu;
+    const last = part.turns[(had ? turn.round : turn.round - 1) * it.cpus + cpu - first];
+    if (had) return threadOf(line, after, last, `as round ${turn.round} ends`);
+    if (!before) return { id: line.id, state: "not begun", said: "has had no turn", list: [], log: [], moment: "before round 0" };
+    return threadOf(before.threads.find((other) => other.id === line.id), before, last, `as round ${turn.round - 1} ends`);
+  });
+}
+
+// ---- The list of turns. Only the rows in view are there.
+
+function drawRows() {
+  const part = run?.windows.get(Math.floor(chosen / windowSize));
+  if (!part) return at("rows").replaceChildren();
+  const box = at("turns"), first = Math.max(0, Math.floor(box.scrollTop / rowHeight) - 10);
+  const last = Math.min(part.turns.length, first + Math.ceil(box.clientHeight / rowHeight) + 20);
+  at("rows").style.height = `${part.turns.length * rowHeight}px`;
+  const rows = [];
+  for (let i = first; i < last; i += 1) {
+    const row = turnRow(part.turns[i], part.turns[i].number === chosen);
+    row.style.top = `${i * rowHeight}px`;
+    row.setAttribute("aria-setsize", run.total);
+    row.setAttribute("aria-posinset", part.turns[i].number + 1);
+    rows.push(row);
+  }
+  at("rows").replaceChildren(...rows);
+  box.setAttribute("aria-activedescendant", `turn-${chosen}`);
+}
+
+function scrollToChosen() {
+  const box = at("turns"), top = (chosen % windowSize) * rowHeight;
+  if (top < box.scrollTop) box.scrollTop = top;
+  else if (top + rowHeight > box.scrollTop + box.clientHeight) box.scrollTop = top + rowHeight - box.clientHeight;
+}
+
+// ---- The chosen turn.
+
+function showNumbers() {
+  at("number").value = chosen;
+  at("number").max = run.total - 1;
+  at("of").textContent = `of 0 to ${run.total - 1}`;
+  for (const [id, off] of [["first", chosen === 0], ["back", chosen === 0], ["forth", chosen >= run.total - 1], ["last", chosen >= run.total - 1]]) {
+    at(id).setAttribute("aria-disabled", String(off));
+  }
+}
+
+async function drawChosen(it, turn) {
+  const part = await windowOf(it, turn);
+  if (it !== run || turn !== wanted) return;
+  chosen = turn;
+  const index = turn % windowSize, now = part.turns[index];
+  showNumbers();
+  scrollToChosen();
+  drawRows();
+  showTurn(at("chosen"), now);
+  const state = stateAfter(part, index);
+  const look = { turn: now, turns: part.turns, at: index, state, from: part.from, go: choose, threads: [] };
+  at("state-head").textContent = `After turn ${turn}`;
+  showTokens(at("tokens"), look);
+  showMessages(at("messages"), look);
+  showLanes(at("lanes"), look);
+  const threads = await threadsAfter(it, part, now);
+  if (it !== run || turn !== chosen) return;
+  look.threads = threads;
+  showProcessors(at("processors"), it.cpus, look);
+  await drawPicture(it, now.round);
+  if (it === run && turn === chosen) markPicture(at("drawing"), turn);
+}
+
+let isDrawing = false;
+
+// Goes to a turn. While one is being drawn, only the last one that was asked for is drawn after it.
+async function choose(turn) {
+  if (!run || run.total === 0) return;
+  wanted = Math.min(Math.max(0, Math.trunc(turn)), run.total - 1);
+  if (isDrawing) return;
+  isDrawing = true;
+  try {
+    for (let drawn = -1, it = null; run && (drawn !== wanted || it !== run); ) {
+      [drawn, it] = [wanted, run];
+      await drawChosen(it, drawn);
+    }
+  } catch (error) {
+    say(error.message);
+  } finally {
+    isDrawing = false;
+  }
+}
+
+// ---- The picture: the whole of a short run, else 40 rounds of it.
+
+function pictureRange(it, round) {
+  if (it.rounds <= wholePicture) return [0, Math.max(0, it.rounds - 1)];
+  const from = Math.floor(round / pictureRounds) * pictureRounds;
+  return [from, Math.min(from + pictureRounds, it.rounds) - 1];
+}
+
+async function drawPicture(it, round) {
+  const [from, to] = pictureRange(it, round);
+  if (it.picture === from) return;
+  const drawn = await show(it.script, `turns --rounds ${from}..${to} --svg`);
+  if (it !== run) return;
+  it.picture = from;
+  it.drawn = textOf(drawn);
+  showPicture(at("drawing"), textOf(drawn));
+  at("rounds").textContent = `rounds ${from} to ${to} of 0 to ${Math.max(0, it.rounds - 1)}`;
+  at("rounds-back").hidden = at("rounds-forth").hidden = it.rounds <= wholePicture;
+}
+
+// ---- Running.
+
+function say(text) {
+  at("status").textContent = text;
+}
+
+function setBusy(is) {
+  at("stop").hidden = !is;
+  at("look").setAttribute("aria-busy", String(is));
+}
+
+async function start(turn = 0) {
+  const script = at("script").value;
+  clearRefusal();
+  say("Running ..");
+  setBusy(true);
+  try {
+    const answer = await makeRun(script);
+    say("");
+    if (answer.refused) showRefusal(script, answer.refused);
+    else showRun(answer.made, turn);
+  } catch (error) {
+    say(`It didn't run: ${error.message}`);
+  } finally {
+    setBusy(false);
+  }
+}
+
+function showVerdict(it) {
+  const good = it.whole.verdict === "lawful";
+  const faulted = it.whole.threads.filter((thread) => thread.state.startsWith("faulted")).map((thread) => `${thread.id} ${thread.state}`);
+  const parts = [`${statusWords(it.status)} `, make("span", { class: good ? "good" : "bad" }, it.whole.verdict)];
+  if (faulted.length) parts.push("; ", make("span", { class: "bad" }, faulted.join(", ")));
+  at("verdict").replaceChildren(...parts, make("span", { class: "quiet" }, `. ${it.total} turns in ${it.rounds} rounds, ${it.milliseconds.toFixed(it.milliseconds < 10 ? 1 : 0)} ms`));
+}
+
+function showRun(it, turn) {
+  run = it;
+  chosen = wanted = 0;
+  showVerdict(it);
+  at("ran").hidden = false;
+  at("report").textContent = [...it.whole.ends, ...it.whole.report].join("\n");
+  for (const id of ["chains", "judged", "chains-note", "trace-note"]) at(id).textContent = "";
+  at("trace").value = "";
+  at("turns").scrollTop = 0;
+  drawOpenParts();
+  choose(turn);
+}
+
+// The parts behind what was opened are asked for when they are opened.
+function drawOpenParts() {
+  if (at("chains-part").open) fillPart("chains", "turns --chains", (text) => { at("chains").textContent = text || "This run has no tokens."; });
+  if (at("trace-part").open) fillPart("trace", "turns --trace", (text) => { at("trace").value = text; });
+}
+
+// Asks for a part once, and puts it where it is shown; one that is too long for that can be saved all the same.
+async function fillPart(name, words, put) {
+  const it = run;
+  if (!it || it.parts.has(name)) return;
+  it.parts.set(name, null);
+  at(`${name}-note`).textContent = "..";
+  put("");
+  try {
+    const answer = await show(it.script, words), { bytes } = answer;
+    if (it !== run) return;
+    it.parts.set(name, bytes);
+    const isLong = bytes.length > longestShown;
+    at(`${name}-note`).textContent = isLong ? `It has ${bytes.length} bytes, too many to be shown here; it can be saved.` : "";
+    put(isLong ? "" : textOf(answer));
+  } catch (error) {
+    it.parts.delete(name);
+    at(`${name}-note`).textContent = error.message;
+  }
+}
+
+// Gives a text, or the bytes of one, to the reader as a file.
+function save(name, text, type) {
+  const address = URL.createObjectURL(new Blob([text], { type }));
+  make("a", { href: address, download: name }).click();
+  setTimeout(() => URL.revokeObjectURL(address), 1000);
+}
+
+// The trace that is to be checked: the one in view, or of a long run the bytes of the one that isn't shown.
+function wholeTrace() {
+  const whole = run?.parts.get("trace") || "";
+  return at("trace").value || (whole.length > longestShown ? whole : "");
+}
+
+async function judge() {
+  try {
+    const answer = await ask("lwkt_check_trace", wholeTrace());
+    at("judged").textContent = textOf(answer).trim() || `status ${answer.status}`;
+  } catch (error) {
+    at("judged").textContent = error.message;
+  }
+}
+
+// ---- Refusals.
+
+function clearRefusal() {
+  at("refusal").replaceChildren();
+  at("mirror").replaceChildren();
+  at("bubble").hidden = true;
+  at("script").removeAttribute("aria-invalid");
+}
+
+// The line with the bad part, and signs under it.
+function excerpt(script, { from, to }) {
+  const begin = script.lastIndexOf("\n", from - 1) + 1;
+  const end = (script.indexOf("\n", from) + 1 || script.length + 1) - 1;
+  const left = Math.max(begin, from - 30), right = Math.min(end, Math.max(to, from + 1) + 30);
+  const line = script.slice(left, right), under = " ".repeat(from - left) + "^".repeat(Math.max(1, Math.min(to, right) - from));
+  return make("pre", {}, line, "\n", make("span", { class: "under" }, under));
+}
+
+function showRefusal(script, answer) {
+  const place = readPlace(textOf(answer));
+  run = null;
+  at("ran").hidden = true;
+  at("verdict").textContent = answer.status === 3 ? "There was no memory for this run." : `The script was refused, fault ${answer.fault}.`;
+  at("script").setAttribute("aria-invalid", "true");
+  if (place.line === undefined) return at("refusal").replaceChildren(make("p", {}, place.said || "refused"));
+  const part = partAt(script, place.line, place.column);
+  const lead = make("button", { type: "button", class: "small", onclick: () => leadTo(part) }, "Go there");
+  at("refusal").replaceChildren(make("p", {}, `Line ${place.line}, column ${place.column}: ${place.said} `, lead), excerpt(script, part));
+  markPart(script, part, place.said);
+}
+
+function leadTo(part) {
+  at("script").focus();
+  at("script").setSelectionRange(part.from, part.to);
+}
+
+// Marks the bad part in the editor, with what is bad of it under it.
+function markPart(script, part, said) {
+  const mark = make("mark", {}, script.slice(part.from, part.to) || " ");
+  at("mirror").replaceChildren(script.slice(0, part.from), mark, script.slice(part.to), "\n");
+  at("script").scrollTop = Math.max(0, mark.offsetTop - at("script").clientHeight / 3);
+  at("bubble").textContent = said;
+  at("bubble").hidden = false;
+  followScroll();
+}
+
+// Keeps the mark and what is under it beside the text.
+function followScroll() {
+  const box = at("script"), mark = at("mirror").querySelector("mark");
+  at("mirror").scrollTop = box.scrollTop;
+  if (!mark) return;
+  const rows = mark.getClientRects(), last = rows[rows.length - 1], outer = at("editor").getBoundingClientRect();
+  const top = last.bottom - outer.top + 3;
+  at("bubble").style.top = `${top}px`;
+  at("bubble").hidden = top < 0 || top > outer.height;
+}
+
+// ---- Links: the script behind the # of the address, packed where the browser can.
+
+const hasPacking = typeof CompressionStream === "function";
+
+async function pass(bytes, stream) {
+  return new Uint8Array(await new Response(new Blob([bytes]).stream().pipeThrough(stream)).arrayBuffer());
+}
+
+async function fragmentOf(script, turn) {
+  const plain = new TextEncoder().encode(script);
+  const bytes = hasPacking ? await pass(plain, new CompressionStream("deflate-raw")) : plain;
+  let text = "";
+  for (let i = 0; i < bytes.length; i += 8192) text += String.fromCharCode(...bytes.subarray(i, i + 8192));
+  const packed = btoa(text).replace(/\+/g, "-").replace(/\//g, "_").replace(/=+$/, "");
+  return `#${hasPacking ? "z" : "p"}=${packed}${turn ? `&turn=${turn}` : ""}`;
+}
+
+async function readFragment(fragment) {
+  const found = /^#([zp])=([\w-]+)(?:&turn=(\d+))?$/.exec(fragment);
+  if (!found) return null;
+  const text = atob(found[2].replace(/-/g, "+").replace(/_/g, "/"));
+  const bytes = Uint8Array.from(text, (sign) => sign.charCodeAt(0));
+  const plain = found[1] === "z" ? await pass(bytes, new DecompressionStream("deflate-raw")) : bytes;
+  return { script: new TextDecoder("utf-8", { fatal: true }).decode(plain), turn: Number(found[3] || 0) };
+}
+
+async function link() {
+  const fragment = await fragmentOf(at("script").value, chosen);
+  history.replaceState(null, "", fragment);
+  try {
+    await navigator.clipboard.writeText(location.href);
+    say("The link is in the address, and copied.");
+  } catch {
+    say("The link is in the address.");
+  }
+}
+
+// Takes the script of the address, if it has one; says whether it did.
+async function takeFragment() {
+  try {
+    const found = await readFragment(location.hash);
+    if (!found) return false;
+    chooseExample("");
+    at("script").value = found.script;
+    await start(found.turn);
+    return true;
+  } catch {
+    say("The link's script can't be read: it may be cut off.");
+    return false;
+  }
+}
+
+// ---- Examples, keys and the rest.
+
+const examples = [...document.querySelectorAll("script.example")];
+
+function chooseExample(name) {
+  at("example").value = name;
+  at("told").textContent = examples.find((it) => it.dataset.name === name)?.dataset.told || "";
+}
+
+function openExample(name) {
+  const found = examples.find((it) => it.dataset.name === name);
+  if (!found) return;
+  chooseExample(name);
+  at("script").value = found.textContent.replace(/^\n/, "");
+  start();
+}
+
+function step(by) {
+  choose((isDrawing ? wanted : chosen) + by);
+}
+
+function turnsKey(event) {
+  if (!run || event.ctrlKey || event.altKey || event.metaKey) return;
+  const page = Math.max(1, Math.floor(at("turns").clientHeight / rowHeight) - 1);
+  const moves = { ArrowDown: 1, ArrowUp: -1, ArrowRight: run.cpus, ArrowLeft: -run.cpus, PageDown: page, PageUp: -page, Home: -run.total, End: run.total };
+  if (!(event.key in moves)) return;
+  event.preventDefault();
+  step(moves[event.key]);
+}
+
+function setTheme(isDark) {
+  document.documentElement.dataset.theme = isDark ? "dark" : "light";
+  at("theme").setAttribute("aria-pressed", String(isDark));
+}
+
+function listen() {
+  at("run").addEventListener("click", () => start());
+  at("stop").addEventListener("click", () => stopWorker("it was stopped"));
+  at("link").addEventListener("click", link);
+  at("judge").addEventListener("click", judge);
+  at("save-chains").addEventListener("click", () => save("sections.txt", run.parts.get("chains") || "", "text/plain"));
+  at("save-trace").addEventListener("click", () => save("trace.json", wholeTrace(), "application/json"));
+  at("save-picture").addEventListener("click", () => save("run.svg", run.drawn || "", "image/svg+xml"));
+  at("example").addEventListener("change", () => openExample(at("example").value));
+  at("script").addEventListener("input", () => { clearRefusal(); chooseExample(""); });
+  at("script").addEventListener("scroll", followScroll);
+  new ResizeObserver(followScroll).observe(at("editor"));
+  document.addEventListener("keydown", (event) => {
+    if (event.key !== "Enter" || !(event.ctrlKey || event.metaKey)) return;
+    event.preventDefault();
+    start();
+  });
+  at("turns").addEventListener("keydown", turnsKey);
+  at("turns").addEventListener("scroll", drawRows);
+  new ResizeObserver(drawRows).observe(at("turns"));
+  at("rows").addEventListener("click", (event) => {
+    const row = event.target.closest("[data-turn]");
+    if (row) choose(Number(row.dataset.turn));
+  });
+  at("drawing").addEventListener("click", (event) => {
+    const group = event.composedPath().find((it) => it.dataset?.turn);
+    if (group) choose(Number(group.dataset.turn));
+  });
+  for (const [id, by] of [["first", -Infinity], ["back", -1], ["forth", 1], ["last", Infinity]]) {
+    at(id).addEventListener("click", () => (Number.isFinite(by) ? step(by) : run && choose(by < 0 ? 0 : run.total - 1)));
+  }
+  at("number").addEventListener("change", () => choose(Number(at("number").value)));
+  at("rounds-back").addEventListener("click", () => step(-pictureRounds * run.cpus));
+  at("rounds-forth").addEventListener("click", () => step(pictureRounds * run.cpus));
+  at("chains-part").addEventListener("toggle", drawOpenParts);
+  at("trace-part").addEventListener("toggle", drawOpenParts);
+  at("theme").addEventListener("click", () => setTheme(document.documentElement.dataset.theme !== "dark"));
+  matchMedia("(prefers-color-scheme: dark)").addEventListener("change", (event) => setTheme(event.matches));
+  addEventListener("hashchange", takeFragment);
+}
+
+async function begin() {
+  setTheme(matchMedia("(prefers-color-scheme: dark)").matches);
+  at("example").append(make("option", { value: "" }, "(own script)"), ...examples.map((it) => make("option", { value: it.dataset.name }, it.dataset.name.replace(/_/g, " "))));
+  listen();
+  if (typeof WebAssembly !== "object") return say("This browser has no WebAssembly.");
+  if (!(await takeFragment())) openExample("crossed_lists");
+}
+
+begin();

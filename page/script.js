@@ -1,0 +1,83 @@
+"use strict";
+// Finds parts in the text of a script without reading its numbers, which have up to 64 bits.
+
+const blank = /[ \t\r\n]/;
+
+function skipBlanks(text, at) {
+  while (at < text.length && blank.test(text[at])) at += 1;
+  return at;
+}
+
+// Behind the string that begins here.
+function skipString(text, at) {
+  for (at += 1; at < text.length && text[at] !== '"'; at += 1) if (text[at] === "\\") at += 1;
+  return Math.min(at + 1, text.length);
+}
+
+// Behind the value that begins here; in a text that is none, behind what looks like one.
+function skipValue(text, at) {
+  let depth = 0;
+  do {
+    at = skipBlanks(text, at);
+    if (at >= text.length) return at;
+    const sign = text[at];
+    if (sign === '"') at = skipString(text, at);
+    else if ("[{".includes(sign)) { depth += 1; at += 1; }
+    else if ("]}".includes(sign)) { depth -= 1; at += 1; }
+    else if (",:".includes(sign)) at += 1;
+    else while (at < text.length && !/[\s,:[\]{}"]/.test(text[at])) at += 1;
+  } while (depth > 0);
+  return at;
+}
+
+// The members of the object that the text is, each with its name and where its value stands.
+function membersOf(text) {
+  const members = [];
+  let at = skipBlanks(text, 0);
+  if (text[at] !== "{") return members;
+  at = skipBlanks(text, at + 1);
+  while (text[at] === '"') {
+    const behind = skipString(text, at);
+    const name = JSON.parse(text.slice(at, behind));
+    const from = skipBlanks(text, skipBlanks(text, behind) + 1);
+    const to = skipValue(text, from);
+    members.push({ name, from, to });
+    at = skipBlanks(text, to);
+    if (text[at] === ",") at = skipBlanks(text, at + 1);
+  }
+  return members;
+}
+
+// The same script, cut off after so many rounds.
+function cutScript(text, rounds) {
+  let cut = "", at = 0;
+  for (const member of membersOf(text)) {
+    if (member.name !== "turns") continue;
+    cut += text.slice(at, member.from) + String(rounds);
+    at = member.to;
+  }
+  return cut + text.slice(at);
+}
+
+// Where a line and a column from 1 are in the text, a column being a byte.
+function placeOf(text, line, column) {
+  let at = 0;
+  for (let passed = 1; passed < line; passed += 1) {
+    const next = text.indexOf("\n", at);
+    if (next < 0) return text.length;
+    at = next + 1;
+  }
+  for (let bytes = 1; bytes < column && at < text.length; ) {
+    const code = text.codePointAt(at);
+    bytes += code < 0x80 ? 1 : code < 0x800 ? 2 : code < 0x10000 ? 3 : 4;
+    at += code > 0xffff ? 2 : 1;
+  }
+  return at;
+}
+
+// From where to where the part goes that begins at this line and column.
+function partAt(text, line, column) {
+  const from = Math.min(placeOf(text, line, column), Math.max(0, text.length - 1));
+  const to = Math.max(skipValue(text, from), from + 1);
+  return { from, to: Math.min(to, text.length) };
+}

@@ -1,0 +1,108 @@
+// The reading of lines and scripts, on what the programs of this tree write.
+import { join } from "node:path";
+import { callProgram, check, exampleNames, examples, finish, namesIn, read, same, statusOf } from "./tools.mjs";
+import { load } from "./tools.mjs";
+
+const lines = load("lines.js", ["readRun", "readEvent", "readOpenings", "partsOf", "readPlace", "openState", "copyState", "tell", "tellFirstWords"]);
+const scripts = load("script.js", ["cutScript", "membersOf", "partAt", "placeOf", "skipValue"]);
+
+// Every line of a run is read: all its turns, and the report behind them.
+function tryExample(name) {
+  const script = read(examples, `${name}.json`);
+  const { text, status } = callProgram("lwkt_show_turns", script, "turns");
+  if (status === 1) return check(statusOf(name) === 1, `${name} is refused`);
+  const run = lines.readRun(text);
+  same(run.turns.length, text.split("\n").filter((line) => line.startsWith("turn ")).length, `${name}: turns`);
+  check(run.turns.every((turn) => turn.outcome && (turn.thread || turn.idle)), `${name}: each turn ran a thread, or none`);
+  const told = run.turns.reduce((sum, turn) => sum + turn.events.length, 0);
+  same(told, (text.match(/^turn .*$/gm).join("\n").match(/; (token|message) \d+: /g) || []).length, `${name}: events`);
+  same(`${run.report.join("\n")}\n`, read(examples, `${name}.out`), `${name}: report`);
+  tryStates(name, script, run);
+}
+
+// The state after all turns is that of the report, but for what is given up at the end; and the holders named are those that run.
+function tryStates(name, script, run) {
+  const cut = callProgram("lwkt_show_turns", scripts.cutScript(script, 1), "turns --chains");
+  const openings = lines.readOpenings(cut.text);
+  const state = lines.openState(openings, JSON.parse(script).messages);
+  lines.tellFirstWords(state, run.turns);
+  for (const turn of run.turns) lines.tell(state, turn);
+  if (run.ends.some((line) => line.startsWith("at the end"))) return;
+  state.tokens.forEach((token, number) => {
+    const line = run.report.find((it) => it.startsWith(`token ${number} gen `));
+    same(`token ${number} gen ${token.generation} cells ${token.row.join(" ") || "-"}`, line, `${name}: token ${number} after all turns`);
+    check(token.holders === "free", `${name}: token ${number} is free after all turns`);
+  });
+  state.messages.forEach((post, number) => {
+    const line = run.report.find((it) => it.startsWith(`message ${number} round `));
+    const place = { "at": "rest", "out": "out", "with": "with", "back": "back" }[post.place.split(" ")[0]];
+    same(`message ${number} round ${post.round} ${place}`, line, `${name}: message ${number} after all turns`);
+  });
+}
+
+// A script that is cut off is the same but for its rounds, and its run is the first part of the run.
+function tryCuts(name) {
+  const script = read(examples, `${name}.json`);
+  const whole = callProgram("lwkt_show_turns", script, "turns");
+  if (whole.status === 1) return;
+  const all = lines.readRun(whole.text);
+  const cpus = JSON.parse(script).cpus;
+  for (const rounds of [1, 2, 5]) {
+    if (rounds * cpus >= all.total) return;
+    const cut = lines.readRun(callProgram("lwkt_show_turns", scripts.cutScript(script, rounds), "turns").text);
+    same(cut.turns.map((turn) => [turn.number, turn.thread, turn.events.map((it) => it.text)]), all.turns.slice(0, rounds * cpus).map((turn) => [turn.number, turn.thread, turn.events.map((it) => it.text)]), `${name}: ${rounds} rounds`);
+  }
+}
+
+// How the report of a run that is cut off has a thread, against what its processor's last turn says of it.
+function fits(thread, turn) {
+  if (turn.idle) return thread.state !== "running";
+  if (turn.thread !== thread.id) return thread.state !== "running";
+  if (turn.outcome.startsWith("ends")) return /^(exited|faulted)/.test(thread.state);
+  if (turn.outcome.startsWith("waits")) return /^(ready|waiting)$/.test(thread.state);
+  return thread.state === "running";
+}
+
+// What the page takes for how threads stand after a turn: a run that is cut off after its round.
+function tryThreads(name) {
+  const script = read(examples, `${name}.json`);
+  const whole = callProgram("lwkt_show_turns", script, "turns");
+  if (whole.status === 1) return;
+  const all = lines.readRun(whole.text), { cpus } = JSON.parse(script);
+  for (let round = 0; round < Math.min(20, all.total / cpus - 1); round += 1) {
+    const cut = lines.readRun(callProgram("lwkt_show_turns", scripts.cutScript(script, round + 1), "turns --turns 0..0").text);
+    const odd = cut.threads.filter((thread) => !fits(thread, all.turns[round * cpus + Number(thread.id.split(".")[0])]));
+    same(odd, [], `${name}: threads as round ${round} ends`);
+    check(cut.threads.every((thread) => /^(exited|faulted)/.test(thread.state) || cut.whys.has(thread.id)), `${name}: why they stand so`);
+  }
+}
+
+// The bad part of a refused script is found where the program says that it begins.
+function tryRefusal(name) {
+  const script = read(examples, "refused", `${name}.json`);
+  const place = lines.readPlace(read(examples, "refused", `${name}.err`));
+  check(place.said.length > 0, `${name}: something is said`);
+  if (place.line === undefined) return;
+  const part = scripts.partAt(script, place.line, place.column);
+  const rows = script.split("\n");
+  const bytes = Buffer.byteLength(script.slice(script.lastIndexOf("\n", part.from - 1) + 1, part.from));
+  check(part.from >= script.length - 1 || bytes === place.column - 1, `${name}: column ${place.column} is byte ${bytes}`);
+  check(place.line <= rows.length && part.to > part.from, `${name}: a part is marked`);
+}
+
+for (const name of exampleNames()) tryExample(name);
+for (const name of ["crossed_lists", "dining_philosophers", "server_of_three", "abort_before_and_after"]) tryCuts(name);
+for (const name of exampleNames()) tryThreads(name);
+for (const name of namesIn("refused", ".json")) tryRefusal(name);
+
+same(lines.partsOf("18446744073709551615"), { exclusive: 1, mark: 1, count: 65535, generation: "70368744177663" }, "parts of the largest word");
+same(lines.partsOf("9"), { exclusive: 1, mark: 0, count: 2, generation: "0" }, "held exclusively by three references");
+same(scripts.cutScript('{"turns": 7 , "a":{"turns":9},"t\\u0075rns":8}', 3), '{"turns": 3 , "a":{"turns":9},"t\\u0075rns":3}', "a cut of a name with an escape, and not of an inner one");
+same(scripts.cutScript('{"x":"\\"}","cells":[18446744073709551615],"turns":7}', 3), '{"x":"\\"}","cells":[18446744073709551615],"turns":3}', "numbers stay as they are");
+same(scripts.partAt('{"a":[1,{"b":2}]}', 1, 9), { from: 8, to: 15 }, "a part that is an object");
+same(scripts.partAt("[\u00e4, 1]\n[2]", 1, 6), { from: 4, to: 5 }, "columns are bytes");
+same(scripts.partAt("", 1, 1), { from: 0, to: 0 }, "an empty text");
+same(scripts.placeOf("a\nb\nc", 3, 1), 4, "a line");
+check(scripts.skipValue("[[[", 0) === 3, "a text that is cut off");
+check(join("a", "b") === "a/b", "paths");
+finish();

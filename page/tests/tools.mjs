@@ -1,0 +1,87 @@
+// What the tests share: counting, the parts of a page, and the programs of this tree.
+import { spawnSync } from "node:child_process";
+import { existsSync, readFileSync, readdirSync } from "node:fs";
+import { createServer } from "node:http";
+import { dirname, join } from "node:path";
+import { fileURLToPath } from "node:url";
+import vm from "node:vm";
+
+export const page = dirname(dirname(fileURLToPath(import.meta.url)));
+export const top = dirname(page);
+export const examples = join(top, "examples");
+export const counted = { passed: 0, failed: 0 };
+
+export function check(holds, what) {
+  if (holds) counted.passed += 1;
+  else {
+    counted.failed += 1;
+    console.log(`not so: ${what}`);
+  }
+  return holds;
+}
+
+export function same(got, wanted, what) {
+  const [left, right] = [JSON.stringify(got), JSON.stringify(wanted)];
+  return check(left === right, `${what}\n  wanted ${String(right).slice(0, 600)}\n  got    ${String(left).slice(0, 600)}`);
+}
+
+export function finish() {
+  console.log(`${counted.passed} passed, ${counted.failed} failed`);
+  process.exitCode = counted.failed ? 1 : 0;
+}
+
+// The functions of a source of the page.
+export function load(name, exported) {
+  const text = readFileSync(join(page, name), "utf8");
+  return vm.runInThisContext(`(() => { ${text}\nreturn { ${exported.join(", ")} }; })()`, { filename: name });
+}
+
+export function read(...parts) {
+  return readFileSync(join(...parts), "utf8");
+}
+
+// The names of the examples that are run in rounds.
+export function exampleNames() {
+  const names = readdirSync(examples).filter((name) => name.endsWith(".json")).map((name) => name.slice(0, -5));
+  return names.filter((name) => !existsSync(join(examples, `${name}.mode`)));
+}
+
+export function namesIn(folder, ending) {
+  return readdirSync(join(examples, folder)).filter((name) => name.endsWith(ending)).map((name) => name.slice(0, -ending.length));
+}
+
+export function statusOf(name) {
+  const file = join(examples, `${name}.status`);
+  return existsSync(file) ? Number(readFileSync(file, "utf8")) : 0;
+}
+
+// The programs that page/check names, else the shipped ones.
+const named = (process.env.PAGE_PROGRAMS || "").split(":");
+const shipped = ["lwkt_run", "lwkt_check", "lwkt_show"].map((name) => join(top, "dist/x86_64-linux", name));
+const [runner, judge, shower] = named.length === 3 ? named : shipped;
+const programs = { lwkt_run_turns: runner, lwkt_check_trace: judge, lwkt_show_turns: shower };
+
+// What a program of this tree answers, as a call of the library would.
+export function callProgram(name, script, words = name === "lwkt_run_turns" ? "turns" : "") {
+  const ran = spawnSync(programs[name], words ? words.split(" ") : [], { input: script, maxBuffer: 1 << 30 });
+  const [out, told] = [ran.stdout.toString(), ran.stderr.toString()];
+  const isRefused = ran.status === 1 || ran.status === 3;
+  const fault = /fault (\d+)(?: at (\d+))?/.exec(out + told);
+  return { status: ran.status, fault: isRefused && fault ? Number(fault[1]) : 0, place: isRefused && fault ? Number(fault[2] || 0) : 0, text: isRefused ? told : out };
+}
+
+// A server on this machine that answers the stand-in for the module by these programs. A script that holds `trap` traps.
+export function serve(answers) {
+  const server = createServer((request, response) => {
+    const parts = [];
+    request.on("data", (part) => parts.push(part));
+    request.on("end", () => {
+      const [path, words] = request.url.split("?");
+      const script = Buffer.concat(parts);
+      response.setHeader("Access-Control-Allow-Origin", "*");
+      if (script.includes('"trap"')) return response.writeHead(500).end();
+      response.end(JSON.stringify(answers(path.split("/").pop(), script, decodeURIComponent(words || ""))));
+    });
+  });
+  return new Promise((resolve) => server.listen(0, "127.0.0.1", () => resolve(server)));
+}

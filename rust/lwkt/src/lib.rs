@@ -1,0 +1,21 @@
+//! The threading layer of DragonFly BSD on modelled processors: scripts run to their reports, traces judged, runs shown, and the
+//! steps on a token's word. This crate is safe Rust over a library that is proved in Rattle; it adds no logic of its own.
+//!
+//! ```
+//! let script = r#"{"version":1,"turns":50,"idle":100000000,"cpus":1,
+//!     "tokens":[{"cells":[5],"law":"any","param":0,"gen":0}],"messages":[],
+//!     "threads":[{"cpu":0,"repeat":1,"steps":[["get",0],["write",0,0,7],["rel",0]]}]}"#;
+//! let run = lwkt::run_turns(script.as_bytes())?;
+//! assert_eq!(run.end, lwkt::End::Ended);
+//! assert_eq!(run.text, "token 0 gen 1 cells 7\nthread 0.0 exited list - log -\nlawful\n");
+//! # Ok::<(), lwkt::Refusal>(())
+//! ```
+//!
+//! What is proved is said of the library's calls (docs/C.md); that this crate calls them as they are declared is not.
+#![warn(missing_docs)]
+
+mod calls;
+mod word;
+
+pub use calls::{check_trace, run_turns, show_turns, End, Finding, Refusal, Run};
+pub use word::{StepFault, Word};
