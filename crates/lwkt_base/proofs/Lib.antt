@@ -1,2 +1,3 @@
 pub mod RefsLemmas
 pub mod HoldingLemmas
+pub mod BlobLemmas

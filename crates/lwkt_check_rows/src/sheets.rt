@@ -58,6 +58,7 @@ impl Sheet {
             law,
             param,
             generation: 0,
+            blob: None,
         })?;
         Ok(())
     }

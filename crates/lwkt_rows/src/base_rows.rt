@@ -209,7 +209,8 @@ impl Row for Lawful {
     fn is_right(&self, _alloc: Global) -> bool {
         // At the end of a section nothing is asked of a Tally cell.
         let section = self.3 || self.0 == Law::Tally;
-        self.0.holds(self.2, self.1) == self.3 && self.0.holds_of_section(self.2, self.1) == section
+        self.0.holds(self.2, self.1, None) == self.3
+            && self.0.holds_of_section(self.2, self.1, None) == section
     }
 }
 

@@ -18,6 +18,7 @@ pub fn law_name(law: Law) -> &'static str {
         Law::Order => "order",
         Law::Cap => "cap",
         Law::Tally => "tally",
+        Law::Len => "len",
     }
 }
 
