@@ -1,3 +1,0 @@
-mod DeskBox
-mod Answering
-mod Placing
