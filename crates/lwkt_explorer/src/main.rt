@@ -3,6 +3,8 @@
 
 mod options;
 mod programs;
+mod texts;
+mod tickers;
 
 use crate::programs::{explore_told, refuse_arguments};
 use lwkt_report::{NotedReader, NotedWriter, ReaderSource, WriterSink, words_of};
@@ -17,7 +19,7 @@ fn main(rt: HostRuntime) -> ExitCode {
         Ok(words) => {
             let mut source = ReaderSource::new(NotedReader::new(alloc, rt.stdin()));
             let mut sink = WriterSink::new(NotedWriter::new(rt.stdout()));
-            explore_told(alloc, &words, &mut source, &mut sink, &mut errors)
+            explore_told(&rt, alloc, &words, &mut source, &mut sink, &mut errors)
         }
         Err(error) => {
             let memory = error.kind() == io::ErrorKind::OutOfMemory;
