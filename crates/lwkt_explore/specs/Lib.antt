@@ -1,3 +1,2 @@
 pub mod Outcomes
 pub mod Statuses
-pub mod Expectations

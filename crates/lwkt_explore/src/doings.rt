@@ -76,7 +76,8 @@ impl Doing {
 
     // Notes a thread that has made so many polls.
     fn note_thread(&mut self, machine: &Machine, cpu: usize, place: usize, spec: &ThreadSpec) {
-        let (Some(status), Some(body)) = (machine.thread(cpu, place), machine.body(cpu, place)) else {
+        let (Some(status), Some(body)) = (machine.thread(cpu, place), machine.body(cpu, place))
+        else {
             return;
         };
         let runs = match status.state {

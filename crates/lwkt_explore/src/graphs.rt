@@ -212,7 +212,11 @@ impl Graph {
         }
         let place = at.checked_mul(self.cpus)?.checked_add(cpu)?;
         let number = *self.next.get(place)?;
-        if number == UNTRIED { None } else { Some(number) }
+        if number == UNTRIED {
+            None
+        } else {
+            Some(number)
+        }
     }
 
     /// The state that the turn of a processor leads to, if it was tried and kept.

@@ -4,7 +4,6 @@
 
 mod choices;
 mod doings;
-mod expectations;
 mod graphs;
 mod lines;
 mod losses;
@@ -20,7 +19,6 @@ mod touches;
 mod walks;
 mod watches;
 
-pub use expectations::{deciding, is_met, status_of_text};
 pub use lines::{order_text, text_of};
 pub use losses::Lost;
 pub use outcomes::{Kind, Outcome, Outcomes};

@@ -82,7 +82,10 @@ fn add_lost(out: &mut String, lost: &Lost) -> Result<(), AllocError> {
     if count == 1 {
         out.push_str("lost: 1 state, from which no end can be reached; after order")?;
     } else {
-        write!(out, "lost: {count} states, from which no end can be reached; the first after order")?;
+        write!(
+            out,
+            "lost: {count} states, from which no end can be reached; the first after order"
+        )?;
     }
     add_order(out, lost.order.as_slice())?;
     out.push_str("\n")
@@ -104,7 +107,11 @@ fn add_sum(out: &mut String, found: &Found) -> Result<(), AllocError> {
     write!(out, "{count} {noun}; ")?;
     add_tried(out, found.tried)?;
     let turns = found.turns;
-    let whole = if found.is_complete { "complete" } else { "a part" };
+    let whole = if found.is_complete {
+        "complete"
+    } else {
+        "a part"
+    };
     write!(out, ", {turns} turns; {whole}\n")
 }
 

@@ -1,9 +1,8 @@
 //! Which processors a message of a script can be with, and where its notes can go.
 use crate::touches::{Touch, bit, cpu_bit, has, touched_by};
-use lwkt_base::{Ask, Owner};
+use lwkt_base::{Ask, MsgId, Owner};
 use lwkt_core::State;
 use lwkt_script::Script;
-use lwkt_base::MsgId;
 use std::alloc::{AllocError, Global};
 
 /// A message of a script.

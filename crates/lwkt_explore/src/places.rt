@@ -23,7 +23,8 @@ pub(crate) struct Place {
 fn target_of(owner: Owner) -> usize {
     let cpu = match owner {
         Owner::Rest { origin } => origin,
-        Owner::Out { target, .. } | Owner::With { target, .. } | Owner::Back { target, .. } => target,
+        Owner::Out { target, .. } | Owner::With { target, .. } | Owner::Back { target, .. } =>
+            target,
     };
     usize::from(cpu.0)
 }

@@ -88,12 +88,7 @@ impl Walk {
     }
 
     // Goes along an order, and then makes the turn of a processor.
-    fn reach(
-        &mut self,
-        alloc: Global,
-        order: &[u8],
-        cpu: Option<usize>,
-    ) -> Result<Reached, Fault> {
+    fn reach(&mut self, alloc: Global, order: &[u8], cpu: Option<usize>) -> Result<Reached, Fault> {
         let mut place = Place::open(alloc, &self.script)?;
         place.go(order, &mut self.trace)?;
         if let Some(cpu) = cpu {

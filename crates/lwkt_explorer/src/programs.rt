@@ -1,8 +1,9 @@
+use crate::expectations::status_of_text;
 use crate::options::{Options, options_of};
 use crate::texts::{Told, read_told, verdicts_of};
 use crate::tickers::Ticker;
 use lwkt_base::Fault;
-use lwkt_explore::{Found, explore, sample, status_of, status_of_text, text_of};
+use lwkt_explore::{Found, explore, sample, status_of, text_of};
 use lwkt_refusals::Speaker;
 use lwkt_remarks::opening_said;
 use lwkt_report::{
@@ -125,13 +126,7 @@ fn explore_json<R: Clock + Files, K: Sink, E: Sink>(
 }
 
 // Says which of the things that a text says are so.
-fn say_verdicts<E: Sink>(
-    alloc: Global,
-    bytes: &[u8],
-    told: &Told,
-    found: &Found,
-    errors: &mut E,
-) {
+fn say_verdicts<E: Sink>(alloc: Global, bytes: &[u8], told: &Told, found: &Found, errors: &mut E) {
     match verdicts_of(alloc, bytes, told.expectations.as_slice(), found) {
         Ok(lines) => {
             let _ = write_whole(errors, lines.as_bytes());

@@ -1,5 +1,6 @@
 //! A text: its script in JSON, and what it says of the outcomes.
-use lwkt_explore::{Found, Outcome, deciding, is_met, order_text};
+use crate::expectations::{deciding, is_met};
+use lwkt_explore::{Found, Outcome, order_text};
 use lwkt_refusals::Speaker;
 use lwkt_remarks::wrongs_said;
 use lwkt_report::{Sink, write_whole};
@@ -8,7 +9,8 @@ use lwkt_text::{Many, Reading, Refusal, Unsaid, Wrong, json_of, read_text};
 use std::alloc::{AllocError, Global};
 
 // What is said where a text is too long.
-const LONG: &str = "lwkt_explore: as JSON the script has more than 1048576 bytes, and isn't tried\n";
+const LONG: &str =
+    "lwkt_explore: as JSON the script has more than 1048576 bytes, and isn't tried\n";
 
 /// A text that was read.
 #[derive(Drop)]

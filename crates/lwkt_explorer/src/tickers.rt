@@ -21,14 +21,23 @@ pub struct Ticker<'a, R, E> {
 // What is told: `lwkt_explore: N states, N to go on from, N turns a second`.
 fn line_of(alloc: Global, seen: Seen, turns: u64) -> Result<String, AllocError> {
     let Seen {
-        states, frontier, ..
+        states,
+        frontier,
+        ..
     } = seen;
-    format!(in alloc; "lwkt_explore: {states} states, {frontier} to go on from, {turns} turns a second\n")
+    format!(in alloc;
+        "lwkt_explore: {states} states, {frontier} to go on from, {turns} turns a second\n"
+    )
 }
 
 impl<'a, R: Clock + Files, E: Sink> Ticker<'a, R, E> {
     /// One that begins to look on.
-    pub fn new(rt: &'a R, alloc: Global, errors: &'a mut E, options: Options<'a>) -> Ticker<'a, R, E> {
+    pub fn new(
+        rt: &'a R,
+        alloc: Global,
+        errors: &'a mut E,
+        options: Options<'a>,
+    ) -> Ticker<'a, R, E> {
         Ticker {
             rt,
             alloc,

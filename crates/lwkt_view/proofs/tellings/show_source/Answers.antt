@@ -12,20 +12,28 @@ returns-in-Ok-clause-shows g c = λ options are.
     let source = g.S.Source.has_failed c.read_capped.new.source in
     let sink = g.K.Sink.has_failed c.show_bytes.new.sink in
     let old = g.K.Sink.contents c.args.sink.now in
-    let new = g.K.Sink.contents c.show_bytes.new.sink in
-    (c.in-Ok.bytes.items, (c.in-Ok.ensures.bytes,
-    bytes_more (IsShowing options) c.in-Ok.bytes.items source sink old new c.show_bytes.result (λ left. shows_more options source sink left old new c.show_bytes.result)
-    (subst (λ b. ShowsBytes (IsShowing options) b false sink old new c.show_bytes.result) c.deref.ensures.value (c.show_bytes.ensures.shows options are))))
+    let new = g.K.Sink.contents c.show_bytes.new.sink in (
+      c.in-Ok.bytes.items,
+      (
+        c.in-Ok.ensures.bytes,
+        bytes_more (IsShowing options) c.in-Ok.bytes.items source sink old new c.show_bytes.result (λ left. shows_more options source sink left old new c.show_bytes.result)
+            (subst (λ b. ShowsBytes (IsShowing options) b false sink old new c.show_bytes.result) c.deref.ensures.value (c.show_bytes.ensures.shows options are)),
+      ),
+    )
 
 pub returns-in-Ok-clause-threads : goal.returns-in-Ok-clause-threads
 returns-in-Ok-clause-threads g c = λ asks.
     let source = g.S.Source.has_failed c.read_capped.new.source in
     let sink = g.K.Sink.has_failed c.show_bytes.new.sink in
     let old = g.K.Sink.contents c.args.sink.now in
-    let new = g.K.Sink.contents c.show_bytes.new.sink in
-    (c.in-Ok.bytes.items, (c.in-Ok.ensures.bytes,
-    bytes_more IsShowingThreads c.in-Ok.bytes.items source sink old new c.show_bytes.result (λ left. threads_more source sink left old new c.show_bytes.result)
-    (subst (λ b. ShowsBytes IsShowingThreads b false sink old new c.show_bytes.result) c.deref.ensures.value (c.show_bytes.ensures.threads asks))))
+    let new = g.K.Sink.contents c.show_bytes.new.sink in (
+      c.in-Ok.bytes.items,
+      (
+        c.in-Ok.ensures.bytes,
+        bytes_more IsShowingThreads c.in-Ok.bytes.items source sink old new c.show_bytes.result (λ left. threads_more source sink left old new c.show_bytes.result)
+            (subst (λ b. ShowsBytes IsShowingThreads b false sink old new c.show_bytes.result) c.deref.ensures.value (c.show_bytes.ensures.threads asks)),
+      ),
+    )
 
 pub returns-in-Err-clause-shows : goal.returns-in-Err-clause-shows
 returns-in-Err-clause-shows g c = λ options are.

@@ -1,11 +1,9 @@
 //! What a text says of the outcomes of its script, over all orders.
 ghost use Rattle.std.specs.Prelude.{◌≡◌, IsTrue, IfSome, IsSomeAnd, is_some, slice_get};
 ghost use Rattle.std.specs.List.{list_all, list_any};
-ghost use Rattle.lwkt_explore.specs.Expectations.{is_whole, decides_by, decides, met_by, is_met, status_of_text};
+ghost use Rattle.lwkt_explorer.specs.Expectations.{is_whole, decides_by, decides, met_by, is_met, status_of_text};
 
-use crate::outcomes::{Kind, Outcome};
-use crate::searches::Found;
-use crate::statuses::status_of;
+use lwkt_explore::{Found, Kind, Outcome, status_of};
 use lwkt_litmus::holds;
 use lwkt_text::claims::{Expectation, When};
 
@@ -34,16 +32,17 @@ fn decides(expectation: &Expectation, outcome: &Outcome) -> bool
     ensures { result ≡ decides expectation.now outcome.now }
 {
     is_whole(outcome.kind)
-        && decides_by(expectation.when, holds(&outcome.closing, &expectation.claim))
+        && decides_by(
+            expectation.when,
+            holds(&outcome.closing, &expectation.claim),
+        )
 }
 
 // Whether an outcome among some decides an expectation.
 fn is_decided(expectation: &Expectation, outcomes: &[Outcome]) -> bool
     ensures { result ≡ list_any (decides expectation.now) outcomes.now }
 {
-    outcomes
-        .iter()
-        .any(|outcome| decides(expectation, outcome))
+    outcomes.iter().any(|outcome| decides(expectation, outcome))
 }
 
 /// The first outcome that decides an expectation: that breaks what is said of each one or of none, or shows what is said of one.
