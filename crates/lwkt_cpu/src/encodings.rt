@@ -17,7 +17,10 @@ fn add(words: &mut Vec<u64>, word: u64) -> Result<(), AllocError> {
 fn add_list(words: &mut Vec<u64>, list: &TokList) -> Result<(), AllocError> {
     add(words, list.len() as u64)?;
     for r in list.refs() {
-        let Ref { tok: TokId(tok), mode } = *r;
+        let Ref {
+            tok: TokId(tok),
+            mode,
+        } = *r;
         let is_shared = matches!(mode, Mode::Shared);
         add(words, 2 * u64::from(tok) + u64::from(is_shared))?;
     }

@@ -16,7 +16,12 @@ fn count_of(cpus: u64, turns: u32) -> Option<u64> {
 }
 
 // The order of a number: its digits, the lowest first, and then the rounds.
-fn order_of(alloc: Global, cpus: u64, lengths: Lengths, number: u64) -> Result<Vec<u8>, AllocError> {
+fn order_of(
+    alloc: Global,
+    cpus: u64,
+    lengths: Lengths,
+    number: u64,
+) -> Result<Vec<u8>, AllocError> {
     let mut order = Vec::new(alloc);
     let mut rest = number;
     for _ in 0..lengths.turns {

@@ -46,7 +46,9 @@ fn is_unlawful(verdict: Verdict) -> bool
 fn are_met(expectations: &[Expectation], outcomes: &[Closing]) -> bool
     ensures { result ≡ list_all (λ e. is_met e outcomes.now) expectations.now }
 {
-    expectations.iter().all(|expectation| is_met(expectation, outcomes))
+    expectations
+        .iter()
+        .all(|expectation| is_met(expectation, outcomes))
 }
 
 /// What a run with this one outcome came to.

@@ -240,7 +240,11 @@ impl Machine {
         sent: &[Sent],
         words: &mut Vec<u64>,
     ) -> Result<(), AllocError> {
-        let Machine { bank: _, book, cpus } = self;
+        let Machine {
+            bank: _,
+            book,
+            cpus,
+        } = self;
         let mut seats = add_cpus(alloc, words, cpus)?;
         add_messages(words, &book, &mut seats, sent)
     }

@@ -21,7 +21,11 @@ pub fn verdicts_said(
     for expectation in expectations {
         let is_so = is_met(expectation, std::slice::from_ref(outcome));
         add_head(&mut page, path, place_of(bytes, expectation.at));
-        page.add(if is_so { ": holds\n" } else { ": doesn't hold\n" });
+        page.add(if is_so {
+            ": holds\n"
+        } else {
+            ": doesn't hold\n"
+        });
     }
     page.whole()
 }

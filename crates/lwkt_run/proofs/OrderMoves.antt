@@ -47,7 +47,7 @@ one_round over number cpus count x y same round =
     let f : Going → Scene = λ z. scene z.machine z.trace in
     let T : ℕ → Scene → Scene → Type 0 = λ j. MakesTurnAt ((count * cpus + j) % cpus) in
     let does : (k : ℕ) (u v : Going) → k < cpus → TakesTurn k u v → T k (f u) (f v) = λ k u v less turn.
-        subst (λ c. MakesTurnAt c (f u) (f v)) (sym (mod-mul-add count cpus k less)) (turn.0, turn.1.0) in
+    subst (λ c. MakesTurnAt c (f u) (f v)) (sym (mod-mul-add count cpus k less)) (turn.0, turn.1.0) in
     let few : cpus ≤ cpus = omega arith in
     let chain : Chain Going TakesTurn cpus (going x true) (going y over) = subst (λ n. Chain Going TakesTurn n (going x true) (going y over)) same round in
     chain_maps Going Scene f TakesTurn T cpus does cpus (going x true) (going y over) few chain
@@ -88,12 +88,12 @@ rounds_turned cpus (suc count) x y same chain =
 -- the rounds of a run are turns
 made_turned : (cpus limit : ℕ) (x y : Scene) → length x.machine.cpus ≡ cpus → HasMadeRounds limit x y → (n : ℕ) × GoTurns cpus n x y
 made_turned cpus limit x y same rounds = elim rounds [
-      | inl ended ↦
-          let e = ended.1.1 in
-          let t = turned_more true ended.0 cpus ended.0 x e.mid y (rounds_turned cpus ended.0 x e.mid same e.earlier) e.last in
-          ((ended.0 + 1) * cpus, t.turns)
-      | inr whole ↦ (limit * cpus, (rounds_turned cpus limit x y same whole).turns)
-    ]
+  | inl ended ↦
+      let e = ended.1.1 in
+      let t = turned_more true ended.0 cpus ended.0 x e.mid y (rounds_turned cpus ended.0 x e.mid same e.earlier) e.last in
+      ((ended.0 + 1) * cpus, t.turns)
+  | inr whole ↦ (limit * cpus, (rounds_turned cpus limit x y same whole).turns)
+]
 
 -- the order of so many turns in rounds
 round_list : ℕ → ℕ → List ℕ
@@ -138,10 +138,10 @@ along cpus n x y turns =
     let S : ℕ → Scene → Scene → Type 0 = λ k. MakesTurnAt (k % cpus) in
     let T : ℕ → Scene → Scene → Type 0 = λ k. MakesTurnAt (whose order k) in
     let does : (k : ℕ) (u v : Scene) → k < n → S k u v → T k u v = λ k u v less turn.
-        let few : k < length order = omega (arith, less, list_long cpus n) in
-        let z : 0 + k ≡ k = omega arith in
-        let named : whose order k ≡ k % cpus = whose_round cpus 0 order k (list_goes cpus n) few ∙ ap (λ j. j % cpus) z in
-        subst (λ c. MakesTurnAt c u v) (sym named) turn in
+    let few : k < length order = omega (arith, less, list_long cpus n) in
+    let z : 0 + k ≡ k = omega arith in
+    let named : whose order k ≡ k % cpus = whose_round cpus 0 order k (list_goes cpus n) few ∙ ap (λ j. j % cpus) z in
+    subst (λ c. MakesTurnAt c u v) (sym named) turn in
     let all : n ≤ n = omega arith in
     subst (λ m. Chain Scene T m x y) (sym (list_long cpus n)) (chain_maps Scene Scene (λ z. z) S T n does n x y all turns)
 
@@ -150,8 +150,7 @@ rounds_along script lines trace last run =
     let has = opened_has script run.opened run.opens in
     let x = scene run.opened run.first in
     let y = scene run.made run.mid in
-    let t = made_turned script.cpus script.turns x y has.as_many run.rounds in
-    (
+    let t = made_turned script.cpus script.turns x y has.as_many run.rounds in (
       round_list script.cpus t.0,
       (
         list_goes script.cpus t.0,

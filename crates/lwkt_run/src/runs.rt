@@ -73,7 +73,9 @@ fn closing_of(
     let tokens = token_lines(alloc, script.tokens.as_slice(), &last)?;
     let plans = plans_of(alloc, script.threads.as_slice())?;
     let ends = ends_of(alloc, &threads)?;
-    let verdict = verdict_of(opening, again, pace, order, &plans, &ends, &last, trace, kept);
+    let verdict = verdict_of(
+        opening, again, pace, order, &plans, &ends, &last, trace, kept,
+    );
     let Final { messages, .. } = last;
     Ok(Closing {
         tokens,

@@ -80,7 +80,16 @@ pub fn verdict_of(
         // it has no other refusal
         Err(_) => return Verdict::Unlawful { index: 0 },
     }
-    if is_script_run(plans, pace, order, again, &kept.polls, &kept.turns, trace, ends) {
+    if is_script_run(
+        plans,
+        pace,
+        order,
+        again,
+        &kept.polls,
+        &kept.turns,
+        trace,
+        ends,
+    ) {
         Verdict::Lawful
     } else {
         Verdict::Unlawful { index: trace.len() }

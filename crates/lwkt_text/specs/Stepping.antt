@@ -1,5 +1,5 @@
 -- The steps of a thread (own): a word, and what goes with it.
-use Rattle.std.specs.Prelude.{ℕ, ◌+◌, List, codes, if◌then◌else◌, Result, Ok, Err}
+use Rattle.std.specs.Prelude.{ℕ, ◌+◌, false, List, codes, if◌then◌else◌, Result, Ok, Err}
 use Rattle.lwkt_base.specs.declared.asks.Ask.{Ask}
 use Rattle.lwkt_base.specs.declared.asks.Ask.TheVariants as asks
 use Rattle.lwkt_base.specs.declared.names.MsgId.{MsgId}

@@ -15,9 +15,8 @@ use lwkt_refusals::has_no_reader;
 use lwkt_report::{NotedWriter, Sink, WriterSink, words_of};
 use lwkt_text::{json_of, text_of};
 use std::alloc::Global;
-use std::fs;
-use std::io;
 use std::process::ExitCode;
+use std::{fs, io};
 
 // Says that something failed, and why.
 fn say_failure<E: Sink>(alloc: Global, errors: &mut E, text: &str, error: &io::Error) {

@@ -55,10 +55,7 @@ fn read_json<E: Sink>(alloc: Global, bytes: &[u8], errors: &mut E) -> Result<Rea
             expectations: Many::new(alloc),
         }),
         Err(Fault::Memory) => Err(Status::Memory),
-        Err(fault) => Err(refused(
-            errors,
-            refusal(alloc, Document::Script, bytes, fault),
-        )),
+        Err(fault) => Err(refused(errors, refusal(alloc, Document::Script, bytes, fault))),
     }
 }
 
