@@ -5,20 +5,20 @@
 # shellcheck disable=SC2154 # These two are set where this is read.
 
 # What a command reads, and whether it opens its file itself; the words of which one has to stand first; its options
-# without a value and with one.
-modes=() flags=() valued=() opens_file=''
+# without a value and with one; whether it can tell how far it is, and be ended with what it found (`tells`).
+modes=() flags=() valued=() opens_file='' tells=''
 case $program_name in
     lwkt_run)
         reads=script modes=(turns threads)
         ;;
     lwkt_show)
-        reads=script modes=(turns threads) flags=(--svg --trace --chains) valued=(--turns --rounds)
+        reads=script modes=(turns threads) flags=(--svg --trace --chains) valued=(--turns --rounds --order)
         ;;
     lwkt_check)
         reads=trace
         ;;
     lwkt_explore)
-        reads=script valued=(--states --turns --random --seed)
+        reads=script flags=(--plain --progress) valued=(--states --turns --random --seed --stop) tells=yes
         ;;
     lwkt_text)
         reads=script flags=(--run --json --text) opens_file=yes
@@ -117,7 +117,64 @@ choose_notice() {
 # Starts the program $1 on the words.
 start_program() {
     [[ -z $notice ]] || say "$notice"
+    [[ -z $tells || ! -t 2 ]] || start_watched "$1"
     exec "$1" "${words[@]}"
+}
+
+# Asks a program to end with what it found so far; asked again, ends it.
+stop_watched() {
+    if [[ -e $room/stop ]]; then
+        kill "$watched"
+    else
+        : >"$room/stop"
+    fi
+}
+
+# Starts the program $1 so that it tells each second how far it is, and ends with what it found where Ctrl-C is pressed: it isn't
+# told of that, but looks each second whether a file is there. Comes back only where no folder can be made for that file.
+start_watched() {
+    local status
+    room=$(mktemp -d 2>/dev/null) || return 0
+    trap stop_watched INT
+    (trap '' INT && exec "$1" --progress --stop "$room/stop" "${words[@]}") <&0 &
+    watched=$!
+    wait "$watched"
+    status=$?
+    while kill -0 "$watched" 2>/dev/null; do
+        wait "$watched"
+        status=$?
+    done
+    rm -rf "$room"
+    exit "$status"
+}
+
+# Whether these words ask for a run of each file of a folder.
+wants_all() {
+    [[ -n $tells && ${1:-} = --all ]]
+}
+
+# Calls the command $1 on each script and each text of the folder $3, with the options behind it; a file passes where the status is 0.
+# What is said of one that doesn't is shown.
+try_all() {
+    local command=$1 folder=${3:-} file said status passed=0 failed=0
+    if [[ ! -d $folder ]]; then
+        say "--all wants a folder behind it"
+        exit 1
+    fi
+    for file in "$folder"/*.lwkt "$folder"/*.json; do
+        [[ -e $file ]] || continue
+        status=0
+        said=$("$command" "${@:4}" -- "$file" 2>&1) || status=$?
+        if ((status == 0)); then
+            passed=$((passed + 1))
+        else
+            failed=$((failed + 1))
+            printf '%s: status %s\n%s\n' "${file##*/}" "$status" "$said"
+        fi
+    done
+    echo "$passed passed, $failed failed"
+    ((failed == 0)) || exit 5
+    exit 0
 }
 
 # Whether the program $1 works on this machine. A program that the system can't load may end with status 1 too, so it has

@@ -22,6 +22,7 @@ IsKind Cut end = Unit {0}
 pub record IsOutcome (bytes : List ℕ) (outcome : Outcome) : Type 0 where
   pub run : TurnsRun
   pub is_run : IsOrderRun bytes outcome.order.items run
+  pub is_closing : outcome.closing ≡ run.closing
   pub lawful : run.closing.verdict ≡ Lawful
   pub shows : string_bytes outcome.text ≡ front_text run.closing
   pub kind : IsKind outcome.kind (end_told run.closing)

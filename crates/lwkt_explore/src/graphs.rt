@@ -1,4 +1,5 @@
 //! The states that were found, with the turns that lead from one to the other.
+use crate::choices::{Choice, NO_CHOICE};
 use crate::packs::{hash_of, pack};
 use std::alloc::{AllocError, Global};
 
@@ -7,6 +8,12 @@ pub(crate) const NONE: u32 = u32::MAX;
 
 // How many slots the table of hashes has at first: a power of two.
 const SLOTS: usize = 1024;
+
+/// Not tried: what stands for the state that a turn leads to which wasn't made, since others stand for it.
+pub(crate) const UNTRIED: u32 = u32::MAX - 1;
+
+/// What the turns of the processors lead to, by processor.
+pub(crate) type Row = [u32; 8];
 
 // A state: the one before it on a shortest order, the processor whose turn led here, how many turns lead here, and its text.
 #[derive(Clone, Copy)]
@@ -17,6 +24,7 @@ struct Node {
     hash: u64,
     start: usize,
     end: usize,
+    choice: Choice,
 }
 
 /// States by their numbers, in the order in which they were found.
@@ -143,6 +151,7 @@ impl Graph {
         parent: usize,
         cpu: u8,
         text: &[u8],
+        choice: Choice,
     ) -> Result<u32, AllocError> {
         self.make_room(alloc)?;
         let start = self.texts.len();
@@ -163,21 +172,56 @@ impl Graph {
             hash,
             start,
             end: self.texts.len(),
+            choice,
         })?;
         put(&mut self.slots, number, hash);
         Ok(number)
     }
 
-    /// Notes what the turn of the next processor led to, of the next state.
-    pub(crate) fn note(&mut self, number: u32) -> Result<(), AllocError> {
-        self.next.push(number)?;
+    /// Of which processors the turns are tried at a state.
+    pub(crate) fn choice(&self, at: usize) -> Choice {
+        match self.nodes.get(at) {
+            Some(node) => node.choice,
+            None => NO_CHOICE,
+        }
+    }
+
+    /// The state before this one on its order, and the processor whose turn led here; none before the opening.
+    pub(crate) fn before(&self, at: usize) -> Option<(usize, usize)> {
+        let node = self.nodes.get(at)?;
+        if node.depth == 0 {
+            return None;
+        }
+        Some((node.parent as usize, usize::from(node.cpu)))
+    }
+
+    /// Notes what the turns from the next state led to.
+    pub(crate) fn note(&mut self, row: &Row) -> Result<(), AllocError> {
+        for (cpu, number) in row.iter().enumerate() {
+            if cpu < self.cpus {
+                self.next.push(*number)?;
+            }
+        }
         Ok(())
     }
 
-    /// The state that the turn of a processor leads to, if it was kept.
-    pub(crate) fn behind(&self, at: usize, cpu: usize) -> Option<usize> {
+    /// What is known of the turn of a processor from a state that was gone on from.
+    pub(crate) fn known(&self, at: usize, cpu: usize) -> Option<u32> {
+        if cpu >= self.cpus {
+            return None;
+        }
         let place = at.checked_mul(self.cpus)?.checked_add(cpu)?;
         let number = *self.next.get(place)?;
+        if number == UNTRIED {
+            None
+        } else {
+            Some(number)
+        }
+    }
+
+    /// The state that the turn of a processor leads to, if it was tried and kept.
+    pub(crate) fn behind(&self, at: usize, cpu: usize) -> Option<usize> {
+        let number = self.known(at, cpu)?;
         if number == NONE {
             return None;
         }

@@ -2,9 +2,12 @@
 //! be reached.
 #![tactic(auto)]
 
+mod choices;
+mod doings;
 mod graphs;
 mod lines;
 mod losses;
+mod mails;
 mod outcomes;
 mod packs;
 mod places;
@@ -12,11 +15,14 @@ mod samples;
 mod searches;
 mod states;
 mod statuses;
+mod touches;
 mod walks;
+mod watches;
 
-pub use lines::text_of;
+pub use lines::{order_text, text_of};
 pub use losses::Lost;
 pub use outcomes::{Kind, Outcome, Outcomes};
 pub use samples::sample;
-pub use searches::{Bounds, Found, Tried, explore};
+pub use searches::{Bounds, Found, Method, Tried, explore};
 pub use statuses::status_of;
+pub use watches::{Seen, Unwatched, Watch};

@@ -23,6 +23,13 @@ fn add_order(out: &mut String, order: &[u8]) -> Result<(), AllocError> {
     Ok(())
 }
 
+/// The processors of an order, each behind a blank, or a line for none.
+pub fn order_text(alloc: Global, order: &[u8]) -> Result<String, AllocError> {
+    let mut out = String::new(alloc);
+    add_order(&mut out, order)?;
+    Ok(out)
+}
+
 // How many random orders led to an outcome.
 fn add_count(out: &mut String, tried: Tried, count: u64) -> Result<(), AllocError> {
     match tried {

@@ -5,7 +5,7 @@ ghost use Rattle.lwkt_run.specs.Run.{IsOrderRun, end_told};
 ghost use Rattle.lwkt_explore.specs.Outcomes.{IsKind, IsOutcome, AreOutcomes};
 
 use lwkt_base::Fault;
-use lwkt_report::{Verdict, report_front};
+use lwkt_report::{Closing, Verdict, report_front};
 use lwkt_run::{End, TurnsRun, end_told, order_run};
 use lwkt_scenes::{Reel, whys_of};
 use std::alloc::Global;
@@ -26,6 +26,8 @@ pub enum Kind {
 pub struct Outcome {
     pub kind: Kind,
     pub order: Vec<u8>,
+    /// What the report shows.
+    pub closing: Closing,
     /// The lines of the report but the last.
     pub text: String,
     /// Of a stuck outcome why its threads haven't ended.
@@ -92,6 +94,7 @@ fn outcome_of(alloc: Global, bytes: &[u8], order: Vec<u8>, is_cut: bool) -> Resu
     Ok(Outcome {
         kind,
         order: run.order,
+        closing: run.closing,
         text,
         why,
     })
@@ -125,6 +128,15 @@ impl Outcomes {
         if let Some(count) = self.counts.get_mut(place) {
             *count = count.saturating_add(1);
         }
+    }
+
+    /// How many of the orders that were tried led to an outcome.
+    pub(crate) fn total(&self) -> u64 {
+        let mut total = 0u64;
+        for count in &self.counts {
+            total = total.saturating_add(*count);
+        }
+        total
     }
 
     // Keeps an outcome.

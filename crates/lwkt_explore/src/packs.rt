@@ -15,10 +15,11 @@ fn pack_one(bytes: &mut Vec<u8>, word: u64) -> Result<(), AllocError> {
     Ok(())
 }
 
-/// Puts numbers behind some bytes. Different lists of numbers give different bytes.
+/// Puts numbers behind some bytes. Different lists of numbers give different bytes. The greatest number, which often stands for
+/// nothing, takes one byte as 0 does.
 pub(crate) fn pack(bytes: &mut Vec<u8>, words: &[u64]) -> Result<(), AllocError> {
     for word in words {
-        pack_one(bytes, *word)?;
+        pack_one(bytes, word.wrapping_add(1))?;
     }
     Ok(())
 }

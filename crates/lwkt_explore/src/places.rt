@@ -1,4 +1,7 @@
 //! A script's machine under way, made along an order.
+use crate::choices::Choice;
+use crate::doings::Doings;
+use crate::mails::Mails;
 use crate::states::add_state;
 use lwkt_base::{Fault, MsgId, Owner};
 use lwkt_core::{Event, Message, State};
@@ -84,6 +87,12 @@ impl Place {
             self.turn(usize::from(*cpu), trace)?;
         }
         Ok(())
+    }
+
+    /// Of which processors the turns are tried here.
+    pub(crate) fn choice(&self, script: &Script, mails: &Mails) -> Choice {
+        let doings = Doings::at(script, mails, &self.machine, &self.state);
+        Choice::of(&doings, usize::from(script.cpus))
     }
 
     /// Writes what tells this place apart from others of the same script, and gives it up.

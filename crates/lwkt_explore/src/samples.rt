@@ -3,8 +3,9 @@ ghost use Rattle.std.specs.Prelude.{IfOk};
 ghost use Rattle.lwkt_explore.specs.Outcomes.{AreOutcomes};
 
 use crate::outcomes::Outcomes;
-use crate::searches::{Bounds, Found, Tried};
+use crate::searches::{Bounds, Found, Method, Tried};
 use crate::walks::Walk;
+use crate::watches::Watch;
 use lwkt_base::Fault;
 use lwkt_run::read_script;
 use std::alloc::Global;
@@ -56,49 +57,64 @@ fn add_one(
 }
 
 // Makes so many random orders.
-fn add_all(
+fn add_all<W: Watch>(
     alloc: Global,
     bytes: &[u8],
     walk: &mut Walk,
     outcomes: &mut Outcomes,
     dice: &mut Dice,
     count: u64,
+    watch: &mut W,
 ) -> Result<(), Fault>
     requires { AreOutcomes bytes.now outcomes.old }
     ensures { AreOutcomes bytes.now outcomes.new }
 {
-    for _ in 0..count {
+    for made in 0..count {
+        if !watch.goes_on(walk.strayed(made)) {
+            return Ok(());
+        }
         add_one(alloc, bytes, walk, outcomes, dice)?;
     }
     Ok(())
 }
 
-/// Makes so many random orders of turns of the script that the bytes are, each until no turn changes anything, or the bound on
+/// Makes so many random orders of turns of the script that the bytes are, or fewer where who looks on ends it, each until no turn changes anything, or the bound on
 /// turns is met. A seed gives the same orders on every machine. Each outcome is the report of the run along its order, whose
 /// verdict is `lawful`.
 ///
 /// Refused as `explore` is.
-pub fn sample(
+pub fn sample<W: Watch>(
     alloc: Global,
     bytes: &[u8],
     bounds: Bounds,
     count: u64,
     seed: u64,
+    watch: &mut W,
 ) -> Result<Found, Fault>
     ensures { IfOk result (λ found. AreOutcomes bytes.now found.outcomes) }
 {
     let script = read_script(alloc, bytes)?;
-    let mut walk = Walk::begin(alloc, script, bounds)?;
+    let mut walk = Walk::begin(alloc, script, bounds, Method::Plain)?;
     let mut outcomes = Outcomes::new(alloc);
     let mut dice = Dice::new(seed);
-    match add_all(alloc, bytes, &mut walk, &mut outcomes, &mut dice, count) {
+    let made = add_all(
+        alloc,
+        bytes,
+        &mut walk,
+        &mut outcomes,
+        &mut dice,
+        count,
+        watch,
+    );
+    match made {
         Ok(()) => {}
         Err(Fault::Memory) => {}
         Err(fault) => return Err(fault),
     }
+    let tried = Tried::Orders(outcomes.total());
     Ok(Found {
         outcomes,
-        tried: Tried::Orders(count),
+        tried,
         turns: walk.turns,
         is_complete: false,
         lost: None,

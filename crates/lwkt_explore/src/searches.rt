@@ -5,6 +5,7 @@ ghost use Rattle.lwkt_explore.specs.Outcomes.{AreOutcomes};
 use crate::losses::Lost;
 use crate::outcomes::{Kind, Outcomes};
 use crate::walks::{Walk, memory};
+use crate::watches::Watch;
 use lwkt_base::Fault;
 use lwkt_run::read_script;
 use std::alloc::Global;
@@ -16,6 +17,15 @@ pub struct Bounds {
     pub states: usize,
     /// The most turns of an order.
     pub turns: usize,
+}
+
+/// How a search goes on from a state.
+#[derive(Clone, Copy, Debug, PartialEq, Eq)]
+pub enum Method {
+    /// By the turn of each processor.
+    Plain,
+    /// By the turns of some, where those of the others can be exchanged with theirs.
+    Reduced,
 }
 
 /// What was tried.
@@ -62,12 +72,13 @@ fn expand(
 }
 
 // Goes on from each state, in the order in which they are found.
-fn search(
+fn search<W: Watch>(
     alloc: Global,
     bytes: &[u8],
     walk: &mut Walk,
     outcomes: &mut Outcomes,
     states: usize,
+    watch: &mut W,
 ) -> Result<(), Fault>
     requires { AreOutcomes bytes.now outcomes.old }
     ensures { AreOutcomes bytes.now outcomes.new }
@@ -76,22 +87,33 @@ fn search(
         if at >= walk.graph.len() {
             return Ok(());
         }
+        if !watch.goes_on(walk.seen(at)) {
+            walk.is_complete = false;
+            return Ok(());
+        }
         expand(alloc, bytes, walk, outcomes, at)?;
     }
     Ok(())
 }
 
 /// Tries every order of turns of the script that the bytes are, within bounds. Each outcome is the report of the run along its
-/// order, whose verdict is `lawful`. Where memory is refused, what was found till then is given, and said to be a part.
+/// order, whose verdict is `lawful`. Where memory is refused, or who looks on ends the search, what was found till then is given, and
+/// said to be a part.
 ///
 /// Refused as `order_run` is for the script and its opening, and with `Unlawful` if a run isn't lawful.
-pub fn explore(alloc: Global, bytes: &[u8], bounds: Bounds) -> Result<Found, Fault>
+pub fn explore<W: Watch>(
+    alloc: Global,
+    bytes: &[u8],
+    bounds: Bounds,
+    method: Method,
+    watch: &mut W,
+) -> Result<Found, Fault>
     ensures { IfOk result (λ found. AreOutcomes bytes.now found.outcomes) }
 {
     let script = read_script(alloc, bytes)?;
-    let mut walk = Walk::begin(alloc, script, bounds)?;
+    let mut walk = Walk::begin(alloc, script, bounds, method)?;
     let mut outcomes = Outcomes::new(alloc);
-    match search(alloc, bytes, &mut walk, &mut outcomes, bounds.states) {
+    match search(alloc, bytes, &mut walk, &mut outcomes, bounds.states, watch) {
         Ok(()) => {}
         Err(Fault::Memory) => walk.is_complete = false,
         Err(fault) => return Err(fault),

@@ -1,9 +1,13 @@
 //! A walk over the states of a script.
-use crate::graphs::{Graph, NONE, packed};
+use crate::choices::Choice;
+use crate::graphs::{Graph, NONE, Row, UNTRIED, packed};
 use crate::losses::{Lost, lost_of};
+use crate::mails::Mails;
 use crate::places::Place;
 use crate::samples::Dice;
-use crate::searches::Bounds;
+use crate::searches::{Bounds, Method};
+use crate::touches::has;
+use crate::watches::Seen;
 use lwkt_base::Fault;
 use lwkt_core::Event;
 use lwkt_machine::Turned;
@@ -14,12 +18,21 @@ use std::alloc::{AllocError, Global};
 #[derive(Drop)]
 pub(crate) struct Walk {
     script: Script,
+    mails: Mails,
     bounds: Bounds,
+    method: Method,
     pub graph: Graph,
     ends: Vec<bool>,
     pub turns: u64,
     pub is_complete: bool,
     trace: Vec<Event>,
+}
+
+// Where turns led: the text of the place, and of which processors the turns are tried there.
+#[derive(Drop)]
+struct Reached {
+    text: Vec<u8>,
+    choice: Choice,
 }
 
 /// What was given, or `Memory`.
@@ -30,40 +43,82 @@ pub(crate) fn memory<T>(given: Result<T, AllocError>) -> Result<T, Fault> {
     }
 }
 
+// Whether the turn of no processor leads to another state.
+fn is_quiet(row: &Row, at: usize, cpus: usize) -> bool {
+    for (cpu, number) in row.iter().enumerate() {
+        if cpu < cpus && *number as usize != at {
+            return false;
+        }
+    }
+    true
+}
+
 impl Walk {
     /// A walk that has the opening state.
-    pub(crate) fn begin(alloc: Global, script: Script, bounds: Bounds) -> Result<Walk, Fault> {
+    pub(crate) fn begin(
+        alloc: Global,
+        script: Script,
+        bounds: Bounds,
+        method: Method,
+    ) -> Result<Walk, Fault> {
         let cpus = usize::from(script.cpus);
+        let mails = memory(Mails::of(alloc, &script))?;
         let mut walk = Walk {
             script,
+            mails,
             bounds,
+            method,
             graph: memory(Graph::new(alloc, cpus))?,
             ends: Vec::new(alloc),
             turns: 0,
             is_complete: true,
             trace: Vec::new(alloc),
         };
-        let text = walk.text_after(alloc, &[], None)?;
-        memory(walk.graph.add(alloc, 0, 0, text.as_slice()))?;
+        let Reached { text, choice } = walk.reach(alloc, &[], None)?;
+        memory(walk.graph.add(alloc, 0, 0, text.as_slice(), choice))?;
         Ok(walk)
     }
 
-    // The text of the place that an order leads to, and then the turn of a processor.
-    fn text_after(
-        &mut self,
-        alloc: Global,
-        order: &[u8],
-        cpu: Option<usize>,
-    ) -> Result<Vec<u8>, Fault> {
+    // Of which processors the turns are tried at a place.
+    fn choice_at(&self, place: &Place) -> Choice {
+        match self.method {
+            Method::Plain => Choice::all(usize::from(self.script.cpus)),
+            Method::Reduced => place.choice(&self.script, &self.mails),
+        }
+    }
+
+    // Goes along an order, and then makes the turn of a processor.
+    fn reach(&mut self, alloc: Global, order: &[u8], cpu: Option<usize>) -> Result<Reached, Fault> {
         let mut place = Place::open(alloc, &self.script)?;
         place.go(order, &mut self.trace)?;
         if let Some(cpu) = cpu {
             place.turn(cpu, &mut self.trace)?;
             self.turns = self.turns.saturating_add(1);
         }
+        let choice = self.choice_at(&place);
         let mut words = Vec::new(alloc);
         memory(place.encode(alloc, &mut words))?;
-        memory(packed(alloc, words.as_slice()))
+        let text = memory(packed(alloc, words.as_slice()))?;
+        Ok(Reached { text, choice })
+    }
+
+    /// How far a walk is that has gone on from so many states.
+    pub(crate) fn seen(&self, gone_on: usize) -> Seen {
+        let states = self.graph.len();
+        Seen {
+            states,
+            frontier: states.saturating_sub(gone_on),
+            turns: self.turns,
+        }
+    }
+
+    /// How far random orders are, of which so many were made.
+    pub(crate) fn strayed(&self, made: u64) -> Seen {
+        Seen {
+            states: usize::try_from(made).unwrap_or(usize::MAX),
+            frontier: 0,
+            turns: self.turns,
+        }
     }
 
     /// Whether the order to a state has as many turns as it may have.
@@ -71,15 +126,15 @@ impl Walk {
         self.graph.depth(at) >= self.bounds.turns
     }
 
-    // The number of the state of a text; a new one is kept, unless a bound is met.
+    // The number of the state that the turn of a processor led to; a new one is kept, unless a bound is met.
     fn number_of(
         &mut self,
         alloc: Global,
         at: usize,
         cpu: usize,
-        text: &[u8],
+        reached: &Reached,
     ) -> Result<u32, Fault> {
-        if let Some(number) = self.graph.find(text) {
+        if let Some(number) = self.graph.find(reached.text.as_slice()) {
             return Ok(number);
         }
         if self.graph.len() >= self.bounds.states || self.is_far(at) {
@@ -87,27 +142,100 @@ impl Walk {
             return Ok(NONE);
         }
         let number = u8::try_from(cpu).unwrap_or(u8::MAX);
-        memory(self.graph.add(alloc, at, number, text))
+        memory(
+            self.graph
+                .add(alloc, at, number, reached.text.as_slice(), reached.choice),
+        )
     }
 
-    /// Makes the turn of each processor from a state, and says whether none changes anything.
-    pub(crate) fn go_on(&mut self, alloc: Global, at: usize, order: &[u8]) -> Result<bool, Fault> {
-        let mut quiet = true;
-        for cpu in 0..usize::from(self.script.cpus) {
-            let text = self.text_after(alloc, order, Some(cpu))?;
-            let number = self.number_of(alloc, at, cpu, text.as_slice())?;
-            quiet = quiet && number as usize == at;
-            memory(self.graph.note(number))?;
+    // Where the turn of a processor leads, if that is known without making it: where it can be exchanged with the turn that led here,
+    // it leads where that turn leads from the state that this one leads to from the state before.
+    fn known(&self, at: usize, cpu: usize) -> Option<u32> {
+        let (before, led) = self.graph.before(at)?;
+        let commuting = self.graph.choice(before).commuting;
+        if !has(commuting.get(led).copied()?, cpu) {
+            return None;
         }
-        Ok(quiet)
+        let beside = self.graph.known(before, cpu)?;
+        if beside as usize == before {
+            return u32::try_from(at).ok();
+        }
+        self.graph.known(beside as usize, led)
+    }
+
+    // Where the turn of a processor leads from a state.
+    fn next(&mut self, alloc: Global, at: usize, order: &[u8], cpu: usize) -> Result<u32, Fault> {
+        if let Some(number) = self.known(at, cpu) {
+            return Ok(number);
+        }
+        let reached = self.reach(alloc, order, Some(cpu))?;
+        self.number_of(alloc, at, cpu, &reached)
+    }
+
+    // Tries the turns of a set from a state, those that weren't tried before. Says whether one leads to a state that is still to be
+    // gone on from, or that wasn't kept: then the turns of the others need not be tried.
+    fn try_set(
+        &mut self,
+        alloc: Global,
+        at: usize,
+        order: &[u8],
+        set: u8,
+        row: &mut Row,
+    ) -> Result<bool, Fault> {
+        let mut leads_on = false;
+        for cpu in 0..8usize {
+            if has(set, cpu) {
+                if row[cpu] == UNTRIED {
+                    row[cpu] = self.next(alloc, at, order, cpu)?;
+                }
+                leads_on = leads_on || row[cpu] as usize > at;
+            }
+        }
+        Ok(leads_on)
+    }
+
+    // Tries the turns of sets from a state, up to the first set that is enough.
+    fn try_sets(
+        &mut self,
+        alloc: Global,
+        at: usize,
+        order: &[u8],
+        row: &mut Row,
+    ) -> Result<(), Fault> {
+        for set in self.graph.choice(at).sets {
+            if self.try_set(alloc, at, order, set, row)? {
+                return Ok(());
+            }
+        }
+        Ok(())
+    }
+
+    // What is known of the turns from a state before any is made: those of processors that have nothing more to do lead nowhere else.
+    fn first_row(&self, at: usize) -> Row {
+        let over = self.graph.choice(at).over;
+        let mut row = [UNTRIED; 8];
+        for cpu in 0..8usize {
+            if has(over, cpu) {
+                row[cpu] = u32::try_from(at).unwrap_or(NONE);
+            }
+        }
+        row
+    }
+
+    /// Tries turns from a state, and says whether no processor's turn changes anything.
+    pub(crate) fn go_on(&mut self, alloc: Global, at: usize, order: &[u8]) -> Result<bool, Fault> {
+        let mut row = self.first_row(at);
+        self.try_sets(alloc, at, order, &mut row)?;
+        memory(self.graph.note(&row))?;
+        Ok(is_quiet(&row, at, usize::from(self.script.cpus)))
     }
 
     // Whether no turn changes anything behind an order.
     fn is_quiet(&mut self, alloc: Global, order: &[u8]) -> Result<bool, Fault> {
-        let text = self.text_after(alloc, order, None)?;
+        let here = self.reach(alloc, order, None)?;
         for cpu in 0..usize::from(self.script.cpus) {
-            let next = self.text_after(alloc, order, Some(cpu))?;
-            if next.as_slice() != text.as_slice() {
+            let next = self.reach(alloc, order, Some(cpu))?;
+            if next.text.as_slice() != here.text.as_slice() {
                 return Ok(false);
             }
         }

@@ -1,8 +1,11 @@
 //! The program: reads a script from standard input, tries every order of its turns, and writes which outcomes there are.
 #![tactic(auto)]
 
+mod expectations;
 mod options;
 mod programs;
+mod texts;
+mod tickers;
 
 use crate::programs::{explore_told, refuse_arguments};
 use lwkt_report::{NotedReader, NotedWriter, ReaderSource, WriterSink, words_of};
@@ -17,7 +20,7 @@ fn main(rt: HostRuntime) -> ExitCode {
         Ok(words) => {
             let mut source = ReaderSource::new(NotedReader::new(alloc, rt.stdin()));
             let mut sink = WriterSink::new(NotedWriter::new(rt.stdout()));
-            explore_told(alloc, &words, &mut source, &mut sink, &mut errors)
+            explore_told(&rt, alloc, &words, &mut source, &mut sink, &mut errors)
         }
         Err(error) => {
             let memory = error.kind() == io::ErrorKind::OutOfMemory;

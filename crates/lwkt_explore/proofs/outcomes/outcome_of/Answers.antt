@@ -8,6 +8,7 @@ returns c =
     record {
       run = run;
       is_run = record { read = is_run.read; is_order = refl; closes = is_run.closes; judged = is_run.judged };
+      is_closing = refl;
       lawful = c.in_ok-kind.ensures.lawful;
       shows = c.in_ok-text.ensures.ok;
       kind = c.in_ok-kind.ensures.kind;
