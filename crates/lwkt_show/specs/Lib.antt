@@ -1,3 +1,2 @@
 pub mod Arguments
-pub mod Orders
 pub mod Showing
