@@ -62,25 +62,44 @@ fn with_word<'a>(options: Options<'a>, word: &str) -> Option<Options<'a>> {
     Some(options)
 }
 
+// What was read of the arguments: the options, and the word that still wants a value.
+#[derive(Clone, Copy)]
+struct Reading<'a> {
+    options: Options<'a>,
+    before: Option<&'a str>,
+}
+
+// The same with one more argument.
+fn with_argument<'a>(reading: Reading<'a>, word: &'a str) -> Option<Reading<'a>> {
+    if let Some(name) = reading.before {
+        return Some(Reading {
+            options: with_value(reading.options, name, word)?,
+            before: None,
+        });
+    }
+    match with_word(reading.options, word) {
+        Some(options) => Some(Reading {
+            options,
+            before: None,
+        }),
+        None => Some(Reading {
+            options: reading.options,
+            before: Some(word),
+        }),
+    }
+}
+
 /// The options that the arguments are, if they are the program's. Of an option that stands twice the last one counts.
 pub fn options_of(words: &[String]) -> Option<Options<'_>> {
-    let mut options = plain();
-    let mut before: Option<&str> = None;
+    let mut reading = Reading {
+        options: plain(),
+        before: None,
+    };
     for word in words {
-        let word = word.as_str();
-        match before {
-            Some(name) => {
-                options = with_value(options, name, word)?;
-                before = None;
-            }
-            None => match with_word(options, word) {
-                Some(more) => options = more,
-                None => before = Some(word),
-            },
-        }
+        reading = with_argument(reading, word.as_str())?;
     }
-    match before {
-        None => Some(options),
+    match reading.before {
+        None => Some(reading.options),
         Some(_) => None,
     }
 }
