@@ -93,6 +93,10 @@ fn search<W: Watch>(
         }
         expand(alloc, bytes, walk, outcomes, at)?;
     }
+    // (no state may be kept, and the opening is one)
+    if walk.graph.len() > states {
+        walk.is_complete = false;
+    }
     Ok(())
 }
 
