@@ -1,0 +1,105 @@
+use lwkt_explore::{Bounds, Method};
+
+/// What the arguments ask for.
+#[derive(Clone, Copy)]
+pub struct Options<'a> {
+    pub bounds: Bounds,
+    pub method: Method,
+    /// How many random orders are made in place of a search.
+    pub random: Option<u64>,
+    pub seed: u64,
+    /// Whether it is told each second how far the search is.
+    pub progress: bool,
+    /// The file that ends the search once it is there.
+    pub stop: Option<&'a str>,
+}
+
+// Without options.
+fn plain<'a>() -> Options<'a> {
+    Options {
+        bounds: Bounds {
+            states: 1_000_000,
+            turns: 100_000,
+        },
+        method: Method::Reduced,
+        random: None,
+        seed: 0,
+        progress: false,
+        stop: None,
+    }
+}
+
+fn size(text: &str) -> Option<usize> {
+    text.parse::<usize>().ok()
+}
+
+fn number(text: &str) -> Option<u64> {
+    text.parse::<u64>().ok()
+}
+
+// The options with one more that has a value; none if it is no option of the program.
+fn with_value<'a>(options: Options<'a>, word: &str, text: &'a str) -> Option<Options<'a>> {
+    let mut options = options;
+    match word {
+        "--states" => options.bounds.states = size(text)?,
+        "--turns" => options.bounds.turns = size(text)?,
+        "--random" => options.random = Some(number(text)?),
+        "--seed" => options.seed = number(text)?,
+        "--stop" => options.stop = Some(text),
+        _ => return None,
+    }
+    Some(options)
+}
+
+// The options with one more that has no value.
+fn with_word<'a>(options: Options<'a>, word: &str) -> Option<Options<'a>> {
+    let mut options = options;
+    match word {
+        "--plain" => options.method = Method::Plain,
+        "--progress" => options.progress = true,
+        _ => return None,
+    }
+    Some(options)
+}
+
+// What was read of the arguments: the options, and the word that still wants a value.
+#[derive(Clone, Copy)]
+struct Reading<'a> {
+    options: Options<'a>,
+    before: Option<&'a str>,
+}
+
+// The same with one more argument.
+fn with_argument<'a>(reading: Reading<'a>, word: &'a str) -> Option<Reading<'a>> {
+    if let Some(name) = reading.before {
+        return Some(Reading {
+            options: with_value(reading.options, name, word)?,
+            before: None,
+        });
+    }
+    match with_word(reading.options, word) {
+        Some(options) => Some(Reading {
+            options,
+            before: None,
+        }),
+        None => Some(Reading {
+            options: reading.options,
+            before: Some(word),
+        }),
+    }
+}
+
+/// The options that the arguments are, if they are the program's. Of an option that stands twice the last one counts.
+pub fn options_of(words: &[String]) -> Option<Options<'_>> {
+    let mut reading = Reading {
+        options: plain(),
+        before: None,
+    };
+    for word in words {
+        reading = with_argument(reading, word.as_str())?;
+    }
+    match reading.before {
+        None => Some(reading.options),
+        Some(_) => None,
+    }
+}

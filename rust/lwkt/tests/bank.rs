@@ -1,0 +1,151 @@
+//! Banks of tokens: sections of four threads, and what each call refuses.
+use lwkt::{Bank, Held, RowLaw, Seat, SeatFault, Token};
+use std::thread;
+
+const ROUNDS: u64 = 100_000;
+const TALLY: u32 = 0;
+const SUM: u32 = 1;
+const ANY: u32 = 2;
+const ORDER: u32 = 3;
+
+fn tokens() -> [Token; 4] {
+    [
+        Token::new(&[5], RowLaw::Tally, 5),
+        Token::new(&[400_000, 600_000], RowLaw::Sum, 1_000_000),
+        Token::new(&[0], RowLaw::Any, 0),
+        Token::new(&[1, 2], RowLaw::Order, 0),
+    ]
+}
+
+fn seats() -> Vec<Seat> {
+    Bank::open(&tokens(), 4).unwrap().into_seats()
+}
+
+fn refused<T>(answer: Result<T, SeatFault>) -> u32 {
+    answer.err().map_or(0, |fault| fault.0)
+}
+
+// Adds one in each section, and moves one from cell to cell of the token of sums in some of them.
+fn work(seat: &mut Seat) -> Result<(), SeatFault> {
+    for round in 0..ROUNDS {
+        seat.take_waiting(TALLY)?.add(1)?;
+        if round % 100 == 0 {
+            let mut held = seat.take_waiting(SUM)?;
+            let (first, second) = (held.load(0)?, held.load(1)?);
+            assert_eq!(first + second, 1_000_000);
+            held.store(0, first - 1)?;
+            assert!(!held.is_lawful()?);
+            held.store(1, second + 1)?;
+            held.give()?;
+        }
+    }
+    Ok(())
+}
+
+#[test]
+fn sections_of_four_threads_add_up() {
+    let mut seats = seats();
+    thread::scope(|scope| {
+        for seat in &mut seats {
+            scope.spawn(|| work(seat).unwrap());
+        }
+    });
+    let seat = &mut seats[0];
+    assert_eq!(seat.share(TALLY).unwrap().load(0), Ok(5 + 4 * ROUNDS));
+    let mut held = seat.share(SUM).unwrap();
+    assert_eq!(held.load(0), Ok(400_000 - 4 * ROUNDS / 100));
+    assert_eq!(held.load(1), Ok(600_000 + 4 * ROUNDS / 100));
+}
+
+#[test]
+fn what_is_not_there_is_refused() {
+    let mut seats = seats();
+    let seat = &mut seats[0];
+    assert_eq!(refused(seat.take(4)), 16);
+    assert_eq!(refused(seat.take_waiting(u32::MAX)), 16);
+    assert_eq!(refused(seat.share(4)), 16);
+    assert_eq!(refused(seat.mark(4)), 16);
+    let mut held = seat.take(ANY).unwrap();
+    assert_eq!(refused(held.load(1)), 17);
+    assert_eq!(refused(held.store(256, 1)), 17);
+    assert_eq!(refused(held.take(256)), 16);
+}
+
+#[test]
+fn what_the_holding_forbids_is_refused() {
+    let mut seats = seats();
+    let mut other = seats.pop().unwrap();
+    let seat = &mut seats[0];
+    let mut held = seat.share(ANY).unwrap();
+    assert_eq!(refused(held.take(ANY)), 11);
+    assert_eq!(refused(held.store(0, 1)), 18);
+    assert_eq!(refused(held.add(1)), 18);
+    assert_eq!(refused(held.is_lawful()), 18);
+    assert_eq!(refused(held.restore()), 18);
+    assert_eq!(refused(other.take(ANY)), 23);
+    held.give().unwrap();
+    assert_eq!(refused(seat.take(ANY).unwrap().add(1)), 22);
+    let mut tally = seat.take(TALLY).unwrap();
+    assert_eq!(refused(tally.store(0, 1)), 22);
+    assert_eq!(refused(tally.add(u64::MAX)), 21);
+    assert_eq!(tally.load(0), Ok(5));
+}
+
+#[test]
+fn a_mark_holds_off_who_has_nothing() {
+    let mut seats = seats();
+    let mut other = seats.pop().unwrap();
+    let seat = &mut seats[0];
+    let held = seat.share(ANY).unwrap();
+    other.mark(ANY).unwrap();
+    assert_eq!(refused(other.share(ANY)), 23);
+    held.give().unwrap();
+    other.take(ANY).unwrap().give().unwrap();
+    assert_eq!(refused(seat.share(ANY)), 0);
+}
+
+// References on references, as many as these; then the fault of one more.
+fn nest(held: &mut Held<'_>, further: u32) -> u32 {
+    match held.again() {
+        Ok(mut next) => nest(&mut next, further + 1),
+        Err(fault) => {
+            assert_eq!(further, 31);
+            fault.0
+        }
+    }
+}
+
+#[test]
+fn references_end_with_their_guards() {
+    let mut seats = seats();
+    let mut other = seats.pop().unwrap();
+    assert_eq!(nest(&mut seats[0].take(ANY).unwrap(), 0), 10);
+    assert_eq!(refused(other.take(ANY)), 0);
+}
+
+#[test]
+fn a_row_that_breaks_its_law_is_the_first_row_again() {
+    let mut seats = seats();
+    let seat = &mut seats[0];
+    let mut held = seat.take(ORDER).unwrap();
+    held.store(0, 9).unwrap();
+    assert_eq!(refused(held.give()), 19);
+    seat.take(ORDER).unwrap().store(0, 9).unwrap();
+    assert_eq!(seat.share(ORDER).unwrap().load(0), Ok(1));
+    let mut held = seat.take(ORDER).unwrap();
+    held.store(0, 9).unwrap();
+    held.restore().unwrap();
+    assert_eq!(held.is_lawful(), Ok(true));
+}
+
+#[test]
+fn openings_keep_the_limits() {
+    let good = Token::new(&[1], RowLaw::Any, 0);
+    assert_eq!(refused(Bank::open(&[good], 0)), 39);
+    assert_eq!(refused(Bank::open(&[good], 9)), 39);
+    assert_eq!(refused(Bank::open(&[good; 65], 1)), 39);
+    assert_eq!(refused(Bank::open(&[Token::new(&[0; 5], RowLaw::Any, 0)], 1)), 39);
+    assert_eq!(refused(Bank::open(&[Token::new(&[0; 2], RowLaw::Tally, 0)], 1)), 39);
+    assert_eq!(refused(Bank::open(&[Token::new(&[5, 6], RowLaw::Sum, 10)], 1)), 40);
+    assert_eq!(Bank::open(&[], 8).unwrap().into_seats().len(), 8);
+}
