@@ -186,5 +186,6 @@ runs_here() {
     [[ -z $opens_file ]] || try+=(/dev/stdin --run)
     [[ $reads = script ]] || input=$small_trace
     { said=$(printf '%s' "$input" | "${try[@]}"); } 2>/dev/null
-    [[ ${said##*$'\n'} = lawful ]]
+    # (what tells how far it is ends with what it searched)
+    [[ ${said##*$'\n'} = lawful || (-n $tells && $said = *'; complete') ]]
 }
