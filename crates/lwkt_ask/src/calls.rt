@@ -40,7 +40,7 @@ pub(crate) fn get(
     requires of { bank_of (seat_of hold.old) ≡ id_of bank.now }
     requires held { holding (seat_of hold.old) ≡ holding_of list.old }
     requires room { vec_len trace.old + 512 ≤ vec_capacity trace.old }
-    ensures ran { Ran (IsBetween list.old (kept_list result list.new)) 288 (seat_of hold.old) (seat_of hold.new) trace.old trace.new }
+    ensures ran { Ran (IsBetween list.old (kept_list result list.new)) 320 (seat_of hold.old) (seat_of hold.new) trace.old trace.new }
     ensures held { HoldsAfter result (holding (seat_of hold.new)) list.new }
     ensures there { All (λ r. r.tok.0 < tokens_of (bank_of (seat_of hold.old))) list.old → All (λ r. r.tok.0 < tokens_of (bank_of (seat_of hold.old))) list.new }
     ensures gets { Gets (id_of bank.now) (seat_of hold.old) (seat_of hold.new) list.old list.new new trace.old trace.new result }
@@ -67,7 +67,7 @@ pub(crate) fn try_get(
     requires of { bank_of (seat_of hold.old) ≡ id_of bank.now }
     requires held { holding (seat_of hold.old) ≡ holding_of list.old }
     requires room { vec_len trace.old + 512 ≤ vec_capacity trace.old }
-    ensures ran { Ran (IsBetween list.old list.new) 288 (seat_of hold.old) (seat_of hold.new) trace.old trace.new }
+    ensures ran { Ran (IsBetween list.old list.new) 320 (seat_of hold.old) (seat_of hold.new) trace.old trace.new }
     ensures held { holding (seat_of hold.new) ≡ holding_of list.new }
     ensures there { All (λ r. r.tok.0 < tokens_of (bank_of (seat_of hold.old))) list.old → All (λ r. r.tok.0 < tokens_of (bank_of (seat_of hold.old))) list.new }
     ensures tries { (told : Result (Unit {0}) Fault) × (Tries (id_of bank.now) (seat_of hold.old) (seat_of hold.new) list.old list.new tok trace.old trace.new told × (result ≡ done_or told)) }
@@ -88,7 +88,7 @@ pub(crate) fn rel(
     requires of { bank_of (seat_of hold.old) ≡ id_of bank.now }
     requires held { holding (seat_of hold.old) ≡ holding_of list.old }
     requires room { vec_len trace.old + 512 ≤ vec_capacity trace.old }
-    ensures ran { Ran (IsBetween list.old list.new) 288 (seat_of hold.old) (seat_of hold.new) trace.old trace.new }
+    ensures ran { Ran (IsBetween list.old list.new) 320 (seat_of hold.old) (seat_of hold.new) trace.old trace.new }
     ensures held { holding (seat_of hold.new) ≡ holding_of list.new }
     ensures there { All (λ r. r.tok.0 < tokens_of (bank_of (seat_of hold.old))) list.old → All (λ r. r.tok.0 < tokens_of (bank_of (seat_of hold.old))) list.new }
     ensures rels { (told : Result (Unit {0}) Fault) × (Rels (seat_of hold.old) (seat_of hold.new) list.old list.new tok trace.old trace.new told × (result ≡ done_or told)) }

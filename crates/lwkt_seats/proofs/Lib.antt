@@ -1,0 +1,3 @@
+mod DeskBox
+mod Answering
+mod Placing

@@ -1,0 +1,74 @@
+-- The seats that an opening hands out, put into places in order.
+use Rattle.std.proofs.Common.{◌≡◌, ◌⊎◌, ℕ, zero, suc, ◌+◌, ◌<◌, inl, inr, List, [], ◌∷◌, ◌++◌, length, refl, ap, sym, ◌∙◌, subst, arith}
+use Rattle.std.specs.Prelude.{slice_index_or}
+use Rattle.std.specs.Arc.{arc_value}
+use Rattle.lwkt_bank.specs.declared.banks.Bank.{Bank}
+use Rattle.lwkt_bank.specs.declared.seats.CpuSeat.{CpuSeat}
+use Rattle.lwkt_bank.specs.Seats.{BankId, cpus_of}
+use Rattle.std.proofs.lemmas.Option.{slice_get_within, get_or_from_slice_get}
+use Rattle.lwkt_bank.specs.Gathered.{AreHandedOut}
+use Rattle.lwkt_seats.specs.declared.spots.Spot.{Spot}
+use Rattle.lwkt_seats.specs.Spots.{AreSpotsOf, AreSpots}
+
+at_end : (xs ys : List CpuSeat) (y s : CpuSeat) → slice_index_or (xs ++ y ∷ ys) (length xs) s ≡ y
+at_end [] ys y s = refl
+at_end (x ∷ xs) ys y s = at_end xs ys y s
+
+inside : (xs ys : List CpuSeat) (y : CpuSeat) → length xs < length (xs ++ y ∷ ys)
+inside [] ys y = omega arith
+inside (x ∷ xs) ys y = let r = inside xs ys y in omega arith
+
+pub numbered : (bank : BankId) (all xs ys : List CpuSeat) (y : CpuSeat) → all ≡ xs ++ y ∷ ys → AreHandedOut bank all → y.cpu.0 ≡ length xs
+numbered bank all xs ys y is out =
+    let there : AreHandedOut bank (xs ++ y ∷ ys) = subst (AreHandedOut bank) is out in
+    let e = there.each (length xs) y (inside xs ys y) in
+    ap (λ (s : CpuSeat). s.cpu.0) (sym (at_end xs ys y y)) ∙ e.2
+
+pub joined : (xs ys : List CpuSeat) (y : CpuSeat) → (xs ++ y ∷ []) ++ ys ≡ xs ++ y ∷ ys
+joined [] ys y = refl
+joined (x ∷ xs) ys y = ap (λ (zs : List CpuSeat). x ∷ zs) (joined xs ys y)
+
+seats_more : (xs : List CpuSeat) (y : CpuSeat) → length (xs ++ y ∷ []) ≡ length xs + 1
+seats_more [] y = refl
+seats_more (x ∷ xs) y = let r = seats_more xs y in omega arith
+
+spots_more : (xs : List Spot) (y : Spot) → length (xs ++ y ∷ []) ≡ length xs + 1
+spots_more [] y = refl
+spots_more (x ∷ xs) y = let r = spots_more xs y in omega arith
+
+pub as_many : (spots : List Spot) (new : Spot) (seats : List CpuSeat) (seat : CpuSeat) → length spots ≡ length seats → length (spots ++ new ∷ []) ≡ length (seats ++ seat ∷ [])
+as_many spots new seats seat e = let a = spots_more spots new in let b = seats_more seats seat in omega arith
+
+-- what is in a place after one more, and which place it is
+abbrev IsAt : List Spot → Spot → ℕ → Spot → Type 0
+IsAt xs y k d = ((k < length xs) × (slice_index_or (xs ++ y ∷ []) k d ≡ slice_index_or xs k d)) ⊎ ((k ≡ length xs) × (slice_index_or (xs ++ y ∷ []) k d ≡ y))
+
+further : (x : Spot) (xs : List Spot) (y : Spot) (k : ℕ) (d : Spot) → IsAt xs y k d → IsAt (x ∷ xs) y (suc k) d
+further x xs y k d (inl at) = let w = at.0 in inl (omega arith, at.1)
+further x xs y k d (inr at) = let w = at.0 in inr (omega arith, at.1)
+
+placed : (xs : List Spot) (y : Spot) (k : ℕ) (d : Spot) → k < length (xs ++ y ∷ []) → IsAt xs y k d
+placed [] y zero d within = inr (refl, refl)
+placed [] y (suc k) d within = absurd (omega arith)
+placed (x ∷ xs) y zero d within = inl (omega arith, refl)
+placed (x ∷ xs) y (suc k) d within = further x xs y k d (placed xs y k d (omega arith))
+
+abbrev Fits : Bank → Spot → ℕ → Type 0
+Fits bank spot k = (arc_value spot.bank ≡ bank) × (spot.cpu.0 ≡ k)
+
+kept : (bank : Bank) (spots : List Spot) (new : Spot) → AreSpotsOf bank spots → arc_value new.bank ≡ bank → new.cpu.0 ≡ length spots → (k : ℕ) (spot : Spot) → IsAt spots new k spot → Fits bank (slice_index_or (spots ++ new ∷ []) k spot) k
+kept bank spots new are of at k spot (inl here) = subst (λ (s : Spot). (arc_value s.bank ≡ bank) × (s.cpu.0 ≡ k)) (sym here.1) (are k spot here.0)
+kept bank spots new are of at k spot (inr here) = subst (λ (s : Spot). (arc_value s.bank ≡ bank) × (s.cpu.0 ≡ k)) (sym here.1) (of, at ∙ sym here.0)
+
+pub pushed : (bank : Bank) (spots : List Spot) (new : Spot) → AreSpotsOf bank spots → arc_value new.bank ≡ bank → new.cpu.0 ≡ length spots → AreSpotsOf bank (spots ++ new ∷ [])
+pushed bank spots new are of at = λ k spot within. kept bank spots new are of at k spot (placed spots new k spot within)
+
+pub spots_of : (bank : Bank) (spots : List Spot) → cpus_of bank ≡ length spots → AreSpotsOf bank spots → AreSpots spots
+spots_of bank spots many are = λ i j a b at_i at_j.
+    let x = are i a (slice_get_within spots i a at_i) in
+    let y = are j b (slice_get_within spots j b at_j) in
+    let ea = get_or_from_slice_get spots i a a at_i in
+    let eb = get_or_from_slice_get spots j b b at_j in
+    let p : arc_value a.bank ≡ bank = ap (λ (s : Spot). arc_value s.bank) (sym ea) ∙ x.0 in
+    let q : arc_value b.bank ≡ bank = ap (λ (s : Spot). arc_value s.bank) (sym eb) ∙ y.0 in
+    (p ∙ sym q, ap (λ (s : Spot). s.cpu.0) (sym ea) ∙ x.1, ap (λ (b : Bank). cpus_of b) p ∙ many)

@@ -1,0 +1,8 @@
+use Rattle.lwkt_seats.specs.Calls.{RestoresFirst}
+use Rattle.lwkt_seats.proofs.Answering.{answered-at}
+use Rattle.lwkt_seats.proofs.exports.lwkt_restore.Goals as goal
+
+pub returns : goal.returns
+returns c =
+    answered-at c.desk.result.now c.args.bank.desk c.args.seat c.in-Ok.found.0.now c.in-Ok.found.1.value c.deref_mut-held.result.now c.restore-answer.new.seat (RestoresFirst c.args.token) c.number.result c.desk.ensures c.deref_mut-held.ensures.value
+    c.in-Ok.ensures.ok c.restore-answer.ensures.same (c.restore-answer.result, (c.number.ensures, c.restore-answer.ensures.does))

@@ -1,0 +1,8 @@
+use Rattle.lwkt_seats.specs.Calls.{StoresCell}
+use Rattle.lwkt_seats.proofs.Answering.{answered-at}
+use Rattle.lwkt_seats.proofs.exports.lwkt_store.Goals as goal
+
+pub returns : goal.returns
+returns c =
+    answered-at c.desk.result.now c.args.bank.desk c.args.seat c.in-Ok.found.0.now c.in-Ok.found.1.value c.deref_mut-held.result.now c.store-answer.new.seat (StoresCell c.args.token c.args.cell c.args.value) c.number.result c.desk.ensures c.deref_mut-held.ensures.value
+    c.in-Ok.ensures.ok c.store-answer.ensures.same (c.store-answer.result, (c.number.ensures, c.store-answer.ensures.does))

@@ -1,0 +1,11 @@
+use Rattle.std.proofs.Common.{◌≡◌, ◌++◌, length}
+use Rattle.std.specs.Arc.{arc_value}
+use Rattle.lwkt_seats.specs.Spots.{AreSpotsOf}
+use Rattle.lwkt_seats.proofs.openings.places_for.Given as goal
+
+abbrev pub invariant-loop-seat : goal.invariant-loop-seat
+invariant-loop-seat l = record {
+  whole : l.yielded ++ l.seat-iterator.rest.items ≡ l.fn.seats.items;
+  many : length l.places.items ≡ length l.yielded;
+  spots : AreSpotsOf (arc_value l.bank) l.places.items;
+}

@@ -1,0 +1,85 @@
+-- What asking for references, marking and giving back does, by its answer.
+use Rattle.std.specs.Prelude.{◌≡◌, ◌≢◌, ◌⊎◌, ℕ, ◌<◌, ◌≤◌, ◌==◌, Bool, true, false}
+use Rattle.lwkt_base.specs.declared.names.Mode.{Mode}
+use Rattle.lwkt_base.specs.declared.names.Mode.TheVariants.{Exclusive, Shared}
+use Rattle.lwkt_base.specs.declared.holdings.Held.{Held}
+use Rattle.lwkt_base.specs.declared.holdings.Held.TheVariants.{Nothing, Holds}
+use Rattle.lwkt_base.specs.declared.words.Decision.TheVariants.{Held as IsHeld, Marked as IsMarked, Worn as IsWorn}
+use Rattle.lwkt_base.specs.Holding.{is_held}
+use Rattle.lwkt_base.specs.Law.{MeetsLaw}
+use Rattle.lwkt_bank.specs.declared.seats.CpuSeat.{CpuSeat}
+use Rattle.lwkt_bank.specs.declared.answers.Given.{Given}
+use Rattle.lwkt_bank.specs.Views.{more}
+use Rattle.lwkt_bank.specs.Deeds.{adds_one, marks, reads_all}
+use Rattle.lwkt_bank.specs.Seats.{bank_of, tokens_of, plan_of, entry, holding, references, Looked, Took, Lost, Decides, Stepped, Gave, Knowing, lawful_loads}
+use Rattle.lwkt_seats.specs.declared.answers.Asked.{Asked}
+use Rattle.lwkt_seats.specs.declared.answers.Asked.TheVariants as asked
+use Rattle.lwkt_seats.specs.declared.answers.Furthered.{Furthered}
+use Rattle.lwkt_seats.specs.declared.answers.Furthered.TheVariants as furthered
+use Rattle.lwkt_seats.specs.declared.answers.Marked.{Marked}
+use Rattle.lwkt_seats.specs.declared.answers.Marked.TheVariants as marked
+use Rattle.lwkt_seats.specs.declared.answers.GaveBack.{GaveBack}
+use Rattle.lwkt_seats.specs.declared.answers.GaveBack.TheVariants as gave
+
+-- the bank has such a token, and it doesn't
+abbrev pub IsThere : CpuSeat → ℕ → Type 0
+IsThere s tok = tok < tokens_of (bank_of s)
+
+abbrev pub IsMissing : CpuSeat → ℕ → Type 0
+IsMissing s tok = tokens_of (bank_of s) ≤ tok
+
+-- an exclusive reference is asked for under a shared one
+abbrev pub is_upgrade : Mode → Held → Bool
+is_upgrade Exclusive Nothing = false
+is_upgrade Exclusive (Holds Exclusive further) = false
+is_upgrade Exclusive (Holds Shared further) = true
+is_upgrade Shared Nothing = false
+is_upgrade Shared (Holds mode further) = false
+
+-- whether the seat has no reference
+abbrev pub is_alone : CpuSeat → Bool
+is_alone s = references s == 0
+
+-- a first reference may be asked for
+abbrev pub IsFree : CpuSeat → ℕ → Type 0
+IsFree s tok = IsThere s tok × (references s < 32) × (holding s tok ≡ Nothing)
+
+abbrev pub Asks : Mode → ℕ → CpuSeat → CpuSeat → Asked → Type 0
+Asks mode tok old new asked.Taken = IsFree old tok × ((generation : ℕ) × Took old new tok mode (is_alone old) generation)
+Asks mode tok old new asked.Further = IsThere old tok × (references old < 32) × (is_held (holding old tok) ≡ true) × (is_upgrade mode (holding old tok) ≡ false) × Stepped old new tok (more (entry old tok)) adds_one
+Asks mode tok old new asked.NoToken = IsMissing old tok × (new ≡ old)
+Asks mode tok old new asked.ListFull = IsThere old tok × (32 ≤ references old) × (new ≡ old)
+Asks mode tok old new asked.Upgrade = IsThere old tok × (references old < 32) × (is_upgrade mode (holding old tok) ≡ true) × (new ≡ old)
+Asks mode tok old new asked.Busy = IsFree old tok × ((word : ℕ) × ((Decides word mode (is_alone old) IsHeld ⊎ Decides word mode (is_alone old) IsMarked) × Looked old new tok word))
+Asks mode tok old new asked.Again = IsFree old tok × Lost old new tok mode (is_alone old)
+Asks mode tok old new asked.Worn = IsFree old tok × ((word : ℕ) × (Decides word mode (is_alone old) IsWorn × Looked old new tok word))
+
+abbrev pub Furthers : ℕ → CpuSeat → CpuSeat → Furthered → Type 0
+Furthers tok old new furthered.Further = IsThere old tok × (is_held (holding old tok) ≡ true) × (references old < 32) × Stepped old new tok (more (entry old tok)) adds_one
+Furthers tok old new furthered.NoToken = IsMissing old tok × (new ≡ old)
+Furthers tok old new furthered.NotHeld = IsThere old tok × (is_held (holding old tok) ≡ false) × (new ≡ old)
+Furthers tok old new furthered.ListFull = IsThere old tok × (is_held (holding old tok) ≡ true) × (32 ≤ references old) × (new ≡ old)
+
+abbrev pub Marks : ℕ → CpuSeat → CpuSeat → Marked → Type 0
+Marks tok old new marked.Set = IsThere old tok × Stepped old new tok (entry old tok) marks
+Marks tok old new marked.NoToken = IsMissing old tok × (new ≡ old)
+
+-- the row of a token obeys its law
+abbrev pub IsLawful : CpuSeat → ℕ → Type 0
+IsLawful s tok = MeetsLaw (plan_of (bank_of s) tok).law (plan_of (bank_of s) tok).param (entry s tok).row
+
+-- a question for the law of a token: the row is loaded, if the law asks something of it
+abbrev pub Asked_for : CpuSeat → CpuSeat → ℕ → Type 0
+Asked_for old new tok = Knowing old new tok (entry old tok) (lawful_loads (plan_of (bank_of old) tok).law (reads_all old.cpu tok 0 (entry old tok).row))
+
+-- a reference given back: where a section ends, its law was asked for before
+abbrev pub GivesOne : ℕ → CpuSeat → CpuSeat → Type 0
+GivesOne tok old new =
+    ((holding old tok ≢ Holds Exclusive 0) × ((given : Given) × Gave old new tok given))
+    ⊎ ((holding old tok ≡ Holds Exclusive 0) × IsLawful old tok × ((asked : CpuSeat) × (Asked_for old asked tok × ((given : Given) × Gave asked new tok given))))
+
+abbrev pub Gives : ℕ → CpuSeat → CpuSeat → GaveBack → Type 0
+Gives tok old new gave.Given = IsThere old tok × (is_held (holding old tok) ≡ true) × GivesOne tok old new
+Gives tok old new gave.NoToken = IsMissing old tok × (new ≡ old)
+Gives tok old new gave.NotHeld = IsThere old tok × (is_held (holding old tok) ≡ false) × (new ≡ old)
+Gives tok old new gave.Broken = IsThere old tok × (holding old tok ≡ Holds Exclusive 0) × (¬ IsLawful old tok) × Asked_for old new tok

@@ -1,0 +1,60 @@
+-- What a call for C does to a seat, by the number that it answers (own).
+use Rattle.std.specs.Prelude.{◌≡◌, ℕ}
+use Rattle.lwkt_base.specs.declared.names.Mode.{Mode}
+use Rattle.lwkt_bank.specs.declared.seats.CpuSeat.{CpuSeat}
+use Rattle.lwkt_seats.specs.declared.answers.Asked.{Asked}
+use Rattle.lwkt_seats.specs.declared.answers.Furthered.{Furthered}
+use Rattle.lwkt_seats.specs.declared.answers.Marked.{Marked}
+use Rattle.lwkt_seats.specs.declared.answers.GaveBack.{GaveBack}
+use Rattle.lwkt_seats.specs.declared.answers.Loaded.{Loaded}
+use Rattle.lwkt_seats.specs.declared.answers.Loaded.TheVariants as loaded
+use Rattle.lwkt_seats.specs.declared.answers.Stored.{Stored}
+use Rattle.lwkt_seats.specs.declared.answers.Added.{Added}
+use Rattle.lwkt_seats.specs.declared.answers.Added.TheVariants as added
+use Rattle.lwkt_seats.specs.declared.answers.Judged.{Judged}
+use Rattle.lwkt_seats.specs.declared.answers.RowRestored.{RowRestored}
+use Rattle.lwkt_seats.specs.Numbers.{asked_number, furthered_number, marked_number, gave_number, loaded_number, stored_number, added_number, judged_number, restored_number}
+use Rattle.lwkt_seats.specs.Asks.{Asks, Furthers, Marks, Gives}
+use Rattle.lwkt_seats.specs.Cells.{Loads, Stores, Adds, Judges, Restores}
+
+-- the value that is stored for the caller: with no value it stays as it was
+abbrev pub TellsLoaded : Loaded → ℕ → ℕ → Type 0
+TellsLoaded (loaded.Value value) before now = now ≡ value
+TellsLoaded loaded.NoToken before now = now ≡ before
+TellsLoaded loaded.NoCell before now = now ≡ before
+TellsLoaded loaded.NotHeld before now = now ≡ before
+
+abbrev pub TellsAdded : Added → ℕ → ℕ → Type 0
+TellsAdded (added.Sum sum) before now = now ≡ sum
+TellsAdded added.NoToken before now = now ≡ before
+TellsAdded added.NotHeld before now = now ≡ before
+TellsAdded added.SharedWrite before now = now ≡ before
+TellsAdded added.TallyOnly before now = now ≡ before
+TellsAdded added.Overflow before now = now ≡ before
+
+abbrev pub Takes : Mode → ℕ → CpuSeat → CpuSeat → ℕ → Type 0
+Takes mode tok old new answer = (asked : Asked) × ((answer ≡ asked_number asked) × Asks mode tok old new asked)
+
+abbrev pub GainsOne : ℕ → CpuSeat → CpuSeat → ℕ → Type 0
+GainsOne tok old new answer = (furthered : Furthered) × ((answer ≡ furthered_number furthered) × Furthers tok old new furthered)
+
+abbrev pub SetsMark : ℕ → CpuSeat → CpuSeat → ℕ → Type 0
+SetsMark tok old new answer = (marked : Marked) × ((answer ≡ marked_number marked) × Marks tok old new marked)
+
+abbrev pub GivesBack : ℕ → CpuSeat → CpuSeat → ℕ → Type 0
+GivesBack tok old new answer = (gave : GaveBack) × ((answer ≡ gave_number gave) × Gives tok old new gave)
+
+abbrev pub LoadsCell : ℕ → ℕ → ℕ → ℕ → CpuSeat → CpuSeat → ℕ → Type 0
+LoadsCell tok cell before now old new answer = (loaded : Loaded) × ((answer ≡ loaded_number loaded) × Loads tok cell old new loaded × TellsLoaded loaded before now)
+
+abbrev pub StoresCell : ℕ → ℕ → ℕ → CpuSeat → CpuSeat → ℕ → Type 0
+StoresCell tok cell value old new answer = (stored : Stored) × ((answer ≡ stored_number stored) × Stores tok cell value old new stored)
+
+abbrev pub AddsTo : ℕ → ℕ → ℕ → ℕ → CpuSeat → CpuSeat → ℕ → Type 0
+AddsTo tok amount before now old new answer = (added : Added) × ((answer ≡ added_number added) × Adds tok amount old new added × TellsAdded added before now)
+
+abbrev pub JudgesRow : ℕ → CpuSeat → CpuSeat → ℕ → Type 0
+JudgesRow tok old new answer = (judged : Judged) × ((answer ≡ judged_number judged) × Judges tok old new judged)
+
+abbrev pub RestoresFirst : ℕ → CpuSeat → CpuSeat → ℕ → Type 0
+RestoresFirst tok old new answer = (restored : RowRestored) × ((answer ≡ restored_number restored) × Restores tok old new restored)

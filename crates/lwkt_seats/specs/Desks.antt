@@ -1,0 +1,23 @@
+-- What a call on a seat answers (own).
+use Rattle.std.specs.Prelude.{◌≡◌, ◌⊎◌, ℕ, ◌<◌, ◌≤◌, length, slice_get, Some}
+use Rattle.std.specs.Arc.{arc_value}
+use Rattle.lwkt_bank.specs.declared.seats.CpuSeat.{CpuSeat}
+use Rattle.lwkt_bank.specs.Seats.{id_of, bank_of}
+use Rattle.lwkt_seats.specs.declared.spots.Spot.{Spot}
+use Rattle.lwkt_seats.specs.declared.desks.Desk.{Desk}
+
+-- this is the place of the seat of a number
+abbrev pub IsPlaced : Desk → ℕ → Spot → Type 0
+IsPlaced desk number spot = slice_get desk.places.items number ≡ Some spot
+
+-- the seat of a number: of the desk's bank, and of the processor of that number
+abbrev pub IsSeatOf : Desk → ℕ → CpuSeat → Type 0
+IsSeatOf desk number s = (spot : Spot) × (IsPlaced desk number spot × (bank_of s ≡ id_of (arc_value spot.bank)) × (s.cpu.0 ≡ number))
+
+-- there is no seat of this number; or another call has it, or the bank is closed; or the seat was so when the call came, and is
+-- so when it is over, and the answer tells what came of it
+abbrev pub Answers : Desk → ℕ → (CpuSeat → CpuSeat → ℕ → Type 0) → ℕ → Type 0
+Answers desk number Does answer =
+    ((answer ≡ 30) × (length desk.places.items ≤ number))
+    ⊎ ((answer ≡ 50) × (number < length desk.places.items))
+    ⊎ ((old : CpuSeat) × ((new : CpuSeat) × (IsSeatOf desk number old × IsSeatOf desk number new × Does old new answer)))

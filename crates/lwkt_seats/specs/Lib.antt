@@ -1,0 +1,9 @@
+pub mod Numbers
+pub mod Asks
+pub mod Cells
+pub mod Seated
+pub mod Spots
+pub mod Calls
+pub mod Desks
+pub mod Openings
+pub mod Handles

@@ -1,0 +1,216 @@
+//! What the calls on a seat answer. Each answer has a number: 0, or that of its fault.
+ghost use Rattle.std.specs.Prelude.{◌≡◌};
+ghost use Rattle.lwkt_seats.specs.Numbers.{asked_number, furthered_number, marked_number, gave_number, loaded_number, stored_number, added_number, judged_number, restored_number};
+
+/// What asking for a reference answers.
+#[derive(Clone, Copy)]
+pub enum Asked {
+    /// A first reference was taken.
+    Taken,
+    /// The seat holds the token, and has one reference more.
+    Further,
+    NoToken,
+    ListFull,
+    Upgrade,
+    Busy,
+    Again,
+    Worn,
+}
+
+impl Asked {
+    pub fn number(self) -> u32
+        ensures { result ≡ asked_number self }
+    {
+        match self {
+            Asked::Taken | Asked::Further => 0,
+            Asked::NoToken => 16,
+            Asked::ListFull => 10,
+            Asked::Upgrade => 11,
+            Asked::Busy => 23,
+            Asked::Again => 34,
+            Asked::Worn => 20,
+        }
+    }
+}
+
+/// What asking for a further reference answers.
+#[derive(Clone, Copy)]
+pub enum Furthered {
+    Further,
+    NoToken,
+    NotHeld,
+    ListFull,
+}
+
+impl Furthered {
+    pub fn number(self) -> u32
+        ensures { result ≡ furthered_number self }
+    {
+        match self {
+            Furthered::Further => 0,
+            Furthered::NoToken => 16,
+            Furthered::NotHeld => 13,
+            Furthered::ListFull => 10,
+        }
+    }
+}
+
+/// What marking a token answers.
+#[derive(Clone, Copy)]
+pub enum Marked {
+    Set,
+    NoToken,
+}
+
+impl Marked {
+    pub fn number(self) -> u32
+        ensures { result ≡ marked_number self }
+    {
+        match self {
+            Marked::Set => 0,
+            Marked::NoToken => 16,
+        }
+    }
+}
+
+/// What giving a reference back answers.
+#[derive(Clone, Copy)]
+pub enum GaveBack {
+    Given,
+    NoToken,
+    NotHeld,
+    Broken,
+}
+
+impl GaveBack {
+    pub fn number(self) -> u32
+        ensures { result ≡ gave_number self }
+    {
+        match self {
+            GaveBack::Given => 0,
+            GaveBack::NoToken => 16,
+            GaveBack::NotHeld => 13,
+            GaveBack::Broken => 19,
+        }
+    }
+}
+
+/// What loading a cell answers.
+#[derive(Clone, Copy)]
+pub enum Loaded {
+    Value(u64),
+    NoToken,
+    NoCell,
+    NotHeld,
+}
+
+impl Loaded {
+    pub fn number(self) -> u32
+        ensures { result ≡ loaded_number self }
+    {
+        match self {
+            Loaded::Value(_) => 0,
+            Loaded::NoToken => 16,
+            Loaded::NoCell => 17,
+            Loaded::NotHeld => 13,
+        }
+    }
+}
+
+/// What storing in a cell answers.
+#[derive(Clone, Copy)]
+pub enum Stored {
+    Stored,
+    NoToken,
+    NoCell,
+    NotHeld,
+    SharedWrite,
+    TallyOnly,
+}
+
+impl Stored {
+    pub fn number(self) -> u32
+        ensures { result ≡ stored_number self }
+    {
+        match self {
+            Stored::Stored => 0,
+            Stored::NoToken => 16,
+            Stored::NoCell => 17,
+            Stored::NotHeld => 13,
+            Stored::SharedWrite => 18,
+            Stored::TallyOnly => 22,
+        }
+    }
+}
+
+/// What adding to a cell answers.
+#[derive(Clone, Copy)]
+pub enum Added {
+    Sum(u64),
+    NoToken,
+    NotHeld,
+    SharedWrite,
+    TallyOnly,
+    Overflow,
+}
+
+impl Added {
+    pub fn number(self) -> u32
+        ensures { result ≡ added_number self }
+    {
+        match self {
+            Added::Sum(_) => 0,
+            Added::NoToken => 16,
+            Added::NotHeld => 13,
+            Added::SharedWrite => 18,
+            Added::TallyOnly => 22,
+            Added::Overflow => 21,
+        }
+    }
+}
+
+/// Whether a row obeys its law.
+#[derive(Clone, Copy)]
+pub enum Judged {
+    Lawful,
+    Broken,
+    NoToken,
+    NotHeld,
+    SharedWrite,
+}
+
+impl Judged {
+    pub fn number(self) -> u32
+        ensures { result ≡ judged_number self }
+    {
+        match self {
+            Judged::Lawful => 0,
+            Judged::Broken => 19,
+            Judged::NoToken => 16,
+            Judged::NotHeld => 13,
+            Judged::SharedWrite => 18,
+        }
+    }
+}
+
+/// What storing the first row again answers.
+#[derive(Clone, Copy)]
+pub enum RowRestored {
+    Restored,
+    NoToken,
+    NotHeld,
+    SharedWrite,
+}
+
+impl RowRestored {
+    pub fn number(self) -> u32
+        ensures { result ≡ restored_number self }
+    {
+        match self {
+            RowRestored::Restored => 0,
+            RowRestored::NoToken => 16,
+            RowRestored::NotHeld => 13,
+            RowRestored::SharedWrite => 18,
+        }
+    }
+}

@@ -1,0 +1,122 @@
+//! The cells of a token that a seat holds.
+ghost use Rattle.std.specs.Prelude.{◌≡◌, ◌<◌};
+ghost use Rattle.lwkt_bank.specs.Seats.{id_of, bank_of, tokens_of};
+ghost use Rattle.lwkt_seats.specs.Cells.{Loads, Stores, Adds, Judges, Restores};
+ghost use Rattle.lwkt_seats.specs.Seated.{IsSameSeat};
+
+use crate::answers::{Added, Judged, Loaded, RowRestored, Stored};
+use lwkt_bank::{Bank, CpuSeat};
+use lwkt_base::{Fault, TokId};
+
+/// The value of a cell.
+pub(crate) fn load(seat: &mut CpuSeat, bank: &Bank, token: u32, cell: u32) -> Loaded
+    requires of { bank_of seat.old ≡ id_of bank.now }
+    ensures does { Loads token cell seat.old seat.new result }
+    ensures same { IsSameSeat seat.old seat.new }
+{
+    if token as usize >= bank.tokens() {
+        return Loaded::NoToken;
+    }
+    let tok = TokId(token as u8);
+    if cell as usize >= bank.cells(tok) {
+        return Loaded::NoCell;
+    }
+    if !seat.held(bank, tok).is_held() {
+        return Loaded::NotHeld;
+    }
+    Loaded::Value(seat.load(bank, tok, cell as u8))
+}
+
+/// Stores a value in a cell.
+pub(crate) fn store(seat: &mut CpuSeat, bank: &Bank, token: u32, cell: u32, value: u64) -> Stored
+    requires of { bank_of seat.old ≡ id_of bank.now }
+    ensures does { Stores token cell value seat.old seat.new result }
+    ensures same { IsSameSeat seat.old seat.new }
+{
+    if token as usize >= bank.tokens() {
+        return Stored::NoToken;
+    }
+    let tok = TokId(token as u8);
+    if cell as usize >= bank.cells(tok) {
+        return Stored::NoCell;
+    }
+    let held = seat.held(bank, tok);
+    if !held.is_held() {
+        return Stored::NotHeld;
+    }
+    if !held.is_exclusive() {
+        return Stored::SharedWrite;
+    }
+    match seat.store(bank, tok, cell as u8, value) {
+        Ok(()) => Stored::Stored,
+        Err(_) => Stored::TallyOnly,
+    }
+}
+
+/// Adds to the cell of a Tally token.
+pub(crate) fn add(seat: &mut CpuSeat, bank: &Bank, token: u32, amount: u64) -> Added
+    requires of { bank_of seat.old ≡ id_of bank.now }
+    ensures does { Adds token amount seat.old seat.new result }
+    ensures same { IsSameSeat seat.old seat.new }
+{
+    if token as usize >= bank.tokens() {
+        return Added::NoToken;
+    }
+    let tok = TokId(token as u8);
+    let held = seat.held(bank, tok);
+    if !held.is_held() {
+        return Added::NotHeld;
+    }
+    if !held.is_exclusive() {
+        return Added::SharedWrite;
+    }
+    match seat.add(bank, tok, amount) {
+        Ok(sum) => Added::Sum(sum),
+        Err(Fault::Overflow) => Added::Overflow,
+        Err(_) => Added::TallyOnly,
+    }
+}
+
+/// Whether the row obeys its law.
+pub(crate) fn judge(seat: &mut CpuSeat, bank: &Bank, token: u32) -> Judged
+    requires of { bank_of seat.old ≡ id_of bank.now }
+    ensures does { Judges token seat.old seat.new result }
+    ensures same { IsSameSeat seat.old seat.new }
+{
+    if token as usize >= bank.tokens() {
+        return Judged::NoToken;
+    }
+    let tok = TokId(token as u8);
+    let held = seat.held(bank, tok);
+    if !held.is_held() {
+        return Judged::NotHeld;
+    }
+    if !held.is_exclusive() {
+        return Judged::SharedWrite;
+    }
+    if seat.lawful(bank, tok) {
+        return Judged::Lawful;
+    }
+    Judged::Broken
+}
+
+/// Stores the section's first row again.
+pub(crate) fn restore(seat: &mut CpuSeat, bank: &Bank, token: u32) -> RowRestored
+    requires of { bank_of seat.old ≡ id_of bank.now }
+    ensures does { Restores token seat.old seat.new result }
+    ensures same { IsSameSeat seat.old seat.new }
+{
+    if token as usize >= bank.tokens() {
+        return RowRestored::NoToken;
+    }
+    let tok = TokId(token as u8);
+    let held = seat.held(bank, tok);
+    if !held.is_held() {
+        return RowRestored::NotHeld;
+    }
+    if !held.is_exclusive() {
+        return RowRestored::SharedWrite;
+    }
+    seat.restore(bank, tok);
+    RowRestored::Restored
+}

@@ -1,0 +1,23 @@
+//! A bank of tokens for C, with a seat for each of the caller's threads; include/lwkt.h declares the calls. A bank's *desk* has a
+//! *place* for each seat, where it rests between calls: a call takes the seat out and puts it back, so a second call on it at the
+//! same time finds the place empty, and says so.
+#![tactic(auto)]
+
+mod answers;
+mod asks;
+mod cells;
+mod desks;
+mod exports;
+mod handles;
+mod openings;
+mod parts;
+mod spots;
+mod tokens;
+
+pub use exports::{
+    lwkt_add, lwkt_again, lwkt_give, lwkt_lawful, lwkt_load, lwkt_mark, lwkt_restore, lwkt_share,
+    lwkt_store, lwkt_take,
+};
+pub use handles::LwktBank;
+pub use openings::lwkt_bank_open;
+pub use tokens::LwktToken;

@@ -1,0 +1,124 @@
+//! The opening of a bank for C.
+ghost use Rattle.std.specs.Prelude.{◌≡◌, ◌≢◌, ◌⊎◌, ◌↔◌, ℕ, ◌<◌, ◌≤◌, [], length, IsTrue, IfOk, IfErr, Err, OnOk, slice_get};
+ghost use Rattle.std.specs.Arc.{arc_value};
+ghost use Rattle.lwkt_core.specs.Opening.{AreWithin, AllOpenLawfully};
+ghost use Rattle.lwkt_bank.specs.Opened.{AreUnguarded};
+ghost use Rattle.lwkt_bank.specs.Seats.{id_of, bank_of, cpus_of};
+ghost use Rattle.lwkt_bank.specs.Gathered.{AreHandedOut};
+ghost use Rattle.lwkt_seats.specs.Spots.{AreSpotsOf};
+ghost use Rattle.lwkt_seats.specs.Openings.{AreTokens, specs_of};
+
+use crate::desks::{Desk, Place};
+use crate::handles::hand_out;
+use crate::parts::Parts;
+use crate::spots::{Sitter, Spot, Stall};
+use crate::tokens::LwktToken;
+use counted_slot::Counted;
+use lwkt_bank::{Bank, CpuSeat};
+use lwkt_base::{Fault, TokSpec};
+use std::alloc::{AllocError, Global};
+use std::sync::Arc;
+
+fn are_tokens(tokens: &[LwktToken]) -> bool
+    ensures { IsTrue result ↔ AreTokens tokens.now }
+{
+    tokens.iter().all(|token| token.is_token())
+}
+
+// What is declared of all tokens.
+fn specs_of(alloc: Global, tokens: &[LwktToken]) -> Result<Vec<TokSpec>, AllocError>
+    requires { AreTokens tokens.now }
+    ensures { IfOk result (λ specs. specs.items ≡ specs_of tokens.now) }
+{
+    let mut specs = Vec::with_capacity(alloc, tokens.len())?;
+    for token in tokens {
+        specs.push(token.spec(alloc)?)?;
+    }
+    Ok(specs)
+}
+
+// A place for a seat, which rests there.
+fn place_for(alloc: Global, bank: &Arc<Bank>, seat: CpuSeat) -> Result<Place, AllocError>
+    requires { bank_of seat ≡ id_of (arc_value bank.now) }
+    ensures { IfOk result (λ spot. (arc_value spot.bank ≡ arc_value bank.now) × (spot.cpu ≡ seat.cpu)) }
+{
+    let spot = Spot {
+        bank: Arc::try_clone(bank)?,
+        cpu: seat.cpu(),
+    };
+    let bank = Arc::try_clone(bank)?;
+    let sitter = Box::new(alloc, Sitter { seat, bank }).map_err(|_| AllocError)?;
+    Ok(Counted::new(Some(Stall::of(sitter)), &spot))
+}
+
+// A place for each seat.
+fn places_for(
+    alloc: Global,
+    bank: &Arc<Bank>,
+    seats: Vec<CpuSeat>,
+) -> Result<Vec<Place>, AllocError>
+    requires { AreHandedOut (id_of (arc_value bank.now)) seats.items }
+    ensures spots { IfOk result (λ places. AreSpotsOf (arc_value bank.now) places.items) }
+    ensures many { IfOk result (λ places. length places.items ≡ length seats.items) }
+{
+    let mut places = Vec::with_capacity(alloc, seats.len())?;
+    for seat in seats {
+        places.push(place_for(alloc, bank, seat)?)?;
+    }
+    Ok(places)
+}
+
+// The desk of a bank with its seats.
+fn desk_of(alloc: Global, bank: Bank, seats: Vec<CpuSeat>) -> Result<Box<Desk>, AllocError>
+    requires out { AreHandedOut (id_of bank) seats.items }
+    requires all { length seats.items ≡ cpus_of bank }
+    ensures { IfOk result (λ desk. length desk.value.places.items ≡ length seats.items) }
+{
+    let bank = Arc::new(alloc, bank).map_err(|_| AllocError)?;
+    let places = places_for(alloc, &bank, seats)?;
+    Box::new(alloc, Desk { places }).map_err(|_| AllocError)
+}
+
+// Opens a bank with its desk.
+fn open(alloc: Global, tokens: &[LwktToken], seats: usize) -> Result<Box<Desk>, Fault>
+    ensures opened { IfOk result (λ desk. AreTokens tokens.now × AreWithin seats (specs_of tokens.now) [] × AllOpenLawfully (specs_of tokens.now) × (length desk.value.places.items ≡ seats)) }
+    ensures limits { result ≡ Err Fault.Limits → ¬ (AreTokens tokens.now × AreWithin seats (specs_of tokens.now) [] × AreUnguarded (specs_of tokens.now)) }
+    ensures broken { result ≡ Err Fault.LawBroken → AreTokens tokens.now × AreWithin seats (specs_of tokens.now) [] × ¬ AllOpenLawfully (specs_of tokens.now) }
+    ensures only { IfErr result (λ fault. (fault ≡ Fault.Memory) ⊎ (fault ≡ Fault.Limits) ⊎ (fault ≡ Fault.LawBroken)) }
+{
+    if !are_tokens(tokens) {
+        return Err(Fault::Limits);
+    }
+    let specs = specs_of(alloc, tokens).map_err(|_| Fault::Memory)?;
+    let (bank, seats) = Bank::open(alloc, &specs, seats)?;
+    desk_of(alloc, bank, seats).map_err(|_| Fault::Memory)
+}
+
+/// Opens a bank of these tokens with so many seats, which are numbered from 0. `out` gets where it is; it stays as it was but
+/// with 0.
+///
+/// 0; or 39 where a limit is passed: 1 to 8 seats, at most 64 tokens, at most 4 cells and exactly 1 under tally, a law above 4, a
+/// generation past the last; 40 where an opening row breaks its law; 32 for want of memory.
+#[unsafe(no_mangle)]
+pub extern "C" fn lwkt_bank_open(
+    alloc: Global,
+    tokens: &[LwktToken],
+    seats: u32,
+    out: &mut *mut u8,
+) -> u32
+    ensures opened { result ≡ 0 → AreTokens tokens.now × AreWithin seats (specs_of tokens.now) [] × AllOpenLawfully (specs_of tokens.now) }
+    ensures limits { result ≡ 39 → ¬ (AreTokens tokens.now × AreWithin seats (specs_of tokens.now) [] × AreUnguarded (specs_of tokens.now)) }
+    ensures broken { result ≡ 40 → AreTokens tokens.now × AreWithin seats (specs_of tokens.now) [] × ¬ AllOpenLawfully (specs_of tokens.now) }
+    ensures only { (result ≡ 0) ⊎ (result ≡ 32) ⊎ (result ≡ 39) ⊎ (result ≡ 40) }
+    ensures kept { result ≢ 0 → out.new ≡ out.old }
+{
+    match open(alloc, tokens, seats as usize) {
+        Ok(desk) => {
+            *out = hand_out(Parts::of(desk));
+            0
+        }
+        Err(Fault::Memory) => 32,
+        Err(Fault::LawBroken) => 40,
+        Err(_) => 39,
+    }
+}
