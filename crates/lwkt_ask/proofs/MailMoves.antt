@@ -6,7 +6,7 @@ use Rattle.lwkt_base.specs.declared.names.Ref.{Ref}
 use Rattle.lwkt_base.specs.declared.names.CpuId.{CpuId}
 use Rattle.lwkt_base.specs.Holding.{Holding, holding_of}
 use Rattle.lwkt_core.specs.declared.events.Event.{Event}
-use Rattle.lwkt_core.specs.declared.events.Event.TheVariants.{Load, Take, Share, Again, Mark, GiveOne, GiveClean, GiveWritten, Read, Write, Send, TakeMsg, DropMsg, Reply, Reap, Abort}
+use Rattle.lwkt_core.specs.declared.events.Event.TheVariants.{Load, Take, Share, Again, Mark, GiveOne, GiveClean, GiveWritten, Read, Write, ReadBlob, WriteBlob, Send, TakeMsg, DropMsg, Reply, Reap, Abort}
 use Rattle.lwkt_core.specs.Events.{cpu_of}
 use Rattle.lwkt_core.proofs.HistoryLemmas.{own-nil}
 use Rattle.lwkt_bank.specs.declared.seats.CpuSeat.{CpuSeat}
@@ -30,6 +30,8 @@ mail_after cpu (GiveClean c t) h is = absurd is
 mail_after cpu (GiveWritten c t section) h is = absurd is
 mail_after cpu (Read c t i v) h is = refl
 mail_after cpu (Write c t i v) h is = refl
+mail_after cpu (ReadBlob c t blob) h is = refl
+mail_after cpu (WriteBlob c t blob) h is = refl
 mail_after cpu (Send c m to r) h is = refl
 mail_after cpu (TakeMsg c m r) h is = refl
 mail_after cpu (DropMsg c m) h is = refl
@@ -48,6 +50,8 @@ mail_own cpu (GiveClean c t) is = absurd is
 mail_own cpu (GiveWritten c t section) is = absurd is
 mail_own cpu (Read c t i v) is = absurd is
 mail_own cpu (Write c t i v) is = absurd is
+mail_own cpu (ReadBlob c t blob) is = absurd is
+mail_own cpu (WriteBlob c t blob) is = absurd is
 mail_own cpu (Send c m to r) is = ap (λ (x : CpuId). x.0) is
 mail_own cpu (TakeMsg c m r) is = ap (λ (x : CpuId). x.0) is
 mail_own cpu (DropMsg c m) is = ap (λ (x : CpuId). x.0) is
@@ -66,6 +70,8 @@ mail_filter cpu (GiveClean c t) es is = absurd is
 mail_filter cpu (GiveWritten c t section) es is = absurd is
 mail_filter cpu (Read c t i v) es is = refl
 mail_filter cpu (Write c t i v) es is = refl
+mail_filter cpu (ReadBlob c t blob) es is = refl
+mail_filter cpu (WriteBlob c t blob) es is = refl
 mail_filter cpu (Send c m to r) es is = refl
 mail_filter cpu (TakeMsg c m r) es is = refl
 mail_filter cpu (DropMsg c m) es is = refl
@@ -102,6 +108,8 @@ mail_plain cpu (GiveClean c t) es is = absurd is
 mail_plain cpu (GiveWritten c t section) es is = absurd is
 mail_plain cpu (Read c t i v) es is = absurd is
 mail_plain cpu (Write c t i v) es is = absurd is
+mail_plain cpu (ReadBlob c t blob) es is = absurd is
+mail_plain cpu (WriteBlob c t blob) es is = absurd is
 mail_plain cpu (Send c m to r) es is = refl
 mail_plain cpu (TakeMsg c m r) es is = refl
 mail_plain cpu (DropMsg c m) es is = refl
@@ -137,7 +145,7 @@ pub ran_mail_held : (refs : List Ref) (cpu : CpuId) (n m : ℕ) (s : CpuSeat) (t
 ran_mail_held refs cpu n m s t u few mine held g = ran_weaker (IsFront refs) (IsFront refs) n m s s t u (λ h p. p) few (ran_mail (IsFront refs) cpu n s t u mine (whole_front refs (holding s) held) g)
 
 -- a call on the ports, and then what was held given up
-pub ran_mail_left : (refs : List Ref) (cpu : CpuId) (n : ℕ) (a b : CpuSeat) (t v u : Vec Event Global) → n ≤ 128 → cpu ≡ a.cpu → holding a ≡ holding_of refs → Grew cpu n t v → Ran (IsFront refs) 160 a b v u → Ran (IsFront refs) 288 a b t u
+pub ran_mail_left : (refs : List Ref) (cpu : CpuId) (n : ℕ) (a b : CpuSeat) (t v u : Vec Event Global) → n ≤ 128 → cpu ≡ a.cpu → holding a ≡ holding_of refs → Grew cpu n t v → Ran (IsFront refs) 192 a b v u → Ran (IsFront refs) 320 a b t u
 ran_mail_left refs cpu n a b t v u few mine held g ran =
-    ran_weaker (IsFront refs) (IsFront refs) (128 + 160) 288 a b t u (λ h p. p) (omega arith)
-    (ran_then (IsFront refs) 128 160 a a b t v u (ran_mail_held refs cpu n 128 a t v few mine held g) ran)
+    ran_weaker (IsFront refs) (IsFront refs) (128 + 192) 320 a b t u (λ h p. p) (omega arith)
+    (ran_then (IsFront refs) 128 192 a a b t v u (ran_mail_held refs cpu n 128 a t v few mine held g) ran)

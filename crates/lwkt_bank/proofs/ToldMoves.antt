@@ -17,7 +17,7 @@ use Rattle.lwkt_bank.specs.declared.views.Plan.{Plan}
 use Rattle.lwkt_bank.specs.declared.views.View.{View}
 use Rattle.lwkt_bank.specs.Views.{at, seat_cpu, who, page_of, first_view, clerk_after, new_seat, joined, spent}
 use Rattle.lwkt_bank.specs.Rule.{Bench}
-use Rattle.lwkt_bank.specs.Opened.{plans_of, opening_words}
+use Rattle.lwkt_bank.specs.Opened.{plans_of, opening_words, opening_slots}
 use Rattle.lwkt_bank.specs.Told.{IsDone, first_token, first_machine, Told}
 use Rattle.lwkt_bank.proofs.GatherMoves.{Rule-split, Rule-join}
 use Rattle.lwkt_bank.proofs.OpenMoves.{Rule-opening}
@@ -36,14 +36,15 @@ first_tokens [] within = refl
 first_tokens (spec ∷ specs) within =
     let row = first_row spec.cells (All-head IsTokenWithin spec specs within).0 in
     let F : List ℕ → Token = λ r. record (opened_token spec) { row = r; first = r } in
-    ap (λ (t : Token). t ∷ map first_token (plans_of specs)) (ap F row) ∙ ap (λ (ts : List Token). opened_token spec ∷ ts) (first_tokens specs (All-tail IsTokenWithin spec specs within))
+    ap (λ (t : Token). t ∷ map first_token (plans_of specs)) (ap F row)
+    ∙ ap (λ (ts : List Token). opened_token spec ∷ ts) (first_tokens specs (All-tail IsTokenWithin spec specs within))
 
 pub first_opening : (cpus : ℕ) (specs : List TokSpec) → All IsTokenWithin specs → first_machine (plans_of specs) cpus ≡ opening cpus specs []
 first_opening cpus specs within = ap (λ (ts : List Token). machine cpus ts []) (first_tokens specs within)
 
 -- the rule at the opening, with no deed done
 pub Told-opening : (cpus : ℕ) (specs : List TokSpec) → AreWithin cpus specs [] → AllOpenLawfully specs
-    → (told : Told (plans_of specs) cpus (table_opening (opening_words specs) [] (first_view (plans_of specs)))) × (told.rule.model ≡ opening cpus specs []) × (told.chronicle.history ≡ [])
+    → (told : Told (plans_of specs) cpus (table_opening (opening_words specs) (opening_slots specs) (first_view (plans_of specs)))) × (told.rule.model ≡ opening cpus specs []) × (told.chronicle.history ≡ [])
 Told-opening cpus specs within lawful =
     let first = first_machine (plans_of specs) cpus in
     let r = Rule-opening cpus specs within lawful in

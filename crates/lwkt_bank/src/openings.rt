@@ -3,38 +3,19 @@ ghost use Rattle.std.specs.Prelude.{◌≡◌, ◌⊎◌, ◌↔◌, ℕ, ◌+�
 ghost use Rattle.std.specs.List.{flat_map};
 ghost use Rattle.lwkt_core.specs.Opening.{IsTokenWithin, AreWithin, AllOpenLawfully};
 ghost use Rattle.lwkt_bank.specs.Rule.{law_number};
-ghost use Rattle.lwkt_bank.specs.Opened.{plan_of_spec, plans_of, block, opening_words};
+ghost use Rattle.lwkt_bank.specs.Opened.{plan_of_spec, plans_of, slot_of_spec, opening_slots, block, opening_words};
 
 use crate::places::GENERATION;
 use crate::views::Plan;
-use lwkt_base::{LAST_GENERATION, Law, TokSpec};
-use lwkt_core::tokens::CPU_LIMIT;
+use lwkt_base::{Blob, LAST_GENERATION, Law, TokSpec};
+use lwkt_core::are_within as model_within;
 use std::alloc::{AllocError, Global};
-
-fn is_token_within(spec: &TokSpec) -> bool
-    ensures { IsTrue result ↔ IsTokenWithin spec.now }
-{
-    let cells = spec.cells.as_slice().len();
-    cells <= 4 && (spec.law != Law::Tally || cells == 1) && spec.generation <= LAST_GENERATION
-}
 
 /// Whether the opening keeps the limits.
 pub(crate) fn are_within(cpus: usize, specs: &[TokSpec]) -> bool
     ensures { IsTrue result ↔ AreWithin cpus specs.now [] }
 {
-    0 < cpus
-        && cpus <= CPU_LIMIT
-        && specs.len() <= 64
-        && specs.iter().all(|spec| is_token_within(spec))
-}
-
-/// Whether each opening row obeys its law.
-pub(crate) fn all_open_lawfully(specs: &[TokSpec]) -> bool
-    ensures { IsTrue result ↔ AllOpenLawfully specs.now }
-{
-    specs
-        .iter()
-        .all(|spec| spec.law.holds(spec.cells.as_slice(), spec.param))
+    model_within(cpus, specs, &[])
 }
 
 fn cell_or_zero(cells: &[u64], cell: usize) -> u64
@@ -65,6 +46,7 @@ fn plan_of(spec: &TokSpec) -> Plan
         first: four_cells(cells),
         cells: cells.len(),
         law: spec.law,
+        blob: spec.blob,
     }
 }
 
@@ -84,6 +66,7 @@ fn law_number(law: Law) -> u64
         Law::Order => 2,
         Law::Cap => 3,
         Law::Tally => 4,
+        Law::Len => 5,
     }
 }
 
@@ -123,4 +106,20 @@ pub(crate) fn words_of(alloc: Global, specs: &[TokSpec]) -> Result<Vec<u64>, All
         words.extend_from_slice(&block_of(spec))?;
     }
     Ok(words)
+}
+
+fn slot_of(spec: &TokSpec) -> Blob
+    ensures { result ≡ slot_of_spec spec.now }
+{
+    match spec.blob {
+        None => Blob::of(&[]),
+        Some(blob) => blob,
+    }
+}
+
+/// What lies in the slots at the opening.
+pub(crate) fn slots_of(alloc: Global, specs: &[TokSpec]) -> Result<Vec<Blob>, AllocError>
+    ensures { IfOk result (λ v. v.items ≡ opening_slots specs.now) }
+{
+    specs.iter().map(|spec| slot_of(spec)).collect(alloc)
 }

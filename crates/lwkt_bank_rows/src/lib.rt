@@ -15,3 +15,6 @@ mod hold_desks;
 mod hold_rows;
 #[cfg(test)]
 mod readers;
+#[cfg(test)]
+mod record_rows;
+mod refused_rows;

@@ -2,9 +2,11 @@
 #![tactic(auto)]
 
 pub mod asks;
+pub mod blobs;
 pub mod cells;
 pub mod entries;
 pub mod faults;
+pub mod hexes;
 pub mod holdings;
 pub mod laws;
 pub mod list_laws;
@@ -20,6 +22,7 @@ pub mod threads;
 pub mod words;
 
 pub use asks::{Answer, Ask, Item};
+pub use blobs::Blob;
 pub use cells::Cells;
 pub use entries::Entry;
 pub use faults::Fault;

@@ -58,8 +58,8 @@ pub record AreWired (cpus : List (Processor Scripted)) : Type 0 where
   pub lanes : (i j : ℕ) (p q : Processor Scripted) (there back : Lane) → slice_get cpus i ≡ Some p → slice_get cpus j ≡ Some q → slice_get p.post.lanes j ≡ Some there → slice_get q.post.lanes i ≡ Some back → IsNewLane there.out back.into
   pub none_kept : (k j : ℕ) (p : Processor Scripted) (line : Lane) → slice_get cpus k ≡ Some p → slice_get p.post.lanes j ≡ Some line → line.kept ≡ None
 
--- a machine as a script opens it: a bank of its tokens, a book of its messages, and its processors, each as it is opened, with new lanes
--- from each to each
+-- a machine as a script opens it: a bank of its tokens, a book of its messages, and its processors, each as it is opened, with new
+-- lanes from each to each
 pub record IsOpenedMachine (script : Script) (m : Rig) : Type 0 where
   pub plans : m.bank.plans ≡ plans_of script.tokens
   pub specs : m.book.specs ≡ script.messages

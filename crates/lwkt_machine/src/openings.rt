@@ -77,7 +77,7 @@ impl Machine {
     /// from each to each. Each thread of the script is one of its processor, in the script's order, and was never polled.
     ///
     /// Refused with `Limits` only if the opening passes a limit, with `LawBroken` only if it is within the limits and an opening
-    /// row breaks its law, and else with `Memory`.
+    /// row, with the length of its record, breaks its law, and else with `Memory`.
     pub fn open(alloc: Global, script: &Script) -> Result<Machine, Fault>
         ensures ok { IfOk result (λ machine. IsOpenedMachine script.now machine) }
         ensures within { OnOk result (AreWithin script.now.cpus script.now.tokens script.now.messages) }

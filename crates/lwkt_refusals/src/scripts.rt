@@ -1,6 +1,6 @@
 //! What is bad at a place of a script.
 use crate::members::{range, show_list, show_member, show_members};
-use crate::openings::{cpus_of, item_of, show_item, show_message_at, show_token_at};
+use crate::openings::{Guarding, cpus_of, item_of, show_item, show_message_at, show_token_at};
 use crate::parts::Part;
 use crate::rows::{Kind, show_row};
 use crate::words::Words;
@@ -14,6 +14,32 @@ fn show_whole(out: &mut Words, whole: Part<'_>) -> bool {
         || show_list(out, whole, "tokens", usize::MAX)
         || show_list(out, whole, "messages", usize::MAX)
         || show_list(out, whole, "threads", usize::MAX)
+}
+
+/// Whether a script says that it is of version 2.
+pub(crate) fn is_second(whole: Part<'_>) -> bool {
+    match whole.member("version") {
+        Some(version) => version.number() == Some(2),
+        None => false,
+    }
+}
+
+// What its version says of a script's tokens.
+fn guarding_of(whole: Part<'_>) -> Guarding {
+    if is_second(whole) {
+        Guarding::Always
+    } else {
+        Guarding::Never
+    }
+}
+
+// What its version says of a script's steps.
+fn step_of(whole: Part<'_>) -> Kind {
+    if is_second(whole) {
+        Kind::SecondStep
+    } else {
+        Kind::Step
+    }
 }
 
 // Appends what is bad of a thread but for its steps.
@@ -79,7 +105,7 @@ fn show_step(out: &mut Words, whole: Part<'_>, n: usize, j: usize) -> Option<()>
     out.add(" of ");
     show_name(out, threads, n, thread);
     out.add(": ");
-    show_row(out, step, Kind::Step);
+    show_row(out, step, step_of(whole));
     Some(())
 }
 
@@ -87,11 +113,11 @@ fn show_step(out: &mut Words, whole: Part<'_>, n: usize, j: usize) -> Option<()>
 fn show_told(out: &mut Words, whole: Part<'_>, place: usize) -> bool {
     match place {
         1 => show_whole(out, whole),
-        2 => show_member(out, whole, range("version", 1, 1)),
+        2 => show_member(out, whole, range("version", 1, 2)),
         3 => show_member(out, whole, range("turns", 1, 1_000_000)),
         4 => show_member(out, whole, range("idle", 1, 100_000_000)),
         5 => show_member(out, whole, range("cpus", 1, 8)),
-        1000..=1999 => show_token_at(out, whole, place - 1000),
+        1000..=1999 => show_token_at(out, whole, place - 1000, guarding_of(whole)),
         2000..=2999 => show_message_at(out, whole, place - 2000),
         3000..=3999 => show_thread_at(out, whole, place - 3000),
         100_000.. => {

@@ -89,11 +89,13 @@ fn close(
         rows,
         gens,
         tallies,
+        blobs,
     } = tokens;
     Ok(Final {
         rows,
         gens,
         tallies,
+        blobs,
         messages,
     })
 }

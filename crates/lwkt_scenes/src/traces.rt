@@ -1,4 +1,5 @@
 use crate::pages::Page;
+use crate::records::show_digits;
 use crate::reels::Reel;
 use crate::words::show_behind;
 use lwkt_base::{Fault, MsgEnd, MsgSpec, Owner, TokSpec};
@@ -25,6 +26,10 @@ fn show_token(out: &mut Page, spec: &TokSpec) {
     out.add(law_name(spec.law));
     out.number("\",\"param\":", spec.param);
     out.number(",\"gen\":", spec.generation);
+    if let Some(blob) = spec.blob {
+        out.add(",\"record\":");
+        show_digits(out, &blob);
+    }
     out.add("}");
 }
 
@@ -45,6 +50,11 @@ fn show_event_numbers(out: &mut Page, event: &Event) {
     match *event {
         Event::Read { cell, value, .. } | Event::Write { cell, value, .. } => {
             show_behind(out, &[place, u64::from(cell), value])
+        }
+        Event::ReadBlob { blob, .. } | Event::WriteBlob { blob, .. } => {
+            show_behind(out, &[place]);
+            out.add(",");
+            show_digits(out, &blob);
         }
         Event::Send { to, round, .. } => show_behind(out, &[place, u64::from(to.0), round]),
         Event::TakeMsg { round, .. } => show_behind(out, &[place, round]),
@@ -126,6 +136,27 @@ fn show_tallies(out: &mut Page, line: &TokenLine) {
     }
 }
 
+// Appends the record of a token at the close.
+fn show_last_record(out: &mut Page, line: &TokenLine) {
+    match &line.blob {
+        Some(blob) => show_digits(out, blob),
+        None => out.add("null"),
+    }
+}
+
+// Appends the records of the close, where a token has one.
+fn show_records(out: &mut Page, lines: &[TokenLine]) {
+    if !lines.iter().any(|line| line.blob.is_some()) {
+        return;
+    }
+    out.add("\"records\":[");
+    for (number, line) in lines.iter().enumerate() {
+        out.add(if number == 0 { "" } else { "," });
+        show_last_record(out, line);
+    }
+    out.add("],\n");
+}
+
 // Appends the rows, the generations and the tallies of the close.
 fn show_values(out: &mut Page, lines: &[TokenLine]) {
     out.add("\"rows\":[");
@@ -144,6 +175,7 @@ fn show_values(out: &mut Page, lines: &[TokenLine]) {
         show_tallies(out, line);
     }
     out.add("],\n");
+    show_records(out, lines);
 }
 
 // Appends the closing values.

@@ -1,9 +1,11 @@
-ghost use Rattle.std.specs.Prelude.{◌≡◌, ◌++◌, OnOk, Some, string_bytes};
+ghost use Rattle.std.specs.Prelude.{◌≡◌, ◌++◌, take, OnOk, Some, string_bytes};
+ghost use Rattle.lwkt_base.specs.Hex.{bytes_text};
 ghost use Rattle.lwkt_core.specs.Events.{place_of};
 ghost use Rattle.lwkt_script.specs.Member.{law_of};
 ghost use Rattle.lwkt_trace.specs.Words.{IsWordOf, place_at, spaced, numbers_text};
 
-use lwkt_base::{Law, MsgId, TokId};
+use lwkt_base::hexes::show_hex_or_none;
+use lwkt_base::{Blob, Law, MsgId, TokId};
 use lwkt_core::Event;
 use std::alloc::AllocError;
 
@@ -22,6 +24,8 @@ pub fn event_word(event: &Event) -> &'static str
         Event::GiveWritten { .. } => "give_written",
         Event::Read { .. } => "read",
         Event::Write { .. } => "write",
+        Event::ReadBlob { .. } => "read_record",
+        Event::WriteBlob { .. } => "write_record",
         Event::Send { .. } => "send",
         Event::TakeMsg { .. } => "take_msg",
         Event::DropMsg { .. } => "drop",
@@ -52,7 +56,9 @@ pub fn subject_of(event: &Event) -> Subject
         | Event::GiveClean { tok, .. }
         | Event::GiveWritten { tok, .. }
         | Event::Read { tok, .. }
-        | Event::Write { tok, .. } => Subject::Token(tok),
+        | Event::Write { tok, .. }
+        | Event::ReadBlob { tok, .. }
+        | Event::WriteBlob { tok, .. } => Subject::Token(tok),
         Event::Send { msg, .. }
         | Event::TakeMsg { msg, .. }
         | Event::DropMsg { msg, .. }
@@ -62,7 +68,7 @@ pub fn subject_of(event: &Event) -> Subject
     }
 }
 
-/// The name of a law: the one that reading a script or a trace takes for it.
+/// The name of a law: the one that reading a trace, or a script that has the law, takes for it.
 pub fn law_name(law: Law) -> &'static str
     ensures { law_of result.now ≡ Some law }
 {
@@ -72,7 +78,15 @@ pub fn law_name(law: Law) -> &'static str
         Law::Order => "order",
         Law::Cap => "cap",
         Law::Tally => "tally",
+        Law::Len => "len",
     }
+}
+
+/// Appends the bytes of a record that are kept, two digits for each, or `-` where it has none.
+pub fn show_bytes(out: &mut String, blob: &Blob) -> Result<(), AllocError>
+    ensures { OnOk result (string_bytes out.new ≡ string_bytes out.old ++ bytes_text (take 64 blob.now)) }
+{
+    show_hex_or_none(blob.as_slice(), out)
 }
 
 // Appends numbers, each after a space.
