@@ -1,22 +1,30 @@
-# How the commands lwkt_run, lwkt_check and lwkt_show understand their words, in the tree and installed: help, a file in
-# place of standard input, the line for a terminal. Read with the command's name in `program_name` and the folder of its
-# help in `help_folder`; "$@" are the words of the call.
+# How the commands lwkt_run, lwkt_check, lwkt_show, lwkt_text and lwkt_explore understand their words, in the tree and
+# installed: help, a file in place of standard input, the line for a terminal. Read with the command's name in `program_name`
+# and the folder of its help in `help_folder`; "$@" are the words of the call. lwkt_text opens its file itself, since it says
+# its name.
 # shellcheck disable=SC2154 # These two are set where this is read.
 
-# What a command reads; the words of which one has to stand first; its options without a value and with one; and a
-# small input that it says `lawful` of, with the words that go with it, by which is tried whether a program runs here.
-modes=() flags=() valued=()
+# What a command reads, and whether it opens its file itself; the words of which one has to stand first; its options
+# without a value and with one; whether it can tell how far it is, and be ended with what it found (`tells`).
+modes=() flags=() valued=() opens_file='' tells=''
 case $program_name in
     lwkt_run)
         reads=script modes=(turns threads)
         ;;
     lwkt_show)
-        reads=script modes=(turns threads) flags=(--svg --trace --chains) valued=(--turns --rounds)
+        reads=script modes=(turns threads) flags=(--svg --trace --chains) valued=(--turns --rounds --order)
         ;;
     lwkt_check)
         reads=trace
         ;;
+    lwkt_explore)
+        reads=script flags=(--plain --progress) valued=(--states --turns --random --seed --stop) tells=yes
+        ;;
+    lwkt_text)
+        reads=script flags=(--run --json --text) opens_file=yes
+        ;;
 esac
+# A small input that a program says `lawful` of, by which is tried whether it runs here.
 small_script='{"version":1,"turns":1,"idle":1,"cpus":1,"tokens":[],"messages":[],"threads":[]}'
 small_trace='{"version":1,"cpus":1,"tokens":[],"messages":[],"events":[],"last":null}'
 
@@ -82,13 +90,13 @@ sort_words() {
     at=${plain[-1]}
     file=${words[at]}
     has_file=yes
-    words=("${words[@]:0:at}" "${words[@]:at+1}")
+    [[ -n $opens_file ]] || words=("${words[@]:0:at}" "${words[@]:at+1}")
 }
 
 # Makes the file standard input. It is opened once, since a pipe can't be opened twice.
 open_file() {
     local told
-    [[ -n $has_file && $file != - ]] || return 0
+    [[ -z $opens_file && -n $has_file && $file != - ]] || return 0
     if [[ -d $file ]]; then
         told='Is a directory'
     elif { exec <"$file"; } 2>/dev/null; then
@@ -103,13 +111,70 @@ open_file() {
 # What is said before the program starts to read, into `notice`.
 choose_notice() {
     notice=
-    [[ -z $is_known || ! -t 0 ]] || notice="reading a $reads from the terminal; end it with Ctrl-D"
+    [[ -z $is_known || -n $opens_file || ! -t 0 ]] || notice="reading a $reads from the terminal; end it with Ctrl-D"
 }
 
 # Starts the program $1 on the words.
 start_program() {
     [[ -z $notice ]] || say "$notice"
+    [[ -z $tells || ! -t 2 ]] || start_watched "$1"
     exec "$1" "${words[@]}"
+}
+
+# Asks a program to end with what it found so far; asked again, ends it.
+stop_watched() {
+    if [[ -e $room/stop ]]; then
+        kill "$watched"
+    else
+        : >"$room/stop"
+    fi
+}
+
+# Starts the program $1 so that it tells each second how far it is, and ends with what it found where Ctrl-C is pressed: it isn't
+# told of that, but looks each second whether a file is there. Comes back only where no folder can be made for that file.
+start_watched() {
+    local status
+    room=$(mktemp -d 2>/dev/null) || return 0
+    trap stop_watched INT
+    (trap '' INT && exec "$1" --progress --stop "$room/stop" "${words[@]}") <&0 &
+    watched=$!
+    wait "$watched"
+    status=$?
+    while kill -0 "$watched" 2>/dev/null; do
+        wait "$watched"
+        status=$?
+    done
+    rm -rf "$room"
+    exit "$status"
+}
+
+# Whether these words ask for a run of each file of a folder.
+wants_all() {
+    [[ -n $tells && ${1:-} = --all ]]
+}
+
+# Calls the command $1 on each script and each text of the folder $3, with the options behind it; a file passes where the status is 0.
+# What is said of one that doesn't is shown.
+try_all() {
+    local command=$1 folder=${3:-} file said status passed=0 failed=0
+    if [[ ! -d $folder ]]; then
+        say "--all wants a folder behind it"
+        exit 1
+    fi
+    for file in "$folder"/*.lwkt "$folder"/*.json; do
+        [[ -e $file ]] || continue
+        status=0
+        said=$("$command" "${@:4}" -- "$file" 2>&1) || status=$?
+        if ((status == 0)); then
+            passed=$((passed + 1))
+        else
+            failed=$((failed + 1))
+            printf '%s: status %s\n%s\n' "${file##*/}" "$status" "$said"
+        fi
+    done
+    echo "$passed passed, $failed failed"
+    ((failed == 0)) || exit 5
+    exit 0
 }
 
 # Whether the program $1 works on this machine. A program that the system can't load may end with status 1 too, so it has
@@ -118,6 +183,7 @@ runs_here() {
     local said input=$small_script try=("$1")
     [[ -x $1 ]] || return
     ((${#modes[@]} == 0)) || try+=("${modes[0]}")
+    [[ -z $opens_file ]] || try+=(/dev/stdin --run)
     [[ $reads = script ]] || input=$small_trace
     { said=$(printf '%s' "$input" | "${try[@]}"); } 2>/dev/null
     [[ ${said##*$'\n'} = lawful ]]

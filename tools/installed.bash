@@ -12,6 +12,8 @@ elif (($# == 1)) && [[ $1 = --version ]]; then
     cat -- "$home/$program_name.version"
     echo "program: installed, $home/$program_name"
     exit
+elif wants_all "$@"; then
+    try_all "$file" "$@"
 fi
 sort_words "$@"
 open_file

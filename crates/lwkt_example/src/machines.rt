@@ -40,6 +40,7 @@ pub fn open_bank(alloc: Global) -> Result<(Bank, Vec<CpuSeat>), Fault>
         law: Law::Sum,
         param: 100,
         generation: 0,
+        blob: None,
     };
     Bank::open(alloc, &[account], 2)
 }

@@ -1,4 +1,6 @@
 // Where something stands in a text.
+use lwkt_refusals::Page;
+
 /// A line of a text, and where something stands in it.
 #[derive(Clone, Copy, Debug, PartialEq, Eq)]
 pub struct Place {
@@ -39,4 +41,13 @@ pub fn place_of(bytes: &[u8], at: usize) -> Place {
         start,
         end: end_from(bytes, at),
     }
+}
+
+/// Appends the file, where one is named, and the line.
+pub fn add_head(page: &mut Page, path: Option<&str>, place: Place) {
+    if let Some(path) = path {
+        page.add(path);
+        page.add(":");
+    }
+    page.size("", place.line);
 }

@@ -1,15 +1,9 @@
 // What is wrong with a text, in words.
-use crate::lines::{Place, place_of};
+use crate::lines::{Place, add_head, place_of};
 use crate::proposals::proposal;
-use lwkt_text::{Names, Wanted, What, Wrong};
+use lwkt_refusals::Page;
+use lwkt_text::{Many, Names, Wanted, What, Wrong, names_of};
 use std::alloc::{AllocError, Global};
-
-// A text and a number behind it.
-fn tagged(alloc: Global, page: &mut String, text: &str, n: u64) -> Result<(), AllocError> {
-    let digits = format!(in alloc; "{n}")?;
-    page.push_str(text)?;
-    page.push_str(digits.as_str())
-}
 
 // The word that is wanted.
 fn word_of(wanted: Wanted) -> &'static str {
@@ -51,31 +45,26 @@ fn words_of(what: What) -> &'static str {
 }
 
 // The limits of a number that is wanted.
-fn add_limits(alloc: Global, page: &mut String, what: What) -> Result<(), AllocError> {
-    match what {
-        What::Number { low, high } => {
-            tagged(alloc, page, ", ", low)?;
-            tagged(alloc, page, " to ", high)
-        }
-        _ => Ok(()),
+fn add_limits(page: &mut Page, what: What) {
+    if let What::Number { low, high } = what {
+        page.number(", ", low);
+        page.number(" to ", high);
     }
 }
 
 // The characters of a line up to a place, with tabs as they are and a blank for every other one.
-fn add_blanks(page: &mut String, bytes: &[u8]) -> Result<(), AllocError> {
+fn add_blanks(page: &mut Page, bytes: &[u8]) {
     for byte in bytes {
-        page.push_str(if *byte == b'\t' { "\t" } else { " " })?;
+        page.add(if *byte == b'\t' { "\t" } else { " " });
     }
-    Ok(())
 }
 
 // The characters of a line; those that are no ASCII as question marks.
-fn add_line(page: &mut String, bytes: &[u8]) -> Result<(), AllocError> {
+fn add_line(page: &mut Page, bytes: &[u8]) {
     for byte in bytes {
         let shown = if *byte < 128 { *byte } else { b'?' };
-        page.push(shown as char)?;
+        page.letter(shown as char);
     }
-    Ok(())
 }
 
 // The bytes of a text from one place to another.
@@ -88,13 +77,13 @@ fn part_of(bytes: &[u8], from: usize, to: usize) -> &[u8] {
 }
 
 // The line, and a mark under the place.
-fn add_mark(page: &mut String, bytes: &[u8], place: Place) -> Result<(), AllocError> {
+fn add_mark(page: &mut Page, bytes: &[u8], place: Place) {
     let at = place.start.saturating_add(place.before);
-    page.push_str("    ")?;
-    add_line(page, part_of(bytes, place.start, place.end))?;
-    page.push_str("\n    ")?;
-    add_blanks(page, part_of(bytes, place.start, at))?;
-    page.push_str("^\n")
+    page.add("    ");
+    add_line(page, part_of(bytes, place.start, place.end));
+    page.add("\n    ");
+    add_blanks(page, part_of(bytes, place.start, at));
+    page.add("^\n");
 }
 
 // How many bytes a word has that these bytes begin with.
@@ -112,45 +101,67 @@ fn word_length(bytes: &[u8]) -> usize {
 // The word that begins at a place.
 fn word_at(alloc: Global, bytes: &[u8], at: usize) -> Result<String, AllocError> {
     let rest = part_of(bytes, at, bytes.len());
-    let mut word = String::new(alloc);
-    add_line(&mut word, part_of(rest, 0, word_length(rest)))?;
-    Ok(word)
+    let mut word = Page::new(alloc);
+    add_line(&mut word, part_of(rest, 0, word_length(rest)));
+    word.whole()
 }
 
 // A name that is nearly the word.
 fn add_proposal(
     alloc: Global,
-    page: &mut String,
+    page: &mut Page,
     bytes: &[u8],
     names: &Names,
     wrong: Wrong,
 ) -> Result<(), AllocError> {
     let word = word_at(alloc, bytes, wrong.at)?;
     if let Some(name) = proposal(alloc, names, wrong.what, word.as_str())? {
-        page.push_str(" (")?;
-        page.push_str(name)?;
-        page.push_str("?)")?;
+        page.add(" (");
+        page.add(name);
+        page.add("?)");
     }
     Ok(())
 }
 
-/// What is wrong at a place of a text: `FILE:LINE:COLUMN: WORDS`, then the line and a mark under the place.
-pub fn add_wrong(
+// What is wrong at a place of a text: `FILE:LINE:COLUMN: WORDS`, then the line and a mark under the place.
+fn add_wrong(
     alloc: Global,
-    page: &mut String,
-    path: &str,
+    page: &mut Page,
+    path: Option<&str>,
     bytes: &[u8],
     names: &Names,
     wrong: Wrong,
 ) -> Result<(), AllocError> {
     let place = place_of(bytes, wrong.at);
-    page.push_str(path)?;
-    tagged(alloc, page, ":", place.line as u64)?;
-    tagged(alloc, page, ":", (place.before as u64).saturating_add(1))?;
-    page.push_str(": ")?;
-    page.push_str(words_of(wrong.what))?;
-    add_limits(alloc, page, wrong.what)?;
+    add_head(page, path, place);
+    page.size(":", place.before.saturating_add(1));
+    page.add(": ");
+    page.add(words_of(wrong.what));
+    add_limits(page, wrong.what);
     add_proposal(alloc, page, bytes, names, wrong)?;
-    page.push_str("\n")?;
-    add_mark(page, bytes, place)
+    page.add("\n");
+    add_mark(page, bytes, place);
+    Ok(())
+}
+
+/// All that is wrong with a text, in the order of the places: of each `FILE:LINE:COLUMN: WORDS`, then the line and a mark under the
+/// place; without the file where none is named.
+///
+/// Refused if memory is.
+pub fn wrongs_said(
+    alloc: Global,
+    path: Option<&str>,
+    bytes: &[u8],
+    wrongs: Many<Wrong>,
+) -> Result<String, AllocError> {
+    let Ok(names) = names_of(alloc, bytes) else {
+        return Err(AllocError);
+    };
+    let mut wrongs = wrongs.into_vec();
+    wrongs.sort_unstable_by_key(|wrong| wrong.at);
+    let mut page = Page::new(alloc);
+    for wrong in wrongs.as_slice() {
+        add_wrong(alloc, &mut page, path, bytes, &names, *wrong)?;
+    }
+    page.whole()
 }

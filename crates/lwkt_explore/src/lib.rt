@@ -1,0 +1,28 @@
+//! Every order of turns of a script: which outcomes there are, each once with a shortest order, and from which states no end can
+//! be reached.
+#![tactic(auto)]
+
+mod choices;
+mod doings;
+mod graphs;
+mod lines;
+mod losses;
+mod mails;
+mod outcomes;
+mod packs;
+mod places;
+mod samples;
+mod searches;
+mod states;
+mod statuses;
+mod touches;
+mod walks;
+mod watches;
+
+pub use lines::{order_text, text_of};
+pub use losses::Lost;
+pub use outcomes::{Kind, Outcome, Outcomes};
+pub use samples::sample;
+pub use searches::{Bounds, Found, Method, Tried, explore};
+pub use statuses::status_of;
+pub use watches::{Seen, Unwatched, Watch};

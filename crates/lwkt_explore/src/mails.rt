@@ -1,0 +1,101 @@
+//! Which processors a message of a script can be with, and where its notes can go.
+use crate::touches::{Touch, bit, cpu_bit, has, touched_by};
+use lwkt_base::{Ask, MsgId, Owner};
+use lwkt_core::State;
+use lwkt_script::Script;
+use std::alloc::{AllocError, Global};
+
+/// A message of a script.
+#[derive(Clone, Copy, Debug, PartialEq, Eq)]
+struct Mail {
+    /// The processor that it is of, and those that a step sends it to.
+    parties: u8,
+    /// Whether a step drops it: a note of it can then be on its way though it is at rest.
+    is_dropped: bool,
+}
+
+/// The messages of a script.
+#[derive(Drop)]
+pub(crate) struct Mails {
+    all: Vec<Mail>,
+}
+
+// Notes what a step does with its message.
+fn note(mail: &mut Mail, number: usize, ask: Ask) {
+    let touch = touched_by(ask);
+    if touch.messages & bit(number) != 0 {
+        mail.parties |= touch.targets;
+        mail.is_dropped = mail.is_dropped || matches!(ask, Ask::DropMsg(_));
+    }
+}
+
+// Notes what steps do with a message.
+fn note_all(mail: &mut Mail, number: usize, asks: &[Ask]) {
+    for ask in asks {
+        note(mail, number, *ask);
+    }
+}
+
+// The message of a number, with the processor that it is of.
+fn mail_of(script: &Script, number: usize, origin: usize) -> Mail {
+    let mut mail = Mail {
+        parties: cpu_bit(origin),
+        is_dropped: false,
+    };
+    for thread in script.threads.as_slice() {
+        note_all(&mut mail, number, thread.steps.as_slice());
+    }
+    mail
+}
+
+impl Mails {
+    /// Those of a script.
+    pub(crate) fn of(alloc: Global, script: &Script) -> Result<Mails, AllocError> {
+        let mut all = Vec::new(alloc);
+        for (number, spec) in script.messages.as_slice().iter().enumerate() {
+            all.push(mail_of(script, number, usize::from(spec.origin.cpu.0)))?;
+        }
+        Ok(Mails { all })
+    }
+
+    /// Those that aren't at rest, and those of which a note may be on its way all the same.
+    pub(crate) fn away(&self, state: &State) -> u64 {
+        let mut away = 0u64;
+        for (number, mail) in self.all.iter().enumerate() {
+            if mail.is_dropped || !is_at_rest(state, number) {
+                away |= bit(number);
+            }
+        }
+        away
+    }
+
+    /// Those that can be with a processor.
+    pub(crate) fn with(&self, cpu: usize) -> u64 {
+        let mut messages = 0u64;
+        for (number, mail) in self.all.iter().enumerate() {
+            if has(mail.parties, cpu) {
+                messages |= bit(number);
+            }
+        }
+        messages
+    }
+
+    /// These messages, with the processors that notes of them can go to.
+    pub(crate) fn touched(&self, touch: Touch) -> Touch {
+        let mut targets = touch.targets;
+        for (number, mail) in self.all.iter().enumerate() {
+            if touch.messages & bit(number) != 0 {
+                targets |= mail.parties;
+            }
+        }
+        Touch { targets, ..touch }
+    }
+}
+
+// Whether a message is at rest.
+fn is_at_rest(state: &State, number: usize) -> bool {
+    match state.message(MsgId(u8::try_from(number).unwrap_or(u8::MAX))) {
+        Some(message) => matches!(message.owner, Owner::Rest { .. }),
+        None => true,
+    }
+}
