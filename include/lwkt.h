@@ -118,6 +118,113 @@ uint32_t lwkt_word_give_clean(uint64_t word, uint64_t *next);
 // `lwkt_word_give_clean`.
 uint32_t lwkt_word_give_written(uint64_t word, uint64_t *next);
 
+// A bank of tokens for the caller's own threads. A bank has up to 64 tokens and 1 to 8 seats: a thread asks for tokens, and reads
+// and changes what they guard, by the number of its seat, 0 for the first. Who holds a token exclusively is alone with its cells;
+// any number of seats may hold it shared and load them. What a seat does is done on the proved token words of the layer, and its
+// rules are kept by the calls: each misuse that this header names is answered by a number, and changes nothing.
+//
+//     lwkt_bank bank = {0};
+//     lwkt_token account = {.cells = {100}, .cell_count = 1, .law = LWKT_LAW_ANY};
+//     uint32_t status = lwkt_bank_open(&account, 1, 2, &bank);
+//     // in the thread of seat 1:
+//     while ((status = lwkt_take(bank, 1, 0)) == LWKT_BUSY || status == LWKT_RACE) sched_yield();
+//     uint64_t value;
+//     lwkt_load(bank, 1, 0, 0, &value);
+//     lwkt_store(bank, 1, 0, 0, value + 1);
+//     lwkt_give(bank, 1, 0);
+//
+// Status. 0 where the call did what it says; else a number, as docs/FORMATS.md has the faults, but for 50:
+//
+//     10 the seat has 32 references              19 the row breaks the law of its token
+//     11 exclusive, where it is held shared      20 the token is at its last generation, 70368744177663
+//     13 the seat doesn't hold the token         21 the sum passes 18446744073709551615
+//     16 there is no such token                  22 the call and the law don't fit
+//     17 the token has no such cell              23 another seat holds the token, or its mark holds the request off
+//     18 it is held shared                       30 there is no such seat
+//     32 memory was refused                      34 another seat's step came between: ask again
+//     39 a limit is passed                       50 another call has the seat
+//     40 an opening row breaks its law
+//
+// Of several that apply a function's list says which one comes: the one that stands first. Where a call is refused, nothing has
+// changed that a later call could tell, but that the seat may have looked at the token's word or loaded its row.
+//
+// What the caller owes, beside what stands at the head of this file:
+//
+// - A bank is one that lwkt_bank_open stored, copied as it is. A bank of zeros, or any other that wasn't stored so, is undefined.
+// - No more. Two calls at once on one seat are two calls: one of them may answer 50. A token that is held when its thread ends
+//   stays held by its seat, from which any thread may go on.
+//
+// A bank stays to the end of the process: its memory, about 5.7 KB for each seat and 128 bytes for each token, isn't given back.
+#define LWKT_BUSY 23u
+#define LWKT_RACE 34u
+#define LWKT_SEAT_IN_USE 50u
+
+#define LWKT_LAW_ANY 0u
+#define LWKT_LAW_SUM 1u
+#define LWKT_LAW_ORDER 2u
+#define LWKT_LAW_CAP 3u
+#define LWKT_LAW_TALLY 4u
+
+// A token as it is at the opening. Cells past their number count for nothing.
+typedef struct lwkt_token {
+    uint64_t cells[4];
+    // The law's parameter.
+    uint64_t param;
+    // The opening generation, 0 to 70368744177663.
+    uint64_t generation;
+    // How many cells there are: 0 to 4, exactly 1 under LWKT_LAW_TALLY.
+    uint32_t cell_count;
+    uint32_t law;
+} lwkt_token;
+
+// A bank. Its member is the library's.
+typedef struct lwkt_bank {
+    void *place;
+} lwkt_bank;
+
+// Opens a bank of these tokens, numbered from 0, with so many seats, and stores it. With another status than 0 `bank` stays as it was.
+// Refused with 39 where a limit is passed: 1 to 8 seats, at most 64 tokens, what stands at `lwkt_token`; with 40 where the opening
+// row of a token breaks its law; with 32.
+uint32_t lwkt_bank_open(const lwkt_token *tokens, size_t count, uint32_t seats, lwkt_bank *bank);
+
+// Asks for an exclusive reference to a token, without waiting: a first one, or where the seat holds it exclusively a further one.
+// Refused with 30, 50, 16, 10, 11; and where the seat doesn't hold it, with 20, 23 or 34.
+uint32_t lwkt_take(lwkt_bank bank, uint32_t seat, uint32_t token);
+
+// Asks for a shared reference, without waiting: a first one, or where the seat holds the token a further one, in the mode of its
+// first. Refused with 30, 50, 16, 10; and where the seat doesn't hold it, with 23 or 34. A mark holds off a seat with no reference.
+uint32_t lwkt_share(lwkt_bank bank, uint32_t seat, uint32_t token);
+
+// One reference more to a token that the seat holds, in the mode of its first. Refused with 30, 50, 16, 13, 10.
+uint32_t lwkt_again(lwkt_bank bank, uint32_t seat, uint32_t token);
+
+// Marks a token for an exclusive request: from now on, and until it is next taken exclusively, seats with no reference get no
+// shared one. Refused with 30, 50, 16.
+uint32_t lwkt_mark(lwkt_bank bank, uint32_t seat, uint32_t token);
+
+// Gives a reference back. Where it is the last one of an exclusive holder, and the row differs from that at the beginning, the
+// token's generation is one more. Refused with 30, 50, 16, 13; and with 19 where that row breaks the law: the token stays held.
+uint32_t lwkt_give(lwkt_bank bank, uint32_t seat, uint32_t token);
+
+// The value of a cell of a token that the seat holds. With another status than 0 `value` stays as it was. Refused with 30, 50, 16,
+// 17, 13.
+uint32_t lwkt_load(lwkt_bank bank, uint32_t seat, uint32_t token, uint32_t cell, uint64_t *value);
+
+// Stores a value in a cell of a token that the seat holds exclusively. Refused with 30, 50, 16, 17, 13, 18; with 22 under
+// LWKT_LAW_TALLY.
+uint32_t lwkt_store(lwkt_bank bank, uint32_t seat, uint32_t token, uint32_t cell, uint64_t value);
+
+// Adds to the cell of a token under LWKT_LAW_TALLY that the seat holds exclusively, and stores the new value in `value`, which with
+// another status than 0 stays as it was. Refused with 30, 50, 16, 13, 18; with 22 under any other law; with 21.
+uint32_t lwkt_add(lwkt_bank bank, uint32_t seat, uint32_t token, uint64_t amount, uint64_t *value);
+
+// Whether the row of a token that the seat holds exclusively obeys its law: 0 or 19. Refused with 30, 50, 16, 13, 18.
+uint32_t lwkt_lawful(lwkt_bank bank, uint32_t seat, uint32_t token);
+
+// Stores the row again that the token had when the seat took it exclusively; under LWKT_LAW_TALLY nothing. Refused with 30, 50, 16,
+// 13, 18.
+uint32_t lwkt_restore(lwkt_bank bank, uint32_t seat, uint32_t token);
+
 #ifdef __cplusplus
 }
 #endif

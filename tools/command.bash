@@ -1,11 +1,12 @@
-# How the commands lwkt_run, lwkt_check and lwkt_show understand their words, in the tree and installed: help, a file in
-# place of standard input, the line for a terminal. Read with the command's name in `program_name` and the folder of its
-# help in `help_folder`; "$@" are the words of the call.
+# How the commands lwkt_run, lwkt_check, lwkt_show, lwkt_text and lwkt_explore understand their words, in the tree and
+# installed: help, a file in place of standard input, the line for a terminal. Read with the command's name in `program_name`
+# and the folder of its help in `help_folder`; "$@" are the words of the call. lwkt_text opens its file itself, since it says
+# its name.
 # shellcheck disable=SC2154 # These two are set where this is read.
 
-# What a command reads; the words of which one has to stand first; its options without a value and with one; and a
-# small input that it says `lawful` of, with the words that go with it, by which is tried whether a program runs here.
-modes=() flags=() valued=()
+# What a command reads, and whether it opens its file itself; the words of which one has to stand first; its options
+# without a value and with one.
+modes=() flags=() valued=() opens_file=''
 case $program_name in
     lwkt_run)
         reads=script modes=(turns threads)
@@ -16,7 +17,14 @@ case $program_name in
     lwkt_check)
         reads=trace
         ;;
+    lwkt_explore)
+        reads=script valued=(--states --turns --random --seed)
+        ;;
+    lwkt_text)
+        reads=script flags=(--run --json --text) opens_file=yes
+        ;;
 esac
+# A small input that a program says `lawful` of, by which is tried whether it runs here.
 small_script='{"version":1,"turns":1,"idle":1,"cpus":1,"tokens":[],"messages":[],"threads":[]}'
 small_trace='{"version":1,"cpus":1,"tokens":[],"messages":[],"events":[],"last":null}'
 
@@ -82,13 +90,13 @@ sort_words() {
     at=${plain[-1]}
     file=${words[at]}
     has_file=yes
-    words=("${words[@]:0:at}" "${words[@]:at+1}")
+    [[ -n $opens_file ]] || words=("${words[@]:0:at}" "${words[@]:at+1}")
 }
 
 # Makes the file standard input. It is opened once, since a pipe can't be opened twice.
 open_file() {
     local told
-    [[ -n $has_file && $file != - ]] || return 0
+    [[ -z $opens_file && -n $has_file && $file != - ]] || return 0
     if [[ -d $file ]]; then
         told='Is a directory'
     elif { exec <"$file"; } 2>/dev/null; then
@@ -103,7 +111,7 @@ open_file() {
 # What is said before the program starts to read, into `notice`.
 choose_notice() {
     notice=
-    [[ -z $is_known || ! -t 0 ]] || notice="reading a $reads from the terminal; end it with Ctrl-D"
+    [[ -z $is_known || -n $opens_file || ! -t 0 ]] || notice="reading a $reads from the terminal; end it with Ctrl-D"
 }
 
 # Starts the program $1 on the words.
@@ -118,6 +126,7 @@ runs_here() {
     local said input=$small_script try=("$1")
     [[ -x $1 ]] || return
     ((${#modes[@]} == 0)) || try+=("${modes[0]}")
+    [[ -z $opens_file ]] || try+=(/dev/stdin --run)
     [[ $reads = script ]] || input=$small_trace
     { said=$(printf '%s' "$input" | "${try[@]}"); } 2>/dev/null
     [[ ${said##*$'\n'} = lawful ]]

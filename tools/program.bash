@@ -6,8 +6,8 @@
 # shellcheck disable=SC2034,SC2154 # Of these names some are used, and some are set, where this is read.
 
 # The programs, each with its crate.
-programs=(lwkt_run lwkt_check lwkt_show)
-declare -gA crate_of=([lwkt_run]=lwkt [lwkt_check]=lwkt_judge [lwkt_show]=lwkt_view [lwkt_text]=lwkt_texts)
+programs=(lwkt_run lwkt_check lwkt_show lwkt_text lwkt_explore)
+declare -gA crate_of=([lwkt_run]=lwkt [lwkt_check]=lwkt_judge [lwkt_show]=lwkt_view [lwkt_text]=lwkt_texts [lwkt_explore]=lwkt_explorer)
 
 # Chooses the program of this name.
 choose_program() {

@@ -1,5 +1,5 @@
 # Starts a program of this tree: the one that was built here, or the shipped one, or else it is built first. Read by
-# lwkt_run, lwkt_check and lwkt_show at the root, with the tree in `top` and the program's name in `program_name`.
+# lwkt_run, lwkt_check, lwkt_show and lwkt_text at the root, with the tree in `top` and the program's name in `program_name`.
 #
 # A program that is there and no source of which is newer than its stamp is started at once. Else the digest of the
 # sources decides: whether the program that is there is of them, or the shipped one is. The shipped one is put in the

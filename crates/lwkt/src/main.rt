@@ -1,8 +1,10 @@
-//! The program: reads a script from standard input, runs it, and writes its report to standard output. Why there is none it
-//! says on standard error.
+//! The program: reads a script from standard input, in JSON or as a text, runs it, and writes its report to standard output. Why
+//! there is none it says on standard error, and of a text which of its expectations hold.
 #![tactic(auto)]
 
+mod modes;
 mod tellings;
+mod texts;
 
 use crate::tellings::run_told;
 use lwkt_refusals::Speaker;

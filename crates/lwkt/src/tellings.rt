@@ -1,39 +1,123 @@
-ghost use Rattle.std.specs.Prelude.{◌≡◌};
+ghost use Rattle.std.specs.Prelude.{◌≡◌, false, Err, IsTrue, Some};
 ghost use Rattle.lwkt_report.specs.Complaint.{fault_line, IsSaid};
-ghost use Rattle.lwkt_run.specs.Run.{RunsAs, AsksTurns};
-ghost use Rattle.lwkt_run.specs.Threaded.{RunsOnThreadsAs, AsksThreads, IsMisused};
+ghost use Rattle.lwkt_run.specs.Run.{AsksTurns};
+ghost use Rattle.lwkt_run.specs.Threaded.{AsksThreads, IsMisused};
+ghost use Rattle.lwkt.specs.Text.{Asks, RunsTextAs, RunsJsonAs, RunsBytesAs, RunsReadAs, SaysAfterText, status_told};
 
+use crate::modes::{Mode, mode_of};
+use crate::texts::run_text;
 use lwkt_base::Fault;
+use lwkt_litmus::Judgement;
 use lwkt_refusals::Speaker;
-use lwkt_report::{Complaint, NotedReader, NotedWriter, Program, ReaderSource, Sink, WriterSink};
-use lwkt_run::run_program;
+use lwkt_report::{
+    Complaint, NotedReader, NotedWriter, Program, ReaderSource, RunFault, Sink, Source, WriterSink,
+    read_capped,
+};
+use lwkt_run::{finish, run_program};
 use lwkt_script::read_script;
+use lwkt_text::is_text;
 use std::alloc::Global;
 use std::io::{Read, Write};
 use std::thread::Threads;
 
-// Whether the arguments are those of the program.
-fn are_asked(words: &[String]) -> bool {
-    match words.first() {
-        Some(word) => words.len() == 1 && matches!(word.as_str(), "turns" | "threads"),
-        None => false,
-    }
-}
-
-// Says why the script that was given is refused.
-fn say_refusal<E: Sink>(alloc: Global, errors: &mut E, given: &Option<Vec<u8>>) {
-    let Some(bytes) = given else {
-        return Speaker::Run.say_refusal(alloc, errors, None, Fault::Memory);
-    };
-    let fault = match read_script(alloc, bytes.as_slice()) {
+// Says why the script that was read is refused.
+fn say_refusal<E: Sink>(alloc: Global, errors: &mut E, bytes: &[u8]) {
+    let fault = match read_script(alloc, bytes) {
         Ok(_) => Fault::LawBroken,
         Err(fault) => fault,
     };
-    Speaker::Run.say_refusal(alloc, errors, Some(bytes.as_slice()), fault);
+    Speaker::Run.say_refusal(alloc, errors, Some(bytes), fault);
 }
 
-// Says why a run with good arguments ended with this status, if it made no report.
-fn say_why<I, O, E: Sink>(
+// Runs what was read as a script in JSON, and says why it is refused, if it is.
+fn run_json<R: Threads + Sync, K: Sink, E: Sink>(
+    rt: &R,
+    alloc: Global,
+    mode: Mode,
+    words: &[String],
+    bytes: &[u8],
+    sink: &mut K,
+    errors: &mut E,
+) -> u8
+    requires { Asks mode words.now }
+    ensures { RunsJsonAs mode false (K.has_failed sink.new) (Some bytes.now) (K.contents sink.old) (K.contents sink.new) result }
+{
+    let mut source = bytes;
+    let status = run_program(rt, alloc, words, &mut source, sink);
+    if status == 1 {
+        say_refusal(alloc, errors, bytes);
+    }
+    status
+}
+
+// Ends the program after a run of a text, as `finish` does.
+fn finish_text<K: Sink>(sink: &mut K, outcome: &Result<Judgement, RunFault>) -> u8
+    ensures line { SaysAfterText (K.has_failed sink.new) (K.contents sink.old) (K.contents sink.new) outcome.now }
+    ensures failed { IsTrue (K.has_failed sink.old) → IsTrue (K.has_failed sink.new) }
+    ensures status { result ≡ status_told outcome.now }
+{
+    match *outcome {
+        Ok(judgement) => judgement.status(),
+        Err(fault) => finish(sink, &Err(fault)),
+    }
+}
+
+// Runs what was read as a text.
+fn run_as_text<R: Threads + Sync, K: Sink, E: Sink>(
+    rt: &R,
+    alloc: Global,
+    mode: Mode,
+    bytes: &[u8],
+    sink: &mut K,
+    errors: &mut E,
+) -> u8
+    ensures { RunsTextAs mode bytes.now false (K.has_failed sink.new) (K.contents sink.old) (K.contents sink.new) result }
+{
+    let outcome = run_text(rt, alloc, mode, bytes, sink, errors);
+    finish_text(sink, &outcome)
+}
+
+// Runs what was read, as what it is.
+fn run_bytes<R: Threads + Sync, K: Sink, E: Sink>(
+    rt: &R,
+    alloc: Global,
+    mode: Mode,
+    words: &[String],
+    bytes: &[u8],
+    sink: &mut K,
+    errors: &mut E,
+) -> u8
+    requires { Asks mode words.now }
+    ensures { RunsBytesAs mode bytes.now false (K.has_failed sink.new) (K.contents sink.old) (K.contents sink.new) result }
+{
+    match is_text(alloc, bytes) {
+        Ok(true) => run_as_text(rt, alloc, mode, bytes, sink, errors),
+        Ok(false) => run_json(rt, alloc, mode, words, bytes, sink, errors),
+        Err(_) => finish(sink, &Err(RunFault::Fault(Fault::Memory))),
+    }
+}
+
+// Reads, and runs what was read.
+fn run_source<R: Threads + Sync, S: Source, K: Sink, E: Sink>(
+    rt: &R,
+    alloc: Global,
+    mode: Mode,
+    words: &[String],
+    source: &mut S,
+    sink: &mut K,
+    errors: &mut E,
+) -> u8
+    requires { Asks mode words.now }
+    ensures { RunsReadAs mode (S.has_failed source.new) (K.has_failed sink.new) (S.left source.old) (K.contents sink.old) (K.contents sink.new) result }
+{
+    match read_capped(alloc, source) {
+        Ok(bytes) => run_bytes(rt, alloc, mode, words, &bytes, sink, errors),
+        Err(fault) => finish(sink, &Err(fault)),
+    }
+}
+
+// Says how a stream failed, or that there was no memory, if a run ended with this status for that.
+fn say_failure<I, O, E: Sink>(
     alloc: Global,
     errors: &mut E,
     status: u8,
@@ -41,7 +125,6 @@ fn say_why<I, O, E: Sink>(
     sink: &WriterSink<NotedWriter<O>>,
 ) {
     match status {
-        1 => say_refusal(alloc, errors, &source.reader.given),
         3 if source.failed => Speaker::Run.say_unread(alloc, errors, &source.reader.error),
         3 if !sink.failed => Speaker::Run.say_memory(errors),
         _ => {}
@@ -51,9 +134,12 @@ fn say_why<I, O, E: Sink>(
     }
 }
 
-/// The whole program, as `run_program`, which also says where errors go why there is no report: in one line the part of the
-/// script that is refused, with its place, or how a stream failed; of wrong arguments how the program is called. What it reads,
-/// what it writes and its status are those of `run_program`.
+/// The whole program: as `run_program`, of what it reads, unless that is a text. A text is run as the script that it is; of each
+/// thing that it says of the outcome it says where errors go whether it is so, and the status is 5 where one isn't, 0 where all
+/// are. A text that is refused has the line of bytes that are no JSON.
+///
+/// It also says where errors go why there is no report: the part of the script that is refused, with its place, or all that is
+/// wrong with a text, or how a stream failed; of wrong arguments how the program is called.
 pub fn run_told<R: Threads + Sync, I: Read, O: Write, E: Sink>(
     rt: &R,
     alloc: Global,
@@ -62,16 +148,16 @@ pub fn run_told<R: Threads + Sync, I: Read, O: Write, E: Sink>(
     sink: &mut WriterSink<NotedWriter<O>>,
     errors: &mut E,
 ) -> u8
-    ensures turns { AsksTurns words.now → RunsAs source.new.failed sink.new.failed (I.remaining source.old.reader.reader) (O.contents sink.old.writer.writer) (O.contents sink.new.writer.writer) result }
-    ensures threads { AsksThreads words.now → RunsOnThreadsAs source.new.failed sink.new.failed (I.remaining source.old.reader.reader) (O.contents sink.old.writer.writer) (O.contents sink.new.writer.writer) result }
+    ensures turns { AsksTurns words.now → RunsReadAs Mode.Turns source.new.failed sink.new.failed (I.remaining source.old.reader.reader) (O.contents sink.old.writer.writer) (O.contents sink.new.writer.writer) result }
+    ensures threads { AsksThreads words.now → RunsReadAs Mode.Threads source.new.failed sink.new.failed (I.remaining source.old.reader.reader) (O.contents sink.old.writer.writer) (O.contents sink.new.writer.writer) result }
     ensures usage { IsMisused words.now → (result ≡ 1) × IsSaid sink.new.failed (O.contents sink.old.writer.writer) (O.contents sink.new.writer.writer) (fault_line Program.Run Complaint.Usage) }
     ensures unread { IsMisused words.now → source.new ≡ source.old }
 {
-    let status = run_program(rt, alloc, words, source, sink);
-    if are_asked(words) {
-        say_why(alloc, errors, status, source, sink);
-    } else {
+    let Some(mode) = mode_of(words) else {
         Speaker::Run.say_usage(errors);
-    }
+        return run_program(rt, alloc, words, source, sink);
+    };
+    let status = run_source(rt, alloc, mode, words, source, sink, errors);
+    say_failure(alloc, errors, status, source, sink);
     status
 }

@@ -6,7 +6,7 @@ use Rattle.lwkt_base.specs.declared.names.Ref.{Ref}
 use Rattle.lwkt_base.specs.declared.names.CpuId.{CpuId}
 use Rattle.lwkt_base.specs.Holding.{Holding, holding_of}
 use Rattle.lwkt_core.specs.declared.events.Event.{Event}
-use Rattle.lwkt_core.specs.declared.events.Event.TheVariants.{Load, Take, Share, Again, Mark, GiveOne, GiveClean, GiveWritten, Read, Write, Send, TakeMsg, DropMsg, Reply, Reap, Abort}
+use Rattle.lwkt_core.specs.declared.events.Event.TheVariants.{Load, Take, Share, Again, Mark, GiveOne, GiveClean, GiveWritten, Read, Write, ReadBlob, WriteBlob, Send, TakeMsg, DropMsg, Reply, Reap, Abort}
 use Rattle.lwkt_core.specs.Events.{cpu_of}
 use Rattle.lwkt_core.proofs.HistoryLemmas.{own-nil}
 use Rattle.lwkt_bank.specs.declared.seats.CpuSeat.{CpuSeat}
@@ -30,6 +30,8 @@ mail_after cpu (GiveClean c t) h is = absurd is
 mail_after cpu (GiveWritten c t section) h is = absurd is
 mail_after cpu (Read c t i v) h is = refl
 mail_after cpu (Write c t i v) h is = refl
+mail_after cpu (ReadBlob c t blob) h is = refl
+mail_after cpu (WriteBlob c t blob) h is = refl
 mail_after cpu (Send c m to r) h is = refl
 mail_after cpu (TakeMsg c m r) h is = refl
 mail_after cpu (DropMsg c m) h is = refl
@@ -48,6 +50,8 @@ mail_own cpu (GiveClean c t) is = absurd is
 mail_own cpu (GiveWritten c t section) is = absurd is
 mail_own cpu (Read c t i v) is = absurd is
 mail_own cpu (Write c t i v) is = absurd is
+mail_own cpu (ReadBlob c t blob) is = absurd is
+mail_own cpu (WriteBlob c t blob) is = absurd is
 mail_own cpu (Send c m to r) is = ap (λ (x : CpuId). x.0) is
 mail_own cpu (TakeMsg c m r) is = ap (λ (x : CpuId). x.0) is
 mail_own cpu (DropMsg c m) is = ap (λ (x : CpuId). x.0) is
@@ -66,6 +70,8 @@ mail_filter cpu (GiveClean c t) es is = absurd is
 mail_filter cpu (GiveWritten c t section) es is = absurd is
 mail_filter cpu (Read c t i v) es is = refl
 mail_filter cpu (Write c t i v) es is = refl
+mail_filter cpu (ReadBlob c t blob) es is = refl
+mail_filter cpu (WriteBlob c t blob) es is = refl
 mail_filter cpu (Send c m to r) es is = refl
 mail_filter cpu (TakeMsg c m r) es is = refl
 mail_filter cpu (DropMsg c m) es is = refl
@@ -102,6 +108,8 @@ mail_plain cpu (GiveClean c t) es is = absurd is
 mail_plain cpu (GiveWritten c t section) es is = absurd is
 mail_plain cpu (Read c t i v) es is = absurd is
 mail_plain cpu (Write c t i v) es is = absurd is
+mail_plain cpu (ReadBlob c t blob) es is = absurd is
+mail_plain cpu (WriteBlob c t blob) es is = absurd is
 mail_plain cpu (Send c m to r) es is = refl
 mail_plain cpu (TakeMsg c m r) es is = refl
 mail_plain cpu (DropMsg c m) es is = refl

@@ -14,7 +14,7 @@ use Rattle.lwkt_base.specs.declared.names.Ref.{Ref}
 use Rattle.lwkt_base.specs.declared.names.TokId.{TokId}
 use Rattle.lwkt_base.specs.Holding.{holding_of}
 use Rattle.lwkt_core.specs.declared.events.Event.{Event}
-use Rattle.lwkt_core.specs.declared.events.Event.TheVariants.{Load, Take, Share, Again, Mark, GiveOne, GiveClean, GiveWritten, Read, Write, Send, TakeMsg, DropMsg, Reply, Reap, Abort}
+use Rattle.lwkt_core.specs.declared.events.Event.TheVariants.{Load, Take, Share, Again, Mark, GiveOne, GiveClean, GiveWritten, Read, Write, ReadBlob, WriteBlob, Send, TakeMsg, DropMsg, Reply, Reap, Abort}
 use Rattle.lwkt_core.specs.History.{AreOwn, Grows, events_in}
 use Rattle.lwkt_core.proofs.HistoryLemmas.{own-nil, own-append, Grows-append, events_in-append}
 use Rattle.lwkt_bank.specs.declared.seats.CpuSeat.{CpuSeat}
@@ -91,6 +91,8 @@ mail_event cpu (GiveClean c t) es is = absurd is
 mail_event cpu (GiveWritten c t section) es is = absurd is
 mail_event cpu (Read c t i v) es is = absurd is
 mail_event cpu (Write c t i v) es is = absurd is
+mail_event cpu (ReadBlob c t blob) es is = absurd is
+mail_event cpu (WriteBlob c t blob) es is = absurd is
 mail_event cpu (Send c m to r) es is = refl
 mail_event cpu (TakeMsg c m r) es is = refl
 mail_event cpu (DropMsg c m) es is = refl

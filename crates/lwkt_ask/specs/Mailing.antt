@@ -27,7 +27,7 @@ sending thread msg to call flags sync = record { thread = thread; msg = msg; to 
 
 -- a send without leave to drop or to abort
 abbrev pub plain_flags : Flags
-plain_flags = record { dropable = false; abortable = false }
+plain_flags = record { dropable = false; abortable = false; priority = false }
 
 -- what a send tells, from one state of the ports and trace to the next: `Ports::send` and `Ports::send_sync`
 abbrev pub SendsMail : Sending → Post → Post → Vec Event Global → Vec Event Global → Result (Unit {0}) Fault → Type 0

@@ -1,4 +1,4 @@
-use Rattle.std.proofs.Common.{◌≡◌, ◌≢◌, ⊎_elim, ℕ, ◌+◌, ◌<◌, ◌≤◌, List, [], length, map, refl, ap, sym, ◌∙◌, subst, arith}
+use Rattle.std.proofs.Common.{◌≡◌, ◌≢◌, ⊎_elim, ℕ, ◌+◌, ◌<◌, ◌≤◌, List, [], length, map, refl, ap, sym, ◌∙◌, subst, arith, Option}
 use Rattle.std.specs.Prelude.{All, Some, slice_index, slice_get}
 use Rattle.std.proofs.lemmas.Bool.{cases_eq}
 use mathlib.Core.Option.{some, some-injective}
@@ -6,11 +6,11 @@ use lib.ListN.{get_elem?}
 use Rattle.lwkt_base.specs.declared.laws.Law.{Law}
 use Rattle.lwkt_base.specs.declared.holdings.Held.TheVariants.{Nothing}
 use Rattle.lwkt_base.specs.Holding.{is_exclusive, references_in}
-use Rattle.lwkt_base.specs.Law.{MeetsLaw, IsTallied}
+use Rattle.lwkt_base.specs.Law.{MeetsLaw, Obeys, IsTallied}
 use Rattle.lwkt_core.specs.declared.seats.SeatKind.{SeatKind}
 use Rattle.lwkt_core.specs.declared.seats.SeatKind.TheVariants.{Clerk, Spent}
 use Rattle.lwkt_core.specs.declared.tokens.Token.{Token}
-use Rattle.lwkt_core.specs.Tokens.{held_by, IsFree}
+use Rattle.lwkt_core.specs.Tokens.{held_by, length_of, IsFree}
 use Rattle.lwkt_core.specs.Picture.{picture_of}
 use Rattle.lwkt_core.proofs.SeatingLemmas.{at_map, of_map, total-only, AreSeated-closed}
 use Rattle.lwkt_core.proofs.MachineMoves.{references_le}
@@ -55,6 +55,7 @@ settled plans cpus s id v made back tok r here kind all there =
     let F : Law → Type 0 = λ l. MeetsLaw l (plan_at plans tok).param tk.row in
     let G : ℕ → Type 0 = λ p. MeetsLaw tk.law p tk.row in
     let H : List ℕ → Type 0 = λ row. MeetsLaw tk.law tk.param row in
+    let K : Option (List ℕ) → Type 0 = λ b. Obeys tk.law tk.param tk.first (length_of b) in
     let row_first : tk.row ≡ tk.first = safe.settled (λ c. ap is_exclusive (free c)) in
     let P : Law → Type 0 = λ l. IsTallied l (plan_at plans tok).param tk.row tk.tallies in
     let Q : ℕ → Type 0 = λ p. IsTallied tk.law p tk.row tk.tallies in
@@ -70,7 +71,7 @@ settled plans cpus s id v made back tok r here kind all there =
       long = shows.long;
       cells = shows.row;
       generation = omega arith;
-      lawful = subst F shows.law (subst G shows.param (subst H (sym row_first) safe.lawful));
+      lawful = subst F shows.law (subst G shows.param (subst H (sym row_first) (subst K shows.no_record.1 safe.lawful)));
       tallied = subst P shows.law (subst Q shows.param safe.tallied);
       eight = safe.eight_tallies;
       law_is = shows.law;

@@ -66,6 +66,7 @@ Shows-split plan home word cells views tok id made back t x shows here kind abse
     let own : x.entry.held ≡ Nothing = shows.held id x here ∙ ap (held_by_kind tok) kind in
     record {
       no_slot = shows.no_slot;
+      no_record = shows.no_record;
       law = shows.law;
       param = shows.param;
       long = shows.long;
@@ -177,6 +178,7 @@ Shows-join plan home word cells views tok id made back other t cpu x w shows her
     let free : held_by tok cpu.0 ≡ Nothing = sym (shows.held other w there ∙ ap (held_by_kind tok) its_kind) ∙ quiet in
     record {
       no_slot = shows.no_slot;
+      no_record = shows.no_record;
       law = shows.law;
       param = shows.param;
       long = shows.long;

@@ -1,4 +1,4 @@
-use Rattle.std.proofs.Common.{eqb, eq-eqb, ne_eqb, ⊎_elim, ◌≡◌, ◌≢◌, ℕ, zero, suc, take, get_or, ◌+◌, ◌<◌, ◌≤◌, cond, List, [], ◌∷◌, ◌++◌, length, map, refl, ap, sym, ◌∙◌, subst, arith, All, Some, length-append, append_assoc}
+use Rattle.std.proofs.Common.{eqb, eq-eqb, ne_eqb, ⊎_elim, ◌≡◌, ◌≢◌, ℕ, zero, suc, take, get_or, ◌+◌, ◌<◌, ◌≤◌, cond, List, [], ◌∷◌, ◌++◌, length, map, refl, ap, sym, ◌∙◌, subst, arith, All, Some, None, length-append, append_assoc}
 use Rattle.std.proofs.lemmas.Bool.{cases_eq}
 use Rattle.std.proofs.lemmas.List.Elements.{All-pop, All-nil, All-cons, All-head, All-tail, All-weaker}
 use Rattle.std.proofs.lemmas.List.Sums.{sum_by-append, sum_by-cons}
@@ -9,7 +9,7 @@ use Rattle.std.specs.Prelude.{max, slice_index, slice_get, sum, zip}
 use mathlib.Core.Option.{some, some-injective, some-ne-none}
 use lib.ListN.{get_elem?}
 use Rattle.lwkt_base.specs.declared.laws.Law.{Law}
-use Rattle.lwkt_base.specs.declared.laws.Law.TheVariants.{Any, Sum, Order, Cap, Tally}
+use Rattle.lwkt_base.specs.declared.laws.Law.TheVariants.{Any, Sum, Order, Cap, Tally, Len}
 use Rattle.lwkt_base.specs.declared.holdings.Held.TheVariants.{Nothing}
 use Rattle.lwkt_core.specs.declared.tokens.Token.{Token}
 use Rattle.lwkt_core.specs.declared.events.Event.{Event}
@@ -394,6 +394,7 @@ module _ (bank : BankId) (cpus id : ℕ) (v : View) (words : List ℕ) (seats : 
       shown_by Sum c ts all_tallies none some' = none (λ same. absurd (let h = same in cc))
       shown_by Order c ts all_tallies none some' = none (λ same. absurd (let h = same in cc))
       shown_by Cap c ts all_tallies none some' = none (λ same. absurd (let h = same in cc))
+      shown_by Len c ts all_tallies none some' = none (λ same. absurd (let h = same in cc))
       shown_by Tally c ts all_tallies none some' = some' refl
 
   -- the last machine has the closing values, and nobody holds a token of it
@@ -411,6 +412,7 @@ module _ (bank : BankId) (cpus id : ℕ) (v : View) (words : List ℕ) (seats : 
             (λ tok low. (read_token closed read tok (omega arith)).1 ∙ sym (get_or-map (λ (t : Token). t.generation) last.tokens tok no_token 0 (omega arith)));
         tallies = ext_get_or [] closed.tallies.items (map (λ t. shown_tallies t.law last.cpus t.tallies) last.tokens) (let l = length-map last.tokens (λ (t : Token). shown_tallies t.law last.cpus t.tallies) in omega arith)
             (λ tok low. (read_token closed read tok (omega arith)).2 ∙ sym (get_or-map (λ (t : Token). shown_tallies t.law last.cpus t.tallies) last.tokens tok no_token [] (omega arith)));
+        unrecorded = λ tok d low. subst (λ (t : Token). t.blob ≡ None) (get_or_default last.tokens tok no_token d low) (left.1.0.rule.pictures.each_token tok (omega arith)).no_record.0;
         messages = left.1.0.rule.pictures.no_messages;
       }
 

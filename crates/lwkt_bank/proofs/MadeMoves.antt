@@ -7,7 +7,7 @@ use Rattle.lwkt_base.specs.declared.names.CpuId.{CpuId}
 use Rattle.lwkt_base.specs.declared.names.TokId.{TokId}
 use Rattle.lwkt_base.specs.TokenWord.{word_of}
 use Rattle.lwkt_core.specs.declared.events.Event.{Event}
-use Rattle.lwkt_core.specs.declared.events.Event.TheVariants.{Load, Take, Share, Again, Mark, GiveOne, GiveClean, GiveWritten, Read, Write, Send, TakeMsg, DropMsg, Reply, Reap, Abort}
+use Rattle.lwkt_core.specs.declared.events.Event.TheVariants.{Load, Take, Share, Again, Mark, GiveOne, GiveClean, GiveWritten, Read, Write, ReadBlob, WriteBlob, Send, TakeMsg, DropMsg, Reply, Reap, Abort}
 use Rattle.lwkt_core.specs.declared.events.Place.{Place}
 use Rattle.lwkt_core.specs.declared.events.Place.TheVariants.{AtToken}
 use Rattle.lwkt_core.specs.declared.seats.WordStep.{WordStep}
@@ -73,13 +73,13 @@ decided plans cpus s one other =
     )
 
 pub declared : OpeningIsDeclared
-declared cpus specs within lawful =
-    let x = Told-opening cpus specs within lawful in (
+declared cpus specs within lawful unguarded =
+    let x = Told-opening cpus specs within lawful unguarded in (
       x.0,
       λ told.
           let d = decided _ cpus _ told x.0 in
           let model = d.1 ∙ x.1 in
-          (model, model ∙ sym (first_opening cpus specs within.each_token), d.0 ∙ x.2),
+          (model, model ∙ sym (first_opening cpus specs within.each_token unguarded), d.0 ∙ x.2),
     )
 
 -- what happens at a token of a machine
@@ -124,6 +124,8 @@ cell_place (Mark cpu tok) is = absurd is
 cell_place (GiveOne cpu tok) is = absurd is
 cell_place (GiveClean cpu tok) is = absurd is
 cell_place (GiveWritten cpu tok section) is = absurd is
+cell_place (ReadBlob cpu tok blob) is = absurd is
+cell_place (WriteBlob cpu tok blob) is = absurd is
 cell_place (Send cpu msg to round) is = absurd is
 cell_place (TakeMsg cpu msg round) is = absurd is
 cell_place (DropMsg cpu msg) is = absurd is
@@ -161,6 +163,8 @@ written_cell (Mark cpu t) tok i c at needs differs = absurd (differs refl)
 written_cell (GiveOne cpu t) tok i c at needs differs = absurd (differs refl)
 written_cell (GiveClean cpu t) tok i c at needs differs = absurd (differs refl)
 written_cell (GiveWritten cpu t section) tok i c at needs differs = absurd (differs refl)
+written_cell (ReadBlob cpu t blob) tok i c at needs differs = absurd (differs refl)
+written_cell (WriteBlob cpu t blob) tok i c at needs differs = absurd (differs refl)
 written_cell (Send cpu msg to round) tok i c at needs differs = absurd needs
 written_cell (TakeMsg cpu msg round) tok i c at needs differs = absurd needs
 written_cell (DropMsg cpu msg) tok i c at needs differs = absurd needs
@@ -187,6 +191,8 @@ made_cell (Mark cpu t) i cells tok words words' at needs long before after = tt
 made_cell (GiveOne cpu t) i cells tok words words' at needs long before after = tt
 made_cell (GiveClean cpu t) i cells tok words words' at needs long before after = tt
 made_cell (GiveWritten cpu t section) i cells tok words words' at needs long before after = tt
+made_cell (ReadBlob cpu t blob) i cells tok words words' at needs long before after = tt
+made_cell (WriteBlob cpu t blob) i cells tok words words' at needs long before after = tt
 made_cell (Send cpu msg to round) i cells tok words words' at needs long before after = tt
 made_cell (TakeMsg cpu msg round) i cells tok words words' at needs long before after = tt
 made_cell (DropMsg cpu msg) i cells tok words words' at needs long before after = tt

@@ -1,4 +1,4 @@
-use Rattle.std.proofs.Common.{inl, ◌≡◌, ⊎_elim, ℕ, zero, suc, ◌+◌, ◌*◌, ◌<◌, ◌≤◌, List, [], ◌∷◌, ◌++◌, length, get_or, replicate, refl, ap, sym, ◌∙◌, subst, arith, All, length-append}
+use Rattle.std.proofs.Common.{inl, ◌≡◌, ⊎_elim, ℕ, zero, suc, ◌+◌, ◌*◌, ◌<◌, ◌≤◌, List, [], ◌∷◌, ◌++◌, length, get_or, replicate, refl, ap, sym, ◌∙◌, subst, arith, All, None, length-append}
 use Rattle.std.specs.Prelude.{slice_index}
 use Rattle.std.specs.List.{flat_map}
 use Rattle.std.proofs.lemmas.Bool.{cases_lt, false≢true}
@@ -25,12 +25,12 @@ use Rattle.lwkt_core.specs.Seating.{next_seat}
 use Rattle.lwkt_bank.specs.declared.notes.TokenNote.{TokenNote}
 use Rattle.lwkt_bank.specs.Notes.{seat_number, no_note, IsNoted, Keeps}
 use Rattle.lwkt_bank.specs.Rule.{token_word, cell_word, law_word, param_word, law_number, Seen, column, held_by_kind, Knows, ShowsToken, Rule, plan_at, token_at, no_plan, no_token}
-use Rattle.lwkt_bank.specs.Opened.{plan_of_spec, plans_of, block, opening_words}
+use Rattle.lwkt_bank.specs.Opened.{AreUnguarded, plan_of_spec, plans_of, block, opening_words}
 use Rattle.lwkt_bank.proofs.GatherMoves.{Knows-blank}
 
 -- what stands for a token past the last
 no_spec : TokSpec
-no_spec = record { cells = []; law = Any; param = 0; generation = 0 }
+no_spec = record { cells = []; law = Any; param = 0; generation = 0; blob = None }
 
 -- the words of all tokens, and those of one
 length-blocks : (specs : List TokSpec) → length (flat_map block specs) ≡ 16 * length specs
@@ -68,10 +68,11 @@ cell_in_plan spec (suc (suc (suc zero))) low = refl
 cell_in_plan spec (suc (suc (suc (suc i)))) low = absurd (omega arith)
 
 -- a token at the opening
-Shows-opening : (plans : List Plan) (spec : TokSpec) (t word : ℕ) (cells : ℕ → ℕ) → length spec.cells ≤ 4 → word ≡ one_generation * spec.generation → ((i : ℕ) → i < length spec.cells → cells i ≡ slice_index spec.cells i)
+Shows-opening : (plans : List Plan) (spec : TokSpec) (t word : ℕ) (cells : ℕ → ℕ) → length spec.cells ≤ 4 → spec.blob ≡ None → word ≡ one_generation * spec.generation → ((i : ℕ) → i < length spec.cells → cells i ≡ slice_index spec.cells i)
     → ShowsToken (plan_of_spec spec) (get_elem? [] t) word cells (column t (first_view plans ∷ [])) (opened_token spec)
-Shows-opening plans spec t word cells short is rows = record {
+Shows-opening plans spec t word cells short unguarded is rows = record {
   no_slot = refl;
+  no_record = (unguarded, unguarded);
   law = refl;
   param = refl;
   long = refl;
@@ -86,8 +87,8 @@ Shows-opening plans spec t word cells short is rows = record {
 }
 
 -- the rule at the opening
-rule_opening : (cpus : ℕ) (specs : List TokSpec) → AreWithin cpus specs [] → AllOpenLawfully specs → Rule (plans_of specs) cpus (table_opening (opening_words specs) [] (first_view (plans_of specs)))
-rule_opening cpus specs within lawful = record {
+rule_opening : (cpus : ℕ) (specs : List TokSpec) → AreWithin cpus specs [] → AllOpenLawfully specs → AreUnguarded specs → Rule (plans_of specs) cpus (table_opening (opening_words specs) [] (first_view (plans_of specs)))
+rule_opening cpus specs within lawful unguarded = record {
   model = opening cpus specs [];
   safe = IsSafe-opening cpus specs [] within lawful;
   pictures = record {
@@ -101,7 +102,7 @@ rule_opening cpus specs within lawful = record {
         let F : Plan → Type 0 = λ p. ShowsToken p (get_elem? [] t) (slice_index (opening_words specs) (token_word t)) (λ i. slice_index (opening_words specs) (cell_word t i)) (column t (first_view (plans_of specs) ∷ [])) (token_at (opening cpus specs []) t) in
         let G : Token → Type 0 = λ k. ShowsToken (plan_of_spec spec) (get_elem? [] t) (slice_index (opening_words specs) (token_word t)) (λ i. slice_index (opening_words specs) (cell_word t i)) (column t (first_view (plans_of specs) ∷ [])) k in
         subst F (sym (get_or-map plan_of_spec specs t no_spec no_plan there)) (subst G (sym (get_or-map opened_token specs t no_spec no_token there))
-        (Shows-opening (plans_of specs) spec t (slice_index (opening_words specs) (token_word t)) (λ i. slice_index (opening_words specs) (cell_word t i)) short
+        (Shows-opening (plans_of specs) spec t (slice_index (opening_words specs) (token_word t)) (λ i. slice_index (opening_words specs) (cell_word t i)) short (unguarded t no_spec there)
         (word_at specs t 0 (token_word t) there (omega arith) (omega arith))
         (λ i low. word_at specs t (1 + i) (cell_word t i) there (omega arith) (omega arith) ∙ cell_in spec i (omega arith))));
   };
@@ -131,9 +132,9 @@ rule_opening cpus specs within lawful = record {
     cell_in spec (suc (suc (suc zero))) low = refl
     cell_in spec (suc (suc (suc (suc i)))) low = absurd (omega arith)
 
-pub Rule-opening : (cpus : ℕ) (specs : List TokSpec) → AreWithin cpus specs [] → AllOpenLawfully specs → (r : Rule (plans_of specs) cpus (table_opening (opening_words specs) [] (first_view (plans_of specs)))) × (r.model ≡ opening cpus specs [])
+pub Rule-opening : (cpus : ℕ) (specs : List TokSpec) → AreWithin cpus specs [] → AllOpenLawfully specs → AreUnguarded specs → (r : Rule (plans_of specs) cpus (table_opening (opening_words specs) [] (first_view (plans_of specs)))) × (r.model ≡ opening cpus specs [])
 unfolding rule_opening
-Rule-opening cpus specs within lawful = (rule_opening cpus specs within lawful, refl)
+Rule-opening cpus specs within lawful unguarded = (rule_opening cpus specs within lawful unguarded, refl)
 
 -- what stands in a plan that is made of an opening
 plan_read : (specs : List TokSpec) (tok : ℕ) → tok < length specs → plan_at (plans_of specs) tok ≡ plan_of_spec (get_or specs tok no_spec)

@@ -23,7 +23,7 @@ use Rattle.lwkt_bank.specs.declared.views.View.{View}
 use Rattle.lwkt_bank.specs.Views.{at, count_from, held_of}
 use Rattle.lwkt_bank.specs.Rule.{Bench, token_word, cell_word, law_word, param_word, Seen, seen_by, column, held_by_kind, Knows, ShowsToken, Rule, plan_at, token_at, no_token}
 use Rattle.lwkt_bank.proofs.ViewMoves.{column-set, column-same, seen-same, references-from}
-use Rattle.lwkt_bank.proofs.ShowMoves.{Turns, Shows-step}
+use Rattle.lwkt_bank.proofs.ShowMoves.{Turns, Shows-step, unrecorded_after}
 
 -- equal words, cells, views and tokens show the same
 pub Shows-move : (plan : Plan) (home : Option (Option (Unit {0}))) (word word' : ℕ) (cells cells' : ℕ → ℕ) (views views' : List Seen) (tok tok' : Token)
@@ -33,6 +33,7 @@ Shows-move plan home word word' cells cells' views views' tok tok' same_word sam
     let G : Token → Type 0 = λ t. ShowsToken plan home word' cells' views t in
     subst F (sym same_views) (subst G (sym same_tok) (record {
       no_slot = shows.no_slot;
+      no_record = shows.no_record;
       law = shows.law;
       param = shows.param;
       long = shows.long;
@@ -126,7 +127,7 @@ module _ (plans : List Plan) (cpus : ℕ) (s : Bench) (r : Rule plans cpus s) wh
     seen_next =
         let stepped_on = Shows-step (plan_at plans tok) (get_elem? s.homes tok) (slice_index s.words (token_word tok)) (λ c. slice_index s.words (cell_word tok c)) (column tok s.views) (token_at r.model tok) id (seen_by tok v) (seen_by tok w) cpu
         (slice_index (slice_set s.words i n) (token_word tok)) (λ c. slice_index (slice_set s.words i n) (cell_word tok c)) (token_after (token_at r.model tok) e)
-        (r.pictures.each_token tok exists') (at_map (seen_by tok) s.views id v here) kind same_kind (apart id v cpu tok here kind) turns in
+        (r.pictures.each_token tok exists') (at_map (seen_by tok) s.views id v here) kind same_kind (apart id v cpu tok here kind) turns (unrecorded_after (token_at r.model tok) e needs (r.pictures.each_token tok exists').no_record) in
         Shows-move (plan_at plans tok) (get_elem? s.homes tok) (slice_index (slice_set s.words i n) (token_word tok)) (slice_index (slice_set s.words i n) (token_word tok)) (λ c. slice_index (slice_set s.words i n) (cell_word tok c)) (λ c. slice_index (slice_set s.words i n) (cell_word tok c))
         (set (column tok s.views) id (seen_by tok w)) (column tok (set s.views id w)) (token_after (token_at r.model tok) e) (get_or (set r.model.tokens tok (token_after (token_at r.model tok) e)) tok no_token)
         refl (λ c h. refl) (column-set tok s.views id w) (get_or-set_same r.model.tokens tok (token_after (token_at r.model tok) e) no_token (there tok exists')) stepped_on

@@ -1,4 +1,4 @@
-use Rattle.std.proofs.Common.{eqb, ◌≡◌, ◌≢◌, ⊎_elim, ℕ, ◌+◌, ◌-◌, ◌%◌, ◌^◌, ◌<◌, ◌≤◌, Bool, true, false, cond, List, [], ◌∷◌, length, set, refl, ap, sym, ◌∙◌, subst, arith, Some, sum, get_or-set_same, get_or-set_other}
+use Rattle.std.proofs.Common.{eqb, ◌≡◌, ◌≢◌, ⊎_elim, ℕ, ◌+◌, ◌-◌, ◌%◌, ◌^◌, ◌<◌, ◌≤◌, Bool, true, false, cond, List, [], ◌∷◌, length, set, refl, ap, sym, ◌∙◌, subst, arith, Option, Some, sum, get_or-set_same, get_or-set_other}
 use Rattle.std.specs.Prelude.{slice_index, slice_set, slice_get, bit_or}
 use Rattle.std.proofs.lemmas.List.{set-get_or}
 use Rattle.std.proofs.lemmas.Option.{slice_get-get_or}
@@ -15,12 +15,12 @@ use Rattle.lwkt_base.specs.declared.names.TokId.{TokId}
 use Rattle.lwkt_base.specs.declared.names.Mode.{Mode}
 use Rattle.lwkt_base.specs.declared.names.Mode.TheVariants.{Exclusive, Shared}
 use Rattle.lwkt_base.specs.declared.laws.Law.{Law}
-use Rattle.lwkt_base.specs.declared.laws.Law.TheVariants.{Any, Sum, Order, Cap, Tally}
+use Rattle.lwkt_base.specs.declared.laws.Law.TheVariants.{Any, Sum, Order, Cap, Tally, Len}
 use Rattle.lwkt_base.specs.declared.holdings.Held.TheVariants.{Nothing, Holds}
 use Rattle.lwkt_base.specs.declared.words.TokWord.{TokWord}
 use Rattle.lwkt_base.specs.declared.words.Decision.TheVariants.{Take as Takes}
 use Rattle.lwkt_base.specs.Holding.{is_exclusive, is_held}
-use Rattle.lwkt_base.specs.Law.{MeetsLaw, IsTallied}
+use Rattle.lwkt_base.specs.Law.{MeetsLaw, Obeys, IsTallied}
 use Rattle.lwkt_base.specs.TokenWord.{word_of, Fits, decision}
 use Rattle.lwkt_core.specs.declared.seats.SeatKind.TheVariants.{Of}
 use Rattle.lwkt_core.specs.declared.seats.Deed.{Deed}
@@ -30,7 +30,7 @@ use Rattle.lwkt_core.specs.declared.events.Event.{Event}
 use Rattle.lwkt_core.specs.declared.events.Event.TheVariants.{Load, Take, Share, Again, Mark, GiveOne, GiveClean, GiveWritten, Read, Write}
 use Rattle.lwkt_core.specs.declared.events.Place.TheVariants.{AtToken}
 use Rattle.lwkt_core.specs.Events.{cpu_of, place_of, adds_reference}
-use Rattle.lwkt_core.specs.Tokens.{tally_of, IsNotLastExclusive, MayWrite, section_at, TokenNeeds, token_after}
+use Rattle.lwkt_core.specs.Tokens.{tally_of, length_of, IsClean, IsLawful, IsNotLastExclusive, MayWrite, section_at, TokenNeeds, token_after}
 use Rattle.lwkt_core.specs.Picture.{picture_of}
 use Rattle.lwkt_core.specs.Machine.{Happens}
 use Rattle.lwkt_core.proofs.MachineMoves.{references_le}
@@ -118,6 +118,7 @@ module _ (plans : List Plan) (cpus id : ℕ) (v : View) (tok : ℕ) (kind : v.ki
           held = sym (held_there plans cpus s r id v cpu tok here kind exists');
           opening = shows.opening;
           knows = knows_there plans cpus s r id v tok here exists';
+          no_record = shows.no_record;
         }
 
     -- a step on the count word
@@ -285,7 +286,7 @@ module _ (plans : List Plan) (cpus id : ℕ) (v : View) (tok : ℕ) (kind : v.ki
       let notes = sub tok 1 x ∷ [] in
       let own = m.knows.holder (ap is_held last) in
       let room = room_clean r.model.cpus (plan_at plans tok) (token_at r.model tok) cpu e x (cells s r here) m last in
-      let a = word_step s r here (less e) between notes (x - 1) (GiveClean cpu t) (at-tok v.tokens tok) refl refl (sym m.held ∙ last, sym own.2 ∙ clean ∙ own.1) (λ adds. absurd (false≢true adds))
+      let a = word_step s r here (less e) between notes (x - 1) (GiveClean cpu t) (at-tok v.tokens tok) refl refl (sym m.held ∙ last, (sym own.2 ∙ clean ∙ own.1, m.no_record.0 ∙ sym m.no_record.1)) (λ adds. absurd (false≢true adds))
       (turns_give_clean r.model.cpus (plan_at plans tok) (token_at r.model tok) cpu e x (cells s r here) m last t (x - 1) (omega arith)) in
       let b = left_as s r here (noted between v (less e) (deed_by cpu (GiveClean cpu t) notes)) (GiveClean cpu t) (x - 1) ((x + (2 ^ 64 - 1)) % 2 ^ 64) (omega arith) a in
       (less e, (b.0, (b.1, refl)))
@@ -303,7 +304,9 @@ module _ (plans : List Plan) (cpus id : ℕ) (v : View) (tok : ℕ) (kind : v.ki
       let G : ℕ → Type 0 = λ p. MeetsLaw (plan_at plans tok).law p tk.row in
       let H : List ℕ → Type 0 = λ row. MeetsLaw (plan_at plans tok).law (plan_at plans tok).param row in
       let meets : MeetsLaw tk.law tk.param tk.row = subst F (sym m.law) (subst G (sym m.param) (subst H own.2 lawful)) in
-      let a = word_step s r here (ended e) between notes (x + one_section) (GiveWritten cpu t (section_of tok e)) (at-tok v.tokens tok) refl refl (sym m.held ∙ last, (λ same. written (own.2 ∙ same ∙ sym own.1)), meets, section_known t e tk own.0 own.1 own.2) (λ adds. absurd (false≢true adds))
+      let K : Option (List ℕ) → Type 0 = λ b. Obeys tk.law tk.param tk.row (length_of b) in
+      let obeys : IsLawful tk = subst K (sym m.no_record.0) meets in
+      let a = word_step s r here (ended e) between notes (x + one_section) (GiveWritten cpu t (section_of tok e)) (at-tok v.tokens tok) refl refl (sym m.held ∙ last, (λ (unchanged : IsClean tk). written (own.2 ∙ unchanged.0 ∙ sym own.1)), obeys, section_known t e tk own.0 own.1 own.2) (λ adds. absurd (false≢true adds))
       (turns_give_written r.model.cpus (plan_at plans tok) (token_at r.model tok) cpu e x (cells s r here) m last t (section_of tok e)) in
       let b = left_as s r here (noted between v (ended e) (deed_by cpu (GiveWritten cpu t (section_of tok e)) notes)) (GiveWritten cpu t (section_of tok e)) (x + one_section) ((x + one_section) % 2 ^ 64) (omega arith) a in
       (ended e, (b.0, (b.1, (generation_is r.model.cpus (plan_at plans tok) tk cpu e x (cells s r here) m ∙ sym own.0, refl))))
@@ -372,6 +375,7 @@ module _ (plans : List Plan) (cpus id : ℕ) (v : View) (tok : ℕ) (kind : v.ki
       may Sum apart = tt
       may Order apart = tt
       may Cap apart = tt
+      may Len apart = tt
       may Tally apart = absurd (apart refl)
 
   -- a value added to the cell of a Tally token

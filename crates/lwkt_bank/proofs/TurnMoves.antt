@@ -1,4 +1,4 @@
-use Rattle.std.proofs.Common.{eqb, eq-eqb, ne_eqb, ◌≡◌, ◌≢◌, ⊎_elim, ℕ, suc, ◌+◌, ◌-◌, ◌<◌, ◌≤◌, Bool, true, false, cond, List, [], ◌∷◌, length, get_or, set, refl, ap, sym, ◌∙◌, subst, arith, All, Some, length-set, get_or-set_same, get_or-set_other}
+use Rattle.std.proofs.Common.{eqb, eq-eqb, ne_eqb, ◌≡◌, ◌≢◌, ⊎_elim, ℕ, suc, ◌+◌, ◌-◌, ◌<◌, ◌≤◌, Bool, true, false, cond, List, [], ◌∷◌, length, get_or, set, refl, ap, sym, ◌∙◌, subst, arith, All, Option, Some, length-set, get_or-set_same, get_or-set_other}
 use Rattle.std.specs.Prelude.{slice_index, slice_set, slice_get, bit_or}
 use Rattle.std.proofs.lemmas.Bool.{eqb-true, cases_eq, false≢true}
 use Rattle.std.proofs.lemmas.Option.{slice_get-get_or}
@@ -11,25 +11,25 @@ use Rattle.lwkt_base.specs.declared.names.TokId.{TokId}
 use Rattle.lwkt_base.specs.declared.names.Mode.{Mode}
 use Rattle.lwkt_base.specs.declared.names.Mode.TheVariants.{Exclusive, Shared}
 use Rattle.lwkt_base.specs.declared.laws.Law.{Law}
-use Rattle.lwkt_base.specs.declared.laws.Law.TheVariants.{Any, Sum, Order, Cap, Tally}
+use Rattle.lwkt_base.specs.declared.laws.Law.TheVariants.{Any, Sum, Order, Cap, Tally, Len}
 use Rattle.lwkt_base.specs.declared.holdings.Held.{Held}
 use Rattle.lwkt_base.specs.declared.holdings.Held.TheVariants.{Nothing, Holds}
 use Rattle.lwkt_base.specs.declared.words.Decision.TheVariants.{Take as Takes}
 use Rattle.lwkt_base.specs.declared.words.TheConstants.{LAST_GENERATION}
 use Rattle.lwkt_base.specs.Holding.{references_in, is_exclusive, is_held, one_more, one_less}
-use Rattle.lwkt_base.specs.Law.{MeetsLaw}
+use Rattle.lwkt_base.specs.Law.{MeetsLaw, Obeys}
 use Rattle.lwkt_base.specs.TokenWord.{bit, word_of, decision}
 use Rattle.lwkt_base.specs.declared.sections.Section.{Section}
 use Rattle.lwkt_core.specs.declared.tokens.Token.{Token}
 use Rattle.lwkt_core.specs.declared.tokens.TheConstants.{CPU_LIMIT}
 use Rattle.lwkt_core.specs.declared.events.Event.TheVariants.{Take, Share, Again, Mark, GiveOne, GiveClean, GiveWritten, Write}
-use Rattle.lwkt_core.specs.Tokens.{held_by, tally_of, IsFree, IsOpen, IsNotLastExclusive, IsSafeToken, token_after, tallies_after}
+use Rattle.lwkt_core.specs.Tokens.{held_by, length_of, tally_of, IsFree, IsOpen, IsNotLastExclusive, IsSafeToken, token_after, tallies_after}
 use Rattle.lwkt_core.specs.Picture.{counted, picture_of}
 use Rattle.lwkt_bank.specs.declared.views.Plan.{Plan}
 use Rattle.lwkt_bank.specs.declared.views.Added.{Added}
 use Rattle.lwkt_bank.specs.declared.views.TokenEntry.{TokenEntry}
 use Rattle.lwkt_bank.specs.Views.{amount, generation_in, seen, looked, taken, more, less, numbered, ended, read, stored, raised, one_section, one_generation}
-use Rattle.lwkt_bank.specs.Rule.{Knows, IsOpeningRow}
+use Rattle.lwkt_bank.specs.Rule.{Knows, IsUnrecorded, IsOpeningRow}
 use Rattle.lwkt_bank.proofs.WordMoves.{counted-more, exclusive-more, counted-less, exclusive-less, IsOpen-from_picture, picture-open, IsFree-from_picture, count-le, count-set, exclusive-set, exclusive-here, word-room, word-room-written, generation-word, or-marked, decided-exclusive, decided-shared}
 use Rattle.lwkt_bank.proofs.ShowMoves.{IsOthers, Turns}
 
@@ -47,6 +47,7 @@ pub record Sight (cpus : ℕ) (plan : Plan) (tok : Token) (cpu : ℕ) (e : Token
   pub held : e.held ≡ held_by tok cpu
   pub opening : tok.generation ≡ plan.generation → IsOpeningRow plan tok.first
   pub knows : Knows tok e
+  pub no_record : IsUnrecorded tok
 
 -- a look at a generation keeps all but the generation and the known cells
 pub seen-keeps : (e : TokenEntry) (g : ℕ) → ((seen e g).tok ≡ e.tok) × ((seen e g).held ≡ e.held) × ((seen e g).first ≡ e.first) × ((seen e g).row ≡ e.row) × ((seen e g).written ≡ e.written) × ((seen e g).added ≡ e.added) × ((seen e g).generation ≡ g) × ((seen e g).touched ≡ e.touched)
@@ -111,7 +112,7 @@ module _ (cpus : ℕ) (plan : Plan) (tok : Token) (cpu : CpuId) (e : TokenEntry)
 
   -- the row that a holder finds at a take obeys the law
   pub first_lawful : MeetsLaw plan.law plan.param tok.first
-  first_lawful = let F : Law → Type 0 = λ l. MeetsLaw l plan.param tok.first in let G : ℕ → Type 0 = λ p. MeetsLaw tok.law p tok.first in subst F sight.law (subst G sight.param sight.safe.lawful)
+  first_lawful = let F : Law → Type 0 = λ l. MeetsLaw l plan.param tok.first in let G : ℕ → Type 0 = λ p. MeetsLaw tok.law p tok.first in let K : Option (List ℕ) → Type 0 = λ b. Obeys tok.law tok.param tok.first (length_of b) in subst F sight.law (subst G sight.param (subst K sight.no_record.1 sight.safe.lawful))
 
   -- a step that changes only what this processor holds, and the mark
   turns_moved : (h : Held) (mark : Bool) (e' : TokenEntry) (word : ℕ) → word ≡ word_of (picture_of (record tok { holders = set tok.holders cpu.0 h; mark = mark })) → e'.held ≡ h → e'.added ≡ e.added → e'.written ≡ e.written → Knows tok e'
@@ -406,6 +407,7 @@ module _ (cpus : ℕ) (plan : Plan) (tok : Token) (cpu : CpuId) (e : TokenEntry)
       untouched Sum apart tallies c k = refl
       untouched Order apart tallies c k = refl
       untouched Cap apart tallies c k = refl
+      untouched Len apart tallies c k = refl
       untouched Tally apart tallies c k = absurd (apart refl)
 
   -- a value added to the cell of a Tally token

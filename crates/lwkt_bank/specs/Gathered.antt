@@ -1,4 +1,4 @@
-use Rattle.std.specs.Prelude.{◌≡◌, ◌≢◌, ℕ, ◌+◌, ◌<◌, ◌≤◌, List, [], ◌∷◌, length, map, All, Some, slice_get, slice_index, slice_index_or, sum, zip}
+use Rattle.std.specs.Prelude.{◌≡◌, ◌≢◌, ℕ, ◌+◌, ◌<◌, ◌≤◌, List, [], ◌∷◌, length, map, All, Some, None, slice_get, slice_index, slice_index_or, sum, zip}
 use Rattle.lwkt_core.specs.declared.seats.SeatKind.TheVariants.{Clerk}
 use Rattle.lwkt_bank.specs.declared.banks.Bank.{Bank}
 use Rattle.lwkt_bank.specs.declared.clerks.ClerkDesk.{ClerkDesk}
@@ -70,12 +70,13 @@ pub record IsClosedToken (plan : Plan) (cpus : ℕ) (seats : List CpuSeat) (tok 
   pub unwritten : generation ≡ plan.generation → IsOpeningRow plan row
   pub all_added : plan.law ≡ Tally → row ≡ (plan.param + sum tallies) ∷ []
 
--- a machine has these closing values, and nobody holds a token of it
+-- a machine has these closing values, and nobody holds a token of it, and none has a record
 pub record Ends (m : Machine) (closed : Closed) : Type 0 where
   pub free : All IsFree m.tokens
   pub rows : closed.rows.items ≡ map (λ tok. tok.row) m.tokens
   pub gens : closed.gens.items ≡ map (λ tok. tok.generation) m.tokens
   pub tallies : closed.tallies.items ≡ map (λ tok. shown_tallies tok.law m.cpus tok.tallies) m.tokens
+  pub unrecorded : All (λ tok. tok.blob ≡ None) m.tokens
   pub messages : m.messages ≡ []
 
 -- one history of all seats: its deeds are done one after another from the machine that was declared to one with the closing

@@ -14,7 +14,7 @@ use Rattle.lwkt_core.specs.declared.seats.SeatKind.TheVariants.{Clerk, Of}
 use Rattle.lwkt_core.specs.declared.seats.Deed.{Deed}
 use Rattle.lwkt_core.specs.declared.seats.WordStep.{WordStep}
 use Rattle.lwkt_core.specs.declared.events.Event.{Event}
-use Rattle.lwkt_core.specs.declared.events.Event.TheVariants.{Load, Take, Share, Again, Mark, GiveOne, GiveClean, GiveWritten, Read, Write, Send, TakeMsg, DropMsg, Reply, Reap, Abort}
+use Rattle.lwkt_core.specs.declared.events.Event.TheVariants.{Load, Take, Share, Again, Mark, GiveOne, GiveClean, GiveWritten, Read, Write, ReadBlob, WriteBlob, Send, TakeMsg, DropMsg, Reply, Reap, Abort}
 use Rattle.lwkt_core.specs.Tokens.{held_by, IsNotLastExclusive}
 use Rattle.lwkt_core.specs.Machine.{Machine, IsSafe}
 use Rattle.lwkt_core.specs.Opening.{opening, AreWithin, AllOpenLawfully}
@@ -26,7 +26,7 @@ use Rattle.lwkt_bank.specs.declared.seats.CpuSeat.{CpuSeat}
 use Rattle.lwkt_bank.specs.Views.{one_section, section_of, at, who, page_of, named, count_from, held_of, exchange, first_view, clerk_after, new_seat, joined, spent}
 use Rattle.lwkt_bank.specs.Deeds.{deed_by, loads, adds_one, marks, gives_one, gives_clean, gives_written, reads, writes}
 use Rattle.lwkt_bank.specs.Rule.{Bench, token_word, cell_word, plan_at, token_at, Knows, Pictures}
-use Rattle.lwkt_bank.specs.Opened.{plans_of, opening_words}
+use Rattle.lwkt_bank.specs.Opened.{AreUnguarded, plans_of, opening_words}
 use Rattle.lwkt_bank.specs.Told.{IsOperation, IsDone, first_machine, Told, Deeds}
 use Rattle.lwkt_bank.specs.Plays.{Amid, Looks, Exchanges, AddsOne, Marks, GivesOne, GivesClean, GivesWritten, ReadsCell, StoresCell, RaisesCell}
 use Rattle.lwkt_bank.specs.Seats.{Decides, past_of, steps_of, events_of}
@@ -55,7 +55,7 @@ ViewsDecide = (plans : List Plan) (cpus : ℕ) (s : Bench) (one other : Told pla
 
 -- the opening table meets the rule, and shows the opening machine, which is the one that is declared, with no deed done
 abbrev pub OpeningIsDeclared : Type 0
-OpeningIsDeclared = (cpus : ℕ) (specs : List TokSpec) → AreWithin cpus specs [] → AllOpenLawfully specs
+OpeningIsDeclared = (cpus : ℕ) (specs : List TokSpec) → AreWithin cpus specs [] → AllOpenLawfully specs → AreUnguarded specs
     → Told (plans_of specs) cpus (table_opening (opening_words specs) [] (first_view (plans_of specs)))
     × ((told : Told (plans_of specs) cpus (table_opening (opening_words specs) [] (first_view (plans_of specs)))) → (told.rule.model ≡ opening cpus specs []) × (told.rule.model ≡ first_machine (plans_of specs) cpus) × (told.chronicle.history ≡ []))
 
@@ -81,6 +81,8 @@ IsCellMade words words' (Mark cpu tok) = Unit {0}
 IsCellMade words words' (GiveOne cpu tok) = Unit {0}
 IsCellMade words words' (GiveClean cpu tok) = Unit {0}
 IsCellMade words words' (GiveWritten cpu tok section) = Unit {0}
+IsCellMade words words' (ReadBlob cpu tok blob) = Unit {0}
+IsCellMade words words' (WriteBlob cpu tok blob) = Unit {0}
 IsCellMade words words' (Send cpu msg to round) = Unit {0}
 IsCellMade words words' (TakeMsg cpu msg round) = Unit {0}
 IsCellMade words words' (DropMsg cpu msg) = Unit {0}

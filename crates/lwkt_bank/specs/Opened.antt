@@ -1,9 +1,13 @@
-use Rattle.std.specs.Prelude.{ℕ, ◌*◌, List, [], ◌∷◌, length, map, slice_index}
+use Rattle.std.specs.Prelude.{◌≡◌, ℕ, ◌*◌, List, [], ◌∷◌, length, map, slice_index, All, None}
 use Rattle.std.specs.List.{flat_map}
 use Rattle.lwkt_base.specs.declared.openings.TokSpec.{TokSpec}
 use Rattle.lwkt_bank.specs.declared.views.Plan.{Plan}
 use Rattle.lwkt_bank.specs.Views.{one_generation}
 use Rattle.lwkt_bank.specs.Rule.{law_number}
+
+-- no token has a record: the bank has no slots for them yet (own)
+abbrev pub AreUnguarded : List TokSpec → Type 0
+AreUnguarded specs = All (λ spec. spec.blob ≡ None) specs
 
 -- what is declared of a token by its opening
 abbrev pub plan_of_spec : TokSpec → Plan

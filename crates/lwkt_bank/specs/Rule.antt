@@ -1,9 +1,9 @@
-use Rattle.std.specs.Prelude.{◌≡◌, ◌⊎◌, ℕ, ◌+◌, ◌*◌, ◌<◌, ◌≤◌, true, false, List, [], ◌∷◌, length, map, All, Some, slice_get, slice_index, slice_index_or}
+use Rattle.std.specs.Prelude.{◌≡◌, ◌⊎◌, ℕ, ◌+◌, ◌*◌, ◌<◌, ◌≤◌, true, false, List, [], ◌∷◌, length, map, All, Some, None, slice_get, slice_index, slice_index_or}
 use mathlib.Core.Option.{Option, some, none}
 use lib.ListN.{get_elem?}
 use Rattle.atomic_table.specs.Table.{State}
 use Rattle.lwkt_base.specs.declared.laws.Law.{Law}
-use Rattle.lwkt_base.specs.declared.laws.Law.TheVariants.{Any, Sum, Order, Cap, Tally}
+use Rattle.lwkt_base.specs.declared.laws.Law.TheVariants.{Any, Sum, Order, Cap, Tally, Len}
 use Rattle.lwkt_base.specs.declared.holdings.Held.{Held}
 use Rattle.lwkt_base.specs.declared.holdings.Held.TheVariants.{Nothing}
 use Rattle.lwkt_base.specs.Holding.{is_held}
@@ -48,6 +48,7 @@ law_number Sum = 1
 law_number Order = 2
 law_number Cap = 3
 law_number Tally = 4
+law_number Len = 5
 
 -- one view, as a token sees it
 pub record Seen : Type 0 where
@@ -78,11 +79,16 @@ pub record Knows (tok : Token) (e : TokenEntry) : Type 0 where
 abbrev pub IsOpeningRow : Plan → List ℕ → Type 0
 IsOpeningRow plan row = (i : ℕ) → i < plan.cells → slice_index row i ≡ slice_index plan.first i
 
+-- the token has no record, nor had one when its section began (own)
+abbrev pub IsUnrecorded : Token → Type 0
+IsUnrecorded tok = (tok.blob ≡ None) × (tok.first_blob ≡ None)
+
 -- words and views show a token of the model: the count word is its picture, the cells are its row, each seat's view has what
 -- its processor holds, nobody else holds the token, what the views added are the tallies, the generation is the opening one
--- plus the written sections of all views, and at the opening generation the first row is the opening row
+-- plus the written sections of all views, and at the opening generation the first row is the opening row; the token has no record
 pub record ShowsToken (plan : Plan) (home : Option (Option (Unit {0}))) (word : ℕ) (cells : ℕ → ℕ) (views : List Seen) (tok : Token) : Type 0 where
   pub no_slot : home ≡ none
+  pub no_record : IsUnrecorded tok
   pub law : tok.law ≡ plan.law
   pub param : tok.param ≡ plan.param
   pub long : length tok.row ≡ plan.cells
@@ -100,7 +106,7 @@ abbrev pub no_plan : Plan
 no_plan = record { generation = 0; param = 0; first = 0 ∷ 0 ∷ 0 ∷ 0 ∷ []; cells = 0; law = Any }
 
 abbrev pub no_token : Token
-no_token = record { law = Any; param = 0; generation = 0; mark = false; row = []; first = []; holders = []; tallies = [] }
+no_token = record { law = Any; param = 0; generation = 0; mark = false; row = []; first = []; blob = None; first_blob = None; holders = []; tallies = [] }
 
 abbrev pub plan_at : List Plan → ℕ → Plan
 plan_at plans tok = slice_index_or plans tok no_plan

@@ -5,7 +5,7 @@ use Rattle.lwkt_base.specs.declared.names.CpuId.{CpuId}
 use Rattle.lwkt_base.specs.declared.names.Mode.{Mode}
 use Rattle.lwkt_base.specs.declared.names.Mode.TheVariants.{Exclusive}
 use Rattle.lwkt_base.specs.declared.laws.Law.{Law}
-use Rattle.lwkt_base.specs.declared.laws.Law.TheVariants.{Any, Sum, Order, Cap, Tally}
+use Rattle.lwkt_base.specs.declared.laws.Law.TheVariants.{Any, Sum, Order, Cap, Tally, Len}
 use Rattle.lwkt_base.specs.declared.holdings.Held.TheVariants.{Holds}
 use Rattle.lwkt_core.specs.Tokens.{IsNotLastExclusive}
 use Rattle.lwkt_base.specs.declared.sections.Section.{Section}
@@ -198,6 +198,7 @@ lawful_loads Any deeds = []
 lawful_loads Sum deeds = deeds
 lawful_loads Order deeds = deeds
 lawful_loads Cap deeds = deeds
+lawful_loads Len deeds = deeds
 lawful_loads Tally deeds = []
 
 -- a row after these values were stored in its cells, from a cell on

@@ -1,11 +1,11 @@
-use Rattle.std.specs.Prelude.{◌≡◌, ◌≢◌, ◌⊎◌, ℕ, ◌<◌, false, List, [], ◌∷◌, ◌++◌, map, replicate, slice_index, take}
+use Rattle.std.specs.Prelude.{◌≡◌, ◌≢◌, ◌⊎◌, ℕ, ◌<◌, false, List, [], ◌∷◌, ◌++◌, map, replicate, slice_index, take, None}
 use mathlib.Core.Option.{some}
 use lib.ListN.{get_elem?}
 use Rattle.atomic_table.specs.Table.{keeps, stepped}
 use Rattle.lwkt_base.specs.declared.holdings.Held.TheVariants.{Nothing}
 use Rattle.lwkt_base.specs.TokenWord.{word_of}
 use Rattle.lwkt_core.specs.declared.events.Event.{Event}
-use Rattle.lwkt_core.specs.declared.events.Event.TheVariants.{Load, Take, Share, Again, Mark, GiveOne, GiveClean, GiveWritten, Read, Write, Send, TakeMsg, DropMsg, Reply, Reap, Abort}
+use Rattle.lwkt_core.specs.declared.events.Event.TheVariants.{Load, Take, Share, Again, Mark, GiveOne, GiveClean, GiveWritten, Read, Write, ReadBlob, WriteBlob, Send, TakeMsg, DropMsg, Reply, Reap, Abort}
 use Rattle.lwkt_core.specs.declared.events.Place.TheVariants.{AtToken}
 use Rattle.lwkt_core.specs.declared.seats.Operation.{Operation}
 use Rattle.lwkt_core.specs.declared.seats.Operation.TheVariants.{Load as Loads, Exchange, Add, Sub, Or}
@@ -34,6 +34,8 @@ IsAtCell (Mark cpu tok) = ⊥
 IsAtCell (GiveOne cpu tok) = ⊥
 IsAtCell (GiveClean cpu tok) = ⊥
 IsAtCell (GiveWritten cpu tok section) = ⊥
+IsAtCell (ReadBlob cpu tok blob) = ⊥
+IsAtCell (WriteBlob cpu tok blob) = ⊥
 IsAtCell (Send cpu msg to round) = ⊥
 IsAtCell (TakeMsg cpu msg round) = ⊥
 IsAtCell (DropMsg cpu msg) = ⊥
@@ -54,6 +56,8 @@ IsOperation (GiveClean cpu tok) operation met = operation ≡ Sub 1
 IsOperation (GiveWritten cpu tok section) operation met = operation ≡ Add one_section
 IsOperation (Read cpu tok cell value) operation met = ⊥
 IsOperation (Write cpu tok cell value) operation met = ⊥
+IsOperation (ReadBlob cpu tok blob) operation met = ⊥
+IsOperation (WriteBlob cpu tok blob) operation met = ⊥
 IsOperation (Send cpu msg to round) operation met = ⊥
 IsOperation (TakeMsg cpu msg round) operation met = ⊥
 IsOperation (DropMsg cpu msg) operation met = ⊥
@@ -84,7 +88,7 @@ pub record IsDone (m : Machine) (d : Deed) (n : Machine) : Type 0 where
 
 -- a token as it is declared: nobody holds it, it has no mark, and nothing is added yet
 abbrev pub first_token : Plan → Token
-first_token plan = record { law = plan.law; param = plan.param; generation = plan.generation; mark = false; row = take plan.cells plan.first; first = take plan.cells plan.first; holders = replicate CPU_LIMIT Nothing; tallies = replicate CPU_LIMIT 0 }
+first_token plan = record { law = plan.law; param = plan.param; generation = plan.generation; mark = false; row = take plan.cells plan.first; first = take plan.cells plan.first; blob = None; first_blob = None; holders = replicate CPU_LIMIT Nothing; tallies = replicate CPU_LIMIT 0 }
 
 -- the machine that is declared
 abbrev pub first_machine : List Plan → ℕ → Machine

@@ -3,7 +3,7 @@ ghost use Rattle.std.specs.Prelude.{◌≡◌, ◌⊎◌, ◌↔◌, ℕ, ◌+�
 ghost use Rattle.lwkt_core.specs.Opening.{IsTokenWithin, AreWithin, AllOpenLawfully};
 ghost use Rattle.lwkt_bank.specs.Notes.{no_note};
 ghost use Rattle.lwkt_bank.specs.Views.{blank, clerk_after, new_seat};
-ghost use Rattle.lwkt_bank.specs.Opened.{plans_of, opening_words};
+ghost use Rattle.lwkt_bank.specs.Opened.{AreUnguarded, plans_of, opening_words};
 ghost use Rattle.lwkt_bank.specs.Seats.{id_of_desk, bank_of, entry, steps_of};
 ghost use Rattle.lwkt_bank.specs.Gathered.{HasMade, IsNew, AreHandedOut, IsOpened};
 
@@ -17,7 +17,7 @@ use crate::seats::CpuSeat;
 use crate::views::View;
 use atomic_table::{Seat, Table};
 use lwkt_base::{CpuId, Fault, TokSpec};
-use lwkt_core::SeatKind;
+use lwkt_core::{SeatKind, all_open_lawfully};
 use std::alloc::{AllocError, Global};
 
 // What a seat keeps at the opening.
@@ -53,6 +53,7 @@ impl ClerkDesk {
     ) -> Result<ClerkDesk, AllocError>
         requires within { AreWithin key.cpus specs.now [] }
         requires lawful { AllOpenLawfully specs.now }
+        requires unguarded { AreUnguarded specs.now }
         requires plans { key.plans.items ≡ plans_of specs.now }
         requires words { words.now ≡ opening_words specs.now }
         ensures { IfOk result (λ desk. (desk.key ≡ key) × HasMade desk 0) }
@@ -102,6 +103,7 @@ impl Bank {
     ) -> Result<(Bank, Vec<CpuSeat>), AllocError>
         requires within { AreWithin key.cpus specs.now [] }
         requires lawful { AllOpenLawfully specs.now }
+        requires unguarded { AreUnguarded specs.now }
         requires plans { key.plans.items ≡ plans_of specs.now }
         requires words { words.now ≡ opening_words specs.now }
         requires none { seats.items ≡ [] }
@@ -116,8 +118,8 @@ impl Bank {
     /// Opens a bank of these tokens, with a seat for each processor.
     ///
     /// Refused with `Memory` only if an allocation is; with `Limits` only if a limit is passed: 1 to 8 processors, at most
-    /// 64 tokens, at most 4 cells and exactly 1 under `Law::Tally`, a generation past the last; with `LawBroken` only if an
-    /// opening row breaks its law.
+    /// 64 tokens, at most 4 cells and exactly 1 under `Law::Tally`, a generation past the last, or a token with a record,
+    /// for which the bank has no slots yet; with `LawBroken` only if an opening row breaks its law.
     pub fn open(
         alloc: Global,
         specs: &[TokSpec],
@@ -125,7 +127,8 @@ impl Bank {
     ) -> Result<(Bank, Vec<CpuSeat>), Fault>
         ensures ok { IfOk result (λ opened. IsOpened cpus specs.now opened.0 opened.1.items) }
         ensures within { OnOk result (AreWithin cpus specs.now [] × AllOpenLawfully specs.now) }
-        ensures limits { result ≡ Err Fault.Limits → ¬ AreWithin cpus specs.now [] }
+        ensures unguarded { OnOk result (AreUnguarded specs.now) }
+        ensures limits { result ≡ Err Fault.Limits → ¬ (AreWithin cpus specs.now [] × AreUnguarded specs.now) }
         ensures broken { result ≡ Err Fault.LawBroken → AreWithin cpus specs.now [] × ¬ AllOpenLawfully specs.now }
         ensures only { IfErr result (λ f. (f ≡ Fault.Memory) ⊎ ((f ≡ Fault.Limits) ⊎ (f ≡ Fault.LawBroken))) }
     {
@@ -134,7 +137,10 @@ impl Bank {
         if !openings::are_within(cpus, specs) {
             return Err(Fault::Limits);
         }
-        if !openings::all_open_lawfully(specs) {
+        if !openings::are_unguarded(specs) {
+            return Err(Fault::Limits);
+        }
+        if !all_open_lawfully(specs) {
             return Err(Fault::LawBroken);
         }
         let words = openings::words_of(alloc, specs).map_err(|_| Fault::Memory)?;

@@ -3,38 +3,26 @@ ghost use Rattle.std.specs.Prelude.{◌≡◌, ◌⊎◌, ◌↔◌, ℕ, ◌+�
 ghost use Rattle.std.specs.List.{flat_map};
 ghost use Rattle.lwkt_core.specs.Opening.{IsTokenWithin, AreWithin, AllOpenLawfully};
 ghost use Rattle.lwkt_bank.specs.Rule.{law_number};
-ghost use Rattle.lwkt_bank.specs.Opened.{plan_of_spec, plans_of, block, opening_words};
+ghost use Rattle.lwkt_bank.specs.Opened.{AreUnguarded, plan_of_spec, plans_of, block, opening_words};
 
 use crate::places::GENERATION;
 use crate::views::Plan;
 use lwkt_base::{LAST_GENERATION, Law, TokSpec};
-use lwkt_core::tokens::CPU_LIMIT;
+use lwkt_core::are_within as model_within;
 use std::alloc::{AllocError, Global};
-
-fn is_token_within(spec: &TokSpec) -> bool
-    ensures { IsTrue result ↔ IsTokenWithin spec.now }
-{
-    let cells = spec.cells.as_slice().len();
-    cells <= 4 && (spec.law != Law::Tally || cells == 1) && spec.generation <= LAST_GENERATION
-}
 
 /// Whether the opening keeps the limits.
 pub(crate) fn are_within(cpus: usize, specs: &[TokSpec]) -> bool
     ensures { IsTrue result ↔ AreWithin cpus specs.now [] }
 {
-    0 < cpus
-        && cpus <= CPU_LIMIT
-        && specs.len() <= 64
-        && specs.iter().all(|spec| is_token_within(spec))
+    model_within(cpus, specs, &[])
 }
 
-/// Whether each opening row obeys its law.
-pub(crate) fn all_open_lawfully(specs: &[TokSpec]) -> bool
-    ensures { IsTrue result ↔ AllOpenLawfully specs.now }
+/// Whether no token has a record.
+pub(crate) fn are_unguarded(specs: &[TokSpec]) -> bool
+    ensures { IsTrue result ↔ AreUnguarded specs.now }
 {
-    specs
-        .iter()
-        .all(|spec| spec.law.holds(spec.cells.as_slice(), spec.param))
+    specs.iter().all(|spec| spec.blob.is_none())
 }
 
 fn cell_or_zero(cells: &[u64], cell: usize) -> u64
@@ -84,6 +72,7 @@ fn law_number(law: Law) -> u64
         Law::Order => 2,
         Law::Cap => 3,
         Law::Tally => 4,
+        Law::Len => 5,
     }
 }
 

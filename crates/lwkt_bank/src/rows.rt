@@ -85,7 +85,8 @@ impl CpuSeat {
     {
         let plan = bank.plan(tok);
         let values = self.row(bank, tok);
-        plan.law.holds_of_section(&values[..plan.cells], plan.param)
+        plan.law
+            .holds_of_section(&values[..plan.cells], plan.param, None)
     }
 
     /// Whether the row obeys the law; under Tally always. That the seat holds the token exclusively is the caller's condition.

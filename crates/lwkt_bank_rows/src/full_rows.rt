@@ -35,6 +35,7 @@ fn spec(alloc: Global, tok: u8) -> Result<TokSpec, AllocError> {
         law,
         param,
         generation: 0,
+        blob: None,
     })
 }
 

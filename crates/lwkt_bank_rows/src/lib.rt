@@ -15,3 +15,5 @@ mod hold_desks;
 mod hold_rows;
 #[cfg(test)]
 mod readers;
+#[cfg(test)]
+mod refused_rows;

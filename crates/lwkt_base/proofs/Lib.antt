@@ -1,2 +1,4 @@
 pub mod RefsLemmas
 pub mod HoldingLemmas
+pub mod BlobLemmas
+mod PartsOfWords

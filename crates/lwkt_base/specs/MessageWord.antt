@@ -1,4 +1,4 @@
-use Rattle.std.specs.Prelude.{◌≡◌, ℕ, ◌+◌, ◌*◌, ◌/◌, ◌%◌, ◌<◌, ◌^◌}
+use Rattle.std.specs.Prelude.{ℕ, ◌+◌, ◌*◌, ◌<◌, ◌^◌}
 use Rattle.lwkt_base.specs.declared.message_words.MsgState.{MsgState}
 use Rattle.lwkt_base.specs.declared.message_words.MsgState.TheVariants.{Rest, Out, With, Back}
 use Rattle.lwkt_base.specs.declared.message_words.MsgWord.{MsgWord}
@@ -11,15 +11,11 @@ state_number Out = 1
 state_number With = 2
 state_number Back = 3
 
--- the word of a message: state, abort request, MSGF_SYNC, MSGF_DROPABLE, MSGF_ABORTABLE, a bit that is 0, origin, target,
--- round (flags of msgport(9); the places are own)
+-- the word of a message: state, abort request, MSGF_SYNC, MSGF_DROPABLE, MSGF_ABORTABLE, MSGF_PRIORITY, origin, target, round
+-- (flags of msgport(9); the places are own)
 abbrev pub message_word : MsgWord → ℕ
-message_word w = state_number w.state + 4 * bit w.aborted + 8 * bit w.sync + 16 * bit w.dropable + 32 * bit w.abortable + 128 * w.origin.0 + 1024 * w.target.0 + 8192 * w.round
+message_word w = state_number w.state + 4 * bit w.aborted + 8 * bit w.sync + 16 * bit w.dropable + 32 * bit w.abortable + 64 * bit w.priority + 128 * w.origin.0 + 1024 * w.target.0 + 8192 * w.round
 
 -- the parts have room in their bits
 abbrev pub MessageFits : MsgWord → Type 0
 MessageFits w = (w.origin.0 < 8) × (w.target.0 < 8) × (w.round < 2 ^ 51)
-
--- bit 6 of the word, which no part has yet, is 0 (own)
-abbrev pub IsMessageWord : ℕ → Type 0
-IsMessageWord word = word / 64 % 2 ≡ 0

@@ -2,6 +2,7 @@
 #![tactic(auto)]
 
 pub mod asks;
+pub mod blobs;
 pub mod cells;
 pub mod entries;
 pub mod faults;
@@ -20,6 +21,7 @@ pub mod threads;
 pub mod words;
 
 pub use asks::{Answer, Ask, Item};
+pub use blobs::Blob;
 pub use cells::Cells;
 pub use entries::Entry;
 pub use faults::Fault;

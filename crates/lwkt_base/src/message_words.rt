@@ -1,4 +1,4 @@
-ghost use Rattle.std.specs.Prelude.{◌≡◌, ◌+◌, ◌*◌, ◌/◌, ◌%◌, ◌<◌, ◌^◌};
+ghost use Rattle.std.specs.Prelude.{◌≡◌, ◌+◌, ◌*◌, ◌%◌, ◌<◌, ◌^◌};
 
 use crate::names::CpuId;
 
@@ -16,7 +16,7 @@ pub enum MsgState {
 }
 
 /// The parts of a message's word (flags of msgport(9); the layout is own). From the lowest bit: 2 bits of state, the abort
-/// request, MSGF_SYNC, MSGF_DROPABLE, MSGF_ABORTABLE, a bit that is 0, 3 bits of origin, 3 bits of target, 51 bits of round.
+/// request, MSGF_SYNC, MSGF_DROPABLE, MSGF_ABORTABLE, MSGF_PRIORITY, 3 bits of origin, 3 bits of target, 51 bits of round.
 #[derive(Clone, Copy, Debug, PartialEq, Eq)]
 pub struct MsgWord {
     /// The opening round plus the sends: 0 to 2251799813685247.
@@ -34,6 +34,8 @@ pub struct MsgWord {
     pub dropable: bool,
     /// Whether the origin may ask for the message to be aborted.
     pub abortable: bool,
+    /// Whether ports serve the message before those without this flag.
+    pub priority: bool,
 }
 
 impl MsgState {
@@ -65,11 +67,11 @@ impl MsgState {
 }
 
 impl MsgWord {
-    ghost use Rattle.lwkt_base.specs.MessageWord.{message_word, MessageFits, IsMessageWord};
+    ghost use Rattle.lwkt_base.specs.MessageWord.{message_word, MessageFits};
 
-    /// The parts of a word. Each word whose bit 6 is 0 has parts, and they are the only ones that fit.
+    /// The parts of a word. Each word has parts, and they are the only ones that fit.
     pub fn parts(word: u64) -> MsgWord
-        ensures undone { IsMessageWord word → message_word result ≡ word }
+        ensures undone { message_word result ≡ word }
         ensures fits { MessageFits result }
         ensures only { (w : MsgWord) → MessageFits w → message_word w ≡ word → result ≡ w }
     {
@@ -82,6 +84,7 @@ impl MsgWord {
             sync: word / 8 % 2 == 1,
             dropable: word / 16 % 2 == 1,
             abortable: word / 32 % 2 == 1,
+            priority: word / 64 % 2 == 1,
         }
     }
 
@@ -95,6 +98,7 @@ impl MsgWord {
             + 8 * u64::from(self.sync)
             + 16 * u64::from(self.dropable)
             + 32 * u64::from(self.abortable)
+            + 64 * u64::from(self.priority)
             + 128 * u64::from(self.origin.0)
             + 1024 * u64::from(self.target.0)
             + 8192 * self.round

@@ -21,4 +21,6 @@ pub struct Flags {
     pub dropable: bool,
     /// The origin may ask for the message to be aborted.
     pub abortable: bool,
+    /// The ports that the message comes to serve it before messages without this flag (MSGF_PRIORITY).
+    pub priority: bool,
 }

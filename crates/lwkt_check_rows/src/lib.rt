@@ -8,6 +8,8 @@ mod changes;
 #[cfg(test)]
 mod outputs;
 #[cfg(test)]
+mod record_rows;
+#[cfg(test)]
 mod rows;
 #[cfg(test)]
 mod run_changes;

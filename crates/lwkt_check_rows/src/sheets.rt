@@ -4,7 +4,7 @@ use lwkt_base::{
     Answer, Ask, Cells, CpuId, Entry, Fault, Law, MsgSpec, ThreadId, ThreadState, TokSpec,
 };
 use lwkt_core::{Event, State};
-use lwkt_verdict::{Poll, ThreadEnd, ThreadPlan, Turn, is_script_run};
+use lwkt_verdict::{Pace, Poll, ThreadEnd, ThreadPlan, Turn, is_script_run};
 use std::alloc::{AllocError, Global};
 
 /// A run by hand.
@@ -58,6 +58,7 @@ impl Sheet {
             law,
             param,
             generation: 0,
+            blob: None,
         })?;
         Ok(())
     }
@@ -118,6 +119,18 @@ impl Sheet {
         self.turn(None, events)
     }
 
+    // The order of the turns, in rounds.
+    fn order(&self, alloc: Global) -> Result<Vec<u8>, Fault> {
+        let mut order = Vec::new(alloc);
+        for k in 0..self.turns.len() {
+            let cpu = if self.cpus == 0 { 0 } else { k % self.cpus };
+            if order.push(u8::try_from(cpu).unwrap_or(0)).is_err() {
+                return Err(Fault::Memory);
+            }
+        }
+        Ok(order)
+    }
+
     /// Whether this is a run of its script.
     pub fn is_run(&self, alloc: Global) -> Result<bool, Fault> {
         let opening = State::open(
@@ -126,9 +139,11 @@ impl Sheet {
             self.messages.as_slice(),
             self.cpus,
         )?;
+        let order = self.order(alloc)?;
         Ok(is_script_run(
             self.plans.as_slice(),
-            self.limit,
+            Pace::Rounds(self.limit),
+            order.as_slice(),
             opening,
             self.polls.as_slice(),
             self.turns.as_slice(),

@@ -25,6 +25,7 @@ pub record AreValues (closing : Closing) (last : Final) : Type 0 where
   pub gens : last.gens.items ≡ closing.gens
   pub tallies : last.tallies.items ≡ closing.tallies
   pub messages : last.messages.items ≡ closing.messages
+  pub blobs : last.blobs.items ≡ closing.blobs
 
 -- these are the closing values that a trace gives, or none where it gives none
 abbrev pub AreClosing : Option Closing → Option Final → Type 0

@@ -1,6 +1,7 @@
 use crate::holdings::show_holders;
-use crate::words::show_owner;
-use lwkt_base::{Law, MsgEnd, MsgId, TokId};
+use crate::words::{show_owner, show_record};
+use lwkt_base::blobs::are_same;
+use lwkt_base::{Blob, Law, MsgEnd, MsgId, TokId};
 use lwkt_core::{Final, Message, State, Token};
 use lwkt_trace::words::show_numbers;
 use std::alloc::{AllocError, Global};
@@ -40,10 +41,11 @@ fn show_token(
     token: &Token,
     last: &Final,
 ) -> Result<bool, AllocError> {
-    let (Some(row), Some(generation), Some(tallies)) = (
+    let (Some(row), Some(generation), Some(tallies), Some(blob)) = (
         last.rows.get(place),
         last.gens.get(place),
         last.tallies.get(place),
+        last.blobs.get(place),
     ) else {
         return Ok(false);
     };
@@ -67,8 +69,25 @@ fn show_token(
         out.push_str(" and not")?;
         show_numbers(out, tallies.as_slice())?;
     } else {
+        return show_other_record(out, place, token, blob);
+    }
+    Ok(true)
+}
+
+// Appends how a token's record differs from the closing one, if it does, and says whether it does.
+fn show_other_record(
+    out: &mut String,
+    place: usize,
+    token: &Token,
+    blob: &Option<Blob>,
+) -> Result<bool, AllocError> {
+    if are_same(&token.blob, blob) {
         return Ok(false);
     }
+    write!(out, "token {place}: it has ")?;
+    show_record(out, &token.blob)?;
+    out.push_str(" and not ")?;
+    show_record(out, blob)?;
     Ok(true)
 }
 
@@ -117,6 +136,14 @@ fn show_messages(out: &mut String, state: &State, last: &Final) -> Result<bool, 
     Ok(false)
 }
 
+// Appends how many records were given, where that isn't as many as rows.
+fn show_records_given(out: &mut String, last: &Final) -> Result<(), AllocError> {
+    if last.blobs.len() == last.rows.len() {
+        return Ok(());
+    }
+    write!(out, ", and {} records", last.blobs.len())
+}
+
 /// The line that says which value of the close differs: the first one that does, or how many values were given.
 pub fn difference(alloc: Global, state: &State, last: &Final) -> Result<String, AllocError> {
     let mut out = String::new(alloc);
@@ -130,6 +157,7 @@ pub fn difference(alloc: Global, state: &State, last: &Final) -> Result<String, 
             last.tallies.len(),
             last.messages.len()
         )?;
+        show_records_given(&mut out, last)?;
     }
     out.push_str("\n")?;
     Ok(out)

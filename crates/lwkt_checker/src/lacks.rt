@@ -1,6 +1,7 @@
 use crate::holdings::show_holders;
 use crate::plays::event_told;
-use crate::words::{show_owner, show_section, show_told};
+use crate::words::{show_owner, show_record, show_section, show_told};
+use lwkt_base::Law;
 use lwkt_core::{Event, Lack, Message, State, Token};
 use lwkt_trace::Told;
 use lwkt_trace::words::{Subject, law_name, show_numbers, subject_of};
@@ -12,6 +13,24 @@ fn show_rows(out: &mut String, token: &Token) -> Result<(), AllocError> {
     show_numbers(out, token.row.as_slice())?;
     out.push_str(" and was at the beginning of the section")?;
     show_numbers(out, token.first.as_slice())
+}
+
+// Appends the record and the first record of a token.
+fn show_records(out: &mut String, token: &Token) -> Result<(), AllocError> {
+    out.push_str("it has ")?;
+    show_record(out, &token.blob)?;
+    out.push_str(" and had at the beginning of the section ")?;
+    show_record(out, &token.first_blob)
+}
+
+// Appends that neither the row nor, where there is one, the record of a token has changed.
+fn show_unwritten(out: &mut String, token: &Token) -> Result<(), AllocError> {
+    show_rows(out, token)?;
+    if token.blob.is_some() {
+        out.push_str(", and ")?;
+        show_records(out, token)?;
+    }
+    Ok(())
 }
 
 // Appends the value of the cell that an event is at.
@@ -36,7 +55,13 @@ fn show_broken(out: &mut String, token: &Token) -> Result<(), AllocError> {
         " breaks the law {} {}",
         law_name(token.law),
         token.param
-    )
+    )?;
+    match token.blob {
+        Some(blob) if token.law == Law::Len => {
+            write!(out, ", the record has {} bytes", blob.len())
+        }
+        _ => Ok(()),
+    }
 }
 
 // Appends the section of a token that would end now.
@@ -65,7 +90,15 @@ fn show_token_lack(
             "{} references are held",
             token.held_by(event.cpu()).references()
         ),
-        Lack::RowChanged | Lack::RowUnchanged => show_rows(out, token),
+        Lack::RowChanged => show_rows(out, token),
+        Lack::RowUnchanged => show_unwritten(out, token),
+        Lack::RecordChanged => show_records(out, token),
+        Lack::NoRecord => out.push_str("it has no record"),
+        Lack::OtherRecord => {
+            out.push_str("it has ")?;
+            show_record(out, &token.blob)
+        }
+        Lack::RecordLong => out.push_str("a record has at most 64 bytes"),
         Lack::LawBroken => show_broken(out, token),
         Lack::OtherSection => show_own_section(out, token),
         Lack::NoCell | Lack::OtherValue => show_cell(out, token, event),

@@ -1,7 +1,7 @@
-use lwkt_base::Owner;
+use lwkt_base::{Blob, Owner};
 use lwkt_core::Event;
 use lwkt_trace::Told;
-use lwkt_trace::words::{Subject, event_word, show_numbers, subject_of};
+use lwkt_trace::words::{Subject, event_word, show_bytes, show_numbers, subject_of};
 use std::alloc::AllocError;
 
 // The word of an event, as in a trace, but for a message's taking.
@@ -20,11 +20,34 @@ fn show_place(out: &mut String, event: &Event) -> Result<(), AllocError> {
     }
 }
 
+/// Appends a record: `record 616263`, `record -` where it is empty, `no record` where there is none.
+pub fn show_record(out: &mut String, blob: &Option<Blob>) -> Result<(), AllocError> {
+    match blob {
+        None => out.push_str("no record"),
+        Some(blob) => {
+            out.push_str("record ")?;
+            show_bytes(out, blob)
+        }
+    }
+}
+
+// The record that an event says: one that is too long by its length.
+fn show_told_record(out: &mut String, blob: Blob) -> Result<(), AllocError> {
+    if blob.len() > 64 {
+        return write!(out, ", a record of {} bytes", blob.len());
+    }
+    out.push_str(", ")?;
+    show_record(out, &Some(blob))
+}
+
 // What else an event says.
 fn show_rest(out: &mut String, event: &Event) -> Result<(), AllocError> {
     match *event {
         Event::Read { cell, value, .. } | Event::Write { cell, value, .. } => {
             write!(out, ", cell {}, value {}", cell, value)
+        }
+        Event::ReadBlob { blob, .. } | Event::WriteBlob { blob, .. } => {
+            show_told_record(out, blob)
         }
         Event::Send { to, round, .. } => write!(out, " to {}, round {}", to.0, round),
         Event::TakeMsg { round, .. } => write!(out, ", round {}", round),

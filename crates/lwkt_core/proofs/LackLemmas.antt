@@ -1,6 +1,6 @@
 -- An event that lacks something can't happen.
 use Rattle.std.proofs.Common.{inl, inr, ◌≡◌, ◌↔◌, ◌<◌, ℕ, List, length, refl, sym, ◌∙◌, ap, arith, Option, Some, None, true}
-use Rattle.std.specs.Prelude.{slice_get, MatchOption, IsSomeAnd}
+use Rattle.std.specs.Prelude.{slice_get, MatchOption, IsSomeAnd, is_some}
 use Rattle.std.proofs.lemmas.Option.{slice_get_past}
 use Rattle.std.proofs.lemmas.Bool.{cases_order}
 use Rattle.lwkt_base.specs.declared.holdings.Held.{Held}
@@ -10,7 +10,7 @@ use Rattle.lwkt_core.specs.declared.tokens.Token.{Token}
 use Rattle.lwkt_core.specs.declared.messages.Message.{Message}
 use Rattle.lwkt_core.specs.declared.lacks.Lack.{Lack}
 use Rattle.lwkt_core.specs.declared.events.Event.{Event}
-use Rattle.lwkt_core.specs.declared.events.Event.TheVariants.{Load, Take, Share, Again, Mark, GiveOne, GiveClean, GiveWritten, Read, Write, Send, TakeMsg, DropMsg, Reply, Reap, Abort}
+use Rattle.lwkt_core.specs.declared.events.Event.TheVariants.{Load, Take, Share, Again, Mark, GiveOne, GiveClean, GiveWritten, Read, Write, ReadBlob, WriteBlob, Send, TakeMsg, DropMsg, Reply, Reap, Abort}
 use Rattle.lwkt_core.specs.declared.events.Place.{Place}
 use Rattle.lwkt_core.specs.declared.events.Place.TheVariants.{AtToken, AtMessage}
 use Rattle.lwkt_core.specs.Events.{place_of}
@@ -42,10 +42,12 @@ token_refutes tok (Share cpu t) lack h needs = elim h [ inl x ↦ x.1 needs.0 | 
 token_refutes tok (Again cpu t) lack h needs = h.1 needs
 token_refutes tok (Mark cpu t) lack h needs = h
 token_refutes tok (GiveOne cpu t) lack h needs = elim h [ inl x ↦ x.1 (held_to_give (held_by tok cpu.0) needs) | inr x ↦ x.1.1 needs ]
-token_refutes tok (GiveClean cpu t) lack h needs = elim h [ inl x ↦ x.1 (ap is_exclusive needs.0) | inr y ↦ elim y.1 [ inl x ↦ x.1 needs.0 | inr x ↦ x.1.1 needs.1 ] ]
+token_refutes tok (GiveClean cpu t) lack h needs = elim h [ inl x ↦ x.1 (ap is_exclusive needs.0) | inr y ↦ elim y.1 [ inl x ↦ x.1 needs.0 | inr z ↦ elim z.1 [ inl x ↦ x.1 needs.1.0 | inr x ↦ x.1.1 needs.1.1 ] ] ]
 token_refutes tok (GiveWritten cpu t section) lack h needs = elim h [ inl x ↦ x.1 (ap is_exclusive needs.0) | inr y ↦ elim y.1 [ inl x ↦ x.1 needs.0 | inr z ↦ elim z.1 [ inl x ↦ x.1 needs.1 | inr w ↦ elim w.1 [ inl x ↦ x.1 needs.2 | inr x ↦ x.1.1 needs.3 ] ] ] ]
 token_refutes tok (Read cpu t cell value) lack h needs = elim h [ inl x ↦ x.1 needs.0 | inr y ↦ elim y.1 [ inl x ↦ x.1 (cell_there tok.row cell value needs.1) | inr x ↦ x.1.1 needs.1 ] ]
 token_refutes tok (Write cpu t cell value) lack h needs = elim h [ inl x ↦ x.1 needs.0 | inr y ↦ elim y.1 [ inl x ↦ x.1 needs.1 | inr x ↦ x.1.1 needs.2 ] ]
+token_refutes tok (ReadBlob cpu t blob) lack h needs = elim h [ inl x ↦ x.1 needs.0 | inr y ↦ elim y.1 [ inl x ↦ x.1 (ap is_some needs.1) | inr x ↦ x.1.1 needs.1 ] ]
+token_refutes tok (WriteBlob cpu t blob) lack h needs = elim h [ inl x ↦ x.1 needs.0 | inr y ↦ elim y.1 [ inl x ↦ x.1 needs.1 | inr x ↦ x.1.1 needs.2 ] ]
 token_refutes tok (Send cpu msg to round) lack h needs = needs
 token_refutes tok (TakeMsg cpu msg round) lack h needs = needs
 token_refutes tok (DropMsg cpu msg) lack h needs = needs
@@ -70,6 +72,8 @@ message_refutes cpus msg (GiveClean cpu t) lack h needs = needs
 message_refutes cpus msg (GiveWritten cpu t section) lack h needs = needs
 message_refutes cpus msg (Read cpu t cell value) lack h needs = needs
 message_refutes cpus msg (Write cpu t cell value) lack h needs = needs
+message_refutes cpus msg (ReadBlob cpu t blob) lack h needs = needs
+message_refutes cpus msg (WriteBlob cpu t blob) lack h needs = needs
 
 token_part : (o : Option Token) (e : Event) (lack none : Lack) → MatchOption o (lack ≡ none) (λ tok. TokenLacks tok e lack) → IsSomeAnd o (λ tok. TokenNeeds tok e) → ⊥
 token_part None e lack none h needs = needs

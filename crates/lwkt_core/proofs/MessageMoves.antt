@@ -5,7 +5,7 @@ use Rattle.lwkt_base.specs.declared.owners.Owner.TheVariants.{Rest, Out, With, B
 use Rattle.lwkt_base.specs.declared.openings.MsgSpec.{MsgSpec}
 use Rattle.lwkt_core.specs.declared.messages.Message.{Message}
 use Rattle.lwkt_core.specs.declared.events.Event.{Event}
-use Rattle.lwkt_core.specs.declared.events.Event.TheVariants.{Load, Take, Share, Again, Mark, GiveOne, GiveClean, GiveWritten, Read, Write, Send, TakeMsg, DropMsg, Reply, Reap, Abort}
+use Rattle.lwkt_core.specs.declared.events.Event.TheVariants.{Load, Take, Share, Again, Mark, GiveOne, GiveClean, GiveWritten, Read, Write, ReadBlob, WriteBlob, Send, TakeMsg, DropMsg, Reply, Reap, Abort}
 use Rattle.lwkt_core.specs.Events.{cpu_of}
 use Rattle.lwkt_core.specs.Messages.{IsSafeMessage, MessageNeeds, message_after, MayBeSent, is_away}
 use Rattle.lwkt_core.specs.Opening.{opened_message, IsMessageWithin}
@@ -147,6 +147,8 @@ after_owned cpus msg o (GiveClean cpu tok) s needs = absurd needs
 after_owned cpus msg o (GiveWritten cpu tok section) s needs = absurd needs
 after_owned cpus msg o (Read cpu tok cell value) s needs = absurd needs
 after_owned cpus msg o (Write cpu tok cell value) s needs = absurd needs
+after_owned cpus msg o (ReadBlob cpu tok blob) s needs = absurd needs
+after_owned cpus msg o (WriteBlob cpu tok blob) s needs = absurd needs
 
 -- an event that can happen to a safe message leaves it safe
 pub IsSafeMessage-after : (cpus : ℕ) (msg : Message) (e : Event) → IsSafeMessage cpus msg → MessageNeeds cpus msg e → cpu_of e < cpus → IsSafeMessage cpus (message_after msg e)

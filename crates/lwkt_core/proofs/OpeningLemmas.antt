@@ -1,20 +1,20 @@
-use Rattle.std.proofs.Common.{zero, suc, ◌≡◌, ◌+◌, ℕ, true, false, List, [], ◌∷◌, get_or, refl, ap, sym, ◌∙◌, subst, arith, sum, replicate}
+use Rattle.std.proofs.Common.{zero, suc, ◌≡◌, ◌+◌, ℕ, true, false, Option, List, [], ◌∷◌, get_or, refl, ap, sym, ◌∙◌, subst, arith, sum, replicate}
 use Rattle.std.specs.Prelude.{map}
 use Rattle.std.proofs.lemmas.List.{length-replicate, length-map}
 use Rattle.std.proofs.lemmas.List.Sums.{sum_by-cons}
 use Rattle.std.proofs.lemmas.List.Elements.{All-map}
 use Rattle.lwkt_base.specs.declared.laws.Law.{Law}
-use Rattle.lwkt_base.specs.declared.laws.Law.TheVariants.{Any, Sum, Order, Cap, Tally}
+use Rattle.lwkt_base.specs.declared.laws.Law.TheVariants.{Any, Sum, Order, Cap, Tally, Len}
 use Rattle.lwkt_base.specs.declared.holdings.Held.{Held}
 use Rattle.lwkt_base.specs.declared.holdings.Held.TheVariants.{Nothing}
 use Rattle.lwkt_base.specs.declared.openings.TokSpec.{TokSpec}
 use Rattle.lwkt_base.specs.declared.openings.MsgSpec.{MsgSpec}
 use Rattle.lwkt_base.specs.Holding.{references_in, is_exclusive}
-use Rattle.lwkt_base.specs.Law.{MeetsLaw, OpensLawfully, IsTallied}
+use Rattle.lwkt_base.specs.Law.{Obeys, OpensLawfully, IsTallied}
 use Rattle.lwkt_core.specs.declared.tokens.Token.{Token}
 use Rattle.lwkt_core.specs.declared.tokens.TheConstants.{CPU_LIMIT}
 use Rattle.lwkt_core.specs.declared.messages.Message.{Message}
-use Rattle.lwkt_core.specs.Tokens.{held_by, IsSafeToken, IsExclusiveHolder}
+use Rattle.lwkt_core.specs.Tokens.{held_by, length_of, IsSafeToken, IsExclusiveHolder}
 use Rattle.lwkt_core.specs.Messages.{IsSafeMessage}
 use Rattle.lwkt_core.specs.Machine.{machine, IsSafe, references_of}
 use Rattle.lwkt_core.specs.Opening.{opened_token, opened_message, opening, IsTokenWithin, AreWithin, AllOpenLawfully}
@@ -27,25 +27,27 @@ get_or_replicated (suc n) zero a = refl
 get_or_replicated (suc n) (suc i) a = get_or_replicated n i a
 
 -- a law of openings is the law of sections, and the tallies begin with nothing
-meets_from_opens : (law : Law) (param : ℕ) (cells : List ℕ) → OpensLawfully law param cells → MeetsLaw law param cells
-meets_from_opens Any param cells opens = opens
-meets_from_opens Sum param cells opens = opens
-meets_from_opens Order param cells opens = opens
-meets_from_opens Cap param cells opens = opens
-meets_from_opens Tally param cells opens = tt
+meets_from_opens : (law : Law) (param : ℕ) (cells : List ℕ) (len : Option ℕ) → OpensLawfully law param cells len → Obeys law param cells len
+meets_from_opens Any param cells len opens = opens
+meets_from_opens Sum param cells len opens = opens
+meets_from_opens Order param cells len opens = opens
+meets_from_opens Cap param cells len opens = opens
+meets_from_opens Tally param cells len opens = tt
+meets_from_opens Len param cells len opens = opens
 
-tallied_from_opens : (law : Law) (param : ℕ) (cells tallies : List ℕ) → sum tallies ≡ 0 → OpensLawfully law param cells → IsTallied law param cells tallies
-tallied_from_opens Any param cells tallies none opens = tt
-tallied_from_opens Sum param cells tallies none opens = tt
-tallied_from_opens Order param cells tallies none opens = tt
-tallied_from_opens Cap param cells tallies none opens = tt
-tallied_from_opens Tally param cells tallies none opens = opens ∙ ap (λ c. c ∷ []) (let e : param ≡ param + sum tallies = omega arith in e)
+tallied_from_opens : (law : Law) (param : ℕ) (cells : List ℕ) (len : Option ℕ) (tallies : List ℕ) → sum tallies ≡ 0 → OpensLawfully law param cells len → IsTallied law param cells tallies
+tallied_from_opens Any param cells len tallies none opens = tt
+tallied_from_opens Sum param cells len tallies none opens = tt
+tallied_from_opens Order param cells len tallies none opens = tt
+tallied_from_opens Cap param cells len tallies none opens = tt
+tallied_from_opens Len param cells len tallies none opens = tt
+tallied_from_opens Tally param cells len tallies none opens = opens ∙ ap (λ c. c ∷ []) (let e : param ≡ param + sum tallies = omega arith in e)
 
 -- nobody holds a token at the opening
 held_opened : (spec : TokSpec) (cpu : ℕ) → held_by (opened_token spec) cpu ≡ Nothing
 held_opened spec cpu = get_or_replicated CPU_LIMIT cpu Nothing
 
-IsSafeToken-opened : (cpus : ℕ) (spec : TokSpec) → IsTokenWithin spec → OpensLawfully spec.law spec.param spec.cells → IsSafeToken cpus (opened_token spec)
+IsSafeToken-opened : (cpus : ℕ) (spec : TokSpec) → IsTokenWithin spec → OpensLawfully spec.law spec.param spec.cells (length_of spec.blob) → IsSafeToken cpus (opened_token spec)
 IsSafeToken-opened cpus spec within opens = record {
   eight_holders = length-replicate {A = Held} CPU_LIMIT Nothing;
   eight_tallies = length-replicate {A = ℕ} CPU_LIMIT 0;
@@ -54,8 +56,11 @@ IsSafeToken-opened cpus spec within opens = record {
   same_cells = refl;
   compatible = λ cpu other exclusive differ. held_opened spec other;
   settled = λ opened. refl;
-  lawful = meets_from_opens spec.law spec.param spec.cells opens;
-  tallied = tallied_from_opens spec.law spec.param spec.cells (replicate CPU_LIMIT 0) refl opens;
+  settled_blob = λ opened. refl;
+  short = within.3.short;
+  same_guard = refl;
+  lawful = meets_from_opens spec.law spec.param spec.cells (length_of spec.blob) opens;
+  tallied = tallied_from_opens spec.law spec.param spec.cells (length_of spec.blob) (replicate CPU_LIMIT 0) refl opens;
   in_range = within.2;
   not_worn = λ cpu exclusive. absurd (nobody cpu exclusive);
 }

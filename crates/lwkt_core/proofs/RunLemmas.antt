@@ -11,19 +11,19 @@ use Rattle.lwkt_base.specs.declared.owners.Owner.{Owner}
 use Rattle.lwkt_base.specs.declared.owners.Owner.TheVariants.{Rest, Out, With, Back}
 use Rattle.lwkt_base.specs.declared.laws.Law.{Law}
 use Rattle.lwkt_base.specs.declared.laws.Law.TheVariants.{Tally}
-use Rattle.lwkt_base.specs.Law.{MeetsLaw}
+use Rattle.lwkt_base.specs.Law.{Obeys}
 use Rattle.lwkt_core.specs.declared.tokens.Token.{Token}
 use Rattle.lwkt_core.specs.declared.messages.Message.{Message}
 use Rattle.lwkt_core.specs.declared.events.Event.{Event}
-use Rattle.lwkt_core.specs.declared.events.Event.TheVariants.{Load, Take, Share, Again, Mark, GiveOne, GiveClean, GiveWritten, Read, Write, Send, TakeMsg, DropMsg, Reply, Reap, Abort}
+use Rattle.lwkt_core.specs.declared.events.Event.TheVariants.{Load, Take, Share, Again, Mark, GiveOne, GiveClean, GiveWritten, Read, Write, ReadBlob, WriteBlob, Send, TakeMsg, DropMsg, Reply, Reap, Abort}
 use Rattle.lwkt_core.specs.declared.events.Place.{Place}
 use Rattle.lwkt_core.specs.declared.events.Place.TheVariants.{AtToken, AtMessage}
 use Rattle.lwkt_core.specs.Events.{cpu_of, place_of}
-use Rattle.lwkt_core.specs.Tokens.{tally_of, tallies_after, IsSafeToken, TokenNeeds, token_after}
+use Rattle.lwkt_core.specs.Tokens.{tally_of, tallies_after, length_of, IsClean, IsLawful, IsSafeToken, TokenNeeds, token_after}
 use Rattle.lwkt_core.specs.Messages.{MessageNeeds, message_after, in_out, in_with, owner_taken, owner_replied, IsOutTo, IsOutFrom, IsWith}
 use Rattle.lwkt_core.specs.Machine.{Machine, IsSafe, Needs, PlaceNeeds, Happens, after, after_at}
 use Rattle.lwkt_core.specs.Trace.{Run}
-use Rattle.lwkt_core.specs.Headline.{sends, takes, drops, replies, reaps, takes_or_drops, reaps_or_drops, LiesBetween, MessagesGoRound, EachSendIsAnsweredOnce, AnswersAreOfTheirSend, Section, section_of, ends_written, sections_of, IsChain, SectionsAreChain, RowsStandBetweenSections, RunsAreCompatible, RunsKeepLaws, raise_of, raised_by, TalliesAreRaises, CountsAreEvents}
+use Rattle.lwkt_core.specs.Headline.{sends, takes, drops, replies, reaps, takes_or_drops, reaps_or_drops, LiesBetween, MessagesGoRound, EachSendIsAnsweredOnce, AnswersAreOfTheirSend, Section, section_of, ends_written, sections_of, IsChain, SectionsAreChain, RowsStandBetweenSections, IsRecordChain, RecordsAreChain, RecordsStandBetweenSections, blob_after, blob_after_all, blobs_left, RecordsAreLastWritten, RunsAreCompatible, RunsKeepLaws, raise_of, raised_by, TalliesAreRaises, CountsAreEvents}
 use Rattle.lwkt_core.proofs.MachineMoves.{changed_at, IsSafe_left}
 use Rattle.lwkt_core.proofs.SafetyLemmas.{stays, compatible, unwritten}
 
@@ -482,40 +482,44 @@ at_written : (t : ℕ) (e : Event) → ends_written t e ≡ true → place_of e 
 at_written t (GiveWritten cpu tok section) is = ap (λ (j : ℕ). AtToken j) (eqb-true tok.0 t is)
 at_written t e is = absurd (false≢true is)
 
--- what a token's generation, first row and law are after an event that doesn't end a written section of it
+-- what a token's generation, first row, first record and law are after an event that doesn't end a written section of it
 pub record Stands (tok tok' : Token) : Type 0 where
   pub generation : tok'.generation ≡ tok.generation
   pub first : tok'.first ≡ tok.first
+  pub first_blob : tok'.first_blob ≡ tok.first_blob
   pub law : tok'.law ≡ tok.law
   pub param : tok'.param ≡ tok.param
 
 abbrev stands_here : (tok : Token) → Stands tok tok
-stands_here tok = record { generation = refl; first = refl; law = refl; param = refl }
+stands_here tok = record { generation = refl; first = refl; first_blob = refl; law = refl; param = refl }
 
 stands_after : (t : ℕ) (tok : Token) (e : Event) → place_of e ≡ AtToken t → TokenNeeds tok e → ends_written t e ≡ false → Stands tok (token_after tok e)
 stands_after t tok (GiveWritten cpu k section) at needs none = absurd (false≢true (sym none ∙ eq-eqb k.0 t (ap (λ (p : Place). number_of p) at)))
-stands_after t tok (Load cpu k) at needs none = record { generation = refl; first = refl; law = refl; param = refl }
-stands_after t tok (Take cpu k) at needs none = record { generation = refl; first = refl; law = refl; param = refl }
-stands_after t tok (Share cpu k) at needs none = record { generation = refl; first = refl; law = refl; param = refl }
-stands_after t tok (Again cpu k) at needs none = record { generation = refl; first = refl; law = refl; param = refl }
-stands_after t tok (Mark cpu k) at needs none = record { generation = refl; first = refl; law = refl; param = refl }
-stands_after t tok (GiveOne cpu k) at needs none = record { generation = refl; first = refl; law = refl; param = refl }
-stands_after t tok (GiveClean cpu k) at needs none = record { generation = refl; first = refl; law = refl; param = refl }
-stands_after t tok (Read cpu k cell value) at needs none = record { generation = refl; first = refl; law = refl; param = refl }
-stands_after t tok (Write cpu k cell value) at needs none = record { generation = refl; first = refl; law = refl; param = refl }
+stands_after t tok (Load cpu k) at needs none = record { generation = refl; first = refl; first_blob = refl; law = refl; param = refl }
+stands_after t tok (Take cpu k) at needs none = record { generation = refl; first = refl; first_blob = refl; law = refl; param = refl }
+stands_after t tok (Share cpu k) at needs none = record { generation = refl; first = refl; first_blob = refl; law = refl; param = refl }
+stands_after t tok (Again cpu k) at needs none = record { generation = refl; first = refl; first_blob = refl; law = refl; param = refl }
+stands_after t tok (Mark cpu k) at needs none = record { generation = refl; first = refl; first_blob = refl; law = refl; param = refl }
+stands_after t tok (GiveOne cpu k) at needs none = record { generation = refl; first = refl; first_blob = refl; law = refl; param = refl }
+stands_after t tok (GiveClean cpu k) at needs none = record { generation = refl; first = refl; first_blob = refl; law = refl; param = refl }
+stands_after t tok (Read cpu k cell value) at needs none = record { generation = refl; first = refl; first_blob = refl; law = refl; param = refl }
+stands_after t tok (Write cpu k cell value) at needs none = record { generation = refl; first = refl; first_blob = refl; law = refl; param = refl }
+stands_after t tok (ReadBlob cpu k blob) at needs none = record { generation = refl; first = refl; first_blob = refl; law = refl; param = refl }
+stands_after t tok (WriteBlob cpu k blob) at needs none = record { generation = refl; first = refl; first_blob = refl; law = refl; param = refl }
 stands_after t tok e at needs none = absurd needs
 
 -- what a token is after an event that ends a written section of it
 pub record Moves (tok tok' : Token) : Type 0 where
   pub generation : tok'.generation ≡ tok.generation + 1
   pub first : tok'.first ≡ tok.row
+  pub first_blob : tok'.first_blob ≡ tok.blob
   pub law : tok'.law ≡ tok.law
   pub param : tok'.param ≡ tok.param
-  pub another : tok.row ≢ tok.first
-  pub lawful : MeetsLaw tok.law tok.param tok.row
+  pub another : ¬ IsClean tok
+  pub lawful : IsLawful tok
 
 moves_after : (t : ℕ) (tok : Token) (e : Event) → TokenNeeds tok e → ends_written t e ≡ true → Moves tok (token_after tok e)
-moves_after t tok (GiveWritten cpu k section) needs is = record { generation = refl; first = refl; law = refl; param = refl; another = needs.1; lawful = needs.2 }
+moves_after t tok (GiveWritten cpu k section) needs is = record { generation = refl; first = refl; first_blob = refl; law = refl; param = refl; another = needs.1; lawful = needs.2 }
 moves_after t tok e needs is = absurd (false≢true is)
 
 -- the sections of a list of events, by whether the first one ends one
@@ -529,32 +533,35 @@ no_section t m e events is =
     ap (λ (b : Bool). cond b (map (λ (k : Token). section_of k) (option_to_list (slice_get m.tokens t))) [] ++ sections_of t (after m e) events) is
 
 abbrev IsLawfulSection : Token → Section → Type 0
-IsLawfulSection tok s = (s.left ≢ s.before) × MeetsLaw tok.law tok.param s.left
+IsLawfulSection tok s = (¬ ((s.left ≡ s.before) × (s.kept ≡ s.found))) × Obeys tok.law tok.param s.left (length_of s.kept)
 
 abbrev Chained : Token → List Section → Token → Type 0
-Chained tok sections last = IsChain tok.generation tok.first sections last.generation last.first × All (IsLawfulSection tok) sections
+Chained tok sections last = IsChain tok.generation tok.first sections last.generation last.first × All (IsLawfulSection tok) sections × IsRecordChain tok.first_blob sections last.first_blob
 
 lawful_as : (a b : Token) → b.law ≡ a.law → b.param ≡ a.param → (sections : List Section) → All (IsLawfulSection b) sections → All (IsLawfulSection a) sections
 lawful_as a b law param sections all = All-weaker (IsLawfulSection b) (IsLawfulSection a) one sections all
   where
     one : (s : Section) → IsLawfulSection b s → IsLawfulSection a s
     one s is =
-        let F : ℕ → Type 0 = λ p. MeetsLaw b.law p s.left in
-        let G : Law → Type 0 = λ l. MeetsLaw l a.param s.left in
+        let F : ℕ → Type 0 = λ p. Obeys b.law p s.left (length_of s.kept) in
+        let G : Law → Type 0 = λ l. Obeys l a.param s.left (length_of s.kept) in
         (is.0, subst G law (subst F param is.1))
 
 chain_stands : (tok tok' last : Token) (sections : List Section) → Stands tok tok' → Chained tok' sections last → Chained tok sections last
 chain_stands tok tok' last sections stand rest =
     let F : ℕ → Type 0 = λ g. IsChain g tok'.first sections last.generation last.first in
     let G : List ℕ → Type 0 = λ row. IsChain tok.generation row sections last.generation last.first in
-    (subst G stand.first (subst F stand.generation rest.0), lawful_as tok tok' stand.law stand.param sections rest.1)
+    let K : Option (List ℕ) → Type 0 = λ blob. IsRecordChain blob sections last.first_blob in
+    (subst G stand.first (subst F stand.generation rest.0), lawful_as tok tok' stand.law stand.param sections rest.1, subst K stand.first_blob rest.2)
 
 chain_moves : (tok tok' last : Token) (sections : List Section) → Moves tok tok' → Chained tok' sections last → Chained tok (section_of tok ∷ sections) last
 chain_moves tok tok' last sections move rest =
     let F : ℕ → Type 0 = λ g. IsChain g tok'.first sections last.generation last.first in
-    let G : List ℕ → Type 0 = λ row. IsChain (tok.generation + 1) row sections last.generation last.first in (
+    let G : List ℕ → Type 0 = λ row. IsChain (tok.generation + 1) row sections last.generation last.first in
+    let K : Option (List ℕ) → Type 0 = λ blob. IsRecordChain blob sections last.first_blob in (
       (refl, refl, subst G move.first (subst F move.generation rest.0)),
       All-cons (IsLawfulSection tok) (section_of tok) sections (move.another, move.lawful) (lawful_as tok tok' move.law move.param sections rest.1),
+      (refl, subst K move.first_blob rest.2),
     )
 
 chain_step : (t : ℕ) (m mid : Machine) (e : Event) (events : List Event) (tok tok' last : Token) → slice_get m.tokens t ≡ Some tok → mid ≡ after m e → TokenTurns e t tok tok' → Chained tok' (sections_of t mid events) last → Chained tok (sections_of t m (e ∷ events)) last
@@ -577,13 +584,21 @@ chain_step t m mid e events tok tok' last here is turns rest =
     stood other (inl turned) = subst (λ (x : Token). Stands tok x) (sym turned.1.1) (stands_after t tok e turned.0 turned.1.0 other)
     stood other (inr stays') = subst (λ (x : Token). Stands tok x) (sym stays'.1) (stands_here tok)
 
-pub are_chain : SectionsAreChain
-are_chain m [] n t tok last run here there =
+chained : (m : Machine) (events : List Event) (n : Machine) (t : ℕ) (tok last : Token) → Run m events n → slice_get m.tokens t ≡ Some tok → slice_get n.tokens t ≡ Some last → Chained tok (sections_of t m events) last
+chained m [] n t tok last run here there =
     let same : last ≡ tok = same_Some last tok (sym there ∙ ap (λ (x : Machine). slice_get x.tokens t) run ∙ here) in
-    ((ap (λ (x : Token). x.generation) same, ap (λ (x : Token). x.first) same), All-nil (IsLawfulSection tok))
-are_chain m (e ∷ events) n t tok last run here there =
+    ((ap (λ (x : Token). x.generation) same, ap (λ (x : Token). x.first) same), All-nil (IsLawfulSection tok), ap (λ (x : Token). x.first_blob) same)
+chained m (e ∷ events) n t tok last run here there =
     let left = token_left m run.0 e t tok here run.1.0 in
-    chain_step t m run.0 e events tok left.0 last here run.1.0.1 left.1.1 (are_chain run.0 events n t left.0 last run.1.1 left.1.0 there)
+    chain_step t m run.0 e events tok left.0 last here run.1.0.1 left.1.1 (chained run.0 events n t left.0 last run.1.1 left.1.0 there)
+
+pub are_chain : SectionsAreChain
+are_chain m events n t tok last run here there =
+    let all = chained m events n t tok last run here there in
+    (all.0, all.1)
+
+pub records_chain : RecordsAreChain
+records_chain m events n t tok last run here there = (chained m events n t tok last run here there).2
 
 -- the token that was read is safe
 safe_read : (m : Machine) (t : ℕ) (tok : Token) → IsSafe m → slice_get m.tokens t ≡ Some tok → IsSafeToken m.cpus tok
@@ -594,6 +609,66 @@ rows_stand m events n t tok last safe run here there opened closed =
     let F : List ℕ → Type 0 = λ row. IsChain tok.generation row (sections_of t m events) last.generation last.first in
     let G : List ℕ → Type 0 = λ row. IsChain tok.generation tok.row (sections_of t m events) last.generation row in
     subst G (sym ((safe_read n t last (stays m events n safe run) there).settled closed)) (subst F (sym ((safe_read m t tok safe here).settled opened)) (are_chain m events n t tok last run here there).0)
+
+pub records_stand : RecordsStandBetweenSections
+records_stand m events n t tok last safe run here there opened closed =
+    let F : Option (List ℕ) → Type 0 = λ blob. IsRecordChain blob (sections_of t m events) last.first_blob in
+    let G : Option (List ℕ) → Type 0 = λ blob. IsRecordChain tok.blob (sections_of t m events) blob in
+    subst G (sym ((safe_read n t last (stays m events n safe run) there).settled_blob closed)) (subst F (sym ((safe_read m t tok safe here).settled_blob opened)) (records_chain m events n t tok last run here there))
+
+-- the record of a token after an event at it, and after one elsewhere
+blob_here : (t : ℕ) (tok : Token) (e : Event) → place_of e ≡ AtToken t → TokenNeeds tok e → (token_after tok e).blob ≡ blob_after t tok.blob e
+blob_here t tok (WriteBlob cpu k blob) at needs = sym (ap (λ (b : Bool). cond b (Some blob) tok.blob) (eq-eqb k.0 t (ap (λ (p : Place). number_of p) at)))
+blob_here t tok (Load cpu k) at needs = refl
+blob_here t tok (Take cpu k) at needs = refl
+blob_here t tok (Share cpu k) at needs = refl
+blob_here t tok (Again cpu k) at needs = refl
+blob_here t tok (Mark cpu k) at needs = refl
+blob_here t tok (GiveOne cpu k) at needs = refl
+blob_here t tok (GiveClean cpu k) at needs = refl
+blob_here t tok (GiveWritten cpu k section) at needs = refl
+blob_here t tok (Read cpu k cell value) at needs = refl
+blob_here t tok (Write cpu k cell value) at needs = refl
+blob_here t tok (ReadBlob cpu k blob) at needs = refl
+blob_here t tok e at needs = absurd needs
+
+blob_else : (t : ℕ) (blob : Option (List ℕ)) (e : Event) → place_of e ≢ AtToken t → blob_after t blob e ≡ blob
+blob_else t blob (WriteBlob cpu k new) away = ap (λ (b : Bool). cond b (Some new) blob) (ne_eqb k.0 t (λ same. away (ap (λ (j : ℕ). AtToken j) same)))
+blob_else t blob e away = refl
+
+blob_left : (t : ℕ) (tok tok' : Token) (e : Event) → TokenTurns e t tok tok' → tok'.blob ≡ blob_after t tok.blob e
+blob_left t tok tok' e (inl turned) = ap (λ (x : Token). x.blob) turned.1.1 ∙ blob_here t tok e turned.0 turned.1.0
+blob_left t tok tok' e (inr stays') = ap (λ (x : Token). x.blob) stays'.1 ∙ sym (blob_else t tok.blob e stays'.0)
+
+-- the records that sections leave
+abbrev kept_in : List Section → List (Option (List ℕ))
+kept_in sections = map (λ (s : Section). s.kept) sections
+
+kept_step : (t : ℕ) (m : Machine) (e : Event) (events : List Event) (tok : Token) → slice_get m.tokens t ≡ Some tok → kept_in (sections_of t (after m e) events) ≡ blobs_left t (blob_after t tok.blob e) events → kept_in (sections_of t m (e ∷ events)) ≡ blobs_left t tok.blob (e ∷ events)
+kept_step t m e events tok here rest = ⊎_elim
+    (λ (written : ends_written t e ≡ true).
+    ap kept_in (one_section t m e events tok here written)
+    ∙ ap (λ (bs : List (Option (List ℕ))). tok.blob ∷ bs) rest
+    ∙ ap (λ (b : Bool). cond b (tok.blob ∷ []) [] ++ blobs_left t (blob_after t tok.blob e) events) (sym written))
+    (λ (other : ends_written t e ≡ false).
+    ap kept_in (no_section t m e events other)
+    ∙ rest
+    ∙ ap (λ (b : Bool). cond b (tok.blob ∷ []) [] ++ blobs_left t (blob_after t tok.blob e) events) (sym other))
+    (cases_Bool (ends_written t e))
+
+pub last_written : RecordsAreLastWritten
+last_written m [] n t tok last run here there =
+    let same : last ≡ tok = same_Some last tok (sym there ∙ ap (λ (x : Machine). slice_get x.tokens t) run ∙ here) in
+    (ap (λ (x : Token). x.blob) same, refl)
+last_written m (e ∷ events) n t tok last run here there =
+    let left = token_left m run.0 e t tok here run.1.0 in
+    let rest = last_written run.0 events n t left.0 last run.1.1 left.1.0 there in
+    let one : left.0.blob ≡ blob_after t tok.blob e = blob_left t tok left.0 e left.1.1 in
+    let F : Machine → Type 0 = λ x. kept_in (sections_of t x events) ≡ blobs_left t left.0.blob events in
+    let G : Option (List ℕ) → Type 0 = λ blob. kept_in (sections_of t (after m e) events) ≡ blobs_left t blob events in (
+      rest.0 ∙ ap (λ (blob : Option (List ℕ)). blob_after_all t blob events) one,
+      kept_step t m e events tok here (subst G one (subst F run.1.0.1 rest.1)),
+    )
 
 -- a number in a list, after one of them was raised
 raised_tally : (xs : List ℕ) (i j more : ℕ) → i < length xs → slice_index (set xs i (slice_index xs i + more)) j ≡ slice_index xs j + cond (i == j) more 0
@@ -629,6 +704,8 @@ raised_after t cpu m tok (GiveOne by k) here at needs tally eight low = omega ar
 raised_after t cpu m tok (GiveClean by k) here at needs tally eight low = omega arith
 raised_after t cpu m tok (GiveWritten by k section) here at needs tally eight low = omega arith
 raised_after t cpu m tok (Read by k cell value) here at needs tally eight low = omega arith
+raised_after t cpu m tok (ReadBlob by k blob) here at needs tally eight low = omega arith
+raised_after t cpu m tok (WriteBlob by k blob) here at needs tally eight low = omega arith
 raised_after t cpu m tok e here at needs tally eight low = absurd needs
 
 -- an event elsewhere raises nothing here
@@ -649,6 +726,8 @@ law_stays tok (GiveClean cpu t) = refl
 law_stays tok (GiveWritten cpu t section) = refl
 law_stays tok (Read cpu t cell value) = refl
 law_stays tok (Write cpu t cell value) = refl
+law_stays tok (ReadBlob cpu t blob) = refl
+law_stays tok (WriteBlob cpu t blob) = refl
 law_stays tok e = refl
 
 raise_law : (m : Machine) (e : Event) (t : ℕ) (tok tok' : Token) → TokenTurns e t tok tok' → tok.law ≡ Tally → tok'.law ≡ Tally

@@ -1,15 +1,16 @@
-use Rattle.std.proofs.Common.{suc, inl, inr, ◌≡◌, ◌≢◌, ◌⊎◌, ◌≤◌, ℕ, Bool, true, List, [], ◌∷◌, get_or, refl, sym, ◌∙◌, subst, arith}
+use Rattle.std.proofs.Common.{suc, inl, inr, ◌≡◌, ◌≢◌, ◌⊎◌, ◌≤◌, ℕ, Bool, true, List, [], ◌∷◌, Option, Some, None, get_or, refl, ap, sym, ◌∙◌, subst, arith}
 use Rattle.std.specs.List.{list_any}
 use Rattle.std.specs.Str.{bytes_eq}
 use Rattle.std.proofs.lemmas.Slice.Eq.{bytes_eq-Decides}
 use Rattle.std.proofs.lemmas.Bool.{cases_Bool, or_cases, false≢true}
+use Rattle.std.proofs.lemmas.Option.{same_Some}
 use Rattle.lwkt_base.specs.declared.holdings.Held.TheVariants.{Nothing}
 use Rattle.lwkt_base.specs.Holding.{is_exclusive}
-use Rattle.lwkt_base.specs.Law.{MeetsLaw}
+use Rattle.lwkt_base.specs.Law.{Obeys}
 use Rattle.lwkt_base.specs.declared.owners.Owner.{Owner}
 use Rattle.lwkt_base.specs.declared.owners.Owner.TheVariants.{Rest, Out, With, Back}
 use Rattle.lwkt_core.specs.declared.tokens.Token.{Token}
-use Rattle.lwkt_core.specs.Tokens.{IsOpen, IsExclusiveHolder}
+use Rattle.lwkt_core.specs.Tokens.{IsOpen, IsExclusiveHolder, IsClean, length_of}
 use Rattle.lwkt_core.specs.Machine.{IsSafe}
 use Rattle.lwkt_core.specs.Messages.{in_out, in_with}
 use Rattle.lwkt_core.specs.Safety.{OpeningsAreSafe, RunsStaySafe, HoldersAreCompatible, UnwrittenRowsAreLawful, SendsAreAnsweredOnce}
@@ -57,16 +58,39 @@ same_row xs ys =
       | inr no' ↦ inr (λ same. false≢true (sym no' ∙ decides.1 same))
     ]
 
+-- two records are the same, or not
+same_blob : (one other : Option (List ℕ)) → (one ≡ other) ⊎ (one ≢ other)
+same_blob None None = inl refl
+same_blob None (Some ys) = inr (λ same. let e : None ≡ Some ys = same in cc)
+same_blob (Some xs) None = inr (λ same. let e : Some xs ≡ None = same in cc)
+same_blob (Some xs) (Some ys) = elim (same_row xs ys) [
+  | inl same ↦ inl (ap (λ (zs : List ℕ). Some zs) same)
+  | inr differ ↦ inr (λ same. differ (same_Some xs ys same))
+]
+
+-- nothing is written, or something
+clean_or_not : (tok : Token) → IsClean tok ⊎ (¬ IsClean tok)
+clean_or_not tok = elim (same_row tok.row tok.first) [
+  | inl same ↦ elim (same_blob tok.blob tok.first_blob) [
+    | inl alike ↦ inl (same, alike)
+    | inr differ ↦ inr (λ clean. differ clean.1)
+  ]
+  | inr differ ↦ inr (λ clean. differ clean.0)
+]
+
 pub unwritten : UnwrittenRowsAreLawful
-unwritten cpus tok safe idle = subst (MeetsLaw tok.law tok.param) (sym settled) safe.lawful
+unwritten cpus tok safe idle =
+    let F : List ℕ → Type 0 = λ row. Obeys tok.law tok.param row (length_of tok.blob) in
+    let G : Option (List ℕ) → Type 0 = λ blob. Obeys tok.law tok.param tok.first (length_of blob) in
+    subst F (sym settled.0) (subst G (sym settled.1) safe.lawful)
   where
-    settled : tok.row ≡ tok.first
+    settled : IsClean tok
     settled = elim (holder_or_open tok) [
-      | inl holder ↦ elim (same_row tok.row tok.first) [
-        | inl same ↦ same
-        | inr differ ↦ absurd (idle holder.0 (holder.1, differ))
+      | inl holder ↦ elim (clean_or_not tok) [
+        | inl clean ↦ clean
+        | inr written ↦ absurd (idle holder.0 (holder.1, written))
       ]
-      | inr opened' ↦ safe.settled opened'
+      | inr opened' ↦ (safe.settled opened', safe.settled_blob opened')
     ]
 
 -- a message is in one state at most once

@@ -1,6 +1,6 @@
 use Rattle.std.specs.Prelude.{ℕ, Bool, true, false}
 use Rattle.lwkt_core.specs.declared.events.Event.{Event}
-use Rattle.lwkt_core.specs.declared.events.Event.TheVariants.{Load, Take, Share, Again, Mark, GiveOne, GiveClean, GiveWritten, Read, Write, Send, TakeMsg, DropMsg, Reply, Reap, Abort}
+use Rattle.lwkt_core.specs.declared.events.Event.TheVariants.{Load, Take, Share, Again, Mark, GiveOne, GiveClean, GiveWritten, Read, Write, ReadBlob, WriteBlob, Send, TakeMsg, DropMsg, Reply, Reap, Abort}
 use Rattle.lwkt_core.specs.declared.events.Place.{Place}
 use Rattle.lwkt_core.specs.declared.events.Place.TheVariants.{AtToken, AtMessage}
 
@@ -16,6 +16,8 @@ cpu_of (GiveClean cpu tok) = cpu.0
 cpu_of (GiveWritten cpu tok section) = cpu.0
 cpu_of (Read cpu tok cell value) = cpu.0
 cpu_of (Write cpu tok cell value) = cpu.0
+cpu_of (ReadBlob cpu tok blob) = cpu.0
+cpu_of (WriteBlob cpu tok blob) = cpu.0
 cpu_of (Send cpu msg to round) = cpu.0
 cpu_of (TakeMsg cpu msg round) = cpu.0
 cpu_of (DropMsg cpu msg) = cpu.0
@@ -35,6 +37,8 @@ place_of (GiveClean cpu tok) = AtToken tok.0
 place_of (GiveWritten cpu tok section) = AtToken tok.0
 place_of (Read cpu tok cell value) = AtToken tok.0
 place_of (Write cpu tok cell value) = AtToken tok.0
+place_of (ReadBlob cpu tok blob) = AtToken tok.0
+place_of (WriteBlob cpu tok blob) = AtToken tok.0
 place_of (Send cpu msg to round) = AtMessage msg.0
 place_of (TakeMsg cpu msg round) = AtMessage msg.0
 place_of (DropMsg cpu msg) = AtMessage msg.0
@@ -54,6 +58,8 @@ adds_reference (GiveClean cpu tok) = false
 adds_reference (GiveWritten cpu tok section) = false
 adds_reference (Read cpu tok cell value) = false
 adds_reference (Write cpu tok cell value) = false
+adds_reference (ReadBlob cpu tok blob) = false
+adds_reference (WriteBlob cpu tok blob) = false
 adds_reference (Send cpu msg to round) = false
 adds_reference (TakeMsg cpu msg round) = false
 adds_reference (DropMsg cpu msg) = false

@@ -1,14 +1,14 @@
-use Rattle.std.specs.Prelude.{◌≡◌, ◌≢◌, ℕ, ◌+◌, ◌-◌, ◌≤◌, ◌==◌, if◌then◌else◌, Bool, true, false, ◌&&◌, ◌||◌, List, [], ◌∷◌, ◌++◌, map, All, Contains, count_by, Some, slice_get, slice_index, option_to_list}
+use Rattle.std.specs.Prelude.{◌≡◌, ℕ, ◌+◌, ◌-◌, ◌≤◌, ◌==◌, if◌then◌else◌, Bool, true, false, ◌&&◌, ◌||◌, List, [], ◌∷◌, ◌++◌, map, All, Contains, count_by, Option, Some, slice_get, slice_index, option_to_list}
 use Rattle.std.specs.Option.{option_map_or}
 use Rattle.lwkt_base.specs.declared.names.CpuId.{CpuId}
 use Rattle.lwkt_base.specs.declared.names.MsgId.{MsgId}
 use Rattle.lwkt_base.specs.declared.laws.Law.TheVariants.{Tally}
-use Rattle.lwkt_base.specs.Law.{MeetsLaw, IsTallied}
+use Rattle.lwkt_base.specs.Law.{Obeys, IsTallied}
 use Rattle.lwkt_core.specs.declared.tokens.Token.{Token}
 use Rattle.lwkt_core.specs.declared.messages.Message.{Message}
 use Rattle.lwkt_core.specs.declared.events.Event.{Event}
-use Rattle.lwkt_core.specs.declared.events.Event.TheVariants.{GiveWritten, Write, Send, TakeMsg, DropMsg, Reply, Reap}
-use Rattle.lwkt_core.specs.Tokens.{tally_of, IsOpen}
+use Rattle.lwkt_core.specs.declared.events.Event.TheVariants.{GiveWritten, Write, WriteBlob, Send, TakeMsg, DropMsg, Reply, Reap}
+use Rattle.lwkt_core.specs.Tokens.{tally_of, IsOpen, IsLawful, length_of}
 use Rattle.lwkt_core.specs.Machine.{Machine, IsSafe, after}
 use Rattle.lwkt_core.specs.Trace.{Run}
 use Rattle.lwkt_core.specs.Safety.{IsCompatible, IsWriting}
@@ -17,9 +17,9 @@ use Rattle.lwkt_core.specs.Safety.{IsCompatible, IsWriting}
 abbrev pub GoesThrough : Machine → List Event → Machine → Type 0
 GoesThrough m events mid = (front rest : List Event) × ((events ≡ front ++ rest) × Run m front mid)
 
--- the token's row obeys its declared law, and the cell of a Tally token is the parameter plus what all processors have added
+-- the token's row, with the length of its record, obeys its declared law, and the cell of a Tally token is the parameter plus what all processors have added
 abbrev pub KeepsLaw : Token → Type 0
-KeepsLaw tok = MeetsLaw tok.law tok.param tok.row × IsTallied tok.law tok.param tok.row tok.tallies
+KeepsLaw tok = IsLawful tok × IsTallied tok.law tok.param tok.row tok.tallies
 
 -- a law: in every machine that a run goes through each token has one exclusive holder or only shared ones (token(9))
 abbrev pub RunsAreCompatible : Type 0
@@ -100,14 +100,17 @@ AnswersAreOfTheirSend = (m : Machine) (events : List Event) (n : Machine) (front
     → Run m events n → events ≡ front ++ (Send origin msg to round ∷ (part ++ e ∷ rest)) → All (λ f. sends msg.0 f ≡ false) part
     → (e ≡ TakeMsg cpu msg other → (cpu ≡ to) × (other ≡ round)) × (e ≡ Reply cpu msg → cpu ≡ to)
 
--- a written section of a token: the generation in which it was made, the row that it began with, and the row that it left
+-- a written section of a token: the generation in which it was made, the row that it began with, the row that it left, and the
+-- records likewise
 pub record Section : Type 0 where
   pub generation : ℕ
   pub before : List ℕ
   pub left : List ℕ
+  pub found : Option (List ℕ)
+  pub kept : Option (List ℕ)
 
 abbrev pub section_of : Token → Section
-section_of tok = record { generation = tok.generation; before = tok.first; left = tok.row }
+section_of tok = record { generation = tok.generation; before = tok.first; left = tok.row; found = tok.first_blob; kept = tok.blob }
 
 -- an event ends a written section of a token
 abbrev pub ends_written : ℕ → Event → Bool
@@ -124,12 +127,48 @@ abbrev pub IsChain : ℕ → List ℕ → List Section → ℕ → List ℕ → 
 IsChain generation row [] end_generation end_row = (end_generation ≡ generation) × (end_row ≡ row)
 IsChain generation row (s ∷ sections) end_generation end_row = (s.generation ≡ generation) × (s.before ≡ row) × IsChain (generation + 1) s.left sections end_generation end_row
 
--- a law: the written sections of a token in a run are a chain, and each leaves another row than it began with, and a lawful one (own)
+-- a law: the written sections of a token in a run are a chain, and each leaves another row or another record than it began with,
+-- and lawful ones (own)
 abbrev pub SectionsAreChain : Type 0
 SectionsAreChain = (m : Machine) (events : List Event) (n : Machine) (t : ℕ) (tok last : Token) → Run m events n → slice_get m.tokens t ≡ Some tok → slice_get n.tokens t ≡ Some last
-    → IsChain tok.generation tok.first (sections_of t m events) last.generation last.first × All (λ s. (s.left ≢ s.before) × MeetsLaw tok.law tok.param s.left) (sections_of t m events)
+    → IsChain tok.generation tok.first (sections_of t m events) last.generation last.first × All (λ s. (¬ ((s.left ≡ s.before) × (s.kept ≡ s.found))) × Obeys tok.law tok.param s.left (length_of s.kept)) (sections_of t m events)
 
 -- a law: between written sections the row stands: where nobody holds the token exclusively, it is the row that the last one left
 abbrev pub RowsStandBetweenSections : Type 0
 RowsStandBetweenSections = (m : Machine) (events : List Event) (n : Machine) (t : ℕ) (tok last : Token) → IsSafe m → Run m events n → slice_get m.tokens t ≡ Some tok → slice_get n.tokens t ≡ Some last
     → IsOpen tok → IsOpen last → IsChain tok.generation tok.row (sections_of t m events) last.generation last.row
+
+-- from one record to another: each section begins with the record that the last one left
+abbrev pub IsRecordChain : Option (List ℕ) → List Section → Option (List ℕ) → Type 0
+IsRecordChain blob [] end_blob = end_blob ≡ blob
+IsRecordChain blob (s ∷ sections) end_blob = (s.found ≡ blob) × IsRecordChain s.kept sections end_blob
+
+-- a law: the records of the written sections of a token in a run are a chain too (own)
+abbrev pub RecordsAreChain : Type 0
+RecordsAreChain = (m : Machine) (events : List Event) (n : Machine) (t : ℕ) (tok last : Token) → Run m events n → slice_get m.tokens t ≡ Some tok → slice_get n.tokens t ≡ Some last
+    → IsRecordChain tok.first_blob (sections_of t m events) last.first_blob
+
+-- a law: between written sections the record stands: where nobody holds the token exclusively, it is the one that the last one left
+abbrev pub RecordsStandBetweenSections : Type 0
+RecordsStandBetweenSections = (m : Machine) (events : List Event) (n : Machine) (t : ℕ) (tok last : Token) → IsSafe m → Run m events n → slice_get m.tokens t ≡ Some tok → slice_get n.tokens t ≡ Some last
+    → IsOpen tok → IsOpen last → IsRecordChain tok.blob (sections_of t m events) last.blob
+
+-- the record of a token after an event, and after some: the last one that was written
+abbrev pub blob_after : ℕ → Option (List ℕ) → Event → Option (List ℕ)
+blob_after t blob (WriteBlob cpu tok new) = if tok.0 == t then Some new else blob
+blob_after t blob e = blob
+
+abbrev pub blob_after_all : ℕ → Option (List ℕ) → List Event → Option (List ℕ)
+blob_after_all t blob [] = blob
+blob_after_all t blob (e ∷ events) = blob_after_all t (blob_after t blob e) events
+
+-- the records that the written sections of a token leave: those last written before their ends
+abbrev pub blobs_left : ℕ → Option (List ℕ) → List Event → List (Option (List ℕ))
+blobs_left t blob [] = []
+blobs_left t blob (e ∷ events) = (if ends_written t e then (blob ∷ []) else []) ++ blobs_left t (blob_after t blob e) events
+
+-- a law: the record of a token is the one last written in a run, and each written section leaves the one last written before its
+-- end; where none was written yet, the one that the run began with (own)
+abbrev pub RecordsAreLastWritten : Type 0
+RecordsAreLastWritten = (m : Machine) (events : List Event) (n : Machine) (t : ℕ) (tok last : Token) → Run m events n → slice_get m.tokens t ≡ Some tok → slice_get n.tokens t ≡ Some last
+    → (last.blob ≡ blob_after_all t tok.blob events) × (map (λ s. s.kept) (sections_of t m events) ≡ blobs_left t tok.blob events)

@@ -1,21 +1,20 @@
 -- Which of an event's needs is the first that isn't met (own).
-use Rattle.std.specs.Prelude.{◌≡◌, ◌≢◌, ◌⊎◌, ℕ, ◌+◌, ◌<◌, ◌≤◌, true, length, Option, Some, slice_get, slice_index, MatchOption}
+use Rattle.std.specs.Prelude.{◌≡◌, ◌⊎◌, ℕ, ◌+◌, ◌<◌, ◌≤◌, true, length, Option, Some, slice_get, slice_index, MatchOption}
 use Rattle.lwkt_base.specs.declared.names.Mode.TheVariants.{Exclusive}
 use Rattle.lwkt_base.specs.declared.holdings.Held.TheVariants.{Nothing, Holds}
 use Rattle.lwkt_base.specs.declared.owners.Owner.TheVariants.{Rest}
 use Rattle.lwkt_base.specs.declared.words.TheConstants.{LAST_GENERATION}
-use Rattle.lwkt_base.specs.Law.{MeetsLaw}
 use Rattle.lwkt_core.specs.declared.tokens.Token.{Token}
 use Rattle.lwkt_core.specs.declared.messages.Message.{Message}
 use Rattle.lwkt_core.specs.declared.messages.TheConstants.{LAST_ROUND}
 use Rattle.lwkt_core.specs.declared.lacks.Lack.{Lack}
-use Rattle.lwkt_core.specs.declared.lacks.Lack.TheVariants.{NoProcessor, NoToken, NoMessage, TooManyReferences, Held, HeldExclusively, HeldAlready, LastGeneration, NotHeld, NotHeldExclusively, LastExclusive, FurtherReferences, RowChanged, RowUnchanged, LawBroken, OtherSection, NoCell, OtherValue, LessThanBefore, NotAtRest, NoTarget, LastRound, OtherRound, NotOut, NotTaken, NotReplied, NotAway}
+use Rattle.lwkt_core.specs.declared.lacks.Lack.TheVariants.{NoProcessor, NoToken, NoMessage, TooManyReferences, Held, HeldExclusively, HeldAlready, LastGeneration, NotHeld, NotHeldExclusively, LastExclusive, FurtherReferences, RowChanged, RecordChanged, RowUnchanged, LawBroken, OtherSection, NoCell, OtherValue, LessThanBefore, NoRecord, OtherRecord, RecordLong, NotAtRest, NoTarget, LastRound, OtherRound, NotOut, NotTaken, NotReplied, NotAway}
 use Rattle.lwkt_core.specs.declared.events.Event.{Event}
-use Rattle.lwkt_core.specs.declared.events.Event.TheVariants.{Load, Take, Share, Again, Mark, GiveOne, GiveClean, GiveWritten, Read, Write, Send, TakeMsg, DropMsg, Reply, Reap, Abort}
+use Rattle.lwkt_core.specs.declared.events.Event.TheVariants.{Load, Take, Share, Again, Mark, GiveOne, GiveClean, GiveWritten, Read, Write, ReadBlob, WriteBlob, Send, TakeMsg, DropMsg, Reply, Reap, Abort}
 use Rattle.lwkt_core.specs.declared.events.Place.{Place}
 use Rattle.lwkt_core.specs.declared.events.Place.TheVariants.{AtToken, AtMessage}
 use Rattle.lwkt_core.specs.Events.{cpu_of, place_of, adds_reference}
-use Rattle.lwkt_core.specs.Tokens.{held_by, IsFree, IsOpen, IsHolder, IsExclusiveHolder, IsNotLastExclusive, MayWrite, section_at, TokenNeeds}
+use Rattle.lwkt_core.specs.Tokens.{held_by, IsFree, IsOpen, IsHolder, IsExclusiveHolder, IsNotLastExclusive, MayWrite, HasRecord, IsClean, IsLawful, section_at, TokenNeeds}
 use Rattle.lwkt_core.specs.Messages.{IsOutTo, IsOutFrom, IsWith, IsBackTo, MayBeAborted, MessageNeeds}
 use Rattle.lwkt_core.specs.Machine.{Machine, references_of, Needs}
 
@@ -35,10 +34,12 @@ TokenLacks tok (Share cpu t) lack = FirstFails lack HeldExclusively (IsOpen tok)
 TokenLacks tok (Again cpu t) lack = Fails lack NotHeld (IsHolder tok cpu.0)
 TokenLacks tok (Mark cpu t) lack = ⊥
 TokenLacks tok (GiveOne cpu t) lack = FirstFails lack NotHeld (IsHolder tok cpu.0) (Fails lack LastExclusive (IsNotLastExclusive (held_by tok cpu.0)))
-TokenLacks tok (GiveClean cpu t) lack = FirstFails lack NotHeldExclusively (IsExclusiveHolder tok cpu.0) (FirstFails lack FurtherReferences (held_by tok cpu.0 ≡ Holds Exclusive 0) (Fails lack RowChanged (tok.row ≡ tok.first)))
-TokenLacks tok (GiveWritten cpu t section) lack = FirstFails lack NotHeldExclusively (IsExclusiveHolder tok cpu.0) (FirstFails lack FurtherReferences (held_by tok cpu.0 ≡ Holds Exclusive 0) (FirstFails lack RowUnchanged (tok.row ≢ tok.first) (FirstFails lack LawBroken (MeetsLaw tok.law tok.param tok.row) (Fails lack OtherSection (section ≡ section_at t tok)))))
+TokenLacks tok (GiveClean cpu t) lack = FirstFails lack NotHeldExclusively (IsExclusiveHolder tok cpu.0) (FirstFails lack FurtherReferences (held_by tok cpu.0 ≡ Holds Exclusive 0) (FirstFails lack RowChanged (tok.row ≡ tok.first) (Fails lack RecordChanged (tok.blob ≡ tok.first_blob))))
+TokenLacks tok (GiveWritten cpu t section) lack = FirstFails lack NotHeldExclusively (IsExclusiveHolder tok cpu.0) (FirstFails lack FurtherReferences (held_by tok cpu.0 ≡ Holds Exclusive 0) (FirstFails lack RowUnchanged (¬ IsClean tok) (FirstFails lack LawBroken (IsLawful tok) (Fails lack OtherSection (section ≡ section_at t tok)))))
 TokenLacks tok (Read cpu t cell value) lack = FirstFails lack NotHeld (IsHolder tok cpu.0) (FirstFails lack NoCell (cell < length tok.row) (Fails lack OtherValue (slice_get tok.row cell ≡ Some value)))
 TokenLacks tok (Write cpu t cell value) lack = FirstFails lack NotHeldExclusively (IsExclusiveHolder tok cpu.0) (FirstFails lack NoCell (cell < length tok.row) (Fails lack LessThanBefore (MayWrite tok.law (slice_index tok.row cell) value)))
+TokenLacks tok (ReadBlob cpu t blob) lack = FirstFails lack NotHeldExclusively (IsExclusiveHolder tok cpu.0) (FirstFails lack NoRecord (HasRecord tok) (Fails lack OtherRecord (tok.blob ≡ Some blob)))
+TokenLacks tok (WriteBlob cpu t blob) lack = FirstFails lack NotHeldExclusively (IsExclusiveHolder tok cpu.0) (FirstFails lack NoRecord (HasRecord tok) (Fails lack RecordLong (length blob ≤ 64)))
 TokenLacks tok (Send cpu msg to round) lack = lack ≡ NoToken
 TokenLacks tok (TakeMsg cpu msg round) lack = lack ≡ NoToken
 TokenLacks tok (DropMsg cpu msg) lack = lack ≡ NoToken
@@ -64,6 +65,8 @@ MessageLacks cpus msg (GiveClean cpu t) lack = lack ≡ NoMessage
 MessageLacks cpus msg (GiveWritten cpu t section) lack = lack ≡ NoMessage
 MessageLacks cpus msg (Read cpu t cell value) lack = lack ≡ NoMessage
 MessageLacks cpus msg (Write cpu t cell value) lack = lack ≡ NoMessage
+MessageLacks cpus msg (ReadBlob cpu t blob) lack = lack ≡ NoMessage
+MessageLacks cpus msg (WriteBlob cpu t blob) lack = lack ≡ NoMessage
 
 -- what isn't met at a place: there is nothing of its number, or the first need that what it has doesn't meet
 abbrev pub PlaceLacks : Machine → Event → Place → Lack → Type 0

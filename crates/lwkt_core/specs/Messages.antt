@@ -5,7 +5,7 @@ use Rattle.lwkt_base.specs.declared.owners.Owner.TheVariants.{Rest, Out, With, B
 use Rattle.lwkt_core.specs.declared.messages.Message.{Message}
 use Rattle.lwkt_core.specs.declared.messages.TheConstants.{LAST_ROUND}
 use Rattle.lwkt_core.specs.declared.events.Event.{Event}
-use Rattle.lwkt_core.specs.declared.events.Event.TheVariants.{Load, Take, Share, Again, Mark, GiveOne, GiveClean, GiveWritten, Read, Write, Send, TakeMsg, DropMsg, Reply, Reap, Abort}
+use Rattle.lwkt_core.specs.declared.events.Event.TheVariants.{Load, Take, Share, Again, Mark, GiveOne, GiveClean, GiveWritten, Read, Write, ReadBlob, WriteBlob, Send, TakeMsg, DropMsg, Reply, Reap, Abort}
 
 -- the processor that a message belongs to
 abbrev pub origin_of : Owner → CpuId
@@ -123,6 +123,8 @@ MessageNeeds cpus msg (GiveClean cpu tok) = ⊥
 MessageNeeds cpus msg (GiveWritten cpu tok section) = ⊥
 MessageNeeds cpus msg (Read cpu tok cell value) = ⊥
 MessageNeeds cpus msg (Write cpu tok cell value) = ⊥
+MessageNeeds cpus msg (ReadBlob cpu tok blob) = ⊥
+MessageNeeds cpus msg (WriteBlob cpu tok blob) = ⊥
 
 -- the owner after the message was taken, and after it was replied to
 abbrev pub owner_taken : Owner → Owner
@@ -149,3 +151,5 @@ message_after msg (GiveClean cpu tok) = msg
 message_after msg (GiveWritten cpu tok section) = msg
 message_after msg (Read cpu tok cell value) = msg
 message_after msg (Write cpu tok cell value) = msg
+message_after msg (ReadBlob cpu tok blob) = msg
+message_after msg (WriteBlob cpu tok blob) = msg

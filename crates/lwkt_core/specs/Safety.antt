@@ -2,11 +2,10 @@ use Rattle.std.specs.Prelude.{◌≡◌, ◌≢◌, ◌⊎◌, ℕ, ◌+◌, ◌
 use Rattle.lwkt_base.specs.declared.openings.TokSpec.{TokSpec}
 use Rattle.lwkt_base.specs.declared.openings.MsgSpec.{MsgSpec}
 use Rattle.lwkt_base.specs.declared.holdings.Held.TheVariants.{Nothing}
-use Rattle.lwkt_base.specs.Law.{MeetsLaw}
 use Rattle.lwkt_core.specs.declared.tokens.Token.{Token}
 use Rattle.lwkt_core.specs.declared.messages.Message.{Message}
 use Rattle.lwkt_core.specs.declared.events.Event.{Event}
-use Rattle.lwkt_core.specs.Tokens.{held_by, IsExclusiveHolder, IsOpen, IsSafeToken}
+use Rattle.lwkt_core.specs.Tokens.{held_by, IsExclusiveHolder, IsOpen, IsClean, IsLawful, IsSafeToken}
 use Rattle.lwkt_core.specs.Messages.{IsSafeMessage}
 use Rattle.lwkt_core.specs.Machine.{Machine, IsSafe}
 use Rattle.lwkt_core.specs.Opening.{opening, AreWithin, AllOpenLawfully}
@@ -16,9 +15,9 @@ use Rattle.lwkt_core.specs.Trace.{Run}
 abbrev pub IsCompatible : Token → Type 0
 IsCompatible tok = ((cpu : ℕ) × (IsExclusiveHolder tok cpu × ((other : ℕ) → cpu ≢ other → held_by tok other ≡ Nothing))) ⊎ IsOpen tok
 
--- a processor writes the token: it holds it exclusively, and the row is not that of the section's beginning (own)
+-- a processor writes the token: it holds it exclusively, and the row or the record isn't that of the section's beginning (own)
 abbrev pub IsWriting : Token → ℕ → Type 0
-IsWriting tok cpu = IsExclusiveHolder tok cpu × (tok.row ≢ tok.first)
+IsWriting tok cpu = IsExclusiveHolder tok cpu × (¬ IsClean tok)
 
 -- a law: a machine that was opened within the limits and lawfully is safe
 abbrev pub OpeningsAreSafe : Type 0
@@ -32,9 +31,9 @@ RunsStaySafe = (m : Machine) (events : List Event) (n : Machine) → IsSafe m �
 abbrev pub HoldersAreCompatible : Type 0
 HoldersAreCompatible = (cpus : ℕ) (tok : Token) → IsSafeToken cpus tok → IsCompatible tok
 
--- a law: the row of a safe token obeys the token's law where no processor is writing it
+-- a law: row and record of a safe token obey the token's law where no processor is writing it
 abbrev pub UnwrittenRowsAreLawful : Type 0
-UnwrittenRowsAreLawful = (cpus : ℕ) (tok : Token) → IsSafeToken cpus tok → ((cpu : ℕ) → ¬ IsWriting tok cpu) → MeetsLaw tok.law tok.param tok.row
+UnwrittenRowsAreLawful = (cpus : ℕ) (tok : Token) → IsSafeToken cpus tok → ((cpu : ℕ) → ¬ IsWriting tok cpu) → IsLawful tok
 
 -- a law: of a safe message each send is taken or dropped at most once, and replied to at most once
 abbrev pub SendsAreAnsweredOnce : Type 0

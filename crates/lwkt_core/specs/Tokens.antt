@@ -1,19 +1,20 @@
-use Rattle.std.specs.Prelude.{◌≡◌, ◌≢◌, ℕ, ◌+◌, ◌-◌, ◌<◌, ◌≤◌, true, false, List, length, Some, slice_get, slice_index, slice_index_or, slice_set}
+use Rattle.std.specs.Prelude.{◌≡◌, ◌≢◌, ℕ, ◌+◌, ◌-◌, ◌<◌, ◌≤◌, true, false, List, length, Option, Some, slice_get, IfSome, option_map, slice_index, slice_index_or, slice_set}
+use Rattle.std.specs.Option.{is_some}
 use Rattle.lwkt_base.specs.declared.names.Mode.{Mode}
 use Rattle.lwkt_base.specs.declared.names.TokId.{TokId}
 use Rattle.lwkt_base.specs.declared.sections.Section.{Section}
 use Rattle.lwkt_base.specs.declared.names.Mode.TheVariants.{Exclusive, Shared}
 use Rattle.lwkt_base.specs.declared.laws.Law.{Law}
-use Rattle.lwkt_base.specs.declared.laws.Law.TheVariants.{Any, Sum, Order, Cap, Tally}
+use Rattle.lwkt_base.specs.declared.laws.Law.TheVariants.{Any, Sum, Order, Cap, Tally, Len}
 use Rattle.lwkt_base.specs.declared.holdings.Held.{Held}
 use Rattle.lwkt_base.specs.declared.holdings.Held.TheVariants.{Nothing, Holds}
 use Rattle.lwkt_base.specs.Holding.{is_exclusive, is_held, one_more, one_less}
-use Rattle.lwkt_base.specs.Law.{MeetsLaw, IsTallied}
+use Rattle.lwkt_base.specs.Law.{Obeys, IsTallied}
 use Rattle.lwkt_core.specs.declared.tokens.Token.{Token}
 use Rattle.lwkt_base.specs.declared.words.TheConstants.{LAST_GENERATION}
 use Rattle.lwkt_core.specs.declared.tokens.TheConstants.{CPU_LIMIT}
 use Rattle.lwkt_core.specs.declared.events.Event.{Event}
-use Rattle.lwkt_core.specs.declared.events.Event.TheVariants.{Load, Take, Share, Again, Mark, GiveOne, GiveClean, GiveWritten, Read, Write, Send, TakeMsg, DropMsg, Reply, Reap, Abort}
+use Rattle.lwkt_core.specs.declared.events.Event.TheVariants.{Load, Take, Share, Again, Mark, GiveOne, GiveClean, GiveWritten, Read, Write, ReadBlob, WriteBlob, Send, TakeMsg, DropMsg, Reply, Reap, Abort}
 
 -- what a processor holds of the token
 abbrev pub held_by : Token → ℕ → Held
@@ -39,8 +40,29 @@ IsHolder tok cpu = is_held (held_by tok cpu) ≡ true
 abbrev pub IsExclusiveHolder : Token → ℕ → Type 0
 IsExclusiveHolder tok cpu = is_exclusive (held_by tok cpu) ≡ true
 
--- a token of a machine of so many processors is safe: it has one exclusive holder or only shared ones (token(9)); a row
--- that nobody writes is the first row; the first row obeys the law, and a tally cell its sum; generations are in range (own)
+-- the length of a record, if there is one
+abbrev pub length_of : Option (List ℕ) → Option ℕ
+length_of blob = option_map length blob
+
+-- the token has a record, or none
+abbrev pub HasRecord : Token → Type 0
+HasRecord tok = is_some tok.blob ≡ true
+
+-- nothing is written: row and record are those of the beginning of the section (own)
+abbrev pub IsClean : Token → Type 0
+IsClean tok = (tok.row ≡ tok.first) × (tok.blob ≡ tok.first_blob)
+
+-- the row and the length of the record obey the token's law
+abbrev pub IsLawful : Token → Type 0
+IsLawful tok = Obeys tok.law tok.param tok.row (length_of tok.blob)
+
+-- a record has at most 64 bytes (own)
+abbrev pub IsShort : Option (List ℕ) → Type 0
+IsShort blob = IfSome blob (λ bytes. length bytes ≤ 64)
+
+-- a token of a machine of so many processors is safe: it has one exclusive holder or only shared ones (token(9)); a row and a
+-- record that nobody writes are the first ones; the first row and record obey the law, and a tally cell its sum; a token has a
+-- record always or never, of at most 64 bytes; generations are in range (own)
 pub record IsSafeToken (cpus : ℕ) (tok : Token) : Type 0 where
   pub eight_holders : length tok.holders ≡ CPU_LIMIT
   pub eight_tallies : length tok.tallies ≡ CPU_LIMIT
@@ -49,7 +71,10 @@ pub record IsSafeToken (cpus : ℕ) (tok : Token) : Type 0 where
   pub same_cells : length tok.first ≡ length tok.row
   pub compatible : (cpu other : ℕ) → IsExclusiveHolder tok cpu → cpu ≢ other → held_by tok other ≡ Nothing
   pub settled : IsOpen tok → tok.row ≡ tok.first
-  pub lawful : MeetsLaw tok.law tok.param tok.first
+  pub settled_blob : IsOpen tok → tok.blob ≡ tok.first_blob
+  pub short : IsShort tok.blob
+  pub same_guard : is_some tok.first_blob ≡ is_some tok.blob
+  pub lawful : Obeys tok.law tok.param tok.first (length_of tok.first_blob)
   pub tallied : IsTallied tok.law tok.param tok.row tok.tallies
   pub in_range : tok.generation ≤ LAST_GENERATION
   pub not_worn : (cpu : ℕ) → IsExclusiveHolder tok cpu → tok.generation < LAST_GENERATION
@@ -67,6 +92,7 @@ MayWrite Any old value = Unit {0}
 MayWrite Sum old value = Unit {0}
 MayWrite Order old value = Unit {0}
 MayWrite Cap old value = Unit {0}
+MayWrite Len old value = Unit {0}
 
 -- the section of this number's token that would end now: its generation, its first row and its row (own)
 abbrev pub section_at : TokId → Token → Section
@@ -80,10 +106,12 @@ TokenNeeds tok (Share cpu t) = IsOpen tok × (held_by tok cpu.0 ≡ Nothing)
 TokenNeeds tok (Again cpu t) = IsHolder tok cpu.0
 TokenNeeds tok (Mark cpu t) = Unit {0}
 TokenNeeds tok (GiveOne cpu t) = IsNotLastExclusive (held_by tok cpu.0)
-TokenNeeds tok (GiveClean cpu t) = (held_by tok cpu.0 ≡ Holds Exclusive 0) × (tok.row ≡ tok.first)
-TokenNeeds tok (GiveWritten cpu t section) = (held_by tok cpu.0 ≡ Holds Exclusive 0) × (tok.row ≢ tok.first) × MeetsLaw tok.law tok.param tok.row × (section ≡ section_at t tok)
+TokenNeeds tok (GiveClean cpu t) = (held_by tok cpu.0 ≡ Holds Exclusive 0) × IsClean tok
+TokenNeeds tok (GiveWritten cpu t section) = (held_by tok cpu.0 ≡ Holds Exclusive 0) × (¬ IsClean tok) × IsLawful tok × (section ≡ section_at t tok)
 TokenNeeds tok (Read cpu t cell value) = IsHolder tok cpu.0 × (slice_get tok.row cell ≡ Some value)
 TokenNeeds tok (Write cpu t cell value) = IsExclusiveHolder tok cpu.0 × (cell < length tok.row) × MayWrite tok.law (slice_index tok.row cell) value
+TokenNeeds tok (ReadBlob cpu t blob) = IsExclusiveHolder tok cpu.0 × (tok.blob ≡ Some blob)
+TokenNeeds tok (WriteBlob cpu t blob) = IsExclusiveHolder tok cpu.0 × HasRecord tok × (length blob ≤ 64)
 TokenNeeds tok (Send cpu msg to round) = ⊥
 TokenNeeds tok (TakeMsg cpu msg round) = ⊥
 TokenNeeds tok (DropMsg cpu msg) = ⊥
@@ -106,6 +134,7 @@ tallies_after Any tallies cpu raised = tallies
 tallies_after Sum tallies cpu raised = tallies
 tallies_after Order tallies cpu raised = tallies
 tallies_after Cap tallies cpu raised = tallies
+tallies_after Len tallies cpu raised = tallies
 
 -- what an event leaves of its token (token(9) and lwkt_token.c's comments; laws and generations are own)
 abbrev pub token_after : Token → Event → Token
@@ -116,9 +145,11 @@ token_after tok (Again cpu t) = with_more tok cpu.0 Shared
 token_after tok (Mark cpu t) = record tok { mark = true }
 token_after tok (GiveOne cpu t) = with_less tok cpu.0
 token_after tok (GiveClean cpu t) = with_less tok cpu.0
-token_after tok (GiveWritten cpu t section) = record (with_less tok cpu.0) { generation = tok.generation + 1; first = tok.row }
+token_after tok (GiveWritten cpu t section) = record (with_less tok cpu.0) { generation = tok.generation + 1; first = tok.row; first_blob = tok.blob }
 token_after tok (Read cpu t cell value) = tok
 token_after tok (Write cpu t cell value) = record tok { row = slice_set tok.row cell value; tallies = tallies_after tok.law tok.tallies cpu.0 (value - slice_index tok.row cell) }
+token_after tok (ReadBlob cpu t blob) = tok
+token_after tok (WriteBlob cpu t blob) = record tok { blob = Some blob }
 token_after tok (Send cpu msg to round) = tok
 token_after tok (TakeMsg cpu msg round) = tok
 token_after tok (DropMsg cpu msg) = tok

@@ -1,6 +1,6 @@
 use Rattle.std.specs.Prelude.{◌≡◌, ℕ, ◌<◌, ◌≤◌, List, [], ◌∷◌, length, map, All, take, IfSome, MatchOption, slice_get}
 use Rattle.lwkt_base.specs.declared.laws.Law.{Law}
-use Rattle.lwkt_base.specs.declared.laws.Law.TheVariants.{Any, Sum, Order, Cap, Tally}
+use Rattle.lwkt_base.specs.declared.laws.Law.TheVariants.{Any, Sum, Order, Cap, Tally, Len}
 use Rattle.lwkt_base.specs.declared.owners.MsgEnd.{MsgEnd}
 use Rattle.lwkt_core.specs.declared.messages.Message.{Message}
 use Rattle.lwkt_core.specs.declared.events.Event.{Event}
@@ -15,17 +15,19 @@ shown_tallies Any cpus tallies = []
 shown_tallies Sum cpus tallies = []
 shown_tallies Order cpus tallies = []
 shown_tallies Cap cpus tallies = []
+shown_tallies Len cpus tallies = []
 
 -- the owner state and round of a message
 abbrev pub end_of : Message → MsgEnd
 end_of msg = record { round = msg.round; state = msg.owner }
 
--- nobody holds a token, and the rows, generations, tallies, owner states and rounds are these
+-- nobody holds a token, and the rows, generations, tallies, records, owner states and rounds are these
 pub record Closes (m : Machine) (last : Final) : Type 0 where
   pub free : All IsFree m.tokens
   pub rows : last.rows.items ≡ map (λ tok. tok.row) m.tokens
   pub gens : last.gens.items ≡ map (λ tok. tok.generation) m.tokens
   pub tallies : last.tallies.items ≡ map (λ tok. shown_tallies tok.law m.cpus tok.tallies) m.tokens
+  pub blobs : last.blobs.items ≡ map (λ tok. tok.blob) m.tokens
   pub messages : last.messages.items ≡ map end_of m.messages
 
 -- the events happen one after another, from the first machine to the last

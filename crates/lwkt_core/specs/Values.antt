@@ -1,6 +1,6 @@
 use Rattle.std.specs.Prelude.{ℕ, Option, Some, None, option_map, option_and_then, slice_get, nat_lt, if◌then◌else◌, List}
 use Rattle.lwkt_base.specs.declared.laws.Law.{Law}
-use Rattle.lwkt_base.specs.declared.laws.Law.TheVariants.{Any, Sum, Order, Cap, Tally}
+use Rattle.lwkt_base.specs.declared.laws.Law.TheVariants.{Any, Sum, Order, Cap, Tally, Len}
 use Rattle.lwkt_core.specs.Machine.{Machine}
 
 -- the value of a cell, if there is such a token with such a cell
@@ -22,6 +22,7 @@ kept_tallies Any tallies = None
 kept_tallies Sum tallies = None
 kept_tallies Order tallies = None
 kept_tallies Cap tallies = None
+kept_tallies Len tallies = None
 
 -- what a processor has added to the cell of a Tally token, if there is such a processor and such a token
 abbrev pub tally_at : Machine → ℕ → ℕ → Option ℕ

@@ -1,4 +1,4 @@
-use lwkt_base::{CpuId, MsgId, Section, TokId};
+use lwkt_base::{Blob, CpuId, MsgId, Section, TokId};
 
 /// One atomic step of one processor on one token or message.
 #[derive(Clone, Copy, Debug, PartialEq, Eq)]
@@ -33,12 +33,12 @@ pub enum Event {
         cpu: CpuId,
         tok: TokId,
     },
-    /// The last reference of an exclusive holding was given back, and the row was as at the beginning of the section.
+    /// The last reference of an exclusive holding was given back, and row and record were as at the beginning of the section.
     GiveClean {
         cpu: CpuId,
         tok: TokId,
     },
-    /// The last reference of an exclusive holding was given back, and the row had changed: this section was written.
+    /// The last reference of an exclusive holding was given back, and the row or the record had changed: this section was written.
     GiveWritten {
         cpu: CpuId,
         tok: TokId,
@@ -57,6 +57,18 @@ pub enum Event {
         tok: TokId,
         cell: u8,
         value: u64,
+    },
+    /// The record of a token that is held exclusively was read, and was this one.
+    ReadBlob {
+        cpu: CpuId,
+        tok: TokId,
+        blob: Blob,
+    },
+    /// This record was stored in a token that is held exclusively.
+    WriteBlob {
+        cpu: CpuId,
+        tok: TokId,
+        blob: Blob,
     },
     /// The message was sent to a processor, in this round.
     Send {
@@ -119,6 +131,8 @@ impl Event {
             | Event::GiveWritten { cpu, .. }
             | Event::Read { cpu, .. }
             | Event::Write { cpu, .. }
+            | Event::ReadBlob { cpu, .. }
+            | Event::WriteBlob { cpu, .. }
             | Event::Send { cpu, .. }
             | Event::TakeMsg { cpu, .. }
             | Event::DropMsg { cpu, .. }
@@ -142,7 +156,9 @@ impl Event {
             | Event::GiveClean { tok, .. }
             | Event::GiveWritten { tok, .. }
             | Event::Read { tok, .. }
-            | Event::Write { tok, .. } => Place::AtToken(tok.0 as usize),
+            | Event::Write { tok, .. }
+            | Event::ReadBlob { tok, .. }
+            | Event::WriteBlob { tok, .. } => Place::AtToken(tok.0 as usize),
             Event::Send { msg, .. }
             | Event::TakeMsg { msg, .. }
             | Event::DropMsg { msg, .. }

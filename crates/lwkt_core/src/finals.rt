@@ -3,7 +3,8 @@ ghost use Rattle.lwkt_core.specs.Trace.{end_of, shown_tallies};
 
 use crate::messages::Message;
 use crate::tokens::{CPU_LIMIT, Token};
-use lwkt_base::{Cells, Law, MsgEnd};
+use lwkt_base::blobs::are_same;
+use lwkt_base::{Blob, Cells, Law, MsgEnd};
 
 /// The closing values of a machine.
 #[derive(Debug, Drop)]
@@ -14,6 +15,8 @@ pub struct Final {
     pub gens: Vec<u64>,
     /// Each token's tallies: one number for each processor under `Law::Tally`, else none.
     pub tallies: Vec<Cells>,
+    /// Each token's record, if it has one.
+    pub blobs: Vec<Option<Blob>>,
     /// Each message's owner state and round.
     pub messages: Vec<MsgEnd>,
 }
@@ -76,6 +79,21 @@ pub fn are_tallies(tallies: &[Cells], tokens: &[Token], cpus: usize) -> bool
     }
     for (i, tok) in tokens.iter().enumerate() {
         if !shows_tallies(tok, tallies[i].as_slice(), cpus) {
+            return false;
+        }
+    }
+    true
+}
+
+/// Whether these are the tokens' records.
+pub fn are_blobs(blobs: &[Option<Blob>], tokens: &[Token]) -> bool
+    ensures { IsTrue result ↔ (blobs.now ≡ map (λ tok. tok.blob) tokens.now) }
+{
+    if blobs.len() != tokens.len() {
+        return false;
+    }
+    for (i, tok) in tokens.iter().enumerate() {
+        if !are_same(&blobs[i], &tok.blob) {
             return false;
         }
     }

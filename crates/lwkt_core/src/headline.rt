@@ -1,5 +1,5 @@
 ghost use Rattle.lwkt_core.specs.RunSections.{RunsWriteChains, TracesWriteChains, RunsTellSections, PartsTellChains};
-ghost use Rattle.lwkt_core.specs.Headline.{RunsAreCompatible, RunsKeepLaws, TalliesAreRaises, CountsAreEvents, MessagesGoRound, EachSendIsAnsweredOnce, AnswersAreOfTheirSend, SectionsAreChain, RowsStandBetweenSections};
+ghost use Rattle.lwkt_core.specs.Headline.{RunsAreCompatible, RunsKeepLaws, TalliesAreRaises, CountsAreEvents, MessagesGoRound, EachSendIsAnsweredOnce, AnswersAreOfTheirSend, SectionsAreChain, RowsStandBetweenSections, RecordsAreChain, RecordsStandBetweenSections, RecordsAreLastWritten};
 
 /// The law that in every machine of a run from a safe one each token has one exclusive holder or only shared ones.
 pub fn runs_are_compatible()
@@ -39,7 +39,7 @@ pub fn answers_are_of_their_send()
 {}
 
 /// The law that the written sections of a token in a run are a chain: each is of the next generation and begins with the row
-/// that the last one left, and leaves another, lawful row.
+/// that the last one left, and leaves another row or another record, and lawful ones.
 pub fn sections_are_chain()
     ensures { SectionsAreChain }
 {}
@@ -47,6 +47,23 @@ pub fn sections_are_chain()
 /// The law that the row that a written section left stands until the next one, where nobody holds the token exclusively.
 pub fn rows_stand_between_sections()
     ensures { RowsStandBetweenSections }
+{}
+
+/// The law that the records of the written sections of a token in a run are a chain: each begins with the record that the last
+/// one left.
+pub fn records_are_chain()
+    ensures { RecordsAreChain }
+{}
+
+/// The law that the record that a written section left stands until the next one, where nobody holds the token exclusively.
+pub fn records_stand_between_sections()
+    ensures { RecordsStandBetweenSections }
+{}
+
+/// The law that the record of a token is the one last written in a run, and each written section leaves the one last written
+/// before its end.
+pub fn records_are_last_written()
+    ensures { RecordsAreLastWritten }
 {}
 
 /// The law that the written sections of a run pass the checker of sections: put by token and in order, they are chains from

@@ -6,7 +6,7 @@ ghost use Rattle.lwkt_core.specs.Lacks.{Fails, TokenLacks, MessageLacks, TellsOf
 use crate::events::Event;
 use crate::messages::{LAST_ROUND, Message};
 use crate::tokens::Token;
-use lwkt_base::{CpuId, LAST_GENERATION, Owner, Section, TokId};
+use lwkt_base::{Blob, CpuId, LAST_GENERATION, Owner, Section, TokId};
 
 /// The first need of an event that isn't met.
 #[derive(Clone, Copy, Debug, PartialEq, Eq)]
@@ -29,7 +29,7 @@ pub enum Lack {
     LastGeneration,
     /// Again, GiveOne, Read: the processor doesn't hold the token.
     NotHeld,
-    /// GiveClean, GiveWritten, Write: the processor doesn't hold the token exclusively.
+    /// GiveClean, GiveWritten, Write, ReadBlob, WriteBlob: the processor doesn't hold the token exclusively.
     NotHeldExclusively,
     /// GiveOne: it is the last reference of an exclusive holding.
     LastExclusive,
@@ -37,9 +37,11 @@ pub enum Lack {
     FurtherReferences,
     /// GiveClean: the row isn't that of the beginning of the section.
     RowChanged,
-    /// GiveWritten: the row is that of the beginning of the section.
+    /// GiveClean: the record isn't that of the beginning of the section.
+    RecordChanged,
+    /// GiveWritten: row and record are those of the beginning of the section.
     RowUnchanged,
-    /// GiveWritten: the row breaks the token's law.
+    /// GiveWritten: the row, with the length of the record, breaks the token's law.
     LawBroken,
     /// GiveWritten: the section isn't the token's generation, the row at its beginning and its row.
     OtherSection,
@@ -49,6 +51,12 @@ pub enum Lack {
     OtherValue,
     /// Write: the value is less than that of the cell, under Tally.
     LessThanBefore,
+    /// ReadBlob, WriteBlob: the token has no record.
+    NoRecord,
+    /// ReadBlob: the record is another one.
+    OtherRecord,
+    /// WriteBlob: the record has more than 64 bytes.
+    RecordLong,
     /// Send: the message isn't at rest with the processor.
     NotAtRest,
     /// Send: there is no processor to send to.
@@ -128,8 +136,11 @@ impl Token {
         if !self.is_last_exclusive(cpu) {
             return Some(Lack::FurtherReferences);
         }
-        if !self.is_clean() {
+        if !self.has_first_row() {
             return Some(Lack::RowChanged);
+        }
+        if !self.has_first_blob() {
+            return Some(Lack::RecordChanged);
         }
         None
     }
@@ -188,6 +199,38 @@ impl Token {
         None
     }
 
+    // The first need of a ReadBlob that isn't met.
+    fn read_blob_lack(&self, cpu: CpuId, blob: &Blob) -> Option<Lack>
+        ensures { TellsOfToken self.now (Event.ReadBlob cpu (record { 0 = 0 }) blob.now) result }
+    {
+        if !self.held_by(cpu).is_exclusive() {
+            return Some(Lack::NotHeldExclusively);
+        }
+        if !self.has_record() {
+            return Some(Lack::NoRecord);
+        }
+        if !self.has_blob(blob) {
+            return Some(Lack::OtherRecord);
+        }
+        None
+    }
+
+    // The first need of a WriteBlob that isn't met.
+    fn write_blob_lack(&self, cpu: CpuId, blob: &Blob) -> Option<Lack>
+        ensures { TellsOfToken self.now (Event.WriteBlob cpu (record { 0 = 0 }) blob.now) result }
+    {
+        if !self.held_by(cpu).is_exclusive() {
+            return Some(Lack::NotHeldExclusively);
+        }
+        if !self.has_record() {
+            return Some(Lack::NoRecord);
+        }
+        if blob.len() > 64 {
+            return Some(Lack::RecordLong);
+        }
+        None
+    }
+
     // The first need of an event that the token doesn't meet.
     fn lack(&self, event: &Event) -> Option<Lack>
         ensures { TellsOfToken self.now event.now result }
@@ -214,6 +257,8 @@ impl Token {
                 value,
                 ..
             } => self.write_lack(cpu, cell, value),
+            Event::ReadBlob { cpu, blob, .. } => self.read_blob_lack(cpu, &blob),
+            Event::WriteBlob { cpu, blob, .. } => self.write_blob_lack(cpu, &blob),
             _ => Some(Lack::NoToken),
         }
     }

@@ -22,7 +22,7 @@ pub use events::Event;
 pub use finals::Final;
 pub use lacks::Lack;
 pub use messages::Message;
-pub use openings::are_within;
+pub use openings::{all_open_lawfully, are_within};
 pub use seats::{Chapter, Deed, Operation, SeatKind, WordStep};
 pub use sections::check_sections;
 pub use states::State;

@@ -1,9 +1,12 @@
-ghost use Rattle.std.specs.Prelude.{◌≡◌, ◌↔◌, ◌<◌, ◌≤◌, ℕ, map, length, All, IsTrue, IfOk, MatchResult};
-ghost use Rattle.lwkt_core.specs.Opening.{opened_token, opened_message, IsTokenWithin, IsMessageWithin, AreWithin, AllOpenLawfully};
+ghost use Rattle.std.specs.Prelude.{◌≡◌, ◌↔◌, ◌<◌, ◌≤◌, ℕ, map, length, option_map, All, IsTrue, IfOk, MatchResult};
+ghost use Rattle.lwkt_base.specs.Law.{OpensLawfully};
+ghost use Rattle.lwkt_core.specs.Tokens.{IsShort};
+ghost use Rattle.lwkt_core.specs.Opening.{opened_token, opened_message, IsRecordWithin, IsTokenWithin, IsMessageWithin, AreWithin, AllOpenLawfully};
 
 use crate::messages::{LAST_ROUND, Message};
 use crate::tokens::{CPU_LIMIT, Token};
-use lwkt_base::{Fault, Held, LAST_GENERATION, Law, MsgSpec, Owner, TokSpec};
+use lwkt_base::blobs::length_of;
+use lwkt_base::{Blob, Fault, Held, LAST_GENERATION, Law, MsgSpec, Owner, TokSpec};
 use std::alloc::{AllocError, Global};
 
 fn opened_token(alloc: Global, spec: &TokSpec) -> Result<Token, AllocError>
@@ -16,6 +19,8 @@ fn opened_token(alloc: Global, spec: &TokSpec) -> Result<Token, AllocError>
         mark: false,
         row: spec.cells.try_clone(alloc)?,
         first: spec.cells.try_clone(alloc)?,
+        blob: spec.blob,
+        first_blob: spec.blob,
         holders: [Held::Nothing; 8],
         tallies: [0; 8],
     })
@@ -70,17 +75,50 @@ fn collect_messages(alloc: Global, specs: &[MsgSpec]) -> Result<Vec<Message>, Al
     specs.iter().map(|spec| opened_message(spec)).collect(alloc)
 }
 
+// Whether a record is short enough, if there is one.
+fn is_short(blob: &Option<Blob>) -> bool
+    ensures { IsTrue result ↔ IsShort blob.now }
+{
+    match blob {
+        None => true,
+        Some(blob) => blob.len() <= 64,
+    }
+}
+
+fn is_record_within(spec: &TokSpec) -> bool
+    ensures { IsTrue result ↔ IsRecordWithin spec.now }
+{
+    is_short(&spec.blob)
+        && (spec.law != Law::Len || (!spec.cells.as_slice().is_empty() && spec.blob.is_some()))
+        && (spec.law != Law::Tally || spec.blob.is_none())
+}
+
 fn is_token_within(spec: &TokSpec) -> bool
     ensures { IsTrue result ↔ IsTokenWithin spec.now }
 {
     let cells = spec.cells.as_slice().len();
-    cells <= 4 && (spec.law != Law::Tally || cells == 1) && spec.generation <= LAST_GENERATION
+    cells <= 4
+        && (spec.law != Law::Tally || cells == 1)
+        && spec.generation <= LAST_GENERATION
+        && is_record_within(spec)
 }
 
 fn is_message_within(cpus: usize, spec: &MsgSpec) -> bool
     ensures { IsTrue result ↔ IsMessageWithin cpus spec.now }
 {
     (spec.origin.cpu.0 as usize) < cpus && spec.origin.thread < 16 && spec.round <= LAST_ROUND
+}
+
+fn are_tokens_within(specs: &[TokSpec]) -> bool
+    ensures { IsTrue result ↔ All IsTokenWithin specs.now }
+{
+    specs.iter().all(|spec| is_token_within(spec))
+}
+
+fn are_messages_within(cpus: usize, specs: &[MsgSpec]) -> bool
+    ensures { IsTrue result ↔ All (IsMessageWithin cpus) specs.now }
+{
+    specs.iter().all(|spec| is_message_within(cpus, spec))
 }
 
 /// Whether the opening keeps the limits.
@@ -90,16 +128,22 @@ pub fn are_within(cpus: usize, tokens: &[TokSpec], messages: &[MsgSpec]) -> bool
     0 < cpus
         && cpus <= CPU_LIMIT
         && tokens.len() <= 64
-        && tokens.iter().all(|spec| is_token_within(spec))
+        && are_tokens_within(tokens)
         && messages.len() <= 64
-        && messages.iter().all(|spec| is_message_within(cpus, spec))
+        && are_messages_within(cpus, messages)
 }
 
-/// Whether each opening row obeys its law.
+// Whether an opening row, with the length of its record, obeys its law.
+fn opens_lawfully(spec: &TokSpec) -> bool
+    ensures { IsTrue result ↔ OpensLawfully spec.now.law spec.now.param spec.now.cells (option_map length spec.now.blob) }
+{
+    spec.law
+        .holds(spec.cells.as_slice(), spec.param, length_of(&spec.blob))
+}
+
+/// Whether each opening row, with the length of its record, obeys its law.
 pub fn all_open_lawfully(tokens: &[TokSpec]) -> bool
     ensures { IsTrue result ↔ AllOpenLawfully tokens.now }
 {
-    tokens
-        .iter()
-        .all(|spec| spec.law.holds(spec.cells.as_slice(), spec.param))
+    tokens.iter().all(|spec| opens_lawfully(spec))
 }

@@ -15,7 +15,7 @@ pub fn holders_are_compatible()
     ensures { HoldersAreCompatible }
 {}
 
-/// The law that the row of a safe token obeys the token's law where no processor is writing it.
+/// The law that row and record of a safe token obey the token's law where no processor is writing it.
 pub fn unwritten_rows_are_lawful()
     ensures { UnwrittenRowsAreLawful }
 {}

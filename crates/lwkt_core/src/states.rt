@@ -39,9 +39,10 @@ impl State {
     /// The opening state: nobody holds a token, and each message is at rest.
     ///
     /// Refused with `Memory` only if an allocation is; with `Limits` only if a limit is passed: 1 to 8 processors, at
-    /// most 64 tokens and 64 messages, at most 4 cells and exactly 1 under `Law::Tally`, a generation or round past its
+    /// most 64 tokens and 64 messages, at most 4 cells and exactly 1 under `Law::Tally`, a record of at most 64 bytes, which
+    /// is there with a cell under `Law::Len` and isn't under `Law::Tally`, a generation or round past its
     /// last, an origin's processor that isn't there or a thread number of 16 or more; with `LawBroken` only if an
-    /// opening row breaks its law.
+    /// opening row, with the length of its record, breaks its law.
     pub fn open(
         alloc: Global,
         tokens: &[TokSpec],
@@ -210,6 +211,9 @@ impl State {
             return false;
         }
         if !finals::are_tallies(&last.tallies, &self.tokens, self.cpus) {
+            return false;
+        }
+        if !finals::are_blobs(&last.blobs, &self.tokens) {
             return false;
         }
         finals::are_ends(&last.messages, &self.messages)

@@ -1,7 +1,8 @@
 ghost use Rattle.std.specs.Prelude.{◌≡◌, ◌↔◌, ℕ, ◌+◌, true, ◌<◌, ◌≤◌, ◌^◌, ◌-◌, length, slice_index, slice_set, IsTrue, Some, slice_get, option_and_then};
 
 use crate::events::Event;
-use lwkt_base::{Cells, CpuId, Held, LAST_GENERATION, Law, Mode, Section, TokId};
+use lwkt_base::blobs::{are_same, length_of};
+use lwkt_base::{Blob, Cells, CpuId, Held, LAST_GENERATION, Law, Mode, Section, TokId};
 
 /// The most processors of a machine.
 pub const CPU_LIMIT: usize = 8;
@@ -20,6 +21,10 @@ pub struct Token {
     pub row: Cells,
     /// The cells at the beginning of the section, or as they are where nobody holds the token exclusively.
     pub first: Cells,
+    /// The record, of at most 64 bytes, if the token has one: always or never.
+    pub blob: Option<Blob>,
+    /// The record at the beginning of the section, or as it is where nobody holds the token exclusively.
+    pub first_blob: Option<Blob>,
     /// What each processor holds of the token.
     pub holders: [Held; 8],
     /// What each processor has added to the cell of a Tally token.
@@ -27,9 +32,9 @@ pub struct Token {
 }
 
 impl Token {
-    ghost use Rattle.lwkt_base.specs.Law.{MeetsLaw, IsTallied};
+    ghost use Rattle.lwkt_base.specs.Law.{IsTallied};
     ghost use Rattle.lwkt_base.specs.Holding.{references_in, is_held, is_exclusive};
-    ghost use Rattle.lwkt_core.specs.Tokens.{held_by, IsFree, IsOpen, IsHolder, IsExclusiveHolder, IsNotLastExclusive, MayWrite, section_at, TokenNeeds, IsSafeToken, token_after, tallies_after, with_more, with_less};
+    ghost use Rattle.lwkt_core.specs.Tokens.{held_by, IsFree, IsOpen, IsHolder, IsExclusiveHolder, IsNotLastExclusive, MayWrite, HasRecord, IsClean, IsLawful, section_at, TokenNeeds, IsSafeToken, token_after, tallies_after, with_more, with_less};
     ghost use Rattle.lwkt_core.specs.Events.{cpu_of, adds_reference};
     ghost use Rattle.lwkt_core.specs.Values.{kept_tallies};
 
@@ -68,17 +73,53 @@ impl Token {
     }
 
     // Whether the row is that of the beginning of the section.
-    pub(crate) fn is_clean(&self) -> bool
+    pub(crate) fn has_first_row(&self) -> bool
         ensures { IsTrue result ↔ (self.now.row ≡ self.now.first) }
     {
         self.row.as_slice() == self.first.as_slice()
     }
 
-    // Whether the row obeys the law of a section.
-    pub(crate) fn is_lawful(&self) -> bool
-        ensures { IsTrue result ↔ MeetsLaw self.now.law self.now.param self.now.row }
+    // Whether the record is that of the beginning of the section.
+    pub(crate) fn has_first_blob(&self) -> bool
+        ensures { IsTrue result ↔ (self.now.blob ≡ self.now.first_blob) }
     {
-        self.law.holds_of_section(self.row.as_slice(), self.param)
+        are_same(&self.blob, &self.first_blob)
+    }
+
+    // Whether row and record are those of the beginning of the section.
+    pub(crate) fn is_clean(&self) -> bool
+        ensures { IsTrue result ↔ IsClean self.now }
+    {
+        self.has_first_row() && self.has_first_blob()
+    }
+
+    // Whether the row and the length of the record obey the law of a section.
+    pub(crate) fn is_lawful(&self) -> bool
+        ensures { IsTrue result ↔ IsLawful self.now }
+    {
+        self.law
+            .holds_of_section(self.row.as_slice(), self.param, length_of(&self.blob))
+    }
+
+    // Whether the token has a record.
+    pub(crate) fn has_record(&self) -> bool
+        ensures { IsTrue result ↔ HasRecord self.now }
+    {
+        self.blob.is_some()
+    }
+
+    // Whether the token has this record.
+    pub(crate) fn has_blob(&self, blob: &Blob) -> bool
+        ensures { IsTrue result ↔ (self.now.blob ≡ Some blob.now) }
+    {
+        are_same(&self.blob, &Some(*blob))
+    }
+
+    // Whether the token has a record, and this one may take its place.
+    fn may_store_blob(&self, blob: &Blob) -> bool
+        ensures { IsTrue result ↔ (HasRecord self.now × (length blob.now ≤ 64)) }
+    {
+        self.has_record() && blob.len() <= 64
     }
 
     // Whether the processor holds exactly one reference, an exclusive one.
@@ -126,7 +167,7 @@ impl Token {
             && section.after.as_slice() == self.row.as_slice()
     }
 
-    // Whether an exclusive holder of one reference may end its section with a written row, and it is this section.
+    // Whether an exclusive holder of one reference may end its section as a written one, and it is this section.
     fn may_give_written(&self, cpu: CpuId, tok: TokId, section: &Section) -> bool
         ensures { IsTrue result ↔ TokenNeeds self.now (Event.GiveWritten cpu tok section.now) }
     {
@@ -160,6 +201,12 @@ impl Token {
                 value,
                 ..
             } => self.held_by(cpu).is_exclusive() && self.may_store(cell, value),
+            Event::ReadBlob { cpu, blob, .. } => {
+                self.held_by(cpu).is_exclusive() && self.has_blob(&blob)
+            }
+            Event::WriteBlob { cpu, blob, .. } => {
+                self.held_by(cpu).is_exclusive() && self.may_store_blob(&blob)
+            }
             _ => false,
         }
     }
@@ -183,16 +230,17 @@ impl Token {
         self.holders[cpu.0 as usize] = held.one_less();
     }
 
-    // Ends a section with a written row.
+    // Ends a section as a written one.
     fn end_written(&mut self, cpu: CpuId)
         requires exists { cpu.0 < CPU_LIMIT }
         requires in_range { self.old.generation < LAST_GENERATION }
         requires same_cells { length self.old.first ≡ length self.old.row }
-        ensures { self.new ≡ record (with_less self.old cpu.0) { generation = self.old.generation + 1; first = self.old.row } }
+        ensures { self.new ≡ record (with_less self.old cpu.0) { generation = self.old.generation + 1; first = self.old.row; first_blob = self.old.blob } }
     {
         self.give_reference(cpu);
         self.generation += 1;
         self.first.copy_from(&self.row);
+        self.first_blob = self.blob;
     }
 
     // Adds to what the processor has added, if the token keeps tallies.
@@ -244,6 +292,7 @@ impl Token {
                 value,
                 ..
             } => self.store(cpu, cell, value),
+            Event::WriteBlob { blob, .. } => self.blob = Some(blob),
             _ => {}
         }
     }

@@ -5,6 +5,7 @@ pub mod answers;
 pub mod counts;
 pub mod cpus;
 pub mod drives;
+mod encodings;
 mod ends;
 pub mod laws;
 pub mod phases;

@@ -169,6 +169,7 @@ const CALL: Call = Call { arg: 0, op: 0 };
 const FLAGS: Flags = Flags {
     dropable: false,
     abortable: false,
+    priority: false,
 };
 
 const NOWHERE: ThreadId = ThreadId {

@@ -62,6 +62,7 @@ pub fn token(alloc: Global, law: Law, param: u64, cells: &[u64]) -> Result<TokSp
         law,
         param,
         generation: 0,
+        blob: None,
     })
 }
 

@@ -20,6 +20,7 @@ use std::test::Fail;
 pub const FLAGS: Flags = Flags {
     dropable: false,
     abortable: false,
+    priority: false,
 };
 
 /// A message of thread 0.0.

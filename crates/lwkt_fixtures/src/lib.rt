@@ -41,6 +41,7 @@ pub fn tokens(alloc: Global, opening: &[Opened]) -> Result<Vec<TokSpec>, AllocEr
             law: opened.0,
             param: opened.1,
             generation: opened.2,
+            blob: None,
         })?;
     }
     Ok(specs)

@@ -12,7 +12,7 @@ use Rattle.lwkt_base.specs.declared.names.Ref.{Ref}
 use Rattle.lwkt_base.specs.declared.holdings.Held.{Held}
 use Rattle.lwkt_base.specs.declared.holdings.Held.TheVariants.{Nothing, Holds}
 use Rattle.lwkt_base.specs.declared.laws.Law.{Law}
-use Rattle.lwkt_base.specs.declared.laws.Law.TheVariants.{Any, Sum, Order, Cap, Tally}
+use Rattle.lwkt_base.specs.declared.laws.Law.TheVariants.{Any, Sum, Order, Cap, Tally, Len}
 use Rattle.lwkt_base.specs.Law.{MeetsLaw}
 use Rattle.std.proofs.lemmas.Bool.{eqb-true, eqb-false, cases_Bool, false≢true}
 use Rattle.lwkt_base.specs.Holding.{Holding, is_held, is_exclusive, one_more, one_less, added, removed, holding_of}
@@ -137,6 +137,7 @@ lawful_untold Any cpu tok row = (refl, refl)
 lawful_untold Sum cpu tok row = reads_untold cpu tok 0 row
 lawful_untold Order cpu tok row = reads_untold cpu tok 0 row
 lawful_untold Cap cpu tok row = reads_untold cpu tok 0 row
+lawful_untold Len cpu tok row = reads_untold cpu tok 0 row
 lawful_untold Tally cpu tok row = (refl, refl)
 
 -- a call without a word step that learns of cells

@@ -6,7 +6,7 @@ use Rattle.lwkt_base.specs.declared.names.Mode.TheVariants.{Exclusive, Shared}
 use Rattle.lwkt_base.specs.Holding.{Holding, added, removed}
 use Rattle.lwkt_core.specs.declared.events.Event.{Event}
 use Rattle.lwkt_bank.specs.Views.{one_section}
-use Rattle.lwkt_core.specs.declared.events.Event.TheVariants.{Load, Take, Share, Again, Mark, GiveOne, GiveClean, GiveWritten, Read, Write, Send, TakeMsg, DropMsg, Reply, Reap, Abort}
+use Rattle.lwkt_core.specs.declared.events.Event.TheVariants.{Load, Take, Share, Again, Mark, GiveOne, GiveClean, GiveWritten, Read, Write, ReadBlob, WriteBlob, Send, TakeMsg, DropMsg, Reply, Reap, Abort}
 use Rattle.lwkt_core.specs.declared.seats.WordStep.{WordStep}
 use Rattle.lwkt_core.specs.declared.seats.Operation.{Operation}
 use Rattle.lwkt_core.specs.declared.seats.Operation.TheVariants.{Load as Loads, Store, Exchange, Add, Sub, Or}
@@ -23,6 +23,8 @@ held_after (Load cpu tok) h = h
 held_after (Mark cpu tok) h = h
 held_after (Read cpu tok cell value) h = h
 held_after (Write cpu tok cell value) h = h
+held_after (ReadBlob cpu tok blob) h = h
+held_after (WriteBlob cpu tok blob) h = h
 held_after (Send cpu msg to round) h = h
 held_after (TakeMsg cpu msg round) h = h
 held_after (DropMsg cpu msg) h = h
@@ -55,6 +57,8 @@ is_look (GiveClean cpu tok) = false
 is_look (GiveWritten cpu tok section) = false
 is_look (Read cpu tok cell value) = false
 is_look (Write cpu tok cell value) = false
+is_look (ReadBlob cpu tok blob) = false
+is_look (WriteBlob cpu tok blob) = false
 is_look (Send cpu msg to round) = false
 is_look (TakeMsg cpu msg round) = false
 is_look (DropMsg cpu msg) = false
@@ -73,6 +77,8 @@ may_be_untold (GiveOne cpu tok) = false
 may_be_untold (GiveClean cpu tok) = false
 may_be_untold (GiveWritten cpu tok section) = false
 may_be_untold (Write cpu tok cell value) = false
+may_be_untold (ReadBlob cpu tok blob) = false
+may_be_untold (WriteBlob cpu tok blob) = false
 may_be_untold (Send cpu msg to round) = false
 may_be_untold (TakeMsg cpu msg round) = false
 may_be_untold (DropMsg cpu msg) = false
@@ -97,6 +103,8 @@ is_of_token (GiveClean cpu tok) = true
 is_of_token (GiveWritten cpu tok section) = true
 is_of_token (Read cpu tok cell value) = true
 is_of_token (Write cpu tok cell value) = true
+is_of_token (ReadBlob cpu tok blob) = true
+is_of_token (WriteBlob cpu tok blob) = true
 is_of_token (Send cpu msg to round) = false
 is_of_token (TakeMsg cpu msg round) = false
 is_of_token (DropMsg cpu msg) = false
@@ -116,6 +124,8 @@ is_on_word (GiveWritten cpu tok section) = true
 is_on_word (Load cpu tok) = true
 is_on_word (Read cpu tok cell value) = false
 is_on_word (Write cpu tok cell value) = false
+is_on_word (ReadBlob cpu tok blob) = false
+is_on_word (WriteBlob cpu tok blob) = false
 is_on_word (Send cpu msg to round) = false
 is_on_word (TakeMsg cpu msg round) = false
 is_on_word (DropMsg cpu msg) = false
@@ -135,6 +145,8 @@ ShowsEvent s (GiveWritten cpu tok section) = (s.at ≡ tok.0) × (s.operation �
 ShowsEvent s (Load cpu tok) = ⊥
 ShowsEvent s (Read cpu tok cell value) = ⊥
 ShowsEvent s (Write cpu tok cell value) = ⊥
+ShowsEvent s (ReadBlob cpu tok blob) = ⊥
+ShowsEvent s (WriteBlob cpu tok blob) = ⊥
 ShowsEvent s (Send cpu msg to round) = ⊥
 ShowsEvent s (TakeMsg cpu msg round) = ⊥
 ShowsEvent s (DropMsg cpu msg) = ⊥

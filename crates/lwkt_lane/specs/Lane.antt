@@ -1,5 +1,5 @@
 -- What a contract sees of the two ends of a lane (own).
-use Rattle.std.specs.Prelude.{◌≡◌, ℕ, ◌+◌, List, [], ◌∷◌, ◌++◌, Option, Some, None, option_to_list}
+use Rattle.std.specs.Prelude.{◌≡◌, ℕ, ◌+◌, List, ◌∷◌, ◌++◌, Option, Some, None, option_to_list}
 use mathlib.Core.List.{IsPrefix}
 use denote.RawPtr.{Ptr}
 use Rattle.rtrb.specs.Shared.{Names}

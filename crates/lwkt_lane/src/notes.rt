@@ -19,4 +19,6 @@ pub struct Note {
     /// The thread of the receiving processor whose port the note is for, 0 to 15.
     pub port: u8,
     pub kind: NoteKind,
+    /// Whether the message was sent with priority: its port serves the note before those that aren't urgent.
+    pub urgent: bool,
 }

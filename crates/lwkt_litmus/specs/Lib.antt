@@ -1,3 +1,4 @@
 pub mod Readings
 pub mod Claims
 pub mod Judging
+pub mod Judgements

@@ -171,8 +171,8 @@ fn lies(outcome: &Closing, msg: MsgId, place: MsgState) -> bool
     }
 }
 
-// Whether all threads of an outcome have ended.
-fn ended(outcome: &Closing) -> bool
+/// Whether all threads of an outcome have ended.
+pub(crate) fn ended(outcome: &Closing) -> bool
     ensures { result ≡ ended outcome.now }
 {
     outcome.threads.iter().all(|line| has_ended(line.state))

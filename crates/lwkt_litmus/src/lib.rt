@@ -2,9 +2,11 @@
 #![tactic(auto)]
 
 mod claims;
+mod judgements;
 mod judging;
 mod readings;
 
 pub use claims::holds;
+pub use judgements::{Judgement, judgement_of};
 pub use judging::is_met;
 pub use readings::{reading, sum_of};

@@ -1,5 +1,6 @@
 pub mod BodyMoves
 pub mod CloseMoves
+pub mod EncodeMoves
 pub mod LaneMoves
 pub mod ListMoves
 pub mod OpenMoves

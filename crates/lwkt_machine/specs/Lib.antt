@@ -1,5 +1,6 @@
 pub mod Bodies
 pub mod Closing
+pub mod Encoded
 pub mod Ended
 pub mod Lanes
 pub mod Laws

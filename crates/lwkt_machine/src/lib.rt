@@ -3,6 +3,7 @@
 
 pub mod bodies;
 pub mod closings;
+mod encodings;
 mod lanes;
 pub mod laws;
 pub mod machines;
@@ -13,6 +14,7 @@ pub mod stops;
 
 pub use bodies::ScriptBody;
 pub use closings::Closed;
+pub use encodings::Sent;
 pub use lwkt_cpu::{Cpu, Status, Turned};
 pub use machines::Machine;
 pub use standings::Standing;

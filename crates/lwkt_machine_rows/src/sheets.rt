@@ -22,6 +22,7 @@ pub fn token(alloc: Global, law: Law, param: u64, cell: u64) -> Result<TokSpec, 
         law,
         param,
         generation: 0,
+        blob: None,
     })
 }
 

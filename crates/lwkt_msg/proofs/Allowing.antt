@@ -31,7 +31,7 @@ use Rattle.lwkt_msg.specs.Deeds as deed
 use Rattle.lwkt_msg.specs.Told.{Told, Tells}
 use Rattle.lwkt_msg.specs.Records.{WasSent, WasAnswered, IsPosted, IsAskedSo}
 use Rattle.lwkt_msg.specs.Plays.{IsAfter, IsAskedBy, Looked, looks, sends, Took, takes_it, replies, HasFetched, reaps, hands_out}
-use Rattle.lwkt_msg.proofs.WordFacts.{message_word-injective, message_word-below}
+use Rattle.lwkt_msg.proofs.WordFacts.{message_word-injective}
 use Rattle.lwkt_msg.proofs.Bringing.{AreSame-refl, find_slot, bring}
 use Rattle.lwkt_msg.proofs.Moves.{never, look_mine}
 use Rattle.lwkt_msg.proofs.Frames.{seat_plan}
@@ -118,7 +118,7 @@ module _ (key : Key) (s : State Rec View) (id : ℕ) (v : View) (cpu : CpuId) (m
         flags_is = λ away.
             let gone : is_away mail.msg.owner ≡ true = away_shown mail.msg.owner ∙ away in (
               flag_shown (is_away mail.msg.owner) mail.sync gone ∙ sym k.sync_is,
-              (λ i. record { dropable = flag_shown (is_away mail.msg.owner) mail.flags.dropable gone i; abortable = flag_shown (is_away mail.msg.owner) mail.flags.abortable gone i }) ∙ sym k.flags_is,
+              (λ i. record { dropable = flag_shown (is_away mail.msg.owner) mail.flags.dropable gone i; abortable = flag_shown (is_away mail.msg.owner) mail.flags.abortable gone i; priority = flag_shown (is_away mail.msg.owner) mail.flags.priority gone i }) ∙ sym k.flags_is,
             );
       }
 
@@ -327,7 +327,7 @@ module _ (key : Key) (id : ℕ) (me : Me Rec View) (cpu : CpuId) (m : ℕ) (is_s
       let t = tell.reply_told key s id me.0 cpu m told at_id is_seat (there key s id me.0 cpu m told.rule at_id is_seat within) rec others taken same_call in
       let v' : View = noted t.between me.0 m e' (deed.replies cpu m n rec) in
       let is_word : n ≡ message_word (parts_of (mail_at told.rule.mails m)) = (kept key s id me.0 cpu m told.rule at_id is_seat within).is_word in
-      let below : message_word (parts_of (mail_at told.rule.mails m)) + 4 < 2 ^ 64 = message_word-below (parts_of (mail_at told.rule.mails m)) (parts_fit key s id me.0 cpu m told.rule at_id is_seat within) in
+      let below : message_word (parts_of (mail_at told.rule.mails m)) + 1 < 2 ^ 64 = lead.taken_below key told.rule.mails s id me.0 cpu m told.rule.book at_id is_seat (there key s id me.0 cpu m told.rule at_id is_seat within) taken in
       let next : (n + 1) % 2 ^ 64 ≡ n + 1 = omega arith in
       let F : ℕ → Type 0 = λ x. Told key record { words = set s.words (word_at m) x; homes = set s.homes (slot_at m) (some rec); views = set s.views id v' } in
       let G : List (ℕ × Rec) → Type 0 = λ c. Told key record { words = set s.words (word_at m) ((n + 1) % 2 ^ 64); homes = homes_after s.homes c gives; views = set s.views id v' } in
@@ -377,7 +377,7 @@ module _ (key : Key) (id : ℕ) (me : Me Rec View) (cpu : CpuId) (m : ℕ) (is_s
       let quiet = it.safe.quiet (sym k.away_is ∙ home) in
       let mail : Mail = mail_at told.rule.mails m in
       let shown : parts_of mail ≡ rest_word (who me.0) (at me.0 m).round
-      = (λ i. record { round = sym k.round_is i; state = state_of (owner_is i); origin = origin_of (owner_is i); target = shown_target (owner_is i); aborted = quiet i; sync = is_away (owner_is i) && mail.sync; dropable = is_away (owner_is i) && mail.flags.dropable; abortable = is_away (owner_is i) && mail.flags.abortable })
+      = (λ i. record { round = sym k.round_is i; state = state_of (owner_is i); origin = origin_of (owner_is i); target = shown_target (owner_is i); aborted = quiet i; sync = is_away (owner_is i) && mail.sync; dropable = is_away (owner_is i) && mail.flags.dropable; abortable = is_away (owner_is i) && mail.flags.abortable; priority = is_away (owner_is i) && mail.flags.priority })
       ∙ ap (λ (c : CpuId). rest_word c (at me.0 m).round) (sym (who_is me.0 cpu is_seat)) in
       let found_is : n ≡ message_word (rest_word (who me.0) (at me.0 m).round) = it.is_word ∙ ap message_word shown in (
         v',

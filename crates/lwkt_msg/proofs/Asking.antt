@@ -10,7 +10,7 @@ use Rattle.lwkt_base.specs.declared.owners.Owner.TheVariants.{Rest, Out, With, B
 use Rattle.lwkt_base.specs.declared.openings.MsgSpec.{MsgSpec}
 use Rattle.lwkt_core.specs.declared.messages.Message.{Message}
 use Rattle.lwkt_core.specs.declared.events.Event.{Event}
-use Rattle.lwkt_core.specs.declared.events.Event.TheVariants.{Load, Take, Share, Again, Mark, GiveOne, GiveClean, GiveWritten, Read, Write, Send, TakeMsg, DropMsg, Reply, Reap, Abort}
+use Rattle.lwkt_core.specs.declared.events.Event.TheVariants.{Load, Take, Share, Again, Mark, GiveOne, GiveClean, GiveWritten, Read, Write, ReadBlob, WriteBlob, Send, TakeMsg, DropMsg, Reply, Reap, Abort}
 use Rattle.lwkt_core.specs.declared.events.Place.TheVariants.{AtMessage}
 use Rattle.lwkt_core.specs.declared.seats.Deed.{Deed}
 use Rattle.lwkt_core.specs.Events.{place_of}
@@ -165,6 +165,8 @@ asked_event cpus m deeds d msg after (GiveClean cpu tok) is place needs left kno
 asked_event cpus m deeds d msg after (GiveWritten cpu tok section) is place needs left known = absurd needs
 asked_event cpus m deeds d msg after (Read cpu tok cell value) is place needs left known = absurd needs
 asked_event cpus m deeds d msg after (Write cpu tok cell value) is place needs left known = absurd needs
+asked_event cpus m deeds d msg after (ReadBlob cpu tok blob) is place needs left known = absurd needs
+asked_event cpus m deeds d msg after (WriteBlob cpu tok blob) is place needs left known = absurd needs
 
 -- a deed keeps what is known of the requests to abort one message
 module _ (cpus m : ℕ) where

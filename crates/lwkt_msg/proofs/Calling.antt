@@ -172,7 +172,7 @@ module _ (place place1 : Seat Rec View) (cpu : CpuId) (m : ℕ) (w : MsgWord) (s
   take_new is (inr h) =
       let a : false ≡ true = sym (not_taken_at Out is refl) ∙ (ap (λ (x : MessageEntry). x.taken) (sym entry_is) ∙ h) in cc
 
-  pub take_done : (round : ℕ) (rec : Rec) (w2 : View) → IsForTaking cpu round w → HasWon m w place1.me.0 rec w2 → HasTaken cpu v w2 m round rec w.aborted
+  pub take_done : (round : ℕ) (rec : Rec) (w2 : View) → IsForTaking cpu round w → HasWon m w place1.me.0 rec w2 → HasTaken cpu v w2 m round rec w.aborted w.priority
   take_done round rec w2 is won =
       let d : Deed = takes (who v) m round (message_word w) rec in
       let view_is : w2 ≡ noted won.between place1.me.0 m (took rec (looked w e)) d = won.view_is ∙ (λ i. noted won.between place1.me.0 m (took rec (entry_is i)) (takes (who_same i) m (is.2 i) (message_word w) rec)) in
@@ -181,6 +181,7 @@ module _ (place place1 : Seat Rec View) (cpu : CpuId) (m : ℕ) (w : MsgWord) (s
         loaded = loaded;
         allowed = is;
         aborted_is = refl;
+        priority_is = refl;
         clean = won.sent.clean;
         put = Last-of place1.me.0 w2 m (took rec (looked w e)) d won.between (λ front. WasSent front m rec) view_is won.sent;
         asked = Last-of place1.me.0 w2 m (took rec (looked w e)) d won.between (λ front. (w.aborted ≡ true) ↔ WasAskedFor w.origin front m) view_is (won.asked (ap shows_away is.0));

@@ -6,7 +6,7 @@ use Rattle.lwkt_base.specs.declared.message_words.MsgWord.{MsgWord}
 use Rattle.lwkt_base.specs.MessageWord.{message_word}
 use Rattle.lwkt_core.specs.declared.messages.Message.{Message}
 use Rattle.lwkt_core.specs.declared.events.Event.{Event}
-use Rattle.lwkt_core.specs.declared.events.Event.TheVariants.{Load, Take, Share, Again, Mark, GiveOne, GiveClean, GiveWritten, Read, Write, Send, TakeMsg, DropMsg, Reply, Reap, Abort}
+use Rattle.lwkt_core.specs.declared.events.Event.TheVariants.{Load, Take, Share, Again, Mark, GiveOne, GiveClean, GiveWritten, Read, Write, ReadBlob, WriteBlob, Send, TakeMsg, DropMsg, Reply, Reap, Abort}
 use Rattle.lwkt_core.specs.declared.seats.WordStep.{WordStep}
 use Rattle.lwkt_core.specs.declared.seats.Deed.{Deed}
 use Rattle.lwkt_core.specs.Messages.{message_after}
@@ -60,6 +60,8 @@ same_rec (GiveClean cpu tok) old a b records x y = absurd x
 same_rec (GiveWritten cpu tok section) old a b records x y = absurd x
 same_rec (Read cpu tok cell value) old a b records x y = absurd x
 same_rec (Write cpu tok cell value) old a b records x y = absurd x
+same_rec (ReadBlob cpu tok blob) old a b records x y = absurd x
+same_rec (WriteBlob cpu tok blob) old a b records x y = absurd x
 
 -- how a message was sent, which its word tells while it is away
 SentAlike : Mail → Mail → Type 0
@@ -72,8 +74,8 @@ out_alike : (msg : Message) (o t : CpuId) (a b : Mail) → word_with (record msg
 unfolding SentAlike word_with
 out_alike msg o t a b e =
     let w : MsgWord = parts_of (record a { msg = record msg { owner = Out o t } }) in
-    let h = flags_told w a.sync a.flags.dropable a.flags.abortable b.sync b.flags.dropable b.flags.abortable e in
-    (h.0, λ i. record { dropable = h.1 i; abortable = h.2 i })
+    let h = flags_told w a.sync a.flags.dropable a.flags.abortable a.flags.priority b.sync b.flags.dropable b.flags.abortable b.flags.priority e in
+    (h.0, λ i. record { dropable = h.1 i; abortable = h.2 i; priority = h.3 i })
 
 kept_alike : (mail a b : Mail) → (a.sync ≡ mail.sync) × (a.flags ≡ mail.flags) → (b.sync ≡ mail.sync) × (b.flags ≡ mail.flags) → SentAlike a b
 unfolding SentAlike
@@ -101,6 +103,8 @@ sent_alike (GiveClean cpu tok) mail a b x y a_is b_is words = absurd x
 sent_alike (GiveWritten cpu tok section) mail a b x y a_is b_is words = absurd x
 sent_alike (Read cpu tok cell value) mail a b x y a_is b_is words = absurd x
 sent_alike (Write cpu tok cell value) mail a b x y a_is b_is words = absurd x
+sent_alike (ReadBlob cpu tok blob) mail a b x y a_is b_is words = absurd x
+sent_alike (WriteBlob cpu tok blob) mail a b x y a_is b_is words = absurd x
 
 -- what an event leaves of a message
 events_alike : (cpus : ℕ) (mails : List Mail) (m : ℕ) (a b : Mail) (d : Deed) (step : WordStep) → IsEvent cpus mails m d step a → IsEvent cpus mails m d step b → message_word (parts_of a) ≡ message_word (parts_of b) → a ≡ b

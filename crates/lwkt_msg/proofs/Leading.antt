@@ -1,4 +1,4 @@
-use Rattle.std.proofs.Common.{◌≡◌, ◌≢◌, ℕ, zero, suc, ◌+◌, ◌<◌, ◌≤◌, Bool, true, false, List, [], ◌∷◌, length, map, set, get_or, Option, Some, refl, ap, sym, ◌∙◌, subst, arith, length-set}
+use Rattle.std.proofs.Common.{◌≡◌, ◌≢◌, ℕ, zero, suc, ◌+◌, ◌^◌, ◌<◌, ◌≤◌, Bool, true, false, List, [], ◌∷◌, length, map, set, get_or, Option, Some, refl, ap, sym, ◌∙◌, subst, arith, length-set}
 use Rattle.std.specs.Prelude.{slice_get, slice_set, IsSomeAnd}
 use Rattle.std.specs.Option.{option_map_or}
 use Rattle.std.proofs.lemmas.Bool.{eqb-true}
@@ -38,7 +38,7 @@ use Rattle.lwkt_msg.specs.Views.{word_at, slot_at, spec_at, call_of, at, noted, 
 use Rattle.lwkt_msg.specs.Book.{Mail, parts_of, state_of, shown_target, in_slot, is_taken, is_back, KnowsOwn, KnowsTaken, Knows, IsKept, mail_at, IsBook}
 use Rattle.lwkt_msg.specs.Hands.{IsOwn}
 use Rattle.lwkt_msg.specs.Steps.{sent_word, rest_word, machine_of}
-use Rattle.lwkt_msg.proofs.WordFacts.{message_word-injective}
+use Rattle.lwkt_msg.proofs.WordFacts.{message_word-injective, message_word-below}
 use Rattle.lwkt_msg.proofs.Knowing.{Changes-noted}
 use Rattle.lwkt_msg.proofs.Frames.{kept_step, stands_alone, seat_plan, IsBook-moved}
 use Rattle.lwkt_msg.proofs.Moves.{owned, mail_after, mail_sent, never, send_others, send_mine, take_others, take_mine, reply_others, reply_mine, reap_others, reap_mine, drop_others, drop_mine, abort_others, abort_mine, hand_others, hand_mine}
@@ -272,6 +272,12 @@ module _ (key : Key) (mails : List Mail) (s : State Rec View) (id : ℕ) (v : Vi
       kept_step key.cpus (spec_at key.specs.items m) held held' (get_or s.words (word_at m) 0) (get_or s.words (word_at m) 0 + 1) (get_elem? s.homes (slot_at m)) (get_elem? (set s.homes (slot_at m) (some rec)) (slot_at m)) m s.views id v cpu
       (replied rec (at v m)) between did k e is_seat alone safe refl refl is_word (set_here s.homes (slot_at m) (some rec) in_homes) (λ h. absurd (omega arith))
       (reply_mine mail o cpu cpu m rec same_call (at v m)) (reply_others mail o cpu cpu m rec same_call)
+
+  pub taken_below : (at v m).taken ≡ true → message_word (parts_of mail) + 1 < 2 ^ 64
+  taken_below taken =
+      let is : is_taken cpu.0 mail.msg.owner ≡ true = sym knows_taken.taken_is ∙ taken in
+      let owner_is : mail.msg.owner ≡ With (origin_of mail.msg.owner) cpu = taken_by mail.msg.owner cpu is in
+      message_word-below (parts_of mail) parts_fit (ap state_of owner_is)
 
   pub reply_leads : (rec : Rec) (between : List Deed) (did : Deed) → (at v m).taken ≡ true → call_of rec ≡ (at v m).got
       → LeadsTo key mails m cpu.0 (mail_after mail (Reply cpu msg) rec) (Reply cpu msg) (get_or s.words (word_at m) 0 + 1) record { words = set s.words (word_at m) (get_or s.words (word_at m) 0 + 1); homes = set s.homes (slot_at m) (some rec); views = set s.views id (noted between v m (replied rec (at v m)) did) }

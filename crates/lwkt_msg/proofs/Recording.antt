@@ -12,7 +12,7 @@ use Rattle.lwkt_base.specs.declared.openings.MsgSpec.{MsgSpec}
 use Rattle.lwkt_base.specs.declared.records.Rec.{Rec}
 use Rattle.lwkt_core.specs.declared.messages.Message.{Message}
 use Rattle.lwkt_core.specs.declared.events.Event.{Event}
-use Rattle.lwkt_core.specs.declared.events.Event.TheVariants.{Load, Take, Share, Again, Mark, GiveOne, GiveClean, GiveWritten, Read, Write, Send, TakeMsg, DropMsg, Reply, Reap, Abort}
+use Rattle.lwkt_core.specs.declared.events.Event.TheVariants.{Load, Take, Share, Again, Mark, GiveOne, GiveClean, GiveWritten, Read, Write, ReadBlob, WriteBlob, Send, TakeMsg, DropMsg, Reply, Reap, Abort}
 use Rattle.lwkt_core.specs.declared.events.Place.{Place}
 use Rattle.lwkt_core.specs.declared.events.Place.TheVariants.{AtToken, AtMessage}
 use Rattle.lwkt_core.specs.declared.seats.Deed.{Deed}
@@ -145,6 +145,8 @@ posted_event cpus m deeds d mail after (GiveClean cpu tok) is place needs left r
 posted_event cpus m deeds d mail after (GiveWritten cpu tok section) is place needs left rec p = absurd needs
 posted_event cpus m deeds d mail after (Read cpu tok cell value) is place needs left rec p = absurd needs
 posted_event cpus m deeds d mail after (Write cpu tok cell value) is place needs left rec p = absurd needs
+posted_event cpus m deeds d mail after (ReadBlob cpu tok blob) is place needs left rec p = absurd needs
+posted_event cpus m deeds d mail after (WriteBlob cpu tok blob) is place needs left rec p = absurd needs
 
 -- a deed keeps what is known of a message's record
 module _ (cpus m : ℕ) where

@@ -33,7 +33,7 @@ use Rattle.lwkt_msg.specs.Steps.{sent_word, rest_word, machine_of}
 use Rattle.lwkt_msg.specs.Deeds.{word_step, look_by, deed_by}
 use Rattle.lwkt_msg.specs.Deeds as deed
 use Rattle.lwkt_msg.specs.Told.{OnlyLooks, IsOperation, IsRecordOf, IsSentAs, IsHandedOut, IsDone, first_mails, Told, Tells}
-use Rattle.lwkt_msg.proofs.WordFacts.{message_word-below, requested_word}
+use Rattle.lwkt_msg.proofs.WordFacts.{requested_word}
 use Rattle.lwkt_msg.proofs.Moves.{mail_after, mail_sent, hand_others}
 use Rattle.lwkt_msg.proofs.Recalling.{recalls_after}
 use Rattle.lwkt_msg.proofs.Leading as lead
@@ -176,7 +176,7 @@ module _ (key : Key) (s : State Rec View) (id : ℕ) (v : View) (cpu : CpuId) (m
   reply_told rec others taken call =
       let d : Deed = deed.replies cpu m n rec in
       let l = λ (past : List Deed). lead.reply_leads key mails s id v cpu m told.rule.book e is_seat there rec past d taken call in
-      let below = message_word-below (parts_of mail) (lead.parts_fit key mails s id v cpu m told.rule.book e is_seat there) in
+      let below = lead.taken_below key mails s id v cpu m told.rule.book e is_seat there taken in
       let k = lead.knows_taken key mails s id v cpu m told.rule.book e is_seat there in
       let left : n + 1 ≡ (message_word (parts_of mail) + 1) % 2 ^ 64 = let h = is_word in omega arith in
       deed_told key s id v cpu told e is_seat m in_mails (replied rec (at v m)) d refl (mail_after mail (Reply cpu (named m)) rec) (l []).others

@@ -71,7 +71,7 @@ module _ (place place1 : Seat Rec View) (cpu : CpuId) (m : ℕ) (w : MsgWord) (s
       let sync_is : x.sync ≡ w.sync = (now.flags_is shown).0 ∙ (ap (λ (y : MessageEntry). y.sync) entry_is ∙ sym (was.flags_is gone).0) in
       let flags_is : flags_of x ≡ flags_of w = (now.flags_is shown).1 ∙ (ap (λ (y : MessageEntry). y.flags) entry_is ∙ sym (was.flags_is gone).1) in
       record {
-        same = λ i. record { round = round_is i; state = x.state; origin = origin_is i; target = target_is i; aborted = aborted_is i; sync = sync_is i; dropable = (flags_is i).dropable; abortable = (flags_is i).abortable };
+        same = λ i. record { round = round_is i; state = x.state; origin = origin_is i; target = target_is i; aborted = aborted_is i; sync = sync_is i; dropable = (flags_is i).dropable; abortable = (flags_is i).abortable; priority = (flags_is i).priority };
         away = shown;
       }
 

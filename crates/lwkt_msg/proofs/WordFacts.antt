@@ -41,36 +41,38 @@ bit_same true false e = absurd (omega arith)
 bit_same false true e = absurd (omega arith)
 bit_same false false e = refl
 
--- eight digits, each within its place, are told by their sum
-record Digits (s a y d b o t r s' a' y' d' b' o' t' r' : ℕ) : Type 0 where
+-- nine digits, each within its place, are told by their sum
+record Digits (s a y d b p o t r s' a' y' d' b' p' o' t' r' : ℕ) : Type 0 where
   s_is : s ≡ s'
   a_is : a ≡ a'
   y_is : y ≡ y'
   d_is : d ≡ d'
   b_is : b ≡ b'
+  p_is : p ≡ p'
   o_is : o ≡ o'
   t_is : t ≡ t'
   r_is : r ≡ r'
 
-digits : (s a y d b o t r s' a' y' d' b' o' t' r' : ℕ) → s < 4 → a < 2 → y < 2 → d < 2 → b < 2 → o < 8 → t < 8 → s' < 4 → a' < 2 → y' < 2 → d' < 2 → b' < 2 → o' < 8 → t' < 8
-    → s + 4 * a + 8 * y + 16 * d + 32 * b + 128 * o + 1024 * t + 8192 * r ≡ s' + 4 * a' + 8 * y' + 16 * d' + 32 * b' + 128 * o' + 1024 * t' + 8192 * r' → Digits s a y d b o t r s' a' y' d' b' o' t' r'
-digits s a y d b o t r s' a' y' d' b' o' t' r' h1 h2 h3 h4 h5 h6 h7 k1 k2 k3 k4 k5 k6 k7 e =
+digits : (s a y d b p o t r s' a' y' d' b' p' o' t' r' : ℕ) → s < 4 → a < 2 → y < 2 → d < 2 → b < 2 → p < 2 → o < 8 → t < 8 → s' < 4 → a' < 2 → y' < 2 → d' < 2 → b' < 2 → p' < 2 → o' < 8 → t' < 8
+    → s + 4 * a + 8 * y + 16 * d + 32 * b + 64 * p + 128 * o + 1024 * t + 8192 * r ≡ s' + 4 * a' + 8 * y' + 16 * d' + 32 * b' + 64 * p' + 128 * o' + 1024 * t' + 8192 * r' → Digits s a y d b p o t r s' a' y' d' b' p' o' t' r'
+digits s a y d b p o t r s' a' y' d' b' p' o' t' r' h1 h2 h3 h4 h5 h6 h7 h8 k1 k2 k3 k4 k5 k6 k7 k8 e =
     let r_is : r ≡ r' = omega arith in
     let t_is : t ≡ t' = omega arith in
     let o_is : o ≡ o' = omega arith in
+    let p_is : p ≡ p' = omega arith in
     let b_is : b ≡ b' = omega arith in
     let d_is : d ≡ d' = omega arith in
     let y_is : y ≡ y' = omega arith in
     let a_is : a ≡ a' = omega arith in
-    record { s_is = omega arith; a_is = a_is; y_is = y_is; d_is = d_is; b_is = b_is; o_is = o_is; t_is = t_is; r_is = r_is }
+    record { s_is = omega arith; a_is = a_is; y_is = y_is; d_is = d_is; b_is = b_is; p_is = p_is; o_is = o_is; t_is = t_is; r_is = r_is }
 
 -- two words of parts that fit are equal only if the parts are
 pub message_word-injective : (v w : MsgWord) → MessageFits v → MessageFits w → message_word v ≡ message_word w → v ≡ w
 message_word-injective v w fv fw e =
-    let g = digits (state_number v.state) (bit v.aborted) (bit v.sync) (bit v.dropable) (bit v.abortable) v.origin.0 v.target.0 v.round
-    (state_number w.state) (bit w.aborted) (bit w.sync) (bit w.dropable) (bit w.abortable) w.origin.0 w.target.0 w.round
-    (state_below v.state) (bit_below v.aborted) (bit_below v.sync) (bit_below v.dropable) (bit_below v.abortable) fv.0 fv.1
-    (state_below w.state) (bit_below w.aborted) (bit_below w.sync) (bit_below w.dropable) (bit_below w.abortable) fw.0 fw.1 e in
+    let g = digits (state_number v.state) (bit v.aborted) (bit v.sync) (bit v.dropable) (bit v.abortable) (bit v.priority) v.origin.0 v.target.0 v.round
+    (state_number w.state) (bit w.aborted) (bit w.sync) (bit w.dropable) (bit w.abortable) (bit w.priority) w.origin.0 w.target.0 w.round
+    (state_below v.state) (bit_below v.aborted) (bit_below v.sync) (bit_below v.dropable) (bit_below v.abortable) (bit_below v.priority) fv.0 fv.1
+    (state_below w.state) (bit_below w.aborted) (bit_below w.sync) (bit_below w.dropable) (bit_below w.abortable) (bit_below w.priority) fw.0 fw.1 e in
     λ i. record {
       round = g.r_is i;
       state = state_same v.state w.state g.s_is i;
@@ -80,16 +82,18 @@ message_word-injective v w fv fw e =
       sync = bit_same v.sync w.sync g.y_is i;
       dropable = bit_same v.dropable w.dropable g.d_is i;
       abortable = bit_same v.abortable w.abortable g.b_is i;
+      priority = bit_same v.priority w.priority g.p_is i;
     }
 
--- a word of parts that fit is below 2 ^ 64, and so is the next one
-pub message_word-below : (w : MsgWord) → MessageFits w → message_word w + 4 < 2 ^ 64
-message_word-below w fits =
-    let a = state_below w.state in
+-- one can be added to the word of a message that was taken, for it to be a word again
+pub message_word-below : (w : MsgWord) → MessageFits w → w.state ≡ With → message_word w + 1 < 2 ^ 64
+message_word-below w fits is =
+    let a : state_number w.state ≡ 2 = ap state_number is in
     let b = bit_below w.aborted in
     let c = bit_below w.sync in
     let d = bit_below w.dropable in
     let e = bit_below w.abortable in
+    let p = bit_below w.priority in
     let f = fits.0 in
     let g = fits.1 in
     let h = fits.2 in
@@ -118,7 +122,7 @@ low_below Back false = omega arith
 
 pub requested_word : (w : MsgWord) → bit_or (message_word w) 4 ≡ message_word (record w { aborted = true })
 requested_word w =
-    let high : ℕ = bit w.sync + 2 * bit w.dropable + 4 * bit w.abortable + 16 * w.origin.0 + 128 * w.target.0 + 1024 * w.round in
+    let high : ℕ = bit w.sync + 2 * bit w.dropable + 4 * bit w.abortable + 8 * bit w.priority + 16 * w.origin.0 + 128 * w.target.0 + 1024 * w.round in
     let low : ℕ = state_number w.state + 4 * bit w.aborted in
     let cut : message_word w ≡ high * 2 ^ 3 + low = omega arith in
     let four : 4 ≡ 0 * 2 ^ 3 + 4 = refl in
@@ -129,15 +133,18 @@ requested_word w =
     ap (λ (n : ℕ). bit_or n 4) cut ∙ (blocks ∙ whole)
 
 -- a word tells how its message was sent
-pub flags_told : (w : MsgWord) (a b c a' b' c' : Bool) → message_word (record w { sync = a; dropable = b; abortable = c }) ≡ message_word (record w { sync = a'; dropable = b'; abortable = c' }) → (a ≡ a') × (b ≡ b') × (c ≡ c')
-flags_told w a b c a' b' c' e =
+pub flags_told : (w : MsgWord) (a b c d a' b' c' d' : Bool) → message_word (record w { sync = a; dropable = b; abortable = c; priority = d }) ≡ message_word (record w { sync = a'; dropable = b'; abortable = c'; priority = d' }) → (a ≡ a') × (b ≡ b') × (c ≡ c') × (d ≡ d')
+flags_told w a b c d a' b' c' d' e =
     let h1 = bit_below a in
     let h2 = bit_below b in
     let h3 = bit_below c in
+    let h4 = bit_below d in
     let k1 = bit_below a' in
     let k2 = bit_below b' in
     let k3 = bit_below c' in
+    let k4 = bit_below d' in
     let one : bit a ≡ bit a' = omega arith in
     let two : bit b ≡ bit b' = omega arith in
     let three : bit c ≡ bit c' = omega arith in
-    (bit_same a a' one, bit_same b b' two, bit_same c c' three)
+    let four : bit d ≡ bit d' = omega arith in
+    (bit_same a a' one, bit_same b b' two, bit_same c c' three, bit_same d d' four)

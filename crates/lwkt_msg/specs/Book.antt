@@ -67,7 +67,7 @@ pub record Mail : Type 0 where
 
 -- the parts of the word that shows a message; at rest it shows no flags (flags of msgport(9); the layout is own)
 abbrev pub parts_of : Mail → MsgWord
-parts_of mail = record { round = mail.msg.round; state = state_of mail.msg.owner; origin = origin_of mail.msg.owner; target = shown_target mail.msg.owner; aborted = mail.msg.asked; sync = is_away mail.msg.owner && mail.sync; dropable = is_away mail.msg.owner && mail.flags.dropable; abortable = is_away mail.msg.owner && mail.flags.abortable }
+parts_of mail = record { round = mail.msg.round; state = state_of mail.msg.owner; origin = origin_of mail.msg.owner; target = shown_target mail.msg.owner; aborted = mail.msg.asked; sync = is_away mail.msg.owner && mail.sync; dropable = is_away mail.msg.owner && mail.flags.dropable; abortable = is_away mail.msg.owner && mail.flags.abortable; priority = is_away mail.msg.owner && mail.flags.priority }
 
 -- what lies in the slot of a message: its record while it is on its way to its target or back, or not handed out yet
 abbrev pub in_slot : Owner → Bool → Rec → Option Rec

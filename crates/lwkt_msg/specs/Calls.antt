@@ -74,13 +74,15 @@ IsForTaking cpu round w = (w.state ≡ Out) × (w.target ≡ cpu) × (w.round �
 abbrev pub IsForReaping : CpuId → ℕ → MsgWord → Type 0
 IsForReaping cpu round w = (w.state ≡ Back) × (w.origin ≡ cpu) × (w.round ≡ round)
 
--- the message was taken, as its word allowed: the record is the one that the last send of the message put there, and the
--- request to abort is that of the word, which has one exactly if the origin has asked in this round, by the history up to the take
-pub record HasTaken (cpu : CpuId) (v w : View) (m round : ℕ) (rec : Rec) (aborted : Bool) : Type 0 where
+-- the message was taken, as its word allowed: the record is the one that the last send of the message put there, whether it has
+-- priority is told by the word, and the request to abort is that of the word, which has one exactly if the origin has asked in this
+-- round, by the history up to the take
+pub record HasTaken (cpu : CpuId) (v w : View) (m round : ℕ) (rec : Rec) (aborted priority : Bool) : Type 0 where
   pub found : MsgWord
   pub loaded : IsLoaded v m found
   pub allowed : IsForTaking cpu round found
   pub aborted_is : aborted ≡ found.aborted
+  pub priority_is : priority ≡ found.priority
   pub clean : (rec.error ≡ 0) × (rec.result ≡ 0)
   pub put : Last w.past (takes (who v) m round (message_word found) rec) (λ front. WasSent front m rec)
   pub asked : Last w.past (takes (who v) m round (message_word found) rec) (λ front. (aborted ≡ true) ↔ WasAskedFor found.origin front m)
@@ -103,7 +105,7 @@ pub record HasLostTake (cpu : CpuId) (v w : View) (m round : ℕ) : Type 0 where
 
 -- what each answer to a take means
 abbrev pub TakeMeans : CpuId → View → View → ℕ → ℕ → Taken → Type 0
-TakeMeans cpu v w m round (taken.Took rec aborted) = HasTaken cpu v w m round rec aborted
+TakeMeans cpu v w m round (taken.Took rec aborted priority) = HasTaken cpu v w m round rec aborted priority
 TakeMeans cpu v w m round taken.Stale = IsStaleToTake cpu v w m round
 TakeMeans cpu v w m round taken.Again = HasLostTake cpu v w m round
 

@@ -8,10 +8,10 @@ use Rattle.lwkt_msg.specs.Book.{Mail}
 
 -- the parts of the word of a message that is sent, and of one at rest (flags of msgport(9); rounds are own)
 abbrev pub sent_word : CpuId → CpuId → ℕ → Bool → Flags → MsgWord
-sent_word cpu to round sync flags = record { round = round; state = Out; origin = cpu; target = to; aborted = false; sync = sync; dropable = flags.dropable; abortable = flags.abortable }
+sent_word cpu to round sync flags = record { round = round; state = Out; origin = cpu; target = to; aborted = false; sync = sync; dropable = flags.dropable; abortable = flags.abortable; priority = flags.priority }
 
 abbrev pub rest_word : CpuId → ℕ → MsgWord
-rest_word cpu round = record { round = round; state = Rest; origin = cpu; target = record { 0 = 0 }; aborted = false; sync = false; dropable = false; abortable = false }
+rest_word cpu round = record { round = round; state = Rest; origin = cpu; target = record { 0 = 0 }; aborted = false; sync = false; dropable = false; abortable = false; priority = false }
 
 -- the model's machine that a book shows: its messages, and no tokens
 abbrev pub machine_of : ℕ → List Mail → Machine

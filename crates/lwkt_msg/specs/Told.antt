@@ -7,7 +7,7 @@ use Rattle.lwkt_base.specs.declared.owners.Owner.TheVariants.{Rest}
 use Rattle.lwkt_base.specs.declared.records.Rec.{Rec}
 use Rattle.lwkt_base.specs.MessageWord.{message_word}
 use Rattle.lwkt_core.specs.declared.events.Event.{Event}
-use Rattle.lwkt_core.specs.declared.events.Event.TheVariants.{Load, Take, Share, Again, Mark, GiveOne, GiveClean, GiveWritten, Read, Write, Send, TakeMsg, DropMsg, Reply, Reap, Abort}
+use Rattle.lwkt_core.specs.declared.events.Event.TheVariants.{Load, Take, Share, Again, Mark, GiveOne, GiveClean, GiveWritten, Read, Write, ReadBlob, WriteBlob, Send, TakeMsg, DropMsg, Reply, Reap, Abort}
 use Rattle.lwkt_core.specs.declared.events.Place.TheVariants.{AtMessage}
 use Rattle.lwkt_core.specs.declared.messages.Message.{Message}
 use Rattle.lwkt_core.specs.declared.seats.Operation.{Operation}
@@ -51,6 +51,8 @@ IsOperation (GiveClean cpu tok) operation met = ⊥
 IsOperation (GiveWritten cpu tok section) operation met = ⊥
 IsOperation (Read cpu tok cell value) operation met = ⊥
 IsOperation (Write cpu tok cell value) operation met = ⊥
+IsOperation (ReadBlob cpu tok blob) operation met = ⊥
+IsOperation (WriteBlob cpu tok blob) operation met = ⊥
 
 -- what an event does to the record of its message: a send puts one there, with no error and no result, a reply changes its error
 -- and result alone, and every other event leaves it; a take, a reap and a drop find it there (record of msgport(9); own)
@@ -71,6 +73,8 @@ IsRecordOf (GiveClean cpu tok) old new records = ⊥
 IsRecordOf (GiveWritten cpu tok section) old new records = ⊥
 IsRecordOf (Read cpu tok cell value) old new records = ⊥
 IsRecordOf (Write cpu tok cell value) old new records = ⊥
+IsRecordOf (ReadBlob cpu tok blob) old new records = ⊥
+IsRecordOf (WriteBlob cpu tok blob) old new records = ⊥
 
 -- only a send sets how a message was sent, and it tells so by the word
 abbrev pub IsSentAs : Event → Mail → Mail → Type 0
@@ -90,6 +94,8 @@ IsSentAs (GiveClean cpu tok) mail after = ⊥
 IsSentAs (GiveWritten cpu tok section) mail after = ⊥
 IsSentAs (Read cpu tok cell value) mail after = ⊥
 IsSentAs (Write cpu tok cell value) mail after = ⊥
+IsSentAs (ReadBlob cpu tok blob) mail after = ⊥
+IsSentAs (WriteBlob cpu tok blob) mail after = ⊥
 
 -- the record of a message at rest, which is still at home, is handed out to its origin
 pub record IsHandedOut (mail : Mail) (d : Deed) (after : Mail) : Type 0 where

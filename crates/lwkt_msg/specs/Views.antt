@@ -32,7 +32,7 @@ abbrev pub no_call : Call
 no_call = record { arg = 0; op = 0 }
 
 abbrev pub no_flags : Flags
-no_flags = record { dropable = false; abortable = false }
+no_flags = record { dropable = false; abortable = false; priority = false }
 
 abbrev pub no_spec : MsgSpec
 no_spec = record { origin = record { cpu = record { 0 = 0 }; thread = 0 }; round = 0 }
@@ -105,7 +105,7 @@ shows_with cpu Back target = false
 
 -- what the flags of a word allow
 abbrev pub flags_of : MsgWord → Flags
-flags_of w = record { dropable = w.dropable; abortable = w.abortable }
+flags_of w = record { dropable = w.dropable; abortable = w.abortable; priority = w.priority }
 
 -- what is known of a message after each step on it: a load that found a word, the record handed out, a send, a take, a reply,
 -- a reap, a drop, a request to abort

@@ -3,8 +3,13 @@ use lwkt_base::Rec;
 /// What a take answers.
 #[derive(Clone, Copy, Debug, PartialEq, Eq)]
 pub enum Taken {
-    /// The message was taken: its record, as it was sent, and whether its origin has asked for it to be aborted.
-    Took { rec: Rec, aborted: bool },
+    /// The message was taken: its record, as it was sent, whether its origin has asked for it to be aborted, and whether it
+    /// was sent with priority.
+    Took {
+        rec: Rec,
+        aborted: bool,
+        priority: bool,
+    },
     /// The message is in another round, not on its way, or on its way to another processor.
     Stale,
     /// Another step on the message came between.

@@ -97,6 +97,7 @@ pub(crate) fn rest(cpu: CpuId, round: u64) -> MsgWord
         sync: false,
         dropable: false,
         abortable: false,
+        priority: false,
     }
 }
 
@@ -113,6 +114,7 @@ fn outgoing(cpu: CpuId, round: u64, sending: &Sending) -> MsgWord
         sync: sending.sync,
         dropable: sending.flags.dropable,
         abortable: sending.flags.abortable,
+        priority: sending.flags.priority,
     }
 }
 
@@ -194,6 +196,7 @@ pub(crate) fn take(top: &Top, place: &mut Place, cpu: CpuId, m: usize, round: u6
         Some(rec) => Taken::Took {
             rec,
             aborted: word.aborted,
+            priority: word.priority,
         },
         None => Taken::Again,
     }

@@ -20,21 +20,37 @@ pub(crate) const FIRST_MESSAGE: MsgId = MsgId(0);
 const NO_FLAGS: Flags = Flags {
     dropable: false,
     abortable: false,
+    priority: false,
 };
 
 const DROPABLE: Flags = Flags {
     dropable: true,
     abortable: false,
+    priority: false,
 };
 
 const ABORTABLE: Flags = Flags {
     dropable: false,
     abortable: true,
+    priority: false,
 };
 
 pub(crate) const BOTH_FLAGS: Flags = Flags {
     dropable: true,
     abortable: true,
+    priority: false,
+};
+
+const PRIORITY: Flags = Flags {
+    dropable: false,
+    abortable: false,
+    priority: true,
+};
+
+const ALL_FLAGS: Flags = Flags {
+    dropable: true,
+    abortable: true,
+    priority: true,
 };
 
 // A call: what the origin does with a message, or what is done with message 0.
@@ -293,11 +309,13 @@ const REPLIED_RECORD: Rec = Rec {
 const TAKEN: Told = Told::Taken(Taken::Took {
     rec: SENT_RECORD,
     aborted: false,
+    priority: false,
 });
 
 const TAKEN_ABORTED: Told = Told::Taken(Taken::Took {
     rec: SENT_RECORD,
     aborted: true,
+    priority: false,
 });
 
 const REAPED: Told = Told::Reaped(Reaped::Done {
@@ -415,6 +433,63 @@ const DROPS: Played = Played {
 #[test]
 fn book_drops(rt: HostRuntime) {
     expect(&rt, rt.alloc(), &DROPS);
+}
+
+const TAKEN_FIRST: Told = Told::Taken(Taken::Took {
+    rec: SENT_RECORD,
+    aborted: false,
+    priority: true,
+});
+
+const TAKEN_FIRST_ABORTED: Told = Told::Taken(Taken::Took {
+    rec: SENT_RECORD,
+    aborted: true,
+    priority: true,
+});
+
+// Priority is told to who takes the message, for the send that had it alone.
+const PRIORITIES: Played = Played {
+    round: 0,
+    lines: &[
+        Line(
+            0,
+            Ask::Send(MsgId(0), CpuId(1), ASKED, PRIORITY),
+            Told::Sent(1),
+        ),
+        Line(0, ABORT, Told::Refused(Fault::NotAbortable)),
+        Line(0, DROP, Told::Refused(Fault::NotDropable)),
+        Line(1, Ask::Take(1), TAKEN_FIRST),
+        Line(1, Ask::Reply(7, 42), Told::Replied),
+        Line(0, Ask::Reap(1), REAPED),
+        Line(0, SEND_BOTH, Told::Sent(2)),
+        Line(1, Ask::Take(2), TAKEN),
+        Line(1, Ask::Reply(7, 42), Told::Replied),
+        Line(0, Ask::Reap(2), REAPED),
+        Line(
+            0,
+            Ask::Send(MsgId(0), CpuId(1), ASKED, ALL_FLAGS),
+            Told::Sent(3),
+        ),
+        Line(0, ABORT, Told::Asked),
+        Line(1, Ask::Take(3), TAKEN_FIRST_ABORTED),
+        Line(1, Ask::Reply(7, 42), Told::Replied),
+        Line(0, Ask::Reap(3), REAPED),
+        Line(
+            0,
+            Ask::Send(MsgId(0), CpuId(1), ASKED, ALL_FLAGS),
+            Told::Sent(4),
+        ),
+        Line(0, DROP, Told::Dropped(SENT_RECORD)),
+    ],
+    end: MsgEnd {
+        round: 4,
+        state: REST,
+    },
+};
+
+#[test]
+fn priorities(rt: HostRuntime) {
+    expect(&rt, rt.alloc(), &PRIORITIES);
 }
 
 // An abort is seen by who takes the message or has taken it, in that round alone; after the reply it is refused.

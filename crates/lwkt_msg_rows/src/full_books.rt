@@ -14,6 +14,7 @@ const SEATS: u8 = 8;
 const DROPABLE: Flags = Flags {
     dropable: true,
     abortable: false,
+    priority: false,
 };
 
 // The processor that a message belongs to, and the one that it is sent to.
@@ -120,6 +121,7 @@ fn one(book: &MsgBook, seat: &mut MsgSeat, m: u8, pass: Pass) -> bool
     let taken = Taken::Took {
         rec: sent_record(m),
         aborted: false,
+        priority: false,
     };
     match pass {
         Pass::Send => seat.send(book, msg, target_of(m), call_of(m), DROPABLE, false) == Ok(round),

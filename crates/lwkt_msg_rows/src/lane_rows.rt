@@ -18,6 +18,7 @@ fn note(round: u64) -> Note {
         msg: MsgId(7),
         port: 3,
         kind: NoteKind::Answer,
+        urgent: false,
     }
 }
 

@@ -64,6 +64,7 @@ fn note_of(round: u64) -> Note {
         msg: FIRST_MESSAGE,
         port: 0,
         kind: NoteKind::Request,
+        urgent: false,
     }
 }
 
@@ -251,7 +252,7 @@ fn serve_once(
         return None;
     }
     match take_once(book, seat, round)? {
-        Taken::Took { rec, aborted } => {
+        Taken::Took { rec, aborted, .. } => {
             let later = seat.is_aborted(book, FIRST_MESSAGE).ok()?;
             let good = rec == sent_record(round)
                 && may_be_taken(round, change, aborted)

@@ -9,7 +9,6 @@ use Rattle.lwkt_base.specs.declared.names.CpuId.{CpuId}
 use Rattle.lwkt_base.specs.declared.names.ThreadId.{ThreadId}
 use Rattle.lwkt_lane.specs.declared.ins.LaneIn.{LaneIn}
 use Rattle.lwkt_lane.specs.declared.outs.LaneOut.{LaneOut}
-use Rattle.lwkt_lane.specs.declared.notes.Note.{Note}
 use Rattle.lwkt_msg.specs.Desks.{Desk, cpu_of, cpus_of, messages_of, entry, IsSeatOf}
 use Rattle.lwkt_base.specs.declared.openings.MsgSpec.{MsgSpec}
 use Rattle.lwkt_msg.specs.Views.{seat_cpu, no_spec, spec_at, first_entry, handed}
@@ -19,7 +18,7 @@ use Rattle.lwkt_port.specs.declared.queues.Port.{Port}
 use Rattle.lwkt_port.specs.Mails.{no_mail, mail_at, IsMail}
 use Rattle.lwkt_port.specs.Openings.{new_mail, IsNewPort, AreNew, AreNewPorts, new_line, ArePaired, AreWithin, IsFresh, AreOrigins}
 use Rattle.lwkt_port.specs.Posts.{Post, IsPost, KeepsNamed}
-use Rattle.lwkt_port.specs.Queues.{NamesMessage}
+use Rattle.lwkt_port.proofs.Classing.{named_empty}
 
 -- the last element of a list that was made longer, and the others
 last_or : {A : Type 0} (xs : List A) (y x : A) (k : ℕ) → slice_get (xs ++ y ∷ []) k ≡ Some x → (slice_get xs k ≡ Some x) ⊎ ((length xs ≡ k) × (y ≡ x))
@@ -92,6 +91,6 @@ opened cpu p outs ins origins seat fresh are within paired ports mails =
             let origin : o ≡ (spec_at p.seat.view.specs m).origin = ap (λ l. get_or l m no_thread) (are within.origins_are) ∙ get_or-map (λ (spec : MsgSpec). spec.origin) p.seat.view.specs m no_spec no_thread exists in
             subst F (sym at) (new_fits cpu p.seat m o seat fresh exists origin);
       };
-      queued = λ k d lt. let Q : List Note → Type 0 = All (NamesMessage n) in subst Q (sym (ports.new k (get_or p.ports k d) (slice_get-get_or p.ports k d lt)).0) (All-nil (NamesMessage n));
+      queued = λ k d lt. named_empty n (get_or p.ports k d) (ports.new k (get_or p.ports k d) (slice_get-get_or p.ports k d lt)).0;
       kept = subst L (sym paired) (lines_keep n outs ins);
     }

@@ -1,7 +1,8 @@
 -- What is kept of messages fits the seat after a take, a reap, a send and a reply, and how many messages are away then.
-use Rattle.std.proofs.Common.{◌≡◌, ℕ, ◌+◌, ◌<◌, Bool, true, false, true≢false, List, length, set, refl, ap, sym, ◌∙◌, subst, arith}
-use Rattle.std.specs.Prelude.{IsSome, None, Option}
-use Rattle.lwkt_base.specs.declared.faults.Fault.TheVariants.{RoundsOut}
+use Rattle.std.proofs.Common.{◌≡◌, ⊎_elim, ℕ, ◌+◌, ◌<◌, ◌≤◌, Bool, true, false, true≢false, List, length, set, refl, ap, sym, ◌∙◌, subst, arith}
+use Rattle.std.specs.Prelude.{◌⊎◌, IsSome, None, Option}
+use Rattle.lwkt_base.specs.declared.faults.Fault.{Fault}
+use Rattle.lwkt_base.specs.declared.faults.Fault.TheVariants.{NotOwner}
 use Rattle.lwkt_base.specs.declared.names.CpuId.{CpuId}
 use Rattle.lwkt_base.specs.declared.names.MsgId.{MsgId}
 use Rattle.lwkt_base.specs.declared.records.Call.{Call}
@@ -13,7 +14,7 @@ use Rattle.lwkt_msg.specs.declared.answers.Taken.{Taken}
 use Rattle.lwkt_msg.specs.declared.answers.Taken.TheVariants as taken
 use Rattle.lwkt_msg.specs.declared.answers.Reaped.{Reaped}
 use Rattle.lwkt_msg.specs.declared.answers.Reaped.TheVariants as reaped_
-use Rattle.lwkt_msg.specs.Desks.{Desk, cpu_of, entry, IsSameDesk}
+use Rattle.lwkt_msg.specs.Desks.{Desk, cpu_of, messages_of, entry, IsSameDesk}
 use Rattle.lwkt_msg.specs.Calls.{TakeMeans, ReapMeans, HasSent, IsUnsent, HasReplied}
 use Rattle.lwkt_port.specs.declared.mails.Mail.{Mail}
 use Rattle.lwkt_port.specs.declared.deeds.Claim.{Claim}
@@ -24,15 +25,15 @@ use Rattle.lwkt_port.specs.Deeds.{taken_mail, mails_taken, reaped_mail, mails_re
 use Rattle.lwkt_port.proofs.Keeping.{own_still, own_before, there_still, all_still, all_put, away_same, away_less}
 
 -- a take leaves the origin and whether the message is at home
-taken_origin : (who : Claim) (aborted : Bool) (round : ℕ) (mail : Mail) → (taken_mail who aborted round mail).origin ≡ mail.origin
-taken_origin (claim.Thread thread) true round mail = refl
-taken_origin (claim.Thread thread) false round mail = refl
-taken_origin claim.Closed aborted round mail = refl
+taken_origin : (who : Claim) (aborted priority : Bool) (round : ℕ) (mail : Mail) → (taken_mail who aborted priority round mail).origin ≡ mail.origin
+taken_origin (claim.Thread thread) true priority round mail = refl
+taken_origin (claim.Thread thread) false priority round mail = refl
+taken_origin claim.Closed aborted priority round mail = refl
 
-taken_home : (who : Claim) (aborted : Bool) (round : ℕ) (mail : Mail) → (taken_mail who aborted round mail).home ≡ mail.home
-taken_home (claim.Thread thread) true round mail = refl
-taken_home (claim.Thread thread) false round mail = refl
-taken_home claim.Closed aborted round mail = refl
+taken_home : (who : Claim) (aborted priority : Bool) (round : ℕ) (mail : Mail) → (taken_mail who aborted priority round mail).home ≡ mail.home
+taken_home (claim.Thread thread) true priority round mail = refl
+taken_home (claim.Thread thread) false priority round mail = refl
+taken_home claim.Closed aborted priority round mail = refl
 
 -- what is kept of a message fits the seat that has taken it
 fits_taken : (d d' : Desk) (m : ℕ) (mail mail' : Mail) → IsSameDesk d d' → (entry d' m).away ≡ (entry d m).away → (entry d' m).taken ≡ true → mail'.origin ≡ mail.origin → mail'.home ≡ mail.home → IsMail d m mail → IsMail d' m mail'
@@ -46,12 +47,12 @@ fits_taken d d' m mail mail' same away is_taken origin home k = record {
 }
 
 pub taken_keeps : (who : Claim) (note : Note) (d d' : Desk) (mails mails' : List Mail) (answer : Taken) → IsSameDesk d d' → TakeMeans (cpu_of d) d.view d'.view note.msg.0 note.round answer → mails' ≡ mails_taken who note answer mails → note.msg.0 < length mails → AreMails d mails → AreMails d' mails'
-taken_keeps who note d d' mails mails' (taken.Took rec aborted) same means is there are =
+taken_keeps who note d d' mails mails' (taken.Took rec aborted priority) same means is there are =
     let m : ℕ = note.msg.0 in
     let mail : Mail = mail_at mails m in
     let F : List Mail → Type 0 = AreMails d' in
-    subst F (sym is) (all_put d d' m mails (taken_mail who aborted note.round mail) same means.does.else_same there
-    (fits_taken d d' m mail (taken_mail who aborted note.round mail) same (ap (λ e. e.away) means.does.here) (ap (λ e. e.taken) means.does.here) (taken_origin who aborted note.round mail) (taken_home who aborted note.round mail) (are.each m there)) are)
+    subst F (sym is) (all_put d d' m mails (taken_mail who aborted priority note.round mail) same means.does.else_same there
+    (fits_taken d d' m mail (taken_mail who aborted priority note.round mail) same (ap (λ e. e.away) means.does.here) (ap (λ e. e.taken) means.does.here) (taken_origin who aborted priority note.round mail) (taken_home who aborted priority note.round mail) (are.each m there)) are)
 taken_keeps who note d d' mails mails' taken.Stale same means is there are =
     let F : List Mail → Type 0 = AreMails d' in
     let does = means.looked_at.does in
@@ -62,10 +63,10 @@ taken_keeps who note d d' mails mails' taken.Again same means is there are =
 
 -- a take leaves how many are away
 pub taken_away : (who : Claim) (note : Note) (mails mails' : List Mail) (answer : Taken) → mails' ≡ mails_taken who note answer mails → note.msg.0 < length mails → away_count mails' ≡ away_count mails
-taken_away who note mails mails' (taken.Took rec aborted) is there =
+taken_away who note mails mails' (taken.Took rec aborted priority) is there =
     let m : ℕ = note.msg.0 in
     let mail : Mail = mail_at mails m in
-    ap away_count is ∙ away_same mails m (taken_mail who aborted note.round mail) there (taken_home who aborted note.round mail)
+    ap away_count is ∙ away_same mails m (taken_mail who aborted priority note.round mail) there (taken_home who aborted priority note.round mail)
 taken_away who note mails mails' taken.Stale is there = ap away_count is
 taken_away who note mails mails' taken.Again is there = ap away_count is
 
@@ -161,7 +162,13 @@ pub replied_away : (msg : MsgId) (mails mails' : List Mail) → mails' ≡ set m
 replied_away msg mails mails' is there = ap away_count is ∙ away_same mails msg.0 (replied_mail (mail_at mails msg.0)) there refl
 
 -- a message that was not sent is looked at
-pub unsent_keeps : (msg : MsgId) (d d' : Desk) (mails : List Mail) → IsSameDesk d d' → IsUnsent (cpu_of d) d.view d'.view msg.0 RoundsOut → AreMails d mails → AreMails d' mails
-unsent_keeps msg d d' mails same why are =
+pub unsent_keeps : (msg : MsgId) (d d' : Desk) (mails : List Mail) (fault : Fault) → IsSameDesk d d' → IsUnsent (cpu_of d) d.view d'.view msg.0 fault → AreMails d mails → AreMails d' mails
+unsent_keeps msg d d' mails fault same why are =
     let does = why.looked_at.does in
     all_still d d' msg.0 mails same does.else_same (ap (λ e. e.away) does.here) (ap (λ e. e.taken) does.here) are
+
+pub refused_keeps : (msg : MsgId) (d d' : Desk) (mails : List Mail) (fault : Fault) → IsSameDesk d d' → ((messages_of d ≤ msg.0) × (fault ≡ NotOwner) × (d' ≡ d)) ⊎ ((msg.0 < messages_of d) × IsUnsent (cpu_of d) d.view d'.view msg.0 fault) → AreMails d mails → AreMails d' mails
+refused_keeps msg d d' mails fault same why are = ⊎_elim
+    (λ (s : (messages_of d ≤ msg.0) × (fault ≡ NotOwner) × (d' ≡ d)). let F : Desk → Type 0 = λ x. AreMails x mails in subst F (sym s.2) are)
+    (λ (s : (msg.0 < messages_of d) × IsUnsent (cpu_of d) d.view d'.view msg.0 fault). unsent_keeps msg d d' mails fault same s.1 are)
+    why

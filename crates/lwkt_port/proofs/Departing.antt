@@ -56,6 +56,7 @@ owes_more thread k old mails mail there is o = record {
 
 -- the ports after one was closed
 pub closed_named : (n : ℕ) (ports : List Port) (j : ℕ) (old new : Port) → j < length ports → old ≡ slice_index_or ports j old → IsClosedPort old new → All (HasNamed n) ports → All (HasNamed n) (set ports j new)
+unfolding HasNamed
 closed_named n ports j old new there was closed all =
     let F : Port → Type 0 = HasNamed n in
     let before : HasNamed n old = subst F (sym was) (All-get_or (HasNamed n) ports j old there all) in

@@ -35,6 +35,7 @@ use Rattle.lwkt_port.specs.Intakes.{Payer, PaysOwed, Pays, Desks, Handles, Handl
 use Rattle.lwkt_port.specs.Mails.{no_mail, mail_at}
 use Rattle.lwkt_port.specs.Openings.{new_mail, AreNew}
 use Rattle.lwkt_port.specs.Queues.{queue_of}
+use Rattle.lwkt_port.proofs.Classing.{leaves_none}
 use Rattle.lwkt_port.specs.Sendings.{WhyUnsent, HasSentNote, ReplyMeans, Answers}
 use Rattle.lwkt_port.specs.Servings.{served_request, ServesAs, Serves, GetMeans}
 use Rattle.lwkt_port.specs.Withdrawals.{MayDrop, Drops, IsUntouched}
@@ -86,8 +87,8 @@ reaps_owe keep note w w' (reaped_.Done rec) r none = owes_is w.mails w'.mails no
 reaps_owe keep note w w' reaped_.Stale r none = owes_same w.mails w'.mails r.mails_are none
 
 takes_owe : (thread : ℕ) (note : Note) (w w' : Work) (answer : Taken) → served_request note.msg answer ≢ served.Passed → Takes (claim.Thread thread) note w w' answer → OwesNone w.mails → OwesNone w'.mails
-takes_owe thread note w w' (taken.Took rec true) shown t none = absurd (shown refl)
-takes_owe thread note w w' (taken.Took rec false) shown t none = owes_is w.mails w'.mails note.msg.0 _ refl t.mails_are none
+takes_owe thread note w w' (taken.Took rec true priority) shown t none = absurd (shown refl)
+takes_owe thread note w w' (taken.Took rec false priority) shown t none = owes_is w.mails w'.mails note.msg.0 _ refl t.mails_are none
 takes_owe thread note w w' taken.Stale shown t none = absurd (shown refl)
 takes_owe thread note w w' taken.Again shown t none = owes_same w.mails w'.mails t.mails_are none
 
@@ -178,7 +179,7 @@ emptied_owes limit k x y chain none = chain_keeps Intake (EmptiesFrom limit) (λ
 -- a port that has nothing to clear is left as it is
 clears_itself : (closed : Bool) (most : ℕ) (port : Port) (w : Work) → port.closed ≡ closed → IsClear port → ClearsClosed closed most 0 port port w w
 clears_itself false most port w is clear = (refl, refl, refl)
-clears_itself true most port w is clear = (is, record { done = []; between = w; queue_is = refl; as_many = refl; within = omega arith; clears = refl; ends = inl (inr (clear is), refl) })
+clears_itself true most port w is clear = (is, record { done = []; between = w; queue_is = refl; as_many = refl; within = omega arith; clears = refl; ends = inl (inr (clear is), refl) }, leaves_none port)
 
 clears_one : (k : ℕ) (x : Clearing) → k < length x.ports → AreClear x.ports → ClearsAt k x x
 clears_one k x there all =

@@ -30,8 +30,10 @@ use Rattle.lwkt_port.specs.declared.mails.Mail.{Mail}
 use Rattle.lwkt_port.specs.Deeds.{Takes, taken_mail, replied_mail}
 use Rattle.lwkt_port.specs.Intakes.{Payer, PaysOwed, Desks, Handles, EmptiesKept, Pops}
 use Rattle.lwkt_port.specs.Sendings.{Answers}
-use Rattle.lwkt_port.specs.Laws.{IsPaid, OwedIsMadeOnce, UnowedIsNotMade, EintrIfAborted, LosesNone, LanesLoseNone, AllLeave, NotesLeaveServed, IsShownOnce, RequestsAreShownOnce}
+use Rattle.lwkt_port.specs.Laws.{IsPaid, OwedIsMadeOnce, UnowedIsNotMade, EintrIfAborted, LosesNone, LanesLoseNone, AllLeave, NotesLeaveServed, UrgentLeaveFirst, IsShownOnce, RequestsAreShownOnce}
 use Rattle.lwkt_port.specs.Mails.{no_mail, mail_at, AreMails}
+use Rattle.lwkt_port.specs.Queues.{queue_of}
+use Rattle.lwkt_port.proofs.Classing.{gone_is}
 use Rattle.lwkt_port.specs.Servings.{served_request, served_answer, ServesAs, Serves, PassesAll}
 use Rattle.lwkt_port.specs.Works.{Work}
 
@@ -115,6 +117,22 @@ notes_leave_served thread queue queue' w w' (Err Again) g = record {
 }
 notes_leave_served thread queue queue' w w' (Err _) g = absurd g
 
+-- of the two classes the urgent notes leave first
+pub urgent_leave_first : UrgentLeaveFirst
+urgent_leave_first thread port port' w w' answer s =
+    let l = notes_leave_served thread (queue_of port) (queue_of port') w w' answer s.0 in
+    let order = s.2 in
+    let F : List Note → Type 0 = λ gone. AllLeave thread gone w l.between in record {
+      urgent = order.urgent;
+      ordinary = order.ordinary;
+      between = l.between;
+      urgent_is = order.urgent_is;
+      ordinary_is = order.ordinary_is;
+      urgent_first = order.urgent_first;
+      leave = subst F (gone_is port port' l.gone order l.queue_is) l.leave;
+      rest = l.rest;
+    }
+
 -- a message that the seat can take is not taken yet, so it is shown to nobody
 free_to_take : (cpu : ℕ) (state : MsgState) (target : CpuId) → state ≡ Out → shows_with cpu state target ≡ false
 free_to_take cpu state target is = ap (λ s. shows_with cpu s target) is
@@ -125,8 +143,8 @@ nobody (Some x) n = absurd (n refl)
 
 -- what a request that is shown came from
 shown_request : (cpu : CpuId) (thread : ℕ) (note : Note) (w w' : Work) (msg : MsgId) (call : Call) (answer : Taken) → note.kind ≡ Request → w.seat.view.kind ≡ Of cpu → AreMails w.seat w.mails → note.msg.0 < length w.mails → Takes (claim.Thread thread) note w w' answer → served.Shown (item.Request msg call) ≡ served_request note.msg answer → IsShownOnce thread note w w' msg
-shown_request cpu thread note w w' msg call (taken.Took rec true) kind of are there takes e = absurd (let no : served.Shown (item.Request msg call) ≡ served.Passed = e in cc)
-shown_request cpu thread note w w' msg call (taken.Took rec false) kind of are there takes e =
+shown_request cpu thread note w w' msg call (taken.Took rec true priority) kind of are there takes e = absurd (let no : served.Shown (item.Request msg call) ≡ served.Passed = e in cc)
+shown_request cpu thread note w w' msg call (taken.Took rec false priority) kind of are there takes e =
     let same : msg ≡ note.msg = let is : served.Shown (item.Request msg call) ≡ served.Shown (item.Request note.msg (call_of rec)) = e in cc in
     let m : ℕ = note.msg.0 in
     let means = takes.means in
@@ -136,7 +154,7 @@ shown_request cpu thread note w w' msg call (taken.Took rec false) kind of are t
       is_request = kind;
       message_is = same;
       to_nobody = ap (λ (k : MsgId). (mail_at w.mails k.0).shown) same ∙ nobody mail.shown (λ h. true≢false (sym ((are.each m there).shown_taken h) ∙ free));
-      to_thread = ap (λ (k : MsgId). (mail_at w'.mails k.0).shown) same ∙ ap (λ l. (mail_at l m).shown) takes.mails_are ∙ ap (λ x. x.shown) (get_or-set_same w.mails m (taken_mail (claim.Thread thread) false note.round mail) no_mail there);
+      to_thread = ap (λ (k : MsgId). (mail_at w'.mails k.0).shown) same ∙ ap (λ l. (mail_at l m).shown) takes.mails_are ∙ ap (λ x. x.shown) (get_or-set_same w.mails m (taken_mail (claim.Thread thread) false priority note.round mail) no_mail there);
     }
 shown_request cpu thread note w w' msg call taken.Stale kind of are there takes e = absurd (let no : served.Shown (item.Request msg call) ≡ served.Passed = e in cc)
 shown_request cpu thread note w w' msg call taken.Again kind of are there takes e = absurd (let no : served.Shown (item.Request msg call) ≡ served.Lost = e in cc)
@@ -179,11 +197,11 @@ kept_of : (w w' : Work) (m : ℕ) (mail : Mail) → m < length w.mails → w'.ma
 kept_of w w' m mail there is = ap (λ l. mail_at l m) is ∙ get_or-set_same w.mails m mail no_mail there
 
 pub eintr_if_aborted : EintrIfAborted
-eintr_if_aborted thread note w w' rec true there t =
+eintr_if_aborted thread note w w' rec true priority there t =
     let m : ℕ = note.msg.0 in
-    let is = kept_of w w' m (taken_mail (claim.Thread thread) true note.round (mail_at w.mails m)) there t.mails_are in
+    let is = kept_of w w' m (taken_mail (claim.Thread thread) true priority note.round (mail_at w.mails m)) there t.mails_are in
     (record { owed = λ _. (ap (λ z. z.owed) is, ap (λ z. z.shown) is); shown = λ h. absurd (true≢false h) }, refl)
-eintr_if_aborted thread note w w' rec false there t =
+eintr_if_aborted thread note w w' rec false priority there t =
     let m : ℕ = note.msg.0 in
-    let is = kept_of w w' m (taken_mail (claim.Thread thread) false note.round (mail_at w.mails m)) there t.mails_are in
+    let is = kept_of w w' m (taken_mail (claim.Thread thread) false priority note.round (mail_at w.mails m)) there t.mails_are in
     (record { owed = λ h. absurd (true≢false (sym h)); shown = λ _. (ap (λ z. z.owed) is, ap (λ z. z.shown) is) }, refl)

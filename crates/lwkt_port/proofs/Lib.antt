@@ -1,5 +1,6 @@
 pub mod Begun
 pub mod Chaining
+pub mod Classing
 pub mod ClosedPorts
 pub mod Deeding
 pub mod Dispatching

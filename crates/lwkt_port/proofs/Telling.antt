@@ -38,6 +38,7 @@ use Rattle.lwkt_port.specs.Deeds.{Takes, Reaps, Sends, Replies, IsRefused}
 use Rattle.lwkt_port.specs.Intakes.{Payer, PaysOwed, Pays, Desks, Handles, HandlesAll, Pops, EmptiesKept, Intake, EmptiesFrom, ClearsAs, Clears, ClearsAll, ClearsQueue, ClearsClosed, Clearing, ClearsAt, Hall, TakesIn}
 use Rattle.lwkt_port.specs.Mails.{mail_at}
 use Rattle.lwkt_port.specs.Sendings.{WhyUnsent, HasSentNote, ReplyMeans, Answers}
+use Rattle.lwkt_port.specs.Queues.{queue_of}
 use Rattle.lwkt_port.specs.Servings.{ServesAs, Serves, PassesAll, GetMeans}
 use Rattle.lwkt_port.specs.Tellings.{Tells, IsTold}
 use Rattle.lwkt_port.specs.Withdrawals.{Requests, MayAsk, IsUnasked, MayDrop, Drops, IsUntouched, IsHeard}
@@ -78,7 +79,7 @@ two_own : (cpu : ℕ) (c d : Deed) → c.cpu.0 ≡ cpu → d.cpu.0 ≡ cpu → A
 two_own cpu c d first second = own-cons cpu c (d ∷ []) first (one_own cpu d second)
 
 pub taken_told : (who : Claim) (note : Note) (w w' : Work) (answer : Taken) → Takes who note w w' answer → IsTold w w'
-taken_told who note w w' (taken.Took rec aborted) t = told_by w w' _ _ _ t.same t.means.does (two_own (cpu_of w.seat).0 _ _ refl refl) t.trace_is
+taken_told who note w w' (taken.Took rec aborted priority) t = told_by w w' _ _ _ t.same t.means.does (two_own (cpu_of w.seat).0 _ _ refl refl) t.trace_is
 taken_told who note w w' taken.Stale t = told_by w w' _ _ _ t.same t.means.looked_at.does (one_own (cpu_of w.seat).0 _ refl) t.trace_is
 taken_told who note w w' taken.Again t = told_by w w' _ _ _ t.same t.means.does (two_own (cpu_of w.seat).0 _ _ refl refl) t.trace_is
 
@@ -165,7 +166,7 @@ queue_told most count queue queue' w w' c = told_then w c.between w' (clears_all
 
 closed_told : (closed : Bool) (most count : ℕ) (port port' : Port) (w w' : Work) → ClearsClosed closed most count port port' w w' → IsTold w w'
 closed_told false most count port port' w w' c = told_same w w' c.1
-closed_told true most count port port' w w' c = queue_told most count port.queue.items port'.queue.items w w' c.1
+closed_told true most count port port' w w' c = queue_told most count (queue_of port) (queue_of port') w w' c.1
 
 clearing_told : (port : ℕ) (x y : Clearing) → ClearsAt port x y → IsTold x.work y.work
 clearing_told port x y c = closed_told c.1.old.closed x.left c.0 c.1.old c.1.new x.work y.work c.1.does

@@ -29,19 +29,19 @@ eintr = 4
 abbrev pub no_port : ℕ
 no_port = 30
 
--- what is kept of a message that was taken in a round: a thread is shown it, or it is owed a reply
-abbrev pub taken_mail : Claim → Bool → ℕ → Mail → Mail
-taken_mail (claim.Thread thread) true round mail = record mail { round = round; owed = Some eintr }
-taken_mail (claim.Thread thread) false round mail = record mail { round = round; shown = Some thread }
-taken_mail claim.Closed aborted round mail = record mail { round = round; owed = Some no_port }
+-- what is kept of a message that was taken in a round, with or without priority: a thread is shown it, or it is owed a reply
+abbrev pub taken_mail : Claim → Bool → Bool → ℕ → Mail → Mail
+taken_mail (claim.Thread thread) true priority round mail = record mail { round = round; urgent = priority; owed = Some eintr }
+taken_mail (claim.Thread thread) false priority round mail = record mail { round = round; urgent = priority; shown = Some thread }
+taken_mail claim.Closed aborted priority round mail = record mail { round = round; urgent = priority; owed = Some no_port }
 
 abbrev pub mails_taken : Claim → Note → Taken → List Mail → List Mail
-mails_taken who note (taken.Took rec aborted) mails = slice_set mails note.msg.0 (taken_mail who aborted note.round (mail_at mails note.msg.0))
+mails_taken who note (taken.Took rec aborted priority) mails = slice_set mails note.msg.0 (taken_mail who aborted priority note.round (mail_at mails note.msg.0))
 mails_taken who note taken.Stale mails = mails
 mails_taken who note taken.Again mails = mails
 
 abbrev pub take_events : CpuId → Note → Taken → List Event
-take_events cpu note (taken.Took rec aborted) = TakeMsg cpu note.msg note.round ∷ []
+take_events cpu note (taken.Took rec aborted priority) = TakeMsg cpu note.msg note.round ∷ []
 take_events cpu note taken.Stale = []
 take_events cpu note taken.Again = []
 

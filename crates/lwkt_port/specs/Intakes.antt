@@ -25,7 +25,7 @@ use Rattle.lwkt_port.specs.Hints.{OwesNone, AreClear}
 use Rattle.lwkt_port.specs.Lines.{IsRoomed, IsFound}
 use Rattle.lwkt_port.specs.Mails.{mail_at, AreMails}
 use Rattle.lwkt_port.specs.Posts.{Post, Changes, KeepsNamed, work_of}
-use Rattle.lwkt_port.specs.Queues.{NamesBoth, HasNamed, queue_of, IsQueued}
+use Rattle.lwkt_port.specs.Queues.{NamesBoth, HasNamed, queue_of, IsQueued, LeavesInOrder}
 use Rattle.lwkt_port.specs.Sendings.{Answers}
 use Rattle.lwkt_port.specs.Works.{Work, work, away_count, Stands}
 
@@ -134,7 +134,7 @@ pub record IsFronted (limit first : ℕ) (w : Work) (ports : List Port) (before 
 
 -- a note of a closed port: a request is taken and owed a reply, an answer is reaped; a request whose take was lost stays
 abbrev pub is_lost : Taken → Bool
-is_lost (taken.Took rec aborted) = false
+is_lost (taken.Took rec aborted priority) = false
 is_lost taken.Stale = false
 is_lost taken.Again = true
 
@@ -150,7 +150,7 @@ abbrev pub ClearsAll : List Note → Work → Work → Type 0
 ClearsAll [] w w' = w' ≡ w
 ClearsAll (note ∷ notes) w w' = (v : Work) × Clears note w v false × ClearsAll notes v w'
 
--- so many notes, and at most so many, were taken off the queue of a closed port, from its front: with fewer the queue is empty, or
+-- so many notes, and at most so many, were taken off a closed port, from its front: with fewer the queue is empty, or
 -- its first note stays
 pub record ClearsQueue (most count : ℕ) (queue queue' : List Note) (w w' : Work) : Type 0 where
   pub done : List Note
@@ -161,10 +161,10 @@ pub record ClearsQueue (most count : ℕ) (queue queue' : List Note) (w w' : Wor
   pub clears : ClearsAll done w between
   pub ends : (((count ≡ most) ⊎ (queue' ≡ [])) × (w' ≡ between)) ⊎ ((note : Note) × (others : List Note) × (queue' ≡ note ∷ others) × Clears note between w' true)
 
--- a port that isn't closed is left alone
+-- a port that isn't closed is left alone; of a closed one urgent notes go first, and of each class the oldest
 abbrev pub ClearsClosed : Bool → ℕ → ℕ → Port → Port → Work → Work → Type 0
 ClearsClosed false most count port port' w w' = (port' ≡ port) × (w' ≡ w) × (count ≡ 0)
-ClearsClosed true most count port port' w w' = (port'.closed ≡ true) × ClearsQueue most count (queue_of port) (queue_of port') w w'
+ClearsClosed true most count port port' w w' = (port'.closed ≡ true) × ClearsQueue most count (queue_of port) (queue_of port') w w' × LeavesInOrder port port'
 
 abbrev pub ClearsPort : ℕ → ℕ → Port → Port → Work → Work → Type 0
 ClearsPort most count port port' w w' = ClearsClosed port.closed most count port port' w w'

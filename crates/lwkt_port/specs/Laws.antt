@@ -22,9 +22,11 @@ use Rattle.lwkt_port.specs.Deeds.{eintr, Takes}
 use Rattle.lwkt_port.specs.declared.gets.Served.{Served}
 use Rattle.lwkt_port.specs.declared.gets.Served.TheVariants as served
 use Rattle.lwkt_port.specs.declared.lines.Lane.{Lane}
+use Rattle.lwkt_port.specs.declared.queues.Port.{Port}
 use Rattle.lwkt_port.specs.Intakes.{Desks, Handles, HandlesAll, Empties, Payer, Pays}
 use Rattle.lwkt_port.specs.Mails.{mail_at, AreMails}
-use Rattle.lwkt_port.specs.Servings.{served_request, Serves, GetMeans}
+use Rattle.lwkt_port.specs.Queues.{urgent_of, ordinary_of, queue_of, IsQueued, LeavesInOrder}
+use Rattle.lwkt_port.specs.Servings.{served_request, Serves, GetMeans, ServesPort}
 use Rattle.lwkt_port.specs.Tellings.{Tells}
 use Rattle.lwkt_port.specs.Works.{Work}
 
@@ -58,6 +60,31 @@ pub record LeavesFront (thread : ℕ) (queue queue' : List Note) (w w' : Work) :
 
 abbrev pub NotesLeaveServed : Type 0
 NotesLeaveServed = (thread : ℕ) (queue queue' : List Note) (w w' : Work) (answer : Result (Option Item) Fault) → GetMeans thread queue queue' w w' answer → LeavesFront thread queue queue' w w'
+
+-- the same of a port: of each class notes leave from the front, and an urgent one that is in the port is served before any other
+pub record LeavesPort (thread : ℕ) (port port' : Port) (w w' : Work) : Type 0 where
+  pub urgent : List Note
+  pub ordinary : List Note
+  pub between : Work
+  pub urgent_is : urgent_of port ≡ urgent ++ urgent_of port'
+  pub ordinary_is : ordinary_of port ≡ ordinary ++ ordinary_of port'
+  pub urgent_first : (ordinary ≡ []) ⊎ (urgent_of port' ≡ [])
+  pub leave : AllLeave thread (urgent ++ ordinary) w between
+  pub rest : (w' ≡ between) ⊎ ((note : Note) × (others : List Note) × (queue_of port' ≡ note ∷ others) × Serves thread note between w' served.Lost)
+
+abbrev pub UrgentLeaveFirst : Type 0
+UrgentLeaveFirst = (thread : ℕ) (port port' : Port) (w w' : Work) (answer : Result (Option Item) Fault) → ServesPort thread port port' w w' answer → LeavesPort thread port port' w w'
+
+-- what one call takes off a port and then another is what both take off, in order
+abbrev pub LeavingChains : Type 0
+LeavingChains = (a b c : Port) → LeavesInOrder a b → LeavesInOrder b c → LeavesInOrder a c
+
+-- a note that finds room comes last of its class, and leaves the other class as it is: an urgent one comes before all that aren't
+abbrev pub comes : Note → Port → List Note
+comes note port = if note.urgent then urgent_of port ++ note ∷ ordinary_of port else queue_of port ++ note ∷ []
+
+abbrev pub NotesComeLast : Type 0
+NotesComeLast = (note : Note) (port port' : Port) → IsQueued note port port' true → queue_of port' ≡ comes note port
 
 -- a request that a thread is shown was taken by it just now: before that it was shown to nobody, and then it is shown to this thread
 pub record IsShownOnce (thread : ℕ) (note : Note) (w w' : Work) (msg : MsgId) : Type 0 where
@@ -96,5 +123,5 @@ pub record IsClaimed (thread : ℕ) (aborted : Bool) (old new : Mail) : Type 0 w
   pub shown : aborted ≡ false → (new.owed ≡ old.owed) × (new.shown ≡ Some thread)
 
 abbrev pub EintrIfAborted : Type 0
-EintrIfAborted = (thread : ℕ) (note : Note) (w w' : Work) (rec : Rec) (aborted : Bool) → note.msg.0 < length w.mails → Takes (claim.Thread thread) note w w' (taken.Took rec aborted)
-    → IsClaimed thread aborted (mail_at w.mails note.msg.0) (mail_at w'.mails note.msg.0) × (served_request note.msg (taken.Took rec aborted) ≡ (if aborted then served.Passed else served.Shown (item.Request note.msg (call_of rec))))
+EintrIfAborted = (thread : ℕ) (note : Note) (w w' : Work) (rec : Rec) (aborted priority : Bool) → note.msg.0 < length w.mails → Takes (claim.Thread thread) note w w' (taken.Took rec aborted priority)
+    → IsClaimed thread aborted (mail_at w.mails note.msg.0) (mail_at w'.mails note.msg.0) × (served_request note.msg (taken.Took rec aborted priority) ≡ (if aborted then served.Passed else served.Shown (item.Request note.msg (call_of rec))))

@@ -7,7 +7,7 @@ use Rattle.lwkt_port.specs.declared.mails.Mail.{Mail}
 
 -- no message, and what is kept of the message of a number
 abbrev pub no_mail : Mail
-no_mail = record { origin = record { cpu = record { 0 = 0 }; thread = 0 }; round = 0; done = None; owed = None; shown = None; home = false; sync = false }
+no_mail = record { origin = record { cpu = record { 0 = 0 }; thread = 0 }; round = 0; urgent = false; done = None; owed = None; shown = None; home = false; sync = false }
 
 abbrev pub mail_at : List Mail → ℕ → Mail
 mail_at mails m = slice_index_or mails m no_mail

@@ -15,7 +15,7 @@ use Rattle.lwkt_port.specs.Queues.{queue_of}
 
 -- what is kept of a message at the opening: it is at home at its origin
 abbrev pub new_mail : CpuId → ThreadId → Mail
-new_mail cpu origin = record { origin = origin; round = 0; done = None; owed = None; shown = None; home = origin.cpu.0 == cpu.0; sync = false }
+new_mail cpu origin = record { origin = origin; round = 0; urgent = false; done = None; owed = None; shown = None; home = origin.cpu.0 == cpu.0; sync = false }
 
 -- the port of a number as it is opened for so many threads: without notes, and closed if its thread isn't there
 abbrev pub IsNewPort : ℕ → ℕ → Port → Type 0

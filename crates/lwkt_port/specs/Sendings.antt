@@ -19,12 +19,13 @@ use Rattle.lwkt_port.specs.Mails.{mail_at}
 use Rattle.lwkt_port.specs.Posts.{Post, Changes, work_of}
 use Rattle.lwkt_port.specs.Works.{Work}
 
--- the note that tells of a request, and of an answer
+-- the note that tells of a request, which is urgent if the message is sent with priority, and of an answer, which is urgent if the
+-- message had priority when it was taken
 abbrev pub request_note : Sending → ℕ → Note
-request_note s round = record { round = round; msg = s.msg; port = s.to.thread; kind = Request }
+request_note s round = record { round = round; msg = s.msg; port = s.to.thread; kind = Request; urgent = s.flags.priority }
 
 abbrev pub answer_note : MsgId → Mail → Note
-answer_note msg mail = record { round = mail.round; msg = msg; port = mail.origin.thread; kind = Answer }
+answer_note msg mail = record { round = mail.round; msg = msg; port = mail.origin.thread; kind = Answer; urgent = mail.urgent }
 
 -- there may be such a port: the processor is there, and the thread's number is that of a port
 abbrev pub IsPortName : ℕ → ThreadId → Type 0

@@ -21,14 +21,14 @@ use Rattle.lwkt_port.specs.declared.gets.Served.TheVariants as served
 use Rattle.lwkt_port.specs.declared.queues.Port.{Port}
 use Rattle.lwkt_port.specs.Deeds.{Takes, Reaps}
 use Rattle.lwkt_port.specs.Posts.{Post, Changes, work_of}
-use Rattle.lwkt_port.specs.Queues.{queue_of}
+use Rattle.lwkt_port.specs.Queues.{queue_of, LeavesInOrder}
 use Rattle.lwkt_port.specs.Works.{Work}
 
 -- what becomes of a request: one that is stale, or that was aborted before it was seen, is passed over; one whose take lost stays;
 -- else it is shown, with its call
 abbrev pub served_request : MsgId → Taken → Served
-served_request msg (taken.Took rec true) = served.Passed
-served_request msg (taken.Took rec false) = served.Shown (item.Request msg (call_of rec))
+served_request msg (taken.Took rec true priority) = served.Passed
+served_request msg (taken.Took rec false priority) = served.Shown (item.Request msg (call_of rec))
 served_request msg taken.Stale = served.Passed
 served_request msg taken.Again = served.Lost
 
@@ -77,9 +77,9 @@ GetMeans thread queue queue' w w' (Ok None) = (queue' ≡ []) × PassesAll threa
 GetMeans thread queue queue' w w' (Err Again) = LosesOne thread queue queue' w w'
 GetMeans thread queue queue' w w' (Err _) = ⊥
 
--- a thread was served from its port, which is no more and no less closed than before
+-- a thread was served from its port, which is no more and no less closed than before: urgent notes first, and of each class the oldest
 abbrev pub ServesPort : ℕ → Port → Port → Work → Work → Result (Option Item) Fault → Type 0
-ServesPort thread port port' w w' answer = GetMeans thread (queue_of port) (queue_of port') w w' answer × (port'.closed ≡ port.closed)
+ServesPort thread port port' w w' answer = GetMeans thread (queue_of port) (queue_of port') w w' answer × (port'.closed ≡ port.closed) × LeavesInOrder port port'
 
 -- a thread's call to get did so: its own port changed, and no other
 pub record PostGets (thread : ℕ) (p p' : Post) (trace trace' : Vec Event Global) (answer : Result (Option Item) Fault) : Type 0 where

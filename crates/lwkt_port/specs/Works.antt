@@ -1,7 +1,7 @@
 use Rattle.std.specs.Prelude.{◌≡◌, ℕ, ◌+◌, ◌≤◌, List, ◌++◌, length, All, Vec, vec_len, vec_capacity, count_by, not}
 use Rattle.std.specs.declared.alloc.Global.{Global}
 use Rattle.lwkt_core.specs.declared.events.Event.{Event}
-use Rattle.lwkt_core.specs.declared.events.Event.TheVariants.{Load, Take, Share, Again, Mark, GiveOne, GiveClean, GiveWritten, Read, Write, Send, TakeMsg, DropMsg, Reply, Reap, Abort}
+use Rattle.lwkt_core.specs.declared.events.Event.TheVariants.{Load, Take, Share, Again, Mark, GiveOne, GiveClean, GiveWritten, Read, Write, ReadBlob, WriteBlob, Send, TakeMsg, DropMsg, Reply, Reap, Abort}
 use Rattle.lwkt_base.specs.declared.names.CpuId.{CpuId}
 use Rattle.lwkt_msg.specs.Desks.{Desk, cpu_of, IsSameDesk}
 use Rattle.lwkt_port.specs.Mails.{AreMails}
@@ -30,6 +30,8 @@ IsOfMessages cpu (GiveClean c t) = ⊥
 IsOfMessages cpu (GiveWritten c t section) = ⊥
 IsOfMessages cpu (Read c t i v) = ⊥
 IsOfMessages cpu (Write c t i v) = ⊥
+IsOfMessages cpu (ReadBlob c t blob) = ⊥
+IsOfMessages cpu (WriteBlob c t blob) = ⊥
 IsOfMessages cpu (Send c m to r) = c ≡ cpu
 IsOfMessages cpu (TakeMsg c m r) = c ≡ cpu
 IsOfMessages cpu (DropMsg c m) = c ≡ cpu

@@ -3,7 +3,7 @@ ghost use Rattle.std.specs.Prelude.{◌≡◌, ◌↔◌, ℕ, ◌+◌, ◌-◌,
 ghost use Rattle.lwkt_msg.specs.Desks.{cpu_of, IsSameDesk};
 ghost use Rattle.lwkt_port.specs.Chains.{Chain};
 ghost use Rattle.lwkt_port.specs.Mails.{AreMails};
-ghost use Rattle.lwkt_port.specs.Queues.{queue_of, HasNamed};
+ghost use Rattle.lwkt_port.specs.Queues.{queue_of, HasNamed, LeavesInOrder};
 ghost use Rattle.lwkt_port.specs.Works.{work, Grew, Stands};
 ghost use Rattle.lwkt_port.specs.Hints.{IsClear, AreClear};
 ghost use Rattle.lwkt_port.specs.Intakes.{Clears, ClearsQueue, ClearsPort, Clearing, clearing, ClearsAt};
@@ -11,7 +11,7 @@ ghost use Rattle.lwkt_port.specs.Intakes.{Clears, ClearsQueue, ClearsPort, Clear
 use crate::deeds;
 use crate::deeds::Claim;
 use crate::mails::Mail;
-use crate::queues::{Port, drop_front, front};
+use crate::queues::{Port, count, drop_front, front};
 use lwkt_core::Event;
 use lwkt_lane::{Note, NoteKind};
 use lwkt_msg::{MsgBook, MsgSeat, Taken};
@@ -49,7 +49,7 @@ fn clear_note(
     }
 }
 
-// Takes at most so many notes off the queue of a closed port. Answers how many.
+// Takes at most so many notes off the queues of a closed port, the urgent ones first. Answers how many.
 fn clear_queue(
     book: &MsgBook,
     seat: &mut MsgSeat,
@@ -64,6 +64,7 @@ fn clear_queue(
     requires few { most ≤ 16 }
     requires room { vec_len trace.old + 1 + most ≤ vec_capacity trace.old }
     ensures clears { ClearsQueue most result (queue_of port.old) (queue_of port.new) (work seat.old mails.old trace.old) (work seat.new mails.new trace.new) }
+    ensures order { LeavesInOrder port.old port.new }
     ensures stands { Stands (result + 1) seat.old mails.old trace.old seat.new mails.new trace.new }
     ensures named { HasNamed (vec_len mails.new) port.new }
     ensures closed { port.new.closed ≡ port.old.closed }
@@ -136,7 +137,7 @@ fn clear_each(
 fn is_clear(port: &Port) -> bool
     ensures { IsTrue result ↔ IsClear port.now }
 {
-    !port.closed || port.queue.is_empty()
+    !port.closed || count(port) == 0
 }
 
 // Whether a closed port has a note.

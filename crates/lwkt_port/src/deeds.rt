@@ -30,10 +30,11 @@ pub const NO_PORT: u32 = 30;
 
 // A message was taken.
 #[inline(always)]
-fn take_up(mail: &mut Mail, who: Claim, aborted: bool, round: u64)
-    ensures { mail.new ≡ taken_mail who aborted round mail.old }
+fn take_up(mail: &mut Mail, who: Claim, aborted: bool, priority: bool, round: u64)
+    ensures { mail.new ≡ taken_mail who aborted priority round mail.old }
 {
     mail.round = round;
+    mail.urgent = priority;
     match who {
         Claim::Closed => mail.owed = Some(NO_PORT),
         Claim::Thread(_) if aborted => mail.owed = Some(ABORTED),
@@ -50,7 +51,11 @@ fn keep_taken(mails: &mut Vec<Mail>, who: Claim, note: Note, answer: Taken)
 {
     let m = usize::from(note.msg.0);
     match answer {
-        Taken::Took { aborted, .. } => take_up(&mut mails[m], who, aborted, note.round),
+        Taken::Took {
+            aborted,
+            priority,
+            ..
+        } => take_up(&mut mails[m], who, aborted, priority, note.round),
         Taken::Stale | Taken::Again => {}
     }
 }
@@ -232,7 +237,7 @@ pub struct Sending {
 }
 
 /// Sends an own message that is at rest, and answers its round. None if it is at its last round.
-#[tactic(auto, using(crate::proofs::Deeding::sent_keeps, crate::proofs::Deeding::unsent_keeps))]
+#[tactic(auto, using(crate::proofs::Deeding::sent_keeps))]
 pub(crate) fn send(
     book: &MsgBook,
     seat: &mut MsgSeat,

@@ -4,7 +4,7 @@ ghost use Rattle.lwkt_lane.specs.declared.notes.Note.{Note};
 ghost use Rattle.lwkt_msg.specs.Desks.{cpu_of, cpus_of, messages_of, IsSameDesk};
 ghost use Rattle.lwkt_port.specs.Posts.{IsSamePost};
 ghost use Rattle.lwkt_port.specs.Mails.{mail_at, AreMails};
-ghost use Rattle.lwkt_port.specs.Queues.{queue_of};
+ghost use Rattle.lwkt_port.specs.Queues.{queue_of, HasLeft, LeavesInOrder};
 ghost use Rattle.lwkt_port.specs.Works.{work, Grew, away_count};
 ghost use Rattle.lwkt_port.specs.Queues.{NamesMessage, HasNamed};
 ghost use Rattle.lwkt_port.specs.Servings.{served_request, served_answer, Serves, GetMeans, PostGets};
@@ -92,10 +92,10 @@ fn serve_note(
     }
 }
 
-// The first note of the queue was passed over: it leaves the queue, and a reply may be owed.
+// The first note was passed over: it leaves its queue, and a reply may be owed.
 fn pass(port: &mut Port, owing: &mut bool)
     requires { 0 < length (queue_of port.old) }
-    ensures drops { (note : Note) → (rest : List Note) → queue_of port.old ≡ note ∷ rest → (queue_of port.new ≡ rest) × (port.new.closed ≡ port.old.closed) }
+    ensures drops { (note : Note) → (rest : List Note) → queue_of port.old ≡ note ∷ rest → HasLeft rest port.old port.new }
     ensures owing { owing.new ≡ true }
 {
     *owing = true;
@@ -117,14 +117,15 @@ fn serve(
     requires kept { AreMails seat.old mails.old.items }
     requires named { HasNamed (vec_len mails.old) port.old }
     requires hint { owing.old ≡ false → OwesNone mails.old.items }
-    requires room { vec_len trace.old + 64 ≤ vec_capacity trace.old }
+    requires room { vec_len trace.old + 128 ≤ vec_capacity trace.old }
     ensures means { GetMeans thread (queue_of port.old) (queue_of port.new) (work seat.old mails.old trace.old) (work seat.new mails.new trace.new) result }
     ensures kept { AreMails seat.new mails.new.items }
     ensures same { IsSameDesk seat.old seat.new }
     ensures named { HasNamed (vec_len mails.new) port.new }
     ensures closed { port.new.closed ≡ port.old.closed }
+    ensures order { LeavesInOrder port.old port.new }
     ensures len { vec_len mails.new ≡ vec_len mails.old }
-    ensures grew { Grew (cpu_of seat.old) 64 trace.old trace.new }
+    ensures grew { Grew (cpu_of seat.old) 128 trace.old trace.new }
     ensures hint { owing.new ≡ false → OwesNone mails.new.items }
 {
     let notes = count(port);
@@ -147,8 +148,9 @@ fn serve(
 impl Ports {
     /// Gives the next item of a thread's port: a request, which the thread then has to reply to, or the reply to an
     /// asynchronous send, whose message is at rest with the thread again. None if the port has no item. This is
-    /// lwkt_getport(9); lwkt_waitport is this call made again until it gives an item. What differs: notes of messages
-    /// that were taken back are passed over, and a request that was aborted before the thread saw it is owed EINTR.
+    /// lwkt_getport(9); lwkt_waitport is this call made again until it gives an item. Items of messages that were sent with
+    /// priority come before the others, and each kind in the order in which it came. What differs: notes of messages that
+    /// were taken back are passed over, and a request that was aborted before the thread saw it is owed EINTR.
     ///
     /// `Again`: another processor's step on the first note's message came between; the note stays first.
     ///

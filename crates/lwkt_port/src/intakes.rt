@@ -338,11 +338,12 @@ fn take_in(
 }
 
 impl Ports {
-    /// Takes notes in that came over the lanes, and answers how many, at most `limit`: each is put into the queue of its
-    /// thread's port, and a synchronous answer is taken back and kept for `done`. A note that finds its port's queue full
-    /// is kept, and holds up its own lane and no other. Before that the notes in hand of the sending ends move on and owed
-    /// replies go out, as lanes have room; after it the ports of ended threads are cleared, of at most 16 notes. In
-    /// msgport(9) an inter-processor message puts each note into its port; here a processor asks for them.
+    /// Takes notes in that came over the lanes, and answers how many, at most `limit`: each is put into its thread's port,
+    /// into the queue of urgent notes or that of the others, and a synchronous answer is taken back and kept for `done`. A
+    /// note that finds its queue full is kept, and holds up its own lane and no other. Before that the notes in hand of the
+    /// sending ends move on and owed replies go out, as lanes have room; after it the ports of ended threads are cleared, of
+    /// at most 16 notes, the urgent ones of each first. In msgport(9) an inter-processor message puts each note into its
+    /// port; here a processor asks for them.
     ///
     /// That the trace has room for 256 events is the caller's condition.
     #[inline(always)]

@@ -1,5 +1,5 @@
 //! What the ports are for. The functions do nothing: their contracts are the laws.
-ghost use Rattle.lwkt_port.specs.Laws.{LanesLoseNone, NotesLeaveServed, RequestsAreShownOnce, OwedIsMadeOnce, UnowedIsNotMade, EintrIfAborted, NothingIsTold, TellsChain};
+ghost use Rattle.lwkt_port.specs.Laws.{LanesLoseNone, NotesLeaveServed, UrgentLeaveFirst, LeavingChains, NotesComeLast, RequestsAreShownOnce, OwedIsMadeOnce, UnowedIsNotMade, EintrIfAborted, NothingIsTold, TellsChain};
 
 /// What left a lane is what was reaped, queued, found stale or foreign, in order, and at last what is kept for it.
 pub fn lanes_lose_none()
@@ -9,6 +9,14 @@ pub fn lanes_lose_none()
 /// A note leaves a queue, from its front, only as stale, taken or reaped.
 pub fn notes_leave_served()
     ensures { NotesLeaveServed }
+{}
+
+/// An urgent note that is in a port is served before any other, and of each class the oldest first, over any number of calls; a
+/// note that comes is the last of its class.
+pub fn urgent_notes_go_first()
+    ensures first { UrgentLeaveFirst }
+    ensures chain { LeavingChains }
+    ensures come { NotesComeLast }
 {}
 
 /// A request is shown to one thread, the one of its port, and only once for each time that it is taken.

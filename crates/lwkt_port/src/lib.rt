@@ -5,6 +5,7 @@ mod clearings;
 mod closings;
 pub mod counts;
 pub mod deeds;
+mod encodings;
 pub mod gets;
 pub mod handlings;
 mod intakes;

@@ -11,6 +11,8 @@ pub struct Mail {
     pub origin: ThreadId,
     /// The round in which the message was taken last.
     pub round: u64,
+    /// Whether the message had priority when it was taken last.
+    pub urgent: bool,
     /// The answer to a synchronous send that was not given yet.
     pub done: Option<Rec>,
     /// The error that the ports owe as a reply.

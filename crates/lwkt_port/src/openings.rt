@@ -24,6 +24,7 @@ fn mail_of(origin: ThreadId, cpu: CpuId) -> Mail
     Mail {
         origin,
         round: 0,
+        urgent: false,
         done: None,
         owed: None,
         shown: None,

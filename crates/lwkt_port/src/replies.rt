@@ -25,6 +25,7 @@ fn answer_of(msg: MsgId, mail: &Mail) -> Note
         msg,
         port: mail.origin.thread,
         kind: NoteKind::Answer,
+        urgent: mail.urgent,
     }
 }
 

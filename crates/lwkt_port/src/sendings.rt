@@ -71,6 +71,7 @@ fn send_over(
         msg: sending.msg,
         port: sending.to.thread,
         kind: NoteKind::Request,
+        urgent: sending.flags.priority,
     };
     post(line, note);
     Ok(())
@@ -137,9 +138,9 @@ impl Ports {
     }
 
     /// Sends a message of a thread to a thread's port, without waiting for the reply, as lwkt_sendmsg(9) does. The reply
-    /// will be an item of the sender's own port. What differs: the message is named by its number, its target by
-    /// processor and thread; a full lane refuses the send; a thread that isn't there, or has ended, answers by a reply
-    /// with error 30.
+    /// will be an item of the sender's own port. Sent with priority, the request and its reply come before other items. What
+    /// differs: the message is named by its number, its target by processor and thread; a full lane refuses the send; a
+    /// thread that isn't there, or has ended, answers by a reply with error 30.
     ///
     /// `NoPort`: there is no such processor, or the thread's number is 16 or more. `NotOwner`: there is no such message,
     /// it belongs to another thread, or it is away. `LaneFull`: the lane to the target's processor has no room.
@@ -179,7 +180,7 @@ impl Ports {
     }
 
     /// Sends a message of a thread to a thread's port, for the thread to wait for the reply, as lwkt_domsg(9) does. The
-    /// reply is given by `done`, and is no item of a port. What differs: the call itself doesn't wait.
+    /// reply is given by `done`, and is no item of a port; the request has no priority. What differs: the call itself doesn't wait.
     ///
     /// Refused as `send` is; after `NoPort` comes `SelfDo`: the target is the thread's own port.
     ///
@@ -214,6 +215,7 @@ impl Ports {
         let flags = Flags {
             dropable: false,
             abortable: false,
+            priority: false,
         };
         let sending = Sending {
             thread,

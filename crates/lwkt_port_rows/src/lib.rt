@@ -67,3 +67,5 @@ mod rows;
 mod stations;
 #[cfg(test)]
 mod threads;
+#[cfg(test)]
+mod urgent_rows;

@@ -130,17 +130,18 @@ fn a_later_send_discards_the_reply(rt: HostRuntime) -> Result<(), Fail> {
     Ok(())
 }
 
-const fn note(m: u8, round: u64, port: u8) -> Note {
+pub(crate) const fn note(m: u8, round: u64, port: u8) -> Note {
     Note {
         round,
         msg: MsgId(m),
         port,
         kind: NoteKind::Request,
+        urgent: false,
     }
 }
 
 // Sends the two messages of the first processor to the second one.
-fn send_both(book: &MsgBook, sender: &mut MsgSeat) -> Result<(), Fault>
+pub(crate) fn send_both(book: &MsgBook, sender: &mut MsgSeat) -> Result<(), Fault>
     requires table { sender.old.table ≡ book.now.table }
     requires there { 1 < cpus_of sender.old }
     ensures { sender.new.table ≡ book.now.table }
@@ -152,7 +153,7 @@ fn send_both(book: &MsgBook, sender: &mut MsgSeat) -> Result<(), Fault>
     Ok(())
 }
 
-fn push(out: &mut LaneOut, note: Note) -> Result<(), Miss> {
+pub(crate) fn push(out: &mut LaneOut, note: Note) -> Result<(), Miss> {
     match out.push(note) {
         Ok(()) => Ok(()),
         Err(fault) => Err(Miss::Fault(fault)),
@@ -162,13 +163,19 @@ fn push(out: &mut LaneOut, note: Note) -> Result<(), Miss> {
 // One note is taken in.
 const ONE_NOTE: [(Ask, Told); 1] = [(Ask::TakeIn(16), Told::Popped(1))];
 
-// Fills the queue of thread 0 with stale notes, each of which is taken in.
-fn fill(alloc: Global, book: &MsgBook, ports: &mut Ports, out: &mut LaneOut) -> Result<(), Miss>
+// Fills a queue of thread 0 with copies of a stale note, each of which is taken in.
+pub(crate) fn fill(
+    alloc: Global,
+    book: &MsgBook,
+    ports: &mut Ports,
+    out: &mut LaneOut,
+    stale: Note,
+) -> Result<(), Miss>
     requires { Sits book.now 2 ports.old }
     ensures { Sits book.now 2 ports.new }
 {
-    for _stale in 0..64 {
-        push(out, note(0, 9, 0))?;
+    for _copy in 0..64 {
+        push(out, stale)?;
         play_all(alloc, book, ports, 2, &ONE_NOTE)?;
     }
     Ok(())
@@ -197,7 +204,7 @@ fn hold_up(
 {
     push(slow, note(200, 1, 0))?;
     play_all(alloc, book, ports, 2, &ONE_NOTE)?;
-    fill(alloc, book, ports, slow)?;
+    fill(alloc, book, ports, slow, note(0, 9, 0))?;
     push(slow, note(0, 9, 0))?;
     push(slow, note(1, 1, 1))?;
     push(quick, note(0, 1, 1))?;
@@ -206,14 +213,14 @@ fn hold_up(
 
 // The lanes of the second processor: the sending ends of two lanes to it, and what its ports have.
 #[derive(Drop)]
-struct Lanes {
-    slow: LaneOut,
-    quick: LaneOut,
-    outs: Vec<LaneOut>,
-    ins: Vec<LaneIn>,
+pub(crate) struct Lanes {
+    pub(crate) slow: LaneOut,
+    pub(crate) quick: LaneOut,
+    pub(crate) outs: Vec<LaneOut>,
+    pub(crate) ins: Vec<LaneIn>,
 }
 
-fn join(alloc: Global) -> Result<Lanes, Fault> {
+pub(crate) fn join(alloc: Global) -> Result<Lanes, Fault> {
     let (slow, in_slow) = lane(alloc, 32)?;
     let (quick, in_quick) = lane(alloc, 32)?;
     let (out_slow, _) = lane(alloc, 32)?;

@@ -14,12 +14,21 @@ use std::alloc::{AllocError, Global};
 pub const NO_FLAGS: Flags = Flags {
     dropable: false,
     abortable: false,
+    priority: false,
 };
 
 /// Leave to drop and to abort.
 pub const FREE: Flags = Flags {
     dropable: true,
     abortable: true,
+    priority: false,
+};
+
+/// Priority.
+pub const URGENT: Flags = Flags {
+    dropable: false,
+    abortable: false,
+    priority: true,
 };
 
 /// A call on the ports of a processor.
@@ -35,6 +44,8 @@ pub enum Ask {
     Done(u8),
     /// As `Send`, with leave to drop and to abort.
     SendFree(u8, u8, u8, u8, u32, u64),
+    /// As `Send`, with priority.
+    SendUrgent(u8, u8, u8, u8, u32, u64),
     /// A thread asks for a message to be aborted, hears whether one is to be aborted, or drops one.
     Abort(u8, u8),
     IsAborted(u8, u8),
@@ -80,7 +91,7 @@ fn done(answer: Result<(), Fault>) -> Told {
     }
 }
 
-// Makes a call on a message that is under way, or on a port of an ended thread.
+// Makes a call on a message that is under way, or on a port of an ended thread, or sends with priority.
 fn play_end(
     book: &MsgBook,
     ports: &mut Ports,
@@ -93,6 +104,14 @@ fn play_end(
     ensures { Sits book.now messages ports.new }
 {
     match ask {
+        Ask::SendUrgent(thread, m, cpu, target, op, arg) => {
+            let to = ThreadId {
+                cpu: CpuId(cpu),
+                thread: target,
+            };
+            let call = Call { arg, op };
+            done(ports.send(book, thread, MsgId(m), to, call, URGENT, trace))
+        }
         Ask::Abort(thread, m) => done(ports.abort(book, thread, MsgId(m), trace)),
         Ask::IsAborted(thread, m) => match ports.is_aborted(book, thread, MsgId(m)) {
             Ok(aborted) => Told::Heard(aborted),

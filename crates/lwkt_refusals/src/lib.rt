@@ -5,6 +5,7 @@ mod members;
 mod openings;
 mod pages;
 mod parts;
+mod records;
 mod refusals;
 mod rows;
 mod sayings;

@@ -1,17 +1,28 @@
 //! What is bad of tokens and messages.
 use crate::members::{WHOLE, range, show_list, show_member, show_members, show_numbers};
 use crate::parts::Part;
+use crate::records::show_record;
 use crate::words::Words;
 
+/// Whose token it is: a script's, which has no record, or a trace's, which may have one.
+#[derive(Clone, Copy, PartialEq, Eq)]
+pub(crate) enum Guarding {
+    Never,
+    Maybe,
+}
+
 // Whether a part is the name of a law.
-fn is_law(part: Part<'_>) -> bool {
+fn is_law(part: Part<'_>, guarding: Guarding) -> bool {
+    if guarding == Guarding::Maybe && part.is_text("len") {
+        return true;
+    }
     ["any", "sum", "order", "cap", "tally"]
         .iter()
         .any(|name| part.is_text(name))
 }
 
 // Appends what is bad of a law over so many cells; says whether something is.
-fn show_law(out: &mut Words, token: Part<'_>, count: usize) -> bool {
+fn show_law(out: &mut Words, token: Part<'_>, count: usize, guarding: Guarding) -> bool {
     let Some(law) = token.member("law") else {
         return false;
     };
@@ -20,32 +31,50 @@ fn show_law(out: &mut Words, token: Part<'_>, count: usize) -> bool {
         out.size("law tally has exactly one cell, and here are ", count);
         return true;
     }
-    if is_law(law) {
+    if guarding == Guarding::Maybe && law.is_text("len") && count == 0 {
+        out.add("law len has at least one cell, and here is none");
+        return true;
+    }
+    if is_law(law, guarding) {
         return false;
     }
     out.add("law is ");
     out.part(law);
-    out.add(", and has to be \"any\", \"sum\", \"order\", \"cap\" or \"tally\"");
+    out.add(match guarding {
+        Guarding::Never => ", and has to be \"any\", \"sum\", \"order\", \"cap\" or \"tally\"",
+        Guarding::Maybe => {
+            ", and has to be \"any\", \"sum\", \"order\", \"cap\", \"tally\" or \"len\""
+        }
+    });
     true
 }
 
 // Appends what is bad of the cells of a token and its law; says whether something is.
-fn show_cells(out: &mut Words, token: Part<'_>) -> bool {
+fn show_cells(out: &mut Words, token: Part<'_>, guarding: Guarding) -> bool {
     if show_list(out, token, "cells", 4) {
         return true;
     }
     let Some(cells) = token.member("cells") else {
         return false;
     };
-    show_numbers(out, cells, "a cell") || show_law(out, token, cells.count().unwrap_or(0))
+    show_numbers(out, cells, "a cell") || show_law(out, token, cells.count().unwrap_or(0), guarding)
 }
 
 /// Appends what is bad of a token; says whether something is.
-pub(crate) fn show_token(out: &mut Words, token: Part<'_>) -> bool {
-    show_members(out, token, &["cells", "law", "param", "gen"])
-        || show_cells(out, token)
+pub(crate) fn show_token(out: &mut Words, token: Part<'_>, guarding: Guarding) -> bool {
+    show_token_members(out, token, guarding)
+        || show_cells(out, token, guarding)
         || show_member(out, token, range("param", 0, WHOLE))
         || show_member(out, token, range("gen", 0, 70_368_744_177_663))
+        || (guarding == Guarding::Maybe && show_record(out, token))
+}
+
+// Appends what is bad of the members of a token; says whether something is.
+fn show_token_members(out: &mut Words, token: Part<'_>, guarding: Guarding) -> bool {
+    if guarding == Guarding::Maybe && token.member("record").is_some() {
+        return show_members(out, token, &["cells", "law", "param", "gen", "record"]);
+    }
+    show_members(out, token, &["cells", "law", "param", "gen"])
 }
 
 // The processor and the thread that a message is of, if it names just these.
@@ -126,12 +155,17 @@ fn show_many(out: &mut Words, whole: Part<'_>, name: &str) -> bool {
 }
 
 /// Appends what is bad of a token of the list; says whether something is.
-pub(crate) fn show_token_at(out: &mut Words, whole: Part<'_>, place: usize) -> bool {
+pub(crate) fn show_token_at(
+    out: &mut Words,
+    whole: Part<'_>,
+    place: usize,
+    guarding: Guarding,
+) -> bool {
     if place >= 64 {
         return show_many(out, whole, "tokens");
     }
     match show_item(out, whole, "tokens", place) {
-        Some(token) => show_token(out, token),
+        Some(token) => show_token(out, token, guarding),
         None => false,
     }
 }

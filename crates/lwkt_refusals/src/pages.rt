@@ -106,5 +106,6 @@ pub fn show_breach(out: &mut Page, law: Law, param: u64, cells: &[u64]) {
         Law::Order => out.add(" are not in rising order"),
         Law::Cap => out.number(" are not all at most ", param),
         Law::Tally => out.number(" are not the one cell ", param),
+        Law::Len => out.add(" do not begin with the length of the record"),
     }
 }

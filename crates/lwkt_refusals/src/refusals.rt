@@ -4,6 +4,7 @@ use crate::scripts::show_script_place;
 use crate::texts::{byte_at, line_of, place_of};
 use crate::traces::show_trace_place;
 use crate::words::Words;
+use lwkt_base::blobs::length_of;
 use lwkt_base::{Fault, TokSpec};
 use lwkt_script::tokens::tokens_of;
 use serde_json::Value;
@@ -121,7 +122,10 @@ fn show_opening(alloc: Global, out: &mut Words, whole: Part<'_>) -> Option<()> {
     let list = whole.member("tokens")?;
     let tokens = tokens_in(alloc, list)?;
     for (number, spec) in tokens.iter().enumerate() {
-        if !spec.law.holds(spec.cells.as_slice(), spec.param) {
+        if !spec
+            .law
+            .holds(spec.cells.as_slice(), spec.param, length_of(&spec.blob))
+        {
             out.point(list.item(number)?);
             out.size("the opening of token ", number);
             out.add(": ");

@@ -2,6 +2,7 @@
 use crate::members;
 use crate::members::show_numbers;
 use crate::parts::Part;
+use crate::records::{is_record, show_no_record};
 use crate::words::Words;
 
 const SMALL: Want = Want::UpTo(255);
@@ -14,6 +15,8 @@ const WHOLE: Want = Want::UpTo(members::WHOLE);
 
 const ROW: Want = Want::Row;
 
+const RECORD: Want = Want::Record;
+
 // The most cells of a row.
 const CELL_LIMIT: usize = 4;
 
@@ -24,6 +27,8 @@ enum Want {
     UpTo(u64),
     // A list of at most four whole numbers.
     Row,
+    // A text of two small hexadecimal digits for each byte of a record, of which there are at most 65.
+    Record,
 }
 
 /// What a list stands for.
@@ -81,7 +86,7 @@ const STEPS: [Form; 18] = [
     ("exit", &[]),
 ];
 
-const EVENTS: [Form; 17] = [
+const EVENTS: [Form; 19] = [
     ("load", &[SMALL, SMALL]),
     ("take", &[SMALL, SMALL]),
     ("share", &[SMALL, SMALL]),
@@ -93,6 +98,8 @@ const EVENTS: [Form; 17] = [
     ("give_written", &[SMALL, SMALL, WHOLE, ROW, ROW]),
     ("read", &[SMALL, SMALL, SMALL, WHOLE]),
     ("write", &[SMALL, SMALL, SMALL, WHOLE]),
+    ("read_record", &[SMALL, SMALL, RECORD]),
+    ("write_record", &[SMALL, SMALL, RECORD]),
     ("send", &[SMALL, SMALL, SMALL, WHOLE]),
     ("take_msg", &[SMALL, SMALL, WHOLE]),
     ("drop", &[SMALL, SMALL]),
@@ -151,6 +158,7 @@ fn fits(part: Part<'_>, want: Want) -> bool {
     match want {
         Want::UpTo(limit) => part.number().is_some() && part.number() <= Some(limit),
         Want::Row => is_row(part),
+        Want::Record => is_record(part, 65),
     }
 }
 
@@ -178,6 +186,10 @@ fn show_part(out: &mut Words, list: Part<'_>, wants: &[Want]) {
             return match *want {
                 Want::UpTo(limit) => out.number(" that is no whole number 0 to ", limit),
                 Want::Row => show_no_row(out, part),
+                Want::Record => {
+                    out.add(" that is ");
+                    show_no_record(out, 65)
+                }
             };
         }
     }

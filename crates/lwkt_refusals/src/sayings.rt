@@ -35,6 +35,17 @@ usage: lwkt_show turns [--turns A..B | --rounds A..B] [--svg] [FILE]
 example: ./lwkt_show turns examples/crossed_lists.json
 ";
 
+const EXPLORE_USAGE: &str = "\
+usage: lwkt_explore [--states N] [--turns N] [FILE]
+                      try every order of a script's turns, and write each
+                      outcome once with a shortest order that leads to it
+       lwkt_explore --random N [--seed S] [--turns N] [FILE]
+                      the same of N random orders
+       lwkt_explore --help
+                      say more
+example: ./lwkt_explore examples/crossed_lists.json
+";
+
 /// A program that says why it refused what it was given.
 #[derive(Clone, Copy, Debug, PartialEq, Eq)]
 pub enum Speaker {
@@ -44,6 +55,8 @@ pub enum Speaker {
     Check,
     /// `lwkt_show`.
     Show,
+    /// `lwkt_explore`.
+    Explore,
 }
 
 // Writes a text. What can't be written is let go.
@@ -60,6 +73,7 @@ impl Speaker {
             Speaker::Run => "lwkt_run: ",
             Speaker::Check => "lwkt_check: ",
             Speaker::Show => "lwkt_show: ",
+            Speaker::Explore => "lwkt_explore: ",
         }
     }
 
@@ -69,13 +83,14 @@ impl Speaker {
             Speaker::Run => RUN_USAGE,
             Speaker::Check => CHECK_USAGE,
             Speaker::Show => SHOW_USAGE,
+            Speaker::Explore => EXPLORE_USAGE,
         }
     }
 
     // What it reads.
     fn document(self) -> Document {
         match self {
-            Speaker::Run | Speaker::Show => Document::Script,
+            Speaker::Run | Speaker::Show | Speaker::Explore => Document::Script,
             Speaker::Check => Document::Trace,
         }
     }
@@ -83,7 +98,7 @@ impl Speaker {
     // What is said of a read that failed.
     fn read_failure(self) -> &'static str {
         match self {
-            Speaker::Run | Speaker::Show => "the script could not be read",
+            Speaker::Run | Speaker::Show | Speaker::Explore => "the script could not be read",
             Speaker::Check => "the trace could not be read",
         }
     }
@@ -94,6 +109,7 @@ impl Speaker {
             Speaker::Run => "the report could not be written",
             Speaker::Check => "what was found could not be written",
             Speaker::Show => "the run could not be shown",
+            Speaker::Explore => "what was found could not be written",
         }
     }
 
@@ -109,7 +125,7 @@ impl Speaker {
     // Why these bytes are refused with this fault, behind its number where the program has no other line.
     fn words(self, alloc: Global, bytes: &[u8], fault: Fault) -> Result<String, AllocError> {
         let mut out = Page::new(alloc);
-        if self == Speaker::Show {
+        if self == Speaker::Show || self == Speaker::Explore {
             show_number(&mut out, fault);
         }
         out.add(refusal(alloc, self.document(), bytes, fault)?.as_str());
@@ -149,7 +165,7 @@ impl Speaker {
     {
         match self {
             Speaker::Run | Speaker::Check => self.say(errors, "out of memory"),
-            Speaker::Show => self.say(errors, "fault 32: out of memory"),
+            Speaker::Show | Speaker::Explore => self.say(errors, "fault 32: out of memory"),
         }
     }
 

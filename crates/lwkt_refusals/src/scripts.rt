@@ -1,6 +1,6 @@
 //! What is bad at a place of a script.
 use crate::members::{range, show_list, show_member, show_members};
-use crate::openings::{cpus_of, item_of, show_item, show_message_at, show_token_at};
+use crate::openings::{Guarding, cpus_of, item_of, show_item, show_message_at, show_token_at};
 use crate::parts::Part;
 use crate::rows::{Kind, show_row};
 use crate::words::Words;
@@ -91,7 +91,7 @@ fn show_told(out: &mut Words, whole: Part<'_>, place: usize) -> bool {
         3 => show_member(out, whole, range("turns", 1, 1_000_000)),
         4 => show_member(out, whole, range("idle", 1, 100_000_000)),
         5 => show_member(out, whole, range("cpus", 1, 8)),
-        1000..=1999 => show_token_at(out, whole, place - 1000),
+        1000..=1999 => show_token_at(out, whole, place - 1000, Guarding::Never),
         2000..=2999 => show_message_at(out, whole, place - 2000),
         3000..=3999 => show_thread_at(out, whole, place - 3000),
         100_000.. => {

@@ -1,7 +1,8 @@
 //! What is bad at a place of a trace.
 use crate::members::{range, show_list, show_member, show_members, show_numbers};
-use crate::openings::{show_message_at, show_token_at};
+use crate::openings::{Guarding, show_message_at, show_token_at};
 use crate::parts::Part;
+use crate::records::show_no_record;
 use crate::rows::{Kind, show_row};
 use crate::words::Words;
 
@@ -39,12 +40,22 @@ fn show_event(out: &mut Words, whole: Part<'_>, place: usize) -> Option<()> {
 fn show_last(out: &mut Words, whole: Part<'_>) -> Option<bool> {
     let last = whole.member("last")?;
     out.add("last: ");
-    let told = show_members(out, last, &["rows", "gens", "tallies", "messages"])
+    let told = show_last_members(out, last)
         || show_list(out, last, "rows", usize::MAX)
         || show_list(out, last, "gens", usize::MAX)
         || show_list(out, last, "tallies", usize::MAX)
-        || show_list(out, last, "messages", usize::MAX);
+        || show_list(out, last, "messages", usize::MAX)
+        || (last.member("records").is_some() && show_list(out, last, "records", usize::MAX));
     Some(told)
+}
+
+// Appends what is bad of the members of the closing values; says whether something is.
+fn show_last_members(out: &mut Words, last: Part<'_>) -> bool {
+    if last.member("records").is_some() {
+        let names = ["rows", "gens", "tallies", "messages", "records"];
+        return show_members(out, last, &names);
+    }
+    show_members(out, last, &["rows", "gens", "tallies", "messages"])
 }
 
 // Appends what is bad of the generations; says whether something is.
@@ -93,6 +104,17 @@ fn show_end_at(out: &mut Words, whole: Part<'_>, place: usize) -> bool {
     true
 }
 
+// Appends what is bad of the record of a token.
+fn show_record_at(out: &mut Words, whole: Part<'_>, place: usize) -> bool {
+    let Some(record) = show_item(out, whole, "records", place) else {
+        return place >= LIMIT;
+    };
+    out.part(record);
+    out.add(" is neither null nor a text: this is ");
+    show_no_record(out, 64);
+    true
+}
+
 // Appends what is bad at a place, if the place is one of a trace.
 fn show_told(out: &mut Words, whole: Part<'_>, place: usize) -> bool {
     match place {
@@ -101,11 +123,12 @@ fn show_told(out: &mut Words, whole: Part<'_>, place: usize) -> bool {
         3 => show_member(out, whole, range("cpus", 1, 8)),
         4 => show_last(out, whole) == Some(true),
         5 => show_gens(out, whole) == Some(true),
-        1000..=1999 => show_token_at(out, whole, place - 1000),
+        1000..=1999 => show_token_at(out, whole, place - 1000, Guarding::Maybe),
         2000..=2999 => show_message_at(out, whole, place - 2000),
         3000..=3999 => show_list_at(out, whole, "rows", place - 3000),
         4000..=4999 => show_list_at(out, whole, "tallies", place - 4000),
         5000..=5999 => show_end_at(out, whole, place - 5000),
+        6000..=6999 => show_record_at(out, whole, place - 6000),
         1_000_000.. => show_event(out, whole, place - 1_000_000).is_some(),
         _ => false,
     }

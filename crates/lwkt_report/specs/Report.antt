@@ -99,6 +99,11 @@ verdict_line Closed = codes "closed" ++ line_feed
 verdict_line Lawful = codes "lawful" ++ line_feed
 verdict_line (Unlawful index) = codes "unlawful " ++ decimal index ++ line_feed
 
+-- the lines of a report but the last: the tokens, the messages, the threads
+unfoldable pub front_text : Closing → List ℕ
+front_text closing =
+    numbered token_line 0 closing.tokens.items ++ numbered message_line 0 closing.messages.items ++ flat_map thread_line closing.threads.items
+
 -- the tokens, the messages, the threads, and what is said of the trace
 unfoldable pub report_text : Closing → List ℕ
 report_text closing =

@@ -21,7 +21,7 @@ pub use complaints::{
 pub use logs::Log;
 pub use lwkt_base::Entry;
 pub use notes::{NotedReader, NotedWriter};
-pub use reports::report;
+pub use reports::{report, report_front};
 pub use sinks::{Page, Sink, WriterSink, write_whole};
 pub use sources::{READ_LIMIT, ReaderSource, Source, read_capped, read_up_to};
 pub use streams::{RunFault, StreamError};

@@ -1,6 +1,6 @@
 ghost use Rattle.std.specs.Prelude.{◌≡◌, ◌++◌, OnOk, IfOk, IsOkUnless, string_bytes};
 ghost use Rattle.std.specs.List.{flat_map};
-ghost use Rattle.lwkt_report.specs.Report.{token_line, tally_line, message_line, thread_line, verdict_line, numbered, report_text};
+ghost use Rattle.lwkt_report.specs.Report.{token_line, tally_line, message_line, thread_line, verdict_line, numbered, front_text, report_text};
 
 use crate::closings::{Closing, ThreadLine, TokenLine, Verdict};
 use crate::listings::{show_listed, show_spaced};
@@ -97,6 +97,30 @@ fn shown(alloc: Global, closing: &Closing) -> Result<String, AllocError>
     show_threads(closing.threads.as_slice(), &mut out)?;
     show_verdict(&closing.verdict, &mut out)?;
     Ok(out)
+}
+
+#[tactic(auto, unfolding(crate::specs::Report::front_text))]
+fn front_shown(alloc: Global, closing: &Closing) -> Result<String, AllocError>
+    ensures { IfOk result (λ text. string_bytes text ≡ front_text closing.now) }
+{
+    let mut out = String::new(alloc);
+    show_tokens(closing.tokens.as_slice(), &mut out)?;
+    show_messages(closing.messages.as_slice(), &mut out)?;
+    show_threads(closing.threads.as_slice(), &mut out)?;
+    Ok(out)
+}
+
+/// The report of a run that has ended, without its last line, the verdict.
+///
+/// Refused with `Memory` if an allocation is.
+pub fn report_front(alloc: Global, closing: &Closing) -> Result<String, Fault>
+    ensures ok { IfOk result (λ text. string_bytes text ≡ front_text closing.now) }
+    ensures only { IsOkUnless result Fault.Memory }
+{
+    match front_shown(alloc, closing) {
+        Ok(text) => Ok(text),
+        Err(_) => Err(Fault::Memory),
+    }
 }
 
 /// The report of a run that has ended, each line ended by a line feed.

@@ -209,7 +209,8 @@ impl Row for Lawful {
     fn is_right(&self, _alloc: Global) -> bool {
         // At the end of a section nothing is asked of a Tally cell.
         let section = self.3 || self.0 == Law::Tally;
-        self.0.holds(self.2, self.1) == self.3 && self.0.holds_of_section(self.2, self.1) == section
+        self.0.holds(self.2, self.1, None) == self.3
+            && self.0.holds_of_section(self.2, self.1, None) == section
     }
 }
 
@@ -362,8 +363,22 @@ impl Row for MessageWord {
     }
 }
 
-// Row Book-Basics-5; and abort requested, MSGF_ABORTABLE, origin 7, target 6, the last round.
-const MESSAGE_WORDS: [MessageWord; 2] = [
+// Row Book-Basics-5; the same with MSGF_PRIORITY; and abort requested, MSGF_ABORTABLE, origin 7, target 6, the last round.
+const MESSAGE_WORDS: [MessageWord; 3] = [
+    MessageWord(
+        9281,
+        MsgWord {
+            round: 1,
+            state: MsgState::Out,
+            origin: CpuId(0),
+            target: CpuId(1),
+            aborted: false,
+            sync: false,
+            dropable: false,
+            abortable: false,
+            priority: true,
+        },
+    ),
     MessageWord(
         9217,
         MsgWord {
@@ -375,6 +390,7 @@ const MESSAGE_WORDS: [MessageWord; 2] = [
             sync: false,
             dropable: false,
             abortable: false,
+            priority: false,
         },
     ),
     MessageWord(
@@ -388,6 +404,7 @@ const MESSAGE_WORDS: [MessageWord; 2] = [
             sync: false,
             dropable: false,
             abortable: true,
+            priority: false,
         },
     ),
 ];

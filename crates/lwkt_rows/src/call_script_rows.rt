@@ -167,21 +167,25 @@ const CALL: Call = Call { op: 4, arg: 5 };
 const NEITHER: Flags = Flags {
     dropable: false,
     abortable: false,
+    priority: false,
 };
 
 const DROPABLE: Flags = Flags {
     dropable: true,
     abortable: false,
+    priority: false,
 };
 
 const ABORTABLE: Flags = Flags {
     dropable: false,
     abortable: true,
+    priority: false,
 };
 
 const BOTH: Flags = Flags {
     dropable: true,
     abortable: true,
+    priority: false,
 };
 
 // Whether a script has one thread with this one step.

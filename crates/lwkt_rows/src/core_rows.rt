@@ -137,6 +137,7 @@ fn token_final(
         rows,
         gens,
         tallies,
+        blobs: vec![in alloc; None]?,
         messages: Vec::new(alloc),
     })
 }
@@ -641,6 +642,7 @@ fn message_final(alloc: Global, round: u64, state: Owner) -> Result<Final, Alloc
         rows: Vec::new(alloc),
         gens: Vec::new(alloc),
         tallies: Vec::new(alloc),
+        blobs: Vec::new(alloc),
         messages: Vec::from_slice(alloc, &[MsgEnd { round, state }])?,
     })
 }
@@ -1023,6 +1025,8 @@ fn tally_token(alloc: Global) -> Result<Token, AllocError> {
         mark: false,
         row,
         first,
+        blob: None,
+        first_blob: None,
         holders: [Held::Nothing; 8],
         tallies: [0, 5, 0, 0, 0, 0, 0, 0],
     })

@@ -12,13 +12,14 @@ use Rattle.lwkt_verdict.specs.declared.turns.ThreadPlan.{ThreadPlan}
 use Rattle.lwkt_verdict.specs.declared.turns.ThreadEnd.{ThreadEnd}
 use Rattle.lwkt_verdict.specs.declared.turns.Poll.{Poll}
 use Rattle.lwkt_verdict.specs.declared.turns.Turn.{Turn}
+use Rattle.lwkt_verdict.specs.declared.turns.Pace.{Pace}
 use Rattle.lwkt_run.proofs.ChainMoves.{trace_chains}
 use Rattle.lwkt_run.specs.Judging.{ArePlansOf, AreEndsOf, Judges}
-use Rattle.lwkt_run.specs.Run.{opening_of, ShowsClosing, RunsInRounds, IsJudgedBy}
+use Rattle.lwkt_run.specs.Run.{opening_of, ShowsClosing, RunsAt, IsJudgedBy}
 
 -- what was kept of a run is judged, whatever it is
-pub judged : (script : Script) (closing : Closing) (m : Machine) (limit : ℕ) (plans : List ThreadPlan) (ends : List ThreadEnd) (last : Final) (trace : List Event) (polls : List Poll) (turns : List Turn) → m ≡ opening_of script → limit ≡ script.turns → ArePlansOf script.threads plans → AreEndsOf closing.threads.items ends → ShowsClosing closing last → RunsInRounds script closing.threads.items trace last → Judges closing.verdict m limit plans ends last trace polls turns → AreWithin script.cpus script.tokens script.messages → AllOpenLawfully script.tokens → IsJudgedBy script closing trace polls turns
-judged script closing m limit plans ends last trace polls turns same as_many planned ended shown runs by within lawful = record {
+pub judged : (script : Script) (closing : Closing) (m : Machine) (pace : Pace) (order : List ℕ) (plans : List ThreadPlan) (ends : List ThreadEnd) (last : Final) (trace : List Event) (polls : List Poll) (turns : List Turn) → m ≡ opening_of script → ArePlansOf script.threads plans → AreEndsOf closing.threads.items ends → ShowsClosing closing last → RunsAt pace script order closing.threads.items trace last → Judges closing.verdict m pace order plans ends last trace polls turns → AreWithin script.cpus script.tokens script.messages → AllOpenLawfully script.tokens → IsJudgedBy pace script closing order trace polls turns
+judged script closing m pace order plans ends last trace polls turns same planned ended shown runs by within lawful = record {
   plans = plans;
   ends = ends;
   last = last;
@@ -26,12 +27,12 @@ judged script closing m limit plans ends last trace polls turns same as_many pla
   are_ends = ended;
   shows = shown;
   runs = runs;
-  by = subst (λ n. Judges closing.verdict (opening_of script) n plans ends last trace polls turns) as_many judges;
-  chains = λ good. trace_chains script.cpus script.tokens script.messages trace last within lawful (subst (λ (verdict : Verdict). Judges verdict (opening_of script) limit plans ends last trace polls turns) good judges).0;
+  by = judges;
+  chains = λ good. trace_chains script.cpus script.tokens script.messages trace last within lawful (subst (λ (verdict : Verdict). Judges verdict (opening_of script) pace order plans ends last trace polls turns) good judges).0;
 }
   where
-    judges : Judges closing.verdict (opening_of script) limit plans ends last trace polls turns
-    judges = subst (λ x. Judges closing.verdict x limit plans ends last trace polls turns) same by
+    judges : Judges closing.verdict (opening_of script) pace order plans ends last trace polls turns
+    judges = subst (λ x. Judges closing.verdict x pace order plans ends last trace polls turns) same by
 
 -- the same plans of the same threads
 pub plans_again : (specs threads : List ThreadSpec) (plans others : List ThreadPlan) → specs ≡ threads → others ≡ plans → ArePlansOf specs plans → ArePlansOf threads others

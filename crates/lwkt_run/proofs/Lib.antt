@@ -3,6 +3,7 @@ pub mod CloseMoves
 pub mod IdMoves
 pub mod JudgeMoves
 pub mod LineMoves
+pub mod OrderMoves
 pub mod RoundMoves
 pub mod RunLemmas
 pub mod ThreadedLemmas

@@ -27,7 +27,8 @@ use Rattle.lwkt_machine.proofs.StopMoves.{AreOverBelow, over_more}
 use Rattle.lwkt_script.specs.declared.scripts.ThreadSpec.{ThreadSpec}
 use Rattle.lwkt_script.specs.Format.{threads_on}
 use Rattle.lwkt_threads.specs.Driven.{WasDriven, AreDriven}
-use Rattle.lwkt_run.specs.Running.{HasThreads, Scene, Going, going, says_over, both, TakesTurn, MakesRound, HasMadeRounds}
+use Rattle.lwkt_verdict.specs.Run.{whose}
+use Rattle.lwkt_run.specs.Running.{HasThreads, Scene, Going, going, says_over, both, TakesTurn, MakesTurnAt, MakesTurns, MakesRound, HasMadeRounds}
 
 -- what each step of a chain keeps, the chain keeps
 chain_keeps : (A : Type 0) (Step : ℕ → A → A → Type 0) (P : A → Type 0) → ((k : ℕ) (x y : A) → Step k x y → P x → P y) → (n : ℕ) (x y : A) → Chain A Step n x y → P x → P y
@@ -75,14 +76,16 @@ has_set cpus threads ps k p q at same has = record {
   ];
 }
 
-has_turn : (cpus : ℕ) (threads : List ThreadSpec) (cpu : ℕ) (x y : Going) → TakesTurn cpu x y → HasThreads cpus threads x.machine.cpus → HasThreads cpus threads y.machine.cpus
-has_turn cpus threads cpu x y turn has =
-    let d = turn.1.0 in
+has_turned : (cpus : ℕ) (threads : List ThreadSpec) (cpu : ℕ) (old new : Rig) (t u : Vec Event Global) (turned : Turned) → TurnsAt cpu old new t u turned → HasThreads cpus threads old.cpus → HasThreads cpus threads new.cpus
+has_turned cpus threads cpu old new t u turned d has =
     let F : List (Processor Scripted) → Type 0 = λ ps. HasThreads cpus threads ps in
-    subst F (sym d.cpus) (has_set cpus threads x.machine.cpus cpu d.before d.now d.at_before (turn_long IsPolled x.machine.bank d.before d.now x.trace y.trace turn.0 d.does) has)
+    subst F (sym d.cpus) (has_set cpus threads old.cpus cpu d.before d.now d.at_before (turn_long IsPolled old.bank d.before d.now t u turned d.does) has)
+
+has_turn : (cpus : ℕ) (threads : List ThreadSpec) (cpu : ℕ) (x y : Going) → TakesTurn cpu x y → HasThreads cpus threads x.machine.cpus → HasThreads cpus threads y.machine.cpus
+has_turn cpus threads cpu x y turn has = has_turned cpus threads cpu x.machine y.machine x.trace y.trace turn.0 turn.1.0 has
 
 -- what each turn keeps of a machine, a round keeps
-round_keeps : (P : Rig → Type 0) → ((cpu : ℕ) (x y : Going) → TakesTurn cpu x y → P x.machine → P y.machine) → (over : Bool) (number : ℕ) (x y : Scene) → MakesRound over number x y → P x.machine → P y.machine
+pub round_keeps : (P : Rig → Type 0) → ((cpu : ℕ) (x y : Going) → TakesTurn cpu x y → P x.machine → P y.machine) → (over : Bool) (number : ℕ) (x y : Scene) → MakesRound over number x y → P x.machine → P y.machine
 round_keeps P keeps over number x y round p = chain_keeps Going TakesTurn (λ z. P z.machine) keeps (length x.machine.cpus) (going x true) (going y over) round p
 
 -- the rounds of a run too
@@ -98,6 +101,16 @@ rounds_keep P keeps limit x y rounds p =
 
 pub has_rounds : (cpus : ℕ) (threads : List ThreadSpec) (limit : ℕ) (x y : Scene) → HasMadeRounds limit x y → HasThreads cpus threads x.machine.cpus → HasThreads cpus threads y.machine.cpus
 has_rounds cpus threads limit x y rounds has = rounds_keep (λ m. HasThreads cpus threads m.cpus) (has_turn cpus threads) limit x y rounds has
+
+-- the turns of an order do
+pub has_turns : (cpus : ℕ) (threads : List ThreadSpec) (order : List ℕ) (x y : Scene) → MakesTurns order x y → HasThreads cpus threads x.machine.cpus → HasThreads cpus threads y.machine.cpus
+has_turns cpus threads order x y turns has =
+    chain_keeps Scene (λ k. MakesTurnAt (whose order k)) (λ z. HasThreads cpus threads z.machine.cpus) (λ k v w turn h. has_turned cpus threads (whose order k) v.machine w.machine v.trace w.trace turn.0 turn.1 h) (length order) x y turns has
+
+-- and keep the bank
+pub turns_bank : (order : List ℕ) (x y : Scene) → MakesTurns order x y → y.machine.bank ≡ x.machine.bank
+turns_bank order x y turns =
+    chain_keeps Scene (λ k. MakesTurnAt (whose order k)) (λ z. z.machine.bank ≡ x.machine.bank) (λ k v w turn h. turn.1.bank ∙ h) (length order) x y turns refl
 
 -- a machine that was driven
 pub has_driven : (answers : CpuId → ℕ → Bool → Type 0) (limits : Limits) (bank : BankId) (cpus : ℕ) (threads : List ThreadSpec) (olds news : List (Processor Scripted)) (traces : List (Vec Event Global)) → AreDriven answers limits bank olds news traces → HasThreads cpus threads olds → HasThreads cpus threads news

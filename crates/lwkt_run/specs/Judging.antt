@@ -14,6 +14,7 @@ use Rattle.lwkt_verdict.specs.declared.turns.ThreadPlan.{ThreadPlan}
 use Rattle.lwkt_verdict.specs.declared.turns.ThreadEnd.{ThreadEnd}
 use Rattle.lwkt_verdict.specs.declared.turns.Poll.{Poll}
 use Rattle.lwkt_verdict.specs.declared.turns.Turn.{Turn}
+use Rattle.lwkt_verdict.specs.declared.turns.Pace.{Pace}
 use Rattle.lwkt_verdict.specs.Run.{IsScriptRun}
 
 -- so many threads of a processor, by number
@@ -38,11 +39,11 @@ pub record AreEndsOf (lines : List ThreadLine) (ends : List ThreadEnd) : Type 0 
   pub states : map (λ end. end.state) ends ≡ map (λ line. line.state) lines
   pub logs : map (λ end. end.log.items) ends ≡ map (λ line. line.log) lines
 
--- the verdict on a trace and the turns that made it: lawful if the trace leads from the opening to the closing values and the
--- turns are a run of the script over it; else the first event that can't happen, or the number of events, if the close or the
+-- the verdict on a trace and the turns of an order that made it: lawful if the trace leads from the opening to the closing values
+-- and the turns are a run of the script along the order, at this pace, over it; else the first event that can't happen, or the number of events, if the close or the
 -- run alone isn't so
-abbrev pub Judges : Verdict → Machine → ℕ → List ThreadPlan → List ThreadEnd → Final → List Event → List Poll → List Turn → Type 0
-Judges Closed opening limit plans ends last trace polls turns = ⊥
-Judges Lawful opening limit plans ends last trace polls turns = IsLawfulTrace opening trace last × IsScriptRun plans limit opening polls turns trace ends
-Judges (Unlawful index) opening limit plans ends last trace polls turns =
-    FailsAt opening trace last index ⊎ (IsLawfulTrace opening trace last × ((index ≡ length trace) × ¬ IsScriptRun plans limit opening polls turns trace ends))
+abbrev pub Judges : Verdict → Machine → Pace → List ℕ → List ThreadPlan → List ThreadEnd → Final → List Event → List Poll → List Turn → Type 0
+Judges Closed opening pace order plans ends last trace polls turns = ⊥
+Judges Lawful opening pace order plans ends last trace polls turns = IsLawfulTrace opening trace last × IsScriptRun plans pace order opening polls turns trace ends
+Judges (Unlawful index) opening pace order plans ends last trace polls turns =
+    FailsAt opening trace last index ⊎ (IsLawfulTrace opening trace last × ((index ≡ length trace) × ¬ IsScriptRun plans pace order opening polls turns trace ends))

@@ -1,6 +1,7 @@
 pub mod Chains
 pub mod Judging
 pub mod Leaving
+pub mod Orders
 pub mod Run
 pub mod Running
 pub mod Values

@@ -1,9 +1,9 @@
 use Rattle.std.specs.Global.{Global}
-use Rattle.std.specs.Prelude.{codes, length, All, string_bytes, String, Vec, ◌≡◌, ◌⊎◌, ℕ, Bool, true, false, List, [], map, take, Option, is_some, unwrap_or, IfSome, Result, Ok, Err}
+use Rattle.std.specs.Prelude.{codes, ◌<◌, length, All, string_bytes, String, Vec, ◌≡◌, ◌⊎◌, ℕ, Bool, true, false, List, [], map, take, Option, is_some, unwrap_or, IfSome, Result, Ok, Err}
 use Rattle.std.specs.List.{list_all}
 use Rattle.std.specs.Io.KnownBytes.{Appends, Keeps}
 use Rattle.lwkt_base.specs.declared.faults.Fault.{Fault as Refusal}
-use Rattle.lwkt_base.specs.declared.faults.Fault.TheVariants.{Script as ScriptFault, Memory, Limits, LawBroken}
+use Rattle.lwkt_base.specs.declared.faults.Fault.TheVariants.{Script as ScriptFault, NoPort, Memory, Limits, LawBroken}
 use Rattle.lwkt_base.specs.declared.threads.ThreadState.{ThreadState}
 use Rattle.lwkt_base.specs.declared.threads.ThreadState.TheVariants.{Ready, Waiting, Running, Exited, Faulted}
 use Rattle.lwkt_core.specs.declared.events.Event.{Event}
@@ -27,12 +27,14 @@ use Rattle.lwkt_verdict.specs.declared.turns.ThreadPlan.{ThreadPlan}
 use Rattle.lwkt_verdict.specs.declared.turns.ThreadEnd.{ThreadEnd}
 use Rattle.lwkt_verdict.specs.declared.turns.Poll.{Poll}
 use Rattle.lwkt_verdict.specs.declared.turns.Turn.{Turn}
+use Rattle.lwkt_verdict.specs.declared.turns.Pace.{Pace}
+use Rattle.lwkt_verdict.specs.declared.turns.Pace.TheVariants.{Rounds, Named}
 use Rattle.lwkt_machine.specs.Machines.{Rig}
 use Rattle.lwkt_machine.specs.Opened.{IsOpenedMachine, Declines as IsDeclined}
 use Rattle.lwkt_run.specs.Chains.{WritesChains}
 use Rattle.lwkt_run.specs.Values.{is_tally}
 use Rattle.lwkt_run.specs.Leaving.{Leaves}
-use Rattle.lwkt_run.specs.Running.{ShowThreads, scene, HasMadeRounds}
+use Rattle.lwkt_run.specs.Running.{ShowThreads, scene, HasMadeRounds, MakesTurns}
 use Rattle.lwkt_run.specs.Judging.{ids_of, ArePlansOf, AreEndsOf, Judges}
 use Rattle.lwkt_run.specs.declared.reports.Done.{Done}
 use Rattle.lwkt_run.specs.declared.runs.End.{End}
@@ -66,35 +68,57 @@ pub record RunsInRounds (script : Script) (lines : List ThreadLine) (trace : Lis
   pub leaves : Leaves made mid whole last
   pub trace_is : trace ≡ whole.items
 
--- a report gives its verdict on this trace and these turns with their polls, as on a run of the script from its opening to the
--- values and the threads' ends that it shows; where the verdict is lawful, the written sections of the trace are chains from the
+-- the same of a run along an order of processors: the script's machine was opened, and made the turn of each processor that the
+-- order names, one after another; the lines show how its threads stood then; it stopped, and its bank and its book were closed with
+-- these values (own)
+pub record RunsAlong (script : Script) (order : List ℕ) (lines : List ThreadLine) (trace : List Event) (last : Final) : Type 0 where
+  pub opened : Rig
+  pub made : Rig
+  pub first : Vec Event Global
+  pub mid : Vec Event Global
+  pub whole : Vec Event Global
+  pub opens : IsOpenedMachine script opened
+  pub none : first.items ≡ []
+  pub along : MakesTurns order (scene opened first) (scene made mid)
+  pub shown : ShowThreads lines made
+  pub leaves : Leaves made mid whole last
+  pub trace_is : trace ≡ whole.items
+
+-- the same of a run at a pace: in the rounds of the script, or along an order
+abbrev pub RunsAt : Pace → Script → List ℕ → List ThreadLine → List Event → Final → Type 0
+RunsAt (Rounds limit) script order lines trace last = (limit ≡ script.turns) × RunsInRounds script lines trace last
+RunsAt Named script order lines trace last = RunsAlong script order lines trace last
+
+-- a report gives its verdict on this trace and the turns of this order with their polls, as on a run of the script at this pace, from
+-- its opening to the values and the threads' ends that it shows; where the verdict is lawful, the written sections of the trace are chains from the
 -- opening rows to those of the token lines (own)
-pub record IsJudgedBy (script : Script) (closing : Closing) (trace : List Event) (polls : List Poll) (turns : List Turn) : Type 0 where
+pub record IsJudgedBy (pace : Pace) (script : Script) (closing : Closing) (order : List ℕ) (trace : List Event) (polls : List Poll) (turns : List Turn) : Type 0 where
   pub plans : List ThreadPlan
   pub ends : List ThreadEnd
   pub last : Final
   pub are_plans : ArePlansOf script.threads plans
   pub are_ends : AreEndsOf closing.threads.items ends
   pub shows : ShowsClosing closing last
-  pub runs : RunsInRounds script closing.threads.items trace last
-  pub by : Judges closing.verdict (opening_of script) script.turns plans ends last trace polls turns
+  pub runs : RunsAt pace script order closing.threads.items trace last
+  pub by : Judges closing.verdict (opening_of script) pace order plans ends last trace polls turns
   pub chains : closing.verdict ≡ Lawful → WritesChains (opening_of script) trace last
 
--- there are a trace and turns with their polls on which the report gives its verdict
-pub record IsJudged (script : Script) (closing : Closing) : Type 0 where
+-- there are a trace and turns of an order with their polls on which the report gives its verdict
+pub record IsJudged (pace : Pace) (script : Script) (closing : Closing) : Type 0 where
+  pub order : List ℕ
   pub trace : List Event
   pub polls : List Poll
   pub turns : List Turn
-  pub so : IsJudgedBy script closing trace polls turns
+  pub so : IsJudgedBy pace script closing order trace polls turns
 
--- the values may be those of a run of the script: its opening was accepted, a tally line stands exactly under a Tally token, each
+-- the values may be those of a run of the script at this pace: its opening was accepted, a tally line stands exactly under a Tally token, each
 -- thread has its line, and the verdict is that on a trace and turns that lead to what is shown (own)
-pub record MayClose (script : Script) (closing : Closing) : Type 0 where
+pub record MayClose (pace : Pace) (script : Script) (closing : Closing) : Type 0 where
   pub within : AreWithin script.cpus script.tokens script.messages
   pub lawful_opening : AllOpenLawfully script.tokens
   pub kinds : map (λ line. is_some line.tallies) closing.tokens.items ≡ map (λ spec. is_tally spec.law) script.tokens
   pub threads : map (λ line. line.id) closing.threads.items ≡ ids_of script.cpus script.threads
-  pub judged : IsJudged script closing
+  pub judged : IsJudged pace script closing
 
 -- whether a thread has ended
 abbrev pub has_ended : ThreadState → Bool
@@ -120,15 +144,22 @@ pub record HasRun (bytes : List ℕ) (end : End) (text : List ℕ) : Type 0 wher
   pub script : Script
   pub read : script_of bytes ≡ Ok script
   pub closing : Closing
-  pub closes : MayClose script closing
+  pub closes : MayClose (Rounds script.turns) script closing
   pub is_text : text ≡ report_text closing
   pub is_end : end ≡ end_told closing
 
 -- the script that these bytes are, with a trace, turns and polls that the verdict of what is shown is on (own)
 pub record IsTurnsRun (bytes : List ℕ) (run : TurnsRun) : Type 0 where
   pub read : script_of bytes ≡ Ok run.script
-  pub closes : MayClose run.script run.closing
-  pub judged : IsJudgedBy run.script run.closing run.trace.items run.polls.items run.turns.items
+  pub closes : MayClose (Rounds run.script.turns) run.script run.closing
+  pub judged : IsJudgedBy (Rounds run.script.turns) run.script run.closing run.order.items run.trace.items run.polls.items run.turns.items
+
+-- the script that these bytes are, with the order, a trace, turns and polls that the verdict of what is shown is on (own)
+pub record IsOrderRun (bytes : List ℕ) (order : List ℕ) (run : TurnsRun) : Type 0 where
+  pub read : script_of bytes ≡ Ok run.script
+  pub is_order : run.order.items ≡ order
+  pub closes : MayClose Named run.script run.closing
+  pub judged : IsJudgedBy Named run.script run.closing run.order.items run.trace.items run.polls.items run.turns.items
 
 -- why a run of this script is refused: its machine isn't opened
 abbrev pub Declines : Script → Refusal → Type 0
@@ -141,6 +172,16 @@ Refuses bytes Memory = Unit {0}
 Refuses bytes Limits = (script : Script) × ((script_of bytes ≡ Ok script) × Declines script Limits)
 Refuses bytes LawBroken = (script : Script) × ((script_of bytes ≡ Ok script) × Declines script LawBroken)
 Refuses bytes _ = ⊥
+
+-- why a run of this script along an order is refused: its machine isn't opened, or the order names a processor that isn't there
+abbrev pub DeclinesAlong : Script → List ℕ → Refusal → Type 0
+DeclinesAlong script order NoPort = ¬ All (λ x. x < script.cpus) order
+DeclinesAlong script order fault = Declines script fault
+
+-- why a run of these bytes along an order is refused
+abbrev pub RefusesAlong : List ℕ → List ℕ → Refusal → Type 0
+RefusesAlong bytes order NoPort = (script : Script) × ((script_of bytes ≡ Ok script) × (¬ All (λ x. x < script.cpus) order))
+RefusesAlong bytes order fault = Refuses bytes fault
 
 -- these are the bytes that are read of a source that has so many left, where that is known
 abbrev pub AreRead : Option (List ℕ) → List ℕ → Type 0

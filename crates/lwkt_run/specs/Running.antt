@@ -15,6 +15,7 @@ use Rattle.lwkt_machine.specs.Turns.{TurnsAt}
 use Rattle.lwkt_report.specs.declared.closings.ThreadLine.{ThreadLine}
 use Rattle.lwkt_script.specs.declared.scripts.ThreadSpec.{ThreadSpec}
 use Rattle.lwkt_script.specs.Format.{threads_on}
+use Rattle.lwkt_verdict.specs.Run.{whose}
 
 -- so many processors, each with as many threads as a script has on it
 pub record HasThreads (cpus : ℕ) (threads : List ThreadSpec) (processors : List (Processor Scripted)) : Type 0 where
@@ -45,6 +46,18 @@ pub record Scene : Type 0 where
 
 abbrev pub scene : Rig → Vec Event Global → Scene
 scene machine trace = record { machine = machine; trace = trace }
+
+-- the processor of this number makes a turn
+abbrev pub MakesTurnAt : ℕ → Scene → Scene → Type 0
+MakesTurnAt cpu x y = (turned : Turned) × TurnsAt cpu x.machine y.machine x.trace y.trace turned
+
+-- so many turns are made, each by the processor that an order names
+abbrev pub MakesSome : List ℕ → ℕ → Scene → Scene → Type 0
+MakesSome order count x y = Chain Scene (λ k. MakesTurnAt (whose order k)) count x y
+
+-- the turns of an order are made, one after another
+abbrev pub MakesTurns : List ℕ → Scene → Scene → Type 0
+MakesTurns order x y = MakesSome order (length order) x y
 
 -- a scene within a round, and whether every processor that made its turn in it said that all its threads have ended
 pub record Going : Type 0 where

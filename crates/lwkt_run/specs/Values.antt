@@ -1,7 +1,7 @@
 -- The closing values of a machine and the lines that show them (own).
 use Rattle.std.specs.Prelude.{◌≡◌, ℕ, Bool, true, false, List, [], length, map, is_some, unwrap_or, Some, slice_get}
 use Rattle.lwkt_base.specs.declared.laws.Law.{Law}
-use Rattle.lwkt_base.specs.declared.laws.Law.TheVariants.{Any, Sum, Order, Cap, Tally}
+use Rattle.lwkt_base.specs.declared.laws.Law.TheVariants.{Any, Sum, Order, Cap, Tally, Len}
 use Rattle.lwkt_base.specs.declared.openings.TokSpec.{TokSpec}
 use Rattle.lwkt_core.specs.declared.finals.Final.{Final}
 use Rattle.lwkt_report.specs.declared.closings.TokenLine.{TokenLine}
@@ -13,6 +13,7 @@ is_tally Any = false
 is_tally Sum = false
 is_tally Order = false
 is_tally Cap = false
+is_tally Len = false
 
 -- closing values of these tokens: one of each kind for each token, and tallies under a Tally law alone
 pub record AreValuesOf (specs : List TokSpec) (last : Final) : Type 0 where

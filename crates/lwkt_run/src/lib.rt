@@ -3,6 +3,7 @@
 
 mod endings;
 mod givers;
+pub mod laws;
 mod lines;
 mod programs;
 mod records;
@@ -16,6 +17,6 @@ mod verdicts;
 pub use lwkt_report::{RunFault, Verdict};
 pub use lwkt_script::{Script, read_script};
 pub use lwkt_threads::{Gate, OpenGate};
-pub use programs::{finish, run_program};
-pub use runs::{End, TurnsRun, end_told, run_turns, turns_run};
+pub use programs::{asks_threads, asks_turns, finish, run_program};
+pub use runs::{End, TurnsRun, end_told, order_run, run_turns, turns_run, turns_run_of};
 pub use threaded::{ThreadRecord, record_threads, run_threads, run_threads_gated};

@@ -37,15 +37,15 @@ pub fn finish<K: Sink>(sink: &mut K, outcome: &Result<End, RunFault>) -> u8
     status_of(outcome)
 }
 
-// Whether the arguments are the one word `turns`.
-fn asks_turns(words: &[String]) -> bool
+/// Whether the arguments are the one word `turns`.
+pub fn asks_turns(words: &[String]) -> bool
     ensures { IsTrue result ↔ AsksTurns words.now }
 {
     words.len() == 1 && words.iter().all(|word| word.as_str() == "turns")
 }
 
-// Whether the arguments are the one word `threads`.
-fn asks_threads(words: &[String]) -> bool
+/// Whether the arguments are the one word `threads`.
+pub fn asks_threads(words: &[String]) -> bool
     ensures { IsTrue result ↔ AsksThreads words.now }
 {
     words.len() == 1 && words.iter().all(|word| word.as_str() == "threads")

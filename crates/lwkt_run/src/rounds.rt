@@ -1,14 +1,15 @@
 //! The rounds of a run.
-ghost use Rattle.std.specs.Prelude.{◌≡◌, ◌<◌, length, IfOk, OnOk, OnErr, Err};
+ghost use Rattle.std.specs.Prelude.{◌≡◌, ◌<◌, All, length, IfOk, OnOk, OnErr, Err};
 ghost use Rattle.lwkt_cpu.specs.declared.answers.Turned.{Turned};
 ghost use Rattle.lwkt_machine.specs.Turns.{TurnsAt};
-ghost use Rattle.lwkt_run.specs.Running.{scene, says_over, both as both_so, RoundTold, HasMadeRounds};
+ghost use Rattle.lwkt_run.specs.Running.{scene, says_over, both as both_so, RoundTold, HasMadeRounds, MakesTurns};
 
 use crate::records::{Polled, Record};
 use lwkt_base::{CpuId, Fault, ThreadId};
 use lwkt_core::Event;
 use lwkt_cpu::Turned;
 use lwkt_machine::Machine;
+use std::alloc::Global;
 
 // What the last turn of a processor asked, which polled this thread.
 fn polled_at(machine: &Machine, cpu: usize, thread: usize) -> Option<Polled> {
@@ -77,6 +78,38 @@ fn make_round(
         over = both(over, ended);
     }
     Ok(over)
+}
+
+/// Makes the turn of each processor that an order names, one after another.
+pub fn make_turns(
+    machine: &mut Machine,
+    order: &[u8],
+    trace: &mut Vec<Event>,
+    kept: &mut Record,
+) -> Result<(), Fault>
+    requires processors { All (λ x. x < length machine.old.cpus) order.now }
+    ensures ok { OnOk result (MakesTurns order.now (scene machine.old trace.old) (scene machine.new trace.new)) }
+    ensures only { OnErr result (result ≡ Err Fault.Memory) }
+{
+    for at in 0..order.len() {
+        make_turn(machine, usize::from(order[at]), trace, kept)?;
+    }
+    Ok(())
+}
+
+/// The order of so many turns in rounds of so many processors.
+pub fn round_order(alloc: Global, cpus: usize, turns: usize) -> Result<Vec<u8>, Fault>
+    ensures only { OnErr result (result ≡ Err Fault.Memory) }
+{
+    let mut order = Vec::new(alloc);
+    for k in 0..turns {
+        let cpu = if cpus == 0 { 0 } else { k % cpus };
+        let number = u8::try_from(cpu).unwrap_or(0);
+        if order.push(number).is_err() {
+            return Err(Fault::Memory);
+        }
+    }
+    Ok(order)
 }
 
 /// Makes so many rounds, or fewer if in one of them every processor says that all its threads have ended.

@@ -1,22 +1,22 @@
-ghost use Rattle.std.specs.Prelude.{◌≡◌, ◌⊎◌, map, is_some, IfOk, IfErr, OnOk, Err, IsTrue, string_bytes};
+ghost use Rattle.std.specs.Prelude.{◌≡◌, ◌⊎◌, ◌<◌, All, map, is_some, IfOk, IfErr, OnOk, Err, IsTrue, string_bytes};
 ghost use Rattle.std.specs.List.{list_all};
 ghost use Rattle.lwkt_core.specs.Opening.{AreWithin, AllOpenLawfully};
 ghost use Rattle.lwkt_run.specs.Judging.{ids_of};
 ghost use Rattle.lwkt_run.specs.Values.{is_tally, AreValuesOf};
-ghost use Rattle.lwkt_run.specs.Run.{opening_of, RunsInRounds, IsJudgedBy, MayClose, IsTurnsRun, has_ended, end_told, HasRun, Declines, Refuses, Tells};
+ghost use Rattle.lwkt_run.specs.Run.{opening_of, RunsInRounds, RunsAlong, RunsAt, IsJudgedBy, MayClose, IsTurnsRun, IsOrderRun, DeclinesAlong, RefusesAlong, has_ended, end_told, HasRun, Declines, Refuses, Tells};
 
 use crate::endings::{Left, left_by};
 use crate::lines::token_lines;
 use crate::records::Record;
 use crate::reports::{Done, conclude};
-use crate::rounds::make_rounds;
+use crate::rounds::{make_rounds, make_turns, round_order};
 use crate::verdicts::{ends_of, plans_of, verdict_of};
 use lwkt_base::{Fault, ThreadState};
 use lwkt_core::{Event, Final, State};
 use lwkt_machine::Machine;
 use lwkt_report::{Closing, RunFault, Sink, Source, ThreadLine, Verdict, read_capped, report};
 use lwkt_script::{Script, read_script};
-use lwkt_verdict::{Poll, Turn};
+use lwkt_verdict::{Pace, Poll, Turn, are_processors};
 use std::alloc::{AllocError, Global};
 
 /// How a run ended.
@@ -30,7 +30,7 @@ pub enum End {
     Unlawful,
 }
 
-/// A run of a script in rounds: the script, all that was kept of the run, and what its report shows.
+/// A run of a script, in rounds or along an order of its processors: the script, all that was kept of the run, and what its report shows.
 #[derive(Drop)]
 pub struct TurnsRun {
     pub script: Script,
@@ -38,8 +38,10 @@ pub struct TurnsRun {
     pub trace: Vec<Event>,
     /// The polls of all turns, in order.
     pub polls: Vec<Poll>,
-    /// The turns in order: the processors take theirs in rounds.
+    /// The turns in order.
     pub turns: Vec<Turn>,
+    /// The processor of each turn.
+    pub order: Vec<u8>,
     /// What the report shows; its verdict is that on this trace and these turns.
     pub closing: Closing,
 }
@@ -48,6 +50,8 @@ pub struct TurnsRun {
 fn closing_of(
     alloc: Global,
     script: &Script,
+    pace: Pace,
+    order: &[u8],
     opening: State,
     again: State,
     left: Left,
@@ -60,17 +64,18 @@ fn closing_of(
     requires lawful { AllOpenLawfully script.now.tokens }
     requires values { AreValuesOf script.now.tokens left.last }
     requires threads { map (λ line. line.id) left.threads.items ≡ ids_of script.now.cpus script.now.threads }
-    requires runs { RunsInRounds script.now left.threads.items trace.now left.last }
+    requires runs { RunsAt pace script.now order.now left.threads.items trace.now left.last }
     ensures kinds { IfOk result (λ closing. map (λ line. is_some line.tallies) closing.tokens.items ≡ map (λ spec. is_tally spec.law) script.now.tokens) }
     ensures threads { IfOk result (λ closing. map (λ line. line.id) closing.threads.items ≡ ids_of script.now.cpus script.now.threads) }
-    ensures judged { IfOk result (λ closing. IsJudgedBy script.now closing trace.now kept.now.polls.items kept.now.turns.items) }
+    ensures judged { IfOk result (λ closing. IsJudgedBy pace script.now closing order.now trace.now kept.now.polls.items kept.now.turns.items) }
 {
     let Left { last, threads } = left;
     let tokens = token_lines(alloc, script.tokens.as_slice(), &last)?;
     let plans = plans_of(alloc, script.threads.as_slice())?;
     let ends = ends_of(alloc, &threads)?;
-    let limit = script.turns;
-    let verdict = verdict_of(opening, again, limit, &plans, &ends, &last, trace, kept);
+    let verdict = verdict_of(
+        opening, again, pace, order, &plans, &ends, &last, trace, kept,
+    );
     let Final { messages, .. } = last;
     Ok(Closing {
         tokens,
@@ -100,6 +105,7 @@ fn opened(alloc: Global, script: &Script) -> Result<State, Fault>
 struct Made {
     trace: Vec<Event>,
     kept: Record,
+    order: Vec<u8>,
     left: Left,
 }
 
@@ -114,21 +120,60 @@ fn run_of(alloc: Global, script: &Script) -> Result<Made, Fault>
     let mut trace = Vec::new(alloc);
     let mut kept = Record::new(alloc);
     make_rounds(&mut machine, script.turns, &mut trace, &mut kept)?;
+    let order = round_order(alloc, usize::from(script.cpus), kept.turns.len())?;
     let left = left_by(alloc, script, machine, &mut trace)?;
-    Ok(Made { trace, kept, left })
+    Ok(Made {
+        trace,
+        kept,
+        order,
+        left,
+    })
 }
 
-// The script of a run, with what was kept of it and what its report shows.
-fn turns_run_of(alloc: Global, script: Script) -> Result<TurnsRun, Fault>
+// Makes the turns of a script that an order names, each of a processor that is there.
+fn run_along(alloc: Global, script: &Script, order: Vec<u8>) -> Result<Made, Fault>
+    requires processors { All (λ x. x < script.now.cpus) order.items }
+    ensures values { IfOk result (λ made. AreValuesOf script.now.tokens made.left.last) }
+    ensures order { IfOk result (λ made. made.order ≡ order) }
+    ensures runs { IfOk result (λ made. RunsAlong script.now order.items made.left.threads.items made.trace.items made.left.last) }
+    ensures threads { IfOk result (λ made. map (λ line. line.id) made.left.threads.items ≡ ids_of script.now.cpus script.now.threads) }
+    ensures refused { IfErr result (λ fault. Declines script.now fault) }
+{
+    let mut machine = Machine::open(alloc, script)?;
+    let mut trace = Vec::new(alloc);
+    let mut kept = Record::new(alloc);
+    make_turns(&mut machine, order.as_slice(), &mut trace, &mut kept)?;
+    let left = left_by(alloc, script, machine, &mut trace)?;
+    Ok(Made {
+        trace,
+        kept,
+        order,
+        left,
+    })
+}
+
+// What was made of a script at a pace, with the verdict on it.
+fn judged_run(alloc: Global, pace: Pace, script: Script, made: Made) -> Result<TurnsRun, Fault>
+    requires values { AreValuesOf script.tokens made.left.last }
+    requires threads { map (λ line. line.id) made.left.threads.items ≡ ids_of script.cpus script.threads }
+    requires runs { RunsAt pace script made.order.items made.left.threads.items made.trace.items made.left.last }
     ensures script { IfOk result (λ run. run.script ≡ script) }
-    ensures closes { IfOk result (λ run. MayClose script run.closing) }
-    ensures judged { IfOk result (λ run. IsJudgedBy script run.closing run.trace.items run.polls.items run.turns.items) }
+    ensures order { IfOk result (λ run. run.order ≡ made.order) }
+    ensures closes { IfOk result (λ run. MayClose pace script run.closing) }
+    ensures judged { IfOk result (λ run. IsJudgedBy pace script run.closing run.order.items run.trace.items run.polls.items run.turns.items) }
     ensures refused { IfErr result (λ fault. Declines script fault) }
 {
     let opening = opened(alloc, &script)?;
     let again = opened(alloc, &script)?;
-    let Made { trace, kept, left } = run_of(alloc, &script)?;
-    let closing = match closing_of(alloc, &script, opening, again, left, &trace, &kept) {
+    let Made {
+        trace,
+        kept,
+        order,
+        left,
+    } = made;
+    let closing = match closing_of(
+        alloc, &script, pace, &order, opening, again, left, &trace, &kept,
+    ) {
         Ok(closing) => closing,
         Err(_) => return Err(Fault::Memory),
     };
@@ -138,8 +183,23 @@ fn turns_run_of(alloc: Global, script: Script) -> Result<TurnsRun, Fault>
         trace,
         polls,
         turns,
+        order,
         closing,
     })
+}
+
+/// Runs a script in rounds, on one thread, and gives out all that was kept of the run.
+///
+/// Refused as `turns_run` is, but for its bytes.
+pub fn turns_run_of(alloc: Global, script: Script) -> Result<TurnsRun, Fault>
+    ensures script { IfOk result (λ run. run.script ≡ script) }
+    ensures closes { IfOk result (λ run. MayClose (Pace.Rounds script.turns) script run.closing) }
+    ensures judged { IfOk result (λ run. IsJudgedBy (Pace.Rounds script.turns) script run.closing run.order.items run.trace.items run.polls.items run.turns.items) }
+    ensures refused { IfErr result (λ fault. Declines script fault) }
+{
+    let made = run_of(alloc, &script)?;
+    let pace = Pace::Rounds(script.turns);
+    judged_run(alloc, pace, script, made)
 }
 
 /// Runs the script that the bytes are in rounds, on one thread, and gives out all that was kept of the run.
@@ -152,6 +212,34 @@ pub fn turns_run(alloc: Global, bytes: &[u8]) -> Result<TurnsRun, Fault>
 {
     let script = read_script(alloc, bytes)?;
     turns_run_of(alloc, script)
+}
+
+// The script of a run along an order, with what was kept of it and what its report shows.
+fn order_run_of(alloc: Global, script: Script, order: Vec<u8>) -> Result<TurnsRun, Fault>
+    ensures order { IfOk result (λ run. run.order ≡ order) }
+    ensures script { IfOk result (λ run. run.script ≡ script) }
+    ensures closes { IfOk result (λ run. MayClose Pace.Named script run.closing) }
+    ensures judged { IfOk result (λ run. IsJudgedBy Pace.Named script run.closing run.order.items run.trace.items run.polls.items run.turns.items) }
+    ensures refused { IfErr result (λ fault. DeclinesAlong script order.items fault) }
+{
+    if !are_processors(usize::from(script.cpus), order.as_slice()) {
+        return Err(Fault::NoPort);
+    }
+    let made = run_along(alloc, &script, order)?;
+    judged_run(alloc, Pace::Named, script, made)
+}
+
+/// Runs the script that the bytes are along an order of its processors, on one thread: each makes its turn when it is named, and
+/// after the last one they stop. Gives out all that was kept of the run. The number of rounds in the script doesn't count.
+///
+/// Refused with `Script` and the place of the script's first bad part, with `NoPort` if the order names a processor that isn't
+/// there, with `Limits` or `LawBroken` for the opening, and with `Memory` for a refused allocation.
+pub fn order_run(alloc: Global, bytes: &[u8], order: Vec<u8>) -> Result<TurnsRun, Fault>
+    ensures ok { IfOk result (λ run. IsOrderRun bytes.now order.items run) }
+    ensures refused { IfErr result (λ fault. RefusesAlong bytes.now order.items fault) }
+{
+    let script = read_script(alloc, bytes)?;
+    order_run_of(alloc, script, order)
 }
 
 /// How a run ended, by the contents of its report.

@@ -6,7 +6,7 @@ use lwkt_base::Fault;
 use lwkt_core::{Event, Final, State, check};
 use lwkt_report::{ThreadLine, Verdict};
 use lwkt_script::ThreadSpec;
-use lwkt_verdict::{ThreadEnd, ThreadPlan, is_script_run};
+use lwkt_verdict::{Pace, ThreadEnd, ThreadPlan, is_script_run};
 use std::alloc::{AllocError, Global};
 
 // A thread of a script as a check of a run takes it.
@@ -58,12 +58,13 @@ pub fn ends_of(alloc: Global, lines: &[ThreadLine]) -> Result<Vec<ThreadEnd>, Al
 }
 
 /// The verdict on a run: `Lawful` if the trace leads from the opening to the closing values and the turns are a run of the
-/// script's threads, with so many rounds at most, over it; else the index of the first event that can't happen, or the number of
+/// script's threads along the order, at this pace, over it; else the index of the first event that can't happen, or the number of
 /// events, if the close or the run alone isn't so. Each check needs an opening of its own.
 pub fn verdict_of(
     opening: State,
     again: State,
-    limit: u32,
+    pace: Pace,
+    order: &[u8],
     plans: &[ThreadPlan],
     ends: &[ThreadEnd],
     last: &Final,
@@ -71,7 +72,7 @@ pub fn verdict_of(
     kept: &Record,
 ) -> Verdict
     requires { again ≡ opening }
-    ensures { Judges result opening limit plans.now ends.now last.now trace.now kept.now.polls.items kept.now.turns.items }
+    ensures { Judges result opening pace order.now plans.now ends.now last.now trace.now kept.now.polls.items kept.now.turns.items }
 {
     match check(opening, trace, last) {
         Ok(()) => {}
@@ -79,7 +80,16 @@ pub fn verdict_of(
         // it has no other refusal
         Err(_) => return Verdict::Unlawful { index: 0 },
     }
-    if is_script_run(plans, limit, again, &kept.polls, &kept.turns, trace, ends) {
+    if is_script_run(
+        plans,
+        pace,
+        order,
+        again,
+        &kept.polls,
+        &kept.turns,
+        trace,
+        ends,
+    ) {
         Verdict::Lawful
     } else {
         Verdict::Unlawful { index: trace.len() }

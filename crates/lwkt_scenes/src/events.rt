@@ -74,6 +74,8 @@ fn show_token_change(
             out.number(" ", before.cell);
             out.number(" -> ", value);
         }
+        Event::ReadBlob { .. } => out.add("record read"),
+        Event::WriteBlob { .. } => out.add("record stored"),
         _ => show_word_change(out, token, event, before.word, runners),
     }
 }

@@ -25,6 +25,7 @@ mod traces;
 mod tries;
 mod turns;
 mod waits;
+mod whys;
 mod words;
 
 pub use chains::{chains_of, chains_of_sections};
@@ -32,3 +33,4 @@ pub use pictures::picture_of;
 pub use reels::{Chosen, Counted, Reel};
 pub use shows::lines_of;
 pub use traces::trace_of;
+pub use whys::whys_of;

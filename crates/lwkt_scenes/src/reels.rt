@@ -3,7 +3,7 @@ use lwkt_report::Closing;
 use lwkt_script::Script;
 use lwkt_verdict::{Poll, Turn};
 
-/// A run of a script in rounds: what was kept of it, and what its report shows.
+/// A run of a script, in rounds or along an order of its processors: what was kept of it, and what its report shows.
 #[derive(Clone, Copy)]
 pub struct Reel<'a> {
     pub script: &'a Script,
@@ -11,8 +11,10 @@ pub struct Reel<'a> {
     pub trace: &'a [Event],
     /// The polls of all turns, in order.
     pub polls: &'a [Poll],
-    /// The turns in order: the processors take theirs in rounds.
+    /// The turns in order.
     pub turns: &'a [Turn],
+    /// The processor of each turn, where the processors don't take their turns in rounds.
+    pub order: Option<&'a [u8]>,
     pub closing: &'a Closing,
 }
 

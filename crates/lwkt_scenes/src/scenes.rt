@@ -25,18 +25,25 @@ pub(crate) fn part_of(events: &[Event], from: usize, count: usize) -> &[Event] {
     &rest[..count]
 }
 
+// The round and the processor of the turn of a number. Along an order each turn is a round of its own.
+fn place_of(run: &Reel, number: usize) -> (usize, u8) {
+    if let Some(order) = run.order {
+        return (number, order.get(number).copied().unwrap_or(0));
+    }
+    let cpus = usize::from(run.script.cpus);
+    if cpus == 0 {
+        return (0, 0);
+    }
+    (number / cpus, u8::try_from(number % cpus).unwrap_or(0))
+}
+
 /// The turn of a number, whose events begin at a place of the trace.
 pub(crate) fn scene_of<'a>(run: &Reel<'a>, number: usize, turn: &Turn, from: usize) -> Scene<'a> {
-    let cpus = usize::from(run.script.cpus);
-    let (round, cpu) = if cpus == 0 {
-        (0, 0)
-    } else {
-        (number / cpus, number % cpus)
-    };
+    let (round, cpu) = place_of(run, number);
     Scene {
         number,
         round,
-        cpu: u8::try_from(cpu).unwrap_or(0),
+        cpu,
         poll: poll_of(run.polls, turn),
         part: part_of(run.trace, from, usize::from(turn.events)),
     }

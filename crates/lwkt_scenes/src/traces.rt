@@ -1,10 +1,10 @@
 use crate::pages::Page;
 use crate::reels::Reel;
 use crate::words::show_behind;
-use lwkt_base::{Fault, MsgEnd, MsgSpec, Owner, TokSpec};
+use lwkt_base::{Blob, Fault, MsgEnd, MsgSpec, Owner, TokSpec};
 use lwkt_core::Event;
 use lwkt_report::{Closing, TokenLine};
-use lwkt_trace::words::{Subject, event_word, law_name, subject_of};
+use lwkt_trace::words::{Subject, digits_of, event_word, law_name, subject_of};
 use std::alloc::Global;
 
 // Appends numbers as a JSON list.
@@ -25,6 +25,10 @@ fn show_token(out: &mut Page, spec: &TokSpec) {
     out.add(law_name(spec.law));
     out.number("\",\"param\":", spec.param);
     out.number(",\"gen\":", spec.generation);
+    if let Some(blob) = spec.blob {
+        out.add(",\"record\":");
+        show_blob(out, &blob);
+    }
     out.add("}");
 }
 
@@ -36,6 +40,17 @@ fn show_message(out: &mut Page, spec: &MsgSpec) {
     out.add("}");
 }
 
+// Appends a record.
+fn show_blob(out: &mut Page, blob: &Blob) {
+    out.add("\"");
+    for byte in blob.as_slice() {
+        let (high, low) = digits_of(*byte);
+        out.add(high);
+        out.add(low);
+    }
+    out.add("\"");
+}
+
 // Appends what an event is at, and what else it says.
 fn show_event_numbers(out: &mut Page, event: &Event) {
     let place = match subject_of(event) {
@@ -45,6 +60,11 @@ fn show_event_numbers(out: &mut Page, event: &Event) {
     match *event {
         Event::Read { cell, value, .. } | Event::Write { cell, value, .. } => {
             show_behind(out, &[place, u64::from(cell), value])
+        }
+        Event::ReadBlob { blob, .. } | Event::WriteBlob { blob, .. } => {
+            show_behind(out, &[place]);
+            out.add(",");
+            show_blob(out, &blob);
         }
         Event::Send { to, round, .. } => show_behind(out, &[place, u64::from(to.0), round]),
         Event::TakeMsg { round, .. } => show_behind(out, &[place, round]),

@@ -67,7 +67,9 @@ fn show_ask_numbers(out: &mut Page, ask: Ask) {
     match ask {
         Ask::Send(msg, to, call, flags) => {
             show_call(out, msg, to, call);
-            let flags = u8::from(flags.dropable) + 2 * u8::from(flags.abortable);
+            let flags = u8::from(flags.dropable)
+                + 2 * u8::from(flags.abortable)
+                + 4 * u8::from(flags.priority);
             show_behind(out, &[u64::from(flags)])
         }
         Ask::Do(msg, to, call) => show_call(out, msg, to, call),

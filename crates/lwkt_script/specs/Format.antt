@@ -19,7 +19,7 @@ use Rattle.lwkt_script.specs.Step.{ask_of}
 abbrev pub cell : ℕ → List ℕ → Data → Result ℕ ℕ
 cell place before d = part place (whole d)
 
--- a token: its cells, law, parameter and generation
+-- a token: its cells, law, parameter and generation; it has no record
 unfoldable pub token_at : ℕ → Data → Result TokSpec ℕ
 token_at place d = do
   demand place (has_members 4 d)
@@ -29,7 +29,7 @@ token_at place d = do
   param ← part place (number_in (codes "param") 0 18446744073709551615 d)
   generation ← part place (number_in (codes "gen") 0 70368744177663 d)
   cells ← each (cell place) [] items
-  Ok (record { cells = cells; law = law; param = param; generation = generation })
+  Ok (record { cells = cells; law = law; param = param; generation = generation; blob = None })
 
 -- the token after those: there are at most 64
 abbrev pub token : List TokSpec → Data → Result TokSpec ℕ

@@ -1,5 +1,5 @@
 -- The limits that a script keeps (own).
-use Rattle.std.specs.Prelude.{◌≡◌, ℕ, ◌<◌, ◌≤◌, length, All}
+use Rattle.std.specs.Prelude.{◌≡◌, ℕ, ◌<◌, ◌≤◌, length, All, None}
 use Rattle.lwkt_base.specs.declared.names.ThreadId.{ThreadId}
 use Rattle.lwkt_base.specs.declared.openings.MsgSpec.{MsgSpec}
 use Rattle.lwkt_base.specs.declared.laws.Law.TheVariants.{Tally}
@@ -13,6 +13,7 @@ pub record IsToken (t : TokSpec) : Type 0 where
   pub few_cells : length t.cells ≤ 4
   pub one_cell : t.law ≡ Tally → length t.cells ≡ 1
   pub generation : t.generation ≤ 70368744177663
+  pub no_record : t.blob ≡ None
 
 -- a thread that a script of so many processors may name as an origin
 pub record IsOrigin (cpus : ℕ) (t : ThreadId) : Type 0 where

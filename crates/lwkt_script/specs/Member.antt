@@ -1,9 +1,9 @@
 -- What the members of tokens and messages stand for.
-use Rattle.std.specs.Prelude.{ℕ, ◌-◌, ◌==◌, nat_le, List, codes, Bool, bytes_eq, if◌then◌else◌, Option, Some, None, option_and_then}
+use Rattle.std.specs.Prelude.{ℕ, ◌-◌, ◌==◌, ◌&&◌, nat_lt, nat_le, List, codes, Bool, bytes_eq, if◌then◌else◌, Option, Some, None, option_and_then}
 use Rattle.serde_json.specs.Data.{Data}
 use Rattle.serde_json.specs.Find.{get, at, as_str}
 use Rattle.lwkt_base.specs.declared.laws.Law.{Law}
-use Rattle.lwkt_base.specs.declared.laws.Law.TheVariants.{Any, Sum, Order, Cap, Tally}
+use Rattle.lwkt_base.specs.declared.laws.Law.TheVariants.{Any, Sum, Order, Cap, Tally, Len}
 use Rattle.lwkt_base.specs.declared.names.ThreadId.{ThreadId}
 use Rattle.lwkt_script.specs.Field.{item_count, number}
 
@@ -24,13 +24,14 @@ law_of name =
 abbrev pub law_in : Data → Option Law
 law_in d = (get (codes "law") d >>= as_str) >>= law_of
 
--- how many cells a token may have: at most 4, and exactly 1 under Tally
+-- how many cells a token may have: at most 4, exactly 1 under Tally, and at least 1 under Len
 abbrev pub allows : Law → ℕ → Bool
 allows Any count = nat_le count 4
 allows Sum count = nat_le count 4
 allows Order count = nat_le count 4
 allows Cap count = nat_le count 4
 allows Tally count = count == 1
+allows Len count = nat_lt 0 count && nat_le count 4
 
 -- the processor and the thread that are written as a list of two numbers
 unfoldable pub thread_of : ℕ → Data → Option ThreadId

@@ -69,10 +69,10 @@ sending_in d = do
 -- flags: 1 for dropable plus 2 for abortable
 abbrev pub flags_of : ℕ → Option Flags
 flags_of n =
-    if n == 0 then Some (record { dropable = false; abortable = false }) else (
-    if n == 1 then Some (record { dropable = true; abortable = false }) else (
-    if n == 2 then Some (record { dropable = false; abortable = true }) else (
-    if n == 3 then Some (record { dropable = true; abortable = true }) else None)))
+    if n == 0 then Some (record { dropable = false; abortable = false; priority = false }) else (
+    if n == 1 then Some (record { dropable = true; abortable = false; priority = false }) else (
+    if n == 2 then Some (record { dropable = false; abortable = true; priority = false }) else (
+    if n == 3 then Some (record { dropable = true; abortable = true; priority = false }) else None)))
 
 -- the ask of a word with what is sent
 abbrev pub with_sending : List ℕ → Sending → Option Ask

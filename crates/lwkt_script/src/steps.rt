@@ -120,6 +120,7 @@ fn flags_of(n: u64) -> Option<Flags>
     Some(Flags {
         dropable: n == 1 || n == 3,
         abortable: n == 2 || n == 3,
+        priority: false,
     })
 }
 

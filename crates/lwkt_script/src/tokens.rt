@@ -34,12 +34,13 @@ fn law_in(value: &Value) -> Option<Law>
     law_of(value.get("law")?.as_str()?)
 }
 
-// Whether a token under this law may have so many cells.
-fn allows(law: Law, count: usize) -> bool
+/// Whether a token under this law may have so many cells.
+pub fn allows(law: Law, count: usize) -> bool
     ensures { result ≡ allows law count }
 {
     match law {
         Law::Tally => count == 1,
+        Law::Len => 0 < count && count <= 4,
         _ => count <= 4,
     }
 }
@@ -82,6 +83,7 @@ fn token_at(alloc: Global, place: u32, value: &Value) -> Result<TokSpec, Fault>
         law,
         param,
         generation,
+        blob: None,
     })
 }
 

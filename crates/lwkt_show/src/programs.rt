@@ -64,6 +64,7 @@ fn text_of(alloc: Global, options: &Options, run: &TurnsRun) -> Result<String, F
         trace: &run.trace,
         polls: &run.polls,
         turns: &run.turns,
+        order: None,
         closing: &run.closing,
     };
     let chosen = chosen_of(options);

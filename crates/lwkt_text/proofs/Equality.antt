@@ -1,5 +1,5 @@
 -- Records with the same fields are the same.
-use Rattle.std.proofs.Common.{◌≡◌, ℕ, List}
+use Rattle.std.proofs.Common.{◌≡◌, ℕ, List, Option}
 use Rattle.lwkt_base.specs.declared.asks.Ask.{Ask}
 use Rattle.lwkt_base.specs.declared.laws.Law.{Law}
 use Rattle.lwkt_base.specs.declared.names.CpuId.{CpuId}
@@ -8,15 +8,16 @@ use Rattle.lwkt_base.specs.declared.openings.TokSpec.{TokSpec}
 use Rattle.lwkt_script.specs.declared.scripts.Script.{Script}
 use Rattle.lwkt_script.specs.declared.scripts.ThreadSpec.{ThreadSpec}
 
-tok : List ℕ → Law → ℕ → ℕ → TokSpec
-tok cells law param generation = record { cells = cells; law = law; param = param; generation = generation }
+tok : List ℕ → Law → ℕ → ℕ → Option (List ℕ) → TokSpec
+tok cells law param generation blob = record { cells = cells; law = law; param = param; generation = generation; blob = blob }
 
-tok_same : (a b : List ℕ) (c d : Law) (e f g h : ℕ) → a ≡ b → c ≡ d → e ≡ f → g ≡ h → tok a c e g ≡ tok b d f h
-tok_same a b c d e f g h p q r s = cc
+tok_same : (a b : List ℕ) (c d : Law) (e f g h : ℕ) (i j : Option (List ℕ)) → a ≡ b → c ≡ d → e ≡ f → g ≡ h → i ≡ j → tok a c e g i ≡ tok b d f h j
+tok_same a b c d e f g h i j p q r s t = cc
 
-pub token_same : (s t : TokSpec) → s.cells ≡ t.cells → s.law ≡ t.law → s.param ≡ t.param → s.generation ≡ t.generation → s ≡ t
+pub token_same : (s t : TokSpec) → s.cells ≡ t.cells → s.law ≡ t.law → s.param ≡ t.param → s.generation ≡ t.generation → s.blob ≡ t.blob → s ≡ t
 unfolding tok
-token_same s t cells law param generation = tok_same s.cells t.cells s.law t.law s.param t.param s.generation t.generation cells law param generation
+token_same s t cells law param generation blob =
+    tok_same s.cells t.cells s.law t.law s.param t.param s.generation t.generation s.blob t.blob cells law param generation blob
 
 plan : CpuId → ℕ → List Ask → ThreadSpec
 plan cpu repeat steps = record { cpu = cpu; repeat = repeat; steps = steps }

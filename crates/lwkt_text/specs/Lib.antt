@@ -1,3 +1,4 @@
+pub mod Beginning
 pub mod Scanning
 pub mod Outcome
 pub mod Looking

@@ -1,7 +1,7 @@
 -- The sentences of tokens, messages and threads (own).
 use Rattle.std.specs.Prelude.{ℕ, ◌+◌, ◌-◌, ◌==◌, ◌&&◌, not, nat_lt, nat_le, List, [], ◌∷◌, ◌++◌, length, drop, codes, Bool, true, false, bytes_eq, if◌then◌else◌, Option, Some, None, is_some, unwrap_or, Result, Ok, Err}
 use Rattle.lwkt_base.specs.declared.laws.Law.{Law}
-use Rattle.lwkt_base.specs.declared.laws.Law.TheVariants.{Any, Sum, Order, Cap, Tally}
+use Rattle.lwkt_base.specs.declared.laws.Law.TheVariants.{Any, Sum, Order, Cap, Tally, Len}
 use Rattle.lwkt_base.specs.declared.openings.MsgSpec.{MsgSpec}
 use Rattle.lwkt_base.specs.declared.openings.TokSpec.{TokSpec}
 use Rattle.lwkt_script.specs.Member.{law_of, allows}
@@ -67,6 +67,7 @@ asks_nothing Sum = false
 asks_nothing Order = true
 asks_nothing Cap = false
 asks_nothing Tally = false
+asks_nothing Len = true
 
 abbrev pub law_at : List Word → Law
 law_at ws = unwrap_or (law_said ws) Any
@@ -82,14 +83,14 @@ cells_place ws = after ws (param_end ws) (codes "gen")
 abbrev pub cells_in : List Word → Result CellList Wrong
 cells_in ws = if is_at ws (cells_place ws) (codes "cells") then cells_at ws (cells_place ws + 1) else (ended ws (cells_place ws) >> Ok no_cells)
 
--- `token NAME LAW N gen N cells ..`: the law is any where it is left out, the generation 0, and there are no cells
+-- `token NAME LAW N gen N cells ..`: the law is any where it is left out, the generation 0, and there are no cells; it has no record
 unfoldable pub token_of : List Word → Result TokSpec Wrong
 token_of ws = do
   param ← param_of ws
   generation ← optional ws (param_end ws) (codes "gen") 0 70368744177663 0
   cells ← cells_in ws
   demand ws (length ws) whats.CellCount (allows (law_at ws) (length cells.values))
-  Ok (record { cells = cells.values; law = law_at ws; param = param; generation = generation })
+  Ok (record { cells = cells.values; law = law_at ws; param = param; generation = generation; blob = None })
 
 -- `message NAME of THREAD round N`: the round is 0 where it is left out
 unfoldable pub message_of : Names → List Word → Result MsgSpec Wrong

@@ -1,5 +1,5 @@
 -- The steps of a thread (own): a word, and what goes with it.
-use Rattle.std.specs.Prelude.{ℕ, ◌+◌, List, codes, if◌then◌else◌, Result, Ok, Err}
+use Rattle.std.specs.Prelude.{ℕ, ◌+◌, false, List, codes, if◌then◌else◌, Result, Ok, Err}
 use Rattle.lwkt_base.specs.declared.asks.Ask.{Ask}
 use Rattle.lwkt_base.specs.declared.asks.Ask.TheVariants as asks
 use Rattle.lwkt_base.specs.declared.names.MsgId.{MsgId}
@@ -54,7 +54,7 @@ past ws i text = if is_at ws i text then i + 1 else i
 
 -- `dropable abortable` from word i on, as they are there
 abbrev pub flags_at : List Word → ℕ → Flags
-flags_at ws i = record { dropable = is_at ws i (codes "dropable"); abortable = is_at ws (past ws i (codes "dropable")) (codes "abortable") }
+flags_at ws i = record { dropable = is_at ws i (codes "dropable"); abortable = is_at ws (past ws i (codes "dropable")) (codes "abortable"); priority = false }
 
 -- the place behind them
 abbrev pub flags_end : List Word → ℕ → ℕ

@@ -18,6 +18,7 @@ pub fn law_name(law: Law) -> &'static str {
         Law::Order => "order",
         Law::Cap => "cap",
         Law::Tally => "tally",
+        Law::Len => "len",
     }
 }
 
@@ -62,7 +63,8 @@ fn write_sending(
 fn number_of_flags(flags: Flags) -> u64 {
     let dropable = if flags.dropable { 1 } else { 0 };
     let abortable = if flags.abortable { 2 } else { 0 };
-    dropable + abortable
+    let priority = if flags.priority { 4 } else { 0 };
+    dropable + abortable + priority
 }
 
 // A word and two numbers.

@@ -1,6 +1,7 @@
 //! Reads and writes scripts as a text that people write.
 #![tactic(auto)]
 
+mod beginnings;
 pub mod claims;
 mod drafts;
 mod expecting;
@@ -23,6 +24,7 @@ mod words;
 mod writers;
 mod wrongs;
 
+pub use beginnings::is_text;
 pub use jsons::json_of;
 pub use listings::names_of;
 pub use many::Many;

@@ -38,7 +38,7 @@ impl Name {
     }
 
     /// Puts a character at the end. Refused only with `Memory`.
-    pub fn push(&mut self, byte: u8) -> Result<(), Slip>
+    pub(crate) fn push(&mut self, byte: u8) -> Result<(), Slip>
         requires { byte < 128 }
         ensures ok { OnOk result (self.new ≡ self.old ++ byte ∷ []) }
         ensures only { OnErr result (result ≡ Err Slip.Memory) }

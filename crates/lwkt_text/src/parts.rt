@@ -169,7 +169,7 @@ fn asks_nothing(law: Law) -> bool
     ensures { result ≡ asks_nothing law }
 {
     match law {
-        Law::Any | Law::Order => true,
+        Law::Any | Law::Order | Law::Len => true,
         Law::Sum | Law::Cap | Law::Tally => false,
     }
 }
@@ -220,6 +220,7 @@ fn allows(law: Law, count: usize) -> bool
 {
     match law {
         Law::Tally => count == 1,
+        Law::Len => 0 < count && count <= 4,
         _ => count <= 4,
     }
 }
@@ -242,6 +243,7 @@ pub fn token_of(alloc: Global, words: &[Word]) -> Result<TokSpec, Slip>
         law,
         param,
         generation,
+        blob: None,
     })
 }
 

@@ -1,6 +1,7 @@
 // Whether two scripts are the same.
 ghost use Rattle.std.specs.Prelude.{◌≡◌, IsTrue};
 
+use lwkt_base::blobs::are_same;
 use lwkt_base::{Ask, MsgSpec, TokSpec};
 use lwkt_script::{Script, ThreadSpec};
 
@@ -9,7 +10,7 @@ use lwkt_script::{Script, ThreadSpec};
 fn same_token(one: &TokSpec, other: &TokSpec) -> bool
     ensures { IsTrue result → one.now ≡ other.now }
 {
-    if one.cells.as_slice() != other.cells.as_slice() {
+    if one.cells.as_slice() != other.cells.as_slice() || !are_same(&one.blob, &other.blob) {
         return false;
     }
     one.law == other.law && one.param == other.param && one.generation == other.generation

@@ -100,6 +100,7 @@ fn flags_at(words: &[Word], i: usize) -> Flags
     Flags {
         dropable: is_at(words, i, "dropable"),
         abortable: is_at(words, past(words, i, "dropable"), "abortable"),
+        priority: false,
     }
 }
 

@@ -2,56 +2,93 @@
 //! it says of its outcome.
 #![tactic(auto)]
 
-mod complaints;
-mod lines;
 mod options;
 mod outputs;
-mod proposals;
 mod runs;
 mod scripts;
 
 use crate::options::{Mode, Options, USAGE, options_of};
-use crate::outputs::{Status, say};
-use crate::runs::run_of;
-use crate::scripts::{json_said, text_said};
-use lwkt_report::{WriterSink, words_of};
+use crate::outputs::{Status, say, say_line};
+use crate::runs::run_said;
+use crate::scripts::{File, form_said, read_file};
+use lwkt_refusals::has_no_reader;
+use lwkt_report::{NotedWriter, Sink, WriterSink, words_of};
+use lwkt_text::{json_of, text_of};
 use std::alloc::Global;
-use std::fs;
 use std::process::ExitCode;
+use std::{fs, io};
+
+// Says that something failed, and why.
+fn say_failure<E: Sink>(alloc: Global, errors: &mut E, text: &str, error: &io::Error) {
+    say(errors, "lwkt_text: ");
+    say(errors, text);
+    if let Ok(why) = error.to_string(alloc) {
+        say(errors, ": ");
+        say(errors, why.as_str());
+    }
+    say(errors, "\n");
+}
+
+// What the options ask for, done with what the file holds.
+fn done_with<K: Sink, E: Sink>(
+    alloc: Global,
+    mode: Mode,
+    file: File<'_>,
+    sink: &mut K,
+    errors: &mut E,
+) -> Status {
+    let read = match read_file(alloc, file, errors) {
+        Ok(read) => read,
+        Err(status) => return status,
+    };
+    match mode {
+        Mode::Json => form_said(json_of(alloc, &read.script), sink, errors),
+        Mode::Text => form_said(text_of(alloc, &read.script), sink, errors),
+        Mode::Run => run_said(alloc, file, read, sink, errors),
+    }
+}
 
 // What the options ask for, done.
-fn done(rt: &HostRuntime, alloc: Global, options: &Options) -> Status {
-    let mut sink = WriterSink::new(rt.stdout());
-    let mut errors = WriterSink::new(rt.stderr());
+fn done<E: Sink>(rt: &HostRuntime, alloc: Global, options: &Options, errors: &mut E) -> Status {
     let path = options.path.as_str();
     let bytes: Vec<u8> = match fs::read(rt, path) {
         Ok(bytes) => bytes,
-        Err(_) => {
-            say(&mut errors, "lwkt_text: the file can't be read\n");
+        Err(error) => {
+            say_failure(alloc, errors, path, &error);
             return Status::Failed;
         }
     };
-    let bytes = bytes.as_slice();
-    match options.mode {
-        Mode::Json => json_said(alloc, path, bytes, &mut sink, &mut errors),
-        Mode::Text => text_said(alloc, path, bytes, &mut sink, &mut errors),
-        Mode::Run => run_of(alloc, path, bytes, &mut sink, &mut errors),
+    let file = File {
+        path,
+        bytes: bytes.as_slice(),
+    };
+    let mut sink = WriterSink::new(NotedWriter::new(rt.stdout()));
+    let status = done_with(alloc, options.mode, file, &mut sink, errors);
+    match &sink.writer.error {
+        Some(error) if !has_no_reader(&sink.writer.error) => {
+            say_failure(alloc, errors, "the output could not be written", error);
+        }
+        _ => {}
     }
+    status
 }
 
 fn main(rt: HostRuntime) -> ExitCode {
     let alloc: Global = rt.alloc();
     let mut errors = WriterSink::new(rt.stderr());
-    let Ok(words) = words_of(&rt) else {
-        say(&mut errors, USAGE);
-        return ExitCode::from(Status::Refused.code());
+    let options = match words_of(&rt) {
+        Ok(words) => options_of(words),
+        Err(_) => None,
     };
-    let status = match options_of(words) {
-        Some(options) => done(&rt, alloc, &options),
+    let status = match options {
+        Some(options) => done(&rt, alloc, &options, &mut errors),
         None => {
             say(&mut errors, USAGE);
             Status::Refused
         }
     };
+    if status == Status::Memory {
+        say_line(&mut errors, "out of memory");
+    }
     ExitCode::from(status.code())
 }

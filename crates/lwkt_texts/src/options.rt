@@ -1,5 +1,12 @@
 /// How the program is called.
-pub const USAGE: &str = "lwkt_text: FILE, and behind it --json, --text or --run\n";
+pub const USAGE: &str = "\
+usage: lwkt_text FILE --run    run a script in rounds, write its report, and say which of its
+                               expectations hold
+       lwkt_text FILE --json   write the script as JSON
+       lwkt_text FILE --text   write it as text
+       lwkt_text --help        say more
+example: ./lwkt_text examples/litmus/14_a_sum.lwkt --run
+";
 
 /// What is done with a script.
 #[derive(Clone, Copy, Debug, PartialEq, Eq)]

@@ -1,20 +1,19 @@
+use lwkt_litmus::Judgement;
 use lwkt_report::{Sink, write_whole};
 
 /// How the program ends.
 #[derive(Clone, Copy, Debug, PartialEq, Eq)]
 pub enum Status {
-    /// All was done; under `--run` everything that the text says of the outcome is so.
+    /// The script was written.
     Done,
+    /// It was run, and this came of it.
+    Judged(Judgement),
     /// The arguments, the text or the script is refused.
     Refused,
-    /// A script without expectations hadn't ended when its turns were used up.
-    TurnsOut,
-    /// A stream failed, or memory was refused.
+    /// A stream failed.
     Failed,
-    /// The run was not lawful.
-    Unlawful,
-    /// Something that the text says of the outcome isn't so.
-    Unmet,
+    /// Memory was refused.
+    Memory,
 }
 
 impl Status {
@@ -22,11 +21,9 @@ impl Status {
     pub fn code(self) -> u8 {
         match self {
             Status::Done => 0,
+            Status::Judged(judgement) => judgement.status(),
             Status::Refused => 1,
-            Status::TurnsOut => 2,
-            Status::Failed => 3,
-            Status::Unlawful => 4,
-            Status::Unmet => 5,
+            Status::Failed | Status::Memory => 3,
         }
     }
 }
@@ -34,6 +31,13 @@ impl Status {
 /// Says something where nobody is told whether it could be said.
 pub fn say<K: Sink>(sink: &mut K, text: &str) {
     let _ = write_whole(sink, text.as_bytes());
+}
+
+/// Says something behind the program's name.
+pub fn say_line<K: Sink>(sink: &mut K, text: &str) {
+    say(sink, "lwkt_text: ");
+    say(sink, text);
+    say(sink, "\n");
 }
 
 /// Writes a text, and says how the program ends: as it should, unless the text could not be written.

@@ -1,2 +1,3 @@
 pub mod TraceTexts
 pub mod RowTexts
+pub mod GuardTexts

@@ -1,5 +1,5 @@
 -- A trace, version 1 (own): what it says, and the place of its first bad part.
-use Rattle.std.specs.Prelude.{ℕ, ◌+◌, ◌&&◌, nat_lt, nat_le, List, [], length, codes, Bool, is_some, if◌then◌else◌, Option, Some, None, Result, Ok}
+use Rattle.std.specs.Prelude.{ℕ, ◌+◌, ◌&&◌, nat_lt, nat_le, List, [], length, replicate, codes, Bool, is_some, if◌then◌else◌, Option, Some, None, Result, Ok}
 use Rattle.std.specs.Str.{is_utf8}
 use Rattle.serde_json.specs.Data.{Data}
 use Rattle.serde_json.specs.Find.{get, as_null, as_array}
@@ -7,11 +7,12 @@ use Rattle.serde_json.specs.Read.{read}
 use Rattle.lwkt_base.specs.declared.openings.MsgSpec.{MsgSpec}
 use Rattle.lwkt_base.specs.declared.owners.MsgEnd.{MsgEnd}
 use Rattle.lwkt_script.specs.Field.{has_members, number_in, list_in}
-use Rattle.lwkt_script.specs.Format.{cell, token, message_at}
+use Rattle.lwkt_script.specs.Format.{cell, message_at}
 use Rattle.lwkt_script.specs.Outcome.{◌>>=◌, ◌>>◌, part, demand, each}
 use Rattle.lwkt_trace.specs.declared.traces.Closing.{Closing}
 use Rattle.lwkt_trace.specs.declared.traces.Told.{Told}
 use Rattle.lwkt_trace.specs.declared.traces.Trace.{Trace}
+use Rattle.lwkt_trace.specs.Guard.{guard_in, guarded}
 use Rattle.lwkt_trace.specs.Words.{event_of, message_end_of}
 
 -- the message after those: there are at most 64
@@ -48,10 +49,25 @@ end before d = do
   demand 5064 (nat_lt (length before) 64)
   part (5000 + length before) (message_end_of d)
 
+-- the record of a token after those: there are at most 64
+abbrev pub blob : List (Option (List ℕ)) → Data → Result (Option (List ℕ)) ℕ
+blob before d = do
+  demand 6064 (nat_lt (length before) 64)
+  part (6000 + length before) (guard_in d)
+
+-- the records of so many tokens; where they are left out, no token has one
+abbrev pub blobs : ℕ → Option Data → Result (List (Option (List ℕ))) ℕ
+blobs count None = Ok (replicate count None)
+blobs count (Some d) = part 4 (as_array d) >>= each blob []
+
+-- how many members closing values have that name records, or don't
+abbrev pub members_of : Data → ℕ
+members_of d = if is_some (get (codes "records") d) then 5 else 4
+
 -- the closing values: the shape of the whole first, then the parts in their order
 unfoldable pub closing_at : Data → Result Closing ℕ
 closing_at d = do
-  demand 4 (has_members 4 d)
+  demand 4 (has_members (members_of d) d)
   row_items ← part 4 (list_in (codes "rows") d)
   gen_items ← part 4 (list_in (codes "gens") d)
   tally_items ← part 4 (list_in (codes "tallies") d)
@@ -60,7 +76,8 @@ closing_at d = do
   gens ← each (cell 5) [] gen_items
   tallies ← each tally [] tally_items
   ends ← each end [] end_items
-  Ok (record { rows = rows; gens = gens; tallies = tallies; messages = ends })
+  records ← blobs (length rows) (get (codes "records") d)
+  Ok (record { rows = rows; gens = gens; tallies = tallies; messages = ends; blobs = records })
 
 -- what is there
 abbrev pub there : {A : Type 0} → A → Result (Option A) ℕ
@@ -84,7 +101,7 @@ trace d = do
   last_part ← part 1 (get (codes "last") d)
   version ← part 2 (number_in (codes "version") 1 1 d)
   cpus ← part 3 (number_in (codes "cpus") 1 8 d)
-  tokens ← each token [] token_items
+  tokens ← each guarded [] token_items
   messages ← each (message cpus) [] message_items
   events ← each event [] event_items
   last ← closing last_part

@@ -12,11 +12,12 @@ use Rattle.lwkt_base.specs.declared.owners.Owner.TheVariants.{Rest, Out, With, B
 use Rattle.lwkt_base.specs.declared.owners.MsgEnd.{MsgEnd}
 use Rattle.lwkt_base.specs.declared.sections.Section.{Section}
 use Rattle.lwkt_core.specs.declared.events.Event.{Event}
-use Rattle.lwkt_core.specs.declared.events.Event.TheVariants.{Load, Take, Share, Again, Mark, GiveOne, GiveClean, GiveWritten, Read, Write, Send, TakeMsg, DropMsg, Reply, Reap, Abort}
+use Rattle.lwkt_core.specs.declared.events.Event.TheVariants.{Load, Take, Share, Again, Mark, GiveOne, GiveClean, GiveWritten, Read, Write, ReadBlob, WriteBlob, Send, TakeMsg, DropMsg, Reply, Reap, Abort}
 use Rattle.lwkt_core.specs.declared.events.Place.{Place}
 use Rattle.lwkt_core.specs.declared.events.Place.TheVariants.{AtToken, AtMessage}
 use Rattle.lwkt_script.specs.Field.{item_count, whole}
 use Rattle.lwkt_script.specs.Step.{◌>>=◌, small_at, whole_at}
+use Rattle.lwkt_trace.specs.Guard.{blob_in}
 use Rattle.lwkt_trace.specs.declared.traces.Told.{Told}
 use Rattle.lwkt_trace.specs.declared.traces.Told.TheVariants.{Whole, Given}
 use Rattle.lwkt_trace.specs.declared.words.Subject.{Subject}
@@ -71,6 +72,12 @@ with_value word cpu place part value =
     if bytes_eq word (codes "write") then Some (Write (cpu_id cpu) (tok_id place) part value) else (
     if bytes_eq word (codes "send") then Some (Send (cpu_id cpu) (msg_id place) (cpu_id part) value) else None))
 
+-- the event of a word with a processor, a token and a record
+abbrev pub with_record : List ℕ → ℕ → ℕ → List ℕ → Option Event
+with_record word cpu tok blob =
+    if bytes_eq word (codes "read_record") then Some (ReadBlob (cpu_id cpu) (tok_id tok) blob) else (
+    if bytes_eq word (codes "write_record") then Some (WriteBlob (cpu_id cpu) (tok_id tok) blob) else None)
+
 -- the numbers of a list, behind those before them
 abbrev pub numbers_behind : List ℕ → Items → Option (List ℕ)
 numbers_behind before no_items = Some before
@@ -92,6 +99,13 @@ section_in tok d = whole_at 3 d >>= λ generation. row_at 4 d >>= λ before. row
 abbrev pub with_section : List ℕ → ℕ → Section → Option Event
 with_section word cpu section = if bytes_eq word (codes "give_written") then Some (GiveWritten (cpu_id cpu) section.tok section) else None
 
+-- the event of a word with a processor, a message and a round, or with a processor, a token and a record of at most 65 bytes
+abbrev pub round_told : List ℕ → Data → Option Event
+round_told word d = small_at 1 d >>= λ cpu. small_at 2 d >>= λ msg. whole_at 3 d >>= λ round. with_round word cpu msg round
+
+abbrev pub record_told : List ℕ → Data → Option Event
+record_told word d = small_at 1 d >>= λ cpu. small_at 2 d >>= λ tok. (at 3 d >>= blob_in 65) >>= with_record word cpu tok
+
 -- an event that is told whole
 abbrev pub whole_event : Option Event → Option Told
 whole_event event = option_map Whole event
@@ -105,7 +119,7 @@ told_at word cpu place =
 abbrev pub happened : List ℕ → ℕ → Data → Option Told
 happened word count d =
     if count == 3 then (small_at 1 d >>= λ cpu. small_at 2 d >>= λ place. told_at word cpu place) else (
-    if count == 4 then whole_event (small_at 1 d >>= λ cpu. small_at 2 d >>= λ msg. whole_at 3 d >>= λ round. with_round word cpu msg round) else (
+    if count == 4 then whole_event (or_else (round_told word d) (record_told word d)) else (
     if count == 5 then whole_event (small_at 1 d >>= λ cpu. small_at 2 d >>= λ place. small_at 3 d >>= λ part. whole_at 4 d >>= λ value. with_value word cpu place part value) else (
     if count == 6 then whole_event (small_at 1 d >>= λ cpu. (small_at 2 d >>= λ tok. section_in tok d) >>= with_section word cpu) else None)))
 
@@ -147,6 +161,8 @@ IsWordOf word (GiveClean cpu tok) = with_place word cpu.0 tok.0 ≡ Some (GiveCl
 IsWordOf word (GiveWritten cpu tok section) = (with_section word cpu.0 (record section { tok = tok }) ≡ Some (GiveWritten cpu tok (record section { tok = tok }))) × (told_at word cpu.0 tok.0 ≡ Some (Given cpu tok))
 IsWordOf word (Read cpu tok cell value) = with_value word cpu.0 tok.0 cell value ≡ Some (Read cpu tok cell value)
 IsWordOf word (Write cpu tok cell value) = with_value word cpu.0 tok.0 cell value ≡ Some (Write cpu tok cell value)
+IsWordOf word (ReadBlob cpu tok blob) = with_record word cpu.0 tok.0 blob ≡ Some (ReadBlob cpu tok blob)
+IsWordOf word (WriteBlob cpu tok blob) = with_record word cpu.0 tok.0 blob ≡ Some (WriteBlob cpu tok blob)
 IsWordOf word (Send cpu msg to round) = with_value word cpu.0 msg.0 to.0 round ≡ Some (Send cpu msg to round)
 IsWordOf word (TakeMsg cpu msg round) = with_round word cpu.0 msg.0 round ≡ Some (TakeMsg cpu msg round)
 IsWordOf word (DropMsg cpu msg) = with_place word cpu.0 msg.0 ≡ Some (DropMsg cpu msg)

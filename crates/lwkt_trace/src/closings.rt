@@ -1,13 +1,15 @@
-ghost use Rattle.std.specs.Prelude.{◌≡◌, []};
+ghost use Rattle.std.specs.Prelude.{◌≡◌, [], None, Ok, codes, replicate};
 ghost use Rattle.serde_json.specs.View.{view, items_view};
+ghost use Rattle.serde_json.specs.Find.{get};
 ghost use Rattle.lwkt_script.specs.Outcome.{Gives, each};
 ghost use Rattle.lwkt_trace.specs.Words.{at_rest, at_other, ended, message_end_of};
-ghost use Rattle.lwkt_trace.specs.Format.{numbers, row, tally, end, closing_at, closing};
+ghost use Rattle.lwkt_trace.specs.Format.{numbers, row, tally, end, blob, blobs, members_of, closing_at, closing};
 
+use crate::guards::guard_in;
 use crate::traces::Closing;
-use lwkt_base::{Cells, CpuId, Fault, MsgEnd, Owner};
+use lwkt_base::{Blob, Cells, CpuId, Fault, MsgEnd, Owner};
 use lwkt_script::Parts;
-use lwkt_script::fields::{has_members, item_count, list_at};
+use lwkt_script::fields::{has, has_members, item_count, list_at};
 use lwkt_script::growth::push;
 use lwkt_script::steps::{small_at, whole_at};
 use lwkt_script::tokens::cells_of;
@@ -157,11 +159,68 @@ fn ends_of(alloc: Global, items: &[Value]) -> Result<Vec<MsgEnd>, Fault>
     Ok(ends)
 }
 
+// The record of a token after those.
+fn blob(before: &[Option<Blob>], value: &Value) -> Result<Option<Blob>, Fault>
+    ensures { Gives (λ b. b) result (blob before.now (view value.now)) }
+{
+    if before.len() >= LIMIT {
+        return Err(Fault::Script { place: 6064 });
+    }
+    match guard_in(value) {
+        Some(blob) => Ok(blob),
+        None => Err(Fault::Script {
+            place: 6000 + before.len() as u32,
+        }),
+    }
+}
+
+fn blobs_of(alloc: Global, items: &[Value]) -> Result<Vec<Option<Blob>>, Fault>
+    ensures { Gives (λ v. v.items) result (each blob [] (items_view items.now)) }
+{
+    let mut blobs = Vec::new(alloc);
+    for item in items {
+        let next = blob(blobs.as_slice(), item)?;
+        push(&mut blobs, next)?;
+    }
+    Ok(blobs)
+}
+
+// So many records that aren't there.
+fn no_blobs(alloc: Global, count: usize) -> Result<Vec<Option<Blob>>, Fault>
+    ensures { Gives (λ v. v.items) result (Ok (replicate count None)) }
+{
+    let mut blobs = Vec::new(alloc);
+    for _ in 0..count {
+        push(&mut blobs, None)?;
+    }
+    Ok(blobs)
+}
+
+// The records of so many tokens, where they are told.
+fn blobs_in(alloc: Global, count: usize, value: &Value) -> Result<Vec<Option<Blob>>, Fault>
+    ensures { Gives (λ v. v.items) result (blobs count (get (codes "records") (view value.now))) }
+{
+    match value.get("records") {
+        None => no_blobs(alloc, count),
+        Some(list) => match list.as_array() {
+            Some(items) => blobs_of(alloc, items.as_slice()),
+            None => Err(Fault::Script { place: 4 }),
+        },
+    }
+}
+
+// How many members closing values have.
+fn members_of(value: &Value) -> usize
+    ensures { result ≡ members_of (view value.now) }
+{
+    if has(value, "records") { 5 } else { 4 }
+}
+
 #[tactic(auto, unfolding(crate::specs::Format::closing_at))]
 fn closing_at(alloc: Global, value: &Value) -> Result<Closing, Fault>
     ensures { Gives (λ c. c) result (closing_at (view value.now)) }
 {
-    if !has_members(value, 4) {
+    if !has_members(value, members_of(value)) {
         return Err(Fault::Script { place: 4 });
     }
     let row_items = list_at(4, value, "rows")?;
@@ -172,11 +231,13 @@ fn closing_at(alloc: Global, value: &Value) -> Result<Closing, Fault>
     let gens = cells_of(alloc, 5, gen_items.as_slice())?;
     let tallies = tallies_of(alloc, tally_items.as_slice())?;
     let ends = ends_of(alloc, end_items.as_slice())?;
+    let blobs = blobs_in(alloc, rows.len(), value)?;
     Ok(Closing {
         rows: Parts::from_vec(rows),
         gens: Cells::from_vec(gens),
         tallies: Parts::from_vec(tallies),
         messages: Parts::from_vec(ends),
+        blobs: Parts::from_vec(blobs),
     })
 }
 

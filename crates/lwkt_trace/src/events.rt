@@ -1,12 +1,13 @@
 ghost use Rattle.std.specs.Prelude.{◌≡◌, []};
 ghost use Rattle.serde_json.specs.View.{view, items_view};
 ghost use Rattle.lwkt_script.specs.Outcome.{Gives, each};
-ghost use Rattle.lwkt_trace.specs.Words.{with_token, with_message, with_place, with_round, with_value, with_section, told_at, happened, event_of};
+ghost use Rattle.lwkt_trace.specs.Words.{with_token, with_message, with_place, or_else, with_round, with_record, round_told, record_told, with_value, with_section, told_at, happened, event_of};
 ghost use Rattle.lwkt_trace.specs.Format.{event};
 
+use crate::guards::blob_in;
 use crate::sections::section_in;
 use crate::traces::Told;
-use lwkt_base::{CpuId, Fault, MsgId, Section, TokId};
+use lwkt_base::{Blob, CpuId, Fault, MsgId, Section, TokId};
 use lwkt_core::Event;
 use lwkt_script::fields::item_count;
 use lwkt_script::growth::push;
@@ -73,6 +74,47 @@ fn with_round(word: &str, cpu: u8, msg: u8, round: u64) -> Option<Event>
     }
 }
 
+// The event of a word with a processor, a token and a record.
+fn with_record(word: &str, cpu: u8, tok: u8, blob: Blob) -> Option<Event>
+    ensures { result ≡ with_record word.now cpu tok blob }
+{
+    let cpu = CpuId(cpu);
+    let tok = TokId(tok);
+    match word {
+        "read_record" => Some(Event::ReadBlob { cpu, tok, blob }),
+        "write_record" => Some(Event::WriteBlob { cpu, tok, blob }),
+        _ => None,
+    }
+}
+
+// The event of a word, items 1 and 2, and a round.
+fn round_told(word: &str, value: &Value) -> Option<Event>
+    ensures { result ≡ round_told word.now (view value.now) }
+{
+    let cpu = small_at(value, 1)?;
+    let msg = small_at(value, 2)?;
+    with_round(word, cpu, msg, whole_at(value, 3)?)
+}
+
+// The event of a word, items 1 and 2, and a record of at most 65 bytes: one of 65 is too long, which is for the model to say.
+fn record_told(word: &str, value: &Value) -> Option<Event>
+    ensures { result ≡ record_told word.now (view value.now) }
+{
+    let cpu = small_at(value, 1)?;
+    let tok = small_at(value, 2)?;
+    with_record(word, cpu, tok, blob_in(65, value.get(3usize)?)?)
+}
+
+// The event of a word with four items in all.
+fn told_of_four(word: &str, value: &Value) -> Option<Event>
+    ensures { result ≡ or_else (round_told word.now (view value.now)) (record_told word.now (view value.now)) }
+{
+    match round_told(word, value) {
+        Some(event) => Some(event),
+        None => record_told(word, value),
+    }
+}
+
 // The event of a word with a processor, a token, a cell and a value, or a message, a target and a round.
 fn with_value(word: &str, cpu: u8, place: u8, part: u8, value: u64) -> Option<Event>
     ensures { result ≡ with_value word.now cpu place part value }
@@ -134,12 +176,7 @@ fn happened(word: &str, count: usize, value: &Value) -> Option<Told>
 {
     match count {
         3 => told_at(word, small_at(value, 1)?, small_at(value, 2)?),
-        4 => Some(Told::Whole(with_round(
-            word,
-            small_at(value, 1)?,
-            small_at(value, 2)?,
-            whole_at(value, 3)?,
-        )?)),
+        4 => Some(Told::Whole(told_of_four(word, value)?)),
         5 => Some(Told::Whole(with_value(
             word,
             small_at(value, 1)?,

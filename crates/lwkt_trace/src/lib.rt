@@ -4,6 +4,7 @@
 
 mod closings;
 mod events;
+mod guards;
 mod openings;
 mod readers;
 mod sections;

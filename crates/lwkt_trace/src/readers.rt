@@ -5,12 +5,12 @@ ghost use Rattle.lwkt_trace.specs.Format.{is_whole, trace, trace_of};
 
 use crate::closings::closing;
 use crate::events::events_of;
+use crate::guards::guarded_of;
 use crate::openings::messages_of;
 use crate::traces::Trace;
 use lwkt_base::Fault;
 use lwkt_script::Parts;
 use lwkt_script::fields::{has, has_members, list_at, number_at};
-use lwkt_script::tokens::tokens_of;
 use serde_json::Value;
 use std::alloc::Global;
 
@@ -41,7 +41,7 @@ fn trace(alloc: Global, value: &Value) -> Result<Trace, Fault>
     };
     number_at(2, value, "version", 1, 1)?;
     let cpus = number_at(3, value, "cpus", 1, CPU_LIMIT)? as u8;
-    let tokens = tokens_of(alloc, token_items.as_slice())?;
+    let tokens = guarded_of(alloc, token_items.as_slice())?;
     let messages = messages_of(alloc, cpus, message_items.as_slice())?;
     let events = events_of(alloc, event_items.as_slice())?;
     let last = closing(alloc, last_part)?;
@@ -66,8 +66,10 @@ fn trace(alloc: Global, value: &Value) -> Result<Trace, Fault>
 /// - 1000 + n: token n, which is 64 where there are more than 64.
 /// - 2000 + n: message n, which is 64 where there are more than 64.
 /// - 1000000 + n: event n, which is 50000000 where there are more than that.
-/// - 4: `last` is neither null nor an object with exactly the lists `rows`, `gens`, `tallies` and `messages`.
-/// - 3000 + n: row n; 5: `gens`; 4000 + n: the tallies of token n; 5000 + n: the end of message n. With more than 64 of
+/// - 4: `last` is neither null nor an object with exactly the lists `rows`, `gens`, `tallies` and `messages`, beside which
+///   `records` may stand.
+/// - 3000 + n: row n; 5: `gens`; 4000 + n: the tallies of token n; 5000 + n: the end of message n;
+///   6000 + n: the record of token n. With more than 64 of
 ///   them n is 64.
 ///
 /// Of a member that stands twice the last one counts. A number with a fraction or an exponent, -0, and a number of

@@ -1,6 +1,6 @@
 ghost use Rattle.std.specs.Prelude.{◌≡◌};
 
-use lwkt_base::{Cells, CpuId, MsgEnd, MsgSpec, TokId, TokSpec};
+use lwkt_base::{Blob, Cells, CpuId, MsgEnd, MsgSpec, TokId, TokSpec};
 use lwkt_core::{Event, Final};
 use lwkt_script::Parts;
 
@@ -24,6 +24,8 @@ pub struct Closing {
     pub tallies: Parts<Cells>,
     /// Each message's owner state and round.
     pub messages: Parts<MsgEnd>,
+    /// Each token's record, if it has one; none of any where they are left out.
+    pub blobs: Parts<Option<Blob>>,
 }
 
 impl Closing {
@@ -33,12 +35,14 @@ impl Closing {
         ensures gens { result.gens.items ≡ self.gens }
         ensures tallies { result.tallies.items ≡ self.tallies }
         ensures messages { result.messages.items ≡ self.messages }
+        ensures blobs { result.blobs.items ≡ self.blobs }
     {
         Final {
             rows: self.rows.into_vec(),
             gens: self.gens.into_vec(),
             tallies: self.tallies.into_vec(),
             messages: self.messages.into_vec(),
+            blobs: self.blobs.into_vec(),
         }
     }
 }

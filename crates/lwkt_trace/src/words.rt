@@ -1,9 +1,10 @@
-ghost use Rattle.std.specs.Prelude.{◌≡◌, ◌++◌, OnOk, Some, string_bytes};
+ghost use Rattle.std.specs.Prelude.{◌≡◌, ◌≢◌, ◌++◌, OnOk, Some, string_bytes};
 ghost use Rattle.lwkt_core.specs.Events.{place_of};
 ghost use Rattle.lwkt_script.specs.Member.{law_of};
+ghost use Rattle.lwkt_trace.specs.Guard.{any_law_of};
 ghost use Rattle.lwkt_trace.specs.Words.{IsWordOf, place_at, spaced, numbers_text};
 
-use lwkt_base::{Law, MsgId, TokId};
+use lwkt_base::{Blob, Law, MsgId, TokId};
 use lwkt_core::Event;
 use std::alloc::AllocError;
 
@@ -22,6 +23,8 @@ pub fn event_word(event: &Event) -> &'static str
         Event::GiveWritten { .. } => "give_written",
         Event::Read { .. } => "read",
         Event::Write { .. } => "write",
+        Event::ReadBlob { .. } => "read_record",
+        Event::WriteBlob { .. } => "write_record",
         Event::Send { .. } => "send",
         Event::TakeMsg { .. } => "take_msg",
         Event::DropMsg { .. } => "drop",
@@ -52,7 +55,9 @@ pub fn subject_of(event: &Event) -> Subject
         | Event::GiveClean { tok, .. }
         | Event::GiveWritten { tok, .. }
         | Event::Read { tok, .. }
-        | Event::Write { tok, .. } => Subject::Token(tok),
+        | Event::Write { tok, .. }
+        | Event::ReadBlob { tok, .. }
+        | Event::WriteBlob { tok, .. } => Subject::Token(tok),
         Event::Send { msg, .. }
         | Event::TakeMsg { msg, .. }
         | Event::DropMsg { msg, .. }
@@ -62,9 +67,10 @@ pub fn subject_of(event: &Event) -> Subject
     }
 }
 
-/// The name of a law: the one that reading a script or a trace takes for it.
+/// The name of a law: the one that reading a trace takes for it, and but for `Len` reading a script too.
 pub fn law_name(law: Law) -> &'static str
-    ensures { law_of result.now ≡ Some law }
+    ensures any { any_law_of result.now ≡ Some law }
+    ensures script { law ≢ Law.Len → law_of result.now ≡ Some law }
 {
     match law {
         Law::Any => "any",
@@ -72,7 +78,34 @@ pub fn law_name(law: Law) -> &'static str
         Law::Order => "order",
         Law::Cap => "cap",
         Law::Tally => "tally",
+        Law::Len => "len",
     }
+}
+
+// The hexadecimal digits, by their values.
+const DIGITS: [&str; 16] = [
+    "0", "1", "2", "3", "4", "5", "6", "7", "8", "9", "a", "b", "c", "d", "e", "f",
+];
+
+/// The digits of a byte, the higher first.
+pub fn digits_of(byte: u8) -> (&'static str, &'static str) {
+    (
+        DIGITS[usize::from(byte / 16)],
+        DIGITS[usize::from(byte % 16)],
+    )
+}
+
+/// Appends the bytes of a record that are kept, two digits for each, or `-` where it has none.
+pub fn show_bytes(out: &mut String, blob: &Blob) -> Result<(), AllocError> {
+    if blob.is_empty() {
+        return out.push_str("-");
+    }
+    for byte in blob.as_slice() {
+        let (high, low) = digits_of(*byte);
+        out.push_str(high)?;
+        out.push_str(low)?;
+    }
+    Ok(())
 }
 
 // Appends numbers, each after a space.

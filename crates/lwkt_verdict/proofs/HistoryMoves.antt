@@ -15,7 +15,7 @@ use Rattle.lwkt_verdict.specs.declared.progress.Asked.{Asked}
 use Rattle.lwkt_verdict.specs.declared.progress.Piece.{Piece}
 use Rattle.lwkt_verdict.specs.Parts.{after_all}
 use Rattle.lwkt_verdict.specs.Threads.{IsLogged, slot_of, thread_of, line_of, ask_at, asked_by, last_of, logged_by, entries_of, progress_of, EndsAs, Ends}
-use Rattle.lwkt_verdict.specs.Run.{poll_of, piece, came, asked, Polls, Fits, EndsRun, Runs}
+use Rattle.lwkt_verdict.specs.Run.{poll_of, piece, whose, came, asked, Polls, Fits, EndsRun, Runs}
 use Rattle.lwkt_verdict.specs.Laws.{pieces_of, asks_of, AsksAreThoseOfTheScript, AllButTheLastAreAnswered, LogsAreTheFirstEntries}
 use Rattle.lwkt_verdict.proofs.ShowMoves.{asked_push, asked_here, asked_there}
 
@@ -26,9 +26,9 @@ pub record Ended (plans : List ThreadPlan) (lines : List ThreadEnd) (Q : List Pi
   pub stop : List Event
   pub closes : EndsRun plans lines end all stop
 
-module _ (plans : List ThreadPlan) (lines : List ThreadEnd) (polls : List Poll) (cpus : ℕ) where
+module _ (plans : List ThreadPlan) (lines : List ThreadEnd) (polls : List Poll) (order : List ℕ) where
   -- what each turn that fits keeps holds after all turns
-  pub through : (Q : List Piece → Type 0) → ((m : Machine) (before : List Piece) (poll : Option Poll) (part : List Event) → Q before → Fits plans lines (length before % cpus) m before poll part → Q (before ++ piece poll part ∷ [])) → (m : Machine) (before : List Piece) (turns : List Turn) (events : List Event) → Q before → Runs plans lines polls cpus m before turns events → Ended plans lines Q (before ++ pieces_of polls turns events)
+  pub through : (Q : List Piece → Type 0) → ((m : Machine) (before : List Piece) (poll : Option Poll) (part : List Event) → Q before → Fits plans lines (whose order (length before)) m before poll part → Q (before ++ piece poll part ∷ [])) → (m : Machine) (before : List Piece) (turns : List Turn) (events : List Event) → Q before → Runs plans lines polls order m before turns events → Ended plans lines Q (before ++ pieces_of polls turns events)
   through Q step m before [] events q closes =
       subst (λ (all : List Piece). Ended plans lines Q all) (sym (append-nil before)) (record { holds = q; end = m; stop = events; closes = closes })
   through Q step m before (t ∷ ts) events q runs =
@@ -169,17 +169,17 @@ ends_line (Some plan) line p ends = ends
 
 pub asks_follow : AsksAreThoseOfTheScript
 unfolding FollowsPlan
-asks_follow plans limit opening polls turns trace lines run cpu n here few =
-    (through plans lines polls opening.cpus (FollowsPlan plans cpu n) (λ m before poll part q fits. follows_step plans lines cpu n (length before % opening.cpus) few m before poll part q fits) opening [] turns trace (λ k a none. absurd cc) run.runs).holds
+asks_follow plans pace order opening polls turns trace lines run cpu n here few =
+    (through plans lines polls order (FollowsPlan plans cpu n) (λ m before poll part q fits. follows_step plans lines cpu n (whose order (length before)) few m before poll part q fits) opening [] turns trace (λ k a none. absurd cc) run.runs).holds
 
 -- after all turns each ask but the last has its answer, and the last has none
 pub all_answered : AllButTheLastAreAnswered
 unfolding AreAnswered
-all_answered plans limit opening polls turns trace lines run cpu n here few k a is =
+all_answered plans pace order opening polls turns trace lines run cpu n here few k a is =
     let slot = 16 * cpu + n in
     let xs : List Asked = asks_of polls turns trace cpu n in
-    let done = through plans lines polls opening.cpus (AreAnswered slot) (λ m before poll part q fits. answered_step plans lines slot (length before % opening.cpus) m before poll part q fits) opening [] turns trace (λ j x none. absurd cc) run.runs in
-    let open_end : MatchOption (last_of xs) (Unit {0}) (λ x. is_some x.answer ≡ false) = ends_open (thread_of cpu n plans) (line_of slot lines) xs (λ plan. ask_at plan k ≡ Some a.ask) (asks_follow plans limit opening polls turns trace lines run cpu n here few k a is) (done.closes.ends cpu n here few) in (
+    let done = through plans lines polls order (AreAnswered slot) (λ m before poll part q fits. answered_step plans lines slot (whose order (length before)) m before poll part q fits) opening [] turns trace (λ j x none. absurd cc) run.runs in
+    let open_end : MatchOption (last_of xs) (Unit {0}) (λ x. is_some x.answer ≡ false) = ends_open (thread_of cpu n plans) (line_of slot lines) xs (λ plan. ask_at plan k ≡ Some a.ask) (asks_follow plans pace order opening polls turns trace lines run cpu n here few k a is) (done.closes.ends cpu n here few) in (
       (λ inside. done.holds k a is inside),
       (λ last. (let place : length xs - 1 ≡ k = omega arith in
           let F : Option Asked → Type 0 = λ o. MatchOption o (Unit {0}) (λ x. is_some x.answer ≡ false) in
@@ -215,11 +215,11 @@ with_value (Some x) R each = each x refl
 
 pub logs_are_first : LogsAreTheFirstEntries
 unfolding HasLogged
-logs_are_first plans limit opening polls turns trace lines run cpu n here few =
+logs_are_first plans pace order opening polls turns trace lines run cpu n here few =
     let slot = 16 * cpu + n in
     let xs : List Asked = asks_of polls turns trace cpu n in
     with_value (line_of slot lines) (λ line. line.log.items ≡ take 32 (entries_of xs)) (λ line is_line. (let log : List Entry = line.log.items in
-    let done = through plans lines polls opening.cpus (HasLogged log slot) (λ m before poll part q fits. logged_step plans lines line slot (length before % opening.cpus) is_line m before poll part q fits) opening [] turns trace refl run.runs in
+    let done = through plans lines polls order (HasLogged log slot) (λ m before poll part q fits. logged_step plans lines line slot (whose order (length before)) is_line m before poll part q fits) opening [] turns trace refl run.runs in
     let E : Option ThreadEnd → Type 0 = λ o. Ends (thread_of cpu n plans) o (progress_of xs) in
     let ends = ends_line (thread_of cpu n plans) line xs (subst E is_line (done.closes.ends cpu n here few)) in
     let long : length log ≡ min 32 (length (entries_of xs)) = ends.1 in

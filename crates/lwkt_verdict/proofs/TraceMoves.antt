@@ -45,13 +45,13 @@ part_happens m (Some q) part makes =
     let mid : Machine = after_all m (take i part) in
     subst (λ (k : Machine). Run m part k) (sym (after_cut m part i)) (run_cut m mid (after_all mid (drop i part)) part i (quiet_happens m (take i part) makes.0) (from_happens mid q.ask q.answer (drop i part) makes.1))
 
-runs_happen : (plans : List ThreadPlan) (lines : List ThreadEnd) (polls : List Poll) (cpus : ℕ) (m : Machine) (before : List Piece) (turns : List Turn) (events : List Event) → Runs plans lines polls cpus m before turns events → (end : Machine) × Run m events end
-runs_happen plans lines polls cpus m before [] events closes = (after_all m events, quiet_happens m events closes.quiet)
-runs_happen plans lines polls cpus m before (t ∷ ts) events runs =
+runs_happen : (plans : List ThreadPlan) (lines : List ThreadEnd) (polls : List Poll) (order : List ℕ) (m : Machine) (before : List Piece) (turns : List Turn) (events : List Event) → Runs plans lines polls order m before turns events → (end : Machine) × Run m events end
+runs_happen plans lines polls order m before [] events closes = (after_all m events, quiet_happens m events closes.quiet)
+runs_happen plans lines polls order m before (t ∷ ts) events runs =
     let part : List Event = take t.events events in
-    let rest = runs_happen plans lines polls cpus (after_all m part) (before ++ piece (poll_of polls t) part ∷ []) ts (drop t.events events) runs.1.1 in
+    let rest = runs_happen plans lines polls order (after_all m part) (before ++ piece (poll_of polls t) part ∷ []) ts (drop t.events events) runs.1.1 in
     (rest.0, run_cut m (after_all m part) rest.0 events t.events (part_happens m (poll_of polls t) part runs.1.0.makes) rest.1)
 
 pub traces_happen : TracesOfRunsHappen
-traces_happen plans limit opening polls turns trace lines run =
-    runs_happen plans lines polls opening.cpus opening [] turns trace run.runs
+traces_happen plans pace order opening polls turns trace lines run =
+    runs_happen plans lines polls order opening [] turns trace run.runs

@@ -10,7 +10,9 @@ use Rattle.lwkt_verdict.specs.declared.turns.Turn.{Turn}
 use Rattle.lwkt_verdict.specs.declared.progress.Asked.{Asked}
 use Rattle.lwkt_verdict.specs.declared.progress.Piece.{Piece}
 use Rattle.lwkt_verdict.specs.Threads.{thread_of, line_of, ask_at, asked_by, entries_of}
-use Rattle.lwkt_verdict.specs.Run.{poll_of, piece, IsScriptRun}
+use Rattle.lwkt_verdict.specs.declared.turns.Pace.{Pace}
+use Rattle.lwkt_verdict.specs.declared.turns.Pace.TheVariants.{Rounds}
+use Rattle.lwkt_verdict.specs.Run.{poll_of, piece, whose, IsScriptRun}
 
 -- what the turns of a run were
 abbrev pub pieces_of : List Poll → List Turn → List Event → List Piece
@@ -23,19 +25,19 @@ asks_of polls turns trace cpu n = asked_by (16 * cpu + n) (pieces_of polls turns
 
 -- what holds of each run of each script
 abbrev pub OfRuns : (List ThreadPlan → Machine → List Poll → List Turn → List Event → List ThreadEnd → Type 0) → Type 0
-OfRuns P = (plans : List ThreadPlan) (limit : ℕ) (opening : Machine) (polls : List Poll) (turns : List Turn) (trace : List Event) (lines : List ThreadEnd) → IsScriptRun plans limit opening polls turns trace lines → P plans opening polls turns trace lines
+OfRuns P = (plans : List ThreadPlan) (pace : Pace) (order : List ℕ) (opening : Machine) (polls : List Poll) (turns : List Turn) (trace : List Event) (lines : List ThreadEnd) → IsScriptRun plans pace order opening polls turns trace lines → P plans opening polls turns trace lines
 
 -- what holds of each of the threads that there can be
 abbrev pub OfThreads : (ℕ → ℕ → Type 0) → Type 0
 OfThreads P = (cpu n : ℕ) → cpu < 8 → n < 16 → P cpu n
 
--- a law: no turn at all is no run
+-- a law: no turn at all is no run in rounds
 abbrev pub NoTurnsAreNoRun : Type 0
-NoTurnsAreNoRun = (plans : List ThreadPlan) (limit : ℕ) (opening : Machine) (polls : List Poll) (trace : List Event) (lines : List ThreadEnd) → ¬ IsScriptRun plans limit opening polls [] trace lines
+NoTurnsAreNoRun = (plans : List ThreadPlan) (limit : ℕ) (order : List ℕ) (opening : Machine) (polls : List Poll) (trace : List Event) (lines : List ThreadEnd) → ¬ IsScriptRun plans (Rounds limit) order opening polls [] trace lines
 
--- a law: no run begins with a turn without an ask, where processor 0 has a thread
+-- a law: no run begins with a turn without an ask, where the processor of that turn has a thread
 abbrev pub RunsBeginWithAnAsk : Type 0
-RunsBeginWithAnAsk = (plans : List ThreadPlan) (limit : ℕ) (opening : Machine) (polls : List Poll) (turn : Turn) (turns : List Turn) (trace : List Event) (lines : List ThreadEnd) → is_some (thread_of 0 0 plans) ≡ true → poll_of polls turn ≡ None → ¬ IsScriptRun plans limit opening polls (turn ∷ turns) trace lines
+RunsBeginWithAnAsk = (plans : List ThreadPlan) (pace : Pace) (order : List ℕ) (opening : Machine) (polls : List Poll) (turn : Turn) (turns : List Turn) (trace : List Event) (lines : List ThreadEnd) → is_some (thread_of (whose order 0) 0 plans) ≡ true → poll_of polls turn ≡ None → ¬ IsScriptRun plans pace order opening polls (turn ∷ turns) trace lines
 
 -- a law: the events of a run's trace can happen one after another, from the opening on
 abbrev pub TracesOfRunsHappen : Type 0

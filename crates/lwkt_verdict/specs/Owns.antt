@@ -6,19 +6,22 @@ use Rattle.lwkt_base.specs.declared.asks.Ask.TheVariants.{Get, GetShared, TryGet
 use Rattle.lwkt_base.specs.declared.asks.Answer.{Answer}
 use Rattle.lwkt_base.specs.declared.asks.Answer.TheVariants.{Begin, Done, Value, Dropped, Got, NoMsg, Refused}
 use Rattle.lwkt_core.specs.declared.events.Event.{Event}
-use Rattle.lwkt_core.specs.declared.events.Event.TheVariants.{Load, Take, Share, Again, Mark, GiveOne, GiveClean, GiveWritten, Read, Write, Send, TakeMsg, DropMsg, Reply, Reap, Abort}
+use Rattle.lwkt_core.specs.declared.events.Event.TheVariants.{Load, Take, Share, Again, Mark, GiveOne, GiveClean, GiveWritten, Read, Write, ReadBlob, WriteBlob, Send, TakeMsg, DropMsg, Reply, Reap, Abort}
 use Rattle.lwkt_core.specs.Events.{adds_reference}
 use Rattle.lwkt_core.specs.Machine.{Machine}
 use Rattle.lwkt_core.specs.Values.{cell_at, first_at}
 use Rattle.lwkt_verdict.specs.Asks.{is_do}
 
--- an event may happen unasked: no read, send, abort or drop may, and a write only of the cell's value in the first row
+-- an event may happen unasked: no read, send, abort or drop may, none of a record, as no ask is of one, and a write only of the
+-- cell's value in the first row
 abbrev pub IsQuiet : Machine → Event → Type 0
 IsQuiet m (Read cpu tok cell value) = ⊥
 IsQuiet m (Send cpu msg to round) = ⊥
 IsQuiet m (Abort cpu msg) = ⊥
 IsQuiet m (DropMsg cpu msg) = ⊥
 IsQuiet m (Write cpu tok cell value) = first_at m tok.0 cell ≡ Some value
+IsQuiet m (ReadBlob cpu tok blob) = ⊥
+IsQuiet m (WriteBlob cpu tok blob) = ⊥
 IsQuiet m (Load cpu tok) = Unit {0}
 IsQuiet m (Take cpu tok) = Unit {0}
 IsQuiet m (Share cpu tok) = Unit {0}

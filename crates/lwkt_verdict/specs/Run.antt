@@ -1,5 +1,5 @@
 -- A run of a script over a lawful trace (own).
-use Rattle.std.specs.Prelude.{◌≡◌, ℕ, ◌+◌, ◌-◌, ◌*◌, ◌%◌, ◌<◌, ◌≤◌, ◌⊎◌, Bool, true, false, List, [], ◌∷◌, ◌++◌, length, take, drop, All, slice_get, Option, MatchOption, option_and_then, is_some}
+use Rattle.std.specs.Prelude.{◌≡◌, ℕ, unwrap_or, ◌+◌, ◌-◌, ◌*◌, ◌%◌, ◌<◌, ◌≤◌, ◌⊎◌, Bool, true, false, List, [], ◌∷◌, ◌++◌, length, take, drop, All, slice_get, Option, MatchOption, option_and_then, is_some}
 use Rattle.std.specs.Option.{option_map_or}
 use Rattle.lwkt_core.specs.declared.events.Event.{Event}
 use Rattle.lwkt_core.specs.Events.{cpu_of}
@@ -8,6 +8,8 @@ use Rattle.lwkt_verdict.specs.declared.turns.ThreadPlan.{ThreadPlan}
 use Rattle.lwkt_verdict.specs.declared.turns.ThreadEnd.{ThreadEnd}
 use Rattle.lwkt_verdict.specs.declared.turns.Poll.{Poll}
 use Rattle.lwkt_verdict.specs.declared.turns.Turn.{Turn}
+use Rattle.lwkt_verdict.specs.declared.turns.Pace.{Pace}
+use Rattle.lwkt_verdict.specs.declared.turns.Pace.TheVariants.{Rounds, Named}
 use Rattle.lwkt_verdict.specs.declared.progress.Asked.{Asked}
 use Rattle.lwkt_verdict.specs.declared.progress.Progress.{Progress}
 use Rattle.lwkt_verdict.specs.declared.progress.Piece.{Piece}
@@ -66,11 +68,16 @@ pub record EndsRun (plans : List ThreadPlan) (lines : List ThreadEnd) (m : Machi
   pub quiet : GoesQuietly m stop
   pub ends : (cpu n : ℕ) → cpu < 8 → n < 16 → Ends (thread_of cpu n plans) (line_of (16 * cpu + n) lines) (came before (16 * cpu + n))
 
--- the trace is cut in order into one part for each turn and the events of the stop; the processors take their turns in rounds
-abbrev pub Runs : List ThreadPlan → List ThreadEnd → List Poll → ℕ → Machine → List Piece → List Turn → List Event → Type 0
-Runs plans lines polls cpus m before [] events = EndsRun plans lines m before events
-Runs plans lines polls cpus m before (turn ∷ turns) events =
-    (turn.events ≤ length events) × (Fits plans lines (length before % cpus) m before (poll_of polls turn) (take turn.events events) × Runs plans lines polls cpus (after_all m (take turn.events events)) (before ++ piece (poll_of polls turn) (take turn.events events) ∷ []) turns (drop turn.events events))
+-- the processor of the turn of this number, by an order of processors
+abbrev pub whose : List ℕ → ℕ → ℕ
+whose order k = unwrap_or (slice_get order k) 0
+
+-- the trace is cut in order into one part for each turn and the events of the stop; each turn is of the processor that the order
+-- names
+abbrev pub Runs : List ThreadPlan → List ThreadEnd → List Poll → List ℕ → Machine → List Piece → List Turn → List Event → Type 0
+Runs plans lines polls order m before [] events = EndsRun plans lines m before events
+Runs plans lines polls order m before (turn ∷ turns) events =
+    (turn.events ≤ length events) × (Fits plans lines (whose order (length before)) m before (poll_of polls turn) (take turn.events events) × Runs plans lines polls order (after_all m (take turn.events events)) (before ++ piece (poll_of polls turn) (take turn.events events) ∷ []) turns (drop turn.events events))
 
 -- a thread and its line are both there, or neither is
 abbrev pub IsPaired : List ThreadPlan → List ThreadEnd → ℕ → ℕ → Type 0
@@ -87,16 +94,30 @@ pub record EndsEarly (polls : List Poll) (cpus : ℕ) (limit : ℕ) (turns : Lis
   pub unasked : All (λ turn. is_some (poll_of polls turn) ≡ false) (drop (length turns - cpus) turns)
   pub ended : All (λ line. has_ended line.state ≡ true) lines
 
--- so many turns are whole rounds of the processors, at least one; they are the script's, or fewer
-pub record AreRounds (polls : List Poll) (cpus : ℕ) (limit : ℕ) (turns : List Turn) (lines : List ThreadEnd) : Type 0 where
+-- an order goes round the processors from this turn on: turn k is of processor k mod their number
+abbrev pub GoesRound : ℕ → ℕ → List ℕ → Type 0
+GoesRound cpus k [] = Unit {0}
+GoesRound cpus k (cpu ∷ order) = (cpu ≡ k % cpus) × GoesRound cpus (k + 1) order
+
+-- the turns of an order are whole rounds of the processors, at least one; they are the script's, or fewer
+pub record AreRounds (polls : List Poll) (cpus : ℕ) (limit : ℕ) (order : List ℕ) (turns : List Turn) (lines : List ThreadEnd) : Type 0 where
+  pub round : GoesRound cpus 0 order
   pub processors : 0 < cpus
   pub some : 0 < length turns
   pub whole : length turns % cpus ≡ 0
   pub enough : (length turns ≡ limit * cpus) ⊎ EndsEarly polls cpus limit turns lines
 
--- the turns, with their polls, are a run of a script with so many rounds at most, over a trace from an opening, which ends as the lines say
-pub record IsScriptRun (plans : List ThreadPlan) (limit : ℕ) (opening : Machine) (polls : List Poll) (turns : List Turn) (trace : List Event) (lines : List ThreadEnd) : Type 0 where
+-- turns follow one another as they should: in rounds, or as they were named
+abbrev pub KeepsPace : Pace → List Poll → ℕ → List ℕ → List Turn → List ThreadEnd → Type 0
+KeepsPace (Rounds limit) polls cpus order turns lines = AreRounds polls cpus limit order turns lines
+KeepsPace Named polls cpus order turns lines = Unit {0}
+
+-- the turns, with their polls, are a run of a script along an order of its processors, at this pace, over a trace from an opening,
+-- which ends as the lines say
+pub record IsScriptRun (plans : List ThreadPlan) (pace : Pace) (order : List ℕ) (opening : Machine) (polls : List Poll) (turns : List Turn) (trace : List Event) (lines : List ThreadEnd) : Type 0 where
   pub listed : AreListed opening.cpus 0 lines
   pub paired : (cpu n : ℕ) → cpu < 8 → n < 16 → IsPaired plans lines cpu n
-  pub rounds : AreRounds polls opening.cpus limit turns lines
-  pub runs : Runs plans lines polls opening.cpus opening [] turns trace
+  pub named : length order ≡ length turns
+  pub within : All (λ cpu. cpu < opening.cpus) order
+  pub paced : KeepsPace pace polls opening.cpus order turns lines
+  pub runs : Runs plans lines polls order opening [] turns trace

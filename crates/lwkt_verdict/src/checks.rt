@@ -13,8 +13,8 @@ use crate::owns::has_blocked;
 use crate::parts::{goes_quietly, is_part_of};
 use crate::polls::{idles, note_poll};
 use crate::progress::Progress;
-use crate::rounds::{are_listed, are_rounds};
-use crate::turns::{Poll, ThreadEnd, ThreadPlan, Turn, poll_of};
+use crate::rounds::{are_listed, are_processors, keeps_pace, whose};
+use crate::turns::{Pace, Poll, ThreadEnd, ThreadPlan, Turn, poll_of};
 use lwkt_core::{Event, State};
 
 // Whether each event of a part is of this processor.
@@ -125,16 +125,17 @@ fn runs(
     homes: &[Option<Home>],
     table: &mut [Progress],
     state: &mut State,
+    order: &[u8],
     polls: &[Poll],
     turns: &[Turn],
     trace: &[Event],
 ) -> bool
-    requires processors { 0 < state.old.cpus }
+    requires named { length order.now ≡ length turns.now }
+    requires processors { All (λ x. x < 8) order.now }
     requires homes { AreHomes plans.now lines.now homes.now }
     requires shows { ShowsProgress [] table.old }
-    ensures { IsTrue result ↔ Runs plans.now lines.now polls.now state.old.cpus state.old [] turns.now trace.now }
+    ensures { IsTrue result ↔ Runs plans.now lines.now polls.now order.now state.old [] turns.now trace.now }
 {
-    let cpus = state.cpus();
     let mut rest = trace;
     for (i, turn) in turns.iter().enumerate() {
         let count = turn.events as usize;
@@ -143,7 +144,8 @@ fn runs(
             return false;
         }
         let (part, later) = rest.split_at(count);
-        if !fits(plans, lines, homes, table, state, i % cpus, poll, part) {
+        let cpu = whose(order, i);
+        if !fits(plans, lines, homes, table, state, cpu, poll, part) {
             return false;
         }
         rest = later;
@@ -161,41 +163,55 @@ fn start() -> [Progress; 128]
 // Whether the turns are a run of a script from this machine.
 fn is_run_from(
     plans: &[ThreadPlan],
-    limit: u32,
+    pace: Pace,
+    order: &[u8],
     state: &mut State,
     polls: &[Poll],
     turns: &[Turn],
     trace: &[Event],
     lines: &[ThreadEnd],
 ) -> bool
-    ensures { IsTrue result ↔ IsScriptRun plans.now limit state.old polls.now turns.now trace.now lines.now }
+    ensures { IsTrue result ↔ IsScriptRun plans.now pace order.now state.old polls.now turns.now trace.now lines.now }
 {
     let cpus = state.cpus();
-    if !are_listed(cpus, lines) || !are_rounds(polls, cpus, limit, turns, lines) {
+    if !are_listed(cpus, lines) {
+        return false;
+    }
+    if order.len() != turns.len() {
+        return false;
+    }
+    if !are_processors(cpus, order) {
+        return false;
+    }
+    if !keeps_pace(pace, polls, cpus, order, turns, lines) {
         return false;
     }
     match homes_of(plans, lines) {
         None => false,
         Some(homes) => {
             let mut table = start();
-            runs(plans, lines, &homes, &mut table, state, polls, turns, trace)
+            runs(
+                plans, lines, &homes, &mut table, state, order, polls, turns, trace,
+            )
         }
     }
 }
 
-/// Whether these turns, with their polls, are a run of a script with these threads and so many rounds at most, over this trace
-/// from the opening, which ends as the lines of the threads say. Takes no memory; the work is in proportion to turns and events.
+/// Whether these turns, with their polls, are a run of a script with these threads along this order of processors, at this pace,
+/// over this trace from the opening, which ends as the lines of the threads say. Takes no memory; the work is in proportion to
+/// turns and events.
 pub fn is_script_run(
     plans: &[ThreadPlan],
-    limit: u32,
+    pace: Pace,
+    order: &[u8],
     opening: State,
     polls: &[Poll],
     turns: &[Turn],
     trace: &[Event],
     lines: &[ThreadEnd],
 ) -> bool
-    ensures { IsTrue result ↔ IsScriptRun plans.now limit opening polls.now turns.now trace.now lines.now }
+    ensures { IsTrue result ↔ IsScriptRun plans.now pace order.now opening polls.now turns.now trace.now lines.now }
 {
     let mut state = opening;
-    is_run_from(plans, limit, &mut state, polls, turns, trace, lines)
+    is_run_from(plans, pace, order, &mut state, polls, turns, trace, lines)
 }

@@ -1,11 +1,11 @@
 ghost use Rattle.lwkt_verdict.specs.Laws.{NoTurnsAreNoRun, RunsBeginWithAnAsk, TracesOfRunsHappen, AsksAreThoseOfTheScript, AllButTheLastAreAnswered, LogsAreTheFirstEntries};
 
-/// The law that no turn at all is no run.
+/// The law that no turn at all is no run in rounds.
 pub fn no_turns_are_no_run()
     ensures { NoTurnsAreNoRun }
 {}
 
-/// The law that no run begins with a turn without an ask, where processor 0 has a thread.
+/// The law that no run begins with a turn without an ask, where the processor of that turn has a thread.
 pub fn runs_begin_with_an_ask()
     ensures { RunsBeginWithAnAsk }
 {}

@@ -17,4 +17,5 @@ pub mod turns;
 
 pub use asks::entry_of;
 pub use checks::is_script_run;
-pub use turns::{Poll, ThreadEnd, ThreadPlan, Turn};
+pub use rounds::are_processors;
+pub use turns::{Pace, Poll, ThreadEnd, ThreadPlan, Turn};

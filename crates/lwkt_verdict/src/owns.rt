@@ -21,9 +21,12 @@ pub fn is_quiet(state: &State, event: &Event) -> bool
     ensures { IsTrue result ↔ IsQuiet state.now event.now }
 {
     match *event {
-        Event::Read { .. } | Event::Send { .. } | Event::Abort { .. } | Event::DropMsg { .. } => {
-            false
-        }
+        Event::Read { .. }
+        | Event::ReadBlob { .. }
+        | Event::WriteBlob { .. }
+        | Event::Send { .. }
+        | Event::Abort { .. }
+        | Event::DropMsg { .. } => false,
         Event::Write {
             tok,
             cell,

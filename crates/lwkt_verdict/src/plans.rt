@@ -30,13 +30,20 @@ fn ask_in(repeat: u64, steps: &[Ask], k: u64) -> Option<Ask>
     }
 }
 
+// Whether two asks are one.
+fn is_same(one: Ask, other: Ask) -> bool
+    ensures { IsTrue result ↔ (one ≡ other) }
+{
+    one == other
+}
+
 /// Whether an ask is ask k of a thread.
 pub fn is_ask_at(plan: &ThreadPlan, k: u64, ask: Ask) -> bool
     ensures { IsTrue result ↔ (ask_at plan.now k ≡ Some ask) }
 {
     match ask_in(u64::from(plan.repeat), plan.steps.as_slice(), k) {
         None => false,
-        Some(wanted) => wanted == ask,
+        Some(wanted) => is_same(wanted, ask),
     }
 }
 

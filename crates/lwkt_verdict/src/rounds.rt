@@ -1,9 +1,9 @@
-ghost use Rattle.std.specs.Prelude.{◌≡◌, ◌<◌, ◌≤◌, ◌+◌, ◌*◌, ◌-◌, ◌↔◌, IsTrue, true, false, All, is_some};
+ghost use Rattle.std.specs.Prelude.{◌≡◌, ◌<◌, ◌≤◌, ◌+◌, ◌*◌, ◌-◌, ◌%◌, ◌↔◌, IsTrue, true, false, All, length, is_some};
 ghost use Rattle.lwkt_verdict.specs.Threads.{slot_of, has_ended};
-ghost use Rattle.lwkt_verdict.specs.Run.{poll_of, AreListed, EndsEarly, AreRounds};
+ghost use Rattle.lwkt_verdict.specs.Run.{poll_of, whose, AreListed, EndsEarly, GoesRound, AreRounds, KeepsPace};
 
 use crate::plans::slot_of;
-use crate::turns::{Poll, ThreadEnd, Turn, poll_of};
+use crate::turns::{Pace, Poll, ThreadEnd, Turn, poll_of};
 use lwkt_base::ThreadState;
 
 // Whether a line is of a thread that can be, and comes after those before it.
@@ -58,19 +58,71 @@ fn ends_early(polls: &[Poll], cpus: usize, limit: u32, turns: &[Turn], lines: &[
         && all_ended(lines)
 }
 
-/// Whether so many turns are whole rounds, at least one, and the script's or fewer.
-pub fn are_rounds(
+// Whether an order goes round the processors.
+fn goes_round(cpus: usize, order: &[u8]) -> bool
+    requires { 0 < cpus }
+    ensures { IsTrue result ↔ GoesRound cpus 0 order.now }
+{
+    for (k, cpu) in order.iter().enumerate() {
+        if usize::from(*cpu) != k % cpus {
+            return false;
+        }
+    }
+    true
+}
+
+// Whether the turns of an order are whole rounds, at least one, and the script's or fewer.
+fn are_rounds(
     polls: &[Poll],
     cpus: usize,
     limit: u32,
+    order: &[u8],
     turns: &[Turn],
     lines: &[ThreadEnd],
 ) -> bool
     requires { cpus ≤ 8 }
-    ensures { IsTrue result ↔ AreRounds polls.now cpus limit turns.now lines.now }
+    ensures { IsTrue result ↔ AreRounds polls.now cpus limit order.now turns.now lines.now }
 {
     if cpus == 0 || turns.is_empty() || turns.len() % cpus != 0 {
         return false;
     }
+    if !goes_round(cpus, order) {
+        return false;
+    }
     turns.len() == limit as usize * cpus || ends_early(polls, cpus, limit, turns, lines)
+}
+
+/// Whether turns follow one another as they should.
+pub fn keeps_pace(
+    pace: Pace,
+    polls: &[Poll],
+    cpus: usize,
+    order: &[u8],
+    turns: &[Turn],
+    lines: &[ThreadEnd],
+) -> bool
+    requires { cpus ≤ 8 }
+    ensures { IsTrue result ↔ KeepsPace pace polls.now cpus order.now turns.now lines.now }
+{
+    match pace {
+        Pace::Rounds(limit) => are_rounds(polls, cpus, limit, order, turns, lines),
+        Pace::Named => true,
+    }
+}
+
+/// Whether each number of an order is that of a processor.
+pub fn are_processors(cpus: usize, order: &[u8]) -> bool
+    ensures { IsTrue result ↔ All (λ x. x < cpus) order.now }
+{
+    order.iter().all(|cpu| usize::from(*cpu) < cpus)
+}
+
+/// The processor of the turn of this number.
+pub fn whose(order: &[u8], k: usize) -> usize
+    requires inside { k < length order.now }
+    requires processors { All (λ x. x < 8) order.now }
+    ensures value { result ≡ whose order.now k }
+    ensures few { result < 8 }
+{
+    usize::from(order[k])
 }

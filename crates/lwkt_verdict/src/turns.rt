@@ -29,14 +29,24 @@ pub struct Poll {
     pub thread: ThreadId,
 }
 
-/// One turn of a processor. The turn's processor is known by its place: the processors take their turns in rounds. The polls
-/// lie in a list of their own, since most turns of a long run may have none.
+/// One turn of a processor, which an order of processors names by the turn's place. The polls lie in a list of their own, since
+/// most turns of a long run may have none.
 #[derive(Clone, Copy, Debug, PartialEq, Eq)]
 pub struct Turn {
     /// The place of the turn's poll among the polls, if it polled a thread.
     pub poll: Option<u32>,
     /// How many events of the trace are of this turn.
     pub events: u16,
+}
+
+/// By what the turns of a run follow one another.
+#[derive(Clone, Copy, Debug, PartialEq, Eq)]
+pub enum Pace {
+    /// The processors take their turns in rounds, by rising number: so many rounds, or fewer, if the last one has no ask and
+    /// every thread has ended.
+    Rounds(u32),
+    /// An order names the processor of each turn.
+    Named,
 }
 
 /// The poll of a turn, by its place among the polls.

@@ -1,7 +1,8 @@
-//! The program: reads a script from standard input, runs it, and shows the run on standard output.
+//! The program: reads a script from standard input, in JSON or as a text, runs it, and shows the run on standard output.
 #![tactic(auto)]
 
 mod tellings;
+mod texts;
 
 use crate::tellings::show_told;
 use lwkt_report::{NotedReader, NotedWriter, ReaderSource, WriterSink, words_of};

@@ -1,17 +1,112 @@
-ghost use Rattle.std.specs.Prelude.{◌≡◌, map, string_bytes};
+ghost use Rattle.std.specs.Prelude.{◌≡◌, ◌≤◌, false, true, length, map, string_bytes, IsTrue, Some};
+ghost use Rattle.lwkt_report.specs.declared.sources.TheConstants.{READ_LIMIT};
 ghost use Rattle.lwkt_show.specs.declared.options.Options.{Options};
 ghost use Rattle.lwkt_show.specs.Arguments.{AreOptions, AskThreads, AreMisused};
 ghost use Rattle.lwkt_show.specs.Showing.{IsShowing, IsShowingThreads};
+ghost use Rattle.lwkt_text.specs.Beginning.{is_text};
+ghost use Rattle.lwkt_view.specs.Text.{ShowsText, ShowsBytes, ShowsRead};
 
+use crate::texts::{Unshown, json_told};
+use lwkt_base::Fault;
 use lwkt_refusals::Speaker;
-use lwkt_report::{NotedReader, NotedWriter, ReaderSource, Sink, WriterSink};
-use lwkt_show::run_show;
+use lwkt_report::{
+    NotedReader, NotedWriter, ReaderSource, RunFault, Sink, Source, WriterSink, read_capped,
+};
+use lwkt_show::{asks_threads, options_of, run_show};
+use lwkt_text::is_text;
 use std::alloc::Global;
 use std::io::{Read, Write};
 use std::thread::Threads;
 
-/// The whole program, as `run_show`, which also says where errors go how a stream failed. What it reads, what it writes and
-/// its status are those of `run_show`.
+// Whether the arguments are the program's.
+fn are_asked(words: &[String]) -> bool
+    ensures options { (options : Options) → AreOptions (map string_bytes words.now) options → IsTrue result }
+    ensures threads { AskThreads (map string_bytes words.now) → IsTrue result }
+    ensures misused { AreMisused (map string_bytes words.now) → result ≡ false }
+{
+    options_of(words).is_some() || asks_threads(words)
+}
+
+// Shows a text.
+fn show_text<R: Threads + Sync, K: Sink, E: Sink>(
+    rt: &R,
+    alloc: Global,
+    words: &[String],
+    bytes: &[u8],
+    sink: &mut K,
+    errors: &mut E,
+) -> u8
+    requires text { is_text bytes.now ≡ true }
+    requires within { length bytes.now ≤ READ_LIMIT }
+    ensures shows { (options : Options) → AreOptions (map string_bytes words.now) options → ShowsText (IsShowing options) bytes.now false (K.has_failed sink.new) (K.contents sink.old) (K.contents sink.new) result }
+    ensures threads { AskThreads (map string_bytes words.now) → ShowsText IsShowingThreads bytes.now false (K.has_failed sink.new) (K.contents sink.old) (K.contents sink.new) result }
+{
+    match json_told(alloc, bytes, errors) {
+        Ok(json) => {
+            let mut source = json.as_bytes();
+            run_show(rt, alloc, words, &mut source, sink, errors)
+        }
+        Err(Unshown::Wrong) => 1,
+        Err(Unshown::Memory) | Err(Unshown::Long) => 3,
+    }
+}
+
+// Shows what was read, as what it is.
+fn show_bytes<R: Threads + Sync, K: Sink, E: Sink>(
+    rt: &R,
+    alloc: Global,
+    words: &[String],
+    bytes: &[u8],
+    sink: &mut K,
+    errors: &mut E,
+) -> u8
+    requires within { length bytes.now ≤ READ_LIMIT }
+    ensures shows { (options : Options) → AreOptions (map string_bytes words.now) options → ShowsBytes (IsShowing options) bytes.now false (K.has_failed sink.new) (K.contents sink.old) (K.contents sink.new) result }
+    ensures threads { AskThreads (map string_bytes words.now) → ShowsBytes IsShowingThreads bytes.now false (K.has_failed sink.new) (K.contents sink.old) (K.contents sink.new) result }
+{
+    match is_text(alloc, bytes) {
+        Ok(true) => show_text(rt, alloc, words, bytes, sink, errors),
+        Ok(false) => {
+            let mut source = bytes;
+            run_show(rt, alloc, words, &mut source, sink, errors)
+        }
+        Err(_) => {
+            Speaker::Show.say_memory(errors);
+            3
+        }
+    }
+}
+
+// Says that there was no memory to read; of a stream that failed it is said elsewhere.
+fn say_unread<E: Sink>(errors: &mut E, fault: RunFault) {
+    if fault == RunFault::Fault(Fault::Memory) {
+        Speaker::Show.say_memory(errors);
+    }
+}
+
+// Reads, and shows what was read.
+fn show_source<R: Threads + Sync, S: Source, K: Sink, E: Sink>(
+    rt: &R,
+    alloc: Global,
+    words: &[String],
+    source: &mut S,
+    sink: &mut K,
+    errors: &mut E,
+) -> u8
+    ensures shows { (options : Options) → AreOptions (map string_bytes words.now) options → ShowsRead (IsShowing options) (S.has_failed source.new) (K.has_failed sink.new) (S.left source.old) (K.contents sink.old) (K.contents sink.new) result }
+    ensures threads { AskThreads (map string_bytes words.now) → ShowsRead IsShowingThreads (S.has_failed source.new) (K.has_failed sink.new) (S.left source.old) (K.contents sink.old) (K.contents sink.new) result }
+{
+    match read_capped(alloc, source) {
+        Ok(bytes) => show_bytes(rt, alloc, words, &bytes, sink, errors),
+        Err(fault) => {
+            say_unread(errors, fault);
+            3
+        }
+    }
+}
+
+/// The whole program, as `run_show`, which also takes a text: that is shown as the script in JSON that it is. Where errors go it
+/// says all that is wrong with a text, and how a stream failed.
 pub fn show_told<R: Threads + Sync, I: Read, O: Write, E: Sink>(
     rt: &R,
     alloc: Global,
@@ -20,11 +115,14 @@ pub fn show_told<R: Threads + Sync, I: Read, O: Write, E: Sink>(
     sink: &mut WriterSink<NotedWriter<O>>,
     errors: &mut E,
 ) -> u8
-    ensures shows { (options : Options) → AreOptions (map string_bytes words.now) options → IsShowing options source.new.failed sink.new.failed (I.remaining source.old.reader.reader) (O.contents sink.old.writer.writer) (O.contents sink.new.writer.writer) result }
-    ensures threads { AskThreads (map string_bytes words.now) → IsShowingThreads source.new.failed sink.new.failed (I.remaining source.old.reader.reader) (O.contents sink.old.writer.writer) (O.contents sink.new.writer.writer) result }
+    ensures shows { (options : Options) → AreOptions (map string_bytes words.now) options → ShowsRead (IsShowing options) source.new.failed sink.new.failed (I.remaining source.old.reader.reader) (O.contents sink.old.writer.writer) (O.contents sink.new.writer.writer) result }
+    ensures threads { AskThreads (map string_bytes words.now) → ShowsRead IsShowingThreads source.new.failed sink.new.failed (I.remaining source.old.reader.reader) (O.contents sink.old.writer.writer) (O.contents sink.new.writer.writer) result }
     ensures usage { AreMisused (map string_bytes words.now) → (result ≡ 1) × (source.new ≡ source.old) × (sink.new ≡ sink.old) }
 {
-    let status = run_show(rt, alloc, words, source, sink, errors);
+    if !are_asked(words) {
+        return run_show(rt, alloc, words, source, sink, errors);
+    }
+    let status = show_source(rt, alloc, words, source, sink, errors);
     if source.failed {
         Speaker::Show.say_unread(alloc, errors, &source.reader.error);
     }

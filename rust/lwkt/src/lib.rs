@@ -1,5 +1,5 @@
-//! The threading layer of DragonFly BSD on modelled processors: scripts run to their reports, traces judged, runs shown, and the
-//! steps on a token's word. This crate is safe Rust over a library that is proved in Rattle; it adds no logic of its own.
+//! The threading layer of DragonFly BSD on modelled processors: scripts run to their reports, traces judged, runs shown, the
+//! steps on a token's word, and banks of tokens for the caller's own threads. This crate is safe Rust over a library that is proved in Rattle; it adds no logic of its own.
 //!
 //! ```
 //! let script = r#"{"version":1,"turns":50,"idle":100000000,"cpus":1,
@@ -14,8 +14,10 @@
 //! What is proved is said of the library's calls (docs/C.md); that this crate calls them as they are declared is not.
 #![warn(missing_docs)]
 
+mod bank;
 mod calls;
 mod word;
 
+pub use bank::{Bank, Held, RowLaw, Seat, SeatFault, Token};
 pub use calls::{check_trace, run_turns, show_turns, End, Finding, Refusal, Run};
 pub use word::{StepFault, Word};

@@ -1,4 +1,4 @@
-use Rattle.std.proofs.Common.{◌≡◌, inl, inr, ◌∙◌, sym, subst, Option, Some}
+use Rattle.std.proofs.Common.{inr, subst, Option}
 use Rattle.std.specs.Prelude.{IfSome}
 use Rattle.lwkt_hold.specs.Fronts.{IsFront}
 use Rattle.lwkt_hold.specs.Misses.{IsRefusing}

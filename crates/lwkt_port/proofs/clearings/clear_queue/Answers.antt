@@ -1,5 +1,5 @@
 use Rattle.std.proofs.Common.{vec_len}
-use Rattle.lwkt_port.proofs.ClosedPorts.{clearing_more}
+use Rattle.lwkt_port.proofs.ClosedPorts.{clearing_none, clearing_more}
 use Rattle.lwkt_port.proofs.Serving.{named_head}
 use Rattle.lwkt_port.proofs.clearings.clear_queue.Goals as goal
 
@@ -12,3 +12,6 @@ loop-done-preserved c =
     let r = c.in-Some.ensures in
     let e = c.if-clear_note.ensures in
     clearing_more l.done c.args.seat.now c.args.mails.now c.args.trace.now c.args.port.now l.seat l.mails l.trace l.port c.clear_note.new.seat c.clear_note.new.mails c.clear_note.new.trace c.drop_front.new.port c.in-Some.note r.0 l.invariant r.1 (c.drop_front.ensures c.in-Some.note r.0 r.1) e.clears e.kept e.same e.len e.grew
+
+pub loop-done-init : goal.loop-done-init
+loop-done-init c = clearing_none c.args.seat.now c.args.mails.now c.args.trace.now c.args.port.now c.requires.kept c.requires.named

@@ -1,6 +1,7 @@
 use Rattle.std.proofs.Common.{◌≡◌, ◌≢◌, ◌+◌, ◌∙◌, sym, true≢false, vec_len, arith}
 use Rattle.lwkt_msg.specs.Desks.{cpu_of}
 use Rattle.lwkt_port.proofs.Serving.{named_head, named_tail, serving_more}
+use Rattle.lwkt_port.proofs.Classing.{leaving_chains}
 use Rattle.lwkt_port.proofs.Growing.{grew_few, stands_then}
 use Rattle.lwkt_port.proofs.Hinting.{serves_owe}
 use Rattle.lwkt_port.specs.declared.gets.Served.{Served}
@@ -16,14 +17,20 @@ returns-in-Shown-clause-named c =
     let r = c.in-Some.ensures in
     let left = c.drop_front.ensures c.in-Some.note r.0 r.1 in
     let e = c.in-Shown.ensures in
-    named_tail (vec_len c.loop-turn.mails) (vec_len c.serve_note.new.mails) c.loop-turn.port c.drop_front.new.port c.in-Some.note r.0 r.1 left.0 e.len c.loop-turn.invariant.serving.named
+    named_tail (vec_len c.loop-turn.mails) (vec_len c.serve_note.new.mails) c.loop-turn.port c.drop_front.new.port left.2 e.len c.loop-turn.invariant.serving.named
+
+pub returns-in-Shown-clause-order : goal.returns-in-Shown-clause-order
+returns-in-Shown-clause-order c =
+    let l = c.loop-turn in
+    let r = c.in-Some.ensures in
+    leaving_chains c.args.port.now l.port c.drop_front.new.port l.invariant.serving.order (c.drop_front.ensures c.in-Some.note r.0 r.1).2
 
 pub returns-in-Shown-clause-grew : goal.returns-in-Shown-clause-grew
 returns-in-Shown-clause-grew c =
     let l = c.loop-turn in
     let e = c.in-Shown.ensures in
     let s : Stands (l._turn + 1) c.args.seat.now c.args.mails.now c.args.trace.now c.serve_note.new.seat c.serve_note.new.mails c.serve_note.new.trace = stands_then l._turn 1 c.args.seat.now l.seat c.serve_note.new.seat c.args.mails.now l.mails c.serve_note.new.mails c.args.trace.now l.trace c.serve_note.new.trace l.invariant.serving.stands e.kept e.same e.len e.grew in
-    grew_few (cpu_of c.args.seat.now) (l._turn + 1) 64 c.args.trace.now c.serve_note.new.trace s.grew (omega (arith, s.grew.grown, s.grew.few, c.count-notes.ensures.few, c.loop-turn-test.true))
+    grew_few (cpu_of c.args.seat.now) (l._turn + 1) 128 c.args.trace.now c.serve_note.new.trace s.grew (omega (arith, s.grew.grown, s.grew.few, c.count-notes.ensures.few, c.loop-turn-test.true))
 
 pub loop-turn-preserved : goal.loop-turn-preserved
 loop-turn-preserved c =

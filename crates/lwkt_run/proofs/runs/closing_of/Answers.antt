@@ -5,9 +5,8 @@ use Rattle.lwkt_run.proofs.runs.closing_of.Goals as goal
 pub returns-clause-judged : goal.returns-clause-judged
 returns-clause-judged c =
     let shown = c.in_ok-tokens.ensures in
-    judged c.args.script.now _ c.args.opening _ c.deref-2.result.now c.deref-3.result.now c.args.left.last c.args.trace.now _ _
+    judged c.args.script.now _ c.args.opening c.args.pace c.args.order.now c.deref-2.result.now c.deref-3.result.now c.args.left.last c.args.trace.now _ _
     c.requires.opening
-    refl
     (plans_again c.as_slice-2.result.now c.args.script.now.threads c.in_ok-plans.plans.items c.deref-2.result.now c.as_slice-2.ensures c.deref-2.ensures.value c.in_ok-plans.ensures)
     (ends_again c.deref.result.now c.args.left.threads.items c.in_ok-ends.ends.items c.deref-3.result.now c.deref.ensures.value c.deref-3.ensures.value c.in_ok-ends.ensures)
     record { rows = sym shown.rows; gens = sym shown.gens; tallies = sym shown.tallies; messages = refl }

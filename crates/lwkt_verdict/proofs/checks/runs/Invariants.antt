@@ -5,4 +5,4 @@ use Rattle.lwkt_verdict.proofs.checks.runs.Given as goal
 
 -- the turns so far fit, and the run is one exactly if the turns that are left go on from there
 abbrev pub invariant-loop-i : goal.invariant-loop-i
-invariant-loop-i l = Goes (Runs l.fn.plans l.fn.lines l.fn.polls l.fn.state.cpus l.fn.state [] l.fn.turns l.fn.trace) l.fn.plans l.fn.lines l.fn.polls l.fn.state.cpus l.state l.table l.fn.turns l.i l.rest
+invariant-loop-i l = Goes (Runs l.fn.plans l.fn.lines l.fn.polls l.fn.order l.fn.state [] l.fn.turns l.fn.trace) l.fn.plans l.fn.lines l.fn.polls l.fn.order l.state l.table l.fn.turns l.i l.rest

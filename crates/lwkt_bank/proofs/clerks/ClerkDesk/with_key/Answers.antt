@@ -16,13 +16,13 @@ of_words-requires c =
     let cpus = c.args.key.cpus in
     let F : List Plan → Type 0 = λ ps. Told ps cpus (opening c.args.words.now [] (first_view ps)) in
     let G : List ℕ → Type 0 = λ ws. Told (plans_of c.args.specs.now) cpus (opening ws [] (first_view (plans_of c.args.specs.now))) in
-    subst F (sym c.requires.plans) (subst G (sym c.requires.words) (Told-opening cpus c.args.specs.now c.requires.within c.requires.lawful).0)
+    subst F (sym c.requires.plans) (subst G (sym c.requires.words) (Told-opening cpus c.args.specs.now c.requires.within c.requires.lawful c.requires.unguarded).0)
 
 pub invariant_of-result : goal.invariant_of-result
 invariant_of-result c =
     let specs = c.args.specs.now in
     let t = c.in_ok-table.ensures in
-    let r = (Told-opening c.args.key.cpus specs c.requires.within c.requires.lawful).0.rule in
+    let r = (Told-opening c.args.key.cpus specs c.requires.within c.requires.lawful c.requires.unguarded).0.rule in
     let many : length c.args.key.plans.items ≡ length specs = ap length c.requires.plans ∙ many_plans specs in
     let wide = r.wide in
     let words = ap length c.requires.words in

@@ -1,0 +1,122 @@
+//! What is written of a search.
+use crate::losses::Lost;
+use crate::outcomes::{Kind, Outcome};
+use crate::searches::{Found, Tried};
+use std::alloc::{AllocError, Global};
+
+fn kind_word(kind: Kind) -> &'static str {
+    match kind {
+        Kind::Ended => "ended",
+        Kind::Stuck => "stuck",
+        Kind::Cut => "cut",
+    }
+}
+
+// The processors of an order, or a line for none.
+fn add_order(out: &mut String, order: &[u8]) -> Result<(), AllocError> {
+    if order.is_empty() {
+        return out.push_str(" -");
+    }
+    for cpu in order {
+        write!(out, " {cpu}")?;
+    }
+    Ok(())
+}
+
+// How many random orders led to an outcome.
+fn add_count(out: &mut String, tried: Tried, count: u64) -> Result<(), AllocError> {
+    match tried {
+        Tried::States(_) => Ok(()),
+        Tried::Orders(_) if count == 1 => out.push_str(", once"),
+        Tried::Orders(_) => write!(out, ", {count} times"),
+    }
+}
+
+fn add_outcome(
+    out: &mut String,
+    number: usize,
+    outcome: &Outcome,
+    tried: Tried,
+    count: u64,
+) -> Result<(), AllocError> {
+    let word = kind_word(outcome.kind);
+    write!(out, "outcome {number} {word}")?;
+    add_count(out, tried, count)?;
+    out.push_str(", order")?;
+    add_order(out, outcome.order.as_slice())?;
+    out.push_str("\n")?;
+    out.push_str(outcome.text.as_str())?;
+    match &outcome.why {
+        Some(why) => write!(out, "why: {}\n", why.as_str()),
+        None => Ok(()),
+    }
+}
+
+// The outcomes of a kind, behind so many of others; says how many there are then.
+fn add_kind(
+    out: &mut String,
+    found: &Found,
+    kind: Kind,
+    before: usize,
+) -> Result<usize, AllocError> {
+    let mut number = before;
+    for (place, outcome) in found.outcomes.all.iter().enumerate() {
+        if outcome.kind == kind {
+            number = number.saturating_add(1);
+            let count = found.outcomes.counts.get(place).copied().unwrap_or(0);
+            add_outcome(out, number, outcome, found.tried, count)?;
+        }
+    }
+    Ok(number)
+}
+
+fn add_lost(out: &mut String, lost: &Lost) -> Result<(), AllocError> {
+    let count = lost.count;
+    if count == 1 {
+        out.push_str("lost: 1 state, from which no end can be reached; after order")?;
+    } else {
+        write!(
+            out,
+            "lost: {count} states, from which no end can be reached; the first after order"
+        )?;
+    }
+    add_order(out, lost.order.as_slice())?;
+    out.push_str("\n")
+}
+
+// What was tried.
+fn add_tried(out: &mut String, tried: Tried) -> Result<(), AllocError> {
+    match tried {
+        Tried::States(1) => out.push_str("1 state"),
+        Tried::States(states) => write!(out, "{states} states"),
+        Tried::Orders(1) => out.push_str("1 random order"),
+        Tried::Orders(orders) => write!(out, "{orders} random orders"),
+    }
+}
+
+fn add_sum(out: &mut String, found: &Found) -> Result<(), AllocError> {
+    let count = found.outcomes.all.len();
+    let noun = if count == 1 { "outcome" } else { "outcomes" };
+    write!(out, "{count} {noun}; ")?;
+    add_tried(out, found.tried)?;
+    let turns = found.turns;
+    let whole = if found.is_complete {
+        "complete"
+    } else {
+        "a part"
+    };
+    write!(out, ", {turns} turns; {whole}\n")
+}
+
+/// The text of what was found: each outcome once, the ended ones first, then what was searched.
+pub fn text_of(alloc: Global, found: &Found) -> Result<String, AllocError> {
+    let mut out = String::new(alloc);
+    let ended = add_kind(&mut out, found, Kind::Ended, 0)?;
+    let stuck = add_kind(&mut out, found, Kind::Stuck, ended)?;
+    add_kind(&mut out, found, Kind::Cut, stuck)?;
+    if let Some(lost) = &found.lost {
+        add_lost(&mut out, lost)?;
+    }
+    add_sum(&mut out, found)?;
+    Ok(out)
+}

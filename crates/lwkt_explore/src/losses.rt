@@ -1,0 +1,82 @@
+//! States from which no end can be reached.
+use crate::graphs::Graph;
+use std::alloc::{AllocError, Global};
+
+/// The states from which no end can be reached.
+#[derive(Drop)]
+pub struct Lost {
+    pub count: usize,
+    /// A shortest order to the first one.
+    pub order: Vec<u8>,
+}
+
+// Whether a turn leads from a state to one from which an end can be reached.
+fn leads_on(graph: &Graph, reaches: &[bool], at: usize, cpus: usize) -> bool {
+    for cpu in 0..cpus {
+        if let Some(next) = graph.behind(at, cpu) {
+            if reaches.get(next) == Some(&true) {
+                return true;
+            }
+        }
+    }
+    false
+}
+
+// Goes over all states once, the last first, and says whether one more can reach an end.
+fn go_back(graph: &Graph, reaches: &mut [bool], cpus: usize) -> bool {
+    let count = reaches.len();
+    let mut found = false;
+    for step in 0..count {
+        let at = count - 1 - step;
+        if !reaches[at] && leads_on(graph, reaches, at, cpus) {
+            reaches[at] = true;
+            found = true;
+        }
+    }
+    found
+}
+
+// Of each state whether an end can be reached from it; `ends` says which are ends.
+fn reaching(
+    alloc: Global,
+    graph: &Graph,
+    ends: &[bool],
+    cpus: usize,
+) -> Result<Vec<bool>, AllocError> {
+    let mut reaches = Vec::from_slice(alloc, ends)?;
+    for _ in 0..ends.len() {
+        if !go_back(graph, reaches.as_mut_slice(), cpus) {
+            return Ok(reaches);
+        }
+    }
+    Ok(reaches)
+}
+
+// How many are false.
+fn count_false(given: &[bool]) -> usize {
+    let mut count = 0usize;
+    for one in given {
+        if !*one {
+            count = count.saturating_add(1);
+        }
+    }
+    count
+}
+
+/// The states from which no end can be reached, if there are any; `ends` says which are ends.
+pub(crate) fn lost_of(
+    alloc: Global,
+    graph: &Graph,
+    ends: &[bool],
+    cpus: usize,
+) -> Result<Option<Lost>, AllocError> {
+    let reaches = reaching(alloc, graph, ends, cpus)?;
+    let count = count_false(reaches.as_slice());
+    for at in 0..reaches.len() {
+        if !reaches[at] {
+            let order = graph.order(alloc, at)?;
+            return Ok(Some(Lost { count, order }));
+        }
+    }
+    Ok(None)
+}

@@ -1,0 +1,159 @@
+//! Outcomes: reports of runs along orders, each once.
+ghost use Rattle.std.specs.Prelude.{◌≡◌, [], ◌∷◌, ◌++◌, IfOk, OnOk, OnErr};
+ghost use Rattle.lwkt_report.specs.declared.closings.Verdict.TheVariants.{Lawful};
+ghost use Rattle.lwkt_run.specs.Run.{IsOrderRun, end_told};
+ghost use Rattle.lwkt_explore.specs.Outcomes.{IsKind, IsOutcome, AreOutcomes};
+
+use lwkt_base::Fault;
+use lwkt_report::{Verdict, report_front};
+use lwkt_run::{End, TurnsRun, end_told, order_run};
+use lwkt_scenes::{Reel, whys_of};
+use std::alloc::Global;
+
+/// How a run along an order stood when it stopped.
+#[derive(Clone, Copy, Debug, PartialEq, Eq)]
+pub enum Kind {
+    /// No turn changes anything, and every thread has ended.
+    Ended,
+    /// No turn changes anything, and a thread hasn't ended.
+    Stuck,
+    /// A bound was met.
+    Cut,
+}
+
+/// A report, without its verdict, with an order that leads to it.
+#[derive(Drop)]
+pub struct Outcome {
+    pub kind: Kind,
+    pub order: Vec<u8>,
+    /// The lines of the report but the last.
+    pub text: String,
+    /// Of a stuck outcome why its threads haven't ended.
+    pub why: Option<String>,
+}
+
+/// The outcomes that were found, each once.
+#[derive(Drop)]
+pub struct Outcomes {
+    pub all: Vec<Outcome>,
+    /// Of each of them how many of the orders that were tried led to it.
+    pub counts: Vec<u64>,
+}
+
+// Which kind of outcome a run is that was cut, or changes nothing any more. 35: its verdict isn't `lawful`.
+fn kind_of(run: &TurnsRun, is_cut: bool) -> Result<Kind, Fault>
+    ensures lawful { OnOk result (run.now.closing.verdict ≡ Lawful) }
+    ensures kind { IfOk result (λ kind. IsKind kind (end_told run.now.closing)) }
+{
+    match run.closing.verdict {
+        Verdict::Lawful => {}
+        Verdict::Closed => return Err(Fault::Unlawful { index: 0 }),
+        Verdict::Unlawful { index } => return Err(Fault::Unlawful { index }),
+    }
+    if is_cut {
+        return Ok(Kind::Cut);
+    }
+    match end_told(&run.closing) {
+        End::Ended => Ok(Kind::Ended),
+        End::TurnsOut => Ok(Kind::Stuck),
+        // its verdict is lawful, so this can't be
+        End::Unlawful => Err(Fault::Unlawful { index: 0 }),
+    }
+}
+
+// Why the threads of a run haven't ended, where it is stuck.
+fn why_of(alloc: Global, kind: Kind, run: &TurnsRun) -> Result<Option<String>, Fault> {
+    match kind {
+        Kind::Ended | Kind::Cut => return Ok(None),
+        Kind::Stuck => {}
+    }
+    let reel = Reel {
+        script: &run.script,
+        trace: &run.trace,
+        polls: &run.polls,
+        turns: &run.turns,
+        order: Some(&run.order),
+        closing: &run.closing,
+    };
+    match whys_of(alloc, &reel) {
+        Ok(why) => Ok(Some(why)),
+        Err(_) => Err(Fault::Memory),
+    }
+}
+
+// The outcome of a run along an order.
+fn outcome_of(alloc: Global, bytes: &[u8], order: Vec<u8>, is_cut: bool) -> Result<Outcome, Fault>
+    ensures { IfOk result (λ outcome. IsOutcome bytes.now outcome) }
+{
+    let run = order_run(alloc, bytes, order)?;
+    let kind = kind_of(&run, is_cut)?;
+    let text = report_front(alloc, &run.closing)?;
+    let why = why_of(alloc, kind, &run)?;
+    Ok(Outcome {
+        kind,
+        order: run.order,
+        text,
+        why,
+    })
+}
+
+impl Outcomes {
+    /// None so far.
+    pub(crate) fn new(alloc: Global) -> Self
+        ensures { result.all.items ≡ [] }
+    {
+        Outcomes {
+            all: Vec::new(alloc),
+            counts: Vec::new(alloc),
+        }
+    }
+
+    // Which outcome this is, if it was found before.
+    fn place_of(&self, outcome: &Outcome) -> Option<usize> {
+        for (place, one) in self.all.iter().enumerate() {
+            if one.kind == outcome.kind && one.text.as_str() == outcome.text.as_str() {
+                return Some(place);
+            }
+        }
+        None
+    }
+
+    // Counts one order more that led to an outcome.
+    fn count(&mut self, place: usize)
+        ensures { self.new.all ≡ self.old.all }
+    {
+        if let Some(count) = self.counts.get_mut(place) {
+            *count = count.saturating_add(1);
+        }
+    }
+
+    // Keeps an outcome.
+    fn keep(&mut self, outcome: Outcome) -> Result<(), Fault>
+        ensures ok { OnOk result (self.new.all.items ≡ self.old.all.items ++ outcome ∷ []) }
+        ensures err { OnErr result (self.new.all.items ≡ self.old.all.items) }
+    {
+        self.counts.push(1).map_err(|_| Fault::Memory)?;
+        self.all.push(outcome).map_err(|_| Fault::Memory)?;
+        Ok(())
+    }
+
+    /// Makes the run along an order, and keeps its report, if it is a new one. Says which kind of outcome it is.
+    pub(crate) fn add(
+        &mut self,
+        alloc: Global,
+        bytes: &[u8],
+        order: Vec<u8>,
+        is_cut: bool,
+    ) -> Result<Kind, Fault>
+        requires { AreOutcomes bytes.now self.old }
+        ensures { AreOutcomes bytes.now self.new }
+    {
+        let outcome = outcome_of(alloc, bytes, order, is_cut)?;
+        let kind = outcome.kind;
+        match self.place_of(&outcome) {
+            Some(place) => self.count(place),
+            None => self.keep(outcome)?,
+        }
+        Ok(kind)
+    }
+}

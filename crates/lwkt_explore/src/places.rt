@@ -1,0 +1,96 @@
+//! A script's machine under way, made along an order.
+use crate::states::add_state;
+use lwkt_base::{Fault, MsgId, Owner};
+use lwkt_core::{Event, Message, State};
+use lwkt_machine::{Machine, Sent, Turned};
+use lwkt_script::Script;
+use std::alloc::{AllocError, Global};
+
+// The most messages.
+const MESSAGES: u8 = 64;
+
+/// A machine, and the state of the model that its events led to.
+#[derive(Drop)]
+pub(crate) struct Place {
+    machine: Machine,
+    state: State,
+}
+
+// The processor that a message is on its way to, or that has taken it; its own, where it is at rest.
+fn target_of(owner: Owner) -> usize {
+    let cpu = match owner {
+        Owner::Rest { origin } => origin,
+        Owner::Out { target, .. } | Owner::With { target, .. } | Owner::Back { target, .. } =>
+            target,
+    };
+    usize::from(cpu.0)
+}
+
+// What a machine is told of a message whose record it shows.
+fn sent_of(message: &Message) -> Sent {
+    Sent {
+        origin: usize::from(message.origin.cpu.0),
+        target: target_of(message.owner),
+        round: message.round,
+    }
+}
+
+fn all_sent(alloc: Global, state: &State) -> Result<Vec<Sent>, AllocError> {
+    let mut sent = Vec::new(alloc);
+    for number in 0..MESSAGES {
+        match state.message(MsgId(number)) {
+            Some(message) => sent.push(sent_of(message))?,
+            None => return Ok(sent),
+        }
+    }
+    Ok(sent)
+}
+
+// Makes the events of a turn happen.
+fn step_all(state: &mut State, trace: &[Event]) -> Result<(), Fault> {
+    for event in trace {
+        state.step(event)?;
+    }
+    Ok(())
+}
+
+impl Place {
+    /// The machine of a script as it is opened.
+    pub(crate) fn open(alloc: Global, script: &Script) -> Result<Place, Fault> {
+        let machine = Machine::open(alloc, script)?;
+        let state = State::open(
+            alloc,
+            script.tokens.as_slice(),
+            script.messages.as_slice(),
+            usize::from(script.cpus),
+        )?;
+        Ok(Place { machine, state })
+    }
+
+    /// Makes the turn of a processor. 30: it isn't there.
+    pub(crate) fn turn(&mut self, cpu: usize, trace: &mut Vec<Event>) -> Result<Turned, Fault> {
+        if cpu >= self.machine.cpus() {
+            return Err(Fault::NoPort);
+        }
+        trace.clear();
+        let turned = self.machine.turn(cpu, trace)?;
+        step_all(&mut self.state, trace.as_slice())?;
+        Ok(turned)
+    }
+
+    /// Makes the turns of an order.
+    pub(crate) fn go(&mut self, order: &[u8], trace: &mut Vec<Event>) -> Result<(), Fault> {
+        for cpu in order {
+            self.turn(usize::from(*cpu), trace)?;
+        }
+        Ok(())
+    }
+
+    /// Writes what tells this place apart from others of the same script, and gives it up.
+    pub(crate) fn encode(self, alloc: Global, words: &mut Vec<u64>) -> Result<(), AllocError> {
+        let Place { machine, state } = self;
+        add_state(words, &state)?;
+        let sent = all_sent(alloc, &state)?;
+        machine.encode(alloc, sent.as_slice(), words)
+    }
+}

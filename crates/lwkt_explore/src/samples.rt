@@ -1,0 +1,106 @@
+//! Random orders, for scripts that are too large for a search.
+ghost use Rattle.std.specs.Prelude.{IfOk};
+ghost use Rattle.lwkt_explore.specs.Outcomes.{AreOutcomes};
+
+use crate::outcomes::Outcomes;
+use crate::searches::{Bounds, Found, Tried};
+use crate::walks::Walk;
+use lwkt_base::Fault;
+use lwkt_run::read_script;
+use std::alloc::Global;
+
+/// Numbers that look random, the same for a seed on every machine: Steele, Lea and Flood's SplitMix64.
+#[derive(Clone, Copy, Debug, PartialEq, Eq)]
+pub(crate) struct Dice {
+    state: u64,
+}
+
+impl Dice {
+    /// The dice of a seed.
+    pub(crate) fn new(seed: u64) -> Dice {
+        Dice { state: seed }
+    }
+
+    /// The next number.
+    pub(crate) fn next(&mut self) -> u64 {
+        self.state = self.state.wrapping_add(0x9e3779b97f4a7c15);
+        let mut z = self.state;
+        z = (z ^ (z >> 30)).wrapping_mul(0xbf58476d1ce4e5b9);
+        z = (z ^ (z >> 27)).wrapping_mul(0x94d049bb133111eb);
+        z ^ (z >> 31)
+    }
+
+    /// A number below a limit; 0 below no limit.
+    pub(crate) fn below(&mut self, limit: u64) -> u64 {
+        let next = self.next();
+        if limit == 0 { 0 } else { next % limit }
+    }
+}
+
+// Makes one random order, and keeps its outcome.
+fn add_one(
+    alloc: Global,
+    bytes: &[u8],
+    walk: &mut Walk,
+    outcomes: &mut Outcomes,
+    dice: &mut Dice,
+) -> Result<(), Fault>
+    requires { AreOutcomes bytes.now outcomes.old }
+    ensures { AreOutcomes bytes.now outcomes.new }
+{
+    let (order, quiet) = walk.stray(alloc, dice)?;
+    match outcomes.add(alloc, bytes, order, !quiet) {
+        Ok(_) => Ok(()),
+        Err(fault) => Err(fault),
+    }
+}
+
+// Makes so many random orders.
+fn add_all(
+    alloc: Global,
+    bytes: &[u8],
+    walk: &mut Walk,
+    outcomes: &mut Outcomes,
+    dice: &mut Dice,
+    count: u64,
+) -> Result<(), Fault>
+    requires { AreOutcomes bytes.now outcomes.old }
+    ensures { AreOutcomes bytes.now outcomes.new }
+{
+    for _ in 0..count {
+        add_one(alloc, bytes, walk, outcomes, dice)?;
+    }
+    Ok(())
+}
+
+/// Makes so many random orders of turns of the script that the bytes are, each until no turn changes anything, or the bound on
+/// turns is met. A seed gives the same orders on every machine. Each outcome is the report of the run along its order, whose
+/// verdict is `lawful`.
+///
+/// Refused as `explore` is.
+pub fn sample(
+    alloc: Global,
+    bytes: &[u8],
+    bounds: Bounds,
+    count: u64,
+    seed: u64,
+) -> Result<Found, Fault>
+    ensures { IfOk result (λ found. AreOutcomes bytes.now found.outcomes) }
+{
+    let script = read_script(alloc, bytes)?;
+    let mut walk = Walk::begin(alloc, script, bounds)?;
+    let mut outcomes = Outcomes::new(alloc);
+    let mut dice = Dice::new(seed);
+    match add_all(alloc, bytes, &mut walk, &mut outcomes, &mut dice, count) {
+        Ok(()) => {}
+        Err(Fault::Memory) => {}
+        Err(fault) => return Err(fault),
+    }
+    Ok(Found {
+        outcomes,
+        tried: Tried::Orders(count),
+        turns: walk.turns,
+        is_complete: false,
+        lost: None,
+    })
+}

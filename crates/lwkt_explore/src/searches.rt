@@ -1,0 +1,107 @@
+//! The search: over states, breadth first, so that orders are shortest.
+ghost use Rattle.std.specs.Prelude.{IfOk};
+ghost use Rattle.lwkt_explore.specs.Outcomes.{AreOutcomes};
+
+use crate::losses::Lost;
+use crate::outcomes::{Kind, Outcomes};
+use crate::walks::{Walk, memory};
+use lwkt_base::Fault;
+use lwkt_run::read_script;
+use std::alloc::Global;
+
+/// What a search may take.
+#[derive(Clone, Copy, Debug, PartialEq, Eq)]
+pub struct Bounds {
+    /// The most states that are kept.
+    pub states: usize,
+    /// The most turns of an order.
+    pub turns: usize,
+}
+
+/// What was tried.
+#[derive(Clone, Copy, Debug, PartialEq, Eq)]
+pub enum Tried {
+    /// Every order; so many states were kept.
+    States(usize),
+    /// So many random orders.
+    Orders(u64),
+}
+
+/// What was found of a script.
+#[derive(Drop)]
+pub struct Found {
+    pub outcomes: Outcomes,
+    /// What was tried.
+    pub tried: Tried,
+    /// How many turns were tried.
+    pub turns: u64,
+    /// Whether every order was tried.
+    pub is_complete: bool,
+    /// The states from which no end can be reached, if every order was tried.
+    pub lost: Option<Lost>,
+}
+
+// Goes on from a state; where nothing changes any more, or a bound is met, there is an outcome.
+fn expand(
+    alloc: Global,
+    bytes: &[u8],
+    walk: &mut Walk,
+    outcomes: &mut Outcomes,
+    at: usize,
+) -> Result<(), Fault>
+    requires { AreOutcomes bytes.now outcomes.old }
+    ensures { AreOutcomes bytes.now outcomes.new }
+{
+    let order = memory(walk.graph.order(alloc, at))?;
+    let quiet = walk.go_on(alloc, at, order.as_slice())?;
+    if !quiet && !walk.is_far(at) {
+        return walk.note_end(false);
+    }
+    let kind = outcomes.add(alloc, bytes, order, !quiet)?;
+    walk.note_end(kind == Kind::Ended)
+}
+
+// Goes on from each state, in the order in which they are found.
+fn search(
+    alloc: Global,
+    bytes: &[u8],
+    walk: &mut Walk,
+    outcomes: &mut Outcomes,
+    states: usize,
+) -> Result<(), Fault>
+    requires { AreOutcomes bytes.now outcomes.old }
+    ensures { AreOutcomes bytes.now outcomes.new }
+{
+    for at in 0..states {
+        if at >= walk.graph.len() {
+            return Ok(());
+        }
+        expand(alloc, bytes, walk, outcomes, at)?;
+    }
+    Ok(())
+}
+
+/// Tries every order of turns of the script that the bytes are, within bounds. Each outcome is the report of the run along its
+/// order, whose verdict is `lawful`. Where memory is refused, what was found till then is given, and said to be a part.
+///
+/// Refused as `order_run` is for the script and its opening, and with `Unlawful` if a run isn't lawful.
+pub fn explore(alloc: Global, bytes: &[u8], bounds: Bounds) -> Result<Found, Fault>
+    ensures { IfOk result (λ found. AreOutcomes bytes.now found.outcomes) }
+{
+    let script = read_script(alloc, bytes)?;
+    let mut walk = Walk::begin(alloc, script, bounds)?;
+    let mut outcomes = Outcomes::new(alloc);
+    match search(alloc, bytes, &mut walk, &mut outcomes, bounds.states) {
+        Ok(()) => {}
+        Err(Fault::Memory) => walk.is_complete = false,
+        Err(fault) => return Err(fault),
+    }
+    let lost = walk.lost(alloc)?;
+    Ok(Found {
+        outcomes,
+        tried: Tried::States(walk.graph.len()),
+        turns: walk.turns,
+        is_complete: walk.is_complete,
+        lost,
+    })
+}

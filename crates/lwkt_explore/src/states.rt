@@ -1,0 +1,101 @@
+//! What tells two states of the model apart, as numbers.
+use lwkt_base::{Blob, Cells, Held, Mode, MsgId, Owner, TokId};
+use lwkt_core::{Message, State, Token};
+use std::alloc::AllocError;
+
+// The most tokens, and the most messages.
+const LIMIT: u8 = 64;
+
+// Puts a number behind the others.
+fn add(words: &mut Vec<u64>, word: u64) -> Result<(), AllocError> {
+    words.push(word)?;
+    Ok(())
+}
+
+fn add_cells(words: &mut Vec<u64>, cells: &Cells) -> Result<(), AllocError> {
+    for cell in cells.as_slice() {
+        add(words, *cell)?;
+    }
+    Ok(())
+}
+
+// A record, if there is one.
+fn add_blob(words: &mut Vec<u64>, blob: &Option<Blob>) -> Result<(), AllocError> {
+    let Some(blob) = blob else {
+        return add(words, 0);
+    };
+    add(words, u64::from(blob.len()) + 1)?;
+    for byte in blob.as_slice() {
+        add(words, u64::from(*byte))?;
+    }
+    Ok(())
+}
+
+// What a processor holds of a token.
+fn held_number(held: Held) -> u64 {
+    match held {
+        Held::Nothing => 0,
+        Held::Holds(Mode::Exclusive, further) => 2 * u64::from(further) + 1,
+        Held::Holds(Mode::Shared, further) => 2 * u64::from(further) + 2,
+    }
+}
+
+fn add_token(words: &mut Vec<u64>, token: &Token) -> Result<(), AllocError> {
+    add(words, token.generation)?;
+    add(words, u64::from(token.mark))?;
+    add_cells(words, &token.row)?;
+    add_cells(words, &token.first)?;
+    add_blob(words, &token.blob)?;
+    add_blob(words, &token.first_blob)?;
+    for held in token.holders {
+        add(words, held_number(held))?;
+    }
+    for tally in token.tallies {
+        add(words, tally)?;
+    }
+    Ok(())
+}
+
+// Who has a message: a number for each of the four owner states and its two processors.
+fn owner_number(owner: Owner) -> u64 {
+    let (state, origin, target) = match owner {
+        Owner::Rest { origin } => (0, origin, origin),
+        Owner::Out { origin, target } => (1, origin, target),
+        Owner::With { origin, target } => (2, origin, target),
+        Owner::Back { origin, target } => (3, origin, target),
+    };
+    state + 4 * u64::from(origin.0) + 1024 * u64::from(target.0)
+}
+
+// A message. How often it was sent its round tells; how often it was taken, dropped, replied to and reaped no later turn asks.
+fn add_message(words: &mut Vec<u64>, message: &Message) -> Result<(), AllocError> {
+    add(words, message.round)?;
+    add(words, owner_number(message.owner))?;
+    add(words, u64::from(message.asked))
+}
+
+fn add_tokens(words: &mut Vec<u64>, state: &State) -> Result<(), AllocError> {
+    for number in 0..LIMIT {
+        match state.token(TokId(number)) {
+            Some(token) => add_token(words, token)?,
+            None => return Ok(()),
+        }
+    }
+    Ok(())
+}
+
+fn add_messages(words: &mut Vec<u64>, state: &State) -> Result<(), AllocError> {
+    for number in 0..LIMIT {
+        match state.message(MsgId(number)) {
+            Some(message) => add_message(words, message)?,
+            None => return Ok(()),
+        }
+    }
+    Ok(())
+}
+
+/// Writes what tells this state apart from others of the same script.
+pub(crate) fn add_state(words: &mut Vec<u64>, state: &State) -> Result<(), AllocError> {
+    add_tokens(words, state)?;
+    add_messages(words, state)
+}

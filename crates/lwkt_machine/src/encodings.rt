@@ -1,0 +1,251 @@
+//! What tells two machines of one script apart between their turns, as numbers.
+ghost use Rattle.std.specs.Prelude.{◌≡◌, map, IfOk};
+ghost use Rattle.lwkt_machine.specs.Encoded.{AreOfBook};
+
+use crate::bodies::ScriptBody;
+use crate::machines::Machine;
+use lwkt_base::{Entry, Fault, MsgId, Rec};
+use lwkt_cpu::Cpu;
+use lwkt_msg::{MsgBook, MsgSeat, Reaped};
+use std::alloc::{AllocError, Global};
+
+/// Which processors a message is of, and on its way to or with, and its round, as the model has them.
+#[derive(Clone, Copy, Debug, PartialEq, Eq)]
+pub struct Sent {
+    pub origin: usize,
+    pub target: usize,
+    pub round: u64,
+}
+
+// Puts a number behind the others.
+fn add(words: &mut Vec<u64>, word: u64) -> Result<(), AllocError> {
+    words.push(word)?;
+    Ok(())
+}
+
+fn add_four(words: &mut Vec<u64>, a: u64, b: u64, c: u64, d: u64) -> Result<(), AllocError> {
+    add(words, a)?;
+    add(words, b)?;
+    add(words, c)?;
+    add(words, d)
+}
+
+fn add_entry(words: &mut Vec<u64>, entry: Entry) -> Result<(), AllocError> {
+    match entry {
+        Entry::Value(value) => add_four(words, 1, value, 0, 0),
+        Entry::Aborted(asked) => add_four(words, 2, u64::from(asked), 0, 0),
+        Entry::Request(MsgId(msg), call) => {
+            add_four(words, 3, u64::from(msg), u64::from(call.op), call.arg)
+        }
+        Entry::Reply(MsgId(msg), error, outcome) => {
+            add_four(words, 4, u64::from(msg), u64::from(error), outcome)
+        }
+        Entry::NoMessage => add_four(words, 5, 0, 0, 0),
+        Entry::Dropped(MsgId(msg), call) => {
+            add_four(words, 6, u64::from(msg), u64::from(call.op), call.arg)
+        }
+        Entry::Refused(number) => add_four(words, 7, u64::from(number), 0, 0),
+    }
+}
+
+impl ScriptBody {
+    /// Writes what tells this body apart from what it was or will be at another time: how many polls it has had, and its log.
+    pub fn encode(&self, words: &mut Vec<u64>) -> Result<(), AllocError> {
+        add(words, self.polls())?;
+        for entry in self.log() {
+            add_entry(words, *entry)?;
+        }
+        add(words, 0)
+    }
+}
+
+// A processor with its bodies; its seat at the book is given back.
+fn add_cpu(words: &mut Vec<u64>, cpu: Cpu<ScriptBody>) -> Result<MsgSeat, AllocError>
+    ensures { IfOk result (λ seat. seat ≡ cpu.post.seat) }
+{
+    let (bodies, seat) = cpu.encode(words)?;
+    for body in bodies.as_slice() {
+        body.encode(words)?;
+    }
+    Ok(seat)
+}
+
+fn add_record(words: &mut Vec<u64>, rec: Rec) -> Result<(), AllocError> {
+    add_four(
+        words,
+        u64::from(rec.op),
+        rec.arg,
+        u64::from(rec.error),
+        rec.result,
+    )
+}
+
+// What the number of a refusal is, or 0.
+fn refusal_of(answer: Result<(), Fault>) -> u64 {
+    match answer {
+        Ok(()) => 0,
+        Err(fault) => u64::from(fault.number()),
+    }
+}
+
+// What the origin of a message may still do with it: whether it may ask for its abort, and whether it may take it back, which it
+// then has done.
+fn withdraw(
+    words: &mut Vec<u64>,
+    book: &MsgBook,
+    seat: &mut MsgSeat,
+    msg: MsgId,
+) -> Result<(), AllocError>
+    requires { seat.old.table ≡ book.now.table }
+    ensures { seat.new.table ≡ seat.old.table }
+{
+    let asked = seat.abort(book, msg);
+    let dropped = seat.drop_msg(book, msg);
+    add(words, refusal_of(asked))?;
+    match dropped {
+        Ok(rec) => add_record(words, rec),
+        Err(fault) => add(words, u64::from(fault.number())),
+    }
+}
+
+// The processor that has a message takes it, if it hasn't yet, and replies to it.
+fn serve(book: &MsgBook, seat: &mut MsgSeat, msg: MsgId, round: u64)
+    requires { seat.old.table ≡ book.now.table }
+    ensures { seat.new.table ≡ seat.old.table }
+{
+    if usize::from(msg.0) < seat.messages() {
+        let _ = seat.take(book, msg, round);
+        let _ = seat.reply(book, msg, 0, 0);
+    }
+}
+
+// Its origin takes a message back, and its record is written.
+fn collect(
+    words: &mut Vec<u64>,
+    book: &MsgBook,
+    seat: &mut MsgSeat,
+    msg: MsgId,
+    round: u64,
+) -> Result<(), AllocError>
+    requires { seat.old.table ≡ book.now.table }
+    ensures { seat.new.table ≡ seat.old.table }
+{
+    if usize::from(msg.0) >= seat.messages() {
+        return Ok(());
+    }
+    match seat.reap(book, msg, round) {
+        Reaped::Done { rec } => add_record(words, rec),
+        Reaped::Stale => add(words, 0),
+    }
+}
+
+// The same at the seat of this number.
+fn withdraw_at(
+    words: &mut Vec<u64>,
+    book: &MsgBook,
+    seats: &mut [MsgSeat],
+    at: usize,
+    msg: MsgId,
+) -> Result<(), AllocError>
+    requires { AreOfBook book.now seats.old }
+    ensures { AreOfBook book.now seats.new }
+{
+    if at >= seats.len() {
+        return Ok(());
+    }
+    withdraw(words, book, &mut seats[at], msg)
+}
+
+fn serve_at(book: &MsgBook, seats: &mut [MsgSeat], at: usize, msg: MsgId, round: u64)
+    requires { AreOfBook book.now seats.old }
+    ensures { AreOfBook book.now seats.new }
+{
+    if at < seats.len() {
+        serve(book, &mut seats[at], msg, round);
+    }
+}
+
+fn collect_at(
+    words: &mut Vec<u64>,
+    book: &MsgBook,
+    seats: &mut [MsgSeat],
+    at: usize,
+    msg: MsgId,
+    round: u64,
+) -> Result<(), AllocError>
+    requires { AreOfBook book.now seats.old }
+    ensures { AreOfBook book.now seats.new }
+{
+    if at >= seats.len() {
+        return Ok(());
+    }
+    collect(words, book, &mut seats[at], msg, round)
+}
+
+// Writes what the book has of a message, which comes home by that: it is dropped, or taken and replied to and reaped.
+fn add_message(
+    words: &mut Vec<u64>,
+    book: &MsgBook,
+    seats: &mut [MsgSeat],
+    msg: MsgId,
+    sent: Sent,
+) -> Result<(), AllocError>
+    requires { AreOfBook book.now seats.old }
+    ensures { AreOfBook book.now seats.new }
+{
+    withdraw_at(words, book, seats, sent.origin, msg)?;
+    serve_at(book, seats, sent.target, msg, sent.round);
+    collect_at(words, book, seats, sent.origin, msg, sent.round)
+}
+
+// Writes what the book has of each message.
+fn add_messages(
+    words: &mut Vec<u64>,
+    book: &MsgBook,
+    seats: &mut [MsgSeat],
+    sent: &[Sent],
+) -> Result<(), AllocError>
+    requires { AreOfBook book.now seats.old }
+{
+    for number in 0..sent.len() {
+        let msg = MsgId(u8::try_from(number).unwrap_or(u8::MAX));
+        add_message(words, book, seats, msg, sent[number])?;
+    }
+    Ok(())
+}
+
+// Writes each processor, and gives their seats at the book.
+fn add_cpus(
+    alloc: Global,
+    words: &mut Vec<u64>,
+    cpus: Vec<Cpu<ScriptBody>>,
+) -> Result<Vec<MsgSeat>, AllocError>
+    ensures { IfOk result (λ seats. seats.items ≡ map (λ p. p.post.seat) cpus.items) }
+{
+    let mut seats = Vec::new(alloc);
+    for cpu in cpus {
+        let seat = add_cpu(words, cpu)?;
+        seats.push(seat)?;
+    }
+    Ok(seats)
+}
+
+impl Machine {
+    /// Writes what tells this machine apart from what it was or will be at another time, but for what its trace says of tokens
+    /// and messages: its processors with their threads, ports, lanes and bodies, and the records of the messages that are away.
+    /// Much of it can't be seen without a step of a processor, so the machine is given up.
+    pub fn encode(
+        self,
+        alloc: Global,
+        sent: &[Sent],
+        words: &mut Vec<u64>,
+    ) -> Result<(), AllocError> {
+        let Machine {
+            bank: _,
+            book,
+            cpus,
+        } = self;
+        let mut seats = add_cpus(alloc, words, cpus)?;
+        add_messages(words, &book, &mut seats, sent)
+    }
+}

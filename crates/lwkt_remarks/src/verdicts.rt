@@ -1,0 +1,31 @@
+// Which expectations hold.
+use crate::lines::{add_head, place_of};
+use lwkt_litmus::is_met;
+use lwkt_refusals::Page;
+use lwkt_report::Closing;
+use lwkt_text::claims::Expectation;
+use std::alloc::{AllocError, Global};
+
+/// Of each thing that a text says of the outcome of its script a line that says whether it is so: `FILE:LINE: holds` or
+/// `FILE:LINE: doesn't hold`; without the file where none is named.
+///
+/// Refused if memory is.
+pub fn verdicts_said(
+    alloc: Global,
+    path: Option<&str>,
+    bytes: &[u8],
+    expectations: &[Expectation],
+    outcome: &Closing,
+) -> Result<String, AllocError> {
+    let mut page = Page::new(alloc);
+    for expectation in expectations {
+        let is_so = is_met(expectation, std::slice::from_ref(outcome));
+        add_head(&mut page, path, place_of(bytes, expectation.at));
+        page.add(if is_so {
+            ": holds\n"
+        } else {
+            ": doesn't hold\n"
+        });
+    }
+    page.whole()
+}

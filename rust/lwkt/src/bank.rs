@@ -1,0 +1,300 @@
+use std::error::Error;
+use std::ffi::c_void;
+use std::fmt;
+
+/// A bank, as `lwkt_bank` of include/lwkt.h.
+#[repr(C)]
+#[derive(Clone, Copy)]
+struct Handle {
+    place: *mut c_void,
+}
+
+// As include/lwkt.h declares them.
+extern "C" {
+    fn lwkt_bank_open(tokens: *const Token, count: usize, seats: u32, bank: *mut Handle) -> u32;
+    fn lwkt_take(bank: Handle, seat: u32, token: u32) -> u32;
+    fn lwkt_share(bank: Handle, seat: u32, token: u32) -> u32;
+    fn lwkt_again(bank: Handle, seat: u32, token: u32) -> u32;
+    fn lwkt_mark(bank: Handle, seat: u32, token: u32) -> u32;
+    fn lwkt_give(bank: Handle, seat: u32, token: u32) -> u32;
+    fn lwkt_load(bank: Handle, seat: u32, token: u32, cell: u32, value: *mut u64) -> u32;
+    fn lwkt_store(bank: Handle, seat: u32, token: u32, cell: u32, value: u64) -> u32;
+    fn lwkt_add(bank: Handle, seat: u32, token: u32, amount: u64, value: *mut u64) -> u32;
+    fn lwkt_lawful(bank: Handle, seat: u32, token: u32) -> u32;
+    fn lwkt_restore(bank: Handle, seat: u32, token: u32) -> u32;
+}
+
+/// What a row has to obey wherever its token is free.
+#[derive(Clone, Copy, Debug, PartialEq, Eq)]
+pub enum RowLaw {
+    /// Nothing.
+    Any,
+    /// The cells' sum is the parameter.
+    Sum,
+    /// The cells don't fall.
+    Order,
+    /// No cell is above the parameter.
+    Cap,
+    /// One cell, which is only added to, and is the parameter at the opening.
+    Tally,
+}
+
+/// A token as it is at the opening.
+#[repr(C)]
+#[derive(Clone, Copy, Debug, PartialEq, Eq)]
+pub struct Token {
+    cells: [u64; 4],
+    param: u64,
+    generation: u64,
+    cell_count: u32,
+    law: u32,
+}
+
+impl Token {
+    /// A token with these cells under this law. Cells past the fourth make the opening fail.
+    pub fn new(cells: &[u64], law: RowLaw, param: u64) -> Token {
+        let mut four = [0; 4];
+        for (place, cell) in four.iter_mut().zip(cells) {
+            *place = *cell;
+        }
+        Token {
+            cells: four,
+            param,
+            generation: 0,
+            cell_count: u32::try_from(cells.len()).unwrap_or(u32::MAX),
+            law: law as u32,
+        }
+    }
+}
+
+/// Why a call on a seat was refused, by its number in include/lwkt.h.
+#[derive(Clone, Copy, Debug, PartialEq, Eq)]
+pub struct SeatFault(pub u32);
+
+impl SeatFault {
+    /// Whether the same call may go through later: another seat holds the token, or came between.
+    pub fn is_busy(self) -> bool {
+        matches!(self.0, 23 | 34)
+    }
+}
+
+impl fmt::Display for SeatFault {
+    fn fmt(&self, out: &mut fmt::Formatter<'_>) -> fmt::Result {
+        out.write_str(match self.0 {
+            10 => "list full",
+            11 => "shared reference can't become exclusive",
+            13 => "token not held",
+            16 => "no such token",
+            17 => "no such cell",
+            18 => "write under a shared token",
+            19 => "law broken",
+            20 => "last generation",
+            21 => "sum too large",
+            22 => "call and law don't fit",
+            23 => "token busy",
+            32 => "out of memory",
+            34 => "lost a race, try again",
+            39 => "limit passed",
+            40 => "opening breaks its law",
+            _ => "seat not there",
+        })
+    }
+}
+
+impl Error for SeatFault {}
+
+fn done(status: u32) -> Result<(), SeatFault> {
+    if status == 0 {
+        Ok(())
+    } else {
+        Err(SeatFault(status))
+    }
+}
+
+/// A bank of tokens, opened with a seat for each of the caller's threads. It stays to the end of the process.
+///
+/// ```
+/// use lwkt::{Bank, RowLaw, Token};
+///
+/// let tokens = [Token::new(&[0], RowLaw::Tally, 0), Token::new(&[40, 60], RowLaw::Sum, 100)];
+/// let seats = Bank::open(&tokens, 2)?.into_seats();
+/// std::thread::scope(|scope| {
+///     for mut seat in seats {
+///         scope.spawn(move || {
+///             for _ in 0..1000 {
+///                 let mut held = seat.take_waiting(0).unwrap();
+///                 held.add(1).unwrap();
+///             }
+///         });
+///     }
+/// });
+/// # Ok::<(), lwkt::SeatFault>(())
+/// ```
+#[derive(Debug)]
+pub struct Bank {
+    seats: Vec<Seat>,
+}
+
+impl Bank {
+    /// Opens a bank of these tokens, numbered from 0, with so many seats.
+    ///
+    /// Refused with 39 for other than 1 to 8 seats, more than 64 tokens, or a token that passes a limit; with 40 where an
+    /// opening row breaks its law; with 32 for want of memory.
+    pub fn open(tokens: &[Token], seats: u32) -> Result<Bank, SeatFault> {
+        let mut handle = Handle {
+            place: std::ptr::null_mut(),
+        };
+        done(unsafe { lwkt_bank_open(tokens.as_ptr(), tokens.len(), seats, &mut handle) })?;
+        Ok(Bank {
+            seats: (0..seats).map(|number| Seat { handle, number }).collect(),
+        })
+    }
+
+    /// The seats, each for one thread.
+    pub fn into_seats(self) -> Vec<Seat> {
+        self.seats
+    }
+}
+
+/// A seat at a bank. It may go to another thread, and is used by one at a time.
+pub struct Seat {
+    handle: Handle,
+    number: u32,
+}
+
+// A seat's calls are those of the library, which any thread may make.
+unsafe impl Send for Seat {}
+
+impl fmt::Debug for Seat {
+    fn fmt(&self, out: &mut fmt::Formatter<'_>) -> fmt::Result {
+        out.debug_struct("Seat").field("number", &self.number).finish()
+    }
+}
+
+impl Seat {
+    /// Takes a token exclusively, without waiting.
+    ///
+    /// ```
+    /// use lwkt::{Bank, RowLaw, SeatFault, Token};
+    ///
+    /// let mut seats = Bank::open(&[Token::new(&[40, 60], RowLaw::Sum, 100)], 2)?.into_seats();
+    /// let mut other = seats.pop().unwrap();
+    /// let mut seat = seats.pop().unwrap();
+    /// let mut held = seat.take(0)?;
+    /// assert_eq!(other.take(0).unwrap_err(), SeatFault(23));
+    /// held.store(0, 30)?;
+    /// assert!(!held.is_lawful()?);
+    /// held.store(1, 70)?;
+    /// held.give()?;
+    /// assert_eq!(other.share(0)?.load(1)?, 70);
+    /// # Ok::<(), SeatFault>(())
+    /// ```
+    pub fn take(&mut self, token: u32) -> Result<Held<'_>, SeatFault> {
+        done(unsafe { lwkt_take(self.handle, self.number, token) })?;
+        Ok(Held { seat: self, token })
+    }
+
+    /// Takes a token exclusively, yielding while another seat has it.
+    pub fn take_waiting(&mut self, token: u32) -> Result<Held<'_>, SeatFault> {
+        loop {
+            match done(unsafe { lwkt_take(self.handle, self.number, token) }) {
+                Ok(()) => return Ok(Held { seat: self, token }),
+                Err(fault) if fault.is_busy() => std::thread::yield_now(),
+                Err(fault) => return Err(fault),
+            }
+        }
+    }
+
+    /// Takes a token shared, without waiting.
+    pub fn share(&mut self, token: u32) -> Result<Held<'_>, SeatFault> {
+        done(unsafe { lwkt_share(self.handle, self.number, token) })?;
+        Ok(Held { seat: self, token })
+    }
+
+    /// Marks a token for an exclusive request.
+    pub fn mark(&mut self, token: u32) -> Result<(), SeatFault> {
+        done(unsafe { lwkt_mark(self.handle, self.number, token) })
+    }
+}
+
+/// A reference to a token, given back when it is dropped. A row that breaks its law is then the first row of the section again.
+#[derive(Debug)]
+pub struct Held<'a> {
+    seat: &'a mut Seat,
+    token: u32,
+}
+
+impl Held<'_> {
+    /// The value of a cell.
+    pub fn load(&mut self, cell: u32) -> Result<u64, SeatFault> {
+        let mut value = 0;
+        done(unsafe { lwkt_load(self.seat.handle, self.seat.number, self.token, cell, &mut value) })?;
+        Ok(value)
+    }
+
+    /// Stores a value in a cell.
+    pub fn store(&mut self, cell: u32, value: u64) -> Result<(), SeatFault> {
+        done(unsafe { lwkt_store(self.seat.handle, self.seat.number, self.token, cell, value) })
+    }
+
+    /// Adds to the cell of a tally, and answers the new value.
+    pub fn add(&mut self, amount: u64) -> Result<u64, SeatFault> {
+        let mut value = 0;
+        done(unsafe { lwkt_add(self.seat.handle, self.seat.number, self.token, amount, &mut value) })?;
+        Ok(value)
+    }
+
+    /// Whether the row obeys its law.
+    pub fn is_lawful(&mut self) -> Result<bool, SeatFault> {
+        match unsafe { lwkt_lawful(self.seat.handle, self.seat.number, self.token) } {
+            19 => Ok(false),
+            status => done(status).map(|()| true),
+        }
+    }
+
+    /// Makes the row the section's first row again.
+    pub fn restore(&mut self) -> Result<(), SeatFault> {
+        done(unsafe { lwkt_restore(self.seat.handle, self.seat.number, self.token) })
+    }
+
+    /// Another reference to the same token.
+    pub fn again(&mut self) -> Result<Held<'_>, SeatFault> {
+        done(unsafe { lwkt_again(self.seat.handle, self.seat.number, self.token) })?;
+        Ok(Held {
+            seat: &mut *self.seat,
+            token: self.token,
+        })
+    }
+
+    /// A further token, taken exclusively while this one is held.
+    pub fn take(&mut self, token: u32) -> Result<Held<'_>, SeatFault> {
+        self.seat.take(token)
+    }
+
+    /// A further token, taken shared while this one is held.
+    pub fn share(&mut self, token: u32) -> Result<Held<'_>, SeatFault> {
+        self.seat.share(token)
+    }
+
+    /// Gives the reference back. Refused with 19 where the row breaks its law: it is then the first row again, and given back.
+    pub fn give(mut self) -> Result<(), SeatFault> {
+        let given = self.give_or_restore();
+        std::mem::forget(self);
+        given
+    }
+
+    fn give_or_restore(&mut self) -> Result<(), SeatFault> {
+        let given = done(unsafe { lwkt_give(self.seat.handle, self.seat.number, self.token) });
+        if given == Err(SeatFault(19)) {
+            self.restore()?;
+            done(unsafe { lwkt_give(self.seat.handle, self.seat.number, self.token) })?;
+        }
+        given
+    }
+}
+
+impl Drop for Held<'_> {
+    fn drop(&mut self) {
+        let _ = self.give_or_restore();
+    }
+}
