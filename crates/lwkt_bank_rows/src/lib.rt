@@ -16,4 +16,5 @@ mod hold_rows;
 #[cfg(test)]
 mod readers;
 #[cfg(test)]
+mod record_rows;
 mod refused_rows;

@@ -191,17 +191,17 @@ rest_polled a b p q bodies threads running next cursor place body now rest withi
 }
 
 -- the fronts of one thread's list, before and after its ask
-pub ran_polled : (a b : CpuSeat) (t u : Vec Event Global) (threads : List Thread) (place : ℕ) (before now : Thread) → slice_get threads place ≡ Some before → place < length threads → Ran (IsBetween before.list now.list) 288 a b t u → Ran (IsOfThread threads (set threads place now)) 288 a b t u
+pub ran_polled : (a b : CpuSeat) (t u : Vec Event Global) (threads : List Thread) (place : ℕ) (before now : Thread) → slice_get threads place ≡ Some before → place < length threads → Ran (IsBetween before.list now.list) 320 a b t u → Ran (IsOfThread threads (set threads place now)) 320 a b t u
 ran_polled a b t u threads place before now at within ran =
-    ran_weaker (IsBetween before.list now.list) (IsOfThread threads (set threads place now)) 288 288 a b t u
+    ran_weaker (IsBetween before.list now.list) (IsOfThread threads (set threads place now)) 320 320 a b t u
     (λ h p. elim p [ inl front ↦ inr (inl (front_of_one threads place before h at front)) | inr front ↦ inr (inr (front_of_one (set threads place now) place now h (get_set_same threads place now within) front)) ])
     (omega arith) ran
 
 -- a run over the threads and the seat of an equal processor
-pub ran_over : (olds threads news : List Thread) (s a b : CpuSeat) (t u : Vec Event Global) → olds ≡ threads → s ≡ a → Ran (IsOfThread olds news) 288 s b t u → Ran (IsOfThread threads news) 288 a b t u
+pub ran_over : (olds threads news : List Thread) (s a b : CpuSeat) (t u : Vec Event Global) → olds ≡ threads → s ≡ a → Ran (IsOfThread olds news) 320 s b t u → Ran (IsOfThread threads news) 320 a b t u
 ran_over olds threads news s a b t u same here ran =
-    let F : List Thread → Type 0 = λ xs. Ran (IsOfThread xs news) 288 s b t u in
-    let G : CpuSeat → Type 0 = λ x. Ran (IsOfThread threads news) 288 x b t u in
+    let F : List Thread → Type 0 = λ xs. Ran (IsOfThread xs news) 320 s b t u in
+    let G : CpuSeat → Type 0 = λ x. Ran (IsOfThread threads news) 320 x b t u in
     subst G here (subst F same ran)
 
 -- a front of a list after the choice of a thread is one of a list before it
@@ -222,16 +222,16 @@ woken_one olds mids h woken one =
     front_of_one olds one.0 x.0 h x.1.0 (subst F (elim x.1.1 [ inl still ↦ ap (λ (t : Thread). t.list) still | inr ready ↦ ready.1 ]) y.1.1)
 
 -- the events of a whole turn
-pub turn_ran : {B : Type 0} (old met mid new : Processor B) (t r w v u : Vec Event Global) (running found : Option ℕ) → r.items ≡ t.items → vec_len r ≡ vec_len t → vec_capacity t ≤ vec_capacity r → AreWoken old.threads met.threads → Chooses met mid w v running found → Ran (IsMailed old.threads) 2304 old.seat met.seat r w → Ran (IsOfOne met.threads) 1024 met.seat mid.seat w v → Ran (IsOfThread mid.threads new.threads) 288 mid.seat new.seat v u → Ran (IsOfThread old.threads new.threads) 4096 old.seat new.seat t u
+pub turn_ran : {B : Type 0} (old met mid new : Processor B) (t r w v u : Vec Event Global) (running found : Option ℕ) → r.items ≡ t.items → vec_len r ≡ vec_len t → vec_capacity t ≤ vec_capacity r → AreWoken old.threads met.threads → Chooses met mid w v running found → Ran (IsMailed old.threads) 2304 old.seat met.seat r w → Ran (IsOfOne met.threads) 1024 met.seat mid.seat w v → Ran (IsOfThread mid.threads new.threads) 320 mid.seat new.seat v u → Ran (IsOfThread old.threads new.threads) 4096 old.seat new.seat t u
 turn_ran old met mid new t r w v u running found same long wider woken c mail first second =
     let P : Holding → Type 0 = IsOfThread old.threads new.threads in
     ran_with_room P 4096 old.seat new.seat t r u same long wider
-    (ran_weaker P P 3616 4096 old.seat new.seat r u (λ h p. p) (omega arith)
-    (ran_then P 2304 1312 old.seat met.seat new.seat r w u
+    (ran_weaker P P 3648 4096 old.seat new.seat r u (λ h p. p) (omega arith)
+    (ran_then P 2304 1344 old.seat met.seat new.seat r w u
     (ran_weaker (IsMailed old.threads) P 2304 2304 old.seat met.seat r w (λ h p. elim p [ inl none ↦ inl none | inr one ↦ inr (inl one) ]) (omega arith) mail)
-    (ran_then P 1024 288 met.seat mid.seat new.seat w v u
+    (ran_then P 1024 320 met.seat mid.seat new.seat w v u
     (ran_weaker (IsOfOne met.threads) P 1024 1024 met.seat mid.seat w v (λ h p. inr (inl (woken_one old.threads met.threads h woken p))) (omega arith) first)
-    (ran_weaker (IsOfThread mid.threads new.threads) P 288 288 mid.seat new.seat v u (λ h p. elim p [ inl none ↦ inl none | inr some ↦ elim some [ inl one ↦ inr (inl (woken_one old.threads met.threads h woken (chosen_one met mid w v running found c h one))) | inr one ↦ inr (inr one) ] ]) (omega arith) second))))
+    (ran_weaker (IsOfThread mid.threads new.threads) P 320 320 mid.seat new.seat v u (λ h p. elim p [ inl none ↦ inl none | inr some ↦ elim some [ inl one ↦ inr (inl (woken_one old.threads met.threads h woken (chosen_one met mid w v running found c h one))) | inr one ↦ inr (inr one) ] ]) (omega arith) second))))
 
 pub search_ran : {B : Type 0} (old met new : Processor B) (t r w u : Vec Event Global) → r.items ≡ t.items → vec_len r ≡ vec_len t → vec_capacity t ≤ vec_capacity r → AreWoken old.threads met.threads → Ran (IsMailed old.threads) 2304 old.seat met.seat r w → Ran (IsOfOne met.threads) 1024 met.seat new.seat w u → Ran (IsOfThread old.threads new.threads) 4096 old.seat new.seat t u
 search_ran old met new t r w u same long wider woken mail first =

@@ -2,6 +2,7 @@ ghost use Rattle.std.specs.Prelude.{◌≡◌};
 ghost use Rattle.lwkt_litmus.specs.Claims.{is_standing, is_place, has_ended, has_faulted, same_call, same_entry, same_thread, has_entry, has_logged, has_stood, any_faulted, any_logged, any_stood, related, compared, lies, ended, holds};
 
 use crate::readings::sum_of;
+use lwkt_base::blobs::same_bytes;
 use lwkt_base::{Call, Entry, MsgId, MsgState, Owner, ThreadId, ThreadState};
 use lwkt_report::{Closing, ThreadLine};
 use lwkt_text::claims::{Claim, Relation, Standing};
@@ -59,6 +60,7 @@ fn same_entry(one: Entry, other: Entry) -> bool
 {
     match (one, other) {
         (Entry::Value(m), Entry::Value(n)) => m == n,
+        (Entry::Bytes(a), Entry::Bytes(b)) => same_bytes(&a, &b),
         (Entry::Aborted(a), Entry::Aborted(b)) => a == b,
         (Entry::Request(m, c), Entry::Request(n, d)) => m.0 == n.0 && same_call(c, d),
         (Entry::Reply(m, e, r), Entry::Reply(n, f, s)) => m.0 == n.0 && e == f && r == s,

@@ -4,7 +4,7 @@ ghost use Rattle.lwkt_machine.specs.Encoded.{AreOfBook};
 
 use crate::bodies::ScriptBody;
 use crate::machines::Machine;
-use lwkt_base::{Entry, Fault, MsgId, Rec};
+use lwkt_base::{Blob, Entry, Fault, MsgId, Rec};
 use lwkt_cpu::Cpu;
 use lwkt_msg::{MsgBook, MsgSeat, Reaped};
 use std::alloc::{AllocError, Global};
@@ -30,6 +30,15 @@ fn add_four(words: &mut Vec<u64>, a: u64, b: u64, c: u64, d: u64) -> Result<(), 
     add(words, d)
 }
 
+fn add_bytes(words: &mut Vec<u64>, kind: u64, blob: Blob) -> Result<(), AllocError> {
+    add(words, kind)?;
+    add(words, u64::from(blob.len()))?;
+    for byte in blob.as_slice() {
+        add(words, u64::from(*byte))?;
+    }
+    Ok(())
+}
+
 fn add_entry(words: &mut Vec<u64>, entry: Entry) -> Result<(), AllocError> {
     match entry {
         Entry::Value(value) => add_four(words, 1, value, 0, 0),
@@ -45,6 +54,7 @@ fn add_entry(words: &mut Vec<u64>, entry: Entry) -> Result<(), AllocError> {
             add_four(words, 6, u64::from(msg), u64::from(call.op), call.arg)
         }
         Entry::Refused(number) => add_four(words, 7, u64::from(number), 0, 0),
+        Entry::Bytes(blob) => add_bytes(words, 8, blob),
     }
 }
 

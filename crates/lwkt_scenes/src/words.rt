@@ -1,4 +1,5 @@
 use crate::pages::Page;
+use crate::records::{show_digits, show_record};
 use lwkt_base::{Answer, Ask, Call, Fault, Item, Mode, MsgId, ThreadId};
 
 /// Appends a thread by its processor and its number: `1.0`.
@@ -18,6 +19,8 @@ fn ask_word(ask: Ask) -> &'static str {
         Ask::Read(..) => "read",
         Ask::Write(..) => "write",
         Ask::Add(..) => "add",
+        Ask::ReadBlob(_) => "rrec",
+        Ask::WriteBlob(..) => "wrec",
         Ask::Send(..) => "send",
         Ask::Do(..) => "do",
         Ask::Reply(..) => "reply",
@@ -41,8 +44,15 @@ pub(crate) fn show_behind(out: &mut Page, numbers: &[u64]) {
 // Appends the numbers of an ask for a token.
 fn show_token_ask(out: &mut Page, ask: Ask) {
     match ask {
-        Ask::Get(tok) | Ask::GetShared(tok) | Ask::TryGet(tok) | Ask::Rel(tok) => {
-            show_behind(out, &[u64::from(tok.0)])
+        Ask::Get(tok)
+        | Ask::GetShared(tok)
+        | Ask::TryGet(tok)
+        | Ask::Rel(tok)
+        | Ask::ReadBlob(tok) => show_behind(out, &[u64::from(tok.0)]),
+        Ask::WriteBlob(tok, blob) => {
+            show_behind(out, &[u64::from(tok.0)]);
+            out.add(",");
+            show_digits(out, &blob)
         }
         Ask::Read(tok, cell) => show_behind(out, &[u64::from(tok.0), u64::from(cell)]),
         Ask::Write(tok, cell, value) => {
@@ -126,6 +136,7 @@ pub(crate) fn show_answer(out: &mut Page, answer: Answer) {
         Answer::Begin => out.add("not asked before"),
         Answer::Done => out.add("done"),
         Answer::Value(value) => out.number("value ", value),
+        Answer::Bytes(blob) => show_record(out, &blob),
         Answer::Dropped(msg, rec) => {
             let words = ["message ", " taken back, op ", ", arg "];
             show_values(out, words, msg, u64::from(rec.op), rec.arg)

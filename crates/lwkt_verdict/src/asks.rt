@@ -1,5 +1,5 @@
 ghost use Rattle.std.specs.Prelude.{◌≡◌, ◌==◌};
-ghost use Rattle.lwkt_verdict.specs.Asks.{refusals, may_refuse, may_be_done, may_give_value, may_drop, is_reply_to, may_give_item, may_find_nothing, may_answer, is_refused, makes_event, is_do, is_exit, may_wait, may_block, value_entry, item_entry, entry_of};
+ghost use Rattle.lwkt_verdict.specs.Asks.{refusals, may_refuse, may_be_done, may_give_value, may_give_bytes, may_drop, is_reply_to, may_give_item, may_find_nothing, may_answer, is_refused, makes_event, is_do, is_exit, may_wait, may_block, value_entry, item_entry, entry_of};
 
 use lwkt_base::{Answer, Ask, Call, Entry, Item};
 
@@ -16,6 +16,8 @@ fn refusals(ask: Ask) -> &'static [u8]
         Ask::Read(..) => &[16, 17, 13],
         Ask::Write(..) => &[16, 17, 13, 18, 22],
         Ask::Add(..) => &[16, 13, 18, 22, 21],
+        Ask::ReadBlob(_) => &[16, 17, 13, 37],
+        Ask::WriteBlob(..) => &[16, 17, 13, 37, 38],
         Ask::Send(..) => &[30, 25, 24, 36],
         Ask::Do(..) => &[30, 29, 25, 24, 36],
         Ask::Reply(..) => &[31, 24],
@@ -41,6 +43,7 @@ fn may_be_done(ask: Ask) -> bool
     !matches!(
         ask,
         Ask::Read(..)
+            | Ask::ReadBlob(_)
             | Ask::Do(..)
             | Ask::IsAborted(_)
             | Ask::DropMsg(_)
@@ -59,6 +62,13 @@ fn may_give_value(ask: Ask, value: u64) -> bool
         Ask::IsAborted(_) => value <= 1,
         _ => false,
     }
+}
+
+// Whether an ask can be answered by a record.
+fn may_give_bytes(ask: Ask) -> bool
+    ensures { result ≡ may_give_bytes ask }
+{
+    matches!(ask, Ask::ReadBlob(_))
 }
 
 // Whether an ask can be answered by this message's record.
@@ -107,6 +117,7 @@ pub fn may_answer(ask: Ask, answer: Answer) -> bool
         Answer::Begin => false,
         Answer::Done => may_be_done(ask),
         Answer::Value(value) => may_give_value(ask, value),
+        Answer::Bytes(_) => may_give_bytes(ask),
         Answer::Dropped(msg, _) => may_drop(ask, msg.0),
         Answer::Got(item) => may_give_item(ask, item),
         Answer::NoMsg => may_find_nothing(ask),
@@ -133,6 +144,8 @@ pub fn makes_event(ask: Ask) -> bool
         Ask::Read(..)
             | Ask::Write(..)
             | Ask::Add(..)
+            | Ask::ReadBlob(_)
+            | Ask::WriteBlob(..)
             | Ask::Send(..)
             | Ask::Do(..)
             | Ask::Reply(..)
@@ -199,6 +212,7 @@ pub fn entry_of(ask: Ask, answer: Answer) -> Option<Entry>
     match answer {
         Answer::Begin | Answer::Done => None,
         Answer::Value(value) => Some(value_entry(ask, value)),
+        Answer::Bytes(blob) => Some(Entry::Bytes(blob)),
         Answer::Dropped(msg, rec) => Some(Entry::Dropped(
             msg,
             Call {

@@ -1,6 +1,6 @@
 use Rattle.std.proofs.Common.{◌≡◌, ◌*◌, [], length, take, drop}
-use Rattle.lwkt_trace.specs.Guard.{bytes_behind}
-use Rattle.lwkt_trace.proofs.guards.blob_of.Given as goal
+use Rattle.lwkt_script.specs.Record.{bytes_behind}
+use Rattle.lwkt_script.proofs.records.blob_of.Given as goal
 
 -- there is room for 65 bytes, and those so far, with the digits to come, are all digits
 abbrev pub invariant-loop-place : goal.invariant-loop-place

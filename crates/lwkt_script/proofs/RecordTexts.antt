@@ -1,9 +1,9 @@
 -- The digits of a text, and the record that they are.
-use Rattle.std.proofs.Common.{◌≡◌, ℕ, ◌+◌, ◌-◌, ◌*◌, ◌<◌, ◌≤◌, List, [], ◌∷◌, ◌++◌, length, drop, take, slice_set, get_or, Option, Some, None, refl, sym, ◌∙◌, ap, arith, le-leb}
+use Rattle.std.proofs.Common.{◌≡◌, ℕ, ◌+◌, ◌-◌, ◌*◌, ◌<◌, ◌≤◌, List, [], ◌∷◌, ◌++◌, length, drop, take, replicate, slice_set, get_or, Option, Some, None, refl, sym, ◌∙◌, ap, arith, le-leb}
 use Rattle.std.specs.Prelude.{option_and_then}
-use Rattle.std.proofs.lemmas.List.{take_more_set, drop_more, drop_all}
+use Rattle.std.proofs.lemmas.List.{take_more_set, drop_more, drop_all, length-append, length-take, length-take-le, length-replicate}
 use Rattle.lwkt_base.specs.Blob.{kept_of}
-use Rattle.lwkt_trace.specs.Guard.{byte_of, bytes_behind, blob_of}
+use Rattle.lwkt_script.specs.Record.{byte_of, bytes_behind, blob_of}
 
 -- what comes to nothing with each value comes to nothing
 none_then : (o : Option ℕ) (f : ℕ → Option (List ℕ)) → ((n : ℕ) → f n ≡ None) → option_and_then f o ≡ None
@@ -56,3 +56,14 @@ blob_read text bytes blob place count most short even all so_far is =
     let ends : bytes_behind (take place bytes) (drop (2 * place) text) ≡ Some (take place bytes) = ap (λ (xs : List ℕ). bytes_behind (take place bytes) xs) rest in
     let found : bytes_behind [] text ≡ Some (take count bytes) = sym so_far ∙ ends ∙ ap (λ (n : ℕ). Some (take n bytes)) all in
     rw (le-leb (length text) (2 * most) short, found) (ap (λ (xs : List ℕ). Some xs) is)
+
+-- what is kept of bytes is as long as they are
+kept_long : (xs : List ℕ) → length (kept_of xs) ≡ length xs
+kept_long xs = omega (arith, length-append (take 64 xs) (replicate (length xs - 64) 0), length-take 64 xs, length-replicate (length xs - 64) 0)
+
+-- as few bytes as the text has room for
+pub blob_short : (text bytes blob : List ℕ) (count most : ℕ) → length text ≤ 2 * most → length bytes ≡ 65 → most ≤ 65 → blob ≡ kept_of (take count bytes) → 2 * count ≤ length text → length blob ≤ most
+blob_short text bytes blob count most short room few is half =
+    let long : length (take count bytes) ≡ count = length-take-le count bytes (omega arith) in
+    let same : length blob ≡ length (take count bytes) = ap length is ∙ kept_long (take count bytes) in
+    omega arith

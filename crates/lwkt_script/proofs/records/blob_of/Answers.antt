@@ -1,10 +1,10 @@
 use Rattle.std.proofs.Common.{◌≡◌, ◌+◌, ◌*◌, ◌/◌, ◌<◌, length, sym, ◌∙◌, arith}
 use Rattle.std.proofs.lemmas.List.{length-set}
-use Rattle.lwkt_trace.proofs.GuardTexts.{odd_refused, byte_read, blob_read}
-use Rattle.lwkt_trace.proofs.guards.blob_of.Goals as goal
+use Rattle.lwkt_script.proofs.RecordTexts.{odd_refused, byte_read, blob_read, blob_short}
+use Rattle.lwkt_script.proofs.records.blob_of.Goals as goal
 
-pub returns-then-text-count : goal.returns-then-text-count
-returns-then-text-count c =
+pub returns-then-text-count-clause-exact : goal.returns-then-text-count-clause-exact
+returns-then-text-count-clause-exact c =
     let n = length c.args.text.now in
     let h = c.if-text-count.true in
     let odd : length c.args.text.now ≡ 2 * (length c.args.text.now / 2) + 1 = omega arith in
@@ -23,9 +23,14 @@ loop-place-preserved c =
     let room : c.loop-place.place < length c.loop-place.bytes = omega arith in
     (length-set bytes place c.in_ok-bytes.field-0 ∙ whole, byte_read bytes text place c.in_ok-bytes.field-0 0 inside room (sym c.byte_of.ensures ∙ c.in_ok-bytes.was) ∙ c.loop-place.invariant.1)
 
-pub returns : goal.returns
-returns c =
+pub returns-clause-exact : goal.returns-clause-exact
+returns-clause-exact c =
     let past = c.loop-place-test.false in
     let end = c.loop-place.auto.place-end in
     let even = c.if-text-count.false in
     blob_read c.args.text.now c.loop-place.bytes c.of.result c.loop-place.place (length c.args.text.now / 2) c.args.most c.if-text-most.false even (omega arith) c.loop-place.invariant.1 c.of.ensures.kept
+
+pub returns-clause-short : goal.returns-clause-short
+returns-clause-short c =
+    let even = c.if-text-count.false in
+    blob_short c.args.text.now c.loop-place.bytes c.of.result (length c.args.text.now / 2) c.args.most c.if-text-most.false c.loop-place.invariant.0 c.requires c.of.ensures.kept (omega arith)
