@@ -84,8 +84,16 @@ fn guarded_2(alloc: Global) -> Result<bool, Fault> {
     let told = second.read_blob(&bank, TOKEN).is_same(&Blob::of(b"hello"));
     let clean = matches!(second.give(&bank, TOKEN), Given::Clean);
     let end = closed(alloc, bank, first, second)?;
-    Ok(taken && lawful && written && word == 262144 && again && told && clean
-        && closes_with(&end, 5, b"hello", 1))
+    Ok(
+        taken
+            && lawful
+            && written
+            && word == 262144
+            && again
+            && told
+            && clean
+            && closes_with(&end, 5, b"hello", 1),
+    )
 }
 
 #[test]

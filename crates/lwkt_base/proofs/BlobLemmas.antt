@@ -1,4 +1,4 @@
-use Rattle.std.specs.Prelude.{◌≡◌, ◌↔◌, Bool, true, false, ⊥, IsTrue, bytes_eq, ℕ, ◌-◌, ◌<◌, ◌≤◌, List, ◌++◌, length, take, replicate}
+use Rattle.std.specs.Prelude.{◌≡◌, ◌↔◌, Bool, true, false, IsTrue, bytes_eq, ℕ, ◌-◌, ◌<◌, ◌≤◌, List, ◌++◌, length, take, replicate}
 use Rattle.std.proofs.Common.{true≢false, refl, ap, ◌∙◌, sym, arith}
 use Rattle.std.proofs.Math.Seq.{drop-append_seam}
 use Rattle.std.proofs.lemmas.List.{take_all, append-nil, length-append, length-replicate}
@@ -47,10 +47,10 @@ pub same_bytes : (bytes bytes' : List ℕ) (len len' : ℕ) → IsPadded bytes l
 same_bytes bytes bytes' len len' is is' xs ys one other same = sym (bytes_by bytes len is xs one) ∙ ap (λ (zs : List ℕ). padded (take 64 zs)) same ∙ bytes_by bytes' len' is' ys other
 
 untrue : (b : Bool) → (b ≡ true → ⊥) → false ≡ b
-untrue true no = absurd (no refl)
-untrue false no = refl
+untrue true isnt = absurd (isnt refl)
+untrue false isnt = refl
 
 -- a test that holds exactly of the same bytes is the one byte by byte
 pub tested_bytes : (b : Bool) (xs ys : List ℕ) → IsTrue b ↔ (xs ≡ ys) → b ≡ bytes_eq xs ys
 tested_bytes true xs ys is = sym ((bytes_eq-Decides xs ys).1 (is.0 refl))
-tested_bytes false xs ys is = untrue (bytes_eq xs ys) (λ yes. true≢false (sym (is.1 ((bytes_eq-Decides xs ys).0 yes))))
+tested_bytes false xs ys is = untrue (bytes_eq xs ys) (λ same. true≢false (sym (is.1 ((bytes_eq-Decides xs ys).0 same))))
