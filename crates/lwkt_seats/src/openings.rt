@@ -96,8 +96,9 @@ fn open(alloc: Global, tokens: &[LwktToken], seats: usize) -> Result<Box<Desk>, 
 /// Opens a bank of these tokens with so many seats, which are numbered from 0. `out` gets where it is; it stays as it was but
 /// with 0.
 ///
-/// 0; or 39 where a limit is passed: 1 to 8 seats, at most 64 tokens, at most 4 cells and exactly 1 under tally, a law above 4, a
-/// generation past the last; 40 where an opening row breaks its law; 32 for want of memory.
+/// 0; or 39 where a limit is passed: 1 to 8 seats, at most 64 tokens, at most 4 cells and exactly 1 under tally, a law above 5, a
+/// generation past the last, a record of more than 64 bytes, more than one record, one under tally, none or no cell under len; 40
+/// where an opening row, with its record's length, breaks its law; 32 for want of memory.
 #[unsafe(no_mangle)]
 pub extern "C" fn lwkt_bank_open(
     alloc: Global,
