@@ -156,7 +156,7 @@ uint32_t lwkt_word_give_written(uint64_t word, uint64_t *next);
 // - No more. Two calls at once on one seat are two calls: one of them may answer 50. A token that is held when its thread ends
 //   stays held by its seat, from which any thread may go on.
 //
-// A bank stays to the end of the process: its memory, about 10 KB for each seat and 400 bytes for each token, isn't given back.
+// A bank stays to the end of the process: its memory, about 10 KB for each seat and 330 bytes for each token, isn't given back.
 #define LWKT_BUSY 23u
 #define LWKT_RACE 34u
 #define LWKT_SEAT_IN_USE 50u
