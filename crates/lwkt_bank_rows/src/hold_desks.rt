@@ -6,7 +6,7 @@ ghost use Rattle.lwkt_hold.specs.Holds.{seat_of};
 ghost use Rattle.lwkt_bank_rows.specs.HeldLists.{IsHeld, IsFree};
 
 use lwkt_bank::{Bank, CpuSeat};
-use lwkt_base::{Answer, Ask, Fault, Mode, Ref, TokId, TokList, TokSpec};
+use lwkt_base::{Answer, Ask, Blob, Fault, Mode, Ref, TokId, TokList, TokSpec};
 use lwkt_core::Event;
 use lwkt_hold::{Acquired, Blocked, Hold, Resumed};
 use std::alloc::Global;
@@ -201,6 +201,13 @@ fn found(res: Result<u64, Fault>) -> Option<Answer> {
     }
 }
 
+fn found_record(res: Result<Blob, Fault>) -> Option<Answer> {
+    match res {
+        Ok(blob) => Some(Answer::Bytes(blob)),
+        Err(fault) => Some(Answer::Refused(fault)),
+    }
+}
+
 impl ListedHold<'_> {
     /// The references that are held.
     pub fn refs(&self) -> &[Ref] {
@@ -307,6 +314,22 @@ impl ListedHold<'_> {
                 )
             }
             Ask::Add(tok, k) => done(self.hold.add(bank, &self.list, tok, k, &mut self.trace)),
+            _ => self.ask_record(ask),
+        }
+    }
+
+    // The same, where it asks for the record of a token.
+    fn ask_record(&mut self, ask: Ask) -> Option<Answer> {
+        make_room(&mut self.trace).ok()?;
+        let bank = self.bank;
+        match ask {
+            Ask::ReadBlob(tok) => found_record(
+                self.hold.read_blob(bank, &self.list, tok, &mut self.trace),
+            ),
+            Ask::WriteBlob(tok, blob) => done(
+                self.hold
+                    .write_blob(bank, &self.list, tok, &blob, &mut self.trace),
+            ),
             _ => None,
         }
     }

@@ -3,16 +3,14 @@ ghost use Rattle.std.specs.Prelude.{◌≡◌, ◌+◌, ◌<◌, ◌≤◌, [], 
 ghost use Rattle.lwkt_bank.specs.Seats.{id_of, tokens_of, cpus_of};
 ghost use Rattle.lwkt_bank_rows.specs.HeldLists.{IsHeld, IsFree};
 
-use crate::hold_desks::{
-    Call, ListedHold, Told, Watch, list_of, make_room, next_desk, next_watch, open,
-};
+use crate::hold_desks::{Call, Told, list_of, make_room, open};
+use crate::hold_plays::{Line, Played, expect};
 use lwkt_bank::{Bank, Closed, CpuSeat};
 use lwkt_base::{Answer, Ask, Cells, CpuId, Fault, Law, Mode, Ref, TokId, TokList};
 use lwkt_core::Event;
-use lwkt_fixtures::{Happening, Opened, are_these, tokens};
+use lwkt_fixtures::{Happening, Opened, tokens};
 use lwkt_hold::{Acquired, Blocked, Hold, Missed, Resumed};
 use std::alloc::{AllocError, Global};
-use std::process::Abort;
 use std::thread;
 use std::thread::Threads;
 
@@ -45,126 +43,6 @@ const FIRST_SHARED: Ref = Ref {
     mode: Mode::Shared,
 };
 
-// A call on the desk of this processor, its answer, and the words of tokens 0 and 1 after it.
-#[derive(Clone, Copy)]
-struct Line(usize, Call, Told, u64, u64);
-
-// The tokens of a bank; its processors, of which the last one only looks; calls; and the references and the events that the
-// first desk has at the end.
-struct Played {
-    tokens: &'static [Opened],
-    cpus: usize,
-    lines: &'static [Line],
-    refs: &'static [Ref],
-    events: Option<&'static [Happening]>,
-}
-
-// Why a table wasn't played to its end.
-#[derive(Debug, Drop)]
-enum Miss {
-    Fault(Fault),
-    /// There is no such seat.
-    Seat,
-    /// Another answer than was wanted, or other words.
-    Line {
-        at: usize,
-        told: Told,
-        first: u64,
-        second: u64,
-    },
-    /// Other references or events at the end.
-    End,
-}
-
-// The desks of all processors that are left, the first one first.
-fn desks_of<'a>(
-    alloc: Global,
-    bank: &'a Bank,
-    seats: &mut Vec<CpuSeat>,
-) -> Result<Vec<ListedHold<'a>>, AllocError>
-    requires { All (IsFree (id_of bank.now)) seats.old.items }
-{
-    let mut desks = Vec::new(alloc);
-    for _seat in 0..seats.len() {
-        if let Some(desk) = next_desk(alloc, bank, seats) {
-            desks.push(desk)?;
-        }
-    }
-    desks.reverse();
-    Ok(desks)
-}
-
-// Makes a call, and fails if it goes otherwise.
-fn play_line(desk: &mut ListedHold, watch: &mut Watch, at: usize, line: &Line) -> Result<(), Miss> {
-    let told = desk.call(line.1);
-    let first = watch.word(0);
-    let second = watch.word(1);
-    if told != line.2 || first != line.3 || second != line.4 {
-        return Err(Miss::Line {
-            at,
-            told,
-            first,
-            second,
-        });
-    }
-    Ok(())
-}
-
-fn play_lines(desks: &mut Vec<ListedHold>, watch: &mut Watch, lines: &[Line]) -> Result<(), Miss> {
-    for (at, line) in lines.iter().enumerate() {
-        match desks.get_mut(line.0) {
-            Some(desk) => play_line(desk, watch, at, line)?,
-            None => return Err(Miss::Seat),
-        }
-    }
-    Ok(())
-}
-
-fn has_events(desk: &ListedHold, events: Option<&[Happening]>) -> bool {
-    match events {
-        Some(want) => are_these(desk.trace(), want),
-        None => true,
-    }
-}
-
-fn is_left(desks: &[ListedHold], row: &Played) -> Result<(), Miss> {
-    let Some(desk) = desks.first() else {
-        return Err(Miss::Seat);
-    };
-    if desk.refs() != row.refs || !has_events(desk, row.events) {
-        return Err(Miss::End);
-    }
-    Ok(())
-}
-
-// Plays the calls of a row at a bank.
-fn play_at(alloc: Global, bank: &Bank, mut seats: Vec<CpuSeat>, row: &Played) -> Result<(), Miss>
-    requires { All (IsFree (id_of bank.now)) seats.items }
-{
-    let Some(mut watch) = next_watch(bank, &mut seats) else {
-        return Err(Miss::Seat);
-    };
-    let Ok(mut desks) = desks_of(alloc, bank, &mut seats) else {
-        return Err(Miss::Fault(Fault::Memory));
-    };
-    play_lines(&mut desks, &mut watch, row.lines)?;
-    is_left(&desks, row)
-}
-
-fn play_row(alloc: Global, row: &Played) -> Result<(), Miss> {
-    let Ok(specs) = tokens(alloc, row.tokens) else {
-        return Err(Miss::Fault(Fault::Memory));
-    };
-    let (bank, seats) = open(alloc, &specs, row.cpus).map_err(Miss::Fault)?;
-    play_at(alloc, &bank, seats, row)
-}
-
-// Fails where a row goes otherwise, and says where.
-fn expect(rt: &impl Abort, alloc: Global, row: &Played) {
-    let found = play_row(alloc, row);
-    assert!(rt; found.is_ok(), "{found:?}");
-}
-
 const DONE: Told = Told::Answered(Answer::Done);
 
 const GOT: Told = Told::Got(Acquired::Got);
@@ -174,121 +52,125 @@ const ALL: Told = Told::Resumed(Resumed::All);
 // A token of one cell under no law.
 const PLAIN: Opened = Opened(Law::Any, 0, 0, &[0]);
 
-const WORDS: Played = Played {
-    tokens: &[PLAIN, PLAIN],
-    cpus: 2,
-    lines: &[
-        Line(0, Call::Ask(Ask::Get(FIRST_TOKEN)), DONE, 1, 0),
-        Line(0, Call::Ask(Ask::Get(FIRST_TOKEN)), DONE, 5, 0),
-        Line(0, Call::Ask(Ask::GetShared(FIRST_TOKEN)), DONE, 9, 0),
-        Line(0, Call::Ask(Ask::Rel(FIRST_TOKEN)), DONE, 5, 0),
-        Line(0, Call::Ask(Ask::Rel(FIRST_TOKEN)), DONE, 1, 0),
-        Line(0, Call::Ask(Ask::Rel(FIRST_TOKEN)), DONE, 0, 0),
-        // References are given back in the order in which they were had, the last one first.
-        Line(0, Call::Ask(Ask::Get(FIRST_TOKEN)), DONE, 1, 0),
-        Line(0, Call::Ask(Ask::Get(SECOND_TOKEN)), DONE, 1, 1),
-        Line(
-            0,
-            Call::Ask(Ask::Rel(FIRST_TOKEN)),
-            Told::Answered(Answer::Refused(Fault::NotLast)),
-            1,
-            1,
-        ),
-    ],
-    refs: &[FIRST_EXCLUSIVE, SECOND_EXCLUSIVE],
-    events: None,
-};
+const WORDS: [Line; 9] = [
+    Line(0, Call::Ask(Ask::Get(FIRST_TOKEN)), DONE, 1, 0),
+    Line(0, Call::Ask(Ask::Get(FIRST_TOKEN)), DONE, 5, 0),
+    Line(0, Call::Ask(Ask::GetShared(FIRST_TOKEN)), DONE, 9, 0),
+    Line(0, Call::Ask(Ask::Rel(FIRST_TOKEN)), DONE, 5, 0),
+    Line(0, Call::Ask(Ask::Rel(FIRST_TOKEN)), DONE, 1, 0),
+    Line(0, Call::Ask(Ask::Rel(FIRST_TOKEN)), DONE, 0, 0),
+    // References are given back in the order in which they were had, the last one first.
+    Line(0, Call::Ask(Ask::Get(FIRST_TOKEN)), DONE, 1, 0),
+    Line(0, Call::Ask(Ask::Get(SECOND_TOKEN)), DONE, 1, 1),
+    Line(
+        0,
+        Call::Ask(Ask::Rel(FIRST_TOKEN)),
+        Told::Answered(Answer::Refused(Fault::NotLast)),
+        1,
+        1,
+    ),
+];
 
 #[test]
 fn words_of_holds(rt: HostRuntime) {
-    expect(&rt, rt.alloc(), &WORDS);
+    let row = Played {
+        tokens: &[PLAIN, PLAIN],
+        records: &[],
+        cpus: 2,
+        lines: &WORDS,
+        refs: &[FIRST_EXCLUSIVE, SECOND_EXCLUSIVE],
+        events: None,
+    };
+    expect(&rt, rt.alloc(), &row);
 }
 
-const REFUSALS: Played = Played {
-    tokens: &[
-        Opened(Law::Any, 0, 0, &[1]),
-        Opened(Law::Tally, MOST, 0, &[MOST]),
-    ],
-    cpus: 2,
-    lines: &[
-        Line(
-            0,
-            Call::Ask(Ask::Read(TokId(9), 0)),
-            Told::Answered(Answer::Refused(Fault::NoToken)),
-            0,
-            0,
-        ),
-        Line(
-            0,
-            Call::Ask(Ask::Read(FIRST_TOKEN, 3)),
-            Told::Answered(Answer::Refused(Fault::NoCell)),
-            0,
-            0,
-        ),
-        Line(
-            0,
-            Call::Ask(Ask::Read(FIRST_TOKEN, 0)),
-            Told::Answered(Answer::Refused(Fault::NotHeld)),
-            0,
-            0,
-        ),
-        Line(0, Call::Ask(Ask::GetShared(FIRST_TOKEN)), DONE, 4, 0),
-        Line(
-            0,
-            Call::Ask(Ask::Write(FIRST_TOKEN, 0, 5)),
-            Told::Answered(Answer::Refused(Fault::SharedWrite)),
-            4,
-            0,
-        ),
-        Line(0, Call::Ask(Ask::Rel(FIRST_TOKEN)), DONE, 0, 0),
-        Line(0, Call::Ask(Ask::Get(SECOND_TOKEN)), DONE, 0, 1),
-        Line(
-            0,
-            Call::Ask(Ask::Write(SECOND_TOKEN, 0, 5)),
-            Told::Answered(Answer::Refused(Fault::TallyOnly)),
-            0,
-            1,
-        ),
-        Line(
-            0,
-            Call::Ask(Ask::Add(SECOND_TOKEN, 1)),
-            Told::Answered(Answer::Refused(Fault::Overflow)),
-            0,
-            1,
-        ),
-        Line(0, Call::Ask(Ask::Rel(SECOND_TOKEN)), DONE, 0, 0),
-        Line(
-            0,
-            Call::Ask(Ask::Rel(SECOND_TOKEN)),
-            Told::Answered(Answer::Refused(Fault::NotHeld)),
-            0,
-            0,
-        ),
-    ],
-    refs: &[],
-    events: Some(&[
-        Happening::Share {
-            cpu: CpuId(0),
-            tok: FIRST_TOKEN,
-        },
-        Happening::GiveOne {
-            cpu: CpuId(0),
-            tok: FIRST_TOKEN,
-        },
-        Happening::Take {
-            cpu: CpuId(0),
-            tok: SECOND_TOKEN,
-        },
-        Happening::GiveClean {
-            cpu: CpuId(0),
-            tok: SECOND_TOKEN,
-        },
-    ]),
-};
+const REFUSALS: [Line; 11] = [
+    Line(
+        0,
+        Call::Ask(Ask::Read(TokId(9), 0)),
+        Told::Answered(Answer::Refused(Fault::NoToken)),
+        0,
+        0,
+    ),
+    Line(
+        0,
+        Call::Ask(Ask::Read(FIRST_TOKEN, 3)),
+        Told::Answered(Answer::Refused(Fault::NoCell)),
+        0,
+        0,
+    ),
+    Line(
+        0,
+        Call::Ask(Ask::Read(FIRST_TOKEN, 0)),
+        Told::Answered(Answer::Refused(Fault::NotHeld)),
+        0,
+        0,
+    ),
+    Line(0, Call::Ask(Ask::GetShared(FIRST_TOKEN)), DONE, 4, 0),
+    Line(
+        0,
+        Call::Ask(Ask::Write(FIRST_TOKEN, 0, 5)),
+        Told::Answered(Answer::Refused(Fault::SharedWrite)),
+        4,
+        0,
+    ),
+    Line(0, Call::Ask(Ask::Rel(FIRST_TOKEN)), DONE, 0, 0),
+    Line(0, Call::Ask(Ask::Get(SECOND_TOKEN)), DONE, 0, 1),
+    Line(
+        0,
+        Call::Ask(Ask::Write(SECOND_TOKEN, 0, 5)),
+        Told::Answered(Answer::Refused(Fault::TallyOnly)),
+        0,
+        1,
+    ),
+    Line(
+        0,
+        Call::Ask(Ask::Add(SECOND_TOKEN, 1)),
+        Told::Answered(Answer::Refused(Fault::Overflow)),
+        0,
+        1,
+    ),
+    Line(0, Call::Ask(Ask::Rel(SECOND_TOKEN)), DONE, 0, 0),
+    Line(
+        0,
+        Call::Ask(Ask::Rel(SECOND_TOKEN)),
+        Told::Answered(Answer::Refused(Fault::NotHeld)),
+        0,
+        0,
+    ),
+];
 
 #[test]
 fn refusals_of_holds(rt: HostRuntime) {
-    expect(&rt, rt.alloc(), &REFUSALS);
+    let row = Played {
+        tokens: &[
+            Opened(Law::Any, 0, 0, &[1]),
+            Opened(Law::Tally, MOST, 0, &[MOST]),
+        ],
+        records: &[],
+        cpus: 2,
+        lines: &REFUSALS,
+        refs: &[],
+        events: Some(&[
+            Happening::Share {
+                cpu: CpuId(0),
+                tok: FIRST_TOKEN,
+            },
+            Happening::GiveOne {
+                cpu: CpuId(0),
+                tok: FIRST_TOKEN,
+            },
+            Happening::Take {
+                cpu: CpuId(0),
+                tok: SECOND_TOKEN,
+            },
+            Happening::GiveClean {
+                cpu: CpuId(0),
+                tok: SECOND_TOKEN,
+            },
+        ]),
+    };
+    expect(&rt, rt.alloc(), &row);
 }
 
 const TAKEN: Line = Line(0, Call::Ask(Ask::Get(FIRST_TOKEN)), DONE, 1, 0);
@@ -314,44 +196,46 @@ const SECOND_CELL: Line = Line(
 const RELEASED: Line = Line(0, Call::Ask(Ask::Rel(FIRST_TOKEN)), DONE, 0, 0);
 
 // A section that broke its law: its cells are as at its beginning, whichever way it ends.
-const BROKEN_LAW: Played = Played {
-    tokens: &[Opened(Law::Sum, 10, 0, &[5, 5])],
-    cpus: 2,
-    lines: &[
-        TAKEN,
-        BROKEN,
-        Line(
-            0,
-            Call::Ask(Ask::Rel(FIRST_TOKEN)),
-            Told::Answered(Answer::Refused(Fault::Broken)),
-            0,
-            0,
-        ),
-        TAKEN,
-        FIRST_CELL,
-        SECOND_CELL,
-        RELEASED,
-        TAKEN,
-        BROKEN,
-        Line(
-            0,
-            Call::Block,
-            Told::Blocked(Blocked::Restored(FIRST_TOKEN)),
-            0,
-            0,
-        ),
-        TAKEN,
-        FIRST_CELL,
-        SECOND_CELL,
-        RELEASED,
-    ],
-    refs: &[],
-    events: None,
-};
+const BROKEN_LAW: [Line; 14] = [
+    TAKEN,
+    BROKEN,
+    Line(
+        0,
+        Call::Ask(Ask::Rel(FIRST_TOKEN)),
+        Told::Answered(Answer::Refused(Fault::Broken)),
+        0,
+        0,
+    ),
+    TAKEN,
+    FIRST_CELL,
+    SECOND_CELL,
+    RELEASED,
+    TAKEN,
+    BROKEN,
+    Line(
+        0,
+        Call::Block,
+        Told::Blocked(Blocked::Restored(FIRST_TOKEN)),
+        0,
+        0,
+    ),
+    TAKEN,
+    FIRST_CELL,
+    SECOND_CELL,
+    RELEASED,
+];
 
 #[test]
 fn a_broken_law_is_undone(rt: HostRuntime) {
-    expect(&rt, rt.alloc(), &BROKEN_LAW);
+    let row = Played {
+        tokens: &[Opened(Law::Sum, 10, 0, &[5, 5])],
+        records: &[],
+        cpus: 2,
+        lines: &BROKEN_LAW,
+        refs: &[],
+        events: None,
+    };
+    expect(&rt, rt.alloc(), &row);
 }
 
 const BOTH: [Ref; 2] = [FIRST_EXCLUSIVE, SECOND_EXCLUSIVE];
@@ -360,200 +244,218 @@ const STILL: Told = Told::Still(true);
 
 const MOVED: Told = Told::Still(false);
 
-const MISSED_LIST: Played = Played {
-    tokens: &[PLAIN, PLAIN],
-    cpus: 3,
-    lines: &[
-        Line(1, Call::Get(SECOND_EXCLUSIVE), GOT, 0, 1),
-        Line(
-            0,
-            Call::Resume(&BOTH),
-            Told::Resumed(Resumed::Passed {
-                at: 1,
-                why: Missed::Busy { word: 1 },
-            }),
-            0,
-            1,
-        ),
-        // The word that refused the list is the token's still; it isn't another one, nor that of another reference.
-        Line(0, Call::Still(&BOTH, 1, 1), STILL, 0, 1),
-        Line(0, Call::Still(&BOTH, 1, 3), MOVED, 0, 1),
-        Line(0, Call::Still(&BOTH, 0, 1), MOVED, 0, 1),
-        // A list of no references is held at once.
-        Line(0, Call::Resume(&[]), ALL, 0, 1),
-        // Trying for a token that is held changes nothing.
-        Line(
-            0,
-            Call::Ask(Ask::TryGet(SECOND_TOKEN)),
-            Told::Answered(Answer::Refused(Fault::Busy)),
-            0,
-            1,
-        ),
-    ],
-    refs: &[],
-    events: Some(&[
-        Happening::Take {
-            cpu: CpuId(0),
-            tok: FIRST_TOKEN,
-        },
-        Happening::GiveClean {
-            cpu: CpuId(0),
-            tok: FIRST_TOKEN,
-        },
-    ]),
-};
+const MISSED_LIST: [Line; 7] = [
+    Line(1, Call::Get(SECOND_EXCLUSIVE), GOT, 0, 1),
+    Line(
+        0,
+        Call::Resume(&BOTH),
+        Told::Resumed(Resumed::Passed {
+            at: 1,
+            why: Missed::Busy { word: 1 },
+        }),
+        0,
+        1,
+    ),
+    // The word that refused the list is the token's still; it isn't another one, nor that of another reference.
+    Line(0, Call::Still(&BOTH, 1, 1), STILL, 0, 1),
+    Line(0, Call::Still(&BOTH, 1, 3), MOVED, 0, 1),
+    Line(0, Call::Still(&BOTH, 0, 1), MOVED, 0, 1),
+    // A list of no references is held at once.
+    Line(0, Call::Resume(&[]), ALL, 0, 1),
+    // Trying for a token that is held changes nothing.
+    Line(
+        0,
+        Call::Ask(Ask::TryGet(SECOND_TOKEN)),
+        Told::Answered(Answer::Refused(Fault::Busy)),
+        0,
+        1,
+    ),
+];
 
 #[test]
 fn a_missed_list_is_given_back(rt: HostRuntime) {
-    expect(&rt, rt.alloc(), &MISSED_LIST);
+    let row = Played {
+        tokens: &[PLAIN, PLAIN],
+        records: &[],
+        cpus: 3,
+        lines: &MISSED_LIST,
+        refs: &[],
+        events: Some(&[
+            Happening::Take {
+                cpu: CpuId(0),
+                tok: FIRST_TOKEN,
+            },
+            Happening::GiveClean {
+                cpu: CpuId(0),
+                tok: FIRST_TOKEN,
+            },
+        ]),
+    };
+    expect(&rt, rt.alloc(), &row);
 }
 
-const LONE_SHARERS: Played = Played {
-    tokens: &[PLAIN, PLAIN],
-    cpus: 5,
-    lines: &[
-        Line(0, Call::Get(FIRST_SHARED), GOT, 4, 0),
-        Line(1, Call::Get(FIRST_SHARED), GOT, 8, 0),
-        Line(
-            2,
-            Call::Get(FIRST_EXCLUSIVE),
-            Told::Got(Acquired::MustSwitch {
-                why: Missed::Busy { word: 8 },
-            }),
-            10,
-            0,
-        ),
-        Line(
-            3,
-            Call::Get(FIRST_SHARED),
-            Told::Got(Acquired::MustSwitch {
-                why: Missed::Busy { word: 10 },
-            }),
-            10,
-            0,
-        ),
-        Line(3, Call::Resume(&[SECOND_EXCLUSIVE]), ALL, 10, 1),
-        Line(3, Call::Get(FIRST_SHARED), GOT, 14, 1),
-        Line(3, Call::Ask(Ask::Rel(FIRST_TOKEN)), DONE, 10, 1),
-        Line(0, Call::Ask(Ask::Rel(FIRST_TOKEN)), DONE, 6, 1),
-        Line(1, Call::Ask(Ask::Rel(FIRST_TOKEN)), DONE, 2, 1),
-        Line(2, Call::Resume(&[FIRST_EXCLUSIVE]), ALL, 1, 1),
-    ],
-    refs: &[],
-    events: None,
-};
+const LONE_SHARERS: [Line; 10] = [
+    Line(0, Call::Get(FIRST_SHARED), GOT, 4, 0),
+    Line(1, Call::Get(FIRST_SHARED), GOT, 8, 0),
+    Line(
+        2,
+        Call::Get(FIRST_EXCLUSIVE),
+        Told::Got(Acquired::MustSwitch {
+            why: Missed::Busy { word: 8 },
+        }),
+        10,
+        0,
+    ),
+    Line(
+        3,
+        Call::Get(FIRST_SHARED),
+        Told::Got(Acquired::MustSwitch {
+            why: Missed::Busy { word: 10 },
+        }),
+        10,
+        0,
+    ),
+    Line(3, Call::Resume(&[SECOND_EXCLUSIVE]), ALL, 10, 1),
+    Line(3, Call::Get(FIRST_SHARED), GOT, 14, 1),
+    Line(3, Call::Ask(Ask::Rel(FIRST_TOKEN)), DONE, 10, 1),
+    Line(0, Call::Ask(Ask::Rel(FIRST_TOKEN)), DONE, 6, 1),
+    Line(1, Call::Ask(Ask::Rel(FIRST_TOKEN)), DONE, 2, 1),
+    Line(2, Call::Resume(&[FIRST_EXCLUSIVE]), ALL, 1, 1),
+];
 
 #[test]
 fn mark_stops_lone_sharers(rt: HostRuntime) {
-    expect(&rt, rt.alloc(), &LONE_SHARERS);
+    let row = Played {
+        tokens: &[PLAIN, PLAIN],
+        records: &[],
+        cpus: 5,
+        lines: &LONE_SHARERS,
+        refs: &[],
+        events: None,
+    };
+    expect(&rt, rt.alloc(), &row);
 }
 
-const REFUSED_MODES: Played = Played {
-    tokens: &[
-        Opened(Law::Any, 0, 0, &[]),
-        Opened(Law::Any, 0, LAST_GENERATION, &[]),
-    ],
-    cpus: 2,
-    lines: &[
-        Line(
-            0,
-            Call::Ask(Ask::Get(SECOND_TOKEN)),
-            Told::Answered(Answer::Refused(Fault::Worn)),
-            0,
-            LAST_WORD,
-        ),
-        Line(
-            0,
-            Call::Ask(Ask::TryGet(SECOND_TOKEN)),
-            Told::Answered(Answer::Refused(Fault::Worn)),
-            0,
-            LAST_WORD,
-        ),
-        Line(
-            0,
-            Call::Ask(Ask::GetShared(FIRST_TOKEN)),
-            DONE,
-            4,
-            LAST_WORD,
-        ),
-        Line(
-            0,
-            Call::Ask(Ask::Get(FIRST_TOKEN)),
-            Told::Answered(Answer::Refused(Fault::Upgrade)),
-            4,
-            LAST_WORD,
-        ),
-        Line(
-            0,
-            Call::Ask(Ask::TryGet(FIRST_TOKEN)),
-            Told::Answered(Answer::Refused(Fault::Upgrade)),
-            4,
-            LAST_WORD,
-        ),
-    ],
-    refs: &[FIRST_SHARED],
-    events: None,
-};
+// The second token is at its last generation.
+const WITH_LAST: [Opened; 2] = [
+    Opened(Law::Any, 0, 0, &[]),
+    Opened(Law::Any, 0, LAST_GENERATION, &[]),
+];
 
-const LIMITS: Played = Played {
-    tokens: &[
-        Opened(Law::Any, 0, 0, &[]),
-        Opened(Law::Any, 0, LAST_GENERATION, &[]),
-    ],
-    cpus: 2,
-    lines: &[
-        Line(
-            0,
-            Call::Ask(Ask::GetShared(FIRST_TOKEN)),
-            DONE,
-            4,
-            LAST_WORD,
-        ),
-        Line(0, Call::Block, Told::Blocked(Blocked::Clean), 0, LAST_WORD),
-        Line(0, Call::Fill(FIRST_EXCLUSIVE), GOT, 125, LAST_WORD),
-        Line(
-            0,
-            Call::Ask(Ask::Get(FIRST_TOKEN)),
-            Told::Answered(Answer::Refused(Fault::ListFull)),
-            125,
-            LAST_WORD,
-        ),
-        Line(
-            0,
-            Call::Ask(Ask::TryGet(SECOND_TOKEN)),
-            Told::Answered(Answer::Refused(Fault::ListFull)),
-            125,
-            LAST_WORD,
-        ),
-        Line(
-            0,
-            Call::Ask(Ask::Get(TokId(2))),
-            Told::Answered(Answer::Refused(Fault::NoToken)),
-            125,
-            LAST_WORD,
-        ),
-    ],
-    refs: &[FIRST_EXCLUSIVE; 32],
-    events: None,
-};
+const REFUSED_MODES: [Line; 5] = [
+    Line(
+        0,
+        Call::Ask(Ask::Get(SECOND_TOKEN)),
+        Told::Answered(Answer::Refused(Fault::Worn)),
+        0,
+        LAST_WORD,
+    ),
+    Line(
+        0,
+        Call::Ask(Ask::TryGet(SECOND_TOKEN)),
+        Told::Answered(Answer::Refused(Fault::Worn)),
+        0,
+        LAST_WORD,
+    ),
+    Line(
+        0,
+        Call::Ask(Ask::GetShared(FIRST_TOKEN)),
+        DONE,
+        4,
+        LAST_WORD,
+    ),
+    Line(
+        0,
+        Call::Ask(Ask::Get(FIRST_TOKEN)),
+        Told::Answered(Answer::Refused(Fault::Upgrade)),
+        4,
+        LAST_WORD,
+    ),
+    Line(
+        0,
+        Call::Ask(Ask::TryGet(FIRST_TOKEN)),
+        Told::Answered(Answer::Refused(Fault::Upgrade)),
+        4,
+        LAST_WORD,
+    ),
+];
 
-// A full list is given up as a whole.
-const LIMITS_UNDONE: Played = Played {
-    tokens: &[Opened(Law::Any, 0, 0, &[])],
-    cpus: 2,
-    lines: &[
-        Line(0, Call::Fill(FIRST_EXCLUSIVE), GOT, 125, 0),
-        Line(0, Call::Block, Told::Blocked(Blocked::Clean), 0, 0),
-    ],
-    refs: &[],
-    events: None,
-};
+#[test]
+fn refused_modes(rt: HostRuntime) {
+    let row = Played {
+        tokens: &WITH_LAST,
+        records: &[],
+        cpus: 2,
+        lines: &REFUSED_MODES,
+        refs: &[FIRST_SHARED],
+        events: None,
+    };
+    expect(&rt, rt.alloc(), &row);
+}
+
+const LIMITS: [Line; 6] = [
+    Line(
+        0,
+        Call::Ask(Ask::GetShared(FIRST_TOKEN)),
+        DONE,
+        4,
+        LAST_WORD,
+    ),
+    Line(0, Call::Block, Told::Blocked(Blocked::Clean), 0, LAST_WORD),
+    Line(0, Call::Fill(FIRST_EXCLUSIVE), GOT, 125, LAST_WORD),
+    Line(
+        0,
+        Call::Ask(Ask::Get(FIRST_TOKEN)),
+        Told::Answered(Answer::Refused(Fault::ListFull)),
+        125,
+        LAST_WORD,
+    ),
+    Line(
+        0,
+        Call::Ask(Ask::TryGet(SECOND_TOKEN)),
+        Told::Answered(Answer::Refused(Fault::ListFull)),
+        125,
+        LAST_WORD,
+    ),
+    Line(
+        0,
+        Call::Ask(Ask::Get(TokId(2))),
+        Told::Answered(Answer::Refused(Fault::NoToken)),
+        125,
+        LAST_WORD,
+    ),
+];
 
 #[test]
 fn limits_of_holds(rt: HostRuntime) {
-    expect(&rt, rt.alloc(), &REFUSED_MODES);
-    expect(&rt, rt.alloc(), &LIMITS);
-    expect(&rt, rt.alloc(), &LIMITS_UNDONE);
+    let row = Played {
+        tokens: &WITH_LAST,
+        records: &[],
+        cpus: 2,
+        lines: &LIMITS,
+        refs: &[FIRST_EXCLUSIVE; 32],
+        events: None,
+    };
+    expect(&rt, rt.alloc(), &row);
+}
+
+// A full list is given up as a whole.
+const LIMITS_UNDONE: [Line; 2] = [
+    Line(0, Call::Fill(FIRST_EXCLUSIVE), GOT, 125, 0),
+    Line(0, Call::Block, Told::Blocked(Blocked::Clean), 0, 0),
+];
+
+#[test]
+fn a_full_list_is_given_up(rt: HostRuntime) {
+    let row = Played {
+        tokens: &[Opened(Law::Any, 0, 0, &[])],
+        records: &[],
+        cpus: 2,
+        lines: &LIMITS_UNDONE,
+        refs: &[],
+        events: None,
+    };
+    expect(&rt, rt.alloc(), &row);
 }
 
 // Adds 1 to both tokens of the list that is held, and gives up the list. Says whether both were added to.

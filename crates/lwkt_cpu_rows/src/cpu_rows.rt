@@ -57,35 +57,34 @@ const FIRST_DROVE: Drove = Drove {
     all_exited: true,
 };
 
-const CROSSED: Scene = Scene {
-    tokens: &[PLAIN, PLAIN],
-    messages: &[],
-    asks: &[&FIRST_ASKS, &SECOND_ASKS],
-    watched: true,
-    steps: &[
-        Step::Turns(RAN, RAN),
-        Step::Words(1, 1),
-        Step::Turns(RAN, RAN),
-        Step::Words(1, 3),
-        Step::Turns(Turned::Idle, RAN),
-        Step::Words(1, 3),
-        Step::Turns(Turned::Idle, RAN),
-        Step::Words(262144, 3),
-        Step::Turns(Turned::Idle, RAN),
-        Step::Words(262144, 2),
-        Step::Turns(RAN, RAN),
-        Step::Words(262145, 1),
-        Step::At(0, Deed::Drove(50, FIRST_DROVE)),
-        Step::At(1, Deed::Turned(Turned::AllExited)),
-        Step::Heard(0, &FIRST_ANSWERS),
-        Step::At(0, Deed::State(ThreadState::Exited)),
-        Step::At(0, Deed::References(0)),
-    ],
-};
-
 #[test]
 fn crossed_lists(rt: HostRuntime) {
-    expect(&rt, rt.alloc(), &CROSSED);
+    let scene = Scene {
+        tokens: &[PLAIN, PLAIN],
+        messages: &[],
+        asks: &[&FIRST_ASKS, &SECOND_ASKS],
+        watched: true,
+        steps: &[
+            Step::Turns(RAN, RAN),
+            Step::Words(1, 1),
+            Step::Turns(RAN, RAN),
+            Step::Words(1, 3),
+            Step::Turns(Turned::Idle, RAN),
+            Step::Words(1, 3),
+            Step::Turns(Turned::Idle, RAN),
+            Step::Words(262144, 3),
+            Step::Turns(Turned::Idle, RAN),
+            Step::Words(262144, 2),
+            Step::Turns(RAN, RAN),
+            Step::Words(262145, 1),
+            Step::At(0, Deed::Drove(50, FIRST_DROVE)),
+            Step::At(1, Deed::Turned(Turned::AllExited)),
+            Step::Heard(0, &FIRST_ANSWERS),
+            Step::At(0, Deed::State(ThreadState::Exited)),
+            Step::At(0, Deed::References(0)),
+        ],
+    };
+    expect(&rt, rt.alloc(), &scene);
 }
 
 const CPU: CpuId = CpuId(0);
@@ -234,20 +233,19 @@ const NOTHING_DROVE: Drove = Drove {
     all_exited: false,
 };
 
-const OF_NOTHING: Scene = Scene {
-    tokens: &[PLAIN, PLAIN],
-    messages: &[],
-    asks: &[&ASKS_OF_NOTHING],
-    watched: false,
-    steps: &[
-        Step::At(0, Deed::Drove(50, NOTHING_DROVE)),
-        Step::Heard(0, &REFUSALS),
-        Step::At(0, Deed::State(ThreadState::Waiting)),
-        Step::At(0, Deed::Trace(&[])),
-    ],
-};
-
 #[test]
 fn asks_of_nothing(rt: HostRuntime) {
-    expect(&rt, rt.alloc(), &OF_NOTHING);
+    let scene = Scene {
+        tokens: &[PLAIN, PLAIN],
+        messages: &[],
+        asks: &[&ASKS_OF_NOTHING],
+        watched: false,
+        steps: &[
+            Step::At(0, Deed::Drove(50, NOTHING_DROVE)),
+            Step::Heard(0, &REFUSALS),
+            Step::At(0, Deed::State(ThreadState::Waiting)),
+            Step::At(0, Deed::Trace(&[])),
+        ],
+    };
+    expect(&rt, rt.alloc(), &scene);
 }

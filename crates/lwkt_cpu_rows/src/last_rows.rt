@@ -26,32 +26,31 @@ const BARE: Token = Token {
 };
 
 // A thread ends with a request unanswered: it is answered with 41, and the next one, which comes to its closed port, with 30.
-const ENDED: Scene = Scene {
-    tokens: &[BARE, BARE],
-    messages: &[OWN],
-    asks: &[
-        &[Ask::Do(MSG, THERE, FIRST), Ask::Do(MSG, THERE, SECOND)],
-        &[
-            Ask::Get(TokId(0)),
-            Ask::Get(TokId(1)),
-            Ask::WaitPort,
-            Ask::Exit,
-        ],
-    ],
-    watched: false,
-    steps: &[
-        Step::TakeTurns,
-        Step::At(0, Deed::State(ThreadState::Exited)),
-        Step::Heard(0, &[Answer::Begin, OWED, CLOSED]),
-        Step::At(1, Deed::State(ThreadState::Exited)),
-        Step::Heard(1, &[Answer::Begin, Answer::Done, Answer::Done, SHOWN]),
-        Step::At(1, Deed::References(0)),
-    ],
-};
-
 #[test]
 fn ended_port(rt: HostRuntime) {
-    expect(&rt, rt.alloc(), &ENDED);
+    let scene = Scene {
+        tokens: &[BARE, BARE],
+        messages: &[OWN],
+        asks: &[
+            &[Ask::Do(MSG, THERE, FIRST), Ask::Do(MSG, THERE, SECOND)],
+            &[
+                Ask::Get(TokId(0)),
+                Ask::Get(TokId(1)),
+                Ask::WaitPort,
+                Ask::Exit,
+            ],
+        ],
+        watched: false,
+        steps: &[
+            Step::TakeTurns,
+            Step::At(0, Deed::State(ThreadState::Exited)),
+            Step::Heard(0, &[Answer::Begin, OWED, CLOSED]),
+            Step::At(1, Deed::State(ThreadState::Exited)),
+            Step::Heard(1, &[Answer::Begin, Answer::Done, Answer::Done, SHOWN]),
+            Step::At(1, Deed::References(0)),
+        ],
+    };
+    expect(&rt, rt.alloc(), &scene);
 }
 
 const REPLY: Happening = Happening::Reply {
@@ -60,32 +59,31 @@ const REPLY: Happening = Happening::Reply {
 };
 
 // A processor that stops replies to what its thread was shown; the reply finds who waits for it.
-const STOPPED: Scene = Scene {
-    tokens: &[],
-    messages: &[OWN],
-    asks: &[
-        &[Ask::Do(MSG, THERE, FIRST)],
-        &[Ask::WaitPort, Ask::GetPort, Ask::GetPort],
-    ],
-    watched: false,
-    steps: &[
-        Step::At(0, Deed::Turn),
-        Step::At(1, Deed::Turn),
-        Step::At(1, Deed::Turn),
-        Step::At(1, Deed::State(ThreadState::Running)),
-        Step::At(1, Deed::Forget),
-        Step::At(1, Deed::Stop),
-        Step::At(1, Deed::State(ThreadState::Exited)),
-        Step::At(1, Deed::Trace(&[REPLY])),
-        Step::At(0, Deed::Turn),
-        Step::At(0, Deed::State(ThreadState::Exited)),
-        Step::Heard(0, &[Answer::Begin, OWED]),
-    ],
-};
-
 #[test]
 fn stop_replies(rt: HostRuntime) {
-    expect(&rt, rt.alloc(), &STOPPED);
+    let scene = Scene {
+        tokens: &[],
+        messages: &[OWN],
+        asks: &[
+            &[Ask::Do(MSG, THERE, FIRST)],
+            &[Ask::WaitPort, Ask::GetPort, Ask::GetPort],
+        ],
+        watched: false,
+        steps: &[
+            Step::At(0, Deed::Turn),
+            Step::At(1, Deed::Turn),
+            Step::At(1, Deed::Turn),
+            Step::At(1, Deed::State(ThreadState::Running)),
+            Step::At(1, Deed::Forget),
+            Step::At(1, Deed::Stop),
+            Step::At(1, Deed::State(ThreadState::Exited)),
+            Step::At(1, Deed::Trace(&[REPLY])),
+            Step::At(0, Deed::Turn),
+            Step::At(0, Deed::State(ThreadState::Exited)),
+            Step::Heard(0, &[Answer::Begin, OWED]),
+        ],
+    };
+    expect(&rt, rt.alloc(), &scene);
 }
 
 // A token at its last generation but one.
@@ -99,28 +97,27 @@ const WORN: Token = Token {
 const DONE: Answer = Answer::Done;
 
 // A thread that would go on at a last generation has ended: its port is closed.
-const WORN_OUT: Scene = Scene {
-    tokens: &[WORN],
-    messages: &[OWN],
-    asks: &[
-        &[
-            Ask::Get(TokId(0)),
-            Ask::Write(TokId(0), 0, 1),
-            Ask::Rel(TokId(0)),
-            Ask::Do(MSG, THERE, FIRST),
-        ],
-        &[Ask::Get(TokId(0)), Ask::Rel(TokId(0))],
-    ],
-    watched: false,
-    steps: &[
-        Step::TakeTurns,
-        Step::At(0, Deed::State(ThreadState::Exited)),
-        Step::Heard(0, &[Answer::Begin, DONE, DONE, DONE, CLOSED]),
-        Step::At(1, Deed::State(ThreadState::Faulted(Fault::Worn))),
-    ],
-};
-
 #[test]
 fn last_generation_closes_the_port(rt: HostRuntime) {
-    expect(&rt, rt.alloc(), &WORN_OUT);
+    let scene = Scene {
+        tokens: &[WORN],
+        messages: &[OWN],
+        asks: &[
+            &[
+                Ask::Get(TokId(0)),
+                Ask::Write(TokId(0), 0, 1),
+                Ask::Rel(TokId(0)),
+                Ask::Do(MSG, THERE, FIRST),
+            ],
+            &[Ask::Get(TokId(0)), Ask::Rel(TokId(0))],
+        ],
+        watched: false,
+        steps: &[
+            Step::TakeTurns,
+            Step::At(0, Deed::State(ThreadState::Exited)),
+            Step::Heard(0, &[Answer::Begin, DONE, DONE, DONE, CLOSED]),
+            Step::At(1, Deed::State(ThreadState::Faulted(Fault::Worn))),
+        ],
+    };
+    expect(&rt, rt.alloc(), &scene);
 }

@@ -52,26 +52,25 @@ const SERVED: [Answer; 3] = [
     Answer::Done,
 ];
 
-const CALL_AND_REPLY: Scene = Scene {
-    tokens: &[],
-    messages: &[OWN],
-    asks: &[
-        &[Ask::Do(MsgId(0), THERE, CALL), Ask::GetPort],
-        &[Ask::WaitPort, Ask::Reply(MsgId(0), 7, 42)],
-    ],
-    watched: false,
-    steps: &[
-        Step::TakeTurns,
-        Step::At(0, Deed::State(ThreadState::Exited)),
-        Step::Heard(0, &CALLED),
-        Step::At(1, Deed::State(ThreadState::Exited)),
-        Step::Heard(1, &SERVED),
-    ],
-};
-
 #[test]
 fn call_and_reply(rt: HostRuntime) {
-    expect(&rt, rt.alloc(), &CALL_AND_REPLY);
+    let scene = Scene {
+        tokens: &[],
+        messages: &[OWN],
+        asks: &[
+            &[Ask::Do(MsgId(0), THERE, CALL), Ask::GetPort],
+            &[Ask::WaitPort, Ask::Reply(MsgId(0), 7, 42)],
+        ],
+        watched: false,
+        steps: &[
+            Step::TakeTurns,
+            Step::At(0, Deed::State(ThreadState::Exited)),
+            Step::Heard(0, &CALLED),
+            Step::At(1, Deed::State(ThreadState::Exited)),
+            Step::Heard(1, &SERVED),
+        ],
+    };
+    expect(&rt, rt.alloc(), &scene);
 }
 
 macro_rules! sends {
@@ -97,22 +96,21 @@ const SENT: [Happening; 32] = sent!(
 
 const FULL: Answer = Answer::Refused(Fault::LaneFull);
 
-const FULL_LANE: Scene = Scene {
-    tokens: &[],
-    messages: &[OWN; 33],
-    asks: &[&SENDS, &[]],
-    watched: false,
-    steps: &[
-        Step::At(0, Deed::Ran(34)),
-        Step::At(0, Deed::State(ThreadState::Exited)),
-        Step::HeardLast(0, 34, &[Answer::Done, FULL]),
-        Step::At(0, Deed::Trace(&SENT)),
-    ],
-};
-
 #[test]
 fn full_lane(rt: HostRuntime) {
-    expect(&rt, rt.alloc(), &FULL_LANE);
+    let scene = Scene {
+        tokens: &[],
+        messages: &[OWN; 33],
+        asks: &[&SENDS, &[]],
+        watched: false,
+        steps: &[
+            Step::At(0, Deed::Ran(34)),
+            Step::At(0, Deed::State(ThreadState::Exited)),
+            Step::HeardLast(0, 34, &[Answer::Done, FULL]),
+            Step::At(0, Deed::Trace(&SENT)),
+        ],
+    };
+    expect(&rt, rt.alloc(), &scene);
 }
 
 // Stops two processors and closes bank and book: what the messages are then.

@@ -36,14 +36,15 @@ pub const TALLY: Token = Token {
 };
 
 /// Some processors with a thread each, and what happens to them.
-pub struct Scene {
-    pub tokens: &'static [Token],
-    pub messages: &'static [MsgSpec],
+#[derive(Drop)]
+pub struct Scene<'a> {
+    pub tokens: &'a [Token],
+    pub messages: &'a [MsgSpec],
     /// What the thread of each processor asks for.
-    pub asks: &'static [&'static [Ask]],
+    pub asks: &'a [&'a [Ask]],
     /// Whether there is one processor more, whose seat looks at words.
     pub watched: bool,
-    pub steps: &'static [Step],
+    pub steps: &'a [Step<'a>],
 }
 
 /// What happens to a processor, or is seen of it.
@@ -74,16 +75,17 @@ pub enum Deed {
 }
 
 /// A step of a scene.
-pub enum Step {
+#[derive(Drop)]
+pub enum Step<'a> {
     At(usize, Deed),
     /// Turns of processors 0 and 1, which answer so.
     Turns(Turned, Turned),
     /// Eight turns of each of processors 0 and 1, one after another.
     TakeTurns,
     /// The thread of a processor has had these answers.
-    Heard(usize, &'static [Answer]),
+    Heard(usize, &'a [Answer]),
     /// The thread of a processor has had so many answers, of which these are the last.
-    HeardLast(usize, usize, &'static [Answer]),
+    HeardLast(usize, usize, &'a [Answer]),
     /// Tokens 0 and 1 have these words.
     Words(u64, u64),
 }

@@ -45,30 +45,29 @@ const TOOK_ALL: [Happening; 4] = [TAKE_FIRST, TAKE_SECOND, GIVE_SECOND, GIVE_FIR
 
 // After a Get that has to switch nothing is kept, so the list is tried once; then it is passed over, and nothing is taken.
 // Once the other processor has released its token another word stands there, which is no refusal: the list is tried, and had.
-const SKIPPED: Scene = Scene {
-    tokens: &[PLAIN, PLAIN],
-    messages: &[],
-    asks: &[&WANTS, &HOLDS],
-    watched: true,
-    steps: &[
-        Step::At(1, Deed::Turned(RAN)),
-        Step::At(0, Deed::Made(RAN, &[TAKE_FIRST])),
-        Step::Words(1, 1),
-        Step::At(0, Deed::Made(RAN, &[MARK_SECOND, GIVE_FIRST])),
-        Step::Words(0, 3),
-        Step::At(0, Deed::Made(Turned::Idle, &[TAKE_FIRST, GIVE_FIRST])),
-        Step::Words(0, 3),
-        Step::At(0, Deed::Made(Turned::Idle, &[])),
-        Step::Words(0, 3),
-        Step::At(0, Deed::Made(Turned::Idle, &[])),
-        Step::Words(0, 3),
-        Step::At(1, Deed::Turned(RAN)),
-        Step::At(0, Deed::Made(RAN, &TOOK_ALL)),
-        Step::Words(0, 0),
-    ],
-};
-
 #[test]
 fn skipped_tries(rt: HostRuntime) {
-    expect(&rt, rt.alloc(), &SKIPPED);
+    let scene = Scene {
+        tokens: &[PLAIN, PLAIN],
+        messages: &[],
+        asks: &[&WANTS, &HOLDS],
+        watched: true,
+        steps: &[
+            Step::At(1, Deed::Turned(RAN)),
+            Step::At(0, Deed::Made(RAN, &[TAKE_FIRST])),
+            Step::Words(1, 1),
+            Step::At(0, Deed::Made(RAN, &[MARK_SECOND, GIVE_FIRST])),
+            Step::Words(0, 3),
+            Step::At(0, Deed::Made(Turned::Idle, &[TAKE_FIRST, GIVE_FIRST])),
+            Step::Words(0, 3),
+            Step::At(0, Deed::Made(Turned::Idle, &[])),
+            Step::Words(0, 3),
+            Step::At(0, Deed::Made(Turned::Idle, &[])),
+            Step::Words(0, 3),
+            Step::At(1, Deed::Turned(RAN)),
+            Step::At(0, Deed::Made(RAN, &TOOK_ALL)),
+            Step::Words(0, 0),
+        ],
+    };
+    expect(&rt, rt.alloc(), &scene);
 }

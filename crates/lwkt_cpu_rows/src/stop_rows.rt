@@ -40,38 +40,37 @@ const GIVE: Happening = Happening::GiveClean {
 
 // A processor stands still in a section that has broken its law: the other one waits, and goes on once the first is stopped,
 // which restores the cells.
-const STANDS_STILL: Scene = Scene {
-    tokens: &[SUM, PLAIN],
-    messages: &[],
-    asks: &[
-        &[Ask::Get(TOKEN), Ask::Write(TOKEN, 0, 9)],
-        &[Ask::Get(TOKEN), Ask::Read(TOKEN, 0)],
-    ],
-    watched: true,
-    steps: &[
-        Step::At(0, Deed::Turned(RAN)),
-        Step::At(0, Deed::Turned(RAN)),
-        Step::At(0, Deed::Trace(&[TAKE, BREAK])),
-        Step::At(1, Deed::Turned(RAN)),
-        Step::At(1, Deed::Turned(Turned::Idle)),
-        Step::At(1, Deed::Turned(Turned::Idle)),
-        Step::At(1, Deed::Turned(Turned::Idle)),
-        Step::At(1, Deed::Turned(Turned::Idle)),
-        Step::Words(3, 0),
-        Step::At(0, Deed::Stop),
-        Step::At(0, Deed::State(ThreadState::Faulted(Fault::Broken))),
-        Step::At(0, Deed::Trace(&[TAKE, BREAK, RESTORE, GIVE])),
-        Step::Words(2, 0),
-        Step::At(1, Deed::Turned(RAN)),
-        Step::Words(1, 0),
-        Step::At(1, Deed::Turned(RAN)),
-        Step::Heard(1, &[Answer::Begin, Answer::Done, Answer::Value(5)]),
-    ],
-};
-
 #[test]
 fn a_processor_stands_still_and_stops(rt: HostRuntime) {
-    expect(&rt, rt.alloc(), &STANDS_STILL);
+    let scene = Scene {
+        tokens: &[SUM, PLAIN],
+        messages: &[],
+        asks: &[
+            &[Ask::Get(TOKEN), Ask::Write(TOKEN, 0, 9)],
+            &[Ask::Get(TOKEN), Ask::Read(TOKEN, 0)],
+        ],
+        watched: true,
+        steps: &[
+            Step::At(0, Deed::Turned(RAN)),
+            Step::At(0, Deed::Turned(RAN)),
+            Step::At(0, Deed::Trace(&[TAKE, BREAK])),
+            Step::At(1, Deed::Turned(RAN)),
+            Step::At(1, Deed::Turned(Turned::Idle)),
+            Step::At(1, Deed::Turned(Turned::Idle)),
+            Step::At(1, Deed::Turned(Turned::Idle)),
+            Step::At(1, Deed::Turned(Turned::Idle)),
+            Step::Words(3, 0),
+            Step::At(0, Deed::Stop),
+            Step::At(0, Deed::State(ThreadState::Faulted(Fault::Broken))),
+            Step::At(0, Deed::Trace(&[TAKE, BREAK, RESTORE, GIVE])),
+            Step::Words(2, 0),
+            Step::At(1, Deed::Turned(RAN)),
+            Step::Words(1, 0),
+            Step::At(1, Deed::Turned(RAN)),
+            Step::Heard(1, &[Answer::Begin, Answer::Done, Answer::Value(5)]),
+        ],
+    };
+    expect(&rt, rt.alloc(), &scene);
 }
 
 const HERE: ThreadId = ThreadId {
@@ -90,27 +89,26 @@ const CALL: Call = Call { arg: 10, op: 1 };
 const MSG: MsgId = MsgId(0);
 
 // A thread took a request and its processor stops: who called is answered with 41.
-const STOPS_WITH_A_REQUEST: Scene = Scene {
-    tokens: &[],
-    messages: &[THEIRS],
-    asks: &[
-        &[Ask::WaitPort, Ask::GetPort, Ask::GetPort],
-        &[Ask::Do(MSG, HERE, CALL)],
-    ],
-    watched: false,
-    steps: &[
-        Step::At(0, Deed::Turned(RAN)),
-        Step::At(1, Deed::Turned(RAN)),
-        Step::At(0, Deed::Turned(RAN)),
-        Step::At(0, Deed::Stop),
-        Step::At(1, Deed::Turned(RAN)),
-        Step::Heard(1, &[Answer::Begin, Answer::Got(Item::Answered(MSG, 41, 0))]),
-    ],
-};
-
 #[test]
 fn a_request_of_a_stopped_processor_is_answered(rt: HostRuntime) {
-    expect(&rt, rt.alloc(), &STOPS_WITH_A_REQUEST);
+    let scene = Scene {
+        tokens: &[],
+        messages: &[THEIRS],
+        asks: &[
+            &[Ask::WaitPort, Ask::GetPort, Ask::GetPort],
+            &[Ask::Do(MSG, HERE, CALL)],
+        ],
+        watched: false,
+        steps: &[
+            Step::At(0, Deed::Turned(RAN)),
+            Step::At(1, Deed::Turned(RAN)),
+            Step::At(0, Deed::Turned(RAN)),
+            Step::At(0, Deed::Stop),
+            Step::At(1, Deed::Turned(RAN)),
+            Step::Heard(1, &[Answer::Begin, Answer::Got(Item::Answered(MSG, 41, 0))]),
+        ],
+    };
+    expect(&rt, rt.alloc(), &scene);
 }
 
 // Calls on so many messages, one after another.
@@ -138,26 +136,25 @@ const REPLY: Happening = Happening::Reply {
 };
 
 // A processor stops with a full lane: the reply that it owes goes out in a later turn, once there is room.
-const OWES: Scene = Scene {
-    tokens: &[],
-    messages: &BOTH_WAYS,
-    asks: &[&[Ask::Send(MSG, THERE, CALL, FLAGS)], &FILLS],
-    watched: false,
-    steps: &[
-        Step::At(0, Deed::Turned(RAN)),
-        Step::At(1, Deed::Ran(33)),
-        Step::HeardLast(1, 33, &[Answer::Done]),
-        Step::At(1, Deed::Stop),
-        Step::At(1, Deed::State(ThreadState::Exited)),
-        Step::At(1, Deed::Owed(1)),
-        Step::At(0, Deed::Turned(RAN)),
-        Step::At(1, Deed::Made(Turned::AllExited, &[REPLY])),
-        Step::At(1, Deed::Owed(0)),
-        Step::At(1, Deed::Made(Turned::AllExited, &[])),
-    ],
-};
-
 #[test]
 fn an_owed_reply_waits_for_room(rt: HostRuntime) {
-    expect(&rt, rt.alloc(), &OWES);
+    let scene = Scene {
+        tokens: &[],
+        messages: &BOTH_WAYS,
+        asks: &[&[Ask::Send(MSG, THERE, CALL, FLAGS)], &FILLS],
+        watched: false,
+        steps: &[
+            Step::At(0, Deed::Turned(RAN)),
+            Step::At(1, Deed::Ran(33)),
+            Step::HeardLast(1, 33, &[Answer::Done]),
+            Step::At(1, Deed::Stop),
+            Step::At(1, Deed::State(ThreadState::Exited)),
+            Step::At(1, Deed::Owed(1)),
+            Step::At(0, Deed::Turned(RAN)),
+            Step::At(1, Deed::Made(Turned::AllExited, &[REPLY])),
+            Step::At(1, Deed::Owed(0)),
+            Step::At(1, Deed::Made(Turned::AllExited, &[])),
+        ],
+    };
+    expect(&rt, rt.alloc(), &scene);
 }
