@@ -59,7 +59,7 @@ blob_read text bytes blob place count most short even all so_far is =
 
 -- what is kept of bytes is as long as they are
 kept_long : (xs : List ℕ) → length (kept_of xs) ≡ length xs
-kept_long xs = omega (arith, length-append (take 64 xs) (replicate (length xs - 64) 0), length-take 64 xs, length-replicate (length xs - 64) 0)
+kept_long xs = omega (arith, length-append (take 64 xs) (replicate (length xs - 64) 0), length-take 64 xs, length-replicate {A = ℕ} (length xs - 64) 0)
 
 -- as few bytes as the text has room for
 pub blob_short : (text bytes blob : List ℕ) (count most : ℕ) → length text ≤ 2 * most → length bytes ≡ 65 → most ≤ 65 → blob ≡ kept_of (take count bytes) → 2 * count ≤ length text → length blob ≤ most

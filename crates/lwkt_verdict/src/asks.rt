@@ -4,8 +4,8 @@ ghost use Rattle.lwkt_verdict.specs.Asks.{refusals, may_refuse, may_be_done, may
 use lwkt_base::{Answer, Ask, Call, Entry, Item};
 
 // The numbers of the faults with which an ask can be refused.
-fn refusals(ask: Ask) -> &'static [u8]
-    ensures { result.now ≡ refusals ask }
+fn refusals(ask: &Ask) -> &'static [u8]
+    ensures { result.now ≡ refusals ask.now }
 {
     match ask {
         Ask::Get(_) => &[16, 10, 11, 20],
@@ -30,15 +30,15 @@ fn refusals(ask: Ask) -> &'static [u8]
 }
 
 // Whether an ask can be refused with a fault of this number.
-fn may_refuse(ask: Ask, number: u8) -> bool
-    ensures { result ≡ may_refuse ask number }
+fn may_refuse(ask: &Ask, number: u8) -> bool
+    ensures { result ≡ may_refuse ask.now number }
 {
     refusals(ask).iter().any(|n| *n == number)
 }
 
 // Whether an ask can be answered that it is done.
-fn may_be_done(ask: Ask) -> bool
-    ensures { result ≡ may_be_done ask }
+fn may_be_done(ask: &Ask) -> bool
+    ensures { result ≡ may_be_done ask.now }
 {
     !matches!(
         ask,
@@ -54,8 +54,8 @@ fn may_be_done(ask: Ask) -> bool
 }
 
 // Whether an ask can be answered by this value.
-fn may_give_value(ask: Ask, value: u64) -> bool
-    ensures { result ≡ may_give_value ask value }
+fn may_give_value(ask: &Ask, value: u64) -> bool
+    ensures { result ≡ may_give_value ask.now value }
 {
     match ask {
         Ask::Read(..) => true,
@@ -65,15 +65,15 @@ fn may_give_value(ask: Ask, value: u64) -> bool
 }
 
 // Whether an ask can be answered by a record.
-fn may_give_bytes(ask: Ask) -> bool
-    ensures { result ≡ may_give_bytes ask }
+fn may_give_bytes(ask: &Ask) -> bool
+    ensures { result ≡ may_give_bytes ask.now }
 {
     matches!(ask, Ask::ReadBlob(_))
 }
 
 // Whether an ask can be answered by this message's record.
-fn may_drop(ask: Ask, msg: u8) -> bool
-    ensures { result ≡ may_drop ask msg }
+fn may_drop(ask: &Ask, msg: u8) -> bool
+    ensures { result ≡ may_drop ask.now msg }
 {
     match ask {
         Ask::DropMsg(mine) => mine.0 == msg,
@@ -92,8 +92,8 @@ fn is_reply_to(msg: u8, item: Item) -> bool
 }
 
 // Whether an ask can be answered by this item of the port.
-fn may_give_item(ask: Ask, item: Item) -> bool
-    ensures { result ≡ may_give_item ask item }
+fn may_give_item(ask: &Ask, item: Item) -> bool
+    ensures { result ≡ may_give_item ask.now item }
 {
     match ask {
         Ask::GetPort | Ask::WaitPort => true,
@@ -103,17 +103,17 @@ fn may_give_item(ask: Ask, item: Item) -> bool
 }
 
 // Whether an ask can be answered that the port has nothing.
-fn may_find_nothing(ask: Ask) -> bool
-    ensures { result ≡ may_find_nothing ask }
+fn may_find_nothing(ask: &Ask) -> bool
+    ensures { result ≡ may_find_nothing ask.now }
 {
     matches!(ask, Ask::GetPort)
 }
 
 /// Whether an ask can have an answer.
-pub fn may_answer(ask: Ask, answer: Answer) -> bool
-    ensures { result ≡ may_answer ask answer }
+pub fn may_answer(ask: &Ask, answer: &Answer) -> bool
+    ensures { result ≡ may_answer ask.now answer.now }
 {
-    match answer {
+    match *answer {
         Answer::Begin => false,
         Answer::Done => may_be_done(ask),
         Answer::Value(value) => may_give_value(ask, value),
@@ -126,8 +126,8 @@ pub fn may_answer(ask: Ask, answer: Answer) -> bool
 }
 
 /// Whether an ask has an answer, and it is a refusal.
-pub fn is_refused(answer: Option<Answer>) -> bool
-    ensures { result ≡ is_refused answer }
+pub fn is_refused(answer: &Option<Answer>) -> bool
+    ensures { result ≡ is_refused answer.now }
 {
     match answer {
         Some(Answer::Refused(_)) => true,
@@ -136,8 +136,8 @@ pub fn is_refused(answer: Option<Answer>) -> bool
 }
 
 /// Whether an ask that isn't refused makes an event of its own.
-pub fn makes_event(ask: Ask) -> bool
-    ensures { result ≡ makes_event ask }
+pub fn makes_event(ask: &Ask) -> bool
+    ensures { result ≡ makes_event ask.now }
 {
     matches!(
         ask,
@@ -155,29 +155,29 @@ pub fn makes_event(ask: Ask) -> bool
 }
 
 /// Whether an ask is a synchronous send, which goes on after its own event.
-pub fn is_do(ask: Ask) -> bool
-    ensures { result ≡ is_do ask }
+pub fn is_do(ask: &Ask) -> bool
+    ensures { result ≡ is_do ask.now }
 {
     matches!(ask, Ask::Do(..))
 }
 
 /// Whether an ask is the last one of a body.
-pub fn is_exit(ask: Ask) -> bool
-    ensures { result ≡ is_exit ask }
+pub fn is_exit(ask: &Ask) -> bool
+    ensures { result ≡ is_exit ask.now }
 {
     matches!(ask, Ask::Exit)
 }
 
 /// Whether an ask can leave its thread waiting for its port or for a reply.
-pub fn may_wait(ask: Ask) -> bool
-    ensures { result ≡ may_wait ask }
+pub fn may_wait(ask: &Ask) -> bool
+    ensures { result ≡ may_wait ask.now }
 {
     matches!(ask, Ask::Do(..) | Ask::WaitPort)
 }
 
 /// Whether an ask can block its thread and leave it to go on.
-pub fn may_block(ask: Ask) -> bool
-    ensures { result ≡ may_block ask }
+pub fn may_block(ask: &Ask) -> bool
+    ensures { result ≡ may_block ask.now }
 {
     matches!(
         ask,

@@ -49,30 +49,30 @@ pub fn is_quiet(state: &State, event: &Event) -> bool
 }
 
 // Whether an answer, if there is one, is this value.
-fn agrees(answer: Option<Answer>, value: u64) -> bool
-    ensures { result ≡ agrees answer value }
+fn agrees(answer: &Option<Answer>, value: u64) -> bool
+    ensures { result ≡ agrees answer.now value }
 {
     match answer {
         None => true,
-        Some(Answer::Value(given)) => given == value,
+        Some(Answer::Value(given)) => *given == value,
         Some(_) => false,
     }
 }
 
 // Whether an answer, if there is one, is this record.
-fn agrees_with_record(answer: Option<Answer>, blob: &Blob) -> bool
-    ensures { result ≡ agrees_with_record answer blob.now }
+fn agrees_with_record(answer: &Option<Answer>, blob: &Blob) -> bool
+    ensures { result ≡ agrees_with_record answer.now blob.now }
 {
     match answer {
         None => true,
-        Some(Answer::Bytes(given)) => same_bytes(&given, blob),
+        Some(Answer::Bytes(given)) => same_bytes(given, blob),
         Some(_) => false,
     }
 }
 
 // Whether an event reads this cell, and the value agrees with the answer.
-fn is_read(wanted: TokId, at: u8, answer: Option<Answer>, event: &Event) -> bool
-    ensures { result ≡ is_read wanted.0 at answer event.now }
+fn is_read(wanted: TokId, at: u8, answer: &Option<Answer>, event: &Event) -> bool
+    ensures { result ≡ is_read wanted.0 at answer.now event.now }
 {
     match *event {
         Event::Read {
@@ -101,8 +101,8 @@ fn is_write(wanted: TokId, at: u8, stored: u64, event: &Event) -> bool
 }
 
 // Whether an event reads this token's record, and that agrees with the answer.
-fn is_record_read(wanted: TokId, answer: Option<Answer>, event: &Event) -> bool
-    ensures { result ≡ is_record_read wanted.0 answer event.now }
+fn is_record_read(wanted: TokId, answer: &Option<Answer>, event: &Event) -> bool
+    ensures { result ≡ is_record_read wanted.0 answer.now event.now }
 {
     match *event {
         Event::ReadBlob { tok, blob, .. } => tok.0 == wanted.0 && agrees_with_record(answer, &blob),
@@ -189,10 +189,10 @@ fn is_drop_of(wanted: u8, event: &Event) -> bool
 }
 
 /// Whether an event is what an ask makes, with this answer or none yet.
-pub fn is_own(state: &State, ask: Ask, answer: Option<Answer>, event: &Event) -> bool
-    ensures { result ≡ is_own state.now ask answer event.now }
+pub fn is_own(state: &State, ask: &Ask, answer: &Option<Answer>, event: &Event) -> bool
+    ensures { result ≡ is_own state.now ask.now answer.now event.now }
 {
-    match ask {
+    match *ask {
         Ask::Read(tok, cell) => is_read(tok, cell, answer, event),
         Ask::Write(tok, cell, value) => is_write(tok, cell, value, event),
         Ask::Add(tok, more) => is_raise(state.cell(tok, 0), tok, more, event),
@@ -228,8 +228,8 @@ fn first_send(events: &[Event]) -> usize
 }
 
 /// Where in its part the event of an ask stands.
-pub fn own_place(ask: Ask, part: &[Event]) -> usize
-    ensures place { result ≡ own_place ask part.now }
+pub fn own_place(ask: &Ask, part: &[Event]) -> usize
+    ensures place { result ≡ own_place ask.now part.now }
     ensures within { result ≤ length part.now }
 {
     if is_do(ask) {
@@ -250,8 +250,8 @@ fn ends_taking(part: &[Event]) -> bool
 }
 
 /// Whether its part shows that an ask, where it wasn't refused, blocked its thread.
-pub fn has_blocked(ask: Ask, part: &[Event]) -> bool
-    ensures { result ≡ has_blocked ask part.now }
+pub fn has_blocked(ask: &Ask, part: &[Event]) -> bool
+    ensures { result ≡ has_blocked ask.now part.now }
 {
     match ask {
         Ask::Get(_) | Ask::GetShared(_) => !ends_taking(part),
