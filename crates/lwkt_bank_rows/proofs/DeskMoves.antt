@@ -72,7 +72,7 @@ sits_kept bank s s' refs sits same kept = record {
 pub sits_changed : OthersKeep → (bank : BankId) (s s' : CpuSeat) (refs : List Ref) (tok : ℕ) (e : TokenEntry) (made : List Deed) → Sits bank s refs → Changes s s' tok e made → e.held ≡ holding s tok → Sits bank s' refs
 sits_changed others bank s s' refs tok e made sits changes is = sits_kept bank s s' refs sits changes.bank (others s s' tok e made changes is)
 
-looked_if : (b : Bool) (e : TokenEntry) (g : ℕ) → (cond b e (record e { generation = g; known = [] })).held ≡ e.held
+looked_if : (b : Bool) (e : TokenEntry) (g : ℕ) → (cond b e (record e { generation = g; known = []; known_blob = [] })).held ≡ e.held
 looked_if true e g = refl
 looked_if false e g = refl
 
