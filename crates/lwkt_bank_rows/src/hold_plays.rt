@@ -16,14 +16,13 @@ pub struct Line(pub usize, pub Call, pub Told, pub u64, pub u64);
 
 /// The tokens of a bank, and the records of the first of them; its processors, of which the last one only looks; calls; and the
 /// references and the events that the first desk has at the end.
-#[derive(Drop)]
-pub struct Played<'a> {
-    pub tokens: &'a [Opened],
-    pub records: &'a [&'a [u8]],
+pub struct Played {
+    pub tokens: &'static [Opened],
+    pub records: &'static [&'static [u8]],
     pub cpus: usize,
-    pub lines: &'a [Line],
-    pub refs: &'a [Ref],
-    pub events: Option<&'a [Happening]>,
+    pub lines: &'static [Line],
+    pub refs: &'static [Ref],
+    pub events: Option<&'static [Happening]>,
 }
 
 /// Why a table wasn't played to its end.

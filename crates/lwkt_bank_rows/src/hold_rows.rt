@@ -6,7 +6,7 @@ ghost use Rattle.lwkt_bank_rows.specs.HeldLists.{IsHeld, IsFree};
 use crate::hold_desks::{Call, Told, list_of, make_room, open};
 use crate::hold_plays::{Line, Played, expect};
 use lwkt_bank::{Bank, Closed, CpuSeat};
-use lwkt_base::{Answer, Ask, Cells, CpuId, Fault, Law, Mode, Ref, TokId, TokList};
+use lwkt_base::{Cells, CpuId, Fault, Law, Mode, Ref, TokId, TokList};
 use lwkt_core::Event;
 use lwkt_fixtures::{Happening, Opened, tokens};
 use lwkt_hold::{Acquired, Blocked, Hold, Missed, Resumed};
@@ -38,12 +38,17 @@ const SECOND_EXCLUSIVE: Ref = Ref {
     mode: Mode::Exclusive,
 };
 
+const THIRD_EXCLUSIVE: Ref = Ref {
+    tok: TokId(2),
+    mode: Mode::Exclusive,
+};
+
 const FIRST_SHARED: Ref = Ref {
     tok: FIRST_TOKEN,
     mode: Mode::Shared,
 };
 
-const DONE: Told = Told::Answered(Answer::Done);
+const DONE: Told = Told::Done;
 
 const GOT: Told = Told::Got(Acquired::Got);
 
@@ -52,190 +57,175 @@ const ALL: Told = Told::Resumed(Resumed::All);
 // A token of one cell under no law.
 const PLAIN: Opened = Opened(Law::Any, 0, 0, &[0]);
 
-const WORDS: [Line; 9] = [
-    Line(0, Call::Ask(Ask::Get(FIRST_TOKEN)), DONE, 1, 0),
-    Line(0, Call::Ask(Ask::Get(FIRST_TOKEN)), DONE, 5, 0),
-    Line(0, Call::Ask(Ask::GetShared(FIRST_TOKEN)), DONE, 9, 0),
-    Line(0, Call::Ask(Ask::Rel(FIRST_TOKEN)), DONE, 5, 0),
-    Line(0, Call::Ask(Ask::Rel(FIRST_TOKEN)), DONE, 1, 0),
-    Line(0, Call::Ask(Ask::Rel(FIRST_TOKEN)), DONE, 0, 0),
-    // References are given back in the order in which they were had, the last one first.
-    Line(0, Call::Ask(Ask::Get(FIRST_TOKEN)), DONE, 1, 0),
-    Line(0, Call::Ask(Ask::Get(SECOND_TOKEN)), DONE, 1, 1),
-    Line(
-        0,
-        Call::Ask(Ask::Rel(FIRST_TOKEN)),
-        Told::Answered(Answer::Refused(Fault::NotLast)),
-        1,
-        1,
-    ),
-];
+const WORDS: Played = Played {
+    tokens: &[PLAIN, PLAIN],
+    records: &[],
+    cpus: 2,
+    lines: &[
+        Line(0, Call::Get(FIRST_EXCLUSIVE), GOT, 1, 0),
+        Line(0, Call::Get(FIRST_EXCLUSIVE), GOT, 5, 0),
+        Line(0, Call::Get(FIRST_SHARED), GOT, 9, 0),
+        Line(0, Call::Rel(FIRST_TOKEN), DONE, 5, 0),
+        Line(0, Call::Rel(FIRST_TOKEN), DONE, 1, 0),
+        Line(0, Call::Rel(FIRST_TOKEN), DONE, 0, 0),
+        // References are given back in the order in which they were had, the last one first.
+        Line(0, Call::Get(FIRST_EXCLUSIVE), GOT, 1, 0),
+        Line(0, Call::Get(SECOND_EXCLUSIVE), GOT, 1, 1),
+        Line(
+            0,
+            Call::Rel(FIRST_TOKEN),
+            Told::Refused(Fault::NotLast),
+            1,
+            1,
+        ),
+    ],
+    refs: &[FIRST_EXCLUSIVE, SECOND_EXCLUSIVE],
+    events: None,
+};
 
 #[test]
 fn words_of_holds(rt: HostRuntime) {
-    let row = Played {
-        tokens: &[PLAIN, PLAIN],
-        records: &[],
-        cpus: 2,
-        lines: &WORDS,
-        refs: &[FIRST_EXCLUSIVE, SECOND_EXCLUSIVE],
-        events: None,
-    };
-    expect(&rt, rt.alloc(), &row);
+    expect(&rt, rt.alloc(), &WORDS);
 }
 
-const REFUSALS: [Line; 11] = [
-    Line(
-        0,
-        Call::Ask(Ask::Read(TokId(9), 0)),
-        Told::Answered(Answer::Refused(Fault::NoToken)),
-        0,
-        0,
-    ),
-    Line(
-        0,
-        Call::Ask(Ask::Read(FIRST_TOKEN, 3)),
-        Told::Answered(Answer::Refused(Fault::NoCell)),
-        0,
-        0,
-    ),
-    Line(
-        0,
-        Call::Ask(Ask::Read(FIRST_TOKEN, 0)),
-        Told::Answered(Answer::Refused(Fault::NotHeld)),
-        0,
-        0,
-    ),
-    Line(0, Call::Ask(Ask::GetShared(FIRST_TOKEN)), DONE, 4, 0),
-    Line(
-        0,
-        Call::Ask(Ask::Write(FIRST_TOKEN, 0, 5)),
-        Told::Answered(Answer::Refused(Fault::SharedWrite)),
-        4,
-        0,
-    ),
-    Line(0, Call::Ask(Ask::Rel(FIRST_TOKEN)), DONE, 0, 0),
-    Line(0, Call::Ask(Ask::Get(SECOND_TOKEN)), DONE, 0, 1),
-    Line(
-        0,
-        Call::Ask(Ask::Write(SECOND_TOKEN, 0, 5)),
-        Told::Answered(Answer::Refused(Fault::TallyOnly)),
-        0,
-        1,
-    ),
-    Line(
-        0,
-        Call::Ask(Ask::Add(SECOND_TOKEN, 1)),
-        Told::Answered(Answer::Refused(Fault::Overflow)),
-        0,
-        1,
-    ),
-    Line(0, Call::Ask(Ask::Rel(SECOND_TOKEN)), DONE, 0, 0),
-    Line(
-        0,
-        Call::Ask(Ask::Rel(SECOND_TOKEN)),
-        Told::Answered(Answer::Refused(Fault::NotHeld)),
-        0,
-        0,
-    ),
-];
+const REFUSALS: Played = Played {
+    tokens: &[
+        Opened(Law::Any, 0, 0, &[1]),
+        Opened(Law::Tally, MOST, 0, &[MOST]),
+    ],
+    records: &[],
+    cpus: 2,
+    lines: &[
+        Line(
+            0,
+            Call::Read(TokId(9), 0),
+            Told::Refused(Fault::NoToken),
+            0,
+            0,
+        ),
+        Line(
+            0,
+            Call::Read(FIRST_TOKEN, 3),
+            Told::Refused(Fault::NoCell),
+            0,
+            0,
+        ),
+        Line(
+            0,
+            Call::Read(FIRST_TOKEN, 0),
+            Told::Refused(Fault::NotHeld),
+            0,
+            0,
+        ),
+        Line(0, Call::Get(FIRST_SHARED), GOT, 4, 0),
+        Line(
+            0,
+            Call::Write(FIRST_TOKEN, 0, 5),
+            Told::Refused(Fault::SharedWrite),
+            4,
+            0,
+        ),
+        Line(0, Call::Rel(FIRST_TOKEN), DONE, 0, 0),
+        Line(0, Call::Get(SECOND_EXCLUSIVE), GOT, 0, 1),
+        Line(
+            0,
+            Call::Write(SECOND_TOKEN, 0, 5),
+            Told::Refused(Fault::TallyOnly),
+            0,
+            1,
+        ),
+        Line(
+            0,
+            Call::Add(SECOND_TOKEN, 1),
+            Told::Refused(Fault::Overflow),
+            0,
+            1,
+        ),
+        Line(0, Call::Rel(SECOND_TOKEN), DONE, 0, 0),
+        Line(
+            0,
+            Call::Rel(SECOND_TOKEN),
+            Told::Refused(Fault::NotHeld),
+            0,
+            0,
+        ),
+    ],
+    refs: &[],
+    events: Some(&[
+        Happening::Share {
+            cpu: CpuId(0),
+            tok: FIRST_TOKEN,
+        },
+        Happening::GiveOne {
+            cpu: CpuId(0),
+            tok: FIRST_TOKEN,
+        },
+        Happening::Take {
+            cpu: CpuId(0),
+            tok: SECOND_TOKEN,
+        },
+        Happening::GiveClean {
+            cpu: CpuId(0),
+            tok: SECOND_TOKEN,
+        },
+    ]),
+};
 
 #[test]
 fn refusals_of_holds(rt: HostRuntime) {
-    let row = Played {
-        tokens: &[
-            Opened(Law::Any, 0, 0, &[1]),
-            Opened(Law::Tally, MOST, 0, &[MOST]),
-        ],
-        records: &[],
-        cpus: 2,
-        lines: &REFUSALS,
-        refs: &[],
-        events: Some(&[
-            Happening::Share {
-                cpu: CpuId(0),
-                tok: FIRST_TOKEN,
-            },
-            Happening::GiveOne {
-                cpu: CpuId(0),
-                tok: FIRST_TOKEN,
-            },
-            Happening::Take {
-                cpu: CpuId(0),
-                tok: SECOND_TOKEN,
-            },
-            Happening::GiveClean {
-                cpu: CpuId(0),
-                tok: SECOND_TOKEN,
-            },
-        ]),
-    };
-    expect(&rt, rt.alloc(), &row);
+    expect(&rt, rt.alloc(), &REFUSALS);
 }
 
-const TAKEN: Line = Line(0, Call::Ask(Ask::Get(FIRST_TOKEN)), DONE, 1, 0);
+const TAKEN: Line = Line(0, Call::Get(FIRST_EXCLUSIVE), GOT, 1, 0);
 
-const BROKEN: Line = Line(0, Call::Ask(Ask::Write(FIRST_TOKEN, 0, 9)), DONE, 1, 0);
+const BROKEN: Line = Line(0, Call::Write(FIRST_TOKEN, 0, 9), DONE, 1, 0);
 
-const FIRST_CELL: Line = Line(
-    0,
-    Call::Ask(Ask::Read(FIRST_TOKEN, 0)),
-    Told::Answered(Answer::Value(5)),
-    1,
-    0,
-);
+const FIRST_CELL: Line = Line(0, Call::Read(FIRST_TOKEN, 0), Told::Value(5), 1, 0);
 
-const SECOND_CELL: Line = Line(
-    0,
-    Call::Ask(Ask::Read(FIRST_TOKEN, 1)),
-    Told::Answered(Answer::Value(5)),
-    1,
-    0,
-);
+const SECOND_CELL: Line = Line(0, Call::Read(FIRST_TOKEN, 1), Told::Value(5), 1, 0);
 
-const RELEASED: Line = Line(0, Call::Ask(Ask::Rel(FIRST_TOKEN)), DONE, 0, 0);
+const RELEASED: Line = Line(0, Call::Rel(FIRST_TOKEN), DONE, 0, 0);
 
 // A section that broke its law: its cells are as at its beginning, whichever way it ends.
-const BROKEN_LAW: [Line; 14] = [
-    TAKEN,
-    BROKEN,
-    Line(
-        0,
-        Call::Ask(Ask::Rel(FIRST_TOKEN)),
-        Told::Answered(Answer::Refused(Fault::Broken)),
-        0,
-        0,
-    ),
-    TAKEN,
-    FIRST_CELL,
-    SECOND_CELL,
-    RELEASED,
-    TAKEN,
-    BROKEN,
-    Line(
-        0,
-        Call::Block,
-        Told::Blocked(Blocked::Restored(FIRST_TOKEN)),
-        0,
-        0,
-    ),
-    TAKEN,
-    FIRST_CELL,
-    SECOND_CELL,
-    RELEASED,
-];
+const BROKEN_LAW: Played = Played {
+    tokens: &[Opened(Law::Sum, 10, 0, &[5, 5])],
+    records: &[],
+    cpus: 2,
+    lines: &[
+        TAKEN,
+        BROKEN,
+        Line(
+            0,
+            Call::Rel(FIRST_TOKEN),
+            Told::Refused(Fault::Broken),
+            0,
+            0,
+        ),
+        TAKEN,
+        FIRST_CELL,
+        SECOND_CELL,
+        RELEASED,
+        TAKEN,
+        BROKEN,
+        Line(
+            0,
+            Call::Block,
+            Told::Blocked(Blocked::Restored(FIRST_TOKEN)),
+            0,
+            0,
+        ),
+        TAKEN,
+        FIRST_CELL,
+        SECOND_CELL,
+        RELEASED,
+    ],
+    refs: &[],
+    events: None,
+};
 
 #[test]
 fn a_broken_law_is_undone(rt: HostRuntime) {
-    let row = Played {
-        tokens: &[Opened(Law::Sum, 10, 0, &[5, 5])],
-        records: &[],
-        cpus: 2,
-        lines: &BROKEN_LAW,
-        refs: &[],
-        events: None,
-    };
-    expect(&rt, rt.alloc(), &row);
+    expect(&rt, rt.alloc(), &BROKEN_LAW);
 }
 
 const BOTH: [Ref; 2] = [FIRST_EXCLUSIVE, SECOND_EXCLUSIVE];
@@ -244,218 +234,193 @@ const STILL: Told = Told::Still(true);
 
 const MOVED: Told = Told::Still(false);
 
-const MISSED_LIST: [Line; 7] = [
-    Line(1, Call::Get(SECOND_EXCLUSIVE), GOT, 0, 1),
-    Line(
-        0,
-        Call::Resume(&BOTH),
-        Told::Resumed(Resumed::Passed {
-            at: 1,
-            why: Missed::Busy { word: 1 },
-        }),
-        0,
-        1,
-    ),
-    // The word that refused the list is the token's still; it isn't another one, nor that of another reference.
-    Line(0, Call::Still(&BOTH, 1, 1), STILL, 0, 1),
-    Line(0, Call::Still(&BOTH, 1, 3), MOVED, 0, 1),
-    Line(0, Call::Still(&BOTH, 0, 1), MOVED, 0, 1),
-    // A list of no references is held at once.
-    Line(0, Call::Resume(&[]), ALL, 0, 1),
-    // Trying for a token that is held changes nothing.
-    Line(
-        0,
-        Call::Ask(Ask::TryGet(SECOND_TOKEN)),
-        Told::Answered(Answer::Refused(Fault::Busy)),
-        0,
-        1,
-    ),
-];
+const MISSED_LIST: Played = Played {
+    tokens: &[PLAIN, PLAIN],
+    records: &[],
+    cpus: 3,
+    lines: &[
+        Line(1, Call::Get(SECOND_EXCLUSIVE), GOT, 0, 1),
+        Line(
+            0,
+            Call::Resume(&BOTH),
+            Told::Resumed(Resumed::Passed {
+                at: 1,
+                why: Missed::Busy { word: 1 },
+            }),
+            0,
+            1,
+        ),
+        // The word that refused the list is the token's still; it isn't another one, nor that of another reference.
+        Line(0, Call::Still(&BOTH, 1, 1), STILL, 0, 1),
+        Line(0, Call::Still(&BOTH, 1, 3), MOVED, 0, 1),
+        Line(0, Call::Still(&BOTH, 0, 1), MOVED, 0, 1),
+        // A list of no references is held at once.
+        Line(0, Call::Resume(&[]), ALL, 0, 1),
+        // Trying for a token that is held changes nothing.
+        Line(
+            0,
+            Call::TryGet(SECOND_TOKEN),
+            Told::Refused(Fault::Busy),
+            0,
+            1,
+        ),
+    ],
+    refs: &[],
+    events: Some(&[
+        Happening::Take {
+            cpu: CpuId(0),
+            tok: FIRST_TOKEN,
+        },
+        Happening::GiveClean {
+            cpu: CpuId(0),
+            tok: FIRST_TOKEN,
+        },
+    ]),
+};
 
 #[test]
 fn a_missed_list_is_given_back(rt: HostRuntime) {
-    let row = Played {
-        tokens: &[PLAIN, PLAIN],
-        records: &[],
-        cpus: 3,
-        lines: &MISSED_LIST,
-        refs: &[],
-        events: Some(&[
-            Happening::Take {
-                cpu: CpuId(0),
-                tok: FIRST_TOKEN,
-            },
-            Happening::GiveClean {
-                cpu: CpuId(0),
-                tok: FIRST_TOKEN,
-            },
-        ]),
-    };
-    expect(&rt, rt.alloc(), &row);
+    expect(&rt, rt.alloc(), &MISSED_LIST);
 }
 
-const LONE_SHARERS: [Line; 10] = [
-    Line(0, Call::Get(FIRST_SHARED), GOT, 4, 0),
-    Line(1, Call::Get(FIRST_SHARED), GOT, 8, 0),
-    Line(
-        2,
-        Call::Get(FIRST_EXCLUSIVE),
-        Told::Got(Acquired::MustSwitch {
-            why: Missed::Busy { word: 8 },
-        }),
-        10,
-        0,
-    ),
-    Line(
-        3,
-        Call::Get(FIRST_SHARED),
-        Told::Got(Acquired::MustSwitch {
-            why: Missed::Busy { word: 10 },
-        }),
-        10,
-        0,
-    ),
-    Line(3, Call::Resume(&[SECOND_EXCLUSIVE]), ALL, 10, 1),
-    Line(3, Call::Get(FIRST_SHARED), GOT, 14, 1),
-    Line(3, Call::Ask(Ask::Rel(FIRST_TOKEN)), DONE, 10, 1),
-    Line(0, Call::Ask(Ask::Rel(FIRST_TOKEN)), DONE, 6, 1),
-    Line(1, Call::Ask(Ask::Rel(FIRST_TOKEN)), DONE, 2, 1),
-    Line(2, Call::Resume(&[FIRST_EXCLUSIVE]), ALL, 1, 1),
-];
+const LONE_SHARERS: Played = Played {
+    tokens: &[PLAIN, PLAIN],
+    records: &[],
+    cpus: 5,
+    lines: &[
+        Line(0, Call::Get(FIRST_SHARED), GOT, 4, 0),
+        Line(1, Call::Get(FIRST_SHARED), GOT, 8, 0),
+        Line(
+            2,
+            Call::Get(FIRST_EXCLUSIVE),
+            Told::Got(Acquired::MustSwitch {
+                why: Missed::Busy { word: 8 },
+            }),
+            10,
+            0,
+        ),
+        Line(
+            3,
+            Call::Get(FIRST_SHARED),
+            Told::Got(Acquired::MustSwitch {
+                why: Missed::Busy { word: 10 },
+            }),
+            10,
+            0,
+        ),
+        Line(3, Call::Resume(&[SECOND_EXCLUSIVE]), ALL, 10, 1),
+        Line(3, Call::Get(FIRST_SHARED), GOT, 14, 1),
+        Line(3, Call::Rel(FIRST_TOKEN), DONE, 10, 1),
+        Line(0, Call::Rel(FIRST_TOKEN), DONE, 6, 1),
+        Line(1, Call::Rel(FIRST_TOKEN), DONE, 2, 1),
+        Line(2, Call::Resume(&[FIRST_EXCLUSIVE]), ALL, 1, 1),
+    ],
+    refs: &[],
+    events: None,
+};
 
 #[test]
 fn mark_stops_lone_sharers(rt: HostRuntime) {
-    let row = Played {
-        tokens: &[PLAIN, PLAIN],
-        records: &[],
-        cpus: 5,
-        lines: &LONE_SHARERS,
-        refs: &[],
-        events: None,
-    };
-    expect(&rt, rt.alloc(), &row);
+    expect(&rt, rt.alloc(), &LONE_SHARERS);
 }
 
-// The second token is at its last generation.
-const WITH_LAST: [Opened; 2] = [
-    Opened(Law::Any, 0, 0, &[]),
-    Opened(Law::Any, 0, LAST_GENERATION, &[]),
-];
+const REFUSED_MODES: Played = Played {
+    tokens: &[
+        Opened(Law::Any, 0, 0, &[]),
+        Opened(Law::Any, 0, LAST_GENERATION, &[]),
+    ],
+    records: &[],
+    cpus: 2,
+    lines: &[
+        Line(
+            0,
+            Call::Get(SECOND_EXCLUSIVE),
+            Told::Refused(Fault::Worn),
+            0,
+            LAST_WORD,
+        ),
+        Line(
+            0,
+            Call::TryGet(SECOND_TOKEN),
+            Told::Refused(Fault::Worn),
+            0,
+            LAST_WORD,
+        ),
+        Line(0, Call::Get(FIRST_SHARED), GOT, 4, LAST_WORD),
+        Line(
+            0,
+            Call::Get(FIRST_EXCLUSIVE),
+            Told::Refused(Fault::Upgrade),
+            4,
+            LAST_WORD,
+        ),
+        Line(
+            0,
+            Call::TryGet(FIRST_TOKEN),
+            Told::Refused(Fault::Upgrade),
+            4,
+            LAST_WORD,
+        ),
+    ],
+    refs: &[FIRST_SHARED],
+    events: None,
+};
 
-const REFUSED_MODES: [Line; 5] = [
-    Line(
-        0,
-        Call::Ask(Ask::Get(SECOND_TOKEN)),
-        Told::Answered(Answer::Refused(Fault::Worn)),
-        0,
-        LAST_WORD,
-    ),
-    Line(
-        0,
-        Call::Ask(Ask::TryGet(SECOND_TOKEN)),
-        Told::Answered(Answer::Refused(Fault::Worn)),
-        0,
-        LAST_WORD,
-    ),
-    Line(
-        0,
-        Call::Ask(Ask::GetShared(FIRST_TOKEN)),
-        DONE,
-        4,
-        LAST_WORD,
-    ),
-    Line(
-        0,
-        Call::Ask(Ask::Get(FIRST_TOKEN)),
-        Told::Answered(Answer::Refused(Fault::Upgrade)),
-        4,
-        LAST_WORD,
-    ),
-    Line(
-        0,
-        Call::Ask(Ask::TryGet(FIRST_TOKEN)),
-        Told::Answered(Answer::Refused(Fault::Upgrade)),
-        4,
-        LAST_WORD,
-    ),
-];
+const LIMITS: Played = Played {
+    tokens: &[
+        Opened(Law::Any, 0, 0, &[]),
+        Opened(Law::Any, 0, LAST_GENERATION, &[]),
+    ],
+    records: &[],
+    cpus: 2,
+    lines: &[
+        Line(0, Call::Get(FIRST_SHARED), GOT, 4, LAST_WORD),
+        Line(0, Call::Block, Told::Blocked(Blocked::Clean), 0, LAST_WORD),
+        Line(0, Call::Fill(FIRST_EXCLUSIVE), GOT, 125, LAST_WORD),
+        Line(
+            0,
+            Call::Get(FIRST_EXCLUSIVE),
+            Told::Refused(Fault::ListFull),
+            125,
+            LAST_WORD,
+        ),
+        Line(
+            0,
+            Call::TryGet(SECOND_TOKEN),
+            Told::Refused(Fault::ListFull),
+            125,
+            LAST_WORD,
+        ),
+        Line(
+            0,
+            Call::Get(THIRD_EXCLUSIVE),
+            Told::Refused(Fault::NoToken),
+            125,
+            LAST_WORD,
+        ),
+    ],
+    refs: &[FIRST_EXCLUSIVE; 32],
+    events: None,
+};
 
-#[test]
-fn refused_modes(rt: HostRuntime) {
-    let row = Played {
-        tokens: &WITH_LAST,
-        records: &[],
-        cpus: 2,
-        lines: &REFUSED_MODES,
-        refs: &[FIRST_SHARED],
-        events: None,
-    };
-    expect(&rt, rt.alloc(), &row);
-}
-
-const LIMITS: [Line; 6] = [
-    Line(
-        0,
-        Call::Ask(Ask::GetShared(FIRST_TOKEN)),
-        DONE,
-        4,
-        LAST_WORD,
-    ),
-    Line(0, Call::Block, Told::Blocked(Blocked::Clean), 0, LAST_WORD),
-    Line(0, Call::Fill(FIRST_EXCLUSIVE), GOT, 125, LAST_WORD),
-    Line(
-        0,
-        Call::Ask(Ask::Get(FIRST_TOKEN)),
-        Told::Answered(Answer::Refused(Fault::ListFull)),
-        125,
-        LAST_WORD,
-    ),
-    Line(
-        0,
-        Call::Ask(Ask::TryGet(SECOND_TOKEN)),
-        Told::Answered(Answer::Refused(Fault::ListFull)),
-        125,
-        LAST_WORD,
-    ),
-    Line(
-        0,
-        Call::Ask(Ask::Get(TokId(2))),
-        Told::Answered(Answer::Refused(Fault::NoToken)),
-        125,
-        LAST_WORD,
-    ),
-];
+// A full list is given up as a whole.
+const LIMITS_UNDONE: Played = Played {
+    tokens: &[Opened(Law::Any, 0, 0, &[])],
+    records: &[],
+    cpus: 2,
+    lines: &[
+        Line(0, Call::Fill(FIRST_EXCLUSIVE), GOT, 125, 0),
+        Line(0, Call::Block, Told::Blocked(Blocked::Clean), 0, 0),
+    ],
+    refs: &[],
+    events: None,
+};
 
 #[test]
 fn limits_of_holds(rt: HostRuntime) {
-    let row = Played {
-        tokens: &WITH_LAST,
-        records: &[],
-        cpus: 2,
-        lines: &LIMITS,
-        refs: &[FIRST_EXCLUSIVE; 32],
-        events: None,
-    };
-    expect(&rt, rt.alloc(), &row);
-}
-
-// A full list is given up as a whole.
-const LIMITS_UNDONE: [Line; 2] = [
-    Line(0, Call::Fill(FIRST_EXCLUSIVE), GOT, 125, 0),
-    Line(0, Call::Block, Told::Blocked(Blocked::Clean), 0, 0),
-];
-
-#[test]
-fn a_full_list_is_given_up(rt: HostRuntime) {
-    let row = Played {
-        tokens: &[Opened(Law::Any, 0, 0, &[])],
-        records: &[],
-        cpus: 2,
-        lines: &LIMITS_UNDONE,
-        refs: &[],
-        events: None,
-    };
-    expect(&rt, rt.alloc(), &row);
+    expect(&rt, rt.alloc(), &REFUSED_MODES);
+    expect(&rt, rt.alloc(), &LIMITS);
+    expect(&rt, rt.alloc(), &LIMITS_UNDONE);
 }
 
 // Adds 1 to both tokens of the list that is held, and gives up the list. Says whether both were added to.

@@ -26,4 +26,6 @@ mod stop_rows;
 #[cfg(test)]
 mod thread_rows;
 #[cfg(test)]
+mod wants;
+#[cfg(test)]
 mod workers;

@@ -7,9 +7,9 @@ use crate::closings::{close, end};
 use crate::drivers::{Board, Seats, next_cpu};
 use crate::scenes::{Deed, Scene, Step, expect, open_all};
 use crate::scripts::{Script, one};
+use crate::wants::{Heard, Want};
 use lwkt_base::{
-    Answer, Ask, Call, CpuId, Fault, Flags, Item, MsgEnd, MsgId, MsgSpec, Owner, ThreadId,
-    ThreadState,
+    Call, CpuId, Fault, Flags, Item, MsgEnd, MsgId, MsgSpec, Owner, ThreadId, ThreadState,
 };
 use lwkt_cpu::Cpu;
 use lwkt_fixtures::Happening;
@@ -40,42 +40,43 @@ pub const THERE: ThreadId = ThreadId {
 
 const CALL: Call = Call { arg: 9, op: 5 };
 
-const CALLED: [Answer; 3] = [
-    Answer::Begin,
-    Answer::Got(Item::Answered(MsgId(0), 7, 42)),
-    Answer::NoMsg,
+const CALLED: [Heard; 3] = [
+    Heard::Begin,
+    Heard::Got(Item::Answered(MsgId(0), 7, 42)),
+    Heard::NoMsg,
 ];
 
-const SERVED: [Answer; 3] = [
-    Answer::Begin,
-    Answer::Got(Item::Request(MsgId(0), CALL)),
-    Answer::Done,
+const SERVED: [Heard; 3] = [
+    Heard::Begin,
+    Heard::Got(Item::Request(MsgId(0), CALL)),
+    Heard::Done,
 ];
+
+const CALL_AND_REPLY: Scene = Scene {
+    tokens: &[],
+    messages: &[OWN],
+    asks: &[
+        &[Want::Do(MsgId(0), THERE, CALL), Want::GetPort],
+        &[Want::WaitPort, Want::Reply(MsgId(0), 7, 42)],
+    ],
+    watched: false,
+    steps: &[
+        Step::TakeTurns,
+        Step::At(0, Deed::State(ThreadState::Exited)),
+        Step::Heard(0, &CALLED),
+        Step::At(1, Deed::State(ThreadState::Exited)),
+        Step::Heard(1, &SERVED),
+    ],
+};
 
 #[test]
 fn call_and_reply(rt: HostRuntime) {
-    let scene = Scene {
-        tokens: &[],
-        messages: &[OWN],
-        asks: &[
-            &[Ask::Do(MsgId(0), THERE, CALL), Ask::GetPort],
-            &[Ask::WaitPort, Ask::Reply(MsgId(0), 7, 42)],
-        ],
-        watched: false,
-        steps: &[
-            Step::TakeTurns,
-            Step::At(0, Deed::State(ThreadState::Exited)),
-            Step::Heard(0, &CALLED),
-            Step::At(1, Deed::State(ThreadState::Exited)),
-            Step::Heard(1, &SERVED),
-        ],
-    };
-    expect(&rt, rt.alloc(), &scene);
+    expect(&rt, rt.alloc(), &CALL_AND_REPLY);
 }
 
 macro_rules! sends {
     ($($m:literal)*) => {
-        [$(Ask::Send(MsgId($m), THERE, CALL, FLAGS)),*]
+        [$(Want::Send(MsgId($m), THERE, CALL, FLAGS)),*]
     };
 }
 
@@ -86,7 +87,7 @@ macro_rules! sent {
 }
 
 // A message more than a lane has room for.
-const SENDS: [Ask; 33] = sends!(
+const SENDS: [Want; 33] = sends!(
     0 1 2 3 4 5 6 7 8 9 10 11 12 13 14 15 16 17 18 19 20 21 22 23 24 25 26 27 28 29 30 31 32
 );
 
@@ -94,23 +95,24 @@ const SENT: [Happening; 32] = sent!(
     0 1 2 3 4 5 6 7 8 9 10 11 12 13 14 15 16 17 18 19 20 21 22 23 24 25 26 27 28 29 30 31
 );
 
-const FULL: Answer = Answer::Refused(Fault::LaneFull);
+const FULL: Heard = Heard::Refused(Fault::LaneFull);
+
+const FULL_LANE: Scene = Scene {
+    tokens: &[],
+    messages: &[OWN; 33],
+    asks: &[&SENDS, &[]],
+    watched: false,
+    steps: &[
+        Step::At(0, Deed::Ran(34)),
+        Step::At(0, Deed::State(ThreadState::Exited)),
+        Step::HeardLast(0, 34, &[Heard::Done, FULL]),
+        Step::At(0, Deed::Trace(&SENT)),
+    ],
+};
 
 #[test]
 fn full_lane(rt: HostRuntime) {
-    let scene = Scene {
-        tokens: &[],
-        messages: &[OWN; 33],
-        asks: &[&SENDS, &[]],
-        watched: false,
-        steps: &[
-            Step::At(0, Deed::Ran(34)),
-            Step::At(0, Deed::State(ThreadState::Exited)),
-            Step::HeardLast(0, 34, &[Answer::Done, FULL]),
-            Step::At(0, Deed::Trace(&SENT)),
-        ],
-    };
-    expect(&rt, rt.alloc(), &scene);
+    expect(&rt, rt.alloc(), &FULL_LANE);
 }
 
 // Stops two processors and closes bank and book: what the messages are then.
