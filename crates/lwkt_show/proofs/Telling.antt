@@ -1,4 +1,4 @@
-use Rattle.std.proofs.Common.{inl, inr, ◌≡◌, ◌⊎◌, ℕ, List, [], take, rules, refl, sym, Option, None, Some, IsNone, Err, Ok, subst}
+use Rattle.std.proofs.Common.{inl, inr, ◌≡◌, ◌⊎◌, ℕ, List, [], take, rules, refl, sym, Option, None, Some, IsNone, Result, Err, Ok, subst}
 use Rattle.std.specs.Io.KnownBytes.{Appends, Keeps}
 use Rattle.lwkt_base.specs.declared.faults.Fault.{Fault as Refusal}
 use Rattle.lwkt_base.specs.declared.faults.Fault.TheVariants.{Memory}
@@ -64,3 +64,12 @@ along_refused order options left old bytes read fault same are refuses =
 pub along_past : (order : List ℕ) (options : Options) (left old : Option (List ℕ)) (bytes read : List ℕ) → read ≡ bytes → AreRead left bytes → IsPastAlong order options read → TellsAlong order options left old old (Ok Past)
 along_past order options left old bytes read same are past =
     (keeps_itself old, (bytes, (are, subst (λ b. IsPastAlong order options b) same past)))
+
+-- the fault of an answer
+abbrev pub fault_of : {A : Type 0} → Result A RunFault → RunFault
+fault_of (Ok x) = Stream
+fault_of (Err fault) = fault
+
+-- a lack of memory is no failed stream
+pub no_lack : Fault Memory ≡ Stream → ⊥
+no_lack is = search rules
