@@ -19,6 +19,15 @@ use std::alloc::Global;
 use std::io::{Read, Write};
 use std::thread::Threads;
 
+// Whether the arguments ask for a run in rounds or on threads.
+fn ask_rounds_or_threads(words: &[String]) -> bool
+    ensures options { (options : Options) → AreOptions (map string_bytes words.now) options → IsTrue result }
+    ensures threads { AskThreads (map string_bytes words.now) → IsTrue result }
+    ensures misused { AreMisused (map string_bytes words.now) → result ≡ false }
+{
+    options_of(words).is_some() || asks_threads(words)
+}
+
 // Whether the arguments are the program's.
 fn are_asked(words: &[String]) -> bool
     ensures options { (options : Options) → AreOptions (map string_bytes words.now) options → IsTrue result }
@@ -26,7 +35,7 @@ fn are_asked(words: &[String]) -> bool
     ensures along { (options : Options) (order : List ℕ) → AreAlong (map string_bytes words.now) options order → IsTrue result }
     ensures misused { AreMisused (map string_bytes words.now) → result ≡ false }
 {
-    options_of(words).is_some() || asks_threads(words) || asks_along(words)
+    ask_rounds_or_threads(words) || asks_along(words)
 }
 
 // Shows a text.
