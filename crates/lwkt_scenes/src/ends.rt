@@ -86,7 +86,7 @@ fn show_logged(out: &mut Page, story: &Story, entry: Entry, logged: Logged) {
     out.add(" of ");
     story.show_step(out, logged.number);
     out.add(": ");
-    show_ask(out, logged.ask);
+    show_ask(out, &logged.ask);
     out.add("\n");
 }
 

@@ -94,8 +94,8 @@ fn ended_by(replay: &Replay, scene: &Scene) -> Option<Fault> {
 
 // The fault by which what was asked in a turn was refused.
 fn refused_by(scene: &Scene) -> Option<Fault> {
-    match scene.poll?.answer? {
-        Answer::Refused(fault) => Some(fault),
+    match &scene.poll?.answer {
+        Some(Answer::Refused(fault)) => Some(*fault),
         _ => None,
     }
 }

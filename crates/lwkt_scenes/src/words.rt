@@ -9,7 +9,7 @@ pub(crate) fn show_thread(out: &mut Page, id: ThreadId) {
 }
 
 // The word of an ask, as in a script.
-fn ask_word(ask: Ask) -> &'static str {
+fn ask_word(ask: &Ask) -> &'static str {
     match ask {
         Ask::Get(_) => "get",
         Ask::GetShared(_) => "gets",
@@ -42,7 +42,7 @@ pub(crate) fn show_behind(out: &mut Page, numbers: &[u64]) {
 }
 
 // Appends the numbers of an ask for a token.
-fn show_token_ask(out: &mut Page, ask: Ask) {
+fn show_token_ask(out: &mut Page, ask: &Ask) {
     match ask {
         Ask::Get(tok)
         | Ask::GetShared(tok)
@@ -52,13 +52,13 @@ fn show_token_ask(out: &mut Page, ask: Ask) {
         Ask::WriteBlob(tok, blob) => {
             show_behind(out, &[u64::from(tok.0)]);
             out.add(",");
-            show_digits(out, &blob)
+            show_digits(out, blob)
         }
-        Ask::Read(tok, cell) => show_behind(out, &[u64::from(tok.0), u64::from(cell)]),
+        Ask::Read(tok, cell) => show_behind(out, &[u64::from(tok.0), u64::from(*cell)]),
         Ask::Write(tok, cell, value) => {
-            show_behind(out, &[u64::from(tok.0), u64::from(cell), value])
+            show_behind(out, &[u64::from(tok.0), u64::from(*cell), *value])
         }
-        Ask::Add(tok, more) => show_behind(out, &[u64::from(tok.0), more]),
+        Ask::Add(tok, more) => show_behind(out, &[u64::from(tok.0), *more]),
         _ => {}
     }
 }
@@ -73,18 +73,18 @@ fn show_call(out: &mut Page, msg: MsgId, to: ThreadId, call: Call) {
 }
 
 // Appends the numbers of an ask.
-fn show_ask_numbers(out: &mut Page, ask: Ask) {
+fn show_ask_numbers(out: &mut Page, ask: &Ask) {
     match ask {
         Ask::Send(msg, to, call, flags) => {
-            show_call(out, msg, to, call);
+            show_call(out, *msg, *to, *call);
             let flags = u8::from(flags.dropable)
                 + 2 * u8::from(flags.abortable)
                 + 4 * u8::from(flags.priority);
             show_behind(out, &[u64::from(flags)])
         }
-        Ask::Do(msg, to, call) => show_call(out, msg, to, call),
+        Ask::Do(msg, to, call) => show_call(out, *msg, *to, *call),
         Ask::Reply(msg, error, outcome) => {
-            show_behind(out, &[u64::from(msg.0), u64::from(error), outcome])
+            show_behind(out, &[u64::from(msg.0), u64::from(*error), *outcome])
         }
         Ask::Abort(msg) | Ask::IsAborted(msg) | Ask::DropMsg(msg) => {
             show_behind(out, &[u64::from(msg.0)])
@@ -94,7 +94,7 @@ fn show_ask_numbers(out: &mut Page, ask: Ask) {
 }
 
 /// Appends an ask as the step of a script that stands for it: `["add",0,5]`.
-pub(crate) fn show_ask(out: &mut Page, ask: Ask) {
+pub(crate) fn show_ask(out: &mut Page, ask: &Ask) {
     out.add("[\"");
     out.add(ask_word(ask));
     out.add("\"");
