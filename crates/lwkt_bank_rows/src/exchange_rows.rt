@@ -8,7 +8,7 @@ use lwkt_bank::answers::Try;
 use lwkt_bank::banks::Bank;
 use lwkt_bank::closed::Closed;
 use lwkt_base::{Blob, Fault, Law, Mode, TokId};
-use lwkt_fixtures::{Opened, tokens};
+use lwkt_fixtures::{Opened, record, tokens};
 use std::alloc::Global;
 use std::thread;
 use std::thread::Threads;
@@ -28,25 +28,29 @@ fn sum_of(bytes: &[u8]) -> u8 {
     sum
 }
 
-// The record of this number: 3 to 64 bytes, of which the first two are the number, and the last one is the sum of the others.
+// The record of this number: 64 bytes, of which the first two are the number, and the last one makes the sum of all 0.
 fn page(number: u16) -> Blob {
     let low = (number % 256) as u8;
     let mut bytes = [low; 64];
     bytes[0] = (number / 256) as u8;
-    let last = 2 + (number % 62) as usize;
-    bytes[last] = sum_of(&bytes[..last]);
-    Blob::of(&bytes[..last + 1])
+    let sum = sum_of(&bytes);
+    bytes[63] = low.wrapping_sub(sum);
+    record(&bytes)
 }
 
-// The number of a record. None if its sum doesn't fit.
+// The number of a record. None if it isn't whole: its sum isn't 0, or it isn't the record of its number.
 fn number_of(blob: &Blob) -> Option<u16> {
-    let (last, front) = blob.as_slice().split_last()?;
-    if sum_of(front) != *last {
+    let bytes = blob.as_slice();
+    if sum_of(bytes) != 0 {
         return None;
     }
-    let high = *front.first()?;
-    let low = *front.get(1)?;
-    Some(u16::from(high) * 256 + u16::from(low))
+    let high = *bytes.first()?;
+    let low = *bytes.get(1)?;
+    let number = u16::from(high) * 256 + u16::from(low);
+    if !blob.is_same(&page(number)) {
+        return None;
+    }
+    Some(number)
 }
 
 // What a thread finds in a section.

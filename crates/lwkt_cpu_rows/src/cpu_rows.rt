@@ -136,6 +136,7 @@ pub const SUM: Token = Token {
     param: 10,
     generation: 0,
     cells: &[5, 5],
+    record: None,
 };
 
 const BREAKS: [Want; 3] = [Want::Get(FIRST), Want::Write(FIRST, 0, 9), Want::WaitPort];

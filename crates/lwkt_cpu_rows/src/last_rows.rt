@@ -24,6 +24,7 @@ const BARE: Token = Token {
     param: 0,
     generation: 0,
     cells: &[],
+    record: None,
 };
 
 // A thread ends with a request unanswered: it is answered with 41, and the next one, which comes to its closed port, with 30.
@@ -95,6 +96,7 @@ const WORN: Token = Token {
     param: 0,
     generation: 70_368_744_177_662,
     cells: &[0],
+    record: None,
 };
 
 const DONE: Heard = Heard::Done;

@@ -16,6 +16,8 @@ mod limit_rows;
 #[cfg(test)]
 mod mail_rows;
 #[cfg(test)]
+mod record_rows;
+#[cfg(test)]
 mod scenes;
 #[cfg(test)]
 mod scripts;

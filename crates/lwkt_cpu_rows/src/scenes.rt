@@ -8,7 +8,7 @@ use crate::scripts::{Script, one};
 use crate::wants::{Heard, Want, are_heard};
 use lwkt_base::{Answer, Fault, Law, MsgSpec, ThreadState, TokId, TokSpec};
 use lwkt_cpu::{Body, Drove, Turned};
-use lwkt_fixtures::{Happening, are_these};
+use lwkt_fixtures::{Happening, are_these, record};
 use std::alloc::{AllocError, Global};
 use std::process::Abort;
 
@@ -18,6 +18,7 @@ pub struct Token {
     pub param: u64,
     pub generation: u64,
     pub cells: &'static [u64],
+    pub record: Option<&'static [u8]>,
 }
 
 /// A token of one cell, which may have any value.
@@ -26,6 +27,7 @@ pub const PLAIN: Token = Token {
     param: 0,
     generation: 0,
     cells: &[0],
+    record: None,
 };
 
 /// A token of one tally.
@@ -34,6 +36,7 @@ pub const TALLY: Token = Token {
     param: 0,
     generation: 0,
     cells: &[0],
+    record: None,
 };
 
 /// Some processors with a thread each, and what happens to them.
@@ -242,6 +245,9 @@ fn tokens_of(alloc: Global, told: &[Token]) -> Result<Vec<TokSpec>, AllocError> 
     for one in told {
         let mut spec = token(alloc, one.law, one.param, one.cells)?;
         spec.generation = one.generation;
+        if let Some(bytes) = one.record {
+            spec.blob = Some(record(bytes));
+        }
         tokens.push(spec)?;
     }
     Ok(tokens)

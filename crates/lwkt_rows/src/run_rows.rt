@@ -127,6 +127,13 @@ const RECORD_READ_AFTER_WRITE: Run = Run(
     "token 0 gen 1 cells -\nrecord 0 -\ntoken 1 gen 0 cells -\nthread 0.0 exited list - log f=13 f=17 f=16 b=6262 b=-\nlawful\n",
 );
 
+// A record of 65 bytes is refused, and one of 64 isn't.
+const LONG_RECORD: Run = Run(
+    "{\"version\":2,\"turns\":50,\"idle\":100000000,\"cpus\":1,\"tokens\":[{\"cells\":[],\"law\":\"any\",\"param\":0,\"gen\":0,\"record\":\"61\"}],\"messages\":[],\"threads\":[{\"cpu\":0,\"repeat\":1,\"steps\":[[\"wrec\",0,\"6161616161616161616161616161616161616161616161616161616161616161616161616161616161616161616161616161616161616161616161616161616161\"],[\"get\",0],[\"wrec\",0,\"6161616161616161616161616161616161616161616161616161616161616161616161616161616161616161616161616161616161616161616161616161616161\"],[\"wrec\",0,\"61616161616161616161616161616161616161616161616161616161616161616161616161616161616161616161616161616161616161616161616161616161\"],[\"rel\",0]]}]}",
+    0,
+    "token 0 gen 1 cells -\nrecord 0 61616161616161616161616161616161616161616161616161616161616161616161616161616161616161616161616161616161616161616161616161616161\nthread 0.0 exited list - log f=13 f=38\nlawful\n",
+);
+
 const CALL_AND_REPLY: Run = Run(
     "{\"version\":1,\"turns\":50,\"idle\":100000000,\"cpus\":2,\"tokens\":[],\"messages\":[{\"of\":[0,0],\"round\":0}],\"threads\":[{\"cpu\":0,\"repeat\":1,\"steps\":[[\"do\",0,1,0,5,9],[\"getport\"]]},{\"cpu\":1,\"repeat\":1,\"steps\":[[\"wait\"],[\"reply\",0,7,42]]}]}",
     0,
@@ -509,6 +516,11 @@ fn records_and_priority(rt: HostRuntime) {
     play(
         &rt,
         rt.alloc(),
-        &[URGENT_FIRST, RECORD_UNDER_LEN, RECORD_READ_AFTER_WRITE],
+        &[
+            URGENT_FIRST,
+            RECORD_UNDER_LEN,
+            RECORD_READ_AFTER_WRITE,
+            LONG_RECORD,
+        ],
     );
 }
