@@ -136,7 +136,7 @@ fn step_of(alloc: Global, step: &str) -> Option<Ask> {
 }
 
 // Whether an ask stores these bytes in token 5.
-fn stores(ask: Option<Ask>, bytes: &[u8]) -> bool {
+fn stores(ask: &Option<Ask>, bytes: &[u8]) -> bool {
     match ask {
         Some(Ask::WriteBlob(tok, blob)) => {
             bytes.len() < 256 && tok.0 == 5 && blob.is_same(&Blob::of(bytes))
@@ -149,9 +149,9 @@ fn stores(ask: Option<Ask>, bytes: &[u8]) -> bool {
 fn steps_on_records(rt: HostRuntime) {
     let alloc = rt.alloc();
     assert!(rt; step_of(alloc, "[\"rrec\",7]") == Some(Ask::ReadBlob(TokId(7))));
-    assert!(rt; stores(step_of(alloc, "[\"wrec\",5,\"\"]"), b""));
-    assert!(rt; stores(step_of(alloc, "[\"wrec\",5,\"68656c6c6f\"]"), b"hello"));
-    assert!(rt; stores(step_of(alloc, "[\"wrec\",5,\"00ff\"]"), &[0, 255]));
+    assert!(rt; stores(&step_of(alloc, "[\"wrec\",5,\"\"]"), b""));
+    assert!(rt; stores(&step_of(alloc, "[\"wrec\",5,\"68656c6c6f\"]"), b"hello"));
+    assert!(rt; stores(&step_of(alloc, "[\"wrec\",5,\"00ff\"]"), &[0, 255]));
 }
 
 // So many times `61`, in a step that stores them in token 5.
@@ -165,7 +165,7 @@ fn long_step(alloc: Global, count: u32) -> Option<Ask> {
 }
 
 // The length of the record that an ask stores.
-fn length_stored(ask: Option<Ask>) -> Option<u8> {
+fn length_stored(ask: &Option<Ask>) -> Option<u8> {
     match ask {
         Some(Ask::WriteBlob(_, blob)) => Some(blob.len()),
         _ => None,
@@ -175,9 +175,9 @@ fn length_stored(ask: Option<Ask>) -> Option<u8> {
 #[test]
 fn long_records(rt: HostRuntime) {
     let alloc = rt.alloc();
-    assert!(rt; length_stored(long_step(alloc, 64)) == Some(64));
-    assert!(rt; length_stored(long_step(alloc, 65)) == Some(65));
-    assert!(rt; length_stored(long_step(alloc, 66)) == None);
+    assert!(rt; length_stored(&long_step(alloc, 64)) == Some(64));
+    assert!(rt; length_stored(&long_step(alloc, 65)) == Some(65));
+    assert!(rt; length_stored(&long_step(alloc, 66)) == None);
 }
 
 // Whether a send has these flags: dropable, abortable, priority.
