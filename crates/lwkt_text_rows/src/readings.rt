@@ -83,10 +83,17 @@ fn steps(rt: HostRuntime) -> Result<(), Fail> {
 }
 
 // Whether a record has these bytes.
-fn is_record(blob: Option<Blob>, bytes: &[u8]) -> bool {
+fn is_record(blob: &Option<Blob>, bytes: &[u8]) -> bool {
     match blob {
         Some(blob) => blob.as_slice() == bytes,
         None => false,
+    }
+}
+
+fn stores(ask: &Ask, bytes: &[u8]) -> bool {
+    match ask {
+        Ask::WriteBlob(_, blob) => blob.as_slice() == bytes,
+        _ => false,
     }
 }
 
@@ -98,11 +105,11 @@ fn records(rt: HostRuntime) -> Result<(), Fail> {
     let tokens = script.tokens.as_slice();
     let first = tokens.first().ok_or("none")?;
     assert!(rt; first.law == Law::Len);
-    assert!(rt; is_record(first.blob, b"abc"));
+    assert!(rt; is_record(&first.blob, b"abc"));
     assert_eq!(rt; first.cells.as_slice(), [3].as_slice());
     let last = tokens.last().ok_or("none")?;
     assert_eq!(rt; last.generation, 2);
-    assert!(rt; is_record(last.blob, &[255]));
+    assert!(rt; is_record(&last.blob, &[255]));
     assert_eq!(rt; last.cells.as_slice(), [1].as_slice());
     Ok(())
 }
@@ -115,11 +122,7 @@ fn steps_on_records(rt: HostRuntime) -> Result<(), Fail> {
     let write = first_step(alloc, "token a record -; thread t on 0:; wrec a 00ff").ok_or(
         "refused",
     )?;
-    let stored = match write {
-        Ask::WriteBlob(_, blob) => Some(blob),
-        _ => None,
-    };
-    assert!(rt; is_record(stored, &[0, 255]));
+    assert!(rt; stores(&write, &[0, 255]));
     let send = first_step(
         alloc,
         "message m of t; thread t on 0:; send m -> t op 1 abortable priority",
