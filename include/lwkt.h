@@ -119,9 +119,10 @@ uint32_t lwkt_word_give_clean(uint64_t word, uint64_t *next);
 uint32_t lwkt_word_give_written(uint64_t word, uint64_t *next);
 
 // A bank of tokens for the caller's own threads. A bank has up to 64 tokens and 1 to 8 seats: a thread asks for tokens, and reads
-// and changes what they guard, by the number of its seat, 0 for the first. Who holds a token exclusively is alone with its cells;
-// any number of seats may hold it shared and load them. What a seat does is done on the proved token words of the layer, and its
-// rules are kept by the calls: each misuse that this header names is answered by a number, and changes nothing.
+// and changes what they guard, by the number of its seat, 0 for the first. Who holds a token exclusively is alone with its cells
+// and its record, a text of at most 64 bytes that a token may guard; any number of seats may hold it shared and load its cells.
+// What a seat does is done on the proved token words of the layer, and its rules are kept by the calls: each misuse that this header
+// names is answered by a number, and changes nothing.
 //
 //     lwkt_bank bank = {0};
 //     lwkt_token account = {.cells = {100}, .cell_count = 1, .law = LWKT_LAW_ANY};
@@ -135,18 +136,19 @@ uint32_t lwkt_word_give_written(uint64_t word, uint64_t *next);
 //
 // Status. 0 where the call did what it says; else a number, as docs/FORMATS.md has the faults, but for 50:
 //
-//     10 the seat has 32 references              19 the row breaks the law of its token
+//     10 the seat has 32 references              19 row or record break the law of the token
 //     11 exclusive, where it is held shared      20 the token is at its last generation, 70368744177663
 //     13 the seat doesn't hold the token         21 the sum passes 18446744073709551615
 //     16 there is no such token                  22 the call and the law don't fit
-//     17 the token has no such cell              23 another seat holds the token, or its mark holds the request off
+//     17 the token has no such cell or no record 23 another seat holds the token, or its mark holds the request off
 //     18 it is held shared                       30 there is no such seat
 //     32 memory was refused                      34 another seat's step came between: ask again
+//     37 a record, and it is held shared         38 a record of more than 64 bytes
 //     39 a limit is passed                       50 another call has the seat
 //     40 an opening row breaks its law
 //
 // Of several that apply a function's list says which one comes: the one that stands first. Where a call is refused, nothing has
-// changed that a later call could tell, but that the seat may have looked at the token's word or loaded its row.
+// changed that a later call could tell, but that the seat may have looked at the token's word, loaded its row or read its record.
 //
 // What the caller owes, beside what stands at the head of this file:
 //
@@ -154,7 +156,7 @@ uint32_t lwkt_word_give_written(uint64_t word, uint64_t *next);
 // - No more. Two calls at once on one seat are two calls: one of them may answer 50. A token that is held when its thread ends
 //   stays held by its seat, from which any thread may go on.
 //
-// A bank stays to the end of the process: its memory, about 5.7 KB for each seat and 128 bytes for each token, isn't given back.
+// A bank stays to the end of the process: its memory, about 10 KB for each seat and 330 bytes for each token, isn't given back.
 #define LWKT_BUSY 23u
 #define LWKT_RACE 34u
 #define LWKT_SEAT_IN_USE 50u
@@ -164,17 +166,28 @@ uint32_t lwkt_word_give_written(uint64_t word, uint64_t *next);
 #define LWKT_LAW_ORDER 2u
 #define LWKT_LAW_CAP 3u
 #define LWKT_LAW_TALLY 4u
+// The first cell is the length of the record.
+#define LWKT_LAW_LEN 5u
 
-// A token as it is at the opening. Cells past their number count for nothing.
+// The most bytes that a record has.
+#define LWKT_RECORD_ROOM 64u
+
+// A token as it is at the opening. Cells past their number count for nothing, and neither do bytes past theirs. With the members
+// from `record` on 0 it guards no record.
 typedef struct lwkt_token {
     uint64_t cells[4];
     // The law's parameter.
     uint64_t param;
     // The opening generation, 0 to 70368744177663.
     uint64_t generation;
-    // How many cells there are: 0 to 4, exactly 1 under LWKT_LAW_TALLY.
+    // How many cells there are: 0 to 4, exactly 1 under LWKT_LAW_TALLY, at least 1 under LWKT_LAW_LEN.
     uint32_t cell_count;
     uint32_t law;
+    uint8_t record[LWKT_RECORD_ROOM];
+    // How many bytes the record has, 0 to 64, whether or not it counts.
+    uint32_t record_length;
+    // How many records the token guards: 0 or 1, 0 under LWKT_LAW_TALLY, 1 under LWKT_LAW_LEN.
+    uint32_t record_count;
 } lwkt_token;
 
 // A bank. Its member is the library's.
@@ -184,7 +197,7 @@ typedef struct lwkt_bank {
 
 // Opens a bank of these tokens, numbered from 0, with so many seats, and stores it. With another status than 0 `bank` stays as it was.
 // Refused with 39 where a limit is passed: 1 to 8 seats, at most 64 tokens, what stands at `lwkt_token`; with 40 where the opening
-// row of a token breaks its law; with 32.
+// row of a token, with the length of its record, breaks its law; with 32.
 uint32_t lwkt_bank_open(const lwkt_token *tokens, size_t count, uint32_t seats, lwkt_bank *bank);
 
 // Asks for an exclusive reference to a token, without waiting: a first one, or where the seat holds it exclusively a further one.
@@ -202,8 +215,8 @@ uint32_t lwkt_again(lwkt_bank bank, uint32_t seat, uint32_t token);
 // shared one. Refused with 30, 50, 16.
 uint32_t lwkt_mark(lwkt_bank bank, uint32_t seat, uint32_t token);
 
-// Gives a reference back. Where it is the last one of an exclusive holder, and the row differs from that at the beginning, the
-// token's generation is one more. Refused with 30, 50, 16, 13; and with 19 where that row breaks the law: the token stays held.
+// Gives a reference back. Where it is the last one of an exclusive holder, and row or record differ from those at the beginning, the
+// token's generation is one more. Refused with 30, 50, 16, 13; and with 19 where they break the law: the token stays held.
 uint32_t lwkt_give(lwkt_bank bank, uint32_t seat, uint32_t token);
 
 // The value of a cell of a token that the seat holds. With another status than 0 `value` stays as it was. Refused with 30, 50, 16,
@@ -218,12 +231,22 @@ uint32_t lwkt_store(lwkt_bank bank, uint32_t seat, uint32_t token, uint32_t cell
 // another status than 0 stays as it was. Refused with 30, 50, 16, 13, 18; with 22 under any other law; with 21.
 uint32_t lwkt_add(lwkt_bank bank, uint32_t seat, uint32_t token, uint64_t amount, uint64_t *value);
 
-// Whether the row of a token that the seat holds exclusively obeys its law: 0 or 19. Refused with 30, 50, 16, 13, 18.
+// Whether row and record of a token that the seat holds exclusively obey its law: 0 or 19. Refused with 30, 50, 16, 13, 18.
 uint32_t lwkt_lawful(lwkt_bank bank, uint32_t seat, uint32_t token);
 
-// Stores the row again that the token had when the seat took it exclusively; under LWKT_LAW_TALLY nothing. Refused with 30, 50, 16,
-// 13, 18.
+// Stores row and record again that the token had when the seat took it exclusively; under LWKT_LAW_TALLY nothing. Refused with 30, 50,
+// 16, 13, 18.
 uint32_t lwkt_restore(lwkt_bank bank, uint32_t seat, uint32_t token);
+
+// Reads the record of a token that the seat holds exclusively: what the last written section left, or what this one wrote. Its bytes
+// stand in the buffer as far as that has room, and what lies behind them there stays as it was; `length` is how many bytes the record
+// has, at most 64. With another status than 0 buffer and `length` stay as they were. Refused with 30, 50, 16; with 17 where the
+// token guards no record; with 13; with 37 where the seat holds it shared.
+uint32_t lwkt_read_record(lwkt_bank bank, uint32_t seat, uint32_t token, uint8_t *buffer, size_t room, size_t *length);
+
+// Writes the record of a token that the seat holds exclusively: these bytes are its record from now on. Refused with 30, 50, 16, 17,
+// 13, 37 as `lwkt_read_record`; with 38 for more than 64 bytes.
+uint32_t lwkt_write_record(lwkt_bank bank, uint32_t seat, uint32_t token, const uint8_t *bytes, size_t length);
 
 #ifdef __cplusplus
 }

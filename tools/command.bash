@@ -12,7 +12,7 @@ case $program_name in
         reads=script modes=(turns threads)
         ;;
     lwkt_show)
-        reads=script modes=(turns threads) flags=(--svg --trace --chains) valued=(--turns --rounds)
+        reads=script modes=(turns threads) flags=(--svg --trace --chains) valued=(--turns --rounds --order)
         ;;
     lwkt_check)
         reads=trace

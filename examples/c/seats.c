@@ -1,5 +1,6 @@
-// A bank and its seats. Four threads add to one token by seats of their own, and to another one under the law of sums; each misuse of
-// each call; and two threads on one seat. It writes a line for each thing that isn't so, and last a line that counts.
+// A bank and its seats. Four threads add to one token by seats of their own, to another one under the law of sums, and write the record
+// of a third; each misuse of each call; and two threads on one seat. It writes a line for each thing that isn't so, and last a line that
+// counts.
 #include <pthread.h>
 #include <sched.h>
 #include <stdio.h>
@@ -10,7 +11,7 @@
 #define THREADS 4
 #define ROUNDS 100000
 
-enum { TALLY, SUM, ANY, ORDER };
+enum { TALLY, SUM, ANY, ORDER, LEN, NOTE, TOKENS };
 
 static lwkt_bank bank;
 static int passed, failed;
@@ -20,7 +21,15 @@ static void count(int good, const char *what) {
 }
 
 static lwkt_token token(uint64_t first, uint64_t second, uint32_t cells, uint32_t law, uint64_t param) {
-    lwkt_token made = {{first, second, 0, 0}, param, 0, cells, law};
+    lwkt_token made = {.cells = {first, second}, .param = param, .cell_count = cells, .law = law};
+    return made;
+}
+
+// The same token with a record of this text.
+static lwkt_token guarding(lwkt_token made, const char *text) {
+    made.record_length = (uint32_t)strlen(text);
+    made.record_count = 1;
+    memcpy(made.record, text, made.record_length);
     return made;
 }
 
@@ -36,7 +45,21 @@ typedef struct {
     int good;
 } worker;
 
-// Adds one in each section, and moves one from cell to cell of the token of sums.
+// Writes the record of the token of lengths anew, all of one letter, seven bytes longer or shorter than it was.
+static int rewrite(uint32_t seat) {
+    uint8_t bytes[LWKT_RECORD_ROOM];
+    uint64_t value;
+    size_t length;
+    int good = take(seat, LEN) == 0 && lwkt_load(bank, seat, LEN, 0, &value) == 0 && lwkt_read_record(bank, seat, LEN, bytes, sizeof bytes, &length) == 0;
+    if (!good || value != length) return 0;
+    for (size_t i = 1; i < length; i += 1) good = good && bytes[i] == bytes[0];
+    length = (length + 7) % (LWKT_RECORD_ROOM + 1);
+    memset(bytes, 'a' + (int)seat, sizeof bytes);
+    good = good && lwkt_write_record(bank, seat, LEN, bytes, length) == 0 && lwkt_give(bank, seat, LEN) == 19;
+    return good && lwkt_store(bank, seat, LEN, 0, length) == 0 && lwkt_give(bank, seat, LEN) == 0;
+}
+
+// Adds one in each section, moves one from cell to cell of the token of sums, and writes a record.
 static void *work(void *told) {
     worker *mine = told;
     uint64_t value, first, second;
@@ -46,7 +69,7 @@ static void *work(void *told) {
             good = good && take(mine->seat, SUM) == 0 && lwkt_load(bank, mine->seat, SUM, 0, &first) == 0 && lwkt_load(bank, mine->seat, SUM, 1, &second) == 0;
             good = good && first + second == 1000000 && lwkt_store(bank, mine->seat, SUM, 0, first - 1) == 0;
             good = good && lwkt_lawful(bank, mine->seat, SUM) == 19 && lwkt_give(bank, mine->seat, SUM) == 19;
-            good = good && lwkt_store(bank, mine->seat, SUM, 1, second + 1) == 0 && lwkt_give(bank, mine->seat, SUM) == 0;
+            good = good && lwkt_store(bank, mine->seat, SUM, 1, second + 1) == 0 && lwkt_give(bank, mine->seat, SUM) == 0 && rewrite(mine->seat);
         }
         mine->good = mine->good && good;
     }
@@ -98,9 +121,9 @@ static void one_seat(void) {
 static void numbers(void) {
     uint64_t value = 77;
     count(lwkt_take(bank, 4, 0) == 30 && lwkt_give(bank, 4, 0) == 30 && lwkt_load(bank, 4, 0, 0, &value) == 30, "no such seat");
-    count(lwkt_take(bank, 0, 4) == 16 && lwkt_share(bank, 0, 4) == 16 && lwkt_again(bank, 0, 4) == 16 && lwkt_mark(bank, 0, 4) == 16, "no such token");
-    count(lwkt_give(bank, 0, UINT32_MAX) == 16 && lwkt_load(bank, 0, 256, 0, &value) == 16 && lwkt_store(bank, 0, 4, 0, 1) == 16, "no such token");
-    count(lwkt_add(bank, 0, 4, 1, &value) == 16 && lwkt_lawful(bank, 0, 4) == 16 && lwkt_restore(bank, 0, 4) == 16, "no such token");
+    count(lwkt_take(bank, 0, TOKENS) == 16 && lwkt_share(bank, 0, TOKENS) == 16 && lwkt_again(bank, 0, TOKENS) == 16 && lwkt_mark(bank, 0, TOKENS) == 16, "no such token");
+    count(lwkt_give(bank, 0, UINT32_MAX) == 16 && lwkt_load(bank, 0, 256, 0, &value) == 16 && lwkt_store(bank, 0, TOKENS, 0, 1) == 16, "no such token");
+    count(lwkt_add(bank, 0, TOKENS, 1, &value) == 16 && lwkt_lawful(bank, 0, TOKENS) == 16 && lwkt_restore(bank, 0, TOKENS) == 16, "no such token");
     count(lwkt_load(bank, 0, ANY, 1, &value) == 17 && lwkt_store(bank, 0, ANY, 256, 1) == 17, "no such cell");
     count(lwkt_again(bank, 0, ANY) == 13 && lwkt_give(bank, 0, ANY) == 13 && lwkt_load(bank, 0, ANY, 0, &value) == 13, "not held");
     count(lwkt_store(bank, 0, ANY, 0, 1) == 13 && lwkt_add(bank, 0, TALLY, 1, &value) == 13, "not held");
@@ -124,9 +147,67 @@ static void numbers(void) {
     count(lwkt_load(bank, 0, ORDER, 0, &value) == 0 && value == 1 && lwkt_give(bank, 0, ORDER) == 0, "the first row is there again");
 }
 
+// Whether the record of a token that the seat holds is this text.
+static int has_record(uint32_t seat, uint32_t tok, const char *text) {
+    uint8_t bytes[LWKT_RECORD_ROOM];
+    size_t length = 99;
+    return lwkt_read_record(bank, seat, tok, bytes, sizeof bytes, &length) == 0 && length == strlen(text) && memcmp(bytes, text, length) == 0;
+}
+
+static uint32_t write_text(uint32_t seat, uint32_t tok, const char *text) {
+    return lwkt_write_record(bank, seat, tok, (const uint8_t *)text, strlen(text));
+}
+
+static void refused_records(void) {
+    uint8_t bytes[LWKT_RECORD_ROOM + 1] = {0};
+    size_t length = 77;
+    count(lwkt_read_record(bank, 4, NOTE, bytes, 64, &length) == 30 && write_text(4, NOTE, "b") == 30, "no such seat");
+    count(lwkt_read_record(bank, 0, TOKENS, bytes, 64, &length) == 16 && write_text(0, UINT32_MAX, "b") == 16, "no such token");
+    count(lwkt_read_record(bank, 0, ANY, bytes, 64, &length) == 17 && write_text(0, ANY, "b") == 17, "no record");
+    count(lwkt_read_record(bank, 0, NOTE, bytes, 64, &length) == 13 && write_text(0, NOTE, "b") == 13, "not held");
+    count(lwkt_write_record(bank, 0, NOTE, bytes, 65) == 13 && lwkt_write_record(bank, 0, ANY, bytes, 65) == 17, "what stands first is answered");
+    count(lwkt_share(bank, 0, NOTE) == 0 && lwkt_read_record(bank, 0, NOTE, bytes, 64, &length) == 37, "a record read under shared");
+    count(write_text(0, NOTE, "b") == 37 && lwkt_write_record(bank, 0, NOTE, bytes, 65) == 37 && lwkt_give(bank, 0, NOTE) == 0, "a record written under shared");
+    count(length == 77 && bytes[0] == 0, "a refused read stores nothing");
+    count(lwkt_take(bank, 0, NOTE) == 0 && lwkt_write_record(bank, 0, NOTE, bytes, 65) == 38 && has_record(0, NOTE, "abc") && lwkt_give(bank, 0, NOTE) == 0, "a record too long");
+}
+
+static void records(void) {
+    uint8_t bytes[LWKT_RECORD_ROOM] = {1, 2, 3, 4, 5};
+    size_t length = 0;
+    uint64_t value = 0;
+    count(lwkt_take(bank, 0, NOTE) == 0 && write_text(0, NOTE, "hello") == 0 && has_record(0, NOTE, "hello"), "a record is written");
+    count(lwkt_restore(bank, 0, NOTE) == 0 && has_record(0, NOTE, "abc"), "the first record is there again");
+    count(write_text(0, NOTE, "hello") == 0 && lwkt_give(bank, 0, NOTE) == 0, "a record is given back");
+    count(lwkt_take(bank, 1, NOTE) == 0 && has_record(1, NOTE, "hello"), "another seat reads it");
+    count(lwkt_read_record(bank, 1, NOTE, bytes, 3, &length) == 0 && length == 5 && memcmp(bytes, "hel\4\5", 5) == 0, "as far as there is room");
+    count(lwkt_read_record(bank, 1, NOTE, bytes, 0, &length) == 0 && length == 5 && bytes[0] == 'h', "no room");
+    memset(bytes, 'x', sizeof bytes);
+    count(lwkt_write_record(bank, 1, NOTE, bytes, sizeof bytes) == 0 && lwkt_give(bank, 1, NOTE) == 0, "a record of 64 bytes");
+    memset(bytes, 0, sizeof bytes);
+    count(lwkt_take(bank, 0, NOTE) == 0 && lwkt_read_record(bank, 0, NOTE, bytes, 64, &length) == 0 && length == 64 && bytes[0] == 'x' && bytes[63] == 'x', "it is read whole");
+    count(write_text(0, NOTE, "") == 0 && has_record(0, NOTE, "") && lwkt_give(bank, 0, NOTE) == 0, "a record of no bytes");
+    count(lwkt_take(bank, 0, LEN) == 0 && lwkt_load(bank, 0, LEN, 0, &value) == 0 && lwkt_read_record(bank, 0, LEN, bytes, 64, &length) == 0 && value == length, "the cell has its length");
+    count(lwkt_store(bank, 0, LEN, 0, 5) == 0 && write_text(0, LEN, "hello") == 0 && lwkt_lawful(bank, 0, LEN) == 0 && lwkt_give(bank, 0, LEN) == 0, "both are written");
+    count(lwkt_take(bank, 0, LEN) == 0 && write_text(0, LEN, "x") == 0 && lwkt_lawful(bank, 0, LEN) == 19 && lwkt_give(bank, 0, LEN) == 19, "another length");
+    count(lwkt_restore(bank, 0, LEN) == 0 && has_record(0, LEN, "hello") && lwkt_load(bank, 0, LEN, 0, &value) == 0 && value == 5 && lwkt_give(bank, 0, LEN) == 0, "restored");
+}
+
+static void opened_records(void) {
+    lwkt_bank other = {NULL};
+    lwkt_token long_one = guarding(token(0, 0, 1, LWKT_LAW_ANY, 0), "a"), two = long_one, bare = token(0, 0, 1, LWKT_LAW_LEN, 0);
+    lwkt_token no_cell = guarding(token(0, 0, 0, LWKT_LAW_LEN, 0), "a"), tally = guarding(token(1, 0, 1, LWKT_LAW_TALLY, 1), "a");
+    lwkt_token broken = guarding(token(4, 0, 1, LWKT_LAW_LEN, 0), "abc");
+    long_one.record_length = 65;
+    two.record_count = 2;
+    count(lwkt_bank_open(&long_one, 1, 1, &other) == 39 && lwkt_bank_open(&two, 1, 1, &other) == 39, "a record past its limits");
+    count(lwkt_bank_open(&bare, 1, 1, &other) == 39 && lwkt_bank_open(&no_cell, 1, 1, &other) == 39 && lwkt_bank_open(&tally, 1, 1, &other) == 39, "a record and a law that don't fit");
+    count(lwkt_bank_open(&broken, 1, 1, &other) == 40 && other.place == NULL, "a length that the cell hasn't");
+}
+
 static void openings(void) {
     lwkt_bank other = {NULL};
-    lwkt_token broken = token(5, 6, 2, LWKT_LAW_SUM, 10), unknown = token(0, 0, 1, 5, 0), wide = token(0, 0, 5, LWKT_LAW_ANY, 0);
+    lwkt_token broken = token(5, 6, 2, LWKT_LAW_SUM, 10), unknown = token(0, 0, 1, 6, 0), wide = token(0, 0, 5, LWKT_LAW_ANY, 0);
     lwkt_token good = token(1, 0, 1, LWKT_LAW_ANY, 0), pair = token(1, 0, 2, LWKT_LAW_TALLY, 0), worn = good, many[65];
     worn.generation = UINT64_C(70368744177663);
     for (int i = 0; i < 65; i += 1) many[i] = good;
@@ -141,13 +222,18 @@ static void openings(void) {
 }
 
 int main(void) {
-    lwkt_token tokens[4] = {token(5, 0, 1, LWKT_LAW_TALLY, 5), token(400000, 600000, 2, LWKT_LAW_SUM, 1000000), token(0, 0, 1, LWKT_LAW_ANY, 0), token(1, 2, 2, LWKT_LAW_ORDER, 0)};
-    count(lwkt_bank_open(tokens, 4, THREADS, &bank) == 0, "a bank opens");
+    lwkt_token tokens[TOKENS] = {token(5, 0, 1, LWKT_LAW_TALLY, 5), token(400000, 600000, 2, LWKT_LAW_SUM, 1000000), token(0, 0, 1, LWKT_LAW_ANY, 0), token(1, 2, 2, LWKT_LAW_ORDER, 0)};
+    tokens[LEN] = guarding(token(3, 0, 1, LWKT_LAW_LEN, 0), "aaa");
+    tokens[NOTE] = guarding(token(0, 0, 0, LWKT_LAW_ANY, 0), "abc");
+    count(lwkt_bank_open(tokens, TOKENS, THREADS, &bank) == 0, "a bank opens");
     if (failed == 0) {
         sections();
         one_seat();
         numbers();
+        refused_records();
+        records();
         openings();
+        opened_records();
     }
     printf("%d passed, %d failed\n", passed, failed);
     return failed != 0;

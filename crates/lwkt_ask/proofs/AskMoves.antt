@@ -24,18 +24,18 @@ use Rattle.lwkt_ask.specs.declared.nexts.Next.TheVariants.{Readies}
 use Rattle.lwkt_ask.specs.Leaving.{GivesUp}
 use Rattle.lwkt_hold.proofs.RunMoves.{ran_then, ran_weaker}
 
--- a run within the fronts of one list, as one within those of two, of at most 288 events
-pub ran_left : (refs others : List Ref) (m : ℕ) (a b : CpuSeat) (t u : Vec Event Global) → m ≤ 288 → Ran (IsFront refs) m a b t u → Ran (IsBetween refs others) 288 a b t u
-ran_left refs others m a b t u few ran = ran_weaker (IsFront refs) (IsBetween refs others) m 288 a b t u (λ h front. inl front) few ran
+-- a run within the fronts of one list, as one within those of two, of at most 320 events
+pub ran_left : (refs others : List Ref) (m : ℕ) (a b : CpuSeat) (t u : Vec Event Global) → m ≤ 320 → Ran (IsFront refs) m a b t u → Ran (IsBetween refs others) 320 a b t u
+ran_left refs others m a b t u few ran = ran_weaker (IsFront refs) (IsBetween refs others) m 320 a b t u (λ h front. inl front) few ran
 
-pub ran_right : (refs others : List Ref) (m : ℕ) (a b : CpuSeat) (t u : Vec Event Global) → m ≤ 288 → Ran (IsFront others) m a b t u → Ran (IsBetween refs others) 288 a b t u
-ran_right refs others m a b t u few ran = ran_weaker (IsFront others) (IsBetween refs others) m 288 a b t u (λ h front. inr front) few ran
+pub ran_right : (refs others : List Ref) (m : ℕ) (a b : CpuSeat) (t u : Vec Event Global) → m ≤ 320 → Ran (IsFront others) m a b t u → Ran (IsBetween refs others) 320 a b t u
+ran_right refs others m a b t u few ran = ran_weaker (IsFront others) (IsBetween refs others) m 320 a b t u (λ h front. inr front) few ran
 
 -- a missed reference, and what was held given up
-pub ran_switched : (refs others : List Ref) (a b c : CpuSeat) (t u v : Vec Event Global) (front : List Ref) → front ≡ refs → Ran (IsFront refs) 2 a b t u → Ran (IsFront front) 160 b c u v → Ran (IsBetween refs others) 288 a c t v
+pub ran_switched : (refs others : List Ref) (a b c : CpuSeat) (t u v : Vec Event Global) (front : List Ref) → front ≡ refs → Ran (IsFront refs) 2 a b t u → Ran (IsFront front) 192 b c u v → Ran (IsBetween refs others) 320 a c t v
 ran_switched refs others a b c t u v front same first second =
-    let F : List Ref → Type 0 = λ xs. Ran (IsFront xs) 160 b c u v in
-    ran_left refs others 162 a c t v (omega arith) (ran_then (IsFront refs) 2 160 a b c t u v first (subst F same second))
+    let F : List Ref → Type 0 = λ xs. Ran (IsFront xs) 192 b c u v in
+    ran_left refs others 194 a c t v (omega arith) (ran_then (IsFront refs) 2 192 a b c t u v first (subst F same second))
 
 -- the references before the last one
 pub front_is : (refs now : List Ref) (new : Ref) (held : ℕ) → now ≡ refs ++ new ∷ [] → held ≡ length refs → take held now ≡ refs

@@ -145,7 +145,7 @@ pub ran_mail_held : (refs : List Ref) (cpu : CpuId) (n m : ℕ) (s : CpuSeat) (t
 ran_mail_held refs cpu n m s t u few mine held g = ran_weaker (IsFront refs) (IsFront refs) n m s s t u (λ h p. p) few (ran_mail (IsFront refs) cpu n s t u mine (whole_front refs (holding s) held) g)
 
 -- a call on the ports, and then what was held given up
-pub ran_mail_left : (refs : List Ref) (cpu : CpuId) (n : ℕ) (a b : CpuSeat) (t v u : Vec Event Global) → n ≤ 128 → cpu ≡ a.cpu → holding a ≡ holding_of refs → Grew cpu n t v → Ran (IsFront refs) 160 a b v u → Ran (IsFront refs) 288 a b t u
+pub ran_mail_left : (refs : List Ref) (cpu : CpuId) (n : ℕ) (a b : CpuSeat) (t v u : Vec Event Global) → n ≤ 128 → cpu ≡ a.cpu → holding a ≡ holding_of refs → Grew cpu n t v → Ran (IsFront refs) 192 a b v u → Ran (IsFront refs) 320 a b t u
 ran_mail_left refs cpu n a b t v u few mine held g ran =
-    ran_weaker (IsFront refs) (IsFront refs) (128 + 160) 288 a b t u (λ h p. p) (omega arith)
-    (ran_then (IsFront refs) 128 160 a a b t v u (ran_mail_held refs cpu n 128 a t v few mine held g) ran)
+    ran_weaker (IsFront refs) (IsFront refs) (128 + 192) 320 a b t u (λ h p. p) (omega arith)
+    (ran_then (IsFront refs) 128 192 a a b t v u (ran_mail_held refs cpu n 128 a t v few mine held g) ran)

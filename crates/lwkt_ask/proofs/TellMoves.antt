@@ -23,7 +23,8 @@ use Rattle.lwkt_hold.specs.declared.answers.Acquired.{Acquired}
 use Rattle.lwkt_hold.specs.declared.answers.Acquired.TheVariants.{Got, MustSwitch}
 use Rattle.lwkt_hold.specs.Fronts.{names}
 use Rattle.lwkt_hold.specs.Givings.{gives, gives_all, Releases, ReleasesAll, ReleasesLast}
-use Rattle.lwkt_hold.specs.Rows.{section_now, writes}
+use Rattle.lwkt_bank.specs.Views.{RecordOf}
+use Rattle.lwkt_hold.specs.Rows.{section_now, writes, writes_record}
 use Rattle.lwkt_hold.specs.Steps.{taking}
 use Rattle.lwkt_hold.specs.Takings.{takes, takes_all}
 use Rattle.lwkt_msg.specs.Desks.{Desk, cpu_of, past_of}
@@ -35,7 +36,7 @@ use Rattle.lwkt_base.specs.declared.asks.Answer.TheVariants.{Done}
 use Rattle.lwkt_hold.specs.Misses.{exclusive}
 use Rattle.lwkt_ask.specs.declared.nexts.Next.{Next}
 use Rattle.lwkt_ask.specs.declared.nexts.Next.TheVariants.{Readies}
-use Rattle.lwkt_ask.specs.Calls.{Acquires, Tries, Rels, Reads, Stores, Adds}
+use Rattle.lwkt_ask.specs.Calls.{Acquires, Tries, Rels, Reads, Stores, Adds, ReadsRecord, StoresRecord}
 use Rattle.lwkt_ask.specs.Leaving.{GivesUp}
 use Rattle.lwkt_ask.specs.Table.{GoesOn, Gets}
 use Rattle.lwkt_ask.specs.Telling.{is_of_message, TellsMail, IsQuiet}
@@ -145,6 +146,10 @@ plain_writes cpu tok cell [] = refl
 plain_writes cpu tok cell (None ∷ values) = plain_writes cpu tok (suc cell) values
 plain_writes cpu tok cell (Some value ∷ values) = plain_writes cpu tok (suc cell) values
 
+plain_record : (cpu : CpuId) (tok : TokId) (bytes : RecordOf) → filter is_of_message (writes_record cpu tok bytes) ≡ []
+plain_record cpu tok None = refl
+plain_record cpu tok (Some bytes) = refl
+
 pub plain_append : (xs ys : List Event) → filter is_of_message xs ≡ [] → filter is_of_message ys ≡ [] → filter is_of_message (xs ++ ys) ≡ []
 plain_append xs ys first second = filter-append is_of_message xs ys ∙ ap (λ l. l ++ filter is_of_message ys) first ∙ second
 
@@ -158,7 +163,12 @@ plain_releases s held tok events r = elim r [
     | inl clean ↦ plain_is events (GiveClean s.cpu tok ∷ []) clean.3 refl
     | inr rest ↦ elim rest [
       | inl written ↦ plain_is events (GiveWritten s.cpu tok (section_now s tok) ∷ []) written.3 refl
-      | inr broken ↦ plain_is events (writes s.cpu tok 0 broken.2.0 ++ GiveClean s.cpu tok ∷ []) broken.2.1.1 (plain_append (writes s.cpu tok 0 broken.2.0) (GiveClean s.cpu tok ∷ []) (plain_writes s.cpu tok 0 broken.2.0) refl)
+      | inr broken ↦
+          let stores = broken.2 in
+          let first = writes s.cpu tok 0 stores.0 in
+          let last = writes_record s.cpu tok stores.1.0 in
+          let clean = GiveClean s.cpu tok ∷ [] in
+          plain_is events (first ++ (last ++ clean)) stores.1.1.2 (plain_append first (last ++ clean) (plain_writes s.cpu tok 0 stores.0) (plain_append last clean (plain_record s.cpu tok stores.1.0) refl))
     ]
   ]
 ]
@@ -226,3 +236,11 @@ stored_quiet bank a b refs tok cell value t u (Err fault) r = quiet_same t u r.e
 pub added_quiet : (bank : BankId) (a b : CpuSeat) (refs : List Ref) (tok : TokId) (k : ℕ) (t u : Vec Event Global) (result : Result (Unit {0}) Fault) → Adds bank a b refs tok k t u result → IsQuiet t.items u.items
 added_quiet bank a b refs tok k t u (Ok x) r = quiet_one t.items u.items (Write a.cpu tok 0 _) r.written refl
 added_quiet bank a b refs tok k t u (Err fault) r = quiet_same t u r.err.0
+
+pub record_read_quiet : (bank : BankId) (a b : CpuSeat) (refs : List Ref) (tok : TokId) (t u : Vec Event Global) (result : Result (List ℕ) Fault) → ReadsRecord bank a b refs tok t u result → IsQuiet t.items u.items
+record_read_quiet bank a b refs tok t u (Ok bytes) r = quiet_one t.items u.items (ReadBlob a.cpu tok bytes) r.value.1 refl
+record_read_quiet bank a b refs tok t u (Err fault) r = quiet_same t u r.err.0
+
+pub record_stored_quiet : (bank : BankId) (a b : CpuSeat) (refs : List Ref) (tok : TokId) (bytes : List ℕ) (t u : Vec Event Global) (result : Result (Unit {0}) Fault) → StoresRecord bank a b refs tok bytes t u result → IsQuiet t.items u.items
+record_stored_quiet bank a b refs tok bytes t u (Ok x) r = quiet_one t.items u.items (WriteBlob a.cpu tok bytes) r.written refl
+record_stored_quiet bank a b refs tok bytes t u (Err fault) r = quiet_same t u r.err.0

@@ -1,14 +1,14 @@
-use Rattle.std.specs.Prelude.{◌≡◌, ◌≢◌, ◌⊎◌, ◌↔◌, ◌<◌, ◌≤◌, ◌+◌, ◌^◌, ℕ, false, true, List, [], ◌∷◌, ◌++◌, length, Result, Ok, Err, OnOk, OnErr, IfOk, IfErr, Some, None, Vec, slice_index, slice_set}
+use Rattle.std.specs.Prelude.{◌≡◌, ◌≢◌, ◌⊎◌, ◌↔◌, ◌<◌, ◌≤◌, ◌+◌, ◌^◌, ℕ, false, true, List, [], ◌∷◌, ◌++◌, length, Result, Ok, Err, OnOk, OnErr, IfOk, IfErr, is_some, Some, None, Vec, slice_index, slice_set}
 use Rattle.std.specs.declared.alloc.Global.{Global}
 use Rattle.lwkt_base.specs.declared.names.TokId.{TokId}
 use Rattle.lwkt_base.specs.declared.names.Mode.TheVariants.{Exclusive, Shared}
 use Rattle.lwkt_base.specs.declared.names.Ref.{Ref}
 use Rattle.lwkt_base.specs.declared.faults.Fault.{Fault}
-use Rattle.lwkt_base.specs.declared.faults.Fault.TheVariants.{NoToken, ListFull, Upgrade, Worn as WornOut, Broken, NotHeld, NotLast, NoCell, SharedWrite, TallyOnly, Overflow, SwapShort, SwapSame}
+use Rattle.lwkt_base.specs.declared.faults.Fault.TheVariants.{NoToken, ListFull, Upgrade, Worn as WornOut, Broken, NotHeld, NotLast, NoCell, SharedWrite, SharedRecord, RecordLong, TallyOnly, Overflow, SwapShort, SwapSame}
 use Rattle.lwkt_base.specs.declared.laws.Law.TheVariants.{Tally}
 use Rattle.lwkt_base.specs.Refs.{first_mode, IsLastTo, EndsInOneToken, AreExchanged}
 use Rattle.lwkt_core.specs.declared.events.Event.{Event}
-use Rattle.lwkt_core.specs.declared.events.Event.TheVariants.{Mark, Read, Write}
+use Rattle.lwkt_core.specs.declared.events.Event.TheVariants.{Mark, Read, Write, ReadBlob, WriteBlob}
 use Rattle.lwkt_bank.specs.declared.seats.CpuSeat.{CpuSeat}
 use Rattle.lwkt_bank.specs.Seats.{BankId, tokens_of, plan_of}
 use Rattle.lwkt_hold.specs.declared.answers.Acquired.{Acquired}
@@ -16,7 +16,7 @@ use Rattle.lwkt_hold.specs.declared.answers.Acquired.TheVariants.{Got, MustSwitc
 use Rattle.lwkt_hold.specs.declared.answers.Missed.{Missed}
 use Rattle.lwkt_hold.specs.declared.answers.Missed.TheVariants.{Worn}
 use Rattle.lwkt_hold.specs.Misses.{Misses, fault_of, exclusive}
-use Rattle.lwkt_hold.specs.Rows.{row, OnlyRow}
+use Rattle.lwkt_hold.specs.Rows.{row, blob, OnlyRow, OnlyRecord}
 use Rattle.lwkt_hold.specs.Takings.{takes, TakesRows}
 use Rattle.lwkt_hold.specs.Givings.{ReleasesLast}
 
@@ -95,3 +95,26 @@ pub record Adds (bank : BankId) (a b : CpuSeat) (refs : List Ref) (tok : TokId) 
   pub tally : (result ≡ Err TallyOnly) ↔ ((tok.0 < tokens_of bank) × (first_mode refs tok.0 ≡ Some Exclusive) × ((plan_of bank tok.0).law ≢ Tally))
   pub overflow : (result ≡ Err Overflow) ↔ ((tok.0 < tokens_of bank) × (first_mode refs tok.0 ≡ Some Exclusive) × ((plan_of bank tok.0).law ≡ Tally) × (2 ^ 64 ≤ slice_index (row a tok.0) 0 + k))
   pub only : OnErr result ((result ≡ Err NoToken) ⊎ (result ≡ Err NotHeld) ⊎ (result ≡ Err SharedWrite) ⊎ (result ≡ Err TallyOnly) ⊎ (result ≡ Err Overflow))
+
+-- what reading a record tells: `Hold::read_blob`
+pub record ReadsRecord (bank : BankId) (a b : CpuSeat) (refs : List Ref) (tok : TokId) (t u : Vec Event Global) (result : Result (List ℕ) Fault) : Type 0 where
+  pub value : IfOk result (λ bytes. (blob a tok.0 ≡ Some bytes) × (u.items ≡ t.items ++ ReadBlob a.cpu tok bytes ∷ []))
+  pub records : OnlyRecord a b tok.0 (blob a tok.0)
+  pub err : OnErr result ((u ≡ t) × (b ≡ a))
+  pub no_token : (result ≡ Err NoToken) ↔ (tokens_of bank ≤ tok.0)
+  pub no_record : (result ≡ Err NoCell) ↔ ((tok.0 < tokens_of bank) × (is_some (plan_of bank tok.0).blob ≡ false))
+  pub not_held : (result ≡ Err NotHeld) ↔ ((tok.0 < tokens_of bank) × (is_some (plan_of bank tok.0).blob ≡ true) × (first_mode refs tok.0 ≡ None))
+  pub shared : (result ≡ Err SharedRecord) ↔ ((tok.0 < tokens_of bank) × (is_some (plan_of bank tok.0).blob ≡ true) × (first_mode refs tok.0 ≡ Some Shared))
+  pub only : OnErr result ((result ≡ Err NoToken) ⊎ (result ≡ Err NoCell) ⊎ (result ≡ Err NotHeld) ⊎ (result ≡ Err SharedRecord))
+
+-- what storing a record tells: `Hold::write_blob`
+pub record StoresRecord (bank : BankId) (a b : CpuSeat) (refs : List Ref) (tok : TokId) (bytes : List ℕ) (t u : Vec Event Global) (result : Result (Unit {0}) Fault) : Type 0 where
+  pub written : OnOk result (u.items ≡ t.items ++ WriteBlob a.cpu tok bytes ∷ [])
+  pub records : OnOk result (OnlyRecord a b tok.0 (Some bytes))
+  pub err : OnErr result ((u ≡ t) × (b ≡ a))
+  pub no_token : (result ≡ Err NoToken) ↔ (tokens_of bank ≤ tok.0)
+  pub no_record : (result ≡ Err NoCell) ↔ ((tok.0 < tokens_of bank) × (is_some (plan_of bank tok.0).blob ≡ false))
+  pub not_held : (result ≡ Err NotHeld) ↔ ((tok.0 < tokens_of bank) × (is_some (plan_of bank tok.0).blob ≡ true) × (first_mode refs tok.0 ≡ None))
+  pub shared : (result ≡ Err SharedRecord) ↔ ((tok.0 < tokens_of bank) × (is_some (plan_of bank tok.0).blob ≡ true) × (first_mode refs tok.0 ≡ Some Shared))
+  pub long : (result ≡ Err RecordLong) ↔ ((tok.0 < tokens_of bank) × (is_some (plan_of bank tok.0).blob ≡ true) × (first_mode refs tok.0 ≡ Some Exclusive) × (64 < length bytes))
+  pub only : OnErr result ((result ≡ Err NoToken) ⊎ (result ≡ Err NoCell) ⊎ (result ≡ Err NotHeld) ⊎ (result ≡ Err SharedRecord) ⊎ (result ≡ Err RecordLong))

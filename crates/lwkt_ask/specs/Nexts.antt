@@ -3,7 +3,7 @@ use Rattle.lwkt_base.specs.declared.names.Ref.{Ref}
 use Rattle.lwkt_base.specs.declared.faults.Fault.{Fault}
 use Rattle.lwkt_base.specs.declared.faults.Fault.TheVariants.{Broken}
 use Rattle.lwkt_base.specs.declared.asks.Answer.{Answer}
-use Rattle.lwkt_base.specs.declared.asks.Answer.TheVariants.{Done, Value, Refused}
+use Rattle.lwkt_base.specs.declared.asks.Answer.TheVariants.{Done, Value, Bytes, Refused}
 use Rattle.lwkt_base.specs.Holding.{Holding, holding_of, holds_nothing}
 use Rattle.lwkt_hold.specs.declared.answers.Blocked.{Blocked}
 use Rattle.lwkt_hold.specs.declared.answers.Blocked.TheVariants.{Clean, Restored}
@@ -28,7 +28,7 @@ HoldsAfter (AwaitsReply msg) holding refs = holding ≡ holds_nothing
 HoldsAfter Exits holding refs = holding ≡ holds_nothing
 HoldsAfter (Faults fault) holding refs = holding ≡ holds_nothing
 
--- the answer for a call that answers nothing, and for one that answers a value
+-- the answer for a call that answers nothing, for one that answers a value, and for one that answers a record
 abbrev pub done_or : Result (Unit {0}) Fault → Answer
 done_or (Ok u) = Done
 done_or (Err fault) = Refused fault
@@ -36,6 +36,10 @@ done_or (Err fault) = Refused fault
 abbrev pub value_or : Result ℕ Fault → Answer
 value_or (Ok value) = Value value
 value_or (Err fault) = Refused fault
+
+abbrev pub bytes_or : Result (List ℕ) Fault → Answer
+bytes_or (Ok bytes) = Bytes bytes
+bytes_or (Err fault) = Refused fault
 
 -- the answer to a question: 1 for yes, 0 for no
 abbrev pub bit_or : Result Bool Fault → Answer

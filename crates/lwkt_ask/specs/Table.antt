@@ -5,7 +5,7 @@ use Rattle.lwkt_base.specs.declared.names.Mode.TheVariants.{Shared}
 use Rattle.lwkt_base.specs.declared.names.Ref.{Ref}
 use Rattle.lwkt_base.specs.declared.faults.Fault.{Fault}
 use Rattle.lwkt_base.specs.declared.asks.Ask.{Ask}
-use Rattle.lwkt_base.specs.declared.asks.Ask.TheVariants.{Get, GetShared, TryGet, Rel, Swap, Read, Write, Add, Send, Do, Reply, Abort, IsAborted, DropMsg, GetPort, WaitPort, Yield, Exit}
+use Rattle.lwkt_base.specs.declared.asks.Ask.TheVariants.{Get, GetShared, TryGet, Rel, Swap, Read, Write, Add, ReadBlob, WriteBlob, Send, Do, Reply, Abort, IsAborted, DropMsg, GetPort, WaitPort, Yield, Exit}
 use Rattle.lwkt_base.specs.declared.asks.Answer.TheVariants.{Done, Refused}
 use Rattle.lwkt_core.specs.declared.events.Event.{Event}
 use Rattle.lwkt_bank.specs.declared.seats.CpuSeat.{CpuSeat}
@@ -15,8 +15,8 @@ use Rattle.lwkt_hold.specs.declared.answers.Acquired.TheVariants.{Got, MustSwitc
 use Rattle.lwkt_hold.specs.Misses.{exclusive}
 use Rattle.lwkt_ask.specs.declared.nexts.Next.{Next}
 use Rattle.lwkt_ask.specs.declared.nexts.Next.TheVariants.{Runs, Readies, Exits}
-use Rattle.lwkt_ask.specs.Nexts.{done_or, value_or, bit_or}
-use Rattle.lwkt_ask.specs.Calls.{Acquires, Tries, Rels, Swaps, Reads, Stores, Adds}
+use Rattle.lwkt_ask.specs.Nexts.{done_or, value_or, bytes_or, bit_or}
+use Rattle.lwkt_ask.specs.Calls.{Acquires, Tries, Rels, Swaps, Reads, Stores, Adds, ReadsRecord, StoresRecord}
 use Rattle.lwkt_ask.specs.Leaving.{GivesUp}
 use Rattle.lwkt_ask.specs.Mailing.{sending, plain_flags, SendsMail, RepliesMail, AbortsMail, HearsMail, DropsMail, dropped_or, item_or, Does, WaitsPort}
 use Rattle.lwkt_base.specs.declared.asks.Item.{Item}
@@ -54,6 +54,8 @@ Performs bank thread a b p q refs now t u Swap next = (q ≡ p) × ((result : Re
 Performs bank thread a b p q refs now t u (Read tok cell) next = (q ≡ p) × ((result : Result ℕ Fault) × (Reads bank a b refs tok cell t u result × (now ≡ refs) × (next ≡ Runs (value_or result))))
 Performs bank thread a b p q refs now t u (Write tok cell value) next = (q ≡ p) × ((result : Result (Unit {0}) Fault) × (Stores bank a b refs tok cell value t u result × (now ≡ refs) × (next ≡ Runs (done_or result))))
 Performs bank thread a b p q refs now t u (Add tok k) next = (q ≡ p) × ((result : Result (Unit {0}) Fault) × (Adds bank a b refs tok k t u result × (now ≡ refs) × (next ≡ Runs (done_or result))))
+Performs bank thread a b p q refs now t u (ReadBlob tok) next = (q ≡ p) × ((result : Result (List ℕ) Fault) × (ReadsRecord bank a b refs tok t u result × (now ≡ refs) × (next ≡ Runs (bytes_or result))))
+Performs bank thread a b p q refs now t u (WriteBlob tok bytes) next = (q ≡ p) × ((result : Result (Unit {0}) Fault) × (StoresRecord bank a b refs tok bytes t u result × (now ≡ refs) × (next ≡ Runs (done_or result))))
 Performs bank thread a b p q refs now t u (Send msg to call flags) next = (b ≡ a) × (now ≡ refs) × ((result : Result (Unit {0}) Fault) × (SendsMail (sending thread msg to call flags false) p q t u result × (next ≡ Runs (done_or result))))
 Performs bank thread a b p q refs now t u (Do msg to call) next = (now ≡ refs) × Does (sending thread msg to call plain_flags true) p q a b refs t u next
 Performs bank thread a b p q refs now t u (Reply msg error outcome) next = (b ≡ a) × (now ≡ refs) × ((result : Result (Unit {0}) Fault) × (RepliesMail thread msg error outcome p q t u result × (next ≡ Runs (done_or result))))

@@ -1,19 +1,19 @@
 //! The asks about tokens, each as the call on the hold that it makes.
-ghost use Rattle.std.specs.Prelude.{◌≡◌, ℕ, ◌+◌, ◌<◌, ◌≤◌, length, All, Result, vec_len, vec_capacity};
+ghost use Rattle.std.specs.Prelude.{◌≡◌, ℕ, ◌+◌, ◌<◌, ◌≤◌, List, length, All, Result, vec_len, vec_capacity};
 ghost use Rattle.lwkt_base.specs.Holding.{holding_of};
 ghost use Rattle.lwkt_base.specs.declared.faults.Fault.{Fault};
 ghost use Rattle.lwkt_bank.specs.Seats.{id_of, bank_of, tokens_of, holding};
 ghost use Rattle.lwkt_hold.specs.Holds.{seat_of};
 ghost use Rattle.lwkt_hold.specs.Fronts.{IsFront, IsBetween};
 ghost use Rattle.lwkt_hold.specs.Runs.{Ran};
-ghost use Rattle.lwkt_ask.specs.Nexts.{kept_list, HoldsAfter, done_or, value_or};
-ghost use Rattle.lwkt_ask.specs.Calls.{Tries, Rels, Swaps, Reads, Stores, Adds};
+ghost use Rattle.lwkt_ask.specs.Nexts.{kept_list, HoldsAfter, done_or, value_or, bytes_or};
+ghost use Rattle.lwkt_ask.specs.Calls.{Tries, Rels, Swaps, Reads, Stores, Adds, ReadsRecord, StoresRecord};
 ghost use Rattle.lwkt_ask.specs.Table.{Gets};
 
 use crate::leaves::give_up;
 use crate::nexts::Next;
 use lwkt_bank::Bank;
-use lwkt_base::{Answer, Fault, Ref, TokId, TokList};
+use lwkt_base::{Answer, Blob, Fault, Ref, TokId, TokList};
 use lwkt_core::Event;
 use lwkt_hold::{Acquired, Hold};
 
@@ -40,7 +40,7 @@ pub(crate) fn get(
     requires of { bank_of (seat_of hold.old) ≡ id_of bank.now }
     requires held { holding (seat_of hold.old) ≡ holding_of list.old }
     requires room { vec_len trace.old + 512 ≤ vec_capacity trace.old }
-    ensures ran { Ran (IsBetween list.old (kept_list result list.new)) 288 (seat_of hold.old) (seat_of hold.new) trace.old trace.new }
+    ensures ran { Ran (IsBetween list.old (kept_list result list.new)) 320 (seat_of hold.old) (seat_of hold.new) trace.old trace.new }
     ensures held { HoldsAfter result (holding (seat_of hold.new)) list.new }
     ensures there { All (λ r. r.tok.0 < tokens_of (bank_of (seat_of hold.old))) list.old → All (λ r. r.tok.0 < tokens_of (bank_of (seat_of hold.old))) list.new }
     ensures gets { Gets (id_of bank.now) (seat_of hold.old) (seat_of hold.new) list.old list.new new trace.old trace.new result }
@@ -67,7 +67,7 @@ pub(crate) fn try_get(
     requires of { bank_of (seat_of hold.old) ≡ id_of bank.now }
     requires held { holding (seat_of hold.old) ≡ holding_of list.old }
     requires room { vec_len trace.old + 512 ≤ vec_capacity trace.old }
-    ensures ran { Ran (IsBetween list.old list.new) 288 (seat_of hold.old) (seat_of hold.new) trace.old trace.new }
+    ensures ran { Ran (IsBetween list.old list.new) 320 (seat_of hold.old) (seat_of hold.new) trace.old trace.new }
     ensures held { holding (seat_of hold.new) ≡ holding_of list.new }
     ensures there { All (λ r. r.tok.0 < tokens_of (bank_of (seat_of hold.old))) list.old → All (λ r. r.tok.0 < tokens_of (bank_of (seat_of hold.old))) list.new }
     ensures tries { (told : Result (Unit {0}) Fault) × (Tries (id_of bank.now) (seat_of hold.old) (seat_of hold.new) list.old list.new tok trace.old trace.new told × (result ≡ done_or told)) }
@@ -88,7 +88,7 @@ pub(crate) fn rel(
     requires of { bank_of (seat_of hold.old) ≡ id_of bank.now }
     requires held { holding (seat_of hold.old) ≡ holding_of list.old }
     requires room { vec_len trace.old + 512 ≤ vec_capacity trace.old }
-    ensures ran { Ran (IsBetween list.old list.new) 288 (seat_of hold.old) (seat_of hold.new) trace.old trace.new }
+    ensures ran { Ran (IsBetween list.old list.new) 320 (seat_of hold.old) (seat_of hold.new) trace.old trace.new }
     ensures held { holding (seat_of hold.new) ≡ holding_of list.new }
     ensures there { All (λ r. r.tok.0 < tokens_of (bank_of (seat_of hold.old))) list.old → All (λ r. r.tok.0 < tokens_of (bank_of (seat_of hold.old))) list.new }
     ensures rels { (told : Result (Unit {0}) Fault) × (Rels (seat_of hold.old) (seat_of hold.new) list.old list.new tok trace.old trace.new told × (result ≡ done_or told)) }
@@ -171,5 +171,46 @@ pub(crate) fn add(
     ensures adds { (told : Result (Unit {0}) Fault) × (Adds (id_of bank.now) (seat_of hold.old) (seat_of hold.new) list.now tok k trace.old trace.new told × (result ≡ done_or told)) }
 {
     let told = hold.add(bank, list, tok, k, trace);
+    done(told)
+}
+
+/// Reads a record.
+pub(crate) fn read_blob(
+    hold: &mut Hold,
+    bank: &Bank,
+    list: &TokList,
+    tok: TokId,
+    trace: &mut Vec<Event>,
+) -> Answer
+    requires of { bank_of (seat_of hold.old) ≡ id_of bank.now }
+    requires held { holding (seat_of hold.old) ≡ holding_of list.now }
+    requires room { vec_len trace.old + 512 ≤ vec_capacity trace.old }
+    ensures ran { Ran (IsFront list.now) 1 (seat_of hold.old) (seat_of hold.new) trace.old trace.new }
+    ensures held { holding (seat_of hold.new) ≡ holding_of list.now }
+    ensures reads { (told : Result (List ℕ) Fault) × (ReadsRecord (id_of bank.now) (seat_of hold.old) (seat_of hold.new) list.now tok trace.old trace.new told × (result ≡ bytes_or told)) }
+{
+    match hold.read_blob(bank, list, tok, trace) {
+        Ok(blob) => Answer::Bytes(blob),
+        Err(fault) => Answer::Refused(fault),
+    }
+}
+
+/// Stores a record.
+pub(crate) fn write_blob(
+    hold: &mut Hold,
+    bank: &Bank,
+    list: &TokList,
+    tok: TokId,
+    blob: &Blob,
+    trace: &mut Vec<Event>,
+) -> Answer
+    requires of { bank_of (seat_of hold.old) ≡ id_of bank.now }
+    requires held { holding (seat_of hold.old) ≡ holding_of list.now }
+    requires room { vec_len trace.old + 512 ≤ vec_capacity trace.old }
+    ensures ran { Ran (IsFront list.now) 1 (seat_of hold.old) (seat_of hold.new) trace.old trace.new }
+    ensures held { holding (seat_of hold.new) ≡ holding_of list.now }
+    ensures stores { (told : Result (Unit {0}) Fault) × (StoresRecord (id_of bank.now) (seat_of hold.old) (seat_of hold.new) list.now tok blob.now trace.old trace.new told × (result ≡ done_or told)) }
+{
+    let told = hold.write_blob(bank, list, tok, blob, trace);
     done(told)
 }

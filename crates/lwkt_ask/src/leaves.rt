@@ -40,7 +40,7 @@ pub(crate) fn give_up(
     requires within { held ≤ length list.now }
     requires held { holding (seat_of hold.old) ≡ holding_of (take held list.now) }
     requires room { vec_len trace.old + 256 ≤ vec_capacity trace.old }
-    ensures ran { Ran (IsFront (take held list.now)) 160 (seat_of hold.old) (seat_of hold.new) trace.old trace.new }
+    ensures ran { Ran (IsFront (take held list.now)) 192 (seat_of hold.old) (seat_of hold.new) trace.old trace.new }
     ensures empty { holding (seat_of hold.new) ≡ holds_nothing }
     ensures gives_up { GivesUp (seat_of hold.old) (seat_of hold.new) list.now held trace.old trace.new meant result }
 {
@@ -60,7 +60,7 @@ pub(crate) fn leave(
     requires of { bank_of (seat_of hold.old) ≡ id_of bank.now }
     requires held { holding (seat_of hold.old) ≡ holding_of list.now }
     requires room { vec_len trace.old + 256 ≤ vec_capacity trace.old }
-    ensures ran { Ran (IsFront list.now) 160 (seat_of hold.old) (seat_of hold.new) trace.old trace.new }
+    ensures ran { Ran (IsFront list.now) 192 (seat_of hold.old) (seat_of hold.new) trace.old trace.new }
     ensures empty { holding (seat_of hold.new) ≡ holds_nothing }
     ensures gives_up { GivesUp (seat_of hold.old) (seat_of hold.new) list.now (length list.now) trace.old trace.new meant result }
 {
@@ -69,12 +69,12 @@ pub(crate) fn leave(
 }
 
 /// The ask to end: a thread that runs gives up everything. That the trace has room for 256 events is the caller's condition;
-/// no more than 160 are made.
+/// no more than 192 are made.
 pub fn exit(hold: &mut Hold, bank: &Bank, list: &TokList, trace: &mut Vec<Event>) -> Next
     requires of { bank_of (seat_of hold.old) ≡ id_of bank.now }
     requires held { holding (seat_of hold.old) ≡ holding_of list.now }
     requires room { vec_len trace.old + 256 ≤ vec_capacity trace.old }
-    ensures ran { Ran (IsFront list.now) 160 (seat_of hold.old) (seat_of hold.new) trace.old trace.new }
+    ensures ran { Ran (IsFront list.now) 192 (seat_of hold.old) (seat_of hold.new) trace.old trace.new }
     ensures empty { holding (seat_of hold.new) ≡ holds_nothing }
     ensures gives_up { GivesUp (seat_of hold.old) (seat_of hold.new) list.now (length list.now) trace.old trace.new Next.Exits result }
 {

@@ -106,7 +106,7 @@ pub(crate) fn send_and_wait(
     requires held { holding (seat_of hold.old) ≡ holding_of list.now }
     requires room { vec_len trace.old + 512 ≤ vec_capacity trace.old }
     ensures does { Does (sending thread msg to call plain_flags true) ports.old ports.new (seat_of hold.old) (seat_of hold.new) list.now trace.old trace.new result }
-    ensures ran { Ran (IsFront list.now) 288 (seat_of hold.old) (seat_of hold.new) trace.old trace.new }
+    ensures ran { Ran (IsFront list.now) 320 (seat_of hold.old) (seat_of hold.new) trace.old trace.new }
     ensures held { HoldsAfter result (holding (seat_of hold.new)) list.now }
     ensures same { IsSamePost ports.old ports.new }
     ensures named { (m : MsgId) → result ≡ Next.AwaitsReply m → m.0 < messages_of ports.new.seat }
@@ -231,7 +231,7 @@ pub(crate) fn wait_port(
     requires held { holding (seat_of hold.old) ≡ holding_of list.now }
     requires room { vec_len trace.old + 512 ≤ vec_capacity trace.old }
     ensures waits { WaitsPort thread ports.old ports.new (seat_of hold.old) (seat_of hold.new) list.now trace.old trace.new result }
-    ensures ran { Ran (IsFront list.now) 288 (seat_of hold.old) (seat_of hold.new) trace.old trace.new }
+    ensures ran { Ran (IsFront list.now) 320 (seat_of hold.old) (seat_of hold.new) trace.old trace.new }
     ensures held { HoldsAfter result (holding (seat_of hold.new)) list.now }
     ensures same { IsSamePost ports.old ports.new }
     ensures named { (m : MsgId) → result ≡ Next.AwaitsReply m → m.0 < messages_of ports.new.seat }

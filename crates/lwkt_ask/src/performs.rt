@@ -12,7 +12,7 @@ ghost use Rattle.lwkt_ask.specs.Nexts.{kept_list, HoldsAfter};
 ghost use Rattle.lwkt_ask.specs.Table.{Performs};
 ghost use Rattle.lwkt_ask.specs.Telling.{TellsMail};
 
-use crate::calls::{add, get, read, rel, swap, try_get, write};
+use crate::calls::{add, get, read, read_blob, rel, swap, try_get, write, write_blob};
 use crate::leaves::leave;
 use crate::mails::{abort, drop_msg, get_port, is_aborted, reply, send, send_and_wait, wait_port};
 use crate::nexts::Next;
@@ -44,7 +44,7 @@ fn shared(tok: TokId) -> Ref
 }
 
 /// Performs the ask of a running thread, whose list is held, and says what comes next for the thread. That the trace has
-/// room for 512 events is the caller's condition; no ask makes more than 288.
+/// room for 512 events is the caller's condition; no ask makes more than 320.
 #[inline(always)]
 pub fn perform(
     hold: &mut Hold,
@@ -62,7 +62,7 @@ pub fn perform(
     requires mine { cpu_of ports.old.seat ≡ (seat_of hold.old).cpu }
     requires held { holding (seat_of hold.old) ≡ holding_of list.old }
     requires room { vec_len trace.old + 512 ≤ vec_capacity trace.old }
-    ensures ran { Ran (IsBetween list.old (kept_list result list.new)) 288 (seat_of hold.old) (seat_of hold.new) trace.old trace.new }
+    ensures ran { Ran (IsBetween list.old (kept_list result list.new)) 320 (seat_of hold.old) (seat_of hold.new) trace.old trace.new }
     ensures held { HoldsAfter result (holding (seat_of hold.new)) list.new }
     ensures there { All (λ r. r.tok.0 < tokens_of (bank_of (seat_of hold.old))) list.old → All (λ r. r.tok.0 < tokens_of (bank_of (seat_of hold.old))) list.new }
     ensures performs { Performs (id_of bank.now) thread (seat_of hold.old) (seat_of hold.new) ports.old ports.new list.old list.new trace.old trace.new ask result }
@@ -81,6 +81,8 @@ pub fn perform(
             Next::Runs(write(hold, bank, list, tok, cell, value, trace))
         }
         Ask::Add(tok, k) => Next::Runs(add(hold, bank, list, tok, k, trace)),
+        Ask::ReadBlob(tok) => Next::Runs(read_blob(hold, bank, list, tok, trace)),
+        Ask::WriteBlob(tok, blob) => { Next::Runs(write_blob(hold, bank, list, tok, &blob, trace)) }
         Ask::Send(msg, to, call, flags) => {
             Next::Runs(send(ports, book, thread, msg, to, call, flags, trace))
         }

@@ -1,5 +1,7 @@
-use Rattle.std.proofs.Common.{eq-eqb, ⊎_elim, Bool, true, cond, ◌≡◌, ℕ, ◌+◌, ◌<◌, ◌≤◌, List, [], ◌∷◌, ◌++◌, length, refl, ap, sym, ◌∙◌, subst, arith, set, zero, suc, take, get_or, Option, None, length-take, get_or-set_same, append_assoc}
-use Rattle.std.specs.Prelude.{slice_get, slice_index, All, Some}
+use Rattle.std.proofs.Common.{eq-eqb, ⊎_elim, Bool, true, false, cond, ◌≡◌, ◌≢◌, ℕ, ◌+◌, ◌<◌, ◌≤◌, List, [], ◌∷◌, ◌++◌, length, refl, ap, sym, ◌∙◌, subst, arith, set, zero, suc, take, get_or, Option, None, length-take, get_or-set_same, append_assoc}
+use Rattle.std.specs.Prelude.{slice_get, slice_index, All, Some, is_some}
+use Rattle.lwkt_bank.specs.declared.notes.Touch.{Touch}
+use Rattle.lwkt_bank.specs.declared.notes.KeptBlob.{KeptBlob}
 use Rattle.atomic_table.specs.declared.shared.Seat.{Seat}
 use Rattle.lwkt_base.specs.declared.names.CpuId.{CpuId}
 use Rattle.lwkt_core.specs.declared.seats.SeatKind.TheVariants.{Of}
@@ -15,24 +17,28 @@ use Rattle.lwkt_bank.specs.declared.seats.CpuSeat.{CpuSeat}
 use Rattle.std.proofs.lemmas.Bool.{cases_eq}
 use Rattle.std.proofs.Math.Path.{fun_ext}
 use Rattle.std.proofs.lemmas.List.{get_or-take, ext_get_or, get_or_default, set-set}
-use Rattle.lwkt_base.specs.Holding.{is_held}
+use Rattle.lwkt_base.specs.Holding.{is_held, is_exclusive}
 use Rattle.lwkt_base.specs.declared.names.Mode.{Mode}
+use Rattle.lwkt_base.specs.declared.names.Mode.TheVariants.{Exclusive, Shared}
 use Rattle.lwkt_base.specs.declared.holdings.Held.TheVariants.{Nothing, Holds}
 use Rattle.lwkt_base.specs.declared.words.TokWord.{TokWord}
 use Rattle.lwkt_base.specs.declared.words.Decision.{Decision}
 use Rattle.lwkt_base.specs.declared.words.Decision.TheVariants.{Take}
 use Rattle.lwkt_base.specs.TokenWord.{word_of, Fits, decision}
 use Rattle.lwkt_base.specs.Holding.{Holding}
-use Rattle.lwkt_bank.specs.Plays.{IsTakenRow}
-use Rattle.lwkt_bank.specs.Views.{at, noted, seat_cpu, who, read, seen, looked, taken, generation_in, raised, count_from}
+use Rattle.lwkt_bank.specs.Plays.{IsTakenRow, TakesHands}
+use Rattle.lwkt_bank.specs.Hands.{AreSame, AreHands, IsInHand, TakesOut, PutsBack}
+use Rattle.lwkt_bank.proofs.HandMoves.{AreSame-refl}
+use Rattle.lwkt_bank.proofs.GuardMoves.{hands_alike, hands_put, hands_taken, hands_free, hands_moved}
+use Rattle.lwkt_bank.specs.Views.{RecordOf, listed, wrote_record, at, noted, seat_cpu, who, read, seen, looked, taken, generation_in, raised, count_from}
 use Rattle.lwkt_bank.specs.Deeds.{loads, takes, loses, writes}
 use Rattle.lwkt_bank.specs.Rule.{plan_at}
-use Rattle.lwkt_bank.specs.Notes.{Keeps, IsNoted, no_note, note_at, begun}
+use Rattle.lwkt_bank.specs.Notes.{Keeps, IsNoted, no_note, note_at, begun, note_wrote, first_record, kept_bytes, FitsKept, is_stored, is_other}
 use Rattle.lwkt_bank.specs.declared.notes.TokenNote.{TokenNote}
-use Rattle.lwkt_bank.specs.Seats.{BankId, id_of, bank_of, tokens_of, plan_of, entry, past_of, holding, references, IsOf, IsSame, Changes, Knowing, IsUnchanged, written_over, Looked, Took, Lost, Hit, Miss, Decides}
+use Rattle.lwkt_bank.specs.Seats.{BankId, id_of, bank_of, tokens_of, plan_of, entry, past_of, holding, references, IsOf, Changes, Knowing, IsUnchanged, written_over, Looked, Took, Lost, Hit, Miss, Decides}
 use Rattle.lwkt_bank.proofs.ViewMoves.{at-here, at-else, at-tok}
-use Rattle.lwkt_bank.proofs.NoteMoves.{seat_told, IsNoted-seen, IsNoted-missed, Keeps-kept, Keeps-set}
-use Rattle.lwkt_bank.proofs.TurnMoves.{seen-keeps}
+use Rattle.lwkt_bank.proofs.NoteMoves.{seat_told, IsNoted-seen, IsNoted-missed, IsNoted-wrote, short_old, Keeps-kept, Keeps-set}
+use Rattle.lwkt_bank.proofs.TurnMoves.{seen-keeps, exclusive_held}
 
 -- a seat is at the bank that it names
 pub is_of : (bank : Bank) (s : CpuSeat) → bank_of s ≡ id_of bank → IsOf bank s.seat
@@ -51,11 +57,11 @@ pub who_is : (s : CpuSeat) → who s.seat.me.0 ≡ s.cpu
 who_is s = ap seat_cpu (seat_told s.seat.me.0.kind s.cpu s.kept.seat)
 
 -- what a step on the seat's view changes
-pub changed : (s s' : CpuSeat) (tok : ℕ) (e : TokenEntry) (between : List Deed) (deed : CpuId → Deed) → IsSame s.seat s'.seat → s'.cpu ≡ s.cpu → ((deed s.cpu).cpu ≡ s.cpu) → AreOthers (who s.seat.me.0).0 between → s'.seat.me.0 ≡ noted between s.seat.me.0 e (deed (who s.seat.me.0)) → e.tok ≡ tok → Changes s s' tok e (deed s.cpu ∷ [])
+pub changed : (s s' : CpuSeat) (tok : ℕ) (e : TokenEntry) (between : List Deed) (deed : CpuId → Deed) → s'.seat.table_id ≡ s.seat.table_id → s'.cpu ≡ s.cpu → ((deed s.cpu).cpu ≡ s.cpu) → AreOthers (who s.seat.me.0).0 between → s'.seat.me.0 ≡ noted between s.seat.me.0 e (deed (who s.seat.me.0)) → e.tok ≡ tok → Changes s s' tok e (deed s.cpu ∷ [])
 changed s s' tok e between deed same cpu own others is is_tok =
     let F : CpuId → Type 0 = λ c. Grows c.0 (past_of s) (deed c ∷ []) (past_of s') in
     record {
-      bank = λ i. record { table = same.table i; plans = (is i).plans };
+      bank = λ i. record { table = same i; plans = (is i).plans };
       cpu = cpu;
       here = ap (λ (v : View). at v.tokens tok) is ∙ at-here e s.seat.me.0.tokens tok is_tok;
       else_ = λ other away. ap (λ (v : View). at v.tokens other) is ∙ at-else e s.seat.me.0.tokens tok other is_tok away;
@@ -142,21 +148,55 @@ keeps_seen s w tok g between d there is =
     Keeps-kept s.notes s.cpu s.seat.me.0 w (seen (entry s tok) g) between d tok s.kept is there ((seen-keeps (entry s tok) g).0 ∙ at-tok s.seat.me.0.tokens tok)
     (IsNoted-seen (plan_at s.seat.me.0.plans tok) s.cpu.0 (entry s tok) g (note_at s.notes tok) (s.kept.each tok there))
 
--- a seat holds no slot after a step
-pub still_quiet : (old new : Seat (Unit {0}) View) → IsSame old new → length old.me.1 ≡ 0 → length new.me.1 ≡ 0
-still_quiet old new same quiet = ap length same.slots ∙ quiet
+-- the same list of records has the same records
+same_list : (hands others : List (ℕ × List ℕ)) → others ≡ hands → AreSame hands others
+same_list hands others is = let F : List (ℕ × List ℕ) → Type 0 = λ xs. AreSame hands xs in subst F (sym is) (AreSame-refl hands)
+
+-- what a seat has in hand after a step that moves no record
+pub still_hands : (s : CpuSeat) (new : Seat (List ℕ) View) (tok : ℕ) (e : TokenEntry) (between : List Deed) (d : Deed) → new.me.1 ≡ s.seat.me.1 → new.me.0 ≡ noted between s.seat.me.0 e d → e.tok ≡ tok → is_exclusive e.held ≡ is_exclusive (entry s tok).held → e.blob ≡ (entry s tok).blob → AreHands new.me.0 new.me.1
+still_hands s new tok e between d same is is_tok held blob =
+    hands_moved (noted between s.seat.me.0 e d) new.me.0 new.me.1 is (hands_alike s.seat.me.0 tok e between d is_tok s.seat.me.1 new.me.1 (record { held = held; blob = blob }) s.hands (same_list s.seat.me.1 new.me.1 same))
+
+-- after a step that ends a section
+pub put_hands : (s : CpuSeat) (new : Seat (List ℕ) View) (tok : ℕ) (e : TokenEntry) (between : List Deed) (d : Deed) → PutsBack (entry s tok).blob tok s.seat.me.1 new.me.1 → new.me.0 ≡ noted between s.seat.me.0 e d → e.tok ≡ tok → e.held ≡ Nothing → AreHands new.me.0 new.me.1
+put_hands s new tok e between d puts is is_tok gone =
+    hands_moved (noted between s.seat.me.0 e d) new.me.0 new.me.1 is (hands_put s.seat.me.0 tok e between d is_tok s.seat.me.1 new.me.1 (ap is_exclusive gone) (entry s tok).blob refl puts s.hands)
+
+-- and after an exchange, which hit or missed
+pub hit_hands : (s : CpuSeat) (new : Seat (List ℕ) View) (tok word old found : ℕ) (mode : Mode) (row : List ℕ) (blob : RecordOf) (between : List Deed) (d : Deed) → TakesHands mode old tok found s.seat.me new.me → found ≡ old → new.me.0 ≡ noted between s.seat.me.0 (taken (entry s tok) word mode row blob) d → tok < length s.seat.me.0.plans → holding s tok ≡ Nothing → AreHands new.me.0 new.me.1
+hit_hands s new tok word old found Exclusive row blob between d takes hit is there free =
+    let e = taken (entry s tok) word Exclusive row blob in
+    let is_tok : e.tok ≡ tok = (seen-keeps (entry s tok) (generation_in word)).0 ∙ at-tok s.seat.me.0.tokens tok in
+    let F : RecordOf → Type 0 = λ o. TakesOut o tok s.seat.me.1 new.me.1 in
+    let its : (at new.me.0.tokens tok).blob ≡ blob = ap (λ (v : View). (at v.tokens tok).blob) is ∙ ap (λ (x : TokenEntry). x.blob) (at-here e s.seat.me.0.tokens tok is_tok) in
+    hands_moved (noted between s.seat.me.0 e d) new.me.0 new.me.1 is (hands_taken s.seat.me.0 tok e between d is_tok s.seat.me.1 new.me.1 there refl (ap is_exclusive free) blob refl (subst F its (takes.0 hit)) s.hands)
+hit_hands s new tok word old found Shared row blob between d takes hit is there free =
+    let e = taken (entry s tok) word Shared row blob in
+    let is_tok : e.tok ≡ tok = (seen-keeps (entry s tok) (generation_in word)).0 ∙ at-tok s.seat.me.0.tokens tok in
+    let F : List (ℕ × List ℕ) → Type 0 = λ xs. AreHands new.me.0 xs in
+    subst F (sym takes) (hands_moved (noted between s.seat.me.0 e d) new.me.0 s.seat.me.1 is (hands_free s.seat.me.0 tok e between d is_tok s.seat.me.1 refl (ap is_exclusive free) s.hands))
+
+pub miss_hands : (s : CpuSeat) (new : Seat (List ℕ) View) (tok old found : ℕ) (mode : Mode) → TakesHands mode old tok found s.seat.me new.me → found ≢ old → new.me.1 ≡ s.seat.me.1
+miss_hands s new tok old found Exclusive takes miss = takes.1 miss
+miss_hands s new tok old found Shared takes miss = takes
 
 -- a second look at one word shows nothing more
 pub seen_twice : (e : TokenEntry) (g : ℕ) → seen (seen e g) g ≡ seen e g
-seen_twice e g = ap (λ (b : Bool). cond b (seen e g) (record (seen e g) { generation = g; known = [] })) (eq-eqb (seen e g).generation g (seen-keeps e g).6)
+seen_twice e g = ap (λ (b : Bool). cond b (seen e g) (record (seen e g) { generation = g; known = []; known_blob = [] })) (eq-eqb (seen e g).generation g (seen-keeps e g).6)
 
 -- a look at the generation that is known changes nothing
 seen_known : (e : TokenEntry) (g : ℕ) → e.generation ≡ g → seen e g ≡ e
-seen_known e g is = ap (λ (b : Bool). cond b e (record e { generation = g; known = [] })) (eq-eqb e.generation g is)
+seen_known e g is = ap (λ (b : Bool). cond b e (record e { generation = g; known = []; known_blob = [] })) (eq-eqb e.generation g is)
 
 -- the row of a take after a look at its word
-pub taken_after_look : (plan : Plan) (e : TokenEntry) (word : ℕ) (row : List ℕ) → e.generation ≤ generation_in word → IsTakenRow plan (looked e word) word row → IsTakenRow plan e word row
-taken_after_look plan e word row rises took = record {
+pub taken_after_look : (plan : Plan) (e : TokenEntry) (word : ℕ) (row : List ℕ) (blob : RecordOf) → e.generation ≤ generation_in word → IsTakenRow plan (looked e word) word row blob → IsTakenRow plan e word row blob
+taken_after_look plan e word row blob rises took = record {
+  guard = took.guard;
+  short = took.short;
+  opening_blob = took.opening_blob;
+  fresh_blob = λ same.
+      let F : TokenEntry → Type 0 = λ d. d.generation ≡ generation_in word → All (λ bytes. blob ≡ Some bytes) d.known_blob in
+      subst F (seen_known e (generation_in word) same) took.fresh_blob same;
   long = took.long;
   lawful = took.lawful;
   rises = rises;
@@ -183,20 +223,21 @@ pub took : (s mid s' : CpuSeat) (tok : ℕ) (mode : Mode) (alone : Bool) (word n
 took s mid s' tok mode alone word next looked' decides hit =
     let e = entry s tok in
     let g = generation_in word in
-    let F : TokenEntry → Type 0 = λ d. IsTakenRow (plan_of (bank_of mid) tok) d word hit.row in
-    let G : BankId → Type 0 = λ b. IsTakenRow (plan_of b tok) (looked e word) word hit.row in
+    let F : TokenEntry → Type 0 = λ d. IsTakenRow (plan_of (bank_of mid) tok) d word hit.row hit.blob in
+    let G : BankId → Type 0 = λ b. IsTakenRow (plan_of b tok) (looked e word) word hit.row hit.blob in
     let row_is = subst G looked'.changes.bank (subst F looked'.changes.here hit.found) in
-    let again : taken (entry mid tok) word mode hit.row ≡ taken e word mode hit.row =
-    ap (λ (d : TokenEntry). taken d word mode hit.row) looked'.changes.here ∙ ap (λ (d : TokenEntry). record d { held = Holds mode 0; first = hit.row; row = hit.row; touched = [] }) (seen_twice e g) in
+    let again : taken (entry mid tok) word mode hit.row hit.blob ≡ taken e word mode hit.row hit.blob =
+    ap (λ (d : TokenEntry). taken d word mode hit.row hit.blob) looked'.changes.here ∙ ap (λ (d : TokenEntry). record d { held = Holds mode 0; first = hit.row; row = hit.row; known_blob = listed hit.blob; first_blob = hit.blob; blob = hit.blob; touched = [] }) (seen_twice e g) in
     let H : TokenEntry → CpuId → Type 0 = λ d c. Changes mid s' tok d (takes c tok mode word next word ∷ []) in
     record {
       word = word;
       next = next;
       row = hit.row;
+      blob = hit.blob;
       decided = decides;
       generation_is = refl;
-      found = taken_after_look (plan_of (bank_of s) tok) e word hit.row looked'.rises row_is;
-      changes = changed_twice s mid s' tok (looked e word) (taken e word mode hit.row) (loads s.cpu tok word ∷ []) (takes s.cpu tok mode word next word ∷ []) looked'.changes (subst (λ d. H d s.cpu) again (subst (λ c. H (taken (entry mid tok) word mode hit.row) c) looked'.changes.cpu hit.changes));
+      found = taken_after_look (plan_of (bank_of s) tok) e word hit.row hit.blob looked'.rises row_is;
+      changes = changed_twice s mid s' tok (looked e word) (taken e word mode hit.row hit.blob) (loads s.cpu tok word ∷ []) (takes s.cpu tok mode word next word ∷ []) looked'.changes (subst (λ d. H d s.cpu) again (subst (λ c. H (taken (entry mid tok) word mode hit.row hit.blob) c) looked'.changes.cpu hit.changes));
     }
 
 -- a try that lost: the look, and then the exchange that missed
@@ -299,11 +340,12 @@ note_read s tok d room =
     get_or_default s.notes tok d no_note inside
 
 -- an exchange that found the word that was asked for
-pub hit_of : (s s' : CpuSeat) (tok : ℕ) (mode : Mode) (word next found : ℕ) (row : List ℕ) → found ≡ word → IsTakenRow (plan_of (bank_of s) tok) (entry s tok) found row → Changes s s' tok (taken (entry s tok) found mode row) (takes s.cpu tok mode word next found ∷ []) → Hit s s' tok mode word next
-hit_of s s' tok mode word next found row same is changes = record {
+pub hit_of : (s s' : CpuSeat) (tok : ℕ) (mode : Mode) (word next found : ℕ) (row : List ℕ) (blob : RecordOf) → found ≡ word → IsTakenRow (plan_of (bank_of s) tok) (entry s tok) found row blob → Changes s s' tok (taken (entry s tok) found mode row blob) (takes s.cpu tok mode word next found ∷ []) → Hit s s' tok mode word next
+hit_of s s' tok mode word next found row blob same is changes = record {
   row = row;
-  found = subst (λ (w : ℕ). IsTakenRow (plan_of (bank_of s) tok) (entry s tok) w row) same is;
-  changes = subst (λ (w : ℕ). Changes s s' tok (taken (entry s tok) w mode row) (takes s.cpu tok mode word next w ∷ [])) same changes;
+  blob = blob;
+  found = subst (λ (w : ℕ). IsTakenRow (plan_of (bank_of s) tok) (entry s tok) w row blob) same is;
+  changes = subst (λ (w : ℕ). Changes s s' tok (taken (entry s tok) w mode row blob) (takes s.cpu tok mode word next w ∷ [])) same changes;
 }
 
 -- what a seat keeps after the note of a token was changed where it lies
@@ -326,3 +368,31 @@ keeps_missed s w tok g between deed mode d d' note room is there free note_is =
     let here = IsNoted-seen (plan_at s.seat.me.0.plans tok) s.cpu.0 e g (none (begun (note_at s.notes tok) mode)) (IsNoted-missed (plan_at s.seat.me.0.plans tok) s.cpu.0 e mode (note_at s.notes tok) free (s.kept.each tok there)) in
     subst F (sym (set-set s.notes tok note (none (get_or (set s.notes tok note) tok d')) ∙ ap (λ (m : TokenNote). set s.notes tok m) last))
     (keeps_set s w tok (seen e g) between deed (none (begun (note_at s.notes tok) mode)) room is there ((seen-keeps e g).0 ∙ at-tok s.seat.me.0.tokens tok) here)
+
+-- a token that has a record by what is declared, and is held exclusively, has its record in hand
+pub guard_held : (s : CpuSeat) (tok : ℕ) → tok < length s.seat.me.0.plans → is_exclusive (holding s tok) ≡ true → is_some (plan_at s.seat.me.0.plans tok).blob ≡ true → IsInHand s.seat.me.0 tok
+guard_held s tok there held guarded = (held, ((s.kept.each tok there).guarded (exclusive_held (holding s tok) held)).0 ∙ guarded)
+
+pub bytes_same : (xs ys : List ℕ) → Some xs ≡ Some ys → xs ≡ ys
+bytes_same xs ys is = cc
+
+-- what a seat keeps after a record was written
+pub keeps_wrote : (s : CpuSeat) (w : View) (tok : ℕ) (between : List Deed) (d : Deed) (old new : List ℕ) (from after : TokenNote) → tok < 64 → w ≡ noted between s.seat.me.0 (wrote_record (entry s tok) new) d → tok < length s.seat.me.0.plans → is_exclusive (holding s tok) ≡ true → (entry s tok).blob ≡ Some old
+    → ((touch : Touch) × ((kept : KeptBlob) × ((after ≡ note_wrote (get_or s.notes tok from) kept touch) × FitsKept kept × (kept_bytes kept ≡ first_record (get_or s.notes tok from) old) × (is_stored touch ≡ true) × (is_other touch ≡ false → new ≡ first_record (get_or s.notes tok from) old) × (is_other touch ≡ true → new ≢ first_record (get_or s.notes tok from) old))))
+    → Keeps (set s.notes tok after) s.cpu w
+keeps_wrote s w tok between d old new from after room is there held blob_is wrote =
+    let n = get_or s.notes tok from in
+    let same : n ≡ note_at s.notes tok = note_read s tok from room in
+    let e = wrote_record (entry s tok) new in
+    let F : TokenNote → Type 0 = λ m. IsNoted (plan_at s.seat.me.0.plans tok) s.cpu.0 (entry s tok) m in
+    let x = wrote.1.1 in
+    let noted' = IsNoted-wrote (plan_at s.seat.me.0.plans tok) s.cpu.0 (entry s tok) n old new wrote.0 wrote.1.0 (subst F (sym same) (s.kept.each tok there)) held blob_is x.1 x.2 x.3 x.4 x.5 in
+    let G : TokenNote → Type 0 = λ m. Keeps (set s.notes tok m) s.cpu w in
+    subst G (sym x.0) (keeps_set s w tok e between d (note_wrote n wrote.1.0 wrote.0) room is there (entry_tok s tok) noted')
+
+-- what is kept of a record that is held exclusively
+pub fits_note : (s : CpuSeat) (tok : ℕ) (from : TokenNote) → tok < 64 → tok < length s.seat.me.0.plans → FitsKept (get_or s.notes tok from).first_blob
+fits_note s tok from room there = let F : TokenNote → Type 0 = λ m. FitsKept m.first_blob in subst F (sym (note_read s tok from room)) (s.kept.each tok there).fits
+
+pub short_note : (s : CpuSeat) (tok : ℕ) (from : TokenNote) (old : List ℕ) → tok < 64 → tok < length s.seat.me.0.plans → is_exclusive (holding s tok) ≡ true → (entry s tok).blob ≡ Some old → is_stored (get_or s.notes tok from).record_ ≡ false → length old ≤ 64
+short_note s tok from old room there held blob_is new = short_old (plan_at s.seat.me.0.plans tok) s.cpu.0 (entry s tok) (note_at s.notes tok) old (s.kept.each tok there) held blob_is (ap (λ (m : TokenNote). is_stored m.record_) (sym (note_read s tok from room)) ∙ new)

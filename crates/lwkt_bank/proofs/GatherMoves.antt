@@ -20,14 +20,15 @@ use Rattle.lwkt_bank.specs.declared.views.Added.{Added}
 use Rattle.lwkt_bank.specs.declared.views.KnownCell.{KnownCell}
 use Rattle.lwkt_bank.specs.declared.views.TokenEntry.{TokenEntry}
 use Rattle.lwkt_bank.specs.declared.views.View.{View}
-use Rattle.lwkt_bank.specs.Views.{blank, at, amount, known_of, both_of, merged, clerk_after, new_seat, joined, spent}
+use Rattle.lwkt_bank.specs.Views.{blank, at, amount, known_of, known_blob_of, both_of, merged, clerk_after, new_seat, joined, spent}
 use Rattle.lwkt_bank.specs.Rule.{Bench, token_word, cell_word, Seen, seen_by, column, held_by_kind, Knows, ShowsToken, Rule, plan_at, token_at}
 use Rattle.lwkt_bank.proofs.ViewMoves.{at-merged}
 use Rattle.lwkt_bank.proofs.ShowMoves.{cpu_in, numbered_seat}
 
 -- who holds nothing and knows no cell knows nothing wrong
-pub Knows-blank : (tok : Token) (e : TokenEntry) → e.held ≡ Nothing → e.generation ≡ 0 → e.known ≡ [] → Knows tok e
-Knows-blank tok e held zero_generation none = record {
+pub Knows-blank : (tok : Token) (e : TokenEntry) → e.held ≡ Nothing → e.generation ≡ 0 → e.known ≡ [] → e.known_blob ≡ [] → Knows tok e
+Knows-blank tok e held zero_generation none no_blob = record {
+  records = λ same. subst (λ xs. All (λ bytes. tok.first_blob ≡ Some bytes) xs) (sym no_blob) (All-nil (λ bytes. tok.first_blob ≡ Some bytes));
   not_above = omega arith;
   cells = λ same. subst (λ xs. All (λ c. slice_get tok.first c.at ≡ Some c.value) xs) (sym none) (All-nil (λ c. slice_get tok.first c.at ≡ Some c.value));
   holder = λ is. absurd (false≢true (sym (ap is_held held) ∙ is));
@@ -43,6 +44,15 @@ known_all P e g knows = ⊎_elim
     (λ other. let none : known_of e g ≡ [] = ap (λ (b : Bool). cond b e.known []) (ne_eqb e.generation g other) in subst (λ (xs : List KnownCell). All P xs) (sym none) (All-nil P))
     (cases_eq e.generation g)
 
+pub known_blob_same : (e : TokenEntry) (g : ℕ) → e.generation ≡ g → known_blob_of e g ≡ e.known_blob
+known_blob_same e g same = ap (λ (b : Bool). cond b e.known_blob []) (eq-eqb e.generation g same)
+
+known_blobs : (P : List ℕ → Type 0) (e : TokenEntry) (g : ℕ) → (e.generation ≡ g → All P e.known_blob) → All P (known_blob_of e g)
+known_blobs P e g knows = ⊎_elim
+    (λ (same : e.generation ≡ g). subst (λ (xs : List (List ℕ)). All P xs) (sym (known_blob_same e g same)) (knows same))
+    (λ other. let none : known_blob_of e g ≡ [] = ap (λ (b : Bool). cond b e.known_blob []) (ne_eqb e.generation g other) in subst (λ (xs : List (List ℕ)). All P xs) (sym none) (All-nil P))
+    (cases_eq e.generation g)
+
 -- what two views know is true of the token together
 Knows-both : (tok : Token) (t : ℕ) (d e : TokenEntry) → Knows tok d → Knows tok e → Knows tok (both_of t d e)
 Knows-both tok t d e one two =
@@ -51,11 +61,12 @@ Knows-both tok t d e one two =
     record {
       not_above = max-le one.not_above two.not_above;
       cells = λ same. All-append P (known_of d g) (known_of e g) (known_all P d g (λ its. one.cells (its ∙ same))) (known_all P e g (λ its. two.cells (its ∙ same)));
+      records = λ same. let Q : List ℕ → Type 0 = λ bytes. tok.first_blob ≡ Some bytes in All-append Q (known_blob_of d g) (known_blob_of e g) (known_blobs Q d g (λ its. one.records (its ∙ same))) (known_blobs Q e g (λ its. two.records (its ∙ same)));
       holder = λ held. absurd (false≢true held);
     }
 
 -- a token seen by one seat more
-Shows-split : (plan : Plan) (home : Option (Option (Unit {0}))) (word : ℕ) (cells : ℕ → ℕ) (views : List Seen) (tok : Token) (id made back t : ℕ) (x : Seen) → ShowsToken plan home word cells views tok → get_elem? views id ≡ some x → x.kind ≡ Clerk made back
+Shows-split : (plan : Plan) (home : Option (Option (List ℕ))) (word : ℕ) (cells : ℕ → ℕ) (views : List Seen) (tok : Token) (id made back t : ℕ) (x : Seen) → ShowsToken plan home word cells views tok → get_elem? views id ≡ some x → x.kind ≡ Clerk made back
     → ((k : ℕ) (z : Seen) → get_elem? views k ≡ some z → z.kind ≡ numbered_seat made → ⊥)
     → ShowsToken plan home word cells (set views id (record { kind = Clerk (made + 1) back; entry = x.entry }) ++ record { kind = numbered_seat made; entry = blank t } ∷ []) tok
 Shows-split plan home word cells views tok id made back t x shows here kind absent =
@@ -65,8 +76,9 @@ Shows-split plan home word cells views tok id made back t x shows here kind abse
     let free : held_by tok made ≡ Nothing = ⊎_elim (λ nothing. nothing) (λ there. absurd (absent there.0 there.1.0 there.1.1.0 there.1.1.1)) (shows.seated made) in
     let own : x.entry.held ≡ Nothing = shows.held id x here ∙ ap (held_by_kind tok) kind in
     record {
-      no_slot = shows.no_slot;
-      no_record = shows.no_record;
+      slot = shows.slot;
+      guard = shows.guard;
+      opening_blob = shows.opening_blob;
       law = shows.law;
       param = shows.param;
       long = shows.long;
@@ -95,7 +107,7 @@ Shows-split plan home word cells views tok id made back t x shows here kind abse
           omega arith;
       known = λ k u e. ⊎_elim
           (λ old. ⊎_elim (λ it. subst (λ (w : Seen). Knows tok w.entry) it.1 (shows.known id x here)) (λ other. shows.known k u other.1) (at_set views id k y u old))
-          (λ new. subst (λ (w : Seen). Knows tok w.entry) new.1 (Knows-blank tok (blank t) refl refl refl))
+          (λ new. subst (λ (w : Seen). Knows tok w.entry) new.1 (Knows-blank tok (blank t) refl refl refl refl))
           (at_snoc front z u k e);
     }
   where
@@ -167,7 +179,7 @@ rule_split plans cpus s id v made back r here kind room = record {
         let low = AreSeated-below cpus (map (λ (u : View). u.kind) s.views) id made back k (record { 0 = made }) r.seats clerk there in absurd (omega arith)
 
 -- a token seen after a seat that holds nothing of it was taken back
-Shows-join : (plan : Plan) (home : Option (Option (Unit {0}))) (word : ℕ) (cells : ℕ → ℕ) (views : List Seen) (tok : Token) (id made back other t : ℕ) (cpu : CpuId) (x w : Seen) → ShowsToken plan home word cells views tok
+Shows-join : (plan : Plan) (home : Option (Option (List ℕ))) (word : ℕ) (cells : ℕ → ℕ) (views : List Seen) (tok : Token) (id made back other t : ℕ) (cpu : CpuId) (x w : Seen) → ShowsToken plan home word cells views tok
     → get_elem? views id ≡ some x → x.kind ≡ Clerk made back → other ≢ id → get_elem? views other ≡ some w → w.kind ≡ Of cpu → w.entry.held ≡ Nothing
     → ShowsToken plan home word cells (set (set views id (record { kind = Clerk made (back + 1); entry = both_of t x.entry w.entry })) other (record { kind = Spent; entry = blank t })) tok
 Shows-join plan home word cells views tok id made back other t cpu x w shows here kind apart there its_kind quiet =
@@ -177,8 +189,9 @@ Shows-join plan home word cells views tok id made back other t cpu x w shows her
     let still : get_elem? mid other ≡ some w = set_else views id other y apart ∙ there in
     let free : held_by tok cpu.0 ≡ Nothing = sym (shows.held other w there ∙ ap (held_by_kind tok) its_kind) ∙ quiet in
     record {
-      no_slot = shows.no_slot;
-      no_record = shows.no_record;
+      slot = shows.slot;
+      guard = shows.guard;
+      opening_blob = shows.opening_blob;
       law = shows.law;
       param = shows.param;
       long = shows.long;
@@ -218,7 +231,7 @@ Shows-join plan home word cells views tok id made back other t cpu x w shows her
           let old = shows.sections in
           omega arith;
       known = λ k u e. ⊎_elim
-          (λ it. subst (λ (q : Seen). Knows tok q.entry) it.1 (Knows-blank tok (blank t) refl refl refl))
+          (λ it. subst (λ (q : Seen). Knows tok q.entry) it.1 (Knows-blank tok (blank t) refl refl refl refl))
           (λ else_. ⊎_elim (λ it. subst (λ (q : Seen). Knows tok q.entry) it.1 (Knows-both tok t x.entry w.entry (shows.known id x here) (shows.known other w there))) (λ old. shows.known k u old.1) (at_set views id k y u else_.1))
           (at_set mid other k z u e);
     }

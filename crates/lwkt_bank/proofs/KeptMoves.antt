@@ -1,12 +1,12 @@
-use Rattle.std.proofs.Common.{eqb, eq-eqb, ne_eqb, ⊎_elim, ◌≡◌, ◌≢◌, ℕ, zero, suc, take, get_or, ◌+◌, ◌<◌, ◌≤◌, cond, List, [], ◌∷◌, ◌++◌, length, map, refl, ap, sym, ◌∙◌, subst, arith, All, Some, None, length-append, append_assoc}
-use Rattle.std.proofs.lemmas.Bool.{cases_eq}
+use Rattle.std.proofs.Common.{false, eqb, eq-eqb, ne_eqb, ⊎_elim, ◌≡◌, ◌≢◌, ℕ, zero, suc, take, get_or, ◌+◌, ◌<◌, ◌≤◌, cond, List, [], ◌∷◌, ◌++◌, length, map, refl, ap, sym, ◌∙◌, subst, arith, All, Some, None, length-append, append_assoc}
+use Rattle.std.proofs.lemmas.Bool.{cases_eq, false≢true}
 use Rattle.std.proofs.lemmas.List.Elements.{All-pop, All-nil, All-cons, All-head, All-tail, All-weaker}
 use Rattle.std.proofs.lemmas.List.Sums.{sum_by-append, sum_by-cons}
 use Rattle.std.proofs.lemmas.List.{ext_get_or, get_or_append_left, append-nil, get_or-map, get_or_default, length-map, length-take-le, get_or-take}
 use Rattle.std.proofs.Math.Nat.{le-max_left, le-max_right}
 use Rattle.std.proofs.Math.Seq.{get_or-append_seam}
-use Rattle.std.specs.Prelude.{max, slice_index, slice_get, sum, zip}
-use mathlib.Core.Option.{some, some-injective, some-ne-none}
+use Rattle.std.specs.Prelude.{max, is_some, slice_index, slice_get, sum, zip}
+use mathlib.Core.Option.{Option, some, some-injective, some-ne-none}
 use lib.ListN.{get_elem?}
 use Rattle.lwkt_base.specs.declared.laws.Law.{Law}
 use Rattle.lwkt_base.specs.declared.laws.Law.TheVariants.{Any, Sum, Order, Cap, Tally, Len}
@@ -14,7 +14,7 @@ use Rattle.lwkt_base.specs.declared.holdings.Held.TheVariants.{Nothing}
 use Rattle.lwkt_core.specs.declared.tokens.Token.{Token}
 use Rattle.lwkt_core.specs.declared.events.Event.{Event}
 use Rattle.lwkt_core.specs.declared.seats.Deed.{Deed}
-use Rattle.lwkt_core.specs.Tokens.{held_by}
+use Rattle.lwkt_core.specs.Tokens.{held_by, length_of, IsShort}
 use Rattle.lwkt_core.specs.Machine.{Machine}
 use Rattle.lwkt_core.specs.RunSections.{rows_of, sections_by}
 use Rattle.lwkt_core.specs.SectionChain.{RowsAt, AreSectionChains}
@@ -26,9 +26,9 @@ use Rattle.lwkt_core.specs.History.{AreOthers, IsPastOf, events_by, steps_by}
 use Rattle.lwkt_core.proofs.HistoryLemmas.{Passes-run, events_by-past, steps_by-past}
 use Rattle.lwkt_core.proofs.ViewLemmas.{Views-part, Views-others}
 use Rattle.lwkt_bank.specs.Told.{IsDone, first_token, first_machine}
-use Rattle.lwkt_base.specs.Law.{MeetsLaw, IsTallied}
+use Rattle.lwkt_base.specs.Law.{Obeys, IsTallied}
 use Rattle.lwkt_bank.specs.declared.views.Plan.{Plan}
-use Rattle.lwkt_bank.specs.Rule.{table_words, token_word, cell_word, IsOpeningRow, plan_at, token_at, no_token}
+use Rattle.lwkt_bank.specs.Rule.{lies_in, table_words, token_word, cell_word, IsOpeningRow, plan_at, token_at, no_token}
 use Rattle.lwkt_bank.proofs.CloseMoves.{Settled, settled}
 use Rattle.lwkt_bank.proofs.SeatMoves.{tally-le}
 use Rattle.lwkt_bank.proofs.ChangeMoves.{who_is}
@@ -42,17 +42,17 @@ use Rattle.lwkt_bank.specs.declared.views.TokenEntry.{TokenEntry}
 use Rattle.lwkt_bank.specs.declared.views.View.{View}
 use Rattle.lwkt_bank.specs.declared.seats.CpuSeat.{CpuSeat}
 use Rattle.lwkt_bank.specs.declared.kept.Kept.{Kept}
-use Rattle.lwkt_bank.specs.Views.{at, amount, generation_in, page_of, known_of, both_of, joined}
+use Rattle.lwkt_bank.specs.Views.{RecordOf, at, amount, generation_in, page_of, known_of, known_blob_of, both_of, joined}
 use Rattle.lwkt_core.specs.Seating.{after_back}
 use Rattle.lwkt_bank.specs.Notes.{note_at, clerk_number}
 use Rattle.lwkt_bank.specs.Seats.{BankId, id_of_desk, entry, past_of, events_of, steps_of}
 use Rattle.lwkt_bank.specs.Gathered.{written_by, added_by, IsStill, IsClosedToken, Ends, IsHistory, IsClosed}
 use Rattle.lwkt_bank.specs.declared.clerks.ClerkDesk.{ClerkDesk}
 use Rattle.lwkt_bank.specs.declared.rules.Key.{Key}
-use Rattle.lwkt_bank.specs.Closing.{IsReady, IsChapter, kept_of, kept_by, Recalls, Gathering, IsRead, AreRead, Left}
+use Rattle.lwkt_bank.specs.Closing.{shown_blob, IsReady, IsChapter, kept_of, kept_by, Recalls, Gathering, IsRead, AreRead, Left}
 use Rattle.lwkt_bank.specs.declared.closed.Closed.{Closed}
 use Rattle.lwkt_bank.proofs.ViewMoves.{at-merged}
-use Rattle.lwkt_bank.proofs.GatherMoves.{known_same}
+use Rattle.lwkt_bank.proofs.GatherMoves.{known_same, known_blob_same}
 
 -- what a seat had kept is what its view says was added
 kept_is : (s : CpuSeat) (k : Kept) (tok cpu : ℕ) → tok < length s.seat.me.0.plans → k.notes ≡ s.notes → k.cpu ≡ s.cpu → kept_of tok cpu k ≡ amount cpu (entry s tok).added
@@ -88,6 +88,9 @@ recalls_left t d e =
       cells = λ same row all.
           let P : KnownCell → Type 0 = λ c. slice_get row c.at ≡ Some c.value in
           subst (λ (xs : List KnownCell). All P xs) (known_same d g same) (all_left P (known_of d g) (known_of e g) all);
+      records = λ same blob all.
+          let P : List ℕ → Type 0 = λ bytes. blob ≡ Some bytes in
+          subst (λ (xs : List (List ℕ)). All P xs) (known_blob_same d g same) (all_left P (known_blob_of d g) (known_blob_of e g) all);
     }
 
 recalls_right : (t : ℕ) (d e : TokenEntry) → Recalls (both_of t d e) e
@@ -98,6 +101,9 @@ recalls_right t d e =
       cells = λ same row all.
           let P : KnownCell → Type 0 = λ c. slice_get row c.at ≡ Some c.value in
           subst (λ (xs : List KnownCell). All P xs) (known_same e g same) (all_right P (known_of d g) (known_of e g) all);
+      records = λ same blob all.
+          let P : List ℕ → Type 0 = λ bytes. blob ≡ Some bytes in
+          subst (λ (xs : List (List ℕ)). All P xs) (known_blob_same e g same) (all_right P (known_blob_of d g) (known_blob_of e g) all);
     }
 
 recalls_then : (c d e : TokenEntry) → Recalls c d → Recalls d e → Recalls c e
@@ -108,6 +114,11 @@ recalls_then c d e one two = record {
       let b = two.rises in
       let first : d.generation ≡ c.generation = omega arith in
       let second : e.generation ≡ d.generation = omega arith in two.cells second row (one.cells first row all);
+  records = λ same blob all.
+      let a = one.rises in
+      let b = two.rises in
+      let first : d.generation ≡ c.generation = omega arith in
+      let second : e.generation ≡ d.generation = omega arith in two.records second blob (one.records first blob all);
 }
 
 -- one seat more was taken back
@@ -208,22 +219,40 @@ sum_shown (x ∷ xs) (y ∷ ys) few same none =
     let r = sum_shown xs ys (omega arith) (λ a low. same (suc a) (omega arith)) (λ a far. none (suc a) (omega arith)) in
     omega arith
 
+-- an element that is there is read
+elem_read : (xs : List (List ℕ)) (i : ℕ) (x : List ℕ) → get_elem? xs i ≡ some x → get_or xs i [] ≡ x
+elem_read [] i x e = absurd (some-ne-none x (sym e))
+elem_read (y ∷ ys) zero x e = some-injective y x e
+elem_read (y ∷ ys) (suc i) x e = elem_read ys i x e
+
+-- the record shown is the one that lies in its slot
+shown_settled : (guard blob : RecordOf) (slots : List (List ℕ)) (tok : ℕ) (home : Option (Option (List ℕ))) → is_some blob ≡ is_some guard → home ≡ some (lies_in blob false) → ((bytes : List ℕ) → home ≡ some (some bytes) → get_elem? slots tok ≡ some bytes) → shown_blob guard (get_or slots tok []) ≡ blob
+shown_settled None None slots tok home same lay in_slots = refl
+shown_settled None (Some bytes) slots tok home same lay in_slots = absurd (false≢true (sym same))
+shown_settled (Some first) None slots tok home same lay in_slots = absurd (false≢true same)
+shown_settled (Some first) (Some bytes) slots tok home same lay in_slots = ap (λ (x : List ℕ). Some x) (elem_read slots tok bytes (in_slots bytes lay))
+
 -- a token at the close: what its words and notes say, and what the rule says of them
-pub closed_token : (plan : Plan) (cpus : ℕ) (words : List ℕ) (kept : List Kept) (tok : ℕ) (tk : Token) (seats : List CpuSeat) (row : List ℕ) (generation : ℕ) (tallies : List ℕ) (known : TokenEntry) → cpus ≤ 8
-    → Settled plan cpus words tok tk (written_by seats tok) (λ a. added_by seats tok a) known → All (λ s. Recalls known (entry s tok)) seats → ((a : ℕ) → kept_by kept tok a ≡ added_by seats tok a) → IsRead plan cpus words kept tok row generation tallies
-    → IsClosedToken plan cpus seats tok row generation tallies
-closed_token plan cpus words kept tok tk seats row generation tallies known few settled recalls told read =
+pub closed_token : (plan : Plan) (cpus : ℕ) (words : List ℕ) (slots : List (List ℕ)) (home : Option (Option (List ℕ))) (kept : List Kept) (tok : ℕ) (tk : Token) (seats : List CpuSeat) (row : List ℕ) (generation : ℕ) (tallies : List ℕ) (blob : RecordOf) (known : TokenEntry) → cpus ≤ 8 → ((bytes : List ℕ) → home ≡ some (some bytes) → get_elem? slots tok ≡ some bytes)
+    → Settled plan cpus words home tok tk (written_by seats tok) (λ a. added_by seats tok a) known → All (λ s. Recalls known (entry s tok)) seats → ((a : ℕ) → kept_by kept tok a ≡ added_by seats tok a) → IsRead plan cpus words slots kept tok row generation tallies blob
+    → IsClosedToken plan cpus seats tok row generation tallies blob
+closed_token plan cpus words slots home kept tok tk seats row generation tallies blob known few in_slots settled recalls told read =
     let same_row : row ≡ settled.row = ext_get_or 0 row settled.row (read.long ∙ sym settled.long) (λ i inside. let l = read.long in let low : i < plan.cells = omega arith in read.cells i low ∙ settled.cells i low) in
-    let F : List ℕ → Type 0 = λ r. MeetsLaw plan.law plan.param r in
+    let same_blob : blob ≡ settled.blob = read.blob_is ∙ shown_settled plan.blob settled.blob slots tok home settled.guard settled.lay in_slots in
+    let F : List ℕ → Type 0 = λ r. Obeys plan.law plan.param r (length_of settled.blob) in
+    let G : RecordOf → Type 0 = λ b. Obeys plan.law plan.param row (length_of b) in
     record {
       long = read.long;
-      lawful = subst F (sym same_row) settled.lawful;
+      lawful = subst G (sym same_blob) (subst F (sym same_row) settled.lawful);
+      guard = ap is_some same_blob ∙ settled.guard;
+      short = subst (λ (b : RecordOf). IsShort b) (sym same_blob) settled.short_blob;
+      unwritten_blob = λ same. same_blob ∙ settled.opening_blob (sym read.generation_is ∙ same);
       generation_is = read.generation_is ∙ settled.generation;
       none = read.none;
       as_many = read.as_many;
       each = λ tally cpu low. read.each tally cpu low ∙ told cpu;
       unwritten = λ same. subst (λ (r : List ℕ). IsOpeningRow plan r) (sym same_row) (settled.opening (sym read.generation_is ∙ same));
-      stands = All-weaker (λ (s : CpuSeat). Recalls known (entry s tok)) (λ (s : CpuSeat). IsStill (entry s tok) row generation)
+      stands = All-weaker (λ (s : CpuSeat). Recalls known (entry s tok)) (λ (s : CpuSeat). IsStill (entry s tok) row blob generation)
           (λ s r.
           let later = r.rises in
           let most = settled.stands.not_above in
@@ -234,6 +263,10 @@ closed_token plan cpus words kept tok tk seats row generation tallies known few 
                 let first : known.generation ≡ generation_in (slice_index words (token_word tok)) = omega arith in
                 let second : (entry s tok).generation ≡ known.generation = omega arith in
                 subst (λ (r' : List ℕ). All (λ c. slice_get r' c.at ≡ Some c.value) (entry s tok).known) (sym same_row) (r.cells second settled.row (settled.stands.cells first));
+            records = λ same.
+                let first : known.generation ≡ generation_in (slice_index words (token_word tok)) = omega arith in
+                let second : (entry s tok).generation ≡ known.generation = omega arith in
+                subst (λ (b : RecordOf). All (λ bytes. b ≡ Some bytes) (entry s tok).known_blob) (sym same_blob) (r.records second settled.blob (settled.stands.records first));
           })
           seats recalls;
       all_added = λ tally.
@@ -246,8 +279,8 @@ closed_token plan cpus words kept tok tk seats row generation tallies known few 
     }
 
 -- no tally passes a number of 64 bits
-pub tally_fits : (plan : Plan) (cpus : ℕ) (words : List ℕ) (tok : ℕ) (tk : Token) (written : ℕ) (added : ℕ → ℕ) (known : TokenEntry) → Settled plan cpus words tok tk written added known → plan.law ≡ Tally → slice_index words (cell_word tok 0) < 18446744073709551616 → (a : ℕ) → added a < 18446744073709551616
-tally_fits plan cpus words tok tk written added known settled tally fits a =
+pub tally_fits : (plan : Plan) (cpus : ℕ) (words : List ℕ) (home : Option (Option (List ℕ))) (tok : ℕ) (tk : Token) (written : ℕ) (added : ℕ → ℕ) (known : TokenEntry) → Settled plan cpus words home tok tk written added known → plan.law ≡ Tally → slice_index words (cell_word tok 0) < 18446744073709551616 → (a : ℕ) → added a < 18446744073709551616
+tally_fits plan cpus words home tok tk written added known settled tally fits a =
     let P : Law → Type 0 = λ l. IsTallied l plan.param settled.row settled.tallies in
     let sum_is : settled.row ≡ (plan.param + sum settled.tallies) ∷ [] = subst P tally settled.tallied in
     let one : length settled.row ≡ 1 = ap length sum_is in
@@ -267,8 +300,9 @@ pub kept_longer : (xs ys : List Kept) (k : Kept) → ys ≡ xs ++ k ∷ [] → l
 kept_longer xs ys k is = let e = ap length is in let l = length-append xs (k ∷ []) in omega arith
 
 -- nothing is read yet
-pub read_none : (plans : List Plan) (cpus : ℕ) (words : List ℕ) (kept : List Kept) (closed : Closed) (count : ℕ) → closed.rows.items ≡ [] → closed.gens.items ≡ [] → closed.tallies.items ≡ [] → count ≡ 0 → AreRead plans cpus words kept closed count
-read_none plans cpus words kept closed count rows gens tallies none = record {
+pub read_none : (plans : List Plan) (cpus : ℕ) (words : List ℕ) (slots : List (List ℕ)) (kept : List Kept) (closed : Closed) (count : ℕ) → closed.rows.items ≡ [] → closed.gens.items ≡ [] → closed.tallies.items ≡ [] → closed.blobs.items ≡ [] → count ≡ 0 → AreRead plans cpus words slots kept closed count
+read_none plans cpus words slots kept closed count rows gens tallies blobs none = record {
+  blobs = ap length blobs ∙ sym none;
   rows = ap length rows ∙ sym none;
   gens = ap length gens ∙ sym none;
   tallies = ap length tallies ∙ sym none;
@@ -276,36 +310,41 @@ read_none plans cpus words kept closed count rows gens tallies none = record {
 }
 
 -- one token more is read
-pub read_more : (plans : List Plan) (cpus : ℕ) (words : List ℕ) (kept : List Kept) (old new : Closed) (count : ℕ) (row : List ℕ) (generation : ℕ) (tallies : List ℕ) → AreRead plans cpus words kept old count
-    → IsRead (plan_at plans count) cpus words kept count row generation tallies → new.rows.items ≡ old.rows.items ++ row ∷ [] → new.gens.items ≡ old.gens.items ++ generation ∷ [] → new.tallies.items ≡ old.tallies.items ++ tallies ∷ []
-    → AreRead plans cpus words kept new (count + 1)
-read_more plans cpus words kept old new count row generation tallies so_far read rows gens all_tallies = record {
+pub read_more : (plans : List Plan) (cpus : ℕ) (words : List ℕ) (slots : List (List ℕ)) (kept : List Kept) (old new : Closed) (count : ℕ) (row : List ℕ) (generation : ℕ) (tallies : List ℕ) (blob : RecordOf) → AreRead plans cpus words slots kept old count
+    → IsRead (plan_at plans count) cpus words slots kept count row generation tallies blob → new.rows.items ≡ old.rows.items ++ row ∷ [] → new.gens.items ≡ old.gens.items ++ generation ∷ [] → new.tallies.items ≡ old.tallies.items ++ tallies ∷ [] → new.blobs.items ≡ old.blobs.items ++ blob ∷ []
+    → AreRead plans cpus words slots kept new (count + 1)
+read_more plans cpus words slots kept old new count row generation tallies blob so_far read rows gens all_tallies all_blobs = record {
+  blobs = let l = so_far.blobs in let a = ap length all_blobs in let b = length-append old.blobs.items (blob ∷ []) in omega arith;
   rows = let l = so_far.rows in let a = ap length rows in let b = length-append old.rows.items (row ∷ []) in omega arith;
   gens = let l = so_far.gens in let a = ap length gens in let b = length-append old.gens.items (generation ∷ []) in omega arith;
   tallies = let l = so_far.tallies in let a = ap length all_tallies in let b = length-append old.tallies.items (tallies ∷ []) in omega arith;
   each = λ tok low. ⊎_elim
       (λ (now : tok ≡ count).
-      let R : List (List ℕ) → List ℕ → List (List ℕ) → Type 0 = λ rs gs ts. IsRead (plan_at plans tok) cpus words kept tok (get_or rs tok []) (get_or gs tok 0) (get_or ts tok []) in
-      let P : ℕ → Type 0 = λ t. IsRead (plan_at plans t) cpus words kept t row generation tallies in
+      let R : List (List ℕ) → List ℕ → List (List ℕ) → Type 0 = λ rs gs ts. IsRead (plan_at plans tok) cpus words slots kept tok (get_or rs tok []) (get_or gs tok 0) (get_or ts tok []) blob in
+      let P : ℕ → Type 0 = λ t. IsRead (plan_at plans t) cpus words slots kept t row generation tallies blob in
       let at_rows : get_or new.rows.items tok [] ≡ row = ap (λ xs. get_or xs tok []) rows ∙ more_here old.rows.items row [] tok (now ∙ sym so_far.rows) in
       let at_gens : get_or new.gens.items tok 0 ≡ generation = ap (λ xs. get_or xs tok 0) gens ∙ more_here old.gens.items generation 0 tok (now ∙ sym so_far.gens) in
       let at_tallies : get_or new.tallies.items tok [] ≡ tallies = ap (λ xs. get_or xs tok []) all_tallies ∙ more_here old.tallies.items tallies [] tok (now ∙ sym so_far.tallies) in
-      IsRead_same (plan_at plans tok) cpus words kept tok row generation tallies (get_or new.rows.items tok []) (get_or new.gens.items tok 0) (get_or new.tallies.items tok []) at_rows at_gens at_tallies (subst P (sym now) read))
+      let at_blobs : get_or new.blobs.items tok None ≡ blob = ap (λ xs. get_or xs tok None) all_blobs ∙ more_here old.blobs.items blob None tok (now ∙ sym so_far.blobs) in
+      IsRead_same (plan_at plans tok) cpus words slots kept tok row generation tallies blob (get_or new.rows.items tok []) (get_or new.gens.items tok 0) (get_or new.tallies.items tok []) (get_or new.blobs.items tok None) at_rows at_gens at_tallies at_blobs (subst P (sym now) read))
       (λ before.
       let low' : tok < count = omega arith in
       let r = so_far.rows in
       let g = so_far.gens in
       let t = so_far.tallies in
-      IsRead_same (plan_at plans tok) cpus words kept tok (get_or old.rows.items tok []) (get_or old.gens.items tok 0) (get_or old.tallies.items tok []) (get_or new.rows.items tok []) (get_or new.gens.items tok 0) (get_or new.tallies.items tok [])
+      let bs = so_far.blobs in
+      IsRead_same (plan_at plans tok) cpus words slots kept tok (get_or old.rows.items tok []) (get_or old.gens.items tok 0) (get_or old.tallies.items tok []) (get_or old.blobs.items tok None) (get_or new.rows.items tok []) (get_or new.gens.items tok 0) (get_or new.tallies.items tok []) (get_or new.blobs.items tok None)
       (ap (λ xs. get_or xs tok []) rows ∙ get_or_append_left old.rows.items (row ∷ []) [] tok (omega arith))
       (ap (λ xs. get_or xs tok 0) gens ∙ get_or_append_left old.gens.items (generation ∷ []) 0 tok (omega arith))
       (ap (λ xs. get_or xs tok []) all_tallies ∙ get_or_append_left old.tallies.items (tallies ∷ []) [] tok (omega arith))
+      (ap (λ xs. get_or xs tok None) all_blobs ∙ get_or_append_left old.blobs.items (blob ∷ []) None tok (omega arith))
       (so_far.each tok low'))
       (cases_eq tok count);
 }
   where
-    IsRead_same : (plan : Plan) (c : ℕ) (ws : List ℕ) (ks : List Kept) (t : ℕ) (row : List ℕ) (generation : ℕ) (tallies row' : List ℕ) (generation' : ℕ) (tallies' : List ℕ) → row' ≡ row → generation' ≡ generation → tallies' ≡ tallies → IsRead plan c ws ks t row generation tallies → IsRead plan c ws ks t row' generation' tallies'
-    IsRead_same plan c ws ks t row generation tallies row' generation' tallies' same_row same_generation same_tallies read = record {
+    IsRead_same : (plan : Plan) (c : ℕ) (ws : List ℕ) (ss : List (List ℕ)) (ks : List Kept) (t : ℕ) (row : List ℕ) (generation : ℕ) (tallies : List ℕ) (b : RecordOf) (row' : List ℕ) (generation' : ℕ) (tallies' : List ℕ) (b' : RecordOf) → row' ≡ row → generation' ≡ generation → tallies' ≡ tallies → b' ≡ b → IsRead plan c ws ss ks t row generation tallies b → IsRead plan c ws ss ks t row' generation' tallies' b'
+    IsRead_same plan c ws ss ks t row generation tallies b row' generation' tallies' b' same_row same_generation same_tallies same_b read = record {
+      blob_is = same_b ∙ read.blob_is;
       long = ap length same_row ∙ read.long;
       cells = λ i low. ap (λ r. slice_index r i) same_row ∙ read.cells i low;
       generation_is = same_generation ∙ read.generation_is;
@@ -315,7 +354,7 @@ read_more plans cpus words kept old new count row generation tallies so_far read
     }
 
 -- what is left once all seats were taken back
-module _ (bank : BankId) (cpus id : ℕ) (v : View) (words : List ℕ) (seats : List CpuSeat) (kept : List Kept) (left : Left bank.plans cpus id v words) (gathered : Gathering bank v seats [] kept (length seats)) (all : length seats ≡ cpus) where
+module _ (bank : BankId) (cpus id : ℕ) (v : View) (words : List ℕ) (slots : List (List ℕ)) (seats : List CpuSeat) (kept : List Kept) (left : Left bank.plans cpus id v words slots) (gathered : Gathering bank v seats [] kept (length seats)) (all : length seats ≡ cpus) where
   abbrev last : Machine
   last = left.1.0.rule.model
 
@@ -323,13 +362,13 @@ module _ (bank : BankId) (cpus id : ℕ) (v : View) (words : List ℕ) (seats : 
   few = let r = left.1.0.rule in let p = r.safe.processors in let q = r.pictures.processors in omega arith
 
   pub wide : length words ≡ table_words (length bank.plans)
-  wide = sym (ap length left.1.1.1) ∙ left.1.0.rule.wide
+  wide = sym (ap length left.1.1.1.0) ∙ left.1.0.rule.wide
 
-  settled_token : (tok : ℕ) → tok < length bank.plans → Settled (plan_at bank.plans tok) cpus words tok (token_at last tok) (written_by seats tok) (λ a. added_by seats tok a) (at v.tokens tok)
+  settled_token : (tok : ℕ) → tok < length bank.plans → Settled (plan_at bank.plans tok) cpus words (get_elem? left.0.homes tok) tok (token_at last tok) (written_by seats tok) (λ a. added_by seats tok a) (at v.tokens tok)
   settled_token tok there =
       let s = settled bank.plans cpus left.0 id v gathered.made (length seats) tok left.1.0.rule left.1.1.0 gathered.desk (omega arith) there in
-      let F : List ℕ → Type 0 = λ ws. Settled (plan_at bank.plans tok) cpus ws tok (token_at last tok) (at v.tokens tok).written (λ a. amount a (at v.tokens tok).added) (at v.tokens tok) in
-      let t = subst F left.1.1.1 s in
+      let F : List ℕ → Type 0 = λ ws. Settled (plan_at bank.plans tok) cpus ws (get_elem? left.0.homes tok) tok (token_at last tok) (at v.tokens tok).written (λ a. amount a (at v.tokens tok).added) (at v.tokens tok) in
+      let t = subst F left.1.1.1.0 s in
       let w = gathered.written tok there in
       record {
         row = t.row;
@@ -338,6 +377,12 @@ module _ (bank : BankId) (cpus id : ℕ) (v : View) (words : List ℕ) (seats : 
         cells = t.cells;
         generation = let g = t.generation in omega arith;
         lawful = t.lawful;
+        blob = t.blob;
+        blob_is = t.blob_is;
+        guard = t.guard;
+        short_blob = t.short_blob;
+        opening_blob = t.opening_blob;
+        lay = t.lay;
         tallied = t.tallied;
         eight = t.eight;
         tally = λ a. let x = t.tally a in let y = gathered.added tok a there in omega arith;
@@ -356,19 +401,19 @@ module _ (bank : BankId) (cpus id : ℕ) (v : View) (words : List ℕ) (seats : 
 
   pub kept_fits : ((k : ℕ) → slice_index words k < 18446744073709551616) → (tok : ℕ) → tok < length bank.plans → (plan_at bank.plans tok).law ≡ Tally → (a : ℕ) → kept_by kept tok a < 18446744073709551616
   kept_fits fits tok there tally a =
-      let h = tally_fits (plan_at bank.plans tok) cpus words tok (token_at last tok) (written_by seats tok) (λ b. added_by seats tok b) (at v.tokens tok) (settled_token tok there) tally (fits (cell_word tok 0)) a in
+      let h = tally_fits (plan_at bank.plans tok) cpus words (get_elem? left.0.homes tok) tok (token_at last tok) (written_by seats tok) (λ b. added_by seats tok b) (at v.tokens tok) (settled_token tok there) tally (fits (cell_word tok 0)) a in
       let e = told_token tok there a in
       omega arith
 
-  pub closed_tokens : (closed : Closed) → AreRead bank.plans cpus words kept closed (length bank.plans) → (tok : ℕ) → tok < length bank.plans
-      → IsClosedToken (plan_at bank.plans tok) cpus seats tok (get_or closed.rows.items tok []) (get_or closed.gens.items tok 0) (get_or closed.tallies.items tok [])
+  pub closed_tokens : (closed : Closed) → AreRead bank.plans cpus words slots kept closed (length bank.plans) → (tok : ℕ) → tok < length bank.plans
+      → IsClosedToken (plan_at bank.plans tok) cpus seats tok (get_or closed.rows.items tok []) (get_or closed.gens.items tok 0) (get_or closed.tallies.items tok []) (get_or closed.blobs.items tok None)
   closed_tokens closed read tok there =
-      closed_token (plan_at bank.plans tok) cpus words kept tok (token_at last tok) seats (get_or closed.rows.items tok []) (get_or closed.gens.items tok 0) (get_or closed.tallies.items tok []) (at v.tokens tok) few (settled_token tok there)
+      closed_token (plan_at bank.plans tok) cpus words slots (get_elem? left.0.homes tok) kept tok (token_at last tok) seats (get_or closed.rows.items tok []) (get_or closed.gens.items tok 0) (get_or closed.tallies.items tok []) (get_or closed.blobs.items tok None) (at v.tokens tok) few (left.1.1.1.1 tok) (settled_token tok there)
       (subst (λ (xs : List CpuSeat). All (λ (s : CpuSeat). Recalls (at v.tokens tok) (entry s tok)) xs) (sym gathered.in_order) (gathered.recalls tok there)) (told_token tok there) (read.each tok there)
 
   -- a token that was read is the last machine's
-  read_token : (closed : Closed) → AreRead bank.plans cpus words kept closed (length bank.plans) → (tok : ℕ) → tok < length bank.plans
-      → (get_or closed.rows.items tok [] ≡ (token_at last tok).row) × (get_or closed.gens.items tok 0 ≡ (token_at last tok).generation) × (get_or closed.tallies.items tok [] ≡ shown_tallies (token_at last tok).law last.cpus (token_at last tok).tallies)
+  read_token : (closed : Closed) → AreRead bank.plans cpus words slots kept closed (length bank.plans) → (tok : ℕ) → tok < length bank.plans
+      → (get_or closed.rows.items tok [] ≡ (token_at last tok).row) × (get_or closed.gens.items tok 0 ≡ (token_at last tok).generation) × (get_or closed.tallies.items tok [] ≡ shown_tallies (token_at last tok).law last.cpus (token_at last tok).tallies) × (get_or closed.blobs.items tok None ≡ (token_at last tok).blob)
   read_token closed read tok there =
       let r = read.each tok there in
       let t = settled_token tok there in
@@ -387,6 +432,7 @@ module _ (bank : BankId) (cpus id : ℕ) (v : View) (words : List ℕ) (seats : 
         same_row ∙ t.row_is,
         r.generation_is ∙ t.generation_is,
         subst (λ l. F l last.cpus (token_at last tok).tallies) (sym t.law_is) (subst (λ c. F plan.law c (token_at last tok).tallies) (sym processors) (subst (λ ts. F plan.law cpus ts) t.tallies_are shown)),
+        r.blob_is ∙ shown_settled plan.blob t.blob slots tok (get_elem? left.0.homes tok) t.guard t.lay (left.1.1.1.1 tok) ∙ t.blob_is,
       )
     where
       shown_by : (law : Law) (c : ℕ) (ts all_tallies : List ℕ) → (law ≢ Tally → ts ≡ []) → (law ≡ Tally → ts ≡ take c all_tallies) → ts ≡ shown_tallies law c all_tallies
@@ -398,12 +444,13 @@ module _ (bank : BankId) (cpus id : ℕ) (v : View) (words : List ℕ) (seats : 
       shown_by Tally c ts all_tallies none some' = some' refl
 
   -- the last machine has the closing values, and nobody holds a token of it
-  ends : (closed : Closed) → AreRead bank.plans cpus words kept closed (length bank.plans) → Ends last closed
+  ends : (closed : Closed) → AreRead bank.plans cpus words slots kept closed (length bank.plans) → Ends last closed
   ends closed read =
       let many = left.1.0.rule.pictures.as_many in
       let rows = read.rows in
       let gens = read.gens in
       let tallies = read.tallies in
+      let blobs = read.blobs in
       record {
         free = λ tok d low cpu. subst (λ (t : Token). held_by t cpu ≡ Nothing) (get_or_default last.tokens tok no_token d low) ((settled_token tok (omega arith)).free cpu);
         rows = ext_get_or [] closed.rows.items (map (λ t. t.row) last.tokens) (let l = length-map last.tokens (λ (t : Token). t.row) in omega arith)
@@ -412,7 +459,8 @@ module _ (bank : BankId) (cpus id : ℕ) (v : View) (words : List ℕ) (seats : 
             (λ tok low. (read_token closed read tok (omega arith)).1 ∙ sym (get_or-map (λ (t : Token). t.generation) last.tokens tok no_token 0 (omega arith)));
         tallies = ext_get_or [] closed.tallies.items (map (λ t. shown_tallies t.law last.cpus t.tallies) last.tokens) (let l = length-map last.tokens (λ (t : Token). shown_tallies t.law last.cpus t.tallies) in omega arith)
             (λ tok low. (read_token closed read tok (omega arith)).2 ∙ sym (get_or-map (λ (t : Token). shown_tallies t.law last.cpus t.tallies) last.tokens tok no_token [] (omega arith)));
-        unrecorded = λ tok d low. subst (λ (t : Token). t.blob ≡ None) (get_or_default last.tokens tok no_token d low) (left.1.0.rule.pictures.each_token tok (omega arith)).no_record.0;
+        blobs = ext_get_or None closed.blobs.items (map (λ t. t.blob) last.tokens) (let l = length-map last.tokens (λ (t : Token). t.blob) in omega arith)
+            (λ tok low. (read_token closed read tok (omega arith)).3 ∙ sym (get_or-map (λ (t : Token). t.blob) last.tokens tok no_token None (omega arith)));
         messages = left.1.0.rule.pictures.no_messages;
       }
 
@@ -432,7 +480,7 @@ module _ (bank : BankId) (cpus id : ℕ) (v : View) (words : List ℕ) (seats : 
   declared_settled [] = All-nil IsSettled
   declared_settled (p ∷ plans) = All-cons IsSettled (first_token p) (map first_token plans) refl (declared_settled plans)
 
-  closed_sections : (closed : Closed) → AreRead bank.plans cpus words kept closed (length bank.plans) → AreSectionChains (rows_of (first_machine bank.plans cpus)) (zip closed.rows.items closed.gens.items) (sections_by cpus history)
+  closed_sections : (closed : Closed) → AreRead bank.plans cpus words slots kept closed (length bank.plans) → AreSectionChains (rows_of (first_machine bank.plans cpus)) (zip closed.rows.items closed.gens.items) (sections_by cpus history)
   closed_sections closed read =
       let end = ends closed read in
       let told = left.1.0 in
@@ -444,7 +492,7 @@ module _ (bank : BankId) (cpus id : ℕ) (v : View) (words : List ℕ) (seats : 
       sym (ap (λ (rs : List (List ℕ)). zip rs closed.gens.items) end.rows ∙ ap (λ (gs : List ℕ). zip (map (λ (tok : Token). tok.row) last.tokens) gs) end.gens ∙ zipped last.tokens) in
       subst (λ (rs : RowsAt). AreSectionChains (rows_of opening) rs (sections_by cpus history)) rows (parts_chains opening history last cpus run (declared_settled bank.plans) settled_last others)
 
-  pub closed_history : (closed : Closed) → AreRead bank.plans cpus words kept closed (length bank.plans) → IsHistory bank cpus seats closed history
+  pub closed_history : (closed : Closed) → AreRead bank.plans cpus words slots kept closed (length bank.plans) → IsHistory bank cpus seats closed history
   closed_history closed read =
       let chapters : All (IsChapter v) seats = subst (λ (xs : List CpuSeat). All (IsChapter v) xs) (sym gathered.in_order) gathered.chapters in
       record {
@@ -466,30 +514,31 @@ desk_told (Of cpu) e = absurd (omega arith)
 desk_told Spent e = absurd (omega arith)
 
 -- the same over a desk, whose table was told what the bank keeps
-module _ (desk : ClerkDesk) (id : ℕ) (v : View) (words : List ℕ) (seats : List CpuSeat) (kept : List Kept)
-    (left : Left desk.table.shared.key.plans.items desk.table.shared.key.cpus id v words)
+module _ (desk : ClerkDesk) (id : ℕ) (v : View) (words : List ℕ) (slots : List (List ℕ)) (seats : List CpuSeat) (kept : List Kept)
+    (left : Left desk.table.shared.key.plans.items desk.table.shared.key.cpus id v words slots)
     (gathered : Gathering (record { table = desk.table.shared.table_id; plans = desk.table.shared.key.plans.items }) v seats [] kept (length seats)) (all : length seats ≡ desk.key.cpus) where
-  left_here : Left desk.key.plans.items desk.key.cpus id v words
-  left_here = let F : Key → Type 0 = λ k. Left k.plans.items k.cpus id v words in subst F desk.told left
+  left_here : Left desk.key.plans.items desk.key.cpus id v words slots
+  left_here = let F : Key → Type 0 = λ k. Left k.plans.items k.cpus id v words slots in subst F desk.told left
 
   gathered_here : Gathering (id_of_desk desk) v seats [] kept (length seats)
   gathered_here = let F : Key → Type 0 = λ k. Gathering (record { table = desk.table.shared.table_id; plans = k.plans.items }) v seats [] kept (length seats) in subst F desk.told gathered
 
   pub bank_fits : ((k : ℕ) → slice_index words k < 18446744073709551616) → (tok : ℕ) → tok < length desk.key.plans.items → (plan_at desk.key.plans.items tok).law ≡ Tally → (a : ℕ) → kept_by kept tok a < 18446744073709551616
-  bank_fits fits tok there tally a = kept_fits (id_of_desk desk) desk.key.cpus id v words seats kept left_here gathered_here all fits tok there tally a
+  bank_fits fits tok there tally a = kept_fits (id_of_desk desk) desk.key.cpus id v words slots seats kept left_here gathered_here all fits tok there tally a
 
   pub bank_few : desk.key.cpus ≤ 8
-  bank_few = few (id_of_desk desk) desk.key.cpus id v words seats kept left_here gathered_here all
+  bank_few = few (id_of_desk desk) desk.key.cpus id v words slots seats kept left_here gathered_here all
 
   pub bank_wide : length words ≡ table_words (length desk.key.plans.items)
-  bank_wide = wide (id_of_desk desk) desk.key.cpus id v words seats kept left_here gathered_here all
+  bank_wide = wide (id_of_desk desk) desk.key.cpus id v words slots seats kept left_here gathered_here all
 
-  pub bank_closed : (closed : Closed) → AreRead desk.key.plans.items desk.key.cpus words kept closed (length desk.key.plans.items) → IsClosed (id_of_desk desk) desk.key.cpus seats closed
+  pub bank_closed : (closed : Closed) → AreRead desk.key.plans.items desk.key.cpus words slots kept closed (length desk.key.plans.items) → IsClosed (id_of_desk desk) desk.key.cpus seats closed
   bank_closed closed read = record {
     rows = read.rows;
     gens = read.gens;
     tallies = read.tallies;
-    each = λ tok there. closed_tokens (id_of_desk desk) desk.key.cpus id v words seats kept left_here gathered_here all closed read tok there;
-    history = history (id_of_desk desk) desk.key.cpus id v words seats kept left_here gathered_here all;
-    is_history = closed_history (id_of_desk desk) desk.key.cpus id v words seats kept left_here gathered_here all closed read;
+    blobs = read.blobs;
+    each = λ tok there. closed_tokens (id_of_desk desk) desk.key.cpus id v words slots seats kept left_here gathered_here all closed read tok there;
+    history = history (id_of_desk desk) desk.key.cpus id v words slots seats kept left_here gathered_here all;
+    is_history = closed_history (id_of_desk desk) desk.key.cpus id v words slots seats kept left_here gathered_here all closed read;
   }

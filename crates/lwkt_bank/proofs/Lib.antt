@@ -1,10 +1,12 @@
 pub mod WordMoves
+pub mod HandMoves
 pub mod ViewMoves
 pub mod ShowMoves
 pub mod RuleMoves
 pub mod TurnMoves
 pub mod SeatMoves
 pub mod DeedMoves
+pub mod GuardMoves
 pub mod AllowMoves
 pub mod CallMoves
 pub mod NoteMoves

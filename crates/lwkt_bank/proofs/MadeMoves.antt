@@ -2,7 +2,6 @@ use Rattle.std.proofs.Common.{◌≡◌, ◌≢◌, ⊎_elim, ℕ, ◌<◌, List
 use Rattle.std.specs.Prelude.{slice_index, slice_set, slice_get, IsSomeAnd}
 use Rattle.std.proofs.lemmas.Bool.{cases_eq}
 use Rattle.std.proofs.lemmas.Option.{slice_get_within, get_or_from_slice_get}
-use Rattle.atomic_table.specs.Table.{keeps, stepped}
 use Rattle.lwkt_base.specs.declared.names.CpuId.{CpuId}
 use Rattle.lwkt_base.specs.declared.names.TokId.{TokId}
 use Rattle.lwkt_base.specs.TokenWord.{word_of}
@@ -26,7 +25,7 @@ use Rattle.lwkt_core.proofs.SeatingLemmas.{set_again, at_map, map-set}
 use Rattle.lwkt_core.proofs.ViewLemmas.{Views-between, Views-was_done}
 use Rattle.lwkt_bank.specs.declared.views.Plan.{Plan}
 use Rattle.lwkt_bank.specs.Views.{named, page_of}
-use Rattle.lwkt_bank.specs.Rule.{Bench, Rule, token_word, cell_word, plan_at, token_at, no_token}
+use Rattle.lwkt_bank.specs.Rule.{moved, Bench, Rule, token_word, cell_word, plan_at, token_at, no_token}
 use Rattle.lwkt_bank.specs.Told.{IsAtCell, IsOperation, word_in, IsStepOf, IsDone, first_machine}
 use Rattle.lwkt_bank.specs.Laws.{StatesAreReached, ViewsDecide, OpeningIsDeclared, IsCellMade, IsMade, MadeAsTold, NothingUntold}
 use Rattle.lwkt_bank.proofs.ToldMoves.{Told-opening, first_opening}
@@ -73,13 +72,13 @@ decided plans cpus s one other =
     )
 
 pub declared : OpeningIsDeclared
-declared cpus specs within lawful unguarded =
-    let x = Told-opening cpus specs within lawful unguarded in (
+declared cpus specs within lawful =
+    let x = Told-opening cpus specs within lawful in (
       x.0,
       λ told.
           let d = decided _ cpus _ told x.0 in
           let model = d.1 ∙ x.1 in
-          (model, model ∙ sym (first_opening cpus specs within.each_token unguarded), d.0 ∙ x.2),
+          (model, model ∙ sym (first_opening cpus specs within.each_token), d.0 ∙ x.2),
     )
 
 -- what happens at a token of a machine
@@ -124,8 +123,8 @@ cell_place (Mark cpu tok) is = absurd is
 cell_place (GiveOne cpu tok) is = absurd is
 cell_place (GiveClean cpu tok) is = absurd is
 cell_place (GiveWritten cpu tok section) is = absurd is
-cell_place (ReadBlob cpu tok blob) is = absurd is
-cell_place (WriteBlob cpu tok blob) is = absurd is
+cell_place (ReadBlob cpu tok blob) is = (tok, refl, λ t. refl)
+cell_place (WriteBlob cpu tok blob) is = (tok, refl, λ t. refl)
 cell_place (Send cpu msg to round) is = absurd is
 cell_place (TakeMsg cpu msg round) is = absurd is
 cell_place (DropMsg cpu msg) is = absurd is
@@ -298,12 +297,12 @@ module _ (plans : List Plan) (cpus : ℕ) (s s' : Bench) (r : Rule plans cpus s)
   }
 
 pub made_as_told : MadeAsTold
-made_as_told plans cpus s id i n v w cpu between d told here kind own others is after =
+made_as_told plans cpus s id i n v w homes cpu between d told here kind own others is after =
     let done = Views-was_done IsDone page_of (first_machine plans cpus) told.rule.model after.rule.model s.views told.chronicle id v w after.chronicle here cpus told.rule.seats cpu between d kind own others is done_decides in
-    is_made plans cpus s (stepped s i n id [] w keeps) told.rule after.rule d done
+    is_made plans cpus s (moved s i n id w homes) told.rule after.rule d done
 
 pub nothing_untold : NothingUntold
-nothing_untold plans cpus s id i n v w told here is after tok low =
+nothing_untold plans cpus s id i n v w homes told here is after tok low =
     let first = first_machine plans cpus in
     let pages : map page_of (set s.views id w) ≡ map page_of s.views = map-set page_of s.views id w ∙ ap (λ (p : Page). set (map page_of s.views) id p) is ∙ set_again (map page_of s.views) id (page_of v) (at_map page_of s.views id v here) in
     let F : List Page → Type 0 = λ ps. Chronicle IsDone first ps after.rule.model in

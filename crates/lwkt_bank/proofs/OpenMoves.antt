@@ -1,10 +1,10 @@
-use Rattle.std.proofs.Common.{inl, ◌≡◌, ⊎_elim, ℕ, zero, suc, ◌+◌, ◌*◌, ◌<◌, ◌≤◌, List, [], ◌∷◌, ◌++◌, length, get_or, replicate, refl, ap, sym, ◌∙◌, subst, arith, All, None, length-append}
+use Rattle.std.proofs.Common.{map, false, Some, inl, ◌≡◌, ⊎_elim, ℕ, zero, suc, ◌+◌, ◌*◌, ◌<◌, ◌≤◌, List, [], ◌∷◌, ◌++◌, length, get_or, replicate, refl, ap, sym, ◌∙◌, subst, arith, All, None, length-append}
 use Rattle.std.specs.Prelude.{slice_index}
 use Rattle.std.specs.List.{flat_map}
 use Rattle.std.proofs.lemmas.Bool.{cases_lt, false≢true}
 use Rattle.std.proofs.Math.ListN.{get_or-eq_default}
 use Rattle.std.proofs.lemmas.List.{get_or-map, get_or-append_right, get_or_append_left, length-map}
-use mathlib.Core.Option.{some, some-injective, some-ne-none}
+use mathlib.Core.Option.{Option, some, some-injective, some-ne-none}
 use lib.ListN.{get_elem?}
 use Rattle.atomic_table.specs.Table.{opening as table_opening}
 use Rattle.lwkt_base.specs.declared.names.CpuId.{CpuId}
@@ -17,15 +17,15 @@ use Rattle.lwkt_core.specs.declared.tokens.Token.{Token}
 use Rattle.lwkt_core.specs.Picture.{picture_of}
 use Rattle.lwkt_core.specs.Opening.{opened_token, opening, AreWithin, AllOpenLawfully, IsTokenWithin}
 use Rattle.lwkt_core.proofs.OpeningLemmas.{IsSafe-opening}
-use Rattle.lwkt_core.proofs.SeatingLemmas.{AreSeated-opening}
+use Rattle.lwkt_core.proofs.SeatingLemmas.{AreSeated-opening, at_map}
 use Rattle.lwkt_bank.specs.declared.views.Plan.{Plan}
 use Rattle.lwkt_bank.specs.declared.views.View.{View}
-use Rattle.lwkt_bank.specs.Views.{blank, first_view, new_seat, one_generation}
+use Rattle.lwkt_bank.specs.Views.{RecordOf, blank, first_view, new_seat, one_generation}
 use Rattle.lwkt_core.specs.Seating.{next_seat}
 use Rattle.lwkt_bank.specs.declared.notes.TokenNote.{TokenNote}
 use Rattle.lwkt_bank.specs.Notes.{seat_number, no_note, IsNoted, Keeps}
-use Rattle.lwkt_bank.specs.Rule.{token_word, cell_word, law_word, param_word, law_number, Seen, column, held_by_kind, Knows, ShowsToken, Rule, plan_at, token_at, no_plan, no_token}
-use Rattle.lwkt_bank.specs.Opened.{AreUnguarded, plan_of_spec, plans_of, block, opening_words}
+use Rattle.lwkt_bank.specs.Rule.{token_word, cell_word, law_word, param_word, law_number, Seen, column, held_by_kind, Knows, ShowsToken, lies_in, Rule, plan_at, token_at, no_plan, no_token}
+use Rattle.lwkt_bank.specs.Opened.{kept_in, slot_of_spec, opening_slots, plan_of_spec, plans_of, block, opening_words}
 use Rattle.lwkt_bank.proofs.GatherMoves.{Knows-blank}
 
 -- what stands for a token past the last
@@ -67,12 +67,26 @@ cell_in_plan spec (suc (suc zero)) low = refl
 cell_in_plan spec (suc (suc (suc zero))) low = refl
 cell_in_plan spec (suc (suc (suc (suc i)))) low = absurd (omega arith)
 
+-- what lies in a slot at the opening
+lies_home : (blob : RecordOf) → some (kept_in blob) ≡ lies_in blob false
+lies_home None = refl
+lies_home (Some bytes) = refl
+
+-- an element of a list is there
+elem_there : {A : Type 0} (xs : List A) (i : ℕ) (d : A) → i < length xs → get_elem? xs i ≡ some (get_or xs i d)
+elem_there [] i d low = absurd (omega arith)
+elem_there (x ∷ xs) zero d low = refl
+elem_there (x ∷ xs) (suc i) d low = elem_there xs i d (omega arith)
+
+slot_there : (specs : List TokSpec) (t : ℕ) → t < length specs → get_elem? (map (λ (bytes : List ℕ). some bytes) (opening_slots specs)) t ≡ some (some (kept_in (get_or specs t no_spec).blob))
+slot_there specs t there = at_map (λ (bytes : List ℕ). some bytes) (opening_slots specs) t (slot_of_spec (get_or specs t no_spec)) (at_map slot_of_spec specs t (get_or specs t no_spec) (elem_there specs t no_spec there))
+
 -- a token at the opening
-Shows-opening : (plans : List Plan) (spec : TokSpec) (t word : ℕ) (cells : ℕ → ℕ) → length spec.cells ≤ 4 → spec.blob ≡ None → word ≡ one_generation * spec.generation → ((i : ℕ) → i < length spec.cells → cells i ≡ slice_index spec.cells i)
-    → ShowsToken (plan_of_spec spec) (get_elem? [] t) word cells (column t (first_view plans ∷ [])) (opened_token spec)
-Shows-opening plans spec t word cells short unguarded is rows = record {
-  no_slot = refl;
-  no_record = (unguarded, unguarded);
+Shows-opening : (plans : List Plan) (spec : TokSpec) (t word : ℕ) (cells : ℕ → ℕ) (home : Option (Option (List ℕ))) → length spec.cells ≤ 4 → home ≡ some (some (kept_in spec.blob)) → word ≡ one_generation * spec.generation → ((i : ℕ) → i < length spec.cells → cells i ≡ slice_index spec.cells i)
+    → ShowsToken (plan_of_spec spec) home word cells (column t (first_view plans ∷ [])) (opened_token spec)
+Shows-opening plans spec t word cells home short lay is rows = record {
+  slot = lay ∙ ap (λ (o : Option (List ℕ)). some o) (lies_home spec.blob);
+  guard = refl;
   law = refl;
   param = refl;
   long = refl;
@@ -83,12 +97,13 @@ Shows-opening plans spec t word cells short unguarded is rows = record {
   tallies = λ cpu. replicated 8 cpu 0;
   sections = omega arith;
   opening = λ same i low. sym (cell_in_plan spec i (omega arith));
-  known = λ k x e. first_only plans t k x (λ y. Knows (opened_token spec) y.entry) e (Knows-blank (opened_token spec) (blank t) refl refl refl);
+  opening_blob = λ same. refl;
+  known = λ k x e. first_only plans t k x (λ y. Knows (opened_token spec) y.entry) e (Knows-blank (opened_token spec) (blank t) refl refl refl refl);
 }
 
 -- the rule at the opening
-rule_opening : (cpus : ℕ) (specs : List TokSpec) → AreWithin cpus specs [] → AllOpenLawfully specs → AreUnguarded specs → Rule (plans_of specs) cpus (table_opening (opening_words specs) [] (first_view (plans_of specs)))
-rule_opening cpus specs within lawful unguarded = record {
+rule_opening : (cpus : ℕ) (specs : List TokSpec) → AreWithin cpus specs [] → AllOpenLawfully specs → Rule (plans_of specs) cpus (table_opening (opening_words specs) (opening_slots specs) (first_view (plans_of specs)))
+rule_opening cpus specs within lawful = record {
   model = opening cpus specs [];
   safe = IsSafe-opening cpus specs [] within lawful;
   pictures = record {
@@ -99,10 +114,10 @@ rule_opening cpus specs within lawful unguarded = record {
         let there : t < length specs = (let l = length-map specs plan_of_spec in omega arith) in
         let spec = get_or specs t no_spec in
         let short : length spec.cells ≤ 4 = (within.each_token t no_spec there).0 in
-        let F : Plan → Type 0 = λ p. ShowsToken p (get_elem? [] t) (slice_index (opening_words specs) (token_word t)) (λ i. slice_index (opening_words specs) (cell_word t i)) (column t (first_view (plans_of specs) ∷ [])) (token_at (opening cpus specs []) t) in
-        let G : Token → Type 0 = λ k. ShowsToken (plan_of_spec spec) (get_elem? [] t) (slice_index (opening_words specs) (token_word t)) (λ i. slice_index (opening_words specs) (cell_word t i)) (column t (first_view (plans_of specs) ∷ [])) k in
+        let F : Plan → Type 0 = λ p. ShowsToken p (get_elem? (map (λ (bytes : List ℕ). some bytes) (opening_slots specs)) t) (slice_index (opening_words specs) (token_word t)) (λ i. slice_index (opening_words specs) (cell_word t i)) (column t (first_view (plans_of specs) ∷ [])) (token_at (opening cpus specs []) t) in
+        let G : Token → Type 0 = λ k. ShowsToken (plan_of_spec spec) (get_elem? (map (λ (bytes : List ℕ). some bytes) (opening_slots specs)) t) (slice_index (opening_words specs) (token_word t)) (λ i. slice_index (opening_words specs) (cell_word t i)) (column t (first_view (plans_of specs) ∷ [])) k in
         subst F (sym (get_or-map plan_of_spec specs t no_spec no_plan there)) (subst G (sym (get_or-map opened_token specs t no_spec no_token there))
-        (Shows-opening (plans_of specs) spec t (slice_index (opening_words specs) (token_word t)) (λ i. slice_index (opening_words specs) (cell_word t i)) short (unguarded t no_spec there)
+        (Shows-opening (plans_of specs) spec t (slice_index (opening_words specs) (token_word t)) (λ i. slice_index (opening_words specs) (cell_word t i)) (get_elem? (map (λ (bytes : List ℕ). some bytes) (opening_slots specs)) t) short (slot_there specs t there)
         (word_at specs t 0 (token_word t) there (omega arith) (omega arith))
         (λ i low. word_at specs t (1 + i) (cell_word t i) there (omega arith) (omega arith) ∙ cell_in spec i (omega arith))));
   };
@@ -132,9 +147,9 @@ rule_opening cpus specs within lawful unguarded = record {
     cell_in spec (suc (suc (suc zero))) low = refl
     cell_in spec (suc (suc (suc (suc i)))) low = absurd (omega arith)
 
-pub Rule-opening : (cpus : ℕ) (specs : List TokSpec) → AreWithin cpus specs [] → AllOpenLawfully specs → AreUnguarded specs → (r : Rule (plans_of specs) cpus (table_opening (opening_words specs) [] (first_view (plans_of specs)))) × (r.model ≡ opening cpus specs [])
+pub Rule-opening : (cpus : ℕ) (specs : List TokSpec) → AreWithin cpus specs [] → AllOpenLawfully specs → (r : Rule (plans_of specs) cpus (table_opening (opening_words specs) (opening_slots specs) (first_view (plans_of specs)))) × (r.model ≡ opening cpus specs [])
 unfolding rule_opening
-Rule-opening cpus specs within lawful unguarded = (rule_opening cpus specs within lawful unguarded, refl)
+Rule-opening cpus specs within lawful = (rule_opening cpus specs within lawful, refl)
 
 -- what stands in a plan that is made of an opening
 plan_read : (specs : List TokSpec) (tok : ℕ) → tok < length specs → plan_at (plans_of specs) tok ≡ plan_of_spec (get_or specs tok no_spec)
@@ -169,6 +184,10 @@ Keeps-new cpu v w kind is =
       each = λ tok h.
           let G : TokenNote → Type 0 = λ n. IsNoted (plan_at v.plans tok) cpu.0 (blank tok) n in
           subst G (sym (replicated 64 tok no_note)) (record {
+            record_touched = λ held. absurd (false≢true held);
+            fits = (omega arith, refl);
+            guarded = λ held. absurd (false≢true held);
+            short = λ held bytes its. absurd (false≢true held);
             four = refl;
             firsts = refl;
             tally = refl;

@@ -1,6 +1,10 @@
 use Rattle.std.proofs.Common.{Bool, true, false, cond, ◌++◌, ⊎_elim, ◌≡◌, ℕ, suc, ◌+◌, ◌<◌, ◌≤◌, true, List, [], ◌∷◌, length, set, get_or, Option, Some, None, refl, ap, sym, ◌∙◌, subst, arith, length-set, get_or-set_same, get_or-set_other}
-use Rattle.std.specs.Prelude.{slice_index, slice_get, MatchOption}
-use Rattle.std.proofs.lemmas.Bool.{cases_eq, cases_lt}
+use Rattle.std.specs.Prelude.{slice_index, slice_get, MatchOption, is_some}
+use Rattle.lwkt_base.specs.declared.laws.Law.{Law}
+use Rattle.lwkt_base.specs.declared.laws.Law.TheVariants.{Any, Sum, Order, Cap, Tally, Len}
+use Rattle.lwkt_base.specs.Law.{Obeys}
+use Rattle.lwkt_bank.specs.Views.{RecordOf}
+use Rattle.std.proofs.lemmas.Bool.{cases_eq, cases_lt, false≢true}
 use Rattle.std.proofs.lemmas.List.{set-get_or, ext_get_or}
 use Rattle.std.proofs.lemmas.Option.{get_or_from_slice_get, slice_get-get_or}
 use Rattle.lwkt_base.specs.Holding.{is_held}
@@ -10,9 +14,9 @@ use Rattle.lwkt_base.specs.declared.names.CpuId.{CpuId}
 use Rattle.lwkt_core.specs.declared.seats.Deed.{Deed}
 use Rattle.lwkt_core.specs.History.{Grows}
 use Rattle.lwkt_bank.specs.Views.{is_touched, touching, stored}
-use Rattle.lwkt_bank.specs.Deeds.{writes, writes_all}
+use Rattle.lwkt_bank.specs.Deeds.{writes, writes_all, writes_blob_if}
 use Rattle.lwkt_bank.specs.Rule.{plan_at}
-use Rattle.lwkt_bank.specs.Seats.{entry, past_of, holding, Changes, IsUnchanged, Restored, written_over}
+use Rattle.lwkt_bank.specs.Seats.{entry, past_of, holding, Changes, IsUnchanged, RowRestored, Restored, PutsFirst, asked_record, written_over}
 use Rattle.lwkt_bank.proofs.ChangeMoves.{changed_twice, written_more}
 use Rattle.lwkt_bank.proofs.CellMoves.{writes_more}
 
@@ -108,7 +112,7 @@ shown_stored true first value is = (refl, let h : Some first ≡ Some value = is
 shown_stored false first value is = absurd (let h : None ≡ Some value = is in cc)
 
 -- the whole row is restored once each cell is
-pub restored_all : (s l : CpuSeat) (tok : ℕ) (made : List (Option ℕ)) (cell : ℕ) → Restoring s l tok made cell → tok < length s.seat.me.0.plans → is_held (holding s tok) ≡ true → cell ≤ 4 → cell ≡ (plan_at s.seat.me.0.plans tok).cells → Restored s l tok made
+pub restored_all : (s l : CpuSeat) (tok : ℕ) (made : List (Option ℕ)) (cell : ℕ) → Restoring s l tok made cell → tok < length s.seat.me.0.plans → is_held (holding s tok) ≡ true → cell ≤ 4 → cell ≡ (plan_at s.seat.me.0.plans tok).cells → RowRestored s l tok made
 restored_all s l tok made cell so_far there held short end =
     let e = entry s tok in
     let R = written_over 0 made e.row in
@@ -133,3 +137,48 @@ restored_all s l tok made cell so_far there held short end =
         (λ (low : k < cell). low)
         (λ (high : cell ≤ k). absurd (let h : Some value ≡ None = sym (get_or_from_slice_get made k (Some value) None at) ∙ so_far.later k high in cc))
         (cases_lt k cell)
+
+-- the first record is put back by entries that say the same of it
+puts_same : (d e : TokenEntry) (bytes : RecordOf) → d.blob ≡ e.blob → d.first_blob ≡ e.first_blob → PutsFirst d bytes → PutsFirst e bytes
+puts_same d e None blob first puts = sym blob ∙ puts ∙ first
+puts_same d e (Some bytes) blob first puts = ((λ same. puts.0 (blob ∙ same ∙ sym first)), sym first ∙ puts.1)
+
+-- a restore: the row, and then the record
+pub restored_both : (s mid s' : CpuSeat) (tok : ℕ) (made : List (Option ℕ)) (bytes : RecordOf) → RowRestored s mid tok made → PutsFirst (entry mid tok) bytes → Changes mid s' tok (record (entry mid tok) { blob = (entry mid tok).first_blob }) (writes_blob_if mid.cpu tok bytes) → Restored s s' tok made bytes
+restored_both s mid s' tok made bytes row puts changes =
+    let e = entry s tok in
+    let m = entry mid tok in
+    let F : TokenEntry → Type 0 = λ d. PutsFirst d bytes in
+    let K : CpuId → Type 0 = λ c. Changes mid s' tok (record m { blob = m.first_blob }) (writes_blob_if c tok bytes) in
+    let G : TokenEntry → Type 0 = λ d. Changes s s' tok (record d { blob = d.first_blob }) (writes_all s.cpu tok 0 made ++ writes_blob_if s.cpu tok bytes) in
+    record {
+      changes = subst G row.changes.here (changed_twice s mid s' tok (record e { row = e.first }) (record m { blob = m.first_blob }) (writes_all s.cpu tok 0 made) (writes_blob_if s.cpu tok bytes) row.changes (subst K row.changes.cpu changes));
+      puts = puts_same (record e { row = e.first }) e bytes refl refl (subst F row.changes.here puts);
+      writes = row.writes;
+      inside = row.inside;
+      touched = row.touched;
+      each = row.each;
+    }
+
+-- only the law on lengths asks for one
+pub obeys_len : (law : Law) (param : ℕ) (row : List ℕ) (one other : Option ℕ) → (law ≡ Len → one ≡ other) → Obeys law param row one → Obeys law param row other
+obeys_len Any param row one other same is = is
+obeys_len Sum param row one other same is = is
+obeys_len Order param row one other same is = is
+obeys_len Cap param row one other same is = is
+obeys_len Tally param row one other same is = is
+obeys_len Len param row one other same is = let F : Option ℕ → Type 0 = λ o. Obeys Len param row o in subst F (same refl) is
+
+-- and the record isn't read for another law, nor where there is none
+pub asked_none : (law : Law) (cpu : CpuId) (tok : ℕ) (blob : RecordOf) → (law ≡ Len → blob ≡ None) → asked_record law cpu tok blob ≡ []
+asked_none Any cpu tok blob none = refl
+asked_none Sum cpu tok blob none = refl
+asked_none Order cpu tok blob none = refl
+asked_none Cap cpu tok blob none = refl
+asked_none Tally cpu tok blob none = refl
+asked_none Len cpu tok None none = refl
+asked_none Len cpu tok (Some bytes) none = absurd (let h : Some bytes ≡ None = none refl in cc)
+
+pub none_of : (blob : RecordOf) → is_some blob ≡ false → blob ≡ None
+none_of None is = refl
+none_of (Some bytes) is = absurd (false≢true (sym is))

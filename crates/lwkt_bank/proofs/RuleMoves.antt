@@ -1,10 +1,9 @@
-use Rattle.std.proofs.Common.{inl, ◌≡◌, ◌≢◌, ⊎_elim, ℕ, ◌+◌, ◌*◌, ◌<◌, ◌≤◌, true, List, [], length, map, get_or, set, refl, ap, sym, ◌∙◌, subst, arith, Some, length-set, get_or-set_same, get_or-set_other}
+use Rattle.std.proofs.Common.{inl, ◌≡◌, ◌≢◌, ⊎_elim, ℕ, ◌+◌, ◌*◌, ◌<◌, ◌≤◌, true, List, length, map, get_or, set, refl, ap, sym, ◌∙◌, subst, arith, Some, length-set, get_or-set_same, get_or-set_other}
 use Rattle.std.specs.Prelude.{slice_index, slice_set, slice_get, IsSomeAnd}
 use Rattle.std.proofs.lemmas.Bool.{cases_eq}
 use Rattle.std.proofs.lemmas.Option.{slice_get-get_or}
 use mathlib.Core.Option.{Option, some}
 use lib.ListN.{get_elem?}
-use Rattle.atomic_table.specs.Table.{keeps, stepped}
 use Rattle.lwkt_base.specs.declared.names.CpuId.{CpuId}
 use Rattle.lwkt_core.specs.declared.seats.SeatKind.{SeatKind}
 use Rattle.lwkt_core.specs.declared.seats.SeatKind.TheVariants.{Of, Spent}
@@ -21,19 +20,20 @@ use Rattle.lwkt_core.proofs.SeatingLemmas.{at_set, set_again, at_map, of_map, ma
 use Rattle.lwkt_bank.specs.declared.views.Plan.{Plan}
 use Rattle.lwkt_bank.specs.declared.views.View.{View}
 use Rattle.lwkt_bank.specs.Views.{at, count_from, held_of}
-use Rattle.lwkt_bank.specs.Rule.{Bench, token_word, cell_word, law_word, param_word, Seen, seen_by, column, held_by_kind, Knows, ShowsToken, Rule, plan_at, token_at, no_token}
+use Rattle.lwkt_bank.specs.Rule.{Bench, Homes, moved, token_word, cell_word, law_word, param_word, Seen, seen_by, column, held_by_kind, Knows, ShowsToken, Rule, plan_at, token_at, no_token}
 use Rattle.lwkt_bank.proofs.ViewMoves.{column-set, column-same, seen-same, references-from}
-use Rattle.lwkt_bank.proofs.ShowMoves.{Turns, Shows-step, unrecorded_after}
+use Rattle.lwkt_bank.proofs.ShowMoves.{Turns, Shows-step}
 
 -- equal words, cells, views and tokens show the same
-pub Shows-move : (plan : Plan) (home : Option (Option (Unit {0}))) (word word' : ℕ) (cells cells' : ℕ → ℕ) (views views' : List Seen) (tok tok' : Token)
+pub Shows-move : (plan : Plan) (home : Option (Option (List ℕ))) (word word' : ℕ) (cells cells' : ℕ → ℕ) (views views' : List Seen) (tok tok' : Token)
     → word' ≡ word → ((i : ℕ) → i < plan.cells → cells' i ≡ cells i) → views' ≡ views → tok' ≡ tok → ShowsToken plan home word cells views tok → ShowsToken plan home word' cells' views' tok'
 Shows-move plan home word word' cells cells' views views' tok tok' same_word same_cells same_views same_tok shows =
     let F : List Seen → Type 0 = λ vs. ShowsToken plan home word' cells' vs tok' in
     let G : Token → Type 0 = λ t. ShowsToken plan home word' cells' views t in
     subst F (sym same_views) (subst G (sym same_tok) (record {
-      no_slot = shows.no_slot;
-      no_record = shows.no_record;
+      slot = shows.slot;
+      guard = shows.guard;
+      opening_blob = shows.opening_blob;
       law = shows.law;
       param = shows.param;
       long = shows.long;
@@ -102,7 +102,8 @@ module _ (plans : List Plan) (cpus : ℕ) (s : Bench) (r : Rule plans cpus s) wh
       (else_ : (k : ℕ) → k ≢ tok → at w.tokens k ≡ at v.tokens k) (exists' : tok < length plans) (low : 16 * tok + 1 ≤ i) (high : i < 16 * tok + 6)
       (at_tok : place_of e ≡ AtToken tok) (by_cpu : cpu_of e ≡ cpu.0) (needs : TokenNeeds (token_at r.model tok) e)
       (room : adds_reference e ≡ true → count_from 0 (length plans) (held_of v.tokens) < 32)
-      (turns : Turns (plan_at plans tok) (token_at r.model tok) (token_after (token_at r.model tok) e) cpu.0 (at v.tokens tok) (at w.tokens tok) (slice_index (slice_set s.words i n) (token_word tok)) (λ c. slice_index (slice_set s.words i n) (cell_word tok c))) where
+      (homes : Homes) (lies : Option (List ℕ)) (home_here : get_elem? homes tok ≡ some lies) (home_else : (k : ℕ) → k ≢ tok → get_elem? homes k ≡ get_elem? s.homes k)
+      (turns : Turns (plan_at plans tok) (token_at r.model tok) (token_after (token_at r.model tok) e) cpu.0 (at v.tokens tok) (at w.tokens tok) (slice_index (slice_set s.words i n) (token_word tok)) (λ c. slice_index (slice_set s.words i n) (cell_word tok c)) lies) where
     abbrev next : Machine
     next = machine r.model.cpus (set r.model.tokens tok (token_after (token_at r.model tok) e)) r.model.messages
 
@@ -123,28 +124,30 @@ module _ (plans : List Plan) (cpus : ℕ) (s : Bench) (r : Rule plans cpus s) wh
     abbrev words : List ℕ
     words = slice_set s.words i n
 
-    seen_next : ShowsToken (plan_at plans tok) (get_elem? s.homes tok) (slice_index words (token_word tok)) (λ c. slice_index words (cell_word tok c)) (column tok (set s.views id w)) (token_at next tok)
+    seen_next : ShowsToken (plan_at plans tok) (get_elem? homes tok) (slice_index words (token_word tok)) (λ c. slice_index words (cell_word tok c)) (column tok (set s.views id w)) (token_at next tok)
     seen_next =
-        let stepped_on = Shows-step (plan_at plans tok) (get_elem? s.homes tok) (slice_index s.words (token_word tok)) (λ c. slice_index s.words (cell_word tok c)) (column tok s.views) (token_at r.model tok) id (seen_by tok v) (seen_by tok w) cpu
+        let stepped_on = Shows-step (plan_at plans tok) (get_elem? s.homes tok) (get_elem? homes tok) lies (slice_index s.words (token_word tok)) (λ c. slice_index s.words (cell_word tok c)) (column tok s.views) (token_at r.model tok) id (seen_by tok v) (seen_by tok w) cpu
         (slice_index (slice_set s.words i n) (token_word tok)) (λ c. slice_index (slice_set s.words i n) (cell_word tok c)) (token_after (token_at r.model tok) e)
-        (r.pictures.each_token tok exists') (at_map (seen_by tok) s.views id v here) kind same_kind (apart id v cpu tok here kind) turns (unrecorded_after (token_at r.model tok) e needs (r.pictures.each_token tok exists').no_record) in
-        Shows-move (plan_at plans tok) (get_elem? s.homes tok) (slice_index (slice_set s.words i n) (token_word tok)) (slice_index (slice_set s.words i n) (token_word tok)) (λ c. slice_index (slice_set s.words i n) (cell_word tok c)) (λ c. slice_index (slice_set s.words i n) (cell_word tok c))
+        (r.pictures.each_token tok exists') (at_map (seen_by tok) s.views id v here) kind same_kind (apart id v cpu tok here kind) turns home_here in
+        Shows-move (plan_at plans tok) (get_elem? homes tok) (slice_index (slice_set s.words i n) (token_word tok)) (slice_index (slice_set s.words i n) (token_word tok)) (λ c. slice_index (slice_set s.words i n) (cell_word tok c)) (λ c. slice_index (slice_set s.words i n) (cell_word tok c))
         (set (column tok s.views) id (seen_by tok w)) (column tok (set s.views id w)) (token_after (token_at r.model tok) e) (get_or (set r.model.tokens tok (token_after (token_at r.model tok) e)) tok no_token)
         refl (λ c h. refl) (column-set tok s.views id w) (get_or-set_same r.model.tokens tok (token_after (token_at r.model tok) e) no_token (there tok exists')) stepped_on
 
-    seen_else : (k : ℕ) → k < length plans → k ≢ tok → ShowsToken (plan_at plans k) (get_elem? s.homes k) (slice_index words (token_word k)) (λ c. slice_index words (cell_word k c)) (column k (set s.views id w)) (token_at next k)
+    seen_else : (k : ℕ) → k < length plans → k ≢ tok → ShowsToken (plan_at plans k) (get_elem? homes k) (slice_index words (token_word k)) (λ c. slice_index words (cell_word k c)) (column k (set s.views id w)) (token_at next k)
     seen_else k h away =
         let few = few_cells k h in
+        let F : Option (Option (List ℕ)) → Type 0 = λ o. ShowsToken (plan_at plans k) o (slice_index words (token_word k)) (λ c. slice_index words (cell_word k c)) (column k (set s.views id w)) (token_at next k) in
+        subst F (sym (home_else k away)) (
         Shows-move (plan_at plans k) (get_elem? s.homes k) (slice_index s.words (token_word k)) (slice_index (slice_set s.words i n) (token_word k)) (λ c. slice_index s.words (cell_word k c)) (λ c. slice_index (slice_set s.words i n) (cell_word k c))
         (column k s.views) (column k (set s.views id w)) (token_at r.model k) (get_or (set r.model.tokens tok (token_after (token_at r.model tok) e)) k no_token)
         (get_or-set_other s.words i (token_word k) n 0 (λ same. absurd (omega arith)))
         (λ c inside_row. get_or-set_other s.words i (cell_word k c) n 0 (λ same. absurd (omega arith)))
         (column-same k s.views id v w here (seen-same k v w same_kind (else_ k away)))
         (get_or-set_other r.model.tokens tok k (token_after (token_at r.model tok) e) no_token away)
-        (r.pictures.each_token k h)
+        (r.pictures.each_token k h))
 
     -- the rule stays, and the machine after the step is what the event leaves
-    pub lift : (q : Rule plans cpus (stepped s i n id [] w keeps)) × Happens r.model e q.model
+    pub lift : (q : Rule plans cpus (moved s i n id w homes)) × Happens r.model e q.model
     lift = (
       record {
         model = next;
@@ -154,7 +157,7 @@ module _ (plans : List Plan) (cpus : ℕ) (s : Bench) (r : Rule plans cpus s) wh
           as_many = length-set r.model.tokens tok (token_after (token_at r.model tok) e) ∙ r.pictures.as_many;
           no_messages = r.pictures.no_messages;
           each_token = λ k h. ⊎_elim
-              (λ same. let F : ℕ → Type 0 = λ q. ShowsToken (plan_at plans q) (get_elem? s.homes q) (slice_index words (token_word q)) (λ c. slice_index words (cell_word q c)) (column q (set s.views id w)) (token_at next q) in subst F (sym same) seen_next)
+              (λ same. let F : ℕ → Type 0 = λ q. ShowsToken (plan_at plans q) (get_elem? homes q) (slice_index words (token_word q)) (λ c. slice_index words (cell_word q c)) (column q (set s.views id w)) (token_at next q) in subst F (sym same) seen_next)
               (λ away. seen_else k h away)
               (cases_eq k tok);
         };

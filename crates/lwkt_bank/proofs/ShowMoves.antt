@@ -1,6 +1,6 @@
 use Rattle.std.proofs.Common.{inl, inr, ◌≡◌, ◌≢◌, ◌⊎◌, ⊎_elim, ℕ, ◌+◌, ◌<◌, ◌≤◌, List, length, set, refl, ap, sym, ◌∙◌, subst, arith}
 use Rattle.std.specs.Prelude.{slice_index, is_some}
-use Rattle.std.proofs.lemmas.Bool.{cases_eq, false≢true}
+use Rattle.std.proofs.lemmas.Bool.{cases_eq}
 use mathlib.Core.Option.{Option, some, some-injective}
 use lib.ListN.{get_elem?}
 use Rattle.lwkt_base.specs.declared.names.CpuId.{CpuId}
@@ -9,15 +9,13 @@ use Rattle.lwkt_base.specs.TokenWord.{word_of}
 use Rattle.lwkt_core.specs.declared.seats.SeatKind.{SeatKind}
 use Rattle.lwkt_core.specs.declared.seats.SeatKind.TheVariants.{Clerk, Of, Spent}
 use Rattle.lwkt_core.specs.declared.tokens.Token.{Token}
-use Rattle.lwkt_core.specs.declared.events.Event.{Event}
-use Rattle.lwkt_core.specs.declared.events.Event.TheVariants.{Load, Take, Share, Again, Mark, GiveOne, GiveClean, GiveWritten, Read, Write, ReadBlob, WriteBlob}
-use Rattle.lwkt_core.specs.Tokens.{held_by, tally_of, TokenNeeds, token_after}
+use Rattle.lwkt_core.specs.Tokens.{held_by, tally_of}
 use Rattle.lwkt_core.specs.Picture.{picture_of}
 use Rattle.lwkt_core.proofs.SeatingLemmas.{at_set, set_here, set_else, inside, total-set}
 use Rattle.lwkt_bank.specs.declared.views.Plan.{Plan}
 use Rattle.lwkt_bank.specs.declared.views.TokenEntry.{TokenEntry}
 use Rattle.lwkt_bank.specs.Views.{amount}
-use Rattle.lwkt_bank.specs.Rule.{Seen, Knows, ShowsToken, IsUnrecorded, IsOpeningRow, held_by_kind}
+use Rattle.lwkt_bank.specs.Rule.{Seen, Knows, ShowsToken, IsOpeningRow, held_by_kind, in_slot}
 
 -- the number of a processor by which a kind is told apart from others
 abbrev pub cpu_in : SeatKind → ℕ
@@ -34,7 +32,7 @@ abbrev pub IsOthers : Token → ℕ → TokenEntry → Type 0
 IsOthers tok cpu d = ((other : ℕ) × ((other ≢ cpu) × (d.held ≡ held_by tok other))) ⊎ (d.held ≡ Nothing)
 
 -- what a step of a processor does to a token, its words and the processor's entry
-pub record Turns (plan : Plan) (tok tok' : Token) (cpu : ℕ) (e e' : TokenEntry) (word : ℕ) (cells : ℕ → ℕ) : Type 0 where
+pub record Turns (plan : Plan) (tok tok' : Token) (cpu : ℕ) (e e' : TokenEntry) (word : ℕ) (cells : ℕ → ℕ) (lies : Option (List ℕ)) : Type 0 where
   pub law : tok'.law ≡ tok.law
   pub param : tok'.param ≡ tok.param
   pub long : length tok'.row ≡ length tok.row
@@ -46,33 +44,25 @@ pub record Turns (plan : Plan) (tok tok' : Token) (cpu : ℕ) (e e' : TokenEntry
   pub sections : tok'.generation + e.written ≡ tok.generation + e'.written
   pub rises : tok.generation ≤ tok'.generation
   pub same_first : tok'.generation ≡ tok.generation → tok'.first ≡ tok.first
+  pub slot : in_slot tok' ≡ lies
+  pub guard : is_some tok'.blob ≡ is_some tok.blob
+  pub same_first_blob : tok'.generation ≡ tok.generation → tok'.first_blob ≡ tok.first_blob
   pub known : Knows tok' e'
   pub others_known : (d : TokenEntry) → IsOthers tok cpu d → Knows tok d → Knows tok' d
 
--- an event leaves a token without a record without one
-pub unrecorded_after : (tok : Token) (e : Event) → TokenNeeds tok e → IsUnrecorded tok → IsUnrecorded (token_after tok e)
-unrecorded_after tok (WriteBlob cpu t blob) needs none = absurd (false≢true (sym (ap is_some none.0) ∙ needs.1))
-unrecorded_after tok (GiveWritten cpu t section) needs none = (none.0, none.0)
-unrecorded_after tok (Load cpu t) needs none = none
-unrecorded_after tok (Take cpu t) needs none = none
-unrecorded_after tok (Share cpu t) needs none = none
-unrecorded_after tok (Again cpu t) needs none = none
-unrecorded_after tok (Mark cpu t) needs none = none
-unrecorded_after tok (GiveOne cpu t) needs none = none
-unrecorded_after tok (GiveClean cpu t) needs none = none
-unrecorded_after tok (Read cpu t cell value) needs none = none
-unrecorded_after tok (Write cpu t cell value) needs none = none
-unrecorded_after tok (ReadBlob cpu t blob) needs none = none
-unrecorded_after tok e needs none = absurd needs
-
 -- the words and views show the token after the step
-pub Shows-step : (plan : Plan) (home : Option (Option (Unit {0}))) (word : ℕ) (cells : ℕ → ℕ) (views : List Seen) (tok : Token) (j : ℕ) (x y : Seen) (cpu : CpuId) (word' : ℕ) (cells' : ℕ → ℕ) (tok' : Token)
+pub Shows-step : (plan : Plan) (home home' : Option (Option (List ℕ))) (lies : Option (List ℕ)) (word : ℕ) (cells : ℕ → ℕ) (views : List Seen) (tok : Token) (j : ℕ) (x y : Seen) (cpu : CpuId) (word' : ℕ) (cells' : ℕ → ℕ) (tok' : Token)
     → ShowsToken plan home word cells views tok → get_elem? views j ≡ some x → x.kind ≡ Of cpu → y.kind ≡ x.kind
     → ((k : ℕ) (z : Seen) (other : CpuId) → get_elem? views k ≡ some z → k ≢ j → z.kind ≡ Of other → other.0 ≢ cpu.0)
-    → Turns plan tok tok' cpu.0 x.entry y.entry word' cells' → IsUnrecorded tok' → ShowsToken plan home word' cells' (set views j y) tok'
-Shows-step plan home word cells views tok j x y cpu word' cells' tok' shows here kind same apart turns unrecorded = record {
-  no_slot = shows.no_slot;
-  no_record = unrecorded;
+    → Turns plan tok tok' cpu.0 x.entry y.entry word' cells' lies → home' ≡ some lies → ShowsToken plan home' word' cells' (set views j y) tok'
+Shows-step plan home home' lies word cells views tok j x y cpu word' cells' tok' shows here kind same apart turns home_is = record {
+  slot = home_is ∙ ap (λ (o : Option (List ℕ)). some o) (sym turns.slot);
+  guard = turns.guard ∙ shows.guard;
+  opening_blob = λ at_opening.
+      let s = shows.sections in
+      let u = turns.rises in
+      let still_there : tok.generation ≡ plan.generation = omega arith in
+      turns.same_first_blob (at_opening ∙ sym still_there) ∙ shows.opening_blob still_there;
   law = turns.law ∙ shows.law;
   param = turns.param ∙ shows.param;
   long = turns.long ∙ shows.long;

@@ -1,4 +1,4 @@
-use Rattle.std.proofs.Common.{◌≡◌, ◌≢◌, ℕ, ◌<◌, ◌≤◌, List, [], ◌∷◌, ◌++◌, length, map, set, take, refl, ap, sym, ◌∙◌, subst, arith, All, Option, None}
+use Rattle.std.proofs.Common.{◌≡◌, ◌≢◌, ℕ, ◌<◌, ◌≤◌, List, [], ◌∷◌, ◌++◌, length, map, set, take, refl, ap, sym, ◌∙◌, subst, arith, All}
 use Rattle.std.specs.Prelude.{slice_index}
 use Rattle.std.proofs.lemmas.List.Elements.{All-head, All-tail}
 use mathlib.Core.Option.{some}
@@ -17,7 +17,7 @@ use Rattle.lwkt_bank.specs.declared.views.Plan.{Plan}
 use Rattle.lwkt_bank.specs.declared.views.View.{View}
 use Rattle.lwkt_bank.specs.Views.{at, seat_cpu, who, page_of, first_view, clerk_after, new_seat, joined, spent}
 use Rattle.lwkt_bank.specs.Rule.{Bench}
-use Rattle.lwkt_bank.specs.Opened.{AreUnguarded, plans_of, opening_words}
+use Rattle.lwkt_bank.specs.Opened.{plans_of, opening_words, opening_slots}
 use Rattle.lwkt_bank.specs.Told.{IsDone, first_token, first_machine, Told}
 use Rattle.lwkt_bank.proofs.GatherMoves.{Rule-split, Rule-join}
 use Rattle.lwkt_bank.proofs.OpenMoves.{Rule-opening}
@@ -31,28 +31,26 @@ first_row (a ∷ b ∷ c ∷ []) few = refl
 first_row (a ∷ b ∷ c ∷ d ∷ []) few = refl
 first_row (a ∷ b ∷ c ∷ d ∷ e ∷ cells) few = absurd (omega arith)
 
-first_tokens : (specs : List TokSpec) → All IsTokenWithin specs → AreUnguarded specs → map first_token (plans_of specs) ≡ map opened_token specs
-first_tokens [] within unguarded = refl
-first_tokens (spec ∷ specs) within unguarded =
+first_tokens : (specs : List TokSpec) → All IsTokenWithin specs → map first_token (plans_of specs) ≡ map opened_token specs
+first_tokens [] within = refl
+first_tokens (spec ∷ specs) within =
     let row = first_row spec.cells (All-head IsTokenWithin spec specs within).0 in
-    let blob = All-head (λ (s : TokSpec). s.blob ≡ None) spec specs unguarded in
-    let F : List ℕ → Token = λ r. record (opened_token spec) { row = r; first = r; blob = None; first_blob = None } in
-    let G : Option (List ℕ) → Token = λ b. record (opened_token spec) { blob = b; first_blob = b } in
-    ap (λ (t : Token). t ∷ map first_token (plans_of specs)) (ap F row ∙ sym (ap G blob))
-    ∙ ap (λ (ts : List Token). opened_token spec ∷ ts) (first_tokens specs (All-tail IsTokenWithin spec specs within) (All-tail (λ (s : TokSpec). s.blob ≡ None) spec specs unguarded))
+    let F : List ℕ → Token = λ r. record (opened_token spec) { row = r; first = r } in
+    ap (λ (t : Token). t ∷ map first_token (plans_of specs)) (ap F row)
+    ∙ ap (λ (ts : List Token). opened_token spec ∷ ts) (first_tokens specs (All-tail IsTokenWithin spec specs within))
 
-pub first_opening : (cpus : ℕ) (specs : List TokSpec) → All IsTokenWithin specs → AreUnguarded specs → first_machine (plans_of specs) cpus ≡ opening cpus specs []
-first_opening cpus specs within unguarded = ap (λ (ts : List Token). machine cpus ts []) (first_tokens specs within unguarded)
+pub first_opening : (cpus : ℕ) (specs : List TokSpec) → All IsTokenWithin specs → first_machine (plans_of specs) cpus ≡ opening cpus specs []
+first_opening cpus specs within = ap (λ (ts : List Token). machine cpus ts []) (first_tokens specs within)
 
 -- the rule at the opening, with no deed done
-pub Told-opening : (cpus : ℕ) (specs : List TokSpec) → AreWithin cpus specs [] → AllOpenLawfully specs → AreUnguarded specs
-    → (told : Told (plans_of specs) cpus (table_opening (opening_words specs) [] (first_view (plans_of specs)))) × (told.rule.model ≡ opening cpus specs []) × (told.chronicle.history ≡ [])
-Told-opening cpus specs within lawful unguarded =
+pub Told-opening : (cpus : ℕ) (specs : List TokSpec) → AreWithin cpus specs [] → AllOpenLawfully specs
+    → (told : Told (plans_of specs) cpus (table_opening (opening_words specs) (opening_slots specs) (first_view (plans_of specs)))) × (told.rule.model ≡ opening cpus specs []) × (told.chronicle.history ≡ [])
+Told-opening cpus specs within lawful =
     let first = first_machine (plans_of specs) cpus in
-    let r = Rule-opening cpus specs within lawful unguarded in
+    let r = Rule-opening cpus specs within lawful in
     let c = Views-opened IsDone page_of first (first_view (plans_of specs)) refl in
     let F : Machine → Type 0 = λ m. (q : Chronicle IsDone first (map page_of (first_view (plans_of specs) ∷ [])) m) × (q.history ≡ []) in
-    let d = subst F (first_opening cpus specs within.each_token unguarded ∙ sym r.1) c in
+    let d = subst F (first_opening cpus specs within.each_token ∙ sym r.1) c in
     (record { rule = r.0; chronicle = d.0 }, r.1, d.1)
 
 -- the clerk makes a seat: no deed is done

@@ -5,10 +5,10 @@ use Rattle.lwkt_base.specs.declared.names.Mode.{Mode}
 use Rattle.lwkt_base.specs.declared.sections.Section.{Section}
 use Rattle.lwkt_base.specs.declared.names.Mode.TheVariants.{Exclusive, Shared}
 use Rattle.lwkt_core.specs.declared.events.Event.{Event}
-use Rattle.lwkt_core.specs.declared.events.Event.TheVariants.{Load, Take, Share, Again, Mark, GiveOne, GiveClean, GiveWritten, Read, Write}
+use Rattle.lwkt_core.specs.declared.events.Event.TheVariants.{Load, Take, Share, Again, Mark, GiveOne, GiveClean, GiveWritten, Read, Write, ReadBlob, WriteBlob}
 use Rattle.lwkt_core.specs.declared.seats.WordStep.{WordStep}
 use Rattle.lwkt_core.specs.declared.seats.Deed.{Deed}
-use Rattle.lwkt_bank.specs.Views.{one_section, named, load, exchange, add, sub, or}
+use Rattle.lwkt_bank.specs.Views.{RecordOf, one_section, named, load, exchange, add, sub, or}
 
 -- one atomic step of a processor at the bank: its event, and its step on the word of a token if it is one
 abbrev pub deed_by : CpuId → Event → List WordStep → Deed
@@ -51,6 +51,18 @@ reads cpu tok cell value = deed_by cpu (Read cpu (named tok) cell value) []
 
 abbrev pub writes : CpuId → ℕ → ℕ → ℕ → Deed
 writes cpu tok cell value = deed_by cpu (Write cpu (named tok) cell value) []
+
+-- the deed of an access to the record of a token that is held exclusively: it is this one, or becomes this one
+abbrev pub reads_blob : CpuId → ℕ → List ℕ → Deed
+reads_blob cpu tok bytes = deed_by cpu (ReadBlob cpu (named tok) bytes) []
+
+abbrev pub writes_blob : CpuId → ℕ → List ℕ → Deed
+writes_blob cpu tok bytes = deed_by cpu (WriteBlob cpu (named tok) bytes) []
+
+-- the deeds of a record that is written, if one is
+abbrev pub writes_blob_if : CpuId → ℕ → RecordOf → List Deed
+writes_blob_if cpu tok None = []
+writes_blob_if cpu tok (Some bytes) = writes_blob cpu tok bytes ∷ []
 
 -- the loads of the cells of a row, and the stores of these values in cells, from a cell on
 abbrev pub reads_all : CpuId → ℕ → ℕ → List ℕ → List Deed

@@ -1,7 +1,7 @@
-use Rattle.std.specs.Prelude.{◌≡◌, ◌≢◌, ℕ, ◌+◌, ◌-◌, ◌%◌, ◌^◌, ◌<◌, ◌==◌, if◌then◌else◌, Bool, true, List, [], ◌∷◌, ◌++◌, length, slice_index, slice_set, bit_or}
+use Rattle.std.specs.Prelude.{◌≡◌, ◌≢◌, ℕ, ◌+◌, ◌-◌, ◌%◌, ◌^◌, ◌<◌, ◌==◌, ◌≤◌, if◌then◌else◌, Bool, true, List, Some, [], ◌∷◌, ◌++◌, length, slice_index, slice_set, bit_or}
 use mathlib.Core.Option.{some}
 use lib.ListN.{get_elem?}
-use Rattle.atomic_table.specs.Table.{keeps, stepped, opening as table_opening}
+use Rattle.atomic_table.specs.Table.{opening as table_opening}
 use Rattle.lwkt_base.specs.declared.names.CpuId.{CpuId}
 use Rattle.lwkt_base.specs.declared.names.Mode.TheVariants.{Exclusive, Shared}
 use Rattle.lwkt_base.specs.declared.laws.Law.TheVariants.{Tally}
@@ -9,7 +9,7 @@ use Rattle.lwkt_base.specs.declared.holdings.Held.TheVariants.{Nothing, Holds}
 use Rattle.lwkt_base.specs.declared.openings.TokSpec.{TokSpec}
 use Rattle.lwkt_base.specs.declared.words.Decision.TheVariants.{Take as Takes}
 use Rattle.lwkt_base.specs.Holding.{is_held, is_exclusive}
-use Rattle.lwkt_base.specs.Law.{MeetsLaw}
+use Rattle.lwkt_bank.specs.Hands.{IsInHand}
 use Rattle.lwkt_core.specs.declared.seats.SeatKind.TheVariants.{Clerk, Of}
 use Rattle.lwkt_core.specs.declared.seats.Deed.{Deed}
 use Rattle.lwkt_core.specs.declared.seats.WordStep.{WordStep}
@@ -24,12 +24,12 @@ use Rattle.lwkt_bank.specs.declared.views.Plan.{Plan}
 use Rattle.lwkt_bank.specs.declared.views.View.{View}
 use Rattle.lwkt_bank.specs.declared.seats.CpuSeat.{CpuSeat}
 use Rattle.lwkt_bank.specs.Views.{one_section, section_of, at, who, page_of, named, count_from, held_of, exchange, first_view, clerk_after, new_seat, joined, spent}
-use Rattle.lwkt_bank.specs.Deeds.{deed_by, loads, adds_one, marks, gives_one, gives_clean, gives_written, reads, writes}
-use Rattle.lwkt_bank.specs.Rule.{Bench, token_word, cell_word, plan_at, token_at, Knows, Pictures}
-use Rattle.lwkt_bank.specs.Opened.{AreUnguarded, plans_of, opening_words}
-use Rattle.lwkt_bank.specs.Told.{IsOperation, IsDone, first_machine, Told, Deeds}
-use Rattle.lwkt_bank.specs.Plays.{Amid, Looks, Exchanges, AddsOne, Marks, GivesOne, GivesClean, GivesWritten, ReadsCell, StoresCell, RaisesCell}
-use Rattle.lwkt_bank.specs.Seats.{Decides, past_of, steps_of, events_of}
+use Rattle.lwkt_bank.specs.Deeds.{deed_by, loads, adds_one, marks, gives_one, gives_clean, gives_written, reads, writes, reads_blob, writes_blob}
+use Rattle.lwkt_bank.specs.Rule.{Bench, Homes, moved, token_word, cell_word, plan_at, token_at, Knows, Pictures}
+use Rattle.lwkt_bank.specs.Opened.{plans_of, opening_words, opening_slots}
+use Rattle.lwkt_bank.specs.Told.{IsOperation, IsDone, first_machine, Told, stays, taken_home, given_home, FindsAt, Deeds}
+use Rattle.lwkt_bank.specs.Plays.{Amid, Looks, Exchanges, AddsOne, Marks, GivesOne, GivesClean, GivesWritten, ReadsCell, StoresCell, RaisesCell, ReadsBlob, WritesBlob}
+use Rattle.lwkt_bank.specs.Seats.{Decides, IsCleanIn, IsLawfulIn, past_of, steps_of, events_of}
 
 -- whatever meets the rule shows a safe machine; each processor with a seat holds in it what its view says, and each view
 -- knows what is true of it
@@ -55,9 +55,9 @@ ViewsDecide = (plans : List Plan) (cpus : ℕ) (s : Bench) (one other : Told pla
 
 -- the opening table meets the rule, and shows the opening machine, which is the one that is declared, with no deed done
 abbrev pub OpeningIsDeclared : Type 0
-OpeningIsDeclared = (cpus : ℕ) (specs : List TokSpec) → AreWithin cpus specs [] → AllOpenLawfully specs → AreUnguarded specs
-    → Told (plans_of specs) cpus (table_opening (opening_words specs) [] (first_view (plans_of specs)))
-    × ((told : Told (plans_of specs) cpus (table_opening (opening_words specs) [] (first_view (plans_of specs)))) → (told.rule.model ≡ opening cpus specs []) × (told.rule.model ≡ first_machine (plans_of specs) cpus) × (told.chronicle.history ≡ []))
+OpeningIsDeclared = (cpus : ℕ) (specs : List TokSpec) → AreWithin cpus specs [] → AllOpenLawfully specs
+    → Told (plans_of specs) cpus (table_opening (opening_words specs) (opening_slots specs) (first_view (plans_of specs)))
+    × ((told : Told (plans_of specs) cpus (table_opening (opening_words specs) (opening_slots specs) (first_view (plans_of specs)))) → (told.rule.model ≡ opening cpus specs []) × (told.rule.model ≡ first_machine (plans_of specs) cpus) × (told.chronicle.history ≡ []))
 
 -- the clerk makes a seat, or takes one back: no deed is done, and the machine stays
 abbrev pub SplitIsNoDeed : Type 0
@@ -103,12 +103,12 @@ pub record IsMade (plans : List Plan) (words words' : List ℕ) (d : Deed) : Typ
 -- whatever a play of a seat notes is what it made: in any state of the rule, where one word becomes any number and the seat notes
 -- any deed, after which the rule holds
 abbrev pub MadeAsTold : Type 0
-MadeAsTold = (plans : List Plan) (cpus : ℕ) (s : Bench) (id i n : ℕ) (v w : View) (cpu : CpuId) (between : List Deed) (d : Deed) → Told plans cpus s → get_elem? s.views id ≡ some v → v.kind ≡ Of cpu
-    → d.cpu ≡ cpu → AreOthers cpu.0 between → page_of w ≡ noted_page (page_of v) between d → Told plans cpus (stepped s i n id [] w keeps) → IsMade plans s.words (slice_set s.words i n) d
+MadeAsTold = (plans : List Plan) (cpus : ℕ) (s : Bench) (id i n : ℕ) (v w : View) (homes : Homes) (cpu : CpuId) (between : List Deed) (d : Deed) → Told plans cpus s → get_elem? s.views id ≡ some v → v.kind ≡ Of cpu
+    → d.cpu ≡ cpu → AreOthers cpu.0 between → page_of w ≡ noted_page (page_of v) between d → Told plans cpus (moved s i n id w homes) → IsMade plans s.words (slice_set s.words i n) d
 
 -- and where it notes nothing, no word of a token and no cell has changed
 abbrev pub NothingUntold : Type 0
-NothingUntold = (plans : List Plan) (cpus : ℕ) (s : Bench) (id i n : ℕ) (v w : View) → Told plans cpus s → get_elem? s.views id ≡ some v → page_of w ≡ page_of v → Told plans cpus (stepped s i n id [] w keeps)
+NothingUntold = (plans : List Plan) (cpus : ℕ) (s : Bench) (id i n : ℕ) (v w : View) (homes : Homes) → Told plans cpus s → get_elem? s.views id ≡ some v → page_of w ≡ page_of v → Told plans cpus (moved s i n id w homes)
     → (tok : ℕ) → tok < length plans → (slice_index (slice_set s.words i n) (token_word tok) ≡ slice_index s.words (token_word tok)) × ((cell : ℕ) → cell < (plan_at plans tok).cells → slice_index (slice_set s.words i n) (cell_word tok cell) ≡ slice_index s.words (cell_word tok cell))
 
 -- something that is so of each seat and token
@@ -117,40 +117,48 @@ AtSeat P = (plans : List Plan) (cpus id : ℕ) (v : View) (tok : ℕ) → v.kind
 
 -- each kind of step is its deed, for the machines shown before and after it: a load, and a lost exchange, is Load
 abbrev pub LookIsLoad : Type 0
-LookIsLoad = AtSeat (λ plans cpus id v tok. Deeds plans cpus id v (token_word tok) (λ n. n) (λ n. loads (who v) tok n) (λ n w. Amid v (λ between. Looks between tok v n w)))
+LookIsLoad = AtSeat (λ plans cpus id v tok. Deeds plans cpus id v (token_word tok) (λ n. n) (λ n. loads (who v) tok n) stays (λ _ n w. Amid v (λ between. Looks between tok v n w)))
 
 abbrev pub ExchangeIsTake : Type 0
 ExchangeIsTake = AtSeat (λ plans cpus id v tok. (old new : ℕ) (alone : Bool) → count_from 0 (length plans) (held_of v.tokens) < 32 → Decides old Exclusive alone (Takes new)
-    → Deeds plans cpus id v (token_word tok) (λ n. if n == old then new else n) (λ n. deed_by (who v) (if n == old then Take (who v) (named tok) else Load (who v) (named tok)) (exchange tok old new n ∷ [])) (λ n w. Amid v (λ between. Exchanges Exclusive old new between tok v n w)))
+    → Deeds plans cpus id v (token_word tok) (λ n. if n == old then new else n) (λ n. deed_by (who v) (if n == old then Take (who v) (named tok) else Load (who v) (named tok)) (exchange tok old new n ∷ [])) (taken_home (plan_at plans tok).blob tok old) (λ homes n w. Amid v (λ between. Exchanges Exclusive old new between tok v n w × (n ≡ old → FindsAt (plan_at plans tok).blob tok homes (at w.tokens tok).blob))))
 
 abbrev pub ExchangeIsShare : Type 0
 ExchangeIsShare = AtSeat (λ plans cpus id v tok. (old new : ℕ) (alone : Bool) → count_from 0 (length plans) (held_of v.tokens) < 32 → Decides old Shared alone (Takes new) → (at v.tokens tok).held ≡ Nothing
-    → Deeds plans cpus id v (token_word tok) (λ n. if n == old then new else n) (λ n. deed_by (who v) (if n == old then Share (who v) (named tok) else Load (who v) (named tok)) (exchange tok old new n ∷ [])) (λ n w. Amid v (λ between. Exchanges Shared old new between tok v n w)))
+    → Deeds plans cpus id v (token_word tok) (λ n. if n == old then new else n) (λ n. deed_by (who v) (if n == old then Share (who v) (named tok) else Load (who v) (named tok)) (exchange tok old new n ∷ [])) stays (λ _ n w. Amid v (λ between. Exchanges Shared old new between tok v n w)))
 
 abbrev pub AddIsAgain : Type 0
-AddIsAgain = AtSeat (λ plans cpus id v tok. is_held (at v.tokens tok).held ≡ true → count_from 0 (length plans) (held_of v.tokens) < 32 → Deeds plans cpus id v (token_word tok) (λ n. (n + 4) % 2 ^ 64) (λ n. adds_one (who v) tok n) (λ n w. Amid v (λ between. AddsOne between tok v n w)))
+AddIsAgain = AtSeat (λ plans cpus id v tok. is_held (at v.tokens tok).held ≡ true → count_from 0 (length plans) (held_of v.tokens) < 32 → Deeds plans cpus id v (token_word tok) (λ n. (n + 4) % 2 ^ 64) (λ n. adds_one (who v) tok n) stays (λ _ n w. Amid v (λ between. AddsOne between tok v n w)))
 
 abbrev pub OrIsMark : Type 0
-OrIsMark = AtSeat (λ plans cpus id v tok. Deeds plans cpus id v (token_word tok) (λ n. bit_or n 2) (λ n. marks (who v) tok n) (λ n w. Amid v (λ between. Marks between tok v n w)))
+OrIsMark = AtSeat (λ plans cpus id v tok. Deeds plans cpus id v (token_word tok) (λ n. bit_or n 2) (λ n. marks (who v) tok n) stays (λ _ n w. Amid v (λ between. Marks between tok v n w)))
 
 abbrev pub SubIsGiveOne : Type 0
-SubIsGiveOne = AtSeat (λ plans cpus id v tok. IsNotLastExclusive (at v.tokens tok).held → is_held (at v.tokens tok).held ≡ true → Deeds plans cpus id v (token_word tok) (λ n. (n + (2 ^ 64 - 4)) % 2 ^ 64) (λ n. gives_one (who v) tok n) (λ n w. Amid v (λ between. GivesOne between tok v n w)))
+SubIsGiveOne = AtSeat (λ plans cpus id v tok. IsNotLastExclusive (at v.tokens tok).held → is_held (at v.tokens tok).held ≡ true → Deeds plans cpus id v (token_word tok) (λ n. (n + (2 ^ 64 - 4)) % 2 ^ 64) (λ n. gives_one (who v) tok n) stays (λ _ n w. Amid v (λ between. GivesOne between tok v n w)))
 
 abbrev pub SubIsGiveClean : Type 0
-SubIsGiveClean = AtSeat (λ plans cpus id v tok. (at v.tokens tok).held ≡ Holds Exclusive 0 → (at v.tokens tok).row ≡ (at v.tokens tok).first → Deeds plans cpus id v (token_word tok) (λ n. (n + (2 ^ 64 - 1)) % 2 ^ 64) (λ n. gives_clean (who v) tok n) (λ n w. Amid v (λ between. GivesClean between tok v n w)))
+SubIsGiveClean = AtSeat (λ plans cpus id v tok. (at v.tokens tok).held ≡ Holds Exclusive 0 → IsCleanIn (at v.tokens tok) → Deeds plans cpus id v (token_word tok) (λ n. (n + (2 ^ 64 - 1)) % 2 ^ 64) (λ n. gives_clean (who v) tok n) (given_home (at v.tokens tok).blob tok) (λ _ n w. Amid v (λ between. GivesClean between tok v n w)))
 
 abbrev pub AddIsGiveWritten : Type 0
-AddIsGiveWritten = AtSeat (λ plans cpus id v tok. (at v.tokens tok).held ≡ Holds Exclusive 0 → (at v.tokens tok).row ≢ (at v.tokens tok).first → MeetsLaw (plan_at plans tok).law (plan_at plans tok).param (at v.tokens tok).row
-    → Deeds plans cpus id v (token_word tok) (λ n. (n + one_section) % 2 ^ 64) (λ n. gives_written (section_of tok (at v.tokens tok)) (who v) tok n) (λ n w. Amid v (λ between. GivesWritten between tok v n w)))
+AddIsGiveWritten = AtSeat (λ plans cpus id v tok. (at v.tokens tok).held ≡ Holds Exclusive 0 → ¬ IsCleanIn (at v.tokens tok) → IsLawfulIn (plan_at plans tok) (at v.tokens tok)
+    → Deeds plans cpus id v (token_word tok) (λ n. (n + one_section) % 2 ^ 64) (λ n. gives_written (section_of tok (at v.tokens tok)) (who v) tok n) (given_home (at v.tokens tok).blob tok) (λ _ n w. Amid v (λ between. GivesWritten between tok v n w)))
 
 abbrev pub CellLoadIsRead : Type 0
-CellLoadIsRead = AtSeat (λ plans cpus id v tok. is_held (at v.tokens tok).held ≡ true → (cell : ℕ) → cell < (plan_at plans tok).cells → Deeds plans cpus id v (cell_word tok cell) (λ n. n) (λ n. reads (who v) tok cell n) (λ n w. Amid v (λ between. ReadsCell between tok cell v n w)))
+CellLoadIsRead = AtSeat (λ plans cpus id v tok. is_held (at v.tokens tok).held ≡ true → (cell : ℕ) → cell < (plan_at plans tok).cells → Deeds plans cpus id v (cell_word tok cell) (λ n. n) (λ n. reads (who v) tok cell n) stays (λ _ n w. Amid v (λ between. ReadsCell between tok cell v n w)))
 
 abbrev pub CellStoreIsWrite : Type 0
-CellStoreIsWrite = AtSeat (λ plans cpus id v tok. is_exclusive (at v.tokens tok).held ≡ true → (plan_at plans tok).law ≢ Tally → (cell value : ℕ) → cell < (plan_at plans tok).cells → Deeds plans cpus id v (cell_word tok cell) (λ _. value) (λ _. writes (who v) tok cell value) (λ _ w. Amid v (λ between. StoresCell between tok cell v value w)))
+CellStoreIsWrite = AtSeat (λ plans cpus id v tok. is_exclusive (at v.tokens tok).held ≡ true → (plan_at plans tok).law ≢ Tally → (cell value : ℕ) → cell < (plan_at plans tok).cells → Deeds plans cpus id v (cell_word tok cell) (λ _. value) (λ _. writes (who v) tok cell value) stays (λ _ _ w. Amid v (λ between. StoresCell between tok cell v value w)))
 
 abbrev pub TallyStoreIsWrite : Type 0
-TallyStoreIsWrite = AtSeat (λ plans cpus id v tok. is_exclusive (at v.tokens tok).held ≡ true → (plan_at plans tok).law ≡ Tally → (k : ℕ) → Deeds plans cpus id v (cell_word tok 0) (λ _. slice_index (at v.tokens tok).row 0 + k) (λ _. writes (who v) tok 0 (slice_index (at v.tokens tok).row 0 + k)) (λ _ w. Amid v (λ between. RaisesCell between tok 0 v (slice_index (at v.tokens tok).row 0 + k) w)))
+TallyStoreIsWrite = AtSeat (λ plans cpus id v tok. is_exclusive (at v.tokens tok).held ≡ true → (plan_at plans tok).law ≡ Tally → (k : ℕ) → Deeds plans cpus id v (cell_word tok 0) (λ _. slice_index (at v.tokens tok).row 0 + k) (λ _. writes (who v) tok 0 (slice_index (at v.tokens tok).row 0 + k)) stays (λ _ _ w. Amid v (λ between. RaisesCell between tok 0 v (slice_index (at v.tokens tok).row 0 + k) w)))
+
+-- an access to the record of a token that is held exclusively is ReadBlob or WriteBlob; what lies in the slots stays, as nothing lies in
+-- this token's
+abbrev pub AccessIsReadBlob : Type 0
+AccessIsReadBlob = AtSeat (λ plans cpus id v tok. (bytes : List ℕ) → is_exclusive (at v.tokens tok).held ≡ true → (at v.tokens tok).blob ≡ Some bytes → Deeds plans cpus id v (cell_word tok 0) (λ n. n) (λ _. reads_blob (who v) tok bytes) stays (λ _ _ w. Amid v (λ between. ReadsBlob between tok v w)))
+
+abbrev pub AccessIsWriteBlob : Type 0
+AccessIsWriteBlob = AtSeat (λ plans cpus id v tok. (bytes : List ℕ) → IsInHand v tok → length bytes ≤ 64 → Deeds plans cpus id v (cell_word tok 0) (λ n. if n == 0 then 0 else n) (λ _. writes_blob (who v) tok bytes) stays (λ _ _ w. Amid v (λ between. WritesBlob bytes between tok v w)))
 
 -- what a call's deeds tell of its seat's steps on token words and of its events: they are appended, in order
 abbrev pub DeedsAreTold : Type 0

@@ -1,6 +1,7 @@
 pub mod Views
 pub mod Rule
 pub mod Deeds
+pub mod Hands
 pub mod Told
 pub mod Plays
 pub mod Notes

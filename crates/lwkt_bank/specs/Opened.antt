@@ -1,17 +1,13 @@
-use Rattle.std.specs.Prelude.{◌≡◌, ℕ, ◌*◌, List, [], ◌∷◌, length, map, slice_index, All, None}
+use Rattle.std.specs.Prelude.{ℕ, ◌*◌, List, [], ◌∷◌, length, map, slice_index, None, Some}
 use Rattle.std.specs.List.{flat_map}
 use Rattle.lwkt_base.specs.declared.openings.TokSpec.{TokSpec}
 use Rattle.lwkt_bank.specs.declared.views.Plan.{Plan}
-use Rattle.lwkt_bank.specs.Views.{one_generation}
+use Rattle.lwkt_bank.specs.Views.{RecordOf, one_generation}
 use Rattle.lwkt_bank.specs.Rule.{law_number}
-
--- no token has a record: the bank has no slots for them yet (own)
-abbrev pub AreUnguarded : List TokSpec → Type 0
-AreUnguarded specs = All (λ spec. spec.blob ≡ None) specs
 
 -- what is declared of a token by its opening
 abbrev pub plan_of_spec : TokSpec → Plan
-plan_of_spec spec = record { generation = spec.generation; param = spec.param; first = slice_index spec.cells 0 ∷ slice_index spec.cells 1 ∷ slice_index spec.cells 2 ∷ slice_index spec.cells 3 ∷ []; cells = length spec.cells; law = spec.law }
+plan_of_spec spec = record { generation = spec.generation; param = spec.param; first = slice_index spec.cells 0 ∷ slice_index spec.cells 1 ∷ slice_index spec.cells 2 ∷ slice_index spec.cells 3 ∷ []; cells = length spec.cells; law = spec.law; blob = spec.blob }
 
 abbrev pub plans_of : List TokSpec → List Plan
 plans_of specs = map plan_of_spec specs
@@ -23,3 +19,14 @@ block spec = (one_generation * spec.generation) ∷ slice_index spec.cells 0 ∷
 -- the words of the bank at the opening: one that is always 0, and then each token's
 abbrev pub opening_words : List TokSpec → List ℕ
 opening_words specs = 0 ∷ flat_map block specs
+
+-- what lies in the slots at the opening: each token's record, and an empty one for a token without
+abbrev pub kept_in : RecordOf → List ℕ
+kept_in None = []
+kept_in (Some bytes) = bytes
+
+abbrev pub slot_of_spec : TokSpec → List ℕ
+slot_of_spec spec = kept_in spec.blob
+
+abbrev pub opening_slots : List TokSpec → List (List ℕ)
+opening_slots specs = map slot_of_spec specs

@@ -1,15 +1,19 @@
-use Rattle.std.specs.Prelude.{◌≡◌, ◌≢◌, ℕ, ◌+◌, ◌<◌, ◌≤◌, List, length, All, Some, slice_get, slice_index}
+use Rattle.std.specs.Prelude.{◌≡◌, ◌≢◌, ℕ, ◌+◌, ◌<◌, ◌≤◌, List, length, All, Some, slice_get, slice_index, is_some}
 use Rattle.atomic_table.specs.Table.{Me, Step}
 use Rattle.lwkt_base.specs.declared.names.Mode.{Mode}
 use Rattle.lwkt_base.specs.declared.laws.Law.TheVariants.{Tally}
-use Rattle.lwkt_base.specs.Law.{MeetsLaw}
+use mathlib.Core.Option.{some}
+use Rattle.lwkt_base.specs.declared.names.Mode.TheVariants.{Exclusive, Shared}
+use Rattle.lwkt_base.specs.Law.{Obeys}
+use Rattle.lwkt_core.specs.Tokens.{IsShort, length_of}
+use Rattle.lwkt_bank.specs.Hands.{TakesOut, PutsBack, Brings}
 use Rattle.lwkt_core.specs.declared.seats.Deed.{Deed}
 use Rattle.lwkt_core.specs.History.{AreOthers}
 use Rattle.lwkt_bank.specs.declared.views.Plan.{Plan}
 use Rattle.lwkt_bank.specs.declared.views.TokenEntry.{TokenEntry}
 use Rattle.lwkt_bank.specs.declared.views.View.{View}
-use Rattle.lwkt_bank.specs.Views.{at, amount, generation_in, looked, taken, more, less, ended, section_of, read, stored, raised, who, noted}
-use Rattle.lwkt_bank.specs.Deeds.{loads, takes, loses, adds_one, marks, gives_one, gives_clean, gives_written, reads, writes}
+use Rattle.lwkt_bank.specs.Views.{RecordOf, at, amount, generation_in, looked, taken, more, less, ended, section_of, read, wrote_record, stored, raised, who, noted}
+use Rattle.lwkt_bank.specs.Deeds.{loads, takes, loses, adds_one, marks, gives_one, gives_clean, gives_written, reads, writes, reads_blob, writes_blob}
 use Rattle.lwkt_bank.specs.Rule.{token_word, cell_word, IsOpeningRow, plan_at}
 
 -- since the last deed of the seat with this view others have acted, and its step tells this after what they did
@@ -17,34 +21,43 @@ abbrev pub Amid : View → (List Deed → Type 0) → Type 0
 Amid v R = (between : List Deed) × (AreOthers (who v).0 between × R between)
 
 -- what a step on the count word of a token tells: which token it is, is told by the word's place
-abbrev pub at_word : (List Deed → ℕ → View → ℕ → View → Type 0) → Step (Unit {0}) → Me (Unit {0}) View → ℕ → Me (Unit {0}) View → Type 0
+abbrev pub at_word : (List Deed → ℕ → View → ℕ → View → Type 0) → Step (List ℕ) → Me (List ℕ) View → ℕ → Me (List ℕ) View → Type 0
 at_word R st m n m' = (m'.1 ≡ m.1) × ((tok : ℕ) → st.word ≡ token_word tok → Amid m.0 (λ between. R between tok m.0 n m'.0))
 
 -- what a step on a cell of a token tells
-abbrev pub at_cell : (List Deed → ℕ → ℕ → View → ℕ → View → Type 0) → Step (Unit {0}) → Me (Unit {0}) View → ℕ → Me (Unit {0}) View → Type 0
+abbrev pub at_cell : (List Deed → ℕ → ℕ → View → ℕ → View → Type 0) → Step (List ℕ) → Me (List ℕ) View → ℕ → Me (List ℕ) View → Type 0
 at_cell R st m n m' = (m'.1 ≡ m.1) × ((tok cell : ℕ) → cell < 4 → st.word ≡ cell_word tok cell → Amid m.0 (λ between. R between tok cell m.0 n m'.0))
 
 -- a look at the word: the generation doesn't fall, and there is room for a reference more
 abbrev pub Looks : List Deed → ℕ → View → ℕ → View → Type 0
 Looks between tok v n w = (n + 4 < 18446744073709551616) × ((at v.tokens tok).generation ≤ generation_in n) × (w ≡ noted between v (looked (at v.tokens tok) n) (loads (who v) tok n))
 
--- the row that a take at this word finds: it obeys the law, the generation doesn't fall, at an equal generation the row is the
--- one that the seat knew, and at the opening generation it is the opening row
-pub record IsTakenRow (plan : Plan) (e : TokenEntry) (word : ℕ) (row : List ℕ) : Type 0 where
+-- the row and the record that a take at this word finds: they obey the law, the generation doesn't fall, at an equal generation they
+-- are those that the seat knew, and at the opening generation they are the opening ones; there is a record if one was declared
+pub record IsTakenRow (plan : Plan) (e : TokenEntry) (word : ℕ) (row : List ℕ) (blob : RecordOf) : Type 0 where
   pub long : length row ≡ plan.cells
-  pub lawful : MeetsLaw plan.law plan.param row
+  pub lawful : Obeys plan.law plan.param row (length_of blob)
   pub rises : e.generation ≤ generation_in word
   pub fresh : e.generation ≡ generation_in word → All (λ c. slice_get row c.at ≡ Some c.value) e.known
   pub opening : generation_in word ≡ plan.generation → IsOpeningRow plan row
+  pub guard : is_some blob ≡ is_some plan.blob
+  pub short : IsShort blob
+  pub fresh_blob : e.generation ≡ generation_in word → All (λ bytes. blob ≡ Some bytes) e.known_blob
+  pub opening_blob : generation_in word ≡ plan.generation → blob ≡ plan.blob
 
 -- an exchange that takes the token, or finds another word
 abbrev pub Exchanges : Mode → ℕ → ℕ → List Deed → ℕ → View → ℕ → View → Type 0
 Exchanges mode old new between tok v n w =
-    (n ≡ old → (row : List ℕ) × (IsTakenRow (plan_at v.plans tok) (at v.tokens tok) n row × (w ≡ noted between v (taken (at v.tokens tok) n mode row) (takes (who v) tok mode old new n))))
+    (n ≡ old → (row : List ℕ) × ((blob : RecordOf) × (IsTakenRow (plan_at v.plans tok) (at v.tokens tok) n row blob × (w ≡ noted between v (taken (at v.tokens tok) n mode row blob) (takes (who v) tok mode old new n)))))
     × (n ≢ old → ((at v.tokens tok).generation ≤ generation_in n) × (w ≡ noted between v (looked (at v.tokens tok) n) (loses (who v) tok old new n)))
 
-abbrev pub exchanges : Mode → Step (Unit {0}) → Me (Unit {0}) View → ℕ → Me (Unit {0}) View → Type 0
-exchanges mode st = at_word (Exchanges mode st.first st.second) st
+abbrev pub shares : Step (List ℕ) → Me (List ℕ) View → ℕ → Me (List ℕ) View → Type 0
+shares st = at_word (Exchanges Shared st.first st.second) st
+
+-- an exclusive take takes the token's record in hand, if it has one
+abbrev pub takes_out : Step (List ℕ) → Me (List ℕ) View → ℕ → Me (List ℕ) View → Type 0
+takes_out st m n m' = (tok : ℕ) → st.word ≡ token_word tok → Amid m.0 (λ between. Exchanges Exclusive st.first st.second between tok m.0 n m'.0)
+    × (n ≡ st.first → TakesOut (at m'.0.tokens tok).blob tok m.1 m'.1) × (n ≢ st.first → m'.1 ≡ m.1)
 
 -- a further reference, a mark, and the three ways of giving a reference back; the end of a written section finds the generation
 -- that the seat knows
@@ -62,6 +75,29 @@ GivesClean between tok v n w = w ≡ noted between v (less (at v.tokens tok)) (g
 
 abbrev pub GivesWritten : List Deed → ℕ → View → ℕ → View → Type 0
 GivesWritten between tok v n w = (generation_in n ≡ (at v.tokens tok).generation) × (w ≡ noted between v (ended (at v.tokens tok)) (gives_written (section_of tok (at v.tokens tok)) (who v) tok n))
+
+-- what a step tells that ends a section: it puts the token's record back, if it has one
+abbrev pub puts_back : (List Deed → ℕ → View → ℕ → View → Type 0) → Step (List ℕ) → Me (List ℕ) View → ℕ → Me (List ℕ) View → Type 0
+puts_back R st m n m' = (tok : ℕ) → st.word ≡ token_word tok → Amid m.0 (λ between. R between tok m.0 n m'.0) × PutsBack (at m.0.tokens tok).blob tok m.1 m'.1
+
+-- the record that is read: the access is noted at a load of the word of the token's first cell
+abbrev pub ReadsBlob : List Deed → ℕ → View → View → Type 0
+ReadsBlob between tok v w = (bytes : List ℕ) × (((at v.tokens tok).blob ≡ Some bytes) × (w ≡ noted between v (at v.tokens tok) (reads_blob (who v) tok bytes)))
+
+abbrev pub reads_record : Step (List ℕ) → Me (List ℕ) View → ℕ → Me (List ℕ) View → Type 0
+reads_record st m n m' = (tok : ℕ) → st.word ≡ cell_word tok 0 → Amid m.0 (λ between. ReadsBlob between tok m.0 m'.0) × Brings tok m.1 m'.1
+
+-- and one that is written: noted at an exchange of that word that changes nothing and announces the record
+abbrev pub WritesBlob : List ℕ → List Deed → ℕ → View → View → Type 0
+WritesBlob bytes between tok v w = w ≡ noted between v (wrote_record (at v.tokens tok) bytes) (writes_blob (who v) tok bytes)
+
+abbrev pub writes_record : Step (List ℕ) → Me (List ℕ) View → ℕ → Me (List ℕ) View → Type 0
+writes_record st m n m' = (tok : ℕ) (bytes : List ℕ) → st.word ≡ cell_word tok 0 → st.said ≡ some bytes → Amid m.0 (λ between. WritesBlob bytes between tok m.0 m'.0) × Brings tok m.1 m'.1
+
+-- what an exchange does to the records in hand
+abbrev pub TakesHands : Mode → ℕ → ℕ → ℕ → Me (List ℕ) View → Me (List ℕ) View → Type 0
+TakesHands Exclusive old tok n m m' = (n ≡ old → TakesOut (at m'.0.tokens tok).blob tok m.1 m'.1) × (n ≢ old → m'.1 ≡ m.1)
+TakesHands Shared old tok n m m' = m'.1 ≡ m.1
 
 -- a cell that is read, which is at least what any processor has added if the token keeps tallies; one that is stored to, and the cell of a Tally token that is raised
 abbrev pub ReadsCell : List Deed → ℕ → ℕ → View → ℕ → View → Type 0

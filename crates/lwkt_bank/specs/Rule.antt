@@ -1,4 +1,5 @@
-use Rattle.std.specs.Prelude.{◌≡◌, ◌⊎◌, ℕ, ◌+◌, ◌*◌, ◌<◌, ◌≤◌, true, false, List, [], ◌∷◌, length, map, All, Some, None, slice_get, slice_index, slice_index_or}
+use Rattle.std.specs.Prelude.{◌≡◌, ◌⊎◌, ℕ, ◌+◌, ◌*◌, ◌<◌, ◌≤◌, Bool, true, false, List, [], ◌∷◌, length, map, All, Some, None, slice_get, slice_set, slice_index, slice_index_or}
+use Rattle.std.specs.Option.{is_some}
 use mathlib.Core.Option.{Option, some, none}
 use lib.ListN.{get_elem?}
 use Rattle.atomic_table.specs.Table.{State}
@@ -18,11 +19,11 @@ use Rattle.lwkt_core.specs.Seating.{total, AreSeated}
 use Rattle.lwkt_bank.specs.declared.views.Plan.{Plan}
 use Rattle.lwkt_bank.specs.declared.views.TokenEntry.{TokenEntry}
 use Rattle.lwkt_bank.specs.declared.views.View.{View}
-use Rattle.lwkt_bank.specs.Views.{at, amount, spent}
+use Rattle.lwkt_bank.specs.Views.{RecordOf, at, amount, spent}
 
--- the bank's table: no token has a slot
+-- the bank's table: each token has a slot, for its record
 abbrev pub Bench : Type 0
-Bench = State (Unit {0}) View
+Bench = State (List ℕ) View
 
 -- how many words the table of so many tokens has: word 0, and 16 for each token
 abbrev pub table_words : ℕ → ℕ
@@ -69,26 +70,35 @@ held_by_kind tok (Clerk made back) = Nothing
 held_by_kind tok Spent = Nothing
 
 -- what is known of a token is true: the known generation isn't above the token's; at an equal one each known cell is that
--- of the first row; and who holds the token knows its generation, its first row and its row (own)
+-- of the first row, and a record that is known is the first one; and who holds the token knows its generation, its first row and its
+-- row, its first record and its record (own)
 pub record Knows (tok : Token) (e : TokenEntry) : Type 0 where
   pub not_above : e.generation ≤ tok.generation
   pub cells : e.generation ≡ tok.generation → All (λ c. slice_get tok.first c.at ≡ Some c.value) e.known
-  pub holder : is_held e.held ≡ true → (e.generation ≡ tok.generation) × (e.first ≡ tok.first) × (e.row ≡ tok.row)
+  pub records : e.generation ≡ tok.generation → All (λ bytes. tok.first_blob ≡ Some bytes) e.known_blob
+  pub holder : is_held e.held ≡ true → (e.generation ≡ tok.generation) × (e.first ≡ tok.first) × (e.row ≡ tok.row) × (e.first_blob ≡ tok.first_blob) × (e.blob ≡ tok.blob)
 
 -- the cells of a row are those of the opening row
 abbrev pub IsOpeningRow : Plan → List ℕ → Type 0
 IsOpeningRow plan row = (i : ℕ) → i < plan.cells → slice_index row i ≡ slice_index plan.first i
 
--- the token has no record, nor had one when its section began (own)
-abbrev pub IsUnrecorded : Token → Type 0
-IsUnrecorded tok = (tok.blob ≡ None) × (tok.first_blob ≡ None)
+-- what lies in the slot of a token: its record, but nothing while somebody holds the token exclusively; an empty record, always, of
+-- a token that has none (own)
+abbrev pub lies_in : RecordOf → Bool → Option (List ℕ)
+lies_in None exclusive = some []
+lies_in (Some bytes) true = none
+lies_in (Some bytes) false = some bytes
+
+abbrev pub in_slot : Token → Option (List ℕ)
+in_slot tok = lies_in tok.blob (picture_of tok).exclusive
 
 -- words and views show a token of the model: the count word is its picture, the cells are its row, each seat's view has what
 -- its processor holds, nobody else holds the token, what the views added are the tallies, the generation is the opening one
--- plus the written sections of all views, and at the opening generation the first row is the opening row; the token has no record
-pub record ShowsToken (plan : Plan) (home : Option (Option (Unit {0}))) (word : ℕ) (cells : ℕ → ℕ) (views : List Seen) (tok : Token) : Type 0 where
-  pub no_slot : home ≡ none
-  pub no_record : IsUnrecorded tok
+-- plus the written sections of all views, and at the opening generation the first row and record are the opening ones; the token
+-- has a record if one was declared, which lies in its slot exactly while nobody holds the token exclusively
+pub record ShowsToken (plan : Plan) (home : Option (Option (List ℕ))) (word : ℕ) (cells : ℕ → ℕ) (views : List Seen) (tok : Token) : Type 0 where
+  pub slot : home ≡ some (in_slot tok)
+  pub guard : is_some tok.blob ≡ is_some plan.blob
   pub law : tok.law ≡ plan.law
   pub param : tok.param ≡ plan.param
   pub long : length tok.row ≡ plan.cells
@@ -99,11 +109,30 @@ pub record ShowsToken (plan : Plan) (home : Option (Option (Unit {0}))) (word : 
   pub tallies : (cpu : ℕ) → tally_of tok cpu ≡ total (λ x. amount cpu x.entry.added) views
   pub sections : plan.generation + total (λ x. x.entry.written) views ≡ tok.generation
   pub opening : tok.generation ≡ plan.generation → IsOpeningRow plan tok.first
+  pub opening_blob : tok.generation ≡ plan.generation → tok.first_blob ≡ plan.blob
   pub known : (j : ℕ) (x : Seen) → get_elem? views j ≡ some x → Knows tok x.entry
+
+-- what lies in the slots of all tokens
+abbrev pub Homes : Type 0
+Homes = List (Option (List ℕ))
+
+-- after a take of a token that has a record nothing lies in its slot, and after the give that ends the section the record again; the
+-- slot of a token without a record stays as it is
+abbrev pub without : RecordOf → ℕ → Homes → Homes
+without None tok homes = homes
+without (Some bytes) tok homes = slice_set homes tok none
+
+abbrev pub with_back : RecordOf → ℕ → Homes → Homes
+with_back None tok homes = homes
+with_back (Some bytes) tok homes = slice_set homes tok (some bytes)
+
+-- the table after a step on a word, with the stepping seat's new view, and with this in the slots
+abbrev pub moved : Bench → ℕ → ℕ → ℕ → View → Homes → Bench
+moved s i n id w homes = record { words = slice_set s.words i n; homes = homes; views = slice_set s.views id w }
 
 -- what stands for a token or a plan past the last
 abbrev pub no_plan : Plan
-no_plan = record { generation = 0; param = 0; first = 0 ∷ 0 ∷ 0 ∷ 0 ∷ []; cells = 0; law = Any }
+no_plan = record { generation = 0; param = 0; first = 0 ∷ 0 ∷ 0 ∷ 0 ∷ []; cells = 0; law = Any; blob = None }
 
 abbrev pub no_token : Token
 no_token = record { law = Any; param = 0; generation = 0; mark = false; row = []; first = []; blob = None; first_blob = None; holders = []; tallies = [] }

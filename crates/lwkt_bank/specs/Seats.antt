@@ -1,4 +1,4 @@
-use Rattle.std.specs.Prelude.{◌≡◌, ◌≢◌, ◌⊎◌, ℕ, ◌+◌, ◌<◌, ◌≤◌, zero, suc, if◌then◌else◌, Bool, true, List, [], ◌∷◌, ◌++◌, length, Option, Some, None, slice_get, slice_index, slice_set}
+use Rattle.std.specs.Prelude.{◌≡◌, ◌≢◌, ◌⊎◌, ℕ, ◌+◌, ◌<◌, ◌≤◌, zero, suc, if◌then◌else◌, Bool, true, List, [], ◌∷◌, ◌++◌, length, Option, Some, None, slice_get, slice_index, slice_set, is_some}
 use Rattle.atomic_table.specs.Seated.{TableId}
 use Rattle.atomic_table.specs.declared.shared.Seat.{Seat}
 use Rattle.lwkt_base.specs.declared.names.CpuId.{CpuId}
@@ -7,7 +7,8 @@ use Rattle.lwkt_base.specs.declared.names.Mode.TheVariants.{Exclusive}
 use Rattle.lwkt_base.specs.declared.laws.Law.{Law}
 use Rattle.lwkt_base.specs.declared.laws.Law.TheVariants.{Any, Sum, Order, Cap, Tally, Len}
 use Rattle.lwkt_base.specs.declared.holdings.Held.TheVariants.{Holds}
-use Rattle.lwkt_core.specs.Tokens.{IsNotLastExclusive}
+use Rattle.lwkt_base.specs.Law.{Obeys}
+use Rattle.lwkt_core.specs.Tokens.{IsNotLastExclusive, length_of}
 use Rattle.lwkt_base.specs.declared.sections.Section.{Section}
 use Rattle.lwkt_base.specs.declared.words.TokWord.{TokWord}
 use Rattle.lwkt_base.specs.declared.words.Decision.{Decision}
@@ -30,8 +31,8 @@ use Rattle.lwkt_bank.specs.declared.answers.Given.TheVariants.{One, Clean, Writt
 use Rattle.lwkt_core.specs.declared.seats.Deed.{Deed}
 use Rattle.lwkt_core.specs.declared.events.Event.{Event}
 use Rattle.lwkt_core.specs.History.{steps_by, events_by, AreOwn, Grows}
-use Rattle.lwkt_bank.specs.Views.{at, count_from, held_of, generation_in, is_touched, looked, taken, less, ended, section_of, who}
-use Rattle.lwkt_bank.specs.Deeds.{loads, takes, loses, gives_one, gives_clean, gives_written, reads, writes_all}
+use Rattle.lwkt_bank.specs.Views.{RecordOf, at, count_from, held_of, generation_in, is_touched, looked, taken, less, ended, section_of, who}
+use Rattle.lwkt_bank.specs.Deeds.{loads, takes, loses, gives_one, gives_clean, gives_written, reads, writes_all, reads_blob, writes_blob_if}
 use Rattle.lwkt_bank.specs.Plays.{IsTakenRow}
 use Rattle.lwkt_bank.specs.Rule.{plan_at}
 
@@ -81,13 +82,17 @@ steps_of s = steps_by s.cpu.0 (past_of s)
 abbrev pub events_of : CpuSeat → List Event
 events_of s = events_by s.cpu.0 (past_of s)
 
+-- record and first record of a token that a seat holds are there exactly if a record was declared
+abbrev pub IsGuarded : CpuSeat → ℕ → Type 0
+IsGuarded s tok = (is_some (entry s tok).blob ≡ is_some (plan_of (bank_of s) tok).blob) × (is_some (entry s tok).first_blob ≡ is_some (plan_of (bank_of s) tok).blob)
+
 -- a seat of the table, by its view and its table alone
-pub record IsOf (bank : Bank) (seat : Seat (Unit {0}) View) : Type 0 where
+pub record IsOf (bank : Bank) (seat : Seat (List ℕ) View) : Type 0 where
   pub table : seat.table_id ≡ bank.table.shared.table_id
   pub plans : seat.me.0.plans ≡ bank.key.plans.items
   pub named : seat.me.0.kind ≡ Of (who seat.me.0)
 
-pub record IsSame (old new : Seat (Unit {0}) View) : Type 0 where
+pub record IsSame (old new : Seat (List ℕ) View) : Type 0 where
   pub table : new.table_id ≡ old.table_id
   pub slots : new.me.1 ≡ old.me.1
 
@@ -111,16 +116,17 @@ pub record Looked (s s' : CpuSeat) (tok found : ℕ) : Type 0 where
   pub rises : (entry s tok).generation ≤ generation_in found
   pub changes : Changes s s' tok (looked (entry s tok) found) (loads s.cpu tok found ∷ [])
 
--- a try that took the token at this generation: the word that `decide` takes was found twice; the row obeys the law, the
--- generation doesn't fall, and at an equal one the row is the one that the seat knew
+-- a try that took the token at this generation: the word that `decide` takes was found twice; row and record obey the law, the
+-- generation doesn't fall, and at an equal one they are those that the seat knew
 pub record Took (s s' : CpuSeat) (tok : ℕ) (mode : Mode) (alone : Bool) (generation : ℕ) : Type 0 where
   pub word : ℕ
   pub next : ℕ
   pub row : List ℕ
+  pub blob : RecordOf
   pub decided : Decides word mode alone (Take next)
   pub generation_is : generation ≡ generation_in word
-  pub found : IsTakenRow (plan_of (bank_of s) tok) (entry s tok) word row
-  pub changes : Changes s s' tok (taken (entry s tok) word mode row) (loads s.cpu tok word ∷ takes s.cpu tok mode word next word ∷ [])
+  pub found : IsTakenRow (plan_of (bank_of s) tok) (entry s tok) word row blob
+  pub changes : Changes s s' tok (taken (entry s tok) word mode row blob) (loads s.cpu tok word ∷ takes s.cpu tok mode word next word ∷ [])
 
 -- a try that lost: `decide` takes the word that the load found, and the exchange found another
 pub record Lost (s s' : CpuSeat) (tok : ℕ) (mode : Mode) (alone : Bool) : Type 0 where
@@ -139,11 +145,20 @@ Tried s s' tok mode alone (Busy word) = (Decides word mode alone Held ⊎ Decide
 Tried s s' tok mode alone Again = Lost s s' tok mode alone
 Tried s s' tok mode alone Worn = (word : ℕ) × (Decides word mode alone IsWorn × Looked s s' tok word)
 
+-- nothing is written in the section: row and record are the first ones
+abbrev pub IsCleanIn : TokenEntry → Type 0
+IsCleanIn e = (e.row ≡ e.first) × (e.blob ≡ e.first_blob)
+
+-- row and record obey the law that is declared
+abbrev pub IsLawfulIn : Plan → TokenEntry → Type 0
+IsLawfulIn plan e = Obeys plan.law plan.param e.row (length_of e.blob)
+
 -- an exchange that took the token at this word
 pub record Hit (s s' : CpuSeat) (tok : ℕ) (mode : Mode) (word next : ℕ) : Type 0 where
   pub row : List ℕ
-  pub found : IsTakenRow (plan_of (bank_of s) tok) (entry s tok) word row
-  pub changes : Changes s s' tok (taken (entry s tok) word mode row) (takes s.cpu tok mode word next word ∷ [])
+  pub blob : RecordOf
+  pub found : IsTakenRow (plan_of (bank_of s) tok) (entry s tok) word row blob
+  pub changes : Changes s s' tok (taken (entry s tok) word mode row blob) (takes s.cpu tok mode word next word ∷ [])
 
 -- an exchange that found another word
 pub record Miss (s s' : CpuSeat) (tok word next : ℕ) : Type 0 where
@@ -172,11 +187,11 @@ pub record SectionEnded (s s' : CpuSeat) (tok : ℕ) (section : Section) : Type 
   pub found : ℕ
   pub changes : Changes s s' tok (ended (entry s tok)) (last_loads s.cpu tok (entry s tok) (plan_of (bank_of s) tok).cells ++ gives_written section s.cpu tok found ∷ [])
 
--- what giving a reference back tells, by its answer: Written exactly if row and first row differ, and then the section
+-- what giving a reference back tells, by its answer: Written exactly if row or record differ from the first ones, and then the section
 abbrev pub Gave : CpuSeat → CpuSeat → ℕ → Given → Type 0
 Gave s s' tok One = IsNotLastExclusive (holding s tok) × Stepped s s' tok (less (entry s tok)) gives_one
-Gave s s' tok Clean = (holding s tok ≡ Holds Exclusive 0) × ((entry s tok).row ≡ (entry s tok).first) × Stepped s s' tok (less (entry s tok)) gives_clean
-Gave s s' tok (Written section) = (holding s tok ≡ Holds Exclusive 0) × ((entry s tok).row ≢ (entry s tok).first) × SectionEnded s s' tok section
+Gave s s' tok Clean = (holding s tok ≡ Holds Exclusive 0) × IsCleanIn (entry s tok) × Stepped s s' tok (less (entry s tok)) gives_clean
+Gave s s' tok (Written section) = (holding s tok ≡ Holds Exclusive 0) × (¬ IsCleanIn (entry s tok)) × SectionEnded s s' tok section
 
 -- a call that leaves this entry, apart from the known cells, of which there may be more; it has done these deeds
 pub record Knowing (s s' : CpuSeat) (tok : ℕ) (e : TokenEntry) (deeds : List Deed) : Type 0 where
@@ -201,16 +216,40 @@ lawful_loads Cap deeds = deeds
 lawful_loads Len deeds = deeds
 lawful_loads Tally deeds = []
 
+-- the access to a token's record in a question for its law: none but for its length
+abbrev pub asked_record : Law → CpuId → ℕ → RecordOf → List Deed
+asked_record Len cpu tok (Some bytes) = reads_blob cpu tok bytes ∷ []
+asked_record Len cpu tok None = []
+asked_record Any cpu tok blob = []
+asked_record Sum cpu tok blob = []
+asked_record Order cpu tok blob = []
+asked_record Cap cpu tok blob = []
+asked_record Tally cpu tok blob = []
+
 -- a row after these values were stored in its cells, from a cell on
 abbrev pub written_over : ℕ → List (Option ℕ) → List ℕ → List ℕ
 written_over cell [] row = row
 written_over cell (None ∷ made) row = written_over (suc cell) made row
 written_over cell (Some value ∷ made) row = written_over (suc cell) made (slice_set row cell value)
 
--- a restore: it stored these values, which are the first values of the cells that were stored to since the section began, each
--- in its cell, rising; and the row is the section's first row
-pub record Restored (s s' : CpuSeat) (tok : ℕ) (made : List (Option ℕ)) : Type 0 where
+-- the first record is put back, if the record isn't that one
+abbrev pub PutsFirst : TokenEntry → RecordOf → Type 0
+PutsFirst e None = e.blob ≡ e.first_blob
+PutsFirst e (Some bytes) = (e.blob ≢ e.first_blob) × (e.first_blob ≡ Some bytes)
+
+-- a restore of the row: it stored these values, which are the first values of the cells that were stored to since the section began,
+-- each in its cell, rising; and the row is the section's first row
+pub record RowRestored (s s' : CpuSeat) (tok : ℕ) (made : List (Option ℕ)) : Type 0 where
   pub changes : Changes s s' tok (record (entry s tok) { row = (entry s tok).first }) (writes_all s.cpu tok 0 made)
+  pub writes : written_over 0 made (entry s tok).row ≡ (entry s tok).first
+  pub inside : (cell value : ℕ) → slice_get made cell ≡ Some (Some value) → cell < (plan_of (bank_of s) tok).cells
+  pub touched : (cell value : ℕ) → slice_get made cell ≡ Some (Some value) → (is_touched (entry s tok) cell ≡ true) × (value ≡ slice_index (entry s tok).first cell)
+  pub each : (cell : ℕ) → cell < (plan_of (bank_of s) tok).cells → is_touched (entry s tok) cell ≡ true → slice_get made cell ≡ Some (Some (slice_index (entry s tok).first cell))
+
+-- a restore: the row is restored, and then the record, which is the section's first one
+pub record Restored (s s' : CpuSeat) (tok : ℕ) (made : List (Option ℕ)) (bytes : RecordOf) : Type 0 where
+  pub changes : Changes s s' tok (record (entry s tok) { row = (entry s tok).first; blob = (entry s tok).first_blob }) (writes_all s.cpu tok 0 made ++ writes_blob_if s.cpu tok bytes)
+  pub puts : PutsFirst (entry s tok) bytes
   pub writes : written_over 0 made (entry s tok).row ≡ (entry s tok).first
   pub inside : (cell value : ℕ) → slice_get made cell ≡ Some (Some value) → cell < (plan_of (bank_of s) tok).cells
   pub touched : (cell value : ℕ) → slice_get made cell ≡ Some (Some value) → (is_touched (entry s tok) cell ≡ true) × (value ≡ slice_index (entry s tok).first cell)

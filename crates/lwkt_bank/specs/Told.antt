@@ -1,7 +1,6 @@
-use Rattle.std.specs.Prelude.{◌≡◌, ◌≢◌, ◌⊎◌, ℕ, ◌<◌, false, List, [], ◌∷◌, ◌++◌, map, replicate, slice_index, take, None}
+use Rattle.std.specs.Prelude.{◌≡◌, ◌≢◌, ◌⊎◌, ℕ, ◌<◌, false, List, [], ◌∷◌, ◌++◌, map, replicate, slice_index, take, ◌==◌, if◌then◌else◌, None, Some}
 use mathlib.Core.Option.{some}
 use lib.ListN.{get_elem?}
-use Rattle.atomic_table.specs.Table.{keeps, stepped}
 use Rattle.lwkt_base.specs.declared.holdings.Held.TheVariants.{Nothing}
 use Rattle.lwkt_base.specs.TokenWord.{word_of}
 use Rattle.lwkt_core.specs.declared.events.Event.{Event}
@@ -19,10 +18,10 @@ use Rattle.lwkt_core.specs.Machine.{Machine, Happens}
 use Rattle.lwkt_core.specs.History.{IsStepOver, Chronicle}
 use Rattle.lwkt_bank.specs.declared.views.Plan.{Plan}
 use Rattle.lwkt_bank.specs.declared.views.View.{View}
-use Rattle.lwkt_bank.specs.Views.{one_section, page_of}
-use Rattle.lwkt_bank.specs.Rule.{Bench, Rule, token_at}
+use Rattle.lwkt_bank.specs.Views.{RecordOf, one_section, page_of}
+use Rattle.lwkt_bank.specs.Rule.{Bench, Homes, Rule, token_at, moved, without, with_back}
 
--- the event is a step on a cell
+-- the event is a step on a cell, or an access to a record
 abbrev pub IsAtCell : Event → Type 0
 IsAtCell (Read cpu tok cell value) = Unit {0}
 IsAtCell (Write cpu tok cell value) = Unit {0}
@@ -34,8 +33,8 @@ IsAtCell (Mark cpu tok) = ⊥
 IsAtCell (GiveOne cpu tok) = ⊥
 IsAtCell (GiveClean cpu tok) = ⊥
 IsAtCell (GiveWritten cpu tok section) = ⊥
-IsAtCell (ReadBlob cpu tok blob) = ⊥
-IsAtCell (WriteBlob cpu tok blob) = ⊥
+IsAtCell (ReadBlob cpu tok blob) = Unit {0}
+IsAtCell (WriteBlob cpu tok blob) = Unit {0}
 IsAtCell (Send cpu msg to round) = ⊥
 IsAtCell (TakeMsg cpu msg round) = ⊥
 IsAtCell (DropMsg cpu msg) = ⊥
@@ -88,7 +87,7 @@ pub record IsDone (m : Machine) (d : Deed) (n : Machine) : Type 0 where
 
 -- a token as it is declared: nobody holds it, it has no mark, and nothing is added yet
 abbrev pub first_token : Plan → Token
-first_token plan = record { law = plan.law; param = plan.param; generation = plan.generation; mark = false; row = take plan.cells plan.first; first = take plan.cells plan.first; blob = None; first_blob = None; holders = replicate CPU_LIMIT Nothing; tallies = replicate CPU_LIMIT 0 }
+first_token plan = record { law = plan.law; param = plan.param; generation = plan.generation; mark = false; row = take plan.cells plan.first; first = take plan.cells plan.first; blob = plan.blob; first_blob = plan.blob; holders = replicate CPU_LIMIT Nothing; tallies = replicate CPU_LIMIT 0 }
 
 -- the machine that is declared
 abbrev pub first_machine : List Plan → ℕ → Machine
@@ -105,8 +104,24 @@ pub record IsNext (plans : List Plan) (cpus : ℕ) (s s' : Bench) (told : Told p
   pub done : IsDone told.rule.model d after.rule.model
   pub grown : after.chronicle.history ≡ told.chronicle.history ++ d ∷ []
 
--- whatever state of the rule the table is in when a word becomes f of what it was, the seat has a view after it with which the
--- rule stays and the history has this deed more
-abbrev pub Deeds : List Plan → ℕ → ℕ → View → ℕ → (ℕ → ℕ) → (ℕ → Deed) → (ℕ → View → Type 0) → Type 0
-Deeds plans cpus id v i f deed then = (s : Bench) (told : Told plans cpus s) → get_elem? s.views id ≡ some v → slice_index s.words i < 18446744073709551616
-    → (w : View) × ((after : Told plans cpus (stepped s i (f (slice_index s.words i)) id [] w keeps)) × (IsNext plans cpus s (stepped s i (f (slice_index s.words i)) id [] w keeps) told (deed (slice_index s.words i)) after × then (slice_index s.words i) w))
+-- the slots stay as they are
+abbrev pub stays : Homes → ℕ → Homes
+stays homes n = homes
+
+-- an exchange that finds the word takes the record out, and the end of a section puts it back
+abbrev pub taken_home : RecordOf → ℕ → ℕ → Homes → ℕ → Homes
+taken_home guard tok old homes n = if n == old then without guard tok homes else homes
+
+abbrev pub given_home : RecordOf → ℕ → Homes → ℕ → Homes
+given_home blob tok homes n = with_back blob tok homes
+
+-- what a take finds in the slot: the record that it takes out, where one was declared
+abbrev pub FindsAt : RecordOf → ℕ → Homes → RecordOf → Type 0
+FindsAt None tok homes blob = blob ≡ None
+FindsAt (Some first) tok homes blob = (bytes : List ℕ) × ((blob ≡ Some bytes) × (get_elem? homes tok ≡ some (some bytes)))
+
+-- whatever state of the rule the table is in when a word becomes f of what it was, and the slots what `home` says, the seat has a view
+-- after it with which the rule stays and the history has this deed more
+abbrev pub Deeds : List Plan → ℕ → ℕ → View → ℕ → (ℕ → ℕ) → (ℕ → Deed) → (Homes → ℕ → Homes) → (Homes → ℕ → View → Type 0) → Type 0
+Deeds plans cpus id v i f deed home holds = (s : Bench) (told : Told plans cpus s) → get_elem? s.views id ≡ some v → slice_index s.words i < 18446744073709551616
+    → (w : View) × ((after : Told plans cpus (moved s i (f (slice_index s.words i)) id w (home s.homes (slice_index s.words i)))) × (IsNext plans cpus s (moved s i (f (slice_index s.words i)) id w (home s.homes (slice_index s.words i))) told (deed (slice_index s.words i)) after × holds s.homes (slice_index s.words i) w))

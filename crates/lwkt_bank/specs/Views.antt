@@ -1,4 +1,4 @@
-use Rattle.std.specs.Prelude.{ℕ, Bool, max, ◌+◌, ◌/◌, ◌==◌, zero, suc, if◌then◌else◌, List, [], ◌∷◌, ◌++◌, length, slice_set, slice_index, sum_by}
+use Rattle.std.specs.Prelude.{Option, Some, None, ℕ, Bool, max, ◌+◌, ◌/◌, ◌==◌, zero, suc, if◌then◌else◌, List, [], ◌∷◌, ◌++◌, length, slice_set, slice_index, sum_by}
 use Rattle.lwkt_base.specs.declared.names.CpuId.{CpuId}
 use Rattle.std.specs.List.{list_any}
 use Rattle.lwkt_base.specs.declared.names.TokId.{TokId}
@@ -21,9 +21,13 @@ use Rattle.lwkt_bank.specs.declared.views.Added.{Added}
 use Rattle.lwkt_bank.specs.declared.views.TokenEntry.{TokenEntry}
 use Rattle.lwkt_bank.specs.declared.views.View.{View}
 
+-- the bytes of a token's record, if it has one
+abbrev pub RecordOf : Type 0
+RecordOf = Option (List ℕ)
+
 -- what a seat knows of a token that it never looked at
 abbrev pub blank : ℕ → TokenEntry
-blank tok = record { tok = tok; held = Nothing; generation = 0; known = []; first = []; row = []; touched = []; written = 0; added = [] }
+blank tok = record { tok = tok; held = Nothing; generation = 0; known = []; first = []; row = []; known_blob = []; first_blob = None; blob = None; touched = []; written = 0; added = [] }
 
 -- what a list of entries says of a token: its first entry counts
 abbrev pub at : List TokenEntry → ℕ → TokenEntry
@@ -55,17 +59,22 @@ one_section = 262143
 abbrev pub generation_in : ℕ → ℕ
 generation_in word = word / one_generation
 
--- the entry after the seat has seen this generation: a new one empties the known cells
+-- the entry after the seat has seen this generation: a new one empties what is known of cells and record
 abbrev pub seen : TokenEntry → ℕ → TokenEntry
-seen e generation = if e.generation == generation then e else record e { generation = generation; known = [] }
+seen e generation = if e.generation == generation then e else record e { generation = generation; known = []; known_blob = [] }
 
 -- the entry after a look at this word
 abbrev pub looked : TokenEntry → ℕ → TokenEntry
 looked e word = seen e (generation_in word)
 
--- the entry of a token that was taken at this word, with this row
-abbrev pub taken : TokenEntry → ℕ → Mode → List ℕ → TokenEntry
-taken e word mode row = record (looked e word) { held = Holds mode 0; first = row; row = row; touched = [] }
+-- a record, if there is one, as a list
+abbrev pub listed : RecordOf → List (List ℕ)
+listed None = []
+listed (Some bytes) = bytes ∷ []
+
+-- the entry of a token that was taken at this word, with this row and record
+abbrev pub taken : TokenEntry → ℕ → Mode → List ℕ → RecordOf → TokenEntry
+taken e word mode row blob = record (looked e word) { held = Holds mode 0; first = row; row = row; known_blob = listed blob; first_blob = blob; blob = blob; touched = [] }
 
 -- the entry with one reference more, and with one less
 abbrev pub more : TokenEntry → TokenEntry
@@ -81,11 +90,15 @@ numbered i (x ∷ xs) = record { at = i; value = x } ∷ numbered (suc i) xs
 
 -- the entry after a written section has ended
 abbrev pub ended : TokenEntry → TokenEntry
-ended e = record e { held = Nothing; generation = e.generation + 1; known = numbered 0 e.row; first = e.row; written = e.written + 1 }
+ended e = record e { held = Nothing; generation = e.generation + 1; known = numbered 0 e.row; first = e.row; known_blob = listed e.blob; first_blob = e.blob; written = e.written + 1 }
 
 -- the entry after a cell was read: one cell more of the first row is known
 abbrev pub read : TokenEntry → ℕ → TokenEntry
 read e cell = record e { known = record { at = cell; value = slice_index e.first cell } ∷ e.known }
+
+-- the entry after the record was written
+abbrev pub wrote_record : TokenEntry → List ℕ → TokenEntry
+wrote_record e bytes = record e { blob = Some bytes }
 
 -- whether the cell was stored to since the section began, and the cells that were after one more store
 abbrev pub is_touched : TokenEntry → ℕ → Bool
@@ -142,9 +155,13 @@ new_seat v = record { kind = next_seat v.kind; plans = v.plans; tokens = []; pas
 abbrev pub known_of : TokenEntry → ℕ → List KnownCell
 known_of e generation = if e.generation == generation then e.known else []
 
+-- the records that an entry knows to be this generation's first
+abbrev pub known_blob_of : TokenEntry → ℕ → List (List ℕ)
+known_blob_of e generation = if e.generation == generation then e.known_blob else []
+
 -- what two views together say of a token that neither holds: the later generation, and what both know of it
 abbrev pub both_of : ℕ → TokenEntry → TokenEntry → TokenEntry
-both_of tok d e = record (blank tok) { generation = max d.generation e.generation; known = known_of d (max d.generation e.generation) ++ known_of e (max d.generation e.generation); written = d.written + e.written; added = d.added ++ e.added }
+both_of tok d e = record (blank tok) { generation = max d.generation e.generation; known = known_of d (max d.generation e.generation) ++ known_of e (max d.generation e.generation); known_blob = known_blob_of d (max d.generation e.generation) ++ known_blob_of e (max d.generation e.generation); written = d.written + e.written; added = d.added ++ e.added }
 
 -- what two views together say of the tokens below a number
 abbrev pub merged : ℕ → List TokenEntry → List TokenEntry → List TokenEntry

@@ -1,4 +1,4 @@
-use lwkt_base::Section;
+use lwkt_base::{Blob, Section};
 
 /// What a try to take a token answers.
 #[derive(Clone, Copy, Debug, PartialEq, Eq)]
@@ -18,8 +18,17 @@ pub enum Try {
 pub enum Given {
     /// A reference that doesn't end an exclusive holding.
     One,
-    /// The last reference of an exclusive holding, with the row as at the beginning of the section.
+    /// The last reference of an exclusive holding, with row and record as at the beginning of the section.
     Clean,
-    /// The last reference of an exclusive holding, with another row; the section that it ended.
+    /// The last reference of an exclusive holding, with another row or record; the section that it ended.
     Written(Section),
+}
+
+/// What a restore stored.
+#[derive(Clone, Copy, Debug)]
+pub struct Stored {
+    /// The values of the cells, by their numbers.
+    pub cells: [Option<u64>; 4],
+    /// The record.
+    pub blob: Option<Blob>,
 }

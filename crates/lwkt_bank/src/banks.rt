@@ -8,18 +8,19 @@ ghost use Rattle.lwkt_bank.specs.Notes.{clerk_number};
 use crate::rules::{BankRule, Key};
 use crate::views::View;
 use atomic_table::{Perch, Table};
+use lwkt_base::Blob;
 use std::alloc::Global;
 
 /// The token words and cells of a machine.
 #[derive(Drop)]
 pub struct Bank {
-    pub(crate) table: Table<(), View, Key, BankRule, Global>,
+    pub(crate) table: Table<Blob, View, Key, BankRule, Global>,
     // Where the clerk's seat rests from the opening to the close, so that threads may share the bank.
-    pub(crate) clerk: Perch<(), View>,
+    pub(crate) clerk: Perch<Blob, View>,
     pub(crate) key: Key,
     ghost told: { table.shared.key ≡ key } by { Coded-set key-code table.shared.key key },
     ghost wide: { table.shared.table_id.words ≡ table_words (length key.plans.items) },
-    ghost slotless: { table.shared.table_id.slots ≡ 0 },
+    ghost deep: { table.shared.table_id.slots ≡ length key.plans.items },
     ghost few: { length key.plans.items ≤ 64 },
     ghost short: { (tok : ℕ) → (plan_at key.plans.items tok).cells ≤ 4 },
     ghost single: { (tok : ℕ) → (plan_at key.plans.items tok).law ≡ Tally → (plan_at key.plans.items tok).cells ≡ 1 },

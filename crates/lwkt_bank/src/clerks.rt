@@ -8,17 +8,18 @@ ghost use Rattle.lwkt_bank.specs.Notes.{clerk_number};
 use crate::rules::{BankRule, Key};
 use crate::views::View;
 use atomic_table::{Seat, Table};
+use lwkt_base::Blob;
 use std::alloc::Global;
 
 /// A bank whose clerk's seat is at hand: at the opening, where the clerk makes the seats, and at the close.
 #[derive(Drop)]
 pub(crate) struct ClerkDesk {
-    pub(crate) table: Table<(), View, Key, BankRule, Global>,
-    pub(crate) clerk: Seat<(), View>,
+    pub(crate) table: Table<Blob, View, Key, BankRule, Global>,
+    pub(crate) clerk: Seat<Blob, View>,
     pub(crate) key: Key,
     ghost told: { table.shared.key ≡ key } by { Coded-set key-code table.shared.key key },
     ghost wide: { table.shared.table_id.words ≡ table_words (length key.plans.items) },
-    ghost slotless: { table.shared.table_id.slots ≡ 0 },
+    ghost deep: { table.shared.table_id.slots ≡ length key.plans.items },
     ghost few: { length key.plans.items ≤ 64 },
     ghost short: { (tok : ℕ) → (plan_at key.plans.items tok).cells ≤ 4 },
     ghost single: { (tok : ℕ) → (plan_at key.plans.items tok).law ≡ Tally → (plan_at key.plans.items tok).cells ≡ 1 },

@@ -1,4 +1,4 @@
-use lwkt_base::Cells;
+use lwkt_base::{Blob, Cells};
 
 /// The closing values of a bank, by token.
 #[derive(Debug, Drop)]
@@ -9,4 +9,6 @@ pub struct Closed {
     pub gens: Vec<u64>,
     /// Each token's tallies: one number for each processor under `Law::Tally`, else none.
     pub tallies: Vec<Cells>,
+    /// Each token's record, if it has one.
+    pub blobs: Vec<Option<Blob>>,
 }

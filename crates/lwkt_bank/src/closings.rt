@@ -1,12 +1,13 @@
 //! The close: the closing values, from the words that are left and from what the seats had kept.
-ghost use Rattle.std.specs.Prelude.{◌≡◌, ◌≢◌, ℕ, ◌+◌, ◌*◌, ◌^◌, ◌<◌, ◌≤◌, List, [], ◌∷◌, ◌++◌, length, All, IfOk, IfErr, slice_index, sum_by, vec_capacity};
+ghost use Rattle.std.specs.Prelude.{◌≡◌, ◌≢◌, ℕ, ◌+◌, ◌*◌, ◌^◌, ◌<◌, ◌≤◌, List, [], ◌∷◌, ◌++◌, length, All, IfOk, IfErr, false, slice_index, slice_index_or, sum_by, vec_capacity};
 ghost use mathlib.Core.Option.{some};
 ghost use lib.ListN.{get_elem?};
-ghost use Rattle.std.specs.Slots.{slots_items, slots_len, IsFull};
+ghost use Rattle.std.specs.Slots.{slots_items, slots_len, slots_filled, IsFull};
 ghost use Rattle.lwkt_base.specs.declared.laws.Law.TheVariants.{Tally};
 ghost use Rattle.lwkt_bank.specs.Rule.{Bench, Rule, cell_word, plan_at, table_words};
 ghost use Rattle.lwkt_bank.specs.Notes.{note_at};
-ghost use Rattle.lwkt_bank.specs.Closing.{kept_of, kept_by, IsRead, AreRead, Left, IsReady, HasRoom, IsEmptyRoom};
+ghost use Rattle.lwkt_bank.specs.Views.{RecordOf};
+ghost use Rattle.lwkt_bank.specs.Closing.{shown_blob, kept_of, kept_by, IsRead, AreRead, Left, IsReady, HasRoom, IsEmptyRoom};
 ghost use Rattle.lwkt_bank.specs.Seats.{id_of, id_of_desk, cpus_of};
 ghost use Rattle.lwkt_bank.specs.Gathered.{IsClosed};
 
@@ -17,16 +18,16 @@ use crate::closed::Closed;
 use crate::gathers::gather;
 use crate::kept::Kept;
 use crate::places::{generation_in, word_of_cell, word_of_token};
-use crate::rooms::{blanks_for, closed_for, put, put_cells};
+use crate::rooms::{blanks_for, closed_for, put, put_blob, put_cells, put_slot};
 use crate::rules::{BankRule, Key};
 use crate::seats::CpuSeat;
 use crate::views::{Plan, View};
 use atomic_table::{Closed as ClosedTable, Seat, Table};
-use lwkt_base::{Cells, Fault, Law, TokId};
+use lwkt_base::{Blob, Cells, Fault, Law, TokId};
 use lwkt_core::SeatKind;
 use std::alloc::{AllocError, Global};
 
-fn copy_words(closed: &ClosedTable<(), Global>, count: usize, mut words: Vec<u64>) -> Vec<u64>
+fn copy_words(closed: &ClosedTable<Blob, Global>, count: usize, mut words: Vec<u64>) -> Vec<u64>
     requires full { IsFull closed.now.words }
     requires count { count ≡ slots_len closed.now.words }
     requires none { words.items ≡ [] }
@@ -39,23 +40,41 @@ fn copy_words(closed: &ClosedTable<(), Global>, count: usize, mut words: Vec<u64
     words
 }
 
-/// The words of a table whose clerk's seat came back with it: those of a state of the rule that has the clerk's view.
+// Takes what lies in the slots.
+fn take_slots(closed: &mut ClosedTable<Blob, Global>, mut slots: Vec<Blob>) -> Vec<Blob>
+    requires full { IsFull closed.old.slots }
+    requires none { slots.items ≡ [] }
+    requires room { slots_len closed.old.slots ≤ vec_capacity slots }
+    ensures items { result.items ≡ slots_items closed.old.slots }
+    ensures taken { (k : ℕ) → k < slots_len closed.new.slots → slice_index_or (slots_filled closed.new.slots) k false ≡ false }
+    ensures same { (slots_len closed.new.slots ≡ slots_len closed.old.slots) × (closed.new.words ≡ closed.old.words) }
+{
+    for slot in 0..closed.slot_count() {
+        put_slot(&mut slots, closed.take(slot));
+    }
+    slots
+}
+
+/// The words of a table whose clerk's seat came back with it, and what lies in its slots: those of a state of the rule that
+/// has the clerk's view.
 pub(crate) fn last_words(
-    table: Table<(), View, Key, BankRule, Global>,
-    clerk: Seat<(), View>,
+    table: Table<Blob, View, Key, BankRule, Global>,
+    clerk: Seat<Blob, View>,
     words: Vec<u64>,
-) -> Vec<u64>
+    slots: Vec<Blob>,
+) -> (Vec<u64>, Vec<Blob>)
     requires same { clerk.table_id ≡ table.shared.table_id }
-    requires slots { table.shared.table_id.slots ≡ 0 }
-    requires none { words.items ≡ [] }
-    requires room { table.shared.table_id.words ≤ vec_capacity words }
-    ensures { Left table.shared.key.plans.items table.shared.key.cpus clerk.id clerk.me.0 result.items }
+    requires none { (words.items ≡ []) × (slots.items ≡ []) }
+    requires room { (table.shared.table_id.words ≤ vec_capacity words) × (table.shared.table_id.slots ≤ vec_capacity slots) }
+    ensures left { Left table.shared.key.plans.items table.shared.key.cpus clerk.id clerk.me.0 result.0.items result.1.items }
+    ensures deep { length result.1.items ≡ table.shared.table_id.slots }
 {
     let count = table.word_count();
-    let closed = table.close_with(clerk);
+    let mut closed = table.close_with(clerk);
     let words = copy_words(&closed, count, words);
+    let slots = take_slots(&mut closed, slots);
     closed.free();
-    words
+    (words, slots)
 }
 
 fn added_of(kept: &Kept, tok: usize, cpu: usize) -> u64
@@ -129,24 +148,37 @@ fn tallies_by_law(plan: Plan, kept: &[Kept], tok: usize, cpus: usize, tallies: V
     }
 }
 
+// The record of a token, if one was declared.
+fn blob_of(plan: &Plan, slots: &[Blob], tok: usize) -> Option<Blob>
+    requires { tok < length slots.now }
+    ensures { result ≡ shown_blob plan.now.blob (slice_index_or slots.now tok []) }
+{
+    match plan.blob {
+        None => None,
+        Some(_) => Some(slots[tok]),
+    }
+}
+
 // Adds the closing values of the next token.
 fn close_token(
     closed: &mut Closed,
     plan: Plan,
     words: &[u64],
+    slots: &[Blob],
     kept: &[Kept],
     cpus: usize,
     blank: Blank,
 )
     requires count { length closed.old.gens.items < 64 }
-    requires same { (length closed.old.rows.items ≡ length closed.old.gens.items) × (length closed.old.tallies.items ≡ length closed.old.gens.items) }
+    requires same { (length closed.old.rows.items ≡ length closed.old.gens.items) × (length closed.old.tallies.items ≡ length closed.old.gens.items) × (length closed.old.blobs.items ≡ length closed.old.gens.items) }
+    requires deep { length closed.old.gens.items < length slots.now }
     requires room { HasRoom closed.old (length closed.old.gens.items + 1) }
     requires wide { cell_word (length closed.old.gens.items) 4 ≤ length words.now }
     requires short { plan.cells ≤ 4 }
     requires few { cpus ≤ 8 }
     requires fits { plan.law ≡ Law.Tally → (cpu : ℕ) → kept_by kept.now (length closed.old.gens.items) cpu < 2 ^ 64 }
-    ensures read { (row : List ℕ) × (generation : ℕ) × (tallies : List ℕ) × IsRead plan cpus words.now kept.now (length closed.old.gens.items) row generation tallies
-        × (closed.new.rows.items ≡ closed.old.rows.items ++ row ∷ []) × (closed.new.gens.items ≡ closed.old.gens.items ++ generation ∷ []) × (closed.new.tallies.items ≡ closed.old.tallies.items ++ tallies ∷ []) }
+    ensures read { (row : List ℕ) × (generation : ℕ) × (tallies : List ℕ) × (blob : RecordOf) × IsRead plan cpus words.now slots.now kept.now (length closed.old.gens.items) row generation tallies blob
+        × (closed.new.rows.items ≡ closed.old.rows.items ++ row ∷ []) × (closed.new.gens.items ≡ closed.old.gens.items ++ generation ∷ []) × (closed.new.tallies.items ≡ closed.old.tallies.items ++ tallies ∷ []) × (closed.new.blobs.items ≡ closed.old.blobs.items ++ blob ∷ []) }
     ensures room { (tokens : ℕ) → HasRoom closed.old tokens → HasRoom closed.new tokens }
 {
     let tok = closed.gens.len();
@@ -156,6 +188,7 @@ fn close_token(
     let word = words[word_of_token(TokId(tok as u8))];
     put(&mut closed.gens, generation_in(word));
     put_cells(&mut closed.tallies, Cells::from_vec(tallies));
+    put_blob(&mut closed.blobs, blob_of(&plan, slots, tok));
 }
 
 fn plan_in(plans: &[Plan], tok: usize) -> Plan
@@ -169,6 +202,7 @@ fn plan_in(plans: &[Plan], tok: usize) -> Plan
 fn values(
     plans: &[Plan],
     words: &[u64],
+    slots: &[Blob],
     kept: &[Kept],
     cpus: usize,
     mut blanks: Vec<Blank>,
@@ -177,15 +211,16 @@ fn values(
     requires few { length plans.now ≤ 64 }
     requires processors { cpus ≤ 8 }
     requires wide { length words.now ≡ table_words (length plans.now) }
+    requires deep { length slots.now ≡ length plans.now }
     requires short { (tok : ℕ) → (plan_at plans.now tok).cells ≤ 4 }
     requires fits { ((k : ℕ) → slice_index words.now k < 2 ^ 64) → (tok : ℕ) → tok < length plans.now → (plan_at plans.now tok).law ≡ Law.Tally → (cpu : ℕ) → kept_by kept.now tok cpu < 2 ^ 64 }
     requires blank { length blanks.items ≡ length plans.now }
     requires room { IsEmptyRoom closed (length plans.now) }
-    ensures { AreRead plans.now cpus words.now kept.now result (length plans.now) }
+    ensures { AreRead plans.now cpus words.now slots.now kept.now result (length plans.now) }
 {
     while let Some(blank) = blanks.pop() {
         let plan = plan_in(plans, closed.gens.len());
-        close_token(&mut closed, plan, words, kept, cpus, blank);
+        close_token(&mut closed, plan, words, slots, kept, cpus, blank);
     }
     closed
 }
@@ -199,6 +234,7 @@ impl ClerkDesk {
     {
         let mut kept = Vec::with_capacity(alloc, seats.len())?;
         let words = Vec::with_capacity(alloc, self.table.word_count())?;
+        let slots = Vec::with_capacity(alloc, self.table.slot_count())?;
         let blanks = blanks_for(alloc, self.key.plans.len())?;
         let closed = closed_for(alloc, self.key.plans.len())?;
         let ClerkDesk {
@@ -207,10 +243,11 @@ impl ClerkDesk {
             key,
         } = self;
         gather(&table, &mut clerk, seats, &mut kept);
-        let words = last_words(table, clerk, words);
+        let (words, slots) = last_words(table, clerk, words, slots);
         Ok(values(
             key.plans.as_slice(),
             words.as_slice(),
+            slots.as_slice(),
             kept.as_slice(),
             key.cpus,
             blanks,

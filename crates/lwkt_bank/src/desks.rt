@@ -3,7 +3,7 @@ ghost use Rattle.std.specs.Prelude.{◌≡◌, ◌⊎◌, ◌↔◌, ℕ, ◌+�
 ghost use Rattle.lwkt_core.specs.Opening.{IsTokenWithin, AreWithin, AllOpenLawfully};
 ghost use Rattle.lwkt_bank.specs.Notes.{no_note};
 ghost use Rattle.lwkt_bank.specs.Views.{blank, clerk_after, new_seat};
-ghost use Rattle.lwkt_bank.specs.Opened.{AreUnguarded, plans_of, opening_words};
+ghost use Rattle.lwkt_bank.specs.Opened.{plans_of, opening_words, opening_slots};
 ghost use Rattle.lwkt_bank.specs.Seats.{id_of_desk, bank_of, entry, steps_of};
 ghost use Rattle.lwkt_bank.specs.Gathered.{HasMade, IsNew, AreHandedOut, IsOpened};
 
@@ -16,7 +16,7 @@ use crate::rules::{BankRule, Key};
 use crate::seats::CpuSeat;
 use crate::views::View;
 use atomic_table::{Seat, Table};
-use lwkt_base::{CpuId, Fault, TokSpec};
+use lwkt_base::{Blob, CpuId, Fault, TokSpec};
 use lwkt_core::{SeatKind, all_open_lawfully};
 use std::alloc::{AllocError, Global};
 
@@ -29,10 +29,10 @@ fn blank_notes() -> [TokenNote; 64]
 
 // The clerk makes a seat.
 fn split(
-    table: &Table<(), View, Key, BankRule, Global>,
-    clerk: &mut Seat<(), View>,
+    table: &Table<Blob, View, Key, BankRule, Global>,
+    clerk: &mut Seat<Blob, View>,
     cpu: CpuId,
-) -> Seat<(), View>
+) -> Seat<Blob, View>
     requires same { clerk.old.table_id ≡ table.now.shared.table_id }
     requires words { 0 < table.now.shared.table_id.words }
     requires next { clerk.old.me.0.kind ≡ SeatKind.Clerk cpu.0 0 }
@@ -49,16 +49,19 @@ impl ClerkDesk {
         alloc: Global,
         specs: &[TokSpec],
         words: &[u64],
+        slots: Vec<Blob>,
         key: Key,
     ) -> Result<ClerkDesk, AllocError>
         requires within { AreWithin key.cpus specs.now [] }
         requires lawful { AllOpenLawfully specs.now }
-        requires unguarded { AreUnguarded specs.now }
         requires plans { key.plans.items ≡ plans_of specs.now }
         requires words { words.now ≡ opening_words specs.now }
+        requires slots { slots.items ≡ opening_slots specs.now }
         ensures { IfOk result (λ desk. (desk.key ≡ key) × HasMade desk 0) }
     {
-        let (table, clerk) = Table::of_words(alloc, words, &key)?;
+        let Ok((table, clerk)) = Table::new(alloc, words, slots, &key) else {
+            return Err(AllocError);
+        };
         Ok(ClerkDesk { table, clerk, key })
     }
 
@@ -98,18 +101,19 @@ impl Bank {
         alloc: Global,
         specs: &[TokSpec],
         words: &[u64],
+        slots: Vec<Blob>,
         key: Key,
         mut seats: Vec<CpuSeat>,
     ) -> Result<(Bank, Vec<CpuSeat>), AllocError>
         requires within { AreWithin key.cpus specs.now [] }
         requires lawful { AllOpenLawfully specs.now }
-        requires unguarded { AreUnguarded specs.now }
         requires plans { key.plans.items ≡ plans_of specs.now }
         requires words { words.now ≡ opening_words specs.now }
+        requires slots { slots.items ≡ opening_slots specs.now }
         requires none { seats.items ≡ [] }
         ensures { IfOk result (λ opened. IsOpened key.cpus specs.now opened.0 opened.1.items) }
     {
-        let mut desk = ClerkDesk::with_key(alloc, specs, words, key)?;
+        let mut desk = ClerkDesk::with_key(alloc, specs, words, slots, key)?;
         desk.hand_out_all(&mut seats)?;
         let bank = desk.into_bank()?;
         Ok((bank, seats))
@@ -118,8 +122,9 @@ impl Bank {
     /// Opens a bank of these tokens, with a seat for each processor.
     ///
     /// Refused with `Memory` only if an allocation is; with `Limits` only if a limit is passed: 1 to 8 processors, at most
-    /// 64 tokens, at most 4 cells and exactly 1 under `Law::Tally`, a generation past the last, or a token with a record,
-    /// for which the bank has no slots yet; with `LawBroken` only if an opening row breaks its law.
+    /// 64 tokens, at most 4 cells and exactly 1 under `Law::Tally`, a generation past the last, a record of more than 64
+    /// bytes, `Law::Len` without a record or a cell, or `Law::Tally` with a record; with `LawBroken` only if an opening row,
+    /// with its record's length, breaks its law.
     pub fn open(
         alloc: Global,
         specs: &[TokSpec],
@@ -127,8 +132,7 @@ impl Bank {
     ) -> Result<(Bank, Vec<CpuSeat>), Fault>
         ensures ok { IfOk result (λ opened. IsOpened cpus specs.now opened.0 opened.1.items) }
         ensures within { OnOk result (AreWithin cpus specs.now [] × AllOpenLawfully specs.now) }
-        ensures unguarded { OnOk result (AreUnguarded specs.now) }
-        ensures limits { result ≡ Err Fault.Limits → ¬ (AreWithin cpus specs.now [] × AreUnguarded specs.now) }
+        ensures limits { result ≡ Err Fault.Limits → ¬ AreWithin cpus specs.now [] }
         ensures broken { result ≡ Err Fault.LawBroken → AreWithin cpus specs.now [] × ¬ AllOpenLawfully specs.now }
         ensures only { IfErr result (λ f. (f ≡ Fault.Memory) ⊎ ((f ≡ Fault.Limits) ⊎ (f ≡ Fault.LawBroken))) }
     {
@@ -137,14 +141,14 @@ impl Bank {
         if !openings::are_within(cpus, specs) {
             return Err(Fault::Limits);
         }
-        if !openings::are_unguarded(specs) {
-            return Err(Fault::Limits);
-        }
         if !all_open_lawfully(specs) {
             return Err(Fault::LawBroken);
         }
         let words = openings::words_of(alloc, specs).map_err(|_| Fault::Memory)?;
+        let slots = openings::slots_of(alloc, specs).map_err(|_| Fault::Memory)?;
         let key = Key { plans, cpus };
-        Bank::open_within(alloc, specs, words.as_slice(), key, seats).map_err(|_| Fault::Memory)
+        Bank::open_within(alloc, specs, words.as_slice(), slots, key, seats).map_err(
+            |_| Fault::Memory,
+        )
     }
 }

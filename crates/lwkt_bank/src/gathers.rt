@@ -14,15 +14,15 @@ use crate::rules::{BankRule, Key};
 use crate::seats::CpuSeat;
 use crate::views::View;
 use atomic_table::{Seat, Table};
-use lwkt_base::CpuId;
+use lwkt_base::{Blob, CpuId};
 use lwkt_core::SeatKind;
 use std::alloc::Global;
 
 // The clerk takes back a seat that holds nothing.
 fn join(
-    table: &Table<(), View, Key, BankRule, Global>,
-    clerk: &mut Seat<(), View>,
-    other: Seat<(), View>,
+    table: &Table<Blob, View, Key, BankRule, Global>,
+    clerk: &mut Seat<Blob, View>,
+    other: Seat<Blob, View>,
     cpu: CpuId,
 )
     requires same { (clerk.old.table_id ≡ table.now.shared.table_id) × (other.table_id ≡ table.now.shared.table_id) }
@@ -38,8 +38,8 @@ fn join(
 
 // The clerk takes back all these seats, each holding nothing.
 pub(crate) fn gather(
-    table: &Table<(), View, Key, BankRule, Global>,
-    clerk: &mut Seat<(), View>,
+    table: &Table<Blob, View, Key, BankRule, Global>,
+    clerk: &mut Seat<Blob, View>,
     mut seats: Vec<CpuSeat>,
     kept: &mut Vec<Kept>,
 )

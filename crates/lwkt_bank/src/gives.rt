@@ -2,12 +2,11 @@
 ghost use Rattle.std.specs.Prelude.{◌≡◌, ◌≢◌, ◌⊎◌, ◌+◌, ◌<◌, ◌≤◌, length, true, false};
 ghost use Rattle.std.specs.List.{list_any};
 ghost use Rattle.lwkt_base.specs.Holding.{is_held, is_exclusive};
-ghost use Rattle.lwkt_base.specs.Law.{MeetsLaw};
 ghost use Rattle.lwkt_bank.specs.Views.{less, ended, section_of};
 ghost use Rattle.lwkt_bank.specs.Deeds.{gives_one, gives_clean, gives_written};
 ghost use Rattle.lwkt_core.specs.Tokens.{IsNotLastExclusive};
 ghost use Rattle.lwkt_bank.specs.Notes.{is_other};
-ghost use Rattle.lwkt_bank.specs.Seats.{id_of, bank_of, tokens_of, plan_of, entry, holding, Stepped, SectionEnded, Gave};
+ghost use Rattle.lwkt_bank.specs.Seats.{id_of, bank_of, tokens_of, plan_of, entry, holding, IsCleanIn, IsLawfulIn, Stepped, SectionEnded, Gave};
 
 use crate::answers::Given;
 use crate::banks::Bank;
@@ -18,7 +17,7 @@ use crate::steps;
 use lwkt_base::{Held, Mode, Row, Section, TokId};
 
 // Whether the cell was stored to, and has another value than its first.
-fn is_other(touch: Touch) -> bool
+pub(crate) fn is_other(touch: Touch) -> bool
     ensures { result ≡ is_other touch }
 {
     matches!(touch, Touch::Other)
@@ -41,16 +40,17 @@ fn is_last(held: Held) -> bool
 }
 
 impl CpuSeat {
-    // Whether the row of a token that is held exclusively differs from the section's first row.
+    // Whether row or record of a token that is held exclusively differ from the section's first ones.
     #[inline]
     fn has_written(&self, bank: &Bank, tok: TokId) -> bool
         requires of { bank_of self.now ≡ id_of bank.now }
         requires there { tok.0 < tokens_of (bank_of self.now) }
         requires held { is_exclusive (holding self.now tok.0) ≡ true }
-        ensures written { result ≡ true → (entry self.now tok.0).row ≢ (entry self.now tok.0).first }
-        ensures clean { result ≡ false → (entry self.now tok.0).row ≡ (entry self.now tok.0).first }
+        ensures written { result ≡ true → ¬ IsCleanIn (entry self.now tok.0) }
+        ensures clean { result ≡ false → IsCleanIn (entry self.now tok.0) }
     {
-        is_written(&self.notes[tok.0 as usize].cells)
+        let note = &self.notes[tok.0 as usize];
+        is_written(&note.cells) || is_other(note.record_)
     }
 
     #[inline]
@@ -70,7 +70,7 @@ impl CpuSeat {
         requires of { bank_of self.old ≡ id_of bank.now }
         requires there { tok.0 < tokens_of (bank_of self.old) }
         requires last { holding self.old tok.0 ≡ Held.Holds Mode.Exclusive 0 }
-        requires clean { (entry self.old tok.0).row ≡ (entry self.old tok.0).first }
+        requires clean { IsCleanIn (entry self.old tok.0) }
         ensures { Stepped self.old self.new tok.0 (less (entry self.old tok.0)) gives_clean }
     {
         steps::give_clean(bank, &mut self.seat, tok);
@@ -83,8 +83,8 @@ impl CpuSeat {
         requires of { bank_of self.old ≡ id_of bank.now }
         requires there { tok.0 < tokens_of (bank_of self.old) }
         requires last { holding self.old tok.0 ≡ Held.Holds Mode.Exclusive 0 }
-        requires written { (entry self.old tok.0).row ≢ (entry self.old tok.0).first }
-        requires lawful { MeetsLaw (plan_of (bank_of self.old) tok.0).law (plan_of (bank_of self.old) tok.0).param (entry self.old tok.0).row }
+        requires written { ¬ IsCleanIn (entry self.old tok.0) }
+        requires lawful { IsLawfulIn (plan_of (bank_of self.old) tok.0) (entry self.old tok.0) }
         ensures stepped { Stepped self.old self.new tok.0 (ended (entry self.old tok.0)) (gives_written (section_of tok.0 (entry self.old tok.0))) }
         ensures generation { result ≡ (entry self.old tok.0).generation }
     {
@@ -100,8 +100,8 @@ impl CpuSeat {
         requires there { tok.0 < tokens_of (bank_of self.old) }
         requires single { (plan_of (bank_of self.old) tok.0).cells ≡ 1 }
         requires last { holding self.old tok.0 ≡ Held.Holds Mode.Exclusive 0 }
-        requires written { (entry self.old tok.0).row ≢ (entry self.old tok.0).first }
-        requires lawful { MeetsLaw (plan_of (bank_of self.old) tok.0).law (plan_of (bank_of self.old) tok.0).param (entry self.old tok.0).row }
+        requires written { ¬ IsCleanIn (entry self.old tok.0) }
+        requires lawful { IsLawfulIn (plan_of (bank_of self.old) tok.0) (entry self.old tok.0) }
         ensures { SectionEnded self.old self.new tok.0 result }
     {
         let Change { first, last } = self.change_of(bank, tok, 0);
@@ -120,8 +120,8 @@ impl CpuSeat {
         requires of { bank_of self.old ≡ id_of bank.now }
         requires there { tok.0 < tokens_of (bank_of self.old) }
         requires last { holding self.old tok.0 ≡ Held.Holds Mode.Exclusive 0 }
-        requires written { (entry self.old tok.0).row ≢ (entry self.old tok.0).first }
-        requires lawful { MeetsLaw (plan_of (bank_of self.old) tok.0).law (plan_of (bank_of self.old) tok.0).param (entry self.old tok.0).row }
+        requires written { ¬ IsCleanIn (entry self.old tok.0) }
+        requires lawful { IsLawfulIn (plan_of (bank_of self.old) tok.0) (entry self.old tok.0) }
         ensures { SectionEnded self.old self.new tok.0 result }
     {
         let (before, after) = self.both_rows(bank, tok);
@@ -140,8 +140,8 @@ impl CpuSeat {
         requires of { bank_of self.old ≡ id_of bank.now }
         requires there { tok.0 < tokens_of (bank_of self.old) }
         requires last { holding self.old tok.0 ≡ Held.Holds Mode.Exclusive 0 }
-        requires written { (entry self.old tok.0).row ≢ (entry self.old tok.0).first }
-        requires lawful { MeetsLaw (plan_of (bank_of self.old) tok.0).law (plan_of (bank_of self.old) tok.0).param (entry self.old tok.0).row }
+        requires written { ¬ IsCleanIn (entry self.old tok.0) }
+        requires lawful { IsLawfulIn (plan_of (bank_of self.old) tok.0) (entry self.old tok.0) }
         ensures { SectionEnded self.old self.new tok.0 result }
     {
         if bank.cells(tok) == 1 {
@@ -156,7 +156,7 @@ impl CpuSeat {
         requires of { bank_of self.old ≡ id_of bank.now }
         requires there { tok.0 < tokens_of (bank_of self.old) }
         requires last { holding self.old tok.0 ≡ Held.Holds Mode.Exclusive 0 }
-        requires lawful { ((entry self.old tok.0).row ≡ (entry self.old tok.0).first) ⊎ MeetsLaw (plan_of (bank_of self.old) tok.0).law (plan_of (bank_of self.old) tok.0).param (entry self.old tok.0).row }
+        requires lawful { IsCleanIn (entry self.old tok.0) ⊎ IsLawfulIn (plan_of (bank_of self.old) tok.0) (entry self.old tok.0) }
         ensures { Gave self.old self.new tok.0 result }
     {
         if self.has_written(bank, tok) {
@@ -167,14 +167,14 @@ impl CpuSeat {
     }
 
     /// Gives a reference back. That the seat holds the token is the caller's condition, and if that ends a section, that the
-    /// row is its first row or obeys the law. A written section is told: its rows before and after it, and the generation at
+    /// row and record are its first ones or obey the law. A written section is told: its rows before and after it, and the generation at
     /// which it began. Each cell that it didn't store to is loaded once for that, before the reference is given back.
     #[inline(always)]
     pub fn give(&mut self, bank: &Bank, tok: TokId) -> Given
         requires of { bank_of self.old ≡ id_of bank.now }
         requires there { tok.0 < tokens_of (bank_of self.old) }
         requires held { is_held (holding self.old tok.0) ≡ true }
-        requires lawful { holding self.old tok.0 ≡ Held.Holds Mode.Exclusive 0 → ((entry self.old tok.0).row ≡ (entry self.old tok.0).first) ⊎ MeetsLaw (plan_of (bank_of self.old) tok.0).law (plan_of (bank_of self.old) tok.0).param (entry self.old tok.0).row }
+        requires lawful { holding self.old tok.0 ≡ Held.Holds Mode.Exclusive 0 → IsCleanIn (entry self.old tok.0) ⊎ IsLawfulIn (plan_of (bank_of self.old) tok.0) (entry self.old tok.0) }
         ensures { Gave self.old self.new tok.0 result }
     {
         if !is_last(self.held(bank, tok)) {

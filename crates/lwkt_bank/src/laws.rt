@@ -1,5 +1,5 @@
 //! What the bank's rule is for, as laws.
-ghost use Rattle.lwkt_bank.specs.Laws.{RuleShowsSafety, StatesAreReached, ViewsDecide, OpeningIsDeclared, SplitIsNoDeed, JoinIsNoDeed, MadeAsTold, NothingUntold, LookIsLoad, ExchangeIsTake, ExchangeIsShare, AddIsAgain, OrIsMark, SubIsGiveOne, SubIsGiveClean, AddIsGiveWritten, CellLoadIsRead, CellStoreIsWrite, TallyStoreIsWrite, DeedsAreTold};
+ghost use Rattle.lwkt_bank.specs.Laws.{RuleShowsSafety, StatesAreReached, ViewsDecide, OpeningIsDeclared, SplitIsNoDeed, JoinIsNoDeed, MadeAsTold, NothingUntold, LookIsLoad, ExchangeIsTake, ExchangeIsShare, AddIsAgain, OrIsMark, SubIsGiveOne, SubIsGiveClean, AddIsGiveWritten, CellLoadIsRead, CellStoreIsWrite, TallyStoreIsWrite, AccessIsReadBlob, AccessIsWriteBlob, DeedsAreTold};
 ghost use Rattle.lwkt_bank.specs.Rule.{Bench};
 ghost use Rattle.lwkt_bank.specs.Told.{Told};
 ghost use Rattle.lwkt_bank.specs.Holdings.{TakingAdds, AgainAdds, GivingRemoves, OthersKeep, NothingCounts, AddedCounts};
@@ -7,6 +7,7 @@ ghost use Rattle.lwkt_bank.specs.Holdings.{TakingAdds, AgainAdds, GivingRemoves,
 use crate::rules::{BankRule, Key};
 use crate::views::View;
 use atomic_table::TableRule;
+use lwkt_base::Blob;
 
 /// Every state of the table that meets the rule shows a safe machine of the model, holders and tallies by processor, and each
 /// view knows what is true of it. The kit keeps the rule between any two steps of any number of seats.
@@ -47,6 +48,8 @@ pub fn steps_are_deeds()
     ensures read { CellLoadIsRead }
     ensures store { CellStoreIsWrite }
     ensures raise { TallyStoreIsWrite }
+    ensures read_blob { AccessIsReadBlob }
+    ensures write_blob { AccessIsWriteBlob }
     ensures split { SplitIsNoDeed }
     ensures join { JoinIsNoDeed }
 {}
@@ -71,7 +74,7 @@ pub fn references_are_counted()
 {}
 
 // Asks that the rule of a table be that of the laws here.
-fn is_that_of_the_laws<R: TableRule<(), View, Key>>()
+fn is_that_of_the_laws<R: TableRule<Blob, View, Key>>()
     requires { (key : Key) (s : Bench) → (R.holds key s → Told key.plans.items key.cpus s) × (Told key.plans.items key.cpus s → R.holds key s) }
 {}
 

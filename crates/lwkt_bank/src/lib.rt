@@ -18,6 +18,7 @@ mod openings;
 mod places;
 mod plans;
 mod plays;
+mod records;
 mod rests;
 mod rooms;
 mod rows;
@@ -27,7 +28,7 @@ mod steps;
 mod takes;
 pub mod views;
 
-pub use answers::{Given, Try};
+pub use answers::{Given, Stored, Try};
 pub use banks::Bank;
 pub use closed::Closed;
 pub use seats::CpuSeat;

@@ -3,11 +3,11 @@ ghost use Rattle.std.specs.Prelude.{◌≡◌, ◌⊎◌, ◌↔◌, ℕ, ◌+�
 ghost use Rattle.std.specs.List.{flat_map};
 ghost use Rattle.lwkt_core.specs.Opening.{IsTokenWithin, AreWithin, AllOpenLawfully};
 ghost use Rattle.lwkt_bank.specs.Rule.{law_number};
-ghost use Rattle.lwkt_bank.specs.Opened.{AreUnguarded, plan_of_spec, plans_of, block, opening_words};
+ghost use Rattle.lwkt_bank.specs.Opened.{plan_of_spec, plans_of, slot_of_spec, opening_slots, block, opening_words};
 
 use crate::places::GENERATION;
 use crate::views::Plan;
-use lwkt_base::{LAST_GENERATION, Law, TokSpec};
+use lwkt_base::{Blob, LAST_GENERATION, Law, TokSpec};
 use lwkt_core::are_within as model_within;
 use std::alloc::{AllocError, Global};
 
@@ -16,13 +16,6 @@ pub(crate) fn are_within(cpus: usize, specs: &[TokSpec]) -> bool
     ensures { IsTrue result ↔ AreWithin cpus specs.now [] }
 {
     model_within(cpus, specs, &[])
-}
-
-/// Whether no token has a record.
-pub(crate) fn are_unguarded(specs: &[TokSpec]) -> bool
-    ensures { IsTrue result ↔ AreUnguarded specs.now }
-{
-    specs.iter().all(|spec| spec.blob.is_none())
 }
 
 fn cell_or_zero(cells: &[u64], cell: usize) -> u64
@@ -53,6 +46,7 @@ fn plan_of(spec: &TokSpec) -> Plan
         first: four_cells(cells),
         cells: cells.len(),
         law: spec.law,
+        blob: spec.blob,
     }
 }
 
@@ -112,4 +106,20 @@ pub(crate) fn words_of(alloc: Global, specs: &[TokSpec]) -> Result<Vec<u64>, All
         words.extend_from_slice(&block_of(spec))?;
     }
     Ok(words)
+}
+
+fn slot_of(spec: &TokSpec) -> Blob
+    ensures { result ≡ slot_of_spec spec.now }
+{
+    match spec.blob {
+        None => Blob::of(&[]),
+        Some(blob) => blob,
+    }
+}
+
+/// What lies in the slots at the opening.
+pub(crate) fn slots_of(alloc: Global, specs: &[TokSpec]) -> Result<Vec<Blob>, AllocError>
+    ensures { IfOk result (λ v. v.items ≡ opening_slots specs.now) }
+{
+    specs.iter().map(|spec| slot_of(spec)).collect(alloc)
 }

@@ -1,4 +1,4 @@
-ghost use Rattle.std.specs.Prelude.{◌≡◌, ◌+◌, ◌<◌, ◌≤◌, length};
+ghost use Rattle.std.specs.Prelude.{◌≡◌, ◌+◌, ◌<◌, ◌≤◌, length, is_some};
 ghost use Rattle.lwkt_bank.specs.Rule.{plan_at};
 
 use crate::banks::Bank;
@@ -24,6 +24,14 @@ impl Bank {
         ensures single { (plan_of (id_of self.now) tok.0).law ≡ Law.Tally → result ≡ 1 }
     {
         self.plan(tok).cells
+    }
+
+    /// Whether a token guards a record.
+    pub fn guards(&self, tok: TokId) -> bool
+        requires { tok.0 < tokens_of (id_of self.now) }
+        ensures { result ≡ is_some (plan_of (id_of self.now) tok.0).blob }
+    {
+        self.plan(tok).blob.is_some()
     }
 
     pub(crate) fn plan(&self, tok: TokId) -> Plan

@@ -5,7 +5,7 @@ ghost use Rattle.lwkt_bank.specs.Closing.{IsEmptyRoom};
 use crate::blanks::Blank;
 use crate::closed::Closed;
 use crate::kept::Kept;
-use lwkt_base::Cells;
+use lwkt_base::{Blob, Cells};
 use std::alloc::{AllocError, Global};
 
 /// Appends a number to a list that has room.
@@ -24,6 +24,24 @@ pub(crate) fn put_cells(list: &mut Vec<Cells>, cells: Cells)
     ensures room { vec_capacity list.old ≤ vec_capacity list.new }
 {
     let _ = list.push(cells);
+}
+
+/// Appends a record, or none, to a list that has room.
+pub(crate) fn put_blob(list: &mut Vec<Option<Blob>>, blob: Option<Blob>)
+    requires { length list.old.items < vec_capacity list.old }
+    ensures items { list.new.items ≡ list.old.items ++ blob ∷ [] }
+    ensures room { vec_capacity list.old ≤ vec_capacity list.new }
+{
+    let _ = list.push(blob);
+}
+
+/// Appends what lay in a slot to a list that has room.
+pub(crate) fn put_slot(list: &mut Vec<Blob>, blob: Blob)
+    requires { length list.old.items < vec_capacity list.old }
+    ensures items { list.new.items ≡ list.old.items ++ blob ∷ [] }
+    ensures room { vec_capacity list.old ≤ vec_capacity list.new }
+{
+    let _ = list.push(blob);
 }
 
 /// Appends what a seat had kept to a list that has room.
@@ -53,9 +71,11 @@ pub(crate) fn closed_for(alloc: Global, tokens: usize) -> Result<Closed, AllocEr
     let rows = Vec::with_capacity(alloc, tokens)?;
     let gens = Vec::with_capacity(alloc, tokens)?;
     let tallies = Vec::with_capacity(alloc, tokens)?;
+    let blobs = Vec::with_capacity(alloc, tokens)?;
     Ok(Closed {
         rows,
         gens,
         tallies,
+        blobs,
     })
 }

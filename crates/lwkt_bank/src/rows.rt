@@ -1,24 +1,35 @@
 //! The row of a token that is held exclusively, as a whole.
-ghost use Rattle.std.specs.Prelude.{◌≡◌, ◌≢◌, ◌↔◌, ℕ, List, ◌<◌, [], ◌∷◌, length, true, false, None, Some, IsTrue, MatchOption, slice_index};
+ghost use Rattle.std.specs.Prelude.{◌≡◌, ◌≢◌, ◌↔◌, ℕ, List, Option, ◌<◌, [], ◌∷◌, ◌++◌, length, true, false, None, Some, IsTrue, MatchOption, slice_index};
 ghost use Rattle.lwkt_base.specs.Holding.{is_held, is_exclusive};
-ghost use Rattle.lwkt_base.specs.Law.{MeetsLaw};
+ghost use Rattle.lwkt_base.specs.Law.{Obeys};
+ghost use Rattle.lwkt_core.specs.Tokens.{length_of};
 ghost use Rattle.lwkt_bank.specs.Views.{is_touched, stored};
 ghost use Rattle.lwkt_core.specs.declared.seats.Deed.{Deed};
-ghost use Rattle.lwkt_bank.specs.Deeds.{reads_all, writes};
-ghost use Rattle.lwkt_bank.specs.Seats.{id_of, bank_of, tokens_of, plan_of, entry, holding, Changes, Knowing, IsUnchanged, Restored, lawful_loads, last_loads};
+ghost use Rattle.lwkt_bank.specs.Deeds.{reads_all, writes, writes_blob_if};
+ghost use Rattle.lwkt_bank.specs.Seats.{id_of, bank_of, tokens_of, plan_of, entry, holding, Changes, Knowing, IsUnchanged, IsLawfulIn, PutsFirst, RowRestored, Restored, lawful_loads, asked_record, last_loads};
 
+use crate::answers::Stored;
 use crate::banks::Bank;
+use crate::gives::is_other;
 use crate::notes::Change;
 use crate::seats::CpuSeat;
-use lwkt_base::{Law, Row, TokId};
+use lwkt_base::{Blob, Law, Row, TokId};
 
 // Whether the law asks nothing of a row.
 fn asks_nothing(law: Law) -> bool
-    ensures meets { result ≡ true → (param : ℕ) → (row : List ℕ) → MeetsLaw law param row }
+    ensures meets { result ≡ true → (param : ℕ) → (row : List ℕ) → (len : Option ℕ) → Obeys law param row len }
     ensures nothing { result ≡ true → (deeds : List Deed) → lawful_loads law deeds ≡ [] }
     ensures all { result ≡ false → (deeds : List Deed) → lawful_loads law deeds ≡ deeds }
 {
     matches!(law, Law::Any | Law::Tally)
+}
+
+// Whether the law asks for the length of the record.
+fn asks_length(law: Law) -> bool
+    ensures yes { result ≡ true → law ≡ Law.Len }
+    ensures no { result ≡ false → law ≢ Law.Len }
+{
+    matches!(law, Law::Len)
 }
 
 impl CpuSeat {
@@ -75,27 +86,45 @@ impl CpuSeat {
         (Row::of(&before[..cells]), Row::of(&after[..cells]))
     }
 
+    // The length of the record, if the law asks for it and the token has one.
+    fn asked_length(&mut self, bank: &Bank, tok: TokId) -> Option<u64>
+        requires of { bank_of self.old ≡ id_of bank.now }
+        requires there { tok.0 < tokens_of (bank_of self.old) }
+        requires held { is_exclusive (holding self.old tok.0) ≡ true }
+        ensures length { (plan_of (bank_of self.old) tok.0).law ≡ Law.Len → result ≡ length_of (entry self.old tok.0).blob }
+        ensures knowing { Knowing self.old self.new tok.0 (entry self.old tok.0) (asked_record (plan_of (bank_of self.old) tok.0).law self.old.cpu tok.0 (entry self.old tok.0).blob) }
+    {
+        if !asks_length(bank.plan(tok).law) {
+            return None;
+        }
+        if !bank.guards(tok) {
+            return None;
+        }
+        Some(self.read_blob(bank, tok).len() as u64)
+    }
+
     // The same as `lawful`, each cell loaded.
     fn row_is_lawful(&mut self, bank: &Bank, tok: TokId) -> bool
         requires of { bank_of self.old ≡ id_of bank.now }
         requires there { tok.0 < tokens_of (bank_of self.old) }
         requires held { is_exclusive (holding self.old tok.0) ≡ true }
-        ensures lawful { IsTrue result ↔ MeetsLaw (plan_of (bank_of self.old) tok.0).law (plan_of (bank_of self.old) tok.0).param (entry self.old tok.0).row }
-        ensures knowing { Knowing self.old self.new tok.0 (entry self.old tok.0) (reads_all self.old.cpu tok.0 0 (entry self.old tok.0).row) }
+        ensures lawful { IsTrue result ↔ IsLawfulIn (plan_of (bank_of self.old) tok.0) (entry self.old tok.0) }
+        ensures knowing { Knowing self.old self.new tok.0 (entry self.old tok.0) (reads_all self.old.cpu tok.0 0 (entry self.old tok.0).row ++ asked_record (plan_of (bank_of self.old) tok.0).law self.old.cpu tok.0 (entry self.old tok.0).blob) }
     {
         let plan = bank.plan(tok);
         let values = self.row(bank, tok);
+        let len = self.asked_length(bank, tok);
         plan.law
-            .holds_of_section(&values[..plan.cells], plan.param, None)
+            .holds_of_section(&values[..plan.cells], plan.param, len)
     }
 
-    /// Whether the row obeys the law; under Tally always. That the seat holds the token exclusively is the caller's condition.
+    /// Whether row and record obey the law; under Tally always. That the seat holds the token exclusively is the caller's condition.
     pub fn lawful(&mut self, bank: &Bank, tok: TokId) -> bool
         requires of { bank_of self.old ≡ id_of bank.now }
         requires there { tok.0 < tokens_of (bank_of self.old) }
         requires held { is_exclusive (holding self.old tok.0) ≡ true }
-        ensures lawful { IsTrue result ↔ MeetsLaw (plan_of (bank_of self.old) tok.0).law (plan_of (bank_of self.old) tok.0).param (entry self.old tok.0).row }
-        ensures knowing { Knowing self.old self.new tok.0 (entry self.old tok.0) (lawful_loads (plan_of (bank_of self.old) tok.0).law (reads_all self.old.cpu tok.0 0 (entry self.old tok.0).row)) }
+        ensures lawful { IsTrue result ↔ IsLawfulIn (plan_of (bank_of self.old) tok.0) (entry self.old tok.0) }
+        ensures knowing { Knowing self.old self.new tok.0 (entry self.old tok.0) (lawful_loads (plan_of (bank_of self.old) tok.0).law (reads_all self.old.cpu tok.0 0 (entry self.old tok.0).row ++ asked_record (plan_of (bank_of self.old) tok.0).law self.old.cpu tok.0 (entry self.old tok.0).blob)) }
     {
         if asks_nothing(bank.plan(tok).law) {
             return true;
@@ -125,7 +154,7 @@ impl CpuSeat {
         requires there { tok.0 < tokens_of (bank_of self.old) }
         requires held { is_exclusive (holding self.old tok.0) ≡ true }
         requires untallied { (plan_of (bank_of self.old) tok.0).law ≢ Law.Tally }
-        ensures { Restored self.old self.new tok.0 result }
+        ensures { RowRestored self.old self.new tok.0 result }
     {
         let mut made = [None; 4];
         for cell in 0..bank.cells(tok) {
@@ -134,19 +163,41 @@ impl CpuSeat {
         made
     }
 
-    /// Stores the section's first row again: each cell that was stored to in it, rising, gets its first value. The answer has
-    /// the values stored. On a Tally token nothing is stored. That the seat holds the token exclusively is the caller's
-    /// condition.
-    pub fn restore(&mut self, bank: &Bank, tok: TokId) -> [Option<u64>; 4]
+    // Writes the first record again, if the record isn't that one, and answers it.
+    fn restore_record(&mut self, bank: &Bank, tok: TokId) -> Option<Blob>
         requires of { bank_of self.old ≡ id_of bank.now }
         requires there { tok.0 < tokens_of (bank_of self.old) }
         requires held { is_exclusive (holding self.old tok.0) ≡ true }
-        ensures restored { (plan_of (bank_of self.old) tok.0).law ≢ Law.Tally → Restored self.old self.new tok.0 result }
-        ensures tally { (plan_of (bank_of self.old) tok.0).law ≡ Law.Tally → (result ≡ None ∷ None ∷ None ∷ None ∷ []) × IsUnchanged self.old self.new }
+        ensures puts { PutsFirst (entry self.old tok.0) result }
+        ensures changes { Changes self.old self.new tok.0 (record (entry self.old tok.0) { blob = (entry self.old tok.0).first_blob }) (writes_blob_if self.old.cpu tok.0 result) }
+    {
+        let note = &self.notes[tok.0 as usize];
+        if !is_other(note.record_) {
+            return None;
+        }
+        let first = note.first_blob.blob();
+        self.write_blob(bank, tok, &first);
+        Some(first)
+    }
+
+    /// Stores the section's first row and record again: each cell that was stored to in it, rising, gets its first value,
+    /// and then the record its first bytes, if it has others. The answer has what was stored. On a Tally token nothing is
+    /// stored. That the seat holds the token exclusively is the caller's condition.
+    pub fn restore(&mut self, bank: &Bank, tok: TokId) -> Stored
+        requires of { bank_of self.old ≡ id_of bank.now }
+        requires there { tok.0 < tokens_of (bank_of self.old) }
+        requires held { is_exclusive (holding self.old tok.0) ≡ true }
+        ensures restored { (plan_of (bank_of self.old) tok.0).law ≢ Law.Tally → Restored self.old self.new tok.0 result.cells result.blob }
+        ensures tally { (plan_of (bank_of self.old) tok.0).law ≡ Law.Tally → (result.cells ≡ None ∷ None ∷ None ∷ None ∷ []) × (result.blob ≡ None) × IsUnchanged self.old self.new }
     {
         if bank.plan(tok).law == Law::Tally {
-            return [None; 4];
+            return Stored {
+                cells: [None; 4],
+                blob: None,
+            };
         }
-        self.restore_cells(bank, tok)
+        let cells = self.restore_cells(bank, tok);
+        let blob = self.restore_record(bank, tok);
+        Stored { cells, blob }
     }
 }

@@ -1,5 +1,6 @@
 use crate::views::{Plan, View};
 use atomic_table::TableRule;
+use lwkt_base::Blob;
 
 /// What the bank's table is told once, when it is made.
 #[derive(Debug, Drop)]
@@ -13,7 +14,7 @@ pub struct Key {
 /// The rule between any two steps of any number of seats.
 pub struct BankRule;
 
-impl TableRule<(), View, Key> for BankRule {
+impl TableRule<Blob, View, Key> for BankRule {
     ghost use Rattle.lwkt_bank.specs.Told.{Told};
     ghost use Rattle.lwkt_bank.specs.Views.{first_view};
 

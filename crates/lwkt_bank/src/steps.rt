@@ -1,26 +1,26 @@
 //! The steps of a seat on the words and cells of one token.
-ghost use Rattle.std.specs.Prelude.{◌≡◌, ◌≢◌, ◌⊎◌, ℕ, ◌+◌, ◌*◌, ◌<◌, ◌≤◌, Bool, true, length, slice_index};
+ghost use Rattle.std.specs.Prelude.{◌≡◌, ◌≢◌, ◌⊎◌, ℕ, ◌+◌, ◌*◌, ◌<◌, ◌≤◌, Bool, true, length, Some, slice_index};
 ghost use Rattle.lwkt_base.specs.Holding.{is_held, is_exclusive};
-ghost use Rattle.lwkt_base.specs.Law.{MeetsLaw};
+ghost use Rattle.lwkt_bank.specs.Hands.{AreHands, IsInHand, PutsBack};
 ghost use Rattle.lwkt_base.specs.declared.holdings.Held.{Held};
 ghost use Rattle.lwkt_base.specs.declared.laws.Law.TheVariants.{Tally};
 ghost use Rattle.lwkt_core.specs.Tokens.{IsNotLastExclusive};
 ghost use Rattle.lwkt_bank.specs.Views.{at, count_from, held_of};
 ghost use Rattle.lwkt_bank.specs.Rule.{plan_at};
-ghost use Rattle.lwkt_bank.specs.Plays.{Amid, Looks, Exchanges, AddsOne, Marks, GivesOne, GivesClean, GivesWritten, ReadsCell, StoresCell, RaisesCell};
-ghost use Rattle.lwkt_bank.specs.Seats.{IsOf, IsSame, Decides};
+ghost use Rattle.lwkt_bank.specs.Plays.{Amid, Looks, Exchanges, AddsOne, Marks, GivesOne, GivesClean, GivesWritten, ReadsCell, StoresCell, RaisesCell, ReadsBlob, WritesBlob, TakesHands};
+ghost use Rattle.lwkt_bank.specs.Seats.{IsOf, IsSame, IsCleanIn, IsLawfulIn, Decides};
 
 use crate::banks::Bank;
 use crate::places::{SECTION, word_of_cell, word_of_token};
 use crate::plays::{
-    AddOne, GiveClean, GiveOne, GiveWritten, Look, RaiseCell, ReadCell, SetMark, Share, StoreCell,
-    Take,
+    AddOne, GiveClean, GiveOne, GiveWritten, Look, RaiseCell, ReadCell, ReadRecord, SetMark, Share,
+    StoreCell, Take, WriteRecord,
 };
 use crate::views::View;
 use atomic_table::Seat;
-use lwkt_base::{Decision, Mode, TokId};
+use lwkt_base::{Blob, Decision, Mode, TokId};
 
-pub(crate) fn look(bank: &Bank, seat: &mut Seat<(), View>, tok: TokId) -> u64
+pub(crate) fn look(bank: &Bank, seat: &mut Seat<Blob, View>, tok: TokId) -> u64
     requires of { IsOf bank.now seat.old }
     requires there { tok.0 < length bank.now.key.plans.items }
     ensures same { IsSame seat.old seat.new }
@@ -33,7 +33,7 @@ pub(crate) fn look(bank: &Bank, seat: &mut Seat<(), View>, tok: TokId) -> u64
 /// Exchanges the word for the one that takes the token in this mode, and answers the word found.
 pub(crate) fn swing(
     bank: &Bank,
-    seat: &mut Seat<(), View>,
+    seat: &mut Seat<Blob, View>,
     tok: TokId,
     mode: Mode,
     old: u64,
@@ -44,7 +44,8 @@ pub(crate) fn swing(
     requires decided { (alone : Bool) × Decides old mode alone (Decision.Take new) }
     requires free { (at seat.old.me.0.tokens tok.0).held ≡ Held.Nothing }
     requires few { count_from 0 (length bank.now.key.plans.items) (held_of seat.old.me.0.tokens) < 32 }
-    ensures same { IsSame seat.old seat.new }
+    ensures table { seat.new.table_id ≡ seat.old.table_id }
+    ensures hands { TakesHands mode old tok.0 result seat.old.me seat.new.me }
     ensures exchanges { Amid seat.old.me.0 (λ between. Exchanges mode old new between tok.0 seat.old.me.0 result seat.new.me.0) }
 {
     let word = word_of_token(tok);
@@ -60,7 +61,7 @@ pub(crate) fn swing(
     }
 }
 
-pub(crate) fn add_one(bank: &Bank, seat: &mut Seat<(), View>, tok: TokId) -> u64
+pub(crate) fn add_one(bank: &Bank, seat: &mut Seat<Blob, View>, tok: TokId) -> u64
     requires of { IsOf bank.now seat.old }
     requires there { tok.0 < length bank.now.key.plans.items }
     requires held { is_held (at seat.old.me.0.tokens tok.0).held ≡ true }
@@ -72,7 +73,7 @@ pub(crate) fn add_one(bank: &Bank, seat: &mut Seat<(), View>, tok: TokId) -> u64
     bank.table.shared.fetch_add::<AddOne>(seat, word, 4)
 }
 
-pub(crate) fn set_mark(bank: &Bank, seat: &mut Seat<(), View>, tok: TokId) -> u64
+pub(crate) fn set_mark(bank: &Bank, seat: &mut Seat<Blob, View>, tok: TokId) -> u64
     requires of { IsOf bank.now seat.old }
     requires there { tok.0 < length bank.now.key.plans.items }
     ensures same { IsSame seat.old seat.new }
@@ -82,7 +83,7 @@ pub(crate) fn set_mark(bank: &Bank, seat: &mut Seat<(), View>, tok: TokId) -> u6
     bank.table.shared.fetch_or::<SetMark>(seat, word, 2)
 }
 
-pub(crate) fn give_one(bank: &Bank, seat: &mut Seat<(), View>, tok: TokId) -> u64
+pub(crate) fn give_one(bank: &Bank, seat: &mut Seat<Blob, View>, tok: TokId) -> u64
     requires of { IsOf bank.now seat.old }
     requires there { tok.0 < length bank.now.key.plans.items }
     requires held { is_held (at seat.old.me.0.tokens tok.0).held ≡ true }
@@ -94,25 +95,29 @@ pub(crate) fn give_one(bank: &Bank, seat: &mut Seat<(), View>, tok: TokId) -> u6
     bank.table.shared.fetch_sub::<GiveOne>(seat, word, 4)
 }
 
-pub(crate) fn give_clean(bank: &Bank, seat: &mut Seat<(), View>, tok: TokId) -> u64
+pub(crate) fn give_clean(bank: &Bank, seat: &mut Seat<Blob, View>, tok: TokId) -> u64
     requires of { IsOf bank.now seat.old }
     requires there { tok.0 < length bank.now.key.plans.items }
     requires last { (at seat.old.me.0.tokens tok.0).held ≡ Held.Holds Mode.Exclusive 0 }
-    requires clean { (at seat.old.me.0.tokens tok.0).row ≡ (at seat.old.me.0.tokens tok.0).first }
-    ensures same { IsSame seat.old seat.new }
+    requires clean { IsCleanIn (at seat.old.me.0.tokens tok.0) }
+    requires hands { AreHands seat.old.me.0 seat.old.me.1 }
+    ensures table { seat.new.table_id ≡ seat.old.table_id }
+    ensures puts { PutsBack (at seat.old.me.0.tokens tok.0).blob tok.0 seat.old.me.1 seat.new.me.1 }
     ensures gives { Amid seat.old.me.0 (λ between. GivesClean between tok.0 seat.old.me.0 result seat.new.me.0) }
 {
     let word = word_of_token(tok);
     bank.table.shared.fetch_sub::<GiveClean>(seat, word, 1)
 }
 
-pub(crate) fn give_written(bank: &Bank, seat: &mut Seat<(), View>, tok: TokId) -> u64
+pub(crate) fn give_written(bank: &Bank, seat: &mut Seat<Blob, View>, tok: TokId) -> u64
     requires of { IsOf bank.now seat.old }
     requires there { tok.0 < length bank.now.key.plans.items }
     requires last { (at seat.old.me.0.tokens tok.0).held ≡ Held.Holds Mode.Exclusive 0 }
-    requires written { (at seat.old.me.0.tokens tok.0).row ≢ (at seat.old.me.0.tokens tok.0).first }
-    requires lawful { MeetsLaw (plan_at bank.now.key.plans.items tok.0).law (plan_at bank.now.key.plans.items tok.0).param (at seat.old.me.0.tokens tok.0).row }
-    ensures same { IsSame seat.old seat.new }
+    requires written { ¬ IsCleanIn (at seat.old.me.0.tokens tok.0) }
+    requires lawful { IsLawfulIn (plan_at bank.now.key.plans.items tok.0) (at seat.old.me.0.tokens tok.0) }
+    requires hands { AreHands seat.old.me.0 seat.old.me.1 }
+    ensures table { seat.new.table_id ≡ seat.old.table_id }
+    ensures puts { PutsBack (at seat.old.me.0.tokens tok.0).blob tok.0 seat.old.me.1 seat.new.me.1 }
     ensures gives { Amid seat.old.me.0 (λ between. GivesWritten between tok.0 seat.old.me.0 result seat.new.me.0) }
 {
     let word = word_of_token(tok);
@@ -121,7 +126,7 @@ pub(crate) fn give_written(bank: &Bank, seat: &mut Seat<(), View>, tok: TokId) -
         .fetch_add::<GiveWritten>(seat, word, SECTION)
 }
 
-pub(crate) fn read_cell(bank: &Bank, seat: &mut Seat<(), View>, tok: TokId, cell: u8) -> u64
+pub(crate) fn read_cell(bank: &Bank, seat: &mut Seat<Blob, View>, tok: TokId, cell: u8) -> u64
     requires of { IsOf bank.now seat.old }
     requires there { tok.0 < length bank.now.key.plans.items }
     requires held { is_held (at seat.old.me.0.tokens tok.0).held ≡ true }
@@ -133,7 +138,7 @@ pub(crate) fn read_cell(bank: &Bank, seat: &mut Seat<(), View>, tok: TokId, cell
     bank.table.shared.load::<ReadCell>(seat, word)
 }
 
-pub(crate) fn store_cell(bank: &Bank, seat: &mut Seat<(), View>, tok: TokId, cell: u8, value: u64)
+pub(crate) fn store_cell(bank: &Bank, seat: &mut Seat<Blob, View>, tok: TokId, cell: u8, value: u64)
     requires of { IsOf bank.now seat.old }
     requires there { tok.0 < length bank.now.key.plans.items }
     requires held { is_exclusive (at seat.old.me.0.tokens tok.0).held ≡ true }
@@ -147,7 +152,7 @@ pub(crate) fn store_cell(bank: &Bank, seat: &mut Seat<(), View>, tok: TokId, cel
 }
 
 /// Raises the cell of a Tally token to this value.
-pub(crate) fn raise_cell(bank: &Bank, seat: &mut Seat<(), View>, tok: TokId, value: u64)
+pub(crate) fn raise_cell(bank: &Bank, seat: &mut Seat<Blob, View>, tok: TokId, value: u64)
     requires of { IsOf bank.now seat.old }
     requires there { tok.0 < length bank.now.key.plans.items }
     requires held { is_exclusive (at seat.old.me.0.tokens tok.0).held ≡ true }
@@ -158,4 +163,44 @@ pub(crate) fn raise_cell(bank: &Bank, seat: &mut Seat<(), View>, tok: TokId, val
 {
     let word = word_of_cell(tok, 0);
     bank.table.shared.store::<RaiseCell>(seat, word, value)
+}
+
+/// Reads the record of a token that is held exclusively and has one. It lies in front then.
+pub(crate) fn read_record(bank: &Bank, seat: &mut Seat<Blob, View>, tok: TokId) -> Blob
+    requires of { IsOf bank.now seat.old }
+    requires there { tok.0 < length bank.now.key.plans.items }
+    requires held { IsInHand seat.old.me.0 tok.0 }
+    requires hands { AreHands seat.old.me.0 seat.old.me.1 }
+    ensures table { seat.new.table_id ≡ seat.old.table_id }
+    ensures value { (at seat.old.me.0.tokens tok.0).blob ≡ Some result }
+    ensures reads { Amid seat.old.me.0 (λ between. ReadsBlob between tok.0 seat.old.me.0 seat.new.me.0) }
+    ensures hands { AreHands seat.new.me.0 seat.new.me.1 }
+{
+    let word = word_of_cell(tok, 0);
+    bank.table.shared.load::<ReadRecord>(seat, word);
+    *seat.slot_mut(&bank.table.shared, tok.0 as usize)
+}
+
+/// Writes the record of a token that is held exclusively and has one, and answers what it was.
+pub(crate) fn write_record(
+    bank: &Bank,
+    seat: &mut Seat<Blob, View>,
+    tok: TokId,
+    blob: &Blob,
+) -> Blob
+    requires of { IsOf bank.now seat.old }
+    requires there { tok.0 < length bank.now.key.plans.items }
+    requires held { IsInHand seat.old.me.0 tok.0 }
+    requires short { length blob.now ≤ 64 }
+    requires hands { AreHands seat.old.me.0 seat.old.me.1 }
+    ensures table { seat.new.table_id ≡ seat.old.table_id }
+    ensures value { (at seat.old.me.0.tokens tok.0).blob ≡ Some result }
+    ensures writes { Amid seat.old.me.0 (λ between. WritesBlob blob.now between tok.0 seat.old.me.0 seat.new.me.0) }
+    ensures hands { AreHands seat.new.me.0 seat.new.me.1 }
+{
+    let word = word_of_cell(tok, 0);
+    bank.table
+        .shared
+        .compare_exchange_with::<WriteRecord>(seat, word, 0, 0, blob);
+    bank.table.shared.exchange(seat, tok.0 as usize, *blob)
 }

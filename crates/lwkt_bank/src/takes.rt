@@ -3,7 +3,7 @@ ghost use Rattle.std.specs.Prelude.{◌≡◌, ℕ, ◌+◌, ◌<◌, Bool, true
 ghost use Rattle.lwkt_base.specs.Holding.{is_held};
 ghost use Rattle.lwkt_bank.specs.Views.{more, looked};
 ghost use Rattle.lwkt_bank.specs.Deeds.{adds_one, marks};
-ghost use Rattle.lwkt_bank.specs.Seats.{id_of, bank_of, tokens_of, entry, holding, references, Changes, Looked, Took, Lost, Tried, Decides, Hit, Miss, Stepped};
+ghost use Rattle.lwkt_bank.specs.Seats.{id_of, bank_of, tokens_of, entry, holding, references, Changes, Looked, Took, Lost, Tried, Decides, Hit, Miss, Stepped, IsGuarded};
 
 use crate::answers::Try;
 use crate::banks::Bank;
@@ -13,10 +13,12 @@ use crate::steps;
 use lwkt_base::{CpuId, Decision, Held, Mode, TokId, TokWord};
 
 impl CpuSeat {
-    /// The processor whose seat this is. A seat holds no token that its bank doesn't have.
+    /// The processor whose seat this is. A seat holds no token that its bank doesn't have, and of one that it holds it has record
+    /// and first record exactly if a record was declared.
     pub fn cpu(&self) -> CpuId
         ensures is { result ≡ self.now.cpu }
         ensures within { (tok : ℕ) → is_held (holding self.now tok) ≡ true → tok < tokens_of (bank_of self.now) }
+        ensures guarded { (tok : ℕ) → is_held (holding self.now tok) ≡ true → IsGuarded self.now tok }
     {
         self.cpu
     }

@@ -1,8 +1,8 @@
-use lwkt_base::{CpuId, Held, Law};
+use lwkt_base::{Blob, CpuId, Held, Law};
 use lwkt_core::{Chapter, Deed, SeatKind};
 
 /// What is declared of a token at the opening.
-#[derive(Clone, Copy, Debug, PartialEq, Eq)]
+#[derive(Clone, Copy, Debug)]
 pub struct Plan {
     /// The opening generation.
     pub generation: u64,
@@ -13,6 +13,8 @@ pub struct Plan {
     /// How many cells it has, 0 to 4.
     pub cells: usize,
     pub law: Law,
+    /// The opening record, if the token guards one.
+    pub blob: Option<Blob>,
 }
 
 /// A cell of a token's first row that a seat knows. Only proofs have values of it.
@@ -40,6 +42,12 @@ pub struct TokenEntry {
     pub first: [u64; 0],
     /// While the seat holds the token, its row.
     pub row: [u64; 0],
+    /// The records that the seat knows to be that generation's first: none, or that one.
+    pub known_blob: [Blob; 0],
+    /// While the seat holds the token, the first record of the section, if it has one.
+    pub first_blob: Option<Blob>,
+    /// While the seat holds the token, its record.
+    pub blob: Option<Blob>,
     /// While the seat holds the token exclusively, the cells that it stored to since the section began.
     pub touched: [u64; 0],
     /// How many written sections the seat has ended.

@@ -1,7 +1,9 @@
-use Rattle.std.proofs.Common.{◌≡◌, ℕ, ◌+◌, ◌<◌, Bool, true, false, cond, eqb, List, [], ◌∷◌, ◌++◌, length, get_or, None, refl, ap, sym, ◌∙◌, subst, arith}
-use Rattle.std.specs.Prelude.{All}
+use Rattle.std.proofs.Common.{◌≡◌, ◌≢◌, ℕ, ◌+◌, ◌<◌, Bool, true, false, cond, eqb, List, [], ◌∷◌, ◌++◌, length, get_or, None, refl, ap, sym, ◌∙◌, subst, arith}
+use Rattle.std.specs.Prelude.{All, Option}
 use Rattle.std.proofs.lemmas.List.{length_push}
 use Rattle.std.proofs.Math.Path.{fun_ext}
+use Rattle.lwkt_base.specs.declared.laws.Law.{Law}
+use Rattle.lwkt_base.specs.declared.laws.Law.TheVariants.{Any, Sum, Order, Cap, Tally, Len}
 use Rattle.lwkt_base.specs.declared.names.Mode.{Mode}
 use Rattle.lwkt_base.specs.declared.names.Mode.TheVariants.{Shared}
 use Rattle.lwkt_base.specs.declared.names.Ref.{Ref}
@@ -14,9 +16,9 @@ use Rattle.lwkt_bank.specs.declared.views.TokenEntry.{TokenEntry}
 use Rattle.lwkt_bank.specs.declared.seats.CpuSeat.{CpuSeat}
 use Rattle.lwkt_bank.specs.declared.answers.Given.{Given}
 use Rattle.lwkt_bank.specs.declared.answers.Given.TheVariants.{One, Clean, Written}
-use Rattle.lwkt_bank.specs.Views.{count_from, generation_in, looked, more}
+use Rattle.lwkt_bank.specs.Views.{RecordOf, count_from, generation_in, looked, more}
 use Rattle.lwkt_bank.specs.Deeds.{adds_one}
-use Rattle.lwkt_bank.specs.Seats.{BankId, bank_of, tokens_of, entry, holding, references, Changes, Looked, Took, Lost, Stepped, Gave}
+use Rattle.lwkt_bank.specs.Seats.{BankId, bank_of, tokens_of, plan_of, entry, holding, references, Changes, Looked, Took, Lost, Stepped, Gave, Restored, IsUnchanged}
 use Rattle.lwkt_bank.specs.Gathered.{IsNew, AreHandedOut}
 use Rattle.lwkt_bank.specs.Closing.{IsReady}
 use Rattle.lwkt_bank.specs.Holdings.{TakingAdds, AgainAdds, GivingRemoves, OthersKeep, NothingCounts, AddedCounts}
@@ -72,7 +74,7 @@ sits_kept bank s s' refs sits same kept = record {
 pub sits_changed : OthersKeep → (bank : BankId) (s s' : CpuSeat) (refs : List Ref) (tok : ℕ) (e : TokenEntry) (made : List Deed) → Sits bank s refs → Changes s s' tok e made → e.held ≡ holding s tok → Sits bank s' refs
 sits_changed others bank s s' refs tok e made sits changes is = sits_kept bank s s' refs sits changes.bank (others s s' tok e made changes is)
 
-looked_if : (b : Bool) (e : TokenEntry) (g : ℕ) → (cond b e (record e { generation = g; known = [] })).held ≡ e.held
+looked_if : (b : Bool) (e : TokenEntry) (g : ℕ) → (cond b e (record e { generation = g; known = []; known_blob = [] })).held ≡ e.held
 looked_if true e g = refl
 looked_if false e g = refl
 
@@ -81,6 +83,22 @@ looked-held e word = looked_if (eqb e.generation (generation_in word)) e (genera
 
 pub sits_looked : OthersKeep → (bank : BankId) (s s' : CpuSeat) (refs : List Ref) (tok word : ℕ) → Sits bank s refs → Looked s s' tok word → Sits bank s' refs
 sits_looked others bank s s' refs tok word sits look = sits_changed others bank s s' refs tok _ _ sits look.changes (looked-held (entry s tok) word)
+
+-- a restore, which changes nothing under Tally
+by_law : (P : Type 0) (law : Law) → (law ≢ Tally → P) → (law ≡ Tally → P) → P
+by_law P Any other tally = other (λ is. cc)
+by_law P Sum other tally = other (λ is. cc)
+by_law P Order other tally = other (λ is. cc)
+by_law P Cap other tally = other (λ is. cc)
+by_law P Tally other tally = tally refl
+by_law P Len other tally = other (λ is. cc)
+
+pub sits_unchanged : (bank : BankId) (s s' : CpuSeat) (refs : List Ref) → Sits bank s refs → IsUnchanged s s' → Sits bank s' refs
+sits_unchanged bank s s' refs sits same = sits_kept bank s s' refs sits same.bank (fun_ext (λ tok. ap (λ (e : TokenEntry). e.held) (same.entries tok)))
+
+pub sits_restored : OthersKeep → (bank : BankId) (s s' : CpuSeat) (refs : List Ref) (tok : ℕ) (made : List (Option ℕ)) (bytes : RecordOf) → Sits bank s refs → ((plan_of (bank_of s) tok).law ≢ Tally → Restored s s' tok made bytes) → ((plan_of (bank_of s) tok).law ≡ Tally → IsUnchanged s s') → Sits bank s' refs
+sits_restored others bank s s' refs tok made bytes sits restored same =
+    by_law (Sits bank s' refs) (plan_of (bank_of s) tok).law (λ is. sits_changed others bank s s' refs tok _ _ sits (restored is).changes refl) (λ is. sits_unchanged bank s s' refs sits (same is))
 
 -- what a list's modes say of what a seat holds
 nothing_if : (held : Held) → mode_of held ≡ None → held ≡ Nothing

@@ -23,7 +23,7 @@ use Rattle.lwkt_bank_rows.specs.Desks.{Sits}
 use Rattle.lwkt_bank_rows.specs.Readings.{IsEmpty, HasRead, IsFresh}
 use Rattle.lwkt_bank_rows.proofs.DeskMoves.{looked-held}
 
-seen_if : (b : Bool) (e : TokenEntry) (g : ℕ) → (b ≡ true → e.generation ≡ g) → (cond b e (record e { generation = g; known = [] })).generation ≡ g
+seen_if : (b : Bool) (e : TokenEntry) (g : ℕ) → (b ≡ true → e.generation ≡ g) → (cond b e (record e { generation = g; known = []; known_blob = [] })).generation ≡ g
 seen_if true e g is = is refl
 seen_if false e g is = refl
 

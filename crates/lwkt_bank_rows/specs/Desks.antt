@@ -4,9 +4,8 @@ use Rattle.lwkt_base.specs.declared.names.Ref.{Ref}
 use Rattle.lwkt_base.specs.declared.names.Mode.TheVariants.{Exclusive}
 use Rattle.lwkt_base.specs.declared.holdings.Held.TheVariants.{Holds}
 use Rattle.lwkt_base.specs.Holding.{holding_of, is_held}
-use Rattle.lwkt_base.specs.Law.{MeetsLaw}
 use Rattle.lwkt_bank.specs.declared.seats.CpuSeat.{CpuSeat}
-use Rattle.lwkt_bank.specs.Seats.{BankId, bank_of, plan_of, entry, holding, references}
+use Rattle.lwkt_bank.specs.Seats.{BankId, bank_of, plan_of, entry, holding, references, IsLawfulIn}
 
 -- a seat of this bank that holds exactly these references
 pub record Sits (bank : BankId) (s : CpuSeat) (refs : List Ref) : Type 0 where
@@ -14,7 +13,7 @@ pub record Sits (bank : BankId) (s : CpuSeat) (refs : List Ref) : Type 0 where
   pub held : holding s ≡ holding_of refs
   pub counted : references s ≡ length refs
 
--- a seat that may give back a reference to a token: it holds the token, and if that ends a section, the row obeys the law
+-- a seat that may give back a reference to a token: it holds the token, and if that ends a section, row and record obey the law
 pub record MayGive (s : CpuSeat) (tok : ℕ) : Type 0 where
   pub held : is_held (holding s tok) ≡ true
-  pub lawful : holding s tok ≡ Holds Exclusive 0 → MeetsLaw (plan_of (bank_of s) tok).law (plan_of (bank_of s) tok).param (entry s tok).row
+  pub lawful : holding s tok ≡ Holds Exclusive 0 → IsLawfulIn (plan_of (bank_of s) tok) (entry s tok)

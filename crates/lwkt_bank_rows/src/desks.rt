@@ -11,7 +11,8 @@ use lwkt_bank::laws::{calls_change_holdings, references_are_counted};
 use lwkt_bank::seats::CpuSeat;
 use lwkt_base::list_laws::{acquiring_adds, lists_are_held, releasing_removes};
 use lwkt_base::lists::LIST_LIMIT;
-use lwkt_base::{Fault, Mode, Ref, Section, TokId, TokList, TokSpec};
+use lwkt_base::{Blob, Fault, Mode, Ref, Section, TokId, TokList, TokSpec};
+use lwkt_fixtures::record;
 use std::alloc::{AllocError, Global};
 
 /// A seat, and the references that it holds.
@@ -32,6 +33,10 @@ pub enum Ask {
     Load(u8),
     Store(u8, u64),
     Add(u64),
+    /// Whether the record is this one.
+    Reads(&'static [u8]),
+    Writes(&'static [u8]),
+    Restore,
     Give,
 }
 
@@ -46,6 +51,8 @@ pub enum Told {
     Word(u64),
     Tried(Try),
     Value(u64),
+    /// Whether the record that was read is the one of the question.
+    Is(bool),
     Done,
     Refused(Fault),
     /// One reference less.
@@ -200,6 +207,67 @@ fn add(bank: &Bank, seat: &mut CpuSeat, refs: &TokList, tok: TokId, k: u64) -> T
     }
 }
 
+/// The record of a token that is held exclusively and has one.
+pub fn read_record(bank: &Bank, seat: &mut CpuSeat, refs: &TokList, tok: TokId) -> Option<Blob>
+    requires sits { Sits (id_of bank.now) seat.old refs.now }
+    requires there { tok.0 < tokens_of (id_of bank.now) }
+    ensures { Sits (id_of bank.now) seat.new refs.now }
+{
+    lists_are_held();
+    calls_change_holdings();
+    if refs.mode(tok) != Some(Mode::Exclusive) || !bank.guards(tok) {
+        return None;
+    }
+    Some(seat.read_blob(bank, tok))
+}
+
+/// Writes the record of a token that is held exclusively and has one, if the new one has at most 64 bytes.
+pub fn write_record(
+    bank: &Bank,
+    seat: &mut CpuSeat,
+    refs: &TokList,
+    tok: TokId,
+    blob: &Blob,
+) -> Told
+    requires sits { Sits (id_of bank.now) seat.old refs.now }
+    requires there { tok.0 < tokens_of (id_of bank.now) }
+    ensures { Sits (id_of bank.now) seat.new refs.now }
+{
+    lists_are_held();
+    calls_change_holdings();
+    if refs.mode(tok) != Some(Mode::Exclusive) || !bank.guards(tok) || blob.len() > 64 {
+        return Told::Unfit;
+    }
+    seat.write_blob(bank, tok, blob);
+    Told::Done
+}
+
+fn reads(bank: &Bank, seat: &mut CpuSeat, refs: &TokList, tok: TokId, wanted: &[u8]) -> Told
+    requires sits { Sits (id_of bank.now) seat.old refs.now }
+    requires there { tok.0 < tokens_of (id_of bank.now) }
+    ensures { Sits (id_of bank.now) seat.new refs.now }
+{
+    match read_record(bank, seat, refs, tok) {
+        Some(blob) => Told::Is(blob.is_same(&record(wanted))),
+        None => Told::Unfit,
+    }
+}
+
+// Puts cells and record of a token back to what they were when the section began.
+fn restore(bank: &Bank, seat: &mut CpuSeat, refs: &TokList, tok: TokId) -> Told
+    requires sits { Sits (id_of bank.now) seat.old refs.now }
+    requires there { tok.0 < tokens_of (id_of bank.now) }
+    ensures { Sits (id_of bank.now) seat.new refs.now }
+{
+    lists_are_held();
+    calls_change_holdings();
+    if refs.mode(tok) != Some(Mode::Exclusive) {
+        return Told::Unfit;
+    }
+    let _ = seat.restore(bank, tok);
+    Told::Done
+}
+
 fn word(bank: &Bank, seat: &mut CpuSeat, refs: &TokList, tok: TokId) -> u64
     requires sits { Sits (id_of bank.now) seat.old refs.now }
     requires there { tok.0 < tokens_of (id_of bank.now) }
@@ -303,6 +371,9 @@ fn ask_kept(bank: &Bank, desk: &mut ListedSeat, tok: TokId, ask: Ask) -> Told
         Ask::Load(cell) => load(bank, seat, refs, tok, cell),
         Ask::Store(cell, value) => store(bank, seat, refs, tok, cell, value),
         Ask::Add(k) => add(bank, seat, refs, tok, k),
+        Ask::Reads(wanted) => reads(bank, seat, refs, tok, wanted),
+        Ask::Writes(bytes) => write_record(bank, seat, refs, tok, &record(bytes)),
+        Ask::Restore => restore(bank, seat, refs, tok),
         Ask::Take(_, _) | Ask::Again | Ask::Give => Told::Unfit,
     }
 }

@@ -6,8 +6,9 @@ ghost use Rattle.lwkt_hold.specs.Holds.{seat_of};
 ghost use Rattle.lwkt_bank_rows.specs.HeldLists.{IsHeld, IsFree};
 
 use lwkt_bank::{Bank, CpuSeat};
-use lwkt_base::{Answer, Ask, Fault, Mode, Ref, TokId, TokList, TokSpec};
+use lwkt_base::{Blob, Fault, Ref, TokId, TokList, TokSpec};
 use lwkt_core::Event;
+use lwkt_fixtures::record;
 use lwkt_hold::{Acquired, Blocked, Hold, Resumed};
 use std::alloc::Global;
 
@@ -32,11 +33,17 @@ pub struct Watch<'a> {
 /// What is asked of a desk.
 #[derive(Clone, Copy)]
 pub enum Call {
-    /// What a body asks.
-    Ask(Ask),
     Get(Ref),
     /// The same reference as often as a list has room.
     Fill(Ref),
+    TryGet(TokId),
+    Rel(TokId),
+    Read(TokId, u8),
+    Write(TokId, u8, u64),
+    Add(TokId, u64),
+    /// Whether the record is this one.
+    Reads(TokId, &'static [u8]),
+    Writes(TokId, &'static [u8]),
     Resume(&'static [Ref]),
     /// Whether the token of the reference of this place still has this word.
     Still(&'static [Ref], usize, u64),
@@ -46,14 +53,15 @@ pub enum Call {
 /// What a desk answers.
 #[derive(Clone, Copy, Debug, PartialEq, Eq)]
 pub enum Told {
-    Answered(Answer),
+    Done,
+    Value(u64),
+    /// Whether the record that was read is the one of the question.
+    Is(bool),
     Got(Acquired),
     Resumed(Resumed),
     Still(bool),
     Blocked(Blocked),
     Refused(Fault),
-    /// The thread of a body has to switch, and all was given up.
-    Switched,
 }
 
 /// A bank of these tokens, with a seat for each of so many processors.
@@ -187,17 +195,24 @@ fn look(hold: &mut Hold, bank: &Bank, list: &TokList, at: usize, word: u64) -> b
     hold.still(bank, list, at, word)
 }
 
-fn done(res: Result<(), Fault>) -> Option<Answer> {
+fn done(res: Result<(), Fault>) -> Told {
     match res {
-        Ok(()) => Some(Answer::Done),
-        Err(fault) => Some(Answer::Refused(fault)),
+        Ok(()) => Told::Done,
+        Err(fault) => Told::Refused(fault),
     }
 }
 
-fn found(res: Result<u64, Fault>) -> Option<Answer> {
+fn found(res: Result<u64, Fault>) -> Told {
     match res {
-        Ok(value) => Some(Answer::Value(value)),
-        Err(fault) => Some(Answer::Refused(fault)),
+        Ok(value) => Told::Value(value),
+        Err(fault) => Told::Refused(fault),
+    }
+}
+
+fn found_record(res: Result<Blob, Fault>, wanted: &[u8]) -> Told {
+    match res {
+        Ok(blob) => Told::Is(blob.is_same(&record(wanted))),
+        Err(fault) => Told::Refused(fault),
     }
 }
 
@@ -277,38 +292,48 @@ impl ListedHold<'_> {
         Ok(look(&mut self.hold, self.bank, &list, at, word))
     }
 
-    fn asked(&mut self, tok: TokId, mode: Mode) -> Option<Answer> {
-        match self.get(Ref { tok, mode }) {
-            Ok(Acquired::Got) => Some(Answer::Done),
-            Ok(Acquired::MustSwitch { .. }) => None,
-            Err(fault) => Some(Answer::Refused(fault)),
-        }
-    }
-
-    // What is answered to a body that asks this of tokens. None where its thread has to switch, and all is given up.
-    fn ask(&mut self, ask: Ask) -> Option<Answer> {
-        make_room(&mut self.trace).ok()?;
+    // A call on a token that is listed, or on one that isn't held by anybody.
+    fn call_token(&mut self, call: Call) -> Result<Told, Fault> {
+        make_room(&mut self.trace)?;
         let bank = self.bank;
-        match ask {
-            Ask::Get(tok) => self.asked(tok, Mode::Exclusive),
-            Ask::GetShared(tok) => self.asked(tok, Mode::Shared),
-            Ask::TryGet(tok) => done(
+        Ok(match call {
+            Call::TryGet(tok) => done(
                 self.hold
                     .try_get(bank, &mut self.list, tok, &mut self.trace),
             ),
-            Ask::Rel(tok) => done(self.hold.rel(bank, &mut self.list, tok, &mut self.trace)),
-            Ask::Read(tok, cell) => found(
+            Call::Rel(tok) => done(self.hold.rel(bank, &mut self.list, tok, &mut self.trace)),
+            Call::Read(tok, cell) => found(
                 self.hold.read(bank, &self.list, tok, cell, &mut self.trace),
             ),
-            Ask::Write(tok, cell, value) => {
+            Call::Write(tok, cell, value) => {
                 done(
                     self.hold
                         .write(bank, &self.list, tok, cell, value, &mut self.trace),
                 )
             }
-            Ask::Add(tok, k) => done(self.hold.add(bank, &self.list, tok, k, &mut self.trace)),
-            _ => None,
-        }
+            Call::Add(tok, k) => done(self.hold.add(bank, &self.list, tok, k, &mut self.trace)),
+            _ => return self.call_record(call),
+        })
+    }
+
+    // A call on the record of a token, or on what is held as a whole.
+    fn call_record(&mut self, call: Call) -> Result<Told, Fault> {
+        make_room(&mut self.trace)?;
+        let bank = self.bank;
+        Ok(match call {
+            Call::Reads(tok, wanted) => found_record(
+                self.hold.read_blob(bank, &self.list, tok, &mut self.trace),
+                wanted,
+            ),
+            Call::Writes(tok, bytes) => {
+                let blob = record(bytes);
+                done(
+                    self.hold
+                        .write_blob(bank, &self.list, tok, &blob, &mut self.trace),
+                )
+            }
+            _ => Told::Blocked(self.block()?),
+        })
     }
 
     fn fill(&mut self, new: Ref) -> Told {
@@ -322,30 +347,22 @@ impl ListedHold<'_> {
         Told::Got(Acquired::Got)
     }
 
+    // Makes a call, or says why it can't be made.
+    fn answer(&mut self, call: Call) -> Result<Told, Fault> {
+        Ok(match call {
+            Call::Get(new) => Told::Got(self.get(new)?),
+            Call::Fill(new) => self.fill(new),
+            Call::Resume(refs) => Told::Resumed(self.resume(refs)?),
+            Call::Still(refs, at, word) => Told::Still(self.still(refs, at, word)?),
+            _ => return self.call_token(call),
+        })
+    }
+
     /// Makes a call. A reference that is missed by one makes the desk give up all.
     pub fn call(&mut self, call: Call) -> Told {
-        match call {
-            Call::Ask(ask) => match self.ask(ask) {
-                Some(answer) => Told::Answered(answer),
-                None => Told::Switched,
-            },
-            Call::Get(new) => match self.get(new) {
-                Ok(got) => Told::Got(got),
-                Err(fault) => Told::Refused(fault),
-            },
-            Call::Fill(new) => self.fill(new),
-            Call::Resume(refs) => match self.resume(refs) {
-                Ok(resumed) => Told::Resumed(resumed),
-                Err(fault) => Told::Refused(fault),
-            },
-            Call::Still(refs, at, word) => match self.still(refs, at, word) {
-                Ok(still) => Told::Still(still),
-                Err(fault) => Told::Refused(fault),
-            },
-            Call::Block => match self.block() {
-                Ok(blocked) => Told::Blocked(blocked),
-                Err(fault) => Told::Refused(fault),
-            },
+        match self.answer(call) {
+            Ok(told) => told,
+            Err(fault) => Told::Refused(fault),
         }
     }
 }

@@ -3,16 +3,14 @@ ghost use Rattle.std.specs.Prelude.{◌≡◌, ◌+◌, ◌<◌, ◌≤◌, [], 
 ghost use Rattle.lwkt_bank.specs.Seats.{id_of, tokens_of, cpus_of};
 ghost use Rattle.lwkt_bank_rows.specs.HeldLists.{IsHeld, IsFree};
 
-use crate::hold_desks::{
-    Call, ListedHold, Told, Watch, list_of, make_room, next_desk, next_watch, open,
-};
+use crate::hold_desks::{Call, Told, list_of, make_room, open};
+use crate::hold_plays::{Line, Played, expect};
 use lwkt_bank::{Bank, Closed, CpuSeat};
-use lwkt_base::{Answer, Ask, Cells, CpuId, Fault, Law, Mode, Ref, TokId, TokList};
+use lwkt_base::{Cells, CpuId, Fault, Law, Mode, Ref, TokId, TokList};
 use lwkt_core::Event;
-use lwkt_fixtures::{Happening, Opened, are_these, tokens};
+use lwkt_fixtures::{Happening, Opened, tokens};
 use lwkt_hold::{Acquired, Blocked, Hold, Missed, Resumed};
 use std::alloc::{AllocError, Global};
-use std::process::Abort;
 use std::thread;
 use std::thread::Threads;
 
@@ -40,132 +38,17 @@ const SECOND_EXCLUSIVE: Ref = Ref {
     mode: Mode::Exclusive,
 };
 
+const THIRD_EXCLUSIVE: Ref = Ref {
+    tok: TokId(2),
+    mode: Mode::Exclusive,
+};
+
 const FIRST_SHARED: Ref = Ref {
     tok: FIRST_TOKEN,
     mode: Mode::Shared,
 };
 
-// A call on the desk of this processor, its answer, and the words of tokens 0 and 1 after it.
-#[derive(Clone, Copy)]
-struct Line(usize, Call, Told, u64, u64);
-
-// The tokens of a bank; its processors, of which the last one only looks; calls; and the references and the events that the
-// first desk has at the end.
-struct Played {
-    tokens: &'static [Opened],
-    cpus: usize,
-    lines: &'static [Line],
-    refs: &'static [Ref],
-    events: Option<&'static [Happening]>,
-}
-
-// Why a table wasn't played to its end.
-#[derive(Debug, Drop)]
-enum Miss {
-    Fault(Fault),
-    /// There is no such seat.
-    Seat,
-    /// Another answer than was wanted, or other words.
-    Line {
-        at: usize,
-        told: Told,
-        first: u64,
-        second: u64,
-    },
-    /// Other references or events at the end.
-    End,
-}
-
-// The desks of all processors that are left, the first one first.
-fn desks_of<'a>(
-    alloc: Global,
-    bank: &'a Bank,
-    seats: &mut Vec<CpuSeat>,
-) -> Result<Vec<ListedHold<'a>>, AllocError>
-    requires { All (IsFree (id_of bank.now)) seats.old.items }
-{
-    let mut desks = Vec::new(alloc);
-    for _seat in 0..seats.len() {
-        if let Some(desk) = next_desk(alloc, bank, seats) {
-            desks.push(desk)?;
-        }
-    }
-    desks.reverse();
-    Ok(desks)
-}
-
-// Makes a call, and fails if it goes otherwise.
-fn play_line(desk: &mut ListedHold, watch: &mut Watch, at: usize, line: &Line) -> Result<(), Miss> {
-    let told = desk.call(line.1);
-    let first = watch.word(0);
-    let second = watch.word(1);
-    if told != line.2 || first != line.3 || second != line.4 {
-        return Err(Miss::Line {
-            at,
-            told,
-            first,
-            second,
-        });
-    }
-    Ok(())
-}
-
-fn play_lines(desks: &mut Vec<ListedHold>, watch: &mut Watch, lines: &[Line]) -> Result<(), Miss> {
-    for (at, line) in lines.iter().enumerate() {
-        match desks.get_mut(line.0) {
-            Some(desk) => play_line(desk, watch, at, line)?,
-            None => return Err(Miss::Seat),
-        }
-    }
-    Ok(())
-}
-
-fn has_events(desk: &ListedHold, events: Option<&[Happening]>) -> bool {
-    match events {
-        Some(want) => are_these(desk.trace(), want),
-        None => true,
-    }
-}
-
-fn is_left(desks: &[ListedHold], row: &Played) -> Result<(), Miss> {
-    let Some(desk) = desks.first() else {
-        return Err(Miss::Seat);
-    };
-    if desk.refs() != row.refs || !has_events(desk, row.events) {
-        return Err(Miss::End);
-    }
-    Ok(())
-}
-
-// Plays the calls of a row at a bank.
-fn play_at(alloc: Global, bank: &Bank, mut seats: Vec<CpuSeat>, row: &Played) -> Result<(), Miss>
-    requires { All (IsFree (id_of bank.now)) seats.items }
-{
-    let Some(mut watch) = next_watch(bank, &mut seats) else {
-        return Err(Miss::Seat);
-    };
-    let Ok(mut desks) = desks_of(alloc, bank, &mut seats) else {
-        return Err(Miss::Fault(Fault::Memory));
-    };
-    play_lines(&mut desks, &mut watch, row.lines)?;
-    is_left(&desks, row)
-}
-
-fn play_row(alloc: Global, row: &Played) -> Result<(), Miss> {
-    let Ok(specs) = tokens(alloc, row.tokens) else {
-        return Err(Miss::Fault(Fault::Memory));
-    };
-    let (bank, seats) = open(alloc, &specs, row.cpus).map_err(Miss::Fault)?;
-    play_at(alloc, &bank, seats, row)
-}
-
-// Fails where a row goes otherwise, and says where.
-fn expect(rt: &impl Abort, alloc: Global, row: &Played) {
-    let found = play_row(alloc, row);
-    assert!(rt; found.is_ok(), "{found:?}");
-}
-
-const DONE: Told = Told::Answered(Answer::Done);
+const DONE: Told = Told::Done;
 
 const GOT: Told = Told::Got(Acquired::Got);
 
@@ -176,21 +59,22 @@ const PLAIN: Opened = Opened(Law::Any, 0, 0, &[0]);
 
 const WORDS: Played = Played {
     tokens: &[PLAIN, PLAIN],
+    records: &[],
     cpus: 2,
     lines: &[
-        Line(0, Call::Ask(Ask::Get(FIRST_TOKEN)), DONE, 1, 0),
-        Line(0, Call::Ask(Ask::Get(FIRST_TOKEN)), DONE, 5, 0),
-        Line(0, Call::Ask(Ask::GetShared(FIRST_TOKEN)), DONE, 9, 0),
-        Line(0, Call::Ask(Ask::Rel(FIRST_TOKEN)), DONE, 5, 0),
-        Line(0, Call::Ask(Ask::Rel(FIRST_TOKEN)), DONE, 1, 0),
-        Line(0, Call::Ask(Ask::Rel(FIRST_TOKEN)), DONE, 0, 0),
+        Line(0, Call::Get(FIRST_EXCLUSIVE), GOT, 1, 0),
+        Line(0, Call::Get(FIRST_EXCLUSIVE), GOT, 5, 0),
+        Line(0, Call::Get(FIRST_SHARED), GOT, 9, 0),
+        Line(0, Call::Rel(FIRST_TOKEN), DONE, 5, 0),
+        Line(0, Call::Rel(FIRST_TOKEN), DONE, 1, 0),
+        Line(0, Call::Rel(FIRST_TOKEN), DONE, 0, 0),
         // References are given back in the order in which they were had, the last one first.
-        Line(0, Call::Ask(Ask::Get(FIRST_TOKEN)), DONE, 1, 0),
-        Line(0, Call::Ask(Ask::Get(SECOND_TOKEN)), DONE, 1, 1),
+        Line(0, Call::Get(FIRST_EXCLUSIVE), GOT, 1, 0),
+        Line(0, Call::Get(SECOND_EXCLUSIVE), GOT, 1, 1),
         Line(
             0,
-            Call::Ask(Ask::Rel(FIRST_TOKEN)),
-            Told::Answered(Answer::Refused(Fault::NotLast)),
+            Call::Rel(FIRST_TOKEN),
+            Told::Refused(Fault::NotLast),
             1,
             1,
         ),
@@ -209,58 +93,59 @@ const REFUSALS: Played = Played {
         Opened(Law::Any, 0, 0, &[1]),
         Opened(Law::Tally, MOST, 0, &[MOST]),
     ],
+    records: &[],
     cpus: 2,
     lines: &[
         Line(
             0,
-            Call::Ask(Ask::Read(TokId(9), 0)),
-            Told::Answered(Answer::Refused(Fault::NoToken)),
+            Call::Read(TokId(9), 0),
+            Told::Refused(Fault::NoToken),
             0,
             0,
         ),
         Line(
             0,
-            Call::Ask(Ask::Read(FIRST_TOKEN, 3)),
-            Told::Answered(Answer::Refused(Fault::NoCell)),
+            Call::Read(FIRST_TOKEN, 3),
+            Told::Refused(Fault::NoCell),
             0,
             0,
         ),
         Line(
             0,
-            Call::Ask(Ask::Read(FIRST_TOKEN, 0)),
-            Told::Answered(Answer::Refused(Fault::NotHeld)),
+            Call::Read(FIRST_TOKEN, 0),
+            Told::Refused(Fault::NotHeld),
             0,
             0,
         ),
-        Line(0, Call::Ask(Ask::GetShared(FIRST_TOKEN)), DONE, 4, 0),
+        Line(0, Call::Get(FIRST_SHARED), GOT, 4, 0),
         Line(
             0,
-            Call::Ask(Ask::Write(FIRST_TOKEN, 0, 5)),
-            Told::Answered(Answer::Refused(Fault::SharedWrite)),
+            Call::Write(FIRST_TOKEN, 0, 5),
+            Told::Refused(Fault::SharedWrite),
             4,
             0,
         ),
-        Line(0, Call::Ask(Ask::Rel(FIRST_TOKEN)), DONE, 0, 0),
-        Line(0, Call::Ask(Ask::Get(SECOND_TOKEN)), DONE, 0, 1),
+        Line(0, Call::Rel(FIRST_TOKEN), DONE, 0, 0),
+        Line(0, Call::Get(SECOND_EXCLUSIVE), GOT, 0, 1),
         Line(
             0,
-            Call::Ask(Ask::Write(SECOND_TOKEN, 0, 5)),
-            Told::Answered(Answer::Refused(Fault::TallyOnly)),
+            Call::Write(SECOND_TOKEN, 0, 5),
+            Told::Refused(Fault::TallyOnly),
             0,
             1,
         ),
         Line(
             0,
-            Call::Ask(Ask::Add(SECOND_TOKEN, 1)),
-            Told::Answered(Answer::Refused(Fault::Overflow)),
+            Call::Add(SECOND_TOKEN, 1),
+            Told::Refused(Fault::Overflow),
             0,
             1,
         ),
-        Line(0, Call::Ask(Ask::Rel(SECOND_TOKEN)), DONE, 0, 0),
+        Line(0, Call::Rel(SECOND_TOKEN), DONE, 0, 0),
         Line(
             0,
-            Call::Ask(Ask::Rel(SECOND_TOKEN)),
-            Told::Answered(Answer::Refused(Fault::NotHeld)),
+            Call::Rel(SECOND_TOKEN),
+            Told::Refused(Fault::NotHeld),
             0,
             0,
         ),
@@ -291,39 +176,28 @@ fn refusals_of_holds(rt: HostRuntime) {
     expect(&rt, rt.alloc(), &REFUSALS);
 }
 
-const TAKEN: Line = Line(0, Call::Ask(Ask::Get(FIRST_TOKEN)), DONE, 1, 0);
+const TAKEN: Line = Line(0, Call::Get(FIRST_EXCLUSIVE), GOT, 1, 0);
 
-const BROKEN: Line = Line(0, Call::Ask(Ask::Write(FIRST_TOKEN, 0, 9)), DONE, 1, 0);
+const BROKEN: Line = Line(0, Call::Write(FIRST_TOKEN, 0, 9), DONE, 1, 0);
 
-const FIRST_CELL: Line = Line(
-    0,
-    Call::Ask(Ask::Read(FIRST_TOKEN, 0)),
-    Told::Answered(Answer::Value(5)),
-    1,
-    0,
-);
+const FIRST_CELL: Line = Line(0, Call::Read(FIRST_TOKEN, 0), Told::Value(5), 1, 0);
 
-const SECOND_CELL: Line = Line(
-    0,
-    Call::Ask(Ask::Read(FIRST_TOKEN, 1)),
-    Told::Answered(Answer::Value(5)),
-    1,
-    0,
-);
+const SECOND_CELL: Line = Line(0, Call::Read(FIRST_TOKEN, 1), Told::Value(5), 1, 0);
 
-const RELEASED: Line = Line(0, Call::Ask(Ask::Rel(FIRST_TOKEN)), DONE, 0, 0);
+const RELEASED: Line = Line(0, Call::Rel(FIRST_TOKEN), DONE, 0, 0);
 
 // A section that broke its law: its cells are as at its beginning, whichever way it ends.
 const BROKEN_LAW: Played = Played {
     tokens: &[Opened(Law::Sum, 10, 0, &[5, 5])],
+    records: &[],
     cpus: 2,
     lines: &[
         TAKEN,
         BROKEN,
         Line(
             0,
-            Call::Ask(Ask::Rel(FIRST_TOKEN)),
-            Told::Answered(Answer::Refused(Fault::Broken)),
+            Call::Rel(FIRST_TOKEN),
+            Told::Refused(Fault::Broken),
             0,
             0,
         ),
@@ -362,6 +236,7 @@ const MOVED: Told = Told::Still(false);
 
 const MISSED_LIST: Played = Played {
     tokens: &[PLAIN, PLAIN],
+    records: &[],
     cpus: 3,
     lines: &[
         Line(1, Call::Get(SECOND_EXCLUSIVE), GOT, 0, 1),
@@ -384,8 +259,8 @@ const MISSED_LIST: Played = Played {
         // Trying for a token that is held changes nothing.
         Line(
             0,
-            Call::Ask(Ask::TryGet(SECOND_TOKEN)),
-            Told::Answered(Answer::Refused(Fault::Busy)),
+            Call::TryGet(SECOND_TOKEN),
+            Told::Refused(Fault::Busy),
             0,
             1,
         ),
@@ -410,6 +285,7 @@ fn a_missed_list_is_given_back(rt: HostRuntime) {
 
 const LONE_SHARERS: Played = Played {
     tokens: &[PLAIN, PLAIN],
+    records: &[],
     cpus: 5,
     lines: &[
         Line(0, Call::Get(FIRST_SHARED), GOT, 4, 0),
@@ -434,9 +310,9 @@ const LONE_SHARERS: Played = Played {
         ),
         Line(3, Call::Resume(&[SECOND_EXCLUSIVE]), ALL, 10, 1),
         Line(3, Call::Get(FIRST_SHARED), GOT, 14, 1),
-        Line(3, Call::Ask(Ask::Rel(FIRST_TOKEN)), DONE, 10, 1),
-        Line(0, Call::Ask(Ask::Rel(FIRST_TOKEN)), DONE, 6, 1),
-        Line(1, Call::Ask(Ask::Rel(FIRST_TOKEN)), DONE, 2, 1),
+        Line(3, Call::Rel(FIRST_TOKEN), DONE, 10, 1),
+        Line(0, Call::Rel(FIRST_TOKEN), DONE, 6, 1),
+        Line(1, Call::Rel(FIRST_TOKEN), DONE, 2, 1),
         Line(2, Call::Resume(&[FIRST_EXCLUSIVE]), ALL, 1, 1),
     ],
     refs: &[],
@@ -453,40 +329,35 @@ const REFUSED_MODES: Played = Played {
         Opened(Law::Any, 0, 0, &[]),
         Opened(Law::Any, 0, LAST_GENERATION, &[]),
     ],
+    records: &[],
     cpus: 2,
     lines: &[
         Line(
             0,
-            Call::Ask(Ask::Get(SECOND_TOKEN)),
-            Told::Answered(Answer::Refused(Fault::Worn)),
+            Call::Get(SECOND_EXCLUSIVE),
+            Told::Refused(Fault::Worn),
             0,
             LAST_WORD,
         ),
         Line(
             0,
-            Call::Ask(Ask::TryGet(SECOND_TOKEN)),
-            Told::Answered(Answer::Refused(Fault::Worn)),
+            Call::TryGet(SECOND_TOKEN),
+            Told::Refused(Fault::Worn),
             0,
             LAST_WORD,
         ),
+        Line(0, Call::Get(FIRST_SHARED), GOT, 4, LAST_WORD),
         Line(
             0,
-            Call::Ask(Ask::GetShared(FIRST_TOKEN)),
-            DONE,
+            Call::Get(FIRST_EXCLUSIVE),
+            Told::Refused(Fault::Upgrade),
             4,
             LAST_WORD,
         ),
         Line(
             0,
-            Call::Ask(Ask::Get(FIRST_TOKEN)),
-            Told::Answered(Answer::Refused(Fault::Upgrade)),
-            4,
-            LAST_WORD,
-        ),
-        Line(
-            0,
-            Call::Ask(Ask::TryGet(FIRST_TOKEN)),
-            Told::Answered(Answer::Refused(Fault::Upgrade)),
+            Call::TryGet(FIRST_TOKEN),
+            Told::Refused(Fault::Upgrade),
             4,
             LAST_WORD,
         ),
@@ -500,35 +371,30 @@ const LIMITS: Played = Played {
         Opened(Law::Any, 0, 0, &[]),
         Opened(Law::Any, 0, LAST_GENERATION, &[]),
     ],
+    records: &[],
     cpus: 2,
     lines: &[
-        Line(
-            0,
-            Call::Ask(Ask::GetShared(FIRST_TOKEN)),
-            DONE,
-            4,
-            LAST_WORD,
-        ),
+        Line(0, Call::Get(FIRST_SHARED), GOT, 4, LAST_WORD),
         Line(0, Call::Block, Told::Blocked(Blocked::Clean), 0, LAST_WORD),
         Line(0, Call::Fill(FIRST_EXCLUSIVE), GOT, 125, LAST_WORD),
         Line(
             0,
-            Call::Ask(Ask::Get(FIRST_TOKEN)),
-            Told::Answered(Answer::Refused(Fault::ListFull)),
+            Call::Get(FIRST_EXCLUSIVE),
+            Told::Refused(Fault::ListFull),
             125,
             LAST_WORD,
         ),
         Line(
             0,
-            Call::Ask(Ask::TryGet(SECOND_TOKEN)),
-            Told::Answered(Answer::Refused(Fault::ListFull)),
+            Call::TryGet(SECOND_TOKEN),
+            Told::Refused(Fault::ListFull),
             125,
             LAST_WORD,
         ),
         Line(
             0,
-            Call::Ask(Ask::Get(TokId(2))),
-            Told::Answered(Answer::Refused(Fault::NoToken)),
+            Call::Get(THIRD_EXCLUSIVE),
+            Told::Refused(Fault::NoToken),
             125,
             LAST_WORD,
         ),
@@ -540,6 +406,7 @@ const LIMITS: Played = Played {
 // A full list is given up as a whole.
 const LIMITS_UNDONE: Played = Played {
     tokens: &[Opened(Law::Any, 0, 0, &[])],
+    records: &[],
     cpus: 2,
     lines: &[
         Line(0, Call::Fill(FIRST_EXCLUSIVE), GOT, 125, 0),

@@ -8,12 +8,20 @@ mod count_rows;
 #[cfg(test)]
 mod desks;
 #[cfg(test)]
+mod exchange_rows;
+#[cfg(test)]
 mod full_rows;
 #[cfg(test)]
 mod hold_desks;
 #[cfg(test)]
+mod hold_plays;
+#[cfg(test)]
+mod hold_record_rows;
+#[cfg(test)]
 mod hold_rows;
 #[cfg(test)]
 mod readers;
+#[cfg(test)]
+mod record_rows;
 #[cfg(test)]
 mod refused_rows;

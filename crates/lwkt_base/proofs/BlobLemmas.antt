@@ -1,7 +1,8 @@
-use Rattle.std.specs.Prelude.{◌≡◌, ℕ, ◌-◌, ◌<◌, ◌≤◌, List, ◌++◌, length, take, replicate}
-use Rattle.std.proofs.Common.{ap, ◌∙◌, sym, arith}
+use Rattle.std.specs.Prelude.{◌≡◌, ◌↔◌, Bool, true, false, IsTrue, bytes_eq, ℕ, ◌-◌, ◌<◌, ◌≤◌, List, ◌++◌, length, take, replicate}
+use Rattle.std.proofs.Common.{true≢false, refl, ap, ◌∙◌, sym, arith}
 use Rattle.std.proofs.Math.Seq.{drop-append_seam}
 use Rattle.std.proofs.lemmas.List.{take_all, append-nil, length-append, length-replicate}
+use Rattle.std.proofs.lemmas.Slice.Eq.{bytes_eq-Decides}
 use Rattle.lwkt_base.specs.Blob.{IsPadded, padded, counted, counted_by, kept_of, blob_given_back}
 use Rattle.lwkt_base.specs.declared.blobs.Blob.TheInside.{Inside}
 
@@ -44,3 +45,12 @@ same_len bytes bytes' len len' is is' xs ys one other same = sym (len_by bytes l
 
 pub same_bytes : (bytes bytes' : List ℕ) (len len' : ℕ) → IsPadded bytes len → IsPadded bytes' len' → (xs ys : List ℕ) → counted bytes len ≡ xs → counted bytes' len' ≡ ys → xs ≡ ys → bytes ≡ bytes'
 same_bytes bytes bytes' len len' is is' xs ys one other same = sym (bytes_by bytes len is xs one) ∙ ap (λ (zs : List ℕ). padded (take 64 zs)) same ∙ bytes_by bytes' len' is' ys other
+
+untrue : (b : Bool) → (b ≡ true → ⊥) → false ≡ b
+untrue true isnt = absurd (isnt refl)
+untrue false isnt = refl
+
+-- a test that holds exactly of the same bytes is the one byte by byte
+pub tested_bytes : (b : Bool) (xs ys : List ℕ) → IsTrue b ↔ (xs ≡ ys) → b ≡ bytes_eq xs ys
+tested_bytes true xs ys is = sym ((bytes_eq-Decides xs ys).1 (is.0 refl))
+tested_bytes false xs ys is = untrue (bytes_eq xs ys) (λ same. true≢false (sym (is.1 ((bytes_eq-Decides xs ys).0 same))))

@@ -3,6 +3,7 @@ pub mod Law
 pub mod Refs
 pub mod Row
 pub mod Blob
+pub mod Hex
 pub mod Holding
 pub mod TokenWord
 pub mod MessageWord

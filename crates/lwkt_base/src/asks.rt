@@ -1,3 +1,4 @@
+use crate::blobs::Blob;
 use crate::faults::Fault;
 use crate::names::{MsgId, ThreadId, TokId};
 use crate::records::{Call, Flags, Rec};
@@ -21,6 +22,10 @@ pub enum Ask {
     Write(TokId, u8, u64),
     /// An addition to the one cell of a Tally token that is held exclusively.
     Add(TokId, u64),
+    /// The record of a token that is held exclusively.
+    ReadBlob(TokId),
+    /// A record for a token that is held exclusively.
+    WriteBlob(TokId, Blob),
     /// A message of the thread's own sent to a thread's port, with what it asks for and what its origin may do with it.
     Send(MsgId, ThreadId, Call, Flags),
     /// The same, blocking until it is replied to.
@@ -61,6 +66,8 @@ pub enum Answer {
     Done,
     /// The value that was read; of a question whether a message is to be aborted 0 or 1.
     Value(u64),
+    /// The record that was read.
+    Bytes(Blob),
     /// The message that was taken back before it was taken, and its record.
     Dropped(MsgId, Rec),
     /// The item that the port had.

@@ -1,4 +1,4 @@
-ghost use Rattle.std.specs.Prelude.{◌≡◌, ◌↔◌, IsTrue, Option, option_map, ◌==◌, length, take, replicate, ◌++◌, ◌-◌, ◌≤◌, ◌<◌};
+ghost use Rattle.std.specs.Prelude.{◌≡◌, ◌↔◌, IsTrue, bytes_eq, Option, option_map, ◌==◌, length, take, replicate, ◌++◌, ◌-◌, ◌≤◌, ◌<◌};
 
 use std::marker::Model;
 
@@ -110,6 +110,14 @@ pub fn are_same(one: &Option<Blob>, other: &Option<Blob>) -> bool
         (Some(one), Some(other)) => one.is_same(other),
         _ => false,
     }
+}
+
+/// Whether two records have the same bytes, as a test.
+#[tactic(auto, using(crate::proofs::BlobLemmas::tested_bytes))]
+pub fn same_bytes(one: &Blob, other: &Blob) -> bool
+    ensures { result ≡ bytes_eq one.now other.now }
+{
+    one.is_same(other)
 }
 
 /// The length of a record, if there is one.

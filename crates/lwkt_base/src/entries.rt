@@ -1,3 +1,4 @@
+use crate::blobs::Blob;
 use crate::names::MsgId;
 use crate::records::Call;
 
@@ -6,6 +7,8 @@ use crate::records::Call;
 pub enum Entry {
     /// The value of a cell.
     Value(u64),
+    /// The record of a token.
+    Bytes(Blob),
     /// Whether a request that its port had is to be aborted.
     Aborted(bool),
     /// A request that its port had: the message and what it asks for.

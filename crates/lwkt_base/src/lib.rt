@@ -6,6 +6,7 @@ pub mod blobs;
 pub mod cells;
 pub mod entries;
 pub mod faults;
+pub mod hexes;
 pub mod holdings;
 pub mod laws;
 pub mod list_laws;

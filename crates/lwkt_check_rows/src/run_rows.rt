@@ -27,6 +27,20 @@ const SECOND: ThreadId = ThreadId {
 
 const CALL: Call = Call { arg: 9, op: 5 };
 
+const GET: Ask = Ask::Get(TokId(0));
+
+const REL: Ask = Ask::Rel(TokId(0));
+
+const LOOK: Ask = Ask::Read(TokId(0), 0);
+
+const ADD: Ask = Ask::Add(TokId(0), 5);
+
+const ONE: Ask = Ask::Write(TokId(0), 0, 1);
+
+const TWO: Ask = Ask::Write(TokId(0), 0, 2);
+
+const REPLY: Ask = Ask::Reply(MESSAGE, 7, 42);
+
 fn take(cpu: u8, tok: u8) -> Event {
     Event::Take {
         cpu: CpuId(cpu),
@@ -76,20 +90,18 @@ fn read(cpu: u8, value: u64) -> Event {
 
 // One thread adds 5 to a tally of 10.
 fn tally_add(alloc: Global) -> Result<Sheet, AllocError> {
-    let add = Ask::Add(TokId(0), 5);
-    let (get, rel) = (Ask::Get(TokId(0)), Ask::Rel(TokId(0)));
     let mut sheet = Sheet::new(alloc, 1, 50);
     sheet.token(alloc, Law::Tally, 10, 10)?;
     sheet.thread(
         alloc,
         first_of(0),
-        &[get, add, rel],
+        &[GET, ADD, REL],
         ThreadState::Exited,
         &[],
     )?;
-    sheet.asks(first_of(0), get, DONE, &[take(0, 0)])?;
-    sheet.asks(first_of(0), add, DONE, &[write(0, 15)])?;
-    sheet.asks(first_of(0), rel, DONE, &[give_written(0, 0, 10, 15)])?;
+    sheet.asks(first_of(0), GET, DONE, &[take(0, 0)])?;
+    sheet.asks(first_of(0), ADD, DONE, &[write(0, 15)])?;
+    sheet.asks(first_of(0), REL, DONE, &[give_written(0, 0, 10, 15)])?;
     sheet.asks(first_of(0), Ask::Exit, None, &[])?;
     sheet.idles(&[])?;
     Ok(sheet)
@@ -154,10 +166,9 @@ fn crossed_begins(sheet: &mut Sheet) -> Result<(), AllocError> {
 fn crossed_ends(sheet: &mut Sheet) -> Result<(), AllocError> {
     let seven = Some(Answer::Value(7));
     let eight = Some(Answer::Value(8));
-    let look = Ask::Read(TokId(0), 0);
     sheet.asks(
         first_of(0),
-        look,
+        LOOK,
         seven,
         &[take(0, 0), take(0, 1), read(0, 7)],
     )?;
@@ -174,7 +185,7 @@ fn crossed_ends(sheet: &mut Sheet) -> Result<(), AllocError> {
     sheet.idles(&[])?;
     sheet.asks(
         first_of(0),
-        look,
+        LOOK,
         eight,
         &[take(0, 0), take(0, 1), read(0, 8)],
     )?;
@@ -204,18 +215,16 @@ fn call_and_reply(alloc: Global) -> Result<Sheet, AllocError> {
         round: 0,
         origin: first_of(0),
     })?;
-    let call = Ask::Do(MESSAGE, first_of(1), CALL);
-    let reply = Ask::Reply(MESSAGE, 7, 42);
     let log = [Entry::Reply(MESSAGE, 7, 42), Entry::NoMessage];
     sheet.thread(
         alloc,
         first_of(0),
-        &[call, Ask::GetPort],
+        &[Ask::Do(MESSAGE, first_of(1), CALL), Ask::GetPort],
         ThreadState::Exited,
         &log,
     )?;
     let log = [Entry::Request(MESSAGE, CALL)];
-    let steps = [Ask::WaitPort, reply];
+    let steps = [Ask::WaitPort, REPLY];
     sheet.thread(alloc, first_of(1), &steps, ThreadState::Exited, &log)?;
     let (cpu, msg) = (CpuId(0), MESSAGE);
     let (to, round) = (CpuId(1), 1);
@@ -234,10 +243,11 @@ fn call_and_reply(alloc: Global) -> Result<Sheet, AllocError> {
     let reaped = Event::Reap { cpu, msg };
     let answer = Some(Answer::Got(Item::Answered(MESSAGE, 7, 42)));
     let request = Some(Answer::Got(Item::Request(MESSAGE, CALL)));
+    let call = Ask::Do(MESSAGE, first_of(1), CALL);
     sheet.asks(first_of(0), call, answer, &[sent])?;
     sheet.asks(first_of(1), Ask::WaitPort, request, &[taken])?;
     sheet.idles(&[])?;
-    sheet.asks(first_of(1), reply, DONE, &[replied])?;
+    sheet.asks(first_of(1), REPLY, DONE, &[replied])?;
     sheet.asks(first_of(0), Ask::GetPort, Some(Answer::NoMsg), &[reaped])?;
     sheet.asks(first_of(1), Ask::Exit, None, &[])?;
     sheet.asks(first_of(0), Ask::Exit, None, &[])?;
@@ -249,15 +259,9 @@ fn call_and_reply(alloc: Global) -> Result<Sheet, AllocError> {
 
 // Two threads of one processor take turns with one token.
 fn two_threads(alloc: Global) -> Result<Sheet, AllocError> {
-    let (get, rel, look) = (
-        Ask::Get(TokId(0)),
-        Ask::Rel(TokId(0)),
-        Ask::Read(TokId(0), 0),
-    );
-    let (one, two) = (Ask::Write(TokId(0), 0, 1), Ask::Write(TokId(0), 0, 2));
     let mut sheet = Sheet::new(alloc, 1, 50);
     sheet.token(alloc, Law::Any, 0, 0)?;
-    let steps = [get, one, Ask::Yield, look, rel];
+    let steps = [GET, ONE, Ask::Yield, LOOK, REL];
     sheet.thread(
         alloc,
         first_of(0),
@@ -265,7 +269,7 @@ fn two_threads(alloc: Global) -> Result<Sheet, AllocError> {
         ThreadState::Exited,
         &[Entry::Value(2)],
     )?;
-    let steps = [get, look, two, rel];
+    let steps = [GET, LOOK, TWO, REL];
     sheet.thread(
         alloc,
         SECOND,
@@ -273,18 +277,18 @@ fn two_threads(alloc: Global) -> Result<Sheet, AllocError> {
         ThreadState::Exited,
         &[Entry::Value(1)],
     )?;
-    sheet.asks(first_of(0), get, DONE, &[take(0, 0)])?;
-    sheet.asks(first_of(0), one, DONE, &[write(0, 1)])?;
+    sheet.asks(first_of(0), GET, DONE, &[take(0, 0)])?;
+    sheet.asks(first_of(0), ONE, DONE, &[write(0, 1)])?;
     let written = give_written(0, 0, 0, 1);
     sheet.asks(first_of(0), Ask::Yield, DONE, &[written])?;
-    sheet.asks(SECOND, get, DONE, &[take(0, 0)])?;
-    sheet.asks(SECOND, look, Some(Answer::Value(1)), &[read(0, 1)])?;
-    sheet.asks(SECOND, two, DONE, &[write(0, 2)])?;
-    sheet.asks(SECOND, rel, DONE, &[give_written(0, 1, 1, 2)])?;
+    sheet.asks(SECOND, GET, DONE, &[take(0, 0)])?;
+    sheet.asks(SECOND, LOOK, Some(Answer::Value(1)), &[read(0, 1)])?;
+    sheet.asks(SECOND, TWO, DONE, &[write(0, 2)])?;
+    sheet.asks(SECOND, REL, DONE, &[give_written(0, 1, 1, 2)])?;
     sheet.asks(SECOND, Ask::Exit, None, &[])?;
     let seen = Some(Answer::Value(2));
-    sheet.asks(first_of(0), look, seen, &[take(0, 0), read(0, 2)])?;
-    sheet.asks(first_of(0), rel, DONE, &[give_clean(0, 0)])?;
+    sheet.asks(first_of(0), LOOK, seen, &[take(0, 0), read(0, 2)])?;
+    sheet.asks(first_of(0), REL, DONE, &[give_clean(0, 0)])?;
     sheet.asks(first_of(0), Ask::Exit, None, &[])?;
     sheet.idles(&[])?;
     Ok(sheet)

@@ -50,6 +50,7 @@ fn closing(alloc: Global, tokens: &[At]) -> Result<Closing, AllocError> {
             generation: token.0,
             cells: Cells::from_vec(Vec::from_slice(alloc, token.1)?),
             tallies: None,
+            blob: None,
         })?;
     }
     Ok(Closing {

@@ -1,7 +1,7 @@
 use Rattle.std.proofs.Common.{◌≡◌, ℕ, ◌<◌, ◌≤◌, eqb, List, [], ◌++◌, length, take, drop, set, get_or, refl, ap, sym, ◌∙◌, subst, arith, inl, inr, Option, Some, None, true}
-use Rattle.std.specs.Prelude.{◌⊎◌, Vec, vec_len, vec_capacity, All, IsSomeAnd, IfSome, slice_get}
+use Rattle.std.specs.Prelude.{Vec, vec_len, vec_capacity, All, IsSomeAnd, IfSome, slice_get}
 use Rattle.std.specs.declared.alloc.Global.{Global}
-use Rattle.std.proofs.lemmas.Bool.{cases_lt, eqb-true, eqb-false, cases_Bool, false≢true}
+use Rattle.std.proofs.lemmas.Bool.{eqb-true, eqb-false, cases_Bool, false≢true}
 use Rattle.std.proofs.lemmas.List.{take_at, length-set}
 use Rattle.std.proofs.lemmas.List.Elements.{All-nil}
 use Rattle.std.proofs.lemmas.Option.{slice_get-get_or, slice_get_within}
@@ -23,12 +23,12 @@ use Rattle.lwkt_cpu.specs.declared.phases.Phase.{Phase}
 use Rattle.lwkt_cpu.specs.declared.phases.Phase.TheVariants.{Live, AwaitsReply, Faulted}
 use Rattle.lwkt_cpu.specs.declared.threads.BusyAt.{BusyAt}
 use Rattle.lwkt_cpu.specs.declared.threads.Thread.{Thread}
-use Rattle.lwkt_cpu.specs.Processors.{KeepsBusyWord, IsSettled, HoldsFor, IsAtRest, Awaits, AllAwait, Processor, processor_of, has_ended}
-use Rattle.lwkt_cpu.specs.Searches.{ComesBefore, Finds, IsOfOne}
+use Rattle.lwkt_cpu.specs.Processors.{IsSettled, HoldsFor, IsAtRest, Awaits, AllAwait, Processor, processor_of, has_ended}
+use Rattle.lwkt_cpu.specs.Searches.{Point, point, Finds, IsOfOne}
 use Rattle.lwkt_cpu.specs.Turning.{cursor_after, Chooses, IsMailed, IsOfThread}
 use Rattle.lwkt_cpu.specs.Waking.{AreWoken}
 use Rattle.lwkt_cpu.proofs.PlaceMoves.{get_set_same, get_set_other, some_same}
-use Rattle.lwkt_cpu.proofs.SearchMoves.{Keeps, searches_keeps, kept_one, is_in_or_not, front_of_one}
+use Rattle.lwkt_cpu.proofs.SearchMoves.{Keeps, finds_keeps, finds_long, kept_one, front_of_one, up_at}
 
 -- a vector whose elements were lent as a slice
 pub refilled : (news items : List Thread) (n : ℕ) → length news ≡ n → take n (news ++ drop (length news) items) ≡ news
@@ -43,10 +43,6 @@ settled_later a b t same s = record {
   busy = s.busy;
 }
 
--- a settled thread of which another refusal is kept
-settled_busy : (s : CpuSeat) (t : Thread) (busy : Option BusyAt) → KeepsBusyWord (record t { busy = busy }) → IsSettled s t → IsSettled s (record t { busy = busy })
-settled_busy s t busy fits x = record { lawful = x.lawful; there = x.there; ended = x.ended; busy = fits }
-
 -- an empty list
 pub lawful_none : IsLawful []
 lawful_none = λ tok is. cc
@@ -59,55 +55,30 @@ settled_none s t none free = record {
   busy = let F : Option BusyAt → Type 0 = λ o. IfSome o (λ r. IsRefusing t.list r.at r.word) in subst F (sym free) tt;
 }
 
-comes_or_not : (cursor count place k : ℕ) → ComesBefore cursor count place k ⊎ ¬ ComesBefore cursor count place k
-comes_or_not cursor count place k = elim (cases_lt place cursor) [
-  | inl round ↦ elim (is_in_or_not cursor count k) [
-    | inl early ↦ inl (inr (round, inl early))
-    | inr other ↦ elim (is_in_or_not 0 place k) [
-      | inl late ↦ inl (inr (round, inr late))
-      | inr none ↦ inr (λ is. elim is [ inl one ↦ absurd (omega (arith, one.0, round)) | inr two ↦ elim two.1 [ inl e ↦ absurd (other e) | inr l ↦ absurd (none l) ] ])
-    ]
-  ]
-  | inr ahead ↦ elim (is_in_or_not cursor place k) [
-    | inl is ↦ inl (inl (ahead, is))
-    | inr other ↦ inr (λ is. elim is [ inl one ↦ absurd (other one.1) | inr two ↦ absurd (omega (arith, two.0, ahead)) ])
-  ]
-]
-
-below_or_not : (n k : ℕ) → (k < n) ⊎ ¬ (k < n)
-below_or_not n k = elim (cases_lt k n) [ inl is ↦ inl is | inr not ↦ inr (λ is. absurd (omega (arith, is, not))) ]
-
-pub finds_keeps : (a b : CpuSeat) (olds news : List Thread) (cursor : ℕ) (found : Option ℕ) → Finds a b olds news cursor found → Keeps olds news
-finds_keeps a b olds news cursor (Some place) f = searches_keeps a b olds news (ComesBefore cursor (length olds) place) (comes_or_not cursor (length olds) place) f.2
-finds_keeps a b olds news cursor None f = searches_keeps a b olds news (λ k. k < length olds) (below_or_not (length olds)) f.1
-
-pub finds_many : (a b : CpuSeat) (olds news : List Thread) (cursor : ℕ) (found : Option ℕ) → Finds a b olds news cursor found → length news ≡ length olds
-finds_many a b olds news cursor (Some place) f = f.2.as_many
-finds_many a b olds news cursor None f = f.1.as_many
-
-pub found_below : (a b : CpuSeat) (olds news : List Thread) (cursor : ℕ) (found : Option ℕ) → length olds ≤ 16 → Finds a b olds news cursor found → IfSome found (λ place. place < 16)
-found_below a b olds news cursor (Some place) few f = omega (arith, few, f.0)
-found_below a b olds news cursor None few f = tt
+pub found_below : (cursor : ℕ) (x y : Point) (found : Option ℕ) → length x.threads ≤ 16 → Finds cursor x y found → IfSome found (λ place. place < 16)
+found_below cursor x y (Some place) few f = omega (arith, few, f.1.1.1.0)
+found_below cursor x y None few f = tt
 
 kept_settled : (a b : CpuSeat) (olds news : List Thread) → bank_of b ≡ bank_of a → Keeps olds news → ((k : ℕ) (t : Thread) → slice_get olds k ≡ Some t → IsSettled a t) → (k : ℕ) (t : Thread) → slice_get news k ≡ Some t → IsSettled b t
 kept_settled a b olds news same keeps settled k t at =
     let x = keeps k t at in
-    let F : Thread → Type 0 = λ y. IsSettled b y in
-    elim x.1.1 [
-      | inl still ↦
-          let old = settled_later a b x.0 same (settled k x.0 x.1.0) in
-          let G : Thread → Type 0 = λ y. KeepsBusyWord y in
-          subst F (sym still.1.0) (settled_busy b x.0 still.0 (subst G still.1.0 (still.1.1 old.busy)) old)
-      | inr ended ↦ settled_none b t (ap (λ (y : Thread). y.list) ended) (ap (λ (y : Thread). y.busy) ended)
+    let old = settled_later a b x.0 same (settled k x.0 x.1.0) in
+    let F : List Ref → Type 0 = λ refs. IsLawful refs in
+    let G : List Ref → Type 0 = λ refs. All (λ r. r.tok.0 < tokens_of (bank_of b)) refs in
+    elim x.1.1.0 [
+      | inl still ↦ record { lawful = subst F (sym still.0) old.lawful; there = subst G (sym still.0) old.there; ended = λ is. still.0 ∙ old.ended (ap has_ended (sym still.1) ∙ is); busy = x.1.1.1 old.busy }
+      | inr ended ↦ record { lawful = subst F (sym ended.0) lawful_none; there = subst G (sym ended.0) (All-nil (λ (r : Ref). r.tok.0 < tokens_of (bank_of b))); ended = λ is. ended.0; busy = x.1.1.1 old.busy }
     ]
 
-within_after : (a b : CpuSeat) (olds news : List Thread) (cursor : ℕ) (found : Option ℕ) → cursor ≤ length olds → Finds a b olds news cursor found → cursor_after cursor found ≤ length news
-within_after a b olds news cursor (Some place) within f = omega (arith, f.0, f.2.as_many)
-within_after a b olds news cursor None within f = omega (arith, within, f.1.as_many)
+within_after : (cursor : ℕ) (x y : Point) (found : Option ℕ) → cursor ≤ length x.threads → Finds cursor x y found → cursor_after cursor found ≤ length y.threads
+within_after cursor x y (Some place) within f = omega (arith, f.1.1.1.0, finds_long cursor x y (Some place) f)
+within_after cursor x y None within f = omega (arith, within, finds_long cursor x y None f)
 
-held_after : (a b : CpuSeat) (olds news : List Thread) (cursor : ℕ) (found : Option ℕ) → Finds a b olds news cursor found → HoldsFor b news found
-held_after a b olds news cursor (Some place) f = f.1
-held_after a b olds news cursor None f = f.0
+held_after : (cursor : ℕ) (x y : Point) (found : Option ℕ) → Finds cursor x y found → HoldsFor y.seat y.threads found
+held_after cursor x y (Some place) f =
+    let up = f.1.1.3 in
+    up_at y.seat y.threads place up.found (ap (λ (xs : List Thread). slice_get xs place) up.same ∙ up.at) up.live up.held.1.1.resumes
+held_after cursor x y None f = f.1
 
 -- a thread that has ended waits for nothing
 pub ended_awaits : (n : ℕ) (t : Thread) (p : Phase) → has_ended p ≡ true → t.phase ≡ p → Awaits n t
@@ -120,24 +91,27 @@ live_awaits n t is = λ msg waits. let e : ◌≡◌ {A = Phase} Live (AwaitsRep
 kept_awaits : (n : ℕ) (olds news : List Thread) → Keeps olds news → AllAwait n olds → AllAwait n news
 kept_awaits n olds news keeps all = λ k t at.
     let x = keeps k t at in
-    let F : Thread → Type 0 = λ y. Awaits n y in
-    elim x.1.1 [
-      | inl still ↦ subst F (sym still.1.0) (all k x.0 x.1.0)
-      | inr ended ↦ ended_awaits n t (Faulted WornOut) refl (ap (λ (y : Thread). y.phase) ended)
+    elim x.1.1.0 [
+      | inl still ↦ λ msg waits. all k x.0 x.1.0 msg (sym still.1 ∙ waits)
+      | inr ended ↦ ended_awaits n t (Faulted WornOut) refl ended.1
     ]
 
 -- a processor after a search is at rest
-pub rest_found : {B : Type 0} (a b : CpuSeat) (post : Post) (bodies : List B) (olds news : List Thread) (running : Option ℕ) (cursor next : ℕ) (found : Option ℕ) → IsAtRest (processor_of a post bodies olds running cursor) → bank_of b ≡ bank_of a → b.cpu ≡ a.cpu → Finds a b olds news cursor found → next ≡ cursor_after cursor found → IsAtRest (processor_of b post bodies news found next)
-rest_found a b post bodies olds news running cursor next found rest same cpu f is = record {
-  few = omega (arith, rest.few, finds_many a b olds news cursor found f);
-  as_many = rest.as_many ∙ sym (finds_many a b olds news cursor found f);
-  mine = rest.mine ∙ sym cpu;
-  ported = rest.ported ∙ sym (finds_many a b olds news cursor found f);
-  awaits = kept_awaits (messages_of post.seat) olds news (finds_keeps a b olds news cursor found f) rest.awaits;
-  within = omega (arith, is, within_after a b olds news cursor found rest.within f);
-  settled = kept_settled a b olds news same (finds_keeps a b olds news cursor found f) rest.settled;
-  held = held_after a b olds news cursor found f;
-}
+pub rest_found : {B : Type 0} (a b : CpuSeat) (post : Post) (bodies : List B) (olds news : List Thread) (t u : Vec Event Global) (running : Option ℕ) (cursor next : ℕ) (found : Option ℕ) → IsAtRest (processor_of a post bodies olds running cursor) → bank_of b ≡ bank_of a → b.cpu ≡ a.cpu → Finds cursor (point a olds t) (point b news u) found → next ≡ cursor_after cursor found → IsAtRest (processor_of b post bodies news found next)
+rest_found a b post bodies olds news t u running cursor next found rest same cpu f is =
+    let x = point a olds t in
+    let y = point b news u in
+    let long : length news ≡ length olds = finds_long cursor x y found f in
+    record {
+      few = omega (arith, rest.few, long);
+      as_many = rest.as_many ∙ sym long;
+      mine = rest.mine ∙ sym cpu;
+      ported = rest.ported ∙ sym long;
+      awaits = kept_awaits (messages_of post.seat) olds news (finds_keeps cursor x y found f) rest.awaits;
+      within = omega (arith, is, within_after cursor x y found rest.within f);
+      settled = kept_settled a b olds news same (finds_keeps cursor x y found f) rest.settled;
+      held = held_after cursor x y found f;
+    }
 
 -- the thread of a place
 pub thread_at : {A : Type 0} (xs : List A) (place : ℕ) (x : A) → place < length xs → x ≡ get_or xs place x → slice_get xs place ≡ Some x
@@ -191,23 +165,23 @@ rest_polled a b p q bodies threads running next cursor place body now rest withi
 }
 
 -- the fronts of one thread's list, before and after its ask
-pub ran_polled : (a b : CpuSeat) (t u : Vec Event Global) (threads : List Thread) (place : ℕ) (before now : Thread) → slice_get threads place ≡ Some before → place < length threads → Ran (IsBetween before.list now.list) 288 a b t u → Ran (IsOfThread threads (set threads place now)) 288 a b t u
+pub ran_polled : (a b : CpuSeat) (t u : Vec Event Global) (threads : List Thread) (place : ℕ) (before now : Thread) → slice_get threads place ≡ Some before → place < length threads → Ran (IsBetween before.list now.list) 320 a b t u → Ran (IsOfThread threads (set threads place now)) 320 a b t u
 ran_polled a b t u threads place before now at within ran =
-    ran_weaker (IsBetween before.list now.list) (IsOfThread threads (set threads place now)) 288 288 a b t u
+    ran_weaker (IsBetween before.list now.list) (IsOfThread threads (set threads place now)) 320 320 a b t u
     (λ h p. elim p [ inl front ↦ inr (inl (front_of_one threads place before h at front)) | inr front ↦ inr (inr (front_of_one (set threads place now) place now h (get_set_same threads place now within) front)) ])
     (omega arith) ran
 
 -- a run over the threads and the seat of an equal processor
-pub ran_over : (olds threads news : List Thread) (s a b : CpuSeat) (t u : Vec Event Global) → olds ≡ threads → s ≡ a → Ran (IsOfThread olds news) 288 s b t u → Ran (IsOfThread threads news) 288 a b t u
+pub ran_over : (olds threads news : List Thread) (s a b : CpuSeat) (t u : Vec Event Global) → olds ≡ threads → s ≡ a → Ran (IsOfThread olds news) 320 s b t u → Ran (IsOfThread threads news) 320 a b t u
 ran_over olds threads news s a b t u same here ran =
-    let F : List Thread → Type 0 = λ xs. Ran (IsOfThread xs news) 288 s b t u in
-    let G : CpuSeat → Type 0 = λ x. Ran (IsOfThread threads news) 288 x b t u in
+    let F : List Thread → Type 0 = λ xs. Ran (IsOfThread xs news) 320 s b t u in
+    let G : CpuSeat → Type 0 = λ x. Ran (IsOfThread threads news) 320 x b t u in
     subst G here (subst F same ran)
 
 -- a front of a list after the choice of a thread is one of a list before it
 pub chosen_one : {B : Type 0} (old mid : Processor B) (t v : Vec Event Global) (running found : Option ℕ) → Chooses old mid t v running found → (h : Holding) → IsOfOne mid.threads h → IsOfOne old.threads h
 chosen_one {B} old mid t v (Some place) found c h one = let F : List Thread → Type 0 = λ xs. IsOfOne xs h in subst F (ap (λ (p : Processor B). p.threads) c.1) one
-chosen_one old mid t v None found c h one = kept_one old.threads mid.threads h (finds_keeps old.seat mid.seat old.threads mid.threads old.cursor found c.0) one
+chosen_one old mid t v None found c h one = kept_one old.threads mid.threads h (finds_keeps old.cursor (point old.seat old.threads t) (point mid.seat mid.threads v) found c.0) one
 
 -- a front of a list after the threads were looked after is one of a list before it
 one_at : (o : Option Thread) (P : List Ref → Type 0) → IsSomeAnd o (λ t. P t.list) → (t : Thread) × ((o ≡ Some t) × P t.list)
@@ -222,16 +196,16 @@ woken_one olds mids h woken one =
     front_of_one olds one.0 x.0 h x.1.0 (subst F (elim x.1.1 [ inl still ↦ ap (λ (t : Thread). t.list) still | inr ready ↦ ready.1 ]) y.1.1)
 
 -- the events of a whole turn
-pub turn_ran : {B : Type 0} (old met mid new : Processor B) (t r w v u : Vec Event Global) (running found : Option ℕ) → r.items ≡ t.items → vec_len r ≡ vec_len t → vec_capacity t ≤ vec_capacity r → AreWoken old.threads met.threads → Chooses met mid w v running found → Ran (IsMailed old.threads) 2304 old.seat met.seat r w → Ran (IsOfOne met.threads) 1024 met.seat mid.seat w v → Ran (IsOfThread mid.threads new.threads) 288 mid.seat new.seat v u → Ran (IsOfThread old.threads new.threads) 4096 old.seat new.seat t u
+pub turn_ran : {B : Type 0} (old met mid new : Processor B) (t r w v u : Vec Event Global) (running found : Option ℕ) → r.items ≡ t.items → vec_len r ≡ vec_len t → vec_capacity t ≤ vec_capacity r → AreWoken old.threads met.threads → Chooses met mid w v running found → Ran (IsMailed old.threads) 2304 old.seat met.seat r w → Ran (IsOfOne met.threads) 1024 met.seat mid.seat w v → Ran (IsOfThread mid.threads new.threads) 320 mid.seat new.seat v u → Ran (IsOfThread old.threads new.threads) 4096 old.seat new.seat t u
 turn_ran old met mid new t r w v u running found same long wider woken c mail first second =
     let P : Holding → Type 0 = IsOfThread old.threads new.threads in
     ran_with_room P 4096 old.seat new.seat t r u same long wider
-    (ran_weaker P P 3616 4096 old.seat new.seat r u (λ h p. p) (omega arith)
-    (ran_then P 2304 1312 old.seat met.seat new.seat r w u
+    (ran_weaker P P 3648 4096 old.seat new.seat r u (λ h p. p) (omega arith)
+    (ran_then P 2304 1344 old.seat met.seat new.seat r w u
     (ran_weaker (IsMailed old.threads) P 2304 2304 old.seat met.seat r w (λ h p. elim p [ inl none ↦ inl none | inr one ↦ inr (inl one) ]) (omega arith) mail)
-    (ran_then P 1024 288 met.seat mid.seat new.seat w v u
+    (ran_then P 1024 320 met.seat mid.seat new.seat w v u
     (ran_weaker (IsOfOne met.threads) P 1024 1024 met.seat mid.seat w v (λ h p. inr (inl (woken_one old.threads met.threads h woken p))) (omega arith) first)
-    (ran_weaker (IsOfThread mid.threads new.threads) P 288 288 mid.seat new.seat v u (λ h p. elim p [ inl none ↦ inl none | inr some ↦ elim some [ inl one ↦ inr (inl (woken_one old.threads met.threads h woken (chosen_one met mid w v running found c h one))) | inr one ↦ inr (inr one) ] ]) (omega arith) second))))
+    (ran_weaker (IsOfThread mid.threads new.threads) P 320 320 mid.seat new.seat v u (λ h p. elim p [ inl none ↦ inl none | inr some ↦ elim some [ inl one ↦ inr (inl (woken_one old.threads met.threads h woken (chosen_one met mid w v running found c h one))) | inr one ↦ inr (inr one) ] ]) (omega arith) second))))
 
 pub search_ran : {B : Type 0} (old met new : Processor B) (t r w u : Vec Event Global) → r.items ≡ t.items → vec_len r ≡ vec_len t → vec_capacity t ≤ vec_capacity r → AreWoken old.threads met.threads → Ran (IsMailed old.threads) 2304 old.seat met.seat r w → Ran (IsOfOne met.threads) 1024 met.seat new.seat w u → Ran (IsOfThread old.threads new.threads) 4096 old.seat new.seat t u
 search_ran old met new t r w u same long wider woken mail first =

@@ -138,8 +138,8 @@ rest_halted a b post bodies threads running cursor place now rest within same cp
   held = empty;
 }
 
-pub ran_halted : (a b : CpuSeat) (t u : Vec Event Global) (threads : List Thread) (place : ℕ) (before : Thread) → slice_get threads place ≡ Some before → Ran (IsFront before.list) 160 a b t u → Ran (IsOfOne threads) 162 a b t u
-ran_halted a b t u threads place before at ran = ran_weaker (IsFront before.list) (IsOfOne threads) 160 162 a b t u (λ h front. front_of_one threads place before h at front) (omega arith) ran
+pub ran_halted : (a b : CpuSeat) (t u : Vec Event Global) (threads : List Thread) (place : ℕ) (before : Thread) → slice_get threads place ≡ Some before → Ran (IsFront before.list) 192 a b t u → Ran (IsOfOne threads) 194 a b t u
+ran_halted a b t u threads place before at ran = ran_weaker (IsFront before.list) (IsOfOne threads) 192 194 a b t u (λ h front. front_of_one threads place before h at front) (omega arith) ran
 
 -- where every thread has ended nothing is held
 live_ended : (p : Phase) → p ≡ Live → has_ended p ≡ true → ⊥

@@ -1,15 +1,27 @@
-use Rattle.std.specs.Prelude.{◌≡◌, ◌≢◌, ◌⊎◌, ℕ, ◌<◌, ◌≤◌, List, [], ◌∷◌, ◌++◌, length, IsSomeAnd, Option, Some, None, slice_get}
+-- What a search for a thread to run is: one thread looked at after another, from the cursor on and round once, each with what the
+-- seat does in it and the events that the trace grows by.
+use Rattle.std.specs.Prelude.{◌≡◌, ◌≢◌, ◌⊎◌, ℕ, ◌+◌, ◌-◌, ◌<◌, ◌≤◌, true, false, List, [], ◌++◌, length, take, IsSomeAnd, Option, Some, None, Vec, slice_get, slice_set}
+use Rattle.std.specs.declared.alloc.Global.{Global}
+use Rattle.lwkt_base.specs.declared.names.CpuId.{CpuId}
 use Rattle.lwkt_base.specs.declared.names.Ref.{Ref}
 use Rattle.lwkt_base.specs.declared.faults.Fault.TheVariants.{Worn as WornOut}
-use Rattle.lwkt_base.specs.Holding.{Holding, holding_of, holds_nothing}
+use Rattle.lwkt_base.specs.Holding.{Holding, holds_nothing}
+use Rattle.lwkt_core.specs.declared.events.Event.{Event}
 use Rattle.lwkt_bank.specs.declared.seats.CpuSeat.{CpuSeat}
-use Rattle.lwkt_core.specs.declared.seats.WordStep.{WordStep}
-use Rattle.lwkt_bank.specs.Seats.{steps_of, holding}
-use Rattle.lwkt_bank.specs.Views.{load}
+use Rattle.lwkt_bank.specs.Seats.{holding}
 use Rattle.lwkt_hold.specs.declared.answers.Missed.{Missed}
 use Rattle.lwkt_hold.specs.declared.answers.Missed.TheVariants.{Busy, Again, Worn}
+use Rattle.lwkt_hold.specs.declared.answers.Resumed.{Resumed}
+use Rattle.lwkt_hold.specs.declared.answers.Resumed.TheVariants.{All, Passed}
 use Rattle.lwkt_hold.specs.Fronts.{IsFront}
+use Rattle.lwkt_hold.specs.Runs.{Ran}
+use Rattle.lwkt_hold.specs.Rows.{IsClean}
 use Rattle.lwkt_hold.specs.Misses.{Misses}
+use Rattle.lwkt_hold.specs.Stays.{Stays}
+use Rattle.lwkt_hold.specs.Holds.{Resumes}
+use Rattle.lwkt_hold.specs.Takings.{takes_all}
+use Rattle.lwkt_hold.specs.Givings.{gives_all}
+use Rattle.lwkt_port.specs.Chains.{Chain}
 use Rattle.lwkt_cpu.specs.declared.phases.Phase.{Phase}
 use Rattle.lwkt_cpu.specs.declared.phases.Phase.TheVariants.{Live, Faulted}
 use Rattle.lwkt_cpu.specs.declared.threads.BusyAt.{BusyAt}
@@ -26,59 +38,101 @@ missed_by place (Busy word) t = record t { busy = Some (record { word = word; at
 missed_by place Again t = record t { busy = None }
 missed_by place Worn t = ended_by (Faulted WornOut) t
 
--- a try of a thread's list is passed over: the word that refused it is kept, and it was loaded again, so that a try would have
--- been refused: among the steps of a seat are those of a try that is refused by it (own)
+-- a try of a thread's list is passed over: the word that refused it is kept, and all that the seat does is one load that finds it
+-- again, so that a try would have been refused: that load is the step of a try that is refused by it (own)
 abbrev pub IsPassedOver : CpuSeat → CpuSeat → Thread → Type 0
-IsPassedOver a b t = (r : BusyAt) × ((t.busy ≡ Some r) × Misses a b t.list r.at (Busy r.word))
+IsPassedOver a b t = (r : BusyAt) × ((t.busy ≡ Some r) × Stays a b t.list r.at r.word true × Misses a b t.list r.at (Busy r.word))
 
--- among the steps of a seat is a load of the token of the reference of a place that found another word than this
-pub record HasMoved (a b : CpuSeat) (refs : List Ref) (place word : ℕ) : Type 0 where
-  pub earlier : List WordStep
-  pub found : ℕ
-  pub later : List WordStep
-  pub at : Ref
-  pub at_place : slice_get refs place ≡ Some at
-  pub steps : steps_of b ≡ steps_of a ++ (earlier ++ load at.tok.0 found ∷ later)
-  pub other : found ≢ word
-
--- a thread's list is tried only if no refusal of it is kept, or the word that is kept isn't the token's any more (own)
+-- a thread's list is tried only if no refusal of it is kept, or one load has told that the word that is kept isn't the token's any
+-- more (own)
 abbrev pub MayBeTried : CpuSeat → CpuSeat → Thread → Type 0
-MayBeTried a b t = (t.busy ≡ None) ⊎ ((r : BusyAt) × ((t.busy ≡ Some r) × HasMoved a b t.list r.at r.word))
+MayBeTried a b t = ((t.busy ≡ None) × (b ≡ a)) ⊎ ((r : BusyAt) × ((t.busy ≡ Some r) × Stays a b t.list r.at r.word false))
 
--- a thread's list was missed, as the seat's steps show: by a word that refused it, by a lost exchange, or at a last generation
-abbrev pub IsMissed : CpuSeat → CpuSeat → Thread → Thread → Type 0
-IsMissed a b old new = (place : ℕ) × ((why : Missed) × (Misses a b old.list place why × (new ≡ missed_by place why old)))
+-- the events of a try of a list: its references are taken in order, and those in front of one that is missed are given back in
+-- reverse order (token(9))
+abbrev pub tries : CpuId → List Ref → Resumed → List Event
+tries cpu refs All = takes_all cpu [] refs
+tries cpu refs (Passed place why) = takes_all cpu [] (take place refs) ++ gives_all cpu [] (take place refs)
 
--- a thread is skipped: it can't run; or a try of its list is passed over; or its list is tried and
--- missed (token(9); own)
-abbrev pub Skips : CpuSeat → CpuSeat → Thread → Thread → Type 0
-Skips a b old new =
-    ((old.phase ≢ Live) × (new ≡ old))
-    ⊎ ((old.phase ≡ Live) × (new ≡ old) × IsPassedOver a b old)
-    ⊎ ((old.phase ≡ Live) × MayBeTried a b old × IsMissed a b old new)
+-- a list is tried: it is held whole, or nothing is and a reference was missed; the events are those of the try, each one of the
+-- seat's steps, and of no token that is held a row was changed
+pub record Tries (a b : CpuSeat) (t u : Vec Event Global) (refs : List Ref) (answer : Resumed) : Type 0 where
+  pub ran : Ran (IsFront refs) 64 a b t u
+  pub resumes : Resumes a b refs answer
+  pub told : u.items ≡ t.items ++ tries a.cpu refs answer
+  pub clean : IsClean b
 
--- each thread that was looked at is skipped, and every other is as before
-pub record Searches (a b : CpuSeat) (olds news : List Thread) (Tried : ℕ → Type 0) : Type 0 where
-  pub as_many : length news ≡ length olds
-  pub tried : (k : ℕ) → Tried k → (old : Thread) → slice_get olds k ≡ Some old → (new : Thread) × ((slice_get news k ≡ Some new) × Skips a b old new)
-  pub others : (k : ℕ) → ¬ Tried k → slice_get news k ≡ slice_get olds k
+-- the list of a thread is tried, which it may be
+abbrev pub TriesList : CpuSeat → CpuSeat → Vec Event Global → Vec Event Global → Thread → Resumed → Type 0
+TriesList a b t u thread answer = (mid : CpuSeat) × (MayBeTried a mid thread × Tries mid b t u thread.list answer)
+
+-- a thread's list is missed: by a word that refused it, by a lost exchange, or at a last generation
+abbrev pub IsMissed : CpuSeat → CpuSeat → Vec Event Global → Vec Event Global → Thread → Thread → Type 0
+IsMissed a b t u old new = (place : ℕ) × ((why : Missed) × (TriesList a b t u old (Passed place why) × (new ≡ missed_by place why old)))
+
+-- a thread is skipped: it can't run, and nothing is done; or a try of its list is passed over, without an event; or its list is
+-- tried and missed (token(9); own)
+abbrev pub Skips : CpuSeat → CpuSeat → Vec Event Global → Vec Event Global → Thread → Thread → Type 0
+Skips a b t u old new =
+    ((old.phase ≢ Live) × (new ≡ old) × (b ≡ a) × (u ≡ t))
+    ⊎ ((old.phase ≡ Live) × (new ≡ old) × IsPassedOver a b old × (u ≡ t))
+    ⊎ ((old.phase ≡ Live) × IsMissed a b t u old new)
+
+-- seat, threads and trace as a search goes on
+pub record Point : Type 0 where
+  pub seat : CpuSeat
+  pub threads : List Thread
+  pub trace : Vec Event Global
+
+abbrev pub point : CpuSeat → List Thread → Vec Event Global → Point
+point seat threads trace = record { seat = seat; threads = threads; trace = trace }
+
+-- the thread of a number is skipped, and nothing is held after it; no other thread changes
+pub record SkipsAt (number : ℕ) (x y : Point) : Type 0 where
+  pub old : Thread
+  pub new : Thread
+  pub at : slice_get x.threads number ≡ Some old
+  pub skips : Skips x.seat y.seat x.trace y.trace old new
+  pub changed : y.threads ≡ slice_set x.threads number new
+  pub empty : holding y.seat ≡ holds_nothing
+
+-- the thread of a number can run, its list is tried and is held whole from now on; no thread changes
+pub record IsUpAt (number : ℕ) (x y : Point) : Type 0 where
+  pub found : Thread
+  pub at : slice_get x.threads number ≡ Some found
+  pub live : found.phase ≡ Live
+  pub held : TriesList x.seat y.seat x.trace y.trace found All
+  pub same : y.threads ≡ x.threads
 
 -- numbers from one on and below another
 abbrev pub IsIn : ℕ → ℕ → ℕ → Type 0
 IsIn low high k = (low ≤ k) × (k < high)
 
--- from the cursor on and round once, a thread comes before another
-abbrev pub ComesBefore : ℕ → ℕ → ℕ → ℕ → Type 0
-ComesBefore cursor count place k = ((cursor ≤ place) × IsIn cursor place k) ⊎ ((place < cursor) × (IsIn cursor count k ⊎ IsIn 0 place k))
+-- the threads from one number on and below another are skipped, by rising number; and then one is up
+abbrev pub SkipsFrom : ℕ → ℕ → Point → Point → Type 0
+SkipsFrom from nth = SkipsAt (from + nth)
 
--- the thread of a place can run, and the seat holds its list
-abbrev pub IsUp : CpuSeat → List Thread → ℕ → Type 0
-IsUp s threads place = IsSomeAnd (slice_get threads place) (λ t. (t.phase ≡ Live) × (holding s ≡ holding_of t.list))
+abbrev pub SkipsTo : ℕ → ℕ → Point → Point → Type 0
+SkipsTo from to x y = Chain Point (SkipsFrom from) (to - from) x y
 
--- a search finds the first thread from the cursor on, round once, that isn't skipped; or none, and nothing is held
-abbrev pub Finds : CpuSeat → CpuSeat → List Thread → List Thread → ℕ → Option ℕ → Type 0
-Finds a b olds news cursor (Some place) = (place < length olds) × IsUp b news place × Searches a b olds news (ComesBefore cursor (length olds) place)
-Finds a b olds news cursor None = (holding b ≡ holds_nothing) × Searches a b olds news (λ k. k < length olds)
+abbrev pub FindsIn : ℕ → ℕ → Point → Point → Type 0
+FindsIn from place x y = (mid : Point) × (SkipsTo from place x mid × IsUpAt place mid y)
+
+-- of so many threads, from the cursor on and round once, the one that comes so many after the first has this number
+abbrev pub IsNth : ℕ → ℕ → ℕ → ℕ → Type 0
+IsNth cursor count nth number = (number < count) × ((number ≡ cursor + nth) ⊎ (number + count ≡ cursor + nth))
+
+abbrev pub SkipsNth : ℕ → ℕ → ℕ → Point → Point → Type 0
+SkipsNth cursor count nth x y = (number : ℕ) × (IsNth cursor count nth number × SkipsAt number x y)
+
+-- so many threads are skipped one after another, from the cursor on and round once
+abbrev pub Searches : ℕ → ℕ → Point → Point → Type 0
+Searches cursor skipped x y = Chain Point (SkipsNth cursor (length x.threads)) skipped x y
+
+-- a search finds the first thread from the cursor on, round once, that isn't skipped; or all are skipped, and nothing is held
+abbrev pub Finds : ℕ → Point → Point → Option ℕ → Type 0
+Finds cursor x y (Some place) = (nth : ℕ) × ((mid : Point) × ((nth < length x.threads) × IsNth cursor (length x.threads) nth place × Searches cursor nth x mid × IsUpAt place mid y))
+Finds cursor x y None = Searches cursor (length x.threads) x y × (holding y.seat ≡ holds_nothing)
 
 -- a holding is that of a front of some thread's list
 abbrev pub IsOfOne : List Thread → Holding → Type 0

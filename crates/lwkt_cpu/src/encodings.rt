@@ -4,7 +4,7 @@ ghost use Rattle.std.specs.Prelude.{◌≡◌, IfOk};
 use crate::cpus::Cpu;
 use crate::phases::Phase;
 use crate::threads::{BusyAt, Thread};
-use lwkt_base::{Answer, Item, Mode, MsgId, Ref, TokId, TokList};
+use lwkt_base::{Answer, Blob, Item, Mode, MsgId, Ref, TokId, TokList};
 use lwkt_msg::MsgSeat;
 use std::alloc::AllocError;
 
@@ -44,23 +44,33 @@ fn add_item(words: &mut Vec<u64>, item: Item) -> Result<(), AllocError> {
     }
 }
 
-fn add_answer(words: &mut Vec<u64>, answer: Answer) -> Result<(), AllocError> {
+fn add_record(words: &mut Vec<u64>, blob: &Blob) -> Result<(), AllocError> {
+    add(words, 8)?;
+    add(words, u64::from(blob.len()))?;
+    for byte in blob.as_slice() {
+        add(words, u64::from(*byte))?;
+    }
+    Ok(())
+}
+
+fn add_answer(words: &mut Vec<u64>, answer: &Answer) -> Result<(), AllocError> {
     match answer {
         Answer::Begin => add(words, 0),
         Answer::Done => add(words, 1),
         Answer::NoMsg => add(words, 2),
         Answer::Value(value) => {
             add(words, 3)?;
-            add(words, value)
+            add(words, *value)
         }
         Answer::Refused(fault) => {
             add(words, 4)?;
             add(words, u64::from(fault.number()))
         }
-        Answer::Got(item) => add_item(words, item),
+        Answer::Bytes(blob) => add_record(words, blob),
+        Answer::Got(item) => add_item(words, *item),
         Answer::Dropped(MsgId(msg), rec) => {
             add(words, 7)?;
-            add(words, u64::from(msg))?;
+            add(words, u64::from(*msg))?;
             add(words, u64::from(rec.op))?;
             add(words, rec.arg)
         }
@@ -101,7 +111,7 @@ fn add_thread(words: &mut Vec<u64>, thread: &Thread) -> Result<(), AllocError> {
         return Ok(());
     }
     add_busy(words, thread.busy)?;
-    add_answer(words, thread.last)
+    add_answer(words, &thread.last)
 }
 
 fn add_threads(words: &mut Vec<u64>, threads: &[Thread]) -> Result<(), AllocError> {

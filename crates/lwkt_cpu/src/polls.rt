@@ -78,7 +78,7 @@ pub(crate) fn poll_one<B: Body>(
     requires held { holding (seat_of hold.old) ≡ holding_of thread.old.list }
     requires room { vec_len trace.old + 512 ≤ vec_capacity trace.old }
     ensures polls { Polls B.polled (id_of bank.now) number (seat_of hold.old) (seat_of hold.new) ports.old ports.new body.old body.new thread.old thread.new trace.old trace.new result }
-    ensures ran { Ran (IsBetween thread.old.list thread.new.list) 288 (seat_of hold.old) (seat_of hold.new) trace.old trace.new }
+    ensures ran { Ran (IsBetween thread.old.list thread.new.list) 320 (seat_of hold.old) (seat_of hold.new) trace.old trace.new }
     ensures up { result ≡ true → (thread.new.phase ≡ Phase.Live) × (holding (seat_of hold.new) ≡ holding_of thread.new.list) }
     ensures free { result ≡ false → holding (seat_of hold.new) ≡ holds_nothing }
     ensures settled { IsSettled (seat_of hold.new) thread.new }

@@ -1,13 +1,14 @@
 //! The search for a thread to run: the first one from the cursor on, round once, whose whole list can be held. A thread is
 //! passed over without a try where the word that refused its list last is still its token's: a try would be refused again.
-ghost use Rattle.std.specs.Prelude.{◌≡◌, ℕ, ◌+◌, ◌-◌, ◌*◌, ◌<◌, ◌≤◌, true, false, length, All, Some, None, slice_get, vec_len, vec_capacity};
-ghost use Rattle.lwkt_base.specs.Holding.{holding_of, holds_nothing};
+ghost use Rattle.std.specs.Prelude.{◌≡◌, ℕ, ◌+◌, ◌-◌, ◌*◌, ◌<◌, ◌≤◌, true, false, length, All, Some, None, vec_len, vec_capacity};
+ghost use Rattle.lwkt_base.specs.Holding.{holds_nothing};
 ghost use Rattle.lwkt_bank.specs.Seats.{id_of, bank_of, tokens_of, holding};
 ghost use Rattle.lwkt_hold.specs.Holds.{seat_of};
 ghost use Rattle.lwkt_hold.specs.Fronts.{IsFront};
 ghost use Rattle.lwkt_hold.specs.Runs.{Ran};
+ghost use Rattle.lwkt_hold.specs.declared.answers.Missed.{Missed};
 ghost use Rattle.lwkt_hold.specs.Stays.{RunsUnseen};
-ghost use Rattle.lwkt_cpu.specs.Searches.{missed_by, IsPassedOver, MayBeTried, IsMissed, Skips, Searches, IsIn, IsUp, Finds, IsOfOne};
+ghost use Rattle.lwkt_cpu.specs.Searches.{missed_by, IsPassedOver, MayBeTried, Tries, TriesList, Skips, point, IsIn, SkipsTo, FindsIn, Finds, IsOfOne};
 ghost use Rattle.lwkt_cpu.specs.Processors.{KeepsBusyWord, AreThere, AllKeepBusyWords};
 ghost use Rattle.lwkt_ask.specs.Telling.{IsQuiet};
 
@@ -55,8 +56,8 @@ fn try_list(hold: &mut Hold, bank: &Bank, thread: &mut Thread, trace: &mut Vec<E
     requires room { vec_len trace.old + 64 ≤ vec_capacity trace.old }
     ensures ran { Ran (IsFront thread.old.list) 64 (seat_of hold.old) (seat_of hold.new) trace.old trace.new }
     ensures quiet { IsQuiet trace.old.items trace.new.items }
-    ensures yes { result ≡ true → (thread.new ≡ thread.old) × (holding (seat_of hold.new) ≡ holding_of thread.old.list) }
-    ensures no { result ≡ false → (holding (seat_of hold.new) ≡ holds_nothing) × IsMissed (seat_of hold.old) (seat_of hold.new) thread.old thread.new }
+    ensures yes { result ≡ true → (thread.new ≡ thread.old) × Tries (seat_of hold.old) (seat_of hold.new) trace.old trace.new thread.old.list Resumed.All }
+    ensures no { result ≡ false → (place : ℕ) × ((why : Missed) × (Tries (seat_of hold.old) (seat_of hold.new) trace.old trace.new thread.old.list (Resumed.Passed place why) × (thread.new ≡ missed_by place why thread.old))) }
 {
     match hold.resume(bank, &thread.list, trace) {
         Resumed::All => true,
@@ -81,8 +82,8 @@ pub(crate) fn try_one(
     requires room { vec_len trace.old + 64 ≤ vec_capacity trace.old }
     ensures ran { Ran (IsFront thread.old.list) 64 (seat_of hold.old) (seat_of hold.new) trace.old trace.new }
     ensures quiet { IsQuiet trace.old.items trace.new.items }
-    ensures yes { result ≡ true → (thread.new ≡ thread.old) × (thread.old.phase ≡ Phase.Live) × (holding (seat_of hold.new) ≡ holding_of thread.old.list) }
-    ensures no { result ≡ false → (holding (seat_of hold.new) ≡ holds_nothing) × Skips (seat_of hold.old) (seat_of hold.new) thread.old thread.new }
+    ensures yes { result ≡ true → (thread.new ≡ thread.old) × (thread.old.phase ≡ Phase.Live) × TriesList (seat_of hold.old) (seat_of hold.new) trace.old trace.new thread.old Resumed.All }
+    ensures no { result ≡ false → (holding (seat_of hold.new) ≡ holds_nothing) × Skips (seat_of hold.old) (seat_of hold.new) trace.old trace.new thread.old thread.new }
 {
     if !thread.phase.is_live() {
         return false;
@@ -111,8 +112,8 @@ pub(crate) fn scan(
     requires room { vec_len trace.old + 64 * (to - from) ≤ vec_capacity trace.old }
     ensures ran { Ran (IsOfOne threads.old) (64 * (to - from)) (seat_of hold.old) (seat_of hold.new) trace.old trace.new }
     ensures quiet { IsQuiet trace.old.items trace.new.items }
-    ensures some { (place : ℕ) → result ≡ Some place → IsIn from to place × IsUp (seat_of hold.new) threads.new place × Searches (seat_of hold.old) (seat_of hold.new) threads.old threads.new (IsIn from place) }
-    ensures none { result ≡ None → (holding (seat_of hold.new) ≡ holds_nothing) × Searches (seat_of hold.old) (seat_of hold.new) threads.old threads.new (IsIn from to) }
+    ensures some { (place : ℕ) → result ≡ Some place → IsIn from to place × FindsIn from place (point (seat_of hold.old) threads.old trace.old) (point (seat_of hold.new) threads.new trace.new) }
+    ensures none { result ≡ None → (holding (seat_of hold.new) ≡ holds_nothing) × SkipsTo from to (point (seat_of hold.old) threads.old trace.old) (point (seat_of hold.new) threads.new trace.new) }
 {
     for at in from..to {
         if try_one(hold, bank, &mut threads[at], trace) {
@@ -139,7 +140,7 @@ pub(crate) fn find(
     requires room { vec_len trace.old + 1024 ≤ vec_capacity trace.old }
     ensures ran { Ran (IsOfOne threads.old) 1024 (seat_of hold.old) (seat_of hold.new) trace.old trace.new }
     ensures quiet { IsQuiet trace.old.items trace.new.items }
-    ensures finds { Finds (seat_of hold.old) (seat_of hold.new) threads.old threads.new cursor result }
+    ensures finds { Finds cursor (point (seat_of hold.old) threads.old trace.old) (point (seat_of hold.new) threads.new trace.new) result }
 {
     let count = threads.len();
     match scan(hold, bank, threads, cursor, count, trace) {

@@ -52,7 +52,7 @@ impl<B> Cpu<B> {
         requires runs { self.old.running ≡ Some place }
         requires room { vec_len trace.old + 512 ≤ vec_capacity trace.old }
         ensures halts { Halts self.old self.new trace.old trace.new place }
-        ensures ran { Ran (IsOfOne self.old.threads) 162 self.old.seat self.new.seat trace.old trace.new }
+        ensures ran { Ran (IsOfOne self.old.threads) 194 self.old.seat self.new.seat trace.old trace.new }
         ensures quiet { IsQuiet trace.old.items trace.new.items }
     {
         let thread = &mut self.threads[place];
@@ -67,7 +67,7 @@ impl<B> Cpu<B> {
         requires of { bank_of self.old.seat ≡ id_of bank.now }
         requires room { vec_len trace.old + 512 ≤ vec_capacity trace.old }
         ensures halts { HaltsRunning self.old self.new trace.old trace.new self.old.running }
-        ensures ran { Ran (IsOfOne self.old.threads) 162 self.old.seat self.new.seat trace.old trace.new }
+        ensures ran { Ran (IsOfOne self.old.threads) 194 self.old.seat self.new.seat trace.old trace.new }
         ensures quiet { IsQuiet trace.old.items trace.new.items }
         ensures none { self.new.running ≡ None }
         ensures bodies { self.new.bodies ≡ self.old.bodies }
@@ -122,7 +122,7 @@ impl<B> Cpu<B> {
         ensures ok { OnOk result (Stops self.old self.new trace.old trace.new) }
         ensures err { OnErr result ((self.new ≡ self.old) × HasSameEvents trace.old trace.new) }
         ensures only { OnErr result (result ≡ Err Fault.Memory) }
-        ensures ran { Ran (IsMailed self.old.threads) 256 self.old.seat self.new.seat trace.old trace.new }
+        ensures ran { Ran (IsMailed self.old.threads) 258 self.old.seat self.new.seat trace.old trace.new }
         ensures told { TellsMail self.old.post.seat self.new.post.seat trace.old.items trace.new.items }
     {
         if trace.reserve(TURN_EVENTS).is_err() {

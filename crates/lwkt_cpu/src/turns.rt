@@ -96,7 +96,7 @@ impl<B: Body> Cpu<B> {
         requires runs { self.old.running ≡ Some place }
         requires room { vec_len trace.old + 512 ≤ vec_capacity trace.old }
         ensures runs_one { RunsOne B.polled (id_of bank.now) self.old self.new trace.old trace.new place }
-        ensures ran { Ran (IsOfThread self.old.threads self.new.threads) 288 self.old.seat self.new.seat trace.old trace.new }
+        ensures ran { Ran (IsOfThread self.old.threads self.new.threads) 320 self.old.seat self.new.seat trace.old trace.new }
         ensures told { TellsMail self.old.post.seat self.new.post.seat trace.old.items trace.new.items }
         ensures table { self.new.post.seat.table ≡ self.old.post.seat.table }
         ensures rest { IsAtRest self.new }

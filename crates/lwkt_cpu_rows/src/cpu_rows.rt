@@ -6,7 +6,8 @@ ghost use Rattle.lwkt_cpu_rows.specs.Free.{IsFree, IsGiven};
 use crate::drivers::{Board, Seats, add, next_driver};
 use crate::scenes::{Deed, PLAIN, Scene, Step, Token, expect, first_other_deed, open_all};
 use crate::scripts::Script;
-use lwkt_base::{Answer, Ask, Call, CpuId, Fault, Flags, Law, MsgId, ThreadId, ThreadState, TokId};
+use crate::wants::{Heard, Want};
+use lwkt_base::{Call, CpuId, Fault, Flags, Law, MsgId, ThreadId, ThreadState, TokId};
 use lwkt_cpu::{Body, Drove, Turned};
 use lwkt_fixtures::Happening;
 use std::alloc::Global;
@@ -20,35 +21,35 @@ const NONE: TokId = TokId(255);
 
 const RAN: Turned = Turned::Ran { thread: 0 };
 
-const FIRST_ASKS: [Ask; 8] = [
-    Ask::Get(FIRST),
-    Ask::Get(SECOND),
-    Ask::Read(FIRST, 0),
-    Ask::Write(FIRST, 0, 8),
-    Ask::Yield,
-    Ask::Read(FIRST, 0),
-    Ask::Rel(SECOND),
-    Ask::Rel(FIRST),
+const FIRST_ASKS: [Want; 8] = [
+    Want::Get(FIRST),
+    Want::Get(SECOND),
+    Want::Read(FIRST, 0),
+    Want::Write(FIRST, 0, 8),
+    Want::Yield,
+    Want::Read(FIRST, 0),
+    Want::Rel(SECOND),
+    Want::Rel(FIRST),
 ];
 
-const SECOND_ASKS: [Ask; 5] = [
-    Ask::Get(SECOND),
-    Ask::Get(FIRST),
-    Ask::Write(FIRST, 0, 7),
-    Ask::Rel(FIRST),
-    Ask::Rel(SECOND),
+const SECOND_ASKS: [Want; 5] = [
+    Want::Get(SECOND),
+    Want::Get(FIRST),
+    Want::Write(FIRST, 0, 7),
+    Want::Rel(FIRST),
+    Want::Rel(SECOND),
 ];
 
-const FIRST_ANSWERS: [Answer; 9] = [
-    Answer::Begin,
-    Answer::Done,
-    Answer::Done,
-    Answer::Value(7),
-    Answer::Done,
-    Answer::Done,
-    Answer::Value(8),
-    Answer::Done,
-    Answer::Done,
+const FIRST_ANSWERS: [Heard; 9] = [
+    Heard::Begin,
+    Heard::Done,
+    Heard::Done,
+    Heard::Value(7),
+    Heard::Done,
+    Heard::Done,
+    Heard::Value(8),
+    Heard::Done,
+    Heard::Done,
 ];
 
 const FIRST_DROVE: Drove = Drove {
@@ -135,9 +136,10 @@ pub const SUM: Token = Token {
     param: 10,
     generation: 0,
     cells: &[5, 5],
+    record: None,
 };
 
-const BREAKS: [Ask; 3] = [Ask::Get(FIRST), Ask::Write(FIRST, 0, 9), Ask::WaitPort];
+const BREAKS: [Want; 3] = [Want::Get(FIRST), Want::Write(FIRST, 0, 9), Want::WaitPort];
 
 // The place of the first deed of a processor with this body that goes otherwise than it is told.
 fn first_other_of(
@@ -184,48 +186,48 @@ const HERE: ThreadId = ThreadId {
 
 const NO_MSG: MsgId = MsgId(255);
 
-const ASKS_OF_NOTHING: [Ask; 19] = [
-    Ask::Get(NONE),
-    Ask::GetShared(NONE),
-    Ask::TryGet(NONE),
-    Ask::Rel(NONE),
-    Ask::Swap,
-    Ask::Read(NONE, 255),
-    Ask::Write(NONE, 255, 255),
-    Ask::Add(NONE, 255),
-    Ask::Reply(NO_MSG, 255, 255),
-    Ask::Read(FIRST, 255),
-    Ask::Send(NO_MSG, NOWHERE, CALL, FLAGS),
-    Ask::Send(NO_MSG, HERE, CALL, FLAGS),
-    Ask::Do(NO_MSG, NOWHERE, CALL),
-    Ask::DropMsg(NO_MSG),
-    Ask::Abort(NO_MSG),
-    Ask::IsAborted(NO_MSG),
-    Ask::GetPort,
-    Ask::Yield,
-    Ask::WaitPort,
+const ASKS_OF_NOTHING: [Want; 19] = [
+    Want::Get(NONE),
+    Want::GetShared(NONE),
+    Want::TryGet(NONE),
+    Want::Rel(NONE),
+    Want::Swap,
+    Want::Read(NONE, 255),
+    Want::Write(NONE, 255, 255),
+    Want::Add(NONE, 255),
+    Want::Reply(NO_MSG, 255, 255),
+    Want::Read(FIRST, 255),
+    Want::Send(NO_MSG, NOWHERE, CALL, FLAGS),
+    Want::Send(NO_MSG, HERE, CALL, FLAGS),
+    Want::Do(NO_MSG, NOWHERE, CALL),
+    Want::DropMsg(NO_MSG),
+    Want::Abort(NO_MSG),
+    Want::IsAborted(NO_MSG),
+    Want::GetPort,
+    Want::Yield,
+    Want::WaitPort,
 ];
 
-const REFUSALS: [Answer; 19] = [
-    Answer::Begin,
-    Answer::Refused(Fault::NoToken),
-    Answer::Refused(Fault::NoToken),
-    Answer::Refused(Fault::NoToken),
-    Answer::Refused(Fault::NotHeld),
-    Answer::Refused(Fault::SwapShort),
-    Answer::Refused(Fault::NoToken),
-    Answer::Refused(Fault::NoToken),
-    Answer::Refused(Fault::NoToken),
-    Answer::Refused(Fault::NotTaken),
-    Answer::Refused(Fault::NoCell),
-    Answer::Refused(Fault::NoPort),
-    Answer::Refused(Fault::NotOwner),
-    Answer::Refused(Fault::NoPort),
-    Answer::Refused(Fault::NotOwner),
-    Answer::Refused(Fault::NotOwner),
-    Answer::Refused(Fault::NotTaken),
-    Answer::NoMsg,
-    Answer::Done,
+const REFUSALS: [Heard; 19] = [
+    Heard::Begin,
+    Heard::Refused(Fault::NoToken),
+    Heard::Refused(Fault::NoToken),
+    Heard::Refused(Fault::NoToken),
+    Heard::Refused(Fault::NotHeld),
+    Heard::Refused(Fault::SwapShort),
+    Heard::Refused(Fault::NoToken),
+    Heard::Refused(Fault::NoToken),
+    Heard::Refused(Fault::NoToken),
+    Heard::Refused(Fault::NotTaken),
+    Heard::Refused(Fault::NoCell),
+    Heard::Refused(Fault::NoPort),
+    Heard::Refused(Fault::NotOwner),
+    Heard::Refused(Fault::NoPort),
+    Heard::Refused(Fault::NotOwner),
+    Heard::Refused(Fault::NotOwner),
+    Heard::Refused(Fault::NotTaken),
+    Heard::NoMsg,
+    Heard::Done,
 ];
 
 const NOTHING_DROVE: Drove = Drove {

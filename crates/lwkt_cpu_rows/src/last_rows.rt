@@ -1,7 +1,8 @@
 //! Threads that end while another waits for their answer: their ports are closed, and what is owed is replied to.
 use crate::mail_rows::{OWN, THERE};
 use crate::scenes::{Deed, Scene, Step, Token, expect};
-use lwkt_base::{Answer, Ask, Call, CpuId, Fault, Item, Law, MsgId, ThreadState, TokId};
+use crate::wants::{Heard, Want};
+use lwkt_base::{Call, CpuId, Fault, Item, Law, MsgId, ThreadState, TokId};
 use lwkt_fixtures::Happening;
 
 const FIRST: Call = Call { arg: 10, op: 1 };
@@ -10,12 +11,12 @@ const SECOND: Call = Call { arg: 20, op: 2 };
 
 const MSG: MsgId = MsgId(0);
 
-const SHOWN: Answer = Answer::Got(Item::Request(MSG, FIRST));
+const SHOWN: Heard = Heard::Got(Item::Request(MSG, FIRST));
 
 // The answers to a call: the reply with error 41 or 30, and result 0.
-const OWED: Answer = Answer::Got(Item::Answered(MSG, 41, 0));
+const OWED: Heard = Heard::Got(Item::Answered(MSG, 41, 0));
 
-const CLOSED: Answer = Answer::Got(Item::Answered(MSG, 30, 0));
+const CLOSED: Heard = Heard::Got(Item::Answered(MSG, 30, 0));
 
 // A token without cells.
 const BARE: Token = Token {
@@ -23,6 +24,7 @@ const BARE: Token = Token {
     param: 0,
     generation: 0,
     cells: &[],
+    record: None,
 };
 
 // A thread ends with a request unanswered: it is answered with 41, and the next one, which comes to its closed port, with 30.
@@ -30,21 +32,21 @@ const ENDED: Scene = Scene {
     tokens: &[BARE, BARE],
     messages: &[OWN],
     asks: &[
-        &[Ask::Do(MSG, THERE, FIRST), Ask::Do(MSG, THERE, SECOND)],
+        &[Want::Do(MSG, THERE, FIRST), Want::Do(MSG, THERE, SECOND)],
         &[
-            Ask::Get(TokId(0)),
-            Ask::Get(TokId(1)),
-            Ask::WaitPort,
-            Ask::Exit,
+            Want::Get(TokId(0)),
+            Want::Get(TokId(1)),
+            Want::WaitPort,
+            Want::Exit,
         ],
     ],
     watched: false,
     steps: &[
         Step::TakeTurns,
         Step::At(0, Deed::State(ThreadState::Exited)),
-        Step::Heard(0, &[Answer::Begin, OWED, CLOSED]),
+        Step::Heard(0, &[Heard::Begin, OWED, CLOSED]),
         Step::At(1, Deed::State(ThreadState::Exited)),
-        Step::Heard(1, &[Answer::Begin, Answer::Done, Answer::Done, SHOWN]),
+        Step::Heard(1, &[Heard::Begin, Heard::Done, Heard::Done, SHOWN]),
         Step::At(1, Deed::References(0)),
     ],
 };
@@ -64,8 +66,8 @@ const STOPPED: Scene = Scene {
     tokens: &[],
     messages: &[OWN],
     asks: &[
-        &[Ask::Do(MSG, THERE, FIRST)],
-        &[Ask::WaitPort, Ask::GetPort, Ask::GetPort],
+        &[Want::Do(MSG, THERE, FIRST)],
+        &[Want::WaitPort, Want::GetPort, Want::GetPort],
     ],
     watched: false,
     steps: &[
@@ -79,7 +81,7 @@ const STOPPED: Scene = Scene {
         Step::At(1, Deed::Trace(&[REPLY])),
         Step::At(0, Deed::Turn),
         Step::At(0, Deed::State(ThreadState::Exited)),
-        Step::Heard(0, &[Answer::Begin, OWED]),
+        Step::Heard(0, &[Heard::Begin, OWED]),
     ],
 };
 
@@ -94,9 +96,10 @@ const WORN: Token = Token {
     param: 0,
     generation: 70_368_744_177_662,
     cells: &[0],
+    record: None,
 };
 
-const DONE: Answer = Answer::Done;
+const DONE: Heard = Heard::Done;
 
 // A thread that would go on at a last generation has ended: its port is closed.
 const WORN_OUT: Scene = Scene {
@@ -104,18 +107,18 @@ const WORN_OUT: Scene = Scene {
     messages: &[OWN],
     asks: &[
         &[
-            Ask::Get(TokId(0)),
-            Ask::Write(TokId(0), 0, 1),
-            Ask::Rel(TokId(0)),
-            Ask::Do(MSG, THERE, FIRST),
+            Want::Get(TokId(0)),
+            Want::Write(TokId(0), 0, 1),
+            Want::Rel(TokId(0)),
+            Want::Do(MSG, THERE, FIRST),
         ],
-        &[Ask::Get(TokId(0)), Ask::Rel(TokId(0))],
+        &[Want::Get(TokId(0)), Want::Rel(TokId(0))],
     ],
     watched: false,
     steps: &[
         Step::TakeTurns,
         Step::At(0, Deed::State(ThreadState::Exited)),
-        Step::Heard(0, &[Answer::Begin, DONE, DONE, DONE, CLOSED]),
+        Step::Heard(0, &[Heard::Begin, DONE, DONE, DONE, CLOSED]),
         Step::At(1, Deed::State(ThreadState::Faulted(Fault::Worn))),
     ],
 };

@@ -16,6 +16,8 @@ mod limit_rows;
 #[cfg(test)]
 mod mail_rows;
 #[cfg(test)]
+mod record_rows;
+#[cfg(test)]
 mod scenes;
 #[cfg(test)]
 mod scripts;
@@ -25,5 +27,7 @@ mod skip_rows;
 mod stop_rows;
 #[cfg(test)]
 mod thread_rows;
+#[cfg(test)]
+mod wants;
 #[cfg(test)]
 mod workers;

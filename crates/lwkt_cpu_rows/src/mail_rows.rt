@@ -7,9 +7,9 @@ use crate::closings::{close, end};
 use crate::drivers::{Board, Seats, next_cpu};
 use crate::scenes::{Deed, Scene, Step, expect, open_all};
 use crate::scripts::{Script, one};
+use crate::wants::{Heard, Want};
 use lwkt_base::{
-    Answer, Ask, Call, CpuId, Fault, Flags, Item, MsgEnd, MsgId, MsgSpec, Owner, ThreadId,
-    ThreadState,
+    Call, CpuId, Fault, Flags, Item, MsgEnd, MsgId, MsgSpec, Owner, ThreadId, ThreadState,
 };
 use lwkt_cpu::Cpu;
 use lwkt_fixtures::Happening;
@@ -40,24 +40,24 @@ pub const THERE: ThreadId = ThreadId {
 
 const CALL: Call = Call { arg: 9, op: 5 };
 
-const CALLED: [Answer; 3] = [
-    Answer::Begin,
-    Answer::Got(Item::Answered(MsgId(0), 7, 42)),
-    Answer::NoMsg,
+const CALLED: [Heard; 3] = [
+    Heard::Begin,
+    Heard::Got(Item::Answered(MsgId(0), 7, 42)),
+    Heard::NoMsg,
 ];
 
-const SERVED: [Answer; 3] = [
-    Answer::Begin,
-    Answer::Got(Item::Request(MsgId(0), CALL)),
-    Answer::Done,
+const SERVED: [Heard; 3] = [
+    Heard::Begin,
+    Heard::Got(Item::Request(MsgId(0), CALL)),
+    Heard::Done,
 ];
 
 const CALL_AND_REPLY: Scene = Scene {
     tokens: &[],
     messages: &[OWN],
     asks: &[
-        &[Ask::Do(MsgId(0), THERE, CALL), Ask::GetPort],
-        &[Ask::WaitPort, Ask::Reply(MsgId(0), 7, 42)],
+        &[Want::Do(MsgId(0), THERE, CALL), Want::GetPort],
+        &[Want::WaitPort, Want::Reply(MsgId(0), 7, 42)],
     ],
     watched: false,
     steps: &[
@@ -76,7 +76,7 @@ fn call_and_reply(rt: HostRuntime) {
 
 macro_rules! sends {
     ($($m:literal)*) => {
-        [$(Ask::Send(MsgId($m), THERE, CALL, FLAGS)),*]
+        [$(Want::Send(MsgId($m), THERE, CALL, FLAGS)),*]
     };
 }
 
@@ -87,7 +87,7 @@ macro_rules! sent {
 }
 
 // A message more than a lane has room for.
-const SENDS: [Ask; 33] = sends!(
+const SENDS: [Want; 33] = sends!(
     0 1 2 3 4 5 6 7 8 9 10 11 12 13 14 15 16 17 18 19 20 21 22 23 24 25 26 27 28 29 30 31 32
 );
 
@@ -95,7 +95,7 @@ const SENT: [Happening; 32] = sent!(
     0 1 2 3 4 5 6 7 8 9 10 11 12 13 14 15 16 17 18 19 20 21 22 23 24 25 26 27 28 29 30 31
 );
 
-const FULL: Answer = Answer::Refused(Fault::LaneFull);
+const FULL: Heard = Heard::Refused(Fault::LaneFull);
 
 const FULL_LANE: Scene = Scene {
     tokens: &[],
@@ -105,7 +105,7 @@ const FULL_LANE: Scene = Scene {
     steps: &[
         Step::At(0, Deed::Ran(34)),
         Step::At(0, Deed::State(ThreadState::Exited)),
-        Step::HeardLast(0, 34, &[Answer::Done, FULL]),
+        Step::HeardLast(0, 34, &[Heard::Done, FULL]),
         Step::At(0, Deed::Trace(&SENT)),
     ],
 };

@@ -5,9 +5,10 @@ ghost use Rattle.lwkt_cpu_rows.specs.Free.{IsFree, IsGiven};
 
 use crate::drivers::{Board, Driver, Seats, Watch, add, next_driver, next_watch, open, token};
 use crate::scripts::{Script, one};
-use lwkt_base::{Answer, Ask, Fault, Law, MsgSpec, ThreadState, TokId, TokSpec};
+use crate::wants::{Heard, Want, are_heard};
+use lwkt_base::{Answer, Fault, Law, MsgSpec, ThreadState, TokId, TokSpec};
 use lwkt_cpu::{Body, Drove, Turned};
-use lwkt_fixtures::{Happening, are_these};
+use lwkt_fixtures::{Happening, are_these, record};
 use std::alloc::{AllocError, Global};
 use std::process::Abort;
 
@@ -17,6 +18,7 @@ pub struct Token {
     pub param: u64,
     pub generation: u64,
     pub cells: &'static [u64],
+    pub record: Option<&'static [u8]>,
 }
 
 /// A token of one cell, which may have any value.
@@ -25,6 +27,7 @@ pub const PLAIN: Token = Token {
     param: 0,
     generation: 0,
     cells: &[0],
+    record: None,
 };
 
 /// A token of one tally.
@@ -33,6 +36,7 @@ pub const TALLY: Token = Token {
     param: 0,
     generation: 0,
     cells: &[0],
+    record: None,
 };
 
 /// Some processors with a thread each, and what happens to them.
@@ -40,7 +44,7 @@ pub struct Scene {
     pub tokens: &'static [Token],
     pub messages: &'static [MsgSpec],
     /// What the thread of each processor asks for.
-    pub asks: &'static [&'static [Ask]],
+    pub asks: &'static [&'static [Want]],
     /// Whether there is one processor more, whose seat looks at words.
     pub watched: bool,
     pub steps: &'static [Step],
@@ -81,9 +85,9 @@ pub enum Step {
     /// Eight turns of each of processors 0 and 1, one after another.
     TakeTurns,
     /// The thread of a processor has had these answers.
-    Heard(usize, &'static [Answer]),
+    Heard(usize, &'static [Heard]),
     /// The thread of a processor has had so many answers, of which these are the last.
-    HeardLast(usize, usize, &'static [Answer]),
+    HeardLast(usize, usize, &'static [Heard]),
     /// Tokens 0 and 1 have these words.
     Words(u64, u64),
 }
@@ -148,26 +152,34 @@ fn take_turns(drivers: &mut [Driver<Script>]) -> Result<bool, Fault> {
 }
 
 /// Whether a processor's thread has had these answers.
-pub fn has_heard(driver: &Driver<Script>, answers: &[Answer]) -> bool {
+pub fn has_heard(driver: &Driver<Script>, answers: &[Heard]) -> bool {
     match driver.body(0) {
-        Some(body) => body.answers() == answers,
+        Some(body) => are_heard(body.answers(), answers),
         None => false,
     }
 }
 
-fn is_heard(drivers: &[Driver<Script>], cpu: usize, answers: &[Answer]) -> bool {
+fn is_heard(drivers: &[Driver<Script>], cpu: usize, answers: &[Heard]) -> bool {
     match drivers.get(cpu) {
         Some(driver) => has_heard(driver, answers),
         None => false,
     }
 }
 
-fn is_heard_last(drivers: &[Driver<Script>], cpu: usize, count: usize, answers: &[Answer]) -> bool {
+// Whether answers are so many, of which these are the last.
+fn end_so(answers: &[Answer], count: usize, last: &[Heard]) -> bool {
+    if answers.len() != count || last.len() > count {
+        return false;
+    }
+    are_heard(&answers[count - last.len()..], last)
+}
+
+fn is_heard_last(drivers: &[Driver<Script>], cpu: usize, count: usize, answers: &[Heard]) -> bool {
     let Some(driver) = drivers.get(cpu) else {
         return false;
     };
     match driver.body(0) {
-        Some(body) => body.answers().len() == count && body.answers().ends_with(answers),
+        Some(body) => end_so(body.answers(), count, answers),
         None => false,
     }
 }
@@ -233,6 +245,9 @@ fn tokens_of(alloc: Global, told: &[Token]) -> Result<Vec<TokSpec>, AllocError> 
     for one in told {
         let mut spec = token(alloc, one.law, one.param, one.cells)?;
         spec.generation = one.generation;
+        if let Some(bytes) = one.record {
+            spec.blob = Some(record(bytes));
+        }
         tokens.push(spec)?;
     }
     Ok(tokens)
@@ -243,7 +258,7 @@ fn drivers_of<'a>(
     alloc: Global,
     board: &'a Board,
     seats: &mut Seats,
-    asks: &[&[Ask]],
+    asks: &[&[Want]],
 ) -> Result<Vec<Driver<'a, Script>>, Fault>
     requires seats { All (IsFree (id_of board.now.bank)) seats.old.seats.items }
     requires mails { All (IsGiven board.now.book) seats.old.mails.items }

@@ -3,6 +3,7 @@ ghost use Rattle.std.specs.Prelude.{◌≡◌, slice_index_or};
 ghost use Rattle.lwkt_base.specs.declared.asks.Ask.TheVariants.{Exit};
 
 use crate::drivers::add;
+use crate::wants::Want;
 use lwkt_base::{Answer, Ask, Fault};
 use lwkt_cpu::Body;
 use std::alloc::{AllocError, Global};
@@ -16,8 +17,8 @@ pub struct Script {
 }
 
 impl Script {
-    pub fn new(alloc: Global, listed: &[Ask]) -> Result<Script, AllocError> {
-        let asks = listed.to_vec(alloc)?;
+    pub fn new(alloc: Global, listed: &[Want]) -> Result<Script, AllocError> {
+        let asks = listed.iter().map(|want| want.ask()).collect(alloc)?;
         let answers = Vec::with_capacity(alloc, 64)?;
         Ok(Script {
             asks,
@@ -33,7 +34,7 @@ impl Script {
 }
 
 /// One body that asks so.
-pub fn one(alloc: Global, asks: &[Ask]) -> Result<Vec<Script>, Fault> {
+pub fn one(alloc: Global, asks: &[Want]) -> Result<Vec<Script>, Fault> {
     let mut bodies = Vec::new(alloc);
     match Script::new(alloc, asks) {
         Ok(script) => add(&mut bodies, script)?,

@@ -1,6 +1,7 @@
 //! Threads that are passed over without a try while the word that refused them stands.
 use crate::scenes::{Deed, PLAIN, Scene, Step, expect};
-use lwkt_base::{Ask, CpuId, TokId};
+use crate::wants::Want;
+use lwkt_base::{CpuId, TokId};
 use lwkt_cpu::Turned;
 use lwkt_fixtures::Happening;
 
@@ -37,9 +38,9 @@ const MARK_SECOND: Happening = Happening::Mark {
     tok: SECOND,
 };
 
-const WANTS: [Ask; 2] = [Ask::Get(FIRST), Ask::Get(SECOND)];
+const WANTS: [Want; 2] = [Want::Get(FIRST), Want::Get(SECOND)];
 
-const HOLDS: [Ask; 2] = [Ask::Get(SECOND), Ask::Rel(SECOND)];
+const HOLDS: [Want; 2] = [Want::Get(SECOND), Want::Rel(SECOND)];
 
 const TOOK_ALL: [Happening; 4] = [TAKE_FIRST, TAKE_SECOND, GIVE_SECOND, GIVE_FIRST];
 

@@ -2,9 +2,8 @@
 use crate::cpu_rows::SUM;
 use crate::mail_rows::{FLAGS, OWN, THERE};
 use crate::scenes::{Deed, PLAIN, Scene, Step, expect};
-use lwkt_base::{
-    Answer, Ask, Call, CpuId, Fault, Item, MsgId, MsgSpec, ThreadId, ThreadState, TokId,
-};
+use crate::wants::{Heard, Want};
+use lwkt_base::{Call, CpuId, Fault, Item, MsgId, MsgSpec, ThreadId, ThreadState, TokId};
 use lwkt_cpu::Turned;
 use lwkt_fixtures::Happening;
 
@@ -44,8 +43,8 @@ const STANDS_STILL: Scene = Scene {
     tokens: &[SUM, PLAIN],
     messages: &[],
     asks: &[
-        &[Ask::Get(TOKEN), Ask::Write(TOKEN, 0, 9)],
-        &[Ask::Get(TOKEN), Ask::Read(TOKEN, 0)],
+        &[Want::Get(TOKEN), Want::Write(TOKEN, 0, 9)],
+        &[Want::Get(TOKEN), Want::Read(TOKEN, 0)],
     ],
     watched: true,
     steps: &[
@@ -65,7 +64,7 @@ const STANDS_STILL: Scene = Scene {
         Step::At(1, Deed::Turned(RAN)),
         Step::Words(1, 0),
         Step::At(1, Deed::Turned(RAN)),
-        Step::Heard(1, &[Answer::Begin, Answer::Done, Answer::Value(5)]),
+        Step::Heard(1, &[Heard::Begin, Heard::Done, Heard::Value(5)]),
     ],
 };
 
@@ -94,8 +93,8 @@ const STOPS_WITH_A_REQUEST: Scene = Scene {
     tokens: &[],
     messages: &[THEIRS],
     asks: &[
-        &[Ask::WaitPort, Ask::GetPort, Ask::GetPort],
-        &[Ask::Do(MSG, HERE, CALL)],
+        &[Want::WaitPort, Want::GetPort, Want::GetPort],
+        &[Want::Do(MSG, HERE, CALL)],
     ],
     watched: false,
     steps: &[
@@ -104,7 +103,7 @@ const STOPS_WITH_A_REQUEST: Scene = Scene {
         Step::At(0, Deed::Turned(RAN)),
         Step::At(0, Deed::Stop),
         Step::At(1, Deed::Turned(RAN)),
-        Step::Heard(1, &[Answer::Begin, Answer::Got(Item::Answered(MSG, 41, 0))]),
+        Step::Heard(1, &[Heard::Begin, Heard::Got(Item::Answered(MSG, 41, 0))]),
     ],
 };
 
@@ -116,12 +115,12 @@ fn a_request_of_a_stopped_processor_is_answered(rt: HostRuntime) {
 // Calls on so many messages, one after another.
 macro_rules! sends {
     ($($m:literal)*) => {
-        [Ask::WaitPort, $(Ask::Send(MsgId($m), HERE, CALL, FLAGS)),*]
+        [Want::WaitPort, $(Want::Send(MsgId($m), HERE, CALL, FLAGS)),*]
     };
 }
 
 // What takes a request and then fills its lane.
-const FILLS: [Ask; 33] = sends!(
+const FILLS: [Want; 33] = sends!(
     1 2 3 4 5 6 7 8 9 10 11 12 13 14 15 16 17 18 19 20 21 22 23 24 25 26 27 28 29 30 31 32
 );
 
@@ -141,12 +140,12 @@ const REPLY: Happening = Happening::Reply {
 const OWES: Scene = Scene {
     tokens: &[],
     messages: &BOTH_WAYS,
-    asks: &[&[Ask::Send(MSG, THERE, CALL, FLAGS)], &FILLS],
+    asks: &[&[Want::Send(MSG, THERE, CALL, FLAGS)], &FILLS],
     watched: false,
     steps: &[
         Step::At(0, Deed::Turned(RAN)),
         Step::At(1, Deed::Ran(33)),
-        Step::HeardLast(1, 33, &[Answer::Done]),
+        Step::HeardLast(1, 33, &[Heard::Done]),
         Step::At(1, Deed::Stop),
         Step::At(1, Deed::State(ThreadState::Exited)),
         Step::At(1, Deed::Owed(1)),

@@ -6,6 +6,7 @@ ghost use Rattle.lwkt_cpu_rows.specs.Free.{IsFree, IsGiven};
 use crate::drivers::{Board, Driver, Seats, add, next_driver};
 use crate::scenes::{TALLY, has_heard, open_all};
 use crate::scripts::one;
+use crate::wants::{Heard, Want};
 use lwkt_base::{Answer, Ask, Fault, TokId};
 use lwkt_cpu::Body;
 use std::alloc::Global;
@@ -133,19 +134,19 @@ fn add_up<R: Threads + Sync>(
     Ok(())
 }
 
-const READS: [Ask; 4] = [
-    Ask::GetShared(TokId(0)),
-    Ask::Read(TokId(0), 0),
-    Ask::GetShared(TokId(1)),
-    Ask::Read(TokId(1), 0),
+const READS: [Want; 4] = [
+    Want::GetShared(TokId(0)),
+    Want::Read(TokId(0), 0),
+    Want::GetShared(TokId(1)),
+    Want::Read(TokId(1), 0),
 ];
 
-const READ: [Answer; 5] = [
-    Answer::Begin,
-    Answer::Done,
-    Answer::Value(6000),
-    Answer::Done,
-    Answer::Value(6000),
+const READ: [Heard; 5] = [
+    Heard::Begin,
+    Heard::Done,
+    Heard::Value(6000),
+    Heard::Done,
+    Heard::Value(6000),
 ];
 
 // Whether one more processor reads what was added.

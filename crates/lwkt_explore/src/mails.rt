@@ -21,8 +21,8 @@ pub(crate) struct Mails {
 }
 
 // Notes what a step does with its message.
-fn note(mail: &mut Mail, number: usize, ask: Ask) {
-    let touch = touched_by(ask);
+fn note(mail: &mut Mail, number: usize, ask: &Ask) {
+    let touch = touched_by(*ask);
     if touch.messages & bit(number) != 0 {
         mail.parties |= touch.targets;
         mail.is_dropped = mail.is_dropped || matches!(ask, Ask::DropMsg(_));
@@ -32,7 +32,7 @@ fn note(mail: &mut Mail, number: usize, ask: Ask) {
 // Notes what steps do with a message.
 fn note_all(mail: &mut Mail, number: usize, asks: &[Ask]) {
     for ask in asks {
-        note(mail, number, *ask);
+        note(mail, number, ask);
     }
 }
 

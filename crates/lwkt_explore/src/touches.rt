@@ -62,7 +62,9 @@ pub(crate) fn touched_by(ask: Ask) -> Touch {
         | Ask::Rel(tok)
         | Ask::Read(tok, _)
         | Ask::Write(tok, _, _)
-        | Ask::Add(tok, _) => Touch {
+        | Ask::Add(tok, _)
+        | Ask::ReadBlob(tok)
+        | Ask::WriteBlob(tok, _) => Touch {
             tokens: bit(usize::from(tok.0)),
             ..NOTHING
         },

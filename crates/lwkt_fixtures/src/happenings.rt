@@ -1,9 +1,10 @@
 //! Events in tables of constants.
+use crate::record;
 use lwkt_base::{CpuId, MsgId, Row, Section, TokId};
 use lwkt_core::Event;
 use std::alloc::{AllocError, Global};
 
-/// An event in a table of constants. A constant can't borrow an `Event`, since that has room for a section.
+/// An event in a table of constants. A constant can't borrow an `Event`, since that has room for a section or a record.
 #[derive(Clone, Copy)]
 pub enum Happening {
     Load {
@@ -53,6 +54,16 @@ pub enum Happening {
         tok: TokId,
         cell: u8,
         value: u64,
+    },
+    ReadBlob {
+        cpu: CpuId,
+        tok: TokId,
+        record: &'static [u8],
+    },
+    WriteBlob {
+        cpu: CpuId,
+        tok: TokId,
+        record: &'static [u8],
     },
     Send {
         cpu: CpuId,
@@ -121,7 +132,7 @@ impl Happening {
         }
     }
 
-    // The event of one that is at a cell or a message.
+    // The event of one that is at a cell, a record or a message.
     fn other_event(&self) -> Event {
         match *self {
             Happening::Read {
@@ -145,6 +156,24 @@ impl Happening {
                 tok,
                 cell,
                 value,
+            },
+            Happening::ReadBlob {
+                cpu,
+                tok,
+                record: bytes,
+            } => Event::ReadBlob {
+                cpu,
+                tok,
+                blob: record(bytes),
+            },
+            Happening::WriteBlob {
+                cpu,
+                tok,
+                record: bytes,
+            } => Event::WriteBlob {
+                cpu,
+                tok,
+                blob: record(bytes),
             },
             _ => self.message_event(),
         }

@@ -4,7 +4,7 @@
 mod happenings;
 
 pub use happenings::{Happening, are_these, events_of};
-use lwkt_base::{Cells, Law, TokSpec};
+use lwkt_base::{Blob, Cells, Law, TokSpec};
 use std::alloc::{AllocError, Global};
 
 /// A row of a table: what is done, and what has to come of it.
@@ -45,4 +45,19 @@ pub fn tokens(alloc: Global, opening: &[Opened]) -> Result<Vec<TokSpec>, AllocEr
         })?;
     }
     Ok(specs)
+}
+
+/// The record of these bytes, the first 255 if there are more.
+pub fn record(bytes: &[u8]) -> Blob {
+    if bytes.len() > 255 {
+        return Blob::of(&bytes[..255]);
+    }
+    Blob::of(bytes)
+}
+
+/// Gives these records to the first tokens of an opening; the others have none.
+pub fn guard(specs: &mut [TokSpec], records: &[&[u8]]) {
+    for (spec, bytes) in specs.iter_mut().zip(records) {
+        spec.blob = Some(record(bytes));
+    }
 }

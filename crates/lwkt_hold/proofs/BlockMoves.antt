@@ -10,11 +10,11 @@ use Rattle.lwkt_base.specs.declared.holdings.Held.{Held}
 use Rattle.lwkt_base.specs.declared.holdings.Held.TheVariants.{Nothing, Holds}
 use Rattle.lwkt_base.specs.Holding.{Holding, is_held, is_exclusive, one_more, added, holding_of, holds_nothing}
 use Rattle.lwkt_bank.specs.declared.seats.CpuSeat.{CpuSeat}
-use Rattle.lwkt_bank.specs.Seats.{bank_of, holding}
+use Rattle.lwkt_bank.specs.Seats.{bank_of, entry, holding}
 use Rattle.lwkt_hold.specs.Fronts.{names}
-use Rattle.lwkt_hold.specs.Rows.{row, first_row, IsBroken, SameSection, GivesBack, GivenUp, IsFirstSoFar, first_of}
+use Rattle.lwkt_hold.specs.Rows.{row, first_row, blob, first_blob, IsBroken, SameSection, GivesBack, GivenUp, IsFirstSoFar, first_of}
 use Rattle.lwkt_hold.proofs.HoldingMoves.{held_named}
-use Rattle.lwkt_hold.proofs.GiveMoves.{more_here, held_more, same_law, same_then}
+use Rattle.lwkt_hold.proofs.GiveMoves.{more_here, held_more, same_law, same_then, section_from}
 
 exclusive_more : (held : Held) (mode : Mode) → is_held held ≡ true → is_exclusive (one_more held mode) ≡ is_exclusive held
 exclusive_more Nothing mode is = cc
@@ -30,11 +30,11 @@ more_elsewhere : (h : Holding) (tok other : ℕ) (mode : Mode) → eqb other tok
 more_elsewhere h tok other mode away = more_elsewhere_if (eqb other tok) (one_more (h other) mode) (h other) away
 
 -- a broken section stays one while nothing of it changes
-broken_back : (a s : CpuSeat) (tok : ℕ) → bank_of s ≡ bank_of a → row s tok ≡ row a tok → is_exclusive (holding s tok) ≡ is_exclusive (holding a tok) → IsBroken s tok → IsBroken a tok
-broken_back a s tok bank same exclusive b = record { exclusive = sym exclusive ∙ b.exclusive; broken = λ meets. b.broken (same_law a s tok bank same meets) }
+broken_back : (a s : CpuSeat) (tok : ℕ) → bank_of s ≡ bank_of a → row s tok ≡ row a tok → blob s tok ≡ blob a tok → is_exclusive (holding s tok) ≡ is_exclusive (holding a tok) → IsBroken s tok → IsBroken a tok
+broken_back a s tok bank same alike exclusive b = record { exclusive = sym exclusive ∙ b.exclusive; broken = λ meets. b.broken (same_law a s tok bank same alike meets) }
 
-broken_on : (a s : CpuSeat) (tok : ℕ) → bank_of s ≡ bank_of a → row s tok ≡ row a tok → is_exclusive (holding s tok) ≡ is_exclusive (holding a tok) → IsBroken a tok → IsBroken s tok
-broken_on a s tok bank same exclusive b = broken_back s a tok (sym bank) (sym same) (sym exclusive) b
+broken_on : (a s : CpuSeat) (tok : ℕ) → bank_of s ≡ bank_of a → row s tok ≡ row a tok → blob s tok ≡ blob a tok → is_exclusive (holding s tok) ≡ is_exclusive (holding a tok) → IsBroken a tok → IsBroken s tok
+broken_on a s tok bank same alike exclusive b = broken_back s a tok (sym bank) (sym same) (sym alike) (sym exclusive) b
 
 held_exclusive : (held : Held) → is_exclusive held ≡ true → is_held held ≡ true
 held_exclusive Nothing is = cc
@@ -47,8 +47,9 @@ first_none s refs tok free broken = false≢true (sym free ∙ held_exclusive (h
 -- nothing was given up yet
 pub given_none : (s : CpuSeat) → GivenUp s s
 given_none s = record {
-  same = λ tok held. (record { row_is = refl; first_is = refl; generation_is = refl }, refl);
+  same = λ tok held. (section_from s s tok (entry s tok) refl refl refl refl refl refl, refl);
   given = λ tok free. (λ broken. absurd (false≢true (sym free ∙ held_exclusive (holding s tok) broken.exclusive)), λ fine. refl);
+  records = λ tok free. (λ broken. absurd (false≢true (sym free ∙ held_exclusive (holding s tok) broken.exclusive)), λ fine. refl);
 }
 
 -- one reference more is given back
@@ -66,10 +67,10 @@ module _ (a s s' : CpuSeat) (h : Holding) (tok : TokId) (mode : Mode) (restored 
   kept = up.same tok.0 held_here
 
   back_here : IsBroken s tok.0 → IsBroken a tok.0
-  back_here = broken_back a s tok.0 bank kept.0.row_is kept.1
+  back_here = broken_back a s tok.0 bank kept.0.row_is kept.0.blob_is kept.1
 
   on_here : IsBroken a tok.0 → IsBroken s tok.0
-  on_here = broken_on a s tok.0 bank kept.0.row_is kept.1
+  on_here = broken_on a s tok.0 bank kept.0.row_is kept.0.blob_is kept.1
 
   still_here : is_held (holding s' tok.0) ≡ true → SameSection a s' tok.0 × (is_exclusive (holding s' tok.0) ≡ is_exclusive (holding a tok.0))
   still_here held = (
@@ -86,6 +87,18 @@ module _ (a s s' : CpuSeat) (h : Holding) (tok : TokId) (mode : Mode) (restored 
     | inr is ↦ (
       λ broken. absurd ((back.no is).1 free (on_here broken)),
       λ fine. (back.no is).0 ∙ kept.0.row_is,
+    )
+  ]
+
+  records_here : is_held (holding s' tok.0) ≡ false → (IsBroken a tok.0 → blob s' tok.0 ≡ first_blob a tok.0) × (¬ IsBroken a tok.0 → blob s' tok.0 ≡ blob a tok.0)
+  records_here free = elim (cases_Bool restored) [
+    | inl is ↦ (
+      λ broken. back.yes_blob is ∙ kept.0.first_blob_is,
+      λ fine. absurd (fine (back_here (back.yes is).0)),
+    )
+    | inr is ↦ (
+      λ broken. absurd ((back.no is).1 free (on_here broken)),
+      λ fine. back.no_blob is ∙ kept.0.blob_is,
     )
   ]
 
@@ -111,6 +124,16 @@ module _ (a s s' : CpuSeat) (h : Holding) (tok : TokId) (mode : Mode) (restored 
           let k = up.given other (ap is_held (sym (elsewhere other is)) ∙ free) in
           let m = back.others other (eqb-false other tok.0 is) in
           (λ broken. m.row_is ∙ k.0 broken, λ fine. m.row_is ∙ k.1 fine)
+    ];
+    records = λ other free. elim (cases_Bool (eqb other tok.0)) [
+      | inl is ↦
+          let same = eqb-true other tok.0 is in
+          let F : ℕ → Type 0 = λ t. (IsBroken a t → blob s' t ≡ first_blob a t) × (¬ IsBroken a t → blob s' t ≡ blob a t) in
+          subst F (sym same) (records_here (ap (λ t. is_held (holding s' t)) (sym same) ∙ free))
+      | inr is ↦
+          let k = up.records other (ap is_held (sym (elsewhere other is)) ∙ free) in
+          let m = back.others other (eqb-false other tok.0 is) in
+          (λ broken. m.blob_is ∙ k.0 broken, λ fine. m.blob_is ∙ k.1 fine)
     ];
   }
 

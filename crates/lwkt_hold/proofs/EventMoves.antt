@@ -15,16 +15,16 @@ use Rattle.lwkt_base.specs.Holding.{Holding, holding_of}
 use Rattle.lwkt_core.specs.declared.events.Event.{Event}
 use Rattle.lwkt_core.specs.declared.events.Event.TheVariants.{Again, GiveOne, GiveClean, GiveWritten}
 use Rattle.lwkt_bank.specs.declared.seats.CpuSeat.{CpuSeat}
-use Rattle.lwkt_bank.specs.Seats.{BankId, bank_of, plan_of, holding, written_over}
+use Rattle.lwkt_bank.specs.Seats.{bank_of, holding}
 use Rattle.lwkt_hold.specs.declared.answers.Missed.{Missed}
 use Rattle.lwkt_hold.specs.declared.answers.Resumed.{Resumed}
 use Rattle.lwkt_hold.specs.declared.answers.Resumed.TheVariants.{All, Passed}
 use Rattle.lwkt_hold.specs.Fronts.{names}
 use Rattle.lwkt_hold.specs.Steps.{taking}
-use Rattle.lwkt_hold.specs.Rows.{row, first_row, section_now, MeetsItsLaw, SameSection, Mends, writes}
+use Rattle.lwkt_hold.specs.Rows.{IsUnwritten, section_now, MeetsItsLaw, SameSection, Mends}
 use Rattle.lwkt_hold.specs.Takings.{takes, takes_all}
-use Rattle.lwkt_hold.proofs.GiveMoves.{same_law, section_same}
-use Rattle.lwkt_hold.specs.Givings.{gives, gives_all, GivesBy, StoresFirst, Releases, ReleasesAll}
+use Rattle.lwkt_hold.proofs.GiveMoves.{same_law, section_same, restores_same, restores_before}
+use Rattle.lwkt_hold.specs.Givings.{gives, gives_all, GivesBy, RestoresBy, Releases, ReleasesAll}
 
 -- the first few references of a list and the one behind them
 pub take_one_more : (refs : List Ref) (i : ℕ) (d : Ref) → i < length refs → take (i + 1) refs ≡ take i refs ++ (get_or refs i d ∷ [])
@@ -101,7 +101,7 @@ gives_snoc cpu front (x ∷ refs) r =
     ap (λ es. es ++ gives cpu x.tok (holding_of (front ++ x ∷ []) x.tok.0) ∷ [])
     (gives_snoc cpu (front ++ x ∷ []) refs r ∙ ap (λ (xs : List Ref). gives cpu r.tok (holding_of (xs ++ r ∷ []) r.tok.0) ∷ gives_all cpu (front ++ x ∷ []) refs) (append_assoc front (x ∷ []) refs))
 
--- the event of giving one back, where the row is the first row
+-- the event of giving one back, where row and record are the first ones
 one_if : (b : Bool) (cpu : CpuId) (tok : TokId) → (b ≡ true → ⊥) → GiveOne cpu tok ≡ cond b (GiveClean cpu tok) (GiveOne cpu tok)
 one_if true cpu tok apart = absurd (apart refl)
 one_if false cpu tok apart = refl
@@ -111,7 +111,7 @@ gives_one cpu tok Nothing apart = refl
 gives_one cpu tok (Holds Shared further) apart = refl
 gives_one cpu tok (Holds Exclusive further) apart = one_if (eqb further 0) cpu tok (λ is. apart (ap (λ n. Holds Exclusive n) (eqb-true further 0 is)))
 
-pub gives_clean : (s : CpuSeat) (tok : TokId) (event : Event) → row s tok.0 ≡ first_row s tok.0 → GivesBy s tok event → event ≡ gives s.cpu tok (holding s tok.0)
+pub gives_clean : (s : CpuSeat) (tok : TokId) (event : Event) → IsUnwritten s tok.0 → GivesBy s tok event → event ≡ gives s.cpu tok (holding s tok.0)
 gives_clean s tok event same by = elim by [
   | inl one ↦ one.1 ∙ gives_one s.cpu tok (holding s tok.0) one.0
   | inr end ↦ elim end [
@@ -145,12 +145,19 @@ gives_done refs count given cpu t u done so_far =
     let none : count - given ≡ 0 = omega arith in
     sym (append-nil u) ∙ ap (λ k. u ++ gives_all cpu [] (take k refs)) (sym none) ∙ so_far
 
+-- row and record that are the first ones are so while a section goes on
+unwritten_back : (s m : CpuSeat) (tok : ℕ) → SameSection s m tok → IsUnwritten m tok → IsUnwritten s tok
+unwritten_back s m tok same is = (sym same.row_is ∙ is.0 ∙ same.first_is, sym same.blob_is ∙ is.1 ∙ same.first_blob_is)
+
+unwritten_on : (s m : CpuSeat) (tok : ℕ) → SameSection s m tok → IsUnwritten s tok → IsUnwritten m tok
+unwritten_on s m tok same is = (same.row_is ∙ is.0 ∙ sym same.first_is, same.blob_is ∙ is.1 ∙ sym same.first_blob_is)
+
 -- a reference given back after its section was mended
 module _ (s m : CpuSeat) (tok : TokId) (restored : Bool) (t u v : List Event) (event : Event) (kept : holding m ≡ holding s) (bank : bank_of m ≡ bank_of s) (mine : m.cpu ≡ s.cpu) (mends : Mends s m tok.0 restored) (pushed : v ≡ u ++ event ∷ []) (by : GivesBy m tok event) where
   held_same : holding m tok.0 ≡ holding s tok.0
   held_same = ap (λ h. h tok.0) kept
 
-  clean_now : holding s tok.0 ≡ Holds Exclusive 0 → row m tok.0 ≡ first_row m tok.0 → event ≡ GiveClean s.cpu tok
+  clean_now : holding s tok.0 ≡ Holds Exclusive 0 → IsUnwritten m tok.0 → event ≡ GiveClean s.cpu tok
   clean_now ends same = elim by [
     | inl one ↦ absurd (one.0 (held_same ∙ ends))
     | inr end ↦ elim end [
@@ -159,11 +166,11 @@ module _ (s m : CpuSeat) (tok : TokId) (restored : Bool) (t u v : List Event) (e
     ]
   ]
 
-  same_first : restored ≡ false → (row m tok.0 ≡ first_row m tok.0 → row s tok.0 ≡ first_row s tok.0) × (row s tok.0 ≡ first_row s tok.0 → row m tok.0 ≡ first_row m tok.0)
-  same_first is = (λ e. sym (mends.no is).0 ∙ e ∙ mends.first_is, λ e. (mends.no is).0 ∙ e ∙ sym mends.first_is)
-
   goes_on : restored ≡ false → SameSection s m tok.0
-  goes_on is = record { row_is = (mends.no is).0; first_is = mends.first_is; generation_is = mends.generation_is is }
+  goes_on is = record { row_is = (mends.no is).0; first_is = mends.first_is; blob_is = mends.no_blob is; first_blob_is = mends.first_blob_is; generation_is = mends.generation_is is }
+
+  same_first : restored ≡ false → (IsUnwritten m tok.0 → IsUnwritten s tok.0) × (IsUnwritten s tok.0 → IsUnwritten m tok.0)
+  same_first is = (unwritten_back s m tok.0 (goes_on is), unwritten_on s m tok.0 (goes_on is))
 
   only : restored ≡ false → Releases s (holding s tok.0) tok (event ∷ [])
   only is = elim by [
@@ -181,57 +188,50 @@ module _ (s m : CpuSeat) (tok : TokId) (restored : Bool) (t u v : List Event) (e
   unmended : restored ≡ false → u ≡ t → (done : List Event) × ((v ≡ t ++ done) × Releases s (holding s tok.0) tok done)
   unmended is silent = (event ∷ [], (pushed ∙ ap (λ xs. xs ++ event ∷ []) silent, only is))
 
-  mended : restored ≡ true → (values : List (Option ℕ)) × (StoresFirst s tok.0 values × (u ≡ t ++ writes s.cpu tok 0 values)) → (done : List Event) × ((v ≡ t ++ done) × Releases s (holding s tok.0) tok done)
+  mended : restored ≡ true → (stores : List Event) × ((u ≡ t ++ stores) × RestoresBy s tok [] stores) → (done : List Event) × ((v ≡ t ++ done) × Releases s (holding s tok.0) tok done)
   mended is stored =
-      let values = stored.0 in
       let ends = (mends.yes is).1 in
-      let last = clean_now ends ((mends.yes is).2 ∙ sym mends.first_is) in (
-        writes s.cpu tok 0 values ++ GiveClean s.cpu tok ∷ [],
+      let last = clean_now ends ((mends.yes is).2 ∙ sym mends.first_is, mends.yes_blob is ∙ sym mends.first_blob_is) in
+      let clean = GiveClean s.cpu tok ∷ [] in (
+        stored.0 ++ clean,
         (
-          pushed ∙ ap (λ e. u ++ e ∷ []) last ∙ ap (λ xs. xs ++ GiveClean s.cpu tok ∷ []) stored.1.1 ∙ append_assoc t (writes s.cpu tok 0 values) (GiveClean s.cpu tok ∷ []),
-          inr (inr (inr (ends, (mends.yes is).0.broken, (values, (stored.1.0, refl))))),
+          pushed ∙ ap (λ e. u ++ e ∷ []) last ∙ ap (λ xs. xs ++ clean) stored.1.0 ∙ append_assoc t stored.0 clean,
+          inr (inr (inr (ends, (mends.yes is).0.broken, restores_before s tok clean stored.0 stored.1.1))),
         ),
       )
 
-  pub released : (restored ≡ false → u ≡ t) → (restored ≡ true → (values : List (Option ℕ)) × (StoresFirst s tok.0 values × (u ≡ t ++ writes s.cpu tok 0 values))) → (done : List Event) × ((v ≡ t ++ done) × Releases s (holding s tok.0) tok done)
+  pub released : (restored ≡ false → u ≡ t) → (restored ≡ true → (stores : List Event) × ((u ≡ t ++ stores) × RestoresBy s tok [] stores)) → (done : List Event) × ((v ≡ t ++ done) × Releases s (holding s tok.0) tok done)
   released silent stored = elim (cases_Bool restored) [
     | inl is ↦ mended is (stored is)
     | inr is ↦ unmended is (silent is)
   ]
 
--- the events of giving a reference back are the same for a seat whose row of the token is the same
+-- the events of giving a reference back are the same for a seat whose row and record of the token are the same
 pub released_before : (a s : CpuSeat) (tok : TokId) (held : Held) (done : List Event) → bank_of s ≡ bank_of a → s.cpu ≡ a.cpu → SameSection a s tok.0 → Releases s held tok done → Releases a held tok done
 released_before a s tok held done bank mine same r = elim r [
   | inl one ↦ inl (one.0, one.1 ∙ ap (λ c. GiveOne c tok ∷ []) mine)
   | inr end ↦ elim end [
-    | inl clean ↦ inr (inl (clean.0, back clean.1, sym same.row_is ∙ clean.2 ∙ same.first_is, clean.3 ∙ ap (λ c. GiveClean c tok ∷ []) mine))
+    | inl clean ↦ inr (inl (clean.0, back clean.1, unwritten_back a s tok.0 same clean.2, clean.3 ∙ ap (λ c. GiveClean c tok ∷ []) mine))
     | inr more ↦ elim more [
-      | inl wrote ↦ inr (inr (inl (wrote.0, back wrote.1, λ is. wrote.2 (same.row_is ∙ is ∙ sym same.first_is), wrote.3 ∙ ap (λ c. GiveWritten c tok (section_now s tok) ∷ []) mine ∙ ap (λ x. GiveWritten a.cpu tok x ∷ []) (section_same a s tok same))))
+      | inl wrote ↦ inr (inr (inl (wrote.0, back wrote.1, λ is. wrote.2 (unwritten_on a s tok.0 same is), wrote.3 ∙ ap (λ c. GiveWritten c tok (section_now s tok) ∷ []) mine ∙ ap (λ x. GiveWritten a.cpu tok x ∷ []) (section_same a s tok same))))
       | inr restored ↦ inr (inr (inr (restored.0, λ meets. restored.1 (there meets), stores restored.2)))
     ]
   ]
 ]
   where
-    written : List (Option ℕ) → List ℕ → List ℕ
-    written values cells = written_over 0 values cells
-
     there : MeetsItsLaw a tok.0 → MeetsItsLaw s tok.0
-    there meets = same_law a s tok.0 bank same.row_is meets
+    there meets = same_law a s tok.0 bank same.row_is same.blob_is meets
 
     back : MeetsItsLaw s tok.0 → MeetsItsLaw a tok.0
-    back meets = same_law s a tok.0 (sym bank) (sym same.row_is) meets
+    back meets = same_law s a tok.0 (sym bank) (sym same.row_is) (sym same.blob_is) meets
 
-    stores : (values : List (Option ℕ)) × (StoresFirst s tok.0 values × (done ≡ writes s.cpu tok 0 values ++ GiveClean s.cpu tok ∷ [])) → (values : List (Option ℕ)) × (StoresFirst a tok.0 values × (done ≡ writes a.cpu tok 0 values ++ GiveClean a.cpu tok ∷ []))
-    stores x = (
-      x.0,
-      (
-        record {
-          makes_first = ap (λ xs. written x.0 xs) (sym same.row_is) ∙ x.1.0.makes_first ∙ same.first_is;
-          inside = let G : BankId → Type 0 = λ b. (cell value : ℕ) → slice_get x.0 cell ≡ Some (Some value) → cell < (plan_of b tok.0).cells in subst G bank x.1.0.inside;
-        },
-        x.1.1 ∙ ap (λ c. writes c tok 0 x.0 ++ GiveClean c tok ∷ []) mine,
-      ),
-    )
+    clean : CpuId → List Event
+    clean cpu = GiveClean cpu tok ∷ []
+
+    stores : RestoresBy s tok (clean s.cpu) done → RestoresBy a tok (clean a.cpu) done
+    stores x =
+        let F : CpuId → Type 0 = λ c. RestoresBy a tok (clean c) done in
+        subst F mine (restores_same a s tok (clean s.cpu) done bank mine same x)
 
 -- one reference more is given back before those in front of it
 releases_snoc : (s : CpuSeat) (front refs : List Ref) (r : Ref) (own rest : List Event) → Releases s (holding_of ((front ++ refs) ++ r ∷ []) r.tok.0) r.tok own → ReleasesAll s front refs rest → ReleasesAll s front (refs ++ r ∷ []) (own ++ rest)

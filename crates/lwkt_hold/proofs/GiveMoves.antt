@@ -1,8 +1,9 @@
-use Rattle.std.proofs.Common.{◌≡◌, ◌≢◌, ◌⊎◌, ℕ, zero, suc, ◌+◌, ◌-◌, ◌<◌, ◌≤◌, Bool, true, false, cond, eqb, List, [], ◌∷◌, ◌++◌, length, take, get_or, refl, ap, sym, ◌∙◌, subst, arith, inl, inr, eq-eqb}
+use Rattle.std.proofs.Common.{◌≡◌, ◌≢◌, ◌⊎◌, ℕ, zero, suc, ◌+◌, ◌-◌, ◌<◌, ◌≤◌, Bool, true, false, cond, eqb, List, [], ◌∷◌, ◌++◌, length, take, get_or, refl, ap, sym, ◌∙◌, subst, arith, inl, inr, eq-eqb, append_assoc}
 use Rattle.std.specs.Prelude.{All, filter, Vec, vec_len, vec_capacity, Option, Some, None, slice_get, slice_index}
 use Rattle.std.specs.List.{AllZip}
 use Rattle.std.specs.declared.alloc.Global.{Global}
-use Rattle.std.proofs.lemmas.List.Elements.{All-from_recursion, All-cons}
+use Rattle.std.proofs.lemmas.List.{append-nil}
+use Rattle.std.proofs.lemmas.List.Elements.{All-append, filter-append, All-from_recursion, All-cons}
 use Rattle.std.proofs.lemmas.Option.{slice_get_within, get_or_from_slice_get}
 use Rattle.lwkt_base.specs.declared.names.CpuId.{CpuId}
 use Rattle.lwkt_base.specs.declared.names.TokId.{TokId}
@@ -13,11 +14,12 @@ use Rattle.lwkt_base.specs.declared.holdings.Held.{Held}
 use Rattle.lwkt_base.specs.declared.holdings.Held.TheVariants.{Nothing, Holds}
 use Rattle.lwkt_base.specs.declared.laws.Law.{Law}
 use Rattle.lwkt_base.specs.declared.laws.Law.TheVariants.{Any, Sum, Order, Cap, Tally, Len}
-use Rattle.lwkt_base.specs.Law.{MeetsLaw}
+use Rattle.lwkt_base.specs.Law.{Obeys}
+use Rattle.lwkt_core.specs.Tokens.{length_of}
 use Rattle.std.proofs.lemmas.Bool.{eqb-true, eqb-false, cases_Bool, false≢true}
 use Rattle.lwkt_base.specs.Holding.{Holding, is_held, is_exclusive, one_more, one_less, added, removed, holding_of}
 use Rattle.lwkt_core.specs.declared.events.Event.{Event}
-use Rattle.lwkt_core.specs.declared.events.Event.TheVariants.{Write}
+use Rattle.lwkt_core.specs.declared.events.Event.TheVariants.{Write, WriteBlob}
 use Rattle.lwkt_core.specs.Events.{cpu_of}
 use Rattle.lwkt_bank.specs.declared.views.TokenEntry.{TokenEntry}
 use Rattle.lwkt_bank.specs.declared.seats.CpuSeat.{CpuSeat}
@@ -25,15 +27,15 @@ use Rattle.lwkt_core.specs.declared.seats.WordStep.{WordStep}
 use Rattle.lwkt_core.specs.declared.seats.Deed.{Deed}
 use Rattle.lwkt_core.specs.History.{events_in, steps_in}
 use Rattle.lwkt_core.proofs.HistoryLemmas.{events_in-append, steps_in-append}
-use Rattle.lwkt_bank.specs.Views.{is_touched}
-use Rattle.lwkt_bank.specs.Deeds.{reads, reads_all, writes_all}
-use Rattle.lwkt_bank.specs.Seats.{BankId, bank_of, plan_of, entry, holding, Changes, Knowing, Restored, first_load, last_loads, lawful_loads, written_over}
+use Rattle.lwkt_bank.specs.Views.{RecordOf, is_touched}
+use Rattle.lwkt_bank.specs.Deeds.{reads, reads_all, writes_all, writes_blob_if}
+use Rattle.lwkt_bank.specs.Seats.{BankId, bank_of, plan_of, entry, holding, Changes, Knowing, PutsFirst, Restored, first_load, last_loads, lawful_loads, asked_record, written_over}
 use Rattle.lwkt_hold.specs.Steps.{is_counted, is_of_token, is_on_word, ShowsEvent, Tells}
 use Rattle.lwkt_hold.specs.Runs.{Moves, Ran}
-use Rattle.lwkt_hold.specs.Rows.{row, first_row, MeetsItsLaw, IsBroken, SameSection, section_now, writes, GivesBack, Mends}
-use Rattle.lwkt_hold.specs.Givings.{StoresFirst}
+use Rattle.lwkt_hold.specs.Rows.{row, first_row, blob, first_blob, IsUnwritten, MeetsItsLaw, IsBroken, SameRow, SameSection, section_now, writes, writes_record, GivesBack, Mends}
+use Rattle.lwkt_hold.specs.Givings.{StoresFirst, RestoresBy}
 use Rattle.lwkt_hold.proofs.HoldingMoves.{holding_of_more}
-use Rattle.lwkt_hold.proofs.RunMoves.{Tells-append, ran_quiet, ran_weaker, holding_kept}
+use Rattle.lwkt_hold.proofs.RunMoves.{Moves-append, Tells-append, ran_quiet, ran_weaker, holding_kept}
 
 -- stores are no steps on a token word, are by their processor, and keep every holding
 writes_off : (cpu : CpuId) (tok : TokId) (cell : ℕ) (values : List (Option ℕ)) → filter is_on_word (writes cpu tok cell values) ≡ []
@@ -67,35 +69,91 @@ no_steps cpu tok cell [] = refl
 no_steps cpu tok cell (None ∷ values) = no_steps cpu tok (suc cell) values
 no_steps cpu tok cell (Some value ∷ values) = no_steps cpu tok (suc cell) values
 
--- a call that stored these values
-pub stored_ran : (P : Holding → Type 0) (s s' : CpuSeat) (tok : TokId) (cpu : CpuId) (values : List (Option ℕ)) (t u : Vec Event Global) → Restored s s' tok.0 values → P (holding s) → cpu ≡ s.cpu → u.items ≡ t.items ++ writes cpu tok 0 values → vec_len u ≡ vec_len t + length (writes cpu tok 0 values) → length (writes cpu tok 0 values) ≤ 4 → vec_capacity t ≤ vec_capacity u → Ran P 4 s s' t u
-stored_ran P s s' tok cpu values t u r at_front mine pushed longer few room = record {
+-- the same of the store of a record, if one is stored
+record_off : (cpu : CpuId) (tok : TokId) (bytes : RecordOf) → filter is_on_word (writes_record cpu tok bytes) ≡ []
+record_off cpu tok None = refl
+record_off cpu tok (Some bytes) = refl
+
+record_own : (cpu : CpuId) (tok : TokId) (bytes : RecordOf) → All (λ e. cpu_of e ≡ cpu.0) (writes_record cpu tok bytes)
+record_own cpu tok None = All-from_recursion (λ (e : Event). cpu_of e ≡ cpu.0) [] tt
+record_own cpu tok (Some bytes) = All-from_recursion (λ (e : Event). cpu_of e ≡ cpu.0) (WriteBlob cpu tok bytes ∷ []) (refl, tt)
+
+record_moves : (P : Holding → Type 0) (h : Holding) (cpu : CpuId) (tok : TokId) (bytes : RecordOf) → P h → Moves P h (writes_record cpu tok bytes) h
+record_moves P h cpu tok None at_front = refl
+record_moves P h cpu tok (Some bytes) at_front = (at_front, refl)
+
+tells_record : (cpu : CpuId) (tok : TokId) (bytes : RecordOf) → Tells (events_in (writes_blob_if cpu tok.0 bytes)) (writes_record cpu tok bytes)
+tells_record cpu tok None = refl
+tells_record cpu tok (Some bytes) = inr (refl, ([], (refl, refl)))
+
+record_of_token : (cpu : CpuId) (tok : TokId) (bytes : RecordOf) → filter is_of_token (writes_record cpu tok bytes) ≡ writes_record cpu tok bytes
+record_of_token cpu tok None = refl
+record_of_token cpu tok (Some bytes) = refl
+
+no_record_steps : (cpu : CpuId) (tok : ℕ) (bytes : RecordOf) → steps_in (writes_blob_if cpu tok bytes) ≡ []
+no_record_steps cpu tok None = refl
+no_record_steps cpu tok (Some bytes) = refl
+
+-- the events and the deeds of a restore
+abbrev pub stores : CpuId → TokId → List (Option ℕ) → RecordOf → List Event
+stores cpu tok values bytes = writes cpu tok 0 values ++ writes_record cpu tok bytes
+
+abbrev pub store_deeds : CpuId → ℕ → List (Option ℕ) → RecordOf → List Deed
+store_deeds cpu tok values bytes = writes_all cpu tok 0 values ++ writes_blob_if cpu tok bytes
+
+stores_off : (cpu : CpuId) (tok : TokId) (values : List (Option ℕ)) (bytes : RecordOf) → filter is_on_word (stores cpu tok values bytes) ≡ []
+stores_off cpu tok values bytes = filter-append is_on_word (writes cpu tok 0 values) (writes_record cpu tok bytes) ∙ ap (λ (es : List Event). es ++ filter is_on_word (writes_record cpu tok bytes)) (writes_off cpu tok 0 values) ∙ record_off cpu tok bytes
+
+stores_of_token : (cpu : CpuId) (tok : TokId) (values : List (Option ℕ)) (bytes : RecordOf) → filter is_of_token (stores cpu tok values bytes) ≡ stores cpu tok values bytes
+stores_of_token cpu tok values bytes =
+    filter-append is_of_token (writes cpu tok 0 values) (writes_record cpu tok bytes)
+    ∙ ap (λ (es : List Event). es ++ filter is_of_token (writes_record cpu tok bytes)) (writes_of_token cpu tok 0 values)
+    ∙ ap (λ (es : List Event). writes cpu tok 0 values ++ es) (record_of_token cpu tok bytes)
+
+tells_stores : (cpu : CpuId) (tok : TokId) (values : List (Option ℕ)) (bytes : RecordOf) → Tells (events_in (store_deeds cpu tok.0 values bytes)) (stores cpu tok values bytes)
+tells_stores cpu tok values bytes =
+    let F : List Event → Type 0 = λ es. Tells es (stores cpu tok values bytes) in
+    subst F (sym (events_in-append (writes_all cpu tok.0 0 values) (writes_blob_if cpu tok.0 bytes)))
+    (Tells-append (events_in (writes_all cpu tok.0 0 values)) (events_in (writes_blob_if cpu tok.0 bytes)) (writes cpu tok 0 values) (writes_record cpu tok bytes) (tells_writes cpu tok 0 values) (tells_record cpu tok bytes))
+
+no_store_steps : (cpu : CpuId) (tok : ℕ) (values : List (Option ℕ)) (bytes : RecordOf) → steps_in (store_deeds cpu tok values bytes) ≡ []
+no_store_steps cpu tok values bytes =
+    steps_in-append (writes_all cpu tok 0 values) (writes_blob_if cpu tok bytes)
+    ∙ ap (λ (xs : List WordStep). xs ++ steps_in (writes_blob_if cpu tok bytes)) (no_steps cpu tok 0 values)
+    ∙ no_record_steps cpu tok bytes
+
+pub stored_kept : (s s' : CpuSeat) (tok : ℕ) (values : List (Option ℕ)) (bytes : RecordOf) → Restored s s' tok values bytes → holding s' ≡ holding s
+stored_kept s s' tok values bytes r = holding_kept s s' tok (record (entry s tok) { row = (entry s tok).first; blob = (entry s tok).first_blob }) (store_deeds s.cpu tok values bytes) r.changes refl
+
+-- a call that stored these values, and this record
+pub stored_ran : (P : Holding → Type 0) (s s' : CpuSeat) (tok : TokId) (cpu : CpuId) (values : List (Option ℕ)) (bytes : RecordOf) (t u : Vec Event Global) → Restored s s' tok.0 values bytes → P (holding s) → cpu ≡ s.cpu → u.items ≡ t.items ++ stores cpu tok values bytes → vec_len u ≡ vec_len t + length (stores cpu tok values bytes) → length (stores cpu tok values bytes) ≤ 5 → vec_capacity t ≤ vec_capacity u → Ran P 5 s s' t u
+stored_ran P s s' tok cpu values bytes t u r at_front mine pushed longer few room = record {
   bank = r.changes.bank;
   cpu = r.changes.cpu;
-  deeds = writes_all s.cpu tok.0 0 values;
+  deeds = store_deeds s.cpu tok.0 values bytes;
   grows = r.changes.grows;
   mine = r.changes.own;
   tells =
-      let F : CpuId → Type 0 = λ c. Tells (events_in (writes_all s.cpu tok.0 0 values)) (writes c tok 0 values) in
-      let G : List Event → Type 0 = λ es. Tells (events_in (writes_all s.cpu tok.0 0 values)) es in
-      subst G (sym (writes_of_token cpu tok 0 values)) (subst F (sym mine) (tells_writes s.cpu tok 0 values));
-  done = writes cpu tok 0 values;
+      let F : CpuId → Type 0 = λ c. Tells (events_in (store_deeds s.cpu tok.0 values bytes)) (stores c tok values bytes) in
+      let G : List Event → Type 0 = λ es. Tells (events_in (store_deeds s.cpu tok.0 values bytes)) es in
+      subst G (sym (stores_of_token cpu tok values bytes)) (subst F (sym mine) (tells_stores s.cpu tok values bytes));
+  done = stores cpu tok values bytes;
   trace = pushed;
-  own = let F : ℕ → Type 0 = λ k. All (λ (e : Event). cpu_of e ≡ k) (writes cpu tok 0 values) in subst F (ap (λ (x : CpuId). x.0) mine) (writes_own cpu tok 0 values);
+  own =
+      let F : ℕ → Type 0 = λ k. All (λ (e : Event). cpu_of e ≡ k) (stores cpu tok values bytes) in
+      subst F (ap (λ (x : CpuId). x.0) mine) (All-append (λ (e : Event). cpu_of e ≡ cpu.0) (writes cpu tok 0 values) (writes_record cpu tok bytes) (writes_own cpu tok 0 values) (record_own cpu tok bytes));
   told =
       let F : List Event → Type 0 = λ ys. AllZip ShowsEvent [] ys in
-      let G : List WordStep → Type 0 = λ xs. AllZip ShowsEvent (filter is_counted xs) (filter is_on_word (writes cpu tok 0 values)) in
-      subst G (sym (no_steps s.cpu tok.0 0 values)) (subst F (sym (writes_off cpu tok 0 values)) tt);
+      let G : List WordStep → Type 0 = λ xs. AllZip ShowsEvent (filter is_counted xs) (filter is_on_word (stores cpu tok values bytes)) in
+      subst G (sym (no_store_steps s.cpu tok.0 values bytes)) (subst F (sym (stores_off cpu tok values bytes)) tt);
   moves =
-      let F : Holding → Type 0 = λ h. Moves P (holding s) (writes cpu tok 0 values) h in
-      subst F (sym (holding_kept s s' tok.0 (record (entry s tok.0) { row = (entry s tok.0).first }) (writes_all s.cpu tok.0 0 values) r.changes refl)) (writes_move P (holding s) cpu tok 0 values at_front);
+      let h = holding s in
+      let F : Holding → Type 0 = λ x. Moves P h (stores cpu tok values bytes) x in
+      subst F (sym (stored_kept s s' tok.0 values bytes r)) (Moves-append P (writes cpu tok 0 values) (writes_record cpu tok bytes) h h h (writes_move P h cpu tok 0 values at_front) (record_moves P h cpu tok bytes at_front));
   few = few;
   grown = longer;
   room = room;
 }
-
-pub stored_kept : (s s' : CpuSeat) (tok : ℕ) (values : List (Option ℕ)) → Restored s s' tok values → holding s' ≡ holding s
-stored_kept s s' tok values r = holding_kept s s' tok (record (entry s tok) { row = (entry s tok).first }) (writes_all s.cpu tok 0 values) r.changes refl
 
 -- deeds that a trace tells nothing of, and that are no steps on a token word
 abbrev pub IsUntold : List Deed → Type 0
@@ -131,14 +189,32 @@ last_untold s tok (suc cells) =
     let untold = last_untold s tok cells in
     (tells_behind before one [] untold (first_untold s tok cells).0, steps_behind before one untold ∙ (first_untold s tok cells).1)
 
+-- the access to the record in a question for the law
+asked_untold : (law : Law) (cpu : CpuId) (tok : ℕ) (bytes : RecordOf) → IsUntold (asked_record law cpu tok bytes)
+asked_untold Any cpu tok bytes = (refl, refl)
+asked_untold Sum cpu tok bytes = (refl, refl)
+asked_untold Order cpu tok bytes = (refl, refl)
+asked_untold Cap cpu tok bytes = (refl, refl)
+asked_untold Len cpu tok None = (refl, refl)
+asked_untold Len cpu tok (Some bytes) = (inl (refl, refl), refl)
+asked_untold Tally cpu tok bytes = (refl, refl)
+
+all_untold : (law : Law) (cpu : CpuId) (tok : ℕ) (row : List ℕ) (bytes : RecordOf) → IsUntold (reads_all cpu tok 0 row ++ asked_record law cpu tok bytes)
+all_untold law cpu tok row bytes =
+    let loads = reads_all cpu tok 0 row in
+    let asked = asked_record law cpu tok bytes in
+    let untold = reads_untold cpu tok 0 row in
+    let last = asked_untold law cpu tok bytes in
+    (tells_behind loads asked [] untold last.0, steps_behind loads asked untold ∙ last.1)
+
 -- the loads of a question for the law
-pub lawful_untold : (law : Law) (cpu : CpuId) (tok : ℕ) (row : List ℕ) → IsUntold (lawful_loads law (reads_all cpu tok 0 row))
-lawful_untold Any cpu tok row = (refl, refl)
-lawful_untold Sum cpu tok row = reads_untold cpu tok 0 row
-lawful_untold Order cpu tok row = reads_untold cpu tok 0 row
-lawful_untold Cap cpu tok row = reads_untold cpu tok 0 row
-lawful_untold Len cpu tok row = reads_untold cpu tok 0 row
-lawful_untold Tally cpu tok row = (refl, refl)
+pub lawful_untold : (law : Law) (cpu : CpuId) (tok : ℕ) (row : List ℕ) (bytes : RecordOf) → IsUntold (lawful_loads law (reads_all cpu tok 0 row ++ asked_record law cpu tok bytes))
+lawful_untold Any cpu tok row bytes = (refl, refl)
+lawful_untold Sum cpu tok row bytes = all_untold Sum cpu tok row bytes
+lawful_untold Order cpu tok row bytes = all_untold Order cpu tok row bytes
+lawful_untold Cap cpu tok row bytes = all_untold Cap cpu tok row bytes
+lawful_untold Len cpu tok row bytes = all_untold Len cpu tok row bytes
+lawful_untold Tally cpu tok row bytes = (refl, refl)
 
 -- a call without a word step that learns of cells
 pub knowing_ran : (P : Holding → Type 0) (most : ℕ) (s s' : CpuSeat) (tok : ℕ) (deeds : List Deed) (t : Vec Event Global) → IsUntold deeds → Knowing s s' tok (entry s tok) deeds → Ran P most s s' t t
@@ -166,9 +242,9 @@ one_more_here false held mode is = cc
 pub more_here : (h : Holding) (tok : ℕ) (mode : Mode) → added h tok mode tok ≡ one_more (h tok) mode
 more_here h tok mode = one_more_here (eqb tok tok) (h tok) mode (eq-eqb tok tok refl)
 
--- a row that doesn't obey its law isn't that of a Tally token
+-- a row and a record that don't obey their law aren't those of a Tally token
 pub not_tally : (s : CpuSeat) (tok : ℕ) → (MeetsItsLaw s tok → ⊥) → (plan_of (bank_of s) tok).law ≡ Tally → ⊥
-not_tally s tok broken tally = let F : Law → Type 0 = λ l. MeetsLaw l (plan_of (bank_of s) tok).param (row s tok) in broken (subst F (sym tally) tt)
+not_tally s tok broken tally = let F : Law → Type 0 = λ l. Obeys l (plan_of (bank_of s) tok).param (row s tok) (length_of (blob s tok)) in broken (subst F (sym tally) tt)
 
 one_less_here : (b : Bool) (held : Held) → b ≡ true → cond b (one_less held) held ≡ one_less held
 one_less_here true held is = refl
@@ -193,25 +269,45 @@ held_more (Holds first further) mode = refl
 pub exclusive_held : (held : Held) → held ≡ Holds Exclusive 0 → is_exclusive held ≡ true
 exclusive_held held is = ap is_exclusive is
 
-pub same_law : (s m : CpuSeat) (tok : ℕ) → bank_of m ≡ bank_of s → row m tok ≡ row s tok → MeetsItsLaw s tok → MeetsItsLaw m tok
-same_law s m tok bank same meets =
-    let F : List ℕ → Type 0 = λ xs. MeetsLaw (plan_of (bank_of s) tok).law (plan_of (bank_of s) tok).param xs in
-    let G : BankId → Type 0 = λ b. MeetsLaw (plan_of b tok).law (plan_of b tok).param (row m tok) in
-    subst G (sym bank) (subst F (sym same) meets)
+pub same_law : (s m : CpuSeat) (tok : ℕ) → bank_of m ≡ bank_of s → row m tok ≡ row s tok → blob m tok ≡ blob s tok → MeetsItsLaw s tok → MeetsItsLaw m tok
+same_law s m tok bank same alike meets =
+    let F : List ℕ → Type 0 = λ xs. Obeys (plan_of (bank_of s) tok).law (plan_of (bank_of s) tok).param xs (length_of (blob s tok)) in
+    let B : RecordOf → Type 0 = λ o. Obeys (plan_of (bank_of s) tok).law (plan_of (bank_of s) tok).param (row m tok) (length_of o) in
+    let G : BankId → Type 0 = λ b. Obeys (plan_of b tok).law (plan_of b tok).param (row m tok) (length_of (blob m tok)) in
+    subst G (sym bank) (subst B (sym alike) (subst F (sym same) meets))
+
+-- what an entry leaves of rows and records
+pub section_from : (s m : CpuSeat) (tok : ℕ) (e : TokenEntry) → entry m tok ≡ e → e.row ≡ row s tok → e.first ≡ first_row s tok → e.blob ≡ blob s tok → e.first_blob ≡ first_blob s tok → e.generation ≡ (entry s tok).generation → SameSection s m tok
+section_from s m tok e is same first alike first_alike generation = record {
+  row_is = ap (λ (x : TokenEntry). x.row) is ∙ same;
+  first_is = ap (λ (x : TokenEntry). x.first) is ∙ first;
+  blob_is = ap (λ (x : TokenEntry). x.blob) is ∙ alike;
+  first_blob_is = ap (λ (x : TokenEntry). x.first_blob) is ∙ first_alike;
+  generation_is = ap (λ (x : TokenEntry). x.generation) is ∙ generation;
+}
+
+pub row_from : (s m : CpuSeat) (tok : ℕ) (e : TokenEntry) → entry m tok ≡ e → e.row ≡ row s tok → e.first ≡ first_row s tok → e.blob ≡ blob s tok → e.first_blob ≡ first_blob s tok → SameRow s m tok
+row_from s m tok e is same first alike first_alike = record {
+  row_is = ap (λ (x : TokenEntry). x.row) is ∙ same;
+  first_is = ap (λ (x : TokenEntry). x.first) is ∙ first;
+  blob_is = ap (λ (x : TokenEntry). x.blob) is ∙ alike;
+  first_blob_is = ap (λ (x : TokenEntry). x.first_blob) is ∙ first_alike;
+}
 
 -- a section that goes on, and goes on again
 pub same_then : (a b c : CpuSeat) (tok : ℕ) → SameSection a b tok → SameSection b c tok → SameSection a c tok
 same_then a b c tok first second = record {
   row_is = second.row_is ∙ first.row_is;
   first_is = second.first_is ∙ first.first_is;
+  blob_is = second.blob_is ∙ first.blob_is;
+  first_blob_is = second.first_blob_is ∙ first.first_blob_is;
   generation_is = second.generation_is ∙ first.generation_is;
 }
 
 -- a change of one token lets the sections of the others go on
 pub same_else : (s m : CpuSeat) (tok : ℕ) (e : TokenEntry) (deeds : List Deed) → Changes s m tok e deeds → (other : ℕ) → other ≢ tok → SameSection s m other
 same_else s m tok e deeds c other away =
-    let k = c.else_ other away in
-    record { row_is = ap (λ (x : TokenEntry). x.row) k; first_is = ap (λ (x : TokenEntry). x.first) k; generation_is = ap (λ (x : TokenEntry). x.generation) k }
+    section_from s m other (entry s other) (c.else_ other away) refl refl refl refl refl
 
 -- a section that goes on is the same one
 pub section_same : (a b : CpuSeat) (tok : TokId) → SameSection a b tok.0 → section_now b tok ≡ section_now a tok
@@ -222,16 +318,16 @@ module _ (s m : CpuSeat) (tok : ℕ) (restored : Bool) (held : is_held (holding 
   pub held_now : is_held (holding m tok) ≡ true
   held_now = ap (λ x. is_held (x tok)) kept ∙ held
 
-  pub ready_now : holding m tok ≡ Holds Exclusive 0 → (row m tok ≡ first_row m tok) ⊎ MeetsItsLaw m tok
+  pub ready_now : holding m tok ≡ Holds Exclusive 0 → IsUnwritten m tok ⊎ MeetsItsLaw m tok
   ready_now ends = elim (cases_Bool restored) [
-    | inl is ↦ inl ((mends.yes is).2 ∙ sym mends.first_is)
-    | inr is ↦ inr (same_law s m tok bank (mends.no is).0 ((mends.no is).1 (ap (λ x. x tok) (sym kept) ∙ ends)))
+    | inl is ↦ inl ((mends.yes is).2 ∙ sym mends.first_is, mends.yes_blob is ∙ sym mends.first_blob_is)
+    | inr is ↦ inr (same_law s m tok bank (mends.no is).0 (mends.no_blob is) ((mends.no is).1 (ap (λ x. x tok) (sym kept) ∙ ends)))
   ]
 
   pub given_now : removed (holding m) tok ≡ removed (holding s) tok
   given_now = ap (λ x. removed x tok) kept
 
-  module _ (s' : CpuSeat) (given : holding s' ≡ removed (holding m) tok) (others : (other : ℕ) → other ≢ tok → SameSection m s' other) (same : row s' tok ≡ row m tok) (still : is_held (holding s' tok) ≡ true → SameSection m s' tok) where
+  module _ (s' : CpuSeat) (given : holding s' ≡ removed (holding m) tok) (others : (other : ℕ) → other ≢ tok → SameSection m s' other) (same : row s' tok ≡ row m tok) (alike : blob s' tok ≡ blob m tok) (still : is_held (holding s' tok) ≡ true → SameSection m s' tok) where
     less : holding s' tok ≡ one_less (holding s tok)
     less = ap (λ x. x tok) given ∙ removed_here (holding m) tok ∙ ap (λ x. one_less (x tok)) kept
 
@@ -243,73 +339,117 @@ module _ (s m : CpuSeat) (tok : ℕ) (restored : Bool) (held : is_held (holding 
       others = λ other away. same_then s m s' other (mends.others other away) (others other away);
       still = λ left. elim (cases_Bool restored) [
         | inl is ↦ absurd (false≢true (sym (ended is) ∙ left))
-        | inr is ↦ record { row_is = (still left).row_is ∙ (mends.no is).0; first_is = (still left).first_is ∙ mends.first_is; generation_is = (still left).generation_is ∙ mends.generation_is is }
+        | inr is ↦ record {
+          row_is = (still left).row_is ∙ (mends.no is).0;
+          first_is = (still left).first_is ∙ mends.first_is;
+          blob_is = (still left).blob_is ∙ mends.no_blob is;
+          first_blob_is = (still left).first_blob_is ∙ mends.first_blob_is;
+          generation_is = (still left).generation_is ∙ mends.generation_is is;
+        }
       ];
       yes = λ is. ((mends.yes is).0, same ∙ (mends.yes is).2, ended is);
       no = λ is. (
         same ∙ (mends.no is).0,
         λ none broken. broken.broken ((mends.no is).1 (last_exclusive (holding s tok) broken.exclusive (ap is_held (sym less) ∙ none))),
       );
+      yes_blob = λ is. alike ∙ mends.yes_blob is;
+      no_blob = λ is. alike ∙ mends.no_blob is;
     }
 
 -- what learning of cells leaves of the rows
-same_rows : (s m : CpuSeat) (tok other : ℕ) (deeds : List Deed) → Knowing s m tok (entry s tok) deeds → SameSection s m other
+pub same_rows : (s m : CpuSeat) (tok other : ℕ) (deeds : List Deed) → Knowing s m tok (entry s tok) deeds → SameSection s m other
 same_rows s m tok other deeds k = elim (cases_Bool (eqb other tok)) [
   | inl is ↦
       let same = eqb-true other tok is in
       let F : ℕ → Type 0 = λ t. SameSection s m t in
-      subst F (sym same) (record { row_is = ap (λ (e : TokenEntry). e.row) k.changes.here; first_is = ap (λ (e : TokenEntry). e.first) k.changes.here; generation_is = ap (λ (e : TokenEntry). e.generation) k.changes.here })
-  | inr is ↦
-      let e = k.changes.else_ other (eqb-false other tok is) in
-      record { row_is = ap (λ (e : TokenEntry). e.row) e; first_is = ap (λ (e : TokenEntry). e.first) e; generation_is = ap (λ (e : TokenEntry). e.generation) e }
+      subst F (sym same) (section_from s m tok (record (entry s tok) { known = k.known }) k.changes.here refl refl refl refl refl)
+  | inr is ↦ section_from s m other (entry s other) (k.changes.else_ other (eqb-false other tok is)) refl refl refl refl refl
 ]
 
 -- nothing is restored
 pub mends_none : (s : CpuSeat) (tok : ℕ) → (holding s tok ≡ Holds Exclusive 0 → ⊥) → Mends s s tok false
 mends_none s tok no_end = record {
   first_is = refl;
+  first_blob_is = refl;
   generation_is = λ is. refl;
-  others = λ other away. record { row_is = refl; first_is = refl; generation_is = refl };
+  others = λ other away. section_from s s other (entry s other) refl refl refl refl refl refl;
   yes = λ is. cc;
   no = λ is. (refl, λ ends. absurd (no_end ends));
+  yes_blob = λ is. cc;
+  no_blob = λ is. refl;
 }
 
 pub mends_lawful : (s m : CpuSeat) (tok : ℕ) (deeds : List Deed) → Knowing s m tok (entry s tok) deeds → MeetsItsLaw s tok → Mends s m tok false
 mends_lawful s m tok deeds k meets = record {
   first_is = (same_rows s m tok tok deeds k).first_is;
+  first_blob_is = (same_rows s m tok tok deeds k).first_blob_is;
   generation_is = λ is. (same_rows s m tok tok deeds k).generation_is;
   others = λ other away. same_rows s m tok other deeds k;
   yes = λ is. cc;
   no = λ is. ((same_rows s m tok tok deeds k).row_is, λ ends. meets);
+  yes_blob = λ is. cc;
+  no_blob = λ is. (same_rows s m tok tok deeds k).blob_is;
 }
 
 pub still_broken : (s m : CpuSeat) (tok : ℕ) (deeds : List Deed) → Knowing s m tok (entry s tok) deeds → holding s tok ≡ Holds Exclusive 0 → (MeetsItsLaw s tok → ⊥) → IsBroken m tok
 still_broken s m tok deeds k ends broken = record {
   exclusive = exclusive_held (holding m tok) (ap (λ h. h tok) (knowing_kept s m tok deeds k) ∙ ends);
-  broken = λ meets. broken (same_law m s tok (sym k.changes.bank) (sym (same_rows s m tok tok deeds k).row_is) meets);
+  broken = λ meets. broken (same_law m s tok (sym k.changes.bank) (sym (same_rows s m tok tok deeds k).row_is) (sym (same_rows s m tok tok deeds k).blob_is) meets);
 }
 
-pub mends_broken : (s l m : CpuSeat) (tok : ℕ) (deeds : List Deed) → Knowing s l tok (entry s tok) deeds → holding s tok ≡ Holds Exclusive 0 → (MeetsItsLaw s tok → ⊥) → row m tok ≡ first_row l tok → first_row m tok ≡ first_row l tok → ((other : ℕ) → other ≢ tok → SameSection l m other) → Mends s m tok true
-mends_broken s l m tok deeds k ends broken restored first others = record {
+pub mends_broken : (s l m : CpuSeat) (tok : ℕ) (deeds : List Deed) → Knowing s l tok (entry s tok) deeds → holding s tok ≡ Holds Exclusive 0 → (MeetsItsLaw s tok → ⊥) → row m tok ≡ first_row l tok → first_row m tok ≡ first_row l tok → blob m tok ≡ first_blob l tok → first_blob m tok ≡ first_blob l tok → ((other : ℕ) → other ≢ tok → SameSection l m other) → Mends s m tok true
+mends_broken s l m tok deeds k ends broken restored first brought first_brought others = record {
   first_is = first ∙ (same_rows s l tok tok deeds k).first_is;
+  first_blob_is = first_brought ∙ (same_rows s l tok tok deeds k).first_blob_is;
   generation_is = λ is. cc;
   others = λ other away. same_then s l m other (same_rows s l tok other deeds k) (others other away);
   yes = λ is. (record { exclusive = exclusive_held (holding s tok) ends; broken = broken }, ends, restored ∙ (same_rows s l tok tok deeds k).first_is);
   no = λ is. cc;
+  yes_blob = λ is. brought ∙ (same_rows s l tok tok deeds k).first_blob_is;
+  no_blob = λ is. cc;
 }
 
 -- the values of a restore make the row the first row
-pub stores_first : (s s' : CpuSeat) (tok : ℕ) (values : List (Option ℕ)) → Restored s s' tok values → StoresFirst s tok values
-stores_first s s' tok values r = record { makes_first = r.writes; inside = r.inside }
+pub stores_first : (s s' : CpuSeat) (tok : ℕ) (values : List (Option ℕ)) (bytes : RecordOf) → Restored s s' tok values bytes → StoresFirst s tok values
+stores_first s s' tok values bytes r = record { makes_first = r.writes; inside = r.inside }
 
--- values that make the row the first row, for a seat that only knew fewer cells
-pub stores_before : (s m : CpuSeat) (tok : ℕ) (values : List (Option ℕ)) (deeds : List Deed) → Knowing s m tok (entry s tok) deeds → StoresFirst m tok values → StoresFirst s tok values
-stores_before s m tok values deeds k stores =
-    let same = same_rows s m tok tok deeds k in
-    record {
-      makes_first = ap (λ xs. over xs) (sym same.row_is) ∙ stores.makes_first ∙ same.first_is;
-      inside = let G : BankId → Type 0 = λ b. (cell value : ℕ) → slice_get values cell ≡ Some (Some value) → cell < (plan_of b tok).cells in subst G k.changes.bank stores.inside;
-    }
+-- a record that is put back as the first one, for a seat with the same records
+pub puts_same : (a s : CpuSeat) (tok : ℕ) (bytes : RecordOf) → SameSection a s tok → PutsFirst (entry s tok) bytes → PutsFirst (entry a tok) bytes
+puts_same a s tok None same puts = sym same.blob_is ∙ puts ∙ same.first_blob_is
+puts_same a s tok (Some bytes) same puts = (λ is. puts.0 (same.blob_is ∙ is ∙ sym same.first_blob_is), sym same.first_blob_is ∙ puts.1)
+
+-- the events of a restore are the same for a seat whose row and record of the token are the same
+pub restores_same : (a s : CpuSeat) (tok : TokId) (behind done : List Event) → bank_of s ≡ bank_of a → s.cpu ≡ a.cpu → SameSection a s tok.0 → RestoresBy s tok behind done → RestoresBy a tok behind done
+restores_same a s tok behind done bank mine same r = (
+  r.0,
+  (
+    r.1.0,
+    (
+      record {
+        makes_first = ap (λ xs. over xs) (sym same.row_is) ∙ r.1.1.0.makes_first ∙ same.first_is;
+        inside = let G : BankId → Type 0 = λ b. (cell value : ℕ) → slice_get r.0 cell ≡ Some (Some value) → cell < (plan_of b tok.0).cells in subst G bank r.1.1.0.inside;
+      },
+      puts_same a s tok.0 r.1.0 same r.1.1.1,
+      r.1.1.2 ∙ ap (λ (c : CpuId). writes c tok 0 r.0 ++ (writes_record c tok r.1.0 ++ behind)) mine,
+    ),
+  ),
+)
   where
     over : List ℕ → List ℕ
-    over xs = written_over 0 values xs
+    over xs = written_over 0 r.0 xs
+
+-- the same with more events behind them
+pub restores_before : (s : CpuSeat) (tok : TokId) (more done : List Event) → RestoresBy s tok [] done → RestoresBy s tok more (done ++ more)
+restores_before s tok more done r =
+    let first = writes s.cpu tok 0 r.0 in
+    let last = writes_record s.cpu tok r.1.0 in (
+      r.0,
+      (
+        r.1.0,
+        (
+          r.1.1.0,
+          r.1.1.1,
+          ap (λ (xs : List Event). xs ++ more) (r.1.1.2 ∙ ap (λ (xs : List Event). first ++ xs) (append-nil last)) ∙ append_assoc first last more,
+        ),
+      ),
+    )

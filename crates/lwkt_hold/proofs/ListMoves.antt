@@ -17,49 +17,77 @@ use Rattle.lwkt_core.specs.History.{steps_in}
 use Rattle.lwkt_hold.specs.declared.answers.Missed.{Missed}
 use Rattle.lwkt_hold.specs.Runs.{Ran}
 use Rattle.lwkt_hold.specs.Misses.{Misses}
-use Rattle.lwkt_hold.specs.Rows.{row, first_row, SameRow, SameSection, IsClean}
+use Rattle.lwkt_hold.specs.Rows.{row, first_row, blob, first_blob, SameRow, SameSection, IsClean}
 use Rattle.lwkt_hold.specs.Takings.{TakesRows}
 use Rattle.lwkt_hold.proofs.HoldingMoves.{holding_of_more, removed_added}
-use Rattle.lwkt_hold.proofs.GiveMoves.{more_here, held_more}
+use Rattle.lwkt_hold.proofs.GiveMoves.{more_here, held_more, row_from}
 use Rattle.lwkt_hold.proofs.RunMoves.{ran_steps}
 use Rattle.lwkt_hold.proofs.TakeMoves.{unused, looked-held}
 
--- a change of one token by which references are taken: if it was held, its row and first row stay; if it is held from now on,
--- its row is its first row
-pub takes_changed : (s s' : CpuSeat) (tok : ℕ) (e : TokenEntry) (made : List Deed) → Changes s s' tok e made → (is_held (holding s tok) ≡ true → (e.row ≡ row s tok) × (e.first ≡ first_row s tok)) → (is_held (holding s tok) ≡ false → is_held e.held ≡ true → e.row ≡ e.first) → TakesRows s s'
+-- a token's row and record, and the first ones, are those that the seat had of it
+pub record Stands (s : CpuSeat) (tok : ℕ) (e : TokenEntry) : Type 0 where
+  pub row_is : e.row ≡ row s tok
+  pub first_is : e.first ≡ first_row s tok
+  pub blob_is : e.blob ≡ blob s tok
+  pub first_blob_is : e.first_blob ≡ first_blob s tok
+
+pub stands_from : (s s' : CpuSeat) (tok : ℕ) (e : TokenEntry) → entry s' tok ≡ e → Stands s tok e → SameRow s s' tok
+stands_from s s' tok e is stands = row_from s s' tok e is stands.row_is stands.first_is stands.blob_is stands.first_blob_is
+
+pub same_from : (s s' : CpuSeat) (other : ℕ) → entry s' other ≡ entry s other → SameRow s s' other
+same_from s s' other is = row_from s s' other (entry s other) is refl refl refl refl
+
+-- a change of one token by which references are taken: if it was held, its row and record and the first ones stay; if it is held
+-- from now on, row and record are the first ones
+pub takes_changed : (s s' : CpuSeat) (tok : ℕ) (e : TokenEntry) (made : List Deed) → Changes s s' tok e made → (is_held (holding s tok) ≡ true → Stands s tok e) → (is_held (holding s tok) ≡ false → is_held e.held ≡ true → (e.row ≡ e.first) × (e.blob ≡ e.first_blob)) → TakesRows s s'
 takes_changed s s' tok e made c stays begins = record {
   kept = λ other held. elim (cases_Bool (eqb other tok)) [
     | inl is ↦
         let same = eqb-true other tok is in
         let F : ℕ → Type 0 = λ t. SameRow s s' t in
-        let k = stays (ap (λ t. is_held (holding s t)) (sym same) ∙ held) in
-        subst F (sym same) (record { row_is = ap (λ (x : TokenEntry). x.row) c.here ∙ k.0; first_is = ap (λ (x : TokenEntry). x.first) c.here ∙ k.1 })
-    | inr is ↦
-        let k = c.else_ other (eqb-false other tok is) in
-        record { row_is = ap (λ (x : TokenEntry). x.row) k; first_is = ap (λ (x : TokenEntry). x.first) k }
+        subst F (sym same) (stands_from s s' tok e c.here (stays (ap (λ t. is_held (holding s t)) (sym same) ∙ held)))
+    | inr is ↦ same_from s s' other (c.else_ other (eqb-false other tok is))
   ];
-  begun = λ other free held. elim (cases_Bool (eqb other tok)) [
-    | inl is ↦
-        let same = eqb-true other tok is in
-        let F : ℕ → Type 0 = λ t. row s' t ≡ first_row s' t in
-        let free' : is_held (holding s tok) ≡ false = ap (λ t. is_held (holding s t)) (sym same) ∙ free in
-        let held' : is_held e.held ≡ true = sym (ap (λ (x : TokenEntry). is_held x.held) c.here) ∙ ap (λ t. is_held (holding s' t)) (sym same) ∙ held in
-        subst F (sym same) (ap (λ (x : TokenEntry). x.row) c.here ∙ begins free' held' ∙ sym (ap (λ (x : TokenEntry). x.first) c.here))
-    | inr is ↦
-        let k = c.else_ other (eqb-false other tok is) in
-        absurd (false≢true (sym free ∙ sym (ap (λ (x : TokenEntry). is_held x.held) k) ∙ held))
-  ];
+  begun = λ other free held. (begins_at other free held).0;
+  records = λ other free held. (begins_at other free held).1;
 }
+  where
+    begins_at : (other : ℕ) → is_held (holding s other) ≡ false → is_held (holding s' other) ≡ true → (row s' other ≡ first_row s' other) × (blob s' other ≡ first_blob s' other)
+    begins_at other free held = elim (cases_Bool (eqb other tok)) [
+      | inl is ↦
+          let same = eqb-true other tok is in
+          let F : ℕ → Type 0 = λ t. (row s' t ≡ first_row s' t) × (blob s' t ≡ first_blob s' t) in
+          let free' : is_held (holding s tok) ≡ false = ap (λ t. is_held (holding s t)) (sym same) ∙ free in
+          let held' : is_held e.held ≡ true = sym (ap (λ (x : TokenEntry). is_held x.held) c.here) ∙ ap (λ t. is_held (holding s' t)) (sym same) ∙ held in
+          let begun = begins free' held' in
+          subst F (sym same) (
+            ap (λ (x : TokenEntry). x.row) c.here ∙ begun.0 ∙ sym (ap (λ (x : TokenEntry). x.first) c.here),
+            ap (λ (x : TokenEntry). x.blob) c.here ∙ begun.1 ∙ sym (ap (λ (x : TokenEntry). x.first_blob) c.here),
+          )
+      | inr is ↦
+          let k = c.else_ other (eqb-false other tok is) in
+          absurd (false≢true (sym free ∙ sym (ap (λ (x : TokenEntry). is_held x.held) k) ∙ held))
+    ]
 
 -- nothing was taken
 pub takes_none : (s : CpuSeat) → TakesRows s s
-takes_none s = record { kept = λ tok held. record { row_is = refl; first_is = refl }; begun = λ tok free held. absurd (false≢true (sym free ∙ held)) }
+takes_none s = record {
+  kept = λ tok held. same_from s s tok refl;
+  begun = λ tok free held. absurd (false≢true (sym free ∙ held));
+  records = λ tok free held. absurd (false≢true (sym free ∙ held));
+}
 
 -- something was taken, and then no row and no holding changed
 pub takes_then_same : (a b c : CpuSeat) → TakesRows a b → holding c ≡ holding b → ((tok : ℕ) → SameRow b c tok) → TakesRows a c
 takes_then_same a b c taken kept same = record {
-  kept = λ tok held. record { row_is = (same tok).row_is ∙ (taken.kept tok held).row_is; first_is = (same tok).first_is ∙ (taken.kept tok held).first_is };
+  kept = λ tok held. record {
+    row_is = (same tok).row_is ∙ (taken.kept tok held).row_is;
+    first_is = (same tok).first_is ∙ (taken.kept tok held).first_is;
+    blob_is = (same tok).blob_is ∙ (taken.kept tok held).blob_is;
+    first_blob_is = (same tok).first_blob_is ∙ (taken.kept tok held).first_blob_is;
+  };
   begun = λ tok free held. (same tok).row_is ∙ taken.begun tok free (ap (λ h. is_held (h tok)) (sym kept) ∙ held) ∙ sym (same tok).first_is;
+  records = λ tok free held. (same tok).blob_is ∙ taken.records tok free (ap (λ h. is_held (h tok)) (sym kept) ∙ held) ∙ sym (same tok).first_blob_is;
 }
 
 -- a clean seat stays clean when references are taken
@@ -69,21 +97,22 @@ clean_taken s s' taken clean = record {
     | inl was ↦ (taken.kept tok was).row_is ∙ clean.each tok was ∙ sym (taken.kept tok was).first_is
     | inr free ↦ taken.begun tok free held
   ];
+  records = λ tok held. elim (cases_Bool (is_held (holding s tok))) [
+    | inl was ↦ (taken.kept tok was).blob_is ∙ clean.records tok was ∙ sym (taken.kept tok was).first_blob_is
+    | inr free ↦ taken.records tok free held
+  ];
 }
 
-looked-row_if : (b : Bool) (e : TokenEntry) (g : ℕ) → (cond b e (record e { generation = g; known = [] })).row ≡ e.row
-looked-row_if true e g = refl
-looked-row_if false e g = refl
+looked_if : (b : Bool) (s : CpuSeat) (tok : ℕ) (e : TokenEntry) (g : ℕ) → Stands s tok e → Stands s tok (cond b e (record e { generation = g; known = []; known_blob = [] }))
+looked_if true s tok e g stands = stands
+looked_if false s tok e g stands = record { row_is = stands.row_is; first_is = stands.first_is; blob_is = stands.blob_is; first_blob_is = stands.first_blob_is }
 
-pub looked-row : (e : TokenEntry) (word : ℕ) → (looked e word).row ≡ e.row
-looked-row e word = looked-row_if (eqb e.generation (generation_in word)) e (generation_in word)
+-- what a look leaves of an entry
+pub looked-stands : (s : CpuSeat) (tok : ℕ) (e : TokenEntry) (word : ℕ) → Stands s tok e → Stands s tok (looked e word)
+looked-stands s tok e word stands = looked_if (eqb e.generation (generation_in word)) s tok e (generation_in word) stands
 
-looked-first_if : (b : Bool) (e : TokenEntry) (g : ℕ) → (cond b e (record e { generation = g; known = [] })).first ≡ e.first
-looked-first_if true e g = refl
-looked-first_if false e g = refl
-
-pub looked-first : (e : TokenEntry) (word : ℕ) → (looked e word).first ≡ e.first
-looked-first e word = looked-first_if (eqb e.generation (generation_in word)) e (generation_in word)
+pub stands_now : (s : CpuSeat) (tok : ℕ) → Stands s tok (entry s tok)
+stands_now s tok = record { row_is = refl; first_is = refl; blob_is = refl; first_blob_is = refl }
 
 -- a mark leaves every row as it was
 pub stepped_rows : (s s' : CpuSeat) (tok : ℕ) (made : List Deed) → Changes s s' tok (entry s tok) made → (other : ℕ) → SameRow s s' other
@@ -91,31 +120,37 @@ stepped_rows s s' tok made c other = elim (cases_Bool (eqb other tok)) [
   | inl is ↦
       let same = eqb-true other tok is in
       let F : ℕ → Type 0 = λ t. SameRow s s' t in
-      subst F (sym same) (record { row_is = ap (λ (x : TokenEntry). x.row) c.here; first_is = ap (λ (x : TokenEntry). x.first) c.here })
-  | inr is ↦
-      let k = c.else_ other (eqb-false other tok is) in
-      record { row_is = ap (λ (x : TokenEntry). x.row) k; first_is = ap (λ (x : TokenEntry). x.first) k }
+      subst F (sym same) (same_from s s' tok c.here)
+  | inr is ↦ same_from s s' other (c.else_ other (eqb-false other tok is))
 ]
 
 -- a seat that holds nothing is clean
 pub clean_empty : (s : CpuSeat) → holding s ≡ holds_nothing → IsClean s
-clean_empty s empty = record { each = λ tok held. absurd (false≢true (sym (ap (λ h. is_held (h tok)) empty) ∙ held)) }
+clean_empty s empty = record {
+  each = λ tok held. absurd (false≢true (sym (ap (λ h. is_held (h tok)) empty) ∙ held));
+  records = λ tok held. absurd (false≢true (sym (ap (λ h. is_held (h tok)) empty) ∙ held));
+}
 
 -- giving a reference back keeps a clean seat clean
 pub clean_given : (s s' : CpuSeat) (tok : ℕ) → is_held (holding s tok) ≡ true → holding s' ≡ removed (holding s) tok → ((other : ℕ) → other ≢ tok → SameSection s s' other) → (is_held (holding s' tok) ≡ true → SameSection s s' tok) → IsClean s → IsClean s'
 clean_given s s' tok was given others still clean = record {
-  each = λ other held. elim (cases_Bool (eqb other tok)) [
-    | inl is ↦
-        let same = eqb-true other tok is in
-        let F : ℕ → Type 0 = λ t. row s' t ≡ first_row s' t in
-        let k = still (ap (λ t. is_held (holding s' t)) (sym same) ∙ held) in
-        subst F (sym same) (k.row_is ∙ clean.each tok was ∙ sym k.first_is)
-    | inr is ↦
-        let k = others other (eqb-false other tok is) in
-        let before : is_held (holding s other) ≡ true = sym (ap (λ h. is_held (h other)) given ∙ ap (λ b. is_held (cond b (one_less (holding s other)) (holding s other))) is) ∙ held in
-        k.row_is ∙ clean.each other before ∙ sym k.first_is
-  ];
+  each = λ other held. (clean_at other held).0;
+  records = λ other held. (clean_at other held).1;
 }
+  where
+    stays : (other : ℕ) → SameSection s s' other → is_held (holding s other) ≡ true → (row s' other ≡ first_row s' other) × (blob s' other ≡ first_blob s' other)
+    stays other k before = (k.row_is ∙ clean.each other before ∙ sym k.first_is, k.blob_is ∙ clean.records other before ∙ sym k.first_blob_is)
+
+    clean_at : (other : ℕ) → is_held (holding s' other) ≡ true → (row s' other ≡ first_row s' other) × (blob s' other ≡ first_blob s' other)
+    clean_at other held = elim (cases_Bool (eqb other tok)) [
+      | inl is ↦
+          let same = eqb-true other tok is in
+          let F : ℕ → Type 0 = λ t. (row s' t ≡ first_row s' t) × (blob s' t ≡ first_blob s' t) in
+          subst F (sym same) (stays tok (still (ap (λ t. is_held (holding s' t)) (sym same) ∙ held)) was)
+      | inr is ↦
+          let before : is_held (holding s other) ≡ true = sym (ap (λ h. is_held (h other)) given ∙ ap (λ b. is_held (cond b (one_less (holding s other)) (holding s other))) is) ∙ held in
+          stays other (others other (eqb-false other tok is)) before
+    ]
 
 -- so many first references, of which so many were given back
 module _ (s : CpuSeat) (refs : List Ref) (count given : ℕ) (more : given < count) (within : count ≤ length refs) (front : holding s ≡ holding_of (take (count - given) refs)) where
@@ -152,7 +187,7 @@ pub looked_rows : (s s' : CpuSeat) (tok word : ℕ) → holding s tok ≡ Nothin
 looked_rows s s' tok word free l =
     let e = entry s tok in
     takes_changed s s' tok (looked e word) (loads s.cpu tok word ∷ []) l.changes
-    (λ held. (looked-row e word, looked-first e word))
+    (λ held. looked-stands s tok e word (stands_now s tok))
     (λ none held. absurd (false≢true (sym (ap is_held (looked-held e word ∙ free)) ∙ held)))
 
 pub lost_rows : (s s' : CpuSeat) (tok : ℕ) (mode : Mode) (alone : Bool) → holding s tok ≡ Nothing → Lost s s' tok mode alone → TakesRows s s'
@@ -160,5 +195,5 @@ lost_rows s s' tok mode alone free l =
     let e = entry s tok in
     let m = looked e l.word in
     takes_changed s s' tok (looked m l.found) (loads s.cpu tok l.word ∷ loses s.cpu tok l.word l.next l.found ∷ []) l.changes
-    (λ held. (looked-row m l.found ∙ looked-row e l.word, looked-first m l.found ∙ looked-first e l.word))
+    (λ held. looked-stands s tok m l.found (looked-stands s tok e l.word (stands_now s tok)))
     (λ none held. absurd (false≢true (sym (ap is_held (looked-held m l.found ∙ looked-held e l.word ∙ free)) ∙ held)))

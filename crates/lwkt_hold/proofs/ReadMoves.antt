@@ -19,7 +19,7 @@ use Rattle.lwkt_base.specs.declared.holdings.Held.TheVariants.{Nothing, Holds}
 use Rattle.lwkt_base.specs.Refs.{first_mode}
 use Rattle.lwkt_base.specs.Holding.{Holding, is_held, is_exclusive, one_more, added, holding_of, holds_nothing}
 use Rattle.lwkt_core.specs.declared.events.Event.{Event}
-use Rattle.lwkt_core.specs.declared.events.Event.TheVariants.{Read, Write}
+use Rattle.lwkt_core.specs.declared.events.Event.TheVariants.{Read, Write, ReadBlob, WriteBlob}
 use Rattle.lwkt_core.specs.declared.seats.WordStep.{WordStep}
 use Rattle.lwkt_core.specs.declared.seats.Deed.{Deed}
 use Rattle.lwkt_core.specs.History.{events_in, steps_in}
@@ -27,7 +27,7 @@ use Rattle.lwkt_core.proofs.HistoryLemmas.{own-nil}
 use Rattle.lwkt_bank.specs.declared.views.TokenEntry.{TokenEntry}
 use Rattle.lwkt_bank.specs.declared.seats.CpuSeat.{CpuSeat}
 use Rattle.lwkt_bank.specs.Views.{is_touched}
-use Rattle.lwkt_bank.specs.Deeds.{reads, writes}
+use Rattle.lwkt_bank.specs.Deeds.{reads, writes, reads_blob, writes_blob}
 use Rattle.lwkt_bank.specs.Seats.{entry, holding, Changes, Knowing, IsUnchanged, first_load}
 use Rattle.lwkt_hold.specs.Fronts.{IsFront}
 use Rattle.lwkt_hold.specs.Steps.{is_counted, ShowsEvent, Tells}
@@ -135,6 +135,19 @@ write_ran refs s s' tok e deeds cpu cell value t u k tells off held front mine p
     let kept = holding_kept s s' tok.0 (record e { known = k.known }) deeds k.changes held in
     let F : List WordStep → Type 0 = λ xs. AllZip ShowsEvent (filter is_counted xs) [] in
     ran_step (IsFront refs) s s' tok.0 (record e { known = k.known }) deeds (Write cpu tok cell value) t u k.changes pushed longer room (ap (λ (x : CpuId). x.0) mine) tells (subst F (sym off) tt) kept (whole_front refs (holding s') (kept ∙ front))
+
+-- the record was read, and the record was written
+pub read_record_ran : (refs : List Ref) (s s' : CpuSeat) (tok : TokId) (e : TokenEntry) (cpu : CpuId) (bytes : List ℕ) (t u : Vec Event Global) → Changes s s' tok.0 e (reads_blob s.cpu tok.0 bytes ∷ []) → e.held ≡ holding s tok.0 → holding s ≡ holding_of refs → cpu ≡ s.cpu → u.items ≡ t.items ++ ReadBlob cpu tok bytes ∷ [] → vec_len u ≡ vec_len t + 1 → vec_capacity t ≤ vec_capacity u → Ran (IsFront refs) 1 s s' t u
+read_record_ran refs s s' tok e cpu bytes t u c held front mine pushed longer room =
+    let deeds = reads_blob s.cpu tok.0 bytes ∷ [] in
+    let kept = holding_kept s s' tok.0 e deeds c held in
+    ran_step (IsFront refs) s s' tok.0 e deeds (ReadBlob cpu tok bytes) t u c pushed longer room (ap (λ (x : CpuId). x.0) mine) (tells_one (ReadBlob s.cpu tok bytes) (ReadBlob cpu tok bytes) refl (ap (λ (x : CpuId). ReadBlob x tok bytes) mine)) tt kept (whole_front refs (holding s') (kept ∙ front))
+
+pub write_record_ran : (refs : List Ref) (s s' : CpuSeat) (tok : TokId) (e : TokenEntry) (cpu : CpuId) (bytes : List ℕ) (t u : Vec Event Global) → Changes s s' tok.0 e (writes_blob s.cpu tok.0 bytes ∷ []) → e.held ≡ holding s tok.0 → holding s ≡ holding_of refs → cpu ≡ s.cpu → u.items ≡ t.items ++ WriteBlob cpu tok bytes ∷ [] → vec_len u ≡ vec_len t + 1 → vec_capacity t ≤ vec_capacity u → Ran (IsFront refs) 1 s s' t u
+write_record_ran refs s s' tok e cpu bytes t u c held front mine pushed longer room =
+    let deeds = writes_blob s.cpu tok.0 bytes ∷ [] in
+    let kept = holding_kept s s' tok.0 e deeds c held in
+    ran_step (IsFront refs) s s' tok.0 e deeds (WriteBlob cpu tok bytes) t u c pushed longer room (ap (λ (x : CpuId). x.0) mine) (tells_one (WriteBlob s.cpu tok bytes) (WriteBlob cpu tok bytes) refl (ap (λ (x : CpuId). WriteBlob x tok bytes) mine)) tt kept (whole_front refs (holding s') (kept ∙ front))
 
 -- a call that leaves the seat as it was
 pub unchanged_kept : (s s' : CpuSeat) → IsUnchanged s s' → holding s' ≡ holding s

@@ -7,7 +7,6 @@ use Rattle.std.proofs.lemmas.List.{append-nil}
 use Rattle.lwkt_base.specs.declared.names.Ref.{Ref}
 use Rattle.lwkt_base.specs.declared.words.Decision.TheVariants.{Held, Marked}
 use Rattle.lwkt_core.specs.declared.seats.WordStep.{WordStep}
-use Rattle.lwkt_bank.specs.declared.views.TokenEntry.{TokenEntry}
 use Rattle.lwkt_bank.specs.declared.seats.CpuSeat.{CpuSeat}
 use Rattle.lwkt_bank.specs.Seats.{entry, steps_of, Decides, Looked}
 use Rattle.lwkt_bank.specs.Views.{load, looked}
@@ -19,7 +18,7 @@ use Rattle.lwkt_hold.specs.Rows.{SameRow}
 use Rattle.lwkt_hold.specs.Stays.{Stays, RunsUnseen}
 use Rattle.lwkt_hold.proofs.RunMoves.{changed_steps, ran_quiet}
 use Rattle.lwkt_hold.proofs.TakeMoves.{looked-held}
-use Rattle.lwkt_hold.proofs.ListMoves.{looked-row, looked-first}
+use Rattle.lwkt_hold.proofs.ListMoves.{stands_from, same_from, stands_now, looked-stands}
 
 -- a look at the reference of a place
 pub looked_stays : (s s' : CpuSeat) (refs list : List Ref) (at : ℕ) (d : Ref) (found word : ℕ) (still : Bool) → refs ≡ list → at < length refs → Looked s s' (get_or refs at d).tok.0 found → (still ≡ true → found ≡ word) → (still ≡ false → found ≢ word) → Stays s s' list at word still
@@ -47,10 +46,8 @@ looked_same s s' tok found l other = elim (cases_Bool (eqb other tok)) [
       let same = eqb-true other tok is in
       let e = entry s tok in
       let F : ℕ → Type 0 = λ t. SameRow s s' t in
-      subst F (sym same) (record { row_is = ap (λ (x : TokenEntry). x.row) l.changes.here ∙ looked-row e found; first_is = ap (λ (x : TokenEntry). x.first) l.changes.here ∙ looked-first e found })
-  | inr is ↦
-      let k = l.changes.else_ other (eqb-false other tok is) in
-      record { row_is = ap (λ (x : TokenEntry). x.row) k; first_is = ap (λ (x : TokenEntry). x.first) k }
+      subst F (sym same) (stands_from s s' tok (looked e found) l.changes.here (looked-stands s tok e found (stands_now s tok)))
+  | inr is ↦ same_from s s' other (l.changes.else_ other (eqb-false other tok is))
 ]
 
 -- the word of a refusal is one that refuses

@@ -88,7 +88,7 @@ won tok word next = ap (λ b. cond b (exchange tok word next word ∷ []) []) (e
 lost : (tok word next found : ℕ) → found ≢ word → filter is_counted (load tok word ∷ exchange tok word next found ∷ []) ≡ []
 lost tok word next found other = ap (λ b. cond b (exchange tok word next found ∷ []) []) (ne_eqb found word other)
 
-looked_if : (b : Bool) (e : TokenEntry) (g : ℕ) → (cond b e (record e { generation = g; known = [] })).held ≡ e.held
+looked_if : (b : Bool) (e : TokenEntry) (g : ℕ) → (cond b e (record e { generation = g; known = []; known_blob = [] })).held ≡ e.held
 looked_if true e g = refl
 looked_if false e g = refl
 
@@ -113,7 +113,7 @@ pub took_holds : (s s' : CpuSeat) (refs : List Ref) (at : ℕ) (d : Ref) (alone 
 took_holds s s' refs at d alone g within front named took =
     let r = get_or refs at d in
     let free = free_in_front s refs at r.tok.0 front named in
-    let e : holding s' ≡ added (holding s) r.tok.0 r.mode = holding_changed s s' r.tok.0 (taken (entry s r.tok.0) took.word r.mode took.row) (loads s.cpu r.tok.0 took.word ∷ takes s.cpu r.tok.0 r.mode took.word took.next took.word ∷ []) (λ x. one_more x r.mode) took.changes (ap (λ x. one_more x r.mode) (sym free)) in
+    let e : holding s' ≡ added (holding s) r.tok.0 r.mode = holding_changed s s' r.tok.0 (taken (entry s r.tok.0) took.word r.mode took.row took.blob) (loads s.cpu r.tok.0 took.word ∷ takes s.cpu r.tok.0 r.mode took.word took.next took.word ∷ []) (λ x. one_more x r.mode) took.changes (ap (λ x. one_more x r.mode) (sym free)) in
     (e, e ∙ ap (λ h. added h r.tok.0 r.mode) front ∙ sym (holding_of_more refs at d within))
 
 taking_of_token : (cpu : CpuId) (tok : TokId) (mode : Mode) → filter is_of_token (taking cpu tok mode ∷ []) ≡ taking cpu tok mode ∷ []
@@ -125,7 +125,7 @@ took_ran s s' refs at d alone g cpu ev t u within front named took mine is pushe
     let r = get_or refs at d in
     let e = took_holds s s' refs at d alone g within front named took in
     let F : List WordStep → Type 0 = λ xs. AllZip ShowsEvent xs (filter is_on_word (taking cpu r.tok r.mode ∷ [])) in
-    ran_step (IsFront refs) s s' r.tok.0 (taken (entry s r.tok.0) took.word r.mode took.row) (loads s.cpu r.tok.0 took.word ∷ takes s.cpu r.tok.0 r.mode took.word took.next took.word ∷ []) (taking cpu r.tok r.mode) t u took.changes (pushed ∙ ap (λ x. t.items ++ x ∷ []) is) longer room
+    ran_step (IsFront refs) s s' r.tok.0 (taken (entry s r.tok.0) took.word r.mode took.row took.blob) (loads s.cpu r.tok.0 took.word ∷ takes s.cpu r.tok.0 r.mode took.word took.next took.word ∷ []) (taking cpu r.tok r.mode) t u took.changes (pushed ∙ ap (λ x. t.items ++ x ∷ []) is) longer room
     (cpu_of_taking cpu r.tok r.mode ∙ ap (λ (x : CpuId). x.0) mine)
     (inl (
       refl,

@@ -9,44 +9,49 @@ use Rattle.lwkt_base.specs.Holding.{holding_of}
 use Rattle.lwkt_core.specs.declared.events.Event.{Event}
 use Rattle.lwkt_core.specs.declared.events.Event.TheVariants.{GiveOne, GiveClean, GiveWritten}
 use Rattle.lwkt_bank.specs.declared.seats.CpuSeat.{CpuSeat}
-use Rattle.lwkt_bank.specs.Seats.{bank_of, plan_of, holding, written_over}
-use Rattle.lwkt_hold.specs.Rows.{row, first_row, section_now, MeetsItsLaw, GivesBack, writes}
+use Rattle.lwkt_bank.specs.Views.{RecordOf}
+use Rattle.lwkt_bank.specs.Seats.{bank_of, plan_of, entry, holding, written_over, PutsFirst}
+use Rattle.lwkt_hold.specs.Rows.{row, first_row, section_now, IsUnwritten, MeetsItsLaw, GivesBack, writes, writes_record}
 
--- the event of giving a reference to a token back of which so much is held, and whose row is its first row
+-- the event of giving a reference to a token back of which so much is held, and whose row and record are its first ones
 abbrev pub gives : CpuId → TokId → Held → Event
 gives cpu tok Nothing = GiveOne cpu tok
 gives cpu tok (Holds Shared further) = GiveOne cpu tok
 gives cpu tok (Holds Exclusive further) = if further == 0 then GiveClean cpu tok else GiveOne cpu tok
 
--- the events of giving references back in reverse order, those in front of them staying held, where no row was changed
+-- the events of giving references back in reverse order, those in front of them staying held, where no row or record was changed
 abbrev pub gives_all : CpuId → List Ref → List Ref → List Event
 gives_all cpu front [] = []
 gives_all cpu front (r ∷ refs) = gives_all cpu (front ++ r ∷ []) refs ++ gives cpu r.tok (holding_of (front ++ r ∷ []) r.tok.0) ∷ []
 
 -- the event of giving a reference to a token back: one reference less, or the end of a section, which is written exactly if row
--- and first row differ, and then tells the section (own)
+-- or record differ from the first ones, and then tells the section (own)
 abbrev pub GivesBy : CpuSeat → TokId → Event → Type 0
 GivesBy s tok event =
     ((holding s tok.0 ≢ Holds Exclusive 0) × (event ≡ GiveOne s.cpu tok))
-    ⊎ ((holding s tok.0 ≡ Holds Exclusive 0) × (row s tok.0 ≡ first_row s tok.0) × (event ≡ GiveClean s.cpu tok))
-    ⊎ ((holding s tok.0 ≡ Holds Exclusive 0) × (row s tok.0 ≢ first_row s tok.0) × (event ≡ GiveWritten s.cpu tok (section_now s tok)))
+    ⊎ ((holding s tok.0 ≡ Holds Exclusive 0) × IsUnwritten s tok.0 × (event ≡ GiveClean s.cpu tok))
+    ⊎ ((holding s tok.0 ≡ Holds Exclusive 0) × (¬ IsUnwritten s tok.0) × (event ≡ GiveWritten s.cpu tok (section_now s tok)))
 
 -- these values, stored in the cells of a token, make its row the section's first row, and each is stored in a cell that exists
 pub record StoresFirst (s : CpuSeat) (tok : ℕ) (values : List (Option ℕ)) : Type 0 where
   pub makes_first : written_over 0 values (row s tok) ≡ first_row s tok
   pub inside : (cell value : ℕ) → slice_get values cell ≡ Some (Some value) → cell < (plan_of (bank_of s) tok).cells
 
+-- the events of a restore, and behind them these: the stores of first values, and of the first record if the record was another
+abbrev pub RestoresBy : CpuSeat → TokId → List Event → List Event → Type 0
+RestoresBy s tok behind events = (values : List (Option ℕ)) × ((bytes : RecordOf) × (StoresFirst s tok.0 values × PutsFirst (entry s tok.0) bytes × (events ≡ writes s.cpu tok 0 values ++ (writes_record s.cpu tok bytes ++ behind))))
+
 -- the events of giving a reference back to a token of which so much is held: one reference less; or the end of a section, which
--- is clean or written, and where the law is broken the stores of first values and then a clean end (own)
+-- is clean or written, and where the law is broken the stores of first values and of the first record and then a clean end (own)
 abbrev pub Releases : CpuSeat → Held → TokId → List Event → Type 0
 Releases s held tok events =
     ((held ≢ Holds Exclusive 0) × (events ≡ GiveOne s.cpu tok ∷ []))
-    ⊎ ((held ≡ Holds Exclusive 0) × MeetsItsLaw s tok.0 × (row s tok.0 ≡ first_row s tok.0) × (events ≡ GiveClean s.cpu tok ∷ []))
-    ⊎ ((held ≡ Holds Exclusive 0) × MeetsItsLaw s tok.0 × (row s tok.0 ≢ first_row s tok.0) × (events ≡ GiveWritten s.cpu tok (section_now s tok) ∷ []))
-    ⊎ ((held ≡ Holds Exclusive 0) × ¬ MeetsItsLaw s tok.0 × ((values : List (Option ℕ)) × (StoresFirst s tok.0 values × (events ≡ writes s.cpu tok 0 values ++ GiveClean s.cpu tok ∷ []))))
+    ⊎ ((held ≡ Holds Exclusive 0) × MeetsItsLaw s tok.0 × IsUnwritten s tok.0 × (events ≡ GiveClean s.cpu tok ∷ []))
+    ⊎ ((held ≡ Holds Exclusive 0) × MeetsItsLaw s tok.0 × (¬ IsUnwritten s tok.0) × (events ≡ GiveWritten s.cpu tok (section_now s tok) ∷ []))
+    ⊎ ((held ≡ Holds Exclusive 0) × ¬ MeetsItsLaw s tok.0 × RestoresBy s tok (GiveClean s.cpu tok ∷ []) events)
 
 -- what the release of the last reference of a list tells, which is to this token: the list is the rest, the events are those of
--- giving the reference back, and its section's first row was stored again or not
+-- giving the reference back, and its section's first row and record were stored again or not
 pub record ReleasesLast (old new : CpuSeat) (refs rest : List Ref) (tok : TokId) (restored : Bool) (before now : List Event) : Type 0 where
   pub last : Ref
   pub popped : refs ≡ rest ++ last ∷ []

@@ -16,7 +16,7 @@ Moves P h [] h' = h' ≡ h
 Moves P h (e ∷ events) h' = P (held_after e h) × Moves P (held_after e h) events h'
 
 -- what a call does on a seat and a trace: what the trace grows by of tokens are the events of the deeds by which what the seat
--- has seen of the bank's history grows, in order, without looks at words and loads of cells that weren't asked for; it grows at
+-- has seen of the bank's history grows, in order, without looks at words and loads of cells and records that weren't asked for; it grows at
 -- most by so many events, each of the seat's processor; after each of them the holding is such a one; the trace has lost no room
 -- (own)
 pub record Ran (P : Holding → Type 0) (most : ℕ) (old new : CpuSeat) (before now : Vec Event Global) : Type 0 where

@@ -44,8 +44,8 @@ has_event (Or bits) found = true
 abbrev pub is_counted : WordStep → Bool
 is_counted s = has_event s.operation s.found
 
--- whether an event is a look at the word of a token, which no trace tells; and whether it is one or the load of a cell, which a
--- trace tells only where it was asked for (own)
+-- whether an event is a look at the word of a token, which no trace tells; and whether it is one or the load of a cell or of a
+-- record, which a trace tells only where it was asked for (own)
 abbrev pub is_look : Event → Bool
 is_look (Load cpu tok) = true
 is_look (Take cpu tok) = false
@@ -77,7 +77,7 @@ may_be_untold (GiveOne cpu tok) = false
 may_be_untold (GiveClean cpu tok) = false
 may_be_untold (GiveWritten cpu tok section) = false
 may_be_untold (Write cpu tok cell value) = false
-may_be_untold (ReadBlob cpu tok blob) = false
+may_be_untold (ReadBlob cpu tok blob) = true
 may_be_untold (WriteBlob cpu tok blob) = false
 may_be_untold (Send cpu msg to round) = false
 may_be_untold (TakeMsg cpu msg round) = false
@@ -86,7 +86,7 @@ may_be_untold (Reply cpu msg) = false
 may_be_untold (Reap cpu msg) = false
 may_be_untold (Abort cpu msg) = false
 
--- a trace tells these events in order, without the looks at words and without loads of cells that weren't asked for
+-- a trace tells these events in order, without the looks at words and without loads of cells and records that weren't asked for
 abbrev pub Tells : List Event → List Event → Type 0
 Tells [] told = told ≡ []
 Tells (e ∷ events) told = ((may_be_untold e ≡ true) × Tells events told) ⊎ ((is_look e ≡ false) × ((rest : List Event) × ((told ≡ e ∷ rest) × Tells events rest)))

@@ -32,8 +32,8 @@ pub enum Acquired {
 /// What giving up every reference answers.
 #[derive(Clone, Copy, Debug, PartialEq, Eq)]
 pub enum Blocked {
-    /// No cell was restored.
+    /// Nothing was restored.
     Clean,
-    /// A section had broken its law, and its cells were restored; the first such token.
+    /// A section had broken its law, and its row and record were restored; the first such token.
     Restored(TokId),
 }

@@ -1,21 +1,21 @@
 //! One reference of a list: given back.
-ghost use Rattle.std.specs.Prelude.{◌≡◌, ◌≢◌, ◌⊎◌, ℕ, ◌+◌, ◌<◌, ◌≤◌, true, false, List, Option, [], ◌∷◌, ◌++◌, length, take, vec_len, vec_capacity};
+ghost use Rattle.std.specs.Prelude.{◌≡◌, ◌≢◌, ◌⊎◌, ℕ, ◌+◌, ◌<◌, ◌≤◌, true, false, List, [], ◌∷◌, ◌++◌, length, take, vec_len, vec_capacity};
 ghost use Rattle.lwkt_base.specs.Holding.{holding_of, holds_nothing, is_held, removed};
 ghost use Rattle.lwkt_base.specs.declared.holdings.Held.TheVariants.{Holds};
 ghost use Rattle.lwkt_base.specs.declared.names.Mode.TheVariants.{Exclusive};
 ghost use Rattle.lwkt_bank.specs.Seats.{id_of, bank_of, tokens_of, holding};
 ghost use Rattle.lwkt_hold.specs.Fronts.{IsFront};
 ghost use Rattle.lwkt_hold.specs.Runs.{Ran};
-ghost use Rattle.lwkt_hold.specs.Rows.{row, first_row, MeetsItsLaw, IsBroken, SameSection, Mends, GivesBack, IsClean, writes};
-ghost use Rattle.lwkt_hold.specs.Givings.{gives_all, GivesBy, StoresFirst, Releases};
+ghost use Rattle.lwkt_hold.specs.Rows.{row, first_row, blob, first_blob, IsUnwritten, MeetsItsLaw, IsBroken, SameSection, Mends, GivesBack, IsClean};
+ghost use Rattle.lwkt_hold.specs.Givings.{gives_all, GivesBy, RestoresBy, Releases};
 ghost use Rattle.lwkt_core.specs.declared.events.Event.{Event};
 
-use crate::traces::{note, note_cells};
+use crate::traces::{note, note_cells, note_record};
 use lwkt_bank::{Bank, CpuSeat, Given};
 use lwkt_base::{CpuId, Held, Mode, Ref, TokId};
 use lwkt_core::Event;
 
-/// Stores the first row of a section again, which has broken its law.
+/// Stores the first row and record of a section again, which has broken its law.
 #[cold]
 #[inline(never)]
 fn restore(seat: &mut CpuSeat, bank: &Bank, cpu: CpuId, tok: TokId, trace: &mut Vec<Event>)
@@ -23,16 +23,19 @@ fn restore(seat: &mut CpuSeat, bank: &Bank, cpu: CpuId, tok: TokId, trace: &mut 
     requires there { tok.0 < tokens_of (bank_of seat.old) }
     requires mine { cpu ≡ seat.old.cpu }
     requires broken { IsBroken seat.old tok.0 }
-    requires room { vec_len trace.old + 4 ≤ vec_capacity trace.old }
-    ensures ran { Ran (λ h. h ≡ holding seat.old) 4 seat.old seat.new trace.old trace.new }
+    requires room { vec_len trace.old + 5 ≤ vec_capacity trace.old }
+    ensures ran { Ran (λ h. h ≡ holding seat.old) 5 seat.old seat.new trace.old trace.new }
     ensures kept { holding seat.new ≡ holding seat.old }
     ensures restored { row seat.new tok.0 ≡ first_row seat.old tok.0 }
     ensures first { first_row seat.new tok.0 ≡ first_row seat.old tok.0 }
+    ensures blob { blob seat.new tok.0 ≡ first_blob seat.old tok.0 }
+    ensures first_blob { first_blob seat.new tok.0 ≡ first_blob seat.old tok.0 }
     ensures others { (other : ℕ) → other ≢ tok.0 → SameSection seat.old seat.new other }
-    ensures stored { (values : List (Option ℕ)) × (StoresFirst seat.old tok.0 values × (trace.new.items ≡ trace.old.items ++ writes seat.old.cpu tok 0 values)) }
+    ensures stored { (done : List Event) × ((trace.new.items ≡ trace.old.items ++ done) × RestoresBy seat.old tok [] done) }
 {
-    let values = seat.restore(bank, tok);
-    note_cells(trace, cpu, tok, &values);
+    let stored = seat.restore(bank, tok);
+    note_cells(trace, cpu, tok, &stored.cells);
+    note_record(trace, cpu, tok, stored.blob);
 }
 
 /// Whether this is one exclusive reference, which ends its section when it is given back.
@@ -44,17 +47,17 @@ fn ends_section(held: Held) -> bool
     matches!(held, Held::Holds(Mode::Exclusive, 0))
 }
 
-/// Before a reference is given back: a section that it ends, and that has broken its law, gets its first row again.
+/// Before a reference is given back: a section that it ends, and that has broken its law, gets its first row and record again.
 #[inline(always)]
 fn mend(seat: &mut CpuSeat, bank: &Bank, tok: TokId, trace: &mut Vec<Event>) -> bool
     requires of { bank_of seat.old ≡ id_of bank.now }
     requires held { is_held (holding seat.old tok.0) ≡ true }
-    requires room { vec_len trace.old + 4 ≤ vec_capacity trace.old }
-    ensures ran { Ran (λ h. h ≡ holding seat.old) 4 seat.old seat.new trace.old trace.new }
+    requires room { vec_len trace.old + 5 ≤ vec_capacity trace.old }
+    ensures ran { Ran (λ h. h ≡ holding seat.old) 5 seat.old seat.new trace.old trace.new }
     ensures kept { holding seat.new ≡ holding seat.old }
     ensures mends { Mends seat.old seat.new tok.0 result }
     ensures silent { result ≡ false → trace.new ≡ trace.old }
-    ensures stored { result ≡ true → (values : List (Option ℕ)) × (StoresFirst seat.old tok.0 values × (trace.new.items ≡ trace.old.items ++ writes seat.old.cpu tok 0 values)) }
+    ensures stored { result ≡ true → (done : List Event) × ((trace.new.items ≡ trace.old.items ++ done) × RestoresBy seat.old tok [] done) }
 {
     let cpu = seat.cpu();
     if !ends_section(seat.held(bank, tok)) {
@@ -72,12 +75,13 @@ fn mend(seat: &mut CpuSeat, bank: &Bank, tok: TokId, trace: &mut Vec<Event>) -> 
 fn give(seat: &mut CpuSeat, bank: &Bank, tok: TokId, trace: &mut Vec<Event>)
     requires of { bank_of seat.old ≡ id_of bank.now }
     requires held { is_held (holding seat.old tok.0) ≡ true }
-    requires ready { holding seat.old tok.0 ≡ Holds Exclusive 0 → (row seat.old tok.0 ≡ first_row seat.old tok.0) ⊎ MeetsItsLaw seat.old tok.0 }
+    requires ready { holding seat.old tok.0 ≡ Holds Exclusive 0 → IsUnwritten seat.old tok.0 ⊎ MeetsItsLaw seat.old tok.0 }
     requires room { vec_len trace.old < vec_capacity trace.old }
     ensures ran { Ran (λ h. h ≡ removed (holding seat.old) tok.0) 1 seat.old seat.new trace.old trace.new }
     ensures given { holding seat.new ≡ removed (holding seat.old) tok.0 }
     ensures others { (other : ℕ) → other ≢ tok.0 → SameSection seat.old seat.new other }
     ensures row { row seat.new tok.0 ≡ row seat.old tok.0 }
+    ensures blob { blob seat.new tok.0 ≡ blob seat.old tok.0 }
     ensures still { is_held (holding seat.new tok.0) ≡ true → SameSection seat.old seat.new tok.0 }
     ensures told { (event : Event) × ((trace.new.items ≡ trace.old.items ++ event ∷ []) × GivesBy seat.old tok event) }
 {
@@ -89,13 +93,13 @@ fn give(seat: &mut CpuSeat, bank: &Bank, tok: TokId, trace: &mut Vec<Event>)
     }
 }
 
-/// Gives a reference back, a section that it ends being mended before; says whether the section's cells were restored.
+/// Gives a reference back, a section that it ends being mended before; says whether the section's row and record were restored.
 #[inline(always)]
 pub(crate) fn give_last(seat: &mut CpuSeat, bank: &Bank, tok: TokId, trace: &mut Vec<Event>) -> bool
     requires of { bank_of seat.old ≡ id_of bank.now }
     requires held { is_held (holding seat.old tok.0) ≡ true }
-    requires room { vec_len trace.old + 5 ≤ vec_capacity trace.old }
-    ensures ran { Ran (λ h. (h ≡ holding seat.old) ⊎ (h ≡ removed (holding seat.old) tok.0)) 5 seat.old seat.new trace.old trace.new }
+    requires room { vec_len trace.old + 6 ≤ vec_capacity trace.old }
+    ensures ran { Ran (λ h. (h ≡ holding seat.old) ⊎ (h ≡ removed (holding seat.old) tok.0)) 6 seat.old seat.new trace.old trace.new }
     ensures given { holding seat.new ≡ removed (holding seat.old) tok.0 }
     ensures rows { GivesBack seat.old seat.new tok.0 result }
     ensures events { (done : List Event) × ((trace.new.items ≡ trace.old.items ++ done) × Releases seat.old (holding seat.old tok.0) tok done) }

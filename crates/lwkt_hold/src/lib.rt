@@ -7,6 +7,7 @@ mod gives;
 pub mod holds;
 pub mod laws;
 mod reads;
+mod records;
 mod releases;
 mod resumes;
 mod stills;

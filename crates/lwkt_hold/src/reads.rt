@@ -19,7 +19,7 @@ impl Hold {
 
     // The mode of the first reference to the token on the list that is held, if there is one: the seat knows it at once.
     #[inline(always)]
-    fn mode(&self, bank: &Bank, list: &TokList, tok: TokId) -> Option<Mode>
+    pub(crate) fn mode(&self, bank: &Bank, list: &TokList, tok: TokId) -> Option<Mode>
         requires of { bank_of (seat_of self.now) ≡ id_of bank.now }
         requires there { tok.0 < tokens_of (bank_of (seat_of self.now)) }
         requires held { holding (seat_of self.now) ≡ holding_of list.now }

@@ -25,8 +25,8 @@ impl Hold {
     /// trace has room for 256 events are the caller's conditions.
     ///
     /// Refused with `NotHeld` exactly if the token is not on the list, else with `NotLast` exactly if the last reference is
-    /// to another token; nothing changes then. `Broken` says that the reference ended a section whose row had broken its
-    /// law: the row is the section's first row again, and the reference is given back.
+    /// to another token; nothing changes then. `Broken` says that the reference ended a section whose row and record had
+    /// broken its law: they are the section's first ones again, and the reference is given back.
     #[inline(always)]
     pub fn rel(
         &mut self,
@@ -38,7 +38,7 @@ impl Hold {
         requires of { bank_of (seat_of self.old) ≡ id_of bank.now }
         requires held { holding (seat_of self.old) ≡ holding_of list.old }
         requires room { vec_len trace.old + 256 ≤ vec_capacity trace.old }
-        ensures ran { Ran (IsFront list.old) 5 (seat_of self.old) (seat_of self.new) trace.old trace.new }
+        ensures ran { Ran (IsFront list.old) 6 (seat_of self.old) (seat_of self.new) trace.old trace.new }
         ensures held { holding (seat_of self.new) ≡ holding_of list.new }
         ensures ok { OnOk result (ReleasesLast (seat_of self.old) (seat_of self.new) list.old list.new tok false trace.old.items trace.new.items) }
         ensures err { IfErr result (λ fault. ((fault ≡ Fault.Broken) × ReleasesLast (seat_of self.old) (seat_of self.new) list.old list.new tok true trace.old.items trace.new.items)
@@ -54,7 +54,7 @@ impl Hold {
     }
 
     /// Gives up the first `held` references of a list, in reverse order. A section that has broken its law gets its first
-    /// row again before it ends; the first such token is named. That these references are held and that the trace has room
+    /// row and record again before it ends; the first such token is named. That these references are held and that the trace has room
     /// for 256 events are the caller's conditions.
     #[inline(never)]
     pub fn block(
@@ -68,7 +68,7 @@ impl Hold {
         requires within { held ≤ length list.now }
         requires held { holding (seat_of self.old) ≡ holding_of (take held list.now) }
         requires room { vec_len trace.old + 256 ≤ vec_capacity trace.old }
-        ensures ran { Ran (IsFront (take held list.now)) 160 (seat_of self.old) (seat_of self.new) trace.old trace.new }
+        ensures ran { Ran (IsFront (take held list.now)) 192 (seat_of self.old) (seat_of self.new) trace.old trace.new }
         ensures empty { holding (seat_of self.new) ≡ holds_nothing }
         ensures rows { GivenUp (seat_of self.old) (seat_of self.new) }
         ensures events { (done : List Event) × ((trace.new.items ≡ trace.old.items ++ done) × ReleasesAll (seat_of self.old) [] (take held list.now) done) }

@@ -1,8 +1,8 @@
 //! Events at the end of a trace that has room.
 ghost use Rattle.std.specs.Prelude.{◌≡◌, ◌+◌, ◌<◌, ◌≤◌, [], ◌∷◌, ◌++◌, length, vec_len, vec_capacity};
-ghost use Rattle.lwkt_hold.specs.Rows.{writes};
+ghost use Rattle.lwkt_hold.specs.Rows.{writes, writes_record};
 
-use lwkt_base::{CpuId, TokId};
+use lwkt_base::{Blob, CpuId, TokId};
 use lwkt_core::Event;
 
 #[inline(always)]
@@ -48,4 +48,17 @@ pub(crate) fn note_cells(trace: &mut Vec<Event>, cpu: CpuId, tok: TokId, values:
     note_cell(trace, cpu, tok, 1, values[1]);
     note_cell(trace, cpu, tok, 2, values[2]);
     note_cell(trace, cpu, tok, 3, values[3]);
+}
+
+/// The store of this record of a token, if one was stored.
+pub(crate) fn note_record(trace: &mut Vec<Event>, cpu: CpuId, tok: TokId, stored: Option<Blob>)
+    requires { vec_len trace.old < vec_capacity trace.old }
+    ensures items { trace.new.items ≡ trace.old.items ++ writes_record cpu tok stored }
+    ensures longer { vec_len trace.new ≡ vec_len trace.old + length (writes_record cpu tok stored) }
+    ensures few { length (writes_record cpu tok stored) ≤ 1 }
+    ensures room { vec_capacity trace.old ≤ vec_capacity trace.new }
+{
+    if let Some(blob) = stored {
+        note(trace, Event::WriteBlob { cpu, tok, blob });
+    }
 }

@@ -1,5 +1,5 @@
 -- What is said of an outcome, and whether it is so (own).
-use Rattle.std.specs.Prelude.{ℕ, ◌==◌, ◌&&◌, ◌||◌, not, nat_lt, nat_le, List, [], ◌∷◌, slice_get, Bool, true, false, Option, Some, None, option_map, unwrap_or}
+use Rattle.std.specs.Prelude.{ℕ, ◌==◌, ◌&&◌, ◌||◌, not, nat_lt, nat_le, List, [], ◌∷◌, slice_get, bytes_eq, Bool, true, false, Option, Some, None, option_map, unwrap_or}
 use Rattle.std.specs.List.{list_all}
 use Rattle.lwkt_base.specs.declared.entries.Entry.{Entry}
 use Rattle.lwkt_base.specs.declared.entries.Entry.TheVariants as entries
@@ -66,6 +66,7 @@ same_call c d = c.op == d.op && c.arg == d.arg
 -- whether two entries are the same
 abbrev pub same_entry : Entry → Entry → Bool
 same_entry (entries.Value m) (entries.Value n) = m == n
+same_entry (entries.Bytes a) (entries.Bytes b) = bytes_eq a b
 same_entry (entries.Aborted a) (entries.Aborted b) = same_bool a b
 same_entry (entries.Request m c) (entries.Request n d) = m.0 == n.0 && same_call c d
 same_entry (entries.Reply m e r) (entries.Reply n f s) = m.0 == n.0 && e == f && r == s

@@ -2,6 +2,7 @@ ghost use Rattle.std.specs.Prelude.{◌≡◌};
 ghost use Rattle.lwkt_litmus.specs.Claims.{is_standing, is_place, has_ended, has_faulted, same_call, same_entry, same_thread, has_entry, has_logged, has_stood, any_faulted, any_logged, any_stood, related, compared, lies, ended, holds};
 
 use crate::readings::sum_of;
+use lwkt_base::blobs::same_bytes;
 use lwkt_base::{Call, Entry, MsgId, MsgState, Owner, ThreadId, ThreadState};
 use lwkt_report::{Closing, ThreadLine};
 use lwkt_text::claims::{Claim, Relation, Standing};
@@ -54,17 +55,18 @@ fn same_call(one: Call, other: Call) -> bool
 }
 
 // Whether two entries are the same.
-fn same_entry(one: Entry, other: Entry) -> bool
-    ensures { result ≡ same_entry one other }
+fn same_entry(one: &Entry, other: &Entry) -> bool
+    ensures { result ≡ same_entry one.now other.now }
 {
     match (one, other) {
-        (Entry::Value(m), Entry::Value(n)) => m == n,
-        (Entry::Aborted(a), Entry::Aborted(b)) => a == b,
-        (Entry::Request(m, c), Entry::Request(n, d)) => m.0 == n.0 && same_call(c, d),
-        (Entry::Reply(m, e, r), Entry::Reply(n, f, s)) => m.0 == n.0 && e == f && r == s,
+        (Entry::Value(m), Entry::Value(n)) => *m == *n,
+        (Entry::Bytes(a), Entry::Bytes(b)) => same_bytes(a, b),
+        (Entry::Aborted(a), Entry::Aborted(b)) => *a == *b,
+        (Entry::Request(m, c), Entry::Request(n, d)) => m.0 == n.0 && same_call(*c, *d),
+        (Entry::Reply(m, e, r), Entry::Reply(n, f, s)) => m.0 == n.0 && *e == *f && *r == *s,
         (Entry::NoMessage, Entry::NoMessage) => true,
-        (Entry::Dropped(m, c), Entry::Dropped(n, d)) => m.0 == n.0 && same_call(c, d),
-        (Entry::Refused(m), Entry::Refused(n)) => m == n,
+        (Entry::Dropped(m, c), Entry::Dropped(n, d)) => m.0 == n.0 && same_call(*c, *d),
+        (Entry::Refused(m), Entry::Refused(n)) => *m == *n,
         _ => false,
     }
 }
@@ -76,11 +78,11 @@ fn same_thread(one: ThreadId, other: ThreadId) -> bool
 }
 
 // Whether a log has an entry.
-fn has_entry(entry: Entry, log: &[Entry]) -> bool
-    ensures { result ≡ has_entry entry log.now }
+fn has_entry(entry: &Entry, log: &[Entry]) -> bool
+    ensures { result ≡ has_entry entry.now log.now }
 {
     for e in log {
-        if same_entry(*e, entry) {
+        if same_entry(e, entry) {
             return true;
         }
     }
@@ -88,8 +90,8 @@ fn has_entry(entry: Entry, log: &[Entry]) -> bool
 }
 
 // Whether this is the line of a thread, and its log has an entry.
-fn has_logged(id: ThreadId, entry: Entry, line: &ThreadLine) -> bool
-    ensures { result ≡ has_logged id entry line.now }
+fn has_logged(id: ThreadId, entry: &Entry, line: &ThreadLine) -> bool
+    ensures { result ≡ has_logged id entry.now line.now }
 {
     same_thread(line.id, id) && has_entry(entry, line.log.as_slice())
 }
@@ -114,8 +116,8 @@ fn any_faulted(n: u8, lines: &[ThreadLine]) -> bool
 }
 
 // Whether a thread's log has an entry.
-fn any_logged(id: ThreadId, entry: Entry, lines: &[ThreadLine]) -> bool
-    ensures { result ≡ any_logged id entry lines.now }
+fn any_logged(id: ThreadId, entry: &Entry, lines: &[ThreadLine]) -> bool
+    ensures { result ≡ any_logged id entry.now lines.now }
 {
     for line in lines {
         if has_logged(id, entry, line) {
@@ -188,7 +190,7 @@ pub fn holds(outcome: &Closing, claim: &Claim) -> bool
         Claim::Ended => ended(outcome),
         Claim::Stuck => !ended(outcome),
         Claim::Faulted(n) => any_faulted(*n, threads),
-        Claim::Logged(id, entry) => any_logged(*id, *entry, threads),
+        Claim::Logged(id, entry) => any_logged(*id, entry, threads),
         Claim::Stands(id, standing) => any_stood(*id, *standing, threads),
         Claim::Lies(msg, place) => lies(outcome, *msg, *place),
         Claim::Compares(said) => {

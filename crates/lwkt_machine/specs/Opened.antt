@@ -8,7 +8,7 @@ use Rattle.lwkt_core.specs.Opening.{AreWithin, AllOpenLawfully}
 use Rattle.lwkt_script.specs.declared.scripts.Script.{Script}
 use Rattle.lwkt_script.specs.declared.scripts.ThreadSpec.{ThreadSpec}
 use Rattle.lwkt_bank.specs.declared.seats.CpuSeat.{CpuSeat}
-use Rattle.lwkt_bank.specs.Opened.{AreUnguarded, plans_of}
+use Rattle.lwkt_bank.specs.Opened.{plans_of}
 use Rattle.lwkt_bank.specs.Seats.{BankId, bank_of}
 use Rattle.lwkt_bank.specs.Gathered.{IsNew}
 use Rattle.lwkt_msg.specs.Desks.{Shelf, cpu_of, IsOpened}
@@ -58,11 +58,10 @@ pub record AreWired (cpus : List (Processor Scripted)) : Type 0 where
   pub lanes : (i j : ℕ) (p q : Processor Scripted) (there back : Lane) → slice_get cpus i ≡ Some p → slice_get cpus j ≡ Some q → slice_get p.post.lanes j ≡ Some there → slice_get q.post.lanes i ≡ Some back → IsNewLane there.out back.into
   pub none_kept : (k j : ℕ) (p : Processor Scripted) (line : Lane) → slice_get cpus k ≡ Some p → slice_get p.post.lanes j ≡ Some line → line.kept ≡ None
 
--- a machine as a script opens it: a bank of its tokens, none of which has a record, a book of its messages, and its processors, each
--- as it is opened, with new lanes from each to each
+-- a machine as a script opens it: a bank of its tokens, a book of its messages, and its processors, each as it is opened, with new
+-- lanes from each to each
 pub record IsOpenedMachine (script : Script) (m : Rig) : Type 0 where
   pub plans : m.bank.plans ≡ plans_of script.tokens
-  pub unguarded : AreUnguarded script.tokens
   pub specs : m.book.specs ≡ script.messages
   pub as_many : length m.cpus ≡ script.cpus
   pub desks_are : m.book.cpus ≡ script.cpus
@@ -70,9 +69,9 @@ pub record IsOpenedMachine (script : Script) (m : Rig) : Type 0 where
   pub wired : AreWired m.cpus
 
 -- why a machine of so many processors, these tokens and these messages isn't opened: out of memory, of which nothing is claimed;
--- or a limit is passed, or a token has a record, for which there is no room yet; or within the limits an opening row breaks its law
+-- or a limit is passed; or within the limits an opening row breaks its law
 abbrev pub Declines : ℕ → List TokSpec → List MsgSpec → Fault → Type 0
 Declines cpus tokens messages Memory = Unit {0}
-Declines cpus tokens messages Limits = ¬ (AreWithin cpus tokens messages × AreUnguarded tokens)
+Declines cpus tokens messages Limits = ¬ AreWithin cpus tokens messages
 Declines cpus tokens messages LawBroken = AreWithin cpus tokens messages × ¬ AllOpenLawfully tokens
 Declines cpus tokens messages _ = ⊥

@@ -1,5 +1,5 @@
 //! The bodies of a script's threads.
-ghost use Rattle.std.specs.Prelude.{◌≡◌, ◌≤◌, length, IfOk};
+ghost use Rattle.std.specs.Prelude.{◌≡◌, ◌≤◌, length, IfOk, Some};
 ghost use Rattle.lwkt_machine.specs.Bodies.{unpolled, next_ask, entry_for, logged};
 
 use lwkt_ask::Body;
@@ -120,6 +120,14 @@ impl ScriptBody {
             }
         }
     }
+
+    // Keeps what was asked, and the answer that came before.
+    fn note(&mut self, ask: &Ask, last: &Answer)
+        ensures { self.new ≡ record self.old { asked = Some ask.now; told = Some last.now } }
+    {
+        self.asked = Some(*ask);
+        self.told = Some(*last);
+    }
 }
 
 impl Body for ScriptBody {
@@ -131,8 +139,7 @@ impl Body for ScriptBody {
         self.keep(last);
         let ask = self.next_ask();
         self.polls = self.polls.saturating_add(1);
-        self.asked = Some(ask);
-        self.told = Some(last);
+        self.note(&ask, &last);
         ask
     }
 }

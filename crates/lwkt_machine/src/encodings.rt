@@ -4,7 +4,7 @@ ghost use Rattle.lwkt_machine.specs.Encoded.{AreOfBook};
 
 use crate::bodies::ScriptBody;
 use crate::machines::Machine;
-use lwkt_base::{Entry, Fault, MsgId, Rec};
+use lwkt_base::{Blob, Entry, Fault, MsgId, Rec};
 use lwkt_cpu::Cpu;
 use lwkt_msg::{MsgBook, MsgSeat, Reaped};
 use std::alloc::{AllocError, Global};
@@ -30,21 +30,31 @@ fn add_four(words: &mut Vec<u64>, a: u64, b: u64, c: u64, d: u64) -> Result<(), 
     add(words, d)
 }
 
-fn add_entry(words: &mut Vec<u64>, entry: Entry) -> Result<(), AllocError> {
+fn add_bytes(words: &mut Vec<u64>, kind: u64, blob: &Blob) -> Result<(), AllocError> {
+    add(words, kind)?;
+    add(words, u64::from(blob.len()))?;
+    for byte in blob.as_slice() {
+        add(words, u64::from(*byte))?;
+    }
+    Ok(())
+}
+
+fn add_entry(words: &mut Vec<u64>, entry: &Entry) -> Result<(), AllocError> {
     match entry {
-        Entry::Value(value) => add_four(words, 1, value, 0, 0),
-        Entry::Aborted(asked) => add_four(words, 2, u64::from(asked), 0, 0),
+        Entry::Value(value) => add_four(words, 1, *value, 0, 0),
+        Entry::Aborted(asked) => add_four(words, 2, u64::from(*asked), 0, 0),
         Entry::Request(MsgId(msg), call) => {
-            add_four(words, 3, u64::from(msg), u64::from(call.op), call.arg)
+            add_four(words, 3, u64::from(*msg), u64::from(call.op), call.arg)
         }
         Entry::Reply(MsgId(msg), error, outcome) => {
-            add_four(words, 4, u64::from(msg), u64::from(error), outcome)
+            add_four(words, 4, u64::from(*msg), u64::from(*error), *outcome)
         }
         Entry::NoMessage => add_four(words, 5, 0, 0, 0),
         Entry::Dropped(MsgId(msg), call) => {
-            add_four(words, 6, u64::from(msg), u64::from(call.op), call.arg)
+            add_four(words, 6, u64::from(*msg), u64::from(call.op), call.arg)
         }
-        Entry::Refused(number) => add_four(words, 7, u64::from(number), 0, 0),
+        Entry::Refused(number) => add_four(words, 7, u64::from(*number), 0, 0),
+        Entry::Bytes(blob) => add_bytes(words, 8, blob),
     }
 }
 
@@ -53,7 +63,7 @@ impl ScriptBody {
     pub fn encode(&self, words: &mut Vec<u64>) -> Result<(), AllocError> {
         add(words, self.polls())?;
         for entry in self.log() {
-            add_entry(words, *entry)?;
+            add_entry(words, entry)?;
         }
         add(words, 0)
     }

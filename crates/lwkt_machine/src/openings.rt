@@ -1,7 +1,6 @@
 //! The opening of a machine.
 ghost use Rattle.std.specs.Prelude.{◌≡◌, ◌≤◌, IfOk, IfErr, OnOk, OnErr, Err};
 ghost use Rattle.lwkt_core.specs.Opening.{AreWithin, AllOpenLawfully};
-ghost use Rattle.lwkt_bank.specs.Opened.{AreUnguarded};
 ghost use Rattle.lwkt_bank.specs.Gathered.{IsOpened};
 ghost use Rattle.lwkt_msg.specs.Desks.{AreOpened};
 ghost use Rattle.lwkt_machine.specs.Opened.{IsOpenedMachine, Declines};
@@ -35,7 +34,6 @@ fn open_tables(
     ensures bank { IfOk result (λ t. IsOpened cpus tokens.now t.bank t.seats.items) }
     ensures book { IfOk result (λ t. AreOpened cpus messages.now t.book t.mails.items) }
     ensures within { OnOk result (AreWithin cpus tokens.now messages.now × AllOpenLawfully tokens.now) }
-    ensures unguarded { OnOk result (AreUnguarded tokens.now) }
     ensures refused { IfErr result (λ fault. Declines cpus tokens.now messages.now fault) }
 {
     let (book, mails) = MsgBook::open(alloc, messages, cpus)?;
@@ -53,7 +51,6 @@ fn open_at(alloc: Global, script: &Script, tables: Tables) -> Result<Machine, Fa
     requires bank { IsOpened script.now.cpus script.now.tokens tables.bank tables.seats.items }
     requires book { AreOpened script.now.cpus script.now.messages tables.book tables.mails.items }
     requires few { script.now.cpus ≤ 8 }
-    requires unguarded { AreUnguarded script.now.tokens }
     ensures ok { IfOk result (λ machine. IsOpenedMachine script.now machine) }
     ensures only { OnErr result (result ≡ Err Fault.Memory) }
 {
@@ -79,8 +76,8 @@ impl Machine {
     /// Opens the machine of a script: a bank of its tokens, a book of its messages, and its processors, with lanes for 32 notes
     /// from each to each. Each thread of the script is one of its processor, in the script's order, and was never polled.
     ///
-    /// Refused with `Limits` only if the opening passes a limit or a token has a record, with `LawBroken` only if it is within the limits and an opening
-    /// row breaks its law, and else with `Memory`.
+    /// Refused with `Limits` only if the opening passes a limit, with `LawBroken` only if it is within the limits and an opening
+    /// row, with the length of its record, breaks its law, and else with `Memory`.
     pub fn open(alloc: Global, script: &Script) -> Result<Machine, Fault>
         ensures ok { IfOk result (λ machine. IsOpenedMachine script.now machine) }
         ensures within { OnOk result (AreWithin script.now.cpus script.now.tokens script.now.messages) }

@@ -4,16 +4,18 @@ use crate::parts::Part;
 use crate::records::show_record;
 use crate::words::Words;
 
-/// Whose token it is: a script's, which has no record, or a trace's, which may have one.
+/// Whose token it is: that of a script of version 1, which has no record, of a trace, which may name one, or of a script of
+/// version 2, which names its record, or null for none.
 #[derive(Clone, Copy, PartialEq, Eq)]
 pub(crate) enum Guarding {
     Never,
     Maybe,
+    Always,
 }
 
 // Whether a part is the name of a law.
 fn is_law(part: Part<'_>, guarding: Guarding) -> bool {
-    if guarding == Guarding::Maybe && part.is_text("len") {
+    if guarding != Guarding::Never && part.is_text("len") {
         return true;
     }
     ["any", "sum", "order", "cap", "tally"]
@@ -31,7 +33,7 @@ fn show_law(out: &mut Words, token: Part<'_>, count: usize, guarding: Guarding) 
         out.size("law tally has exactly one cell, and here are ", count);
         return true;
     }
-    if guarding == Guarding::Maybe && law.is_text("len") && count == 0 {
+    if guarding != Guarding::Never && law.is_text("len") && count == 0 {
         out.add("law len has at least one cell, and here is none");
         return true;
     }
@@ -42,7 +44,7 @@ fn show_law(out: &mut Words, token: Part<'_>, count: usize, guarding: Guarding) 
     out.part(law);
     out.add(match guarding {
         Guarding::Never => ", and has to be \"any\", \"sum\", \"order\", \"cap\" or \"tally\"",
-        Guarding::Maybe => {
+        Guarding::Maybe | Guarding::Always => {
             ", and has to be \"any\", \"sum\", \"order\", \"cap\", \"tally\" or \"len\""
         }
     });
@@ -66,12 +68,13 @@ pub(crate) fn show_token(out: &mut Words, token: Part<'_>, guarding: Guarding) -
         || show_cells(out, token, guarding)
         || show_member(out, token, range("param", 0, WHOLE))
         || show_member(out, token, range("gen", 0, 70_368_744_177_663))
-        || (guarding == Guarding::Maybe && show_record(out, token))
+        || (guarding != Guarding::Never && show_record(out, token))
 }
 
 // Appends what is bad of the members of a token; says whether something is.
 fn show_token_members(out: &mut Words, token: Part<'_>, guarding: Guarding) -> bool {
-    if guarding == Guarding::Maybe && token.member("record").is_some() {
+    let names_one = guarding == Guarding::Maybe && token.member("record").is_some();
+    if guarding == Guarding::Always || names_one {
         return show_members(out, token, &["cells", "law", "param", "gen", "record"]);
     }
     show_members(out, token, &["cells", "law", "param", "gen"])

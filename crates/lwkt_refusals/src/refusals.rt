@@ -1,11 +1,12 @@
 use crate::pages::{Page, show_breach};
 use crate::parts::Part;
-use crate::scripts::show_script_place;
+use crate::scripts::{is_second, show_script_place};
 use crate::texts::{byte_at, line_of, place_of};
 use crate::traces::show_trace_place;
 use crate::words::Words;
 use lwkt_base::blobs::length_of;
 use lwkt_base::{Fault, TokSpec};
+use lwkt_script::Version;
 use lwkt_script::tokens::tokens_of;
 use serde_json::Value;
 use std::alloc::{AllocError, Global};
@@ -112,15 +113,20 @@ fn show_part(alloc: Global, out: &mut Page, document: Document, bytes: &[u8], pl
 }
 
 // The tokens of a list.
-fn tokens_in(alloc: Global, list: Part<'_>) -> Option<Vec<TokSpec>> {
+fn tokens_in(alloc: Global, version: Version, list: Part<'_>) -> Option<Vec<TokSpec>> {
     let value = Value::from_str(alloc, list.written()).ok()?;
-    tokens_of(alloc, value.as_array()?.as_slice()).ok()
+    tokens_of(alloc, version, value.as_array()?.as_slice()).ok()
 }
 
 // Appends the first token whose opening breaks its law, if there is one.
 fn show_opening(alloc: Global, out: &mut Words, whole: Part<'_>) -> Option<()> {
     let list = whole.member("tokens")?;
-    let tokens = tokens_in(alloc, list)?;
+    let version = if is_second(whole) {
+        Version::Second
+    } else {
+        Version::First
+    };
+    let tokens = tokens_in(alloc, version, list)?;
     for (number, spec) in tokens.iter().enumerate() {
         if !spec
             .law

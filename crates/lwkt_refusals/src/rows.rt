@@ -9,7 +9,7 @@ const SMALL: Want = Want::UpTo(255);
 
 const CODE: Want = Want::UpTo(4_294_967_295);
 
-const FLAGS: Want = Want::UpTo(3);
+const FLAGS: Want = Want::Flags;
 
 const WHOLE: Want = Want::UpTo(members::WHOLE);
 
@@ -25,6 +25,8 @@ const CELL_LIMIT: usize = 4;
 enum Want {
     // A whole number from 0 to this one.
     UpTo(u64),
+    // The flags of a send: 0 to 3, or to 7 where there is one for priority.
+    Flags,
     // A list of at most four whole numbers.
     Row,
     // A text of two small hexadecimal digits for each byte of a record, of which there are at most 65.
@@ -34,8 +36,10 @@ enum Want {
 /// What a list stands for.
 #[derive(Clone, Copy)]
 pub(crate) enum Kind {
-    /// A step of a script.
+    /// A step of a script of version 1.
     Step,
+    /// A step of a script of version 2.
+    SecondStep,
     /// An event of a trace.
     Event,
     /// The end of a message in a trace.
@@ -46,7 +50,7 @@ impl Kind {
     // What it is called.
     fn name(self) -> &'static str {
         match self {
-            Kind::Step => "step",
+            Kind::Step | Kind::SecondStep => "step",
             Kind::Event => "event",
             Kind::End => "end of a message",
         }
@@ -55,9 +59,25 @@ impl Kind {
     // The words that it may begin with, and what may stand behind each.
     fn forms(self) -> &'static [Form] {
         match self {
-            Kind::Step => &STEPS,
+            Kind::Step | Kind::SecondStep => &STEPS,
             Kind::Event => &EVENTS,
             Kind::End => &ENDS,
+        }
+    }
+
+    // Whether a word is none of this kind, though it is one of the other version's.
+    fn lacks(self, word: Part<'_>) -> bool {
+        match self {
+            Kind::Step => word.is_text("rrec") || word.is_text("wrec"),
+            _ => false,
+        }
+    }
+
+    // The most that flags are.
+    fn most_flags(self) -> u64 {
+        match self {
+            Kind::SecondStep => 7,
+            _ => 3,
         }
     }
 }
@@ -65,7 +85,8 @@ impl Kind {
 // A word, and what may stand behind it.
 type Form = (&'static str, &'static [Want]);
 
-const STEPS: [Form; 18] = [
+// Those of version 2, the last two of them in it alone.
+const STEPS: [Form; 20] = [
     ("get", &[SMALL]),
     ("gets", &[SMALL]),
     ("try", &[SMALL]),
@@ -84,6 +105,8 @@ const STEPS: [Form; 18] = [
     ("wait", &[]),
     ("yield", &[]),
     ("exit", &[]),
+    ("rrec", &[SMALL]),
+    ("wrec", &[SMALL, RECORD]),
 ];
 
 const EVENTS: [Form; 19] = [
@@ -153,10 +176,16 @@ fn is_row(part: Part<'_>) -> bool {
     true
 }
 
+// Whether a part is a whole number up to this one.
+fn is_up_to(part: Part<'_>, limit: u64) -> bool {
+    part.number().is_some() && part.number() <= Some(limit)
+}
+
 // Whether a part is what is wanted.
-fn fits(part: Part<'_>, want: Want) -> bool {
+fn fits(part: Part<'_>, want: Want, kind: Kind) -> bool {
     match want {
-        Want::UpTo(limit) => part.number().is_some() && part.number() <= Some(limit),
+        Want::UpTo(limit) => is_up_to(part, limit),
+        Want::Flags => is_up_to(part, kind.most_flags()),
         Want::Row => is_row(part),
         Want::Record => is_record(part, 65),
     }
@@ -174,17 +203,18 @@ fn show_no_row(out: &mut Words, part: Part<'_>) {
 }
 
 // Appends which part of a list is bad.
-fn show_part(out: &mut Words, list: Part<'_>, wants: &[Want]) {
+fn show_part(out: &mut Words, list: Part<'_>, wants: &[Want], kind: Kind) {
     for (i, want) in wants.iter().enumerate() {
         let place = i.saturating_add(1);
         let Some(part) = list.item(place) else {
             return;
         };
-        if !fits(part, *want) {
+        if !fits(part, *want, kind) {
             out.point(part);
             out.size(" has a part ", place);
             return match *want {
                 Want::UpTo(limit) => out.number(" that is no whole number 0 to ", limit),
+                Want::Flags => out.number(" that is no whole number 0 to ", kind.most_flags()),
                 Want::Row => show_no_row(out, part),
                 Want::Record => {
                     out.add(" that is ");
@@ -224,9 +254,12 @@ fn show_behind(out: &mut Words, list: Part<'_>, kind: Kind) {
     if !word.is_string() {
         return out.add(" doesn't begin with a word");
     }
+    if kind.lacks(word) {
+        return out.add(" has a word that steps have in version 2 alone");
+    }
     let count = list.count().unwrap_or(0);
     if let Some(form) = form_of(word, count, kind) {
-        return show_part(out, list, form.1);
+        return show_part(out, list, form.1, kind);
     }
     if !show_count(out, word, count, kind) {
         out.add(" has a word that no ");

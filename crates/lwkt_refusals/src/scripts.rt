@@ -16,6 +16,32 @@ fn show_whole(out: &mut Words, whole: Part<'_>) -> bool {
         || show_list(out, whole, "threads", usize::MAX)
 }
 
+/// Whether a script says that it is of version 2.
+pub(crate) fn is_second(whole: Part<'_>) -> bool {
+    match whole.member("version") {
+        Some(version) => version.number() == Some(2),
+        None => false,
+    }
+}
+
+// What its version says of a script's tokens.
+fn guarding_of(whole: Part<'_>) -> Guarding {
+    if is_second(whole) {
+        Guarding::Always
+    } else {
+        Guarding::Never
+    }
+}
+
+// What its version says of a script's steps.
+fn step_of(whole: Part<'_>) -> Kind {
+    if is_second(whole) {
+        Kind::SecondStep
+    } else {
+        Kind::Step
+    }
+}
+
 // Appends what is bad of a thread but for its steps.
 fn show_thread(out: &mut Words, thread: Part<'_>, cpus: u64) -> bool {
     let told = show_members(out, thread, &["cpu", "repeat", "steps"])
@@ -79,7 +105,7 @@ fn show_step(out: &mut Words, whole: Part<'_>, n: usize, j: usize) -> Option<()>
     out.add(" of ");
     show_name(out, threads, n, thread);
     out.add(": ");
-    show_row(out, step, Kind::Step);
+    show_row(out, step, step_of(whole));
     Some(())
 }
 
@@ -87,11 +113,11 @@ fn show_step(out: &mut Words, whole: Part<'_>, n: usize, j: usize) -> Option<()>
 fn show_told(out: &mut Words, whole: Part<'_>, place: usize) -> bool {
     match place {
         1 => show_whole(out, whole),
-        2 => show_member(out, whole, range("version", 1, 1)),
+        2 => show_member(out, whole, range("version", 1, 2)),
         3 => show_member(out, whole, range("turns", 1, 1_000_000)),
         4 => show_member(out, whole, range("idle", 1, 100_000_000)),
         5 => show_member(out, whole, range("cpus", 1, 8)),
-        1000..=1999 => show_token_at(out, whole, place - 1000, Guarding::Never),
+        1000..=1999 => show_token_at(out, whole, place - 1000, guarding_of(whole)),
         2000..=2999 => show_message_at(out, whole, place - 2000),
         3000..=3999 => show_thread_at(out, whole, place - 3000),
         100_000.. => {

@@ -30,7 +30,11 @@ fn words_of(what: What) -> &'static str {
             "a message's thread is on one of the processors, and its number there is 0 to 15",
         What::Word(wanted) => word_of(wanted),
         What::CellList => "a cell is wanted here: a number, or a name, = and a number",
-        What::CellCount => "a token has at most 4 cells, and under tally exactly 1",
+        What::Bytes { .. } =>
+            "a record is wanted here: two hexadecimal digits for each byte, with small letters, or - for none",
+        What::Guard => "a token has a record under len, and none under tally",
+        What::CellCount =>
+            "a token has at most 4 cells, under tally exactly 1, and under len at least 1",
         What::State =>
             "a state is wanted here: of a thread ready, waiting, running, exited or faulted; of a message rest, out, with or back",
         What::Quantity =>
@@ -44,11 +48,18 @@ fn words_of(what: What) -> &'static str {
     }
 }
 
-// The limits of a number that is wanted.
+// The limits of a number or a record that is wanted.
 fn add_limits(page: &mut Page, what: What) {
-    if let What::Number { low, high } = what {
-        page.number(", ", low);
-        page.number(" to ", high);
+    match what {
+        What::Number { low, high } => {
+            page.number(", ", low);
+            page.number(" to ", high);
+        }
+        What::Bytes { most } => {
+            page.number("; at most ", most as u64);
+            page.add(" bytes");
+        }
+        _ => {}
     }
 }
 

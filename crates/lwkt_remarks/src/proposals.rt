@@ -4,7 +4,7 @@ use std::alloc::{AllocError, Global};
 use strsim::levenshtein;
 
 // The words that sentences begin with.
-const KEYWORDS: [&str; 27] = [
+const KEYWORDS: [&str; 29] = [
     "turns",
     "idle",
     "cpus",
@@ -22,6 +22,8 @@ const KEYWORDS: [&str; 27] = [
     "read",
     "write",
     "add",
+    "rrec",
+    "wrec",
     "send",
     "do",
     "reply",

@@ -1,4 +1,4 @@
-use Rattle.std.specs.Prelude.{ℕ, ◌+◌, true, false, List, [], ◌∷◌, ◌++◌, Option, None, Some, codes}
+use Rattle.std.specs.Prelude.{ℕ, ◌+◌, true, false, List, [], ◌∷◌, ◌++◌, Option, None, Some, codes, take}
 use Rattle.std.specs.Fmt.{decimal}
 use Rattle.std.specs.List.{flat_map}
 use Rattle.lwkt_base.specs.declared.names.Mode.{Mode}
@@ -10,11 +10,12 @@ use Rattle.lwkt_base.specs.declared.owners.MsgEnd.{MsgEnd}
 use Rattle.lwkt_base.specs.declared.threads.ThreadState.{ThreadState}
 use Rattle.lwkt_base.specs.declared.threads.ThreadState.TheVariants.{Ready, Waiting, Running, Exited, Faulted}
 use Rattle.lwkt_base.specs.Fault.{number_of}
+use Rattle.lwkt_base.specs.Hex.{bytes_text}
 use Rattle.lwkt_report.specs.declared.closings.Closing.{Closing}
 use Rattle.lwkt_report.specs.declared.closings.TokenLine.{TokenLine}
 use Rattle.lwkt_report.specs.declared.closings.ThreadLine.{ThreadLine}
 use Rattle.lwkt_base.specs.declared.entries.Entry.{Entry}
-use Rattle.lwkt_base.specs.declared.entries.Entry.TheVariants.{Value, Aborted, Request, Reply, NoMessage, Dropped, Refused}
+use Rattle.lwkt_base.specs.declared.entries.Entry.TheVariants.{Value, Bytes, Aborted, Request, Reply, NoMessage, Dropped, Refused}
 use Rattle.lwkt_report.specs.declared.closings.Verdict.{Verdict}
 use Rattle.lwkt_report.specs.declared.closings.Verdict.TheVariants.{Closed, Lawful, Unlawful}
 
@@ -43,10 +44,19 @@ abbrev pub tally_line : ℕ → Option (List ℕ) → List ℕ
 tally_line tok None = []
 tally_line tok (Some tallies) = codes "tally " ++ decimal tok ++ spaced decimal tallies ++ line_feed
 
--- `token T gen G cells C0 C1 ..`, and then its tally line
+-- the bytes of a record, two digits for each, or `-` for none; a record has at most 64
+abbrev pub record_text : List ℕ → List ℕ
+record_text blob = bytes_text (take 64 blob)
+
+-- `record T HEX`, for a token with a record alone
+abbrev pub record_line : ℕ → Option (List ℕ) → List ℕ
+record_line tok None = []
+record_line tok (Some blob) = codes "record " ++ decimal tok ++ codes " " ++ record_text blob ++ line_feed
+
+-- `token T gen G cells C0 C1 ..`, and then its tally line and its record line
 abbrev pub token_line : ℕ → TokenLine → List ℕ
 token_line tok line =
-    codes "token " ++ decimal tok ++ codes " gen " ++ decimal line.generation ++ codes " cells" ++ listed decimal line.cells ++ line_feed ++ tally_line tok line.tallies
+    codes "token " ++ decimal tok ++ codes " gen " ++ decimal line.generation ++ codes " cells" ++ listed decimal line.cells ++ line_feed ++ tally_line tok line.tallies ++ record_line tok line.blob
 
 -- where a message is
 abbrev pub owner_text : Owner → List ℕ
@@ -77,9 +87,10 @@ mode_text Shared = codes "s"
 abbrev pub ref_text : Ref → List ℕ
 ref_text r = decimal r.tok.0 ++ mode_text r.mode
 
--- an entry of a log: `v=VALUE`, `a=0` or `a=1`, `q=MSG:OP:ARG`, `r=MSG:ERROR:RESULT`, `n`, `d=MSG:OP:ARG` or `f=NUMBER`
+-- an entry of a log: `v=VALUE`, `b=HEX`, `a=0` or `a=1`, `q=MSG:OP:ARG`, `r=MSG:ERROR:RESULT`, `n`, `d=MSG:OP:ARG` or `f=NUMBER`
 abbrev pub entry_text : Entry → List ℕ
 entry_text (Value value) = codes "v=" ++ decimal value
+entry_text (Bytes blob) = codes "b=" ++ record_text blob
 entry_text (Aborted false) = codes "a=0"
 entry_text (Aborted true) = codes "a=1"
 entry_text (Request message call) = codes "q=" ++ decimal message.0 ++ codes ":" ++ decimal call.op ++ codes ":" ++ decimal call.arg

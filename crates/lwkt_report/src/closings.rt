@@ -1,5 +1,5 @@
 use crate::logs::Log;
-use lwkt_base::{Cells, MsgEnd, ThreadId, ThreadState, TokList};
+use lwkt_base::{Blob, Cells, MsgEnd, ThreadId, ThreadState, TokList};
 
 /// What a token is at the end of a run.
 #[derive(Debug, Drop)]
@@ -10,6 +10,8 @@ pub struct TokenLine {
     pub cells: Cells,
     /// Of a Tally token what each processor has added, by the processor's number; of every other token nothing.
     pub tallies: Option<Cells>,
+    /// The record, of at most 64 bytes, if the token guards one.
+    pub blob: Option<Blob>,
 }
 
 /// What a thread is when a run stops.

@@ -1,8 +1,9 @@
 ghost use Rattle.std.specs.Prelude.{◌≡◌, ◌++◌, ℕ, List, OnOk, string_bytes};
 ghost use Rattle.std.specs.Fmt.{decimal};
-ghost use Rattle.lwkt_report.specs.Report.{ref_text, entry_text, state_text, owner_text, mode_text};
+ghost use Rattle.lwkt_report.specs.Report.{ref_text, entry_text, record_text, state_text, owner_text, mode_text};
 
-use lwkt_base::{Entry, Mode, Owner, Ref, ThreadState};
+use lwkt_base::hexes::show_hex_or_none;
+use lwkt_base::{Blob, Entry, Mode, Owner, Ref, ThreadState};
 use std::alloc::AllocError;
 
 /// What stands in a report as one part of a line.
@@ -20,6 +21,14 @@ impl Shown for u64 {
 
     fn show(&self, out: &mut String) -> Result<(), AllocError> {
         write!(out, "{self}")
+    }
+}
+
+impl Shown for Blob {
+    ghost text = { record_text };
+
+    fn show(&self, out: &mut String) -> Result<(), AllocError> {
+        show_hex_or_none(self.as_slice(), out)
     }
 }
 
@@ -76,6 +85,10 @@ impl Shown for Entry {
     fn show(&self, out: &mut String) -> Result<(), AllocError> {
         match self {
             Entry::Value(value) => write!(out, "v={value}"),
+            Entry::Bytes(blob) => {
+                out.push_str("b=")?;
+                blob.show(out)
+            }
             Entry::Aborted(asked) => out.push_str(if *asked { "a=1" } else { "a=0" }),
             Entry::Request(message, call) => {
                 write!(out, "q={}:{}:{}", message.0, call.op, call.arg)

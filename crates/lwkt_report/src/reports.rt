@@ -1,11 +1,11 @@
 ghost use Rattle.std.specs.Prelude.{◌≡◌, ◌++◌, OnOk, IfOk, IsOkUnless, string_bytes};
 ghost use Rattle.std.specs.List.{flat_map};
-ghost use Rattle.lwkt_report.specs.Report.{token_line, tally_line, message_line, thread_line, verdict_line, numbered, front_text, report_text};
+ghost use Rattle.lwkt_report.specs.Report.{token_line, tally_line, record_line, message_line, thread_line, verdict_line, numbered, front_text, report_text};
 
 use crate::closings::{Closing, ThreadLine, TokenLine, Verdict};
 use crate::listings::{show_listed, show_spaced};
 use crate::parts::Shown;
-use lwkt_base::{Cells, Fault, MsgEnd};
+use lwkt_base::{Blob, Cells, Fault, MsgEnd};
 use std::alloc::{AllocError, Global};
 
 fn show_tally(tok: usize, tallies: &Option<Cells>, out: &mut String) -> Result<(), AllocError>
@@ -21,13 +21,27 @@ fn show_tally(tok: usize, tallies: &Option<Cells>, out: &mut String) -> Result<(
     }
 }
 
+fn show_record(tok: usize, blob: &Option<Blob>, out: &mut String) -> Result<(), AllocError>
+    ensures { OnOk result (string_bytes out.new ≡ string_bytes out.old ++ record_line tok blob.now) }
+{
+    match blob {
+        None => Ok(()),
+        Some(blob) => {
+            write!(out, "record {tok} ")?;
+            blob.show(out)?;
+            out.push_str("\n")
+        }
+    }
+}
+
 fn show_token(tok: usize, line: &TokenLine, out: &mut String) -> Result<(), AllocError>
     ensures { OnOk result (string_bytes out.new ≡ string_bytes out.old ++ token_line tok line.now) }
 {
     write!(out, "token {} gen {} cells", tok, line.generation)?;
     show_listed(line.cells.as_slice(), out)?;
     out.push_str("\n")?;
-    show_tally(tok, &line.tallies, out)
+    show_tally(tok, &line.tallies, out)?;
+    show_record(tok, &line.blob, out)
 }
 
 fn show_message(message: usize, end: &MsgEnd, out: &mut String) -> Result<(), AllocError>

@@ -20,3 +20,5 @@ mod script_rows;
 mod section_rows;
 #[cfg(test)]
 mod spoil_rows;
+#[cfg(test)]
+mod version_rows;

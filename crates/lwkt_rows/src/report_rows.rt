@@ -2,7 +2,8 @@
 
 use crate::fixtures::{Frail, OneByte, play};
 use lwkt_base::{
-    Call, CpuId, Fault, Mode, MsgEnd, MsgId, Owner, Ref, ThreadId, ThreadState, TokId, TokList,
+    Blob, Call, CpuId, Fault, Mode, MsgEnd, MsgId, Owner, Ref, ThreadId, ThreadState, TokId,
+    TokList,
 };
 use lwkt_fixtures::{Row, cells};
 use lwkt_report::{
@@ -26,6 +27,7 @@ fn token_line(alloc: Global, row: &TokenRow) -> Result<TokenLine, AllocError> {
         generation: row.0,
         cells: cells(alloc, row.1)?,
         tallies,
+        blob: None,
     })
 }
 
@@ -37,8 +39,38 @@ fn token_lines(alloc: Global, rows: &[TokenRow]) -> Result<Vec<TokenLine>, Alloc
     Ok(lines)
 }
 
+// An entry of a log in a table of constants. A constant can't borrow an `Entry`, since that has room for a record.
+#[derive(Clone, Copy)]
+enum Kept {
+    NoMessage,
+    Refused(u8),
+    Reply(MsgId, u32, u64),
+    Request(MsgId, Call),
+    Value(u64),
+}
+
+impl Kept {
+    fn entry(self) -> Entry {
+        match self {
+            Kept::NoMessage => Entry::NoMessage,
+            Kept::Refused(number) => Entry::Refused(number),
+            Kept::Reply(msg, error, outcome) => Entry::Reply(msg, error, outcome),
+            Kept::Request(msg, call) => Entry::Request(msg, call),
+            Kept::Value(value) => Entry::Value(value),
+        }
+    }
+}
+
+fn entries_of(alloc: Global, kept: &[Kept]) -> Result<Vec<Entry>, AllocError> {
+    let mut entries = Vec::new(alloc);
+    for one in kept {
+        entries.push(one.entry())?;
+    }
+    Ok(entries)
+}
+
 // The processor of a thread, its state, its list and its log.
-struct ThreadRow(u8, ThreadState, &'static [Ref], &'static [Entry]);
+struct ThreadRow(u8, ThreadState, &'static [Ref], &'static [Kept]);
 
 fn list_of(refs: &[Ref]) -> TokList {
     let mut list = TokList::new();
@@ -56,7 +88,7 @@ fn thread_line(alloc: Global, row: &ThreadRow) -> Result<ThreadLine, AllocError>
         },
         state: row.1,
         list: list_of(row.2),
-        log: Log::from_vec(Vec::from_slice(alloc, row.3)?),
+        log: Log::from_vec(entries_of(alloc, row.3)?),
     })
 }
 
@@ -167,19 +199,19 @@ const THREADS: &[ThreadRow] = &[
         0,
         ThreadState::Exited,
         &[],
-        &[Entry::Reply(MsgId(0), 7, 42), Entry::NoMessage],
+        &[Kept::Reply(MsgId(0), 7, 42), Kept::NoMessage],
     ),
     ThreadRow(
         1,
         ThreadState::Exited,
         &[],
-        &[Entry::Request(MsgId(0), Call { op: 5, arg: 9 })],
+        &[Kept::Request(MsgId(0), Call { op: 5, arg: 9 })],
     ),
     ThreadRow(
         2,
         ThreadState::Waiting,
         WAITING_LIST,
-        &[Entry::Refused(20), Entry::Value(3)],
+        &[Kept::Refused(20), Kept::Value(3)],
     ),
     ThreadRow(3, ThreadState::Faulted(Fault::Broken), &[], &[]),
     ThreadRow(4, ThreadState::Ready, &[], &[]),
@@ -393,4 +425,47 @@ fn is_copied(alloc: Global, mut source: &[u8]) -> Result<bool, Fault> {
 #[test]
 fn memory_is_no_failed_stream(rt: HostRuntime) {
     assert!(rt; is_copied(rt.alloc(), b"lawful\n") == Ok(true));
+}
+
+// The text of a report of one token, which guards these bytes, and of one thread, whose log has them.
+fn guarded_report(alloc: Global, bytes: &[u8]) -> Option<String> {
+    if bytes.len() > 64 {
+        return None;
+    }
+    let blob = Blob::of(bytes);
+    let mut line = token_line(alloc, &TokenRow(1, &[5], None)).ok()?;
+    line.blob = Some(blob);
+    let mut thread = thread_line(alloc, &ThreadRow(0, ThreadState::Exited, &[], &[])).ok()?;
+    thread.log = Log::from_vec(Vec::from_slice(alloc, &[Entry::Bytes(blob)]).ok()?);
+    let mut tokens = Vec::new(alloc);
+    tokens.push(line).ok()?;
+    let mut threads = Vec::new(alloc);
+    threads.push(thread).ok()?;
+    let closing = Closing {
+        tokens,
+        messages: Vec::new(alloc),
+        threads,
+        verdict: Verdict::Lawful,
+    };
+    report(alloc, &closing).ok()
+}
+
+#[test]
+fn records_in_reports(rt: HostRuntime) -> Result<(), Fail> {
+    let text = guarded_report(rt.alloc(), b"hello").ok_or("no report")?;
+    assert_eq!(rt;
+        text.as_str(),
+        "token 0 gen 1 cells 5\nrecord 0 68656c6c6f\nthread 0.0 exited list - log b=68656c6c6f\nlawful\n"
+    );
+    let text = guarded_report(rt.alloc(), &[]).ok_or("no report")?;
+    assert_eq!(rt;
+        text.as_str(),
+        "token 0 gen 1 cells 5\nrecord 0 -\nthread 0.0 exited list - log b=-\nlawful\n"
+    );
+    let text = guarded_report(rt.alloc(), &[0, 159, 250]).ok_or("no report")?;
+    assert_eq!(rt;
+        text.as_str(),
+        "token 0 gen 1 cells 5\nrecord 0 009ffa\nthread 0.0 exited list - log b=009ffa\nlawful\n"
+    );
+    Ok(())
 }

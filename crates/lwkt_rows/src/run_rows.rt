@@ -106,6 +106,34 @@ const CROSSED_LISTS: Run = Run(
     "token 0 gen 2 cells 8\ntoken 1 gen 0 cells 0\nthread 0.0 exited list - log v=7 v=8\nthread 1.0 exited list - log -\nlawful\n",
 );
 
+// A server that waits for its messages answers the urgent one, which was sent second, first.
+const URGENT_FIRST: Run = Run(
+    "{\"version\":2,\"turns\":50,\"idle\":100000000,\"cpus\":2,\"tokens\":[],\"messages\":[{\"of\":[0,0],\"round\":0},{\"of\":[0,0],\"round\":0},{\"of\":[0,0],\"round\":0}],\"threads\":[{\"cpu\":0,\"repeat\":1,\"steps\":[[\"send\",0,1,0,1,10,0],[\"send\",1,1,0,2,20,4],[\"send\",2,1,0,3,30,0],[\"wait\"],[\"wait\"],[\"wait\"]]},{\"cpu\":1,\"repeat\":1,\"steps\":[[\"yield\"],[\"yield\"],[\"yield\"],[\"yield\"],[\"yield\"],[\"yield\"],[\"wait\"],[\"reply\",1,0,0],[\"wait\"],[\"reply\",0,0,0],[\"wait\"],[\"reply\",2,0,0]]}]}",
+    0,
+    "message 0 round 1 rest\nmessage 1 round 1 rest\nmessage 2 round 1 rest\nthread 0.0 exited list - log r=1:0:0 r=0:0:0 r=2:0:0\nthread 1.0 exited list - log q=1:2:20 q=0:1:10 q=2:3:30\nlawful\n",
+);
+
+// A record that breaks its law is restored, one that obeys it stays, and a shared holder can't see it.
+const RECORD_UNDER_LEN: Run = Run(
+    "{\"version\":2,\"turns\":50,\"idle\":100000000,\"cpus\":1,\"tokens\":[{\"cells\":[3],\"law\":\"len\",\"param\":0,\"gen\":0,\"record\":\"616263\"}],\"messages\":[],\"threads\":[{\"cpu\":0,\"repeat\":1,\"steps\":[[\"get\",0],[\"rrec\",0],[\"wrec\",0,\"68656c6c6f\"],[\"rel\",0],[\"get\",0],[\"wrec\",0,\"68656c6c6f\"],[\"write\",0,0,5],[\"rel\",0],[\"gets\",0],[\"rrec\",0],[\"rel\",0]]}]}",
+    0,
+    "token 0 gen 1 cells 5\nrecord 0 68656c6c6f\nthread 0.0 exited list - log b=616263 f=19 f=37\nlawful\n",
+);
+
+// A section's read gives what the section wrote, and not the first record.
+const RECORD_READ_AFTER_WRITE: Run = Run(
+    "{\"version\":2,\"turns\":50,\"idle\":100000000,\"cpus\":1,\"tokens\":[{\"cells\":[],\"law\":\"any\",\"param\":0,\"gen\":0,\"record\":\"61\"},{\"cells\":[],\"law\":\"any\",\"param\":0,\"gen\":0,\"record\":null}],\"messages\":[],\"threads\":[{\"cpu\":0,\"repeat\":1,\"steps\":[[\"rrec\",0],[\"rrec\",1],[\"rrec\",9],[\"get\",0],[\"wrec\",0,\"6262\"],[\"rrec\",0],[\"wrec\",0,\"\"],[\"rrec\",0],[\"rel\",0]]}]}",
+    0,
+    "token 0 gen 1 cells -\nrecord 0 -\ntoken 1 gen 0 cells -\nthread 0.0 exited list - log f=13 f=17 f=16 b=6262 b=-\nlawful\n",
+);
+
+// A record of 65 bytes is refused, and one of 64 isn't.
+const LONG_RECORD: Run = Run(
+    "{\"version\":2,\"turns\":50,\"idle\":100000000,\"cpus\":1,\"tokens\":[{\"cells\":[],\"law\":\"any\",\"param\":0,\"gen\":0,\"record\":\"61\"}],\"messages\":[],\"threads\":[{\"cpu\":0,\"repeat\":1,\"steps\":[[\"wrec\",0,\"6161616161616161616161616161616161616161616161616161616161616161616161616161616161616161616161616161616161616161616161616161616161\"],[\"get\",0],[\"wrec\",0,\"6161616161616161616161616161616161616161616161616161616161616161616161616161616161616161616161616161616161616161616161616161616161\"],[\"wrec\",0,\"61616161616161616161616161616161616161616161616161616161616161616161616161616161616161616161616161616161616161616161616161616161\"],[\"rel\",0]]}]}",
+    0,
+    "token 0 gen 1 cells -\nrecord 0 61616161616161616161616161616161616161616161616161616161616161616161616161616161616161616161616161616161616161616161616161616161\nthread 0.0 exited list - log f=13 f=38\nlawful\n",
+);
+
 const CALL_AND_REPLY: Run = Run(
     "{\"version\":1,\"turns\":50,\"idle\":100000000,\"cpus\":2,\"tokens\":[],\"messages\":[{\"of\":[0,0],\"round\":0}],\"threads\":[{\"cpu\":0,\"repeat\":1,\"steps\":[[\"do\",0,1,0,5,9],[\"getport\"]]},{\"cpu\":1,\"repeat\":1,\"steps\":[[\"wait\"],[\"reply\",0,7,42]]}]}",
     0,
@@ -279,7 +307,7 @@ const BAD_SCRIPTS: [BadScript; 17] = [
     ),
     BadScript(
         "\"version\":1",
-        "\"version\":2",
+        "\"version\":3",
         "lwkt_run: fault 33 at 2\n",
     ),
     BadScript("\"turns\":50", "\"turns\":0", "lwkt_run: fault 33 at 3\n"),
@@ -481,4 +509,18 @@ fn failing_lines(rt: HostRuntime) {
     for bad in 1..AT_ITS_BEGINNING.len() + 2 {
         assert!(rt; fails_in_line(rt.alloc(), bad), "from call {bad} on");
     }
+}
+
+#[test]
+fn records_and_priority(rt: HostRuntime) {
+    play(
+        &rt,
+        rt.alloc(),
+        &[
+            URGENT_FIRST,
+            RECORD_UNDER_LEN,
+            RECORD_READ_AFTER_WRITE,
+            LONG_RECORD,
+        ],
+    );
 }

@@ -37,7 +37,7 @@ const BAD_SCRIPTS: [Changed; 34] = [
     Changed("\"version\":1", "\"version\":\"1\"", Some(2)),
     Changed(
         "\"version\":1,\"turns\":50",
-        "\"version\":2,\"turns\":0",
+        "\"version\":3,\"turns\":0",
         Some(2),
     ),
     Changed("\"turns\":50", "\"turns\":1000001", Some(3)),

@@ -27,13 +27,14 @@ planned specs bank k spec same there =
     ap (λ (plans : List Plan). get_or plans k no_plan) same ∙ get_or_from_slice_get (plans_of specs) k (plan_of_spec spec) no_plan at
 
 -- the closing values of a bank are those of the tokens that it was opened with
-pub values_of : (specs : List TokSpec) (bank : BankId) (cpus : ℕ) (seats : List CpuSeat) (closed : Closed) (last : Final) → bank.plans ≡ plans_of specs → last.rows ≡ closed.rows → last.gens ≡ closed.gens → last.tallies ≡ closed.tallies → IsClosed bank cpus seats closed → AreValuesOf specs last
-values_of specs bank cpus seats closed last same rows gens tallies is =
+pub values_of : (specs : List TokSpec) (bank : BankId) (cpus : ℕ) (seats : List CpuSeat) (closed : Closed) (last : Final) → bank.plans ≡ plans_of specs → last.rows ≡ closed.rows → last.gens ≡ closed.gens → last.tallies ≡ closed.tallies → last.blobs ≡ closed.blobs → IsClosed bank cpus seats closed → AreValuesOf specs last
+values_of specs bank cpus seats closed last same rows gens tallies blobs is =
     let many : length bank.plans ≡ length specs = ap length same ∙ length-map specs plan_of_spec in
     record {
       rows = ap (λ v. length v.items) rows ∙ is.rows ∙ many;
       gens = ap (λ v. length v.items) gens ∙ is.gens ∙ many;
       tallies = ap (λ v. length v.items) tallies ∙ is.tallies ∙ many;
+      blobs = ap (λ v. length v.items) blobs ∙ is.blobs ∙ many;
       none = λ k spec there other.
           let within : k < length bank.plans = subst (λ n. k < n) (sym many) (slice_get_within specs k spec there) in
           let law : (plan_of bank k).law ≡ spec.law = ap (λ (p : Plan). p.law) (planned specs bank k spec same there) in

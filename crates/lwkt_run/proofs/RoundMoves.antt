@@ -15,8 +15,10 @@ use Rattle.lwkt_cpu.specs.declared.answers.Turned.{Turned}
 use Rattle.lwkt_cpu.specs.declared.answers.Turned.TheVariants.{Ran, Idle, AllExited}
 use Rattle.lwkt_cpu.specs.Processors.{Processor}
 use Rattle.lwkt_cpu.specs.Driving.{Made}
+use Rattle.lwkt_cpu.specs.Searches.{point}
 use Rattle.lwkt_cpu.specs.Turning.{Chooses, Turns, MakesTurn}
 use Rattle.lwkt_cpu.specs.Waking.{Ward, ward, WakesAt}
+use Rattle.lwkt_cpu.proofs.SearchMoves.{finds_long}
 use Rattle.lwkt_cpu.proofs.PlaceMoves.{some_same, get_there, get_set_same, get_set_other}
 use Rattle.lwkt_drive.specs.declared.driven.Limits.{Limits}
 use Rattle.lwkt_machine.specs.Bodies.{Scripted, IsPolled}
@@ -43,8 +45,7 @@ wakes_long n x y chain =
 
 chooses_long : {B : Type 0} (old new : Processor B) (t u : Vec Event Global) (runs found : Option ℕ) → Chooses old new t u runs found → length new.threads ≡ length old.threads
 chooses_long {B} old new t u (Some place) found c = ap (λ (p : Processor B). length p.threads) c.1
-chooses_long old new t u None (Some place) c = c.0.2.as_many
-chooses_long old new t u None None c = c.0.1.as_many
+chooses_long old new t u None found c = finds_long old.cursor (point old.seat old.threads t) (point new.seat new.threads u) found c.0
 
 turns_long : {B : Type 0} (polled : B → Answer → Ask → B → Type 0) (bank : BankId) (old new : Processor B) (t u : Vec Event Global) (turned : Turned) → Turns polled bank old new t u turned → length new.threads ≡ length old.threads
 turns_long polled bank old new t u (Ran place) is =

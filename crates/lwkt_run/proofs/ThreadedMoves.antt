@@ -33,7 +33,7 @@ use Rattle.lwkt_run.proofs.RoundMoves.{has_driven}
 -- what was declared to bank and book is the model's opening
 tokens_from : (script : Script) (m : Rig) → IsOpenedMachine script m → AreWithin script.cpus script.tokens script.messages → first_machine m.bank.plans (length m.cpus) ≡ opening script.cpus script.tokens []
 tokens_from script m opens within =
-    ap (λ (plans : List Plan). first_machine plans (length m.cpus)) opens.plans ∙ ap (λ (n : ℕ). first_machine (plans_of script.tokens) n) opens.as_many ∙ first_opening script.cpus script.tokens within.each_token opens.unguarded
+    ap (λ (plans : List Plan). first_machine plans (length m.cpus)) opens.plans ∙ ap (λ (n : ℕ). first_machine (plans_of script.tokens) n) opens.as_many ∙ first_opening script.cpus script.tokens within.each_token
 
 mails_opened : (specs : List MsgSpec) → map (λ (mail : Mail). mail.msg) (first_mails specs) ≡ map opened_message specs
 mails_opened [] = refl

@@ -17,4 +17,5 @@ pub record Leaves (m : Rig) (t u : Vec Event Global) (last : Final) : Type 0 whe
   pub rows : last.rows ≡ closed.tokens.rows
   pub gens : last.gens ≡ closed.tokens.gens
   pub tallies : last.tallies ≡ closed.tokens.tallies
+  pub blobs : last.blobs ≡ closed.tokens.blobs
   pub messages : last.messages ≡ closed.messages

@@ -50,6 +50,7 @@ pub record ShowsClosing (closing : Closing) (last : Final) : Type 0 where
   pub rows : last.rows.items ≡ map (λ line. line.cells) closing.tokens.items
   pub gens : last.gens.items ≡ map (λ line. line.generation) closing.tokens.items
   pub tallies : last.tallies.items ≡ map (λ line. unwrap_or line.tallies []) closing.tokens.items
+  pub blobs : last.blobs.items ≡ map (λ line. line.blob) closing.tokens.items
   pub messages : last.messages.items ≡ closing.messages.items
 
 -- the trace, closing values and lines of threads of a run in rounds: the script's machine was opened, and made rounds, as many as the

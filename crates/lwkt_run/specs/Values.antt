@@ -20,11 +20,13 @@ pub record AreValuesOf (specs : List TokSpec) (last : Final) : Type 0 where
   pub rows : length last.rows.items ≡ length specs
   pub gens : length last.gens.items ≡ length specs
   pub tallies : length last.tallies.items ≡ length specs
+  pub blobs : length last.blobs.items ≡ length specs
   pub none : (k : ℕ) (spec : TokSpec) → slice_get specs k ≡ Some spec → is_tally spec.law ≡ false → slice_get last.tallies.items k ≡ Some []
 
--- the lines of tokens show these closing values, and tallies exactly under a Tally law
+-- the lines of tokens show these closing values, records too, and tallies exactly under a Tally law
 pub record ShowTokens (specs : List TokSpec) (lines : List TokenLine) (last : Final) : Type 0 where
   pub kinds : map (λ line. is_some line.tallies) lines ≡ map (λ spec. is_tally spec.law) specs
   pub rows : map (λ line. line.cells) lines ≡ last.rows.items
   pub gens : map (λ line. line.generation) lines ≡ last.gens.items
   pub tallies : map (λ line. unwrap_or line.tallies []) lines ≡ last.tallies.items
+  pub blobs : map (λ line. line.blob) lines ≡ last.blobs.items

@@ -1,5 +1,5 @@
 //! The end of a machine.
-ghost use Rattle.std.specs.Prelude.{◌≡◌, map, replicate, IfOk, OnErr, Err, None, Option};
+ghost use Rattle.std.specs.Prelude.{◌≡◌, map, IfOk, OnErr, Err, Option};
 ghost use Rattle.lwkt_bank.specs.Opened.{plans_of};
 ghost use Rattle.lwkt_run.specs.Judging.{ids_of};
 ghost use Rattle.lwkt_machine.specs.Bodies.{Scripted};
@@ -8,12 +8,11 @@ ghost use Rattle.lwkt_run.specs.Leaving.{Leaves};
 ghost use Rattle.lwkt_run.specs.Running.{HasThreads, ShowThreads, IsLogOf, log_in};
 ghost use Rattle.lwkt_run.specs.Values.{AreValuesOf};
 
-use lwkt_base::{Blob, Fault, ThreadId};
+use lwkt_base::{Fault, ThreadId};
 use lwkt_core::{Event, Final};
 use lwkt_machine::{Closed, Machine, Standing};
 use lwkt_report::{Log, ThreadLine};
 use lwkt_script::Script;
-use lwkt_script::growth::push;
 use std::alloc::{AllocError, Global};
 
 /// What a machine leaves: its closing values, and the lines of its threads as they were before it stopped.
@@ -67,18 +66,6 @@ fn thread_lines(alloc: Global, machine: &Machine) -> Result<Vec<ThreadLine>, All
     Ok(lines)
 }
 
-// The records of so many tokens that have none.
-fn no_records(alloc: Global, count: usize) -> Result<Vec<Option<Blob>>, Fault>
-    ensures ok { IfOk result (λ blobs. blobs.items ≡ replicate count None) }
-    ensures only { OnErr result (result ≡ Err Fault.Memory) }
-{
-    let mut blobs = Vec::new(alloc);
-    for _ in 0..count {
-        push(&mut blobs, None)?;
-    }
-    Ok(blobs)
-}
-
 // Stops a machine whose bank has the tokens of a script, and closes it: its closing values.
 fn close(
     alloc: Global,
@@ -102,8 +89,8 @@ fn close(
         rows,
         gens,
         tallies,
+        blobs,
     } = tokens;
-    let blobs = no_records(alloc, rows.len())?;
     Ok(Final {
         rows,
         gens,

@@ -2,7 +2,7 @@
 ghost use Rattle.std.specs.Prelude.{◌≡◌, ◌<◌, is_some, unwrap_or, [], false, length, slice_get, Some, IfOk};
 ghost use Rattle.lwkt_run.specs.Values.{is_tally, AreValuesOf, ShowTokens};
 
-use lwkt_base::{Cells, Law, TokSpec};
+use lwkt_base::{Blob, Cells, Law, TokSpec};
 use lwkt_core::Final;
 use lwkt_report::TokenLine;
 use std::alloc::{AllocError, Global};
@@ -41,6 +41,14 @@ fn generation_at(gens: &[u64], place: usize) -> u64
     gens[place]
 }
 
+// A record at a place, if there is one.
+fn record_at(blobs: &[Option<Blob>], place: usize) -> Option<Blob>
+    requires { place < length blobs.now }
+    ensures { slice_get blobs.now place ≡ Some result }
+{
+    blobs[place]
+}
+
 // The line of the token of this number, that is opened so.
 fn token_line(
     alloc: Global,
@@ -51,16 +59,19 @@ fn token_line(
     requires row { tok < length last.now.rows.items }
     requires generation { tok < length last.now.gens.items }
     requires tally { tok < length last.now.tallies.items }
+    requires blob { tok < length last.now.blobs.items }
     requires none { is_tally spec.now.law ≡ false → slice_get last.now.tallies.items tok ≡ Some [] }
     ensures kind { IfOk result (λ line. is_some line.tallies ≡ is_tally spec.now.law) }
     ensures cells { IfOk result (λ line. slice_get last.now.rows.items tok ≡ Some line.cells) }
     ensures generation { IfOk result (λ line. slice_get last.now.gens.items tok ≡ Some line.generation) }
     ensures tallies { IfOk result (λ line. slice_get last.now.tallies.items tok ≡ Some (unwrap_or line.tallies [])) }
+    ensures blob { IfOk result (λ line. slice_get last.now.blobs.items tok ≡ Some line.blob) }
 {
     Ok(TokenLine {
         generation: generation_at(&last.gens, tok),
         cells: row_at(alloc, &last.rows, tok)?,
         tallies: tallies_at(alloc, spec.law, &last.tallies, tok)?,
+        blob: record_at(&last.blobs, tok),
     })
 }
 

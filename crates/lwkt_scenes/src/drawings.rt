@@ -198,15 +198,15 @@ fn draw_arrow(out: &mut Page, layout: &Layout, way: &Way, cpu: usize, until: usi
     let (band, to_band) = (grid.band(way.since), grid.band(until));
     let begins = way.since >= grid.first;
     if begins && band == to_band {
-        return show_line(out, from, to, way.is_reply, true);
+        return show_line(out, from, to, way.look, true);
     }
     if begins {
         let edge = halfway(layout, band, way.cpu, cpu, grid.right(band));
-        show_line(out, from, edge, way.is_reply, false);
+        show_line(out, from, edge, way.look, false);
     }
     let x = grid.x(grid.begin(to_band));
     let edge = halfway(layout, to_band, way.cpu, cpu, x);
-    show_line(out, edge, to, way.is_reply, true);
+    show_line(out, edge, to, way.look, true);
 }
 
 /// Appends the ring of a message that nobody took.
@@ -220,7 +220,8 @@ pub(crate) fn show_ring(out: &mut Page, x: usize, y: usize) {
 // Appends the title of a message on its way.
 fn show_way(out: &mut Page, way: &Way) {
     out.add("<g><title>");
-    out.add(if way.is_reply {
+    out.add(if way.look.is_urgent { "urgent " } else { "" });
+    out.add(if way.look.is_reply {
         "reply to message "
     } else {
         "message "

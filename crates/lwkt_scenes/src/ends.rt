@@ -1,8 +1,9 @@
 use crate::pages::Page;
+use crate::records::show_hex;
 use crate::replays::Replay;
 use crate::stories::{Logged, Story};
 use crate::words::{show_ask, show_fault, show_thread};
-use lwkt_base::{Entry, ThreadState};
+use lwkt_base::{Blob, Entry, ThreadState};
 use lwkt_report::ThreadLine;
 
 // Appends the rule by which a thread ended faulted, with its values.
@@ -49,10 +50,20 @@ fn show_three(out: &mut Page, word: &str, first: u64, second: u64, third: u64) {
     out.number(":", third);
 }
 
+// Appends a record in an entry.
+fn show_bytes(out: &mut Page, blob: &Blob) {
+    out.add("b=");
+    if blob.is_empty() {
+        return out.add("-");
+    }
+    show_hex(out, blob.as_slice())
+}
+
 // Appends an entry of a log, as in a report.
 fn show_entry(out: &mut Page, entry: Entry) {
     match entry {
         Entry::Value(value) => out.number("v=", value),
+        Entry::Bytes(blob) => show_bytes(out, &blob),
         Entry::Aborted(asked) => out.number("a=", u64::from(asked)),
         Entry::Request(msg, call) => {
             show_three(out, "q=", u64::from(msg.0), u64::from(call.op), call.arg)
@@ -75,7 +86,7 @@ fn show_logged(out: &mut Page, story: &Story, entry: Entry, logged: Logged) {
     out.add(" of ");
     story.show_step(out, logged.number);
     out.add(": ");
-    show_ask(out, logged.ask);
+    show_ask(out, &logged.ask);
     out.add("\n");
 }
 

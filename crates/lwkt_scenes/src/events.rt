@@ -1,4 +1,5 @@
 use crate::pages::Page;
+use crate::records::show_record;
 use crate::tokens::{Runners, show_holders, word_of};
 use lwkt_base::{Owner, TokId};
 use lwkt_core::{Event, Message, State, Token};
@@ -74,8 +75,14 @@ fn show_token_change(
             out.number(" ", before.cell);
             out.number(" -> ", value);
         }
-        Event::ReadBlob { .. } => out.add("record read"),
-        Event::WriteBlob { .. } => out.add("record stored"),
+        Event::ReadBlob { blob, .. } => {
+            show_record(out, &blob);
+            out.add(" read")
+        }
+        Event::WriteBlob { blob, .. } => {
+            show_record(out, &blob);
+            out.add(" stored")
+        }
         _ => show_word_change(out, token, event, before.word, runners),
     }
 }

@@ -5,7 +5,7 @@ use crate::labels::{Label, Tag};
 use crate::layouts::COLUMN;
 use crate::pages::Page;
 use crate::shapes::{
-    BOLD, Point, show_label, show_line, show_rect, show_text_at, show_word, text_width,
+    BOLD, Look, Point, show_label, show_line, show_rect, show_text_at, show_word, text_width,
 };
 use crate::sketches::{Bar, Content, Sketch, TurnBox, Way};
 use crate::waits::{Idle, Want};
@@ -76,14 +76,14 @@ impl Legend {
     }
 
     // Appends the sign of a message's line, and its meaning.
-    fn add_line(&mut self, is_reply: bool, meaning: &str) {
+    fn add_line(&mut self, look: Look, meaning: &str) {
         let at = self.next(SIGN, meaning.len());
         let y = at.y.saturating_add(7);
         let end = Point {
             x: at.x.saturating_add(SIGN),
             y,
         };
-        show_line(&mut self.page, Point { x: at.x, y }, end, is_reply, true);
+        show_line(&mut self.page, Point { x: at.x, y }, end, look, true);
         self.mean(at, SIGN, meaning);
     }
 
@@ -242,10 +242,26 @@ fn add_rows(legend: &mut Legend, sketch: &Sketch) {
     }
 }
 
+const PLAIN: Look = Look {
+    is_reply: false,
+    is_urgent: false,
+};
+
+const REPLY: Look = Look {
+    is_reply: true,
+    is_urgent: false,
+};
+
+const URGENT: Look = Look {
+    is_reply: false,
+    is_urgent: true,
+};
+
 // Which lines of messages a picture has.
 #[derive(Clone, Copy)]
 struct SeenWays {
     sent: bool,
+    urgent: bool,
     reply: bool,
     lost: bool,
 }
@@ -254,13 +270,15 @@ struct SeenWays {
 fn seen_ways(ways: &[Way]) -> SeenWays {
     let mut seen = SeenWays {
         sent: false,
+        urgent: false,
         reply: false,
         lost: false,
     };
     for way in ways {
+        seen.urgent = seen.urgent || (way.end.is_some() && way.look.is_urgent);
         if way.end.is_none() {
             seen.lost = true;
-        } else if way.is_reply {
+        } else if way.look.is_reply {
             seen.reply = true;
         } else {
             seen.sent = true;
@@ -276,10 +294,13 @@ fn add_ways(legend: &mut Legend, ways: &[Way]) {
         legend.add_word("m0 r1", "message 0, in its round 1");
     }
     if seen.sent {
-        legend.add_line(false, "from its sending to its taking");
+        legend.add_line(PLAIN, "from its sending to its taking");
     }
     if seen.reply {
-        legend.add_line(true, "its reply");
+        legend.add_line(REPLY, "its reply");
+    }
+    if seen.urgent {
+        legend.add_line(URGENT, "sent with priority, or the reply to such a message");
     }
     if seen.lost {
         let meaning = "not taken";

@@ -12,6 +12,7 @@ mod layouts;
 mod legends;
 mod pages;
 mod pictures;
+mod records;
 mod reels;
 mod replays;
 mod scenes;

@@ -8,7 +8,7 @@ use crate::reels::{Chosen, Reel};
 use crate::replays::Replay;
 use crate::scenes::{Scene, scene_of};
 use crate::shapes::{BOLD, show_label, show_text_at, show_word};
-use crate::sketches::{Content, Sketch, TurnBox};
+use crate::sketches::{Content, Sent, Sketch, TurnBox};
 use crate::turns::{pass_turn, show_turn};
 use crate::waits::idle_of;
 use lwkt_base::{Answer, Fault, ThreadState};
@@ -94,8 +94,8 @@ fn ended_by(replay: &Replay, scene: &Scene) -> Option<Fault> {
 
 // The fault by which what was asked in a turn was refused.
 fn refused_by(scene: &Scene) -> Option<Fault> {
-    match scene.poll?.answer? {
-        Answer::Refused(fault) => Some(fault),
+    match &scene.poll?.answer {
+        Some(Answer::Refused(fault)) => Some(*fault),
         _ => None,
     }
 }
@@ -111,14 +111,21 @@ fn fault_of(replay: &Replay, scene: &Scene) -> Option<Tag> {
     }
 }
 
-// The round of the message that an event is at.
-fn sent_in(replay: &Replay, event: &Event) -> u64 {
+// How the message that an event is at was sent.
+fn sent_in(replay: &Replay, event: &Event) -> Sent {
+    let none = Sent {
+        round: 0,
+        is_urgent: false,
+    };
     match subject_of(event) {
         Subject::Message(msg) => match replay.state.message(msg) {
-            Some(message) => message.round,
-            None => 0,
+            Some(message) => Sent {
+                round: message.round,
+                is_urgent: replay.is_urgent(msg),
+            },
+            None => none,
         },
-        Subject::Token(_) => 0,
+        Subject::Token(_) => none,
     }
 }
 

@@ -25,6 +25,8 @@ pub(crate) struct Replay {
     pub runners: Runners,
     // The thread that each message was last sent to.
     sent_to: [ThreadId; MESSAGE_LIMIT],
+    // Whether each message was last sent with priority.
+    urgent: [bool; MESSAGE_LIMIT],
 }
 
 // The thread of a script that has this number on its processor.
@@ -56,7 +58,7 @@ fn stores(turn: Option<&Scene>) -> bool {
         return false;
     };
     match scene.poll {
-        Some(poll) => matches!(poll.ask, Ask::Write(..) | Ask::Add(..)),
+        Some(poll) => matches!(poll.ask, Ask::Write(..) | Ask::Add(..) | Ask::WriteBlob(..)),
         None => false,
     }
 }
@@ -86,7 +88,16 @@ impl Replay {
             stories,
             runners: [None; 8],
             sent_to: [ThreadId::default(); MESSAGE_LIMIT],
+            urgent: [false; MESSAGE_LIMIT],
         })
+    }
+
+    /// Whether a message was last sent with priority.
+    pub(crate) fn is_urgent(&self, msg: MsgId) -> bool {
+        self.urgent
+            .get(usize::from(msg.0))
+            .copied()
+            .unwrap_or(false)
     }
 
     // Where the story of a thread stands.
@@ -273,11 +284,14 @@ impl Replay {
         if let Some(Answer::Refused(_)) = poll.answer {
             return;
         }
-        let (msg, to) = match poll.ask {
-            Ask::Send(msg, to, _, _) => (msg, to),
-            Ask::Do(msg, to, _) => (msg, to),
+        let (msg, to, is_urgent) = match poll.ask {
+            Ask::Send(msg, to, _, flags) => (msg, to, flags.priority),
+            Ask::Do(msg, to, _) => (msg, to, false),
             _ => return,
         };
+        if let Some(slot) = self.urgent.get_mut(usize::from(msg.0)) {
+            *slot = is_urgent;
+        }
         if let Some(slot) = self.sent_to.get_mut(usize::from(msg.0)) {
             *slot = to;
         }

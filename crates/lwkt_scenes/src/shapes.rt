@@ -78,14 +78,26 @@ pub(crate) struct Point {
     pub y: usize,
 }
 
-/// Appends a line of a message, dashed for a reply; with an arrow head where it arrives.
-pub(crate) fn show_line(out: &mut Page, from: Point, to: Point, is_reply: bool, arrives: bool) {
+/// How the line of a message looks.
+#[derive(Clone, Copy)]
+pub(crate) struct Look {
+    /// It is dashed.
+    pub is_reply: bool,
+    /// It is three times as thick.
+    pub is_urgent: bool,
+}
+
+/// Appends a line of a message, dashed for a reply and thick where it is urgent; with an arrow head where it arrives.
+pub(crate) fn show_line(out: &mut Page, from: Point, to: Point, look: Look, arrives: bool) {
     out.size("<line x1=\"", from.x);
     out.size("\" y1=\"", from.y);
     out.size("\" x2=\"", to.x);
     out.size("\" y2=\"", to.y);
     out.add("\" class=\"way\"");
-    if is_reply {
+    if look.is_urgent {
+        out.add(" style=\"stroke-width:3\"");
+    }
+    if look.is_reply {
         out.add(" stroke-dasharray=\"5 3\"");
     }
     if arrives {

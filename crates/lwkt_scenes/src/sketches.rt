@@ -2,6 +2,7 @@
 use crate::labels::{Labels, Tag};
 use crate::layouts::{CPU_LIMIT, Grid, TOKEN_LIMIT, slot_of};
 use crate::pages::Page;
+use crate::shapes::Look;
 use crate::waits::Idle;
 use lwkt_base::{Fault, Mode, MsgId};
 use lwkt_core::Event;
@@ -71,11 +72,18 @@ pub(crate) struct Marked {
 pub(crate) struct Way {
     pub msg: MsgId,
     pub round: u64,
-    pub is_reply: bool,
+    pub look: Look,
     pub cpu: usize,
     pub since: usize,
     /// The processor that it came to, and when, if it did.
     pub end: Option<(usize, usize)>,
+}
+
+/// How a message was sent last: in which round of its own, and whether with priority.
+#[derive(Clone, Copy)]
+pub(crate) struct Sent {
+    pub round: u64,
+    pub is_urgent: bool,
 }
 
 /// What a picture has.
@@ -287,15 +295,20 @@ impl Sketch {
     }
 
     // Notes an event of a message.
-    fn note_mail(&mut self, event: &Event, round: usize, sent: u64) -> Result<(), AllocError> {
+    fn note_mail(&mut self, event: &Event, round: usize, sent: Sent) -> Result<(), AllocError> {
         let cpu = usize::from(event.cpu().0);
+        let is_reply = matches!(event, Event::Reply { .. });
+        let look = Look {
+            is_reply,
+            is_urgent: sent.is_urgent,
+        };
         match *event {
             Event::Send {
                 msg,
                 round: sent,
                 ..
-            } => self.leave(way_from(msg, sent, false, cpu, round)),
-            Event::Reply { msg, .. } => self.leave(way_from(msg, sent, true, cpu, round)),
+            } => self.leave(way_from(msg, sent, look, cpu, round)),
+            Event::Reply { msg, .. } => self.leave(way_from(msg, sent.round, look, cpu, round)),
             Event::TakeMsg { msg, .. } | Event::Reap { msg, .. } | Event::DropMsg { msg, .. } => {
                 self.arrive(msg, cpu, round)
             }
@@ -304,12 +317,12 @@ impl Sketch {
         }
     }
 
-    /// Notes an event of a round. `sent` is the round of the message that it is at.
+    /// Notes an event of a round, with how the message that it is at was sent.
     pub(crate) fn note(
         &mut self,
         event: &Event,
         round: usize,
-        sent: u64,
+        sent: Sent,
     ) -> Result<(), AllocError> {
         let cpu = usize::from(event.cpu().0);
         match *event {
@@ -362,11 +375,11 @@ impl Sketch {
 }
 
 // A message or a reply that leaves a processor in a round.
-fn way_from(msg: MsgId, round: u64, is_reply: bool, cpu: usize, since: usize) -> Way {
+fn way_from(msg: MsgId, round: u64, look: Look, cpu: usize, since: usize) -> Way {
     Way {
         msg,
         round,
-        is_reply,
+        look,
         cpu,
         since,
         end: None,

@@ -1,10 +1,11 @@
 use crate::pages::Page;
+use crate::records::show_digits;
 use crate::reels::Reel;
 use crate::words::show_behind;
-use lwkt_base::{Blob, Fault, MsgEnd, MsgSpec, Owner, TokSpec};
+use lwkt_base::{Fault, MsgEnd, MsgSpec, Owner, TokSpec};
 use lwkt_core::Event;
 use lwkt_report::{Closing, TokenLine};
-use lwkt_trace::words::{Subject, digits_of, event_word, law_name, subject_of};
+use lwkt_trace::words::{Subject, event_word, law_name, subject_of};
 use std::alloc::Global;
 
 // Appends numbers as a JSON list.
@@ -27,7 +28,7 @@ fn show_token(out: &mut Page, spec: &TokSpec) {
     out.number(",\"gen\":", spec.generation);
     if let Some(blob) = spec.blob {
         out.add(",\"record\":");
-        show_blob(out, &blob);
+        show_digits(out, &blob);
     }
     out.add("}");
 }
@@ -38,17 +39,6 @@ fn show_message(out: &mut Page, spec: &MsgSpec) {
     out.number(",", u64::from(spec.origin.thread));
     out.number("],\"round\":", spec.round);
     out.add("}");
-}
-
-// Appends a record.
-fn show_blob(out: &mut Page, blob: &Blob) {
-    out.add("\"");
-    for byte in blob.as_slice() {
-        let (high, low) = digits_of(*byte);
-        out.add(high);
-        out.add(low);
-    }
-    out.add("\"");
 }
 
 // Appends what an event is at, and what else it says.
@@ -64,7 +54,7 @@ fn show_event_numbers(out: &mut Page, event: &Event) {
         Event::ReadBlob { blob, .. } | Event::WriteBlob { blob, .. } => {
             show_behind(out, &[place]);
             out.add(",");
-            show_blob(out, &blob);
+            show_digits(out, &blob);
         }
         Event::Send { to, round, .. } => show_behind(out, &[place, u64::from(to.0), round]),
         Event::TakeMsg { round, .. } => show_behind(out, &[place, round]),
@@ -146,6 +136,27 @@ fn show_tallies(out: &mut Page, line: &TokenLine) {
     }
 }
 
+// Appends the record of a token at the close.
+fn show_last_record(out: &mut Page, line: &TokenLine) {
+    match &line.blob {
+        Some(blob) => show_digits(out, blob),
+        None => out.add("null"),
+    }
+}
+
+// Appends the records of the close, where a token has one.
+fn show_records(out: &mut Page, lines: &[TokenLine]) {
+    if !lines.iter().any(|line| line.blob.is_some()) {
+        return;
+    }
+    out.add("\"records\":[");
+    for (number, line) in lines.iter().enumerate() {
+        out.add(if number == 0 { "" } else { "," });
+        show_last_record(out, line);
+    }
+    out.add("],\n");
+}
+
 // Appends the rows, the generations and the tallies of the close.
 fn show_values(out: &mut Page, lines: &[TokenLine]) {
     out.add("\"rows\":[");
@@ -164,6 +175,7 @@ fn show_values(out: &mut Page, lines: &[TokenLine]) {
         show_tallies(out, line);
     }
     out.add("],\n");
+    show_records(out, lines);
 }
 
 // Appends the closing values.

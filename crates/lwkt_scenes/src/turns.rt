@@ -52,7 +52,7 @@ fn show_poll(out: &mut Page, replay: &Replay, poll: &Poll, outcome: Outcome) {
     out.add(", ");
     story.show_step(out, story.polls);
     out.add(": ");
-    show_ask(out, poll.ask);
+    show_ask(out, &poll.ask);
     out.add(": ");
     show_result(out, story, poll, outcome);
 }

@@ -1,4 +1,5 @@
 use crate::pages::Page;
+use crate::records::{show_digits, show_record};
 use lwkt_base::{Answer, Ask, Call, Fault, Item, Mode, MsgId, ThreadId};
 
 /// Appends a thread by its processor and its number: `1.0`.
@@ -8,7 +9,7 @@ pub(crate) fn show_thread(out: &mut Page, id: ThreadId) {
 }
 
 // The word of an ask, as in a script.
-fn ask_word(ask: Ask) -> &'static str {
+fn ask_word(ask: &Ask) -> &'static str {
     match ask {
         Ask::Get(_) => "get",
         Ask::GetShared(_) => "gets",
@@ -18,6 +19,8 @@ fn ask_word(ask: Ask) -> &'static str {
         Ask::Read(..) => "read",
         Ask::Write(..) => "write",
         Ask::Add(..) => "add",
+        Ask::ReadBlob(_) => "rrec",
+        Ask::WriteBlob(..) => "wrec",
         Ask::Send(..) => "send",
         Ask::Do(..) => "do",
         Ask::Reply(..) => "reply",
@@ -39,16 +42,23 @@ pub(crate) fn show_behind(out: &mut Page, numbers: &[u64]) {
 }
 
 // Appends the numbers of an ask for a token.
-fn show_token_ask(out: &mut Page, ask: Ask) {
+fn show_token_ask(out: &mut Page, ask: &Ask) {
     match ask {
-        Ask::Get(tok) | Ask::GetShared(tok) | Ask::TryGet(tok) | Ask::Rel(tok) => {
-            show_behind(out, &[u64::from(tok.0)])
+        Ask::Get(tok)
+        | Ask::GetShared(tok)
+        | Ask::TryGet(tok)
+        | Ask::Rel(tok)
+        | Ask::ReadBlob(tok) => show_behind(out, &[u64::from(tok.0)]),
+        Ask::WriteBlob(tok, blob) => {
+            show_behind(out, &[u64::from(tok.0)]);
+            out.add(",");
+            show_digits(out, blob)
         }
-        Ask::Read(tok, cell) => show_behind(out, &[u64::from(tok.0), u64::from(cell)]),
+        Ask::Read(tok, cell) => show_behind(out, &[u64::from(tok.0), u64::from(*cell)]),
         Ask::Write(tok, cell, value) => {
-            show_behind(out, &[u64::from(tok.0), u64::from(cell), value])
+            show_behind(out, &[u64::from(tok.0), u64::from(*cell), *value])
         }
-        Ask::Add(tok, more) => show_behind(out, &[u64::from(tok.0), more]),
+        Ask::Add(tok, more) => show_behind(out, &[u64::from(tok.0), *more]),
         _ => {}
     }
 }
@@ -63,18 +73,18 @@ fn show_call(out: &mut Page, msg: MsgId, to: ThreadId, call: Call) {
 }
 
 // Appends the numbers of an ask.
-fn show_ask_numbers(out: &mut Page, ask: Ask) {
+fn show_ask_numbers(out: &mut Page, ask: &Ask) {
     match ask {
         Ask::Send(msg, to, call, flags) => {
-            show_call(out, msg, to, call);
+            show_call(out, *msg, *to, *call);
             let flags = u8::from(flags.dropable)
                 + 2 * u8::from(flags.abortable)
                 + 4 * u8::from(flags.priority);
             show_behind(out, &[u64::from(flags)])
         }
-        Ask::Do(msg, to, call) => show_call(out, msg, to, call),
+        Ask::Do(msg, to, call) => show_call(out, *msg, *to, *call),
         Ask::Reply(msg, error, outcome) => {
-            show_behind(out, &[u64::from(msg.0), u64::from(error), outcome])
+            show_behind(out, &[u64::from(msg.0), u64::from(*error), *outcome])
         }
         Ask::Abort(msg) | Ask::IsAborted(msg) | Ask::DropMsg(msg) => {
             show_behind(out, &[u64::from(msg.0)])
@@ -84,7 +94,7 @@ fn show_ask_numbers(out: &mut Page, ask: Ask) {
 }
 
 /// Appends an ask as the step of a script that stands for it: `["add",0,5]`.
-pub(crate) fn show_ask(out: &mut Page, ask: Ask) {
+pub(crate) fn show_ask(out: &mut Page, ask: &Ask) {
     out.add("[\"");
     out.add(ask_word(ask));
     out.add("\"");
@@ -126,6 +136,7 @@ pub(crate) fn show_answer(out: &mut Page, answer: Answer) {
         Answer::Begin => out.add("not asked before"),
         Answer::Done => out.add("done"),
         Answer::Value(value) => out.number("value ", value),
+        Answer::Bytes(blob) => show_record(out, &blob),
         Answer::Dropped(msg, rec) => {
             let words = ["message ", " taken back, op ", ", arg "];
             show_values(out, words, msg, u64::from(rec.op), rec.arg)

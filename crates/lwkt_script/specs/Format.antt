@@ -1,4 +1,4 @@
--- A script, version 1 (own): what it says, and the place of its first bad part.
+-- A script, of version 1 or 2 (own): what it says, and the place of its first bad part.
 use Rattle.std.specs.Prelude.{ℕ, ◌+◌, ◌-◌, ◌*◌, ◌==◌, ◌&&◌, nat_lt, nat_le, List, [], length, count_by, codes, Bool, is_some, if◌then◌else◌, None, Result, Ok}
 use Rattle.std.specs.Str.{is_utf8}
 use Rattle.serde_json.specs.Data.{Data}
@@ -10,6 +10,9 @@ use Rattle.lwkt_base.specs.declared.openings.MsgSpec.{MsgSpec}
 use Rattle.lwkt_base.specs.declared.openings.TokSpec.{TokSpec}
 use Rattle.lwkt_script.specs.declared.scripts.Script.{Script}
 use Rattle.lwkt_script.specs.declared.scripts.ThreadSpec.{ThreadSpec}
+use Rattle.lwkt_script.specs.declared.versions.Version.{Version}
+use Rattle.lwkt_script.specs.Version.{version_of, has_law, token_members}
+use Rattle.lwkt_script.specs.Record.{record_in, may_guard}
 use Rattle.lwkt_script.specs.Field.{has_members, whole, number_in, list_in}
 use Rattle.lwkt_script.specs.Member.{law_in, allows, origin_in}
 use Rattle.lwkt_script.specs.Outcome.{◌>>=◌, ◌>>◌, part, demand, each}
@@ -19,23 +22,25 @@ use Rattle.lwkt_script.specs.Step.{ask_of}
 abbrev pub cell : ℕ → List ℕ → Data → Result ℕ ℕ
 cell place before d = part place (whole d)
 
--- a token: its cells, law, parameter and generation; it has no record
-unfoldable pub token_at : ℕ → Data → Result TokSpec ℕ
-token_at place d = do
-  demand place (has_members 4 d)
+-- a token: its cells, law, parameter and generation, and in the second version its record
+unfoldable pub token_at : Version → ℕ → Data → Result TokSpec ℕ
+token_at version place d = do
+  demand place (has_members (token_members version) d)
   items ← part place (list_in (codes "cells") d)
   law ← part place (law_in d)
-  demand place (allows law (items_len items))
+  demand place (has_law version law && allows law (items_len items))
   param ← part place (number_in (codes "param") 0 18446744073709551615 d)
   generation ← part place (number_in (codes "gen") 0 70368744177663 d)
+  blob ← part place (record_in version d)
+  demand place (may_guard law blob)
   cells ← each (cell place) [] items
-  Ok (record { cells = cells; law = law; param = param; generation = generation; blob = None })
+  Ok (record { cells = cells; law = law; param = param; generation = generation; blob = blob })
 
 -- the token after those: there are at most 64
-abbrev pub token : List TokSpec → Data → Result TokSpec ℕ
-token before d = do
+abbrev pub token : Version → List TokSpec → Data → Result TokSpec ℕ
+token version before d = do
   demand 1064 (nat_lt (length before) 64)
-  token_at (1000 + length before) d
+  token_at version (1000 + length before) d
 
 -- a message: the thread that it is of, and its round
 unfoldable pub message_at : ℕ → ℕ → Data → Result MsgSpec ℕ
@@ -52,8 +57,8 @@ message cpus before d = do
   message_at cpus (2000 + length before) d
 
 -- step j of thread n stands at 100000 + 1000*n + j
-abbrev pub step : ℕ → List Ask → Data → Result Ask ℕ
-step n before d = part (100000 + 1000 * n + length before) (ask_of d)
+abbrev pub step : Version → ℕ → List Ask → Data → Result Ask ℕ
+step version n before d = part (100000 + 1000 * n + length before) (ask_of version d)
 
 -- how many of these threads are of a processor
 abbrev pub threads_on : ℕ → List ThreadSpec → ℕ
@@ -64,15 +69,15 @@ abbrev pub has_room : List ThreadSpec → ℕ → ℕ → Bool
 has_room before cpu steps = nat_le steps 256 && nat_lt (threads_on cpu before) 16
 
 -- the thread after those: its members first, then its steps
-unfoldable pub thread : ℕ → List ThreadSpec → Data → Result ThreadSpec ℕ
-thread cpus before d = do
+unfoldable pub thread : Version → ℕ → List ThreadSpec → Data → Result ThreadSpec ℕ
+thread version cpus before d = do
   let place = 3000 + length before
   demand place (has_members 3 d)
   cpu ← part place (number_in (codes "cpu") 0 (cpus - 1) d)
   repeat ← part place (number_in (codes "repeat") 1 1000000 d)
   items ← part place (list_in (codes "steps") d)
   demand place (has_room before cpu (items_len items))
-  steps ← each (step (length before)) [] items
+  steps ← each (step version (length before)) [] items
   Ok (record { cpu = record { 0 = cpu }; repeat = repeat; steps = steps })
 
 -- an object with exactly the seven members
@@ -86,13 +91,14 @@ script d = do
   token_items ← part 1 (list_in (codes "tokens") d)
   message_items ← part 1 (list_in (codes "messages") d)
   thread_items ← part 1 (list_in (codes "threads") d)
-  version ← part 2 (number_in (codes "version") 1 1 d)
+  number ← part 2 (number_in (codes "version") 1 2 d)
+  let version = version_of number
   turns ← part 3 (number_in (codes "turns") 1 1000000 d)
   idle ← part 4 (number_in (codes "idle") 1 100000000 d)
   cpus ← part 5 (number_in (codes "cpus") 1 8 d)
-  tokens ← each token [] token_items
+  tokens ← each (token version) [] token_items
   messages ← each (message cpus) [] message_items
-  threads ← each (thread cpus) [] thread_items
+  threads ← each (thread version cpus) [] thread_items
   Ok (record { turns = turns; idle = idle; cpus = cpus; tokens = tokens; messages = messages; threads = threads })
 
 -- the script that the bytes are: at most 1048576 of them, and one JSON text

@@ -1,8 +1,8 @@
 -- The limits that a script keeps (own).
-use Rattle.std.specs.Prelude.{◌≡◌, ℕ, ◌<◌, ◌≤◌, length, All, None}
+use Rattle.std.specs.Prelude.{◌≡◌, ◌≢◌, ℕ, ◌<◌, ◌≤◌, length, All, IfSome, None}
 use Rattle.lwkt_base.specs.declared.names.ThreadId.{ThreadId}
 use Rattle.lwkt_base.specs.declared.openings.MsgSpec.{MsgSpec}
-use Rattle.lwkt_base.specs.declared.laws.Law.TheVariants.{Tally}
+use Rattle.lwkt_base.specs.declared.laws.Law.TheVariants.{Tally, Len}
 use Rattle.lwkt_base.specs.declared.openings.TokSpec.{TokSpec}
 use Rattle.lwkt_script.specs.declared.scripts.Script.{Script}
 use Rattle.lwkt_script.specs.declared.scripts.ThreadSpec.{ThreadSpec}
@@ -13,7 +13,10 @@ pub record IsToken (t : TokSpec) : Type 0 where
   pub few_cells : length t.cells ≤ 4
   pub one_cell : t.law ≡ Tally → length t.cells ≡ 1
   pub generation : t.generation ≤ 70368744177663
-  pub no_record : t.blob ≡ None
+  pub short : IfSome t.blob (λ blob. length blob ≤ 64)
+  pub some_cell : t.law ≡ Len → 0 < length t.cells
+  pub guarded : t.law ≡ Len → t.blob ≢ None
+  pub unguarded : t.law ≡ Tally → t.blob ≡ None
 
 -- a thread that a script of so many processors may name as an origin
 pub record IsOrigin (cpus : ℕ) (t : ThreadId) : Type 0 where

@@ -11,14 +11,15 @@ infixl 10 ◌>>=◌
 abbrev pub ◌>>=◌ : {A B : Type 0} → Option A → (A → Option B) → Option B
 o >>= f = option_and_then f o
 
--- the law of a name
+-- the law of a name, in any version
 abbrev pub law_of : List ℕ → Option Law
 law_of name =
     if bytes_eq name (codes "any") then Some Any else (
     if bytes_eq name (codes "sum") then Some Sum else (
     if bytes_eq name (codes "order") then Some Order else (
     if bytes_eq name (codes "cap") then Some Cap else (
-    if bytes_eq name (codes "tally") then Some Tally else None))))
+    if bytes_eq name (codes "tally") then Some Tally else (
+    if bytes_eq name (codes "len") then Some Len else None)))))
 
 -- the law that a token names
 abbrev pub law_in : Data → Option Law

@@ -6,11 +6,14 @@ pub mod growth;
 pub mod messages;
 mod parts;
 mod readers;
+pub mod records;
 mod scripts;
 pub mod steps;
 mod threads;
 pub mod tokens;
+pub mod versions;
 
 pub use parts::Parts;
 pub use readers::read_script;
 pub use scripts::{Script, ThreadSpec};
+pub use versions::Version;

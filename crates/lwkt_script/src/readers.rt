@@ -10,6 +10,7 @@ use crate::parts::Parts;
 use crate::scripts::Script;
 use crate::threads::threads_of;
 use crate::tokens::tokens_of;
+use crate::versions::version_of;
 use lwkt_base::Fault;
 use serde_json::Value;
 use std::alloc::Global;
@@ -44,13 +45,13 @@ fn script(alloc: Global, value: &Value) -> Result<Script, Fault>
     let token_items = list_at(1, value, "tokens")?;
     let message_items = list_at(1, value, "messages")?;
     let thread_items = list_at(1, value, "threads")?;
-    number_at(2, value, "version", 1, 1)?;
+    let version = version_of(number_at(2, value, "version", 1, 2)?);
     let turns = number_at(3, value, "turns", 1, MOST_TURNS)? as u32;
     let idle = number_at(4, value, "idle", 1, MOST_IDLE)? as u32;
     let cpus = number_at(5, value, "cpus", 1, MOST_CPUS)? as u8;
-    let tokens = tokens_of(alloc, token_items.as_slice())?;
+    let tokens = tokens_of(alloc, version, token_items.as_slice())?;
     let messages = messages_of(alloc, cpus, message_items.as_slice())?;
-    let threads = threads_of(alloc, cpus, thread_items.as_slice())?;
+    let threads = threads_of(alloc, version, cpus, thread_items.as_slice())?;
     Ok(Script {
         turns,
         idle,
@@ -61,7 +62,7 @@ fn script(alloc: Global, value: &Value) -> Result<Script, Fault>
     })
 }
 
-/// Reads a script of version 1: one JSON text of at most 1048576 bytes.
+/// Reads a script of version 1 or 2: one JSON text of at most 1048576 bytes.
 ///
 /// Refused with `Script` and the place of the first bad part, and with `Memory` only where an allocation was refused;
 /// there is no other fault. The places, in the order in which the parts are looked at, numbers counting from 0:
@@ -69,7 +70,7 @@ fn script(alloc: Global, value: &Value) -> Result<Script, Fault>
 /// - 0: the text is too long, or no JSON text (nested at most 127 deep).
 /// - 1: it is no object with exactly `version`, `turns`, `idle`, `cpus`, `tokens`, `messages` and `threads`, or one of
 ///   the last three is no list.
-/// - 2, 3, 4, 5: `version` isn't 1, `turns` isn't 1 to 1000000, `idle` isn't 1 to 100000000, `cpus` isn't 1 to 8.
+/// - 2, 3, 4, 5: `version` isn't 1 or 2, `turns` isn't 1 to 1000000, `idle` isn't 1 to 100000000, `cpus` isn't 1 to 8.
 /// - 1000 + n: token n, which is 64 where there are more than 64.
 /// - 2000 + n: message n, which is 64 where there are more than 64.
 /// - 3000 + n: thread n: its members, more than 256 steps, or the 17th thread of its processor.

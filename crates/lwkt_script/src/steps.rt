@@ -1,11 +1,13 @@
 ghost use Rattle.std.specs.Prelude.{◌≡◌, ◌≤◌, ◌<◌, length, [], IfOk};
 ghost use Rattle.serde_json.specs.View.{view, items_view};
 ghost use Rattle.lwkt_script.specs.Outcome.{Gives, each};
-ghost use Rattle.lwkt_script.specs.Step.{small_at, code_at, whole_at, alone, with_one, with_number, with_numbers, sending_in, flags_of, with_sending, with_flags, asked, ask_of};
+ghost use Rattle.lwkt_script.specs.Step.{small_at, code_at, whole_at, alone, with_one, with_one_in, with_number, takes_record, storing, with_item, with_numbers, sending_in, flags_under, flags_of, with_sending, with_flags, asked, ask_of};
 ghost use Rattle.lwkt_script.specs.Format.{step};
 
 use crate::fields::{item_count, number};
 use crate::growth::push;
+use crate::records::blob_in;
+use crate::versions::Version;
 use lwkt_base::{Ask, Call, CpuId, Fault, Flags, MsgId, ThreadId, TokId};
 use serde_json::Value;
 use std::alloc::Global;
@@ -68,6 +70,16 @@ fn with_one(word: &str, first: u8) -> Option<Ask>
     }
 }
 
+// The same in a version.
+fn with_one_in(version: Version, word: &str, first: u8) -> Option<Ask>
+    ensures { result ≡ with_one_in version word.now first }
+{
+    if word == "rrec" && version.is_second() {
+        return Some(Ask::ReadBlob(TokId(first)));
+    }
+    with_one(word, first)
+}
+
 // The ask of a word with a token and a number.
 fn with_number(word: &str, tok: u8, n: u64) -> Option<Ask>
     ensures { result ≡ with_number word.now tok n }
@@ -77,6 +89,31 @@ fn with_number(word: &str, tok: u8, n: u64) -> Option<Ask>
         "add" => Some(Ask::Add(TokId(tok), n)),
         _ => None,
     }
+}
+
+// Whether a word goes with a token and a record.
+fn takes_record(version: Version, word: &str) -> bool
+    ensures { result ≡ takes_record version word.now }
+{
+    word == "wrec" && version.is_second()
+}
+
+// The ask to store item 2, a record, in a token.
+fn storing(tok: u8, value: &Value) -> Option<Ask>
+    ensures { result ≡ storing tok (view value.now) }
+{
+    let blob = blob_in(65, value.get(2usize)?)?;
+    Some(Ask::WriteBlob(TokId(tok), blob))
+}
+
+// The ask of a word with a token and one item more.
+fn with_item(version: Version, word: &str, tok: u8, value: &Value) -> Option<Ask>
+    ensures { result ≡ with_item version word.now tok (view value.now) }
+{
+    if takes_record(version, word) {
+        return storing(tok, value);
+    }
+    with_number(word, tok, whole_at(value, 2)?)
 }
 
 // The ask of a word with a token or a message and two numbers.
@@ -111,8 +148,8 @@ fn sending_in(value: &Value) -> Option<Sending>
 }
 
 // The flags of a number: 1 for dropable plus 2 for abortable.
-fn flags_of(n: u64) -> Option<Flags>
-    ensures { result ≡ flags_of n }
+fn flags_under(priority: bool, n: u64) -> Option<Flags>
+    ensures { result ≡ flags_under priority n }
 {
     if n > 3 {
         return None;
@@ -120,8 +157,21 @@ fn flags_of(n: u64) -> Option<Flags>
     Some(Flags {
         dropable: n == 1 || n == 3,
         abortable: n == 2 || n == 3,
-        priority: false,
+        priority,
     })
+}
+
+// The same, and plus 4 for priority.
+fn flags_of(version: Version, n: u64) -> Option<Flags>
+    ensures { result ≡ flags_of version n }
+{
+    if n < 4 {
+        return flags_under(false, n);
+    }
+    if !version.is_second() {
+        return None;
+    }
+    flags_under(true, n - 4)
 }
 
 // The ask of a word with what is sent.
@@ -154,13 +204,13 @@ pub fn whole_at(value: &Value, i: usize) -> Option<u64>
 }
 
 // The ask of a word with so many items in all.
-fn asked(word: &str, count: usize, value: &Value) -> Option<Ask>
-    ensures { result ≡ asked word.now count (view value.now) }
+fn asked(version: Version, word: &str, count: usize, value: &Value) -> Option<Ask>
+    ensures { result ≡ asked version word.now count (view value.now) }
 {
     match count {
         1 => alone(word),
-        2 => with_one(word, small_at(value, 1)?),
-        3 => with_number(word, small_at(value, 1)?, whole_at(value, 2)?),
+        2 => with_one_in(version, word, small_at(value, 1)?),
+        3 => with_item(version, word, small_at(value, 1)?, value),
         4 => with_numbers(
             word,
             small_at(value, 1)?,
@@ -168,30 +218,34 @@ fn asked(word: &str, count: usize, value: &Value) -> Option<Ask>
             whole_at(value, 3)?,
         ),
         6 => with_sending(word, sending_in(value)?),
-        7 => with_flags(word, sending_in(value)?, flags_of(whole_at(value, 6)?)?),
+        7 => with_flags(
+            word,
+            sending_in(value)?,
+            flags_of(version, whole_at(value, 6)?)?,
+        ),
         _ => None,
     }
 }
 
 // The ask that a step stands for.
-fn ask_of(value: &Value) -> Option<Ask>
-    ensures { result ≡ ask_of (view value.now) }
+fn ask_of(version: Version, value: &Value) -> Option<Ask>
+    ensures { result ≡ ask_of version (view value.now) }
 {
     let count = item_count(value)?;
-    asked(value.get(0usize)?.as_str()?, count, value)
+    asked(version, value.get(0usize)?.as_str()?, count, value)
 }
 
 // The asks of the steps of thread n of a script.
-pub fn steps_of(alloc: Global, n: u32, items: &[Value]) -> Result<Vec<Ask>, Fault>
+pub fn steps_of(alloc: Global, version: Version, n: u32, items: &[Value]) -> Result<Vec<Ask>, Fault>
     requires thread { n ≤ 128 }
     requires steps { length items.now ≤ 256 }
-    ensures exact { Gives (λ v. v.items) result (each (step n) [] (items_view items.now)) }
+    ensures exact { Gives (λ v. v.items) result (each (step version n) [] (items_view items.now)) }
     ensures count { IfOk result (λ v. length v.items ≡ length items.now) }
 {
     let mut asks = Vec::new(alloc);
     for item in items {
         let place = 100_000 + 1000 * n + asks.len() as u32;
-        let Some(ask) = ask_of(item) else {
+        let Some(ask) = ask_of(version, item) else {
             return Err(Fault::Script { place });
         };
         push(&mut asks, ask)?;

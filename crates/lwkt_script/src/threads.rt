@@ -9,6 +9,7 @@ use crate::growth::push;
 use crate::parts::Parts;
 use crate::scripts::ThreadSpec;
 use crate::steps::steps_of;
+use crate::versions::Version;
 use lwkt_base::{CpuId, Fault};
 use serde_json::Value;
 use std::alloc::Global;
@@ -37,13 +38,14 @@ fn has_room(before: &[ThreadSpec], cpu: u8, steps: usize) -> bool
 #[tactic(auto, using(crate::proofs::Counts::items_counted), unfolding(crate::specs::Format::thread))]
 fn thread(
     alloc: Global,
+    version: Version,
     cpus: u8,
     before: &[ThreadSpec],
     value: &Value,
 ) -> Result<ThreadSpec, Fault>
     requires cpus { 0 < cpus }
     requires few { length before.now ≤ 128 }
-    ensures exact { Gives (λ t. t) result (thread cpus before.now (view value.now)) }
+    ensures exact { Gives (λ t. t) result (thread version cpus before.now (view value.now)) }
     ensures within { IfOk result (λ t. IsThread cpus t × (threads_on t.cpu.0 before.now < 16)) }
 {
     let place = 3000 + before.len() as u32;
@@ -56,7 +58,7 @@ fn thread(
     if !has_room(before, cpu, items.len()) {
         return Err(Fault::Script { place });
     }
-    let steps = steps_of(alloc, before.len() as u32, items.as_slice())?;
+    let steps = steps_of(alloc, version, before.len() as u32, items.as_slice())?;
     Ok(ThreadSpec {
         cpu: CpuId(cpu),
         repeat,
@@ -64,15 +66,20 @@ fn thread(
     })
 }
 
-pub fn threads_of(alloc: Global, cpus: u8, items: &[Value]) -> Result<Vec<ThreadSpec>, Fault>
+pub fn threads_of(
+    alloc: Global,
+    version: Version,
+    cpus: u8,
+    items: &[Value],
+) -> Result<Vec<ThreadSpec>, Fault>
     requires some { 0 < cpus }
     requires few { cpus ≤ 8 }
-    ensures exact { Gives (λ v. v.items) result (each (thread cpus) [] (items_view items.now)) }
+    ensures exact { Gives (λ v. v.items) result (each (thread version cpus) [] (items_view items.now)) }
     ensures within { IfOk result (λ v. All (IsThread cpus) v.items × ((cpu : ℕ) → threads_on cpu v.items ≤ 16)) }
 {
     let mut threads = Vec::new(alloc);
     for item in items {
-        let next = thread(alloc, cpus, threads.as_slice(), item)?;
+        let next = thread(alloc, version, cpus, threads.as_slice(), item)?;
         push(&mut threads, next)?;
     }
     Ok(threads)

@@ -7,6 +7,8 @@ ghost use Rattle.lwkt_script.specs.Limits.{IsToken};
 
 use crate::fields::{has_members, list_at, number_at};
 use crate::growth::push;
+use crate::records::{may_guard, record_in};
+use crate::versions::Version;
 use lwkt_base::{Cells, Fault, Law, TokSpec};
 use serde_json::Value;
 use std::alloc::Global;
@@ -15,6 +17,7 @@ const TOKEN_LIMIT: usize = 64;
 
 const LAST_GENERATION: u64 = 70_368_744_177_663;
 
+// The law of a name, in any version.
 fn law_of(name: &str) -> Option<Law>
     ensures { result ≡ law_of name.now }
 {
@@ -24,6 +27,7 @@ fn law_of(name: &str) -> Option<Law>
         "order" => Some(Law::Order),
         "cap" => Some(Law::Cap),
         "tally" => Some(Law::Tally),
+        "len" => Some(Law::Len),
         _ => None,
     }
 }
@@ -61,51 +65,62 @@ pub fn cells_of(alloc: Global, place: u32, items: &[Value]) -> Result<Vec<u64>, 
 }
 
 #[tactic(auto, using(crate::proofs::Counts::items_counted), unfolding(crate::specs::Format::token_at))]
-fn token_at(alloc: Global, place: u32, value: &Value) -> Result<TokSpec, Fault>
-    ensures exact { Gives (λ t. t) result (token_at place (view value.now)) }
+fn token_at(alloc: Global, version: Version, place: u32, value: &Value) -> Result<TokSpec, Fault>
+    ensures exact { Gives (λ t. t) result (token_at version place (view value.now)) }
     ensures within { IfOk result IsToken }
 {
-    if !has_members(value, 4) {
+    if !has_members(value, version.token_members()) {
         return Err(Fault::Script { place });
     }
     let items = list_at(place, value, "cells")?;
     let Some(law) = law_in(value) else {
         return Err(Fault::Script { place });
     };
-    if !allows(law, items.len()) {
+    if !version.has_law(law) || !allows(law, items.len()) {
         return Err(Fault::Script { place });
     }
     let param = number_at(place, value, "param", 0, u64::MAX)?;
     let generation = number_at(place, value, "gen", 0, LAST_GENERATION)?;
+    let Some(blob) = record_in(version, value) else {
+        return Err(Fault::Script { place });
+    };
+    if !may_guard(law, &blob) {
+        return Err(Fault::Script { place });
+    }
     let cells = Cells::from_vec(cells_of(alloc, place, items.as_slice())?);
     Ok(TokSpec {
         cells,
         law,
         param,
         generation,
-        blob: None,
+        blob,
     })
 }
 
-// The token after those.
-fn token(alloc: Global, before: &[TokSpec], value: &Value) -> Result<TokSpec, Fault>
-    ensures exact { Gives (λ t. t) result (token before.now (view value.now)) }
+/// The token after those.
+pub fn token(
+    alloc: Global,
+    version: Version,
+    before: &[TokSpec],
+    value: &Value,
+) -> Result<TokSpec, Fault>
+    ensures exact { Gives (λ t. t) result (token version before.now (view value.now)) }
     ensures within { IfOk result (λ t. IsToken t × (length before.now < 64)) }
 {
     if before.len() >= TOKEN_LIMIT {
         return Err(Fault::Script { place: 1064 });
     }
-    token_at(alloc, 1000 + before.len() as u32, value)
+    token_at(alloc, version, 1000 + before.len() as u32, value)
 }
 
 /// Tokens by their numbers, at most 64, or the place of the first bad one.
-pub fn tokens_of(alloc: Global, items: &[Value]) -> Result<Vec<TokSpec>, Fault>
-    ensures exact { Gives (λ v. v.items) result (each token [] (items_view items.now)) }
+pub fn tokens_of(alloc: Global, version: Version, items: &[Value]) -> Result<Vec<TokSpec>, Fault>
+    ensures exact { Gives (λ v. v.items) result (each (token version) [] (items_view items.now)) }
     ensures within { IfOk result (λ v. (length v.items ≤ 64) × All IsToken v.items) }
 {
     let mut tokens = Vec::new(alloc);
     for item in items {
-        let next = token(alloc, tokens.as_slice(), item)?;
+        let next = token(alloc, version, tokens.as_slice(), item)?;
         push(&mut tokens, next)?;
     }
     Ok(tokens)

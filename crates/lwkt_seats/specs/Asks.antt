@@ -1,17 +1,16 @@
 -- What asking for references, marking and giving back does, by its answer.
-use Rattle.std.specs.Prelude.{◌≡◌, ◌≢◌, ◌⊎◌, ℕ, ◌<◌, ◌≤◌, ◌==◌, Bool, true, false}
+use Rattle.std.specs.Prelude.{◌≡◌, ◌≢◌, ◌⊎◌, ◌++◌, ℕ, ◌<◌, ◌≤◌, ◌==◌, Bool, true, false}
 use Rattle.lwkt_base.specs.declared.names.Mode.{Mode}
 use Rattle.lwkt_base.specs.declared.names.Mode.TheVariants.{Exclusive, Shared}
 use Rattle.lwkt_base.specs.declared.holdings.Held.{Held}
 use Rattle.lwkt_base.specs.declared.holdings.Held.TheVariants.{Nothing, Holds}
 use Rattle.lwkt_base.specs.declared.words.Decision.TheVariants.{Held as IsHeld, Marked as IsMarked, Worn as IsWorn}
 use Rattle.lwkt_base.specs.Holding.{is_held}
-use Rattle.lwkt_base.specs.Law.{MeetsLaw}
 use Rattle.lwkt_bank.specs.declared.seats.CpuSeat.{CpuSeat}
 use Rattle.lwkt_bank.specs.declared.answers.Given.{Given}
 use Rattle.lwkt_bank.specs.Views.{more}
 use Rattle.lwkt_bank.specs.Deeds.{adds_one, marks, reads_all}
-use Rattle.lwkt_bank.specs.Seats.{bank_of, tokens_of, plan_of, entry, holding, references, Looked, Took, Lost, Decides, Stepped, Gave, Knowing, lawful_loads}
+use Rattle.lwkt_bank.specs.Seats.{bank_of, tokens_of, plan_of, entry, holding, references, Looked, Took, Lost, Decides, Stepped, Gave, Knowing, IsLawfulIn, lawful_loads, asked_record}
 use Rattle.lwkt_seats.specs.declared.answers.Asked.{Asked}
 use Rattle.lwkt_seats.specs.declared.answers.Asked.TheVariants as asked
 use Rattle.lwkt_seats.specs.declared.answers.Furthered.{Furthered}
@@ -64,13 +63,13 @@ abbrev pub Marks : ℕ → CpuSeat → CpuSeat → Marked → Type 0
 Marks tok old new marked.Set = IsThere old tok × Stepped old new tok (entry old tok) marks
 Marks tok old new marked.NoToken = IsMissing old tok × (new ≡ old)
 
--- the row of a token obeys its law
+-- row and record of a token obey its law
 abbrev pub IsLawful : CpuSeat → ℕ → Type 0
-IsLawful s tok = MeetsLaw (plan_of (bank_of s) tok).law (plan_of (bank_of s) tok).param (entry s tok).row
+IsLawful s tok = IsLawfulIn (plan_of (bank_of s) tok) (entry s tok)
 
--- a question for the law of a token: the row is loaded, if the law asks something of it
+-- a question for the law of a token: the row is loaded, if the law asks something of it, and the record read, if it asks for its length
 abbrev pub Asked_for : CpuSeat → CpuSeat → ℕ → Type 0
-Asked_for old new tok = Knowing old new tok (entry old tok) (lawful_loads (plan_of (bank_of old) tok).law (reads_all old.cpu tok 0 (entry old tok).row))
+Asked_for old new tok = Knowing old new tok (entry old tok) (lawful_loads (plan_of (bank_of old) tok).law (reads_all old.cpu tok 0 (entry old tok).row ++ asked_record (plan_of (bank_of old) tok).law old.cpu tok (entry old tok).blob))
 
 -- a reference given back: where a section ends, its law was asked for before
 abbrev pub GivesOne : ℕ → CpuSeat → CpuSeat → Type 0

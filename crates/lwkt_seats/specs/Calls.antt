@@ -1,5 +1,5 @@
 -- What a call for C does to a seat, by the number that it answers (own).
-use Rattle.std.specs.Prelude.{◌≡◌, ℕ}
+use Rattle.std.specs.Prelude.{◌≡◌, ℕ, List, length, take}
 use Rattle.lwkt_base.specs.declared.names.Mode.{Mode}
 use Rattle.lwkt_bank.specs.declared.seats.CpuSeat.{CpuSeat}
 use Rattle.lwkt_seats.specs.declared.answers.Asked.{Asked}
@@ -13,9 +13,13 @@ use Rattle.lwkt_seats.specs.declared.answers.Added.{Added}
 use Rattle.lwkt_seats.specs.declared.answers.Added.TheVariants as added
 use Rattle.lwkt_seats.specs.declared.answers.Judged.{Judged}
 use Rattle.lwkt_seats.specs.declared.answers.RowRestored.{RowRestored}
-use Rattle.lwkt_seats.specs.Numbers.{asked_number, furthered_number, marked_number, gave_number, loaded_number, stored_number, added_number, judged_number, restored_number}
+use Rattle.lwkt_seats.specs.declared.answers.RecordRead.{RecordRead}
+use Rattle.lwkt_seats.specs.declared.answers.RecordRead.TheVariants as read
+use Rattle.lwkt_seats.specs.declared.answers.RecordWritten.{RecordWritten}
+use Rattle.lwkt_seats.specs.Numbers.{asked_number, furthered_number, marked_number, gave_number, loaded_number, stored_number, added_number, judged_number, restored_number, record_read_number, record_written_number}
 use Rattle.lwkt_seats.specs.Asks.{Asks, Furthers, Marks, Gives}
 use Rattle.lwkt_seats.specs.Cells.{Loads, Stores, Adds, Judges, Restores}
+use Rattle.lwkt_seats.specs.Records.{ReadsBytes, WritesBytes, filled}
 
 -- the value that is stored for the caller: with no value it stays as it was
 abbrev pub TellsLoaded : Loaded → ℕ → ℕ → Type 0
@@ -31,6 +35,15 @@ TellsAdded added.NotHeld before now = now ≡ before
 TellsAdded added.SharedWrite before now = now ≡ before
 TellsAdded added.TallyOnly before now = now ≡ before
 TellsAdded added.Overflow before now = now ≡ before
+
+-- what is stored for the caller of a record: its bytes, of which there are at most 64, as far as there is room, and their number; with
+-- no record all stays as it was
+abbrev pub TellsRecord : RecordRead → List ℕ → List ℕ → ℕ → ℕ → Type 0
+TellsRecord (read.Bytes bytes) before now before_length now_length = (now ≡ filled before (take 64 bytes)) × (now_length ≡ length bytes)
+TellsRecord read.NoToken before now before_length now_length = (now ≡ before) × (now_length ≡ before_length)
+TellsRecord read.NoRecord before now before_length now_length = (now ≡ before) × (now_length ≡ before_length)
+TellsRecord read.NotHeld before now before_length now_length = (now ≡ before) × (now_length ≡ before_length)
+TellsRecord read.SharedRecord before now before_length now_length = (now ≡ before) × (now_length ≡ before_length)
 
 abbrev pub Takes : Mode → ℕ → CpuSeat → CpuSeat → ℕ → Type 0
 Takes mode tok old new answer = (asked : Asked) × ((answer ≡ asked_number asked) × Asks mode tok old new asked)
@@ -58,3 +71,9 @@ JudgesRow tok old new answer = (judged : Judged) × ((answer ≡ judged_number j
 
 abbrev pub RestoresFirst : ℕ → CpuSeat → CpuSeat → ℕ → Type 0
 RestoresFirst tok old new answer = (restored : RowRestored) × ((answer ≡ restored_number restored) × Restores tok old new restored)
+
+abbrev pub ReadsRecord : ℕ → List ℕ → List ℕ → ℕ → ℕ → CpuSeat → CpuSeat → ℕ → Type 0
+ReadsRecord tok before now before_length now_length old new answer = (read : RecordRead) × ((answer ≡ record_read_number read) × ReadsBytes tok old new read × TellsRecord read before now before_length now_length)
+
+abbrev pub WritesRecord : ℕ → List ℕ → CpuSeat → CpuSeat → ℕ → Type 0
+WritesRecord tok bytes old new answer = (written : RecordWritten) × ((answer ≡ record_written_number written) × WritesBytes tok bytes old new written)

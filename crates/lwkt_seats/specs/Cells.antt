@@ -3,7 +3,7 @@ use Rattle.std.specs.Prelude.{◌≡◌, ◌≢◌, ℕ, ◌+◌, ◌^◌, ◌<�
 use Rattle.lwkt_base.specs.declared.laws.Law.TheVariants.{Tally}
 use Rattle.lwkt_base.specs.Holding.{is_held, is_exclusive}
 use Rattle.lwkt_bank.specs.declared.seats.CpuSeat.{CpuSeat}
-use Rattle.lwkt_bank.specs.Views.{read, stored, raised}
+use Rattle.lwkt_bank.specs.Views.{RecordOf, read, stored, raised}
 use Rattle.lwkt_bank.specs.Deeds.{reads, writes}
 use Rattle.lwkt_bank.specs.Seats.{bank_of, plan_of, entry, holding, Changes, Knowing, IsUnchanged, Restored, first_load}
 use Rattle.lwkt_seats.specs.Asks.{IsThere, IsMissing, IsLawful, Asked_for}
@@ -65,10 +65,10 @@ Judges tok old new judged.NoToken = IsMissing old tok × (new ≡ old)
 Judges tok old new judged.NotHeld = IsThere old tok × IsUnheld old tok × (new ≡ old)
 Judges tok old new judged.SharedWrite = IsThere old tok × IsShared old tok × (new ≡ old)
 
--- the first row is stored again: each cell that was stored to gets its first value; a Tally token stays as it is
+-- the first row is stored again, and the first record: each cell that was stored to gets its first value; a Tally token stays as it is
 abbrev pub RestoresRow : ℕ → CpuSeat → CpuSeat → Type 0
 RestoresRow tok old new =
-    ((plan_of (bank_of old) tok).law ≢ Tally → (made : List (Option ℕ)) × Restored old new tok made)
+    ((plan_of (bank_of old) tok).law ≢ Tally → (made : List (Option ℕ)) × ((bytes : RecordOf) × Restored old new tok made bytes))
     × ((plan_of (bank_of old) tok).law ≡ Tally → IsUnchanged old new)
 
 abbrev pub Restores : ℕ → CpuSeat → CpuSeat → RowRestored → Type 0

@@ -1,6 +1,7 @@
 pub mod Numbers
 pub mod Asks
 pub mod Cells
+pub mod Records
 pub mod Seated
 pub mod Spots
 pub mod Calls

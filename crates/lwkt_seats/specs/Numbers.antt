@@ -18,6 +18,10 @@ use Rattle.lwkt_seats.specs.declared.answers.Judged.{Judged}
 use Rattle.lwkt_seats.specs.declared.answers.Judged.TheVariants as judged
 use Rattle.lwkt_seats.specs.declared.answers.RowRestored.{RowRestored}
 use Rattle.lwkt_seats.specs.declared.answers.RowRestored.TheVariants as restored
+use Rattle.lwkt_seats.specs.declared.answers.RecordRead.{RecordRead}
+use Rattle.lwkt_seats.specs.declared.answers.RecordRead.TheVariants as record_read
+use Rattle.lwkt_seats.specs.declared.answers.RecordWritten.{RecordWritten}
+use Rattle.lwkt_seats.specs.declared.answers.RecordWritten.TheVariants as record_written
 
 abbrev pub asked_number : Asked → ℕ
 asked_number asked.Taken = 0
@@ -79,3 +83,18 @@ restored_number restored.Restored = 0
 restored_number restored.NoToken = 16
 restored_number restored.NotHeld = 13
 restored_number restored.SharedWrite = 18
+
+abbrev pub record_read_number : RecordRead → ℕ
+record_read_number (record_read.Bytes bytes) = 0
+record_read_number record_read.NoToken = 16
+record_read_number record_read.NoRecord = 17
+record_read_number record_read.NotHeld = 13
+record_read_number record_read.SharedRecord = 37
+
+abbrev pub record_written_number : RecordWritten → ℕ
+record_written_number record_written.Written = 0
+record_written_number record_written.NoToken = 16
+record_written_number record_written.NoRecord = 17
+record_written_number record_written.NotHeld = 13
+record_written_number record_written.SharedRecord = 37
+record_written_number record_written.RecordLong = 38

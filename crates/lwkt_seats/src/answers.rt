@@ -1,6 +1,8 @@
 //! What the calls on a seat answer. Each answer has a number: 0, or that of its fault.
 ghost use Rattle.std.specs.Prelude.{◌≡◌};
-ghost use Rattle.lwkt_seats.specs.Numbers.{asked_number, furthered_number, marked_number, gave_number, loaded_number, stored_number, added_number, judged_number, restored_number};
+ghost use Rattle.lwkt_seats.specs.Numbers.{asked_number, furthered_number, marked_number, gave_number, loaded_number, stored_number, added_number, judged_number, restored_number, record_read_number, record_written_number};
+
+use lwkt_base::Blob;
 
 /// What asking for a reference answers.
 #[derive(Clone, Copy)]
@@ -169,7 +171,7 @@ impl Added {
     }
 }
 
-/// Whether a row obeys its law.
+/// Whether row and record obey the law.
 #[derive(Clone, Copy)]
 pub enum Judged {
     Lawful,
@@ -193,7 +195,7 @@ impl Judged {
     }
 }
 
-/// What storing the first row again answers.
+/// What storing the first row and record again answers.
 #[derive(Clone, Copy)]
 pub enum RowRestored {
     Restored,
@@ -211,6 +213,56 @@ impl RowRestored {
             RowRestored::NoToken => 16,
             RowRestored::NotHeld => 13,
             RowRestored::SharedWrite => 18,
+        }
+    }
+}
+
+/// What reading a record answers.
+#[derive(Clone, Copy)]
+pub enum RecordRead {
+    Bytes(Blob),
+    NoToken,
+    NoRecord,
+    NotHeld,
+    SharedRecord,
+}
+
+impl RecordRead {
+    pub fn number(self) -> u32
+        ensures { result ≡ record_read_number self }
+    {
+        match self {
+            RecordRead::Bytes(_) => 0,
+            RecordRead::NoToken => 16,
+            RecordRead::NoRecord => 17,
+            RecordRead::NotHeld => 13,
+            RecordRead::SharedRecord => 37,
+        }
+    }
+}
+
+/// What writing a record answers.
+#[derive(Clone, Copy)]
+pub enum RecordWritten {
+    Written,
+    NoToken,
+    NoRecord,
+    NotHeld,
+    SharedRecord,
+    RecordLong,
+}
+
+impl RecordWritten {
+    pub fn number(self) -> u32
+        ensures { result ≡ record_written_number self }
+    {
+        match self {
+            RecordWritten::Written => 0,
+            RecordWritten::NoToken => 16,
+            RecordWritten::NoRecord => 17,
+            RecordWritten::NotHeld => 13,
+            RecordWritten::SharedRecord => 37,
+            RecordWritten::RecordLong => 38,
         }
     }
 }

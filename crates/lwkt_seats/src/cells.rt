@@ -77,7 +77,7 @@ pub(crate) fn add(seat: &mut CpuSeat, bank: &Bank, token: u32, amount: u64) -> A
     }
 }
 
-/// Whether the row obeys its law.
+/// Whether row and record obey the law.
 pub(crate) fn judge(seat: &mut CpuSeat, bank: &Bank, token: u32) -> Judged
     requires of { bank_of seat.old ≡ id_of bank.now }
     ensures does { Judges token seat.old seat.new result }
@@ -100,7 +100,7 @@ pub(crate) fn judge(seat: &mut CpuSeat, bank: &Bank, token: u32) -> Judged
     Judged::Broken
 }
 
-/// Stores the section's first row again.
+/// Stores the section's first row and record again.
 pub(crate) fn restore(seat: &mut CpuSeat, bank: &Bank, token: u32) -> RowRestored
     requires of { bank_of seat.old ≡ id_of bank.now }
     ensures does { Restores token seat.old seat.new result }

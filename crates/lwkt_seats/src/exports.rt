@@ -107,7 +107,7 @@ pub extern "C" fn lwkt_mark(bank: LwktBank, seat: u32, token: u32) -> u32
 /// Gives a reference back.
 ///
 /// 0; or 16 where there is no such token, else 13 where the seat doesn't hold it, else 19 where it is the last reference of an
-/// exclusive holder, and the row doesn't obey the law: the token stays held. 30 where there is no seat of this number, 50 while another call has it.
+/// exclusive holder, and row and record don't obey the law: the token stays held. 30 where there is no seat of this number, 50 while another call has it.
 #[unsafe(no_mangle)]
 pub extern "C" fn lwkt_give(bank: LwktBank, seat: u32, token: u32) -> u32
     ensures { Answers bank.desk seat (GivesBack token) result }
@@ -140,9 +140,9 @@ pub extern "C" fn lwkt_store(bank: LwktBank, seat: u32, token: u32, cell: u32, v
     answer.number()
 }
 
-/// Whether the row of a token obeys its law.
+/// Whether row and record of a token obey its law.
 ///
-/// 0 where it does, and 19 where it doesn't; or 16 where there is no such token, else 13 where the seat doesn't hold it, else 18
+/// 0 where they do, and 19 where they don't; or 16 where there is no such token, else 13 where the seat doesn't hold it, else 18
 /// where it holds it shared. 30 where there is no seat of this number, 50 while another call has it.
 #[unsafe(no_mangle)]
 pub extern "C" fn lwkt_lawful(bank: LwktBank, seat: u32, token: u32) -> u32
@@ -158,7 +158,8 @@ pub extern "C" fn lwkt_lawful(bank: LwktBank, seat: u32, token: u32) -> u32
     answer.number()
 }
 
-/// Stores the section's first row again: each cell that was stored to in it gets its first value. A Tally token stays as it is.
+/// Stores the section's first row and record again: each cell that was stored to in it gets its first value, and the record its first
+/// bytes, if it has others. A Tally token stays as it is.
 ///
 /// 0; or 16, 13 and 18 as `lwkt_lawful`. 30 where there is no seat of this number, 50 while another call has it.
 #[unsafe(no_mangle)]

@@ -11,6 +11,8 @@ mod exports;
 mod handles;
 mod openings;
 mod parts;
+mod record_calls;
+mod records;
 mod spots;
 mod tokens;
 
@@ -20,4 +22,5 @@ pub use exports::{
 };
 pub use handles::LwktBank;
 pub use openings::lwkt_bank_open;
+pub use record_calls::{lwkt_read_record, lwkt_write_record};
 pub use tokens::LwktToken;

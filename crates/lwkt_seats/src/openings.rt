@@ -2,7 +2,6 @@
 ghost use Rattle.std.specs.Prelude.{◌≡◌, ◌≢◌, ◌⊎◌, ◌↔◌, ℕ, ◌<◌, ◌≤◌, [], length, IsTrue, IfOk, IfErr, Err, OnOk, slice_get};
 ghost use Rattle.std.specs.Arc.{arc_value};
 ghost use Rattle.lwkt_core.specs.Opening.{AreWithin, AllOpenLawfully};
-ghost use Rattle.lwkt_bank.specs.Opened.{AreUnguarded};
 ghost use Rattle.lwkt_bank.specs.Seats.{id_of, bank_of, cpus_of};
 ghost use Rattle.lwkt_bank.specs.Gathered.{AreHandedOut};
 ghost use Rattle.lwkt_seats.specs.Spots.{AreSpotsOf};
@@ -82,7 +81,7 @@ fn desk_of(alloc: Global, bank: Bank, seats: Vec<CpuSeat>) -> Result<Box<Desk>, 
 // Opens a bank with its desk.
 fn open(alloc: Global, tokens: &[LwktToken], seats: usize) -> Result<Box<Desk>, Fault>
     ensures opened { IfOk result (λ desk. AreTokens tokens.now × AreWithin seats (specs_of tokens.now) [] × AllOpenLawfully (specs_of tokens.now) × (length desk.value.places.items ≡ seats)) }
-    ensures limits { result ≡ Err Fault.Limits → ¬ (AreTokens tokens.now × AreWithin seats (specs_of tokens.now) [] × AreUnguarded (specs_of tokens.now)) }
+    ensures limits { result ≡ Err Fault.Limits → ¬ (AreTokens tokens.now × AreWithin seats (specs_of tokens.now) []) }
     ensures broken { result ≡ Err Fault.LawBroken → AreTokens tokens.now × AreWithin seats (specs_of tokens.now) [] × ¬ AllOpenLawfully (specs_of tokens.now) }
     ensures only { IfErr result (λ fault. (fault ≡ Fault.Memory) ⊎ (fault ≡ Fault.Limits) ⊎ (fault ≡ Fault.LawBroken)) }
 {
@@ -97,8 +96,9 @@ fn open(alloc: Global, tokens: &[LwktToken], seats: usize) -> Result<Box<Desk>, 
 /// Opens a bank of these tokens with so many seats, which are numbered from 0. `out` gets where it is; it stays as it was but
 /// with 0.
 ///
-/// 0; or 39 where a limit is passed: 1 to 8 seats, at most 64 tokens, at most 4 cells and exactly 1 under tally, a law above 4, a
-/// generation past the last; 40 where an opening row breaks its law; 32 for want of memory.
+/// 0; or 39 where a limit is passed: 1 to 8 seats, at most 64 tokens, at most 4 cells and exactly 1 under tally, a law above 5, a
+/// generation past the last, a record of more than 64 bytes, more than one record, one under tally, none or no cell under len; 40
+/// where an opening row, with its record's length, breaks its law; 32 for want of memory.
 #[unsafe(no_mangle)]
 pub extern "C" fn lwkt_bank_open(
     alloc: Global,
@@ -107,7 +107,7 @@ pub extern "C" fn lwkt_bank_open(
     out: &mut *mut u8,
 ) -> u32
     ensures opened { result ≡ 0 → AreTokens tokens.now × AreWithin seats (specs_of tokens.now) [] × AllOpenLawfully (specs_of tokens.now) }
-    ensures limits { result ≡ 39 → ¬ (AreTokens tokens.now × AreWithin seats (specs_of tokens.now) [] × AreUnguarded (specs_of tokens.now)) }
+    ensures limits { result ≡ 39 → ¬ (AreTokens tokens.now × AreWithin seats (specs_of tokens.now) []) }
     ensures broken { result ≡ 40 → AreTokens tokens.now × AreWithin seats (specs_of tokens.now) [] × ¬ AllOpenLawfully (specs_of tokens.now) }
     ensures only { (result ≡ 0) ⊎ (result ≡ 32) ⊎ (result ≡ 39) ⊎ (result ≡ 40) }
     ensures kept { result ≢ 0 → out.new ≡ out.old }

@@ -1,7 +1,7 @@
 //! The tokens of a bank, as C declares them.
 ghost use Rattle.std.specs.Prelude.{◌≡◌, ◌↔◌, ◌≤◌, IsTrue, IfOk};
 
-use lwkt_base::{Cells, Law, TokSpec};
+use lwkt_base::{Blob, Cells, Law, TokSpec};
 use std::alloc::{AllocError, Global};
 
 /// A token as C declares it.
@@ -22,18 +22,24 @@ pub struct LwktToken {
     pub generation: u64,
     /// How many cells there are, 0 to 4.
     pub cells: u32,
-    /// The law: 0 any, 1 sum, 2 order, 3 cap, 4 tally.
+    /// The law: 0 any, 1 sum, 2 order, 3 cap, 4 tally, 5 len.
     pub law: u32,
+    /// The bytes of its record; those past their number count for nothing.
+    pub bytes: [u8; 64],
+    /// How many bytes the record has, 0 to 64.
+    pub length: u32,
+    /// How many records it guards, 0 or 1.
+    pub records: u32,
 }
 
 impl LwktToken {
-    ghost use Rattle.lwkt_seats.specs.Openings.{IsToken, law_of, spec_of};
+    ghost use Rattle.lwkt_seats.specs.Openings.{IsToken, law_of, record_of, spec_of};
 
-    /// Whether it has at most four cells and one of the five laws.
+    /// Whether it has at most four cells, one of the six laws, at most 64 bytes and at most one record.
     pub fn is_token(&self) -> bool
         ensures { IsTrue result ↔ IsToken self.now }
     {
-        self.cells <= 4 && self.law <= 4
+        self.cells <= 4 && self.law <= 5 && self.length <= 64 && self.records <= 1
     }
 
     fn law(&self) -> Law
@@ -44,13 +50,25 @@ impl LwktToken {
             1 => Law::Sum,
             2 => Law::Order,
             3 => Law::Cap,
-            _ => Law::Tally,
+            4 => Law::Tally,
+            _ => Law::Len,
         }
+    }
+
+    fn record(&self) -> Option<Blob>
+        requires { self.now.length ≤ 64 }
+        ensures { result ≡ record_of self.now }
+    {
+        if self.records == 0 {
+            return None;
+        }
+        Some(Blob::of(&self.bytes[..self.length as usize]))
     }
 
     /// What is declared of it.
     pub fn spec(&self, alloc: Global) -> Result<TokSpec, AllocError>
-        requires { self.now.cells ≤ 4 }
+        requires few { self.now.cells ≤ 4 }
+        requires short { self.now.length ≤ 64 }
         ensures { IfOk result (λ spec. spec ≡ spec_of self.now) }
     {
         let all = [self.first, self.second, self.third, self.fourth];
@@ -60,7 +78,7 @@ impl LwktToken {
             law: self.law(),
             param: self.param,
             generation: self.generation,
-            blob: None,
+            blob: self.record(),
         })
     }
 }

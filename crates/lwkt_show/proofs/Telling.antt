@@ -1,13 +1,17 @@
-use Rattle.std.proofs.Common.{inr, ◌≡◌, ℕ, List, rules, Option, None, IsNone, Err, Ok, subst}
+use Rattle.std.proofs.Common.{inl, inr, ◌≡◌, ◌⊎◌, ℕ, List, [], take, rules, refl, sym, Option, None, Some, IsNone, Result, Err, Ok, subst}
 use Rattle.std.specs.Io.KnownBytes.{Appends, Keeps}
 use Rattle.lwkt_base.specs.declared.faults.Fault.{Fault as Refusal}
+use Rattle.lwkt_base.specs.declared.faults.Fault.TheVariants.{Memory}
+use Rattle.lwkt_report.specs.declared.sources.TheConstants.{READ_LIMIT}
+use Rattle.lwkt_report.specs.declared.streams.RunFault.{RunFault}
 use Rattle.lwkt_report.specs.declared.streams.RunFault.TheVariants.{Fault, Stream}
 use Rattle.lwkt_report.specs.Stream.{AppendsFront}
 use Rattle.lwkt_run.specs.declared.runs.End.{End}
-use Rattle.lwkt_run.specs.Run.{AreRead, Refuses, TellsBy}
+use Rattle.lwkt_run.proofs.RunLemmas.{tells_unread}
+use Rattle.lwkt_run.specs.Run.{AreRead, Refuses, RefusesAlong, TellsBy}
 use Rattle.lwkt_show.specs.declared.options.Options.{Options}
 use Rattle.lwkt_show.specs.declared.programs.Outcome.TheVariants.{Past}
-use Rattle.lwkt_show.specs.Showing.{IsPastIn, TellsShown}
+use Rattle.lwkt_show.specs.Showing.{IsPastIn, TellsShown, IsShownAlong, IsPastAlong, TellsAlong}
 
 -- what was written stays what it is
 keeps_itself : (o : Option (List ℕ)) → Keeps o o
@@ -36,3 +40,36 @@ tells_past options left old bytes read same are past =
 -- what is none of a thing
 pub is_none_of : (T : Type 0) (o : Option T) → o ≡ None → IsNone o
 is_none_of T o same = search rules
+
+-- some bytes are those that are read
+pub some_read : (left : Option (List ℕ)) → (bytes : List ℕ) × AreRead left bytes
+some_read None = ([], tt)
+some_read (Some all) = (take READ_LIMIT all, refl)
+
+-- along an order, where nothing was read or memory was refused
+pub along_unread : (order : List ℕ) (options : Options) (left old : Option (List ℕ)) (fault : RunFault) → (fault ≡ Stream) ⊎ (fault ≡ Fault Memory) → TellsAlong order options left old old (Err fault)
+along_unread order options left old fault why =
+    let read = some_read left in
+    elim why [
+      | inl is ↦ subst (λ f. TellsAlong order options left old old (Err f)) (sym is) (tells_unread (IsShownAlong order options.view) left old Stream (inl refl))
+      | inr is ↦ subst (λ f. TellsAlong order options left old old (Err f)) (sym is) (keeps_itself old, (read.0, (read.1, tt)))
+    ]
+
+-- where the bytes or the order are refused nothing is written
+pub along_refused : (order : List ℕ) (options : Options) (left old : Option (List ℕ)) (bytes read : List ℕ) (fault : Refusal) → read ≡ bytes → AreRead left bytes → RefusesAlong read order fault → TellsAlong order options left old old (Err (Fault fault))
+along_refused order options left old bytes read fault same are refuses =
+    (keeps_itself old, (bytes, (are, subst (λ b. RefusesAlong b order fault) same refuses)))
+
+-- a run that ended before the first turn that was chosen
+pub along_past : (order : List ℕ) (options : Options) (left old : Option (List ℕ)) (bytes read : List ℕ) → read ≡ bytes → AreRead left bytes → IsPastAlong order options read → TellsAlong order options left old old (Ok Past)
+along_past order options left old bytes read same are past =
+    (keeps_itself old, (bytes, (are, subst (λ b. IsPastAlong order options b) same past)))
+
+-- the fault of an answer
+abbrev pub fault_of : {A : Type 0} → Result A RunFault → RunFault
+fault_of (Ok x) = Stream
+fault_of (Err fault) = fault
+
+-- a lack of memory is no failed stream
+pub no_lack : Fault Memory ≡ Stream → ⊥
+no_lack is = search rules

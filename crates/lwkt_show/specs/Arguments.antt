@@ -77,7 +77,3 @@ pub record AreOptions (words : List (List ℕ)) (options : Options) : Type 0 whe
 -- the arguments ask for the chains of a run on threads
 abbrev pub AskThreads : List (List ℕ) → Type 0
 AskThreads words = words ≡ codes "threads" ∷ codes "--chains" ∷ []
-
--- the arguments ask for no run
-abbrev pub AreMisused : List (List ℕ) → Type 0
-AreMisused words = ((options : Options) → ¬ AreOptions words options) × (¬ AskThreads words)

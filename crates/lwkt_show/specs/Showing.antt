@@ -3,8 +3,9 @@ use Rattle.std.specs.Prelude.{◌≡◌, ◌≤◌, ℕ, Bool, length, List, Opt
 use Rattle.std.specs.Io.KnownBytes.{Keeps}
 use Rattle.lwkt_report.specs.declared.closings.Closing.{Closing}
 use Rattle.lwkt_report.specs.declared.streams.RunFault.{RunFault}
+use Rattle.lwkt_report.specs.declared.streams.RunFault.TheVariants.{Fault, Stream}
 use Rattle.lwkt_report.specs.Stream.{BlamesFailed}
-use Rattle.lwkt_run.specs.Run.{AreRead, IsTurnsRun, end_told, TellsBy, status_of}
+use Rattle.lwkt_run.specs.Run.{AreRead, IsTurnsRun, IsOrderRun, RefusesAlong, end_told, TellsBy, status_of}
 use Rattle.lwkt_run.specs.Threaded.{IsThreadRecord, lets_all}
 use Rattle.lwkt_run.specs.declared.runs.End.{End}
 use Rattle.lwkt_run.specs.declared.runs.TurnsRun.{TurnsRun}
@@ -73,3 +74,28 @@ pub record IsShownOnThreads (bytes : List ℕ) (end : End) (text : List ℕ) : T
 -- status is that of its outcome; a stream is blamed only where one has failed
 abbrev pub IsShowingThreads : Bool → Bool → Option (List ℕ) → Option (List ℕ) → Option (List ℕ) → ℕ → Type 0
 IsShowingThreads source_failed sink_failed left old new status = (outcome : Result End RunFault) × (TellsBy IsShownOnThreads left old new outcome × (BlamesFailed source_failed sink_failed outcome × (status ≡ status_of outcome)))
+
+-- there is a run along this order of the script that these bytes are, with all that was kept of it, that ends so, and the text shows it
+pub record IsShownAlong (order : List ℕ) (view : View) (bytes : List ℕ) (end : End) (text : List ℕ) : Type 0 where
+  pub run : TurnsRun
+  pub is_run : IsOrderRun bytes order run
+  pub is_end : end ≡ end_told run.closing
+  pub shows : ShowsAs view run.closing text
+
+-- there is a run along this order of the script that these bytes are that ended before the first turn that was chosen
+pub record IsPastAlong (order : List ℕ) (options : Options) (bytes : List ℕ) : Type 0 where
+  pub run : TurnsRun
+  pub is_run : IsOrderRun bytes order run
+  pub is_past : IsPast options run
+
+-- what is said by the answer of a run along an order: as of a run in rounds, but that a run may also be refused since the order names
+-- a processor that isn't there
+abbrev pub TellsAlong : List ℕ → Options → Option (List ℕ) → Option (List ℕ) → Option (List ℕ) → Result Outcome RunFault → Type 0
+TellsAlong order options left old new (Ok (Shown end)) = TellsBy (IsShownAlong order options.view) left old new (Ok end)
+TellsAlong order options left old new (Ok Past) = Keeps old new × ((bytes : List ℕ) × (AreRead left bytes × IsPastAlong order options bytes))
+TellsAlong order options left old new (Err (Fault fault)) = Keeps old new × ((bytes : List ℕ) × (AreRead left bytes × RefusesAlong bytes order fault))
+TellsAlong order options left old new (Err Stream) = TellsBy (IsShownAlong order options.view) left old new (Err Stream)
+
+-- what the program does where its arguments are this order and these options
+abbrev pub IsShowingAlong : List ℕ → Options → Bool → Bool → Option (List ℕ) → Option (List ℕ) → Option (List ℕ) → ℕ → Type 0
+IsShowingAlong order options source_failed sink_failed left old new status = (outcome : Result Outcome RunFault) × (TellsAlong order options left old new outcome × (BlamesFailed source_failed sink_failed outcome × (status ≡ status_shown outcome)))

@@ -156,7 +156,7 @@ fn both(first: &str, second: &str, third: &str) -> Option<Options>
 }
 
 // The options of the words behind `turns`.
-fn read_options(words: &[String]) -> Option<Options>
+pub(crate) fn read_options(words: &[String]) -> Option<Options>
     ensures some { IfSome result (λ options. Say (map string_bytes words.now) options × (options.first ≤ options.last) × (has_range options.view ≡ false → (options.first ≡ 0) × (options.last ≡ no_end))) }
     ensures only { (options : Options) → Say (map string_bytes words.now) options → options.first ≤ options.last → (has_range options.view ≡ false → (options.first ≡ 0) × (options.last ≡ no_end)) → result ≡ Some options }
 {

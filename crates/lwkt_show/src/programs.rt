@@ -1,10 +1,14 @@
 ghost use Rattle.std.specs.Prelude.{◌≡◌, ◌≤◌, ◌⊎◌, if◌then◌else◌, Err, IsTrue, IfOk, IfErr, IfSome, IsNone, length, map, string_bytes};
 ghost use Rattle.lwkt_run.specs.Run.{IsTurnsRun, Refuses};
 ghost use Rattle.lwkt_scenes.specs.Shown.{first_turn};
-ghost use Rattle.lwkt_show.specs.Arguments.{AreOptions, AskThreads, AreMisused};
-ghost use Rattle.lwkt_show.specs.Showing.{ShowsAs, IsShown, IsPast, IsPastIn, TellsShown, IsShowing, IsShowingThreads, status_shown};
+ghost use Rattle.std.specs.Prelude.{ℕ, List, OnErr};
+ghost use Rattle.lwkt_show.specs.Arguments.{AreOptions, AskThreads};
+ghost use Rattle.lwkt_show.specs.Orders.{AreAlong, AreMisused};
+ghost use Rattle.lwkt_show.specs.Showing.{ShowsAs, IsShown, IsPast, IsPastIn, TellsShown, IsShowing, IsShowingAlong, IsShowingThreads, status_shown};
 
+use crate::alongs::show_along;
 use crate::options::{Options, View, asks_threads, options_of};
+use crate::orders::{Along, along_of};
 use crate::threads::show_threads;
 use lwkt_base::Fault;
 use lwkt_refusals::Speaker;
@@ -16,7 +20,7 @@ use std::thread::Threads;
 
 // What is said where the arguments are none of the program's.
 const USAGE: &str =
-    "lwkt_show: turns, and behind it --turns A..B or --rounds A..B, and --svg, --trace or --chains; or threads --chains\n";
+    "lwkt_show: turns, and behind it --order ORDER, then --turns A..B or --rounds A..B, and --svg, --trace or --chains; or threads --chains\n";
 
 // What is said where the run ended before the range that was chosen.
 const PAST: &str = "lwkt_show: the range lies behind the end of the run\n";
@@ -49,14 +53,19 @@ fn chosen_of(options: &Options) -> Chosen
 }
 
 // Whether a run ended before the first turn that was chosen.
-fn is_past(options: &Options, run: &TurnsRun) -> bool
+pub(crate) fn is_past(options: &Options, run: &TurnsRun) -> bool
     ensures { IsTrue result → IsPast options.now run.now }
 {
     chosen_of(options).is_past(run.script.cpus, run.turns.len())
 }
 
-// The text that shows a run. It has no other fault than want of memory.
-fn text_of(alloc: Global, options: &Options, run: &TurnsRun) -> Result<String, Fault>
+// The text that shows a run, in rounds or along an order. It has no other fault than want of memory.
+pub(crate) fn text_of(
+    alloc: Global,
+    options: &Options,
+    run: &TurnsRun,
+    order: Option<&[u8]>,
+) -> Result<String, Fault>
     ensures shows { IfOk result (λ text. ShowsAs options.now.view run.now.closing (string_bytes text)) }
 {
     let reel = Reel {
@@ -64,7 +73,7 @@ fn text_of(alloc: Global, options: &Options, run: &TurnsRun) -> Result<String, F
         trace: &run.trace,
         polls: &run.polls,
         turns: &run.turns,
-        order: None,
+        order,
         closing: &run.closing,
     };
     let chosen = chosen_of(options);
@@ -88,7 +97,7 @@ fn done_of_bytes(alloc: Global, options: &Options, bytes: &[u8]) -> Result<Optio
         return Ok(None);
     }
     let end = end_told(&run.closing);
-    match text_of(alloc, options, &run) {
+    match text_of(alloc, options, &run, None) {
         Ok(text) => Ok(Some(Done { text, end })),
         Err(_) => Err(Fault::Memory),
     }
@@ -189,6 +198,25 @@ fn show_turns<S: Source, K: Sink, E: Sink>(
     status_of(&outcome)
 }
 
+// Shows the run along an order, and answers the exit status.
+fn show_order<S: Source, K: Sink, E: Sink>(
+    alloc: Global,
+    along: Along,
+    source: &mut S,
+    sink: &mut K,
+    errors: &mut E,
+) -> u8
+    ensures { IsShowingAlong along.order.items along.options (S.has_failed source.new) (K.has_failed sink.new) (S.left source.old) (K.contents sink.old) (K.contents sink.new) result }
+{
+    let outcome = show_along(alloc, along, source, sink, errors);
+    match outcome {
+        Ok(Outcome::Past) => say_past(errors),
+        Err(RunFault::Fault(Fault::Memory)) => Speaker::Show.say_memory(errors),
+        _ => {}
+    }
+    status_of(&outcome)
+}
+
 // Shows the written sections of a run on threads, and answers the exit status.
 fn show_sections<R: Threads + Sync, S: Source, K: Sink, E: Sink>(
     rt: &R,
@@ -226,6 +254,7 @@ pub fn run_show<R: Threads + Sync, S: Source, K: Sink, E: Sink>(
 ) -> u8
     ensures shows { (options : Options) → AreOptions (map string_bytes words.now) options → IsShowing options (S.has_failed source.new) (K.has_failed sink.new) (S.left source.old) (K.contents sink.old) (K.contents sink.new) result }
     ensures threads { AskThreads (map string_bytes words.now) → IsShowingThreads (S.has_failed source.new) (K.has_failed sink.new) (S.left source.old) (K.contents sink.old) (K.contents sink.new) result }
+    ensures along { (options : Options) (order : List ℕ) → AreAlong (map string_bytes words.now) options order → IsShowingAlong order options (S.has_failed source.new) (K.has_failed sink.new) (S.left source.old) (K.contents sink.old) (K.contents sink.new) result }
     ensures usage { AreMisused (map string_bytes words.now) → (result ≡ 1) × (source.new ≡ source.old) × (sink.new ≡ sink.old) }
 {
     if let Some(options) = options_of(words) {
@@ -234,5 +263,9 @@ pub fn run_show<R: Threads + Sync, S: Source, K: Sink, E: Sink>(
     if asks_threads(words) {
         return show_sections(rt, alloc, source, sink, errors);
     }
-    refuse_arguments(errors, false)
+    match along_of(alloc, words) {
+        Ok(Some(along)) => show_order(alloc, along, source, sink, errors),
+        Ok(None) => refuse_arguments(errors, false),
+        Err(_) => refuse_arguments(errors, true),
+    }
 }

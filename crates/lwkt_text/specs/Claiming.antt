@@ -20,7 +20,7 @@ use Rattle.lwkt_text.specs.declared.words.Word.{Word}
 use Rattle.lwkt_text.specs.declared.wrongs.Wanted.TheVariants as wanted
 use Rattle.lwkt_text.specs.declared.wrongs.What.TheVariants as whats
 use Rattle.lwkt_text.specs.declared.wrongs.Wrong.{Wrong}
-use Rattle.lwkt_text.specs.Looking.{text_at, is_at, part, demand, ended, wrong_at, number_of, number_at}
+use Rattle.lwkt_text.specs.Looking.{text_at, is_at, part, demand, ended, wrong_at, number_of, number_at, bytes_at}
 use Rattle.lwkt_text.specs.Naming.{token_at, message_at, cell_at, named_thread}
 use Rattle.lwkt_text.specs.Outcome.{◌>>=◌, ◌>>◌}
 use Rattle.lwkt_text.specs.Stepping.{call_at, call_end, last_number}
@@ -130,6 +130,10 @@ subject names ws = part ws 1 whats.Thread (named_thread names (text_at ws 1))
 abbrev pub saw : List Word → Result Entry Wrong
 saw ws = number_at ws 3 0 18446744073709551615 >>= λ n. ended ws 4 >> Ok (entries.Value n)
 
+-- `found BYTES`
+abbrev pub found : List Word → Result Entry Wrong
+found ws = bytes_at ws 3 64 >>= λ blob. ended ws 4 >> Ok (entries.Bytes blob)
+
 -- `refused N`
 abbrev pub refused : List Word → Result Entry Wrong
 refused ws = number_at ws 3 0 255 >>= λ n. ended ws 4 >> Ok (entries.Refused n)
@@ -166,11 +170,12 @@ stands names ws = subject names ws >>= λ id. standing_at ws >>= λ s. ended ws 
 abbrev pub lies : Names → List Word → Result Claim Wrong
 lies names ws = message_at names ws 1 >>= λ m. state_at ws >>= λ s. ended ws 4 >> Ok (claims.Lies m s)
 
--- what is said of messages, states and sums
+-- what is said of messages, states and sums, or of a record that was read
 abbrev pub other_claim : Names → List Word → Result Claim Wrong
 other_claim names ws =
+    if is_at ws 2 (codes "found") then logged names ws (found ws) else (
     if is_at ws 2 (codes "is") then stands names ws else (
-    if is_at ws 2 (codes "at") then lies names ws else compared names ws)
+    if is_at ws 2 (codes "at") then lies names ws else compared names ws))
 
 -- what is said of a thread's log, or else
 abbrev pub about : Names → List Word → Result Claim Wrong

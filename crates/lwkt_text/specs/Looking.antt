@@ -1,8 +1,9 @@
 -- What the words of a sentence say, by their places (own).
-use Rattle.std.specs.Prelude.{ℕ, ◌+◌, ◌-◌, ◌*◌, ◌==◌, ◌&&◌, ◌||◌, nat_le, List, [], ◌∷◌, length, slice_get, Bool, false, bytes_eq, if◌then◌else◌, Option, Some, None, option_map, option_and_then, unwrap_or, Result, Ok, Err, ⊤}
+use Rattle.std.specs.Prelude.{ℕ, ◌+◌, ◌-◌, ◌*◌, ◌==◌, ◌&&◌, ◌||◌, nat_le, List, [], ◌∷◌, length, slice_get, codes, Bool, false, bytes_eq, if◌then◌else◌, Option, Some, None, option_map, option_and_then, unwrap_or, Result, Ok, Err, ⊤}
+use Rattle.lwkt_script.specs.Record.{blob_of}
 use Rattle.lwkt_text.specs.declared.words.Word.{Word}
 use Rattle.lwkt_text.specs.declared.wrongs.What.{What}
-use Rattle.lwkt_text.specs.declared.wrongs.What.TheVariants.{Number, Further, Name}
+use Rattle.lwkt_text.specs.declared.wrongs.What.TheVariants.{Number, Bytes, Further, Name}
 use Rattle.lwkt_text.specs.declared.wrongs.Wrong.{Wrong}
 
 -- the characters of word i, and none behind the last word
@@ -59,6 +60,14 @@ within low high n = if nat_le low n && nat_le n high then Some n else None
 -- word i, a number within limits
 abbrev pub number_at : List Word → ℕ → ℕ → ℕ → Result ℕ Wrong
 number_at ws i low high = part ws i (Number low high) (option_and_then (within low high) (number_of (text_at ws i)))
+
+-- the record that a word is: two small hexadecimal digits for each byte, or - for none
+abbrev pub bytes_of : ℕ → List ℕ → Option (List ℕ)
+bytes_of most text = if length text == 0 then None else (if bytes_eq text (codes "-") then Some [] else blob_of most text)
+
+-- word i, a record of at most so many bytes
+abbrev pub bytes_at : List Word → ℕ → ℕ → Result (List ℕ) Wrong
+bytes_at ws i most = part ws i (Bytes most) (bytes_of most (text_at ws i))
 
 -- the place behind a key and its value, where word i is this key, and else i
 abbrev pub after : List Word → ℕ → List ℕ → ℕ

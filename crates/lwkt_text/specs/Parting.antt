@@ -5,6 +5,7 @@ use Rattle.lwkt_base.specs.declared.laws.Law.TheVariants.{Any, Sum, Order, Cap, 
 use Rattle.lwkt_base.specs.declared.openings.MsgSpec.{MsgSpec}
 use Rattle.lwkt_base.specs.declared.openings.TokSpec.{TokSpec}
 use Rattle.lwkt_script.specs.Member.{law_of, allows}
+use Rattle.lwkt_script.specs.Record.{may_guard}
 use Rattle.lwkt_text.specs.declared.parts.CellList.{CellList}
 use Rattle.lwkt_text.specs.declared.parts.Head.{Head}
 use Rattle.lwkt_text.specs.declared.tables.Names.{Names}
@@ -12,7 +13,7 @@ use Rattle.lwkt_text.specs.declared.words.Word.{Word}
 use Rattle.lwkt_text.specs.declared.wrongs.Wanted.TheVariants as wanted
 use Rattle.lwkt_text.specs.declared.wrongs.What.TheVariants as whats
 use Rattle.lwkt_text.specs.declared.wrongs.Wrong.{Wrong}
-use Rattle.lwkt_text.specs.Looking.{text_at, is_at, demand, ended, number_of, number_at, optional, after, is_name}
+use Rattle.lwkt_text.specs.Looking.{text_at, is_at, demand, ended, number_of, number_at, bytes_at, optional, after, is_name}
 use Rattle.lwkt_text.specs.Naming.{thread_at, thread_length}
 use Rattle.lwkt_text.specs.Outcome.{◌>>=◌, ◌>>◌}
 
@@ -75,22 +76,33 @@ law_at ws = unwrap_or (law_said ws) Any
 abbrev pub param_of : List Word → Result ℕ Wrong
 param_of ws = if has_param ws then number_at ws 3 0 18446744073709551615 else (demand ws (law_end ws) (whats.Number 0 18446744073709551615) (asks_nothing (law_at ws)) >> Ok 0)
 
+-- where `record` may stand
+abbrev pub guard_place : List Word → ℕ
+guard_place ws = after ws (param_end ws) (codes "gen")
+
+-- the record that a token's sentence tells, if it tells one
+abbrev pub guard_of : List Word → Result (Option (List ℕ)) Wrong
+guard_of ws = if is_at ws (guard_place ws) (codes "record") then (bytes_at ws (guard_place ws + 1) 64 >>= λ blob. Ok (Some blob)) else Ok None
+
 -- where `cells` may stand
 abbrev pub cells_place : List Word → ℕ
-cells_place ws = after ws (param_end ws) (codes "gen")
+cells_place ws = after ws (guard_place ws) (codes "record")
 
 -- the cells that a token's sentence tells
 abbrev pub cells_in : List Word → Result CellList Wrong
 cells_in ws = if is_at ws (cells_place ws) (codes "cells") then cells_at ws (cells_place ws + 1) else (ended ws (cells_place ws) >> Ok no_cells)
 
--- `token NAME LAW N gen N cells ..`: the law is any where it is left out, the generation 0, and there are no cells; it has no record
+-- `token NAME LAW N gen N record BYTES cells ..`: the law is any where it is left out, the generation 0, and there are no cells and no
+-- record
 unfoldable pub token_of : List Word → Result TokSpec Wrong
 token_of ws = do
   param ← param_of ws
   generation ← optional ws (param_end ws) (codes "gen") 0 70368744177663 0
+  blob ← guard_of ws
   cells ← cells_in ws
   demand ws (length ws) whats.CellCount (allows (law_at ws) (length cells.values))
-  Ok (record { cells = cells.values; law = law_at ws; param = param; generation = generation; blob = None })
+  demand ws (length ws) whats.Guard (may_guard (law_at ws) blob)
+  Ok (record { cells = cells.values; law = law_at ws; param = param; generation = generation; blob = blob })
 
 -- `message NAME of THREAD round N`: the round is 0 where it is left out
 unfoldable pub message_of : Names → List Word → Result MsgSpec Wrong

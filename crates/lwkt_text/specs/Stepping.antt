@@ -12,7 +12,7 @@ use Rattle.lwkt_text.specs.declared.words.Word.{Word}
 use Rattle.lwkt_text.specs.declared.wrongs.Wanted.TheVariants.{Arrow}
 use Rattle.lwkt_text.specs.declared.wrongs.What.TheVariants as whats
 use Rattle.lwkt_text.specs.declared.wrongs.Wrong.{Wrong}
-use Rattle.lwkt_text.specs.Looking.{is_at, demand, ended, wrong_at, number_at, optional, after}
+use Rattle.lwkt_text.specs.Looking.{is_at, demand, ended, wrong_at, number_at, bytes_at, optional, after}
 use Rattle.lwkt_text.specs.Naming.{token_at, message_at, cell_at, thread_at, thread_length}
 use Rattle.lwkt_text.specs.Outcome.{◌>>=◌, ◌>>◌}
 
@@ -52,13 +52,20 @@ sending_of names ws = do
 abbrev pub past : List Word → ℕ → List ℕ → ℕ
 past ws i text = if is_at ws i text then i + 1 else i
 
--- `dropable abortable` from word i on, as they are there
+-- the place behind `dropable`, and behind `dropable abortable`, as they are there from word i on
+abbrev pub past_dropable : List Word → ℕ → ℕ
+past_dropable ws i = past ws i (codes "dropable")
+
+abbrev pub past_abortable : List Word → ℕ → ℕ
+past_abortable ws i = past ws (past_dropable ws i) (codes "abortable")
+
+-- `dropable abortable priority` from word i on, as they are there
 abbrev pub flags_at : List Word → ℕ → Flags
-flags_at ws i = record { dropable = is_at ws i (codes "dropable"); abortable = is_at ws (past ws i (codes "dropable")) (codes "abortable"); priority = false }
+flags_at ws i = record { dropable = is_at ws i (codes "dropable"); abortable = is_at ws (past_dropable ws i) (codes "abortable"); priority = is_at ws (past_abortable ws i) (codes "priority") }
 
 -- the place behind them
 abbrev pub flags_end : List Word → ℕ → ℕ
-flags_end ws i = past ws (past ws i (codes "dropable")) (codes "abortable")
+flags_end ws i = past ws (past_abortable ws i) (codes "priority")
 
 abbrev pub do_of : Names → List Word → Result Ask Wrong
 do_of names ws = sending_of names ws >>= λ s. ended ws s.end >> Ok (asks.Do s.msg s.to s.call)
@@ -88,6 +95,12 @@ write_of names ws = cell_at names ws 1 >>= λ p. number_at ws 4 0 18446744073709
 abbrev pub add_of : Names → List Word → Result Ask Wrong
 add_of names ws = token_at names ws 1 >>= λ tok. number_at ws 2 0 18446744073709551615 >>= λ k. ended ws 3 >> Ok (asks.Add tok k)
 
+abbrev pub rrec_of : Names → List Word → Result Ask Wrong
+rrec_of names ws = only_token names ws >>= λ tok. Ok (asks.ReadBlob tok)
+
+abbrev pub wrec_of : Names → List Word → Result Ask Wrong
+wrec_of names ws = token_at names ws 1 >>= λ tok. bytes_at ws 2 65 >>= λ blob. ended ws 3 >> Ok (asks.WriteBlob tok blob)
+
 -- an ask of a processor
 abbrev pub plain_ask : List Word → Result Ask Wrong
 plain_ask ws =
@@ -114,10 +127,16 @@ cell_ask names ws =
     if is_at ws 0 (codes "write") then write_of names ws else (
     if is_at ws 0 (codes "add") then add_of names ws else message_ask names ws))
 
+-- an ask of a record
+abbrev pub record_ask : Names → List Word → Result Ask Wrong
+record_ask names ws =
+    if is_at ws 0 (codes "rrec") then rrec_of names ws else (
+    if is_at ws 0 (codes "wrec") then wrec_of names ws else cell_ask names ws)
+
 -- the ask of a step
 abbrev pub ask_of : Names → List Word → Result Ask Wrong
 ask_of names ws =
     if is_at ws 0 (codes "get") then (only_token names ws >>= λ t. Ok (asks.Get t)) else (
     if is_at ws 0 (codes "gets") then (only_token names ws >>= λ t. Ok (asks.GetShared t)) else (
     if is_at ws 0 (codes "try") then (only_token names ws >>= λ t. Ok (asks.TryGet t)) else (
-    if is_at ws 0 (codes "rel") then (only_token names ws >>= λ t. Ok (asks.Rel t)) else cell_ask names ws)))
+    if is_at ws 0 (codes "rel") then (only_token names ws >>= λ t. Ok (asks.Rel t)) else record_ask names ws)))

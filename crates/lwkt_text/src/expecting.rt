@@ -1,9 +1,9 @@
 ghost use Rattle.std.specs.Prelude.{◌≡◌, ◌≤◌, ◌+◌, length, IfOk, Ok};
 ghost use Rattle.lwkt_text.specs.Outcome.{Gives};
-ghost use Rattle.lwkt_text.specs.Claiming.{tally_at, generation_at, round_at, plain_at, cell_term_at, named_term, term_at, sum_at, relation_of, relation_at, compared, standing_of, place_of, standing_at, state_at, subject, saw, refused, aborted, empty, took, lost, answered, logged, stands, lies, other_claim, about, faulted, alone, claim_of};
+ghost use Rattle.lwkt_text.specs.Claiming.{tally_at, generation_at, round_at, plain_at, cell_term_at, named_term, term_at, sum_at, relation_of, relation_at, compared, standing_of, place_of, standing_at, state_at, subject, saw, found, refused, aborted, empty, took, lost, answered, logged, stands, lies, other_claim, about, faulted, alone, claim_of};
 
 use crate::claims::{Claim, Comparison, Quantity, Relation, Standing};
-use crate::looks::{demand, ended, is_at, number_at, number_of, text_at, wrong_at};
+use crate::looks::{bytes_at, demand, ended, is_at, number_at, number_of, text_at, wrong_at};
 use crate::many::Many;
 use crate::slips::checked;
 use crate::steps::{call_at, call_end, last_number};
@@ -258,6 +258,15 @@ fn saw(words: &[Word]) -> Result<Entry, Wrong>
     Ok(Entry::Value(n))
 }
 
+// `found BYTES`
+fn found(words: &[Word]) -> Result<Entry, Wrong>
+    ensures { result ≡ found words.now }
+{
+    let blob = bytes_at(words, 3, 64)?;
+    ended(words, 4)?;
+    Ok(Entry::Bytes(blob))
+}
+
 // `refused N`
 fn refused(words: &[Word]) -> Result<Entry, Wrong>
     ensures { result ≡ refused words.now }
@@ -343,12 +352,13 @@ fn lies(names: &Names, words: &[Word]) -> Result<Claim, Wrong>
     Ok(Claim::Lies(msg, state))
 }
 
-// What is said of messages, states and sums.
+// What is said of messages, states and sums, or of a record that was read.
 fn other_claim(alloc: Global, names: &Names, words: &[Word]) -> Result<Claim, Slip>
     requires { length words.now ≤ 1000 }
     ensures { Gives result (other_claim names.now words.now) }
 {
     match text_at(words, 2) {
+        "found" => checked(logged(names, words, found(words))),
         "is" => checked(stands(names, words)),
         "at" => checked(lies(names, words)),
         _ => compared(alloc, names, words),

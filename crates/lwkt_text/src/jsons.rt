@@ -6,8 +6,9 @@ ghost use Rattle.lwkt_script.specs.Limits.{IsWithinLimits};
 use crate::pages::Sheet;
 use crate::sames::same_script;
 use crate::unsaid::Unsaid;
-use lwkt_base::{Ask, Call, Fault, Flags, Law, MsgId, MsgSpec, ThreadId, TokSpec};
-use lwkt_script::{Script, ThreadSpec, read_script};
+use lwkt_base::hexes::digits_of;
+use lwkt_base::{Ask, Blob, Call, Fault, Flags, Law, MsgId, MsgSpec, ThreadId, TokSpec};
+use lwkt_script::{Script, ThreadSpec, Version, read_script};
 use std::alloc::{AllocError, Global};
 
 /// The name of a law.
@@ -22,13 +23,72 @@ pub fn law_name(law: Law) -> &'static str {
     }
 }
 
-fn write_token(page: &mut Sheet, token: &TokSpec) -> Result<(), AllocError> {
+// Whether a token needs a version with records.
+fn is_guarded(token: &TokSpec) -> bool {
+    token.law == Law::Len || token.blob.is_some()
+}
+
+// Whether an ask needs a version with records and messages sent with priority.
+fn is_of_second(ask: &Ask) -> bool {
+    match ask {
+        Ask::ReadBlob(_) | Ask::WriteBlob(..) => true,
+        Ask::Send(_, _, _, flags) => flags.priority,
+        _ => false,
+    }
+}
+
+// The least version in which a script can be written.
+fn version_for(script: &Script) -> Version {
+    for token in script.tokens.as_slice() {
+        if is_guarded(token) {
+            return Version::Second;
+        }
+    }
+    for thread in script.threads.as_slice() {
+        if thread.steps.as_slice().iter().any(is_of_second) {
+            return Version::Second;
+        }
+    }
+    Version::First
+}
+
+/// Writes the bytes of a record, two digits for each.
+pub(crate) fn write_bytes(page: &mut Sheet, blob: &Blob) -> Result<(), AllocError> {
+    for byte in blob.as_slice() {
+        let (high, low) = digits_of(*byte);
+        page.text(high)?;
+        page.text(low)?;
+    }
+    // A record that is too long for every token has 65 bytes, of which 64 are kept.
+    if blob.len() > 64 {
+        page.text("00")
+    } else {
+        Ok(())
+    }
+}
+
+// What a token of the second version says of its record.
+fn write_record(page: &mut Sheet, blob: &Option<Blob>) -> Result<(), AllocError> {
+    match blob {
+        None => page.text(", \"record\": null"),
+        Some(blob) => {
+            page.text(", \"record\": \"")?;
+            write_bytes(page, blob)?;
+            page.text("\"")
+        }
+    }
+}
+
+fn write_token(page: &mut Sheet, version: Version, token: &TokSpec) -> Result<(), AllocError> {
     page.text("{\"cells\": [")?;
     page.numbers(", ", token.cells.as_slice())?;
     page.text("], \"law\": \"")?;
     page.text(law_name(token.law))?;
     page.tagged("\", \"param\": ", token.param)?;
     page.tagged(", \"gen\": ", token.generation)?;
+    if version.is_second() {
+        write_record(page, &token.blob)?;
+    }
     page.text("}")
 }
 
@@ -101,6 +161,13 @@ fn write_more(page: &mut Sheet, ask: Ask) -> Result<(), AllocError> {
             page.tagged(", ", value)
         }
         Ask::Add(tok, more) => write_two(page, "add", tok.0, more),
+        Ask::ReadBlob(tok) => write_one(page, "rrec", tok.0),
+        Ask::WriteBlob(tok, blob) => {
+            write_one(page, "wrec", tok.0)?;
+            page.text(", \"")?;
+            write_bytes(page, &blob)?;
+            page.text("\"")
+        }
         Ask::Reply(msg, error, outcome) => {
             write_two(page, "reply", msg.0, u64::from(error))?;
             page.tagged(", ", outcome)
@@ -136,10 +203,10 @@ fn break_line(page: &mut Sheet, i: usize) -> Result<(), AllocError> {
     page.text(if i > 0 { ",\n    " } else { "\n    " })
 }
 
-fn write_tokens(page: &mut Sheet, tokens: &[TokSpec]) -> Result<(), AllocError> {
+fn write_tokens(page: &mut Sheet, version: Version, tokens: &[TokSpec]) -> Result<(), AllocError> {
     for (i, token) in tokens.iter().enumerate() {
         break_line(page, i)?;
-        write_token(page, token)?;
+        write_token(page, version, token)?;
     }
     Ok(())
 }
@@ -163,11 +230,17 @@ fn write_threads(page: &mut Sheet, threads: &[ThreadSpec]) -> Result<(), AllocEr
 // The JSON text of a script, whatever it holds.
 fn written(alloc: Global, script: &Script) -> Result<String, AllocError> {
     let mut page = Sheet::new(alloc);
-    page.tagged("{\"version\": 1, \"turns\": ", u64::from(script.turns))?;
+    let version = version_for(script);
+    page.text(if version.is_second() {
+        "{\"version\": 2"
+    } else {
+        "{\"version\": 1"
+    })?;
+    page.tagged(", \"turns\": ", u64::from(script.turns))?;
     page.tagged(", \"idle\": ", u64::from(script.idle))?;
     page.tagged(", \"cpus\": ", u64::from(script.cpus))?;
     page.text(",\n  \"tokens\": [")?;
-    write_tokens(&mut page, script.tokens.as_slice())?;
+    write_tokens(&mut page, version, script.tokens.as_slice())?;
     page.text("],\n  \"messages\": [")?;
     write_messages(&mut page, script.messages.as_slice())?;
     page.text("],\n  \"threads\": [")?;

@@ -1,9 +1,11 @@
 // What the words of a sentence say, by their places.
-ghost use Rattle.std.specs.Prelude.{◌≡◌, ◌≤◌, ◌+◌, option_and_then, IfSome, IfOk};
-ghost use Rattle.lwkt_text.specs.Looking.{text_at, is_at, end_of, place_at, wrong_at, part, demand, ended, digit_added, digits, number_of, within, number_at, after, optional, is_name, name_at};
+ghost use Rattle.std.specs.Prelude.{◌≡◌, ◌≤◌, ◌+◌, length, option_and_then, IfSome, IfOk};
+ghost use Rattle.lwkt_text.specs.Looking.{text_at, is_at, end_of, place_at, wrong_at, part, demand, ended, digit_added, digits, number_of, within, number_at, bytes_of, bytes_at, after, optional, is_name, name_at};
 
 use crate::words::Word;
 use crate::wrongs::{What, Wrong};
+use lwkt_base::Blob;
+use lwkt_script::records::blob_of;
 
 /// The characters of word i, and none behind the last word.
 pub fn text_at(words: &[Word], i: usize) -> &str
@@ -113,6 +115,33 @@ pub fn number_at(words: &[Word], i: usize, low: u64, high: u64) -> Result<u64, W
     match number_within(text_at(words, i), low, high) {
         Some(n) => Ok(n),
         None => Err(wrong_at(words, i, What::Number { low, high })),
+    }
+}
+
+// The record of at most so many bytes that a word is.
+fn bytes_of(most: usize, text: &str) -> Option<Blob>
+    requires { most ≤ 65 }
+    ensures exact { result ≡ bytes_of most text.now }
+    ensures short { IfSome result (λ blob. length blob ≤ most) }
+{
+    if text.is_empty() {
+        return None;
+    }
+    if text == "-" {
+        return Some(Blob::of(&[]));
+    }
+    blob_of(most, text.as_bytes())
+}
+
+/// Word i, a record of at most so many bytes.
+pub fn bytes_at(words: &[Word], i: usize, most: usize) -> Result<Blob, Wrong>
+    requires { most ≤ 65 }
+    ensures exact { result ≡ bytes_at words.now i most }
+    ensures short { IfOk result (λ blob. length blob ≤ most) }
+{
+    match bytes_of(most, text_at(words, i)) {
+        Some(blob) => Ok(blob),
+        None => Err(wrong_at(words, i, What::Bytes { most })),
     }
 }
 

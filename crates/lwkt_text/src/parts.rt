@@ -1,17 +1,20 @@
-ghost use Rattle.std.specs.Prelude.{◌≡◌, ◌≤◌, ◌<◌, ◌+◌, length, drop, IfOk, IfErr, OnOk, OnErr, Ok, Err};
+ghost use Rattle.std.specs.Prelude.{◌≡◌, ◌≤◌, ◌<◌, ◌+◌, length, drop, IfSome, IfOk, IfErr, OnOk, OnErr, Ok, Err};
 ghost use Rattle.lwkt_script.specs.Limits.{IsToken, IsMessage};
 ghost use Rattle.lwkt_script.specs.Member.{law_of, allows};
 ghost use Rattle.lwkt_text.specs.Outcome.{Gives, Fails};
-ghost use Rattle.lwkt_text.specs.Parting.{no_cells, cell_added, cell_named, cell_told, cells_told, cells_at, law_said, law_end, has_param, param_end, asks_nothing, law_at, param_of, cells_place, cells_in, token_of, message_of, head_of};
+ghost use Rattle.lwkt_text.specs.Parting.{no_cells, cell_added, cell_named, cell_told, cells_told, cells_at, law_said, law_end, has_param, param_end, asks_nothing, law_at, param_of, guard_place, guard_of, cells_place, cells_in, token_of, message_of, head_of};
 
-use crate::looks::{after, demand, ended, is_at, is_name, number_at, number_of, optional, text_at};
+use crate::looks::{
+    after, bytes_at, demand, ended, is_at, is_name, number_at, number_of, optional, text_at,
+};
 use crate::many::Many;
 use crate::names::Name;
 use crate::slips::checked;
 use crate::tables::{Names, thread_at, thread_length};
 use crate::words::Word;
 use crate::wrongs::{Slip, Wanted, What, Wrong};
-use lwkt_base::{Cells, CpuId, Law, MsgSpec, TokSpec};
+use lwkt_base::{Blob, Cells, CpuId, Law, MsgSpec, TokSpec};
+use lwkt_script::records::may_guard;
 use std::alloc::Global;
 
 /// Cells that were told so far.
@@ -132,6 +135,7 @@ fn law_of(name: &str) -> Option<Law>
         "order" => Some(Law::Order),
         "cap" => Some(Law::Cap),
         "tally" => Some(Law::Tally),
+        "len" => Some(Law::Len),
         _ => None,
     }
 }
@@ -194,12 +198,33 @@ fn param_of(words: &[Word]) -> Result<u64, Wrong>
     Ok(0)
 }
 
-// Where `cells` may stand.
-fn cells_place(words: &[Word]) -> usize
-    ensures exact { result ≡ cells_place words.now }
+// Where `record` may stand.
+fn guard_place(words: &[Word]) -> usize
+    ensures exact { result ≡ guard_place words.now }
     ensures most { result ≤ 6 }
 {
     after(words, param_end(words), "gen")
+}
+
+// The record that a token's sentence tells, if it tells one.
+fn guard_of(words: &[Word]) -> Result<Option<Blob>, Wrong>
+    ensures exact { result ≡ guard_of words.now }
+    ensures short { IfOk result (λ guard. IfSome guard (λ blob. length blob ≤ 64)) }
+{
+    let place = guard_place(words);
+    if !is_at(words, place, "record") {
+        return Ok(None);
+    }
+    let blob = bytes_at(words, place + 1, 64)?;
+    Ok(Some(blob))
+}
+
+// Where `cells` may stand.
+fn cells_place(words: &[Word]) -> usize
+    ensures exact { result ≡ cells_place words.now }
+    ensures most { result ≤ 8 }
+{
+    after(words, guard_place(words), "record")
 }
 
 /// The cells that a token's sentence tells.
@@ -234,16 +259,19 @@ pub fn token_of(alloc: Global, words: &[Word]) -> Result<TokSpec, Slip>
     let param = checked(param_of(words))?;
     let end = param_end(words);
     let generation = checked(optional(words, end, "gen", 0, LAST_GENERATION, 0))?;
+    let blob = checked(guard_of(words))?;
     let cells = cells_in(alloc, words)?;
     let law = law_at(words);
     let is_allowed = allows(law, cells.values.len());
     checked(demand(words, words.len(), What::CellCount, is_allowed))?;
+    let is_guarded = may_guard(law, &blob);
+    checked(demand(words, words.len(), What::Guard, is_guarded))?;
     Ok(TokSpec {
         cells: Cells::from_vec(cells.values.into_vec()),
         law,
         param,
         generation,
-        blob: None,
+        blob,
     })
 }
 

@@ -1,8 +1,9 @@
 // Whether two scripts are the same.
 ghost use Rattle.std.specs.Prelude.{◌≡◌, IsTrue};
+ghost use Rattle.lwkt_base.specs.declared.asks.Ask.TheVariants.{WriteBlob};
 
 use lwkt_base::blobs::are_same;
-use lwkt_base::{Ask, MsgSpec, TokSpec};
+use lwkt_base::{Ask, Blob, MsgSpec, TokId, TokSpec};
 use lwkt_script::{Script, ThreadSpec};
 
 // Whether two tokens are the same.
@@ -30,10 +31,24 @@ fn same_tokens(ones: &[TokSpec], others: &[TokSpec]) -> bool
     true
 }
 
+// Whether an ask stores this record in this token.
+fn is_storing(ask: &Ask, tok: TokId, blob: &Blob) -> bool
+    ensures { IsTrue result → ask.now ≡ WriteBlob tok blob.now }
+{
+    match ask {
+        Ask::WriteBlob(other, stored) => *other == tok && stored.is_same(blob),
+        _ => false,
+    }
+}
+
+// Whether two asks are the same.
 fn same_ask(one: &Ask, other: &Ask) -> bool
     ensures { IsTrue result → one.now ≡ other.now }
 {
-    *one == *other
+    match one {
+        Ask::WriteBlob(tok, blob) => is_storing(other, *tok, blob),
+        _ => *one == *other,
+    }
 }
 
 fn same_steps(ones: &[Ask], others: &[Ask]) -> bool

@@ -1,7 +1,7 @@
 ghost use Rattle.std.specs.Prelude.{◌≡◌, ◌≤◌, ◌+◌, IfOk};
-ghost use Rattle.lwkt_text.specs.Stepping.{only_token, only_message, alone, call_at, call_end, sending_of, past, flags_at, flags_end, do_of, send_of, last_number, reply_of, read_of, write_of, add_of, plain_ask, message_ask, cell_ask, ask_of};
+ghost use Rattle.lwkt_text.specs.Stepping.{only_token, only_message, alone, call_at, call_end, sending_of, past, past_dropable, past_abortable, flags_at, flags_end, do_of, send_of, last_number, reply_of, read_of, write_of, add_of, rrec_of, wrec_of, plain_ask, message_ask, cell_ask, record_ask, ask_of};
 
-use crate::looks::{after, demand, ended, is_at, number_at, optional, text_at, wrong_at};
+use crate::looks::{after, bytes_at, demand, ended, is_at, number_at, optional, text_at, wrong_at};
 use crate::tables::{Names, cell_at, message_at, thread_at, thread_length, token_at};
 use crate::words::Word;
 use crate::wrongs::{Wanted, What, Wrong};
@@ -92,15 +92,33 @@ fn past(words: &[Word], i: usize, text: &str) -> usize
     if is_at(words, i, text) { i + 1 } else { i }
 }
 
-// `dropable abortable` from word i on, as they are there.
+// The place behind `dropable`.
+fn past_dropable(words: &[Word], i: usize) -> usize
+    requires { i ≤ 100 }
+    ensures exact { result ≡ past_dropable words.now i }
+    ensures most { result ≤ i + 1 }
+{
+    past(words, i, "dropable")
+}
+
+// The place behind `dropable abortable`.
+fn past_abortable(words: &[Word], i: usize) -> usize
+    requires { i ≤ 100 }
+    ensures exact { result ≡ past_abortable words.now i }
+    ensures most { result ≤ i + 2 }
+{
+    past(words, past_dropable(words, i), "abortable")
+}
+
+// `dropable abortable priority` from word i on, as they are there.
 fn flags_at(words: &[Word], i: usize) -> Flags
     requires { i ≤ 100 }
     ensures { result ≡ flags_at words.now i }
 {
     Flags {
         dropable: is_at(words, i, "dropable"),
-        abortable: is_at(words, past(words, i, "dropable"), "abortable"),
-        priority: false,
+        abortable: is_at(words, past_dropable(words, i), "abortable"),
+        priority: is_at(words, past_abortable(words, i), "priority"),
     }
 }
 
@@ -109,7 +127,7 @@ fn flags_end(words: &[Word], i: usize) -> usize
     requires { i ≤ 100 }
     ensures { result ≡ flags_end words.now i }
 {
-    past(words, past(words, i, "dropable"), "abortable")
+    past(words, past_abortable(words, i), "priority")
 }
 
 fn do_of(names: &Names, words: &[Word]) -> Result<Ask, Wrong>
@@ -177,6 +195,21 @@ fn add_of(names: &Names, words: &[Word]) -> Result<Ask, Wrong>
     Ok(Ask::Add(tok, more))
 }
 
+fn rrec_of(names: &Names, words: &[Word]) -> Result<Ask, Wrong>
+    ensures { result ≡ rrec_of names.now words.now }
+{
+    Ok(Ask::ReadBlob(only_token(names, words)?))
+}
+
+fn wrec_of(names: &Names, words: &[Word]) -> Result<Ask, Wrong>
+    ensures { result ≡ wrec_of names.now words.now }
+{
+    let tok = token_at(names, words, 1)?;
+    let blob = bytes_at(words, 2, 65)?;
+    ended(words, 3)?;
+    Ok(Ask::WriteBlob(tok, blob))
+}
+
 // An ask of a processor.
 fn plain_ask(words: &[Word]) -> Result<Ask, Wrong>
     ensures { result ≡ plain_ask words.now }
@@ -218,6 +251,17 @@ fn cell_ask(names: &Names, words: &[Word]) -> Result<Ask, Wrong>
     }
 }
 
+// An ask of a record.
+fn record_ask(names: &Names, words: &[Word]) -> Result<Ask, Wrong>
+    ensures { result ≡ record_ask names.now words.now }
+{
+    match text_at(words, 0) {
+        "rrec" => rrec_of(names, words),
+        "wrec" => wrec_of(names, words),
+        _ => cell_ask(names, words),
+    }
+}
+
 /// The ask of a step.
 pub fn ask_of(names: &Names, words: &[Word]) -> Result<Ask, Wrong>
     ensures { result ≡ ask_of names.now words.now }
@@ -227,6 +271,6 @@ pub fn ask_of(names: &Names, words: &[Word]) -> Result<Ask, Wrong>
         "gets" => Ok(Ask::GetShared(only_token(names, words)?)),
         "try" => Ok(Ask::TryGet(only_token(names, words)?)),
         "rel" => Ok(Ask::Rel(only_token(names, words)?)),
-        _ => cell_ask(names, words),
+        _ => record_ask(names, words),
     }
 }

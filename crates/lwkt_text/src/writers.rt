@@ -2,12 +2,12 @@
 ghost use Rattle.std.specs.Prelude.{◌≡◌, Ok, IfOk, IsTrue, string_bytes};
 ghost use Rattle.lwkt_text.specs.Reading.{IsTextOf};
 
-use crate::jsons::law_name;
+use crate::jsons::{law_name, write_bytes};
 use crate::pages::Sheet;
 use crate::readers::{Refusal, read_text};
 use crate::sames::same_script;
 use crate::unsaid::Unsaid;
-use lwkt_base::{Ask, Call, Flags, MsgId, MsgSpec, ThreadId, TokId, TokSpec};
+use lwkt_base::{Ask, Blob, Call, Flags, MsgId, MsgSpec, ThreadId, TokId, TokSpec};
 use lwkt_script::{Script, ThreadSpec};
 use std::alloc::{AllocError, Global};
 
@@ -18,6 +18,15 @@ struct Known {
     messages: usize,
 }
 
+// A record: two digits for each byte, or `-` for none.
+fn write_record(page: &mut Sheet, text: &str, blob: &Blob) -> Result<(), AllocError> {
+    page.text(text)?;
+    if blob.is_empty() {
+        return page.text("-");
+    }
+    write_bytes(page, blob)
+}
+
 fn write_token(page: &mut Sheet, i: usize, token: &TokSpec) -> Result<(), AllocError> {
     page.tagged("token t", i as u64)?;
     page.text(": ")?;
@@ -25,6 +34,9 @@ fn write_token(page: &mut Sheet, i: usize, token: &TokSpec) -> Result<(), AllocE
     page.tagged(" ", token.param)?;
     if token.generation > 0 {
         page.tagged(", gen ", token.generation)?;
+    }
+    if let Some(blob) = token.blob {
+        write_record(page, ", record ", &blob)?;
     }
     if !token.cells.as_slice().is_empty() {
         page.text(", cells ")?;
@@ -98,6 +110,9 @@ fn write_flags(page: &mut Sheet, flags: Flags) -> Result<(), AllocError> {
     if flags.abortable {
         page.text(", abortable")?;
     }
+    if flags.priority {
+        page.text(", priority")?;
+    }
     Ok(())
 }
 
@@ -135,6 +150,11 @@ fn write_more(page: &mut Sheet, known: Known, ask: Ask) -> Result<(), AllocError
         Ask::Add(tok, more) => {
             write_tok(page, known, "add", tok)?;
             page.tagged(" ", more)
+        }
+        Ask::ReadBlob(tok) => write_tok(page, known, "rrec", tok),
+        Ask::WriteBlob(tok, blob) => {
+            write_tok(page, known, "wrec", tok)?;
+            write_record(page, " ", &blob)
         }
         Ask::Reply(msg, error, outcome) => {
             write_msg(page, known, "reply", msg)?;

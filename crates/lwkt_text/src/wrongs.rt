@@ -23,6 +23,10 @@ pub enum What {
     Word(Wanted),
     /// A number, or a name and its number, is wanted among cells.
     CellList,
+    /// A record of at most so many bytes is wanted: two small hexadecimal digits for each, or `-` for none.
+    Bytes { most: usize },
+    /// The law wants a record, or wants none.
+    Guard,
     /// The law doesn't allow so many cells.
     CellCount,
     /// A state of a thread or a place of a message is wanted.

@@ -92,6 +92,30 @@ fn cells(rt: HostRuntime) -> Result<(), Fail> {
 }
 
 #[test]
+fn records(rt: HostRuntime) -> Result<(), Fail> {
+    let alloc = rt.alloc();
+    let short = What::Bytes { most: 64 };
+    let long = What::Bytes { most: 65 };
+    wants(&rt, alloc, "token a record 616", 1, 15, short);
+    wants(&rt, alloc, "token a record AA", 1, 15, short);
+    wants(&rt, alloc, "token a record", 1, 14, short);
+    wants(&rt, alloc, "token a len cells 1", 1, 19, What::Guard);
+    wants(&rt, alloc, "token a len record 61", 1, 21, What::CellCount);
+    wants(
+        &rt,
+        alloc,
+        "token a tally 5 record 61 cells 5",
+        1,
+        33,
+        What::Guard,
+    );
+    wants(&rt, alloc, "thread t on 0; wrec 0", 1, 21, long);
+    wants(&rt, alloc, "thread t on 0; wrec 0 6", 1, 22, long);
+    wants(&rt, alloc, "thread t on 0; rrec 0 61", 1, 22, What::Further);
+    Ok(())
+}
+
+#[test]
 fn all_faults_of_a_text(rt: HostRuntime) -> Result<(), Fail> {
     let alloc = rt.alloc();
     // an unknown token, an unknown message, an unknown thread

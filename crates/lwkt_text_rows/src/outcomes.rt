@@ -1,5 +1,5 @@
 // What texts say of outcomes, over outcomes made by hand.
-use lwkt_base::{Cells, CpuId, Entry, MsgEnd, Owner, ThreadId, ThreadState, TokList};
+use lwkt_base::{Blob, Cells, CpuId, Entry, MsgEnd, Owner, ThreadId, ThreadState, TokList};
 use lwkt_litmus::is_met;
 use lwkt_report::{Closing, Log, ThreadLine, TokenLine, Verdict};
 use lwkt_text::read_text;
@@ -7,7 +7,8 @@ use std::alloc::{AllocError, Global};
 use std::process::Abort;
 use std::test::Fail;
 
-const PARTS: &str = "token t: tally 4, cells c=4; message m of a; thread a on 0; thread b on 1\n";
+const PARTS: &str =
+    "token t: tally 4, cells c=4; message m of a; thread a on 0; thread b on 1; thread r on 2\n";
 
 fn thread_line(
     alloc: Global,
@@ -26,6 +27,20 @@ fn thread_line(
     })
 }
 
+// A thread that read the record abc, and then an empty one.
+fn reader_line(alloc: Global) -> Result<ThreadLine, AllocError> {
+    let entries = [Entry::Bytes(Blob::of(b"abc")), Entry::Bytes(Blob::of(b""))];
+    Ok(ThreadLine {
+        id: ThreadId {
+            cpu: CpuId(2),
+            thread: 0,
+        },
+        state: ThreadState::Exited,
+        list: TokList::new(),
+        log: Log::from_vec(Vec::from_slice(alloc, &entries)?),
+    })
+}
+
 // An outcome in which the token has this cell, thread a has seen its value, and thread b stands so.
 fn outcome(alloc: Global, cell: u64, state: ThreadState) -> Result<Closing, AllocError> {
     let mut tokens = Vec::new(alloc);
@@ -33,6 +48,7 @@ fn outcome(alloc: Global, cell: u64, state: ThreadState) -> Result<Closing, Allo
         generation: 2,
         cells: Cells::from_vec(Vec::from_slice(alloc, &[cell])?),
         tallies: Some(Cells::from_vec(Vec::from_slice(alloc, &[1, 5])?)),
+        blob: None,
     })?;
     let mut messages = Vec::new(alloc);
     messages.push(MsgEnd {
@@ -42,6 +58,7 @@ fn outcome(alloc: Global, cell: u64, state: ThreadState) -> Result<Closing, Allo
     let mut threads = Vec::new(alloc);
     threads.push(thread_line(alloc, 0, ThreadState::Exited, cell)?)?;
     threads.push(thread_line(alloc, 1, state, 3)?)?;
+    threads.push(reader_line(alloc)?)?;
     Ok(Closing {
         tokens,
         messages,
@@ -110,5 +127,15 @@ fn threads_and_messages(rt: HostRuntime) -> Result<(), Fail> {
     wants(&rt, alloc, "always: a is exited", true)?;
     wants(&rt, alloc, "always: m at rest", true)?;
     wants(&rt, alloc, "never: fault 19", true)?;
+    Ok(())
+}
+
+#[test]
+fn records_that_were_read(rt: HostRuntime) -> Result<(), Fail> {
+    let alloc = rt.alloc();
+    wants(&rt, alloc, "always: r found 616263", true)?;
+    wants(&rt, alloc, "always: r found -", true)?;
+    wants(&rt, alloc, "sometimes: r found 6162", false)?;
+    wants(&rt, alloc, "never: a found 616263", true)?;
     Ok(())
 }

@@ -1,3 +1,2 @@
 pub mod TraceTexts
 pub mod RowTexts
-pub mod GuardTexts

@@ -12,7 +12,8 @@ use Rattle.lwkt_script.specs.Outcome.{◌>>=◌, ◌>>◌, part, demand, each}
 use Rattle.lwkt_trace.specs.declared.traces.Closing.{Closing}
 use Rattle.lwkt_trace.specs.declared.traces.Told.{Told}
 use Rattle.lwkt_trace.specs.declared.traces.Trace.{Trace}
-use Rattle.lwkt_trace.specs.Guard.{guard_in, guarded}
+use Rattle.lwkt_script.specs.Record.{guard_in}
+use Rattle.lwkt_trace.specs.Guard.{guarded}
 use Rattle.lwkt_trace.specs.Words.{event_of, message_end_of}
 
 -- the message after those: there are at most 64

@@ -17,7 +17,7 @@ use Rattle.lwkt_core.specs.declared.events.Place.{Place}
 use Rattle.lwkt_core.specs.declared.events.Place.TheVariants.{AtToken, AtMessage}
 use Rattle.lwkt_script.specs.Field.{item_count, whole}
 use Rattle.lwkt_script.specs.Step.{◌>>=◌, small_at, whole_at}
-use Rattle.lwkt_trace.specs.Guard.{blob_in}
+use Rattle.lwkt_script.specs.Record.{blob_in}
 use Rattle.lwkt_trace.specs.declared.traces.Told.{Told}
 use Rattle.lwkt_trace.specs.declared.traces.Told.TheVariants.{Whole, Given}
 use Rattle.lwkt_trace.specs.declared.words.Subject.{Subject}

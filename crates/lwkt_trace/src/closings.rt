@@ -5,12 +5,12 @@ ghost use Rattle.lwkt_script.specs.Outcome.{Gives, each};
 ghost use Rattle.lwkt_trace.specs.Words.{at_rest, at_other, ended, message_end_of};
 ghost use Rattle.lwkt_trace.specs.Format.{numbers, row, tally, end, blob, blobs, members_of, closing_at, closing};
 
-use crate::guards::guard_in;
 use crate::traces::Closing;
 use lwkt_base::{Blob, Cells, CpuId, Fault, MsgEnd, Owner};
 use lwkt_script::Parts;
 use lwkt_script::fields::{has, has_members, item_count, list_at};
 use lwkt_script::growth::push;
+use lwkt_script::records::guard_in;
 use lwkt_script::steps::{small_at, whole_at};
 use lwkt_script::tokens::cells_of;
 use serde_json::Value;

@@ -4,13 +4,13 @@ ghost use Rattle.lwkt_script.specs.Outcome.{Gives, each};
 ghost use Rattle.lwkt_trace.specs.Words.{with_token, with_message, with_place, or_else, with_round, with_record, round_told, record_told, with_value, with_section, told_at, happened, event_of};
 ghost use Rattle.lwkt_trace.specs.Format.{event};
 
-use crate::guards::blob_in;
 use crate::sections::section_in;
 use crate::traces::Told;
 use lwkt_base::{Blob, CpuId, Fault, MsgId, Section, TokId};
 use lwkt_core::Event;
 use lwkt_script::fields::item_count;
 use lwkt_script::growth::push;
+use lwkt_script::records::blob_in;
 use lwkt_script::steps::{small_at, whole_at};
 use serde_json::Value;
 use std::alloc::Global;

@@ -1,9 +1,10 @@
-ghost use Rattle.std.specs.Prelude.{◌≡◌, ◌≢◌, ◌++◌, OnOk, Some, string_bytes};
+ghost use Rattle.std.specs.Prelude.{◌≡◌, ◌++◌, take, OnOk, Some, string_bytes};
+ghost use Rattle.lwkt_base.specs.Hex.{bytes_text};
 ghost use Rattle.lwkt_core.specs.Events.{place_of};
 ghost use Rattle.lwkt_script.specs.Member.{law_of};
-ghost use Rattle.lwkt_trace.specs.Guard.{any_law_of};
 ghost use Rattle.lwkt_trace.specs.Words.{IsWordOf, place_at, spaced, numbers_text};
 
+use lwkt_base::hexes::show_hex_or_none;
 use lwkt_base::{Blob, Law, MsgId, TokId};
 use lwkt_core::Event;
 use std::alloc::AllocError;
@@ -67,10 +68,9 @@ pub fn subject_of(event: &Event) -> Subject
     }
 }
 
-/// The name of a law: the one that reading a trace takes for it, and but for `Len` reading a script too.
+/// The name of a law: the one that reading a trace, or a script that has the law, takes for it.
 pub fn law_name(law: Law) -> &'static str
-    ensures any { any_law_of result.now ≡ Some law }
-    ensures script { law ≢ Law.Len → law_of result.now ≡ Some law }
+    ensures { law_of result.now ≡ Some law }
 {
     match law {
         Law::Any => "any",
@@ -82,30 +82,11 @@ pub fn law_name(law: Law) -> &'static str
     }
 }
 
-// The hexadecimal digits, by their values.
-const DIGITS: [&str; 16] = [
-    "0", "1", "2", "3", "4", "5", "6", "7", "8", "9", "a", "b", "c", "d", "e", "f",
-];
-
-/// The digits of a byte, the higher first.
-pub fn digits_of(byte: u8) -> (&'static str, &'static str) {
-    (
-        DIGITS[usize::from(byte / 16)],
-        DIGITS[usize::from(byte % 16)],
-    )
-}
-
 /// Appends the bytes of a record that are kept, two digits for each, or `-` where it has none.
-pub fn show_bytes(out: &mut String, blob: &Blob) -> Result<(), AllocError> {
-    if blob.is_empty() {
-        return out.push_str("-");
-    }
-    for byte in blob.as_slice() {
-        let (high, low) = digits_of(*byte);
-        out.push_str(high)?;
-        out.push_str(low)?;
-    }
-    Ok(())
+pub fn show_bytes(out: &mut String, blob: &Blob) -> Result<(), AllocError>
+    ensures { OnOk result (string_bytes out.new ≡ string_bytes out.old ++ bytes_text (take 64 blob.now)) }
+{
+    show_hex_or_none(blob.as_slice(), out)
 }
 
 // Appends numbers, each after a space.

@@ -2,13 +2,13 @@
 use Rattle.std.specs.Prelude.{ℕ, ◌==◌, nat_le, Bool, true, false, List, [], ◌∷◌, Option, Some, None}
 use Rattle.std.specs.List.{list_any}
 use Rattle.lwkt_base.specs.declared.asks.Ask.{Ask}
-use Rattle.lwkt_base.specs.declared.asks.Ask.TheVariants.{Get, GetShared, TryGet, Rel, Swap, Read, Write, Add, Send, Do, Reply, Abort, IsAborted, DropMsg, GetPort, WaitPort, Yield, Exit}
+use Rattle.lwkt_base.specs.declared.asks.Ask.TheVariants.{Get, GetShared, TryGet, Rel, Swap, Read, Write, Add, ReadBlob, WriteBlob, Send, Do, Reply, Abort, IsAborted, DropMsg, GetPort, WaitPort, Yield, Exit}
 use Rattle.lwkt_base.specs.declared.asks.Item.{Item}
 use Rattle.lwkt_base.specs.declared.asks.Item.TheVariants.{Request, Answered}
 use Rattle.lwkt_base.specs.declared.asks.Answer.{Answer}
-use Rattle.lwkt_base.specs.declared.asks.Answer.TheVariants.{Begin, Done, Value, Dropped, Got, NoMsg, Refused}
+use Rattle.lwkt_base.specs.declared.asks.Answer.TheVariants.{Begin, Done, Value, Bytes, Dropped, Got, NoMsg, Refused}
 use Rattle.lwkt_base.specs.declared.entries.Entry.{Entry}
-use Rattle.lwkt_base.specs.declared.entries.Entry.TheVariants.{Value as ValueEntry, Aborted, Request as RequestEntry, Reply as ReplyEntry, NoMessage, Dropped as DroppedEntry, Refused as RefusedEntry}
+use Rattle.lwkt_base.specs.declared.entries.Entry.TheVariants.{Value as ValueEntry, Bytes as BytesEntry, Aborted, Request as RequestEntry, Reply as ReplyEntry, NoMessage, Dropped as DroppedEntry, Refused as RefusedEntry}
 use Rattle.lwkt_base.specs.Fault.{number_of}
 
 -- the numbers of the faults with which an ask can be refused
@@ -21,6 +21,8 @@ refusals Swap = 15 ∷ 14 ∷ []
 refusals (Read tok cell) = 16 ∷ 17 ∷ 13 ∷ []
 refusals (Write tok cell value) = 16 ∷ 17 ∷ 13 ∷ 18 ∷ 22 ∷ []
 refusals (Add tok more) = 16 ∷ 13 ∷ 18 ∷ 22 ∷ 21 ∷ []
+refusals (ReadBlob tok) = 16 ∷ 17 ∷ 13 ∷ 37 ∷ []
+refusals (WriteBlob tok blob) = 16 ∷ 17 ∷ 13 ∷ 37 ∷ 38 ∷ []
 refusals (Send msg to call flags) = 30 ∷ 25 ∷ 24 ∷ 36 ∷ []
 refusals (Do msg to call) = 30 ∷ 29 ∷ 25 ∷ 24 ∷ 36 ∷ []
 refusals (Reply msg error outcome) = 31 ∷ 24 ∷ []
@@ -46,6 +48,8 @@ may_be_done Swap = true
 may_be_done (Read tok cell) = false
 may_be_done (Write tok cell value) = true
 may_be_done (Add tok more) = true
+may_be_done (ReadBlob tok) = false
+may_be_done (WriteBlob tok blob) = true
 may_be_done (Send msg to call flags) = true
 may_be_done (Do msg to call) = false
 may_be_done (Reply msg error outcome) = true
@@ -62,6 +66,11 @@ abbrev pub may_give_value : Ask → ℕ → Bool
 may_give_value (Read tok cell) value = true
 may_give_value (IsAborted msg) value = nat_le value 1
 may_give_value _ value = false
+
+-- whether an ask can be answered by a record: a read of one by any
+abbrev pub may_give_bytes : Ask → Bool
+may_give_bytes (ReadBlob tok) = true
+may_give_bytes _ = false
 
 -- whether an ask can be answered by this message's record
 abbrev pub may_drop : Ask → ℕ → Bool
@@ -90,6 +99,7 @@ abbrev pub may_answer : Ask → Answer → Bool
 may_answer ask Begin = false
 may_answer ask Done = may_be_done ask
 may_answer ask (Value value) = may_give_value ask value
+may_answer ask (Bytes blob) = may_give_bytes ask
 may_answer ask (Dropped msg rec) = may_drop ask msg.0
 may_answer ask (Got item) = may_give_item ask item
 may_answer ask NoMsg = may_find_nothing ask
@@ -101,6 +111,7 @@ is_refused None = false
 is_refused (Some Begin) = false
 is_refused (Some Done) = false
 is_refused (Some (Value value)) = false
+is_refused (Some (Bytes blob)) = false
 is_refused (Some (Dropped msg rec)) = false
 is_refused (Some (Got item)) = false
 is_refused (Some NoMsg) = false
@@ -116,6 +127,8 @@ makes_event Swap = false
 makes_event (Read tok cell) = true
 makes_event (Write tok cell value) = true
 makes_event (Add tok more) = true
+makes_event (ReadBlob tok) = true
+makes_event (WriteBlob tok blob) = true
 makes_event (Send msg to call flags) = true
 makes_event (Do msg to call) = true
 makes_event (Reply msg error outcome) = true
@@ -167,6 +180,7 @@ abbrev pub entry_of : Ask → Answer → Option Entry
 entry_of ask Begin = None
 entry_of ask Done = None
 entry_of ask (Value value) = Some (value_entry ask value)
+entry_of ask (Bytes blob) = Some (BytesEntry blob)
 entry_of ask (Dropped msg rec) = Some (DroppedEntry msg (record { arg = rec.arg; op = rec.op }))
 entry_of ask (Got item) = Some (item_entry item)
 entry_of ask NoMsg = Some NoMessage

@@ -1,10 +1,10 @@
 -- The events that an ask makes itself, and those that may stand in a part of a trace unasked (own).
-use Rattle.std.specs.Prelude.{◌≡◌, ℕ, ◌+◌, ◌-◌, ◌==◌, ◌&&◌, nat_lt, Bool, true, false, not, List, [], ◌∷◌, length, slice_get, if◌then◌else◌, Option, Some, None}
+use Rattle.std.specs.Prelude.{◌≡◌, ℕ, ◌+◌, ◌-◌, ◌==◌, ◌&&◌, nat_lt, bytes_eq, Bool, true, false, not, List, [], ◌∷◌, length, slice_get, if◌then◌else◌, Option, Some, None, option_and_then}
 use Rattle.std.specs.Option.{option_map_or}
 use Rattle.lwkt_base.specs.declared.asks.Ask.{Ask}
-use Rattle.lwkt_base.specs.declared.asks.Ask.TheVariants.{Get, GetShared, TryGet, Rel, Swap, Read as ReadAsk, Write as WriteAsk, Add as AddAsk, Send as SendAsk, Do as DoAsk, Reply as ReplyAsk, Abort as AbortAsk, IsAborted, DropMsg as DropAsk, GetPort, WaitPort, Yield, Exit}
+use Rattle.lwkt_base.specs.declared.asks.Ask.TheVariants.{Get, GetShared, TryGet, Rel, Swap, Read as ReadAsk, Write as WriteAsk, Add as AddAsk, ReadBlob as ReadBlobAsk, WriteBlob as WriteBlobAsk, Send as SendAsk, Do as DoAsk, Reply as ReplyAsk, Abort as AbortAsk, IsAborted, DropMsg as DropAsk, GetPort, WaitPort, Yield, Exit}
 use Rattle.lwkt_base.specs.declared.asks.Answer.{Answer}
-use Rattle.lwkt_base.specs.declared.asks.Answer.TheVariants.{Begin, Done, Value, Dropped, Got, NoMsg, Refused}
+use Rattle.lwkt_base.specs.declared.asks.Answer.TheVariants.{Begin, Done, Value, Bytes, Dropped, Got, NoMsg, Refused}
 use Rattle.lwkt_core.specs.declared.events.Event.{Event}
 use Rattle.lwkt_core.specs.declared.events.Event.TheVariants.{Load, Take, Share, Again, Mark, GiveOne, GiveClean, GiveWritten, Read, Write, ReadBlob, WriteBlob, Send, TakeMsg, DropMsg, Reply, Reap, Abort}
 use Rattle.lwkt_core.specs.Events.{adds_reference}
@@ -12,8 +12,12 @@ use Rattle.lwkt_core.specs.Machine.{Machine}
 use Rattle.lwkt_core.specs.Values.{cell_at, first_at}
 use Rattle.lwkt_verdict.specs.Asks.{is_do}
 
--- an event may happen unasked: no read, send, abort or drop may, none of a record, as no ask is of one, and a write only of the
--- cell's value in the first row
+-- the first record of a token, if there is such a token and it has a record
+abbrev pub first_blob_at : Machine → ℕ → Option (List ℕ)
+first_blob_at m tok = option_and_then (λ t. t.first_blob) (slice_get m.tokens tok)
+
+-- an event may happen unasked: no read, send, abort or drop may, a write of a cell only of its value in the first row, and a write of a
+-- record only of the first record
 abbrev pub IsQuiet : Machine → Event → Type 0
 IsQuiet m (Read cpu tok cell value) = ⊥
 IsQuiet m (Send cpu msg to round) = ⊥
@@ -21,7 +25,7 @@ IsQuiet m (Abort cpu msg) = ⊥
 IsQuiet m (DropMsg cpu msg) = ⊥
 IsQuiet m (Write cpu tok cell value) = first_at m tok.0 cell ≡ Some value
 IsQuiet m (ReadBlob cpu tok blob) = ⊥
-IsQuiet m (WriteBlob cpu tok blob) = ⊥
+IsQuiet m (WriteBlob cpu tok blob) = first_blob_at m tok.0 ≡ Some blob
 IsQuiet m (Load cpu tok) = Unit {0}
 IsQuiet m (Take cpu tok) = Unit {0}
 IsQuiet m (Share cpu tok) = Unit {0}
@@ -40,10 +44,23 @@ agrees None value = true
 agrees (Some (Value given)) value = given == value
 agrees (Some Begin) value = false
 agrees (Some Done) value = false
+agrees (Some (Bytes blob)) value = false
 agrees (Some (Dropped msg rec)) value = false
 agrees (Some (Got item)) value = false
 agrees (Some NoMsg) value = false
 agrees (Some (Refused fault)) value = false
+
+-- an answer, if there is one, is this record
+abbrev pub agrees_with_record : Option Answer → List ℕ → Bool
+agrees_with_record None blob = true
+agrees_with_record (Some (Bytes given)) blob = bytes_eq given blob
+agrees_with_record (Some (Value value)) blob = false
+agrees_with_record (Some Begin) blob = false
+agrees_with_record (Some Done) blob = false
+agrees_with_record (Some (Dropped msg rec)) blob = false
+agrees_with_record (Some (Got item)) blob = false
+agrees_with_record (Some NoMsg) blob = false
+agrees_with_record (Some (Refused fault)) blob = false
 
 -- whether an event reads this cell, and the value agrees with the answer
 abbrev pub is_read : ℕ → ℕ → Option Answer → Event → Bool
@@ -54,6 +71,16 @@ is_read tok cell answer _ = false
 abbrev pub is_write : ℕ → ℕ → ℕ → Event → Bool
 is_write tok cell value (Write cpu t c v) = t.0 == tok && c == cell && v == value
 is_write tok cell value _ = false
+
+-- whether an event reads this token's record, and that agrees with the answer
+abbrev pub is_record_read : ℕ → Option Answer → Event → Bool
+is_record_read tok answer (ReadBlob cpu t blob) = t.0 == tok && agrees_with_record answer blob
+is_record_read tok answer _ = false
+
+-- whether an event stores this record in this token
+abbrev pub is_record_write : ℕ → List ℕ → Event → Bool
+is_record_write tok blob (WriteBlob cpu t b) = t.0 == tok && bytes_eq b blob
+is_record_write tok blob _ = false
 
 -- whether an event adds this to the first cell of a token, where that has a value
 abbrev pub is_raise : Option ℕ → ℕ → ℕ → Event → Bool
@@ -80,12 +107,14 @@ abbrev pub is_drop_of : ℕ → Event → Bool
 is_drop_of msg (DropMsg cpu m) = m.0 == msg
 is_drop_of msg _ = false
 
--- whether an event is what an ask makes of this machine, with this answer or none yet: a read that was answered by its value,
--- a write, for an addition of the old value and what is added, a send, a reply, an abort or a drop
+-- whether an event is what an ask makes of this machine, with this answer or none yet: a read that was answered by its value or
+-- record, a write of the value or record that was asked, for an addition of the old value and what is added, a send, a reply, an abort or a drop
 abbrev pub is_own : Machine → Ask → Option Answer → Event → Bool
 is_own m (ReadAsk tok cell) answer e = is_read tok.0 cell answer e
 is_own m (WriteAsk tok cell value) answer e = is_write tok.0 cell value e
 is_own m (AddAsk tok more) answer e = is_raise (cell_at m tok.0 0) tok.0 more e
+is_own m (ReadBlobAsk tok) answer e = is_record_read tok.0 answer e
+is_own m (WriteBlobAsk tok blob) answer e = is_record_write tok.0 blob e
 is_own m (SendAsk msg to call flags) answer e = is_send_of msg.0 to.cpu.0 e
 is_own m (DoAsk msg to call) answer e = is_send_of msg.0 to.cpu.0 e
 is_own m (ReplyAsk msg error outcome) answer e = is_reply_of msg.0 e

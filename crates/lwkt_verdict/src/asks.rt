@@ -1,11 +1,11 @@
 ghost use Rattle.std.specs.Prelude.{◌≡◌, ◌==◌};
-ghost use Rattle.lwkt_verdict.specs.Asks.{refusals, may_refuse, may_be_done, may_give_value, may_drop, is_reply_to, may_give_item, may_find_nothing, may_answer, is_refused, makes_event, is_do, is_exit, may_wait, may_block, value_entry, item_entry, entry_of};
+ghost use Rattle.lwkt_verdict.specs.Asks.{refusals, may_refuse, may_be_done, may_give_value, may_give_bytes, may_drop, is_reply_to, may_give_item, may_find_nothing, may_answer, is_refused, makes_event, is_do, is_exit, may_wait, may_block, value_entry, item_entry, entry_of};
 
 use lwkt_base::{Answer, Ask, Call, Entry, Item};
 
 // The numbers of the faults with which an ask can be refused.
-fn refusals(ask: Ask) -> &'static [u8]
-    ensures { result.now ≡ refusals ask }
+fn refusals(ask: &Ask) -> &'static [u8]
+    ensures { result.now ≡ refusals ask.now }
 {
     match ask {
         Ask::Get(_) => &[16, 10, 11, 20],
@@ -16,6 +16,8 @@ fn refusals(ask: Ask) -> &'static [u8]
         Ask::Read(..) => &[16, 17, 13],
         Ask::Write(..) => &[16, 17, 13, 18, 22],
         Ask::Add(..) => &[16, 13, 18, 22, 21],
+        Ask::ReadBlob(_) => &[16, 17, 13, 37],
+        Ask::WriteBlob(..) => &[16, 17, 13, 37, 38],
         Ask::Send(..) => &[30, 25, 24, 36],
         Ask::Do(..) => &[30, 29, 25, 24, 36],
         Ask::Reply(..) => &[31, 24],
@@ -28,19 +30,20 @@ fn refusals(ask: Ask) -> &'static [u8]
 }
 
 // Whether an ask can be refused with a fault of this number.
-fn may_refuse(ask: Ask, number: u8) -> bool
-    ensures { result ≡ may_refuse ask number }
+fn may_refuse(ask: &Ask, number: u8) -> bool
+    ensures { result ≡ may_refuse ask.now number }
 {
     refusals(ask).iter().any(|n| *n == number)
 }
 
 // Whether an ask can be answered that it is done.
-fn may_be_done(ask: Ask) -> bool
-    ensures { result ≡ may_be_done ask }
+fn may_be_done(ask: &Ask) -> bool
+    ensures { result ≡ may_be_done ask.now }
 {
     !matches!(
         ask,
         Ask::Read(..)
+            | Ask::ReadBlob(_)
             | Ask::Do(..)
             | Ask::IsAborted(_)
             | Ask::DropMsg(_)
@@ -51,8 +54,8 @@ fn may_be_done(ask: Ask) -> bool
 }
 
 // Whether an ask can be answered by this value.
-fn may_give_value(ask: Ask, value: u64) -> bool
-    ensures { result ≡ may_give_value ask value }
+fn may_give_value(ask: &Ask, value: u64) -> bool
+    ensures { result ≡ may_give_value ask.now value }
 {
     match ask {
         Ask::Read(..) => true,
@@ -61,9 +64,16 @@ fn may_give_value(ask: Ask, value: u64) -> bool
     }
 }
 
+// Whether an ask can be answered by a record.
+fn may_give_bytes(ask: &Ask) -> bool
+    ensures { result ≡ may_give_bytes ask.now }
+{
+    matches!(ask, Ask::ReadBlob(_))
+}
+
 // Whether an ask can be answered by this message's record.
-fn may_drop(ask: Ask, msg: u8) -> bool
-    ensures { result ≡ may_drop ask msg }
+fn may_drop(ask: &Ask, msg: u8) -> bool
+    ensures { result ≡ may_drop ask.now msg }
 {
     match ask {
         Ask::DropMsg(mine) => mine.0 == msg,
@@ -82,8 +92,8 @@ fn is_reply_to(msg: u8, item: Item) -> bool
 }
 
 // Whether an ask can be answered by this item of the port.
-fn may_give_item(ask: Ask, item: Item) -> bool
-    ensures { result ≡ may_give_item ask item }
+fn may_give_item(ask: &Ask, item: Item) -> bool
+    ensures { result ≡ may_give_item ask.now item }
 {
     match ask {
         Ask::GetPort | Ask::WaitPort => true,
@@ -93,20 +103,21 @@ fn may_give_item(ask: Ask, item: Item) -> bool
 }
 
 // Whether an ask can be answered that the port has nothing.
-fn may_find_nothing(ask: Ask) -> bool
-    ensures { result ≡ may_find_nothing ask }
+fn may_find_nothing(ask: &Ask) -> bool
+    ensures { result ≡ may_find_nothing ask.now }
 {
     matches!(ask, Ask::GetPort)
 }
 
 /// Whether an ask can have an answer.
-pub fn may_answer(ask: Ask, answer: Answer) -> bool
-    ensures { result ≡ may_answer ask answer }
+pub fn may_answer(ask: &Ask, answer: &Answer) -> bool
+    ensures { result ≡ may_answer ask.now answer.now }
 {
-    match answer {
+    match *answer {
         Answer::Begin => false,
         Answer::Done => may_be_done(ask),
         Answer::Value(value) => may_give_value(ask, value),
+        Answer::Bytes(_) => may_give_bytes(ask),
         Answer::Dropped(msg, _) => may_drop(ask, msg.0),
         Answer::Got(item) => may_give_item(ask, item),
         Answer::NoMsg => may_find_nothing(ask),
@@ -115,8 +126,8 @@ pub fn may_answer(ask: Ask, answer: Answer) -> bool
 }
 
 /// Whether an ask has an answer, and it is a refusal.
-pub fn is_refused(answer: Option<Answer>) -> bool
-    ensures { result ≡ is_refused answer }
+pub fn is_refused(answer: &Option<Answer>) -> bool
+    ensures { result ≡ is_refused answer.now }
 {
     match answer {
         Some(Answer::Refused(_)) => true,
@@ -125,14 +136,16 @@ pub fn is_refused(answer: Option<Answer>) -> bool
 }
 
 /// Whether an ask that isn't refused makes an event of its own.
-pub fn makes_event(ask: Ask) -> bool
-    ensures { result ≡ makes_event ask }
+pub fn makes_event(ask: &Ask) -> bool
+    ensures { result ≡ makes_event ask.now }
 {
     matches!(
         ask,
         Ask::Read(..)
             | Ask::Write(..)
             | Ask::Add(..)
+            | Ask::ReadBlob(_)
+            | Ask::WriteBlob(..)
             | Ask::Send(..)
             | Ask::Do(..)
             | Ask::Reply(..)
@@ -142,29 +155,29 @@ pub fn makes_event(ask: Ask) -> bool
 }
 
 /// Whether an ask is a synchronous send, which goes on after its own event.
-pub fn is_do(ask: Ask) -> bool
-    ensures { result ≡ is_do ask }
+pub fn is_do(ask: &Ask) -> bool
+    ensures { result ≡ is_do ask.now }
 {
     matches!(ask, Ask::Do(..))
 }
 
 /// Whether an ask is the last one of a body.
-pub fn is_exit(ask: Ask) -> bool
-    ensures { result ≡ is_exit ask }
+pub fn is_exit(ask: &Ask) -> bool
+    ensures { result ≡ is_exit ask.now }
 {
     matches!(ask, Ask::Exit)
 }
 
 /// Whether an ask can leave its thread waiting for its port or for a reply.
-pub fn may_wait(ask: Ask) -> bool
-    ensures { result ≡ may_wait ask }
+pub fn may_wait(ask: &Ask) -> bool
+    ensures { result ≡ may_wait ask.now }
 {
     matches!(ask, Ask::Do(..) | Ask::WaitPort)
 }
 
 /// Whether an ask can block its thread and leave it to go on.
-pub fn may_block(ask: Ask) -> bool
-    ensures { result ≡ may_block ask }
+pub fn may_block(ask: &Ask) -> bool
+    ensures { result ≡ may_block ask.now }
 {
     matches!(
         ask,
@@ -199,6 +212,7 @@ pub fn entry_of(ask: Ask, answer: Answer) -> Option<Entry>
     match answer {
         Answer::Begin | Answer::Done => None,
         Answer::Value(value) => Some(value_entry(ask, value)),
+        Answer::Bytes(blob) => Some(Entry::Bytes(blob)),
         Answer::Dropped(msg, rec) => Some(Entry::Dropped(
             msg,
             Call {

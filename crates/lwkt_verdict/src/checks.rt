@@ -25,23 +25,23 @@ fn are_of(cpu: usize, part: &[Event]) -> bool
 }
 
 // Whether the part of a turn shows that its poll, if it has one, blocked the thread.
-fn blocked_by(poll: Option<Poll>, part: &[Event]) -> bool
-    ensures { result ≡ (piece poll part.now).blocked }
+fn blocked_by(poll: &Option<Poll>, part: &[Event]) -> bool
+    ensures { result ≡ (piece poll.now part.now).blocked }
 {
     match poll {
         None => false,
-        Some(poll) => has_blocked(poll.ask, part),
+        Some(poll) => has_blocked(&poll.ask, part),
     }
 }
 
 // Makes the events of a turn's part happen, if they can and are what the turn can have made.
-fn makes(state: &mut State, poll: Option<Poll>, part: &[Event]) -> bool
-    ensures right { IsTrue result ↔ Makes state.old poll part.now }
+fn makes(state: &mut State, poll: &Option<Poll>, part: &[Event]) -> bool
+    ensures right { IsTrue result ↔ Makes state.old poll.now part.now }
     ensures moved { IsTrue result → state.new ≡ after_all state.old part.now }
 {
     match poll {
         None => goes_quietly(state, part),
-        Some(poll) => is_part_of(state, poll.ask, poll.answer, part),
+        Some(poll) => is_part_of(state, &poll.ask, &poll.answer, part),
     }
 }
 
@@ -52,16 +52,16 @@ fn asks(
     homes: &[Option<Home>],
     table: &mut [Progress],
     cpu: usize,
-    poll: Option<Poll>,
+    poll: &Option<Poll>,
     blocked: bool,
 ) -> bool
     requires processor { cpu < 8 }
     requires homes { AreHomes plans.now lines.now homes.now }
     requires shows { (before : List Piece) × (ShowsProgress before table.old × (length before < 2 ^ 64 - 1)) }
-    ensures right { (before : List Piece) → ShowsProgress before table.old → (IsTrue result ↔ MatchOption poll (Idles plans.now cpu (came before)) (λ q. Polls plans.now lines.now cpu (came before (slot_of q.thread)) q)) }
-    ensures moved { (before : List Piece) → ShowsProgress before table.old → IsTrue result → ShowsProgress (before ++ record { poll = poll; blocked = blocked } ∷ []) table.new }
+    ensures right { (before : List Piece) → ShowsProgress before table.old → (IsTrue result ↔ MatchOption poll.now (Idles plans.now cpu (came before)) (λ q. Polls plans.now lines.now cpu (came before (slot_of q.thread)) q)) }
+    ensures moved { (before : List Piece) → ShowsProgress before table.old → IsTrue result → ShowsProgress (before ++ record { poll = poll.now; blocked = blocked } ∷ []) table.new }
 {
-    match &poll {
+    match poll {
         None => idles(plans, lines, homes, table, cpu),
         Some(poll) => note_poll(plans, lines, homes, table, cpu, poll, blocked),
     }
@@ -75,15 +75,15 @@ fn fits(
     table: &mut [Progress],
     state: &mut State,
     cpu: usize,
-    poll: Option<Poll>,
+    poll: &Option<Poll>,
     part: &[Event],
 ) -> bool
     requires processor { cpu < 8 }
     requires homes { AreHomes plans.now lines.now homes.now }
     requires shows { (before : List Piece) × (ShowsProgress before table.old × (length before < 2 ^ 64 - 1)) }
-    ensures right { (before : List Piece) → ShowsProgress before table.old → (IsTrue result ↔ Fits plans.now lines.now cpu state.old before poll part.now) }
+    ensures right { (before : List Piece) → ShowsProgress before table.old → (IsTrue result ↔ Fits plans.now lines.now cpu state.old before poll.now part.now) }
     ensures moved { IsTrue result → state.new ≡ after_all state.old part.now }
-    ensures noted { (before : List Piece) → ShowsProgress before table.old → IsTrue result → ShowsProgress (before ++ piece poll part.now ∷ []) table.new }
+    ensures noted { (before : List Piece) → ShowsProgress before table.old → IsTrue result → ShowsProgress (before ++ piece poll.now part.now ∷ []) table.new }
 {
     if !are_of(cpu, part) {
         return false;
@@ -145,7 +145,7 @@ fn runs(
         }
         let (part, later) = rest.split_at(count);
         let cpu = whose(order, i);
-        if !fits(plans, lines, homes, table, state, cpu, poll, part) {
+        if !fits(plans, lines, homes, table, state, cpu, &poll, part) {
             return false;
         }
         rest = later;

@@ -9,9 +9,9 @@ use crate::progress::{Progress, ends_as};
 use crate::turns::{ThreadEnd, ThreadPlan};
 
 // Whether a thread that has come so far ends as its line says, if it has one.
-fn ends(lines: &[ThreadEnd], home: Option<Home>, progress: Progress) -> bool
+fn ends(lines: &[ThreadEnd], home: Option<Home>, progress: &Progress) -> bool
     requires { IfSome home (λ h. h.line < length lines.now) }
-    ensures { IsTrue result ↔ MatchOption home (Unit {0}) (λ h. MatchOption (slice_get lines.now h.line) ⊥ (λ line. EndsAs line progress)) }
+    ensures { IsTrue result ↔ MatchOption home (Unit {0}) (λ h. MatchOption (slice_get lines.now h.line) ⊥ (λ line. EndsAs line progress.now)) }
 {
     match home {
         None => true,
@@ -31,7 +31,8 @@ pub fn all_end(
     ensures { IsTrue result ↔ ((cpu n : ℕ) → cpu < 8 → n < 16 → EndsAt plans.now lines.now table.now cpu n) }
 {
     for slot in 0..THREAD_LIMIT {
-        if !ends(lines, home_at(homes, slot), progress_at(table, slot)) {
+        let progress = progress_at(table, slot);
+        if !ends(lines, home_at(homes, slot), &progress) {
             return false;
         }
     }

@@ -1,9 +1,10 @@
 ghost use Rattle.std.specs.Prelude.{◌≡◌, ◌≤◌, ◌↔◌, ◌+◌, ◌==◌, IsTrue, length, Some};
 ghost use Rattle.lwkt_core.specs.Values.{first_at, cell_at};
-ghost use Rattle.lwkt_verdict.specs.Owns.{IsQuiet, agrees, is_read, is_write, is_raise, is_send_of, is_reply_of, is_abort_of, is_drop_of, is_own, is_send, first_send, own_place, ends_taking, has_blocked};
+ghost use Rattle.lwkt_verdict.specs.Owns.{first_blob_at, IsQuiet, agrees, agrees_with_record, is_read, is_write, is_record_read, is_record_write, is_raise, is_send_of, is_reply_of, is_abort_of, is_drop_of, is_own, is_send, first_send, own_place, ends_taking, has_blocked};
 
 use crate::asks::is_do;
-use lwkt_base::{Answer, Ask, TokId};
+use lwkt_base::blobs::{are_same, same_bytes};
+use lwkt_base::{Answer, Ask, Blob, TokId};
 use lwkt_core::{Event, State};
 
 // Whether a cell has this value in the first row.
@@ -16,6 +17,16 @@ fn is_first(state: &State, tok: TokId, cell: u8, value: u64) -> bool
     }
 }
 
+// Whether a record is the first one of a token.
+fn is_first_record(state: &State, tok: TokId, blob: &Blob) -> bool
+    ensures { IsTrue result ↔ (first_blob_at state.now tok.0 ≡ Some blob.now) }
+{
+    match state.token(tok) {
+        None => false,
+        Some(token) => are_same(&token.first_blob, &Some(*blob)),
+    }
+}
+
 /// Whether an event may happen unasked.
 pub fn is_quiet(state: &State, event: &Event) -> bool
     ensures { IsTrue result ↔ IsQuiet state.now event.now }
@@ -23,7 +34,6 @@ pub fn is_quiet(state: &State, event: &Event) -> bool
     match *event {
         Event::Read { .. }
         | Event::ReadBlob { .. }
-        | Event::WriteBlob { .. }
         | Event::Send { .. }
         | Event::Abort { .. }
         | Event::DropMsg { .. } => false,
@@ -33,24 +43,36 @@ pub fn is_quiet(state: &State, event: &Event) -> bool
             value,
             ..
         } => is_first(state, tok, cell, value),
+        Event::WriteBlob { tok, blob, .. } => is_first_record(state, tok, &blob),
         _ => true,
     }
 }
 
 // Whether an answer, if there is one, is this value.
-fn agrees(answer: Option<Answer>, value: u64) -> bool
-    ensures { result ≡ agrees answer value }
+fn agrees(answer: &Option<Answer>, value: u64) -> bool
+    ensures { result ≡ agrees answer.now value }
 {
     match answer {
         None => true,
-        Some(Answer::Value(given)) => given == value,
+        Some(Answer::Value(given)) => *given == value,
+        Some(_) => false,
+    }
+}
+
+// Whether an answer, if there is one, is this record.
+fn agrees_with_record(answer: &Option<Answer>, blob: &Blob) -> bool
+    ensures { result ≡ agrees_with_record answer.now blob.now }
+{
+    match answer {
+        None => true,
+        Some(Answer::Bytes(given)) => same_bytes(given, blob),
         Some(_) => false,
     }
 }
 
 // Whether an event reads this cell, and the value agrees with the answer.
-fn is_read(wanted: TokId, at: u8, answer: Option<Answer>, event: &Event) -> bool
-    ensures { result ≡ is_read wanted.0 at answer event.now }
+fn is_read(wanted: TokId, at: u8, answer: &Option<Answer>, event: &Event) -> bool
+    ensures { result ≡ is_read wanted.0 at answer.now event.now }
 {
     match *event {
         Event::Read {
@@ -74,6 +96,26 @@ fn is_write(wanted: TokId, at: u8, stored: u64, event: &Event) -> bool
             value,
             ..
         } => tok.0 == wanted.0 && cell == at && value == stored,
+        _ => false,
+    }
+}
+
+// Whether an event reads this token's record, and that agrees with the answer.
+fn is_record_read(wanted: TokId, answer: &Option<Answer>, event: &Event) -> bool
+    ensures { result ≡ is_record_read wanted.0 answer.now event.now }
+{
+    match *event {
+        Event::ReadBlob { tok, blob, .. } => tok.0 == wanted.0 && agrees_with_record(answer, &blob),
+        _ => false,
+    }
+}
+
+// Whether an event stores this record in this token.
+fn is_record_write(wanted: TokId, stored: &Blob, event: &Event) -> bool
+    ensures { result ≡ is_record_write wanted.0 stored.now event.now }
+{
+    match *event {
+        Event::WriteBlob { tok, blob, .. } => tok.0 == wanted.0 && same_bytes(&blob, stored),
         _ => false,
     }
 }
@@ -147,13 +189,15 @@ fn is_drop_of(wanted: u8, event: &Event) -> bool
 }
 
 /// Whether an event is what an ask makes, with this answer or none yet.
-pub fn is_own(state: &State, ask: Ask, answer: Option<Answer>, event: &Event) -> bool
-    ensures { result ≡ is_own state.now ask answer event.now }
+pub fn is_own(state: &State, ask: &Ask, answer: &Option<Answer>, event: &Event) -> bool
+    ensures { result ≡ is_own state.now ask.now answer.now event.now }
 {
-    match ask {
+    match *ask {
         Ask::Read(tok, cell) => is_read(tok, cell, answer, event),
         Ask::Write(tok, cell, value) => is_write(tok, cell, value, event),
         Ask::Add(tok, more) => is_raise(state.cell(tok, 0), tok, more, event),
+        Ask::ReadBlob(tok) => is_record_read(tok, answer, event),
+        Ask::WriteBlob(tok, blob) => is_record_write(tok, &blob, event),
         Ask::Send(msg, to, _, _) => is_send_of(msg.0, to.cpu.0, event),
         Ask::Do(msg, to, _) => is_send_of(msg.0, to.cpu.0, event),
         Ask::Reply(msg, _, _) => is_reply_of(msg.0, event),
@@ -184,8 +228,8 @@ fn first_send(events: &[Event]) -> usize
 }
 
 /// Where in its part the event of an ask stands.
-pub fn own_place(ask: Ask, part: &[Event]) -> usize
-    ensures place { result ≡ own_place ask part.now }
+pub fn own_place(ask: &Ask, part: &[Event]) -> usize
+    ensures place { result ≡ own_place ask.now part.now }
     ensures within { result ≤ length part.now }
 {
     if is_do(ask) {
@@ -206,8 +250,8 @@ fn ends_taking(part: &[Event]) -> bool
 }
 
 /// Whether its part shows that an ask, where it wasn't refused, blocked its thread.
-pub fn has_blocked(ask: Ask, part: &[Event]) -> bool
-    ensures { result ≡ has_blocked ask part.now }
+pub fn has_blocked(ask: &Ask, part: &[Event]) -> bool
+    ensures { result ≡ has_blocked ask.now part.now }
 {
     match ask {
         Ask::Get(_) | Ask::GetShared(_) => !ends_taking(part),

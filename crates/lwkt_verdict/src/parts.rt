@@ -30,29 +30,29 @@ pub fn goes_quietly(state: &mut State, events: &[Event]) -> bool
 }
 
 // Whether the event of an ask has to be there.
-fn must_make(ask: Ask, answer: Option<Answer>) -> bool
-    ensures { result ≡ must_make ask answer }
+fn must_make(ask: &Ask, answer: &Option<Answer>) -> bool
+    ensures { result ≡ must_make ask.now answer.now }
 {
     makes_event(ask) && answer.is_some() && !is_refused(answer)
 }
 
 // Whether the event of an ask can be there.
-fn may_make(ask: Ask, answer: Option<Answer>) -> bool
-    ensures { result ≡ may_make ask answer }
+fn may_make(ask: &Ask, answer: &Option<Answer>) -> bool
+    ensures { result ≡ may_make ask.now answer.now }
 {
     makes_event(ask) && !is_refused(answer)
 }
 
 // Whether an event is the one that an ask made.
-fn is_made(state: &State, ask: Ask, answer: Option<Answer>, event: &Event) -> bool
-    ensures { IsTrue result ↔ ((may_make ask answer ≡ true) × (is_own state.now ask answer event.now ≡ true)) }
+fn is_made(state: &State, ask: &Ask, answer: &Option<Answer>, event: &Event) -> bool
+    ensures { IsTrue result ↔ ((may_make ask.now answer.now ≡ true) × (is_own state.now ask.now answer.now event.now ≡ true)) }
 {
     may_make(ask, answer) && is_own(state, ask, answer, event)
 }
 
 // Makes the events happen, if they can, from the place of an ask's own event on.
-fn goes_from(state: &mut State, ask: Ask, answer: Option<Answer>, events: &[Event]) -> bool
-    ensures right { IsTrue result ↔ GoesFrom state.old ask answer events.now }
+fn goes_from(state: &mut State, ask: &Ask, answer: &Option<Answer>, events: &[Event]) -> bool
+    ensures right { IsTrue result ↔ GoesFrom state.old ask.now answer.now events.now }
     ensures moved { IsTrue result → state.new ≡ after_all state.old events.now }
 {
     match events {
@@ -68,8 +68,8 @@ fn goes_from(state: &mut State, ask: Ask, answer: Option<Answer>, events: &[Even
 }
 
 /// Makes the events of a part happen, if they can and are what a turn that polled a thread with this ask can have made.
-pub fn is_part_of(state: &mut State, ask: Ask, answer: Option<Answer>, part: &[Event]) -> bool
-    ensures right { IsTrue result ↔ IsPartOf state.old ask answer part.now }
+pub fn is_part_of(state: &mut State, ask: &Ask, answer: &Option<Answer>, part: &[Event]) -> bool
+    ensures right { IsTrue result ↔ IsPartOf state.old ask.now answer.now part.now }
     ensures moved { IsTrue result → state.new ≡ after_all state.old part.now }
 {
     let place = own_place(ask, part);

@@ -1,8 +1,9 @@
 ghost use Rattle.std.specs.Prelude.{◌≡◌, ◌<◌, ◌^◌, ◌↔◌, IsTrue, Some, length, slice_get, option_and_then, IfSome};
+ghost use Rattle.lwkt_base.specs.declared.asks.Ask.TheVariants.{WriteBlob};
 ghost use Rattle.lwkt_verdict.specs.Threads.{thread_of, line_of, slot_of, ask_in, ask_at};
 
 use crate::turns::{ThreadEnd, ThreadPlan};
-use lwkt_base::{Ask, ThreadId};
+use lwkt_base::{Ask, Blob, ThreadId, TokId};
 
 /// A thread's number among those of all processors, 16 for each.
 pub fn slot_of(id: ThreadId) -> usize
@@ -30,20 +31,33 @@ fn ask_in(repeat: u64, steps: &[Ask], k: u64) -> Option<Ask>
     }
 }
 
-// Whether two asks are one.
-fn is_same(one: Ask, other: Ask) -> bool
-    ensures { IsTrue result ↔ (one ≡ other) }
+// Whether an ask stores this record in this token.
+fn is_storing(ask: &Ask, tok: TokId, blob: &Blob) -> bool
+    ensures { IsTrue result ↔ (ask.now ≡ WriteBlob tok blob.now) }
 {
-    one == other
+    match ask {
+        Ask::WriteBlob(other, stored) => *other == tok && stored.is_same(blob),
+        _ => false,
+    }
+}
+
+// Whether two asks are one.
+fn is_same(one: &Ask, other: &Ask) -> bool
+    ensures { IsTrue result ↔ (one.now ≡ other.now) }
+{
+    match one {
+        Ask::WriteBlob(tok, blob) => is_storing(other, *tok, blob),
+        _ => *one == *other,
+    }
 }
 
 /// Whether an ask is ask k of a thread.
-pub fn is_ask_at(plan: &ThreadPlan, k: u64, ask: Ask) -> bool
-    ensures { IsTrue result ↔ (ask_at plan.now k ≡ Some ask) }
+pub fn is_ask_at(plan: &ThreadPlan, k: u64, ask: &Ask) -> bool
+    ensures { IsTrue result ↔ (ask_at plan.now k ≡ Some ask.now) }
 {
     match ask_in(u64::from(plan.repeat), plan.steps.as_slice(), k) {
         None => false,
-        Some(wanted) => is_same(wanted, ask),
+        Some(wanted) => is_same(&wanted, ask),
     }
 }
 

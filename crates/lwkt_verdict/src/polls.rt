@@ -11,8 +11,8 @@ use crate::turns::{Poll, ThreadEnd, ThreadPlan};
 use lwkt_base::{Answer, Ask};
 
 // Whether an answer, if there is one, is one that an ask can have.
-fn fits_ask(ask: Ask, answer: Option<Answer>) -> bool
-    ensures { IsTrue result ↔ MatchOption answer (Unit {0}) (λ a. may_answer ask a ≡ true) }
+fn fits_ask(ask: &Ask, answer: &Option<Answer>) -> bool
+    ensures { IsTrue result ↔ MatchOption answer.now (Unit {0}) (λ a. may_answer ask.now a ≡ true) }
 {
     match answer {
         None => true,
@@ -26,13 +26,13 @@ fn poll_fits(
     lines: &[ThreadEnd],
     home: Option<Home>,
     cpu: usize,
-    progress: Progress,
+    progress: &Progress,
     poll: &Poll,
 ) -> bool
     requires here { poll.now.thread.cpu.0 ≡ cpu }
     requires numbered { poll.now.thread.thread < 16 }
     requires home { IsHome plans.now lines.now cpu poll.now.thread.thread home }
-    ensures { IsTrue result ↔ Polls plans.now lines.now cpu progress poll.now }
+    ensures { IsTrue result ↔ Polls plans.now lines.now cpu progress.now poll.now }
 {
     let Some(home) = home else {
         return false;
@@ -42,9 +42,9 @@ fn poll_fits(
         answer: poll.answer,
         blocked: false,
     };
-    may_ask(&plans[home.plan], progress, poll.ask)
-        && fits_ask(poll.ask, poll.answer)
-        && is_logged(&lines[home.line], progress, asked)
+    may_ask(&plans[home.plan], progress, &poll.ask)
+        && fits_ask(&poll.ask, &poll.answer)
+        && is_logged(&lines[home.line], progress, &asked)
 }
 
 /// How far a thread has come.
@@ -78,7 +78,7 @@ pub fn note_poll(
     let slot = 16 * cpu + usize::from(poll.thread.thread);
     let progress = progress_at(table, slot);
     let home = home_at(homes, slot);
-    if !poll_fits(plans, lines, home, cpu, progress, poll) {
+    if !poll_fits(plans, lines, home, cpu, &progress, poll) {
         return false;
     }
     let asked = Asked {
@@ -86,13 +86,13 @@ pub fn note_poll(
         answer: poll.answer,
         blocked,
     };
-    table[slot] = progress_after(progress, asked);
+    table[slot] = progress_after(&progress, &asked);
     true
 }
 
 // Whether a thread, if it is there, may rest.
-fn may_idle(home: Option<Home>, progress: Progress) -> bool
-    ensures { IsTrue result ↔ MatchOption home (Unit {0}) (λ h. Rests progress) }
+fn may_idle(home: Option<Home>, progress: &Progress) -> bool
+    ensures { IsTrue result ↔ MatchOption home (Unit {0}) (λ h. Rests progress.now) }
 {
     match home {
         None => true,
@@ -116,7 +116,7 @@ pub fn idles(
     for n in 0..16 {
         let slot = 16 * cpu + n;
         let progress = progress_at(table, slot);
-        if !may_idle(home_at(homes, slot), progress) {
+        if !may_idle(home_at(homes, slot), &progress) {
             return false;
         }
     }

@@ -13,7 +13,8 @@ use Rattle.lwkt_run.specs.Run.{AreRead}
 use Rattle.lwkt_script.specs.declared.scripts.Script.{Script}
 use Rattle.lwkt_script.specs.Format.{script_of}
 use Rattle.lwkt_show.specs.declared.options.Options.{Options}
-use Rattle.lwkt_show.specs.Showing.{IsShowing, IsShowingThreads, IsShown, IsShownOnThreads, status_shown}
+use Rattle.lwkt_show.proofs.Telling.{along_unread as tells_along_unread}
+use Rattle.lwkt_show.specs.Showing.{IsShowing, IsShowingAlong, IsShowingThreads, IsShown, IsShownOnThreads, status_shown}
 use Rattle.lwkt_text.specs.Beginning.{is_text, is_no_json, begins_as_text, ByForm}
 use Rattle.lwkt_view.specs.Text.{ShowsText, ShowsBytes}
 
@@ -117,3 +118,13 @@ some_read (Some all) = (take READ_LIMIT all, refl)
 -- a lack of memory is no failed stream
 pub no_lack : Fault Memory ≡ Stream → ⊥
 no_lack is = search rules
+
+-- the same along an order
+pub along_more : (order : List ℕ) (options : Options) (source sink : Bool) (left old new : Option (List ℕ)) (status : ℕ) → IsShowingAlong order options false sink left old new status → IsShowingAlong order options source sink left old new status
+along_more order options source sink left old new status r = (r.0, (r.1.0, (blames_more source sink r.0 r.1.1.0, r.1.1.1)))
+
+pub along_unread : (order : List ℕ) (options : Options) (bytes : List ℕ) (source sink : Bool) (old : Option (List ℕ)) (fault : RunFault) → (fault ≡ Stream) ⊎ (fault ≡ Fault Memory) → (fault ≡ Stream → IsTrue source ⊎ IsTrue sink) → IsShowingAlong order options source sink (Some bytes) old old 3
+along_unread order options bytes source sink old fault why blames = (Err fault, (tells_along_unread order options (Some bytes) old fault why, (blames_as source sink fault blames, status_unread fault why)))
+
+pub along_wrong : (order : List ℕ) (options : Options) (bytes : List ℕ) (source sink : Bool) (old : Option (List ℕ)) → is_text bytes ≡ true → length bytes ≤ READ_LIMIT → IsShowingAlong order options source sink (Some bytes) old old 1
+along_wrong order options bytes source sink old is few = (Err (Fault (ScriptFault 0)), ((keeps_itself old, (bytes, (are_read bytes few, no_json bytes is))), (blames_as source sink (Fault (ScriptFault 0)) (λ e. absurd (never_stream e)), refl)))

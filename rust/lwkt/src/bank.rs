@@ -22,9 +22,14 @@ extern "C" {
     fn lwkt_add(bank: Handle, seat: u32, token: u32, amount: u64, value: *mut u64) -> u32;
     fn lwkt_lawful(bank: Handle, seat: u32, token: u32) -> u32;
     fn lwkt_restore(bank: Handle, seat: u32, token: u32) -> u32;
+    fn lwkt_read_record(bank: Handle, seat: u32, token: u32, buffer: *mut u8, room: usize, length: *mut usize) -> u32;
+    fn lwkt_write_record(bank: Handle, seat: u32, token: u32, bytes: *const u8, length: usize) -> u32;
 }
 
-/// What a row has to obey wherever its token is free.
+/// The most bytes that a record has.
+const RECORD_ROOM: usize = 64;
+
+/// What row and record have to obey wherever their token is free.
 #[derive(Clone, Copy, Debug, PartialEq, Eq)]
 pub enum RowLaw {
     /// Nothing.
@@ -37,6 +42,8 @@ pub enum RowLaw {
     Cap,
     /// One cell, which is only added to, and is the parameter at the opening.
     Tally,
+    /// The first cell is the length of the record.
+    Len,
 }
 
 /// A token as it is at the opening.
@@ -48,6 +55,9 @@ pub struct Token {
     generation: u64,
     cell_count: u32,
     law: u32,
+    record: [u8; RECORD_ROOM],
+    record_length: u32,
+    record_count: u32,
 }
 
 impl Token {
@@ -63,7 +73,21 @@ impl Token {
             generation: 0,
             cell_count: u32::try_from(cells.len()).unwrap_or(u32::MAX),
             law: law as u32,
+            record: [0; RECORD_ROOM],
+            record_length: 0,
+            record_count: 0,
         }
+    }
+
+    /// The same token guarding a record of these bytes. Bytes past the sixty-fourth make the opening fail, as a record does under
+    /// the law of tallies.
+    pub fn with_record(mut self, bytes: &[u8]) -> Token {
+        for (place, byte) in self.record.iter_mut().zip(bytes) {
+            *place = *byte;
+        }
+        self.record_length = u32::try_from(bytes.len()).unwrap_or(u32::MAX);
+        self.record_count = 1;
+        self
     }
 }
 
@@ -85,7 +109,7 @@ impl fmt::Display for SeatFault {
             11 => "shared reference can't become exclusive",
             13 => "token not held",
             16 => "no such token",
-            17 => "no such cell",
+            17 => "no such cell or record",
             18 => "write under a shared token",
             19 => "law broken",
             20 => "last generation",
@@ -94,6 +118,8 @@ impl fmt::Display for SeatFault {
             23 => "token busy",
             32 => "out of memory",
             34 => "lost a race, try again",
+            37 => "record of a shared token",
+            38 => "record too long",
             39 => "limit passed",
             40 => "opening breaks its law",
             _ => "seat not there",
@@ -139,7 +165,7 @@ impl Bank {
     /// Opens a bank of these tokens, numbered from 0, with so many seats.
     ///
     /// Refused with 39 for other than 1 to 8 seats, more than 64 tokens, or a token that passes a limit; with 40 where an
-    /// opening row breaks its law; with 32 for want of memory.
+    /// opening row, with its record's length, breaks its law; with 32 for want of memory.
     pub fn open(tokens: &[Token], seats: u32) -> Result<Bank, SeatFault> {
         let mut handle = Handle {
             place: std::ptr::null_mut(),
@@ -217,7 +243,8 @@ impl Seat {
     }
 }
 
-/// A reference to a token, given back when it is dropped. A row that breaks its law is then the first row of the section again.
+/// A reference to a token, given back when it is dropped. A row that breaks its law, with its record, is then the section's first
+/// one again, and so is the record.
 #[derive(Debug)]
 pub struct Held<'a> {
     seat: &'a mut Seat,
@@ -244,7 +271,35 @@ impl Held<'_> {
         Ok(value)
     }
 
-    /// Whether the row obeys its law.
+    /// The record.
+    ///
+    /// ```
+    /// use lwkt::{Bank, RowLaw, SeatFault, Token};
+    ///
+    /// let mut seats = Bank::open(&[Token::new(&[3], RowLaw::Len, 0).with_record(b"abc")], 1)?.into_seats();
+    /// let mut held = seats[0].take(0)?;
+    /// held.write_record(b"hello")?;
+    /// assert_eq!(held.read_record()?, b"hello");
+    /// assert!(!held.is_lawful()?);
+    /// held.store(0, 5)?;
+    /// held.give()?;
+    /// # Ok::<(), SeatFault>(())
+    /// ```
+    pub fn read_record(&mut self) -> Result<Vec<u8>, SeatFault> {
+        let mut bytes = [0; RECORD_ROOM];
+        let mut length = 0;
+        let (handle, number) = (self.seat.handle, self.seat.number);
+        done(unsafe { lwkt_read_record(handle, number, self.token, bytes.as_mut_ptr(), RECORD_ROOM, &mut length) })?;
+        Ok(bytes[..length.min(RECORD_ROOM)].to_vec())
+    }
+
+    /// Writes the record.
+    pub fn write_record(&mut self, bytes: &[u8]) -> Result<(), SeatFault> {
+        let (handle, number) = (self.seat.handle, self.seat.number);
+        done(unsafe { lwkt_write_record(handle, number, self.token, bytes.as_ptr(), bytes.len()) })
+    }
+
+    /// Whether row and record obey the law.
     pub fn is_lawful(&mut self) -> Result<bool, SeatFault> {
         match unsafe { lwkt_lawful(self.seat.handle, self.seat.number, self.token) } {
             19 => Ok(false),
@@ -252,7 +307,7 @@ impl Held<'_> {
         }
     }
 
-    /// Makes the row the section's first row again.
+    /// Makes row and record the section's first ones again.
     pub fn restore(&mut self) -> Result<(), SeatFault> {
         done(unsafe { lwkt_restore(self.seat.handle, self.seat.number, self.token) })
     }
@@ -276,7 +331,8 @@ impl Held<'_> {
         self.seat.share(token)
     }
 
-    /// Gives the reference back. Refused with 19 where the row breaks its law: it is then the first row again, and given back.
+    /// Gives the reference back. Refused with 19 where row and record break the law: they are then the first ones again, and the
+    /// reference is given back.
     pub fn give(mut self) -> Result<(), SeatFault> {
         let given = self.give_or_restore();
         std::mem::forget(self);

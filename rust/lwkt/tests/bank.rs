@@ -7,13 +7,18 @@ const TALLY: u32 = 0;
 const SUM: u32 = 1;
 const ANY: u32 = 2;
 const ORDER: u32 = 3;
+const LEN: u32 = 4;
+const NOTE: u32 = 5;
+const TOKENS: u32 = 6;
 
-fn tokens() -> [Token; 4] {
+fn tokens() -> [Token; 6] {
     [
         Token::new(&[5], RowLaw::Tally, 5),
         Token::new(&[400_000, 600_000], RowLaw::Sum, 1_000_000),
         Token::new(&[0], RowLaw::Any, 0),
         Token::new(&[1, 2], RowLaw::Order, 0),
+        Token::new(&[3], RowLaw::Len, 0).with_record(b"aaa"),
+        Token::new(&[], RowLaw::Any, 0).with_record(b"abc"),
     ]
 }
 
@@ -25,8 +30,21 @@ fn refused<T>(answer: Result<T, SeatFault>) -> u32 {
     answer.err().map_or(0, |fault| fault.0)
 }
 
-// Adds one in each section, and moves one from cell to cell of the token of sums in some of them.
-fn work(seat: &mut Seat) -> Result<(), SeatFault> {
+// Writes the record of the token of lengths anew, all of one letter, and its length into the cell.
+fn rewrite(seat: &mut Seat, letter: u8) -> Result<(), SeatFault> {
+    let mut held = seat.take_waiting(LEN)?;
+    let record = held.read_record()?;
+    assert_eq!(held.load(0)?, record.len() as u64);
+    assert!(record.iter().all(|byte| *byte == record[0]));
+    let length = (record.len() + 7) % 65;
+    held.write_record(&[letter; 64][..length])?;
+    assert!(!held.is_lawful()?);
+    held.store(0, length as u64)?;
+    held.give()
+}
+
+// Adds one in each section, and in some of them moves one from cell to cell of the token of sums and writes a record.
+fn work(seat: &mut Seat, letter: u8) -> Result<(), SeatFault> {
     for round in 0..ROUNDS {
         seat.take_waiting(TALLY)?.add(1)?;
         if round % 100 == 0 {
@@ -37,6 +55,7 @@ fn work(seat: &mut Seat) -> Result<(), SeatFault> {
             assert!(!held.is_lawful()?);
             held.store(1, second + 1)?;
             held.give()?;
+            rewrite(seat, letter)?;
         }
     }
     Ok(())
@@ -46,8 +65,8 @@ fn work(seat: &mut Seat) -> Result<(), SeatFault> {
 fn sections_of_four_threads_add_up() {
     let mut seats = seats();
     thread::scope(|scope| {
-        for seat in &mut seats {
-            scope.spawn(|| work(seat).unwrap());
+        for (seat, letter) in seats.iter_mut().zip(b'a'..) {
+            scope.spawn(move || work(seat, letter).unwrap());
         }
     });
     let seat = &mut seats[0];
@@ -61,13 +80,15 @@ fn sections_of_four_threads_add_up() {
 fn what_is_not_there_is_refused() {
     let mut seats = seats();
     let seat = &mut seats[0];
-    assert_eq!(refused(seat.take(4)), 16);
+    assert_eq!(refused(seat.take(TOKENS)), 16);
     assert_eq!(refused(seat.take_waiting(u32::MAX)), 16);
-    assert_eq!(refused(seat.share(4)), 16);
-    assert_eq!(refused(seat.mark(4)), 16);
+    assert_eq!(refused(seat.share(TOKENS)), 16);
+    assert_eq!(refused(seat.mark(TOKENS)), 16);
     let mut held = seat.take(ANY).unwrap();
     assert_eq!(refused(held.load(1)), 17);
     assert_eq!(refused(held.store(256, 1)), 17);
+    assert_eq!(refused(held.read_record()), 17);
+    assert_eq!(refused(held.write_record(b"b")), 17);
     assert_eq!(refused(held.take(256)), 16);
 }
 
@@ -136,6 +157,61 @@ fn a_row_that_breaks_its_law_is_the_first_row_again() {
     held.store(0, 9).unwrap();
     held.restore().unwrap();
     assert_eq!(held.is_lawful(), Ok(true));
+}
+
+#[test]
+fn a_record_is_read_and_written() {
+    let mut seats = seats();
+    let mut other = seats.pop().unwrap();
+    let seat = &mut seats[0];
+    let mut held = seat.take(NOTE).unwrap();
+    held.write_record(b"hello").unwrap();
+    assert_eq!(held.read_record(), Ok(b"hello".to_vec()));
+    held.restore().unwrap();
+    assert_eq!(held.read_record(), Ok(b"abc".to_vec()));
+    held.write_record(&[7; 64]).unwrap();
+    assert_eq!(refused(held.write_record(&[7; 65])), 38);
+    held.give().unwrap();
+    assert_eq!(other.take(NOTE).unwrap().read_record(), Ok(vec![7; 64]));
+    let mut held = other.share(NOTE).unwrap();
+    assert_eq!(refused(held.read_record()), 37);
+    assert_eq!(refused(held.write_record(&[7; 65])), 37);
+}
+
+#[test]
+fn a_record_of_another_length_is_the_first_one_again() {
+    let mut seats = seats();
+    let seat = &mut seats[0];
+    let mut held = seat.take(LEN).unwrap();
+    held.write_record(b"hello").unwrap();
+    assert_eq!(held.is_lawful(), Ok(false));
+    assert_eq!(refused(held.give()), 19);
+    let mut held = seat.take(LEN).unwrap();
+    assert_eq!(held.read_record(), Ok(b"aaa".to_vec()));
+    held.write_record(b"").unwrap();
+    held.store(0, 0).unwrap();
+    held.give().unwrap();
+    assert_eq!(seat.take(LEN).unwrap().read_record(), Ok(Vec::new()));
+}
+
+#[test]
+fn openings_keep_the_limits_of_records() {
+    let bare = Token::new(&[1], RowLaw::Any, 0);
+    assert_eq!(refused(Bank::open(&[bare.with_record(&[0; 64])], 1)), 0);
+    assert_eq!(refused(Bank::open(&[bare.with_record(&[0; 65])], 1)), 39);
+    assert_eq!(refused(Bank::open(&[Token::new(&[1], RowLaw::Len, 0)], 1)), 39);
+    assert_eq!(
+        refused(Bank::open(&[Token::new(&[], RowLaw::Len, 0).with_record(b"")], 1)),
+        39
+    );
+    assert_eq!(
+        refused(Bank::open(&[Token::new(&[1], RowLaw::Tally, 1).with_record(b"a")], 1)),
+        39
+    );
+    assert_eq!(
+        refused(Bank::open(&[Token::new(&[4], RowLaw::Len, 0).with_record(b"abc")], 1)),
+        40
+    );
 }
 
 #[test]

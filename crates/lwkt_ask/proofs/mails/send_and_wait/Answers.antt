@@ -36,7 +36,7 @@ returns-in-Err-clause-does c =
     }
 
 pub returns-in-Err-clause-ran : goal.returns-in-Err-clause-ran
-returns-in-Err-clause-ran c = ran_mail_held c.args.list.now (cpu_of c.args.ports.now.seat) 1 288 c.args.hold.now.seat c.args.trace.now c.send_sync.new.trace (omega arith) c.requires.mine c.requires.held c.send_sync.ensures.grew
+returns-in-Err-clause-ran c = ran_mail_held c.args.list.now (cpu_of c.args.ports.now.seat) 1 320 c.args.hold.now.seat c.args.trace.now c.send_sync.new.trace (omega arith) c.requires.mine c.requires.held c.send_sync.ensures.grew
 
 pub returns-in-Ok-clause-told : goal.returns-in-Ok-clause-told
 returns-in-Ok-clause-told c =

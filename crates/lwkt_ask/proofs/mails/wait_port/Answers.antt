@@ -22,7 +22,7 @@ returns-in-Ok-Some-clause-waits c =
     }
 
 pub returns-in-Ok-Some-clause-ran : goal.returns-in-Ok-Some-clause-ran
-returns-in-Ok-Some-clause-ran c = ran_mail_held c.args.list.now (cpu_of c.args.ports.now.seat) 128 288 c.args.hold.now.seat c.args.trace.now c.get.new.trace (omega arith) c.requires.mine c.requires.held c.get.ensures.grew
+returns-in-Ok-Some-clause-ran c = ran_mail_held c.args.list.now (cpu_of c.args.ports.now.seat) 128 320 c.args.hold.now.seat c.args.trace.now c.get.new.trace (omega arith) c.requires.mine c.requires.held c.get.ensures.grew
 
 pub returns-in-Ok-None-clause-waits : goal.returns-in-Ok-None-clause-waits
 returns-in-Ok-None-clause-waits c =

@@ -11,7 +11,7 @@ loop-blank-init c =
     let none = ap length e.no_gens in
     let many = c.requires.blank in
     record {
-      read = read_none c.args.plans.now c.args.cpus c.args.words.now c.args.kept.now c.args.closed (length c.args.closed.gens.items) e.no_rows e.no_gens e.no_tallies none;
+      read = read_none c.args.plans.now c.args.cpus c.args.words.now c.args.slots.now c.args.kept.now c.args.closed (length c.args.closed.gens.items) e.no_rows e.no_gens e.no_tallies e.no_blobs none;
       left = omega arith;
       room = e.room;
     }
@@ -36,14 +36,14 @@ loop-blank-preserved c =
     let left = i.left in
     let more = ap length c.in-Some.ensures.items in
     let longer = length-append c.pop.new.self.items (c.in-Some.blank ∷ []) in
-    let grown = ap length x.5 in
+    let grown = ap length x.6 in
     let one = length-append c.loop-blank.closed.gens.items (x.1 ∷ []) in
     let next : length c.close_token.new.closed.gens.items ≡ count + 1 = omega arith in
-    let F : Plan → Type 0 = λ p. IsRead p c.args.cpus c.args.words.now c.args.kept.now count x.0 x.1 x.2 in
-    let G : ℕ → Type 0 = λ n. AreRead plans c.args.cpus c.args.words.now c.args.kept.now c.close_token.new.closed n in
+    let F : Plan → Type 0 = λ p. IsRead p c.args.cpus c.args.words.now c.args.slots.now c.args.kept.now count x.0 x.1 x.2 x.3 in
+    let G : ℕ → Type 0 = λ n. AreRead plans c.args.cpus c.args.words.now c.args.slots.now c.args.kept.now c.close_token.new.closed n in
     let H : ℕ → Type 0 = λ n. F (plan_at plans n) in
     record {
-      read = subst G (sym next) (read_more plans c.args.cpus c.args.words.now c.args.kept.now c.loop-blank.closed c.close_token.new.closed count x.0 x.1 x.2 i.read (subst H (c.len.ensures ∙ c.loop-blank.closed.gens.ok.0) (subst F c.plan_in-plan.ensures x.3)) x.4 x.5 x.6);
+      read = subst G (sym next) (read_more plans c.args.cpus c.args.words.now c.args.slots.now c.args.kept.now c.loop-blank.closed c.close_token.new.closed count x.0 x.1 x.2 x.3 i.read (subst H (c.len.ensures ∙ c.loop-blank.closed.gens.ok.0) (subst F c.plan_in-plan.ensures x.4)) x.5 x.6 x.7 x.8);
       left = omega arith;
       room = c.close_token.ensures.room (length plans) i.room;
     }

@@ -1,7 +1,10 @@
-use Rattle.std.proofs.Common.{ap, sym, refl, ◌∙◌, ◌+◌, ◌-◌, ℕ, List, length, length-append, subst, arith, ◌∷◌, []}
+use Rattle.std.proofs.Common.{ap, sym, refl, ◌∙◌, ◌+◌, ◌-◌, ℕ, List, length, length-append, subst, arith, ◌∷◌, ◌++◌, ◌≡◌, Some, All, []}
 use Rattle.lwkt_bank.specs.declared.kept.Kept.{Kept}
 use Rattle.lwkt_bank.specs.Seats.{BankId}
-use Rattle.lwkt_bank.specs.Closing.{Gathering}
+use Rattle.lwkt_bank.specs.Closing.{Gathering, IsReady}
+use Rattle.std.proofs.lemmas.List.Elements.{All-pop}
+use Rattle.lwkt_bank.specs.declared.seats.CpuSeat.{CpuSeat}
+use Rattle.lwkt_bank.proofs.GuardMoves.{no_hands}
 use Rattle.lwkt_bank.proofs.KeptMoves.{gathering_more, kept_longer}
 use Rattle.lwkt_bank.proofs.gathers.gather.Goals as goal
 
@@ -32,3 +35,13 @@ put_kept-requires c =
     let longer = ap length c.in-Some.ensures.items in
     let more = length-append c.pop.new.self.items (c.in-Some.seat ∷ []) in
     omega arith
+
+pub join-requires-clause-slots : goal.join-requires-clause-slots
+join-requires-clause-slots c =
+    let i = c.loop-seat.invariant in
+    let bank : BankId = record { table = c.args.table.now.shared.table_id; plans = c.args.table.now.shared.key.plans.items } in
+    let s = c.in-Some.seat in
+    let P : List CpuSeat → Type 0 = λ xs. All (IsReady bank) xs in
+    let ready : IsReady bank s = (All-pop (IsReady bank) (c.pop.new.self.items ++ s ∷ []) c.pop.new.self.items (Some s) refl (subst P c.in-Some.ensures.items i.so_far.ready)).1 in
+    let many : length s.seat.me.0.plans ≡ length bank.plans = ap (λ (b : BankId). length b.plans) ready.of in
+    no_hands s.seat.me.0 s.seat.me.1 s.hands (λ tok low. ready.empty tok (omega arith))

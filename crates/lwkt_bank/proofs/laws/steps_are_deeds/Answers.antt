@@ -1,4 +1,4 @@
-use Rattle.lwkt_bank.proofs.DeedMoves.{look_deeds, take_deeds, share_deeds, again_deeds, mark_deeds, give_one_deeds, give_clean_deeds, give_written_deeds, read_deeds, store_deeds, raise_deeds}
+use Rattle.lwkt_bank.proofs.DeedMoves.{look_deeds, take_deeds, share_deeds, again_deeds, mark_deeds, give_one_deeds, give_clean_deeds, give_written_deeds, read_deeds, store_deeds, raise_deeds, read_blob_deeds, write_blob_deeds}
 use Rattle.lwkt_bank.proofs.ToldMoves.{Told-split, Told-join}
 use Rattle.lwkt_bank.proofs.laws.steps_are_deeds.Goals as goal
 
@@ -40,3 +40,9 @@ returns-clause-split c = Told-split
 
 pub returns-clause-join : goal.returns-clause-join
 returns-clause-join c = Told-join
+
+pub returns-clause-read_blob : goal.returns-clause-read_blob
+returns-clause-read_blob c = λ plans cpus id v tok kind there bytes held is. read_blob_deeds plans cpus id v kind tok there bytes held is
+
+pub returns-clause-write_blob : goal.returns-clause-write_blob
+returns-clause-write_blob c = λ plans cpus id v tok kind there bytes held short. write_blob_deeds plans cpus id v kind tok there bytes held short

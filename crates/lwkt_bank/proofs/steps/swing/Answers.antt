@@ -1,7 +1,7 @@
 use Rattle.std.proofs.Common.{Bool, sym, subst}
 use Rattle.lwkt_base.specs.declared.names.Mode.{Mode}
 use Rattle.lwkt_base.specs.declared.words.Decision.TheVariants.{Take}
-use Rattle.lwkt_bank.specs.Plays.{Amid, Exchanges}
+use Rattle.lwkt_bank.specs.Plays.{Amid, Exchanges, TakesHands}
 use Rattle.lwkt_bank.specs.Seats.{Decides}
 use Rattle.lwkt_bank.proofs.CallMoves.{take_asks, share_asks}
 use Rattle.lwkt_bank.proofs.steps.swing.Goals as goal
@@ -20,10 +20,21 @@ pub returns-in-Exclusive-clause-exchanges : goal.returns-in-Exclusive-clause-exc
 returns-in-Exclusive-clause-exchanges c =
     let v = c.args.seat.now.me.0 in
     let F : Mode → Type 0 = λ m. Amid v (λ between. Exchanges m c.args.old c.args.new between c.args.tok.0 v c.compare_exchange.result c.compare_exchange.new.seat.me.0) in
-    subst F (sym c.in-Exclusive.is) (c.compare_exchange.ensures.2.1 c.args.tok.0 c.word_of_token-word.ensures)
+    subst F (sym c.in-Exclusive.is) (c.compare_exchange.ensures.2 c.args.tok.0 c.word_of_token-word.ensures).0
+
+pub returns-in-Exclusive-clause-hands : goal.returns-in-Exclusive-clause-hands
+returns-in-Exclusive-clause-hands c =
+    let F : Mode → Type 0 = λ m. TakesHands m c.args.old c.args.tok.0 c.compare_exchange.result c.args.seat.now.me c.compare_exchange.new.seat.me in
+    let x = c.compare_exchange.ensures.2 c.args.tok.0 c.word_of_token-word.ensures in
+    subst F (sym c.in-Exclusive.is) (x.1, x.2)
 
 pub returns-in-Shared-clause-exchanges : goal.returns-in-Shared-clause-exchanges
 returns-in-Shared-clause-exchanges c =
     let v = c.args.seat.now.me.0 in
     let F : Mode → Type 0 = λ m. Amid v (λ between. Exchanges m c.args.old c.args.new between c.args.tok.0 v c.compare_exchange-in-Shared.result c.compare_exchange-in-Shared.new.seat.me.0) in
     subst F (sym c.in-Shared.is) (c.compare_exchange-in-Shared.ensures.2.1 c.args.tok.0 c.word_of_token-word.ensures)
+
+pub returns-in-Shared-clause-hands : goal.returns-in-Shared-clause-hands
+returns-in-Shared-clause-hands c =
+    let F : Mode → Type 0 = λ m. TakesHands m c.args.old c.args.tok.0 c.compare_exchange-in-Shared.result c.args.seat.now.me c.compare_exchange-in-Shared.new.seat.me in
+    subst F (sym c.in-Shared.is) c.compare_exchange-in-Shared.ensures.2.0

@@ -1,13 +1,12 @@
-use Rattle.std.proofs.Common.{◌≡◌, ◌+◌, ◌<◌, inr, sym, ◌∙◌, subst, arith}
+use Rattle.std.proofs.Common.{◌≡◌, ◌+◌, ◌<◌, inl, inr, refl, sym, ◌∙◌, subst, arith}
 use Rattle.std.specs.Prelude.{All}
 use Rattle.lwkt_base.specs.Holding.{Holding}
 use Rattle.lwkt_bank.specs.Seats.{BankId, tokens_of}
 use Rattle.lwkt_hold.specs.Fronts.{IsFront}
-use Rattle.lwkt_hold.proofs.RunMoves.{ran_none, ran_then, ran_weaker}
+use Rattle.lwkt_hold.proofs.RunMoves.{ran_then, ran_weaker}
 use Rattle.lwkt_hold.proofs.ReadMoves.{ran_still}
 use Rattle.lwkt_ask.proofs.TellMoves.{quiet_none}
 use Rattle.lwkt_cpu.specs.declared.phases.Phase.TheVariants.{Live}
-use Rattle.lwkt_cpu.proofs.SearchMoves.{tried_wider, missed_wider}
 use Rattle.lwkt_cpu.proofs.searches.try_one.Goals as goal
 
 pub returns-then-not-is_live-clause-ran : goal.returns-then-not-is_live-clause-ran
@@ -21,9 +20,16 @@ returns-then-is_still_busy-clause-ran c =
 pub returns-then-is_still_busy-clause-quiet : goal.returns-then-is_still_busy-clause-quiet
 returns-then-is_still_busy-clause-quiet c = quiet_none c.args.trace.now.items
 
+pub returns-then-not-is_live-clause-no : goal.returns-then-not-is_live-clause-no
+returns-then-not-is_live-clause-no c = λ off. (c.requires.empty, inl (c.is_live.ensures.no c.if-not-is_live.true, refl, refl, refl))
+
+pub returns-then-is_still_busy-clause-no : goal.returns-then-is_still_busy-clause-no
+returns-then-is_still_busy-clause-no c =
+    let live : c.args.thread.now.phase ≡ Live = c.is_live.ensures.yes c.if-not-is_live.false in
+    λ off. (c.is_still_busy.ensures.empty, inr (inl (live, refl, c.is_still_busy.ensures.yes c.if-is_still_busy.true, refl)))
+
 pub try_list-requires-clause-there : goal.try_list-requires-clause-there
 try_list-requires-clause-there c =
-    let P : Holding → Type 0 = IsFront c.args.thread.now.list in
     let F : BankId → Type 0 = λ bank. All (λ r. r.tok.0 < tokens_of bank) c.args.thread.now.list in
     subst F (sym (c.is_still_busy.ensures.ran c.args.thread.now.list c.args.trace.now).bank) c.requires.there
 
@@ -38,23 +44,18 @@ returns-clause-ran c =
 pub try_list-requires-clause-of : goal.try_list-requires-clause-of
 try_list-requires-clause-of c = (c.is_still_busy.ensures.ran c.args.thread.now.list c.args.trace.now).bank ∙ c.requires.of
 
+pub returns-clause-yes : goal.returns-clause-yes
+returns-clause-yes c =
+    let live : c.args.thread.now.phase ≡ Live = c.is_live.ensures.yes c.if-not-is_live.false in
+    λ on.
+    let y = c.try_list.ensures.yes on in
+    (y.0, live, (c.is_still_busy.new.hold.seat, (c.is_still_busy.ensures.no c.if-is_still_busy.false, y.1)))
+
 pub returns-clause-no : goal.returns-clause-no
 returns-clause-no c =
-    let P : Holding → Type 0 = IsFront c.args.thread.now.list in
-    let old = c.args.thread.now in
-    let t = c.args.trace.now in
-    let a = c.args.hold.now.seat in
-    let b = c.is_still_busy.new.hold.seat in
-    let l = c.try_list in
-    let live : old.phase ≡ Live = c.is_live.ensures.yes c.if-not-is_live.false in
-    let tried = c.is_still_busy.ensures.no c.if-is_still_busy.false in
+    let live : c.args.thread.now.phase ≡ Live = c.is_live.ensures.yes c.if-not-is_live.false in
     λ off.
-    let n = l.ensures.no off in (
-      n.0,
-      inr
-          (inr (
-            live,
-            tried_wider P P 0 64 a a b l.new.hold.seat t t t l.new.trace old (ran_none P a t) tried l.ensures.ran,
-            missed_wider P P 0 0 a b l.new.hold.seat l.new.hold.seat t t l.new.trace l.new.trace old l.new.thread (c.is_still_busy.ensures.ran old.list t) n.1 (ran_none P l.new.hold.seat l.new.trace),
-          )),
+    let n = c.try_list.ensures.no off in (
+      n.1.1.0.resumes.0,
+      inr (inr (live, (n.0, (n.1.0, ((c.is_still_busy.new.hold.seat, (c.is_still_busy.ensures.no c.if-is_still_busy.false, n.1.1.0)), n.1.1.1))))),
     )

@@ -24,7 +24,11 @@ pub give-requires-clause-held : goal.give-requires-clause-held
 give-requires-clause-held c = let l = c.loop-given in back_held l.seat c.args.refs.now c.args.count l.given c.loop-given-test.true c.requires.within l.invariant.front
 
 pub give-requires-clause-ready : goal.give-requires-clause-ready
-give-requires-clause-ready c = let l = c.loop-given in λ _. inl (l.invariant.clean.each (get_or c.args.refs.now (c.args.count - 1 - l.given) unused).tok.0 (back_held l.seat c.args.refs.now c.args.count l.given c.loop-given-test.true c.requires.within l.invariant.front))
+give-requires-clause-ready c =
+    let l = c.loop-given in
+    let tok = (get_or c.args.refs.now (c.args.count - 1 - l.given) unused).tok.0 in
+    let held = back_held l.seat c.args.refs.now c.args.count l.given c.loop-given-test.true c.requires.within l.invariant.front in
+    λ _. inl (l.invariant.clean.each tok held, l.invariant.clean.records tok held)
 
 pub loop-given-preserved : goal.loop-given-preserved
 loop-given-preserved c =
@@ -43,7 +47,7 @@ loop-given-preserved c =
           let g = c.give.ensures.told in
           let d : TokId = (get_or c.args.refs.now (c.args.count - 1 - l.given) unused).tok in
           gives_more c.args.refs.now c.args.count l.given unused c.args.seat.now.cpu l.seat.cpu (holding l.seat) g.0 c.args.trace.now.items l.trace.items c.give.new.trace.items c.loop-given-test.true c.requires.within l.invariant.ran.cpu l.invariant.front
-          (gives_clean l.seat d g.0 (l.invariant.clean.each tok held) g.1.1) l.invariant.told g.1.0;
+          (gives_clean l.seat d g.0 (l.invariant.clean.each tok held, l.invariant.clean.records tok held) g.1.1) l.invariant.told g.1.0;
     }
 
 pub returns-clause-told : goal.returns-clause-told

@@ -22,15 +22,15 @@ returns-clause-ran c =
     let Q : Holding → Type 0 = λ h. h ≡ holding c.args.seat.now in
     let R : Holding → Type 0 = λ h. h ≡ removed (holding m.new.seat) c.args.tok.0 in
     let given = given_now c.args.seat.now m.new.seat c.args.tok.0 m.result c.requires.held m.ensures.kept m.ensures.ran.bank m.ensures.mends in
-    ran_then P 4 1 c.args.seat.now m.new.seat c.give.new.seat c.args.trace.now m.new.trace c.give.new.trace
-    (ran_weaker Q P 4 4 c.args.seat.now m.new.seat c.args.trace.now m.new.trace (λ h q. inl q) (omega arith) m.ensures.ran)
+    ran_then P 5 1 c.args.seat.now m.new.seat c.give.new.seat c.args.trace.now m.new.trace c.give.new.trace
+    (ran_weaker Q P 5 5 c.args.seat.now m.new.seat c.args.trace.now m.new.trace (λ h q. inl q) (omega arith) m.ensures.ran)
     (ran_weaker R P 1 1 m.new.seat c.give.new.seat m.new.trace c.give.new.trace (λ h r. inr (r ∙ given)) (omega arith) c.give.ensures.ran)
 
 pub returns-clause-given : goal.returns-clause-given
 returns-clause-given c = let m = c.mend-restored in c.give.ensures.given ∙ given_now c.args.seat.now m.new.seat c.args.tok.0 m.result c.requires.held m.ensures.kept m.ensures.ran.bank m.ensures.mends
 
 pub returns-clause-rows : goal.returns-clause-rows
-returns-clause-rows c = let m = c.mend-restored in gives_back c.args.seat.now m.new.seat c.args.tok.0 m.result c.requires.held m.ensures.kept m.ensures.ran.bank m.ensures.mends c.give.new.seat c.give.ensures.given c.give.ensures.others c.give.ensures.row c.give.ensures.still
+returns-clause-rows c = let m = c.mend-restored in gives_back c.args.seat.now m.new.seat c.args.tok.0 m.result c.requires.held m.ensures.kept m.ensures.ran.bank m.ensures.mends c.give.new.seat c.give.ensures.given c.give.ensures.others c.give.ensures.row c.give.ensures.blob c.give.ensures.still
 
 pub returns-clause-events : goal.returns-clause-events
 returns-clause-events c =

@@ -71,7 +71,7 @@ returns-then-is_held-clause-rows c =
     let s = c.args.seat.now in
     let tok = (get_or c.args.refs.now c.args.at unused).tok.0 in
     let held = held_in_front s c.args.refs.now c.args.at tok c.requires.front (front_names c.args.seat.now c.args.refs.now c.args.at (get_or c.args.refs.now c.args.at unused).tok.0 c.held.result c.is_held.result true c.requires.front c.held.ensures c.is_held.ensures c.if-is_held.true) in
-    takes_changed s c.again.new.self tok (more (entry s tok)) (adds_one s.cpu tok c.again.ensures.found ∷ []) c.again.ensures.changes (λ was. (refl, refl)) (λ free now. absurd (false≢true (sym free ∙ held)))
+    takes_changed s c.again.new.self tok (more (entry s tok)) (adds_one s.cpu tok c.again.ensures.found ∷ []) c.again.ensures.changes (λ was. record { row_is = refl; first_is = refl; blob_is = refl; first_blob_is = refl }) (λ free now. absurd (false≢true (sym free ∙ held)))
 
 pub returns-in-Got-clause-rows : goal.returns-in-Got-clause-rows
 returns-in-Got-clause-rows c =
@@ -79,7 +79,7 @@ returns-in-Got-clause-rows c =
     let r = get_or c.args.refs.now c.args.at unused in
     let took = c.in-Got.ensures in
     let free = free_in_front s c.args.refs.now c.args.at r.tok.0 c.requires.front (front_names c.args.seat.now c.args.refs.now c.args.at (get_or c.args.refs.now c.args.at unused).tok.0 c.held.result c.is_held.result false c.requires.front c.held.ensures c.is_held.ensures c.if-is_held.false) in
-    takes_changed s c.try_take.new.self r.tok.0 (taken (entry s r.tok.0) took.word r.mode took.row) (loads s.cpu r.tok.0 took.word ∷ takes s.cpu r.tok.0 r.mode took.word took.next took.word ∷ []) took.changes (λ held. absurd (false≢true (sym (ap is_held free) ∙ held))) (λ none held. refl)
+    takes_changed s c.try_take.new.self r.tok.0 (taken (entry s r.tok.0) took.word r.mode took.row took.blob) (loads s.cpu r.tok.0 took.word ∷ takes s.cpu r.tok.0 r.mode took.word took.next took.word ∷ []) took.changes (λ held. absurd (false≢true (sym (ap is_held free) ∙ held))) (λ none held. (refl, refl))
 
 pub returns-in-Busy-clause-rows : goal.returns-in-Busy-clause-rows
 returns-in-Busy-clause-rows c =

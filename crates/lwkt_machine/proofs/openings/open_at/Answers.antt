@@ -28,7 +28,6 @@ returns-clause-ok c =
     let F : List ThreadSpec → Type 0 = λ xs. AreOpenedCpus (id_of t.bank) t.book xs c.in_ok-cpus.cpus.items in
     record {
       plans = c.requires.bank.plans;
-      unguarded = c.requires.unguarded;
       specs = c.requires.book.specs_is;
       as_many = c.in_ok-cpus.ensures.as_many ∙ c.requires.bank.as_many;
       desks_are = c.requires.book.cpus_is;

@@ -7,7 +7,7 @@ pub returns-clause-values : goal.returns-clause-values
 returns-clause-values c =
     values_of c.args.script.now.tokens c.stop.new.self.bank _ _ c.in_ok-tokens.field-0.tokens _
     (ap (λ (bank : BankId). bank.plans) c.in_ok-stop.ensures.ok.bank ∙ c.requires)
-    refl refl refl c.in_ok-tokens.ensures.ok.tokens
+    refl refl refl refl c.in_ok-tokens.ensures.ok.tokens
 
 pub returns-clause-leaves : goal.returns-clause-leaves
 returns-clause-leaves c = record {
@@ -18,5 +18,6 @@ returns-clause-leaves c = record {
   rows = refl;
   gens = refl;
   tallies = refl;
+  blobs = refl;
   messages = refl;
 }

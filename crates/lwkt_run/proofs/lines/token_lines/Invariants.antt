@@ -9,4 +9,5 @@ invariant-loop-i l = record {
   rows : map (λ line. line.cells) l.lines.items ≡ take l.i l.last.rows.items;
   gens : map (λ line. line.generation) l.lines.items ≡ take l.i l.last.gens.items;
   tallies : map (λ line. unwrap_or line.tallies []) l.lines.items ≡ take l.i l.last.tallies.items;
+  blobs : map (λ line. line.blob) l.lines.items ≡ take l.i l.last.blobs.items;
 }

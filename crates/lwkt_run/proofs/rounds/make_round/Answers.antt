@@ -1,4 +1,6 @@
-use Rattle.std.proofs.Common.{◌≡◌, refl, ◌∙◌, ap, sym, arith}
+use Rattle.std.proofs.Common.{◌≡◌, ◌<◌, length, refl, ◌∙◌, ap, subst, sym, arith}
+use Rattle.std.proofs.lemmas.Option.{slice_get_within}
+use Rattle.lwkt_port.specs.Chains.{Chain}
 use Rattle.std.specs.Prelude.{Bool, true}
 use Rattle.lwkt_port.proofs.Chaining.{chain_none, chain_more}
 use Rattle.lwkt_run.specs.Running.{Going, scene, going, says_over, both, TakesTurn}
@@ -24,4 +26,14 @@ loop-cpu-preserved c =
       over_is = λ so.
           let yes = both_true l.over (says_over turned) (sym is ∙ so) in
           over_later l.cpu l.machine c.make_turn.new.machine l.trace c.make_turn.new.trace turned ok.1.0 (says_all turned yes.1) (l.invariant.over_is yes.0);
+    }
+
+pub returns-clause-ok : goal.returns-clause-ok
+returns-clause-ok c =
+    let l = c.loop-cpu in
+    let whole : l.cpu ≡ length c.args.machine.now.cpus = omega (arith, c.loop-cpu-test.false, l.auto.cpu-end, c.cpus-cpu-end.ensures.value) in
+    let all : l.cpu ≡ length l.machine.cpus = whole ∙ sym l.invariant.as_many in
+    record {
+      round = subst (λ n. Chain Going TakesTurn n (going (scene c.args.machine.now c.args.trace.now) true) (going (scene l.machine l.trace) l.over)) whole l.invariant.turns;
+      over_is = λ is k p at. l.invariant.over_is is k p (subst (λ n. k < n) (sym all) (slice_get_within l.machine.cpus k p at)) at;
     }

@@ -9,7 +9,7 @@ returns-clause-judged c =
     c.requires.opening
     (plans_again c.as_slice-2.result.now c.args.script.now.threads c.in_ok-plans.plans.items c.deref-2.result.now c.as_slice-2.ensures c.deref-2.ensures.value c.in_ok-plans.ensures)
     (ends_again c.deref.result.now c.args.left.threads.items c.in_ok-ends.ends.items c.deref-3.result.now c.deref.ensures.value c.deref-3.ensures.value c.in_ok-ends.ensures)
-    record { rows = sym shown.rows; gens = sym shown.gens; tallies = sym shown.tallies; messages = refl }
+    record { rows = sym shown.rows; gens = sym shown.gens; tallies = sym shown.tallies; blobs = sym shown.blobs; messages = refl }
     c.requires.runs
     c.verdict_of-verdict.ensures
     c.requires.within

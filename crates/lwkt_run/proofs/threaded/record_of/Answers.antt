@@ -33,7 +33,7 @@ returns g c =
         threads = r.threads;
         closed = told_closed s.cpus s.tokens r.ends.runs.traces r.ends.runs.stops.items left.last sections c.in_ok-verdict.verdict r.values told on;
         last = left.last;
-        shows = record { rows = sym shown.rows; gens = sym shown.gens; tallies = sym shown.tallies; messages = refl };
+        shows = record { rows = sym shown.rows; gens = sym shown.gens; tallies = sym shown.tallies; blobs = sym shown.blobs; messages = refl };
         runs = r.ends.runs;
         chains = tokens_chain s.cpus s.tokens s.messages _ _ _ _ left.last r.within r.lawful r.ends.runs.tokens_from r.ends.runs.tells.tokens.run r.ends.runs.tells.tokens.ends r.ends.runs.leaves.rows r.ends.runs.leaves.gens;
         sections = sections;

@@ -8,4 +8,4 @@ use Rattle.lwkt_script.proofs.threads.threads_of.Given as goal
 
 abbrev pub invariant-loop-item : goal.invariant-loop-item
 invariant-loop-item l =
-    (each (thread l.cpus) l.threads.items (items_view (drop l.item-index l.items)) ≡ each (thread l.cpus) [] (items_view l.items)) × AreFew l.cpus l.threads.items × All (IsThread l.cpus) l.threads.items
+    (each (thread l.version l.cpus) l.threads.items (items_view (drop l.item-index l.items)) ≡ each (thread l.version l.cpus) [] (items_view l.items)) × AreFew l.cpus l.threads.items × All (IsThread l.cpus) l.threads.items

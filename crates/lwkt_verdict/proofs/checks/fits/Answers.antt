@@ -9,5 +9,5 @@ returns-clause-right c = λ before shows.
 
 pub returns-clause-noted : goal.returns-clause-noted
 returns-clause-noted c = λ before shows yes.
-    let F : Bool → Type 0 = λ b. ShowsProgress (before ++ record { poll = c.args.poll; blocked = b } ∷ []) c.asks.new.table in
+    let F : Bool → Type 0 = λ b. ShowsProgress (before ++ record { poll = c.args.poll.now; blocked = b } ∷ []) c.asks.new.table in
     subst F c.blocked_by.ensures (c.asks.ensures.moved before shows yes)

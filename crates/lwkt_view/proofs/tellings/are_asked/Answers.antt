@@ -1,8 +1,7 @@
-use Rattle.std.proofs.Common.{arith, rules}
 use Rattle.lwkt_view.proofs.tellings.are_asked.Goals as goal
 
-pub returns-else-is_some-clause-options : goal.returns-else-is_some-clause-options
-returns-else-is_some-clause-options c = λ options are.
-    let only = c.options_of.ensures.only options are in
-    let never : ⊥ = grind (arith, rules, only) in
+pub returns-else-ask_rounds_or_threads-clause-options : goal.returns-else-ask_rounds_or_threads-clause-options
+returns-else-ask_rounds_or_threads-clause-options c = λ options are.
+    let asked = c.ask_rounds_or_threads.ensures.options options are in
+    let never : ⊥ = cc in
     absurd never

@@ -11,3 +11,9 @@ returns-then-not-are_asked-clause-threads g c = λ asks.
     let asked = c.are_asked.ensures.threads asks in
     let never : ⊥ = cc in
     absurd never
+
+pub returns-then-not-are_asked-clause-along : goal.returns-then-not-are_asked-clause-along
+returns-then-not-are_asked-clause-along g c = λ options order are.
+    let asked = c.are_asked.ensures.along options order are in
+    let never : ⊥ = cc in
+    absurd never

@@ -25,18 +25,21 @@ values-requires-clause-fits c =
     let F : List Plan → List ℕ → List Kept → Type 0 = λ ps ws ks. ((k : ℕ) → slice_index ws k < 18446744073709551616) → (tok : ℕ) → tok < length ps → (plan_at ps tok).law ≡ Tally → (cpu : ℕ) → kept_by ks tok cpu < 18446744073709551616 in
     let ps = c.as_slice.result.now in
     let ws = c.as_slice-2.result.now in
-    subst (λ ks. F ps ws ks) (sym c.as_slice-3.ensures.value) (subst (λ x. F ps x c.gather.new.kept.items) (sym c.as_slice-2.ensures.value) (subst (λ x. F x c.last_words-words.result.items c.gather.new.kept.items) (sym c.as_slice.ensures.value)
-    (bank_fits b c.gather.new.clerk.id c.gather.new.clerk.me.0 c.last_words-words.result.items c.args.seats.items c.gather.new.kept.items c.last_words-words.ensures c.gather.ensures.done c.requires.all)))
+    subst (λ ks. F ps ws ks) (sym c.as_slice-4.ensures.value) (subst (λ x. F ps x c.gather.new.kept.items) (sym c.as_slice-2.ensures.value) (subst (λ x. F x c.last_words-words.result.0.items c.gather.new.kept.items) (sym c.as_slice.ensures.value)
+    (bank_fits b c.gather.new.clerk.id c.gather.new.clerk.me.0 c.last_words-words.result.0.items c.last_words-words.result.1.items c.args.seats.items c.gather.new.kept.items c.last_words-words.ensures.left c.gather.ensures.done c.requires.all)))
 
 pub values-requires-clause-processors : goal.values-requires-clause-processors
-values-requires-clause-processors c = bank_few c.args.self c.gather.new.clerk.id c.gather.new.clerk.me.0 c.last_words-words.result.items c.args.seats.items c.gather.new.kept.items c.last_words-words.ensures c.gather.ensures.done c.requires.all
+values-requires-clause-processors c = bank_few c.args.self c.gather.new.clerk.id c.gather.new.clerk.me.0 c.last_words-words.result.0.items c.last_words-words.result.1.items c.args.seats.items c.gather.new.kept.items c.last_words-words.ensures.left c.gather.ensures.done c.requires.all
 
 pub returns : goal.returns
 returns c =
     let b = c.args.self in
-    let F : List Plan → List ℕ → List Kept → Type 0 = λ ps ws ks. AreRead ps b.key.cpus ws ks c.values.result (length ps) in
-    let ks = c.as_slice-3.result.now in
+    let F : List Plan → List ℕ → List (List ℕ) → List Kept → Type 0 = λ ps ws ss ks. AreRead ps b.key.cpus ws ss ks c.values.result (length ps) in
+    let ks = c.as_slice-4.result.now in
+    let ss = c.as_slice-3.result.now in
     let ws = c.as_slice-2.result.now in
-    let read : F b.key.plans.items c.last_words-words.result.items c.gather.new.kept.items =
-    subst (λ x. F b.key.plans.items c.last_words-words.result.items x) c.as_slice-3.ensures.value (subst (λ x. F b.key.plans.items x ks) c.as_slice-2.ensures.value (subst (λ x. F x ws ks) c.as_slice.ensures.value c.values.ensures)) in
-    bank_closed b c.gather.new.clerk.id c.gather.new.clerk.me.0 c.last_words-words.result.items c.args.seats.items c.gather.new.kept.items c.last_words-words.ensures c.gather.ensures.done c.requires.all c.values.result read
+    let words = c.last_words-words.result.0.items in
+    let slots = c.last_words-words.result.1.items in
+    let read : F b.key.plans.items words slots c.gather.new.kept.items =
+    subst (λ x. F b.key.plans.items words slots x) c.as_slice-4.ensures.value (subst (λ x. F b.key.plans.items words x ks) c.as_slice-3.ensures.value (subst (λ x. F b.key.plans.items x ss ks) c.as_slice-2.ensures.value (subst (λ x. F x ws ss ks) c.as_slice.ensures.value c.values.ensures))) in
+    bank_closed b c.gather.new.clerk.id c.gather.new.clerk.me.0 words slots c.args.seats.items c.gather.new.kept.items c.last_words-words.ensures.left c.gather.ensures.done c.requires.all c.values.result read

@@ -1,3 +1,4 @@
+use Rattle.lwkt_bank.proofs.GuardMoves.{new_hands}
 use Rattle.std.proofs.Common.{ap, sym, refl, ◌∙◌, List, subst, length}
 use Rattle.lwkt_bank.specs.declared.notes.TokenNote.{TokenNote}
 use Rattle.lwkt_bank.specs.Views.{at}
@@ -12,7 +13,7 @@ invariant_of-result c =
     let F : List TokenNote → Type 0 = λ ns. Keeps ns c.args.cpu w in
     record {
       kept = subst F (sym c.blank_notes-notes.ensures) (Keeps-new c.args.cpu v w c.requires.next.kind (ap (λ m. m.0) c.split-seat.ensures.seat.1));
-      quiet = ap (λ m. length m.1) c.split-seat.ensures.seat.1;
+      hands = new_hands w c.split-seat.result.me.1 (ap (λ m. m.0.tokens) c.split-seat.ensures.seat.1) (ap (λ m. m.1) c.split-seat.ensures.seat.1);
       sized = ap length c.blank_notes-notes.ensures;
     }
 

@@ -1,3 +1,4 @@
+use Rattle.lwkt_bank.proofs.WordMoves.{exclusive-less}
 use Rattle.std.proofs.Common.{refl, sym, ◌∙◌, ◌-◌, ◌<◌, ◌≤◌, length-set, subst, arith}
 use Rattle.lwkt_base.specs.Holding.{references_in}
 use Rattle.lwkt_bank.specs.declared.notes.TokenNote.{TokenNote}
@@ -5,7 +6,7 @@ use Rattle.lwkt_bank.specs.Views.{less}
 use Rattle.lwkt_bank.specs.Notes.{note_at}
 use Rattle.lwkt_bank.specs.Seats.{entry, holding}
 use Rattle.lwkt_bank.proofs.NoteMoves.{IsNoted-less, counted}
-use Rattle.lwkt_bank.proofs.ChangeMoves.{changed, keeps_part, note_read, room_of, still_quiet, entry_tok}
+use Rattle.lwkt_bank.proofs.ChangeMoves.{changed, keeps_part, note_read, room_of, still_hands, entry_tok}
 use Rattle.lwkt_bank.specs.Deeds.{gives_one}
 use Rattle.lwkt_bank.proofs.seats.CpuSeat.give_one.Goals as goal
 
@@ -25,7 +26,7 @@ invariant_of-self c =
     let noted' = IsNoted-less _ s.cpu.0 (entry s t) (note_at s.notes t) c.requires.held (s.kept.each t c.requires.there) in
     record {
       kept = keeps_part s c.give_one.new.seat.me.0 t (less (entry s t)) c.give_one.ensures.gives.0 _ (λ m. record m { references = m.references - 1 }) _ (room_of c.args.bank.now s t c.requires.of c.requires.there) c.give_one.ensures.gives.1.1 c.requires.there (entry_tok s t) noted';
-      quiet = still_quiet s.seat c.give_one.new.seat c.give_one.ensures.same s.quiet;
+      hands = still_hands s c.give_one.new.seat c.args.tok.0 (less (entry s c.args.tok.0)) c.give_one.ensures.gives.0 _ c.give_one.ensures.same.slots c.give_one.ensures.gives.1.1 (entry_tok s c.args.tok.0) (exclusive-less (holding s c.args.tok.0) c.requires.not_last) refl;
       sized = length-set s.notes t _ ∙ s.sized;
     }
 
@@ -33,4 +34,4 @@ pub returns : goal.returns
 returns c =
     let s = c.args.self.now in
     let t = c.args.tok.0 in
-    record { found = c.give_one.result; changes = changed s _ t (less (entry s t)) c.give_one.ensures.gives.0 (λ cpu. gives_one cpu t c.give_one.result) c.give_one.ensures.same refl refl c.give_one.ensures.gives.1.0 c.give_one.ensures.gives.1.1 (entry_tok s t) }
+    record { found = c.give_one.result; changes = changed s _ t (less (entry s t)) c.give_one.ensures.gives.0 (λ cpu. gives_one cpu t c.give_one.result) c.give_one.ensures.same.table refl refl c.give_one.ensures.gives.1.0 c.give_one.ensures.gives.1.1 (entry_tok s t) }

@@ -55,7 +55,7 @@ returns-clause-ran g c =
     let within = placed i.hold.seat i.threads.items i.running place runs c.self.invariant.held in
     let at = thread_at i.threads.items place before within c.index_mut-thread.ensures.value in
     let up = p.ensures.gives_up in
-    let F : Processor g.row.B.Denot → Type 0 = λ x. Ran (IsOfOne x.threads) 162 x.seat p.new.hold.seat c.args.trace.now p.new.trace in
+    let F : Processor g.row.B.Denot → Type 0 = λ x. Ran (IsOfOne x.threads) 194 x.seat p.new.hold.seat c.args.trace.now p.new.trace in
     subst F c.self.view_is (ran_halted i.hold.seat p.new.hold.seat c.args.trace.now p.new.trace i.threads.items place before at p.ensures.ran)
 
 pub returns-clause-quiet : goal.returns-clause-quiet

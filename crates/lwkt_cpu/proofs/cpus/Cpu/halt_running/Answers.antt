@@ -3,4 +3,4 @@ use Rattle.lwkt_cpu.specs.Searches.{IsOfOne}
 use Rattle.lwkt_cpu.proofs.cpus.Cpu.halt_running.Goals as goal
 
 pub returns-in-None-clause-ran : goal.returns-in-None-clause-ran
-returns-in-None-clause-ran g c = ran_still (IsOfOne c.args.self.now.threads) 162 c.args.self.now.seat c.args.trace.now
+returns-in-None-clause-ran g c = ran_still (IsOfOne c.args.self.now.threads) 194 c.args.self.now.seat c.args.trace.now

@@ -22,7 +22,7 @@ returns-then-is_err-clause-ran g c =
     let p = c.args.self.now in
     let r = c.reserve.new.self in
     let e = c.reserve.ensures in
-    ran_with_room (IsMailed p.threads) 256 p.seat p.seat c.args.trace.now r r e.items e.len e.capacity (ran_still (IsMailed p.threads) 256 p.seat r)
+    ran_with_room (IsMailed p.threads) 258 p.seat p.seat c.args.trace.now r r e.items e.len e.capacity (ran_still (IsMailed p.threads) 258 p.seat r)
 
 pub returns-clause-ran : goal.returns-clause-ran
 returns-clause-ran g c =
@@ -36,12 +36,12 @@ returns-clause-ran g c =
     let P : Holding → Type 0 = IsMailed p.threads in
     let empty : holding n.new.self.seat ≡ holds_nothing = n.ensures.empty in
     let F : CpuSeat → Type 0 = λ x. Ran P 64 x n.new.self.seat h.new.trace y.new.trace in
-    let G : CpuSeat → Type 0 = λ x. Ran P 256 p.seat x c.args.trace.now y.new.trace in
+    let G : CpuSeat → Type 0 = λ x. Ran P 258 p.seat x c.args.trace.now y.new.trace in
     subst G (sym y.ensures.seat)
-    (ran_with_room P 256 p.seat n.new.self.seat c.args.trace.now r y.new.trace e.items e.len e.capacity
-    (ran_weaker P P (162 + 64) 256 p.seat n.new.self.seat r y.new.trace (λ x q. q) (omega arith)
-    (ran_then P 162 64 p.seat s n.new.self.seat r h.new.trace y.new.trace
-    (ran_weaker (IsOfOne p.threads) P 162 162 p.seat s r h.new.trace (λ x q. inr q) (omega arith) h.ensures.ran)
+    (ran_with_room P 258 p.seat n.new.self.seat c.args.trace.now r y.new.trace e.items e.len e.capacity
+    (ran_weaker P P (194 + 64) 258 p.seat n.new.self.seat r y.new.trace (λ x q. q) (omega arith)
+    (ran_then P 194 64 p.seat s n.new.self.seat r h.new.trace y.new.trace
+    (ran_weaker (IsOfOne p.threads) P 194 194 p.seat s r h.new.trace (λ x q. inr q) (omega arith) h.ensures.ran)
     (subst F n.ensures.seat (ran_mail P (cpu_of n.new.self.post.seat) 64 n.new.self.seat h.new.trace y.new.trace y.ensures.mine (inl empty) y.ensures.grew)))))
 
 pub returns-clause-ok : goal.returns-clause-ok

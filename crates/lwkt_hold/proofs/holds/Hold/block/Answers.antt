@@ -46,11 +46,11 @@ loop-given-preserved c =
     let left : removed (holding l.self.seat) last.tok.0 ≡ holding_of (take place refs) = back_removed l.self.seat refs held l.given more within l.invariant.front ∙ ap (λ n. holding_of (take n refs)) (sym next) in
     let given = g.ensures.given ∙ left in
     let front = take held refs in
-    let all = ran_then (IsFront front) (5 * l.given) 5 a l.self.seat g.new.seat c.args.trace.now l.trace g.new.trace l.invariant.ran
-    (ran_weaker P (IsFront front) 5 5 l.self.seat g.new.seat l.trace g.new.trace (λ h p. elim p [ inl is ↦ front_within refs (held - l.given) held h (omega arith) (is ∙ l.invariant.front) | inr is ↦ front_within refs place held h (omega arith) (is ∙ left) ]) (omega arith) g.ensures.ran) in
+    let all = ran_then (IsFront front) (6 * l.given) 6 a l.self.seat g.new.seat c.args.trace.now l.trace g.new.trace l.invariant.ran
+    (ran_weaker P (IsFront front) 6 6 l.self.seat g.new.seat l.trace g.new.trace (λ h p. elim p [ inl is ↦ front_within refs (held - l.given) held h (omega arith) (is ∙ l.invariant.front) | inr is ↦ front_within refs place held h (omega arith) (is ∙ left) ]) (omega arith) g.ensures.ran) in
     let F : Option TokId → Type 0 = λ o. IsFirstSoFar a refs g.new.seat o in
     record {
-      ran = ran_weaker (IsFront front) (IsFront front) (5 * l.given + 5) (5 * (l.given + 1)) a g.new.seat c.args.trace.now g.new.trace (λ h p. p) (omega arith) all;
+      ran = ran_weaker (IsFront front) (IsFront front) (6 * l.given + 6) (6 * (l.given + 1)) a g.new.seat c.args.trace.now g.new.trace (λ h p. p) (omega arith) all;
       front = given ∙ ap (λ n. holding_of (take n refs)) next;
       rows = given_more a l.self.seat g.new.seat (holding_of (take place refs)) last.tok last.mode g.result l.invariant.ran.bank was given l.invariant.rows g.ensures.rows;
       told =

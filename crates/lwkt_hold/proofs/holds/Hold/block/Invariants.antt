@@ -9,7 +9,7 @@ use Rattle.lwkt_hold.proofs.holds.Hold.block.Given as goal
 
 abbrev pub invariant-loop-given : goal.invariant-loop-given
 invariant-loop-given l = record {
-  ran : Ran (IsFront (take l.held l.refs)) (5 * l.given) l.initial.self.seat l.self.seat l.initial.trace l.trace;
+  ran : Ran (IsFront (take l.held l.refs)) (6 * l.given) l.initial.self.seat l.self.seat l.initial.trace l.trace;
   front : holding l.self.seat ≡ holding_of (take (l.held - l.given) l.refs);
   rows : GivenUp l.initial.self.seat l.self.seat;
   told : Tells l.initial.self.seat l.refs l.held (l.held - l.given) l.initial.trace.items l.trace.items;
