@@ -1,40 +1,61 @@
-//! Two processors, each driven by a thread of its own. A client moves units within an account, a shared token whose law is
-//! that its two cells sum up to 100, and asks a server on the other processor by message what the account says.
+//! A buffer of four places between a producer and a consumer, on two processors, each driven by a thread of its own.
 #![tactic(auto)]
 
-mod bodies;
-mod machines;
-mod threads;
+ghost use Rattle.std.specs.Prelude.{◌≡◌, IfOk, sum, slice_index_or, []};
 
-use machines::Ended;
+mod bodies;
+
+use bodies::{PLACES, Worker};
+use lwkt_base::Fault;
+use lwkt_program::{Closed, Limits, Machine, Stepper, makers};
+use std::alloc::Global;
 use std::io;
 use std::process::ExitCode;
-use threads::run;
+use std::thread::Threads;
 
-// What the account and the client say in the end.
-fn numbers_of(ended: &Ended) -> Option<[u64; 4]> {
-    let row = ended.closed.rows.get(0)?.as_slice();
-    let first = *row.get(0)?;
-    let second = *row.get(1)?;
-    let sections = *ended.closed.gens.get(0)?;
-    Some([first, second, sections, ended.confirmed])
+const LIMITS: Limits = Limits {
+    turns: 1_000_000,
+    idle: 100_000_000,
+};
+
+// The bodies of one processor.
+fn alone(alloc: Global, worker: Worker) -> Result<Vec<Stepper<Worker>>, Fault> {
+    Vec::from_array(alloc, [Stepper::new(worker)]).map_err(|_| Fault::Memory)
 }
 
-// The line that is printed.
-fn show<R: Print>(rt: &R, numbers: [u64; 4]) -> io::Result<()> {
-    let [first, second, sections, confirmed] = numbers;
-    println!(rt; "account {first} {second} after {sections} sections, {confirmed} confirmed")
+// Runs the producer and the consumer, so many rounds each. All places are there in the end.
+fn run<R: Threads + Sync>(
+    rt: &R,
+    alloc: Global,
+    rounds: u32,
+) -> Result<Closed<Stepper<Worker>>, Fault>
+    ensures all { IfOk result (λ closed. sum (slice_index_or closed.tokens.rows.items 0 []) ≡ 4) }
+{
+    let tokens = [makers::sum(alloc, &[PLACES, 0], PLACES)?];
+    let messages = [makers::message(makers::thread(0, 0))];
+    let producer = alone(alloc, Worker::new(true, rounds))?;
+    let consumer = alone(alloc, Worker::new(false, rounds))?;
+    let bodies = Vec::from_array(alloc, [producer, consumer]).map_err(|_| Fault::Memory)?;
+    let mut machine = Machine::open(alloc, &tokens, &messages, bodies)?;
+    machine.drive(rt, &LIMITS);
+    machine.close(alloc)
+}
+
+// What the buffer says in the end.
+fn numbers_of(closed: &Closed<Stepper<Worker>>) -> Option<[u64; 3]> {
+    let row = closed.tokens.rows.get(0)?.as_slice();
+    Some([*row.get(0)?, *row.get(1)?, *closed.tokens.gens.get(0)?])
 }
 
 fn main(rt: HostRuntime) -> io::Result<ExitCode> {
-    let told = match run(&rt, rt.alloc()) {
-        Ok(ended) => numbers_of(&ended),
+    let told = match run(&rt, rt.alloc(), 10) {
+        Ok(closed) => numbers_of(&closed),
         Err(_) => None,
     };
-    let Some(numbers) = told else {
+    let Some([free, taken, sections]) = told else {
         println!(rt; "the run was refused")?;
         return Ok(ExitCode::from(1));
     };
-    show(&rt, numbers)?;
+    println!(rt; "{free} places free, {taken} taken, after {sections} sections")?;
     Ok(ExitCode::SUCCESS)
 }
