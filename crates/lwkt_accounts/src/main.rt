@@ -4,18 +4,13 @@
 ghost use Rattle.std.specs.Prelude.{◌≡◌, IfOk, Unit, sum, slice_index_or, []};
 
 use lwkt_base::{Answer, Ask, Fault, TokId};
-use lwkt_program::{Closed, Limits, Machine, Stepper, Steps, makers};
+use lwkt_program::{Closed, LIMITS, Machine, Stepper, Steps, makers};
 use std::alloc::Global;
 use std::io;
 use std::process::ExitCode;
 use std::thread::Threads;
 
 const ACCOUNTS: TokId = TokId(0);
-
-const LIMITS: Limits = Limits {
-    turns: 1_000_000,
-    idle: 100_000_000,
-};
 
 /// Transfers a unit from the first account to another one, in a section of its own; again and again.
 #[derive(Drop)]
@@ -66,7 +61,7 @@ impl Steps for Teller {
 // The bodies of one processor.
 fn alone(alloc: Global, to: u8) -> Result<Vec<Stepper<Teller>>, Fault> {
     let teller = Stepper::new(Teller { to, left: 10 });
-    Vec::from_array(alloc, [teller]).map_err(|_| Fault::Memory)
+    makers::list(alloc, [teller])
 }
 
 // Runs both tellers. No unit is lost and none is made.
@@ -76,27 +71,19 @@ fn run<R: Threads + Sync>(rt: &R, alloc: Global) -> Result<Closed<Stepper<Teller
     let tokens = [makers::sum(alloc, &[300, 0, 0], 300)?];
     let first = alone(alloc, 1)?;
     let second = alone(alloc, 2)?;
-    let bodies = Vec::from_array(alloc, [first, second]).map_err(|_| Fault::Memory)?;
+    let bodies = makers::list(alloc, [first, second])?;
     let mut machine = Machine::open(alloc, &tokens, &[], bodies)?;
     machine.drive(rt, &LIMITS);
     machine.close(alloc)
 }
 
-// What the accounts say in the end.
-fn numbers_of(closed: &Closed<Stepper<Teller>>) -> Option<[u64; 3]> {
-    let row = closed.tokens.rows.get(0)?.as_slice();
-    Some([*row.get(0)?, *row.get(1)?, *row.get(2)?])
-}
-
 fn main(rt: HostRuntime) -> io::Result<ExitCode> {
-    let told = match run(&rt, rt.alloc()) {
-        Ok(closed) => numbers_of(&closed),
-        Err(_) => None,
-    };
-    let Some([first, second, third]) = told else {
+    let Ok(closed) = run(&rt, rt.alloc()) else {
         println!(rt; "the run was refused")?;
         return Ok(ExitCode::from(1));
     };
+    let (first, second) = (closed.cell(ACCOUNTS, 0), closed.cell(ACCOUNTS, 1));
+    let third = closed.cell(ACCOUNTS, 2);
     println!(rt; "accounts {first} {second} {third}")?;
     Ok(ExitCode::SUCCESS)
 }

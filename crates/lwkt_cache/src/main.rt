@@ -6,24 +6,19 @@ ghost use Rattle.std.specs.Prelude.{◌≡◌, ◌+◌, All, IfOk};
 mod parties;
 
 use lwkt_base::Fault;
-use lwkt_program::{Closed, Limits, Machine, Stepper, makers};
-use parties::Party;
+use lwkt_program::{Closed, LIMITS, Machine, Stepper, makers};
+use parties::{Party, SHARED};
 use std::alloc::Global;
 use std::io;
 use std::process::ExitCode;
 use std::thread::Threads;
-
-const LIMITS: Limits = Limits {
-    turns: 1_000_000,
-    idle: 100_000_000,
-};
 
 // The bodies of one processor.
 fn alone(alloc: Global, reads: bool) -> Result<Vec<Stepper<Party>>, Fault>
     ensures { IfOk result (λ bodies. All (λ b. b.steps.hits + b.steps.misses + b.steps.left ≡ 20) bodies.items) }
 {
     let party = Stepper::new(Party::new(reads));
-    Vec::from_array(alloc, [party]).map_err(|_| Fault::Memory)
+    makers::list(alloc, [party])
 }
 
 // Runs a writer and two readers. Each comes back with as many rounds behind it and left as it began with, and each round of a reader
@@ -35,27 +30,18 @@ fn run<R: Threads + Sync>(rt: &R, alloc: Global) -> Result<Closed<Stepper<Party>
     let writer = alone(alloc, false)?;
     let first = alone(alloc, true)?;
     let second = alone(alloc, true)?;
-    let bodies = Vec::from_array(alloc, [writer, first, second]).map_err(|_| Fault::Memory)?;
+    let bodies = makers::list(alloc, [writer, first, second])?;
     let mut machine = Machine::open(alloc, &tokens, &[], bodies)?;
     machine.drive(rt, &LIMITS);
     machine.close(alloc)
 }
 
-// Version and value in the end.
-fn numbers_of(closed: &Closed<Stepper<Party>>) -> Option<[u64; 2]> {
-    let row = closed.tokens.rows.get(0)?.as_slice();
-    Some([*row.get(0)?, *row.get(1)?])
-}
-
 fn main(rt: HostRuntime) -> io::Result<ExitCode> {
-    let told = match run(&rt, rt.alloc()) {
-        Ok(closed) => numbers_of(&closed),
-        Err(_) => None,
-    };
-    let Some([version, value]) = told else {
+    let Ok(closed) = run(&rt, rt.alloc()) else {
         println!(rt; "the run was refused")?;
         return Ok(ExitCode::from(1));
     };
+    let (version, value) = (closed.cell(SHARED, 0), closed.cell(SHARED, 1));
     println!(rt; "version {version}, value {value}")?;
     Ok(ExitCode::SUCCESS)
 }

@@ -5,7 +5,7 @@ use lwkt_base::{Answer, Ask, Fault, TokId};
 use lwkt_program::Steps;
 
 /// The shared value: its version, and the value itself.
-const SHARED: TokId = TokId(0);
+pub const SHARED: TokId = TokId(0);
 
 /// How many rounds each makes.
 pub const ROUNDS: u64 = 20;

@@ -11,7 +11,7 @@ ghost use Rattle.lwkt_program.specs.Machines.{Lasts, AreKept, AreLawful};
 use crate::lasting::Lasting;
 use crate::machines::Machine;
 use lwkt_bank::{Bank, CpuSeat};
-use lwkt_base::{Fault, MsgEnd};
+use lwkt_base::{Fault, MsgEnd, TokId};
 use lwkt_core::Event;
 use lwkt_drive::Driven;
 use lwkt_msg::{MsgBook, MsgSeat};
@@ -28,6 +28,34 @@ pub struct Closed<B> {
     pub bodies: Vec<Vec<B>>,
     /// The events by processor.
     pub traces: Vec<Vec<Event>>,
+}
+
+impl<B> Closed<B> {
+    ghost use Rattle.std.specs.Prelude.{◌≡◌, [], slice_index, slice_index_or};
+
+    /// The cells of a token; none where there is no such token.
+    pub fn row(&self, tok: TokId) -> &[u64]
+        ensures { result.now ≡ slice_index_or self.now.tokens.rows.items tok.0 [] }
+    {
+        match self.tokens.rows.get(tok.0 as usize) {
+            Some(row) => row.as_slice(),
+            None => &[],
+        }
+    }
+
+    /// A cell of a token; 0 where there is no such cell.
+    pub fn cell(&self, tok: TokId, cell: usize) -> u64
+        ensures { result ≡ slice_index (slice_index_or self.now.tokens.rows.items tok.0 []) cell }
+    {
+        self.row(tok).get(cell).copied().unwrap_or(0)
+    }
+
+    /// The generation of a token: how many sections changed it, counted on from its opening; 0 where there is no such token.
+    pub fn generation(&self, tok: TokId) -> u64
+        ensures { result ≡ slice_index self.now.tokens.gens.items tok.0 }
+    {
+        self.tokens.gens.get(tok.0 as usize).copied().unwrap_or(0)
+    }
 }
 
 // What a processor gave back.

@@ -13,3 +13,15 @@ pub trait Lasting: Body {
     /// A poll keeps it.
     ghost keeps: { (b : Self) (last : Answer) (ask : Ask) (d : Self) → Self.polled b last ask d → kept b → kept d };
 }
+
+impl Lasting for Box<dyn Body + Drop> {
+    ghost kept = { λ b. Unit {0} };
+
+    ghost keeps = { λ b last ask d step before. before };
+}
+
+impl Lasting for Box<dyn Body + Send + Drop> {
+    ghost kept = { λ b. Unit {0} };
+
+    ghost keeps = { λ b last ask d step before. before };
+}

@@ -15,5 +15,5 @@ pub use closings::Closed;
 pub use lasting::Lasting;
 pub use lwkt_cpu::{Body, Turned};
 pub use lwkt_drive::{Ending, Limits};
-pub use machines::Machine;
+pub use machines::{LIMITS, Machine};
 pub use steps::{Stepper, Steps};

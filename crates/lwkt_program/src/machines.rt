@@ -13,6 +13,12 @@ use lwkt_msg::MsgBook;
 use std::marker::Model;
 use std::thread::Threads;
 
+/// A million turns of a processor that run a thread, and a hundred million that run none.
+pub const LIMITS: Limits = Limits {
+    turns: 1_000_000,
+    idle: 100_000_000,
+};
+
 /// A bank, a book and the processors at them, the one of the last number first. All of them always belong together, and what each
 /// body keeps holds of it.
 #[derive(Drop)]

@@ -1,4 +1,4 @@
-//! Tokens and messages as they are declared.
+//! Tokens and messages as they are declared, and lists of what a machine is opened with.
 ghost use Rattle.std.specs.Prelude.{◌≡◌, ◌<◌, ◌∷◌, [], length, IfOk, OnErr, None, Some};
 
 use lwkt_base::{Blob, Cells, CpuId, Fault, Law, MsgSpec, ThreadId, TokSpec};
@@ -104,4 +104,13 @@ pub fn message(origin: ThreadId) -> MsgSpec
     ensures { result ≡ record { round = 0; origin = origin } }
 {
     MsgSpec { round: 0, origin }
+}
+
+/// A list of these.
+///
+/// Refused with `Memory`; what was handed over is then dropped.
+pub fn list<T: Drop, const N: usize>(alloc: Global, items: [T; N]) -> Result<Vec<T>, Fault>
+    ensures { IfOk result (λ list. list.items ≡ items) }
+{
+    Vec::from_array(alloc, items).map_err(|_| Fault::Memory)
 }
