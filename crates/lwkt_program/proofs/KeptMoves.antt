@@ -33,10 +33,10 @@ Has kept p = All kept p.bodies
 kept_chosen : {B : Type 0} (kept : B → Type 0) (old new : Processor B) (t u : Vec Event Global) (running found : Option ℕ) → Chooses old new t u running found → Has kept old → Has kept new
 kept_chosen {B} kept old new t u (Some place) found ch before =
     let F : Processor B → Type 0 = λ p. Has kept p in
-    subst F (sym ch.1.0) before
+    subst F (sym ch.1) before
 kept_chosen {B} kept old new t u None found ch before =
     let F : List B → Type 0 = λ bodies. All kept bodies in
-    subst F (sym ch.1.1.0) before
+    subst F (sym ch.2) before
 
 kept_one : {B : Type 0} (polled : B → Answer → Ask → B → Type 0) (kept : B → Type 0) → Keeps polled kept → (bank : BankId) (old new : Processor B) (t u : Vec Event Global) (place : ℕ) → RunsOne polled bank old new t u place → Has kept old → Has kept new
 kept_one {B} polled kept keeps bank old new t u place one before =

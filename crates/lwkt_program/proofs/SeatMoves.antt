@@ -1,9 +1,9 @@
 -- Seats as the openings of bank and book give them, and the rows at the close.
-use Rattle.std.proofs.Common.{◌≡◌, ℕ, suc, ◌+◌, ◌<◌, List, [], ◌∷◌, length, ap, subst, refl, arith}
-use Rattle.std.specs.Prelude.{All, Vec, Result, IfOk, None, sum, slice_index_or}
+use Rattle.std.proofs.Common.{◌≡◌, ℕ, suc, ◌+◌, ◌<◌, List, [], ◌∷◌, ◌++◌, length, ap, subst, refl, arith}
+use Rattle.std.specs.Prelude.{Bool, true, false, if◌then◌else◌, All, Vec, Result, IfOk, None, sum, slice_index_or}
 use Rattle.std.specs.declared.alloc.Global.{Global}
 use Rattle.std.proofs.Math.Path.{fun_ext}
-use Rattle.std.proofs.lemmas.List.Elements.{All-nil, All-cons}
+use Rattle.std.proofs.lemmas.List.Elements.{All-nil, All-cons, All-push, All-same}
 use Rattle.std.proofs.lemmas.Result.{IfOk-weaker}
 use Rattle.lwkt_base.specs.declared.faults.Fault.{Fault}
 use Rattle.lwkt_base.specs.declared.openings.TokSpec.{TokSpec}
@@ -87,3 +87,8 @@ lawful_closed bank cpus seats closed is =
     lawful_from 0 bank.plans closed (λ k low.
     let told = is.each k low in
     lawful_at (plan_at bank.plans k) closed k (told.lawful, tallied (plan_at bank.plans k).law (plan_at bank.plans k).param (slice_index_or closed.rows.items k []) (slice_index_or closed.tallies.items k []) told.all_added))
+
+-- what holds of a list and of what is pushed onto it, if there is memory, holds of what comes of it
+pub pushed : {A : Type 0} (P : A → Type 0) (ok : Bool) (xs : List A) (x : A) (ys : List A) → ys ≡ (if ok then xs ++ x ∷ [] else xs) → All P xs → P x → All P ys
+pushed P true xs x ys is all one = All-same P ys (xs ++ x ∷ []) is (All-push P xs x all one)
+pushed P false xs x ys is all one = All-same P ys xs is all

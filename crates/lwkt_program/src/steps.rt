@@ -40,18 +40,34 @@ impl<S> Stepper<S> {
     }
 }
 
+impl<S: Steps> Stepper<S> {
+    // What it asks after this answer.
+    fn step(&mut self, last: Answer) -> Ask
+        ensures { S.kept self.old.steps → S.kept self.new.steps }
+    {
+        let Some(asked) = self.asked else {
+            return self.steps.begin();
+        };
+        match last {
+            Answer::Refused(fault) => self.steps.refused(asked, fault),
+            answer => self.steps.answered(asked, answer),
+        }
+    }
+
+    // Keeps what was asked.
+    fn note(&mut self, ask: &Ask)
+        ensures { self.new.steps ≡ self.old.steps }
+    {
+        self.asked = Some(*ask);
+    }
+}
+
 impl<S: Steps> Body for Stepper<S> {
     ghost polled = { λ b last ask d. S.kept b.steps → S.kept d.steps };
 
     fn poll(&mut self, last: Answer) -> Ask {
-        let ask = match self.asked {
-            None => self.steps.begin(),
-            Some(asked) => match last {
-                Answer::Refused(fault) => self.steps.refused(asked, fault),
-                answer => self.steps.answered(asked, answer),
-            },
-        };
-        self.asked = Some(ask);
+        let ask = self.step(last);
+        self.note(&ask);
         ask
     }
 }

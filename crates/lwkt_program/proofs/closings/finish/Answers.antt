@@ -7,6 +7,6 @@ use Rattle.lwkt_program.proofs.closings.finish.Goals as goal
 
 pub returns-clause-ready : goal.returns-clause-ready
 returns-clause-ready g c = record {
-  of = ap (λ (s : CpuSeat). bank_of s) c.retire.ensures.seat ∙ c.stop.ensures.ran.bank ∙ c.requires.at.bank_is;
-  empty = λ tok low. ap (λ (h : Holding). h tok) c.retire.ensures.empty;
+  of = ap (λ (s : CpuSeat). bank_of s) c.retire-seat.ensures.seat ∙ c.stop.ensures.ran.bank ∙ c.requires.at.bank_is;
+  empty = λ tok low. ap (λ (h : Holding). h tok) c.retire-seat.ensures.empty;
 }
