@@ -1,7 +1,7 @@
 //! Three accounts under one token, between which two processors transfer units, each on a thread of its own.
 #![tactic(auto)]
 
-ghost use Rattle.std.specs.Prelude.{◌≡◌, IfOk, Unit, sum, slice_index_or, []};
+ghost use Rattle.std.specs.Prelude.{◌≡◌, IfOk, sum, slice_index_or, []};
 
 use lwkt_base::{Answer, Ask, Fault, TokId};
 use lwkt_program::{Closed, LIMITS, Machine, Stepper, Steps, makers};

@@ -1,7 +1,7 @@
 //! A buffer of four places between a producer and a consumer, on two processors, each driven by a thread of its own.
 #![tactic(auto)]
 
-ghost use Rattle.std.specs.Prelude.{◌≡◌, IfOk, Unit, sum, slice_index_or, []};
+ghost use Rattle.std.specs.Prelude.{◌≡◌, IfOk, sum, slice_index_or, []};
 
 use lwkt_base::{Answer, Ask, Call, Fault, MsgId, TokId};
 use lwkt_program::{Closed, LIMITS, Machine, Stepper, Steps, makers};

@@ -1,5 +1,4 @@
 //! Bodies that ask what they are listed with.
-ghost use Rattle.std.specs.Prelude.{Unit};
 
 use lwkt_base::{Answer, Ask, Fault, TokId};
 use lwkt_program::{Body, Stepper, Steps};
