@@ -81,17 +81,56 @@ function reportStart(lines) {
   return at < 0 ? lines.length : at;
 }
 
-// All that `turns` writes.
-function readRun(text) {
+// The lines of a text that ends with a line feed.
+function linesOf(text) {
   const lines = text.split("\n");
   if (lines[lines.length - 1] === "") lines.pop();
-  const turns = [];
-  let at = 0;
-  for (; at < lines.length; at += 1) {
+  return lines;
+}
+
+// Adds the turns of some lines, from this one on, up to the first that is none; says which that is.
+function addTurns(turns, lines, at, end) {
+  for (; at < end; at += 1) {
     const turn = readTurn(lines[at]);
     if (!turn) break;
     turns.push(turn);
   }
+  return at;
+}
+
+// All that `turns` writes.
+function readRun(text) {
+  const lines = linesOf(text), turns = [];
+  return readRest(lines, turns, addTurns(turns, lines, 0, lines.length));
+}
+
+// Long work, cut into parts: between two of them the page answers, where 4 ms have gone by.
+class Slices {
+  constructor() {
+    this.since = performance.now();
+  }
+
+  async rest() {
+    if (performance.now() - this.since < 4) return;
+    await new Promise((resolve) => setTimeout(resolve));
+    this.since = performance.now();
+  }
+}
+
+// The same, a few lines at a time.
+async function readSlowly(text) {
+  const lines = linesOf(text), turns = [], few = 50, slices = new Slices();
+  let at = 0, end = 0;
+  do {
+    end = Math.min(end + few, lines.length);
+    at = addTurns(turns, lines, at, end);
+    await slices.rest();
+  } while (at === end && end < lines.length);
+  return readRest(lines, turns, at);
+}
+
+// What stands behind the turns of a run, whose lines begin here.
+function readRest(lines, turns, at) {
   const start = at + reportStart(lines.slice(at));
   const between = lines.slice(at, start), report = lines.slice(start);
   const choice = between.filter((line) => /^turns (before|behind) turn /.test(line));

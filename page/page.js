@@ -1,56 +1,55 @@
 "use strict";
 const at = (id) => document.getElementById(id);
-const windowSize = 10000, rowHeight = 28, mostWindows = 12, mostCuts = 64, wholePicture = 120, pictureRounds = 40, longestShown = 1000000;
+const windowSize = 10000, rowHeight = 28, mostWindows = 12, mostCuts = 64, wholePicture = 120, pictureRounds = 20;
 
 // ---- The worker, which has the module.
 
-const machine = { worker: null, calls: new Map(), count: 0 };
+const newMachine = () => ({ worker: null, calls: new Map(), count: 0 });
 
-function moduleBytes() {
-  const text = atob(at("module").textContent.replace(/\s/g, ""));
-  return Uint8Array.from(text, (sign) => sign.charCodeAt(0));
-}
+// One for runs, and one for searches, so that a search leaves runs free.
+const machine = newMachine(), searcher = newMachine();
 
-function startWorker() {
+function startWorker(of) {
   const address = URL.createObjectURL(new Blob([at("worker").textContent], { type: "text/javascript" }));
   const worker = new Worker(address);
   URL.revokeObjectURL(address);
-  worker.onmessage = ({ data }) => settle(data);
-  worker.onerror = (event) => stopWorker(event.message || "the worker ended");
-  machine.worker = worker;
-  const bytes = moduleBytes();
-  worker.postMessage({ number: 0, bytes }, [bytes.buffer]);
+  worker.onmessage = ({ data }) => settle(of, data);
+  worker.onerror = (event) => stopWorker(event.message || "the worker ended", of);
+  of.worker = worker;
+  worker.postMessage({ number: 0, packed: at("module").textContent });
 }
 
-// A call of the library by its name: what it wrote and its status. Refused where the module trapped, or the worker was stopped.
-function ask(name, script, words) {
-  if (!machine.worker) startWorker();
-  machine.count += 1;
-  const number = machine.count;
+// A call of the library: what it wrote and its status. Refused where the module trapped, or the worker was stopped.
+function askOf(of, call) {
+  if (!of.worker) startWorker(of);
+  of.count += 1;
+  const number = of.count;
   return new Promise((resolve, reject) => {
-    machine.calls.set(number, { resolve, reject });
-    machine.worker.postMessage({ number, name, script, words });
+    of.calls.set(number, { resolve, reject });
+    of.worker.postMessage({ number, ...call });
   });
 }
 
-function settle(answer) {
-  if (answer.number === 0) return stopWorker(`this browser doesn't take the module, which needs WebAssembly with 64-bit memory (${answer.error})`);
-  const call = machine.calls.get(answer.number);
-  machine.calls.delete(answer.number);
+const ask = (name, script, words) => askOf(machine, { name, script, words });
+
+function settle(of, answer) {
+  if (answer.number === 0) return stopWorker(`this browser doesn't take the module, which needs WebAssembly with 64-bit memory (${answer.error})`, of);
+  const call = of.calls.get(answer.number);
+  of.calls.delete(answer.number);
   if (answer.error) call?.reject(new Error(answer.error));
   else call?.resolve(answer);
 }
 
 // The text that a call wrote.
 function textOf(answer) {
-  return new TextDecoder().decode(answer.bytes);
+  return answer.text;
 }
 
-function stopWorker(why) {
-  machine.worker?.terminate();
-  machine.worker = null;
-  const calls = [...machine.calls.values()];
-  machine.calls.clear();
+function stopWorker(why, of = machine) {
+  of.worker?.terminate();
+  of.worker = null;
+  const calls = [...of.calls.values()];
+  of.calls.clear();
   for (const call of calls) call.reject(new Error(why));
 }
 
@@ -62,32 +61,49 @@ let run = null;
 let chosen = 0;
 let wanted = 0;
 
-function statusWords(status) {
-  return { 0: "Every thread ended.", 2: "The turns were used up before every thread ended.", 4: "The run is unlawful." }[status] || `Status ${status}.`;
+function statusWords(status, verdicts) {
+  if (status === 0 && verdicts.length) return "All that is expected holds.";
+  return { 0: "Every thread ended.", 2: "The turns were used up before every thread ended.", 4: "The run is unlawful.", 5: "Something that is expected doesn't hold." }[status] || `Status ${status}.`;
 }
 
-async function makeRun(script) {
+const isRefused = (answer) => answer.status === 1 || answer.status === 3;
+
+// A script in either form: in JSON, and of a text what its expectations came to; or why it is refused.
+async function readScript(script) {
+  if ((await ask("lwkt_is_text", script)).status !== 1) return { isText: false, json: script, verdicts: [] };
+  const told = await ask("lwkt_run_text", script);
+  if (isRefused(told)) return { isText: true, refused: told };
+  const json = await ask("lwkt_text_json", script);
+  if (isRefused(json)) return { isText: true, refused: json };
+  return { isText: true, json: textOf(json), verdicts: readVerdicts(textOf(told), script), status: told.status };
+}
+
+async function makeRun(text) {
+  const form = await readScript(text);
+  if (text === at("script").value) putForm(form.isText);
+  if (form.refused) return form;
+  const script = form.json;
   const whole = await show(script, "turns");
-  if (whole.status === 1 || whole.status === 3) return { refused: whole };
-  const read = readRun(textOf(whole));
+  if (isRefused(whole)) return { refused: whole };
+  const read = await readSlowly(textOf(whole));
   const opening = await show(cutScript(script, 1), "turns --chains");
   const { messages, cpus } = JSON.parse(script);
-  const made = { script, cpus, messages, whole: read, status: whole.status, milliseconds: whole.milliseconds, total: read.total, openings: readOpenings(textOf(opening)), windows: new Map(), cuts: new Map(), parts: new Map() };
+  const made = { script, text, verdicts: form.verdicts, cpus, messages, whole: read, status: form.status ?? whole.status, milliseconds: whole.milliseconds, total: read.total, openings: readOpenings(textOf(opening)), windows: new Map(), cuts: new Map(), parts: new Map() };
   made.rounds = Math.ceil(made.total / cpus);
-  addWindow(made, 0, read.turns);
+  await addWindow(made, 0, read.turns);
   return { made };
 }
 
 // What stands before the first of some turns: at the start of the run its opening, else what the turns before left, if known.
-function stateBefore(it, number) {
+async function stateBefore(it, number) {
   if (number === 0) return openState(it.openings, it.messages);
   const before = it.windows.get(number - 1);
   if (!before) return unknownState(it.openings, it.messages);
   return stateAfter(before, before.turns.length - 1);
 }
 
-function addWindow(it, number, turns) {
-  const before = stateBefore(it, number);
+async function addWindow(it, number, turns) {
+  const before = await stateBefore(it, number);
   const from = number === 0 ? 0 : it.windows.has(number - 1) ? it.windows.get(number - 1).from : number * windowSize;
   tellFirstWords(before, turns);
   if (it.windows.size >= mostWindows) it.windows.delete([...it.windows.keys()].find((key) => key !== 0));
@@ -95,7 +111,8 @@ function addWindow(it, number, turns) {
 }
 
 // What stands after a turn of a window. Every 256th state is kept, so that a step is quick.
-function stateAfter(part, last) {
+async function stateAfter(part, last) {
+  const slices = new Slices();
   let state = copyState(part.before), begin = 0;
   for (let mark = Math.floor((last + 1) / 256); mark > 0; mark -= 1) {
     if (!part.marks[mark]) continue;
@@ -106,6 +123,7 @@ function stateAfter(part, last) {
   for (let i = begin; i <= last; i += 1) {
     if (i % 256 === 0 && i > 0 && !part.marks[i / 256]) part.marks[i / 256] = copyState(state);
     tell(state, part.turns[i]);
+    if (i % 64 === 0) await slices.rest();
   }
   return state;
 }
@@ -116,7 +134,7 @@ async function windowOf(it, turn) {
   if (!it.windows.has(number)) {
     const from = number * windowSize;
     const lines = await show(it.script, `turns --turns ${from}..${from + windowSize - 1}`);
-    addWindow(it, number, readRun(textOf(lines)).turns);
+    await addWindow(it, number, (await readSlowly(textOf(lines))).turns);
   }
   return it.windows.get(number);
 }
@@ -202,7 +220,8 @@ async function drawChosen(it, turn) {
   scrollToChosen();
   drawRows();
   showTurn(at("chosen"), now);
-  const state = stateAfter(part, index);
+  const state = await stateAfter(part, index);
+  if (it !== run || turn !== chosen) return;
   const look = { turn: now, turns: part.turns, at: index, state, from: part.from, go: choose, threads: [] };
   at("state-head").textContent = `After turn ${turn}`;
   showTokens(at("tokens"), look);
@@ -236,7 +255,7 @@ async function choose(turn) {
   }
 }
 
-// ---- The picture: the whole of a short run, else 40 rounds of it.
+// ---- The picture: the whole of a short run, else 20 rounds of it.
 
 function pictureRange(it, round) {
   if (it.rounds <= wholePicture) return [0, Math.max(0, it.rounds - 1)];
@@ -275,7 +294,8 @@ async function start(turn = 0) {
   try {
     const answer = await makeRun(script);
     say("");
-    if (answer.refused) showRefusal(script, answer.refused);
+    if (answer.refused && answer.isText) showWrongs(script, answer.refused);
+    else if (answer.refused) showRefusal(script, answer.refused);
     else showRun(answer.made, turn);
   } catch (error) {
     say(`It didn't run: ${error.message}`);
@@ -287,22 +307,24 @@ async function start(turn = 0) {
 function showVerdict(it) {
   const good = it.whole.verdict === "lawful";
   const faulted = it.whole.threads.filter((thread) => thread.state.startsWith("faulted")).map((thread) => `${thread.id} ${thread.state}`);
-  const parts = [`${statusWords(it.status)} `, make("span", { class: good ? "good" : "bad" }, it.whole.verdict)];
+  const parts = [`${statusWords(it.status, it.verdicts)} `, make("span", { class: good ? "good" : "bad" }, it.whole.verdict)];
   if (faulted.length) parts.push("; ", make("span", { class: "bad" }, faulted.join(", ")));
   at("verdict").replaceChildren(...parts, make("span", { class: "quiet" }, `. ${it.total} turns in ${it.rounds} rounds, ${it.milliseconds.toFixed(it.milliseconds < 10 ? 1 : 0)} ms`));
 }
 
 function showRun(it, turn) {
+  performance.mark("ran");
   run = it;
   chosen = wanted = 0;
   showVerdict(it);
   at("ran").hidden = false;
+  showExpected(it);
   at("report").textContent = [...it.whole.ends, ...it.whole.report].join("\n");
   for (const id of ["chains", "judged", "chains-note", "trace-note"]) at(id).textContent = "";
   at("trace").value = "";
   at("turns").scrollTop = 0;
   drawOpenParts();
-  choose(turn);
+  choose(turn).then(() => performance.mark("shown"));
 }
 
 // The parts behind what was opened are asked for when they are opened.
@@ -319,11 +341,11 @@ async function fillPart(name, words, put) {
   at(`${name}-note`).textContent = "..";
   put("");
   try {
-    const answer = await show(it.script, words), { bytes } = answer;
+    const answer = await askOf(machine, { name: "lwkt_show_turns", script: it.script, words, isLongFile: true });
     if (it !== run) return;
-    it.parts.set(name, bytes);
-    const isLong = bytes.length > longestShown;
-    at(`${name}-note`).textContent = isLong ? `It has ${bytes.length} bytes, too many to be shown here; it can be saved.` : "";
+    const isLong = Boolean(answer.file);
+    it.parts.set(name, answer.file || textOf(answer));
+    at(`${name}-note`).textContent = isLong ? `It has ${answer.file.size} bytes, too many to be shown here; it can be saved.` : "";
     put(isLong ? "" : textOf(answer));
   } catch (error) {
     it.parts.delete(name);
@@ -340,8 +362,8 @@ function save(name, text, type) {
 
 // The trace that is to be checked: the one in view, or of a long run the bytes of the one that isn't shown.
 function wholeTrace() {
-  const whole = run?.parts.get("trace") || "";
-  return at("trace").value || (whole.length > longestShown ? whole : "");
+  const whole = run?.parts.get("trace");
+  return at("trace").value || (whole instanceof Blob ? whole : "");
 }
 
 async function judge() {
@@ -371,17 +393,46 @@ function excerpt(script, { from, to }) {
   return make("pre", {}, line, "\n", make("span", { class: "under" }, under));
 }
 
-function showRefusal(script, answer) {
-  const place = readPlace(textOf(answer));
+// What is shown of any script that is refused.
+function beginRefusal(answer) {
   run = null;
   at("ran").hidden = true;
   at("verdict").textContent = answer.status === 3 ? "There was no memory for this run." : `The script was refused, fault ${answer.fault}.`;
   at("script").setAttribute("aria-invalid", "true");
+}
+
+function goThere(part) {
+  return make("button", { type: "button", class: "small", onclick: () => leadTo(part) }, "Go there");
+}
+
+// All that is wrong with a text, each with its place; the first is told in the editor too.
+function showWrongs(script, answer) {
+  const said = textOf(answer), wrongs = readWrongs(said);
+  beginRefusal(answer);
+  if (!wrongs.length) return at("refusal").replaceChildren(make("p", {}, said.trim().replace(/^lwkt_\w+: /, "") || "refused"));
+  const parts = wrongs.map((wrong) => wordAt(script, wrong.line, wrong.column));
+  const items = wrongs.map((wrong, i) => make("li", {}, make("p", {}, `Line ${wrong.line}, column ${wrong.column}: ${wrong.said} `, goThere(parts[i])), excerpt(script, parts[i])));
+  at("refusal").replaceChildren(make("ol", {}, ...items));
+  markParts(script, parts, wrongs[0].said);
+}
+
+function showRefusal(script, answer) {
+  const place = readPlace(textOf(answer));
+  beginRefusal(answer);
   if (place.line === undefined) return at("refusal").replaceChildren(make("p", {}, place.said || "refused"));
   const part = partAt(script, place.line, place.column);
-  const lead = make("button", { type: "button", class: "small", onclick: () => leadTo(part) }, "Go there");
-  at("refusal").replaceChildren(make("p", {}, `Line ${place.line}, column ${place.column}: ${place.said} `, lead), excerpt(script, part));
-  markPart(script, part, place.said);
+  at("refusal").replaceChildren(make("p", {}, `Line ${place.line}, column ${place.column}: ${place.said} `, goThere(part)), excerpt(script, part));
+  markParts(script, [part], place.said);
+}
+
+// What the text expects, and whether it holds.
+function showExpected(it) {
+  at("expected").hidden = it.verdicts.length === 0;
+  at("verdicts").replaceChildren(...it.verdicts.map(({ line, holds, said }) => {
+    const words = make("span", { class: holds ? "good" : "bad" }, holds ? "holds" : "doesn't hold");
+    const from = placeOf(it.text, line, 1);
+    return make("li", { "data-holds": String(holds) }, words, " ", make("code", {}, said), " ", goThere({ from, to: (it.text.indexOf("\n", from) + 1 || it.text.length + 1) - 1 }), make("span", { class: "quiet" }, ` line ${line}`));
+  }));
 }
 
 function leadTo(part) {
@@ -389,10 +440,16 @@ function leadTo(part) {
   at("script").setSelectionRange(part.from, part.to);
 }
 
-// Marks the bad part in the editor, with what is bad of it under it.
-function markPart(script, part, said) {
-  const mark = make("mark", {}, script.slice(part.from, part.to) || " ");
-  at("mirror").replaceChildren(script.slice(0, part.from), mark, script.slice(part.to), "\n");
+// Marks bad parts in the editor, with what is bad of the first under it.
+function markParts(script, parts, said) {
+  const pieces = [];
+  let done = 0;
+  for (const { from, to } of parts.filter((part, i) => i === 0 || part.from >= parts[i - 1].to)) {
+    pieces.push(script.slice(done, from), make("mark", {}, script.slice(from, to) || " "));
+    done = to;
+  }
+  at("mirror").replaceChildren(...pieces, script.slice(done), "\n");
+  const mark = at("mirror").querySelector("mark");
   at("script").scrollTop = Math.max(0, mark.offsetTop - at("script").clientHeight / 3);
   at("bubble").textContent = said;
   at("bubble").hidden = false;
@@ -408,6 +465,84 @@ function followScroll() {
   const top = last.bottom - outer.top + 3;
   at("bubble").style.top = `${top}px`;
   at("bubble").hidden = top < 0 || top > outer.height;
+}
+
+// ---- The form of what is typed, and every order of it.
+
+const formWords = { text: "Read as a text of the language for scripts.", json: "Read as JSON." };
+let formTimer = 0;
+
+async function showForm() {
+  const script = at("script").value;
+  const { status } = await ask("lwkt_is_text", script).catch(() => ({ status: 3 }));
+  if (script === at("script").value && status !== 3) putForm(status === 1);
+}
+
+function putForm(isText) {
+  const form = isText ? "text" : "json";
+  at("form").textContent = formWords[form];
+  at("editor").dataset.form = form;
+}
+
+function showFormSoon() {
+  clearTimeout(formTimer);
+  formTimer = setTimeout(showForm, 150);
+}
+
+let search = null;
+
+function sayOrders(text) {
+  at("orders-status").textContent = text;
+}
+
+function setSearching(is) {
+  at("orders-stop").hidden = !is;
+  at("orders-bar").hidden = !is;
+  at("orders").setAttribute("aria-busy", String(is));
+}
+
+function clearOrders() {
+  if (search) stopWorker("it was stopped", searcher);
+  search = null;
+  at("outcomes").replaceChildren();
+  sayOrders("");
+}
+
+function showOrders(read, isLast) {
+  sayOrders(sumWords(read, isLast));
+  at("outcomes").replaceChildren(...read.outcomes.map(outcomeItem));
+}
+
+// Tries all orders with more and more states, up to the bound, and shows what was found so far.
+async function searchUpTo(script, most, own) {
+  for (const states of boundsUpTo(most)) {
+    const answer = await askOf(searcher, { name: "lwkt_explore_orders", script, numbers: [states, 100000] });
+    if (search !== own) return;
+    if (![0, 2, 5].includes(answer.status)) return sayOrders(textOf(answer).trim().replace(/^lwkt_\w+: /, "") || `status ${answer.status}`);
+    const read = readOrders(textOf(answer));
+    const isLast = answer.status !== 5 || states === most || read.sum.states < states;
+    showOrders(read, isLast);
+    at("orders-bar").value = states / most;
+    if (isLast) return;
+  }
+}
+
+async function tryOrders() {
+  clearOrders();
+  const own = search = {};
+  const most = Math.min(Math.max(1, Math.trunc(Number(at("states").value)) || 1), 1000000);
+  at("states").value = most;
+  at("orders-bar").value = 0;
+  sayOrders("Trying every order ..");
+  setSearching(true);
+  try {
+    await searchUpTo(at("script").value, most, own);
+  } catch (error) {
+    if (search === own) sayOrders(`${at("orders-status").textContent.replace(" Going on ..", "")} Ended before its end: ${error.message}.`);
+  } finally {
+    if (search === own || !search) setSearching(false);
+    if (search === own) search = null;
+  }
 }
 
 // ---- Links: the script behind the # of the address, packed where the browser can.
@@ -454,6 +589,7 @@ async function takeFragment() {
     if (!found) return false;
     chooseExample("");
     at("script").value = found.script;
+    clearOrders();
     await start(found.turn);
     return true;
   } catch {
@@ -471,11 +607,17 @@ function chooseExample(name) {
   at("told").textContent = examples.find((it) => it.dataset.name === name)?.dataset.told || "";
 }
 
+function exampleGroup(label, group) {
+  const options = examples.filter((it) => it.dataset.group === group);
+  return make("optgroup", { label }, ...options.map((it) => make("option", { value: it.dataset.name }, it.dataset.name.replace(/_/g, " "))));
+}
+
 function openExample(name) {
   const found = examples.find((it) => it.dataset.name === name);
   if (!found) return;
   chooseExample(name);
   at("script").value = found.textContent.replace(/^\n/, "");
+  clearOrders();
   start();
 }
 
@@ -506,7 +648,9 @@ function listen() {
   at("save-trace").addEventListener("click", () => save("trace.json", wholeTrace(), "application/json"));
   at("save-picture").addEventListener("click", () => save("run.svg", run.drawn || "", "image/svg+xml"));
   at("example").addEventListener("change", () => openExample(at("example").value));
-  at("script").addEventListener("input", () => { clearRefusal(); chooseExample(""); });
+  at("script").addEventListener("input", () => { clearRefusal(); chooseExample(""); clearOrders(); showFormSoon(); });
+  at("orders-start").addEventListener("click", tryOrders);
+  at("orders-stop").addEventListener("click", () => stopWorker("it was stopped", searcher));
   at("script").addEventListener("scroll", followScroll);
   new ResizeObserver(followScroll).observe(at("editor"));
   document.addEventListener("keydown", (event) => {
@@ -540,7 +684,7 @@ function listen() {
 
 async function begin() {
   setTheme(matchMedia("(prefers-color-scheme: dark)").matches);
-  at("example").append(make("option", { value: "" }, "(own script)"), ...examples.map((it) => make("option", { value: it.dataset.name }, it.dataset.name.replace(/_/g, " "))));
+  at("example").append(make("option", { value: "" }, "(own script)"), exampleGroup("A course, in order", "course"), exampleGroup("Examples", "examples"));
   listen();
   if (typeof WebAssembly !== "object") return say("This browser has no WebAssembly.");
   if (!(await takeFragment())) openExample("crossed_lists");

@@ -8,10 +8,10 @@ const bytes = Buffer.from(found[1], "base64");
 const library = new Library(bytes);
 const encoder = new TextEncoder(), decoder = new TextDecoder();
 
-function call(name, script, words) {
+function call(name, script, words, numbers = []) {
   const texts = [typeof script === "string" ? encoder.encode(script) : script];
   if (words !== undefined) texts.push(encoder.encode(words));
-  const answer = library.call(name, texts);
+  const answer = library.call(name, texts, numbers);
   return { ...answer, text: decoder.decode(answer.bytes) };
 }
 
@@ -53,6 +53,27 @@ function trySpoiled(name, times) {
     for (let j = 0; j <= next(3); j += 1) spoiled[next(spoiled.length)] = [next(256), 48 + next(10), 44, 34][next(4)];
     compare("lwkt_show_turns", spoiled, "turns", `${name}, spoiled ${i}`);
   }
+}
+
+// A text of the course: it is one, its JSON is the script beside it, and its report is that of this.
+function tryCourse(name) {
+  const text = read(examples, "litmus", `${name}.lwkt`), json = read(examples, "litmus", `${name}.json`);
+  same([call("lwkt_is_text", text).status, call("lwkt_is_text", json).status], [1, 0], `${name}: its form`);
+  same(JSON.parse(call("lwkt_text_json", text).text), JSON.parse(json), `${name}: its JSON`);
+  const told = call("lwkt_run_text", text);
+  check(told.status === 0 && told.text.startsWith(callProgram("lwkt_run_turns", json).text), `${name}: its report`);
+  const bounds = [100000, 100000];
+  const [one, other] = [text, json].map((script) => call("lwkt_explore_orders", script, undefined, bounds));
+  same([one.status, one.text], [other.status, other.text], `${name}: its outcomes`);
+  check([0, 2, 5].includes(one.status), `${name}: status ${one.status}`);
+}
+
+// What docs/EXPLORE.md shows.
+function tryOrders() {
+  const told = read(examples, "../docs/EXPLORE.md");
+  const wanted = told.slice(told.indexOf("    outcome 1"), told.indexOf("This is `examples")).split("\n").map((line) => line.trim()).filter(Boolean);
+  const script = read(examples, "calls_that_wait_for_each_other.json");
+  same(call("lwkt_explore_orders", script, undefined, [1000, 1000]).text.trim().split("\n"), wanted, "the orders of two calls");
 }
 
 // A trap is told, and the next call has a new module.
@@ -101,6 +122,8 @@ for (const name of namesIn("refused", ".json")) tryRefusal("refused", name, "lwk
 for (const name of namesIn("traces", ".json")) compare("lwkt_check_trace", read(examples, "traces", `${name}.json`), undefined, name);
 for (const name of namesIn("traces/refused", ".json")) tryRefusal("traces/refused", name, "lwkt_check_trace");
 for (const name of ["crossed_lists", "server_of_three"]) trySpoiled(name, 200);
+for (const name of namesIn("litmus", ".lwkt")) tryCourse(name);
+tryOrders();
 tryTrap();
 tryAnew();
 tryLong();
