@@ -4,10 +4,15 @@
 // A search begins with few states and goes on with four times as many, so that what was found so far is soon seen.
 const firstStates = 1000;
 
+// The processors of an order as it is written, `0 1 0`, or `-` for no turn.
+function orderOf(text) {
+  return (text.match(/\d/g) || []).map(Number);
+}
+
 // An outcome's first line: `outcome 1 stuck, order 0 1 0`.
 function readOutcome(line) {
   const found = /^outcome (\d+) (ended|stuck|cut), order (.*)$/.exec(line);
-  return found && { number: Number(found[1]), kind: found[2], order: found[3] === "-" ? [] : found[3].split(" "), report: [], why: [] };
+  return found && { number: Number(found[1]), kind: found[2], order: orderOf(found[3]), report: [], why: [] };
 }
 
 // The last line: `3 outcomes; 211 states, 422 turns; complete`.
@@ -18,10 +23,11 @@ function readSum(line) {
 
 // All that a search writes.
 function readOrders(text) {
-  const read = { outcomes: [], lost: null, sum: null };
-  for (const line of text.split("\n")) {
+  const lines = text.split("\n"), read = { outcomes: [], lost: null, sum: null, verdicts: verdictsIn(lines) };
+  for (const line of lines) {
     const outcome = readOutcome(line), last = read.outcomes[read.outcomes.length - 1];
     if (outcome) read.outcomes.push(outcome);
+    else if (readVerdict(line)) continue;
     else if (line.startsWith("lost: ")) read.lost = line.slice(6);
     else if (readSum(line)) read.sum = readSum(line);
     else if (line.startsWith("why: ") && last) last.why = line.slice(5).split("; ");
@@ -32,8 +38,20 @@ function readOrders(text) {
 
 const outcomeKinds = { ended: ["ended", "every thread ended"], stuck: ["waits", "stuck: no turn changes anything any more"], cut: ["ready", "cut off by a bound"] };
 
+// A button that replays an order.
+function replayButton(order, go, name) {
+  return make("button", { type: "button", class: "small", "data-replay": name, "aria-label": `Replay ${name} step by step`, onclick: () => go(order) }, "Replay step by step");
+}
+
+// What is said of states from which no end can be reached.
+function lostParts(lost, go) {
+  const found = lost && /^(.* after order) (.*)$/.exec(lost);
+  if (!found) return [];
+  return [`Lost: ${found[1]} `, make("code", { class: "order" }, found[2]), " ", replayButton(orderOf(found[2]), go, "the way to the first lost state")];
+}
+
 // An outcome with its kind, its order, its report, and why its threads are stuck.
-function outcomeItem(outcome) {
+function outcomeItem(outcome, go) {
   const [chip, words] = outcomeKinds[outcome.kind];
   const order = outcome.order.length ? outcome.order.join(" ") : "no turn at all";
   const whys = outcome.why.length ? make("ul", { class: "why" }, ...outcome.why.map((why) => make("li", {}, why))) : null;
@@ -41,15 +59,16 @@ function outcomeItem(outcome) {
   return make("li", { "data-kind": outcome.kind },
     make("h4", {}, `Outcome ${outcome.number} `, make("span", { class: `chip ${chip}` }, words)),
     make("p", {}, `After ${turns}, of the processors in this order: `, make("code", { class: "order" }, order)),
+    make("p", {}, replayButton(outcome.order, go, `outcome ${outcome.number}`)),
     make("pre", { tabindex: "0", "aria-label": `Report of outcome ${outcome.number}` }, outcome.report.join("\n")), whys);
 }
 
 // What was searched, in words.
-function sumWords({ sum, lost }, isLast) {
+function sumWords({ sum }, isLast) {
   const states = sum.states === 1 ? "1 state" : `${sum.states} states`;
   const found = sum.outcomes === 1 ? "1 outcome" : `${sum.outcomes} outcomes`;
   const rest = sum.isComplete ? "Every order was tried." : isLast ? "Not every order was tried: there may be more outcomes." : "Going on ..";
-  return `${found} in ${states}, ${sum.turns} turns. ${rest}${lost ? ` Lost: ${lost}.` : ""}`;
+  return `${found} in ${states}, ${sum.turns} turns. ${rest}`;
 }
 
 // The bounds of a search, one after another, the last being the one that was asked for.

@@ -61,44 +61,50 @@ let run = null;
 let chosen = 0;
 let wanted = 0;
 
-function statusWords(status, verdicts) {
-  if (status === 0 && verdicts.length) return "All that is expected holds.";
-  return { 0: "Every thread ended.", 2: "The turns were used up before every thread ended.", 4: "The run is unlawful.", 5: "Something that is expected doesn't hold." }[status] || `Status ${status}.`;
+function statusWords({ status, verdicts, order }) {
+  if (status === 0 && verdicts.length) return "All that is expected holds of this run.";
+  if (status === 2 && order) return "The order is done, and not every thread has ended.";
+  return { 0: "Every thread ended.", 2: "The turns were used up before every thread ended.", 4: "The run is unlawful.", 5: "Something that is expected doesn't hold of this run." }[status] || `Status ${status}.`;
 }
 
 const isRefused = (answer) => answer.status === 1 || answer.status === 3;
 
-// A script in either form: in JSON, and of a text what its expectations came to; or why it is refused.
-async function readScript(script) {
+// The words behind which an order of turns stands: `0` to `7`, the processor of each, or `-` for none.
+const orderWords = (order) => (order === null ? "turns" : `turns --order ${order.join("") || "-"}`);
+
+// A script in either form: in JSON, and of a text that is run in rounds what its expectations came to; or why it is refused.
+async function readScript(script, order) {
   if ((await ask("lwkt_is_text", script)).status !== 1) return { isText: false, json: script, verdicts: [] };
-  const told = await ask("lwkt_run_text", script);
-  if (isRefused(told)) return { isText: true, refused: told };
+  const told = order ? null : await ask("lwkt_run_text", script);
+  if (told && isRefused(told)) return { isText: true, refused: told };
   const json = await ask("lwkt_text_json", script);
   if (isRefused(json)) return { isText: true, refused: json };
-  return { isText: true, json: textOf(json), verdicts: readVerdicts(textOf(told), script), status: told.status };
+  return { isText: true, json: textOf(json), verdicts: told ? readVerdicts(textOf(told), script) : [], status: told?.status };
 }
 
-async function makeRun(text) {
-  const form = await readScript(text);
+// A run of a script, in rounds or along an order.
+async function makeRun(text, order) {
+  const form = await readScript(text, order);
   if (text === at("script").value) putForm(form.isText);
   if (form.refused) return form;
-  const script = form.json;
-  const whole = await show(script, "turns");
+  const script = form.json, words = orderWords(order);
+  const whole = await show(script, words);
   if (isRefused(whole)) return { refused: whole };
   const read = await readSlowly(textOf(whole));
-  const opening = await show(cutScript(script, 1), "turns --chains");
-  const { messages, cpus } = JSON.parse(script);
-  const made = { script, text, verdicts: form.verdicts, cpus, messages, whole: read, status: form.status ?? whole.status, milliseconds: whole.milliseconds, total: read.total, openings: readOpenings(textOf(opening)), windows: new Map(), cuts: new Map(), parts: new Map() };
-  made.rounds = Math.ceil(made.total / cpus);
+  const opening = await show(script, `${orderWords([])} --chains`);
+  const { messages, cpus, tokens } = JSON.parse(script);
+  const records = tokens.map(({ record }) => (typeof record === "string" ? recordWords(record) : null));
+  const made = { script, text, order, words, verdicts: form.verdicts, cpus, messages, records, whole: read, status: form.status ?? whole.status, milliseconds: whole.milliseconds, total: read.total, openings: readOpenings(textOf(opening)), windows: new Map(), cuts: new Map(), parts: new Map() };
+  made.rounds = order ? made.total : Math.ceil(made.total / cpus);
   await addWindow(made, 0, read.turns);
   return { made };
 }
 
 // What stands before the first of some turns: at the start of the run its opening, else what the turns before left, if known.
 async function stateBefore(it, number) {
-  if (number === 0) return openState(it.openings, it.messages);
+  if (number === 0) return openState(it.openings, it.messages, it.records);
   const before = it.windows.get(number - 1);
-  if (!before) return unknownState(it.openings, it.messages);
+  if (!before) return unknownState(it.openings, it.messages, it.records);
   return stateAfter(before, before.turns.length - 1);
 }
 
@@ -133,17 +139,18 @@ async function windowOf(it, turn) {
   const number = Math.floor(turn / windowSize);
   if (!it.windows.has(number)) {
     const from = number * windowSize;
-    const lines = await show(it.script, `turns --turns ${from}..${from + windowSize - 1}`);
+    const lines = await show(it.script, `${it.words} --turns ${from}..${from + windowSize - 1}`);
     await addWindow(it, number, (await readSlowly(textOf(lines))).turns);
   }
   return it.windows.get(number);
 }
 
-// What is told of the run that ends after so many rounds.
+// What is told of the run that ends after so many rounds, or after so many turns of its order.
 async function cutAfter(it, rounds) {
   if (rounds >= it.rounds) return it.whole;
   if (!it.cuts.has(rounds)) {
-    const cut = await show(cutScript(it.script, rounds), "turns --turns 0..0");
+    const script = it.order ? it.script : cutScript(it.script, rounds);
+    const cut = await show(script, `${it.order ? orderWords(it.order.slice(0, rounds)) : it.words} --turns 0..0`);
     if (it.cuts.size >= mostCuts) it.cuts.delete(it.cuts.keys().next().value);
     it.cuts.set(rounds, readRun(textOf(cut)));
   }
@@ -158,9 +165,19 @@ function threadOf(line, cut, last, moment) {
   return thread;
 }
 
+// All threads after a turn of an order, which can be cut off right behind it.
+async function threadsAlong(it, turn) {
+  const after = await cutAfter(it, turn.number + 1), had = new Set(it.order.slice(0, turn.number + 1));
+  return after.threads.map((line) => {
+    if (had.has(Number(line.id.split(".")[0]))) return threadOf(line, after, null, `after turn ${turn.number}`);
+    return { id: line.id, state: "not begun", said: "has had no turn", list: [], log: [], moment: `after turn ${turn.number}` };
+  });
+}
+
 // All threads as their processors' last turns left them. Threads change in turns of their own processor alone, so those of
 // processors that had no turn yet in this round are as the round before left them.
 async function threadsAfter(it, part, turn) {
+  if (it.order) return threadsAlong(it, turn);
   const after = await cutAfter(it, turn.round + 1);
   const before = turn.round > 0 ? await cutAfter(it, turn.round) : null;
   const first = part.turns[0].number;
@@ -219,7 +236,7 @@ async function drawChosen(it, turn) {
   showNumbers();
   scrollToChosen();
   drawRows();
-  showTurn(at("chosen"), now);
+  showTurn(at("chosen"), now, Boolean(it.order));
   const state = await stateAfter(part, index);
   if (it !== run || turn !== chosen) return;
   const look = { turn: now, turns: part.turns, at: index, state, from: part.from, go: choose, threads: [] };
@@ -266,12 +283,14 @@ function pictureRange(it, round) {
 async function drawPicture(it, round) {
   const [from, to] = pictureRange(it, round);
   if (it.picture === from) return;
-  const drawn = await show(it.script, `turns --rounds ${from}..${to} --svg`);
+  const drawn = await show(it.script, `${it.words} --${it.order ? "turns" : "rounds"} ${from}..${to} --svg`);
   if (it !== run) return;
   it.picture = from;
   it.drawn = textOf(drawn);
-  showPicture(at("drawing"), textOf(drawn));
-  at("rounds").textContent = `rounds ${from} to ${to} of 0 to ${Math.max(0, it.rounds - 1)}`;
+  const isDrawn = showPicture(at("drawing"), textOf(drawn), Boolean(it.order)) !== null;
+  const range = `${it.order ? "turns" : "rounds"} ${from} to ${to} of 0 to ${Math.max(0, it.rounds - 1)}`;
+  at("drawing").hidden = at("save-picture").hidden = !isDrawn;
+  at("rounds").textContent = isDrawn ? range : `${range}: no picture, since it would have turns of this order over each other`;
   at("rounds-back").hidden = at("rounds-forth").hidden = it.rounds <= wholePicture;
 }
 
@@ -286,13 +305,13 @@ function setBusy(is) {
   at("look").setAttribute("aria-busy", String(is));
 }
 
-async function start(turn = 0) {
+async function start(turn = 0, order = null) {
   const script = at("script").value;
   clearRefusal();
   say("Running ..");
   setBusy(true);
   try {
-    const answer = await makeRun(script);
+    const answer = await makeRun(script, order);
     say("");
     if (answer.refused && answer.isText) showWrongs(script, answer.refused);
     else if (answer.refused) showRefusal(script, answer.refused);
@@ -307,9 +326,19 @@ async function start(turn = 0) {
 function showVerdict(it) {
   const good = it.whole.verdict === "lawful";
   const faulted = it.whole.threads.filter((thread) => thread.state.startsWith("faulted")).map((thread) => `${thread.id} ${thread.state}`);
-  const parts = [`${statusWords(it.status, it.verdicts)} `, make("span", { class: good ? "good" : "bad" }, it.whole.verdict)];
+  const parts = [`${statusWords(it)} `, make("span", { class: good ? "good" : "bad" }, it.whole.verdict)];
   if (faulted.length) parts.push("; ", make("span", { class: "bad" }, faulted.join(", ")));
-  at("verdict").replaceChildren(...parts, make("span", { class: "quiet" }, `. ${it.total} turns in ${it.rounds} rounds, ${it.milliseconds.toFixed(it.milliseconds < 10 ? 1 : 0)} ms`));
+  const length = it.order ? `${it.total} turns` : `${it.total} turns in ${it.rounds} rounds`;
+  at("verdict").replaceChildren(...parts, make("span", { class: "quiet" }, `. ${length}, ${it.milliseconds.toFixed(it.milliseconds < 10 ? 1 : 0)} ms`));
+}
+
+// Of a run along an order: that it is one, the order, and the way back.
+function showOrder(it) {
+  at("along").hidden = !it.order;
+  at("turns").classList.toggle("along", Boolean(it.order));
+  if (!it.order) return at("along").replaceChildren();
+  const back = make("button", { type: "button", class: "small", onclick: () => start() }, "Run in rounds again");
+  at("along").replaceChildren("Replayed along the order ", make("code", { class: "order" }, it.order.join(" ") || "of no turn"), " ", back);
 }
 
 function showRun(it, turn) {
@@ -317,7 +346,8 @@ function showRun(it, turn) {
   run = it;
   chosen = wanted = 0;
   showVerdict(it);
-  at("ran").hidden = false;
+  showOrder(it);
+  at("ran").hidden = it.total === 0 && Boolean(it.order);
   showExpected(it);
   at("report").textContent = [...it.whole.ends, ...it.whole.report].join("\n");
   for (const id of ["chains", "judged", "chains-note", "trace-note"]) at(id).textContent = "";
@@ -329,8 +359,8 @@ function showRun(it, turn) {
 
 // The parts behind what was opened are asked for when they are opened.
 function drawOpenParts() {
-  if (at("chains-part").open) fillPart("chains", "turns --chains", (text) => { at("chains").textContent = text || "This run has no tokens."; });
-  if (at("trace-part").open) fillPart("trace", "turns --trace", (text) => { at("trace").value = text; });
+  if (at("chains-part").open) fillPart("chains", "--chains", (text) => { at("chains").textContent = text || "This run has no tokens."; });
+  if (at("trace-part").open) fillPart("trace", "--trace", (text) => { at("trace").value = text; });
 }
 
 // Asks for a part once, and puts it where it is shown; one that is too long for that can be saved all the same.
@@ -341,7 +371,7 @@ async function fillPart(name, words, put) {
   at(`${name}-note`).textContent = "..";
   put("");
   try {
-    const answer = await askOf(machine, { name: "lwkt_show_turns", script: it.script, words, isLongFile: true });
+    const answer = await askOf(machine, { name: "lwkt_show_turns", script: it.script, words: `${it.words} ${words}`, isLongFile: true });
     if (it !== run) return;
     const isLong = Boolean(answer.file);
     it.parts.set(name, answer.file || textOf(answer));
@@ -396,7 +426,7 @@ function excerpt(script, { from, to }) {
 // What is shown of any script that is refused.
 function beginRefusal(answer) {
   run = null;
-  at("ran").hidden = true;
+  at("ran").hidden = at("along").hidden = true;
   at("verdict").textContent = answer.status === 3 ? "There was no memory for this run." : `The script was refused, fault ${answer.fault}.`;
   at("script").setAttribute("aria-invalid", "true");
 }
@@ -428,11 +458,15 @@ function showRefusal(script, answer) {
 // What the text expects, and whether it holds.
 function showExpected(it) {
   at("expected").hidden = it.verdicts.length === 0;
-  at("verdicts").replaceChildren(...it.verdicts.map(({ line, holds, said }) => {
-    const words = make("span", { class: holds ? "good" : "bad" }, holds ? "holds" : "doesn't hold");
-    const from = placeOf(it.text, line, 1);
-    return make("li", { "data-holds": String(holds) }, words, " ", make("code", {}, said), " ", goThere({ from, to: (it.text.indexOf("\n", from) + 1 || it.text.length + 1) - 1 }), make("span", { class: "quiet" }, ` line ${line}`));
-  }));
+  at("verdicts").replaceChildren(...it.verdicts.map((verdict) => expectationItem(it.text, verdict, replay)));
+}
+
+// What a text expects: whether it holds, what it is, where it stands, and the order that decides it, if one does.
+function expectationItem(script, { line, words, said, order }, go) {
+  const holds = words.startsWith("holds"), from = placeOf(script, line, 1);
+  const there = goThere({ from, to: (script.indexOf("\n", from) + 1 || script.length + 1) - 1 });
+  const by = order ? [" decided by the order ", make("code", { class: "order" }, order.join(" ") || "of no turn"), " ", make("button", { type: "button", class: "small", onclick: () => go(order) }, "Replay")] : [];
+  return make("li", { "data-holds": String(holds) }, make("span", { class: holds ? "good" : "bad" }, words), " ", make("code", {}, said), " ", there, make("span", { class: "quiet" }, ` line ${line}`), ...by);
 }
 
 function leadTo(part) {
@@ -504,13 +538,25 @@ function setSearching(is) {
 function clearOrders() {
   if (search) stopWorker("it was stopped", searcher);
   search = null;
-  at("outcomes").replaceChildren();
+  for (const id of ["outcomes", "lost", "order-verdicts"]) at(id).replaceChildren();
+  at("judged-orders").hidden = true;
   sayOrders("");
 }
 
-function showOrders(read, isLast) {
+// Makes the run along an order, and leads to it.
+function replay(order) {
+  start(0, order).then(() => {
+    at("look").scrollIntoView();
+    at(run?.total ? "turns" : "look-head").focus({ preventScroll: true });
+  });
+}
+
+function showOrders(read, isLast, script) {
   sayOrders(sumWords(read, isLast));
-  at("outcomes").replaceChildren(...read.outcomes.map(outcomeItem));
+  at("lost").replaceChildren(...lostParts(read.lost, replay));
+  at("outcomes").replaceChildren(...read.outcomes.map((outcome) => outcomeItem(outcome, replay)));
+  at("judged-orders").hidden = read.verdicts.length === 0;
+  at("order-verdicts").replaceChildren(...read.verdicts.map((verdict) => expectationItem(script, { ...verdict, said: saidAt(script, verdict) }, replay)));
 }
 
 // Tries all orders with more and more states, up to the bound, and shows what was found so far.
@@ -520,8 +566,8 @@ async function searchUpTo(script, most, own) {
     if (search !== own) return;
     if (![0, 2, 5].includes(answer.status)) return sayOrders(textOf(answer).trim().replace(/^lwkt_\w+: /, "") || `status ${answer.status}`);
     const read = readOrders(textOf(answer));
-    const isLast = answer.status !== 5 || states === most || read.sum.states < states;
-    showOrders(read, isLast);
+    const isLast = read.sum.isComplete || states === most || read.sum.states < states;
+    showOrders(read, isLast, script);
     at("orders-bar").value = states / most;
     if (isLast) return;
   }
@@ -553,26 +599,26 @@ async function pass(bytes, stream) {
   return new Uint8Array(await new Response(new Blob([bytes]).stream().pipeThrough(stream)).arrayBuffer());
 }
 
-async function fragmentOf(script, turn) {
+async function fragmentOf(script, turn, order) {
   const plain = new TextEncoder().encode(script);
   const bytes = hasPacking ? await pass(plain, new CompressionStream("deflate-raw")) : plain;
   let text = "";
   for (let i = 0; i < bytes.length; i += 8192) text += String.fromCharCode(...bytes.subarray(i, i + 8192));
   const packed = btoa(text).replace(/\+/g, "-").replace(/\//g, "_").replace(/=+$/, "");
-  return `#${hasPacking ? "z" : "p"}=${packed}${turn ? `&turn=${turn}` : ""}`;
+  return `#${hasPacking ? "z" : "p"}=${packed}${order ? `&order=${order.join("") || "-"}` : ""}${turn ? `&turn=${turn}` : ""}`;
 }
 
 async function readFragment(fragment) {
-  const found = /^#([zp])=([\w-]+)(?:&turn=(\d+))?$/.exec(fragment);
+  const found = /^#([zp])=([\w-]+)(?:&order=([0-9]+|-))?(?:&turn=(\d+))?$/.exec(fragment);
   if (!found) return null;
   const text = atob(found[2].replace(/-/g, "+").replace(/_/g, "/"));
   const bytes = Uint8Array.from(text, (sign) => sign.charCodeAt(0));
   const plain = found[1] === "z" ? await pass(bytes, new DecompressionStream("deflate-raw")) : bytes;
-  return { script: new TextDecoder("utf-8", { fatal: true }).decode(plain), turn: Number(found[3] || 0) };
+  return { script: new TextDecoder("utf-8", { fatal: true }).decode(plain), order: found[3] === undefined ? null : (found[3].match(/\d/g) || []).map(Number), turn: Number(found[4] || 0) };
 }
 
 async function link() {
-  const fragment = await fragmentOf(at("script").value, chosen);
+  const fragment = await fragmentOf(at("script").value, chosen, run?.text === at("script").value ? run.order : null);
   history.replaceState(null, "", fragment);
   try {
     await navigator.clipboard.writeText(location.href);
@@ -590,7 +636,7 @@ async function takeFragment() {
     chooseExample("");
     at("script").value = found.script;
     clearOrders();
-    await start(found.turn);
+    await start(found.turn, found.order);
     return true;
   } catch {
     say("The link's script can't be read: it may be cut off.");
@@ -625,10 +671,18 @@ function step(by) {
   choose((isDrawing ? wanted : chosen) + by);
 }
 
+// How far the next turn of the same processor is, on or back.
+function toSame(way) {
+  if (!run.order) return way * run.cpus;
+  const from = isDrawing ? wanted : chosen;
+  for (let turn = from + way; turn >= 0 && turn < run.total; turn += way) if (run.order[turn] === run.order[from]) return turn - from;
+  return 0;
+}
+
 function turnsKey(event) {
   if (!run || event.ctrlKey || event.altKey || event.metaKey) return;
   const page = Math.max(1, Math.floor(at("turns").clientHeight / rowHeight) - 1);
-  const moves = { ArrowDown: 1, ArrowUp: -1, ArrowRight: run.cpus, ArrowLeft: -run.cpus, PageDown: page, PageUp: -page, Home: -run.total, End: run.total };
+  const moves = { ArrowDown: 1, ArrowUp: -1, ArrowRight: toSame(1), ArrowLeft: toSame(-1), PageDown: page, PageUp: -page, Home: -run.total, End: run.total };
   if (!(event.key in moves)) return;
   event.preventDefault();
   step(moves[event.key]);
@@ -673,8 +727,8 @@ function listen() {
     at(id).addEventListener("click", () => (Number.isFinite(by) ? step(by) : run && choose(by < 0 ? 0 : run.total - 1)));
   }
   at("number").addEventListener("change", () => choose(Number(at("number").value)));
-  at("rounds-back").addEventListener("click", () => step(-pictureRounds * run.cpus));
-  at("rounds-forth").addEventListener("click", () => step(pictureRounds * run.cpus));
+  at("rounds-back").addEventListener("click", () => step(-pictureRounds * (run.order ? 1 : run.cpus)));
+  at("rounds-forth").addEventListener("click", () => step(pictureRounds * (run.order ? 1 : run.cpus)));
   at("chains-part").addEventListener("toggle", drawOpenParts);
   at("trace-part").addEventListener("toggle", drawOpenParts);
   at("theme").addEventListener("click", () => setTheme(document.documentElement.dataset.theme !== "dark"));

@@ -23,16 +23,32 @@ function expectationsIn(line) {
   return line.replace(/#.*$/, "").split(";").map((it) => it.trim()).filter((it) => /^[\s,:]*(always|sometimes|never)\b/.test(it));
 }
 
-// The verdicts behind the report of a text: `4: holds`, each with what it is on.
-function readVerdicts(report, script) {
-  const rows = script.split("\n"), seen = new Map(), verdicts = [];
-  for (const it of report.split("\n")) {
-    const found = /^(\d+): (holds|doesn't hold)$/.exec(it);
-    if (!found) continue;
-    const line = Number(found[1]), before = seen.get(line) || 0;
-    seen.set(line, before + 1);
-    const said = expectationsIn(rows[line - 1] || "")[before] || (rows[line - 1] || "").trim();
-    verdicts.push({ line, holds: found[2] === "holds", said });
+// A line that says whether an expectation holds: `4: holds`; over all orders with the order of the outcome that decides it.
+function readVerdict(line) {
+  const found = /^(\d+): (holds|doesn't hold|holds of what was found|isn't shown by what was found)(?:, order (.*))?$/.exec(line);
+  if (!found) return null;
+  const order = found[3] === undefined ? null : (found[3].match(/\d/g) || []).map(Number);
+  return { line: Number(found[1]), words: found[2], order };
+}
+
+// All such lines of a text; of several on one line each has its place among them.
+function verdictsIn(lines) {
+  const seen = new Map(), verdicts = [];
+  for (const verdict of lines.map(readVerdict).filter(Boolean)) {
+    const place = seen.get(verdict.line) || 0;
+    seen.set(verdict.line, place + 1);
+    verdicts.push({ ...verdict, place });
   }
   return verdicts;
+}
+
+// What a verdict is on, as it stands in the text.
+function saidAt(script, { line, place }) {
+  const row = script.split("\n")[line - 1] || "";
+  return expectationsIn(row)[place] || row.trim();
+}
+
+// The verdicts behind the report of a text, each with what it is on.
+function readVerdicts(report, script) {
+  return verdictsIn(report.split("\n")).map((verdict) => ({ ...verdict, said: saidAt(script, verdict) }));
 }

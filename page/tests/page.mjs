@@ -96,7 +96,8 @@ async function tryOrders(tab) {
   check(await tab.until(searched), "a search ends");
   same(await tab.ask(outcomes), [["stuck", "0 1 0"]], "one outcome, which is stuck");
   check((await text(tab, "outcomes")).includes("thread 0.0 waits for the reply to message 0"), "and why");
-  check((await text(tab, "orders-status")).includes("6 states, 12 turns. Every order was tried. Lost: 6 states"), await text(tab, "orders-status"));
+  check((await text(tab, "orders-status")).includes("6 states, ") && (await text(tab, "orders-status")).includes("Every order was tried."), await text(tab, "orders-status"));
+  check((await text(tab, "lost")).startsWith("Lost: 6 states, from which no end can be reached; the first after order -"), await text(tab, "lost"));
   await put(tab, read(examples, "crossed_lists.json"));
   same(await tab.ask(outcomes), [], "an edit clears them");
   await click(tab, "orders-start");
@@ -123,6 +124,102 @@ async function tryOrders(tab) {
   await click(tab, "orders-stop");
   check(await tab.until(`${searched} && document.getElementById('orders-status').textContent.includes('stopped')`), `a stop: ${await text(tab, "orders-status")}`);
   await tab.ask(`document.getElementById('states').value = 64000`);
+}
+
+// A click replays the order of an outcome, turn by turn: its turns are those of the order, and after the last one its report stands.
+async function tryReplay(tab) {
+  const script = read(examples, "crossed_lists.json");
+  await put(tab, script);
+  await click(tab, "orders-start");
+  await tab.until(searched);
+  const found = await tab.ask(`[...document.querySelectorAll('#outcomes > li')].map((it) => [it.querySelector('.order').textContent, it.querySelector('pre').textContent])`);
+  for (const [number, [order, report]] of found.entries()) {
+    await tab.ask(`document.querySelectorAll('#outcomes [data-replay]')[${number}].click()`);
+    check(await tab.until(`run?.order?.join(' ') === ${JSON.stringify(order)} && !isDrawing && ${settled}`), `outcome ${number + 1} is replayed`);
+    check((await text(tab, "report")).includes(`${report}\nlawful`), `its report: ${await text(tab, "report")}`);
+    same(await tab.ask("document.activeElement.id"), "turns", "the list of turns has the focus");
+    const cpus = order.split(" ").map(Number), wanted = callProgram("lwkt_show_turns", script, `turns --order ${cpus.join("")}`).text.split("\n");
+    for (const turn of cpus.keys()) {
+      await goTo(tab, turn);
+      const shown = await text(tab, "chosen");
+      if (!shown.startsWith(`Turn ${turn}, processor ${cpus[turn]}: `)) check(false, `turn ${turn} of the order: ${shown}`);
+    }
+    check(wanted.length > cpus.length, "the program makes the same turns");
+    const threads = report.split("\n").filter((line) => line.startsWith("thread ")).map((line) => line.split(" ").slice(1, 3));
+    const seen = new Map(await tab.ask(threadsShown));
+    check(threads.every(([id, state]) => (kinds[state] ? seen.get(id) === kinds[state] : ["waits", "ready"].includes(seen.get(id)))), `threads after the order: ${JSON.stringify([...seen])}`);
+    const pictured = await tab.ask(`document.getElementById('drawing').hidden ? 'none' : document.getElementById('drawing').shadowRoot.querySelectorAll('.chosen').length`);
+    check(pictured === 1 || (pictured === "none" && (await text(tab, "rounds")).includes("no picture")), `the chosen turn is marked, or there is no picture: ${pictured}`);
+  }
+  await goTo(tab, 2);
+  check((await tab.ask(threadsShown)).some(([, kind]) => kind === "begins"), "a processor that the order hasn't named yet has had no turn");
+  await tab.key("Home");
+  await settle(tab);
+  await tab.key("ArrowRight");
+  await settle(tab);
+  const order = await tab.ask("run.order");
+  same(await tab.ask("chosen"), order.indexOf(order[0], 1), "a key leads to the next turn of the same processor");
+  await click(tab, "link");
+  await tab.until("location.hash.includes('&order=')");
+  const other = await browser.open(await tab.ask("location.href"));
+  check(await other.until(`run?.order?.join('') === ${JSON.stringify(order.join(""))} && !isDrawing`), "a link carries the order");
+  await other.close();
+  await tab.ask(`history.replaceState(null, '', location.pathname); document.querySelector('#along button').click()`);
+  check(await tab.until(`run && run.order === null && ${settled}`), "and back to the run in rounds");
+  await put(tab, read(examples, "calls_that_wait_for_each_other.json"));
+  await click(tab, "orders-start");
+  await tab.until(searched);
+  await tab.ask(`document.querySelector('#lost button').click()`);
+  check(await tab.until(`run?.order?.length === 0 && ${settled}`) && (await tab.ask(`document.getElementById('ran').hidden`)), "an order without a turn");
+  await put(tab, read(examples, "litmus/14_a_sum.lwkt"));
+  await click(tab, "orders-start");
+  await tab.until(searched);
+  const judged = await tab.ask(`[...document.querySelectorAll('#order-verdicts li')].map((it) => [it.dataset.holds, it.querySelector('code').textContent])`);
+  same(judged.map(([holds]) => holds), ["true", "true", "false", "true"], `what it expects of all outcomes: ${JSON.stringify(judged)}`);
+  await tab.ask(`[...document.querySelectorAll('#order-verdicts li[data-holds=false] button')].find((it) => it.textContent === 'Replay').click()`);
+  check(await tab.until(`run?.order && ${settled}`), "the order that decides it is replayed");
+  check((await text(tab, "report")).includes("v=5 v=5 v=5 v=5"), "and its report says why");
+}
+
+// Records of tokens, as text where they are printable, else as digits; in rows, in logs and in what a turn did.
+async function tryRecords(tab) {
+  const row = () => tab.ask(`document.querySelector('[data-token="0"] .record').textContent`);
+  await run(tab, read(examples, "record_under_len.json"));
+  const wanted = ["'abc'", "'abc'", "'hello'", "'abc'", "'abc'", "'hello'", "'hello'", "'hello'"];
+  for (const [turn, it] of wanted.entries()) {
+    await goTo(tab, turn);
+    same(await row(), `record ${it}`, `the record after turn ${turn}`);
+  }
+  await click(tab, "last");
+  await settle(tab);
+  check((await tab.ask(`document.querySelector('[data-thread="0.0"]').innerText`)).includes("b='abc'"), "a record in a log");
+  await run(tab, read(examples, "record_under_len.json").replaceAll("68656c6c6f", "00ff22267f"));
+  await goTo(tab, 2);
+  same(await row(), "record 00ff22267f", "a record that isn't printable");
+  check((await text(tab, "chosen")).includes("record 00ff22267f stored"), "and as its turn tells it");
+  const mail = "if a; token 0: b";
+  await run(tab, read(examples, "record_under_len.json").replaceAll("68656c6c6f", Buffer.from(mail).toString("hex")));
+  await goTo(tab, 2);
+  same(await row(), `record '${mail}'`, "a record with a semicolon");
+  await run(tab, read(examples, "crossed_lists.json"));
+  same(await tab.ask(`document.querySelectorAll('.record').length`), 0, "tokens without records");
+}
+
+// An urgent note is told apart by a word and a frame, and ordinary ones have none.
+async function tryUrgent(tab) {
+  await run(tab, read(examples, "urgent_request_first.json"));
+  const signs = () => tab.ask(`[...document.querySelectorAll('#lanes .urgent, #messages .urgent')].map((it) => it.textContent)`);
+  await goTo(tab, 0);
+  same(await signs(), [], "no note is urgent after turn 0");
+  await goTo(tab, 4);
+  same(await signs(), ["urgent", "urgent"], "one note and its message are urgent after turn 4");
+  check((await text(tab, "lanes")).includes("0 → 1message 0, round 1; urgent message 1, round 1; message 2, round 1"), `in its lane: ${await text(tab, "lanes")}`);
+  await goTo(tab, 15);
+  check((await text(tab, "lanes")).includes("urgent reply to message 1"), "its reply is urgent too");
+  await goTo(tab, 16);
+  same(await signs(), [], "and no more once it is at rest");
+  const frame = await tab.ask(`(() => { choose(4); return new Promise((done) => setTimeout(() => { const it = getComputedStyle(document.querySelector('#lanes .urgent')); done([it.borderStyle, Number(it.fontWeight) >= 600]); }, 500)); })()`);
+  same(frame, ["solid", true], "by more than colour");
 }
 
 // From the opening of the file to the first run on the page.
@@ -463,10 +560,10 @@ try {
   const tab = await browser.open(url);
   check(await tab.until(`run && !isDrawing && document.querySelectorAll('.thread').length === 2`), "the page begins with a run");
   for (const name of exampleNames()) await part(name, () => tryExample(tab, name));
-  for (const name of standin ? [] : namesIn("litmus", ".lwkt")) await part(name, () => tryCourse(tab, name));
+  for (const name of namesIn("litmus", ".lwkt")) await part(name, () => tryCourse(tab, name));
   for (const name of ["crossed_lists", "server_of_three", "law_broken_at_yield"]) await part(name, () => tryWalk(tab, name));
   for (const name of namesIn("refused", ".json")) await part(name, () => tryRefusal(tab, name));
-  const parts = { tryStates, tryMessages, tryWhy, tryEditor, tryKeys, tryTabbing, tryLink, tryNames, tryParts, tryOdd, tryLong, tryStop, tryTrap, ...(standin ? {} : { tryTexts, tryOrders }) };
+  const parts = { tryStates, tryMessages, tryWhy, tryEditor, tryKeys, tryTabbing, tryLink, tryNames, tryParts, tryOdd, tryLong, tryStop, tryTrap, tryTexts, tryOrders, tryReplay, tryRecords, tryUrgent };
   for (const [name, work] of Object.entries(parts)) await part(name, () => work(tab));
   if (!standin) await part("first run", tryFirst);
   await part("contrast", async () => { await tryContrast(false); await tryContrast(true); });

@@ -3,7 +3,7 @@ use Rattle.std.specs.Prelude.{◌≡◌, ◌⊎◌, ◌<◌, ℕ, ◌++◌, List
 use Rattle.std.specs.Result.{result_err}
 use Rattle.lwkt_base.specs.declared.faults.Fault.{Fault}
 use Rattle.lwkt_base.specs.declared.faults.Fault.TheVariants.{Script as ScriptFault, Memory, Limits, LawBroken, Unlawful}
-use Rattle.lwkt_explore.specs.declared.searches.Found.{Found}
+use Rattle.lwkt_expected.specs.Expectations.{status_of_text as status_of_text_search}
 use Rattle.lwkt_explore.specs.Outcomes.{AreOutcomes}
 use Rattle.lwkt_explore.specs.Statuses.{status_of as status_of_search}
 use Rattle.lwkt_litmus.specs.declared.judgements.Judgement.{Judgement}
@@ -18,6 +18,7 @@ use Rattle.lwkt_text.specs.Beginning.{is_text, ByForm}
 use Rattle.lwkt_text.specs.Reading.{reading_of}
 use Rattle.lwkt_verdict.specs.declared.turns.Pace.TheVariants.{Rounds}
 use Rattle.lwkt_ffi.specs.declared.answers.LwktAnswer.{LwktAnswer}
+use Rattle.lwkt_ffi.specs.declared.orders.Search.{Search}
 use Rattle.lwkt_ffi.specs.Answers.{Fills, status_of_fault}
 
 -- what `lwkt_is_text` answers: whether the bytes are taken for a text, or want of memory
@@ -89,27 +90,41 @@ pub record AnswersText (text old new : List ℕ) (answer : LwktAnswer) (status :
   pub fills : Fills old new answer whole (result_err outcome)
   pub is_status : status ≡ status_of_text outcome
 
--- what was found of a script in either form are outcomes of it: of a text, of its script in JSON
-abbrev pub HasFound : List ℕ → Found → Type 0
-HasFound script found = ByForm (is_text script) ((json : List ℕ) × (IsJsonOf script json × AreOutcomes json found.outcomes)) (AreOutcomes script found.outcomes)
+-- what was found of a script in JSON: outcomes of it, and the status by them
+pub record IsSearchOfJson (script : List ℕ) (search : Search) : Type 0 where
+  pub are : AreOutcomes script search.found.outcomes
+  pub is_status : search.status ≡ status_of_search search.found
+
+-- what was found of a text: outcomes of its script, and the status by what the text says of them
+pub record IsSearchOfText (text : List ℕ) (search : Search) : Type 0 where
+  pub reading : Reading
+  pub read : reading_of text ≡ Ok reading
+  pub json : List ℕ
+  pub is_json : script_of json ≡ Ok reading.script
+  pub are : AreOutcomes json search.found.outcomes
+  pub is_status : search.status ≡ status_of_text_search reading.expectations search.found
+
+-- what was found of a script in either form
+abbrev pub IsSearch : List ℕ → Search → Type 0
+IsSearch script search = ByForm (is_text script) (IsSearchOfText script search) (IsSearchOfJson script search)
 
 -- what came of a script whose orders were tried; of one that is refused nothing is said
-abbrev pub TellsFound : List ℕ → Result Found Fault → Type 0
-TellsFound script (Ok found) = HasFound script found
-TellsFound script (Err fault) = Unit {0}
+abbrev pub TellsSearch : List ℕ → Result Search Fault → Type 0
+TellsSearch script (Ok search) = IsSearch script search
+TellsSearch script (Err fault) = Unit {0}
 
 abbrev pub status_of_untried : Fault → ℕ
 status_of_untried (Unlawful index) = 4
 status_of_untried fault = status_of_fault fault
 
-abbrev pub status_of_orders : Result Found Fault → ℕ
-status_of_orders (Ok found) = status_of_search found
+abbrev pub status_of_orders : Result Search Fault → ℕ
+status_of_orders (Ok search) = search.status
 status_of_orders (Err fault) = status_of_untried fault
 
 -- what `lwkt_explore_orders` answers: what was found, of which the text is made, in its status, its answer and the buffer
 pub record AnswersOrders (script old new : List ℕ) (answer : LwktAnswer) (status : ℕ) : Type 0 where
-  pub outcome : Result Found Fault
+  pub outcome : Result Search Fault
   pub whole : List ℕ
-  pub tells : TellsFound script outcome
+  pub tells : TellsSearch script outcome
   pub fills : Fills old new answer whole (result_err outcome)
   pub is_status : status ≡ status_of_orders outcome

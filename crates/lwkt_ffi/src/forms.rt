@@ -1,5 +1,6 @@
 //! The two forms of scripts: whether bytes are a text, and the JSON of one.
-ghost use Rattle.std.specs.Prelude.{◌≡◌, [], IfOk, IfErr, string_bytes};
+ghost use Rattle.std.specs.Prelude.{◌≡◌, ◌⊎◌, [], Ok, IfOk, IfErr, string_bytes};
+ghost use Rattle.lwkt_script.specs.Format.{script_of};
 ghost use Rattle.lwkt_ffi.specs.Texts.{IsJsonOf, RefusesJson, TellsForm, TellsJson, AnswersJson, status_of_made};
 
 use crate::answers::{LwktAnswer, status_of_fault};
@@ -8,6 +9,7 @@ use crate::readings::read_onto;
 use lwkt_base::Fault;
 use lwkt_refusals::Speaker;
 use lwkt_report::{Page, write_whole};
+use lwkt_script::Script;
 use lwkt_text::{Unsaid, is_text, json_of};
 use std::alloc::Global;
 
@@ -27,21 +29,19 @@ pub extern "C" fn lwkt_is_text(alloc: Global, script: &[u8]) -> u32
     }
 }
 
-/// The script of a text, in JSON; why there is none is put on a page.
+/// The JSON of a script; why there is none is put on a page.
 ///
-/// Refused as bytes that are no JSON where something is wrong with the text, with `Limits` where there would be more bytes than a
-/// script in JSON may have, and with `Memory`.
+/// Refused with `Limits` where it would have more bytes than a script in JSON may have, and with `Memory`.
 pub fn json_told(
     alloc: Global,
     speaker: Speaker,
-    text: &[u8],
+    script: &Script,
     page: &mut Page,
 ) -> Result<String, Fault>
-    ensures ok { IfOk result (λ json. IsJsonOf text.now (string_bytes json)) }
-    ensures refused { IfErr result (λ fault. RefusesJson text.now fault) }
+    ensures ok { IfOk result (λ json. script_of (string_bytes json) ≡ Ok script.now) }
+    ensures refused { IfErr result (λ fault. (fault ≡ Fault.Memory) ⊎ (fault ≡ Fault.Limits)) }
 {
-    let reading = read_onto(alloc, speaker, text, page)?;
-    match json_of(alloc, &reading.script) {
+    match json_of(alloc, script) {
         Ok(json) => Ok(json),
         Err(Unsaid::Memory) => {
             speaker.say_memory(page);
@@ -54,13 +54,25 @@ pub fn json_told(
     }
 }
 
+// The script of a text, in JSON; why there is none is put on a page.
+fn json_of_text(alloc: Global, text: &[u8], page: &mut Page) -> Result<String, Fault>
+    ensures ok { IfOk result (λ json. IsJsonOf text.now (string_bytes json)) }
+    ensures refused { IfErr result (λ fault. RefusesJson text.now fault) }
+{
+    let reading = match read_onto(alloc, Speaker::Run, text, page) {
+        Ok(reading) => reading,
+        Err(fault) => return Err(fault),
+    };
+    json_told(alloc, Speaker::Run, &reading.script, page)
+}
+
 // Puts the script of a text, in JSON, on an empty page, or why there is none.
 fn json_onto(alloc: Global, text: &[u8], page: &mut Page) -> Result<(), Fault>
     requires { page.old.text.items ≡ [] }
     ensures { TellsJson text.now result page.new.text.items }
 {
     let mut errors = blank(alloc);
-    match json_told(alloc, Speaker::Run, text, &mut errors) {
+    match json_of_text(alloc, text, &mut errors) {
         Ok(json) => match page.text.extend_from_slice(json.as_bytes()) {
             Ok(()) => Ok(()),
             Err(_) => Err(Fault::Memory),

@@ -1,9 +1,9 @@
 //! Texts of the language for scripts, run.
-ghost use Rattle.std.specs.Prelude.{◌≡◌, ◌++◌, [], IfOk, IfErr, OnOk, string_bytes};
+ghost use Rattle.std.specs.Prelude.{◌≡◌, [], IfOk, IfErr, string_bytes};
 ghost use Rattle.lwkt_ffi.specs.Texts.{HasTextRun, RefusesText, TellsText, AnswersText, status_of_text};
 
 use crate::answers::{LwktAnswer, status_of_fault};
-use crate::fronts::{blank, fill};
+use crate::fronts::{blank, fill, put_both};
 use crate::readings::{put_said, read_onto};
 use lwkt_base::Fault;
 use lwkt_litmus::Judgement;
@@ -52,15 +52,6 @@ fn account_onto(alloc: Global, text: &[u8], page: &mut Page) -> Result<Account, 
             Err(Fault::Memory)
         }
     }
-}
-
-// Puts two texts on an empty page, one behind the other.
-fn put_both(page: &mut Page, first: &[u8], second: &[u8]) -> Result<(), AllocError>
-    requires { page.old.text.items ≡ [] }
-    ensures { OnOk result (page.new.text.items ≡ first.now ++ second.now) }
-{
-    page.text.extend_from_slice(first)?;
-    page.text.extend_from_slice(second)
 }
 
 // Runs a text, with its report and the lines of its expectations behind that on an empty page, or why there are none.

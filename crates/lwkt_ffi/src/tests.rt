@@ -90,6 +90,11 @@ fn shown_script(rt: HostRuntime) {
         ("turns", 0),
         ("turns --turns 0..1 --svg", 0),
         ("turns --turns 1000..", 1),
+        ("turns --order 000", 0),
+        ("turns --order 0,0,0 --svg", 0),
+        ("turns --order 0 --trace", 2),
+        ("turns --order - --turns 5..", 1),
+        ("turns --order 0 --rounds 0..1", 1),
         ("turns  --svg", 1),
         ("threads --chains", 1),
         ("", 1),
@@ -111,6 +116,21 @@ fn shown_script(rt: HostRuntime) {
         );
         assert!(rt; answer.length > 0, "{arguments}");
     }
+}
+
+#[test]
+fn order_of_a_processor_that_is_not_there(rt: HostRuntime) {
+    let mut buffer = [0u8; 100];
+    let mut answer = unanswered();
+    let status = lwkt_show_turns(
+        rt.alloc(),
+        SCRIPT.as_bytes(),
+        b"turns --order 01",
+        &mut buffer,
+        &mut answer,
+    );
+    assert_eq!(rt; (status, answer.fault, answer.place), (1, 30, 0));
+    assert!(rt; buffer.starts_with(b"lwkt_show: the order names a processor "));
 }
 
 const TEXT: &str =
@@ -180,7 +200,7 @@ fn text_whose_opening_is_refused(rt: HostRuntime) {
 fn every_order(rt: HostRuntime) {
     let rows = [
         (SCRIPT, 1000, 0, 0, "outcome 1 ended, order 0 0 0"),
-        (TEXT, 1000, 0, 0, "outcome 1 ended, order 0 0 0"),
+        (TEXT, 1000, 5, 0, "outcome 1 ended, order 0 0 0"),
         (SCRIPT, 2, 5, 0, "0 outcomes; 2 states, "),
         (SCRIPT, 0, 5, 0, "0 outcomes; 1 state, "),
         (WRONG, 1000, 1, 33, "3:5: "),
@@ -200,4 +220,21 @@ fn every_order(rt: HostRuntime) {
         assert_eq!(rt; (got, answer.fault), (status, fault), "{script}");
         assert!(rt; buffer.starts_with(start.as_bytes()), "{script}");
     }
+}
+
+#[test]
+fn expectations_over_every_order(rt: HostRuntime) {
+    let mut buffer = [0u8; 400];
+    let mut answer = unanswered();
+    let status = lwkt_explore_orders(
+        rt.alloc(),
+        TEXT.as_bytes(),
+        1000,
+        1000,
+        &mut buffer,
+        &mut answer,
+    );
+    assert_eq!(rt; (status, answer.fault, answer.place), (5, 0, 0));
+    let behind = b"complete\n4: holds\n5: doesn't hold, order 0 0 0";
+    assert!(rt; buffer.windows(behind.len()).any(|part| part == behind.as_slice()));
 }
