@@ -91,14 +91,29 @@ static void try_long(void) {
 
 static void try_orders(void) {
     static uint8_t text[4096];
-    static const char part[] = "a part\n";
+    static const char part[] = "; a part\n4: holds of what was found\n5: holds of what was found\n";
+    size_t length = strlen(part);
     lwkt_answer answer = {7, 7, 7};
     uint32_t status = lwkt_explore_orders(bytes(good), strlen(good), 2, 1000, text, sizeof text, &answer);
-    count(status == 5 && answer.length < sizeof text && memcmp(text + answer.length - 7, part, 7) == 0, "a bound on states");
+    count(status == 5 && answer.length < sizeof text && memcmp(text + answer.length - length, part, length) == 0, "a bound on states");
     status = lwkt_explore_orders(bytes(good), strlen(good), 1000, 1, text, sizeof text, &answer);
     count(status == 5 && memcmp(text, "outcome 1 cut, order 0\n", 23) == 0, "a bound on turns");
     status = lwkt_explore_orders(bytes(good), strlen(good), 0, 0, text, sizeof text, &answer);
     count(status == 5, "bounds of nothing");
+}
+
+// A run along an order, and one along an order that names a processor that isn't there.
+static void try_along(void) {
+    static uint8_t json[65536], text[65536];
+    static const char along[] = "turns --order 0000", absent[] = "turns --order 01", first[] = "turn 0, round 0, processor 0, ";
+    static const char why[] = "lwkt_show: the order names a processor that the script doesn't have\n";
+    lwkt_answer answer = {7, 7, 7};
+    lwkt_text_json(bytes(good), strlen(good), json, sizeof json, &answer);
+    size_t length = answer.length;
+    uint32_t status = lwkt_show_turns(json, length, bytes(along), strlen(along), text, sizeof text, &answer);
+    count(status == 0 && answer.fault == 0 && memcmp(text, first, strlen(first)) == 0, "a run along an order");
+    status = lwkt_show_turns(json, length, bytes(absent), strlen(absent), text, sizeof text, &answer);
+    count(status == 1 && answer.fault == 30 && answer.length == strlen(why) && memcmp(text, why, answer.length) == 0, "a processor that isn't there");
 }
 
 int main(void) {
@@ -106,11 +121,12 @@ int main(void) {
     try_json();
     try_long();
     try_orders();
+    try_along();
     try_call(lwkt_run_text, good, 5, 0, report);
     try_call(lwkt_run_text, wrong, 1, 33, "3:7: a token is wanted here (word?)\n      get wort\n          ^\n4:3: no sentence begins with");
     try_call(lwkt_text_json, wrong, 1, 33, "3:7: a token is wanted here (word?)\n");
     try_call(explore, wrong, 1, 33, "3:7: a token is wanted here (word?)\n");
-    try_call(explore, good, 0, 0, "outcome 1 ended, order 0 0 0 0\ntoken 0 gen 1 cells 7\n");
+    try_call(explore, good, 5, 0, "outcome 1 ended, order 0 0 0 0\ntoken 0 gen 1 cells 7\n");
     try_call(explore, crossed, 2, 0, "outcome 1 stuck, order 0 1 0\n");
     try_call(lwkt_run_text, crossed, 2, 0, "message 0 round 1 out\n");
     try_call(lwkt_run_text, "token sums: sum 10, cells 5 6", 1, 40, "lwkt_run: the opening of token sums: ");

@@ -6,6 +6,8 @@ const { Library } = load("module.js", ["Library"]);
 const found = /<script type="application\/octet-stream" id="module">([^<]*)<\/script>/.exec(readFileSync(process.argv[2], "utf8"));
 const bytes = Buffer.from(found[1], "base64");
 const library = new Library(bytes);
+// The searches are compared up to so many states.
+const mostStates = 3000;
 const encoder = new TextEncoder(), decoder = new TextDecoder();
 
 function call(name, script, words, numbers = []) {
@@ -31,6 +33,8 @@ function tryExample(name) {
   same(got.status, statusOf(name), `${name}: status`);
   if (got.status !== 1) same(got.text, read(examples, `${name}.out`), `${name}: report`);
   for (const words of ["turns", "turns --svg", "turns --chains", "turns --trace", "turns --rounds 1..3", "turns --turns 2..5 --svg", "turns --rounds 100000..", "turns --rounds 3..1"]) compare("lwkt_show_turns", script, words, name);
+  if (got.status !== 1) compareOrders(script, name);
+  for (const words of ["turns --order 0", "turns --order -", "turns --order 09", "turns --order 0 --rounds 0..1"]) compare("lwkt_show_turns", script, words, name);
   const trace = call("lwkt_show_turns", script, "turns --trace");
   if (trace.status !== 1) compare("lwkt_check_trace", trace.text, undefined, `${name}: its trace`);
 }
@@ -61,11 +65,20 @@ function tryCourse(name) {
   same([call("lwkt_is_text", text).status, call("lwkt_is_text", json).status], [1, 0], `${name}: its form`);
   same(JSON.parse(call("lwkt_text_json", text).text), JSON.parse(json), `${name}: its JSON`);
   const told = call("lwkt_run_text", text);
-  check(told.status === 0 && told.text.startsWith(callProgram("lwkt_run_turns", json).text), `${name}: its report`);
-  const bounds = [100000, 100000];
-  const [one, other] = [text, json].map((script) => call("lwkt_explore_orders", script, undefined, bounds));
-  same([one.status, one.text], [other.status, other.text], `${name}: its outcomes`);
-  check([0, 2, 5].includes(one.status), `${name}: status ${one.status}`);
+  check(told.text.startsWith(callProgram("lwkt_run_turns", json).text), `${name}: its report`);
+  const wanted = callProgram("lwkt_run_text", text);
+  same([told.status, told.text], [wanted.status, wanted.text], `${name}: its report and its expectations`);
+  for (const script of [text, json]) compareOrders(script, name);
+}
+
+// Every order of a script, beside the program that tries them, and each outcome's run along its order beside the one that shows it.
+function compareOrders(script, name) {
+  const bounds = [mostStates, 100000];
+  const got = call("lwkt_explore_orders", script, undefined, bounds), wanted = callProgram("lwkt_explore_orders", script, bounds.join(" "));
+  same([got.status, got.fault, got.text], [wanted.status, wanted.fault, wanted.text], `${name}: its outcomes`);
+  if (call("lwkt_is_text", script).status === 1) return;
+  const orders = [...got.text.matchAll(/^outcome \d+ \w+, order (.*)$/gm)].slice(0, 3);
+  for (const [, order] of orders) for (const rest of ["", " --svg"]) compare("lwkt_show_turns", script, `turns --order ${order.replaceAll(" ", "")}${rest}`, name);
 }
 
 // What docs/EXPLORE.md shows.

@@ -90,7 +90,7 @@ export function callProgram(name, script, words = name.startsWith("lwkt_run") ? 
   if (room) rmSync(room, { recursive: true });
   const [out, told] = [ran.stdout.toString(), ran.stderr.toString().replaceAll(`${file}:`, "")];
   const isRefused = ran.status === 1 || ran.status === 3;
-  const fault = /fault (\d+)(?: at (\d+))?/.exec(out + told);
+  const fault = /fault (\d+)(?: at (\d+))?/.exec(out + told.replace(/^lwkt_show: the order names a processor .*$/m, "fault 30"));
   const isAll = name === "lwkt_run_text" || name === "lwkt_explore_orders";
   return { status: ran.status, fault: isRefused && fault ? Number(fault[1]) : 0, place: isRefused && fault ? Number(fault[2] || 0) : 0, text: isRefused ? told : isAll ? out + told : out };
 }

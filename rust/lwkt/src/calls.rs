@@ -139,7 +139,7 @@ fn called(call: impl Fn(&mut [u8], &mut Answer) -> u32) -> Result<(u32, Answer, 
 /// Why a call was refused that has this answer and this text.
 fn refusal(answer: Answer, why: String) -> Refusal {
     match answer.fault {
-        0 => Refusal::Arguments { why },
+        0 | 30 => Refusal::Arguments { why },
         33 => Refusal::Malformed {
             place: answer.place,
             why,
@@ -205,17 +205,21 @@ pub fn check_trace(trace: &[u8]) -> Result<Finding, Refusal> {
     }
 }
 
-/// Runs a script in rounds and shows the run, as `lwkt_show` with these arguments does: words with one blank between each two.
+/// Runs a script in rounds or along an order and shows the run, as `lwkt_show` with these arguments does: words with one blank between
+/// each two, as `turns --svg` or `turns --order 0110`.
 ///
 /// # Errors
 ///
-/// As of [`run_turns`]; and `Arguments` for other arguments, and where the run ended before the first turn that they choose.
+/// As of [`run_turns`]; and `Arguments` for other arguments, where the order names a processor that the script doesn't have, and where
+/// the run ended before the first turn that they choose.
 ///
 /// ```
 /// let script = br#"{"version":1,"turns":5,"idle":100000000,"cpus":1,"tokens":[],"messages":[],
 ///     "threads":[{"cpu":0,"repeat":1,"steps":[["yield"]]}]}"#;
 /// let run = lwkt::show_turns(script, "turns --svg")?;
 /// assert!(run.text.starts_with("<svg "));
+/// let absent = lwkt::show_turns(script, "turns --order 01");
+/// assert!(matches!(absent, Err(lwkt::Refusal::Arguments { .. })));
 /// # Ok::<(), lwkt::Refusal>(())
 /// ```
 pub fn show_turns(script: &[u8], arguments: &str) -> Result<Run, Refusal> {
@@ -332,11 +336,11 @@ pub fn run_text(script: &[u8]) -> Result<TextRun, Refusal> {
 /// How much of the orders of a script was tried, and whether each of them can come to an end.
 #[derive(Clone, Copy, Debug, PartialEq, Eq)]
 pub enum Tried {
-    /// All, and from every state an end can be reached.
+    /// All, and from every state an end can be reached; of a text with expectations, all, and each holds of all outcomes.
     AllEnd,
     /// All, and from some state no end can be reached.
     SomeLost,
-    /// Not all: a bound was met, or memory was refused.
+    /// Not all: a bound was met, or memory was refused; or a text has an expectation that doesn't hold.
     Part,
 }
 
@@ -345,7 +349,8 @@ pub enum Tried {
 pub struct Orders {
     /// How much was tried.
     pub tried: Tried,
-    /// Each outcome with a shortest order, and what was searched, as docs/EXPLORE.md has it.
+    /// Each outcome with a shortest order, and what was searched, as docs/EXPLORE.md has it; of a text a line for each expectation
+    /// behind that.
     pub text: String,
 }
 
