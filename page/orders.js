@@ -47,7 +47,9 @@ function replayButton(order, go, name) {
 function lostParts(lost, go) {
   const found = lost && /^(.* after order) (.*)$/.exec(lost);
   if (!found) return [];
-  return [`Lost: ${found[1]} `, make("code", { class: "order" }, found[2]), " ", replayButton(orderOf(found[2]), go, "the way to the first lost state")];
+  const order = orderOf(found[2]);
+  const words = order.length ? [`Lost: ${found[1]} `, make("code", { class: "order" }, found[2]), " "] : [`Lost: ${found[1].replace(/; (the first)? ?after order$/, (_, first) => `; ${first || "it"} is the opening`)}`];
+  return order.length ? [...words, replayButton(order, go, "the way to the first lost state")] : words;
 }
 
 // An outcome with its kind, its order, its report, and why its threads are stuck.

@@ -1,5 +1,8 @@
 // The page in a browser: page.mjs BROWSER PAGE [STANDIN]. With a third word the module's place is taken by the programs of this tree.
+import { readFileSync } from "node:fs";
+import { createServer } from "node:http";
 import { cpus, loadavg } from "node:os";
+import { fileURLToPath } from "node:url";
 import { Browser } from "./browser.mjs";
 import { openable } from "./standin.mjs";
 import { callProgram, check, counted, exampleNames, examples, finish, namesIn, read, same, statusOf } from "./tools.mjs";
@@ -97,7 +100,7 @@ async function tryOrders(tab) {
   same(await tab.ask(outcomes), [["stuck", "0 1 0"]], "one outcome, which is stuck");
   check((await text(tab, "outcomes")).includes("thread 0.0 waits for the reply to message 0"), "and why");
   check((await text(tab, "orders-status")).includes("6 states, ") && (await text(tab, "orders-status")).includes("Every order was tried."), await text(tab, "orders-status"));
-  check((await text(tab, "lost")).startsWith("Lost: 6 states, from which no end can be reached; the first after order -"), await text(tab, "lost"));
+  check((await text(tab, "lost")).startsWith("Lost: 6 states, from which no end can be reached; the first is the opening"), await text(tab, "lost"));
   await put(tab, read(examples, "crossed_lists.json"));
   same(await tab.ask(outcomes), [], "an edit clears them");
   await click(tab, "orders-start");
@@ -166,10 +169,13 @@ async function tryReplay(tab) {
   await other.close();
   await tab.ask(`history.replaceState(null, '', location.pathname); document.querySelector('#along button').click()`);
   check(await tab.until(`run && run.order === null && ${settled}`), "and back to the run in rounds");
-  await put(tab, read(examples, "calls_that_wait_for_each_other.json"));
+  await put(tab, read(examples, "explore/abort_before_and_after.lwkt"));
   await click(tab, "orders-start");
   await tab.until(searched);
+  const lost = (await text(tab, "lost")).replace(/^.*after order ([0-9 ]+) Replay.*$/, "$1");
   await tab.ask(`document.querySelector('#lost button').click()`);
+  check(await tab.until(`run?.order?.join(' ') === ${JSON.stringify(lost)} && ${settled}`), `the way to a lost state: ${lost}`);
+  await tab.ask(`replay([])`);
   check(await tab.until(`run?.order?.length === 0 && ${settled}`) && (await tab.ask(`document.getElementById('ran').hidden`)), "an order without a turn");
   await put(tab, read(examples, "litmus/14_a_sum.lwkt"));
   await click(tab, "orders-start");
@@ -220,6 +226,18 @@ async function tryUrgent(tab) {
   same(await signs(), [], "and no more once it is at rest");
   const frame = await tab.ask(`(() => { choose(4); return new Promise((done) => setTimeout(() => { const it = getComputedStyle(document.querySelector('#lanes .urgent')); done([it.borderStyle, Number(it.fontWeight) >= 600]); }, 500)); })()`);
   same(frame, ["solid", true], "by more than colour");
+}
+
+// From a web server the page runs as from disk, and asks it for nothing but itself.
+async function tryServed() {
+  const server = createServer((request, response) => response.setHeader("Content-Type", "text/html").end(readFileSync(fileURLToPath(url))));
+  await new Promise((resolve) => server.listen(0, "127.0.0.1", resolve));
+  const address = `http://127.0.0.1:${server.address().port}/lwkt/`;
+  const tab = await browser.open(address);
+  check(await tab.until(`run && !isDrawing && document.querySelectorAll('.thread').length === 2`), "the page runs from a web server");
+  same(tab.requests.filter((it) => it !== address && !/^(blob|data):/.test(it) && !(standin && it.includes("/call/"))), [], "and asks for nothing else");
+  await tab.close();
+  server.close();
 }
 
 // From the opening of the file to the first run on the page.
@@ -565,6 +583,7 @@ try {
   for (const name of namesIn("refused", ".json")) await part(name, () => tryRefusal(tab, name));
   const parts = { tryStates, tryMessages, tryWhy, tryEditor, tryKeys, tryTabbing, tryLink, tryNames, tryParts, tryOdd, tryLong, tryStop, tryTrap, tryTexts, tryOrders, tryReplay, tryRecords, tryUrgent };
   for (const [name, work] of Object.entries(parts)) await part(name, () => work(tab));
+  await part("served", tryServed);
   if (!standin) await part("first run", tryFirst);
   await part("contrast", async () => { await tryContrast(false); await tryContrast(true); });
   await part("widths", tryWidths);
