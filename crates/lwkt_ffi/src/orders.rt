@@ -92,12 +92,7 @@ fn search_json(
 }
 
 // Tries every order of a text, and judges what it says of the outcomes; why it is refused is put on a page.
-fn search_text(
-    alloc: Global,
-    text: &[u8],
-    bounds: Bounds,
-    page: &mut Page,
-) -> Result<Search, Fault>
+fn search_text(alloc: Global, text: &[u8], bounds: Bounds, page: &mut Page) -> Result<Search, Fault>
     ensures { IfOk result (λ search. IsSearchOfText text.now search) }
 {
     let reading = match read_onto(alloc, Speaker::Explore, text, page) {

@@ -236,5 +236,9 @@ fn expectations_over_every_order(rt: HostRuntime) {
     );
     assert_eq!(rt; (status, answer.fault, answer.place), (5, 0, 0));
     let behind = b"complete\n4: holds\n5: doesn't hold, order 0 0 0";
-    assert!(rt; buffer.windows(behind.len()).any(|part| part == behind.as_slice()));
+    assert!(rt;
+        buffer
+            .windows(behind.len())
+            .any(|part| part == behind.as_slice())
+    );
 }
