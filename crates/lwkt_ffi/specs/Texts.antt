@@ -2,7 +2,7 @@
 use Rattle.std.specs.Prelude.{◌≡◌, ◌⊎◌, ◌<◌, ℕ, ◌++◌, List, length, Bool, true, false, Option, Result, Ok, Err, if◌then◌else◌}
 use Rattle.std.specs.Result.{result_err}
 use Rattle.lwkt_base.specs.declared.faults.Fault.{Fault}
-use Rattle.lwkt_base.specs.declared.faults.Fault.TheVariants.{Script as ScriptFault, Memory, Limits, LawBroken, Unlawful}
+use Rattle.lwkt_base.specs.declared.faults.Fault.TheVariants.{Script as ScriptFault, Memory, Limits, Unlawful}
 use Rattle.lwkt_expected.specs.Expectations.{status_of_text as status_of_text_search}
 use Rattle.lwkt_explore.specs.Outcomes.{AreOutcomes}
 use Rattle.lwkt_explore.specs.Statuses.{status_of as status_of_search}
@@ -25,20 +25,17 @@ use Rattle.lwkt_ffi.specs.Answers.{Fills, status_of_fault}
 abbrev pub TellsForm : List ℕ → ℕ → Type 0
 TellsForm script status = (status ≡ (if is_text script then 1 else 0)) ⊎ (status ≡ 3)
 
--- why a text isn't read: something is wrong with it, and it is refused as bytes that are no JSON; or want of memory
+-- why a text isn't read: for want of memory; or something is wrong with it, and it is refused as bytes that are no JSON
 abbrev pub RefusesReading : List ℕ → Fault → Type 0
-RefusesReading text (ScriptFault place) = (place ≡ 0) × ((wrongs : List Wrong) × ((reading_of text ≡ Err wrongs) × (0 < length wrongs)))
-RefusesReading text Memory = Unit {0}
-RefusesReading text _ = ⊥
+RefusesReading text fault = (fault ≡ Memory) ⊎ ((fault ≡ ScriptFault 0) × ((wrongs : List Wrong) × ((reading_of text ≡ Err wrongs) × (0 < length wrongs))))
 
 -- these bytes are the script of a text, in JSON
 abbrev pub IsJsonOf : List ℕ → List ℕ → Type 0
 IsJsonOf text json = (reading : Reading) × ((reading_of text ≡ Ok reading) × (script_of json ≡ Ok reading.script))
 
--- why there is no JSON of a text: as before, or it would be too long, of a text that is read
+-- why there is no JSON of a text: it isn't read; or it is, and its JSON would be too long
 abbrev pub RefusesJson : List ℕ → Fault → Type 0
-RefusesJson text Limits = (reading : Reading) × (reading_of text ≡ Ok reading)
-RefusesJson text fault = RefusesReading text fault
+RefusesJson text fault = RefusesReading text fault ⊎ ((fault ≡ Limits) × ((reading : Reading) × (reading_of text ≡ Ok reading)))
 
 -- what came of a text whose JSON was asked for
 abbrev pub TellsJson : List ℕ → Result (Unit {0}) Fault → List ℕ → Type 0
@@ -67,11 +64,9 @@ pub record HasTextRun (text : List ℕ) (judgement : Judgement) (report : List �
   pub is_report : report ≡ report_text closing
   pub is_judgement : judgement ≡ judgement_of reading.expectations closing
 
--- why a run of a text is refused: it isn't read, or its opening is refused
+-- why a run of a text is refused: it isn't read; or it is, and its machine isn't opened
 abbrev pub RefusesText : List ℕ → Fault → Type 0
-RefusesText text Limits = (reading : Reading) × ((reading_of text ≡ Ok reading) × Declines reading.script Limits)
-RefusesText text LawBroken = (reading : Reading) × ((reading_of text ≡ Ok reading) × Declines reading.script LawBroken)
-RefusesText text fault = RefusesReading text fault
+RefusesText text fault = RefusesReading text fault ⊎ ((reading : Reading) × ((reading_of text ≡ Ok reading) × Declines reading.script fault))
 
 -- what came of a text that was run: its report, with more behind it; or why there is none
 abbrev pub TellsText : List ℕ → Result Judgement Fault → List ℕ → Type 0
