@@ -154,7 +154,7 @@ async function tryReplay(tab) {
     const pictured = await tab.ask(`document.getElementById('drawing').hidden ? 'none' : document.getElementById('drawing').shadowRoot.querySelectorAll('.chosen').length`);
     check(pictured === 1 || (pictured === "none" && (await text(tab, "rounds")).includes("no picture")), `the chosen turn is marked, or there is no picture: ${pictured}`);
   }
-  await goTo(tab, 2);
+  await goTo(tab, 0);
   check((await tab.ask(threadsShown)).some(([, kind]) => kind === "begins"), "a processor that the order hasn't named yet has had no turn");
   await tab.key("Home");
   await settle(tab);
