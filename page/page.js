@@ -94,7 +94,7 @@ async function makeRun(text, order) {
   const opening = await show(script, `${orderWords([])} --chains`);
   const { messages, cpus, tokens } = JSON.parse(script);
   const records = tokens.map(({ record }) => (typeof record === "string" ? recordWords(record) : null));
-  const made = { script, text, order, words, verdicts: form.verdicts, cpus, messages, records, whole: read, status: form.status ?? whole.status, milliseconds: whole.milliseconds, total: read.total, openings: readOpenings(textOf(opening)), windows: new Map(), cuts: new Map(), parts: new Map() };
+  const made = { script, text, order, words, names: form.isText ? namesOf(text) : noNames, verdicts: form.verdicts, cpus, messages, records, whole: read, status: form.status ?? whole.status, milliseconds: whole.milliseconds, total: read.total, openings: readOpenings(textOf(opening)), windows: new Map(), cuts: new Map(), parts: new Map() };
   made.rounds = order ? made.total : Math.ceil(made.total / cpus);
   await addWindow(made, 0, read.turns);
   return { made };
@@ -239,7 +239,7 @@ async function drawChosen(it, turn) {
   showTurn(at("chosen"), now, Boolean(it.order));
   const state = await stateAfter(part, index);
   if (it !== run || turn !== chosen) return;
-  const look = { turn: now, turns: part.turns, at: index, state, from: part.from, go: choose, threads: [] };
+  const look = { names: it.names, turn: now, turns: part.turns, at: index, state, from: part.from, go: choose, threads: [] };
   at("state-head").textContent = `After turn ${turn}`;
   showTokens(at("tokens"), look);
   showMessages(at("messages"), look);

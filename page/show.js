@@ -107,10 +107,15 @@ function toggleWhy(button, place, thread, look) {
   place.replaceChildren(list, since === null ? "" : make("p", { class: "quiet" }, "It stands so since ", turnButton(since, look.go), "."));
 }
 
+// The name that a text gives to something.
+function nameOf(name) {
+  return name === undefined ? null : make("span", { class: "name" }, name, " ");
+}
+
 function showThread(thread, look) {
   const kind = kindOf(thread);
   const list = thread.list.length ? thread.list.map((it) => `token ${it.slice(0, -1)}${it.endsWith("s") ? " shared" : ""}`).join(", ") : "none";
-  const parts = [make("strong", {}, thread.id), " ", make("span", { class: `chip ${kind}` }, kind === "waits" ? thread.said.replace(/^(waits for (?:token \d+|its port|the reply to message \d+)).*$/, "$1") : chipWords[kind])];
+  const parts = [make("strong", {}, thread.id), " ", nameOf(look.names.threads.get(thread.id)), make("span", { class: `chip ${kind}` }, kind === "waits" ? thread.said.replace(/^(waits for (?:token \d+|its port|the reply to message \d+)).*$/, "$1") : chipWords[kind])];
   if (kind !== "begins") {
     parts.push(make("div", { class: "quiet" }, `list: ${list}`));
     if (thread.log.length) parts.push(make("div", { class: "quiet mono" }, `log: ${thread.log.map(entryWords).join(" ")}`));
@@ -162,7 +167,7 @@ function tokenRow(token, number, look) {
   const row = token.row.length ? token.row.map((cell) => cell ?? "?").join(" ") : "no cells";
   const record = token.record === null ? null : make("div", { class: "record" }, make("span", { class: "quiet" }, "record "), token.record);
   const cells = [make("td", { class: "mono" }, word, detail), make("td", {}, token.holders ?? "?"), make("td", {}, mark), make("td", { class: "mono" }, row, record, make("div", { class: "quiet" }, `law ${token.law}`)), make("td", {}, toldBy(token, look))];
-  return make("tr", { class: changed ? "changed" : null, "data-token": number }, make("th", { scope: "row" }, String(number)), ...cells);
+  return make("tr", { class: changed ? "changed" : null, "data-token": number }, make("th", { scope: "row" }, `${number} `, nameOf(look.names.tokens[number])), ...cells);
 }
 
 function showTokens(place, look) {
@@ -181,7 +186,7 @@ function urgentSign(isUrgent) {
 function messageRow(post, number, look) {
   const changed = look.turn.events.some((event) => event.of === "message" && event.number === number);
   const cells = [make("td", {}, post.owner.join(".")), make("td", {}, post.round ?? "?"), make("td", {}, post.place ?? "?", " ", urgentSign(post.isUrgent) ?? ""), make("td", {}, toldBy(post, look))];
-  return make("tr", { class: changed ? "changed" : null, "data-message": number }, make("th", { scope: "row" }, String(number)), ...cells);
+  return make("tr", { class: changed ? "changed" : null, "data-message": number }, make("th", { scope: "row" }, `${number} `, nameOf(look.names.messages[number])), ...cells);
 }
 
 function showMessages(place, look) {

@@ -18,6 +18,24 @@ function wordAt(text, line, column) {
   return { from, to: Math.min(text.length, from + (word ? word[0].length : 1)) };
 }
 
+// The names that a text gives to its tokens and messages, by their numbers, and to its threads, by processor and number there. They
+// are numbered in the order of their sentences.
+function namesOf(text) {
+  const names = { tokens: [], messages: [], threads: new Map() }, counts = new Map();
+  for (const sentence of text.replace(/#.*$/gm, "").split(/[\n;]/)) {
+    const [kind, name, , cpu] = sentence.split(/[\s,:]+/).filter(Boolean);
+    if (kind === "token") names.tokens.push(name);
+    if (kind === "message") names.messages.push(name);
+    if (kind !== "thread") continue;
+    const number = counts.get(cpu) || 0;
+    names.threads.set(`${Number(cpu)}.${number}`, name);
+    counts.set(cpu, number + 1);
+  }
+  return names;
+}
+
+const noNames = { tokens: [], messages: [], threads: new Map() };
+
 // What a line of a text expects, each by itself.
 function expectationsIn(line) {
   return line.replace(/#.*$/, "").split(";").map((it) => it.trim()).filter((it) => /^[\s,:]*(always|sometimes|never)\b/.test(it));

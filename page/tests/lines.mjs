@@ -4,7 +4,7 @@ import { callProgram, check, exampleNames, examples, finish, namesIn, read, same
 import { load } from "./tools.mjs";
 
 const lines = load("lines.js", ["readRun", "readEvent", "readOpenings", "partsOf", "readPlace", "openState", "copyState", "tell", "tellFirstWords", "recordWords", "entryWords"]);
-const texts = load("texts.js", ["verdictsIn", "saidAt"]);
+const texts = load("texts.js", ["verdictsIn", "saidAt", "namesOf"]);
 const scripts = load("script.js", ["cutScript", "membersOf", "partAt", "placeOf", "skipValue"]);
 
 // Every line of a run is read: all its turns, and the report behind them.
@@ -126,4 +126,6 @@ const odd = lines.readRun("turn 0, round 0, processor 0, thread 0.0, step 1: [\"
 same([odd.outcome, odd.events.map((it) => [it.number, it.record])], ["record 'a; token 1: b'", [[0, "'a; token 1: b'"], [0, "'; '"]]], "a record with semicolons");
 same(texts.verdictsIn(["4: holds", "4: doesn't hold, order 0 1", "5: isn't shown by what was found", "x"]).map((it) => [it.line, it.place, it.words, it.order]), [[4, 0, "holds", null], [4, 1, "doesn't hold", [0, 1]], [5, 0, "isn't shown by what was found", null]], "verdicts");
 tryUrgent();
+const named = texts.namesOf("# token no\ntoken a: any, cells 1; token,b # token c\n thread t on 1, repeat 2:\nget a; thread u on 0\nmessage m of t\nthread v on 1");
+same([named.tokens, named.messages, [...named.threads]], [["a", "b"], ["m"], [["1.0", "t"], ["0.0", "u"], ["1.1", "v"]]], "the names of a text");
 finish();

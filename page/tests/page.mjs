@@ -66,6 +66,8 @@ async function tryCourse(tab, name) {
   const shown = await tab.ask(`[...document.querySelectorAll('#verdicts li')].map((it) => it.dataset.holds)`);
   const expected = script.split(/[\n;]/).filter((it) => /^\s*(always|sometimes|never)\b/.test(it)).length;
   same(shown, Array(expected).fill("true"), `${name}: what it expects holds`);
+  const names = [...script.replace(/#.*/g, "").matchAll(/^(?:token|thread) (\w+)/gm)].map(([, it]) => it).sort();
+  same(await tab.ask(`[...document.querySelectorAll('.thread .name, [data-token] .name')].map((it) => it.textContent.trim()).sort()`), names, `${name}: names beside the numbers`);
   await click(tab, "last");
   await settle(tab);
 }
