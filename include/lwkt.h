@@ -11,7 +11,10 @@
 // buffer stays as it was. The text isn't ended by a 0 byte. A call with too little room can be made again with more; the same
 // bytes make the same text, unless memory is refused.
 //
-// Status. It is the exit status of the program that does the same: 0, 1, 2, 3 or 4, as each function says.
+// Status. It is the exit status of the program that does the same: 0, 1, 2, 3, 4 or 5, as each function says.
+//
+// Scripts. A script is JSON (docs/FORMATS.md) or a text of the language for scripts (docs/LANGUAGE.md). `lwkt_run_turns` and
+// `lwkt_show_turns` take JSON; `lwkt_text_json` makes that of a text.
 //
 // What the caller owes. Nothing checks it, and a call that breaks it is undefined:
 //
@@ -41,8 +44,9 @@ extern "C" {
 typedef struct lwkt_answer {
     // The length of the whole text in bytes.
     size_t length;
-    // 0, or the fault for which the call was refused, as docs/FORMATS.md numbers them: 32 memory was refused; 33 what was given
-    // is no script or no trace; 39 a limit was passed; 40 an opening row breaks its law.
+    // 0, or the fault for which the call was refused, as docs/FORMATS.md numbers them: 30 an order names a processor that isn't
+    // there; 32 memory was refused; 33 what was given is no script, no text or no trace; 35 a run along an order wasn't lawful; 39 a
+    // limit was passed; 40 an opening row breaks its law.
     uint32_t fault;
     // With 33 the place of the first bad part, as docs/FORMATS.md and docs/TRACES.md number the places; else 0.
     uint32_t place;
@@ -62,14 +66,51 @@ uint32_t lwkt_run_turns(const uint8_t *script, size_t script_length, uint8_t *te
 // with the fault 32. With 1 and 3 the text says why, in words, or is empty.
 uint32_t lwkt_check_trace(const uint8_t *trace, size_t trace_length, uint8_t *text, size_t room, lwkt_answer *answer);
 
-// Runs a script in rounds and shows the run, as `lwkt_show` with these arguments does. The arguments are words with one blank
-// between each two, as `turns`, `turns --svg` or `turns --rounds 0..9 --svg`, in UTF-8; `threads --chains` isn't one of them here.
-// The text is what that program writes.
+// Runs a script in rounds or along an order and shows the run, as `lwkt_show` with these arguments does. The arguments are words with
+// one blank between each two, as `turns`, `turns --svg`, `turns --rounds 0..9 --svg` or `turns --order 0110 --svg`, in UTF-8; an order
+// is one word here, without blanks; `threads --chains` isn't one of them. The text is what that program writes.
 //
-// The status: as of `lwkt_run_turns`; and 1, with no fault, for other arguments, and for a run that ended before the first turn
+// The status: as of `lwkt_run_turns`, 2 along an order where not every thread had ended; 1 with the fault 30 where the order names a
+// processor that the script doesn't have; and 1, with no fault, for other arguments, and for a run that ended before the first turn
 // that the arguments choose. With 1 and 3 the text says why, in words, or is empty.
 uint32_t lwkt_show_turns(const uint8_t *script, size_t script_length, const uint8_t *arguments, size_t arguments_length,
                          uint8_t *text, size_t room, lwkt_answer *answer);
+
+// Whether a script is taken for a text of the language, as the programs do: it is no JSON, begins, behind white space, with a letter,
+// `_` or `#`, and has at most 1048576 bytes. It answers 1 for a text, 0 for all else, 3 where memory was refused.
+uint32_t lwkt_is_text(const uint8_t *script, size_t script_length);
+
+// The script of a text in JSON, as `lwkt_text FILE --json` writes it. Bytes that aren't taken for a text are read as one all the same.
+//
+// The status: 0 it is there; 1 something is wrong with the text, with the fault 33, or its JSON would have more than 1048576 bytes,
+// with the fault 39; 3 memory was refused, with the fault 32. With the fault 33 the text that is made has all that is wrong, in the
+// order of the places: `LINE:COLUMN: WORDS`, counted from 1, a column being a byte; and below it, behind four blanks each, the line
+// and a mark under the place. With 39 and 32 it says why, in words, or is empty.
+uint32_t lwkt_text_json(const uint8_t *script, size_t script_length, uint8_t *text, size_t room, lwkt_answer *answer);
+
+// Runs a text in rounds, on this thread, as `lwkt_run turns` does with a text. What is made is the report, and behind that a line for
+// each expectation, in the order of the text: `LINE: holds` or `LINE: doesn't hold`.
+//
+// The status: 0 all expectations hold, or there are none and every thread ended; 2 there are none, and the turns were used up; 5 an
+// expectation doesn't hold; 4 the run was unlawful; 1 the text was refused, with the fault 33 and words as of `lwkt_text_json`, or its
+// opening was, with the fault 39 or 40; 3 memory was refused, with the fault 32. With 39, 40 and 32 what is made says why, in words,
+// or is empty.
+uint32_t lwkt_run_text(const uint8_t *script, size_t script_length, uint8_t *text, size_t room, lwkt_answer *answer);
+
+// Tries every order of turns of a script in either form, as `lwkt_explore` does (docs/EXPLORE.md): at most so many states are kept, one
+// at least, and no order has more turns than that. What is made has each outcome once, with a shortest order that leads to it, the
+// states from which no end can be reached, and what was searched; and of a text behind that a line for each expectation, in the order
+// of the text: `LINE: holds` or `LINE: doesn't hold`, of all outcomes, and where one outcome decides it that one's order; where not
+// every order was tried, and none decides it, `LINE: holds of what was found` or `LINE: isn't shown by what was found`. It takes memory
+// and time as the states do, and can't be broken off.
+//
+// The status, of JSON and of a text without expectations: 0 every order was tried, and from every state an end can be reached; 2 every
+// order was tried, and from some state no end can be reached; 5 not every order was tried, since a bound was met or memory was
+// refused. Of a text with expectations: 0 every order was tried, and all hold; 5 not so. Of all: 4 a run along an order wasn't lawful,
+// with the fault 35; 1 the script or its opening was refused, with the fault 33, 39 or 40; 3 memory was refused, with the fault 32.
+// With 1, 3 and 4 what is made says why, in words, or is empty; of a text with the fault 33 as of `lwkt_text_json`.
+uint32_t lwkt_explore_orders(const uint8_t *script, size_t script_length, size_t states, size_t turns, uint8_t *text, size_t room,
+                             lwkt_answer *answer);
 
 // The steps on a token's word, for those who keep the word themselves and have an atomic exchange of their own, as in a kernel. They
 // are decisions only: each makes of the word that was read the word to store in its place, or says why the step can't be made. The

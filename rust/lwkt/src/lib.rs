@@ -19,5 +19,8 @@ mod calls;
 mod word;
 
 pub use bank::{Bank, Held, RowLaw, Seat, SeatFault, Token};
-pub use calls::{check_trace, run_turns, show_turns, End, Finding, Refusal, Run};
+pub use calls::{
+    check_trace, explore_orders, is_text, run_text, run_turns, show_turns, text_json, End, Finding, Judgement, Orders, Refusal,
+    Run, TextRun, Tried,
+};
 pub use word::{StepFault, Word};

@@ -1,7 +1,7 @@
 //! What a text says of the outcomes of its script, over all orders.
 ghost use Rattle.std.specs.Prelude.{◌≡◌, IsTrue, IfSome, IsSomeAnd, is_some, slice_get};
 ghost use Rattle.std.specs.List.{list_all, list_any};
-ghost use Rattle.lwkt_explorer.specs.Expectations.{is_whole, decides_by, decides, met_by, is_met, status_of_text};
+ghost use Rattle.lwkt_expected.specs.Expectations.{is_whole, decides_by, decides, met_by, is_met, status_of_text};
 
 use lwkt_explore::{Found, Kind, Outcome, status_of};
 use lwkt_litmus::holds;
