@@ -18,6 +18,6 @@ mod bank;
 mod calls;
 mod word;
 
-pub use bank::{Bank, Held, RowLaw, Seat, SeatFault, Token};
+pub use bank::{Bank, Held, Missed, Reference, Resumed, RowLaw, Seat, SeatFault, Token};
 pub use calls::{check_trace, run_turns, show_turns, End, Finding, Refusal, Run};
 pub use word::{StepFault, Word};
