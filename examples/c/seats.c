@@ -101,7 +101,7 @@ static void sections(void) {
 static void *same_seat(void *told) {
     worker *mine = told;
     for (int i = 0; i < ROUNDS; i += 1) {
-        uint32_t status = lwkt_mark(bank, mine->seat, ANY);
+        uint32_t restored, status = i % 2 == 0 ? lwkt_mark(bank, mine->seat, ANY) : lwkt_block(bank, mine->seat, &restored);
         mine->good = mine->good && (status == 0 || status == LWKT_SEAT_IN_USE);
     }
     return NULL;
@@ -286,6 +286,9 @@ static void openings(void) {
     static lwkt_bank last;
     worn.generation -= 1;
     count(lwkt_bank_open(&worn, 1, 1, &last) == 0 && lwkt_take(last, 0, 0) == 20 && lwkt_share(last, 0, 0) == 0 && lwkt_give(last, 0, 0) == 0, "the last generation");
+    static const lwkt_reference whole = {0, LWKT_EXCLUSIVE};
+    size_t missed = 77;
+    count(lwkt_resume(last, 0, &whole, 1, &missed) == 20 && missed == 0 && lwkt_give(last, 0, 0) == 13, "the last generation, on a list");
 }
 
 int main(void) {

@@ -180,12 +180,12 @@ ends_section s s' tok true ends given held = absurd (last_gone s s' tok ends.0 g
 
 -- what is told of a section that ends
 pub ends_broken : (s s' : CpuSeat) (tok : ℕ) (restored : Bool) → EndsOne tok s s' restored → restored ≡ true → IsBroken s tok
-ends_broken s s' tok true ends yes = (ap is_exclusive ends.0, ends.1)
-ends_broken s s' tok false ends yes = absurd (false≢true yes)
+ends_broken s s' tok true ends is = (ap is_exclusive ends.0, ends.1)
+ends_broken s s' tok false ends is = absurd (false≢true is)
 
 pub ends_lawful : (s s' : CpuSeat) (tok : ℕ) (restored : Bool) → EndsOne tok s s' restored → holding s' ≡ removed (holding s) tok → restored ≡ false → is_held (holding s' tok) ≡ false → IsMine s tok → IsLawful s tok
-ends_lawful s s' tok true ends given no gone mine = absurd (false≢true (sym no))
-ends_lawful s s' tok false ends given no gone mine = elim ends [
+ends_lawful s s' tok true ends given is gone mine = absurd (false≢true (sym is))
+ends_lawful s s' tok false ends given is gone mine = elim ends [
   | inl g ↦
       let here : holding s' tok ≡ one_less (holding s tok) = ap (λ (h : Holding). h tok) given ∙ removed_here (holding s) tok in
       absurd (g.0 (last_exclusive (holding s tok) mine (ap is_held (sym here) ∙ gone)))
