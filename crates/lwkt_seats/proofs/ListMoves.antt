@@ -1,7 +1,7 @@
 -- How lists of references are taken, and how references are given back.
 use Rattle.std.proofs.Common.{◌≡◌, ◌≢◌, ℕ, zero, suc, ◌+◌, ◌-◌, ◌<◌, ◌≤◌, ⊎_elim, Bool, true, false, cond, eqb, List, [], ◌∷◌, ◌++◌, length, take, get_or, refl, ap, sym, ◌∙◌, subst, arith, inl, inr, eq-eqb}
 use Rattle.std.proofs.lemmas.Bool.{eqb-true, eqb-false, cases_Bool, cases_eq, false≢true}
-use Rattle.std.specs.Prelude.{All, slice_get}
+use Rattle.std.specs.Prelude.{All}
 use Rattle.std.proofs.lemmas.List.{take_all}
 use Rattle.std.proofs.lemmas.List.Elements.{All-get_or}
 use Rattle.std.proofs.lemmas.Option.{slice_get-get_or}
@@ -19,8 +19,8 @@ use Rattle.lwkt_bank.specs.declared.views.TokenEntry.{TokenEntry}
 use Rattle.lwkt_bank.specs.declared.seats.CpuSeat.{CpuSeat}
 use Rattle.lwkt_bank.specs.declared.answers.Given.{Given}
 use Rattle.lwkt_bank.specs.declared.answers.Given.TheVariants.{One, Clean, Written}
-use Rattle.lwkt_bank.specs.Views.{count_from, generation_in, looked, more, less, taken}
-use Rattle.lwkt_bank.specs.Seats.{BankId, bank_of, tokens_of, entry, holding, references, IsCleanIn, Changes, Looked, Lost, Gave}
+use Rattle.lwkt_bank.specs.Views.{count_from, generation_in, looked, more, taken}
+use Rattle.lwkt_bank.specs.Seats.{BankId, bank_of, tokens_of, entry, holding, references, IsCleanIn, Changes, Gave}
 use Rattle.lwkt_bank.proofs.HoldMoves.{taking_adds, again_adds, giving_removes, nothing_counts, added_counts}
 use Rattle.lwkt_bank.proofs.ChangeMoves.{same_holding}
 use Rattle.lwkt_seats.specs.declared.list_answers.Missed.{Missed}

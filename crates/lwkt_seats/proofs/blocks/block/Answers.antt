@@ -1,10 +1,10 @@
-use Rattle.std.proofs.Common.{◌≡◌, ℕ, ◌+◌, ◌<◌, ◌≤◌, true, false, refl, ap, sym, ◌∙◌, subst, arith, inl, inr}
+use Rattle.std.proofs.Common.{◌≡◌, ℕ, ◌+◌, refl, ap, sym, ◌∙◌, subst, arith, inl, inr}
 use Rattle.std.specs.Prelude.{Option}
 use Rattle.lwkt_base.specs.declared.names.TokId.{TokId}
 use Rattle.lwkt_bank.specs.declared.views.TokenEntry.{TokenEntry}
-use Rattle.lwkt_bank.specs.Seats.{bank_of, tokens_of, entry, holding}
-use Rattle.lwkt_seats.specs.Lists.{IsBroken, IsFirstBroken}
-use Rattle.lwkt_seats.proofs.BlockMoves.{ends_none, ends_after, free_past, free_more, free_all, first_more, section_entry, section_back, section_broken, section_lawful, IsSameSection}
+use Rattle.lwkt_bank.specs.Seats.{bank_of, tokens_of}
+use Rattle.lwkt_seats.specs.Lists.{IsFirstBroken}
+use Rattle.lwkt_seats.proofs.BlockMoves.{ends_none, ends_after, free_past, free_more, free_all, first_more, section_entry, section_broken, section_lawful, IsSameSection}
 use Rattle.lwkt_seats.proofs.blocks.block.Goals as goal
 
 pub loop-tok-init : goal.loop-tok-init

@@ -1,6 +1,6 @@
-use Rattle.std.proofs.Common.{◌<◌, ap, sym, ◌∙◌, subst}
+use Rattle.std.proofs.Common.{ap, ◌∙◌}
 use Rattle.lwkt_base.specs.Holding.{Holding, removed}
-use Rattle.lwkt_seats.proofs.BlockMoves.{gives_one_holding, gives_one_others, knowing_holding, broken_untallied}
+use Rattle.lwkt_seats.proofs.BlockMoves.{gives_one_holding, gives_one_others, knowing_holding}
 use Rattle.lwkt_seats.proofs.blocks.end_one.Goals as goal
 
 pub returns-in-Given-clause-given : goal.returns-in-Given-clause-given

@@ -1,4 +1,4 @@
-use Rattle.std.proofs.Common.{◌≡◌, ◌+◌, ◌-◌, ◌<◌, ◌≤◌, [], ◌∷◌, ◌++◌, length, refl, ap, sym, ◌∙◌, subst, arith, get_or, take}
+use Rattle.std.proofs.Common.{◌≡◌, ◌-◌, ◌<◌, ◌≤◌, [], ◌∷◌, ◌++◌, length, refl, ap, sym, ◌∙◌, subst, arith, get_or, take}
 use Rattle.lwkt_base.specs.Holding.{holding_of}
 use Rattle.lwkt_bank.specs.Seats.{BankId, bank_of, tokens_of}
 use Rattle.lwkt_seats.specs.Lists.{GivesUnwritten}

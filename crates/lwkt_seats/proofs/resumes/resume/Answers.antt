@@ -1,8 +1,8 @@
-use Rattle.std.proofs.Common.{◌≡◌, ◌<◌, List, ap, sym, ◌∙◌, subst}
+use Rattle.std.proofs.Common.{◌<◌, List, sym, ◌∙◌, subst}
 use Rattle.std.specs.Prelude.{All}
 use Rattle.std.proofs.lemmas.List.Elements.{All-map}
 use Rattle.lwkt_base.specs.declared.names.Ref.{Ref}
-use Rattle.lwkt_bank.specs.Seats.{BankId, id_of, bank_of, tokens_of}
+use Rattle.lwkt_bank.specs.Seats.{BankId, bank_of, tokens_of}
 use Rattle.lwkt_seats.specs.declared.references.LwktReference.{LwktReference}
 use Rattle.lwkt_seats.specs.Lists.{ref_of, refs_of, IsReference, IsList, TakesNone}
 use Rattle.lwkt_seats.proofs.resumes.resume.Goals as goal

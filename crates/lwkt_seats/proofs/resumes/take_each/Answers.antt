@@ -1,5 +1,4 @@
-use Rattle.std.proofs.Common.{◌≡◌, ◌+◌, ◌<◌, ◌≤◌, List, length, refl, ap, sym, ◌∙◌, subst, arith, get_or}
-use Rattle.lwkt_base.specs.declared.names.Ref.{Ref}
+use Rattle.std.proofs.Common.{◌+◌, ◌<◌, ◌≤◌, length, refl, ap, sym, ◌∙◌, subst, arith, get_or}
 use Rattle.lwkt_base.specs.Holding.{Holding, added}
 use Rattle.lwkt_bank.specs.Seats.{BankId, bank_of, tokens_of}
 use Rattle.lwkt_seats.specs.Lists.{TakesOne}
