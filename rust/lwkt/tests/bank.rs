@@ -228,7 +228,11 @@ fn what_is_no_list_is_refused() {
     let shared = Reference::shared(ANY);
     assert_eq!(seat.resume(&[shared, Reference::shared(TOKENS)]).err(), missed(1, 16));
     assert_eq!(seat.resume(&[shared, Reference::exclusive(ANY)]).err(), missed(1, 11));
-    assert_eq!(seat.resume(&[shared, Reference::exclusive(ANY), Reference::shared(TOKENS)]).err(), missed(1, 11));
+    assert_eq!(
+        seat.resume(&[shared, Reference::exclusive(ANY), Reference::shared(TOKENS)])
+            .err(),
+        missed(1, 11)
+    );
     assert_eq!(seat.resume(&[shared; 33]).err(), missed(32, 10));
     assert_eq!(seat.resume(&[shared; 32]).unwrap().block(), None);
     assert_eq!(seat.resume(&[]).unwrap().block(), None);
