@@ -148,8 +148,9 @@ uint32_t lwkt_word_give_written(uint64_t word, uint64_t *next);
 //     40 an opening row breaks its law           51 the seat holds a token
 //
 // Of several that apply a function's list says which one comes: the one that stands first. Where a call is refused, nothing has
-// changed that a later call could tell, but that the seat may have looked at the token's word, loaded its row or read its record; but
-// `lwkt_block` gives all up where it answers 19.
+// changed that a later call could tell, but that the seat may have looked at the token's word, loaded its row or read its record. Two
+// calls differ: `lwkt_block` gives all up where it answers 19, and `lwkt_resume` has held the references in front of one that it missed
+// for a while, so that the mark of a token among them that it held exclusively is cleared.
 //
 // What the caller owes, beside what stands at the head of this file:
 //
@@ -268,7 +269,7 @@ uint32_t lwkt_write_record(lwkt_bank bank, uint32_t seat, uint32_t token, const 
 // Refused with 30, 50, 51. Else what is no list is refused before any token is asked for, at the first place where it is so: with 16;
 // with 39 for another mode; with 10 behind 32 references; with 11 for an exclusive reference to a token whose first one is shared. Else
 // with 20, 23 or 34 at the reference that is missed. `missed` is the place then, 0 for the first; with 0, 30, 50 and 51 it stays as it
-// was.
+// was. `list` is at `count` references.
 uint32_t lwkt_resume(lwkt_bank bank, uint32_t seat, const lwkt_reference *list, size_t count, size_t *missed);
 
 // Gives up all that the seat holds, reference by reference, as a thread does that goes to sleep. A section that has broken its law
