@@ -238,7 +238,7 @@ static void sections_of_lists(void) {
 }
 
 static void lists(void) {
-    static const lwkt_reference both[2] = {{LEN, LWKT_EXCLUSIVE}, {SUM, LWKT_EXCLUSIVE}}, mixed[3] = {{ANY, LWKT_SHARED}, {ANY, LWKT_EXCLUSIVE}, {TOKENS, LWKT_SHARED}};
+    static const lwkt_reference both[2] = {{LEN, LWKT_EXCLUSIVE}, {SUM, LWKT_EXCLUSIVE}}, alone[2] = {{ANY, LWKT_EXCLUSIVE}, {SUM, LWKT_EXCLUSIVE}}, mixed[3] = {{ANY, LWKT_SHARED}, {ANY, LWKT_EXCLUSIVE}, {TOKENS, LWKT_SHARED}};
     lwkt_reference many[33], three[3] = {{ANY, LWKT_SHARED}, {SUM, LWKT_EXCLUSIVE}, {ANY, LWKT_SHARED}}, wrong[2] = {{ANY, LWKT_SHARED}, {TOKENS, LWKT_SHARED}};
     size_t missed = 77;
     uint32_t restored = 77;
@@ -270,6 +270,8 @@ static void lists(void) {
     count(lwkt_mark(bank, 0, ANY) == 0 && lwkt_resume(bank, 1, many, 2, &missed) == 23 && missed == 0, "a mark holds off a list of one token");
     count(lwkt_resume(bank, 1, three, 3, &missed) == 0 && lwkt_block(bank, 1, &restored) == 0, "and no other");
     count(lwkt_take(bank, 0, ANY) == 0 && lwkt_block(bank, 0, &restored) == 0, "the mark is gone");
+    count(lwkt_mark(bank, 0, ANY) == 0 && lwkt_take(bank, 1, SUM) == 0 && lwkt_resume(bank, 0, alone, 2, &missed) == 23 && missed == 1, "a list is missed at its end");
+    count(lwkt_share(bank, 2, ANY) == 0 && lwkt_give(bank, 2, ANY) == 0 && lwkt_give(bank, 1, SUM) == 0, "the mark of its front is cleared");
 }
 
 static void openings(void) {
