@@ -175,7 +175,7 @@ uint32_t lwkt_word_give_written(uint64_t word, uint64_t *next);
 //     lwkt_store(bank, 1, 0, 0, value + 1);
 //     lwkt_give(bank, 1, 0);
 //
-// Status. 0 where the call did what it says; else a number, as docs/FORMATS.md has the faults, but for 50:
+// Status. 0 where the call did what it says; else a number, as docs/FORMATS.md has the faults, but for 50 and 51:
 //
 //     10 the seat has 32 references              19 row or record break the law of the token
 //     11 exclusive, where it is held shared      20 the token is at its last generation, 70368744177663
@@ -186,10 +186,12 @@ uint32_t lwkt_word_give_written(uint64_t word, uint64_t *next);
 //     32 memory was refused                      34 another seat's step came between: ask again
 //     37 a record, and it is held shared         38 a record of more than 64 bytes
 //     39 a limit is passed                       50 another call has the seat
-//     40 an opening row breaks its law
+//     40 an opening row breaks its law           51 the seat holds a token
 //
 // Of several that apply a function's list says which one comes: the one that stands first. Where a call is refused, nothing has
-// changed that a later call could tell, but that the seat may have looked at the token's word, loaded its row or read its record.
+// changed that a later call could tell, but that the seat may have looked at the token's word, loaded its row or read its record. Two
+// calls differ: `lwkt_block` gives all up where it answers 19, and `lwkt_resume` has held the references in front of one that it missed
+// for a while, so that the mark of a token among them that it held exclusively is cleared.
 //
 // What the caller owes, beside what stands at the head of this file:
 //
@@ -201,6 +203,7 @@ uint32_t lwkt_word_give_written(uint64_t word, uint64_t *next);
 #define LWKT_BUSY 23u
 #define LWKT_RACE 34u
 #define LWKT_SEAT_IN_USE 50u
+#define LWKT_SEAT_HOLDS 51u
 
 #define LWKT_LAW_ANY 0u
 #define LWKT_LAW_SUM 1u
@@ -230,6 +233,16 @@ typedef struct lwkt_token {
     // How many records the token guards: 0 or 1, 0 under LWKT_LAW_TALLY, 1 under LWKT_LAW_LEN.
     uint32_t record_count;
 } lwkt_token;
+
+// One reference of a list: to which token, and in which mode.
+typedef struct lwkt_reference {
+    uint32_t token;
+    // LWKT_SHARED or LWKT_EXCLUSIVE.
+    uint32_t mode;
+} lwkt_reference;
+
+#define LWKT_SHARED 0u
+#define LWKT_EXCLUSIVE 1u
 
 // A bank. Its member is the library's.
 typedef struct lwkt_bank {
@@ -288,6 +301,22 @@ uint32_t lwkt_read_record(lwkt_bank bank, uint32_t seat, uint32_t token, uint8_t
 // Writes the record of a token that the seat holds exclusively: these bytes are its record from now on. Refused with 30, 50, 16, 17,
 // 13, 37 as `lwkt_read_record`; with 38 for more than 64 bytes.
 uint32_t lwkt_write_record(lwkt_bank bank, uint32_t seat, uint32_t token, const uint8_t *bytes, size_t length);
+
+// Takes a list of references in order, all or none and without waiting, for a seat that holds nothing, as a thread does that wakes: with
+// 0 it holds exactly these. At the first reference that is missed those in front of it are given back, and the seat holds nothing. Of a
+// token that is on the list again the seat gets one reference more, in the mode of its first. A mark holds off a list that has
+// references to its token alone.
+//
+// Refused with 30, 50, 51. Else what is no list is refused before any token is asked for, at the first place where it is so: with 16;
+// with 39 for another mode; with 10 behind 32 references; with 11 for an exclusive reference to a token whose first one is shared. Else
+// with 20, 23 or 34 at the reference that is missed. `missed` is the place then, 0 for the first; with 0, 30, 50 and 51 it stays as it
+// was. `list` is at `count` references.
+uint32_t lwkt_resume(lwkt_bank bank, uint32_t seat, const lwkt_reference *list, size_t count, size_t *missed);
+
+// Gives up all that the seat holds, reference by reference, as a thread does that goes to sleep. A section that has broken its law
+// gets its first row and record again before it ends: then the status is 19, and `restored` is the lowest such token. All is given up
+// then too. With another status than 19 `restored` stays as it was. Refused with 30, 50.
+uint32_t lwkt_block(lwkt_bank bank, uint32_t seat, uint32_t *restored);
 
 #ifdef __cplusplus
 }
