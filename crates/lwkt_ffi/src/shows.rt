@@ -34,6 +34,7 @@ pub enum Showing {
 // The words of the arguments, if they are UTF-8.
 fn words_read(alloc: Global, arguments: &[u8]) -> Result<Option<Vec<String>>, Fault>
     ensures some { IfOk result (λ found. IfSome found (λ words. map string_bytes words.items ≡ words_in arguments.now)) }
+    ensures valid { IfOk result (λ found. IfSome found (λ words. IsUtf8 arguments.now)) }
     ensures none { IfOk result (λ found. found ≡ None → ¬ IsUtf8 arguments.now) }
     ensures memory { IfErr result (λ fault. fault ≡ Fault.Memory) }
 {
