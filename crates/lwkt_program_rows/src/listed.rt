@@ -1,7 +1,7 @@
 //! Bodies that ask what they are listed with.
 
 use lwkt_base::{Answer, Ask, Fault, TokId};
-use lwkt_program::{Body, Stepper, Steps};
+use lwkt_program::{Stepper, Steps};
 
 /// The token of the rows.
 pub const TOKEN: TokId = TokId(0);
@@ -45,17 +45,5 @@ impl Steps for Listed {
     fn refused(&mut self, _asked: Ask, _fault: Fault) -> Ask {
         self.refusals = self.refusals.saturating_add(1);
         self.ask_next()
-    }
-}
-
-/// Ends at once.
-#[derive(Drop)]
-pub struct Ending;
-
-impl Body for Ending {
-    ghost polled = { λ b last ask d. Unit {0} };
-
-    fn poll(&mut self, _last: Answer) -> Ask {
-        Ask::Exit
     }
 }

@@ -1,7 +1,7 @@
-//! The rows: turns in both orders, a stop within a section, refusals, bodies of several kinds, a record.
-use crate::listed::{Ending, Listed, TOKEN};
+//! The rows: turns in both orders, a stop within a section, refusals, drives, a record.
+use crate::listed::{Listed, TOKEN};
 use lwkt_base::{Ask, CpuId, Fault, TokSpec};
-use lwkt_program::{Body, Closed, LIMITS, Machine, Stepper, Turned, makers};
+use lwkt_program::{Closed, Ending, LIMITS, Machine, Stepper, Turned, makers};
 use std::alloc::Global;
 
 // A section that writes this value.
@@ -11,6 +11,11 @@ fn writing(value: u64) -> [Ask; 3] {
         Ask::Write(TOKEN, 0, value),
         Ask::Rel(TOKEN),
     ]
+}
+
+// What isn't done without a reference.
+fn unheld() -> [Ask; 3] {
+    [Ask::Rel(TOKEN), Ask::Write(TOKEN, 0, 1), Ask::Exit]
 }
 
 // Two processors with a thread each, at one token.
@@ -80,8 +85,7 @@ fn stop_undoes_a_broken_section(rt: HostRuntime) -> Result<(), Fault> {
 #[test]
 fn refusals(rt: HostRuntime) -> Result<(), Fault> {
     let alloc = rt.alloc();
-    let unheld = [Ask::Rel(TOKEN), Ask::Write(TOKEN, 0, 1), Ask::Exit];
-    let mut machine = two(alloc, makers::any(alloc, &[0])?, unheld, [Ask::Exit; 3])?;
+    let mut machine = two(alloc, makers::any(alloc, &[0])?, unheld(), [Ask::Exit; 3])?;
     assert_eq!(rt; machine.turn(CpuId(2)), Err(Fault::Limits));
     machine.run(5)?;
     let closed = machine.close(alloc)?;
@@ -89,25 +93,26 @@ fn refusals(rt: HostRuntime) -> Result<(), Fault> {
     assert_eq!(rt; refusals_of(&closed, 1), Some(0));
     assert_eq!(rt; (closed.cell(TOKEN, 0), closed.cell(TOKEN, 1)), (0, 0));
     let broken = makers::sum(alloc, &[1], 2)?;
-    assert!(rt; matches!(two(alloc, broken, unheld, unheld), Err(Fault::LawBroken)));
+    assert!(rt;
+        matches!(
+            two(alloc, broken, unheld(), unheld()),
+            Err(Fault::LawBroken)
+        )
+    );
     let long = makers::guarding(makers::any(alloc, &[0])?, &[7; 65]);
     assert!(rt; matches!(long, Err(Fault::Limits)));
     Ok(())
 }
 
 #[test]
-fn bodies_of_two_kinds(rt: HostRuntime) -> Result<(), Fault> {
+fn drives_end_with_the_threads(rt: HostRuntime) -> Result<(), Fault> {
     let alloc = rt.alloc();
-    let listed: Box<dyn Body + Send + Drop> = Box::new(alloc, Listed::new(writing(9))).map_err(
-        |_| Fault::Memory,
-    )?;
-    let ending: Box<dyn Body + Send + Drop> = Box::new(alloc, Ending).map_err(|_| Fault::Memory)?;
-    let bodies = makers::list(alloc, [listed, ending])?;
-    let all = makers::list(alloc, [bodies])?;
-    let mut machine = Machine::open(alloc, &[makers::any(alloc, &[0])?], &[], all)?;
+    let mut machine = two(alloc, makers::any(alloc, &[0])?, writing(1), writing(2))?;
     machine.drive(&rt, &LIMITS);
+    assert_eq!(rt; machine.ending(CpuId(0)), Some(Ending::AllExited));
+    assert_eq!(rt; machine.ending(CpuId(2)), None);
     let closed = machine.close(alloc)?;
-    assert_eq!(rt; closed.cell(TOKEN, 0), 9);
+    assert_eq!(rt; closed.generation(TOKEN), 2);
     Ok(())
 }
 
