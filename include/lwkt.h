@@ -11,7 +11,10 @@
 // buffer stays as it was. The text isn't ended by a 0 byte. A call with too little room can be made again with more; the same
 // bytes make the same text, unless memory is refused.
 //
-// Status. It is the exit status of the program that does the same: 0, 1, 2, 3 or 4, as each function says.
+// Status. It is the exit status of the program that does the same: 0, 1, 2, 3, 4 or 5, as each function says.
+//
+// Scripts. A script is JSON (docs/FORMATS.md) or a text of the language for scripts (docs/LANGUAGE.md). `lwkt_run_turns` and
+// `lwkt_show_turns` take JSON; `lwkt_text_json` makes that of a text.
 //
 // What the caller owes. Nothing checks it, and a call that breaks it is undefined:
 //
@@ -41,8 +44,9 @@ extern "C" {
 typedef struct lwkt_answer {
     // The length of the whole text in bytes.
     size_t length;
-    // 0, or the fault for which the call was refused, as docs/FORMATS.md numbers them: 32 memory was refused; 33 what was given
-    // is no script or no trace; 39 a limit was passed; 40 an opening row breaks its law.
+    // 0, or the fault for which the call was refused, as docs/FORMATS.md numbers them: 30 an order names a processor that isn't
+    // there; 32 memory was refused; 33 what was given is no script, no text or no trace; 35 a run along an order wasn't lawful; 39 a
+    // limit was passed; 40 an opening row breaks its law.
     uint32_t fault;
     // With 33 the place of the first bad part, as docs/FORMATS.md and docs/TRACES.md number the places; else 0.
     uint32_t place;
@@ -62,14 +66,51 @@ uint32_t lwkt_run_turns(const uint8_t *script, size_t script_length, uint8_t *te
 // with the fault 32. With 1 and 3 the text says why, in words, or is empty.
 uint32_t lwkt_check_trace(const uint8_t *trace, size_t trace_length, uint8_t *text, size_t room, lwkt_answer *answer);
 
-// Runs a script in rounds and shows the run, as `lwkt_show` with these arguments does. The arguments are words with one blank
-// between each two, as `turns`, `turns --svg` or `turns --rounds 0..9 --svg`, in UTF-8; `threads --chains` isn't one of them here.
-// The text is what that program writes.
+// Runs a script in rounds or along an order and shows the run, as `lwkt_show` with these arguments does. The arguments are words with
+// one blank between each two, as `turns`, `turns --svg`, `turns --rounds 0..9 --svg` or `turns --order 0110 --svg`, in UTF-8; an order
+// is one word here, without blanks; `threads --chains` isn't one of them. The text is what that program writes.
 //
-// The status: as of `lwkt_run_turns`; and 1, with no fault, for other arguments, and for a run that ended before the first turn
+// The status: as of `lwkt_run_turns`, 2 along an order where not every thread had ended; 1 with the fault 30 where the order names a
+// processor that the script doesn't have; and 1, with no fault, for other arguments, and for a run that ended before the first turn
 // that the arguments choose. With 1 and 3 the text says why, in words, or is empty.
 uint32_t lwkt_show_turns(const uint8_t *script, size_t script_length, const uint8_t *arguments, size_t arguments_length,
                          uint8_t *text, size_t room, lwkt_answer *answer);
+
+// Whether a script is taken for a text of the language, as the programs do: it is no JSON, begins, behind white space, with a letter,
+// `_` or `#`, and has at most 1048576 bytes. It answers 1 for a text, 0 for all else, 3 where memory was refused.
+uint32_t lwkt_is_text(const uint8_t *script, size_t script_length);
+
+// The script of a text in JSON, as `lwkt_text FILE --json` writes it. Bytes that aren't taken for a text are read as one all the same.
+//
+// The status: 0 it is there; 1 something is wrong with the text, with the fault 33, or its JSON would have more than 1048576 bytes,
+// with the fault 39; 3 memory was refused, with the fault 32. With the fault 33 the text that is made has all that is wrong, in the
+// order of the places: `LINE:COLUMN: WORDS`, counted from 1, a column being a byte; and below it, behind four blanks each, the line
+// and a mark under the place. With 39 and 32 it says why, in words, or is empty.
+uint32_t lwkt_text_json(const uint8_t *script, size_t script_length, uint8_t *text, size_t room, lwkt_answer *answer);
+
+// Runs a text in rounds, on this thread, as `lwkt_run turns` does with a text. What is made is the report, and behind that a line for
+// each expectation, in the order of the text: `LINE: holds` or `LINE: doesn't hold`.
+//
+// The status: 0 all expectations hold, or there are none and every thread ended; 2 there are none, and the turns were used up; 5 an
+// expectation doesn't hold; 4 the run was unlawful; 1 the text was refused, with the fault 33 and words as of `lwkt_text_json`, or its
+// opening was, with the fault 39 or 40; 3 memory was refused, with the fault 32. With 39, 40 and 32 what is made says why, in words,
+// or is empty.
+uint32_t lwkt_run_text(const uint8_t *script, size_t script_length, uint8_t *text, size_t room, lwkt_answer *answer);
+
+// Tries every order of turns of a script in either form, as `lwkt_explore` does (docs/EXPLORE.md): at most so many states are kept, one
+// at least, and no order has more turns than that. What is made has each outcome once, with a shortest order that leads to it, the
+// states from which no end can be reached, and what was searched; and of a text behind that a line for each expectation, in the order
+// of the text: `LINE: holds` or `LINE: doesn't hold`, of all outcomes, and where one outcome decides it that one's order; where not
+// every order was tried, and none decides it, `LINE: holds of what was found` or `LINE: isn't shown by what was found`. It takes memory
+// and time as the states do, and can't be broken off.
+//
+// The status, of JSON and of a text without expectations: 0 every order was tried, and from every state an end can be reached; 2 every
+// order was tried, and from some state no end can be reached; 5 not every order was tried, since a bound was met or memory was
+// refused. Of a text with expectations: 0 every order was tried, and all hold; 5 not so. Of all: 4 a run along an order wasn't lawful,
+// with the fault 35; 1 the script or its opening was refused, with the fault 33, 39 or 40; 3 memory was refused, with the fault 32.
+// With 1, 3 and 4 what is made says why, in words, or is empty; of a text with the fault 33 as of `lwkt_text_json`.
+uint32_t lwkt_explore_orders(const uint8_t *script, size_t script_length, size_t states, size_t turns, uint8_t *text, size_t room,
+                             lwkt_answer *answer);
 
 // The steps on a token's word, for those who keep the word themselves and have an atomic exchange of their own, as in a kernel. They
 // are decisions only: each makes of the word that was read the word to store in its place, or says why the step can't be made. The
@@ -134,7 +175,7 @@ uint32_t lwkt_word_give_written(uint64_t word, uint64_t *next);
 //     lwkt_store(bank, 1, 0, 0, value + 1);
 //     lwkt_give(bank, 1, 0);
 //
-// Status. 0 where the call did what it says; else a number, as docs/FORMATS.md has the faults, but for 50:
+// Status. 0 where the call did what it says; else a number, as docs/FORMATS.md has the faults, but for 50 and 51:
 //
 //     10 the seat has 32 references              19 row or record break the law of the token
 //     11 exclusive, where it is held shared      20 the token is at its last generation, 70368744177663
@@ -145,10 +186,12 @@ uint32_t lwkt_word_give_written(uint64_t word, uint64_t *next);
 //     32 memory was refused                      34 another seat's step came between: ask again
 //     37 a record, and it is held shared         38 a record of more than 64 bytes
 //     39 a limit is passed                       50 another call has the seat
-//     40 an opening row breaks its law
+//     40 an opening row breaks its law           51 the seat holds a token
 //
 // Of several that apply a function's list says which one comes: the one that stands first. Where a call is refused, nothing has
-// changed that a later call could tell, but that the seat may have looked at the token's word, loaded its row or read its record.
+// changed that a later call could tell, but that the seat may have looked at the token's word, loaded its row or read its record. Two
+// calls differ: `lwkt_block` gives all up where it answers 19, and `lwkt_resume` has held the references in front of one that it missed
+// for a while, so that the mark of a token among them that it held exclusively is cleared.
 //
 // What the caller owes, beside what stands at the head of this file:
 //
@@ -160,6 +203,7 @@ uint32_t lwkt_word_give_written(uint64_t word, uint64_t *next);
 #define LWKT_BUSY 23u
 #define LWKT_RACE 34u
 #define LWKT_SEAT_IN_USE 50u
+#define LWKT_SEAT_HOLDS 51u
 
 #define LWKT_LAW_ANY 0u
 #define LWKT_LAW_SUM 1u
@@ -189,6 +233,16 @@ typedef struct lwkt_token {
     // How many records the token guards: 0 or 1, 0 under LWKT_LAW_TALLY, 1 under LWKT_LAW_LEN.
     uint32_t record_count;
 } lwkt_token;
+
+// One reference of a list: to which token, and in which mode.
+typedef struct lwkt_reference {
+    uint32_t token;
+    // LWKT_SHARED or LWKT_EXCLUSIVE.
+    uint32_t mode;
+} lwkt_reference;
+
+#define LWKT_SHARED 0u
+#define LWKT_EXCLUSIVE 1u
 
 // A bank. Its member is the library's.
 typedef struct lwkt_bank {
@@ -247,6 +301,22 @@ uint32_t lwkt_read_record(lwkt_bank bank, uint32_t seat, uint32_t token, uint8_t
 // Writes the record of a token that the seat holds exclusively: these bytes are its record from now on. Refused with 30, 50, 16, 17,
 // 13, 37 as `lwkt_read_record`; with 38 for more than 64 bytes.
 uint32_t lwkt_write_record(lwkt_bank bank, uint32_t seat, uint32_t token, const uint8_t *bytes, size_t length);
+
+// Takes a list of references in order, all or none and without waiting, for a seat that holds nothing, as a thread does that wakes: with
+// 0 it holds exactly these. At the first reference that is missed those in front of it are given back, and the seat holds nothing. Of a
+// token that is on the list again the seat gets one reference more, in the mode of its first. A mark holds off a list that has
+// references to its token alone.
+//
+// Refused with 30, 50, 51. Else what is no list is refused before any token is asked for, at the first place where it is so: with 16;
+// with 39 for another mode; with 10 behind 32 references; with 11 for an exclusive reference to a token whose first one is shared. Else
+// with 20, 23 or 34 at the reference that is missed. `missed` is the place then, 0 for the first; with 0, 30, 50 and 51 it stays as it
+// was. `list` is at `count` references.
+uint32_t lwkt_resume(lwkt_bank bank, uint32_t seat, const lwkt_reference *list, size_t count, size_t *missed);
+
+// Gives up all that the seat holds, reference by reference, as a thread does that goes to sleep. A section that has broken its law
+// gets its first row and record again before it ends: then the status is 19, and `restored` is the lowest such token. All is given up
+// then too. With another status than 19 `restored` stays as it was. Refused with 30, 50.
+uint32_t lwkt_block(lwkt_bank bank, uint32_t seat, uint32_t *restored);
 
 #ifdef __cplusplus
 }

@@ -11,9 +11,22 @@ function readEvent(text) {
   if (word) Object.assign(event, { before: word[1], after: word[2], what: word[3] || "" });
   const stored = /^cell (\d+) (?:is (\d+)|(\d+) -> (\d+))$/.exec(event.said);
   if (stored) Object.assign(event, { cell: Number(stored[1]), value: stored[2] ?? stored[4], first: stored[3] ?? null });
+  const record = /^(?:record (.*)|an empty record) (?:read|stored)$/s.exec(event.said);
+  if (event.of === "token" && record) event.record = record[1] ?? "empty";
   const place = /^round (\d+), (.*)$/.exec(event.said);
   if (event.of === "message" && place) Object.assign(event, { round: place[1], place: place[2] });
   return event;
+}
+
+// The parts of a line that semicolons stand between, but for those in the text of a record.
+function partsIn(text) {
+  const parts = [], quoted = /^[^';]*record '.{1,24}?'(?:\.\., \d+ bytes)?(?: read| stored)?(?=; |$)/s;
+  for (let rest = text; rest !== null; ) {
+    const found = quoted.exec(rest), end = found ? found[0].length : rest.indexOf("; ");
+    parts.push(end < 0 ? rest : rest.slice(0, end));
+    rest = end < 0 || end === rest.length ? null : rest.slice(end + 2);
+  }
+  return parts;
 }
 
 // The events of a line. A part that is about nothing by itself goes on with what the part before it says.
@@ -31,14 +44,14 @@ function readEvents(parts) {
 function readPoll(turn, rest) {
   const found = /^, thread (\d+\.\d+), (.*?): (\[.*?\]): (.*)$/s.exec(rest);
   if (!found) return;
-  const [outcome, ...parts] = found[4].split("; ");
+  const [outcome, ...parts] = partsIn(found[4]);
   Object.assign(turn, { thread: found[1], step: found[2], ask: found[3], outcome, events: readEvents(parts) });
 }
 
 // What a line says of a turn that ran none: of each thread of the processor why.
 function readIdle(turn, rest) {
   turn.idle = new Map();
-  const parts = rest.replace(/^: (no thread runs: )?/, "").split("; ");
+  const parts = partsIn(rest.replace(/^: (no thread runs: )?/, ""));
   const others = [];
   for (const part of parts) {
     const found = /^(\d+\.\d+) (.*)$/s.exec(part);
@@ -76,22 +89,61 @@ function readWhy(line) {
 
 // Where the report begins: the first line that is none of what stands before it.
 function reportStart(lines) {
-  const isReport = (line) => /^(token \d+ gen |message \d+ round |thread \d+\.\d+ (exited|faulted|ready|waiting|running) |lawful$|unlawful )/.test(line);
+  const isReport = (line) => /^(token \d+ gen |record \d+ |message \d+ round |thread \d+\.\d+ (exited|faulted|ready|waiting|running) |lawful$|unlawful )/.test(line);
   const at = lines.findIndex(isReport);
   return at < 0 ? lines.length : at;
 }
 
-// All that `turns` writes.
-function readRun(text) {
+// The lines of a text that ends with a line feed.
+function linesOf(text) {
   const lines = text.split("\n");
   if (lines[lines.length - 1] === "") lines.pop();
-  const turns = [];
-  let at = 0;
-  for (; at < lines.length; at += 1) {
+  return lines;
+}
+
+// Adds the turns of some lines, from this one on, up to the first that is none; says which that is.
+function addTurns(turns, lines, at, end) {
+  for (; at < end; at += 1) {
     const turn = readTurn(lines[at]);
     if (!turn) break;
     turns.push(turn);
   }
+  return at;
+}
+
+// All that `turns` writes.
+function readRun(text) {
+  const lines = linesOf(text), turns = [];
+  return readRest(lines, turns, addTurns(turns, lines, 0, lines.length));
+}
+
+// Long work, cut into parts: between two of them the page answers, where 4 ms have gone by.
+class Slices {
+  constructor() {
+    this.since = performance.now();
+  }
+
+  async rest() {
+    if (performance.now() - this.since < 4) return;
+    await new Promise((resolve) => setTimeout(resolve));
+    this.since = performance.now();
+  }
+}
+
+// The same, a few lines at a time.
+async function readSlowly(text) {
+  const lines = linesOf(text), turns = [], few = 50, slices = new Slices();
+  let at = 0, end = 0;
+  do {
+    end = Math.min(end + few, lines.length);
+    at = addTurns(turns, lines, at, end);
+    await slices.rest();
+  } while (at === end && end < lines.length);
+  return readRest(lines, turns, at);
+}
+
+// What stands behind the turns of a run, whose lines begin here.
+function readRest(lines, turns, at) {
   const start = at + reportStart(lines.slice(at));
   const between = lines.slice(at, start), report = lines.slice(start);
   const choice = between.filter((line) => /^turns (before|behind) turn /.test(line));
@@ -128,18 +180,36 @@ function readPlace(text) {
   return { line: Number(found[1]), column: Number(found[2]), said };
 }
 
-// What stood before any turn: the rows as they open, and each message at rest with its owner.
-function openState(openings, messages) {
-  const tokens = openings.map((it) => ({ law: it.law, row: [...it.row], generation: it.generation, word: null, holders: "free", told: null }));
-  const posts = messages.map((it) => ({ owner: it.of, round: String(it.round), place: `at rest with ${it.of[0]}`, from: null, told: null }));
+// A record by its digits, in the words that lines have for it: its text where all of it is printable, else the digits, and of a
+// long one the front.
+function recordWords(digits) {
+  const bytes = (digits.match(/../g) || []).map((it) => parseInt(it, 16));
+  if (!bytes.length) return "empty";
+  const isText = bytes.every((byte) => byte >= 32 && byte < 127 && !'"&<>'.includes(String.fromCharCode(byte)));
+  const front = bytes.slice(0, 24);
+  const shown = isText ? `'${String.fromCharCode(...front)}'` : digits.slice(0, 48);
+  return bytes.length > 24 ? `${shown}.., ${bytes.length} bytes` : shown;
+}
+
+// An entry of a log; the digits of a record that was read as text, where they are one.
+function entryWords(entry) {
+  const found = /^b=(-|(?:[0-9a-f]{2})+)$/.exec(entry);
+  return found && found[1] !== "-" ? `b=${recordWords(found[1])}` : entry;
+}
+
+// What stood before any turn: the rows and records as they open, and each message at rest with its owner. The records are the
+// script's own, or null where a token has none.
+function openState(openings, messages, records = []) {
+  const tokens = openings.map((it, number) => ({ law: it.law, row: [...it.row], record: records[number] ?? null, generation: it.generation, word: null, holders: "free", told: null }));
+  const posts = messages.map((it) => ({ owner: it.of, round: String(it.round), place: `at rest with ${it.of[0]}`, isUrgent: false, from: null, told: null }));
   return { tokens, messages: posts };
 }
 
 // The same where what came before isn't known.
-function unknownState(openings, messages) {
-  const state = openState(openings, messages);
-  for (const token of state.tokens) Object.assign(token, { row: token.row.map(() => null), holders: null, generation: null });
-  for (const post of state.messages) Object.assign(post, { round: null, place: null });
+function unknownState(openings, messages, records = []) {
+  const state = openState(openings, messages, records);
+  for (const token of state.tokens) Object.assign(token, { row: token.row.map(() => null), record: token.record === null ? null : "?", holders: null, generation: null });
+  for (const post of state.messages) Object.assign(post, { round: null, place: null, isUrgent: null });
   return state;
 }
 
@@ -156,11 +226,22 @@ function tellToken(token, event, turn) {
     token.told = turn.number;
   }
   if (event.cell !== undefined) token.row[event.cell] = event.value;
+  if (event.record !== undefined) token.record = event.record;
+}
+
+// Whether a turn sent a message with priority; null where it sent none.
+function isSentUrgent(turn, number) {
+  const sent = /^\["(send|do)",(\d+),\d+,\d+,\d+,\d+(?:,(\d+))?\]$/.exec(turn.ask || "");
+  if (!sent || Number(sent[2]) !== number) return null;
+  return sent[1] === "send" && (Number(sent[3]) & 4) !== 0;
 }
 
 function tellMessage(post, event, turn) {
   if (event.place === undefined) return;
   Object.assign(post, { round: event.round, place: event.place, from: turn.cpu, told: turn.number });
+  // The reply to an urgent message is urgent too.
+  if (event.place.startsWith("out to ")) post.isUrgent = isSentUrgent(turn, event.number) ?? post.isUrgent;
+  if (event.place.startsWith("at rest")) post.isUrgent = false;
 }
 
 // What the line of a turn changes in what is known.

@@ -1,56 +1,55 @@
 "use strict";
 const at = (id) => document.getElementById(id);
-const windowSize = 10000, rowHeight = 28, mostWindows = 12, mostCuts = 64, wholePicture = 120, pictureRounds = 40, longestShown = 1000000;
+const windowSize = 10000, rowHeight = 28, mostWindows = 12, mostCuts = 64, wholePicture = 120, pictureRounds = 20;
 
 // ---- The worker, which has the module.
 
-const machine = { worker: null, calls: new Map(), count: 0 };
+const newMachine = () => ({ worker: null, calls: new Map(), count: 0 });
 
-function moduleBytes() {
-  const text = atob(at("module").textContent.replace(/\s/g, ""));
-  return Uint8Array.from(text, (sign) => sign.charCodeAt(0));
-}
+// One for runs, and one for searches, so that a search leaves runs free.
+const machine = newMachine(), searcher = newMachine();
 
-function startWorker() {
+function startWorker(of) {
   const address = URL.createObjectURL(new Blob([at("worker").textContent], { type: "text/javascript" }));
   const worker = new Worker(address);
   URL.revokeObjectURL(address);
-  worker.onmessage = ({ data }) => settle(data);
-  worker.onerror = (event) => stopWorker(event.message || "the worker ended");
-  machine.worker = worker;
-  const bytes = moduleBytes();
-  worker.postMessage({ number: 0, bytes }, [bytes.buffer]);
+  worker.onmessage = ({ data }) => settle(of, data);
+  worker.onerror = (event) => stopWorker(event.message || "the worker ended", of);
+  of.worker = worker;
+  worker.postMessage({ number: 0, packed: at("module").textContent });
 }
 
-// A call of the library by its name: what it wrote and its status. Refused where the module trapped, or the worker was stopped.
-function ask(name, script, words) {
-  if (!machine.worker) startWorker();
-  machine.count += 1;
-  const number = machine.count;
+// A call of the library: what it wrote and its status. Refused where the module trapped, or the worker was stopped.
+function askOf(of, call) {
+  if (!of.worker) startWorker(of);
+  of.count += 1;
+  const number = of.count;
   return new Promise((resolve, reject) => {
-    machine.calls.set(number, { resolve, reject });
-    machine.worker.postMessage({ number, name, script, words });
+    of.calls.set(number, { resolve, reject });
+    of.worker.postMessage({ number, ...call });
   });
 }
 
-function settle(answer) {
-  if (answer.number === 0) return stopWorker(`this browser doesn't take the module, which needs WebAssembly with 64-bit memory (${answer.error})`);
-  const call = machine.calls.get(answer.number);
-  machine.calls.delete(answer.number);
+const ask = (name, script, words) => askOf(machine, { name, script, words });
+
+function settle(of, answer) {
+  if (answer.number === 0) return stopWorker(`this browser doesn't take the module, which needs WebAssembly with 64-bit memory (${answer.error})`, of);
+  const call = of.calls.get(answer.number);
+  of.calls.delete(answer.number);
   if (answer.error) call?.reject(new Error(answer.error));
   else call?.resolve(answer);
 }
 
 // The text that a call wrote.
 function textOf(answer) {
-  return new TextDecoder().decode(answer.bytes);
+  return answer.text;
 }
 
-function stopWorker(why) {
-  machine.worker?.terminate();
-  machine.worker = null;
-  const calls = [...machine.calls.values()];
-  machine.calls.clear();
+function stopWorker(why, of = machine) {
+  of.worker?.terminate();
+  of.worker = null;
+  const calls = [...of.calls.values()];
+  of.calls.clear();
   for (const call of calls) call.reject(new Error(why));
 }
 
@@ -62,32 +61,55 @@ let run = null;
 let chosen = 0;
 let wanted = 0;
 
-function statusWords(status) {
-  return { 0: "Every thread ended.", 2: "The turns were used up before every thread ended.", 4: "The run is unlawful." }[status] || `Status ${status}.`;
+function statusWords({ status, verdicts, order }) {
+  if (status === 0 && verdicts.length) return "All that is expected holds of this run.";
+  if (status === 2 && order) return "The order is done, and not every thread has ended.";
+  return { 0: "Every thread ended.", 2: "The turns were used up before every thread ended.", 4: "The run is unlawful.", 5: "Something that is expected doesn't hold of this run." }[status] || `Status ${status}.`;
 }
 
-async function makeRun(script) {
-  const whole = await show(script, "turns");
-  if (whole.status === 1 || whole.status === 3) return { refused: whole };
-  const read = readRun(textOf(whole));
-  const opening = await show(cutScript(script, 1), "turns --chains");
-  const { messages, cpus } = JSON.parse(script);
-  const made = { script, cpus, messages, whole: read, status: whole.status, milliseconds: whole.milliseconds, total: read.total, openings: readOpenings(textOf(opening)), windows: new Map(), cuts: new Map(), parts: new Map() };
-  made.rounds = Math.ceil(made.total / cpus);
-  addWindow(made, 0, read.turns);
+const isRefused = (answer) => answer.status === 1 || answer.status === 3;
+
+// The words behind which an order of turns stands: `0` to `7`, the processor of each, or `-` for none.
+const orderWords = (order) => (order === null ? "turns" : `turns --order ${order.join("") || "-"}`);
+
+// A script in either form: in JSON, and of a text that is run in rounds what its expectations came to; or why it is refused.
+async function readScript(script, order) {
+  if ((await ask("lwkt_is_text", script)).status !== 1) return { isText: false, json: script, verdicts: [] };
+  const told = order ? null : await ask("lwkt_run_text", script);
+  if (told && isRefused(told)) return { isText: true, refused: told };
+  const json = await ask("lwkt_text_json", script);
+  if (isRefused(json)) return { isText: true, refused: json };
+  return { isText: true, json: textOf(json), verdicts: told ? readVerdicts(textOf(told), script) : [], status: told?.status };
+}
+
+// A run of a script, in rounds or along an order.
+async function makeRun(text, order) {
+  const form = await readScript(text, order);
+  if (text === at("script").value) putForm(form.isText);
+  if (form.refused) return form;
+  const script = form.json, words = orderWords(order);
+  const whole = await show(script, words);
+  if (isRefused(whole)) return { refused: whole };
+  const read = await readSlowly(textOf(whole));
+  const opening = await show(script, `${orderWords([])} --chains`);
+  const { messages, cpus, tokens } = JSON.parse(script);
+  const records = tokens.map(({ record }) => (typeof record === "string" ? recordWords(record) : null));
+  const made = { script, text, order, words, names: form.isText ? namesOf(text) : noNames, verdicts: form.verdicts, cpus, messages, records, whole: read, status: form.status ?? whole.status, milliseconds: whole.milliseconds, total: read.total, openings: readOpenings(textOf(opening)), windows: new Map(), cuts: new Map(), parts: new Map() };
+  made.rounds = order ? made.total : Math.ceil(made.total / cpus);
+  await addWindow(made, 0, read.turns);
   return { made };
 }
 
 // What stands before the first of some turns: at the start of the run its opening, else what the turns before left, if known.
-function stateBefore(it, number) {
-  if (number === 0) return openState(it.openings, it.messages);
+async function stateBefore(it, number) {
+  if (number === 0) return openState(it.openings, it.messages, it.records);
   const before = it.windows.get(number - 1);
-  if (!before) return unknownState(it.openings, it.messages);
+  if (!before) return unknownState(it.openings, it.messages, it.records);
   return stateAfter(before, before.turns.length - 1);
 }
 
-function addWindow(it, number, turns) {
-  const before = stateBefore(it, number);
+async function addWindow(it, number, turns) {
+  const before = await stateBefore(it, number);
   const from = number === 0 ? 0 : it.windows.has(number - 1) ? it.windows.get(number - 1).from : number * windowSize;
   tellFirstWords(before, turns);
   if (it.windows.size >= mostWindows) it.windows.delete([...it.windows.keys()].find((key) => key !== 0));
@@ -95,7 +117,8 @@ function addWindow(it, number, turns) {
 }
 
 // What stands after a turn of a window. Every 256th state is kept, so that a step is quick.
-function stateAfter(part, last) {
+async function stateAfter(part, last) {
+  const slices = new Slices();
   let state = copyState(part.before), begin = 0;
   for (let mark = Math.floor((last + 1) / 256); mark > 0; mark -= 1) {
     if (!part.marks[mark]) continue;
@@ -106,6 +129,7 @@ function stateAfter(part, last) {
   for (let i = begin; i <= last; i += 1) {
     if (i % 256 === 0 && i > 0 && !part.marks[i / 256]) part.marks[i / 256] = copyState(state);
     tell(state, part.turns[i]);
+    if (i % 64 === 0) await slices.rest();
   }
   return state;
 }
@@ -115,17 +139,18 @@ async function windowOf(it, turn) {
   const number = Math.floor(turn / windowSize);
   if (!it.windows.has(number)) {
     const from = number * windowSize;
-    const lines = await show(it.script, `turns --turns ${from}..${from + windowSize - 1}`);
-    addWindow(it, number, readRun(textOf(lines)).turns);
+    const lines = await show(it.script, `${it.words} --turns ${from}..${from + windowSize - 1}`);
+    await addWindow(it, number, (await readSlowly(textOf(lines))).turns);
   }
   return it.windows.get(number);
 }
 
-// What is told of the run that ends after so many rounds.
+// What is told of the run that ends after so many rounds, or after so many turns of its order.
 async function cutAfter(it, rounds) {
   if (rounds >= it.rounds) return it.whole;
   if (!it.cuts.has(rounds)) {
-    const cut = await show(cutScript(it.script, rounds), "turns --turns 0..0");
+    const script = it.order ? it.script : cutScript(it.script, rounds);
+    const cut = await show(script, `${it.order ? orderWords(it.order.slice(0, rounds)) : it.words} --turns 0..0`);
     if (it.cuts.size >= mostCuts) it.cuts.delete(it.cuts.keys().next().value);
     it.cuts.set(rounds, readRun(textOf(cut)));
   }
@@ -140,9 +165,19 @@ function threadOf(line, cut, last, moment) {
   return thread;
 }
 
+// All threads after a turn of an order, which can be cut off right behind it.
+async function threadsAlong(it, turn) {
+  const after = await cutAfter(it, turn.number + 1), had = new Set(it.order.slice(0, turn.number + 1));
+  return after.threads.map((line) => {
+    if (had.has(Number(line.id.split(".")[0]))) return threadOf(line, after, null, `after turn ${turn.number}`);
+    return { id: line.id, state: "not begun", said: "has had no turn", list: [], log: [], moment: `after turn ${turn.number}` };
+  });
+}
+
 // All threads as their processors' last turns left them. Threads change in turns of their own processor alone, so those of
 // processors that had no turn yet in this round are as the round before left them.
 async function threadsAfter(it, part, turn) {
+  if (it.order) return threadsAlong(it, turn);
   const after = await cutAfter(it, turn.round + 1);
   const before = turn.round > 0 ? await cutAfter(it, turn.round) : null;
   const first = part.turns[0].number;
@@ -201,9 +236,10 @@ async function drawChosen(it, turn) {
   showNumbers();
   scrollToChosen();
   drawRows();
-  showTurn(at("chosen"), now);
-  const state = stateAfter(part, index);
-  const look = { turn: now, turns: part.turns, at: index, state, from: part.from, go: choose, threads: [] };
+  showTurn(at("chosen"), now, Boolean(it.order));
+  const state = await stateAfter(part, index);
+  if (it !== run || turn !== chosen) return;
+  const look = { names: it.names, turn: now, turns: part.turns, at: index, state, from: part.from, go: choose, threads: [] };
   at("state-head").textContent = `After turn ${turn}`;
   showTokens(at("tokens"), look);
   showMessages(at("messages"), look);
@@ -236,7 +272,7 @@ async function choose(turn) {
   }
 }
 
-// ---- The picture: the whole of a short run, else 40 rounds of it.
+// ---- The picture: the whole of a short run, else 20 rounds of it.
 
 function pictureRange(it, round) {
   if (it.rounds <= wholePicture) return [0, Math.max(0, it.rounds - 1)];
@@ -247,12 +283,14 @@ function pictureRange(it, round) {
 async function drawPicture(it, round) {
   const [from, to] = pictureRange(it, round);
   if (it.picture === from) return;
-  const drawn = await show(it.script, `turns --rounds ${from}..${to} --svg`);
+  const drawn = await show(it.script, `${it.words} --${it.order ? "turns" : "rounds"} ${from}..${to} --svg`);
   if (it !== run) return;
   it.picture = from;
   it.drawn = textOf(drawn);
-  showPicture(at("drawing"), textOf(drawn));
-  at("rounds").textContent = `rounds ${from} to ${to} of 0 to ${Math.max(0, it.rounds - 1)}`;
+  const isDrawn = showPicture(at("drawing"), textOf(drawn), Boolean(it.order)) !== null;
+  const range = `${it.order ? "turns" : "rounds"} ${from} to ${to} of 0 to ${Math.max(0, it.rounds - 1)}`;
+  at("drawing").hidden = at("save-picture").hidden = !isDrawn;
+  at("rounds").textContent = isDrawn ? range : `${range}: no picture, since it would have turns of this order over each other`;
   at("rounds-back").hidden = at("rounds-forth").hidden = it.rounds <= wholePicture;
 }
 
@@ -267,15 +305,16 @@ function setBusy(is) {
   at("look").setAttribute("aria-busy", String(is));
 }
 
-async function start(turn = 0) {
+async function start(turn = 0, order = null) {
   const script = at("script").value;
   clearRefusal();
   say("Running ..");
   setBusy(true);
   try {
-    const answer = await makeRun(script);
+    const answer = await makeRun(script, order);
     say("");
-    if (answer.refused) showRefusal(script, answer.refused);
+    if (answer.refused && answer.isText) showWrongs(script, answer.refused);
+    else if (answer.refused) showRefusal(script, answer.refused);
     else showRun(answer.made, turn);
   } catch (error) {
     say(`It didn't run: ${error.message}`);
@@ -287,28 +326,41 @@ async function start(turn = 0) {
 function showVerdict(it) {
   const good = it.whole.verdict === "lawful";
   const faulted = it.whole.threads.filter((thread) => thread.state.startsWith("faulted")).map((thread) => `${thread.id} ${thread.state}`);
-  const parts = [`${statusWords(it.status)} `, make("span", { class: good ? "good" : "bad" }, it.whole.verdict)];
+  const parts = [`${statusWords(it)} `, make("span", { class: good ? "good" : "bad" }, it.whole.verdict)];
   if (faulted.length) parts.push("; ", make("span", { class: "bad" }, faulted.join(", ")));
-  at("verdict").replaceChildren(...parts, make("span", { class: "quiet" }, `. ${it.total} turns in ${it.rounds} rounds, ${it.milliseconds.toFixed(it.milliseconds < 10 ? 1 : 0)} ms`));
+  const length = it.order ? `${it.total} turns` : `${it.total} turns in ${it.rounds} rounds`;
+  at("verdict").replaceChildren(...parts, make("span", { class: "quiet" }, `. ${length}, ${it.milliseconds.toFixed(it.milliseconds < 10 ? 1 : 0)} ms`));
+}
+
+// Of a run along an order: that it is one, the order, and the way back.
+function showOrder(it) {
+  at("along").hidden = !it.order;
+  at("turns").classList.toggle("along", Boolean(it.order));
+  if (!it.order) return at("along").replaceChildren();
+  const back = make("button", { type: "button", class: "small", onclick: () => start() }, "Run in rounds again");
+  at("along").replaceChildren("Replayed along the order ", make("code", { class: "order" }, it.order.join(" ") || "of no turn"), " ", back);
 }
 
 function showRun(it, turn) {
+  performance.mark("ran");
   run = it;
   chosen = wanted = 0;
   showVerdict(it);
-  at("ran").hidden = false;
+  showOrder(it);
+  at("ran").hidden = it.total === 0 && Boolean(it.order);
+  showExpected(it);
   at("report").textContent = [...it.whole.ends, ...it.whole.report].join("\n");
   for (const id of ["chains", "judged", "chains-note", "trace-note"]) at(id).textContent = "";
   at("trace").value = "";
   at("turns").scrollTop = 0;
   drawOpenParts();
-  choose(turn);
+  choose(turn).then(() => performance.mark("shown"));
 }
 
 // The parts behind what was opened are asked for when they are opened.
 function drawOpenParts() {
-  if (at("chains-part").open) fillPart("chains", "turns --chains", (text) => { at("chains").textContent = text || "This run has no tokens."; });
-  if (at("trace-part").open) fillPart("trace", "turns --trace", (text) => { at("trace").value = text; });
+  if (at("chains-part").open) fillPart("chains", "--chains", (text) => { at("chains").textContent = text || "This run has no tokens."; });
+  if (at("trace-part").open) fillPart("trace", "--trace", (text) => { at("trace").value = text; });
 }
 
 // Asks for a part once, and puts it where it is shown; one that is too long for that can be saved all the same.
@@ -319,11 +371,11 @@ async function fillPart(name, words, put) {
   at(`${name}-note`).textContent = "..";
   put("");
   try {
-    const answer = await show(it.script, words), { bytes } = answer;
+    const answer = await askOf(machine, { name: "lwkt_show_turns", script: it.script, words: `${it.words} ${words}`, isLongFile: true });
     if (it !== run) return;
-    it.parts.set(name, bytes);
-    const isLong = bytes.length > longestShown;
-    at(`${name}-note`).textContent = isLong ? `It has ${bytes.length} bytes, too many to be shown here; it can be saved.` : "";
+    const isLong = Boolean(answer.file);
+    it.parts.set(name, answer.file || textOf(answer));
+    at(`${name}-note`).textContent = isLong ? `It has ${answer.file.size} bytes, too many to be shown here; it can be saved.` : "";
     put(isLong ? "" : textOf(answer));
   } catch (error) {
     it.parts.delete(name);
@@ -340,8 +392,8 @@ function save(name, text, type) {
 
 // The trace that is to be checked: the one in view, or of a long run the bytes of the one that isn't shown.
 function wholeTrace() {
-  const whole = run?.parts.get("trace") || "";
-  return at("trace").value || (whole.length > longestShown ? whole : "");
+  const whole = run?.parts.get("trace");
+  return at("trace").value || (whole instanceof Blob ? whole : "");
 }
 
 async function judge() {
@@ -371,17 +423,50 @@ function excerpt(script, { from, to }) {
   return make("pre", {}, line, "\n", make("span", { class: "under" }, under));
 }
 
-function showRefusal(script, answer) {
-  const place = readPlace(textOf(answer));
+// What is shown of any script that is refused.
+function beginRefusal(answer) {
   run = null;
-  at("ran").hidden = true;
+  at("ran").hidden = at("along").hidden = true;
   at("verdict").textContent = answer.status === 3 ? "There was no memory for this run." : `The script was refused, fault ${answer.fault}.`;
   at("script").setAttribute("aria-invalid", "true");
+}
+
+function goThere(part) {
+  return make("button", { type: "button", class: "small", onclick: () => leadTo(part) }, "Go there");
+}
+
+// All that is wrong with a text, each with its place; the first is told in the editor too.
+function showWrongs(script, answer) {
+  const said = textOf(answer), wrongs = readWrongs(said);
+  beginRefusal(answer);
+  if (!wrongs.length) return at("refusal").replaceChildren(make("p", {}, said.trim().replace(/^lwkt_\w+: /, "") || "refused"));
+  const parts = wrongs.map((wrong) => wordAt(script, wrong.line, wrong.column));
+  const items = wrongs.map((wrong, i) => make("li", {}, make("p", {}, `Line ${wrong.line}, column ${wrong.column}: ${wrong.said} `, goThere(parts[i])), excerpt(script, parts[i])));
+  at("refusal").replaceChildren(make("ol", {}, ...items));
+  markParts(script, parts, wrongs[0].said);
+}
+
+function showRefusal(script, answer) {
+  const place = readPlace(textOf(answer));
+  beginRefusal(answer);
   if (place.line === undefined) return at("refusal").replaceChildren(make("p", {}, place.said || "refused"));
   const part = partAt(script, place.line, place.column);
-  const lead = make("button", { type: "button", class: "small", onclick: () => leadTo(part) }, "Go there");
-  at("refusal").replaceChildren(make("p", {}, `Line ${place.line}, column ${place.column}: ${place.said} `, lead), excerpt(script, part));
-  markPart(script, part, place.said);
+  at("refusal").replaceChildren(make("p", {}, `Line ${place.line}, column ${place.column}: ${place.said} `, goThere(part)), excerpt(script, part));
+  markParts(script, [part], place.said);
+}
+
+// What the text expects, and whether it holds.
+function showExpected(it) {
+  at("expected").hidden = it.verdicts.length === 0;
+  at("verdicts").replaceChildren(...it.verdicts.map((verdict) => expectationItem(it.text, verdict, replay)));
+}
+
+// What a text expects: whether it holds, what it is, where it stands, and the order that decides it, if one does.
+function expectationItem(script, { line, words, said, order }, go) {
+  const holds = words.startsWith("holds"), from = placeOf(script, line, 1);
+  const there = goThere({ from, to: (script.indexOf("\n", from) + 1 || script.length + 1) - 1 });
+  const by = order ? [" decided by the order ", make("code", { class: "order" }, order.join(" ") || "of no turn"), " ", make("button", { type: "button", class: "small", onclick: () => go(order) }, "Replay")] : [];
+  return make("li", { "data-holds": String(holds) }, make("span", { class: holds ? "good" : "bad" }, words), " ", make("code", {}, said), " ", there, make("span", { class: "quiet" }, ` line ${line}`), ...by);
 }
 
 function leadTo(part) {
@@ -389,10 +474,16 @@ function leadTo(part) {
   at("script").setSelectionRange(part.from, part.to);
 }
 
-// Marks the bad part in the editor, with what is bad of it under it.
-function markPart(script, part, said) {
-  const mark = make("mark", {}, script.slice(part.from, part.to) || " ");
-  at("mirror").replaceChildren(script.slice(0, part.from), mark, script.slice(part.to), "\n");
+// Marks bad parts in the editor, with what is bad of the first under it.
+function markParts(script, parts, said) {
+  const pieces = [];
+  let done = 0;
+  for (const { from, to } of parts.filter((part, i) => i === 0 || part.from >= parts[i - 1].to)) {
+    pieces.push(script.slice(done, from), make("mark", {}, script.slice(from, to) || " "));
+    done = to;
+  }
+  at("mirror").replaceChildren(...pieces, script.slice(done), "\n");
+  const mark = at("mirror").querySelector("mark");
   at("script").scrollTop = Math.max(0, mark.offsetTop - at("script").clientHeight / 3);
   at("bubble").textContent = said;
   at("bubble").hidden = false;
@@ -410,6 +501,96 @@ function followScroll() {
   at("bubble").hidden = top < 0 || top > outer.height;
 }
 
+// ---- The form of what is typed, and every order of it.
+
+const formWords = { text: "Read as a text of the language for scripts.", json: "Read as JSON." };
+let formTimer = 0;
+
+async function showForm() {
+  const script = at("script").value;
+  const { status } = await ask("lwkt_is_text", script).catch(() => ({ status: 3 }));
+  if (script === at("script").value && status !== 3) putForm(status === 1);
+}
+
+function putForm(isText) {
+  const form = isText ? "text" : "json";
+  at("form").textContent = formWords[form];
+  at("editor").dataset.form = form;
+}
+
+function showFormSoon() {
+  clearTimeout(formTimer);
+  formTimer = setTimeout(showForm, 150);
+}
+
+let search = null;
+
+function sayOrders(text) {
+  at("orders-status").textContent = text;
+}
+
+function setSearching(is) {
+  at("orders-stop").hidden = !is;
+  at("orders-bar").hidden = !is;
+  at("orders").setAttribute("aria-busy", String(is));
+}
+
+function clearOrders() {
+  if (search) stopWorker("it was stopped", searcher);
+  search = null;
+  for (const id of ["outcomes", "lost", "order-verdicts"]) at(id).replaceChildren();
+  at("judged-orders").hidden = true;
+  sayOrders("");
+}
+
+// Makes the run along an order, and leads to it.
+function replay(order) {
+  start(0, order).then(() => {
+    at("look").scrollIntoView();
+    at(run?.total ? "turns" : "look-head").focus({ preventScroll: true });
+  });
+}
+
+function showOrders(read, isLast, script) {
+  sayOrders(sumWords(read, isLast));
+  at("lost").replaceChildren(...lostParts(read.lost, replay));
+  at("outcomes").replaceChildren(...read.outcomes.map((outcome) => outcomeItem(outcome, replay)));
+  at("judged-orders").hidden = read.verdicts.length === 0;
+  at("order-verdicts").replaceChildren(...read.verdicts.map((verdict) => expectationItem(script, { ...verdict, said: saidAt(script, verdict) }, replay)));
+}
+
+// Tries all orders with more and more states, up to the bound, and shows what was found so far.
+async function searchUpTo(script, most, own) {
+  for (const states of boundsUpTo(most)) {
+    const answer = await askOf(searcher, { name: "lwkt_explore_orders", script, numbers: [states, 100000] });
+    if (search !== own) return;
+    if (![0, 2, 5].includes(answer.status)) return sayOrders(textOf(answer).trim().replace(/^lwkt_\w+: /, "") || `status ${answer.status}`);
+    const read = readOrders(textOf(answer));
+    const isLast = read.sum.isComplete || states === most || read.sum.states < states;
+    showOrders(read, isLast, script);
+    at("orders-bar").value = states / most;
+    if (isLast) return;
+  }
+}
+
+async function tryOrders() {
+  clearOrders();
+  const own = search = {};
+  const most = Math.min(Math.max(1, Math.trunc(Number(at("states").value)) || 1), 1000000);
+  at("states").value = most;
+  at("orders-bar").value = 0;
+  sayOrders("Trying every order ..");
+  setSearching(true);
+  try {
+    await searchUpTo(at("script").value, most, own);
+  } catch (error) {
+    if (search === own) sayOrders(`${at("orders-status").textContent.replace(" Going on ..", "")} Ended before its end: ${error.message}.`);
+  } finally {
+    if (search === own || !search) setSearching(false);
+    if (search === own) search = null;
+  }
+}
+
 // ---- Links: the script behind the # of the address, packed where the browser can.
 
 const hasPacking = typeof CompressionStream === "function";
@@ -418,26 +599,26 @@ async function pass(bytes, stream) {
   return new Uint8Array(await new Response(new Blob([bytes]).stream().pipeThrough(stream)).arrayBuffer());
 }
 
-async function fragmentOf(script, turn) {
+async function fragmentOf(script, turn, order) {
   const plain = new TextEncoder().encode(script);
   const bytes = hasPacking ? await pass(plain, new CompressionStream("deflate-raw")) : plain;
   let text = "";
   for (let i = 0; i < bytes.length; i += 8192) text += String.fromCharCode(...bytes.subarray(i, i + 8192));
   const packed = btoa(text).replace(/\+/g, "-").replace(/\//g, "_").replace(/=+$/, "");
-  return `#${hasPacking ? "z" : "p"}=${packed}${turn ? `&turn=${turn}` : ""}`;
+  return `#${hasPacking ? "z" : "p"}=${packed}${order ? `&order=${order.join("") || "-"}` : ""}${turn ? `&turn=${turn}` : ""}`;
 }
 
 async function readFragment(fragment) {
-  const found = /^#([zp])=([\w-]+)(?:&turn=(\d+))?$/.exec(fragment);
+  const found = /^#([zp])=([\w-]+)(?:&order=([0-9]+|-))?(?:&turn=(\d+))?$/.exec(fragment);
   if (!found) return null;
   const text = atob(found[2].replace(/-/g, "+").replace(/_/g, "/"));
   const bytes = Uint8Array.from(text, (sign) => sign.charCodeAt(0));
   const plain = found[1] === "z" ? await pass(bytes, new DecompressionStream("deflate-raw")) : bytes;
-  return { script: new TextDecoder("utf-8", { fatal: true }).decode(plain), turn: Number(found[3] || 0) };
+  return { script: new TextDecoder("utf-8", { fatal: true }).decode(plain), order: found[3] === undefined ? null : (found[3].match(/\d/g) || []).map(Number), turn: Number(found[4] || 0) };
 }
 
 async function link() {
-  const fragment = await fragmentOf(at("script").value, chosen);
+  const fragment = await fragmentOf(at("script").value, chosen, run?.text === at("script").value ? run.order : null);
   history.replaceState(null, "", fragment);
   try {
     await navigator.clipboard.writeText(location.href);
@@ -454,7 +635,8 @@ async function takeFragment() {
     if (!found) return false;
     chooseExample("");
     at("script").value = found.script;
-    await start(found.turn);
+    clearOrders();
+    await start(found.turn, found.order);
     return true;
   } catch {
     say("The link's script can't be read: it may be cut off.");
@@ -471,11 +653,17 @@ function chooseExample(name) {
   at("told").textContent = examples.find((it) => it.dataset.name === name)?.dataset.told || "";
 }
 
+function exampleGroup(label, group) {
+  const options = examples.filter((it) => it.dataset.group === group);
+  return make("optgroup", { label }, ...options.map((it) => make("option", { value: it.dataset.name }, it.dataset.name.replace(/_/g, " "))));
+}
+
 function openExample(name) {
   const found = examples.find((it) => it.dataset.name === name);
   if (!found) return;
   chooseExample(name);
   at("script").value = found.textContent.replace(/^\n/, "");
+  clearOrders();
   start();
 }
 
@@ -483,10 +671,18 @@ function step(by) {
   choose((isDrawing ? wanted : chosen) + by);
 }
 
+// How far the next turn of the same processor is, on or back.
+function toSame(way) {
+  if (!run.order) return way * run.cpus;
+  const from = isDrawing ? wanted : chosen;
+  for (let turn = from + way; turn >= 0 && turn < run.total; turn += way) if (run.order[turn] === run.order[from]) return turn - from;
+  return 0;
+}
+
 function turnsKey(event) {
   if (!run || event.ctrlKey || event.altKey || event.metaKey) return;
   const page = Math.max(1, Math.floor(at("turns").clientHeight / rowHeight) - 1);
-  const moves = { ArrowDown: 1, ArrowUp: -1, ArrowRight: run.cpus, ArrowLeft: -run.cpus, PageDown: page, PageUp: -page, Home: -run.total, End: run.total };
+  const moves = { ArrowDown: 1, ArrowUp: -1, ArrowRight: toSame(1), ArrowLeft: toSame(-1), PageDown: page, PageUp: -page, Home: -run.total, End: run.total };
   if (!(event.key in moves)) return;
   event.preventDefault();
   step(moves[event.key]);
@@ -506,7 +702,9 @@ function listen() {
   at("save-trace").addEventListener("click", () => save("trace.json", wholeTrace(), "application/json"));
   at("save-picture").addEventListener("click", () => save("run.svg", run.drawn || "", "image/svg+xml"));
   at("example").addEventListener("change", () => openExample(at("example").value));
-  at("script").addEventListener("input", () => { clearRefusal(); chooseExample(""); });
+  at("script").addEventListener("input", () => { clearRefusal(); chooseExample(""); clearOrders(); showFormSoon(); });
+  at("orders-start").addEventListener("click", tryOrders);
+  at("orders-stop").addEventListener("click", () => stopWorker("it was stopped", searcher));
   at("script").addEventListener("scroll", followScroll);
   new ResizeObserver(followScroll).observe(at("editor"));
   document.addEventListener("keydown", (event) => {
@@ -529,8 +727,8 @@ function listen() {
     at(id).addEventListener("click", () => (Number.isFinite(by) ? step(by) : run && choose(by < 0 ? 0 : run.total - 1)));
   }
   at("number").addEventListener("change", () => choose(Number(at("number").value)));
-  at("rounds-back").addEventListener("click", () => step(-pictureRounds * run.cpus));
-  at("rounds-forth").addEventListener("click", () => step(pictureRounds * run.cpus));
+  at("rounds-back").addEventListener("click", () => step(-pictureRounds * (run.order ? 1 : run.cpus)));
+  at("rounds-forth").addEventListener("click", () => step(pictureRounds * (run.order ? 1 : run.cpus)));
   at("chains-part").addEventListener("toggle", drawOpenParts);
   at("trace-part").addEventListener("toggle", drawOpenParts);
   at("theme").addEventListener("click", () => setTheme(document.documentElement.dataset.theme !== "dark"));
@@ -540,7 +738,7 @@ function listen() {
 
 async function begin() {
   setTheme(matchMedia("(prefers-color-scheme: dark)").matches);
-  at("example").append(make("option", { value: "" }, "(own script)"), ...examples.map((it) => make("option", { value: it.dataset.name }, it.dataset.name.replace(/_/g, " "))));
+  at("example").append(make("option", { value: "" }, "(own script)"), exampleGroup("A course, in order", "course"), exampleGroup("Examples", "examples"));
   listen();
   if (typeof WebAssembly !== "object") return say("This browser has no WebAssembly.");
   if (!(await takeFragment())) openExample("crossed_lists");

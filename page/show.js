@@ -28,13 +28,13 @@ function turnRow(turn, isChosen) {
 }
 
 // All that a turn's line says.
-function showTurn(place, turn) {
+function showTurn(place, turn, isAlong) {
   const head = turn.thread ? `thread ${turn.thread}, ${turn.step}` : turn.outcome;
   const parts = [];
   if (turn.thread) parts.push(make("div", {}, make("code", {}, turn.ask), ": ", make("strong", {}, turn.outcome)));
   for (const [id, why] of turn.idle || []) parts.push(make("div", {}, `${id} ${why}`));
   if (turn.events.length) parts.push(make("ul", {}, ...turn.events.map((event) => make("li", {}, event.text))));
-  place.replaceChildren(make("h3", {}, `Turn ${turn.number}, round ${turn.round}, processor ${turn.cpu}: ${head}`), ...parts);
+  place.replaceChildren(make("h3", {}, `Turn ${turn.number}, ${isAlong ? "" : `round ${turn.round}, `}processor ${turn.cpu}: ${head}`), ...parts);
 }
 
 // The kind of a chip by what is said of a thread.
@@ -107,13 +107,18 @@ function toggleWhy(button, place, thread, look) {
   place.replaceChildren(list, since === null ? "" : make("p", { class: "quiet" }, "It stands so since ", turnButton(since, look.go), "."));
 }
 
+// The name that a text gives to something.
+function nameOf(name) {
+  return name === undefined ? null : make("span", { class: "name" }, name, " ");
+}
+
 function showThread(thread, look) {
   const kind = kindOf(thread);
   const list = thread.list.length ? thread.list.map((it) => `token ${it.slice(0, -1)}${it.endsWith("s") ? " shared" : ""}`).join(", ") : "none";
-  const parts = [make("strong", {}, thread.id), " ", make("span", { class: `chip ${kind}` }, kind === "waits" ? thread.said.replace(/^(waits for (?:token \d+|its port|the reply to message \d+)).*$/, "$1") : chipWords[kind])];
+  const parts = [make("strong", {}, thread.id), " ", nameOf(look.names.threads.get(thread.id)), make("span", { class: `chip ${kind}` }, kind === "waits" ? thread.said.replace(/^(waits for (?:token \d+|its port|the reply to message \d+)).*$/, "$1") : chipWords[kind])];
   if (kind !== "begins") {
     parts.push(make("div", { class: "quiet" }, `list: ${list}`));
-    if (thread.log.length) parts.push(make("div", { class: "quiet mono" }, `log: ${thread.log.join(" ")}`));
+    if (thread.log.length) parts.push(make("div", { class: "quiet mono" }, `log: ${thread.log.map(entryWords).join(" ")}`));
   }
   if (kind === "faulted") parts.push(make("div", { class: "said" }, `${thread.said} (${thread.moment})`));
   if (kind === "waits") {
@@ -158,23 +163,30 @@ function tokenRow(token, number, look) {
   const word = parts === null ? "no step on it" : token.word;
   const detail = parts && make("div", { class: "quiet" }, `generation ${parts.generation}, count ${parts.count}`);
   const mark = parts === null ? "-" : parts.mark ? "set: wanted exclusively" : "off";
-  const changed = look.turn.events.some((event) => event.of === "token" && event.number === number && (event.after !== undefined || event.first));
+  const changed = look.turn.events.some((event) => event.of === "token" && event.number === number && (event.after !== undefined || event.first || / stored$/.test(event.said)));
   const row = token.row.length ? token.row.map((cell) => cell ?? "?").join(" ") : "no cells";
-  const cells = [make("td", { class: "mono" }, word, detail), make("td", {}, token.holders ?? "?"), make("td", {}, mark), make("td", { class: "mono" }, row, make("div", { class: "quiet" }, `law ${token.law}`)), make("td", {}, toldBy(token, look))];
-  return make("tr", { class: changed ? "changed" : null, "data-token": number }, make("th", { scope: "row" }, String(number)), ...cells);
+  const record = token.record === null ? null : make("div", { class: "record" }, make("span", { class: "quiet" }, "record "), token.record);
+  const cells = [make("td", { class: "mono" }, word, detail), make("td", {}, token.holders ?? "?"), make("td", {}, mark), make("td", { class: "mono" }, row, record, make("div", { class: "quiet" }, `law ${token.law}`)), make("td", {}, toldBy(token, look))];
+  return make("tr", { class: changed ? "changed" : null, "data-token": number }, make("th", { scope: "row" }, `${number} `, nameOf(look.names.tokens[number])), ...cells);
 }
 
 function showTokens(place, look) {
   place.replaceChildren();
   if (!look.state.tokens.length) return;
+  const hasRecords = look.state.tokens.some((token) => token.record !== null);
   const rows = look.state.tokens.map((token, number) => tokenRow(token, number, look));
-  place.append(make("h4", {}, "Tokens"), table(["Token", "Word", "Holders", "Mark", "Row", "Told by turn"], rows));
+  place.append(make("h4", {}, "Tokens"), table(["Token", "Word", "Holders", "Mark", hasRecords ? "Row, record" : "Row", "Told by turn"], rows));
+}
+
+// The sign of a message that was sent with priority.
+function urgentSign(isUrgent) {
+  return isUrgent ? make("span", { class: "urgent" }, "urgent") : null;
 }
 
 function messageRow(post, number, look) {
   const changed = look.turn.events.some((event) => event.of === "message" && event.number === number);
-  const cells = [make("td", {}, post.owner.join(".")), make("td", {}, post.round ?? "?"), make("td", {}, post.place ?? "?"), make("td", {}, toldBy(post, look))];
-  return make("tr", { class: changed ? "changed" : null, "data-message": number }, make("th", { scope: "row" }, String(number)), ...cells);
+  const cells = [make("td", {}, post.owner.join(".")), make("td", {}, post.round ?? "?"), make("td", {}, post.place ?? "?", " ", urgentSign(post.isUrgent) ?? ""), make("td", {}, toldBy(post, look))];
+  return make("tr", { class: changed ? "changed" : null, "data-message": number }, make("th", { scope: "row" }, `${number} `, nameOf(look.names.messages[number])), ...cells);
 }
 
 function showMessages(place, look) {
@@ -192,8 +204,8 @@ function notesOf(messages) {
     if (!found) return;
     const from = found[1] === "out" ? post.owner[0] : post.from;
     const lane = `${from} → ${found[2]}`;
-    const note = `${found[1] === "out" ? "message" : "reply to message"} ${number}, round ${post.round}`;
-    lanes.set(lane, [...(lanes.get(lane) || []), note]);
+    const words = `${found[1] === "out" ? "message" : "reply to message"} ${number}, round ${post.round}`;
+    lanes.set(lane, [...(lanes.get(lane) || []), { words, isUrgent: post.isUrgent }]);
   });
   return lanes;
 }
@@ -202,16 +214,26 @@ function showLanes(place, look) {
   place.replaceChildren();
   if (!look.state.messages.length) return;
   const lanes = notesOf(look.state.messages);
-  const rows = [...lanes].sort().map(([lane, notes]) => make("tr", { "data-lane": lane }, make("th", { scope: "row" }, lane), make("td", {}, notes.join("; "))));
+  const rows = [...lanes].sort().map(([lane, notes]) => make("tr", { "data-lane": lane }, make("th", { scope: "row" }, lane), make("td", {}, ...notes.flatMap(({ words, isUrgent }, i) => [i ? "; " : "", urgentSign(isUrgent), isUrgent ? " " : "", words]))));
   place.append(make("h4", {}, "Lanes with notes"));
   if (!rows.length) place.append(make("p", { class: "quiet" }, "Nothing is on its way."));
-  else place.append(table(["From → to", "On its way"], rows), make("p", { class: "quiet" }, "A note is in the lane or in its port's queue until it is taken; lines of a run don't tell these two apart."));
+  else place.append(table(["From → to", "On its way"], rows), make("p", { class: "quiet" }, "A note is in the lane or in its port's queue until it is taken; lines of a run don't tell these two apart. One that is urgent is served before the others that are in the port."));
 }
 
-// Puts a picture into its place and returns its root, or null where the text is no picture.
-function showPicture(place, text) {
+// Whether each turn of an order has a column of its own in a picture, so that no two lie over each other.
+function hasColumns(picture) {
+  const places = [...picture.querySelectorAll("g")].filter((group) => /^turn \d+, /.test(group.querySelector("title")?.textContent || "")).map((group) => group.querySelector("rect").getAttribute("x"));
+  return places.every((x, i) => i === 0 || x !== places[i - 1]);
+}
+
+// Puts a picture into its place and returns its root, or null where the text is no picture, or one that can't be read.
+function showPicture(place, text, isAlong) {
   const read = new DOMParser().parseFromString(text, "image/svg+xml");
-  if (read.querySelector("parsererror") || read.documentElement.localName !== "svg") return null;
+  const isPicture = !read.querySelector("parsererror") && read.documentElement.localName === "svg";
+  if (!isPicture || (isAlong && !hasColumns(read.documentElement))) {
+    place.shadowRoot?.replaceChildren();
+    return null;
+  }
   const root = place.shadowRoot || place.attachShadow({ mode: "open" });
   const style = make("style", {}, "svg{display:block}g[data-turn]{cursor:pointer}.chosen{fill:none;stroke:#0a58ca;stroke-width:3}");
   root.replaceChildren(style, document.importNode(read.documentElement, true));
@@ -226,6 +248,7 @@ function showPicture(place, text) {
 function markPicture(place, number) {
   const root = place.shadowRoot;
   root?.querySelector(".chosen")?.remove();
+  if (!root?.querySelector("svg")) return;
   const box = root?.querySelector(`g[data-turn="${number}"] rect`);
   if (!box) return;
   const value = (name) => Number(box.getAttribute(name));

@@ -1,9 +1,9 @@
 "use strict";
 // For the tests of the page alone: in the place of the module, the programs of this tree, asked from the test's own server.
 class Library {
-  call(name, texts) {
+  call(name, texts, numbers = []) {
     const request = new XMLHttpRequest();
-    const words = texts[1] ? new TextDecoder().decode(texts[1]) : "";
+    const words = texts[1] ? new TextDecoder().decode(texts[1]) : numbers.join(" ");
     request.open("POST", `@@server@@/call/${name}?${encodeURIComponent(words)}`, false);
     request.send(texts[0]);
     if (request.status === 500) throw new WebAssembly.RuntimeError("unreachable");

@@ -101,7 +101,7 @@ static void sections(void) {
 static void *same_seat(void *told) {
     worker *mine = told;
     for (int i = 0; i < ROUNDS; i += 1) {
-        uint32_t status = lwkt_mark(bank, mine->seat, ANY);
+        uint32_t restored, status = i % 2 == 0 ? lwkt_mark(bank, mine->seat, ANY) : lwkt_block(bank, mine->seat, &restored);
         mine->good = mine->good && (status == 0 || status == LWKT_SEAT_IN_USE);
     }
     return NULL;
@@ -205,6 +205,75 @@ static void opened_records(void) {
     count(lwkt_bank_open(&broken, 1, 1, &other) == 40 && other.place == NULL, "a length that the cell hasn't");
 }
 
+// Adds to the cell of the token of any values and to the tally, which it takes together, in one order or in the other.
+static void *work_on_lists(void *told) {
+    static const lwkt_reference lists[2][2] = {{{ANY, LWKT_EXCLUSIVE}, {TALLY, LWKT_EXCLUSIVE}}, {{TALLY, LWKT_EXCLUSIVE}, {ANY, LWKT_EXCLUSIVE}}};
+    worker *mine = told;
+    for (int i = 0; i < ROUNDS / 100; i += 1) {
+        uint64_t value, sum;
+        size_t missed;
+        uint32_t restored, status;
+        while ((status = lwkt_resume(bank, mine->seat, lists[mine->seat % 2], 2, &missed)) == LWKT_BUSY || status == LWKT_RACE) sched_yield();
+        int good = status == 0 && lwkt_load(bank, mine->seat, ANY, 0, &value) == 0 && lwkt_store(bank, mine->seat, ANY, 0, value + 1) == 0;
+        good = good && lwkt_add(bank, mine->seat, TALLY, 1, &sum) == 0 && lwkt_block(bank, mine->seat, &restored) == 0;
+        mine->good = mine->good && good;
+    }
+    return NULL;
+}
+
+static void sections_of_lists(void) {
+    pthread_t threads[THREADS];
+    worker workers[THREADS];
+    uint64_t any = value_of(ANY, 0), tally = value_of(TALLY, 0);
+    for (uint32_t i = 0; i < THREADS; i += 1) {
+        workers[i] = (worker){i, 1};
+        count(pthread_create(&threads[i], NULL, work_on_lists, &workers[i]) == 0, "a thread starts");
+    }
+    for (int i = 0; i < THREADS; i += 1) {
+        pthread_join(threads[i], NULL);
+        count(workers[i].good, "each list is taken and given up");
+    }
+    count(value_of(ANY, 0) == any + (uint64_t)THREADS * (ROUNDS / 100), "4,000 stores came to the cell");
+    count(value_of(TALLY, 0) == tally + (uint64_t)THREADS * (ROUNDS / 100), "4,000 additions came to the tally");
+}
+
+static void lists(void) {
+    static const lwkt_reference both[2] = {{LEN, LWKT_EXCLUSIVE}, {SUM, LWKT_EXCLUSIVE}}, alone[2] = {{ANY, LWKT_EXCLUSIVE}, {SUM, LWKT_EXCLUSIVE}}, mixed[3] = {{ANY, LWKT_SHARED}, {ANY, LWKT_EXCLUSIVE}, {TOKENS, LWKT_SHARED}};
+    lwkt_reference many[33], three[3] = {{ANY, LWKT_SHARED}, {SUM, LWKT_EXCLUSIVE}, {ANY, LWKT_SHARED}}, wrong[2] = {{ANY, LWKT_SHARED}, {TOKENS, LWKT_SHARED}};
+    size_t missed = 77;
+    uint32_t restored = 77;
+    uint64_t value = 0;
+    for (int i = 0; i < 33; i += 1) many[i] = (lwkt_reference){ANY, LWKT_SHARED};
+    count(lwkt_resume(bank, 4, three, 3, &missed) == 30 && missed == 77 && lwkt_block(bank, 4, &restored) == 30 && restored == 77, "no such seat");
+    count(lwkt_resume(bank, 0, three, 3, &missed) == 0 && missed == 77, "a list is taken");
+    count(lwkt_store(bank, 0, SUM, 0, 1) == 0 && lwkt_load(bank, 0, ANY, 0, &value) == 0, "its tokens are held");
+    count(lwkt_resume(bank, 0, three, 3, &missed) == 51 && missed == 77, "a seat that holds something");
+    count(lwkt_take(bank, 1, ANY) == 23 && lwkt_take(bank, 1, SUM) == 23, "another seat gets neither");
+    count(lwkt_block(bank, 0, &restored) == 19 && restored == SUM, "a broken section is restored");
+    count(lwkt_give(bank, 0, ANY) == 13 && lwkt_give(bank, 0, SUM) == 13, "nothing is held");
+    count(lwkt_take(bank, 1, SUM) == 0 && lwkt_lawful(bank, 1, SUM) == 0, "the first row is there again");
+    count(lwkt_resume(bank, 0, three, 3, &missed) == 23 && missed == 1 && lwkt_give(bank, 0, ANY) == 13, "one is missed, and nothing is held");
+    restored = 77;
+    count(lwkt_block(bank, 1, &restored) == 0 && restored == 77 && lwkt_block(bank, 1, &restored) == 0, "all is given up, and nothing");
+    count(lwkt_resume(bank, 0, both, 2, &missed) == 0 && lwkt_store(bank, 0, LEN, 0, 65) == 0 && lwkt_store(bank, 0, SUM, 0, 1) == 0, "two sections are broken");
+    count(lwkt_block(bank, 0, &restored) == 19 && restored == SUM, "the lowest token is named");
+    count(lwkt_resume(bank, 1, both, 2, &missed) == 0 && lwkt_lawful(bank, 1, LEN) == 0 && lwkt_lawful(bank, 1, SUM) == 0 && lwkt_block(bank, 1, &restored) == 0, "both are restored");
+    count(lwkt_resume(bank, 0, wrong, 2, &missed) == 16 && missed == 1, "a list with no such token");
+    wrong[1] = (lwkt_reference){ANY, 2};
+    count(lwkt_resume(bank, 0, wrong, 2, &missed) == 39 && missed == 1, "a list with no such mode");
+    wrong[1] = (lwkt_reference){ANY, LWKT_EXCLUSIVE};
+    count(lwkt_resume(bank, 0, wrong, 2, &missed) == 11 && missed == 1, "exclusive behind shared");
+    count(lwkt_resume(bank, 0, mixed, 3, &missed) == 11 && missed == 1 && lwkt_give(bank, 0, ANY) == 13, "the first place that is wrong");
+    count(lwkt_resume(bank, 0, many, 33, &missed) == 10 && missed == 32, "33 references");
+    count(lwkt_resume(bank, 0, many, 32, &missed) == 0 && lwkt_again(bank, 0, ANY) == 10 && lwkt_block(bank, 0, &restored) == 0, "32 references");
+    count(lwkt_resume(bank, 0, many, 0, &missed) == 0 && lwkt_block(bank, 0, &restored) == 0, "no references");
+    count(lwkt_mark(bank, 0, ANY) == 0 && lwkt_resume(bank, 1, many, 2, &missed) == 23 && missed == 0, "a mark holds off a list of one token");
+    count(lwkt_resume(bank, 1, three, 3, &missed) == 0 && lwkt_block(bank, 1, &restored) == 0, "and no other");
+    count(lwkt_take(bank, 0, ANY) == 0 && lwkt_block(bank, 0, &restored) == 0, "the mark is gone");
+    count(lwkt_mark(bank, 0, ANY) == 0 && lwkt_take(bank, 1, SUM) == 0 && lwkt_resume(bank, 0, alone, 2, &missed) == 23 && missed == 1, "a list is missed at its end");
+    count(lwkt_share(bank, 2, ANY) == 0 && lwkt_give(bank, 2, ANY) == 0 && lwkt_give(bank, 1, SUM) == 0, "the mark of its front is cleared");
+}
+
 static void openings(void) {
     lwkt_bank other = {NULL};
     lwkt_token broken = token(5, 6, 2, LWKT_LAW_SUM, 10), unknown = token(0, 0, 1, 6, 0), wide = token(0, 0, 5, LWKT_LAW_ANY, 0);
@@ -219,6 +288,9 @@ static void openings(void) {
     static lwkt_bank last;
     worn.generation -= 1;
     count(lwkt_bank_open(&worn, 1, 1, &last) == 0 && lwkt_take(last, 0, 0) == 20 && lwkt_share(last, 0, 0) == 0 && lwkt_give(last, 0, 0) == 0, "the last generation");
+    static const lwkt_reference whole = {0, LWKT_EXCLUSIVE};
+    size_t missed = 77;
+    count(lwkt_resume(last, 0, &whole, 1, &missed) == 20 && missed == 0 && lwkt_give(last, 0, 0) == 13, "the last generation, on a list");
 }
 
 int main(void) {
@@ -232,6 +304,8 @@ int main(void) {
         numbers();
         refused_records();
         records();
+        lists();
+        sections_of_lists();
         openings();
         opened_records();
     }

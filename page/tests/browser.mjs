@@ -40,9 +40,27 @@ export class Browser {
 
   async close() {
     await this.send("Browser.close").catch(() => {});
-    await new Promise((resolve) => setTimeout(resolve, 300));
-    this.process.kill();
-    rmSync(this.folder, { recursive: true, force: true, maxRetries: 5 });
+    const isEnded = new Promise((resolve) => this.process.once("exit", resolve));
+    setTimeout(() => this.process.kill(), 2000).unref();
+    await isEnded;
+    rmSync(this.folder, { recursive: true, force: true, maxRetries: 20, retryDelay: 100 });
+  }
+
+  // Begins to note each task of the browser's threads; `tasksOf` ends it.
+  async noteTasks() {
+    this.noted = [];
+    this.listeners.push((message) => message.method === "Tracing.dataCollected" && this.noted.push(...message.params.value));
+    await this.send("Tracing.start", { transferMode: "ReportEvents", traceConfig: { includedCategories: ["toplevel", "__metadata"] } });
+  }
+
+  // The most processor time in milliseconds that a task of a page's main thread took, and how many tasks there were.
+  async tasksOf() {
+    const isDone = new Promise((resolve) => this.listeners.push((message) => message.method === "Tracing.tracingComplete" && resolve()));
+    await this.send("Tracing.end");
+    await isDone;
+    const mains = new Set(this.noted.filter((it) => it.name === "thread_name" && it.args.name === "CrRendererMain").map((it) => `${it.pid} ${it.tid}`));
+    const times = this.noted.filter((it) => it.ph === "X" && it.tdur !== undefined && mains.has(`${it.pid} ${it.tid}`)).map((it) => it.tdur / 1000);
+    return { longest: Math.max(0, ...times.slice(-100000)), count: times.length };
   }
 
   async open(url, { width = 1280, height = 900, dark = false } = {}) {

@@ -3,7 +3,8 @@ import { join } from "node:path";
 import { callProgram, check, exampleNames, examples, finish, namesIn, read, same, statusOf } from "./tools.mjs";
 import { load } from "./tools.mjs";
 
-const lines = load("lines.js", ["readRun", "readEvent", "readOpenings", "partsOf", "readPlace", "openState", "copyState", "tell", "tellFirstWords"]);
+const lines = load("lines.js", ["readRun", "readEvent", "readOpenings", "partsOf", "readPlace", "openState", "copyState", "tell", "tellFirstWords", "recordWords", "entryWords"]);
+const texts = load("texts.js", ["verdictsIn", "saidAt", "namesOf"]);
 const scripts = load("script.js", ["cutScript", "membersOf", "partAt", "placeOf", "skipValue"]);
 
 // Every line of a run is read: all its turns, and the report behind them.
@@ -24,7 +25,8 @@ function tryExample(name) {
 function tryStates(name, script, run) {
   const cut = callProgram("lwkt_show_turns", scripts.cutScript(script, 1), "turns --chains");
   const openings = lines.readOpenings(cut.text);
-  const state = lines.openState(openings, JSON.parse(script).messages);
+  const { messages, tokens } = JSON.parse(script);
+  const state = lines.openState(openings, messages, tokens.map(({ record }) => (typeof record === "string" ? lines.recordWords(record) : null)));
   lines.tellFirstWords(state, run.turns);
   for (const turn of run.turns) lines.tell(state, turn);
   if (run.ends.some((line) => line.startsWith("at the end"))) return;
@@ -32,6 +34,8 @@ function tryStates(name, script, run) {
     const line = run.report.find((it) => it.startsWith(`token ${number} gen `));
     same(`token ${number} gen ${token.generation} cells ${token.row.join(" ") || "-"}`, line, `${name}: token ${number} after all turns`);
     check(token.holders === "free", `${name}: token ${number} is free after all turns`);
+    const record = run.report.find((it) => it.startsWith(`record ${number} `))?.split(" ")[2];
+    same(token.record, record === undefined ? null : lines.recordWords(record === "-" ? "" : record), `${name}: the record of token ${number} after all turns`);
   });
   state.messages.forEach((post, number) => {
     const line = run.report.find((it) => it.startsWith(`message ${number} round `));
@@ -90,6 +94,17 @@ function tryRefusal(name) {
   check(place.line <= rows.length && part.to > part.from, `${name}: a part is marked`);
 }
 
+// A message that was sent with priority is urgent until it is at rest again, on its way back too.
+function tryUrgent() {
+  const script = read(examples, "urgent_request_first.json"), run = lines.readRun(callProgram("lwkt_show_turns", script, "turns").text);
+  const state = lines.openState([], JSON.parse(script).messages), seen = [];
+  for (const turn of run.turns) {
+    lines.tell(state, turn);
+    seen.push(state.messages.map((post) => (post.isUrgent ? post.place.split(" ")[0] : "-")).join(" "));
+  }
+  same([...new Set(seen)], ["- - -", "- out -", "- with -", "- back -"], "which messages are urgent, and where");
+}
+
 for (const name of exampleNames()) tryExample(name);
 for (const name of ["crossed_lists", "dining_philosophers", "server_of_three", "abort_before_and_after"]) tryCuts(name);
 for (const name of exampleNames()) tryThreads(name);
@@ -105,4 +120,12 @@ same(scripts.partAt("", 1, 1), { from: 0, to: 0 }, "an empty text");
 same(scripts.placeOf("a\nb\nc", 3, 1), 4, "a line");
 check(scripts.skipValue("[[[", 0) === 3, "a text that is cut off");
 check(join("a", "b") === "a/b", "paths");
+same(["", "6869", "00ff", "226162", "61".repeat(24), "61".repeat(40), "00".repeat(40)].map(lines.recordWords), ["empty", "'hi'", "00ff", "226162", `'${"a".repeat(24)}'`, `'${"a".repeat(24)}'.., 40 bytes`, `${"00".repeat(24)}.., 40 bytes`], "records in words");
+same(["b=-", "b=6869", "v=7", "b=00ff"].map(lines.entryWords), ["b=-", "b='hi'", "v=7", "b=00ff"], "records in a log");
+const odd = lines.readRun("turn 0, round 0, processor 0, thread 0.0, step 1: [\"rrec\",0]: record 'a; token 1: b'; token 0: record 'a; token 1: b' read; token 0: record '; ' stored\n").turns[0];
+same([odd.outcome, odd.events.map((it) => [it.number, it.record])], ["record 'a; token 1: b'", [[0, "'a; token 1: b'"], [0, "'; '"]]], "a record with semicolons");
+same(texts.verdictsIn(["4: holds", "4: doesn't hold, order 0 1", "5: isn't shown by what was found", "x"]).map((it) => [it.line, it.place, it.words, it.order]), [[4, 0, "holds", null], [4, 1, "doesn't hold", [0, 1]], [5, 0, "isn't shown by what was found", null]], "verdicts");
+tryUrgent();
+const named = texts.namesOf("# token no\ntoken a: any, cells 1; token,b # token c\n thread t on 1, repeat 2:\nget a; thread u on 0\nmessage m of t\nthread v on 1");
+same([named.tokens, named.messages, [...named.threads]], [["a", "b"], ["m"], [["1.0", "t"], ["0.0", "u"], ["1.1", "v"]]], "the names of a text");
 finish();

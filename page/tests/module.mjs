@@ -6,12 +6,14 @@ const { Library } = load("module.js", ["Library"]);
 const found = /<script type="application\/octet-stream" id="module">([^<]*)<\/script>/.exec(readFileSync(process.argv[2], "utf8"));
 const bytes = Buffer.from(found[1], "base64");
 const library = new Library(bytes);
+// The searches are compared up to so many states.
+const mostStates = 3000;
 const encoder = new TextEncoder(), decoder = new TextDecoder();
 
-function call(name, script, words) {
+function call(name, script, words, numbers = []) {
   const texts = [typeof script === "string" ? encoder.encode(script) : script];
   if (words !== undefined) texts.push(encoder.encode(words));
-  const answer = library.call(name, texts);
+  const answer = library.call(name, texts, numbers);
   return { ...answer, text: decoder.decode(answer.bytes) };
 }
 
@@ -31,6 +33,8 @@ function tryExample(name) {
   same(got.status, statusOf(name), `${name}: status`);
   if (got.status !== 1) same(got.text, read(examples, `${name}.out`), `${name}: report`);
   for (const words of ["turns", "turns --svg", "turns --chains", "turns --trace", "turns --rounds 1..3", "turns --turns 2..5 --svg", "turns --rounds 100000..", "turns --rounds 3..1"]) compare("lwkt_show_turns", script, words, name);
+  if (got.status !== 1) compareOrders(script, name);
+  for (const words of ["turns --order 0", "turns --order -", "turns --order 09", "turns --order 0 --rounds 0..1"]) compare("lwkt_show_turns", script, words, name);
   const trace = call("lwkt_show_turns", script, "turns --trace");
   if (trace.status !== 1) compare("lwkt_check_trace", trace.text, undefined, `${name}: its trace`);
 }
@@ -53,6 +57,36 @@ function trySpoiled(name, times) {
     for (let j = 0; j <= next(3); j += 1) spoiled[next(spoiled.length)] = [next(256), 48 + next(10), 44, 34][next(4)];
     compare("lwkt_show_turns", spoiled, "turns", `${name}, spoiled ${i}`);
   }
+}
+
+// A text of the course: it is one, its JSON is the script beside it, and its report is that of this.
+function tryCourse(name) {
+  const text = read(examples, "litmus", `${name}.lwkt`), json = read(examples, "litmus", `${name}.json`);
+  same([call("lwkt_is_text", text).status, call("lwkt_is_text", json).status], [1, 0], `${name}: its form`);
+  same(JSON.parse(call("lwkt_text_json", text).text), JSON.parse(json), `${name}: its JSON`);
+  const told = call("lwkt_run_text", text);
+  check(told.text.startsWith(callProgram("lwkt_run_turns", json).text), `${name}: its report`);
+  const wanted = callProgram("lwkt_run_text", text);
+  same([told.status, told.text], [wanted.status, wanted.text], `${name}: its report and its expectations`);
+  for (const script of [text, json]) compareOrders(script, name);
+}
+
+// Every order of a script, beside the program that tries them, and each outcome's run along its order beside the one that shows it.
+function compareOrders(script, name) {
+  const bounds = [mostStates, 100000];
+  const got = call("lwkt_explore_orders", script, undefined, bounds), wanted = callProgram("lwkt_explore_orders", script, bounds.join(" "));
+  same([got.status, got.fault, got.text], [wanted.status, wanted.fault, wanted.text], `${name}: its outcomes`);
+  if (call("lwkt_is_text", script).status === 1) return;
+  const orders = [...got.text.matchAll(/^outcome \d+ \w+, order (.*)$/gm)].slice(0, 3);
+  for (const [, order] of orders) for (const rest of ["", " --svg"]) compare("lwkt_show_turns", script, `turns --order ${order.replaceAll(" ", "")}${rest}`, name);
+}
+
+// What docs/EXPLORE.md shows.
+function tryOrders() {
+  const told = read(examples, "../docs/EXPLORE.md");
+  const wanted = told.slice(told.indexOf("    outcome 1"), told.indexOf("This is `examples")).split("\n").map((line) => line.trim()).filter(Boolean);
+  const script = read(examples, "calls_that_wait_for_each_other.json");
+  same(call("lwkt_explore_orders", script, undefined, [1000, 1000]).text.trim().split("\n"), wanted, "the orders of two calls");
 }
 
 // A trap is told, and the next call has a new module.
@@ -101,6 +135,8 @@ for (const name of namesIn("refused", ".json")) tryRefusal("refused", name, "lwk
 for (const name of namesIn("traces", ".json")) compare("lwkt_check_trace", read(examples, "traces", `${name}.json`), undefined, name);
 for (const name of namesIn("traces/refused", ".json")) tryRefusal("traces/refused", name, "lwkt_check_trace");
 for (const name of ["crossed_lists", "server_of_three"]) trySpoiled(name, 200);
+for (const name of namesIn("litmus", ".lwkt")) tryCourse(name);
+tryOrders();
 tryTrap();
 tryAnew();
 tryLong();

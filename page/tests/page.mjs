@@ -1,7 +1,11 @@
 // The page in a browser: page.mjs BROWSER PAGE [STANDIN]. With a third word the module's place is taken by the programs of this tree.
+import { readFileSync } from "node:fs";
+import { createServer } from "node:http";
+import { cpus, loadavg } from "node:os";
+import { fileURLToPath } from "node:url";
 import { Browser } from "./browser.mjs";
 import { openable } from "./standin.mjs";
-import { check, counted, exampleNames, examples, finish, namesIn, read, same, statusOf } from "./tools.mjs";
+import { callProgram, check, counted, exampleNames, examples, finish, namesIn, read, same, statusOf } from "./tools.mjs";
 
 const [program, made, standin] = process.argv.slice(2);
 const { url, close } = await openable(made, Boolean(standin));
@@ -47,6 +51,211 @@ async function tryExample(tab, name) {
   const marked = await tab.ask(`document.getElementById('drawing').shadowRoot?.querySelectorAll('.chosen').length`);
   const hasTurns = Number(await value(tab, "number")) >= 0;
   check(!hasTurns || marked === 1, `${name}: the chosen turn is marked in the picture`);
+}
+
+// A text of the course: its report is that of the same script in JSON, and all that it expects holds.
+async function tryCourse(tab, name) {
+  await tab.ask(`(() => { const box = document.getElementById('example'); box.value = ${JSON.stringify(name)}; box.dispatchEvent(new Event('change')); })()`);
+  await settle(tab);
+  const script = read(examples, "litmus", `${name}.lwkt`);
+  same(await value(tab, "script"), script, `${name}: its text is in the editor`);
+  check((await text(tab, "told")).length > 0, `${name}: something is said of it`);
+  check(await tab.until(`document.getElementById('editor').dataset.form === 'text'`), `${name}: it is read as a text`);
+  const wanted = callProgram("lwkt_run_turns", read(examples, "litmus", `${name}.json`)).text;
+  check(`${await text(tab, "report")}\n`.endsWith(wanted), `${name}: its report`);
+  const shown = await tab.ask(`[...document.querySelectorAll('#verdicts li')].map((it) => it.dataset.holds)`);
+  const expected = script.split(/[\n;]/).filter((it) => /^\s*(always|sometimes|never)\b/.test(it)).length;
+  same(shown, Array(expected).fill("true"), `${name}: what it expects holds`);
+  const names = [...script.replace(/#.*/g, "").matchAll(/^(?:token|thread) (\w+)/gm)].map(([, it]) => it).sort();
+  same(await tab.ask(`[...document.querySelectorAll('.thread .name, [data-token] .name')].map((it) => it.textContent.trim()).sort()`), names, `${name}: names beside the numbers`);
+  await click(tab, "last");
+  await settle(tab);
+}
+
+// What is wrong with a text is told, each with its place and a mark; what is typed tells its form.
+async function tryTexts(tab) {
+  const script = read(examples, "litmus/14_a_sum.lwkt");
+  await run(tab, script.replace("get accounts", "get acounts").replace("rel accounts", "rle accounts"));
+  same(await tab.ask(`[...document.querySelectorAll('#mirror mark')].map((it) => it.textContent)`), ["acounts", "rle"], "two words are marked");
+  check((await text(tab, "refusal")).includes("a token is wanted here (accounts?)"), `and told: ${await text(tab, "refusal")}`);
+  await tab.ask(`document.querySelectorAll('#refusal button')[1].click()`);
+  same(await tab.ask(`(() => { const it = document.getElementById('script'); return it.value.slice(it.selectionStart, it.selectionEnd); })()`), "rle", "a button leads to the second");
+  await run(tab, script.replace("cells from=5", "cells from=6"));
+  check((await text(tab, "refusal")).includes("the opening of token accounts"), "an opening that breaks its law");
+  await run(tab, `${script}\nnever ended; always ended\n`);
+  check((await text(tab, "verdict")).includes("doesn't hold"), `an expectation that doesn't hold: ${await text(tab, "verdict")}`);
+  same(await tab.ask(`document.querySelector('#verdicts li[data-holds=false] code').textContent`), "never ended", "it is named");
+  await put(tab, "{");
+  check(await tab.until(`document.getElementById('form').textContent.includes('JSON')`), "a brace is JSON");
+  await put(tab, "t");
+  check(await tab.until(`document.getElementById('form').textContent.includes('text')`), "a letter is a text");
+}
+
+const outcomes = `[...document.querySelectorAll('#outcomes > li')].map((it) => [it.dataset.kind, it.querySelector('.order').textContent])`;
+const searched = "document.getElementById('orders').getAttribute('aria-busy') === 'false'";
+
+// Every order: each outcome with its kind and its order, why it is stuck, a bound, and a stop.
+async function tryOrders(tab) {
+  await put(tab, read(examples, "calls_that_wait_for_each_other.json"));
+  await click(tab, "orders-start");
+  check(await tab.until(searched), "a search ends");
+  same(await tab.ask(outcomes), [["stuck", "0 1 0"]], "one outcome, which is stuck");
+  check((await text(tab, "outcomes")).includes("thread 0.0 waits for the reply to message 0"), "and why");
+  check((await text(tab, "orders-status")).includes("6 states, ") && (await text(tab, "orders-status")).includes("Every order was tried."), await text(tab, "orders-status"));
+  check((await text(tab, "lost")).startsWith("Lost: 6 states, from which no end can be reached; the first is the opening"), await text(tab, "lost"));
+  await put(tab, read(examples, "crossed_lists.json"));
+  same(await tab.ask(outcomes), [], "an edit clears them");
+  await click(tab, "orders-start");
+  check(await tab.until(searched), "the next search ends");
+  same((await tab.ask(outcomes)).map(([kind]) => kind), ["ended", "ended", "ended"], "three outcomes");
+  await put(tab, read(examples, "litmus/14_a_sum.lwkt"));
+  await click(tab, "orders-start");
+  check(await tab.until(`${searched} && document.querySelectorAll('#outcomes > li').length > 1`), "the orders of a text");
+  await tab.ask(`document.getElementById('states').value = 2`);
+  await click(tab, "orders-start");
+  check(await tab.until(`${searched} && document.getElementById('orders-status').textContent.includes('Not every order')`), "a bound");
+  await put(tab, "[");
+  await click(tab, "orders-start");
+  check(await tab.until(`${searched} && document.getElementById('orders-status').textContent.length > 10`), "a script that is refused");
+  await put(tab, read(examples, "dining_philosophers.json"));
+  await tab.ask(`document.getElementById('states').value = 1000000`);
+  await click(tab, "orders-start");
+  check(await tab.until(`document.getElementById('orders-status').textContent.includes('Going on')`, 60), "what was found so far is shown");
+  await run(tab, read(examples, "crossed_lists.json").replace('"turns"', ' "turns"'));
+  check((await text(tab, "verdict")).includes("lawful"), "an edit and a run break it off");
+  await put(tab, read(examples, "dining_philosophers.json"));
+  await click(tab, "orders-start");
+  await tab.until(`document.getElementById('orders-status').textContent.includes('Going on')`, 60);
+  await click(tab, "orders-stop");
+  check(await tab.until(`${searched} && document.getElementById('orders-status').textContent.includes('stopped')`), `a stop: ${await text(tab, "orders-status")}`);
+  await tab.ask(`document.getElementById('states').value = 64000`);
+}
+
+// A click replays the order of an outcome, turn by turn: its turns are those of the order, and after the last one its report stands.
+async function tryReplay(tab) {
+  const script = read(examples, "crossed_lists.json");
+  await put(tab, script);
+  await click(tab, "orders-start");
+  await tab.until(searched);
+  const found = await tab.ask(`[...document.querySelectorAll('#outcomes > li')].map((it) => [it.querySelector('.order').textContent, it.querySelector('pre').textContent])`);
+  for (const [number, [order, report]] of found.entries()) {
+    await tab.ask(`document.querySelectorAll('#outcomes [data-replay]')[${number}].click()`);
+    check(await tab.until(`run?.order?.join(' ') === ${JSON.stringify(order)} && !isDrawing && ${settled}`), `outcome ${number + 1} is replayed`);
+    check((await text(tab, "report")).includes(`${report}\nlawful`), `its report: ${await text(tab, "report")}`);
+    same(await tab.ask("document.activeElement.id"), "turns", "the list of turns has the focus");
+    const cpus = order.split(" ").map(Number), wanted = callProgram("lwkt_show_turns", script, `turns --order ${cpus.join("")}`).text.split("\n");
+    for (const turn of cpus.keys()) {
+      await goTo(tab, turn);
+      const shown = await text(tab, "chosen");
+      if (!shown.startsWith(`Turn ${turn}, processor ${cpus[turn]}: `)) check(false, `turn ${turn} of the order: ${shown}`);
+    }
+    check(wanted.length > cpus.length, "the program makes the same turns");
+    const threads = report.split("\n").filter((line) => line.startsWith("thread ")).map((line) => line.split(" ").slice(1, 3));
+    const seen = new Map(await tab.ask(threadsShown));
+    check(threads.every(([id, state]) => (kinds[state] ? seen.get(id) === kinds[state] : ["waits", "ready"].includes(seen.get(id)))), `threads after the order: ${JSON.stringify([...seen])}`);
+    const pictured = await tab.ask(`document.getElementById('drawing').hidden ? 'none' : document.getElementById('drawing').shadowRoot.querySelectorAll('.chosen').length`);
+    check(pictured === 1 || (pictured === "none" && (await text(tab, "rounds")).includes("no picture")), `the chosen turn is marked, or there is no picture: ${pictured}`);
+  }
+  await goTo(tab, 0);
+  check((await tab.ask(threadsShown)).some(([, kind]) => kind === "begins"), "a processor that the order hasn't named yet has had no turn");
+  await tab.key("Home");
+  await settle(tab);
+  await tab.key("ArrowRight");
+  await settle(tab);
+  const order = await tab.ask("run.order");
+  same(await tab.ask("chosen"), order.indexOf(order[0], 1), "a key leads to the next turn of the same processor");
+  await click(tab, "link");
+  await tab.until("location.hash.includes('&order=')");
+  const other = await browser.open(await tab.ask("location.href"));
+  check(await other.until(`run?.order?.join('') === ${JSON.stringify(order.join(""))} && !isDrawing`), "a link carries the order");
+  await other.close();
+  await tab.ask(`history.replaceState(null, '', location.pathname); document.querySelector('#along button').click()`);
+  check(await tab.until(`run && run.order === null && ${settled}`), "and back to the run in rounds");
+  await put(tab, read(examples, "explore/abort_before_and_after.lwkt"));
+  await click(tab, "orders-start");
+  await tab.until(searched);
+  const lost = (await text(tab, "lost")).replace(/^.*after order ([0-9 ]+) Replay.*$/, "$1");
+  await tab.ask(`document.querySelector('#lost button').click()`);
+  check(await tab.until(`run?.order?.join(' ') === ${JSON.stringify(lost)} && ${settled}`), `the way to a lost state: ${lost}`);
+  await tab.ask(`replay([])`);
+  check(await tab.until(`run?.order?.length === 0 && ${settled}`) && (await tab.ask(`document.getElementById('ran').hidden`)), "an order without a turn");
+  await put(tab, read(examples, "litmus/14_a_sum.lwkt"));
+  await click(tab, "orders-start");
+  await tab.until(searched);
+  const judged = await tab.ask(`[...document.querySelectorAll('#order-verdicts li')].map((it) => [it.dataset.holds, it.querySelector('code').textContent])`);
+  same(judged.map(([holds]) => holds), ["true", "true", "false", "true"], `what it expects of all outcomes: ${JSON.stringify(judged)}`);
+  await tab.ask(`[...document.querySelectorAll('#order-verdicts li[data-holds=false] button')].find((it) => it.textContent === 'Replay').click()`);
+  check(await tab.until(`run?.order && ${settled}`), "the order that decides it is replayed");
+  check((await text(tab, "report")).includes("v=5 v=5 v=5 v=5"), "and its report says why");
+}
+
+// Records of tokens, as text where they are printable, else as digits; in rows, in logs and in what a turn did.
+async function tryRecords(tab) {
+  const row = () => tab.ask(`document.querySelector('[data-token="0"] .record').textContent`);
+  await run(tab, read(examples, "record_under_len.json"));
+  const wanted = ["'abc'", "'abc'", "'hello'", "'abc'", "'abc'", "'hello'", "'hello'", "'hello'"];
+  for (const [turn, it] of wanted.entries()) {
+    await goTo(tab, turn);
+    same(await row(), `record ${it}`, `the record after turn ${turn}`);
+  }
+  await click(tab, "last");
+  await settle(tab);
+  check((await tab.ask(`document.querySelector('[data-thread="0.0"]').innerText`)).includes("b='abc'"), "a record in a log");
+  await run(tab, read(examples, "record_under_len.json").replaceAll("68656c6c6f", "00ff22267f"));
+  await goTo(tab, 2);
+  same(await row(), "record 00ff22267f", "a record that isn't printable");
+  check((await text(tab, "chosen")).includes("record 00ff22267f stored"), "and as its turn tells it");
+  const mail = "if a; token 0: b";
+  await run(tab, read(examples, "record_under_len.json").replaceAll("68656c6c6f", Buffer.from(mail).toString("hex")));
+  await goTo(tab, 2);
+  same(await row(), `record '${mail}'`, "a record with a semicolon");
+  await run(tab, read(examples, "crossed_lists.json"));
+  same(await tab.ask(`document.querySelectorAll('.record').length`), 0, "tokens without records");
+}
+
+// An urgent note is told apart by a word and a frame, and ordinary ones have none.
+async function tryUrgent(tab) {
+  await run(tab, read(examples, "urgent_request_first.json"));
+  const signs = () => tab.ask(`[...document.querySelectorAll('#lanes .urgent, #messages .urgent')].map((it) => it.textContent)`);
+  await goTo(tab, 0);
+  same(await signs(), [], "no note is urgent after turn 0");
+  await goTo(tab, 4);
+  same(await signs(), ["urgent", "urgent"], "one note and its message are urgent after turn 4");
+  check((await text(tab, "lanes")).includes("0 → 1message 0, round 1; urgent message 1, round 1; message 2, round 1"), `in its lane: ${await text(tab, "lanes")}`);
+  await goTo(tab, 15);
+  check((await text(tab, "lanes")).includes("urgent reply to message 1"), "its reply is urgent too");
+  await goTo(tab, 16);
+  same(await signs(), [], "and no more once it is at rest");
+  const frame = await tab.ask(`(() => { choose(4); return new Promise((done) => setTimeout(() => { const it = getComputedStyle(document.querySelector('#lanes .urgent')); done([it.borderStyle, Number(it.fontWeight) >= 600]); }, 500)); })()`);
+  same(frame, ["solid", true], "by more than colour");
+}
+
+// From a web server the page runs as from disk, and asks it for nothing but itself.
+async function tryServed() {
+  const server = createServer((request, response) => response.setHeader("Content-Type", "text/html").end(readFileSync(fileURLToPath(url))));
+  await new Promise((resolve) => server.listen(0, "127.0.0.1", resolve));
+  const address = `http://127.0.0.1:${server.address().port}/lwkt/`;
+  const tab = await browser.open(address);
+  check(await tab.until(`run && !isDrawing && document.querySelectorAll('.thread').length === 2`), "the page runs from a web server");
+  same(tab.requests.filter((it) => it !== address && !/^(blob|data):/.test(it) && !(standin && it.includes("/call/"))), [], "and asks for nothing else");
+  await tab.close();
+  server.close();
+}
+
+// From the opening of the file to the first run on the page.
+async function tryFirst() {
+  const times = [], all = [];
+  for (let i = 0; i < 5; i += 1) {
+    const tab = await browser.open(url);
+    await tab.until(`performance.getEntriesByName('shown').length > 0`);
+    const [ran, shown] = await tab.ask(`['ran', 'shown'].map((it) => performance.getEntriesByName(it)[0].startTime)`);
+    times.push(ran);
+    all.push(shown);
+    await tab.close();
+  }
+  for (const it of [times, all]) it.sort((a, b) => a - b);
+  check(times[0] < 500, `the first run is told in half a second: ${times.map((it) => it.toFixed(0))}`);
+  console.log(`the first run is told ${times[2].toFixed(0)} ms after the file was opened (${times[0].toFixed(0)} to ${times[4].toFixed(0)}), and shown whole after ${all[2].toFixed(0)}`);
 }
 
 // Forward through all turns and back again: the same is shown at the same turn.
@@ -243,6 +452,10 @@ async function tryContrast(dark) {
   }
   await run(tab, read(examples, "refused", `${namesIn("refused", ".json")[0]}.json`));
   same(await tab.ask(contrast), [], `${name}: contrast of a refusal`);
+  await run(tab, `${read(examples, "litmus/23_calls_that_wait_for_each_other.lwkt")}\nalways ended\n`);
+  await click(tab, "orders-start");
+  await tab.until(searched);
+  same(await tab.ask(contrast), [], `${name}: contrast of expectations and outcomes`);
   await click(tab, "theme");
   same(await tab.ask("document.documentElement.dataset.theme"), dark ? "light" : "dark", "the button changes the theme");
   await tab.close();
@@ -302,8 +515,9 @@ const section = [["get", 0], ["add", 0, 1], ["rel", 0]];
 
 // A million turns: the page answers all the while, and each turn can be gone to.
 async function tryLong(tab) {
+  await browser.noteTasks();
   await put(tab, long(500000, section));
-  await tab.ask(`(() => { window.gaps = []; let last = performance.now(); window.watch = setInterval(() => { const now = performance.now(); window.gaps.push(now - last); last = now; }, 5); })()`);
+  await tab.ask(`(() => { window.gaps = []; let last = performance.now(); window.watching = true; const frame = (now) => { window.gaps.push(now - last); last = now; if (window.watching) requestAnimationFrame(frame); }; requestAnimationFrame(frame); window.tasks = []; new PerformanceObserver((list) => window.tasks.push(...list.getEntries().map((it) => it.duration))).observe({ type: 'longtask' }); })()`);
   await click(tab, "run");
   await tab.ask(`document.querySelectorAll('details').forEach((it) => { it.open = true; })`);
   check(await tab.until(`run && run.total === 1000000 && !isDrawing && document.getElementById('look').getAttribute('aria-busy') === 'false'`, 60), `a million turns: ${await text(tab, "verdict")} ${await text(tab, "status")}`);
@@ -316,9 +530,12 @@ async function tryLong(tab) {
   check(await tab.until(`document.getElementById('trace-note').textContent.includes('can be saved')`, 60), "its trace is too long to be shown");
   await click(tab, "judge");
   check(await tab.until(`document.getElementById('judged').textContent === 'lawful'`, 60), `but it can be checked: ${await text(tab, "judged")}`);
-  const longest = await tab.ask(`clearInterval(window.watch), Math.max(...window.gaps)`);
-  check(longest < 2000, `the page was free all the while: ${longest.toFixed(0)} ms at most`);
-  console.log(`a million turns: the page waited ${longest.toFixed(0)} ms at most; the run took ${await tab.ask("run.milliseconds.toFixed(0)")} ms`);
+  const [longest, frames, task] = await tab.ask(`window.watching = false, [Math.max(...window.gaps), window.gaps.length, Math.max(0, ...window.tasks)]`);
+  const tasks = await browser.tasksOf();
+  check(tasks.count > 0 && tasks.longest < 100, `no task of the page took 100 ms of a processor: ${tasks.longest.toFixed(0)} ms at most, of ${tasks.count}`);
+  // On a machine that does other work a frame waits for a processor, whatever the page does.
+  check(longest < 100 || loadavg()[0] > cpus().length / 2, `no frame was longer than 100 ms: ${longest.toFixed(0)} ms at most`);
+  console.log(`a million turns: ${frames} frames, the longest ${longest.toFixed(0)} ms; the longest task of the page ${task.toFixed(0)} ms, and ${tasks.longest.toFixed(0)} ms of a processor; the run took ${await tab.ask("run.milliseconds.toFixed(0)")} ms`);
 }
 
 async function tryStop(tab) {
@@ -363,10 +580,13 @@ try {
   const tab = await browser.open(url);
   check(await tab.until(`run && !isDrawing && document.querySelectorAll('.thread').length === 2`), "the page begins with a run");
   for (const name of exampleNames()) await part(name, () => tryExample(tab, name));
+  for (const name of namesIn("litmus", ".lwkt")) await part(name, () => tryCourse(tab, name));
   for (const name of ["crossed_lists", "server_of_three", "law_broken_at_yield"]) await part(name, () => tryWalk(tab, name));
   for (const name of namesIn("refused", ".json")) await part(name, () => tryRefusal(tab, name));
-  const parts = { tryStates, tryMessages, tryWhy, tryEditor, tryKeys, tryTabbing, tryLink, tryNames, tryParts, tryOdd, tryLong, tryStop, tryTrap };
+  const parts = { tryStates, tryMessages, tryWhy, tryEditor, tryKeys, tryTabbing, tryLink, tryNames, tryParts, tryOdd, tryLong, tryStop, tryTrap, tryTexts, tryOrders, tryReplay, tryRecords, tryUrgent };
   for (const [name, work] of Object.entries(parts)) await part(name, () => work(tab));
+  await part("served", tryServed);
+  if (!standin) await part("first run", tryFirst);
   await part("contrast", async () => { await tryContrast(false); await tryContrast(true); });
   await part("widths", tryWidths);
   same(tab.errors.filter((it) => !(standin && /500/.test(it))), [], "no errors");

@@ -1,7 +1,8 @@
 // What the tests share: counting, the parts of a page, and the programs of this tree.
 import { spawnSync } from "node:child_process";
-import { existsSync, readFileSync, readdirSync } from "node:fs";
+import { existsSync, mkdtempSync, readFileSync, readdirSync, rmSync, writeFileSync } from "node:fs";
 import { createServer } from "node:http";
+import { tmpdir } from "node:os";
 import { dirname, join } from "node:path";
 import { fileURLToPath } from "node:url";
 import vm from "node:vm";
@@ -57,17 +58,41 @@ export function statusOf(name) {
 
 // The programs that page/check names, else the shipped ones.
 const named = (process.env.PAGE_PROGRAMS || "").split(":");
-const shipped = ["lwkt_run", "lwkt_check", "lwkt_show"].map((name) => join(top, "dist/x86_64-linux", name));
-const [runner, judge, shower] = named.length === 3 ? named : shipped;
-const programs = { lwkt_run_turns: runner, lwkt_check_trace: judge, lwkt_show_turns: shower };
+const shipped = ["lwkt_run", "lwkt_check", "lwkt_show", "lwkt_text", "lwkt_explore"].map((name) => join(top, "dist/x86_64-linux", name));
+const [runner, judge, shower, texter, explorer] = named.length === 5 ? named : shipped;
+const programs = { lwkt_run_turns: runner, lwkt_run_text: runner, lwkt_check_trace: judge, lwkt_show_turns: shower, lwkt_text_json: texter, lwkt_explore_orders: explorer };
 
-// What a program of this tree answers, as a call of the library would.
-export function callProgram(name, script, words = name === "lwkt_run_turns" ? "turns" : "") {
-  const ran = spawnSync(programs[name], words ? words.split(" ") : [], { input: script, maxBuffer: 1 << 30 });
-  const [out, told] = [ran.stdout.toString(), ran.stderr.toString()];
+// Whether bytes are taken for a text, as docs/LANGUAGE.md says.
+function isText(script) {
+  const text = script.toString("latin1");
+  if (Buffer.byteLength(script) > 1048576 || !/^[ \t\r\n]*[A-Za-z_#]/.test(text)) return 0;
+  try {
+    JSON.parse(text);
+    return 0;
+  } catch {
+    return 1;
+  }
+}
+
+// The arguments of a program for a call of the library: of a search its two bounds, else words with a blank between each two.
+function argumentsOf(name, words, file) {
+  if (name === "lwkt_text_json") return [file, "--json"];
+  if (name === "lwkt_explore_orders") return ["--states", words.split(" ")[0], "--turns", words.split(" ")[1]];
+  return words ? words.split(" ") : [];
+}
+
+// What a program of this tree answers, as a call of the library would. lwkt_text alone reads no standard input.
+export function callProgram(name, script, words = name.startsWith("lwkt_run") ? "turns" : "") {
+  if (name === "lwkt_is_text") return { status: isText(Buffer.from(script)), fault: 0, place: 0, text: "" };
+  const room = name === "lwkt_text_json" ? mkdtempSync(join(tmpdir(), "page-text-")) : null, file = room && join(room, "text.lwkt");
+  if (room) writeFileSync(file, script);
+  const ran = spawnSync(programs[name], argumentsOf(name, words, file), { input: script, maxBuffer: 1 << 30 });
+  if (room) rmSync(room, { recursive: true });
+  const [out, told] = [ran.stdout.toString(), ran.stderr.toString().replaceAll(`${file}:`, "")];
   const isRefused = ran.status === 1 || ran.status === 3;
-  const fault = /fault (\d+)(?: at (\d+))?/.exec(out + told);
-  return { status: ran.status, fault: isRefused && fault ? Number(fault[1]) : 0, place: isRefused && fault ? Number(fault[2] || 0) : 0, text: isRefused ? told : out };
+  const fault = /fault (\d+)(?: at (\d+))?/.exec(out + told.replace(/^lwkt_show: the order names a processor .*$/m, "fault 30"));
+  const isAll = name === "lwkt_run_text" || name === "lwkt_explore_orders";
+  return { status: ran.status, fault: isRefused && fault ? Number(fault[1]) : 0, place: isRefused && fault ? Number(fault[2] || 0) : 0, text: isRefused ? told : isAll ? out + told : out };
 }
 
 // A server on this machine that answers the stand-in for the module by these programs. A script that holds `trap` traps.

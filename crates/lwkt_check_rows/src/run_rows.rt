@@ -317,7 +317,7 @@ fn laws_and_polls(rt: HostRuntime) -> Result<(), Fail> {
     ];
     for (place, want) in asked {
         let turn = sheet.turns.get(place).ok_or("the run has this turn")?;
-        let poll = poll_of(sheet.polls.as_slice(), turn);
+        let poll = poll_of(sheet.polls.as_slice(), turn).copied();
         assert_eq!(rt; poll.map(|poll| poll.ask), want, "turn {place}");
     }
     Ok(())

@@ -1,40 +1,120 @@
-//! Two processors, each driven by a thread of its own. A client moves units within an account, a shared token whose law is
-//! that its two cells sum up to 100, and asks a server on the other processor by message what the account says.
+//! A buffer of four places between a producer and a consumer, on two processors, each driven by a thread of its own.
 #![tactic(auto)]
 
-mod bodies;
-mod machines;
-mod threads;
+ghost use Rattle.std.specs.Prelude.{◌≡◌, IfOk, sum, slice_index_or, []};
 
-use machines::Ended;
+use lwkt_base::{Answer, Ask, Call, Fault, MsgId, TokId};
+use lwkt_program::{Closed, LIMITS, Machine, Stepper, Steps, makers};
+use std::alloc::Global;
 use std::io;
 use std::process::ExitCode;
-use threads::run;
+use std::thread::Threads;
 
-// What the account and the client say in the end.
-fn numbers_of(ended: &Ended) -> Option<[u64; 4]> {
-    let row = ended.closed.rows.get(0)?.as_slice();
-    let first = *row.get(0)?;
-    let second = *row.get(1)?;
-    let sections = *ended.closed.gens.get(0)?;
-    Some([first, second, sections, ended.confirmed])
+/// The buffer that both share: how many of its four places are free, and how many are taken.
+const BUFFER: TokId = TokId(0);
+
+/// The producer's message.
+const SIGNAL: MsgId = MsgId(0);
+
+/// Takes a place, or gives one back, in a section of its own; then the producer signals, and the consumer replies and waits for
+/// the next signal.
+#[derive(Drop)]
+struct Worker {
+    produces: bool,
+    left: u32,
+    taken: u64,
 }
 
-// The line that is printed.
-fn show<R: Print>(rt: &R, numbers: [u64; 4]) -> io::Result<()> {
-    let [first, second, sections, confirmed] = numbers;
-    println!(rt; "account {first} {second} after {sections} sections, {confirmed} confirmed")
+impl Worker {
+    // Begins the next round, if there is one.
+    fn again(&mut self) -> Ask {
+        if self.left == 0 {
+            return Ask::Exit;
+        }
+        self.left -= 1;
+        if self.produces {
+            Ask::Get(BUFFER)
+        } else {
+            Ask::WaitPort
+        }
+    }
+
+    // One place more is taken, or one fewer.
+    fn count(&mut self, taken: u64) -> Ask {
+        self.taken = if self.produces {
+            taken.wrapping_add(1)
+        } else {
+            taken.wrapping_sub(1)
+        };
+        Ask::Write(BUFFER, 1, self.taken)
+    }
+
+    // The section is over: the producer tells of it, and the consumer answers.
+    fn tell(&self) -> Ask {
+        if self.produces {
+            Ask::Do(SIGNAL, makers::thread(1, 0), Call { arg: 0, op: 1 })
+        } else {
+            Ask::Reply(SIGNAL, 0, self.taken)
+        }
+    }
+}
+
+impl Steps for Worker {
+    ghost kept = { λ w. Unit {0} };
+
+    fn begin(&mut self) -> Ask {
+        self.again()
+    }
+
+    fn answered(&mut self, asked: Ask, answer: Answer) -> Ask {
+        match (asked, answer) {
+            (Ask::WaitPort, _) => Ask::Get(BUFFER),
+            (Ask::Get(_), _) => Ask::Read(BUFFER, 1),
+            (Ask::Read(_, _), Answer::Value(taken)) => self.count(taken),
+            (Ask::Write(_, 1, _), _) => Ask::Write(BUFFER, 0, 4_u64.wrapping_sub(self.taken)),
+            (Ask::Write(_, _, _), _) => Ask::Rel(BUFFER),
+            (Ask::Rel(_), _) => self.tell(),
+            _ => self.again(),
+        }
+    }
+
+    fn refused(&mut self, _asked: Ask, _fault: Fault) -> Ask {
+        Ask::Exit
+    }
+}
+
+// The one thread of a processor, with ten rounds to make.
+fn lone_thread(alloc: Global, produces: bool) -> Result<Vec<Stepper<Worker>>, Fault> {
+    let worker = Worker {
+        produces,
+        left: 10,
+        taken: 0,
+    };
+    makers::list(alloc, [Stepper::new(worker)])
+}
+
+// Runs producer and consumer. All places are there in the end.
+fn run<R: Threads + Sync>(rt: &R, alloc: Global) -> Result<Closed<Stepper<Worker>>, Fault>
+    ensures all { IfOk result (λ closed. sum (slice_index_or closed.tokens.rows.items 0 []) ≡ 4) }
+{
+    let tokens = [makers::sum(alloc, &[4, 0], 4)?];
+    let messages = [makers::message(makers::thread(0, 0))];
+    let bodies = makers::list(
+        alloc,
+        [lone_thread(alloc, true)?, lone_thread(alloc, false)?],
+    )?;
+    let mut machine = Machine::open(alloc, &tokens, &messages, bodies)?;
+    machine.drive(rt, &LIMITS);
+    machine.close(alloc)
 }
 
 fn main(rt: HostRuntime) -> io::Result<ExitCode> {
-    let told = match run(&rt, rt.alloc()) {
-        Ok(ended) => numbers_of(&ended),
-        Err(_) => None,
-    };
-    let Some(numbers) = told else {
+    let Ok(closed) = run(&rt, rt.alloc()) else {
         println!(rt; "the run was refused")?;
         return Ok(ExitCode::from(1));
     };
-    show(&rt, numbers)?;
+    let (free, taken) = (closed.cell(BUFFER, 0), closed.cell(BUFFER, 1));
+    let sections = closed.generation(BUFFER);
+    println!(rt; "{free} places free, {taken} taken, after {sections} sections")?;
     Ok(ExitCode::SUCCESS)
 }

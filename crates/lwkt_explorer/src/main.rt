@@ -1,7 +1,6 @@
 //! The program: reads a script from standard input, tries every order of its turns, and writes which outcomes there are.
 #![tactic(auto)]
 
-mod expectations;
 mod options;
 mod programs;
 mod texts;

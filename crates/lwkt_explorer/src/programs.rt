@@ -1,8 +1,8 @@
-use crate::expectations::status_of_text;
 use crate::options::{Options, options_of};
-use crate::texts::{Told, read_told, verdicts_of};
+use crate::texts::{Told, read_told};
 use crate::tickers::Ticker;
 use lwkt_base::Fault;
+use lwkt_expected::{status_of_text, verdicts_of};
 use lwkt_explore::{Found, explore, sample, status_of, text_of};
 use lwkt_refusals::Speaker;
 use lwkt_remarks::opening_said;

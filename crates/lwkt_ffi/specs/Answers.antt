@@ -9,10 +9,11 @@ use Rattle.lwkt_base.specs.Fault.{number_of}
 use Rattle.lwkt_report.specs.declared.sources.TheConstants.{READ_LIMIT}
 use Rattle.lwkt_run.specs.declared.runs.End.{End}
 use Rattle.lwkt_run.specs.declared.runs.End.TheVariants.{Ended, TurnsOut, Unlawful}
-use Rattle.lwkt_run.specs.Run.{HasRun, Refuses}
+use Rattle.lwkt_run.specs.Run.{HasRun, Refuses, RefusesAlong}
 use Rattle.lwkt_checker.specs.Judgement.{HasFinding, Refuses as IsNoTrace}
 use Rattle.lwkt_show.specs.Arguments.{AreOptions}
-use Rattle.lwkt_show.specs.Showing.{IsShown, IsPastIn}
+use Rattle.lwkt_show.specs.Orders.{AreAlong}
+use Rattle.lwkt_show.specs.Showing.{IsShown, IsPastIn, IsShownAlong, IsPastAlong}
 use Rattle.lwkt_show.specs.declared.options.Options.{Options}
 use Rattle.lwkt_ffi.specs.declared.answers.LwktAnswer.{LwktAnswer}
 use Rattle.lwkt_ffi.specs.declared.shows.Showing.{Showing}
@@ -97,9 +98,13 @@ pub record AnswersCheck (trace old new : List ℕ) (answer : LwktAnswer) (status
 abbrev pub words_in : List ℕ → List (List ℕ)
 words_in arguments = slice_split (λ b. b == 32) arguments
 
--- the arguments ask for no run in rounds
+-- these words ask for no run in rounds, and for none along an order
+abbrev pub AskNothing : List (List ℕ) → Type 0
+AskNothing words = ((options : Options) → ¬ AreOptions words options) × ((options : Options) (order : List ℕ) → ¬ AreAlong words options order)
+
+-- the arguments do neither
 abbrev pub AreMisused : List ℕ → Type 0
-AreMisused arguments = IsUtf8 arguments → (options : Options) → ¬ AreOptions (words_in arguments) options
+AreMisused arguments = IsUtf8 arguments → AskNothing (words_in arguments)
 
 -- what came of a script that was to be shown with these options: a run of it ended so, and the text shows it; or it ended before the
 -- first turn that was chosen; or it is refused for this fault
@@ -109,18 +114,26 @@ Displays options script (Ok Past) whole = IsPastIn options (read_of script)
 Displays options script (Ok Misused) whole = ⊥
 Displays options script (Err fault) whole = Refuses (read_of script) fault
 
+-- the same of a script that was to be run along this order; it is also refused where the order names a processor that isn't there
+abbrev pub DisplaysAlong : List ℕ → Options → List ℕ → Result Showing Fault → List ℕ → Type 0
+DisplaysAlong order options script (Ok (Shown end)) whole = IsShownAlong order options.view (read_of script) end whole
+DisplaysAlong order options script (Ok Past) whole = IsPastAlong order options (read_of script)
+DisplaysAlong order options script (Ok Misused) whole = ⊥
+DisplaysAlong order options script (Err fault) whole = RefusesAlong (read_of script) order fault
+
 abbrev pub status_of_show : Result Showing Fault → ℕ
 status_of_show (Ok (Shown end)) = status_of_end end
 status_of_show (Ok Past) = 1
 status_of_show (Ok Misused) = 1
 status_of_show (Err fault) = status_of_fault fault
 
--- what `lwkt_show_turns` answers: where the arguments are options, what came of the script with these; where they are none, that they
--- aren't, or want of memory; both in its status, its answer and the buffer
+-- what `lwkt_show_turns` answers: where the arguments are options, what came of the script with these; where they name an order too,
+-- what came of it along that; where they are none, that they aren't, or want of memory; all in its status, its answer and the buffer
 pub record AnswersShow (script arguments old new : List ℕ) (answer : LwktAnswer) (status : ℕ) : Type 0 where
   pub outcome : Result Showing Fault
   pub whole : List ℕ
   pub shows : IsUtf8 arguments → (options : Options) → AreOptions (words_in arguments) options → Displays options script outcome whole
+  pub along : IsUtf8 arguments → (options : Options) (order : List ℕ) → AreAlong (words_in arguments) options order → DisplaysAlong order options script outcome whole
   pub misused : AreMisused arguments → (outcome ≡ Ok Misused) ⊎ (outcome ≡ Err Memory)
   pub fills : Fills old new answer whole (result_err outcome)
   pub is_status : status ≡ status_of_show outcome

@@ -10,7 +10,7 @@ use lwkt_run::End;
 pub struct LwktAnswer {
     /// The length of the whole text.
     pub length: usize,
-    /// 0, or the number of the fault for which the call was refused: 32, 33, 39 or 40.
+    /// 0, or the number of the fault for which the call was refused: 30, 32, 33, 35, 39 or 40.
     pub fault: u32,
     /// The place of the first bad part of what was given, with the fault 33; else 0.
     pub place: u32,

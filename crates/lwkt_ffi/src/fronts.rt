@@ -1,9 +1,9 @@
 //! Texts and the buffers that they are put into.
-ghost use Rattle.std.specs.Prelude.{◌≡◌, [], vec_len, length};
+ghost use Rattle.std.specs.Prelude.{◌≡◌, ◌++◌, [], OnOk, vec_len, length};
 ghost use Rattle.lwkt_ffi.specs.Answers.{filled};
 
 use lwkt_report::Page;
-use std::alloc::Global;
+use std::alloc::{AllocError, Global};
 
 /// A page with nothing on it.
 pub fn blank(alloc: Global) -> Page
@@ -21,4 +21,13 @@ pub fn fill(buffer: &mut [u8], whole: &[u8])
 {
     let count = whole.len().min(buffer.len());
     buffer[..count].copy_from_slice(&whole[..count]);
+}
+
+/// Puts two texts on an empty page, one behind the other.
+pub fn put_both(page: &mut Page, first: &[u8], second: &[u8]) -> Result<(), AllocError>
+    requires { page.old.text.items ≡ [] }
+    ensures { OnOk result (page.new.text.items ≡ first.now ++ second.now) }
+{
+    page.text.extend_from_slice(first)?;
+    page.text.extend_from_slice(second)
 }

@@ -1,8 +1,9 @@
-ghost use Rattle.std.specs.Prelude.{◌≡◌, ◌⊎◌, [], IfOk, IfErr, IfSome, Ok, Err, Some};
+ghost use Rattle.std.specs.Prelude.{◌≡◌, ◌⊎◌, ℕ, List, [], IfOk, IfErr, IfSome, Ok, Err, None, map, string_bytes};
 ghost use Rattle.std.specs.Str.{IsUtf8};
 ghost use Rattle.lwkt_show.specs.Arguments.{AreOptions};
+ghost use Rattle.lwkt_show.specs.Orders.{AreAlong};
 ghost use Rattle.lwkt_show.specs.declared.options.Options.{Options};
-ghost use Rattle.lwkt_ffi.specs.Answers.{words_in, AreMisused, Displays, AnswersShow, status_of_show};
+ghost use Rattle.lwkt_ffi.specs.Answers.{words_in, AskNothing, AreMisused, Displays, DisplaysAlong, AnswersShow, status_of_show};
 
 use crate::answers::{LwktAnswer, status_of_end, status_of_fault};
 use crate::fronts::{blank, fill};
@@ -11,7 +12,9 @@ use lwkt_base::Fault;
 use lwkt_refusals::Speaker;
 use lwkt_report::{Page, RunFault, write_whole};
 use lwkt_run::End;
-use lwkt_show::{Options, Outcome, options_of, refuse_arguments, show_stream};
+use lwkt_show::{
+    Along, Options, Outcome, along_of, options_of, refuse_arguments, show_along, show_stream,
+};
 use std::alloc::Global;
 
 // What is said where the run ended before the range that was chosen.
@@ -24,21 +27,22 @@ pub enum Showing {
     Shown(End),
     /// Its run ended before the first turn that was chosen.
     Past,
-    /// The arguments are none of the program's that shows a run in rounds.
+    /// The arguments are none of the program's that shows a run in rounds or along an order.
     Misused,
 }
 
-// The options that the arguments are, if they are any.
-fn options_in(alloc: Global, arguments: &[u8]) -> Result<Option<Options>, Fault>
-    ensures some { IfOk result (λ found. IfSome found (λ options. IsUtf8 arguments.now × AreOptions (words_in arguments.now) options)) }
-    ensures only { IfOk result (λ found. IsUtf8 arguments.now → (options : Options) → AreOptions (words_in arguments.now) options → found ≡ Some options) }
+// The words of the arguments, if they are UTF-8.
+fn words_read(alloc: Global, arguments: &[u8]) -> Result<Option<Vec<String>>, Fault>
+    ensures some { IfOk result (λ found. IfSome found (λ words. map string_bytes words.items ≡ words_in arguments.now)) }
+    ensures valid { IfOk result (λ found. IfSome found (λ words. IsUtf8 arguments.now)) }
+    ensures none { IfOk result (λ found. found ≡ None → ¬ IsUtf8 arguments.now) }
     ensures memory { IfErr result (λ fault. fault ≡ Fault.Memory) }
 {
     let Ok(text) = str::from_utf8(arguments) else {
         return Ok(None);
     };
     match words_of(alloc, text) {
-        Ok(words) => Ok(options_of(&words)),
+        Ok(words) => Ok(Some(words)),
         Err(_) => Err(Fault::Memory),
     }
 }
@@ -96,6 +100,80 @@ fn show_options(
     outcome
 }
 
+// Runs a script along an order and shows the run on an empty page, which takes the text where memory is there; why a script or the
+// order is refused goes to the other page.
+fn along_onto(
+    alloc: Global,
+    along: Along,
+    script: &[u8],
+    page: &mut Page,
+    errors: &mut Page,
+) -> Result<Showing, Fault>
+    requires { page.old.text.items ≡ [] }
+    ensures { DisplaysAlong along.order.items along.options script.now result page.new.text.items }
+{
+    let mut source = script;
+    match show_along(alloc, along, &mut source, page, errors) {
+        Ok(Outcome::Shown(end)) => Ok(Showing::Shown(end)),
+        Ok(Outcome::Past) => Ok(Showing::Past),
+        Err(RunFault::Fault(fault)) => Err(fault),
+        Err(RunFault::Stream) => Err(Fault::Memory),
+    }
+}
+
+// Runs a script along an order and shows the run on an empty page, or says there why it isn't shown.
+fn show_order(alloc: Global, along: Along, script: &[u8], page: &mut Page) -> Result<Showing, Fault>
+    requires { page.old.text.items ≡ [] }
+    ensures { DisplaysAlong along.order.items along.options script.now result page.new.text.items }
+{
+    let mut errors = blank(alloc);
+    let outcome = along_onto(alloc, along, script, page, &mut errors);
+    if let Ok(Showing::Shown(end)) = outcome {
+        return Ok(Showing::Shown(end));
+    }
+    say_why(&outcome, &mut errors);
+    *page = errors;
+    outcome
+}
+
+// Says on a page that the arguments are none of the program's that shows a run in rounds or along an order.
+fn refused(page: &mut Page) -> Result<Showing, Fault>
+    ensures { result ≡ Ok Showing.Misused }
+{
+    let _ = refuse_arguments(page, false);
+    Ok(Showing::Misused)
+}
+
+// Says on a page that there was no memory for the arguments.
+fn unread(page: &mut Page) -> Result<Showing, Fault>
+    ensures { result ≡ Err Fault.Memory }
+{
+    Speaker::Show.say_memory(page);
+    Err(Fault::Memory)
+}
+
+// Runs a script and shows the run on an empty page as the words ask for it, or says there why it isn't shown.
+fn show_words(
+    alloc: Global,
+    script: &[u8],
+    words: &[String],
+    page: &mut Page,
+) -> Result<Showing, Fault>
+    requires { page.old.text.items ≡ [] }
+    ensures shows { (options : Options) → AreOptions (map string_bytes words.now) options → Displays options script.now result page.new.text.items }
+    ensures along { (options : Options) (order : List ℕ) → AreAlong (map string_bytes words.now) options order → DisplaysAlong order options script.now result page.new.text.items }
+    ensures misused { AskNothing (map string_bytes words.now) → (result ≡ Ok Showing.Misused) ⊎ (result ≡ Err Fault.Memory) }
+{
+    if let Some(options) = options_of(words) {
+        return show_options(alloc, &options, script, page);
+    }
+    match along_of(alloc, words) {
+        Ok(Some(along)) => show_order(alloc, along, script, page),
+        Ok(None) => refused(page),
+        Err(_) => unread(page),
+    }
+}
+
 // Runs a script and shows the run on an empty page as the arguments ask for it, or says there why it isn't shown.
 fn show_onto(
     alloc: Global,
@@ -105,18 +183,13 @@ fn show_onto(
 ) -> Result<Showing, Fault>
     requires { page.old.text.items ≡ [] }
     ensures shows { IsUtf8 arguments.now → (options : Options) → AreOptions (words_in arguments.now) options → Displays options script.now result page.new.text.items }
+    ensures along { IsUtf8 arguments.now → (options : Options) (order : List ℕ) → AreAlong (words_in arguments.now) options order → DisplaysAlong order options script.now result page.new.text.items }
     ensures misused { AreMisused arguments.now → (result ≡ Ok Showing.Misused) ⊎ (result ≡ Err Fault.Memory) }
 {
-    match options_in(alloc, arguments) {
-        Ok(Some(options)) => show_options(alloc, &options, script, page),
-        Ok(None) => {
-            let _ = refuse_arguments(page, false);
-            Ok(Showing::Misused)
-        }
-        Err(fault) => {
-            Speaker::Show.say_memory(page);
-            Err(fault)
-        }
+    match words_read(alloc, arguments) {
+        Ok(Some(words)) => show_words(alloc, script, &words, page),
+        Ok(None) => refused(page),
+        Err(_) => unread(page),
     }
 }
 
@@ -131,13 +204,14 @@ fn status_of(outcome: &Result<Showing, Fault>) -> u32
     }
 }
 
-/// Runs a script in rounds, on this thread, and shows the run as `show_stream` of lwkt_show does with the options that the
-/// arguments are, and puts the text into the buffer, or in words why there is none. The arguments are words with one blank between
-/// each two, as `turns --svg`.
+/// Runs a script on this thread, in rounds or along an order, and shows the run as `show_stream` or `show_along` of lwkt_show does with
+/// what the arguments are, and puts the text into the buffer, or in words why there is none. The arguments are words with one blank
+/// between each two, as `turns --svg` or `turns --order 0110 --svg`.
 ///
-/// The status: 0 where every thread had ended, 2 where the turns were used up, 4 where the run was unlawful; 1 with the fault 33,
-/// 39 or 40 for a script or an opening that was refused, and with no fault for other arguments, or where the run ended before the
-/// first turn that they choose; 3 with the fault 32 for want of memory.
+/// The status: 0 where every thread had ended, 2 where the turns were used up or the order was done, 4 where the run was unlawful; 1
+/// with the fault 33, 39 or 40 for a script or an opening that was refused, with the fault 30 where the order names a processor that
+/// the script doesn't have, and with no fault for other arguments, or where the run ended before the first turn that they choose; 3
+/// with the fault 32 for want of memory.
 #[unsafe(no_mangle)]
 pub extern "C" fn lwkt_show_turns(
     alloc: Global,

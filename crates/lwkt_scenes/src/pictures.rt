@@ -223,6 +223,20 @@ fn draw_choice(out: &mut Page, y: usize, turns: usize, shown: Shown) {
     out.add(" are shown, chosen by --turns A..B or --rounds A..B</text>\n");
 }
 
+// The rounds of the turns that are shown: along an order each turn is a round of its own.
+fn grid_of(run: &Reel, shown: Shown, cpus: usize) -> Grid {
+    match run.order {
+        Some(_) => Grid {
+            first: shown.first,
+            last: shown.last,
+        },
+        None => Grid {
+            first: shown.first / cpus.max(1),
+            last: shown.last / cpus.max(1),
+        },
+    }
+}
+
 // Appends all parts of a picture: what lies behind first.
 fn draw_parts(out: &mut Page, layout: &Layout, sketch: &Sketch, cpus: usize) {
     draw_bands(out, layout, cpus);
@@ -243,10 +257,7 @@ fn draw(
 ) -> Result<String, AllocError> {
     let cpus = usize::from(run.script.cpus).max(1);
     let shown = shown_of(run, chosen);
-    let grid = Grid {
-        first: shown.first / cpus,
-        last: shown.last / cpus,
-    };
+    let grid = grid_of(run, shown, cpus);
     let mut sketch = Sketch::new(alloc, grid)?;
     note_turns(alloc, run, &mut sketch, replay, shown)?;
     let layout = Layout::new(alloc, cpus, grid, run.trace, &sketch.labels.lines)?;

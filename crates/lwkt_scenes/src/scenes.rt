@@ -44,7 +44,7 @@ pub(crate) fn scene_of<'a>(run: &Reel<'a>, number: usize, turn: &Turn, from: usi
         number,
         round,
         cpu,
-        poll: poll_of(run.polls, turn),
+        poll: poll_of(run.polls, turn).copied(),
         part: part_of(run.trace, from, usize::from(turn.events)),
     }
 }

@@ -1,3 +1,5 @@
 mod DeskBox
 mod Answering
 mod Placing
+mod ListMoves
+mod BlockMoves

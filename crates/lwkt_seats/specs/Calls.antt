@@ -1,5 +1,5 @@
 -- What a call for C does to a seat, by the number that it answers (own).
-use Rattle.std.specs.Prelude.{◌≡◌, ℕ, List, length, take}
+use Rattle.std.specs.Prelude.{◌≡◌, ℕ, List, length, take, Option, None, Some}
 use Rattle.lwkt_base.specs.declared.names.Mode.{Mode}
 use Rattle.lwkt_bank.specs.declared.seats.CpuSeat.{CpuSeat}
 use Rattle.lwkt_seats.specs.declared.answers.Asked.{Asked}
@@ -20,6 +20,12 @@ use Rattle.lwkt_seats.specs.Numbers.{asked_number, furthered_number, marked_numb
 use Rattle.lwkt_seats.specs.Asks.{Asks, Furthers, Marks, Gives}
 use Rattle.lwkt_seats.specs.Cells.{Loads, Stores, Adds, Judges, Restores}
 use Rattle.lwkt_seats.specs.Records.{ReadsBytes, WritesBytes, filled}
+use Rattle.lwkt_base.specs.declared.names.TokId.{TokId}
+use Rattle.lwkt_seats.specs.declared.references.LwktReference.{LwktReference}
+use Rattle.lwkt_seats.specs.declared.list_answers.Resumed.{Resumed}
+use Rattle.lwkt_seats.specs.declared.list_answers.Resumed.TheVariants as resumed
+use Rattle.lwkt_seats.specs.Lists.{Resumes, Blocks}
+use Rattle.lwkt_seats.specs.ListNumbers.{resumed_number, blocked_number}
 
 -- the value that is stored for the caller: with no value it stays as it was
 abbrev pub TellsLoaded : Loaded → ℕ → ℕ → Type 0
@@ -44,6 +50,17 @@ TellsRecord read.NoToken before now before_length now_length = (now ≡ before) 
 TellsRecord read.NoRecord before now before_length now_length = (now ≡ before) × (now_length ≡ before_length)
 TellsRecord read.NotHeld before now before_length now_length = (now ≡ before) × (now_length ≡ before_length)
 TellsRecord read.SharedRecord before now before_length now_length = (now ≡ before) × (now_length ≡ before_length)
+
+-- the place that is stored for the caller of a list, and the token: with none it stays as it was
+abbrev pub TellsPlace : Resumed → ℕ → ℕ → Type 0
+TellsPlace resumed.All before now = now ≡ before
+TellsPlace resumed.Holds before now = now ≡ before
+TellsPlace (resumed.Unlisted at why) before now = now ≡ at
+TellsPlace (resumed.Missed at why) before now = now ≡ at
+
+abbrev pub TellsFirst : Option TokId → ℕ → ℕ → Type 0
+TellsFirst None before now = now ≡ before
+TellsFirst (Some tok) before now = now ≡ tok.0
 
 abbrev pub Takes : Mode → ℕ → CpuSeat → CpuSeat → ℕ → Type 0
 Takes mode tok old new answer = (asked : Asked) × ((answer ≡ asked_number asked) × Asks mode tok old new asked)
@@ -77,3 +94,9 @@ ReadsRecord tok before now before_length now_length old new answer = (read : Rec
 
 abbrev pub WritesRecord : ℕ → List ℕ → CpuSeat → CpuSeat → ℕ → Type 0
 WritesRecord tok bytes old new answer = (written : RecordWritten) × ((answer ≡ record_written_number written) × WritesBytes tok bytes old new written)
+
+abbrev pub ResumesList : List LwktReference → ℕ → ℕ → CpuSeat → CpuSeat → ℕ → Type 0
+ResumesList refs before now old new answer = (came : Resumed) × ((answer ≡ resumed_number came) × Resumes refs old new came × TellsPlace came before now)
+
+abbrev pub GivesUpAll : ℕ → ℕ → CpuSeat → CpuSeat → ℕ → Type 0
+GivesUpAll before now old new answer = (first : Option TokId) × ((answer ≡ blocked_number first) × Blocks old new first × TellsFirst first before now)

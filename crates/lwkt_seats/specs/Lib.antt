@@ -2,6 +2,8 @@ pub mod Numbers
 pub mod Asks
 pub mod Cells
 pub mod Records
+pub mod Lists
+pub mod ListNumbers
 pub mod Seated
 pub mod Spots
 pub mod Calls

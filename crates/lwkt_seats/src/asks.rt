@@ -10,8 +10,8 @@ use crate::answers::{Asked, Furthered, GaveBack, Marked};
 use lwkt_bank::{Bank, CpuSeat, Try};
 use lwkt_base::{Held, Mode, TokId};
 
-// How many references the seat has to a token.
-fn references_of(seat: &CpuSeat, bank: &Bank, tok: TokId) -> usize
+/// How many references the seat has to a token.
+pub(crate) fn references_of(seat: &CpuSeat, bank: &Bank, tok: TokId) -> usize
     requires of { bank_of seat.now ≡ id_of bank.now }
     requires there { tok.0 < tokens_of (bank_of seat.now) }
     ensures is { result ≡ references_in (holding seat.now tok.0) }
@@ -23,8 +23,8 @@ fn references_of(seat: &CpuSeat, bank: &Bank, tok: TokId) -> usize
     }
 }
 
-// How many references the seat has.
-fn count(seat: &CpuSeat, bank: &Bank) -> usize
+/// How many references the seat has.
+pub(crate) fn count(seat: &CpuSeat, bank: &Bank) -> usize
     requires of { bank_of seat.now ≡ id_of bank.now }
     ensures { result ≡ references seat.now }
 {

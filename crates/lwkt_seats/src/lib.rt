@@ -5,14 +5,19 @@
 
 mod answers;
 mod asks;
+mod blocks;
 mod cells;
 mod desks;
 mod exports;
 mod handles;
+mod list_answers;
+mod list_calls;
 mod openings;
 mod parts;
 mod record_calls;
 mod records;
+mod references;
+mod resumes;
 mod spots;
 mod tokens;
 
@@ -21,6 +26,8 @@ pub use exports::{
     lwkt_store, lwkt_take,
 };
 pub use handles::LwktBank;
+pub use list_calls::{lwkt_block, lwkt_resume};
 pub use openings::lwkt_bank_open;
 pub use record_calls::{lwkt_read_record, lwkt_write_record};
+pub use references::LwktReference;
 pub use tokens::LwktToken;

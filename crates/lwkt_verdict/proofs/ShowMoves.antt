@@ -1,10 +1,10 @@
-use Rattle.std.proofs.Common.{zero, suc, inl, inr, ◌≡◌, ℕ, ◌+◌, ◌-◌, ◌<◌, ◌≤◌, List, [], ◌∷◌, ◌++◌, length, refl, sym, ap, ◌∙◌, subst, arith, rules, Option, Some, None, append-nil, append_assoc, length-append, replicate}
-use Rattle.std.proofs.Math.ListN.{length-replicate}
-use Rattle.std.specs.Prelude.{◌==◌, Bool, min, slice_get, slice_set, true, false, if◌then◌else◌, MatchOption, IfSome}
+use Rattle.std.proofs.Common.{zero, suc, inl, inr, ◌≡◌, ℕ, ◌+◌, ◌-◌, ◌<◌, ◌≤◌, List, [], ◌∷◌, ◌++◌, length, refl, sym, ap, ◌∙◌, subst, arith, rules, Option, Some, None, append-nil, append_assoc, length-append}
+use Rattle.std.specs.Prelude.{◌==◌, Bool, min, slice_get, slice_index_or, slice_set, true, false, if◌then◌else◌, MatchOption, IfSome}
 use Rattle.std.specs.List.{cons_option}
 use Rattle.std.specs.Option.{option_map_or}
 use Rattle.std.proofs.lemmas.Bool.{cases_eq}
 use Rattle.std.proofs.lemmas.List.{length_push}
+use Rattle.std.proofs.lemmas.Option.{slice_get-get_or}
 use Rattle.std.proofs.lemmas.List.Elements.{filter_map-append}
 use Rattle.lwkt_base.specs.declared.entries.Entry.{Entry}
 use Rattle.lwkt_verdict.specs.declared.turns.Poll.{Poll}
@@ -87,17 +87,14 @@ length_set [] i v = refl
 length_set (x ∷ xs) zero v = refl
 length_set (x ∷ xs) (suc i) v = ap suc (length_set xs i v)
 
--- an element of a list of as many of one
-get_replicate : {A : Type 0} (n : ℕ) (x : A) (k : ℕ) → k < n → slice_get (replicate n x) k ≡ Some x
-get_replicate zero x k inside = absurd (omega arith)
-get_replicate (suc n) x zero inside = refl
-get_replicate (suc n) x (suc k) inside = get_replicate n x k (omega arith)
-
 -- the table before the first turn
-pub shows_start : ShowsProgress [] (replicate 128 (record { polls = 0; last = None; logged = 0 }))
-shows_start =
+pub shows_start : (table : List Progress) → length table ≡ 128 → ((k : ℕ) (d : Progress) → k < 128 → slice_index_or table k d ≡ record { polls = 0; last = None; logged = 0 }) → ShowsProgress [] table
+shows_start table room start =
     let p : Progress = record { polls = 0; last = None; logged = 0 } in
-    record { room = length-replicate {A = Progress} 128 p; at = λ k inside. get_replicate 128 p k inside }
+    record {
+      room = room;
+      at = λ k inside. slice_get-get_or table k p (let w = room in omega arith) ∙ ap (λ (x : Progress). Some x) (start k p inside);
+    }
 
 -- after a turn without an ask
 pub shows_idle : (before : List Piece) (table : List Progress) (blocked : Bool) → ShowsProgress before table → ShowsProgress (before ++ record { poll = None; blocked = blocked } ∷ []) table

@@ -1,11 +1,18 @@
 -- What a check of a run keeps while it goes over the turns (own).
-use Rattle.std.specs.Prelude.{◌≡◌, ℕ, ◌+◌, ◌*◌, ◌<◌, List, length, slice_get, Some, MatchOption}
+use Rattle.std.specs.Prelude.{◌≡◌, ℕ, ◌+◌, ◌*◌, ◌<◌, Bool, List, length, slice_get, Option, Some, MatchOption, option_map}
+use Rattle.std.specs.Borrow.{Bor}
 use Rattle.lwkt_verdict.specs.declared.turns.ThreadPlan.{ThreadPlan}
 use Rattle.lwkt_verdict.specs.declared.turns.ThreadEnd.{ThreadEnd}
+use Rattle.lwkt_verdict.specs.declared.turns.Poll.{Poll}
+use Rattle.lwkt_verdict.specs.declared.progress.Asked.{Asked}
 use Rattle.lwkt_verdict.specs.declared.progress.Progress.{Progress}
 use Rattle.lwkt_verdict.specs.declared.progress.Piece.{Piece}
 use Rattle.lwkt_verdict.specs.Threads.{thread_of, line_of, Ends}
-use Rattle.lwkt_verdict.specs.Run.{came}
+use Rattle.lwkt_verdict.specs.Run.{asked, came}
+
+-- what a thread last asked, if anything, by where its poll lies and whether its part shows that it blocked the thread
+abbrev pub last_asked : Option (Bor Poll) → Bool → Option Asked
+last_asked last blocked = option_map (λ q. asked q.now blocked) last
 
 -- a table says how far each thread has come after some turns, 16 for each of 8 processors
 pub record ShowsProgress (before : List Piece) (table : List Progress) : Type 0 where

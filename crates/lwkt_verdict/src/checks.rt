@@ -1,4 +1,5 @@
 ghost use Rattle.std.specs.Prelude.{◌≡◌, ℕ, ◌<◌, ◌≤◌, ◌+◌, ◌*◌, ◌-◌, ◌^◌, ◌%◌, ◌↔◌, IsTrue, List, [], ◌∷◌, ◌++◌, length, take, All, MatchOption};
+ghost use Rattle.std.specs.Option.{option_copied};
 ghost use Rattle.lwkt_core.specs.Events.{cpu_of};
 ghost use Rattle.lwkt_verdict.specs.declared.progress.Piece.{Piece};
 ghost use Rattle.lwkt_verdict.specs.Parts.{after_all};
@@ -12,7 +13,7 @@ use crate::homes::{Home, homes_of};
 use crate::owns::has_blocked;
 use crate::parts::{goes_quietly, is_part_of};
 use crate::polls::{idles, note_poll};
-use crate::progress::Progress;
+use crate::progress::Standing;
 use crate::rounds::{are_listed, are_processors, keeps_pace, whose};
 use crate::turns::{Pace, Poll, ThreadEnd, ThreadPlan, Turn, poll_of};
 use lwkt_core::{Event, State};
@@ -25,8 +26,8 @@ fn are_of(cpu: usize, part: &[Event]) -> bool
 }
 
 // Whether the part of a turn shows that its poll, if it has one, blocked the thread.
-fn blocked_by(poll: &Option<Poll>, part: &[Event]) -> bool
-    ensures { result ≡ (piece poll.now part.now).blocked }
+fn blocked_by(poll: Option<&Poll>, part: &[Event]) -> bool
+    ensures { result ≡ (piece (option_copied poll.entry) part.now).blocked }
 {
     match poll {
         None => false,
@@ -35,8 +36,8 @@ fn blocked_by(poll: &Option<Poll>, part: &[Event]) -> bool
 }
 
 // Makes the events of a turn's part happen, if they can and are what the turn can have made.
-fn makes(state: &mut State, poll: &Option<Poll>, part: &[Event]) -> bool
-    ensures right { IsTrue result ↔ Makes state.old poll.now part.now }
+fn makes(state: &mut State, poll: Option<&Poll>, part: &[Event]) -> bool
+    ensures right { IsTrue result ↔ Makes state.old (option_copied poll.entry) part.now }
     ensures moved { IsTrue result → state.new ≡ after_all state.old part.now }
 {
     match poll {
@@ -46,20 +47,20 @@ fn makes(state: &mut State, poll: &Option<Poll>, part: &[Event]) -> bool
 }
 
 // Whether a turn's poll, or its want of one, fits the turns before it; how far its thread has come is then noted.
-fn asks(
+fn asks<'a>(
     plans: &[ThreadPlan],
     lines: &[ThreadEnd],
     homes: &[Option<Home>],
-    table: &mut [Progress],
+    table: &mut [Standing<'a>],
     cpu: usize,
-    poll: &Option<Poll>,
+    poll: Option<&'a Poll>,
     blocked: bool,
 ) -> bool
     requires processor { cpu < 8 }
     requires homes { AreHomes plans.now lines.now homes.now }
     requires shows { (before : List Piece) × (ShowsProgress before table.old × (length before < 2 ^ 64 - 1)) }
-    ensures right { (before : List Piece) → ShowsProgress before table.old → (IsTrue result ↔ MatchOption poll.now (Idles plans.now cpu (came before)) (λ q. Polls plans.now lines.now cpu (came before (slot_of q.thread)) q)) }
-    ensures moved { (before : List Piece) → ShowsProgress before table.old → IsTrue result → ShowsProgress (before ++ record { poll = poll.now; blocked = blocked } ∷ []) table.new }
+    ensures right { (before : List Piece) → ShowsProgress before table.old → (IsTrue result ↔ MatchOption (option_copied poll.entry) (Idles plans.now cpu (came before)) (λ q. Polls plans.now lines.now cpu (came before (slot_of q.thread)) q)) }
+    ensures moved { (before : List Piece) → ShowsProgress before table.old → IsTrue result → ShowsProgress (before ++ record { poll = option_copied poll.entry; blocked = blocked } ∷ []) table.new }
 {
     match poll {
         None => idles(plans, lines, homes, table, cpu),
@@ -68,22 +69,22 @@ fn asks(
 }
 
 // Whether a turn fits the turns before it, and its part the machine that it finds; both then go on.
-fn fits(
+fn fits<'a>(
     plans: &[ThreadPlan],
     lines: &[ThreadEnd],
     homes: &[Option<Home>],
-    table: &mut [Progress],
+    table: &mut [Standing<'a>],
     state: &mut State,
     cpu: usize,
-    poll: &Option<Poll>,
+    poll: Option<&'a Poll>,
     part: &[Event],
 ) -> bool
     requires processor { cpu < 8 }
     requires homes { AreHomes plans.now lines.now homes.now }
     requires shows { (before : List Piece) × (ShowsProgress before table.old × (length before < 2 ^ 64 - 1)) }
-    ensures right { (before : List Piece) → ShowsProgress before table.old → (IsTrue result ↔ Fits plans.now lines.now cpu state.old before poll.now part.now) }
+    ensures right { (before : List Piece) → ShowsProgress before table.old → (IsTrue result ↔ Fits plans.now lines.now cpu state.old before (option_copied poll.entry) part.now) }
     ensures moved { IsTrue result → state.new ≡ after_all state.old part.now }
-    ensures noted { (before : List Piece) → ShowsProgress before table.old → IsTrue result → ShowsProgress (before ++ piece poll.now part.now ∷ []) table.new }
+    ensures noted { (before : List Piece) → ShowsProgress before table.old → IsTrue result → ShowsProgress (before ++ piece (option_copied poll.entry) part.now ∷ []) table.new }
 {
     if !are_of(cpu, part) {
         return false;
@@ -107,7 +108,7 @@ fn closes(
     plans: &[ThreadPlan],
     lines: &[ThreadEnd],
     homes: &[Option<Home>],
-    table: &[Progress],
+    table: &[Standing<'_>],
     state: &mut State,
     stop: &[Event],
 ) -> bool
@@ -119,14 +120,14 @@ fn closes(
 }
 
 // Whether the turns are those of a run, over a trace from this machine.
-fn runs(
+fn runs<'a>(
     plans: &[ThreadPlan],
     lines: &[ThreadEnd],
     homes: &[Option<Home>],
-    table: &mut [Progress],
+    table: &mut [Standing<'a>],
     state: &mut State,
     order: &[u8],
-    polls: &[Poll],
+    polls: &'a [Poll],
     turns: &[Turn],
     trace: &[Event],
 ) -> bool
@@ -145,7 +146,7 @@ fn runs(
         }
         let (part, later) = rest.split_at(count);
         let cpu = whose(order, i);
-        if !fits(plans, lines, homes, table, state, cpu, &poll, part) {
+        if !fits(plans, lines, homes, table, state, cpu, poll, part) {
             return false;
         }
         rest = later;
@@ -154,10 +155,10 @@ fn runs(
 }
 
 // How far the threads have come before the first turn.
-fn start() -> [Progress; 128]
+fn start<'a>() -> [Standing<'a>; 128]
     ensures { ShowsProgress [] result }
 {
-    [Progress::START; 128]
+    Default::default()
 }
 
 // Whether the turns are a run of a script from this machine.

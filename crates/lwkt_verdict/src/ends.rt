@@ -4,18 +4,18 @@ ghost use Rattle.lwkt_verdict.specs.Homes.{IsHome, AreHomes};
 ghost use Rattle.lwkt_verdict.specs.Progressed.{EndsAt};
 
 use crate::homes::{Home, THREAD_LIMIT, home_at};
-use crate::polls::progress_at;
-use crate::progress::{Progress, ends_as};
+use crate::polls::standing_at;
+use crate::progress::{Standing, ends_as};
 use crate::turns::{ThreadEnd, ThreadPlan};
 
 // Whether a thread that has come so far ends as its line says, if it has one.
-fn ends(lines: &[ThreadEnd], home: Option<Home>, progress: &Progress) -> bool
+fn ends(lines: &[ThreadEnd], home: Option<Home>, standing: &Standing<'_>) -> bool
     requires { IfSome home (λ h. h.line < length lines.now) }
-    ensures { IsTrue result ↔ MatchOption home (Unit {0}) (λ h. MatchOption (slice_get lines.now h.line) ⊥ (λ line. EndsAs line progress.now)) }
+    ensures { IsTrue result ↔ MatchOption home (Unit {0}) (λ h. MatchOption (slice_get lines.now h.line) ⊥ (λ line. EndsAs line standing.now)) }
 {
     match home {
         None => true,
-        Some(home) => ends_as(&lines[home.line], progress),
+        Some(home) => ends_as(&lines[home.line], standing),
     }
 }
 
@@ -24,15 +24,15 @@ pub fn all_end(
     plans: &[ThreadPlan],
     lines: &[ThreadEnd],
     homes: &[Option<Home>],
-    table: &[Progress],
+    table: &[Standing<'_>],
 ) -> bool
     requires homes { AreHomes plans.now lines.now homes.now }
     requires room { length table.now ≡ 128 }
     ensures { IsTrue result ↔ ((cpu n : ℕ) → cpu < 8 → n < 16 → EndsAt plans.now lines.now table.now cpu n) }
 {
     for slot in 0..THREAD_LIMIT {
-        let progress = progress_at(table, slot);
-        if !ends(lines, home_at(homes, slot), &progress) {
+        let standing = standing_at(table, slot);
+        if !ends(lines, home_at(homes, slot), standing) {
             return false;
         }
     }

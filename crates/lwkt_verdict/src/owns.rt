@@ -3,7 +3,7 @@ ghost use Rattle.lwkt_core.specs.Values.{first_at, cell_at};
 ghost use Rattle.lwkt_verdict.specs.Owns.{first_blob_at, IsQuiet, agrees, agrees_with_record, is_read, is_write, is_record_read, is_record_write, is_raise, is_send_of, is_reply_of, is_abort_of, is_drop_of, is_own, is_send, first_send, own_place, ends_taking, has_blocked};
 
 use crate::asks::is_do;
-use lwkt_base::blobs::{are_same, same_bytes};
+use lwkt_base::blobs::same_bytes;
 use lwkt_base::{Answer, Ask, Blob, TokId};
 use lwkt_core::{Event, State};
 
@@ -17,13 +17,23 @@ fn is_first(state: &State, tok: TokId, cell: u8, value: u64) -> bool
     }
 }
 
+// Whether a record is there and is this one.
+fn is_record(kept: &Option<Blob>, blob: &Blob) -> bool
+    ensures { IsTrue result ↔ (kept.now ≡ Some blob.now) }
+{
+    match kept {
+        None => false,
+        Some(kept) => kept.is_same(blob),
+    }
+}
+
 // Whether a record is the first one of a token.
 fn is_first_record(state: &State, tok: TokId, blob: &Blob) -> bool
     ensures { IsTrue result ↔ (first_blob_at state.now tok.0 ≡ Some blob.now) }
 {
     match state.token(tok) {
         None => false,
-        Some(token) => are_same(&token.first_blob, &Some(*blob)),
+        Some(token) => is_record(&token.first_blob, blob),
     }
 }
 
@@ -31,7 +41,7 @@ fn is_first_record(state: &State, tok: TokId, blob: &Blob) -> bool
 pub fn is_quiet(state: &State, event: &Event) -> bool
     ensures { IsTrue result ↔ IsQuiet state.now event.now }
 {
-    match *event {
+    match event {
         Event::Read { .. }
         | Event::ReadBlob { .. }
         | Event::Send { .. }
@@ -42,8 +52,8 @@ pub fn is_quiet(state: &State, event: &Event) -> bool
             cell,
             value,
             ..
-        } => is_first(state, tok, cell, value),
-        Event::WriteBlob { tok, blob, .. } => is_first_record(state, tok, &blob),
+        } => is_first(state, *tok, *cell, *value),
+        Event::WriteBlob { tok, blob, .. } => is_first_record(state, *tok, blob),
         _ => true,
     }
 }
@@ -104,8 +114,8 @@ fn is_write(wanted: TokId, at: u8, stored: u64, event: &Event) -> bool
 fn is_record_read(wanted: TokId, answer: &Option<Answer>, event: &Event) -> bool
     ensures { result ≡ is_record_read wanted.0 answer.now event.now }
 {
-    match *event {
-        Event::ReadBlob { tok, blob, .. } => tok.0 == wanted.0 && agrees_with_record(answer, &blob),
+    match event {
+        Event::ReadBlob { tok, blob, .. } => tok.0 == wanted.0 && agrees_with_record(answer, blob),
         _ => false,
     }
 }
@@ -114,8 +124,8 @@ fn is_record_read(wanted: TokId, answer: &Option<Answer>, event: &Event) -> bool
 fn is_record_write(wanted: TokId, stored: &Blob, event: &Event) -> bool
     ensures { result ≡ is_record_write wanted.0 stored.now event.now }
 {
-    match *event {
-        Event::WriteBlob { tok, blob, .. } => tok.0 == wanted.0 && same_bytes(&blob, stored),
+    match event {
+        Event::WriteBlob { tok, blob, .. } => tok.0 == wanted.0 && same_bytes(blob, stored),
         _ => false,
     }
 }
@@ -134,7 +144,7 @@ fn is_sum(value: u64, old: u64, more: u64) -> bool
 fn is_raise(old: Option<u64>, wanted: TokId, more: u64, event: &Event) -> bool
     ensures { result ≡ is_raise old wanted.0 more event.now }
 {
-    match (old, *event) {
+    match (old, event) {
         (
             Some(old),
             Event::Write {
@@ -143,7 +153,7 @@ fn is_raise(old: Option<u64>, wanted: TokId, more: u64, event: &Event) -> bool
                 value,
                 ..
             },
-        ) => tok.0 == wanted.0 && cell == 0 && is_sum(value, old, more),
+        ) => tok.0 == wanted.0 && *cell == 0 && is_sum(*value, old, more),
         _ => false,
     }
 }
@@ -192,12 +202,12 @@ fn is_drop_of(wanted: u8, event: &Event) -> bool
 pub fn is_own(state: &State, ask: &Ask, answer: &Option<Answer>, event: &Event) -> bool
     ensures { result ≡ is_own state.now ask.now answer.now event.now }
 {
-    match *ask {
-        Ask::Read(tok, cell) => is_read(tok, cell, answer, event),
-        Ask::Write(tok, cell, value) => is_write(tok, cell, value, event),
-        Ask::Add(tok, more) => is_raise(state.cell(tok, 0), tok, more, event),
-        Ask::ReadBlob(tok) => is_record_read(tok, answer, event),
-        Ask::WriteBlob(tok, blob) => is_record_write(tok, &blob, event),
+    match ask {
+        Ask::Read(tok, cell) => is_read(*tok, *cell, answer, event),
+        Ask::Write(tok, cell, value) => is_write(*tok, *cell, *value, event),
+        Ask::Add(tok, more) => is_raise(state.cell(*tok, 0), *tok, *more, event),
+        Ask::ReadBlob(tok) => is_record_read(*tok, answer, event),
+        Ask::WriteBlob(tok, blob) => is_record_write(*tok, blob, event),
         Ask::Send(msg, to, _, _) => is_send_of(msg.0, to.cpu.0, event),
         Ask::Do(msg, to, _) => is_send_of(msg.0, to.cpu.0, event),
         Ask::Reply(msg, _, _) => is_reply_of(msg.0, event),

@@ -1,5 +1,5 @@
 ghost use Rattle.std.specs.Prelude.{◌≡◌, ◌<◌, ◌^◌, ◌↔◌, IsTrue, Some, length, slice_get, option_and_then, IfSome};
-ghost use Rattle.lwkt_base.specs.declared.asks.Ask.TheVariants.{WriteBlob};
+ghost use Rattle.lwkt_base.specs.declared.asks.Ask.TheVariants.{WriteBlob, Exit};
 ghost use Rattle.lwkt_verdict.specs.Threads.{thread_of, line_of, slot_of, ask_in, ask_at};
 
 use crate::turns::{ThreadEnd, ThreadPlan};
@@ -11,24 +11,6 @@ pub fn slot_of(id: ThreadId) -> usize
     ensures small { result < 2 ^ 16 }
 {
     16 * usize::from(id.cpu.0) + usize::from(id.thread)
-}
-
-// Ask k of a thread that makes these steps so many times over.
-fn ask_in(repeat: u64, steps: &[Ask], k: u64) -> Option<Ask>
-    ensures { result ≡ ask_in repeat steps.now k }
-{
-    let count = steps.len() as u64;
-    if count == 0 {
-        return if k == 0 { Some(Ask::Exit) } else { None };
-    }
-    if k / count < repeat {
-        return steps.get((k % count) as usize).copied();
-    }
-    if k / count == repeat && k % count == 0 {
-        Some(Ask::Exit)
-    } else {
-        None
-    }
 }
 
 // Whether an ask stores this record in this token.
@@ -51,14 +33,45 @@ fn is_same(one: &Ask, other: &Ask) -> bool
     }
 }
 
+// Whether an ask is the one that ends a thread.
+fn is_last(ask: &Ask) -> bool
+    ensures { IsTrue result ↔ (ask.now ≡ Exit) }
+{
+    match ask {
+        Ask::Exit => true,
+        _ => false,
+    }
+}
+
+// Whether an ask stands at a place of some steps.
+fn is_step(steps: &[Ask], place: usize, ask: &Ask) -> bool
+    ensures { IsTrue result ↔ (slice_get steps.now place ≡ Some ask.now) }
+{
+    match steps.get(place) {
+        None => false,
+        Some(step) => is_same(step, ask),
+    }
+}
+
+// Whether an ask is ask k of a thread that makes these steps so many times over.
+fn is_ask_in(repeat: u64, steps: &[Ask], k: u64, ask: &Ask) -> bool
+    ensures { IsTrue result ↔ (ask_in repeat steps.now k ≡ Some ask.now) }
+{
+    let count = steps.len() as u64;
+    if count == 0 {
+        return k == 0 && is_last(ask);
+    }
+    if k / count < repeat {
+        return is_step(steps, (k % count) as usize, ask);
+    }
+    k / count == repeat && k % count == 0 && is_last(ask)
+}
+
 /// Whether an ask is ask k of a thread.
 pub fn is_ask_at(plan: &ThreadPlan, k: u64, ask: &Ask) -> bool
     ensures { IsTrue result ↔ (ask_at plan.now k ≡ Some ask.now) }
 {
-    match ask_in(u64::from(plan.repeat), plan.steps.as_slice(), k) {
-        None => false,
-        Some(wanted) => is_same(&wanted, ask),
-    }
+    is_ask_in(u64::from(plan.repeat), plan.steps.as_slice(), k, ask)
 }
 
 /// Where in a script thread number n of a processor stands.

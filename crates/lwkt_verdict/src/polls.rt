@@ -6,7 +6,7 @@ ghost use Rattle.lwkt_verdict.specs.Homes.{IsHome, AreHomes};
 
 use crate::asks::may_answer;
 use crate::homes::{Home, home_at};
-use crate::progress::{Asked, Progress, is_logged, may_ask, progress_after, rests};
+use crate::progress::{Standing, is_logged, may_ask, progress_after, rests};
 use crate::turns::{Poll, ThreadEnd, ThreadPlan};
 use lwkt_base::{Answer, Ask};
 
@@ -26,43 +26,38 @@ fn poll_fits(
     lines: &[ThreadEnd],
     home: Option<Home>,
     cpu: usize,
-    progress: &Progress,
+    standing: &Standing<'_>,
     poll: &Poll,
 ) -> bool
     requires here { poll.now.thread.cpu.0 ≡ cpu }
     requires numbered { poll.now.thread.thread < 16 }
     requires home { IsHome plans.now lines.now cpu poll.now.thread.thread home }
-    ensures { IsTrue result ↔ Polls plans.now lines.now cpu progress.now poll.now }
+    ensures { IsTrue result ↔ Polls plans.now lines.now cpu standing.now poll.now }
 {
     let Some(home) = home else {
         return false;
     };
-    let asked = Asked {
-        ask: poll.ask,
-        answer: poll.answer,
-        blocked: false,
-    };
-    may_ask(&plans[home.plan], progress, &poll.ask)
+    may_ask(&plans[home.plan], standing, &poll.ask)
         && fits_ask(&poll.ask, &poll.answer)
-        && is_logged(&lines[home.line], progress, &asked)
+        && is_logged(&lines[home.line], standing, poll)
 }
 
 /// How far a thread has come.
-pub fn progress_at(table: &[Progress], slot: usize) -> Progress
+pub fn standing_at<'t, 'a>(table: &'t [Standing<'a>], slot: usize) -> &'t Standing<'a>
     requires { slot < length table.now }
-    ensures { slice_get table.now slot ≡ Some result }
+    ensures { slice_get table.now slot ≡ Some result.now }
 {
-    table[slot]
+    &table[slot]
 }
 
 /// Whether a poll fits the turns before it; how far its thread has come is then noted.
-pub fn note_poll(
+pub fn note_poll<'a>(
     plans: &[ThreadPlan],
     lines: &[ThreadEnd],
     homes: &[Option<Home>],
-    table: &mut [Progress],
+    table: &mut [Standing<'a>],
     cpu: usize,
-    poll: &Poll,
+    poll: &'a Poll,
     blocked: bool,
 ) -> bool
     requires processor { cpu < 8 }
@@ -76,27 +71,23 @@ pub fn note_poll(
         return false;
     }
     let slot = 16 * cpu + usize::from(poll.thread.thread);
-    let progress = progress_at(table, slot);
+    let standing = standing_at(table, slot);
     let home = home_at(homes, slot);
-    if !poll_fits(plans, lines, home, cpu, &progress, poll) {
+    if !poll_fits(plans, lines, home, cpu, standing, poll) {
         return false;
     }
-    let asked = Asked {
-        ask: poll.ask,
-        answer: poll.answer,
-        blocked,
-    };
-    table[slot] = progress_after(&progress, &asked);
+    let next = progress_after(standing, poll, blocked);
+    table[slot] = next;
     true
 }
 
 // Whether a thread, if it is there, may rest.
-fn may_idle(home: Option<Home>, progress: &Progress) -> bool
-    ensures { IsTrue result ↔ MatchOption home (Unit {0}) (λ h. Rests progress.now) }
+fn may_idle(home: Option<Home>, standing: &Standing<'_>) -> bool
+    ensures { IsTrue result ↔ MatchOption home (Unit {0}) (λ h. Rests standing.now) }
 {
     match home {
         None => true,
-        Some(_) => rests(progress),
+        Some(_) => rests(standing),
     }
 }
 
@@ -105,7 +96,7 @@ pub fn idles(
     plans: &[ThreadPlan],
     lines: &[ThreadEnd],
     homes: &[Option<Home>],
-    table: &[Progress],
+    table: &[Standing<'_>],
     cpu: usize,
 ) -> bool
     requires processor { cpu < 8 }
@@ -115,8 +106,8 @@ pub fn idles(
 {
     for n in 0..16 {
         let slot = 16 * cpu + n;
-        let progress = progress_at(table, slot);
-        if !may_idle(home_at(homes, slot), &progress) {
+        let standing = standing_at(table, slot);
+        if !may_idle(home_at(homes, slot), standing) {
             return false;
         }
     }

@@ -1,16 +1,21 @@
-ghost use Rattle.std.specs.Prelude.{◌≡◌, ◌<◌, ◌^◌, ◌-◌, ◌↔◌, IsTrue, true, false, Some, slice_get, is_some, MatchOption};
+ghost use Rattle.std.specs.Prelude.{◌≡◌, ◌<◌, ◌+◌, ◌^◌, ◌-◌, ◌↔◌, IsTrue, true, false, Some, None, slice_get, is_some, min, MatchOption};
+ghost use Rattle.std.specs.Option.{option_map_or};
 ghost use Rattle.lwkt_base.specs.declared.entries.Entry.TheVariants.{Bytes};
+ghost use Rattle.lwkt_verdict.specs.Asks.{entry_of};
+ghost use Rattle.lwkt_verdict.specs.Run.{asked};
 ghost use Rattle.lwkt_verdict.specs.Threads.{logged_by, progress_after, MayAsk, IsLogged, is_blocked, Rests, may_fault, may_end_after, may_end, EndsAs};
 
 use crate::asks::{entry_of, is_exit, is_refused, may_block, may_wait};
 use crate::plans::is_ask_at;
 use crate::turns::{Poll, ThreadEnd, ThreadPlan};
 use lwkt_base::{Answer, Ask, Blob, Entry, ThreadState};
+use std::marker::Model;
 
 /// The most entries of a log.
 pub const LOG_LIMIT: usize = 32;
 
-/// An ask of a thread, its answer, if it has one, and whether its part of the trace shows that it blocked the thread.
+/// An ask of a thread, its answer, if it has one, and whether its part of the trace shows that it blocked the thread. Only proofs
+/// have values of it.
 #[derive(Clone, Copy, Debug, PartialEq, Eq)]
 pub struct Asked {
     pub ask: Ask,
@@ -18,7 +23,7 @@ pub struct Asked {
     pub blocked: bool,
 }
 
-/// How far a thread has come.
+/// How far a thread has come. Only proofs have values of it.
 #[derive(Clone, Copy, Debug, PartialEq, Eq)]
 pub struct Progress {
     /// How many times it was polled.
@@ -29,13 +34,37 @@ pub struct Progress {
     pub logged: usize,
 }
 
-impl Progress {
-    /// That of a thread that was never polled.
-    pub const START: Progress = Progress {
-        polls: 0,
-        last: None,
-        logged: 0,
-    };
+/// How far a thread has come, as a check keeps it: what the thread last asked stays where its poll lies.
+#[derive(Drop)]
+pub struct Standing<'a> {
+    polls: u64,
+    last: Option<&'a Poll>,
+    // Whether the last poll's part shows that it blocked the thread.
+    blocked: bool,
+    logged: usize,
+}
+
+impl<'a> Model for Standing<'a> {
+    ghost use Rattle.lwkt_verdict.specs.declared.progress.Progress.{Progress};
+    ghost use Rattle.lwkt_verdict.specs.Progressed.{last_asked};
+
+    ghost Value = { Progress };
+
+    ghost view = { λ s. record { polls = s.polls; last = last_asked s.last s.blocked; logged = s.logged } };
+}
+
+// That of a thread that was never polled.
+impl<'a> Default for Standing<'a> {
+    ghost is_default = { λ s. s ≡ record { polls = 0; last = None; logged = 0 } };
+
+    fn default() -> Self {
+        Standing {
+            polls: 0,
+            last: None,
+            blocked: false,
+            logged: 0,
+        }
+    }
 }
 
 /// What a turn was. Only proofs have values of it.
@@ -45,61 +74,75 @@ pub struct Piece {
     pub blocked: bool,
 }
 
-// What an ask puts in the log by its answer.
-fn logged_by(asked: &Asked) -> Option<Entry>
-    ensures { result ≡ logged_by asked.now }
+// Whether an answer puts an entry in the log.
+fn makes_entry(ask: &Ask, answer: &Answer) -> bool
+    ensures { result ≡ is_some (entry_of ask.now answer.now) }
 {
-    match asked.answer {
-        None => None,
-        Some(answer) => entry_of(asked.ask, answer),
+    !matches!(answer, Answer::Begin | Answer::Done)
+}
+
+// Whether a poll's answer, if it has one, puts an entry in the log.
+fn makes_logged(poll: &Poll) -> bool
+    ensures { result ≡ is_some (logged_by (asked poll.now false)) }
+{
+    match &poll.answer {
+        None => false,
+        Some(answer) => makes_entry(&poll.ask, answer),
     }
 }
 
-/// How far a thread has come after one more ask.
-pub fn progress_after(progress: &Progress, asked: &Asked) -> Progress
-    requires { progress.now.polls < 2 ^ 64 - 1 }
-    ensures { result ≡ progress_after progress.now asked.now }
+// How many entries a log has after one more poll, at most 32.
+fn logged_after(logged: usize, poll: &Poll) -> usize
+    ensures { result ≡ option_map_or (λ e. min 32 (logged + 1)) (logged_by (asked poll.now false)) logged }
 {
-    let logged = match logged_by(asked) {
-        None => progress.logged,
-        Some(_) => if progress.logged < LOG_LIMIT {
-            progress.logged + 1
-        } else {
-            LOG_LIMIT
-        },
-    };
-    Progress {
-        polls: progress.polls + 1,
-        last: Some(*asked),
-        logged,
+    if !makes_logged(poll) {
+        return logged;
+    }
+    if logged < LOG_LIMIT {
+        logged + 1
+    } else {
+        LOG_LIMIT
+    }
+}
+
+/// How far a thread has come after one more poll.
+pub fn progress_after<'a>(standing: &Standing<'a>, poll: &'a Poll, blocked: bool) -> Standing<'a>
+    requires { standing.now.polls < 2 ^ 64 - 1 }
+    ensures { result ≡ progress_after standing.now (asked poll.now blocked) }
+{
+    Standing {
+        polls: standing.polls + 1,
+        last: Some(poll),
+        blocked,
+        logged: logged_after(standing.logged, poll),
     }
 }
 
 // Whether what was asked last, if anything was, has its answer.
-fn is_answered(last: &Option<Asked>) -> bool
-    ensures { IsTrue result ↔ MatchOption last.now (Unit {0}) (λ a. is_some a.answer ≡ true) }
+fn is_answered(standing: &Standing<'_>) -> bool
+    ensures { IsTrue result ↔ MatchOption standing.now.last (Unit {0}) (λ a. is_some a.answer ≡ true) }
 {
-    match last {
+    match standing.last {
         None => true,
-        Some(asked) => asked.answer.is_some(),
+        Some(poll) => poll.answer.is_some(),
     }
 }
 
 // Whether what was asked last, if anything was, has no answer.
-fn is_unanswered(last: &Option<Asked>) -> bool
-    ensures { IsTrue result ↔ MatchOption last.now (Unit {0}) (λ a. is_some a.answer ≡ false) }
+fn is_unanswered(standing: &Standing<'_>) -> bool
+    ensures { IsTrue result ↔ MatchOption standing.now.last (Unit {0}) (λ a. is_some a.answer ≡ false) }
 {
-    match last {
+    match standing.last {
         None => true,
-        Some(asked) => asked.answer.is_none(),
+        Some(poll) => poll.answer.is_none(),
     }
 }
 
 /// Whether a thread that has come so far may be polled with this ask.
-pub fn may_ask(plan: &ThreadPlan, progress: &Progress, ask: &Ask) -> bool
-    ensures { IsTrue result ↔ MayAsk plan.now progress.now ask.now }
+pub fn may_ask(plan: &ThreadPlan, standing: &Standing<'_>, ask: &Ask) -> bool
+    ensures { IsTrue result ↔ MayAsk plan.now standing.now ask.now }
 {
-    is_ask_at(plan, progress.polls, ask) && is_answered(&progress.last)
+    is_ask_at(plan, standing.polls, ask) && is_answered(standing)
 }
 
 // Whether an entry is that of this record.
@@ -132,32 +175,50 @@ fn is_entry(log: &[Entry], place: usize, entry: &Entry) -> bool
     }
 }
 
-/// Whether the entry of an ask's answer, if it has one and is among the first 32, stands in the thread's log.
-pub fn is_logged(line: &ThreadEnd, progress: &Progress, asked: &Asked) -> bool
-    ensures { IsTrue result ↔ IsLogged line.now progress.now asked.now }
+// Whether the entry of an answer, if it has one, stands at a place of a log.
+fn is_entry_at(log: &[Entry], place: usize, ask: &Ask, answer: &Answer) -> bool
+    ensures { IsTrue result ↔ MatchOption (entry_of ask.now answer.now) (Unit {0}) (λ e. slice_get log.now place ≡ Some e) }
 {
-    match logged_by(asked) {
-        None => true,
-        Some(entry) => {
-            progress.logged >= LOG_LIMIT || is_entry(line.log.as_slice(), progress.logged, &entry)
-        }
+    match answer {
+        Answer::Begin | Answer::Done => true,
+        _ => match entry_of(*ask, *answer) {
+            None => true,
+            Some(entry) => is_entry(log, place, &entry),
+        },
     }
 }
 
-// Whether a thread is blocked by what it last asked.
-fn is_blocked(asked: &Asked) -> bool
-    ensures { result ≡ is_blocked asked.now }
+// Whether the entry of a poll's answer, if it has one, stands at a place of the thread's log.
+fn is_logged_at(line: &ThreadEnd, place: usize, poll: &Poll) -> bool
+    ensures { IsTrue result ↔ MatchOption (logged_by (asked poll.now false)) (Unit {0}) (λ e. slice_get line.now.log.items place ≡ Some e) }
 {
-    !is_refused(&asked.answer) && asked.blocked
+    match &poll.answer {
+        None => true,
+        Some(answer) => is_entry_at(line.log.as_slice(), place, &poll.ask, answer),
+    }
+}
+
+/// Whether the entry of a poll's answer, if it has one and is among the first 32, stands in the thread's log.
+pub fn is_logged(line: &ThreadEnd, standing: &Standing<'_>, poll: &Poll) -> bool
+    ensures { IsTrue result ↔ IsLogged line.now standing.now (asked poll.now false) }
+{
+    standing.logged >= LOG_LIMIT || is_logged_at(line, standing.logged, poll)
+}
+
+// Whether a thread is blocked by a poll.
+fn is_blocked(poll: &Poll, blocked: bool) -> bool
+    ensures { result ≡ is_blocked (asked poll.now blocked) }
+{
+    !is_refused(&poll.answer) && blocked
 }
 
 /// Whether a thread may rest.
-pub fn rests(progress: &Progress) -> bool
-    ensures { IsTrue result ↔ Rests progress.now }
+pub fn rests(standing: &Standing<'_>) -> bool
+    ensures { IsTrue result ↔ Rests standing.now }
 {
-    match &progress.last {
+    match standing.last {
         None => false,
-        Some(asked) => is_blocked(asked),
+        Some(poll) => is_blocked(poll, standing.blocked),
     }
 }
 
@@ -168,34 +229,34 @@ fn may_fault(number: u8, ask: &Ask) -> bool
     (number == 19 && (is_exit(ask) || may_block(ask))) || (number == 20 && may_block(ask))
 }
 
-// Whether a thread may be in this state whose last ask was this.
-fn may_end_after(state: ThreadState, asked: &Asked) -> bool
-    ensures { result ≡ may_end_after state asked.now }
+// Whether a thread may be in this state whose last poll was this.
+fn may_end_after(state: ThreadState, poll: &Poll, blocked: bool) -> bool
+    ensures { result ≡ may_end_after state (asked poll.now blocked) }
 {
     match state {
-        ThreadState::Ready => is_blocked(asked) && may_block(&asked.ask),
-        ThreadState::Waiting => is_blocked(asked) && may_wait(&asked.ask),
-        ThreadState::Running => !is_exit(&asked.ask),
-        ThreadState::Exited => is_exit(&asked.ask),
-        ThreadState::Faulted(fault) => is_blocked(asked) && may_fault(fault.number(), &asked.ask),
+        ThreadState::Ready => is_blocked(poll, blocked) && may_block(&poll.ask),
+        ThreadState::Waiting => is_blocked(poll, blocked) && may_wait(&poll.ask),
+        ThreadState::Running => !is_exit(&poll.ask),
+        ThreadState::Exited => is_exit(&poll.ask),
+        ThreadState::Faulted(fault) => {
+            is_blocked(poll, blocked) && may_fault(fault.number(), &poll.ask)
+        }
     }
 }
 
 // Whether a thread may be in this state that was polled last with this, or never.
-fn may_end(state: ThreadState, last: &Option<Asked>) -> bool
-    ensures { result ≡ may_end state last.now }
+fn may_end(state: ThreadState, standing: &Standing<'_>) -> bool
+    ensures { result ≡ may_end state standing.now.last }
 {
-    match last {
+    match standing.last {
         None => matches!(state, ThreadState::Ready),
-        Some(asked) => may_end_after(state, asked),
+        Some(poll) => may_end_after(state, poll, standing.blocked),
     }
 }
 
 /// Whether a thread that has come so far ends as its line says.
-pub fn ends_as(line: &ThreadEnd, progress: &Progress) -> bool
-    ensures { IsTrue result ↔ EndsAs line.now progress.now }
+pub fn ends_as(line: &ThreadEnd, standing: &Standing<'_>) -> bool
+    ensures { IsTrue result ↔ EndsAs line.now standing.now }
 {
-    is_unanswered(&progress.last)
-        && line.log.len() == progress.logged
-        && may_end(line.state, &progress.last)
+    is_unanswered(standing) && line.log.len() == standing.logged && may_end(line.state, standing)
 }

@@ -1,4 +1,5 @@
 ghost use Rattle.std.specs.Prelude.{◌≡◌};
+ghost use Rattle.std.specs.Option.{option_copied};
 ghost use Rattle.lwkt_verdict.specs.Run.{poll_of};
 
 use lwkt_base::{Answer, Ask, CpuId, Entry, ThreadId, ThreadState};
@@ -50,11 +51,11 @@ pub enum Pace {
 }
 
 /// The poll of a turn, by its place among the polls.
-pub fn poll_of(polls: &[Poll], turn: &Turn) -> Option<Poll>
-    ensures { result ≡ poll_of polls.now turn.now }
+pub fn poll_of<'a>(polls: &'a [Poll], turn: &Turn) -> Option<&'a Poll>
+    ensures { option_copied result ≡ poll_of polls.now turn.now }
 {
     match turn.poll {
         None => None,
-        Some(place) => polls.get(place as usize).copied(),
+        Some(place) => polls.get(place as usize),
     }
 }

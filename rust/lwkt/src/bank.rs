@@ -24,6 +24,8 @@ extern "C" {
     fn lwkt_restore(bank: Handle, seat: u32, token: u32) -> u32;
     fn lwkt_read_record(bank: Handle, seat: u32, token: u32, buffer: *mut u8, room: usize, length: *mut usize) -> u32;
     fn lwkt_write_record(bank: Handle, seat: u32, token: u32, bytes: *const u8, length: usize) -> u32;
+    fn lwkt_resume(bank: Handle, seat: u32, list: *const Reference, count: usize, missed: *mut usize) -> u32;
+    fn lwkt_block(bank: Handle, seat: u32, restored: *mut u32) -> u32;
 }
 
 /// The most bytes that a record has.
@@ -91,6 +93,43 @@ impl Token {
     }
 }
 
+/// A reference of a list: to which token, and in which mode.
+#[repr(C)]
+#[derive(Clone, Copy, Debug, PartialEq, Eq)]
+pub struct Reference {
+    token: u32,
+    mode: u32,
+}
+
+impl Reference {
+    /// A shared reference to a token.
+    pub fn shared(token: u32) -> Reference {
+        Reference { token, mode: 0 }
+    }
+
+    /// An exclusive reference to a token.
+    pub fn exclusive(token: u32) -> Reference {
+        Reference { token, mode: 1 }
+    }
+}
+
+/// Why a list of references wasn't taken: the fault, and the place on the list, 0 for the first.
+#[derive(Clone, Copy, Debug, PartialEq, Eq)]
+pub struct Missed {
+    /// The place of the reference that was refused or missed.
+    pub place: usize,
+    /// Why.
+    pub fault: SeatFault,
+}
+
+impl fmt::Display for Missed {
+    fn fmt(&self, out: &mut fmt::Formatter<'_>) -> fmt::Result {
+        write!(out, "reference {}: {}", self.place, self.fault)
+    }
+}
+
+impl Error for Missed {}
+
 /// Why a call on a seat was refused, by its number in include/lwkt.h.
 #[derive(Clone, Copy, Debug, PartialEq, Eq)]
 pub struct SeatFault(pub u32);
@@ -122,6 +161,7 @@ impl fmt::Display for SeatFault {
             38 => "record too long",
             39 => "limit passed",
             40 => "opening breaks its law",
+            51 => "a token is held",
             _ => "seat not there",
         })
     }
@@ -237,6 +277,31 @@ impl Seat {
         Ok(Held { seat: self, token })
     }
 
+    /// Takes a list of references in order, all or none, without waiting. They are given up together, when the answer is dropped.
+    ///
+    /// ```
+    /// use lwkt::{Bank, Missed, Reference, RowLaw, SeatFault, Token};
+    ///
+    /// let tokens = [Token::new(&[1], RowLaw::Any, 0), Token::new(&[2], RowLaw::Any, 0)];
+    /// let mut seats = Bank::open(&tokens, 2).unwrap().into_seats();
+    /// let mut other = seats.pop().unwrap();
+    /// let mut seat = seats.pop().unwrap();
+    /// let list = [Reference::exclusive(1), Reference::shared(0)];
+    /// let mut held = seat.resume(&list)?;
+    /// assert_eq!(held.load(0, 0), Ok(1));
+    /// held.store(1, 0, 3).unwrap();
+    /// assert_eq!(other.resume(&list).unwrap_err(), Missed { place: 0, fault: SeatFault(23) });
+    /// assert_eq!(held.block(), None);
+    /// assert_eq!(other.resume(&list)?.load(1, 0), Ok(3));
+    /// # Ok::<(), Missed>(())
+    /// ```
+    pub fn resume(&mut self, list: &[Reference]) -> Result<Resumed<'_>, Missed> {
+        let mut place = 0;
+        let status = unsafe { lwkt_resume(self.handle, self.number, list.as_ptr(), list.len(), &mut place) };
+        done(status).map_err(|fault| Missed { place, fault })?;
+        Ok(Resumed { seat: self })
+    }
+
     /// Marks a token for an exclusive request.
     pub fn mark(&mut self, token: u32) -> Result<(), SeatFault> {
         done(unsafe { lwkt_mark(self.handle, self.number, token) })
@@ -346,6 +411,73 @@ impl Held<'_> {
             done(unsafe { lwkt_give(self.seat.handle, self.seat.number, self.token) })?;
         }
         given
+    }
+}
+
+/// A list of references that is held. All is given up when it is dropped; a row that breaks its law is then, with its record, the
+/// section's first one again.
+#[derive(Debug)]
+pub struct Resumed<'a> {
+    seat: &'a mut Seat,
+}
+
+impl Resumed<'_> {
+    // A reference to a token of the list, which the list gives up.
+    fn held<T>(&mut self, token: u32, call: impl FnOnce(&mut Held<'_>) -> T) -> T {
+        let mut held = std::mem::ManuallyDrop::new(Held {
+            seat: &mut *self.seat,
+            token,
+        });
+        call(&mut held)
+    }
+
+    /// The value of a cell.
+    pub fn load(&mut self, token: u32, cell: u32) -> Result<u64, SeatFault> {
+        self.held(token, |held| held.load(cell))
+    }
+
+    /// Stores a value in a cell.
+    pub fn store(&mut self, token: u32, cell: u32, value: u64) -> Result<(), SeatFault> {
+        self.held(token, |held| held.store(cell, value))
+    }
+
+    /// Adds to the cell of a tally, and answers the new value.
+    pub fn add(&mut self, token: u32, amount: u64) -> Result<u64, SeatFault> {
+        self.held(token, |held| held.add(amount))
+    }
+
+    /// The record of a token.
+    pub fn read_record(&mut self, token: u32) -> Result<Vec<u8>, SeatFault> {
+        self.held(token, |held| held.read_record())
+    }
+
+    /// Writes the record of a token.
+    pub fn write_record(&mut self, token: u32, bytes: &[u8]) -> Result<(), SeatFault> {
+        self.held(token, |held| held.write_record(bytes))
+    }
+
+    /// Whether row and record of a token obey the law.
+    pub fn is_lawful(&mut self, token: u32) -> Result<bool, SeatFault> {
+        self.held(token, |held| held.is_lawful())
+    }
+
+    /// Gives up all; answers the first token whose row and record broke the law, if there is one: they are the first ones again.
+    pub fn block(self) -> Option<u32> {
+        let restored = self.give_up();
+        std::mem::forget(self);
+        restored
+    }
+
+    fn give_up(&self) -> Option<u32> {
+        let mut restored = 0;
+        let status = unsafe { lwkt_block(self.seat.handle, self.seat.number, &mut restored) };
+        (status == 19).then_some(restored)
+    }
+}
+
+impl Drop for Resumed<'_> {
+    fn drop(&mut self) {
+        self.give_up();
     }
 }
 

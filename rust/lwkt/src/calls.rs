@@ -23,6 +23,18 @@ extern "C" {
         room: usize,
         answer: *mut Answer,
     ) -> u32;
+    fn lwkt_is_text(script: *const u8, script_length: usize) -> u32;
+    fn lwkt_text_json(script: *const u8, script_length: usize, text: *mut u8, room: usize, answer: *mut Answer) -> u32;
+    fn lwkt_run_text(script: *const u8, script_length: usize, text: *mut u8, room: usize, answer: *mut Answer) -> u32;
+    fn lwkt_explore_orders(
+        script: *const u8,
+        script_length: usize,
+        states: usize,
+        turns: usize,
+        text: *mut u8,
+        room: usize,
+        answer: *mut Answer,
+    ) -> u32;
 }
 
 /// How a run ended.
@@ -79,6 +91,11 @@ pub enum Refusal {
         /// Why, in words.
         why: String,
     },
+    /// A run along an order was unlawful, which no right implementation's is.
+    Unlawful {
+        /// That it was, in words.
+        why: String,
+    },
     /// Memory was refused.
     Memory,
 }
@@ -89,6 +106,7 @@ impl fmt::Display for Refusal {
             Refusal::Malformed { why, .. }
             | Refusal::Limits { why }
             | Refusal::LawBroken { why }
+            | Refusal::Unlawful { why }
             | Refusal::Arguments { why } => out.write_str(why.trim_end()),
             Refusal::Memory => out.write_str("memory was refused"),
         }
@@ -121,13 +139,14 @@ fn called(call: impl Fn(&mut [u8], &mut Answer) -> u32) -> Result<(u32, Answer, 
 /// Why a call was refused that has this answer and this text.
 fn refusal(answer: Answer, why: String) -> Refusal {
     match answer.fault {
-        0 => Refusal::Arguments { why },
+        0 | 30 => Refusal::Arguments { why },
         33 => Refusal::Malformed {
             place: answer.place,
             why,
         },
         39 => Refusal::Limits { why },
         40 => Refusal::LawBroken { why },
+        35 => Refusal::Unlawful { why },
         _ => Refusal::Memory,
     }
 }
@@ -186,17 +205,21 @@ pub fn check_trace(trace: &[u8]) -> Result<Finding, Refusal> {
     }
 }
 
-/// Runs a script in rounds and shows the run, as `lwkt_show` with these arguments does: words with one blank between each two.
+/// Runs a script in rounds or along an order and shows the run, as `lwkt_show` with these arguments does: words with one blank between
+/// each two, as `turns --svg` or `turns --order 0110`.
 ///
 /// # Errors
 ///
-/// As of [`run_turns`]; and `Arguments` for other arguments, and where the run ended before the first turn that they choose.
+/// As of [`run_turns`]; and `Arguments` for other arguments, where the order names a processor that the script doesn't have, and where
+/// the run ended before the first turn that they choose.
 ///
 /// ```
 /// let script = br#"{"version":1,"turns":5,"idle":100000000,"cpus":1,"tokens":[],"messages":[],
 ///     "threads":[{"cpu":0,"repeat":1,"steps":[["yield"]]}]}"#;
 /// let run = lwkt::show_turns(script, "turns --svg")?;
 /// assert!(run.text.starts_with("<svg "));
+/// let absent = lwkt::show_turns(script, "turns --order 01");
+/// assert!(matches!(absent, Err(lwkt::Refusal::Arguments { .. })));
 /// # Ok::<(), lwkt::Refusal>(())
 /// ```
 pub fn show_turns(script: &[u8], arguments: &str) -> Result<Run, Refusal> {
@@ -214,4 +237,145 @@ pub fn show_turns(script: &[u8], arguments: &str) -> Result<Run, Refusal> {
             )
         }
     })?)
+}
+
+/// What a run of a text came to, by what the text says of it.
+#[derive(Clone, Copy, Debug, PartialEq, Eq)]
+pub enum Judgement {
+    /// All that is expected holds; or nothing is expected, and every thread had ended.
+    Met,
+    /// Nothing is expected, and the turns were used up before every thread had ended.
+    TurnsOut,
+    /// The run was unlawful, which no right implementation's is.
+    Unlawful,
+    /// Something that is expected doesn't hold.
+    Unmet,
+}
+
+/// A run of a text, in words.
+#[derive(Clone, Debug, PartialEq, Eq)]
+pub struct TextRun {
+    /// What it came to.
+    pub judgement: Judgement,
+    /// Its report, and behind it a line for each expectation: `LINE: holds` or `LINE: doesn't hold`.
+    pub text: String,
+}
+
+/// Whether a script is taken for a text of the language of docs/LANGUAGE.md; all else is left to those who read JSON.
+///
+/// # Errors
+///
+/// `Memory` where memory was refused.
+///
+/// ```
+/// assert!(lwkt::is_text(b"turns 5")?);
+/// assert!(!lwkt::is_text(b"{}")?);
+/// # Ok::<(), lwkt::Refusal>(())
+/// ```
+pub fn is_text(script: &[u8]) -> Result<bool, Refusal> {
+    // SAFETY: as in `run_turns`.
+    match unsafe { lwkt_is_text(script.as_ptr(), script.len()) } {
+        0 => Ok(false),
+        1 => Ok(true),
+        _ => Err(Refusal::Memory),
+    }
+}
+
+/// The script of a text in JSON.
+///
+/// # Errors
+///
+/// `Malformed` where something is wrong with the text, with all that is, each with its line, its column and a mark; `Limits` where the
+/// JSON would be too long; `Memory` where memory was refused.
+///
+/// ```
+/// let json = lwkt::text_json(b"token word: any, cells 5")?;
+/// assert!(!lwkt::is_text(json.as_bytes())?);
+/// let Err(lwkt::Refusal::Malformed { why, .. }) = lwkt::text_json(b"tokken word") else { panic!() };
+/// assert!(why.starts_with("1:1: no sentence begins with this word (token?)"));
+/// # Ok::<(), lwkt::Refusal>(())
+/// ```
+pub fn text_json(script: &[u8]) -> Result<String, Refusal> {
+    let (status, answer, text) = called(|text, answer| {
+        // SAFETY: as in `run_turns`.
+        unsafe { lwkt_text_json(script.as_ptr(), script.len(), text.as_mut_ptr(), text.len(), answer) }
+    })?;
+    match status {
+        0 => Ok(text),
+        _ => Err(refusal(answer, text)),
+    }
+}
+
+/// Runs a text in rounds, on this thread, to its report, and says which of its expectations hold.
+///
+/// # Errors
+///
+/// As of [`text_json`]; and `Limits` or `LawBroken` for the opening.
+///
+/// ```
+/// let run = lwkt::run_text(b"thread only on 0:\n  yield\nalways ended")?;
+/// assert_eq!(run.judgement, lwkt::Judgement::Met);
+/// assert!(run.text.ends_with("lawful\n3: holds\n"));
+/// # Ok::<(), lwkt::Refusal>(())
+/// ```
+pub fn run_text(script: &[u8]) -> Result<TextRun, Refusal> {
+    let (status, answer, text) = called(|text, answer| {
+        // SAFETY: as in `run_turns`.
+        unsafe { lwkt_run_text(script.as_ptr(), script.len(), text.as_mut_ptr(), text.len(), answer) }
+    })?;
+    let judgement = match status {
+        0 => Judgement::Met,
+        2 => Judgement::TurnsOut,
+        4 => Judgement::Unlawful,
+        5 => Judgement::Unmet,
+        _ => return Err(refusal(answer, text)),
+    };
+    Ok(TextRun { judgement, text })
+}
+
+/// How much of the orders of a script was tried, and whether each of them can come to an end.
+#[derive(Clone, Copy, Debug, PartialEq, Eq)]
+pub enum Tried {
+    /// All, and from every state an end can be reached; of a text with expectations, all, and each holds of all outcomes.
+    AllEnd,
+    /// All, and from some state no end can be reached.
+    SomeLost,
+    /// Not all: a bound was met, or memory was refused; or a text has an expectation that doesn't hold.
+    Part,
+}
+
+/// What was found of the orders of a script, in words.
+#[derive(Clone, Debug, PartialEq, Eq)]
+pub struct Orders {
+    /// How much was tried.
+    pub tried: Tried,
+    /// Each outcome with a shortest order, and what was searched, as docs/EXPLORE.md has it; of a text a line for each expectation
+    /// behind that.
+    pub text: String,
+}
+
+/// Tries every order of turns of a script in either form; at most so many states are kept, and no order has more turns than that.
+///
+/// # Errors
+///
+/// As of [`run_turns`] and [`run_text`]; and `Unlawful` where a run along an order was.
+///
+/// ```
+/// let found = lwkt::explore_orders(b"thread only on 0:\n  yield", 100, 100)?;
+/// assert_eq!(found.tried, lwkt::Tried::AllEnd);
+/// assert!(found.text.starts_with("outcome 1 ended, order 0"));
+/// # Ok::<(), lwkt::Refusal>(())
+/// ```
+pub fn explore_orders(script: &[u8], states: usize, turns: usize) -> Result<Orders, Refusal> {
+    let (status, answer, text) = called(|text, answer| {
+        // SAFETY: as in `run_turns`.
+        unsafe { lwkt_explore_orders(script.as_ptr(), script.len(), states, turns, text.as_mut_ptr(), text.len(), answer) }
+    })?;
+    let tried = match status {
+        0 => Tried::AllEnd,
+        2 => Tried::SomeLost,
+        5 => Tried::Part,
+        _ => return Err(refusal(answer, text)),
+    };
+    Ok(Orders { tried, text })
 }

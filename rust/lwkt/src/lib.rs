@@ -18,6 +18,9 @@ mod bank;
 mod calls;
 mod word;
 
-pub use bank::{Bank, Held, RowLaw, Seat, SeatFault, Token};
-pub use calls::{check_trace, run_turns, show_turns, End, Finding, Refusal, Run};
+pub use bank::{Bank, Held, Missed, Reference, Resumed, RowLaw, Seat, SeatFault, Token};
+pub use calls::{
+    check_trace, explore_orders, is_text, run_text, run_turns, show_turns, text_json, End, Finding, Judgement, Orders, Refusal,
+    Run, TextRun, Tried,
+};
 pub use word::{StepFault, Word};

@@ -1,5 +1,5 @@
 //! Banks of tokens: sections of four threads, and what each call refuses.
-use lwkt::{Bank, Held, RowLaw, Seat, SeatFault, Token};
+use lwkt::{Bank, Held, Missed, Reference, RowLaw, Seat, SeatFault, Token};
 use std::thread;
 
 const ROUNDS: u64 = 100_000;
@@ -192,6 +192,82 @@ fn a_record_of_another_length_is_the_first_one_again() {
     held.store(0, 0).unwrap();
     held.give().unwrap();
     assert_eq!(seat.take(LEN).unwrap().read_record(), Ok(Vec::new()));
+}
+
+fn missed(place: usize, fault: u32) -> Option<Missed> {
+    Some(Missed {
+        place,
+        fault: SeatFault(fault),
+    })
+}
+
+#[test]
+fn a_list_is_taken_all_or_none() {
+    let mut seats = seats();
+    let mut other = seats.pop().unwrap();
+    let seat = &mut seats[0];
+    let list = [Reference::shared(ANY), Reference::exclusive(SUM)];
+    let blocker = other.take(SUM).unwrap();
+    assert_eq!(seat.resume(&list).err(), missed(1, 23));
+    blocker.give().unwrap();
+    let mut held = seat.resume(&list).unwrap();
+    assert_eq!(held.load(ANY, 0), Ok(0));
+    assert_eq!(other.resume(&list).err(), missed(1, 23));
+    held.store(SUM, 0, 1).unwrap();
+    assert_eq!(held.is_lawful(SUM), Ok(false));
+    assert_eq!(held.block(), Some(SUM));
+    let mut held = other.resume(&list).unwrap();
+    assert_eq!(held.load(SUM, 0), Ok(400_000));
+    assert_eq!(held.block(), None);
+}
+
+#[test]
+fn what_is_no_list_is_refused() {
+    let mut seats = seats();
+    let seat = &mut seats[0];
+    let shared = Reference::shared(ANY);
+    assert_eq!(seat.resume(&[shared, Reference::shared(TOKENS)]).err(), missed(1, 16));
+    assert_eq!(seat.resume(&[shared, Reference::exclusive(ANY)]).err(), missed(1, 11));
+    assert_eq!(
+        seat.resume(&[shared, Reference::exclusive(ANY), Reference::shared(TOKENS)])
+            .err(),
+        missed(1, 11)
+    );
+    assert_eq!(seat.resume(&[shared; 33]).err(), missed(32, 10));
+    assert_eq!(seat.resume(&[shared; 32]).unwrap().block(), None);
+    assert_eq!(seat.resume(&[]).unwrap().block(), None);
+}
+
+// Adds to two tokens, which it takes together.
+fn work_on_list(seat: &mut Seat, list: [Reference; 2]) {
+    for _ in 0..ROUNDS / 100 {
+        let mut held = loop {
+            match seat.resume(&list) {
+                Ok(held) => break held,
+                Err(missed) if missed.fault.is_busy() => thread::yield_now(),
+                Err(missed) => panic!("{missed}"),
+            }
+        };
+        let value = held.load(ANY, 0).unwrap();
+        held.store(ANY, 0, value + 1).unwrap();
+        held.add(TALLY, 1).unwrap();
+        assert_eq!(held.block(), None);
+    }
+}
+
+#[test]
+fn lists_of_four_threads_add_up() {
+    let mut seats = seats();
+    let list = [Reference::exclusive(ANY), Reference::exclusive(TALLY)];
+    thread::scope(|scope| {
+        for (number, seat) in seats.iter_mut().enumerate() {
+            let list = if number % 2 == 0 { list } else { [list[1], list[0]] };
+            scope.spawn(move || work_on_list(seat, list));
+        }
+    });
+    let mut held = seats[0].resume(&list).unwrap();
+    assert_eq!(held.load(ANY, 0), Ok(4 * ROUNDS / 100));
+    assert_eq!(held.load(TALLY, 0), Ok(5 + 4 * ROUNDS / 100));
 }
 
 #[test]

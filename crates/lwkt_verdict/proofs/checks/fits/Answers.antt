@@ -1,4 +1,5 @@
 use Rattle.std.proofs.Common.{◌++◌, ◌∷◌, [], Bool, subst}
+use Rattle.std.specs.Option.{option_copied}
 use Rattle.lwkt_verdict.specs.Progressed.{ShowsProgress}
 use Rattle.lwkt_verdict.proofs.checks.fits.Goals as goal
 
@@ -9,5 +10,5 @@ returns-clause-right c = λ before shows.
 
 pub returns-clause-noted : goal.returns-clause-noted
 returns-clause-noted c = λ before shows yes.
-    let F : Bool → Type 0 = λ b. ShowsProgress (before ++ record { poll = c.args.poll.now; blocked = b } ∷ []) c.asks.new.table in
+    let F : Bool → Type 0 = λ b. ShowsProgress (before ++ record { poll = option_copied c.args.poll; blocked = b } ∷ []) c.asks.new.table in
     subst F c.blocked_by.ensures (c.asks.ensures.moved before shows yes)

@@ -15,7 +15,7 @@ pub returns-then-not-ends : goal.returns-then-not-ends
 returns-then-not-ends c =
     let k = c.loop-slot.slot in
     let home = home_k c.args.plans.now c.args.lines.now c.args.homes.now k c.home_at.result c.requires.homes c.loop-slot-test.true c.home_at.ensures in
-    let here = end_k c.args.plans.now c.args.lines.now c.args.table.now k c.home_at.result c.progress_at-progress.result home c.progress_at-progress.ensures in
+    let here = end_k c.args.plans.now c.args.lines.now c.args.table.now k c.home_at.result c.standing_at-standing.result.now home c.standing_at-standing.ensures in
     let inside : k < 128 = c.loop-slot-test.true in
     never (λ all. iff_false c.ends.ensures c.if-not-ends.true (here.1 (all (k / 16) (k % 16) (omega arith) (omega arith))))
 
@@ -23,7 +23,7 @@ pub loop-slot-preserved : goal.loop-slot-preserved
 loop-slot-preserved c =
     let k = c.loop-slot.slot in
     let home = home_k c.args.plans.now c.args.lines.now c.args.homes.now k c.home_at.result c.requires.homes c.loop-slot-test.true c.home_at.ensures in
-    let here = end_k c.args.plans.now c.args.lines.now c.args.table.now k c.home_at.result c.progress_at-progress.result home c.progress_at-progress.ensures in
+    let here = end_k c.args.plans.now c.args.lines.now c.args.table.now k c.home_at.result c.standing_at-standing.result.now home c.standing_at-standing.ensures in
     let P : ℕ → Type 0 = λ i. EndsAt c.args.plans.now c.args.lines.now c.args.table.now (i / 16) (i % 16) in
     below_more P k c.loop-slot.invariant (here.0 (c.ends.ensures.0 c.if-not-ends.false))
 

@@ -14,4 +14,4 @@ loop-n-preserved c =
     let n = c.loop-n.n in
     let P : ℕ → Type 0 = λ k. IdlesAt plans cpu table k in
     let home = subst (λ (h : Option Home). IsHome plans c.args.lines.now cpu n h) (sym c.home_at.ensures) (c.requires.homes.1 cpu n c.requires.processor (omega arith)) in
-    below_more P n c.loop-n.invariant (idle_here plans c.args.lines.now table cpu n c.home_at.result c.progress_at-progress.result home c.progress_at-progress.ensures (c.may_idle.ensures.0 c.if-not-may_idle.false))
+    below_more P n c.loop-n.invariant (idle_here plans c.args.lines.now table cpu n c.home_at.result c.standing_at-standing.result.now home c.standing_at-standing.ensures (c.may_idle.ensures.0 c.if-not-may_idle.false))

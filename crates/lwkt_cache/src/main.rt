@@ -1,0 +1,47 @@
+//! A value that one processor writes, and of which two others keep a copy, which they read anew only where its version has changed.
+#![tactic(auto)]
+
+ghost use Rattle.std.specs.Prelude.{◌≡◌, ◌+◌, All, IfOk};
+
+mod parties;
+
+use lwkt_base::Fault;
+use lwkt_program::{Closed, LIMITS, Machine, Stepper, makers};
+use parties::{Party, SHARED};
+use std::alloc::Global;
+use std::io;
+use std::process::ExitCode;
+use std::thread::Threads;
+
+// The bodies of one processor.
+fn alone(alloc: Global, reads: bool) -> Result<Vec<Stepper<Party>>, Fault>
+    ensures { IfOk result (λ bodies. All (λ b. b.steps.hits + b.steps.misses + b.steps.left ≡ 20) bodies.items) }
+{
+    let party = Stepper::new(Party::new(reads));
+    makers::list(alloc, [party])
+}
+
+// Runs a writer and two readers. Each comes back with as many rounds behind it and left as it began with, and each round of a reader
+// was a hit or a miss.
+fn run<R: Threads + Sync>(rt: &R, alloc: Global) -> Result<Closed<Stepper<Party>>, Fault>
+    ensures rounds { IfOk result (λ closed. All (λ v. All (λ b. b.steps.hits + b.steps.misses + b.steps.left ≡ 20) v.items) closed.bodies.items) }
+{
+    let tokens = [makers::order(alloc, &[0, 0])?];
+    let writer = alone(alloc, false)?;
+    let first = alone(alloc, true)?;
+    let second = alone(alloc, true)?;
+    let bodies = makers::list(alloc, [writer, first, second])?;
+    let mut machine = Machine::open(alloc, &tokens, &[], bodies)?;
+    machine.drive(rt, &LIMITS);
+    machine.close(alloc)
+}
+
+fn main(rt: HostRuntime) -> io::Result<ExitCode> {
+    let Ok(closed) = run(&rt, rt.alloc()) else {
+        println!(rt; "the run was refused")?;
+        return Ok(ExitCode::from(1));
+    };
+    let (version, value) = (closed.cell(SHARED, 0), closed.cell(SHARED, 1));
+    println!(rt; "version {version}, value {value}")?;
+    Ok(ExitCode::SUCCESS)
+}

@@ -1,0 +1,94 @@
+//! What a text says of the outcomes of its script, over all orders.
+ghost use Rattle.std.specs.Prelude.{◌≡◌, IsTrue, IfSome, IsSomeAnd, is_some, slice_get};
+ghost use Rattle.std.specs.List.{list_all, list_any};
+ghost use Rattle.lwkt_expected.specs.Expectations.{is_whole, decides_by, decides, met_by, is_met, status_of_text};
+
+use lwkt_explore::{Found, Kind, Outcome, status_of};
+use lwkt_litmus::holds;
+use lwkt_text::claims::{Expectation, When};
+
+// Whether an outcome stands where no turn changes anything.
+fn is_whole(kind: Kind) -> bool
+    ensures { result ≡ is_whole kind }
+{
+    match kind {
+        Kind::Ended | Kind::Stuck => true,
+        Kind::Cut => false,
+    }
+}
+
+// Whether a claim that is so, or isn't, decides an expectation.
+fn decides_by(when: When, so: bool) -> bool
+    ensures { result ≡ decides_by when so }
+{
+    match when {
+        When::Always => !so,
+        When::Sometimes | When::Never => so,
+    }
+}
+
+// Whether an outcome decides an expectation.
+fn decides(expectation: &Expectation, outcome: &Outcome) -> bool
+    ensures { result ≡ decides expectation.now outcome.now }
+{
+    is_whole(outcome.kind)
+        && decides_by(
+            expectation.when,
+            holds(&outcome.closing, &expectation.claim),
+        )
+}
+
+// Whether an outcome among some decides an expectation.
+fn is_decided(expectation: &Expectation, outcomes: &[Outcome]) -> bool
+    ensures { result ≡ list_any (decides expectation.now) outcomes.now }
+{
+    outcomes.iter().any(|outcome| decides(expectation, outcome))
+}
+
+/// The first outcome that decides an expectation: that breaks what is said of each one or of none, or shows what is said of one.
+/// Among the outcomes of a search, which come by the length of their orders, no other such one has a shorter order.
+pub fn deciding<'a>(expectation: &Expectation, outcomes: &'a [Outcome]) -> Option<&'a Outcome>
+    ensures { IfSome result (λ outcome. IsTrue (decides expectation.now outcome.now)) }
+{
+    for outcome in outcomes {
+        if decides(expectation, outcome) {
+            return Some(outcome);
+        }
+    }
+    None
+}
+
+/// Whether what a text says of the outcomes of its script is so of those that were found, but for those that were cut.
+pub fn is_met(expectation: &Expectation, outcomes: &[Outcome]) -> bool
+    ensures { result ≡ is_met expectation.now outcomes.now }
+{
+    let decided = is_decided(expectation, outcomes);
+    match expectation.when {
+        When::Always | When::Never => !decided,
+        When::Sometimes => decided,
+    }
+}
+
+// Whether all that a text says is so.
+fn are_met(expectations: &[Expectation], outcomes: &[Outcome]) -> bool
+    ensures { result ≡ list_all (λ e. is_met e outcomes.now) expectations.now }
+{
+    expectations
+        .iter()
+        .all(|expectation| is_met(expectation, outcomes))
+}
+
+/// The exit status of what was found of a text: of one that expects nothing that of a script; else 0 if every order was tried and all
+/// that it says is so, and 5 if not.
+pub fn status_of_text(expectations: &[Expectation], found: &Found) -> u8
+    ensures { result ≡ status_of_text expectations.now found.now }
+{
+    if expectations.is_empty() {
+        return status_of(found);
+    }
+    if found.is_complete && are_met(expectations, found.outcomes.all.as_slice()) {
+        0
+    } else {
+        5
+    }
+}

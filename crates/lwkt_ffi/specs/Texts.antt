@@ -1,0 +1,125 @@
+-- What the calls of the library answer to C of scripts in either form (own).
+use Rattle.std.specs.Prelude.{◌≡◌, ◌⊎◌, ◌<◌, ℕ, ◌++◌, List, length, Result, Ok, Err, if◌then◌else◌}
+use Rattle.std.specs.Result.{result_err}
+use Rattle.lwkt_base.specs.declared.faults.Fault.{Fault}
+use Rattle.lwkt_base.specs.declared.faults.Fault.TheVariants.{Script as ScriptFault, Memory, Limits, Unlawful}
+use Rattle.lwkt_expected.specs.Expectations.{status_of_text as status_of_text_search}
+use Rattle.lwkt_explore.specs.Outcomes.{AreOutcomes}
+use Rattle.lwkt_explore.specs.Statuses.{status_of as status_of_search}
+use Rattle.lwkt_litmus.specs.declared.judgements.Judgement.{Judgement}
+use Rattle.lwkt_litmus.specs.Judgements.{judgement_of, status_of as status_judged}
+use Rattle.lwkt_report.specs.declared.closings.Closing.{Closing}
+use Rattle.lwkt_report.specs.Report.{report_text}
+use Rattle.lwkt_run.specs.Run.{MayClose, Declines}
+use Rattle.lwkt_script.specs.Format.{script_of}
+use Rattle.lwkt_text.specs.declared.readers.Reading.{Reading}
+use Rattle.lwkt_text.specs.declared.wrongs.Wrong.{Wrong}
+use Rattle.lwkt_text.specs.Beginning.{is_text, ByForm}
+use Rattle.lwkt_text.specs.Reading.{reading_of}
+use Rattle.lwkt_verdict.specs.declared.turns.Pace.TheVariants.{Rounds}
+use Rattle.lwkt_ffi.specs.declared.answers.LwktAnswer.{LwktAnswer}
+use Rattle.lwkt_ffi.specs.declared.orders.Search.{Search}
+use Rattle.lwkt_ffi.specs.Answers.{Fills, status_of_fault}
+
+-- what `lwkt_is_text` answers: whether the bytes are taken for a text, or want of memory
+abbrev pub TellsForm : List ℕ → ℕ → Type 0
+TellsForm script status = (status ≡ (if is_text script then 1 else 0)) ⊎ (status ≡ 3)
+
+-- why a text isn't read: for want of memory; or something is wrong with it, and it is refused as bytes that are no JSON
+abbrev pub RefusesReading : List ℕ → Fault → Type 0
+RefusesReading text fault = (fault ≡ Memory) ⊎ ((fault ≡ ScriptFault 0) × ((wrongs : List Wrong) × ((reading_of text ≡ Err wrongs) × (0 < length wrongs))))
+
+-- these bytes are the script of a text, in JSON
+abbrev pub IsJsonOf : List ℕ → List ℕ → Type 0
+IsJsonOf text json = (reading : Reading) × ((reading_of text ≡ Ok reading) × (script_of json ≡ Ok reading.script))
+
+-- why there is no JSON of a text: it isn't read; or it is, and its JSON would be too long
+abbrev pub RefusesJson : List ℕ → Fault → Type 0
+RefusesJson text fault = RefusesReading text fault ⊎ ((fault ≡ Limits) × ((reading : Reading) × (reading_of text ≡ Ok reading)))
+
+-- what came of a text whose JSON was asked for
+abbrev pub TellsJson : List ℕ → Result (Unit {0}) Fault → List ℕ → Type 0
+TellsJson text (Ok made) whole = IsJsonOf text whole
+TellsJson text (Err fault) whole = RefusesJson text fault
+
+abbrev pub status_of_made : Result (Unit {0}) Fault → ℕ
+status_of_made (Ok made) = 0
+status_of_made (Err fault) = status_of_fault fault
+
+-- what `lwkt_text_json` answers: what came of the text, in its status, its answer and the buffer; a text that is refused has some
+-- words too
+pub record AnswersJson (text old new : List ℕ) (answer : LwktAnswer) (status : ℕ) : Type 0 where
+  pub outcome : Result (Unit {0}) Fault
+  pub whole : List ℕ
+  pub tells : TellsJson text outcome whole
+  pub fills : Fills old new answer whole (result_err outcome)
+  pub is_status : status ≡ status_of_made outcome
+
+-- these bytes are a text, and a run of its script may have this report, and come to this by what the text says of it
+pub record HasTextRun (text : List ℕ) (judgement : Judgement) (report : List ℕ) : Type 0 where
+  pub reading : Reading
+  pub read : reading_of text ≡ Ok reading
+  pub closing : Closing
+  pub closes : MayClose (Rounds reading.script.turns) reading.script closing
+  pub is_report : report ≡ report_text closing
+  pub is_judgement : judgement ≡ judgement_of reading.expectations closing
+
+-- why a run of a text is refused: it isn't read; or it is, and its machine isn't opened
+abbrev pub RefusesText : List ℕ → Fault → Type 0
+RefusesText text fault = RefusesReading text fault ⊎ ((reading : Reading) × ((reading_of text ≡ Ok reading) × Declines reading.script fault))
+
+-- what came of a text that was run: its report, with more behind it; or why there is none
+abbrev pub TellsText : List ℕ → Result Judgement Fault → List ℕ → Type 0
+TellsText text (Ok judgement) whole = (report : List ℕ) × ((verdicts : List ℕ) × (HasTextRun text judgement report × (whole ≡ report ++ verdicts)))
+TellsText text (Err fault) whole = RefusesText text fault
+
+abbrev pub status_of_text : Result Judgement Fault → ℕ
+status_of_text (Ok judgement) = status_judged judgement
+status_of_text (Err fault) = status_of_fault fault
+
+-- what `lwkt_run_text` answers
+pub record AnswersText (text old new : List ℕ) (answer : LwktAnswer) (status : ℕ) : Type 0 where
+  pub outcome : Result Judgement Fault
+  pub whole : List ℕ
+  pub tells : TellsText text outcome whole
+  pub fills : Fills old new answer whole (result_err outcome)
+  pub is_status : status ≡ status_of_text outcome
+
+-- what was found of a script in JSON: outcomes of it, and the status by them
+pub record IsSearchOfJson (script : List ℕ) (search : Search) : Type 0 where
+  pub are : AreOutcomes script search.found.outcomes
+  pub is_status : search.status ≡ status_of_search search.found
+
+-- what was found of a text: outcomes of its script, and the status by what the text says of them
+pub record IsSearchOfText (text : List ℕ) (search : Search) : Type 0 where
+  pub reading : Reading
+  pub read : reading_of text ≡ Ok reading
+  pub json : List ℕ
+  pub is_json : script_of json ≡ Ok reading.script
+  pub are : AreOutcomes json search.found.outcomes
+  pub is_status : search.status ≡ status_of_text_search reading.expectations search.found
+
+-- what was found of a script in either form
+abbrev pub IsSearch : List ℕ → Search → Type 0
+IsSearch script search = ByForm (is_text script) (IsSearchOfText script search) (IsSearchOfJson script search)
+
+-- what came of a script whose orders were tried; of one that is refused nothing is said
+abbrev pub TellsSearch : List ℕ → Result Search Fault → Type 0
+TellsSearch script (Ok search) = IsSearch script search
+TellsSearch script (Err fault) = Unit {0}
+
+abbrev pub status_of_untried : Fault → ℕ
+status_of_untried (Unlawful index) = 4
+status_of_untried fault = status_of_fault fault
+
+abbrev pub status_of_orders : Result Search Fault → ℕ
+status_of_orders (Ok search) = search.status
+status_of_orders (Err fault) = status_of_untried fault
+
+-- what `lwkt_explore_orders` answers: what was found, of which the text is made, in its status, its answer and the buffer
+pub record AnswersOrders (script old new : List ℕ) (answer : LwktAnswer) (status : ℕ) : Type 0 where
+  pub outcome : Result Search Fault
+  pub whole : List ℕ
+  pub tells : TellsSearch script outcome
+  pub fills : Fills old new answer whole (result_err outcome)
+  pub is_status : status ≡ status_of_orders outcome

@@ -1,0 +1,208 @@
+//! Every order of turns of a script.
+ghost use Rattle.std.specs.Prelude.{◌≡◌, [], IfOk};
+ghost use Rattle.std.specs.Result.{result_err};
+ghost use Rattle.lwkt_explore.specs.Outcomes.{AreOutcomes};
+ghost use Rattle.lwkt_ffi.specs.Texts.{IsSearch, IsSearchOfText, IsSearchOfJson, TellsSearch, AnswersOrders, status_of_orders};
+
+use crate::answers::{LwktAnswer, status_of_fault};
+use crate::forms::json_told;
+use crate::fronts::{blank, fill, put_both};
+use crate::readings::{put_said, read_onto};
+use lwkt_base::Fault;
+use lwkt_expected::{status_of_text, verdicts_of};
+use lwkt_explore::{
+    Bounds, Found, Method, Unwatched, explore, status_of as status_of_found, text_of,
+};
+use lwkt_refusals::Speaker;
+use lwkt_remarks::opening_said;
+use lwkt_report::{Page, write_whole};
+use lwkt_text::is_text;
+use std::alloc::{AllocError, Global};
+
+// What is said where a run wasn't lawful.
+const UNLAWFUL: &str = "lwkt_explore: a run along an order was not lawful\n";
+
+/// What came of a script whose orders were tried.
+#[derive(Drop)]
+pub struct Search {
+    pub found: Found,
+    /// Of a text a line for each of its expectations, which says whether it holds.
+    pub verdicts: String,
+    /// The status by what was found.
+    pub status: u8,
+}
+
+// Why the opening of a text is refused, in a line.
+fn opening_line(alloc: Global, text: &[u8], fault: Fault) -> Result<String, AllocError> {
+    let words = opening_said(alloc, text, fault)?;
+    format!(in alloc; "lwkt_explore: {words}\n")
+}
+
+// Says why nothing was found of a script that could be read, or of one in JSON.
+fn say_why(alloc: Global, script: &[u8], is_json: bool, fault: Fault, page: &mut Page) {
+    match fault {
+        Fault::Memory => Speaker::Explore.say_memory(page),
+        Fault::Unlawful { .. } => {
+            let _ = write_whole(page, UNLAWFUL.as_bytes());
+        }
+        fault if is_json => Speaker::Explore.say_refusal(alloc, page, Some(script), fault),
+        fault => put_said(Speaker::Explore, page, opening_line(alloc, script, fault)),
+    }
+}
+
+// Tries every order of a script in JSON; why it is refused is put on a page, in the words for the script that was given.
+fn explored(
+    alloc: Global,
+    given: &[u8],
+    json: &[u8],
+    is_json: bool,
+    bounds: Bounds,
+    page: &mut Page,
+) -> Result<Found, Fault>
+    ensures { IfOk result (λ found. AreOutcomes json.now found.outcomes) }
+{
+    match explore(alloc, json, bounds, Method::Reduced, &mut Unwatched) {
+        Ok(found) => Ok(found),
+        Err(fault) => {
+            say_why(alloc, given, is_json, fault, page);
+            Err(fault)
+        }
+    }
+}
+
+// Tries every order of a script in JSON; why it is refused is put on a page.
+fn search_json(
+    alloc: Global,
+    script: &[u8],
+    bounds: Bounds,
+    page: &mut Page,
+) -> Result<Search, Fault>
+    ensures { IfOk result (λ search. IsSearchOfJson script.now search) }
+{
+    let found = match explored(alloc, script, script, true, bounds, page) {
+        Ok(found) => found,
+        Err(fault) => return Err(fault),
+    };
+    let status = status_of_found(&found);
+    Ok(Search {
+        found,
+        verdicts: String::new(alloc),
+        status,
+    })
+}
+
+// Tries every order of a text, and judges what it says of the outcomes; why it is refused is put on a page.
+fn search_text(alloc: Global, text: &[u8], bounds: Bounds, page: &mut Page) -> Result<Search, Fault>
+    ensures { IfOk result (λ search. IsSearchOfText text.now search) }
+{
+    let reading = match read_onto(alloc, Speaker::Explore, text, page) {
+        Ok(reading) => reading,
+        Err(fault) => return Err(fault),
+    };
+    let json = match json_told(alloc, Speaker::Explore, &reading.script, page) {
+        Ok(json) => json,
+        Err(fault) => return Err(fault),
+    };
+    let found = match explored(alloc, text, json.as_bytes(), false, bounds, page) {
+        Ok(found) => found,
+        Err(fault) => return Err(fault),
+    };
+    let status = status_of_text(reading.expectations.as_slice(), &found);
+    match verdicts_of(alloc, text, reading.expectations.as_slice(), &found) {
+        Ok(verdicts) => Ok(Search {
+            found,
+            verdicts,
+            status,
+        }),
+        Err(_) => {
+            Speaker::Explore.say_memory(page);
+            Err(Fault::Memory)
+        }
+    }
+}
+
+// Tries every order of a script in either form; why it is refused is put on a page.
+fn search_of(alloc: Global, script: &[u8], bounds: Bounds, page: &mut Page) -> Result<Search, Fault>
+    ensures { IfOk result (λ search. IsSearch script.now search) }
+{
+    match is_text(alloc, script) {
+        Ok(true) => search_text(alloc, script, bounds, page),
+        Ok(false) => search_json(alloc, script, bounds, page),
+        Err(_) => {
+            Speaker::Explore.say_memory(page);
+            Err(Fault::Memory)
+        }
+    }
+}
+
+// Tries every order of a script, with what was found on an empty page, or why nothing was.
+fn search_onto(
+    alloc: Global,
+    script: &[u8],
+    bounds: Bounds,
+    page: &mut Page,
+) -> Result<Search, Fault>
+    requires { page.old.text.items ≡ [] }
+    ensures { TellsSearch script.now result }
+{
+    let mut errors = blank(alloc);
+    let search = match search_of(alloc, script, bounds, &mut errors) {
+        Ok(search) => search,
+        Err(fault) => {
+            *page = errors;
+            return Err(fault);
+        }
+    };
+    let Ok(text) = text_of(alloc, &search.found) else {
+        return Err(Fault::Memory);
+    };
+    match put_both(page, text.as_bytes(), search.verdicts.as_bytes()) {
+        Ok(()) => Ok(search),
+        Err(_) => {
+            page.text.clear();
+            Err(Fault::Memory)
+        }
+    }
+}
+
+// The status of a script whose orders were tried, and the fault for which it was refused.
+fn status_of(outcome: &Result<Search, Fault>) -> (u32, Option<Fault>)
+    ensures status { result.0 ≡ status_of_orders outcome.now }
+    ensures fault { result.1 ≡ result_err outcome.now }
+{
+    match outcome {
+        Ok(search) => (u32::from(search.status), None),
+        Err(Fault::Unlawful { index }) => (4, Some(Fault::Unlawful { index: *index })),
+        Err(fault) => (status_of_fault(*fault), Some(*fault)),
+    }
+}
+
+/// Tries every order of turns of a script in either form, as `explore` of lwkt_explore does with `Reduced`, and puts what was found
+/// into the buffer, and of a text behind it a line for each thing that it says of the outcomes; or in words why nothing was found. At
+/// most so many states are kept, but one at least, and no order has more turns than that.
+///
+/// The status, of a script in JSON and of a text that expects nothing: 0 where every order was tried, and from every state an end can
+/// be reached; 2 where every order was tried, and from a state no end can be reached; 5 where not every order was tried. Of a text
+/// that expects something: 0 where every order was tried and all that it expects holds, and 5 where not. Of all: 4 with the fault 35
+/// where a run wasn't lawful; 1 with the fault 33, 39 or 40 for a script or an opening that was refused; 3 with the fault 32 for want
+/// of memory.
+#[unsafe(no_mangle)]
+pub extern "C" fn lwkt_explore_orders(
+    alloc: Global,
+    script: &[u8],
+    states: usize,
+    turns: usize,
+    buffer: &mut [u8],
+    answer: &mut LwktAnswer,
+) -> u32
+    ensures { AnswersOrders script.now buffer.old buffer.new answer.new result }
+{
+    let mut page = blank(alloc);
+    // A search without a state would say that it tried every order.
+    let states = states.max(1);
+    let outcome = search_onto(alloc, script, Bounds { states, turns }, &mut page);
+    fill(buffer, &page.text);
+    let (status, fault) = status_of(&outcome);
+    *answer = LwktAnswer::new(page.text.len(), fault);
+    status
+}

@@ -1,0 +1,128 @@
+//! Texts of the language for scripts, run.
+ghost use Rattle.std.specs.Prelude.{◌≡◌, [], IfOk, IfErr, string_bytes};
+ghost use Rattle.lwkt_run.specs.Run.{MayClose, Declines};
+ghost use Rattle.lwkt_verdict.specs.declared.turns.Pace.{Pace};
+ghost use Rattle.lwkt_ffi.specs.Texts.{HasTextRun, RefusesText, TellsText, AnswersText, status_of_text};
+
+use crate::answers::{LwktAnswer, status_of_fault};
+use crate::fronts::{blank, fill, put_both};
+use crate::readings::{put_said, read_onto};
+use lwkt_base::Fault;
+use lwkt_litmus::Judgement;
+use lwkt_refusals::Speaker;
+use lwkt_remarks::{Account, account_of, opening_said};
+use lwkt_report::{Closing, Page};
+use lwkt_run::{TurnsRun, turns_run_of};
+use lwkt_script::Script;
+use lwkt_text::Reading;
+use std::alloc::{AllocError, Global};
+
+// Why the opening of a text is refused, in a line.
+fn opening_line(alloc: Global, text: &[u8], fault: Fault) -> Result<String, AllocError> {
+    let words = opening_said(alloc, text, fault)?;
+    format!(in alloc; "lwkt_run: {words}\n")
+}
+
+// Says why the run of a text is refused, whose opening has this fault.
+fn say_opening(alloc: Global, text: &[u8], fault: Fault, page: &mut Page) {
+    if fault == Fault::Memory {
+        return Speaker::Run.say_memory(page);
+    }
+    put_said(Speaker::Run, page, opening_line(alloc, text, fault));
+}
+
+// Runs a script in rounds, to what its report shows.
+fn closing_of(alloc: Global, script: Script) -> Result<Closing, Fault>
+    ensures ok { IfOk result (λ closing. MayClose (Pace.Rounds script.turns) script closing) }
+    ensures refused { IfErr result (λ fault. Declines script fault) }
+{
+    let TurnsRun { closing, .. } = turns_run_of(alloc, script)?;
+    Ok(closing)
+}
+
+// Runs a text, to all that is told of its run; why it is refused is put on a page.
+fn account_onto(alloc: Global, text: &[u8], page: &mut Page) -> Result<Account, Fault>
+    ensures ok { IfOk result (λ account. HasTextRun text.now account.judgement (string_bytes account.report)) }
+    ensures refused { IfErr result (λ fault. RefusesText text.now fault) }
+{
+    let Reading {
+        script,
+        names: _,
+        expectations,
+    } = match read_onto(alloc, Speaker::Run, text, page) {
+        Ok(reading) => reading,
+        Err(fault) => return Err(fault),
+    };
+    let closing = match closing_of(alloc, script) {
+        Ok(closing) => closing,
+        Err(fault) => {
+            say_opening(alloc, text, fault, page);
+            return Err(fault);
+        }
+    };
+    match account_of(alloc, None, text, expectations.as_slice(), &closing) {
+        Ok(account) => Ok(account),
+        Err(_) => {
+            Speaker::Run.say_memory(page);
+            Err(Fault::Memory)
+        }
+    }
+}
+
+// Runs a text, with its report and the lines of its expectations behind that on an empty page, or why there are none.
+fn told_onto(alloc: Global, text: &[u8], page: &mut Page) -> Result<Judgement, Fault>
+    requires { page.old.text.items ≡ [] }
+    ensures { TellsText text.now result page.new.text.items }
+{
+    let mut errors = blank(alloc);
+    let Account {
+        report,
+        verdicts,
+        judgement,
+    } = match account_onto(alloc, text, &mut errors) {
+        Ok(account) => account,
+        Err(fault) => {
+            *page = errors;
+            return Err(fault);
+        }
+    };
+    match put_both(page, report.as_bytes(), verdicts.as_bytes()) {
+        Ok(()) => Ok(judgement),
+        Err(_) => {
+            page.text.clear();
+            Err(Fault::Memory)
+        }
+    }
+}
+
+// The status of a text that was run.
+fn status_of(outcome: &Result<Judgement, Fault>) -> u32
+    ensures { result ≡ status_of_text outcome.now }
+{
+    match *outcome {
+        Ok(judgement) => u32::from(judgement.status()),
+        Err(fault) => status_of_fault(fault),
+    }
+}
+
+/// Runs a text in rounds, on this thread, and puts its report into the buffer, and behind it a line for each of its expectations,
+/// which says whether it holds; or in words all that is wrong with the text.
+///
+/// The status: 0 where all expectations hold, or there are none and every thread had ended; 2 where there are none and the turns
+/// were used up; 4 where the run was unlawful; 5 where an expectation doesn't hold; 1 with the fault 33, 39 or 40 for a text or an
+/// opening that was refused; 3 with the fault 32 for want of memory.
+#[unsafe(no_mangle)]
+pub extern "C" fn lwkt_run_text(
+    alloc: Global,
+    text: &[u8],
+    buffer: &mut [u8],
+    answer: &mut LwktAnswer,
+) -> u32
+    ensures { AnswersText text.now buffer.old buffer.new answer.new result }
+{
+    let mut page = blank(alloc);
+    let outcome = told_onto(alloc, text, &mut page);
+    fill(buffer, &page.text);
+    *answer = LwktAnswer::new(page.text.len(), outcome.err());
+    status_of(&outcome)
+}

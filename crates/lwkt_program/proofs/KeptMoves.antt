@@ -1,0 +1,109 @@
+-- What each poll of a body keeps is kept by turns, and by drives.
+use Rattle.std.proofs.Common.{◌≡◌, ◌∙◌, ◌<◌, ℕ, List, [], ◌∷◌, ◌++◌, length, take, drop, get_or, set, sym, subst, ap, refl, arith}
+use Rattle.std.specs.Prelude.{Bool, Vec, All, Option, Some, None, Result, Ok, Err, IfOk, OnOk, OnErr, slice_get, slice_set}
+use Rattle.std.specs.List.{AllZip}
+use Rattle.std.specs.declared.alloc.Global.{Global}
+use Rattle.std.proofs.lemmas.List.Elements.{All-nil, All-cons, All-head, All-tail, All-get_or, All-set}
+use Rattle.std.proofs.lemmas.Option.{slice_get_within, get_or_from_slice_get}
+use Rattle.lwkt_base.specs.declared.names.CpuId.{CpuId}
+use Rattle.lwkt_base.specs.declared.asks.Ask.{Ask}
+use Rattle.lwkt_base.specs.declared.asks.Answer.{Answer}
+use Rattle.lwkt_base.specs.declared.faults.Fault.{Fault}
+use Rattle.lwkt_core.specs.declared.events.Event.{Event}
+use Rattle.lwkt_bank.specs.Seats.{BankId}
+use Rattle.lwkt_cpu.specs.declared.answers.Turned.{Turned}
+use Rattle.lwkt_cpu.specs.declared.answers.Turned.TheVariants.{Ran, Idle, AllExited}
+use Rattle.lwkt_cpu.specs.Processors.{Processor}
+use Rattle.lwkt_cpu.specs.Turning.{Chooses, RunsOne, Turns, HasSameEvents, MakesTurn}
+use Rattle.lwkt_cpu.specs.Driving.{Made}
+use Rattle.lwkt_cpu.specs.Stopping.{Stops}
+use Rattle.lwkt_drive.specs.declared.driven.Driven.{Driven}
+use Rattle.lwkt_drive.specs.declared.driven.Limits.{Limits}
+use Rattle.lwkt_drive.specs.Course.{IsDriven}
+use Rattle.lwkt_program.specs.Machines.{Lasts}
+
+-- a poll keeps something
+abbrev pub Keeps : {B : Type 0} → (B → Answer → Ask → B → Type 0) → (B → Type 0) → Type 0
+Keeps {B} polled kept = (b : B) (last : Answer) (ask : Ask) (d : B) → polled b last ask d → kept b → kept d
+
+-- something holds of each body of a processor
+abbrev pub Has : {B : Type 0} → (B → Type 0) → Processor B → Type 0
+Has kept p = All kept p.bodies
+
+kept_chosen : {B : Type 0} (kept : B → Type 0) (old new : Processor B) (t u : Vec Event Global) (running found : Option ℕ) → Chooses old new t u running found → Has kept old → Has kept new
+kept_chosen {B} kept old new t u (Some place) found ch before =
+    let F : Processor B → Type 0 = λ p. Has kept p in
+    subst F (sym ch.1) before
+kept_chosen {B} kept old new t u None found ch before =
+    let F : List B → Type 0 = λ bodies. All kept bodies in
+    subst F (sym ch.2) before
+
+kept_one : {B : Type 0} (polled : B → Answer → Ask → B → Type 0) (kept : B → Type 0) → Keeps polled kept → (bank : BankId) (old new : Processor B) (t u : Vec Event Global) (place : ℕ) → RunsOne polled bank old new t u place → Has kept old → Has kept new
+kept_one {B} polled kept keeps bank old new t u place one before =
+    let F : List B → Type 0 = λ bodies. All kept bodies in
+    let G : B → Type 0 = λ b. kept b in
+    let low : place < length old.bodies = slice_get_within old.bodies place one.body one.at_body in
+    let was : kept one.body = subst G (get_or_from_slice_get old.bodies place one.body one.body one.at_body) (All-get_or kept old.bodies place one.body low before) in
+    let is : kept one.next_body = keeps one.body one.before.last one.polls.ask one.next_body one.polls.polled_once was in
+    subst F (sym one.bodies) (All-set kept old.bodies place one.next_body is before)
+
+kept_turns : {B : Type 0} (polled : B → Answer → Ask → B → Type 0) (kept : B → Type 0) → Keeps polled kept → (bank : BankId) (old new : Processor B) (t u : Vec Event Global) (turned : Turned) → Turns polled bank old new t u turned → Has kept old → Has kept new
+kept_turns polled kept keeps bank old new t u (Ran place) turns before =
+    kept_one polled kept keeps bank turns.0 new turns.1.0 u place turns.1.1.1 (kept_chosen kept old turns.0 t turns.1.0 old.running (Some place) turns.1.1.0 before)
+kept_turns polled kept keeps bank old new t u Idle turns before = kept_chosen kept old new t u old.running None turns.0 before
+kept_turns polled kept keeps bank old new t u AllExited turns before = kept_chosen kept old new t u old.running None turns.0 before
+
+-- a turn keeps it
+pub kept_turn : {B : Type 0} (polled : B → Answer → Ask → B → Type 0) (kept : B → Type 0) → Keeps polled kept → (bank : BankId) (old new : Processor B) (t u : Vec Event Global) (turned : Turned) → MakesTurn polled bank old new t u turned → Has kept old → Has kept new
+kept_turn {B} polled kept keeps bank old new t u turned turn before =
+    let F : List B → Type 0 = λ bodies. All kept bodies in
+    kept_turns polled kept keeps bank turn.mid new turn.v u turned turn.turns (subst F (sym turn.mail.bodies) before)
+
+-- so does one that may be refused
+pub kept_either : {B : Type 0} (polled : B → Answer → Ask → B → Type 0) (kept : B → Type 0) → Keeps polled kept → (bank : BankId) (old new : Processor B) (t u : Vec Event Global) (r : Result Turned Fault) → IfOk r (λ turned. MakesTurn polled bank old new t u turned) → OnErr r ((new ≡ old) × HasSameEvents t u) → Has kept old → Has kept new
+kept_either polled kept keeps bank old new t u (Ok turned) ok err before = kept_turn polled kept keeps bank old new t u turned ok before
+kept_either {B} polled kept keeps bank old new t u (Err fault) ok err before =
+    let F : Processor B → Type 0 = λ p. Has kept p in
+    subst F (sym err.0) before
+
+-- so does a stop, which may be refused
+pub kept_stopped : {B : Type 0} (kept : B → Type 0) (old new : Processor B) (t u : Vec Event Global) (r : Result (Unit {0}) Fault) → OnOk r (Stops old new t u) → OnErr r ((new ≡ old) × HasSameEvents t u) → Has kept old → Has kept new
+kept_stopped {B} kept old new t u (Ok done) ok err before =
+    let F : List B → Type 0 = λ bodies. All kept bodies in
+    subst F (sym ok.bodies) before
+kept_stopped {B} kept old new t u (Err fault) ok err before =
+    let F : Processor B → Type 0 = λ p. Has kept p in
+    subst F (sym err.0) before
+
+-- so do turns one after the other
+pub kept_made : {B : Type 0} (polled : B → Answer → Ask → B → Type 0) (kept : B → Type 0) → Keeps polled kept → (bank : BankId) (old new : Processor B) (t u : Vec Event Global) (turns : List Turned) → Made polled bank old new t u turns → Has kept old → Has kept new
+kept_made {B} polled kept keeps bank old new t u [] made before =
+    let F : Processor B → Type 0 = λ p. Has kept p in
+    subst F (sym made.0) before
+kept_made polled kept keeps bank old new t u (turned ∷ turns) made before =
+    kept_made polled kept keeps bank made.0 new made.1.0 u turns made.1.1.1 (kept_turn polled kept keeps bank old made.0 t made.1.0 turned made.1.1.0 before)
+
+-- one processor of a list was driven
+abbrev pub WasDriven : {B : Type 0} → (B → Answer → Ask → B → Type 0) → (CpuId → ℕ → Bool → Type 0) → BankId → Limits → Driven B → Driven B → Type 0
+WasDriven polled answers bank limits old new = IsDriven polled answers bank limits old new new.ending
+
+-- and so do drives of processors
+pub kept_driven : {B : Type 0} (polled : B → Answer → Ask → B → Type 0) (kept : B → Type 0) → Keeps polled kept → (answers : CpuId → ℕ → Bool → Type 0) (bank : BankId) (limits : Limits) (olds news : List (Driven B)) → AllZip (WasDriven polled answers bank limits) olds news → All (Lasts kept) olds → All (Lasts kept) news
+kept_driven polled kept keeps answers bank limits [] [] zip before = before
+kept_driven polled kept keeps answers bank limits [] (y ∷ ys) zip before = absurd zip
+kept_driven polled kept keeps answers bank limits (x ∷ xs) [] zip before = absurd zip
+kept_driven polled kept keeps answers bank limits (x ∷ xs) (y ∷ ys) zip before =
+    All-cons (Lasts kept) y ys (kept_made polled kept keeps bank x.cpu y.cpu x.trace zip.0.v zip.0.turns zip.0.made (All-head (Lasts kept) x xs before)) (kept_driven polled kept keeps answers bank limits xs ys zip.1 (All-tail (Lasts kept) x xs before))
+
+take_front : {A : Type 0} (xs ys : List A) → take (length xs) (xs ++ ys) ≡ xs
+take_front [] ys = refl
+take_front (x ∷ xs) ys = ap (λ zs. x ∷ zs) (take_front xs ys)
+
+refilled_front : {A : Type 0} (xs ys : List A) (n : ℕ) → length xs ≡ n → take n (xs ++ ys) ≡ xs
+refilled_front {A = A} xs ys n long =
+    let F : ℕ → Type 0 = λ k. take k (xs ++ ys) ≡ xs in
+    subst F long (take_front xs ys)
+
+-- a vector whose items were lent as a slice has what was left there
+pub refilled : {A : Type 0} (news items : List A) (n : ℕ) → length news ≡ n → take n (news ++ drop (length news) items) ≡ news
+refilled {A = A} news items n long = refilled_front news (drop (length news) items) n long

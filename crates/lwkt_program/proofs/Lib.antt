@@ -1,0 +1,2 @@
+mod KeptMoves
+mod SeatMoves

@@ -1,0 +1,2 @@
+pub mod Machines
+pub mod Sitting

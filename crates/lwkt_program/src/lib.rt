@@ -1,0 +1,19 @@
+//! A machine for bodies of any kind: tokens, messages, and processors whose threads are the caller's own bodies. It is opened, its
+//! processors make turns, in rounds or each on a thread of its own, and at its close each token's row meets the law that was declared.
+#![tactic(auto)]
+
+pub mod closings;
+mod lanes;
+pub mod lasting;
+pub mod machines;
+pub mod makers;
+mod openings;
+mod seatings;
+pub mod steps;
+
+pub use closings::Closed;
+pub use lasting::Lasting;
+pub use lwkt_cpu::{Body, Turned};
+pub use lwkt_drive::{Ending, Limits};
+pub use machines::{LIMITS, Machine};
+pub use steps::{Stepper, Steps};

@@ -1,0 +1,7 @@
+//! Machines for bodies of any kind: worked rows, as tests.
+#![tactic(auto)]
+
+#[cfg(test)]
+mod listed;
+#[cfg(test)]
+mod rows;

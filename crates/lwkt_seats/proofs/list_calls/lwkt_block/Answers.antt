@@ -1,0 +1,8 @@
+use Rattle.lwkt_seats.specs.Calls.{GivesUpAll}
+use Rattle.lwkt_seats.proofs.Answering.{answered-at}
+use Rattle.lwkt_seats.proofs.list_calls.lwkt_block.Goals as goal
+
+pub returns-clause-does : goal.returns-clause-does
+returns-clause-does c =
+    answered-at c.desk.result.now c.args.bank.desk c.args.seat c.in-Ok.found.0.now c.in-Ok.found.1.value c.deref_mut-held.result.now c.block-first.new.seat (GivesUpAll c.args.restored.now c.tell_first.new.restored) c.tell_first.result c.desk.ensures c.deref_mut-held.ensures.value
+    c.in-Ok.ensures.ok c.block-first.ensures.same (c.block-first.result, (c.tell_first.ensures.is, c.block-first.ensures.does, c.tell_first.ensures.told))

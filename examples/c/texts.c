@@ -1,0 +1,142 @@
+// Tries what include/lwkt.h says of texts of the language and of all orders. It writes a line for each thing that isn't so, and last a
+// line that counts: `N passed, M failed`.
+#include <stdio.h>
+#include <stdlib.h>
+#include <string.h>
+
+#include "lwkt.h"
+
+static const char good[] =
+    "token word: any, cells 5\nthread only on 0:\n  get word; write word.0 7; rel word\nalways ended\nnever word.0 = 7\n";
+static const char report[] = "token 0 gen 1 cells 7\nthread 0.0 exited list - log -\nlawful\n4: holds\n5: doesn't hold\n";
+static const char wrong[] = "token word: any, cells 5\nthread only on 0:\n  get wort\n  wriet word.0 1\n";
+static const char crossed[] =
+    "message one of here; message other of there\nthread here on 0:\n  do one -> there\nthread there on 1:\n  do other -> here\n";
+
+static int passed, failed;
+
+static void count(int is, const char *what) {
+    is ? (passed += 1) : (failed += 1, printf("texts: %s\n", what));
+}
+
+static const uint8_t *bytes(const char *text) {
+    return (const uint8_t *)text;
+}
+
+typedef uint32_t text_call(const uint8_t *script, size_t length, uint8_t *text, size_t room, lwkt_answer *answer);
+
+static uint32_t explore(const uint8_t *script, size_t length, uint8_t *text, size_t room, lwkt_answer *answer) {
+    return lwkt_explore_orders(script, length, 1000, 1000, text, room, answer);
+}
+
+// A call: its status, its fault, and what its text begins with.
+static void try_call(text_call *call, const char *script, uint32_t wanted, uint32_t fault, const char *begin) {
+    static uint8_t text[65536];
+    lwkt_answer answer = {7, 7, 7};
+    uint32_t status = call(bytes(script), strlen(script), text, sizeof text, &answer);
+    count(status == wanted && answer.fault == fault && answer.place == 0 && answer.length >= strlen(begin)
+              && memcmp(text, begin, strlen(begin)) == 0,
+          begin);
+}
+
+// A call with room for so many bytes: the front of its text stands there, and what lies behind stays.
+static void try_room(text_call *call, size_t room) {
+    static uint8_t whole[65536];
+    lwkt_answer all = {7, 7, 7}, answer = {7, 7, 7};
+    uint8_t *text = malloc(room + 16);
+    if (text == NULL) exit(3);
+    memset(text, 0xa5, room + 16);
+    uint32_t wanted = call(bytes(good), strlen(good), whole, sizeof whole, &all);
+    uint32_t status = call(bytes(good), strlen(good), text, room, &answer);
+    size_t front = room < all.length ? room : all.length;
+    int is = status == wanted && answer.length == all.length && memcmp(text, whole, front) == 0;
+    for (size_t i = front; i < room + 16; i += 1) is = is && text[i] == 0xa5;
+    count(is, "a text in a buffer");
+    free(text);
+}
+
+static void try_forms(void) {
+    static const char json[] = "{\"version\":1}";
+    count(lwkt_is_text(bytes(good), strlen(good)) == 1, "a text is one");
+    count(lwkt_is_text(bytes(wrong), strlen(wrong)) == 1, "one that is refused too");
+    count(lwkt_is_text(bytes(json), strlen(json)) == 0, "JSON is none");
+    count(lwkt_is_text(bytes("true"), 4) == 0, "nor is a word of JSON");
+    count(lwkt_is_text(bytes("[["), 2) == 0, "nor what begins as JSON");
+    count(lwkt_is_text(bytes(""), 0) == 0, "nor nothing");
+}
+
+// A text's JSON runs as the text does.
+static void try_json(void) {
+    static uint8_t json[65536], text[65536];
+    lwkt_answer answer = {7, 7, 7};
+    uint32_t status = lwkt_text_json(bytes(good), strlen(good), json, sizeof json, &answer);
+    count(status == 0 && answer.fault == 0 && lwkt_is_text(json, answer.length) == 0, "a text in JSON");
+    size_t length = strlen(report) - strlen("4: holds\n5: doesn't hold\n");
+    status = lwkt_run_turns(json, answer.length, text, sizeof text, &answer);
+    count(status == 0 && answer.length == length && memcmp(text, report, length) == 0, "the JSON of a text, run");
+}
+
+// A text of more than 1048576 bytes is none; what it says can be read all the same.
+static void try_long(void) {
+    size_t size = 1048577;
+    uint8_t *text = malloc(size), *json = malloc(size);
+    lwkt_answer answer = {7, 7, 7};
+    if (text == NULL || json == NULL) exit(3);
+    memset(text, '#', size);
+    count(lwkt_is_text(text, size - 1) == 1 && lwkt_is_text(text, size) == 0, "a text that is too long");
+    count(lwkt_text_json(text, size, json, size, &answer) == 0, "a comment is a text without a sentence");
+    free(text);
+    free(json);
+}
+
+static void try_orders(void) {
+    static uint8_t text[4096];
+    static const char part[] = "; a part\n4: holds of what was found\n5: holds of what was found\n";
+    size_t length = strlen(part);
+    lwkt_answer answer = {7, 7, 7};
+    uint32_t status = lwkt_explore_orders(bytes(good), strlen(good), 2, 1000, text, sizeof text, &answer);
+    count(status == 5 && answer.length < sizeof text && memcmp(text + answer.length - length, part, length) == 0, "a bound on states");
+    status = lwkt_explore_orders(bytes(good), strlen(good), 1000, 1, text, sizeof text, &answer);
+    count(status == 5 && memcmp(text, "outcome 1 cut, order 0\n", 23) == 0, "a bound on turns");
+    status = lwkt_explore_orders(bytes(good), strlen(good), 0, 0, text, sizeof text, &answer);
+    count(status == 5, "bounds of nothing");
+}
+
+// A run along an order, and one along an order that names a processor that isn't there.
+static void try_along(void) {
+    static uint8_t json[65536], text[65536];
+    static const char along[] = "turns --order 0000", absent[] = "turns --order 01", first[] = "turn 0, round 0, processor 0, ";
+    static const char why[] = "lwkt_show: the order names a processor that the script doesn't have\n";
+    lwkt_answer answer = {7, 7, 7};
+    lwkt_text_json(bytes(good), strlen(good), json, sizeof json, &answer);
+    size_t length = answer.length;
+    uint32_t status = lwkt_show_turns(json, length, bytes(along), strlen(along), text, sizeof text, &answer);
+    count(status == 0 && answer.fault == 0 && memcmp(text, first, strlen(first)) == 0, "a run along an order");
+    status = lwkt_show_turns(json, length, bytes(absent), strlen(absent), text, sizeof text, &answer);
+    count(status == 1 && answer.fault == 30 && answer.length == strlen(why) && memcmp(text, why, answer.length) == 0, "a processor that isn't there");
+}
+
+int main(void) {
+    try_forms();
+    try_json();
+    try_long();
+    try_orders();
+    try_along();
+    try_call(lwkt_run_text, good, 5, 0, report);
+    try_call(lwkt_run_text, wrong, 1, 33, "3:7: a token is wanted here (word?)\n      get wort\n          ^\n4:3: no sentence begins with");
+    try_call(lwkt_text_json, wrong, 1, 33, "3:7: a token is wanted here (word?)\n");
+    try_call(explore, wrong, 1, 33, "3:7: a token is wanted here (word?)\n");
+    try_call(explore, good, 5, 0, "outcome 1 ended, order 0 0 0 0\ntoken 0 gen 1 cells 7\n");
+    try_call(explore, crossed, 2, 0, "outcome 1 stuck, order 0 1 0\n");
+    try_call(lwkt_run_text, crossed, 2, 0, "message 0 round 1 out\n");
+    try_call(lwkt_run_text, "token sums: sum 10, cells 5 6", 1, 40, "lwkt_run: the opening of token sums: ");
+    try_call(explore, "token sums: sum 10, cells 5 6", 1, 40, "lwkt_explore: the opening of token sums: ");
+    try_call(explore, "[", 1, 33, "lwkt_explore: ");
+    for (size_t room = 0; room < 200; room += 7) {
+        try_room(lwkt_text_json, room);
+        try_room(lwkt_run_text, room);
+        try_room(explore, room);
+    }
+    printf("%d passed, %d failed\n", passed, failed);
+    return failed != 0;
+}

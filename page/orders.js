@@ -1,0 +1,80 @@
+"use strict";
+// Every order of turns of a script: what the library writes of a search, read and shown.
+
+// A search begins with few states and goes on with four times as many, so that what was found so far is soon seen.
+const firstStates = 1000;
+
+// The processors of an order as it is written, `0 1 0`, or `-` for no turn.
+function orderOf(text) {
+  return (text.match(/\d/g) || []).map(Number);
+}
+
+// An outcome's first line: `outcome 1 stuck, order 0 1 0`.
+function readOutcome(line) {
+  const found = /^outcome (\d+) (ended|stuck|cut), order (.*)$/.exec(line);
+  return found && { number: Number(found[1]), kind: found[2], order: orderOf(found[3]), report: [], why: [] };
+}
+
+// The last line: `3 outcomes; 211 states, 422 turns; complete`.
+function readSum(line) {
+  const found = /^(\d+) outcomes?; (\d+) states?, (\d+) turns; (complete|a part)$/.exec(line);
+  return found && { outcomes: Number(found[1]), states: Number(found[2]), turns: Number(found[3]), isComplete: found[4] === "complete" };
+}
+
+// All that a search writes.
+function readOrders(text) {
+  const lines = text.split("\n"), read = { outcomes: [], lost: null, sum: null, verdicts: verdictsIn(lines) };
+  for (const line of lines) {
+    const outcome = readOutcome(line), last = read.outcomes[read.outcomes.length - 1];
+    if (outcome) read.outcomes.push(outcome);
+    else if (readVerdict(line)) continue;
+    else if (line.startsWith("lost: ")) read.lost = line.slice(6);
+    else if (readSum(line)) read.sum = readSum(line);
+    else if (line.startsWith("why: ") && last) last.why = line.slice(5).split("; ");
+    else if (line && last) last.report.push(line);
+  }
+  return read;
+}
+
+const outcomeKinds = { ended: ["ended", "every thread ended"], stuck: ["waits", "stuck: no turn changes anything any more"], cut: ["ready", "cut off by a bound"] };
+
+// A button that replays an order.
+function replayButton(order, go, name) {
+  return make("button", { type: "button", class: "small", "data-replay": name, "aria-label": `Replay ${name} step by step`, onclick: () => go(order) }, "Replay step by step");
+}
+
+// What is said of states from which no end can be reached.
+function lostParts(lost, go) {
+  const found = lost && /^(.* after order) (.*)$/.exec(lost);
+  if (!found) return [];
+  const order = orderOf(found[2]);
+  const words = order.length ? [`Lost: ${found[1]} `, make("code", { class: "order" }, found[2]), " "] : [`Lost: ${found[1].replace(/; (the first)? ?after order$/, (_, first) => `; ${first || "it"} is the opening`)}`];
+  return order.length ? [...words, replayButton(order, go, "the way to the first lost state")] : words;
+}
+
+// An outcome with its kind, its order, its report, and why its threads are stuck.
+function outcomeItem(outcome, go) {
+  const [chip, words] = outcomeKinds[outcome.kind];
+  const order = outcome.order.length ? outcome.order.join(" ") : "no turn at all";
+  const whys = outcome.why.length ? make("ul", { class: "why" }, ...outcome.why.map((why) => make("li", {}, why))) : null;
+  const turns = outcome.order.length === 1 ? "1 turn" : `${outcome.order.length} turns`;
+  return make("li", { "data-kind": outcome.kind },
+    make("h4", {}, `Outcome ${outcome.number} `, make("span", { class: `chip ${chip}` }, words)),
+    make("p", {}, `After ${turns}, of the processors in this order: `, make("code", { class: "order" }, order)),
+    make("p", {}, replayButton(outcome.order, go, `outcome ${outcome.number}`)),
+    make("pre", { tabindex: "0", "aria-label": `Report of outcome ${outcome.number}` }, outcome.report.join("\n")), whys);
+}
+
+// What was searched, in words.
+function sumWords({ sum }, isLast) {
+  const states = sum.states === 1 ? "1 state" : `${sum.states} states`;
+  const found = sum.outcomes === 1 ? "1 outcome" : `${sum.outcomes} outcomes`;
+  const rest = sum.isComplete ? "Every order was tried." : isLast ? "Not every order was tried: there may be more outcomes." : "Going on ..";
+  return `${found} in ${states}, ${sum.turns} turns. ${rest}`;
+}
+
+// The bounds of a search, one after another, the last being the one that was asked for.
+function* boundsUpTo(most) {
+  for (let states = firstStates; states < most; states *= 4) yield states;
+  yield most;
+}
