@@ -1,7 +1,6 @@
 // The page in a browser: page.mjs BROWSER PAGE [STANDIN]. With a third word the module's place is taken by the programs of this tree.
 import { readFileSync } from "node:fs";
 import { createServer } from "node:http";
-import { cpus, loadavg } from "node:os";
 import { fileURLToPath } from "node:url";
 import { Browser } from "./browser.mjs";
 import { openable } from "./standin.mjs";
@@ -533,9 +532,11 @@ async function tryLong(tab) {
   const [longest, frames, task] = await tab.ask(`window.watching = false, [Math.max(...window.gaps), window.gaps.length, Math.max(0, ...window.tasks)]`);
   const tasks = await browser.tasksOf();
   check(tasks.count > 0 && tasks.longest < 100, `no task of the page took 100 ms of a processor: ${tasks.longest.toFixed(0)} ms at most, of ${tasks.count}`);
-  // On a machine that does other work a frame waits for a processor, whatever the page does.
-  check(longest < 100 || loadavg()[0] > cpus().length / 2, `no frame was longer than 100 ms: ${longest.toFixed(0)} ms at most`);
-  console.log(`a million turns: ${frames} frames, the longest ${longest.toFixed(0)} ms; the longest task of the page ${task.toFixed(0)} ms, and ${tasks.longest.toFixed(0)} ms of a processor; the run took ${await tab.ask("run.milliseconds.toFixed(0)")} ms`);
+  // A frozen page would show no frame as long as the run goes on. How long a frame waits for a processor depends on the machine, also
+  // on one that does nothing else, so what the page itself takes of one is asked above.
+  const taken = await tab.ask("run.milliseconds");
+  check(longest < taken / 3, `the page went on showing frames: the longest took ${longest.toFixed(0)} ms, the run ${taken.toFixed(0)}`);
+  console.log(`a million turns: ${frames} frames, the longest ${longest.toFixed(0)} ms; the longest task of the page ${task.toFixed(0)} ms, and ${tasks.longest.toFixed(0)} ms of a processor; the run took ${taken.toFixed(0)} ms`);
 }
 
 async function tryStop(tab) {
