@@ -3,3 +3,4 @@ mod Answering
 mod Placing
 mod ListMoves
 mod BlockMoves
+mod BriefMoves
