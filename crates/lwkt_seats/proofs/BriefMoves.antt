@@ -157,7 +157,7 @@ judges tok s s' judged.NoToken does = same s s' does.1
 judges tok s s' judged.NotHeld does = same s s' does.2
 judges tok s s' judged.SharedWrite does = same s s' does.2
 
-tally_or_not : (law : Law) → (law ≡ Tally) ⊎ (law ≢ Tally)
+pub tally_or_not : (law : Law) → (law ≡ Tally) ⊎ (law ≢ Tally)
 tally_or_not Any = inr (λ is. cc)
 tally_or_not Sum = inr (λ is. cc)
 tally_or_not Order = inr (λ is. cc)

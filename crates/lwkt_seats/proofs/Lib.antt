@@ -4,3 +4,4 @@ mod Placing
 mod ListMoves
 mod BlockMoves
 mod BriefMoves
+mod CloseMoves

@@ -7,6 +7,9 @@ mod answers;
 mod asks;
 mod blocks;
 mod cells;
+mod close_calls;
+mod closes;
+mod closings;
 mod desks;
 mod exports;
 mod handles;
@@ -21,6 +24,8 @@ mod resumes;
 mod spots;
 mod tokens;
 
+pub use close_calls::lwkt_bank_close;
+pub use closings::LwktClosing;
 pub use exports::{
     lwkt_add, lwkt_again, lwkt_give, lwkt_lawful, lwkt_load, lwkt_mark, lwkt_restore, lwkt_share,
     lwkt_store, lwkt_take,

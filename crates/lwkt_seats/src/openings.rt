@@ -73,6 +73,8 @@ fn places_for(
 fn desk_of(alloc: Global, bank: Bank, seats: Vec<CpuSeat>) -> Result<Box<Desk>, AllocError>
     requires out { AreHandedOut (id_of bank) seats.items }
     requires all { length seats.items ≡ cpus_of bank }
+    requires some { 0 < length seats.items }
+    requires few { length seats.items ≤ 8 }
     ensures { IfOk result (λ desk. length desk.value.places.items ≡ length seats.items) }
 {
     let bank = Arc::new(alloc, bank).map_err(|_| AllocError)?;
