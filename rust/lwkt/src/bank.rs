@@ -617,7 +617,7 @@ impl Resumed<'_> {
     }
 
     /// Gives up all; answers the first token whose row and record broke the law, if there is one: they are the first ones again.
-    pub fn block(mut self) -> Option<u32> {
+    pub fn block(self) -> Option<u32> {
         let restored = self.seat.block();
         std::mem::forget(self);
         restored
