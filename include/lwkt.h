@@ -344,8 +344,8 @@ uint32_t lwkt_write_record(lwkt_bank bank, uint32_t seat, uint32_t token, const 
 //
 // Refused with 30, 50, 51. Else what is no list is refused before any token is asked for, at the first place where it is so: with 16;
 // with 39 for another mode; with 10 behind 32 references; with 11 for an exclusive reference to a token whose first one is shared. Else
-// with 20, 23 or 34 at the reference that is missed. `missed` is the place then, 0 for the first; with 0, 30, 50 and 51 it stays as it
-// was. `list` is at `count` references.
+// with 20, 23 or 34 at the reference that is missed. `missed` is the place then, 0 for the first; with 0, 30, 50, 51 and 52 it stays as
+// it was. `list` is at `count` references.
 uint32_t lwkt_resume(lwkt_bank bank, uint32_t seat, const lwkt_reference *list, size_t count, size_t *missed);
 
 // Gives up all that the seat holds, reference by reference, as a thread does that goes to sleep. A section that has broken its law

@@ -169,6 +169,7 @@ module _ (desk : Desk) (xs : List (Box Sitter)) (free : AreFree desk xs) (bank :
         seated = λ k s here. seated_at desk xs free k s (subst (λ (ss : List CpuSeat). slice_get ss k ≡ Some s) are here);
         ready = all_ready desk xs free bank seats are of;
         is_closed = is;
+        lawful = λ tok below. (is.each tok below).lawful;
         sized = sized bank seats closed (omega (arith, few, many, places)) is;
         fits = fits;
       }

@@ -1,6 +1,6 @@
 //! A bank of tokens for C, with a seat for each of the caller's threads; include/lwkt.h declares the calls. A bank's *desk* has a
 //! *place* for each seat, where it rests between calls: a call takes the seat out and puts it back, so a second call on it at the
-//! same time finds the place empty, and says so.
+//! same time finds the place empty, and says so. A close takes all seats out, and marks their places as closed for good.
 #![tactic(auto)]
 
 mod answers;

@@ -34,9 +34,9 @@ fn tell_record(read: RecordRead, buffer: &mut [u8], length: &mut usize) -> u32
 /// The record of a token that the seat holds exclusively, put into the buffer as far as this has room; `length` is how many bytes it
 /// has.
 ///
-/// 0, the bytes and their number, at most 64; or 16 where there is no such token, else 17 where it guards no record, else 13 where the seat
-/// doesn't hold it, else 37 where it holds it shared. 30 where there is no seat of this number, 50 while another call has it. Buffer
-/// and `length` stay as they were but with 0.
+/// 0, the bytes and their number, at most 64; or 16 where there is no such token, else 17 where it guards no record, else 13 where the
+/// seat doesn't hold it, else 37 where it holds it shared. 30 where there is no seat of this number, 50 while another call has it, 52
+/// where the bank is closed. Buffer and `length` stay as they were but with 0.
 #[unsafe(no_mangle)]
 pub extern "C" fn lwkt_read_record(
     bank: LwktBank,
@@ -62,7 +62,8 @@ pub extern "C" fn lwkt_read_record(
 /// Writes the record of a token.
 ///
 /// 0; or 16 where there is no such token, else 17 where it guards no record, else 13 where the seat doesn't hold it, else 37 where it
-/// holds it shared, else 38 for more than 64 bytes. 30 where there is no seat of this number, 50 while another call has it.
+/// holds it shared, else 38 for more than 64 bytes. 30 where there is no seat of this number, 50 while another call has it, 52 where
+/// the bank is closed.
 #[unsafe(no_mangle)]
 pub extern "C" fn lwkt_write_record(bank: LwktBank, seat: u32, token: u32, bytes: &[u8]) -> u32
     ensures { Answers bank.desk seat (WritesRecord token bytes.now) result }
