@@ -174,8 +174,11 @@ uint32_t lwkt_word_give_written(uint64_t word, uint64_t *next);
 //     lwkt_load(bank, 1, 0, 0, &value);
 //     lwkt_store(bank, 1, 0, 0, value + 1);
 //     lwkt_give(bank, 1, 0);
+//     // when all threads have ended:
+//     lwkt_closing closing;
+//     status = lwkt_bank_close(bank, &closing, 1);
 //
-// Status. 0 where the call did what it says; else a number, as docs/FORMATS.md has the faults, but for 50 and 51:
+// Status. 0 where the call did what it says; else a number, as docs/FORMATS.md has the faults, but for 50, 51 and 52:
 //
 //     10 the seat has 32 references              19 row or record break the law of the token
 //     11 exclusive, where it is held shared      20 the token is at its last generation, 70368744177663
@@ -187,11 +190,15 @@ uint32_t lwkt_word_give_written(uint64_t word, uint64_t *next);
 //     37 a record, and it is held shared         38 a record of more than 64 bytes
 //     39 a limit is passed                       50 another call has the seat
 //     40 an opening row breaks its law           51 the seat holds a token
+//                                                52 the bank is closed
 //
 // Of several that apply a function's list says which one comes: the one that stands first. Where a call is refused, nothing has
-// changed that a later call could tell, but that the seat may have looked at the token's word, loaded its row or read its record. Two
-// calls differ: `lwkt_block` gives all up where it answers 19, and `lwkt_resume` has held the references in front of one that it missed
-// for a while, so that the mark of a token among them that it held exclusively is cleared.
+// changed that a later call could tell, but that the seat may have looked at the token's word, loaded its row or read its record. Three
+// calls differ: `lwkt_block` gives all up where it answers 19, `lwkt_resume` has held the references in front of one that it missed
+// for a while, so that the mark of a token among them that it held exclusively is cleared, and `lwkt_bank_close` may give the bank up
+// where it answers 32.
+//
+// Each call on a seat answers 52 on a bank that is closed, in place of what its list says; but 30 stays 30.
 //
 // What the caller owes, beside what stands at the head of this file:
 //
@@ -199,11 +206,13 @@ uint32_t lwkt_word_give_written(uint64_t word, uint64_t *next);
 // - No more. Two calls at once on one seat are two calls: one of them may answer 50. A token that is held when its thread ends
 //   stays held by its seat, from which any thread may go on.
 //
-// A bank stays to the end of the process: its memory, about 10 KB for each seat and 330 bytes for each token, isn't given back.
+// A bank takes about 10 KB for each seat and 330 bytes for each token. `lwkt_bank_close` gives that back but for less than 400 bytes, so
+// that the handle can be used on: those, and a bank that isn't closed, stay to the end of the process.
 #define LWKT_BUSY 23u
 #define LWKT_RACE 34u
 #define LWKT_SEAT_IN_USE 50u
 #define LWKT_SEAT_HOLDS 51u
+#define LWKT_BANK_CLOSED 52u
 
 #define LWKT_LAW_ANY 0u
 #define LWKT_LAW_SUM 1u
@@ -244,6 +253,22 @@ typedef struct lwkt_reference {
 #define LWKT_SHARED 0u
 #define LWKT_EXCLUSIVE 1u
 
+// What a token came to at a close. What lies past a number is 0.
+typedef struct lwkt_closing {
+    uint64_t cells[4];
+    // The generation: the opening one and one for each section that left another row or record.
+    uint64_t generation;
+    // Under LWKT_LAW_TALLY what each seat has added.
+    uint64_t tallies[8];
+    uint32_t cell_count;
+    // How many seats the bank has, under LWKT_LAW_TALLY; else 0.
+    uint32_t tally_count;
+    uint8_t record[LWKT_RECORD_ROOM];
+    uint32_t record_length;
+    // 1 where the token guards a record, else 0.
+    uint32_t record_count;
+} lwkt_closing;
+
 // A bank. Its member is the library's.
 typedef struct lwkt_bank {
     void *place;
@@ -253,6 +278,16 @@ typedef struct lwkt_bank {
 // Refused with 39 where a limit is passed: 1 to 8 seats, at most 64 tokens, what stands at `lwkt_token`; with 40 where the opening
 // row of a token, with the length of its record, breaks its law; with 32.
 uint32_t lwkt_bank_open(const lwkt_token *tokens, size_t count, uint32_t seats, lwkt_bank *bank);
+
+// Closes a bank, and stores what each of its tokens came to in the place of its number: `closings` has so many places, at least one for
+// each token, and those behind the last token stay as they were. From then on each call on the bank answers 52. No seat may hold a
+// token: `lwkt_block` gives up what one holds.
+//
+// Refused, at the first seat for which it is so, with 52 where the bank is closed, with 50 while another call has the seat, and with 51
+// where it holds a token; else with 39 where the bank has more tokens than there are places; with 32. While the call is at work, others
+// may answer 50. Of several closes at once one at most answers 0. With another status than 0 `closings` stays as it was, and the bank
+// too: but with 32 it may be given up, with what its tokens came to, and later calls then answer 52.
+uint32_t lwkt_bank_close(lwkt_bank bank, lwkt_closing *closings, size_t count);
 
 // Asks for an exclusive reference to a token, without waiting: a first one, or where the seat holds it exclusively a further one.
 // Refused with 30, 50, 16, 10, 11; and where the seat doesn't hold it, with 20, 23 or 34.
@@ -309,8 +344,8 @@ uint32_t lwkt_write_record(lwkt_bank bank, uint32_t seat, uint32_t token, const 
 //
 // Refused with 30, 50, 51. Else what is no list is refused before any token is asked for, at the first place where it is so: with 16;
 // with 39 for another mode; with 10 behind 32 references; with 11 for an exclusive reference to a token whose first one is shared. Else
-// with 20, 23 or 34 at the reference that is missed. `missed` is the place then, 0 for the first; with 0, 30, 50 and 51 it stays as it
-// was. `list` is at `count` references.
+// with 20, 23 or 34 at the reference that is missed. `missed` is the place then, 0 for the first; with 0, 30, 50, 51 and 52 it stays as
+// it was. `list` is at `count` references.
 uint32_t lwkt_resume(lwkt_bank bank, uint32_t seat, const lwkt_reference *list, size_t count, size_t *missed);
 
 // Gives up all that the seat holds, reference by reference, as a thread does that goes to sleep. A section that has broken its law

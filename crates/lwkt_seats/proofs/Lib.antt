@@ -3,3 +3,5 @@ mod Answering
 mod Placing
 mod ListMoves
 mod BlockMoves
+mod BriefMoves
+mod CloseMoves

@@ -211,7 +211,10 @@ far n some apart below names = elim names [
   | inl none ↦ absurd (omega (arith, some, none))
   | inr more ↦ elim more [
     | inl seat ↦ apart seat
-    | inr last ↦ elim last [ inl used ↦ absurd (omega (arith, below, used)) | inr held ↦ absurd (omega (arith, below, held)) ]
+    | inr last ↦ elim last [
+      | inl used ↦ absurd (omega (arith, below, used))
+      | inr further ↦ elim further [ inl held ↦ absurd (omega (arith, below, held)) | inr closed ↦ absurd (omega (arith, below, closed)) ]
+    ]
   ]
 ]
 

@@ -14,10 +14,10 @@ IsPlaced desk number spot = slice_get desk.places.items number ≡ Some spot
 abbrev pub IsSeatOf : Desk → ℕ → CpuSeat → Type 0
 IsSeatOf desk number s = (spot : Spot) × (IsPlaced desk number spot × (bank_of s ≡ id_of (arc_value spot.bank)) × (s.cpu.0 ≡ number))
 
--- there is no seat of this number; or another call has it, or the bank is closed; or the seat was so when the call came, and is
--- so when it is over, and the answer tells what came of it
+-- there is no seat of this number; or another call has it, 50, or the bank is closed, 52; or the seat was so when the call came, and
+-- is so when it is over, and the answer tells what came of it
 abbrev pub Answers : Desk → ℕ → (CpuSeat → CpuSeat → ℕ → Type 0) → ℕ → Type 0
 Answers desk number Does answer =
     ((answer ≡ 30) × (length desk.places.items ≤ number))
-    ⊎ ((answer ≡ 50) × (number < length desk.places.items))
+    ⊎ (((answer ≡ 50) ⊎ (answer ≡ 52)) × (number < length desk.places.items))
     ⊎ ((old : CpuSeat) × ((new : CpuSeat) × (IsSeatOf desk number old × IsSeatOf desk number new × Does old new answer)))

@@ -8,5 +8,7 @@ pub mod Seated
 pub mod Spots
 pub mod Calls
 pub mod Desks
+pub mod Closes
+pub mod Closings
 pub mod Openings
 pub mod Handles

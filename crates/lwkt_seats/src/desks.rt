@@ -1,34 +1,41 @@
 //! The desk of a bank: for each processor a place where its seat rests between calls.
-ghost use Rattle.std.specs.Prelude.{◌≡◌, ◌⊎◌, ◌<◌, ◌≤◌, ℕ, length, IfOk, IfErr, IfSome, slice_get, Some};
-ghost use Rattle.std.specs.Arc.{arc_value};
-ghost use Rattle.lwkt_bank.specs.Seats.{id_of, bank_of};
-ghost use Rattle.lwkt_seats.specs.declared.spots.Spot.{Spot};
+ghost use Rattle.std.specs.Prelude.{◌≡◌, ◌⊎◌, ◌<◌, ◌≤◌, length, IfOk, IfErr, IfSome};
 ghost use Rattle.lwkt_seats.specs.Seated.{IsSeated};
 ghost use Rattle.lwkt_seats.specs.Spots.{AreSpots};
 
 use crate::spots::{Sitter, Spot, Stall};
-use counted_slot::{Counted, FREE, PRESENT, TAKEN};
+use counted_slot::{Counted, FREE, MARKED, PRESENT, TAKEN};
 
 /// What the library answers where there is no seat of the number.
 pub const NO_SEAT: u32 = 30;
 
-/// What it answers while another call has the seat, and after the close.
+/// What it answers while another call has the seat.
 pub const IN_USE: u32 = 50;
 
-/// A place for a seat. While its word is `PRESENT`, a call has the seat.
+/// What it answers where the bank is closed.
+pub const CLOSED: u32 = 52;
+
+/// A place for a seat. While its word is `PRESENT`, a call has the seat; once it is `MARKED`, the bank is closed.
 pub type Place = Counted<Option<Stall>>;
 
-/// Takes the seat from its place, if it rests there.
-pub(crate) fn take_out(place: &Place) -> Option<Box<Sitter>>
-    ensures { IfSome result (λ sitter. IsSeated place.now sitter.value) }
+/// Takes the seat from its place, if it rests there: else `IN_USE`, or `CLOSED`.
+pub(crate) fn take_out(place: &Place) -> Result<Box<Sitter>, u32>
+    ensures ok { IfOk result (λ sitter. IsSeated place.now sitter.value) }
+    ensures err { IfErr result (λ answer. (answer ≡ 50) ⊎ (answer ≡ 52)) }
 {
     let (found, claim) = place.turn(FREE, TAKEN);
+    if found == MARKED {
+        claim.done();
+        return Err(CLOSED);
+    }
     if found != FREE {
         claim.done();
-        return None;
+        return Err(IN_USE);
     }
-    let stall = claim.put(None, PRESENT)?;
-    Some(stall.into_sitter())
+    match claim.put(None, PRESENT) {
+        Some(stall) => Ok(stall.into_sitter()),
+        None => Err(IN_USE),
+    }
 }
 
 /// Puts the seat back in its place.
@@ -43,27 +50,44 @@ pub(crate) fn put_back(place: &Place, sitter: Box<Sitter>)
     let _ = claim.put(Some(Stall::of(sitter)), FREE);
 }
 
-/// The places of a bank's seats, by processor.
+/// Shuts a place that is empty for good.
+pub(crate) fn shut(place: &Place) {
+    let (found, claim) = place.turn(PRESENT, TAKEN);
+    if found != PRESENT {
+        claim.done();
+        return;
+    }
+    let _ = claim.put(None, MARKED);
+}
+
+/// The places of a bank's seats, by processor: 1 to 8.
 #[derive(Drop)]
 pub struct Desk {
     pub(crate) places: Vec<Place>,
     ghost spots: { AreSpots places.items },
+    ghost some: { 0 < length places.items },
+    ghost few: { length places.items ≤ 8 },
 }
 
 impl Desk {
     ghost use Rattle.lwkt_seats.specs.Desks.{IsPlaced};
 
-    /// The seat of this number, taken from its place: `NO_SEAT` where there is none, `IN_USE` where it doesn't rest.
+    /// The place of this number, if there is one.
+    pub(crate) fn place(&self, number: usize) -> Option<&Place>
+        ensures { IfSome result (λ place. IsPlaced self.now number place.now) }
+    {
+        self.places.get(number)
+    }
+
+    /// The seat of this number, taken from its place: `NO_SEAT` where there is none, `IN_USE` or `CLOSED` where it doesn't rest.
     pub(crate) fn seat(&self, number: u32) -> Result<(&Place, Box<Sitter>), u32>
         ensures ok { IfOk result (λ found. IsPlaced self.now number found.0.now × IsSeated found.0.now found.1.value) }
-        ensures err { IfErr result (λ answer. ((answer ≡ 30) × (length self.now.places.items ≤ number)) ⊎ ((answer ≡ 50) × (number < length self.now.places.items))) }
+        ensures err { IfErr result (λ answer. ((answer ≡ 30) × (length self.now.places.items ≤ number)) ⊎ (((answer ≡ 50) ⊎ (answer ≡ 52)) × (number < length self.now.places.items))) }
     {
         let Some(place) = self.places.get(number as usize) else {
             return Err(NO_SEAT);
         };
-        match take_out(place) {
-            Some(sitter) => Ok((place, sitter)),
-            None => Err(IN_USE),
-        }
+        let sitter = take_out(place)?;
+        Ok((place, sitter))
     }
 }

@@ -38,7 +38,7 @@ fn tell_added(added: Added, value: &mut u64) -> u32
 /// Asks for an exclusive reference: a first one, or a further one where the seat holds the token exclusively.
 ///
 /// 0; or 16 where there is no such token, else 10 where the seat has 32 references, else 11 where it holds the token shared; and
-/// where it doesn't hold it, 20 at the last generation, 23 where another seat holds it, 34 where another seat's step came between. 30 where there is no seat of this number, 50 while another call has it.
+/// where it doesn't hold it, 20 at the last generation, 23 where another seat holds it, 34 where another seat's step came between. 30 where there is no seat of this number, 50 while another call has it, 52 where the bank is closed.
 #[unsafe(no_mangle)]
 pub extern "C" fn lwkt_take(bank: LwktBank, seat: u32, token: u32) -> u32
     ensures { Answers bank.desk seat (Takes Exclusive token) result }
@@ -55,7 +55,7 @@ pub extern "C" fn lwkt_take(bank: LwktBank, seat: u32, token: u32) -> u32
 
 /// Asks for a shared reference: a first one, or a further one, of whatever mode, where the seat holds the token.
 ///
-/// 0; or 16, 10, 23 and 34 as `lwkt_take`; 23 also where the mark of an exclusive request holds off a seat that has no reference. 30 where there is no seat of this number, 50 while another call has it.
+/// 0; or 16, 10, 23 and 34 as `lwkt_take`; 23 also where the mark of an exclusive request holds off a seat that has no reference. 30 where there is no seat of this number, 50 while another call has it, 52 where the bank is closed.
 #[unsafe(no_mangle)]
 pub extern "C" fn lwkt_share(bank: LwktBank, seat: u32, token: u32) -> u32
     ensures { Answers bank.desk seat (Takes Shared token) result }
@@ -72,7 +72,7 @@ pub extern "C" fn lwkt_share(bank: LwktBank, seat: u32, token: u32) -> u32
 
 /// One reference more of a token that the seat holds, in the mode of its first.
 ///
-/// 0; or 16 where there is no such token, else 13 where the seat doesn't hold it, else 10 where it has 32 references. 30 where there is no seat of this number, 50 while another call has it.
+/// 0; or 16 where there is no such token, else 13 where the seat doesn't hold it, else 10 where it has 32 references. 30 where there is no seat of this number, 50 while another call has it, 52 where the bank is closed.
 #[unsafe(no_mangle)]
 pub extern "C" fn lwkt_again(bank: LwktBank, seat: u32, token: u32) -> u32
     ensures { Answers bank.desk seat (GainsOne token) result }
@@ -89,7 +89,7 @@ pub extern "C" fn lwkt_again(bank: LwktBank, seat: u32, token: u32) -> u32
 
 /// Marks a token for an exclusive request.
 ///
-/// 0; or 16 where there is no such token. 30 where there is no seat of this number, 50 while another call has it.
+/// 0; or 16 where there is no such token. 30 where there is no seat of this number, 50 while another call has it, 52 where the bank is closed.
 #[unsafe(no_mangle)]
 pub extern "C" fn lwkt_mark(bank: LwktBank, seat: u32, token: u32) -> u32
     ensures { Answers bank.desk seat (SetsMark token) result }
@@ -107,7 +107,7 @@ pub extern "C" fn lwkt_mark(bank: LwktBank, seat: u32, token: u32) -> u32
 /// Gives a reference back.
 ///
 /// 0; or 16 where there is no such token, else 13 where the seat doesn't hold it, else 19 where it is the last reference of an
-/// exclusive holder, and row and record don't obey the law: the token stays held. 30 where there is no seat of this number, 50 while another call has it.
+/// exclusive holder, and row and record don't obey the law: the token stays held. 30 where there is no seat of this number, 50 while another call has it, 52 where the bank is closed.
 #[unsafe(no_mangle)]
 pub extern "C" fn lwkt_give(bank: LwktBank, seat: u32, token: u32) -> u32
     ensures { Answers bank.desk seat (GivesBack token) result }
@@ -125,7 +125,7 @@ pub extern "C" fn lwkt_give(bank: LwktBank, seat: u32, token: u32) -> u32
 /// Stores a value in a cell.
 ///
 /// 0; or 16 where there is no such token, else 17 where it has no such cell, else 13 where the seat doesn't hold it, else 18 where
-/// it holds it shared, else 22 for a Tally token. 30 where there is no seat of this number, 50 while another call has it.
+/// it holds it shared, else 22 for a Tally token. 30 where there is no seat of this number, 50 while another call has it, 52 where the bank is closed.
 #[unsafe(no_mangle)]
 pub extern "C" fn lwkt_store(bank: LwktBank, seat: u32, token: u32, cell: u32, value: u64) -> u32
     ensures { Answers bank.desk seat (StoresCell token cell value) result }
@@ -143,7 +143,7 @@ pub extern "C" fn lwkt_store(bank: LwktBank, seat: u32, token: u32, cell: u32, v
 /// Whether row and record of a token obey its law.
 ///
 /// 0 where they do, and 19 where they don't; or 16 where there is no such token, else 13 where the seat doesn't hold it, else 18
-/// where it holds it shared. 30 where there is no seat of this number, 50 while another call has it.
+/// where it holds it shared. 30 where there is no seat of this number, 50 while another call has it, 52 where the bank is closed.
 #[unsafe(no_mangle)]
 pub extern "C" fn lwkt_lawful(bank: LwktBank, seat: u32, token: u32) -> u32
     ensures { Answers bank.desk seat (JudgesRow token) result }
@@ -161,7 +161,7 @@ pub extern "C" fn lwkt_lawful(bank: LwktBank, seat: u32, token: u32) -> u32
 /// Stores the section's first row and record again: each cell that was stored to in it gets its first value, and the record its first
 /// bytes, if it has others. A Tally token stays as it is.
 ///
-/// 0; or 16, 13 and 18 as `lwkt_lawful`. 30 where there is no seat of this number, 50 while another call has it.
+/// 0; or 16, 13 and 18 as `lwkt_lawful`. 30 where there is no seat of this number, 50 while another call has it, 52 where the bank is closed.
 #[unsafe(no_mangle)]
 pub extern "C" fn lwkt_restore(bank: LwktBank, seat: u32, token: u32) -> u32
     ensures { Answers bank.desk seat (RestoresFirst token) result }
@@ -178,7 +178,7 @@ pub extern "C" fn lwkt_restore(bank: LwktBank, seat: u32, token: u32) -> u32
 
 /// The value of a cell of a token that the seat holds, in any mode.
 ///
-/// 0, and the value; or 16 where there is no such token, else 17 where it has no such cell, else 13 where the seat doesn't hold it. 30 where there is no seat of this number, 50 while another call has it. `value` stays as it was but with 0.
+/// 0, and the value; or 16 where there is no such token, else 17 where it has no such cell, else 13 where the seat doesn't hold it. 30 where there is no seat of this number, 50 while another call has it, 52 where the bank is closed. `value` stays as it was but with 0.
 #[unsafe(no_mangle)]
 pub extern "C" fn lwkt_load(
     bank: LwktBank,
@@ -203,7 +203,7 @@ pub extern "C" fn lwkt_load(
 /// Adds to the cell of a Tally token.
 ///
 /// 0, and the new value; or 16 where there is no such token, else 13 where the seat doesn't hold it, else 18 where it holds it
-/// shared, else 22 for any other token, else 21 where the sum passes 18446744073709551615. 30 where there is no seat of this number, 50 while another call has it. `value` stays as it was but with 0.
+/// shared, else 22 for any other token, else 21 where the sum passes 18446744073709551615. 30 where there is no seat of this number, 50 while another call has it, 52 where the bank is closed. `value` stays as it was but with 0.
 #[unsafe(no_mangle)]
 pub extern "C" fn lwkt_add(
     bank: LwktBank,

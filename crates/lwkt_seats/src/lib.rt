@@ -1,12 +1,15 @@
 //! A bank of tokens for C, with a seat for each of the caller's threads; include/lwkt.h declares the calls. A bank's *desk* has a
 //! *place* for each seat, where it rests between calls: a call takes the seat out and puts it back, so a second call on it at the
-//! same time finds the place empty, and says so.
+//! same time finds the place empty, and says so. A close takes all seats out, and marks their places as closed for good.
 #![tactic(auto)]
 
 mod answers;
 mod asks;
 mod blocks;
 mod cells;
+mod close_calls;
+mod closes;
+mod closings;
 mod desks;
 mod exports;
 mod handles;
@@ -21,6 +24,8 @@ mod resumes;
 mod spots;
 mod tokens;
 
+pub use close_calls::lwkt_bank_close;
+pub use closings::LwktClosing;
 pub use exports::{
     lwkt_add, lwkt_again, lwkt_give, lwkt_lawful, lwkt_load, lwkt_mark, lwkt_restore, lwkt_share,
     lwkt_store, lwkt_take,

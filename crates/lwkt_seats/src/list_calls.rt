@@ -41,10 +41,10 @@ fn tell_first(first: Option<TokId>, restored: &mut u32) -> u32
 /// Takes a list of references in order, all or none, for a seat that holds nothing. At the first one that is missed those in front of it
 /// are given back.
 ///
-/// 0; or 51 where the seat holds a token; else, at the first place where it is so, 16 where there is no such token, 39 where the mode is
-/// neither, 10 behind 32 references, 11 for an exclusive reference to a token whose first one is shared; else 20, 23 or 34 as
-/// `lwkt_take`, and `missed` is the place. 30 where there is no seat of this number, 50 while another call has it. `missed` stays as it
-/// was with 0, 30, 50 and 51.
+/// 0; or 51 where the seat holds a token; else, at the first place where it is so, 16 where there is no such token, 39 where the mode
+/// is neither, 10 behind 32 references, 11 for an exclusive reference to a token whose first one is shared; else 20, 23 or 34 as
+/// `lwkt_take`, and `missed` is the place. 30 where there is no seat of this number, 50 while another call has it, 52 where the bank is
+/// closed. `missed` stays as it was with 0, 30, 50, 51 and 52.
 #[unsafe(no_mangle)]
 pub extern "C" fn lwkt_resume(
     bank: LwktBank,
@@ -69,7 +69,7 @@ pub extern "C" fn lwkt_resume(
 /// ends.
 ///
 /// 0; or 19 where a section had broken its law, and `restored` is the lowest such token: all is given up then too. 30 where there is no
-/// seat of this number, 50 while another call has it. `restored` stays as it was but with 19.
+/// seat of this number, 50 while another call has it, 52 where the bank is closed. `restored` stays as it was but with 19.
 #[unsafe(no_mangle)]
 pub extern "C" fn lwkt_block(bank: LwktBank, seat: u32, restored: &mut u32) -> u32
     ensures does { Answers bank.desk seat (GivesUpAll restored.old restored.new) result }

@@ -4,6 +4,7 @@ ghost use Rattle.std.specs.Arc.{arc_value};
 ghost use Rattle.lwkt_core.specs.Opening.{AreWithin, AllOpenLawfully};
 ghost use Rattle.lwkt_bank.specs.Seats.{id_of, bank_of, cpus_of};
 ghost use Rattle.lwkt_bank.specs.Gathered.{AreHandedOut};
+ghost use Rattle.lwkt_seats.specs.Seated.{AreBrief};
 ghost use Rattle.lwkt_seats.specs.Spots.{AreSpotsOf};
 ghost use Rattle.lwkt_seats.specs.Openings.{AreTokens, specs_of};
 
@@ -38,7 +39,8 @@ fn specs_of(alloc: Global, tokens: &[LwktToken]) -> Result<Vec<TokSpec>, AllocEr
 
 // A place for a seat, which rests there.
 fn place_for(alloc: Global, bank: &Arc<Bank>, seat: CpuSeat) -> Result<Place, AllocError>
-    requires { bank_of seat ≡ id_of (arc_value bank.now) }
+    requires of { bank_of seat ≡ id_of (arc_value bank.now) }
+    requires brief { AreBrief seat }
     ensures { IfOk result (λ spot. (arc_value spot.bank ≡ arc_value bank.now) × (spot.cpu ≡ seat.cpu)) }
 {
     let spot = Spot {
@@ -71,6 +73,8 @@ fn places_for(
 fn desk_of(alloc: Global, bank: Bank, seats: Vec<CpuSeat>) -> Result<Box<Desk>, AllocError>
     requires out { AreHandedOut (id_of bank) seats.items }
     requires all { length seats.items ≡ cpus_of bank }
+    requires some { 0 < length seats.items }
+    requires few { length seats.items ≤ 8 }
     ensures { IfOk result (λ desk. length desk.value.places.items ≡ length seats.items) }
 {
     let bank = Arc::new(alloc, bank).map_err(|_| AllocError)?;

@@ -1,5 +1,5 @@
 //! The calls on a token's record, for C; include/lwkt.h declares them.
-ghost use Rattle.std.specs.Prelude.{◌≡◌, ◌≢◌};
+ghost use Rattle.std.specs.Prelude.{◌≡◌, ◌≢◌, ◌≤◌};
 ghost use Rattle.lwkt_seats.specs.Desks.{Answers};
 ghost use Rattle.lwkt_seats.specs.Calls.{ReadsRecord, WritesRecord, TellsRecord};
 ghost use Rattle.lwkt_seats.specs.Numbers.{record_read_number};
@@ -34,9 +34,9 @@ fn tell_record(read: RecordRead, buffer: &mut [u8], length: &mut usize) -> u32
 /// The record of a token that the seat holds exclusively, put into the buffer as far as this has room; `length` is how many bytes it
 /// has.
 ///
-/// 0, the bytes and their number; or 16 where there is no such token, else 17 where it guards no record, else 13 where the seat
-/// doesn't hold it, else 37 where it holds it shared. 30 where there is no seat of this number, 50 while another call has it. Buffer
-/// and `length` stay as they were but with 0.
+/// 0, the bytes and their number, at most 64; or 16 where there is no such token, else 17 where it guards no record, else 13 where the
+/// seat doesn't hold it, else 37 where it holds it shared. 30 where there is no seat of this number, 50 while another call has it, 52
+/// where the bank is closed. Buffer and `length` stay as they were but with 0.
 #[unsafe(no_mangle)]
 pub extern "C" fn lwkt_read_record(
     bank: LwktBank,
@@ -46,6 +46,7 @@ pub extern "C" fn lwkt_read_record(
     length: &mut usize,
 ) -> u32
     ensures does { Answers bank.desk seat (ReadsRecord token buffer.old buffer.new length.old length.new) result }
+    ensures short { result ≡ 0 → length.new ≤ 64 }
     ensures kept { result ≢ 0 → (buffer.new ≡ buffer.old) × (length.new ≡ length.old) }
 {
     let (place, mut sitter) = match bank.desk().seat(seat) {
@@ -61,7 +62,8 @@ pub extern "C" fn lwkt_read_record(
 /// Writes the record of a token.
 ///
 /// 0; or 16 where there is no such token, else 17 where it guards no record, else 13 where the seat doesn't hold it, else 37 where it
-/// holds it shared, else 38 for more than 64 bytes. 30 where there is no seat of this number, 50 while another call has it.
+/// holds it shared, else 38 for more than 64 bytes. 30 where there is no seat of this number, 50 while another call has it, 52 where
+/// the bank is closed.
 #[unsafe(no_mangle)]
 pub extern "C" fn lwkt_write_record(bank: LwktBank, seat: u32, token: u32, bytes: &[u8]) -> u32
     ensures { Answers bank.desk seat (WritesRecord token bytes.now) result }

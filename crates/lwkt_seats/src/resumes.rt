@@ -106,8 +106,8 @@ fn take_all(seat: &mut CpuSeat, bank: &Bank, refs: &[Ref]) -> Result<(), (usize,
     }
 }
 
-// Whether the seat holds nothing.
-fn is_idle(seat: &CpuSeat, bank: &Bank) -> bool
+/// Whether the seat holds nothing.
+pub(crate) fn is_idle(seat: &CpuSeat, bank: &Bank) -> bool
     requires of { bank_of seat.now ≡ id_of bank.now }
     ensures yes { result ≡ true → holding seat.now ≡ holds_nothing }
     ensures no { result ≡ false → holding seat.now ≢ holds_nothing }

@@ -12,6 +12,7 @@ struct Handle {
 // As include/lwkt.h declares them.
 extern "C" {
     fn lwkt_bank_open(tokens: *const Token, count: usize, seats: u32, bank: *mut Handle) -> u32;
+    fn lwkt_bank_close(bank: Handle, closings: *mut StoredClosing, count: usize) -> u32;
     fn lwkt_take(bank: Handle, seat: u32, token: u32) -> u32;
     fn lwkt_share(bank: Handle, seat: u32, token: u32) -> u32;
     fn lwkt_again(bank: Handle, seat: u32, token: u32) -> u32;
@@ -93,6 +94,56 @@ impl Token {
     }
 }
 
+// What a token came to, as `lwkt_closing` of include/lwkt.h.
+#[repr(C)]
+#[derive(Clone, Copy)]
+struct StoredClosing {
+    cells: [u64; 4],
+    generation: u64,
+    tallies: [u64; 8],
+    cell_count: u32,
+    tally_count: u32,
+    record: [u8; RECORD_ROOM],
+    record_length: u32,
+    record_count: u32,
+}
+
+const UNTOLD: StoredClosing = StoredClosing {
+    cells: [0; 4],
+    generation: 0,
+    tallies: [0; 8],
+    cell_count: 0,
+    tally_count: 0,
+    record: [0; RECORD_ROOM],
+    record_length: 0,
+    record_count: 0,
+};
+
+/// What a token came to when its bank was closed.
+#[derive(Clone, Debug, PartialEq, Eq)]
+pub struct Closing {
+    /// The cells.
+    pub cells: Vec<u64>,
+    /// The generation: the opening one and one for each section that left another row or record.
+    pub generation: u64,
+    /// Under [`RowLaw::Tally`] what each seat has added; else none.
+    pub tallies: Vec<u64>,
+    /// The record, if the token guards one.
+    pub record: Option<Vec<u8>>,
+}
+
+impl StoredClosing {
+    fn closing(&self) -> Closing {
+        let bytes = &self.record[..self.record_length as usize];
+        Closing {
+            cells: self.cells[..self.cell_count as usize].to_vec(),
+            generation: self.generation,
+            tallies: self.tallies[..self.tally_count as usize].to_vec(),
+            record: (self.record_count == 1).then(|| bytes.to_vec()),
+        }
+    }
+}
+
 /// A reference of a list: to which token, and in which mode.
 #[repr(C)]
 #[derive(Clone, Copy, Debug, PartialEq, Eq)]
@@ -162,6 +213,7 @@ impl fmt::Display for SeatFault {
             39 => "limit passed",
             40 => "opening breaks its law",
             51 => "a token is held",
+            52 => "bank closed",
             _ => "seat not there",
         })
     }
@@ -177,15 +229,15 @@ fn done(status: u32) -> Result<(), SeatFault> {
     }
 }
 
-/// A bank of tokens, opened with a seat for each of the caller's threads. It stays to the end of the process.
+/// A bank of tokens, opened with a seat for each of the caller's threads. One that isn't closed stays to the end of the process.
 ///
 /// ```
 /// use lwkt::{Bank, RowLaw, Token};
 ///
 /// let tokens = [Token::new(&[0], RowLaw::Tally, 0), Token::new(&[40, 60], RowLaw::Sum, 100)];
-/// let seats = Bank::open(&tokens, 2)?.into_seats();
+/// let mut bank = Bank::open(&tokens, 2)?;
 /// std::thread::scope(|scope| {
-///     for mut seat in seats {
+///     for seat in bank.seats() {
 ///         scope.spawn(move || {
 ///             for _ in 0..1000 {
 ///                 let mut held = seat.take_waiting(0).unwrap();
@@ -194,12 +246,35 @@ fn done(status: u32) -> Result<(), SeatFault> {
 ///         });
 ///     }
 /// });
-/// # Ok::<(), lwkt::SeatFault>(())
+/// let closings = bank.close()?;
+/// assert_eq!(closings[0].cells, [2000]);
+/// assert_eq!(closings[0].tallies, [1000, 1000]);
+/// assert_eq!(closings[0].generation, 2000);
+/// assert_eq!(closings[1].cells, [40, 60]);
+/// # Ok::<(), Box<dyn std::error::Error>>(())
 /// ```
 #[derive(Debug)]
 pub struct Bank {
+    // In order, one at least.
     seats: Vec<Seat>,
 }
+
+/// Why a bank wasn't closed, and the bank.
+#[derive(Debug)]
+pub struct NotClosed {
+    /// Why.
+    pub fault: SeatFault,
+    /// The bank, as it was, but where memory was refused: then it may be given up, and its calls are refused with 52.
+    pub bank: Bank,
+}
+
+impl fmt::Display for NotClosed {
+    fn fmt(&self, out: &mut fmt::Formatter<'_>) -> fmt::Result {
+        self.fault.fmt(out)
+    }
+}
+
+impl Error for NotClosed {}
 
 impl Bank {
     /// Opens a bank of these tokens, numbered from 0, with so many seats.
@@ -211,21 +286,93 @@ impl Bank {
             place: std::ptr::null_mut(),
         };
         done(unsafe { lwkt_bank_open(tokens.as_ptr(), tokens.len(), seats, &mut handle) })?;
+        let whole = Whole {
+            tokens: tokens.len(),
+            seats: seats as usize,
+        };
         Ok(Bank {
-            seats: (0..seats).map(|number| Seat { handle, number }).collect(),
+            seats: (0..seats).map(|number| Seat { handle, number, whole }).collect(),
         })
+    }
+
+    /// The seats, each to be lent to one thread.
+    pub fn seats(&mut self) -> &mut [Seat] {
+        &mut self.seats
     }
 
     /// The seats, each for one thread.
     pub fn into_seats(self) -> Vec<Seat> {
         self.seats
     }
+
+    /// The bank of these seats, if they are all of one, in any order.
+    ///
+    /// ```
+    /// use lwkt::{Bank, RowLaw, Token};
+    ///
+    /// let mut seats = Bank::open(&[Token::new(&[1], RowLaw::Any, 0)], 2)?.into_seats();
+    /// seats.reverse();
+    /// let one = seats.pop().unwrap();
+    /// let mut seats = Bank::of_seats(seats).unwrap_err();
+    /// seats.push(one);
+    /// let closings = Bank::of_seats(seats).unwrap().close()?;
+    /// assert_eq!(closings[0].cells, [1]);
+    /// # Ok::<(), Box<dyn std::error::Error>>(())
+    /// ```
+    pub fn of_seats(mut seats: Vec<Seat>) -> Result<Bank, Vec<Seat>> {
+        let is_bank = seats.first().is_some_and(|first| {
+            let place = first.handle.place;
+            seats.len() == first.whole.seats && seats.iter().all(|seat| seat.handle.place == place)
+        });
+        if !is_bank {
+            return Err(seats);
+        }
+        seats.sort_by_key(|seat| seat.number);
+        Ok(Bank { seats })
+    }
+
+    /// Closes the bank, and answers what each token came to.
+    ///
+    /// Refused with 51 where a seat holds a token still, as one whose reference was forgotten; with 32 for want of memory.
+    ///
+    /// ```
+    /// use lwkt::{Bank, RowLaw, SeatFault, Token};
+    ///
+    /// let note = Token::new(&[], RowLaw::Any, 0).with_record(b"abc");
+    /// let mut bank = Bank::open(&[note], 1)?;
+    /// let mut held = bank.seats()[0].take(0)?;
+    /// held.write_record(b"hello")?;
+    /// std::mem::forget(held);
+    /// let refused = bank.close().unwrap_err();
+    /// assert_eq!(refused.fault, SeatFault(51));
+    /// let mut bank = refused.bank;
+    /// bank.seats()[0].block();
+    /// let closings = bank.close()?;
+    /// assert_eq!(closings[0].record.as_deref(), Some(&b"hello"[..]));
+    /// # Ok::<(), Box<dyn std::error::Error>>(())
+    /// ```
+    pub fn close(self) -> Result<Vec<Closing>, NotClosed> {
+        let Seat { handle, whole, .. } = self.seats[0];
+        let mut closings = vec![UNTOLD; whole.tokens];
+        match done(unsafe { lwkt_bank_close(handle, closings.as_mut_ptr(), closings.len()) }) {
+            Ok(()) => Ok(closings.iter().map(StoredClosing::closing).collect()),
+            Err(fault) => Err(NotClosed { fault, bank: self }),
+        }
+    }
+}
+
+// How many tokens and seats a bank has.
+#[derive(Clone, Copy)]
+struct Whole {
+    tokens: usize,
+    seats: usize,
 }
 
 /// A seat at a bank. It may go to another thread, and is used by one at a time.
 pub struct Seat {
     handle: Handle,
     number: u32,
+    whole: Whole,
 }
 
 // A seat's calls are those of the library, which any thread may make.
@@ -300,6 +447,14 @@ impl Seat {
         let status = unsafe { lwkt_resume(self.handle, self.number, list.as_ptr(), list.len(), &mut place) };
         done(status).map_err(|fault| Missed { place, fault })?;
         Ok(Resumed { seat: self })
+    }
+
+    /// Gives up all that the seat holds, as references that were forgotten; answers the first token whose row and record broke the law,
+    /// if there is one: they are the first ones again.
+    pub fn block(&mut self) -> Option<u32> {
+        let mut restored = 0;
+        let status = unsafe { lwkt_block(self.handle, self.number, &mut restored) };
+        (status == 19).then_some(restored)
     }
 
     /// Marks a token for an exclusive request.
@@ -463,21 +618,15 @@ impl Resumed<'_> {
 
     /// Gives up all; answers the first token whose row and record broke the law, if there is one: they are the first ones again.
     pub fn block(self) -> Option<u32> {
-        let restored = self.give_up();
+        let restored = self.seat.block();
         std::mem::forget(self);
         restored
-    }
-
-    fn give_up(&self) -> Option<u32> {
-        let mut restored = 0;
-        let status = unsafe { lwkt_block(self.seat.handle, self.seat.number, &mut restored) };
-        (status == 19).then_some(restored)
     }
 }
 
 impl Drop for Resumed<'_> {
     fn drop(&mut self) {
-        self.give_up();
+        self.seat.block();
     }
 }
 

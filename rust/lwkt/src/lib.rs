@@ -18,7 +18,7 @@ mod bank;
 mod calls;
 mod word;
 
-pub use bank::{Bank, Held, Missed, Reference, Resumed, RowLaw, Seat, SeatFault, Token};
+pub use bank::{Bank, Closing, Held, Missed, NotClosed, Reference, Resumed, RowLaw, Seat, SeatFault, Token};
 pub use calls::{
     check_trace, explore_orders, is_text, run_text, run_turns, show_turns, text_json, End, Finding, Judgement, Orders, Refusal,
     Run, TextRun, Tried,

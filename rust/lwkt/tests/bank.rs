@@ -1,5 +1,5 @@
 //! Banks of tokens: sections of four threads, and what each call refuses.
-use lwkt::{Bank, Held, Missed, Reference, RowLaw, Seat, SeatFault, Token};
+use lwkt::{Bank, Closing, Held, Missed, Reference, RowLaw, Seat, SeatFault, Token};
 use std::thread;
 
 const ROUNDS: u64 = 100_000;
@@ -300,4 +300,78 @@ fn openings_keep_the_limits() {
     assert_eq!(refused(Bank::open(&[Token::new(&[0; 2], RowLaw::Tally, 0)], 1)), 39);
     assert_eq!(refused(Bank::open(&[Token::new(&[5, 6], RowLaw::Sum, 10)], 1)), 40);
     assert_eq!(Bank::open(&[], 8).unwrap().into_seats().len(), 8);
+}
+
+fn closing(cells: &[u64], generation: u64, record: Option<&[u8]>) -> Closing {
+    Closing {
+        cells: cells.to_vec(),
+        generation,
+        tallies: Vec::new(),
+        record: record.map(<[u8]>::to_vec),
+    }
+}
+
+#[test]
+fn a_bank_closes_with_what_its_tokens_came_to() {
+    let mut bank = Bank::open(&tokens(), 4).unwrap();
+    thread::scope(|scope| {
+        for (seat, letter) in bank.seats().iter_mut().zip(b'a'..) {
+            scope.spawn(move || work(seat, letter).unwrap());
+        }
+    });
+    let mut held = bank.seats()[2].take(NOTE).unwrap();
+    held.write_record(&[7; 64]).unwrap();
+    held.give().unwrap();
+    let closings = bank.close().unwrap();
+    assert_eq!(closings.len(), TOKENS as usize);
+    let tally = &closings[TALLY as usize];
+    assert_eq!((&tally.cells[..], tally.generation), (&[5 + 4 * ROUNDS][..], 4 * ROUNDS));
+    assert_eq!(tally.tallies, [ROUNDS; 4]);
+    let moved = 4 * ROUNDS / 100;
+    assert_eq!(
+        closings[SUM as usize],
+        closing(&[400_000 - moved, 600_000 + moved], moved, None)
+    );
+    assert_eq!(closings[ANY as usize], closing(&[0], 0, None));
+    assert_eq!(closings[ORDER as usize], closing(&[1, 2], 0, None));
+    let len = &closings[LEN as usize];
+    assert_eq!(
+        (len.generation, len.record.as_ref().unwrap().len() as u64),
+        (moved, len.cells[0])
+    );
+    assert_eq!(closings[NOTE as usize], closing(&[], 1, Some(&[7; 64])));
+}
+
+#[test]
+fn a_bank_with_a_forgotten_reference_is_not_closed() {
+    let mut bank = Bank::open(&tokens(), 2).unwrap();
+    std::mem::forget(bank.seats()[1].take(SUM).unwrap());
+    let refused = bank.close().unwrap_err();
+    assert_eq!(refused.fault, SeatFault(51));
+    assert_eq!(refused.to_string(), "a token is held");
+    let mut bank = refused.bank;
+    std::mem::forget(bank.seats()[1].take(SUM).unwrap());
+    assert_eq!(bank.seats()[1].block(), None);
+    assert_eq!(bank.seats()[1].block(), None);
+    assert_eq!(bank.close().unwrap().len(), TOKENS as usize);
+}
+
+#[test]
+fn seats_are_one_bank_again() {
+    let mut seats = seats();
+    let mut other = self::seats();
+    seats.rotate_left(1);
+    let last = seats.pop().unwrap();
+    let mut seats = Bank::of_seats(seats).unwrap_err();
+    assert_eq!(seats.len(), 3);
+    seats.push(other.pop().unwrap());
+    let mut seats = Bank::of_seats(seats).unwrap_err();
+    other.push(seats.pop().unwrap());
+    seats.push(last);
+    assert_eq!(
+        Bank::of_seats(seats).unwrap().close().unwrap()[SUM as usize],
+        closing(&[400_000, 600_000], 0, None)
+    );
+    assert!(Bank::of_seats(Vec::new()).is_err());
+    assert!(Bank::of_seats(other).unwrap().close().is_ok());
 }

@@ -1,6 +1,12 @@
 use Rattle.lwkt_seats.specs.Calls.{GivesBack}
 use Rattle.lwkt_seats.proofs.Answering.{answered-at}
+use Rattle.lwkt_seats.proofs.BriefMoves.{gives, seated-at}
 use Rattle.lwkt_seats.proofs.exports.lwkt_give.Goals as goal
+
+pub put_back-requires : goal.put_back-requires
+put_back-requires c =
+    seated-at c.in-Ok.found.0.now c.in-Ok.found.1.value c.deref_mut-held.result.now c.give-answer.new.seat c.deref_mut-held.ensures.value c.in-Ok.ensures.ok.1 c.give-answer.ensures.same
+    (gives c.args.token c.deref_mut-held.result.now.seat c.give-answer.new.seat c.give-answer.result c.give-answer.ensures.does)
 
 pub returns : goal.returns
 returns c =

@@ -1,6 +1,12 @@
 use Rattle.lwkt_seats.specs.Calls.{RestoresFirst}
 use Rattle.lwkt_seats.proofs.Answering.{answered-at}
+use Rattle.lwkt_seats.proofs.BriefMoves.{restores, seated-at}
 use Rattle.lwkt_seats.proofs.exports.lwkt_restore.Goals as goal
+
+pub put_back-requires : goal.put_back-requires
+put_back-requires c =
+    seated-at c.in-Ok.found.0.now c.in-Ok.found.1.value c.deref_mut-held.result.now c.restore-answer.new.seat c.deref_mut-held.ensures.value c.in-Ok.ensures.ok.1 c.restore-answer.ensures.same
+    (restores c.args.token c.deref_mut-held.result.now.seat c.restore-answer.new.seat c.restore-answer.result c.restore-answer.ensures.does)
 
 pub returns : goal.returns
 returns c =

@@ -1,0 +1,10 @@
+use Rattle.std.proofs.Common.{◌≡◌, ◌≤◌, length, vec_capacity}
+use Rattle.lwkt_seats.specs.Closes.{AreFree}
+use Rattle.lwkt_seats.proofs.desks.Desk.free_seats.Given as goal
+
+abbrev pub invariant-loop-number : goal.invariant-loop-number
+invariant-loop-number l = record {
+  count : length l.sitters.items ≡ l.number;
+  free : AreFree l.self l.sitters.items;
+  room : length l.self.places.items ≤ vec_capacity l.sitters;
+}
