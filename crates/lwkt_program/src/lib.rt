@@ -8,8 +8,10 @@ pub mod lasting;
 pub mod machines;
 pub mod makers;
 mod openings;
+mod rounds;
 mod seatings;
 pub mod steps;
+mod stops;
 
 pub use closings::Closed;
 pub use lasting::Lasting;
