@@ -18,4 +18,4 @@ pub use lasting::Lasting;
 pub use lwkt_cpu::{Body, Turned};
 pub use lwkt_drive::{Ending, Limits};
 pub use machines::{LIMITS, Machine};
-pub use steps::{Stepper, Steps};
+pub use steps::{Stepper, Steps, Told};
