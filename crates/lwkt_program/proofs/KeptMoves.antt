@@ -1,9 +1,9 @@
 -- What each poll of a body keeps is kept by turns, and by drives.
-use Rattle.std.proofs.Common.{◌≡◌, ◌∙◌, ◌<◌, ℕ, List, [], ◌∷◌, ◌++◌, length, take, drop, get_or, set, sym, subst, ap, refl, arith}
-use Rattle.std.specs.Prelude.{Bool, Vec, All, Option, Some, None, Result, Ok, Err, IfOk, OnOk, OnErr, slice_get, slice_set}
+use Rattle.std.proofs.Common.{◌≡◌, ◌<◌, ℕ, List, [], ◌∷◌, length, sym, subst}
+use Rattle.std.specs.Prelude.{Bool, Vec, All, Option, Some, None, Result, Ok, Err, IfOk, OnOk, OnErr}
 use Rattle.std.specs.List.{AllZip}
 use Rattle.std.specs.declared.alloc.Global.{Global}
-use Rattle.std.proofs.lemmas.List.Elements.{All-nil, All-cons, All-head, All-tail, All-get_or, All-set}
+use Rattle.std.proofs.lemmas.List.Elements.{All-cons, All-head, All-tail, All-get_or, All-set}
 use Rattle.std.proofs.lemmas.Option.{slice_get_within, get_or_from_slice_get}
 use Rattle.lwkt_base.specs.declared.names.CpuId.{CpuId}
 use Rattle.lwkt_base.specs.declared.asks.Ask.{Ask}
@@ -94,16 +94,3 @@ kept_driven polled kept keeps answers bank limits [] (y ∷ ys) zip before = abs
 kept_driven polled kept keeps answers bank limits (x ∷ xs) [] zip before = absurd zip
 kept_driven polled kept keeps answers bank limits (x ∷ xs) (y ∷ ys) zip before =
     All-cons (Lasts kept) y ys (kept_made polled kept keeps bank x.cpu y.cpu x.trace zip.0.v zip.0.turns zip.0.made (All-head (Lasts kept) x xs before)) (kept_driven polled kept keeps answers bank limits xs ys zip.1 (All-tail (Lasts kept) x xs before))
-
-take_front : {A : Type 0} (xs ys : List A) → take (length xs) (xs ++ ys) ≡ xs
-take_front [] ys = refl
-take_front (x ∷ xs) ys = ap (λ zs. x ∷ zs) (take_front xs ys)
-
-refilled_front : {A : Type 0} (xs ys : List A) (n : ℕ) → length xs ≡ n → take n (xs ++ ys) ≡ xs
-refilled_front {A = A} xs ys n long =
-    let F : ℕ → Type 0 = λ k. take k (xs ++ ys) ≡ xs in
-    subst F long (take_front xs ys)
-
--- a vector whose items were lent as a slice has what was left there
-pub refilled : {A : Type 0} (news items : List A) (n : ℕ) → length news ≡ n → take n (news ++ drop (length news) items) ≡ news
-refilled {A = A} news items n long = refilled_front news (drop (length news) items) n long

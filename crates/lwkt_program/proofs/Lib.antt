@@ -1,2 +1,7 @@
 mod KeptMoves
-mod SeatMoves
+mod ListMoves
+mod OpenMoves
+mod RetireMoves
+mod RowMoves
+mod StopMoves
+mod TurnMoves

@@ -1,2 +1,6 @@
+pub mod Ended
 pub mod Machines
-pub mod Sitting
+pub mod Opened
+pub mod Seating
+pub mod Steps
+pub mod Turns

@@ -11,13 +11,13 @@ use Rattle.lwkt_msg.specs.Desks.{Shelf}
 use Rattle.lwkt_drive.specs.declared.driven.Driven.{Driven}
 use Rattle.lwkt_drive.specs.Course.{IsAt}
 
--- what callers see of a machine: which bank and which book it has, and how many processors
-pub record Rig : Type 0 where
+-- what callers see of a machine: which bank and which book it has, and its processors, by number, with the events of their turns
+pub record Rig (B : Type 0) : Type 0 where
   pub bank : BankId
   pub book : Shelf
-  pub cpus : ℕ
+  pub cpus : List (Driven B)
 
-abbrev pub rig_of : BankId → Shelf → ℕ → Rig
+abbrev pub rig_of : {B : Type 0} → BankId → Shelf → List (Driven B) → Rig B
 rig_of bank book cpus = record { bank = bank; book = book; cpus = cpus }
 
 -- what bodies keep holds of each body of a processor
@@ -30,9 +30,9 @@ AreKept kept lists = All (λ v. All kept v.items) lists
 
 -- a bank of so many seats, a book and processors make one machine: bank and book are for so many processors, each processor is of
 -- that bank and that book, and what the bodies keep holds of each
-pub record IsWhole {B : Type 0} (kept : B → Type 0) (seats : ℕ) (bank : BankId) (book : Shelf) (count : ℕ) (all : List (Driven B)) : Type 0 where
-  pub seats_are : seats ≡ count
-  pub mails_are : book.cpus ≡ count
+pub record IsWhole {B : Type 0} (kept : B → Type 0) (seats : ℕ) (bank : BankId) (book : Shelf) (all : List (Driven B)) : Type 0 where
+  pub seats_are : seats ≡ length all
+  pub mails_are : book.cpus ≡ length all
   pub places : All (IsAt bank book.table) all
   pub lasting : All (Lasts kept) all
 

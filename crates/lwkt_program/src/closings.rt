@@ -1,21 +1,18 @@
 //! The close of a machine.
-ghost use Rattle.std.specs.Prelude.{◌≡◌, All, IfOk, List};
-ghost use Rattle.lwkt_bank.specs.Seats.{id_of};
-ghost use Rattle.lwkt_bank.specs.declared.seats.CpuSeat.{CpuSeat as Seat};
-ghost use Rattle.lwkt_bank.specs.Closing.{IsReady};
-ghost use Rattle.lwkt_bank.specs.Gathered.{IsClosed};
-ghost use Rattle.lwkt_msg.specs.Desks.{Desk, AreClosed};
-ghost use Rattle.lwkt_drive.specs.Course.{IsAt};
-ghost use Rattle.lwkt_program.specs.Machines.{Lasts, AreKept, AreLawful};
+ghost use Rattle.std.specs.Prelude.{◌≡◌, ◌∷◌, [], ◌++◌, All, Err, IfOk, List, OnErr, OnOk};
+ghost use Rattle.lwkt_cpu.specs.Processors.{AllOver};
+ghost use Rattle.lwkt_program.specs.Ended.{AreOver};
+ghost use Rattle.lwkt_program.specs.Machines.{AreKept, AreLawful};
 
 use crate::lasting::Lasting;
 use crate::machines::Machine;
-use lwkt_bank::{Bank, CpuSeat};
+use crate::stops::stop_all;
+use lwkt_bank::CpuSeat;
 use lwkt_base::{Fault, MsgEnd, TokId};
 use lwkt_core::Event;
 use lwkt_drive::Driven;
-use lwkt_msg::{MsgBook, MsgSeat};
-use std::alloc::Global;
+use lwkt_msg::MsgSeat;
+use std::alloc::{AllocError, Global};
 
 /// What a machine leaves.
 #[derive(Drop)]
@@ -58,16 +55,7 @@ impl<B> Closed<B> {
     }
 }
 
-// What a processor gave back.
-#[derive(Drop)]
-struct Left<B> {
-    seat: CpuSeat,
-    mail: MsgSeat,
-    bodies: Vec<B>,
-    trace: Vec<Event>,
-}
-
-// What processors gave back.
+// What processors gave back: their seats, the bodies of their threads, and their events.
 #[derive(Drop)]
 struct Gathered<B> {
     seats: Vec<CpuSeat>,
@@ -76,87 +64,28 @@ struct Gathered<B> {
     traces: Vec<Vec<Event>>,
 }
 
-// Stops a processor and takes it apart.
-fn finish<B: Lasting + Drop>(
-    bank: &Bank,
-    book: &MsgBook,
-    driven: Driven<B>,
-) -> Result<Left<B>, Fault>
-    requires at { IsAt (id_of bank.now) book.now.table driven }
-    requires kept { Lasts B.kept driven }
-    ensures ready { IfOk result (λ left. IsReady (id_of bank.now) left.seat) }
-    ensures mail { IfOk result (λ left. left.mail.table ≡ book.now.table) }
-    ensures kept { IfOk result (λ left. All B.kept left.bodies.items) }
-{
-    let Driven { cpu, trace, .. } = driven;
-    let mut cpu = cpu;
-    let mut trace = trace;
-    cpu.stop(bank, book, &mut trace)?;
-    let (seat, mail, bodies) = cpu.retire();
-    Ok(Left {
-        seat,
-        mail,
-        bodies,
-        trace,
-    })
-}
-
-// The last processor of a list.
-fn last<B: Lasting + Drop>(
-    bank: &Bank,
-    book: &MsgBook,
-    cpus: &mut Vec<Driven<B>>,
-) -> Result<Driven<B>, Fault>
-    requires at { All (IsAt (id_of bank.now) book.now.table) cpus.old.items }
-    requires kept { All (Lasts B.kept) cpus.old.items }
-    ensures one { IfOk result (λ d. IsAt (id_of bank.now) book.now.table d) }
-    ensures one_kept { IfOk result (λ d. Lasts B.kept d) }
-    ensures at { All (IsAt (id_of bank.now) book.now.table) cpus.new.items }
-    ensures kept { All (Lasts B.kept) cpus.new.items }
-{
-    let _ = bank;
-    let _ = book;
-    let Some(driven) = cpus.pop() else {
-        return Err(Fault::Limits);
-    };
-    Ok(driven)
-}
-
-impl<B: Lasting + Drop> Gathered<B> {
-    ghost use Rattle.lwkt_program.specs.Sitting.{AreBack};
+impl<B: Drop> Gathered<B> {
+    ghost use Rattle.lwkt_drive.specs.declared.driven.Driven.{Driven as Done};
+    ghost use Rattle.lwkt_program.specs.Ended.{AreRetired};
 
     // One processor more gives back what it has.
-    fn add(&mut self, bank: &Bank, book: &MsgBook, left: Left<B>) -> Result<(), Fault>
-        requires back { AreBack B.kept (id_of bank.now) book.now self.old }
-        requires ready { IsReady (id_of bank.now) left.seat }
-        requires mail { left.mail.table ≡ book.now.table }
-        requires kept { All B.kept left.bodies.items }
-        ensures { AreBack B.kept (id_of bank.now) book.now self.new }
+    fn add(&mut self, driven: Driven<B>) -> Result<(), AllocError>
+        requires { AllOver driven.cpu.threads }
+        ensures { (done : List (Done B)) → AreRetired done self.old → OnOk result (AreRetired (done ++ driven ∷ []) self.new) }
     {
-        let _ = bank;
-        let _ = book;
-        let Left {
-            seat,
-            mail,
-            bodies,
-            trace,
-        } = left;
-        self.seats.push(seat).map_err(|_| Fault::Memory)?;
-        self.mails.push(mail).map_err(|_| Fault::Memory)?;
-        self.bodies.push(bodies).map_err(|_| Fault::Memory)?;
-        self.traces.push(trace).map_err(|_| Fault::Memory)
+        let Driven { cpu, trace, .. } = driven;
+        let (seat, mail, bodies) = cpu.retire();
+        self.seats.push(seat)?;
+        self.mails.push(mail)?;
+        self.bodies.push(bodies)?;
+        self.traces.push(trace)?;
+        Ok(())
     }
 
-    // All processors do, from the last on.
-    fn all(
-        alloc: Global,
-        bank: &Bank,
-        book: &MsgBook,
-        mut cpus: Vec<Driven<B>>,
-    ) -> Result<Gathered<B>, Fault>
-        requires at { All (IsAt (id_of bank.now) book.now.table) cpus.items }
-        requires kept { All (Lasts B.kept) cpus.items }
-        ensures { IfOk result (λ all. AreBack B.kept (id_of bank.now) book.now all) }
+    // All these processors do.
+    fn all(alloc: Global, mut cpus: Vec<Driven<B>>) -> Result<Gathered<B>, AllocError>
+        requires { AreOver cpus.items }
+        ensures { IfOk result (λ all. AreRetired cpus.items all) }
     {
         let mut all = Gathered {
             seats: Vec::new(alloc),
@@ -165,15 +94,16 @@ impl<B: Lasting + Drop> Gathered<B> {
             traces: Vec::new(alloc),
         };
         for _number in 0..cpus.len() {
-            let driven = last(bank, book, &mut cpus)?;
-            let left = finish(bank, book, driven)?;
-            all.add(bank, book, left)?;
+            let driven = cpus.remove(0);
+            all.add(driven)?;
         }
         Ok(all)
     }
 }
 
 impl<B: Lasting + Drop> Machine<B> {
+    ghost use Rattle.lwkt_program.specs.Ended.{IsClosedMachine};
+
     /// Closes the machine: each processor is stopped, its threads end and give up what they hold, and bank and book are closed. Each
     /// token's row, with its record and its tallies, then meets the law that was declared for it, and what each body keeps holds of it
     /// as it comes back.
@@ -181,25 +111,22 @@ impl<B: Lasting + Drop> Machine<B> {
     /// Refused with `Memory`; the machine is given up then.
     pub fn close(self, alloc: Global) -> Result<Closed<B>, Fault>
         ensures lawful { IfOk result (λ closed. AreLawful 0 self.bank.plans closed.tokens) }
-        ensures tokens { IfOk result (λ closed. (seats : List Seat) × IsClosed self.bank self.cpus seats closed.tokens) }
-        ensures messages { IfOk result (λ closed. (desks : List Desk) × AreClosed self.book desks closed.messages.items) }
+        ensures closed { IfOk result (λ closed. IsClosedMachine self closed) }
         ensures kept { IfOk result (λ closed. AreKept B.kept closed.bodies.items) }
+        ensures only { OnErr result (result ≡ Err Fault.Memory) }
     {
-        let Machine {
-            bank,
-            book,
-            count,
-            cpus,
-        } = self;
+        let Machine { bank, book, cpus } = self;
+        let mut cpus = cpus;
+        stop_all(&bank, &book, &mut cpus)?;
+        let Ok(all) = Gathered::all(alloc, cpus) else {
+            return Err(Fault::Memory);
+        };
         let Gathered {
             seats,
             mails,
             bodies,
             traces,
-        } = Gathered::all(alloc, &bank, &book, cpus)?;
-        if seats.len() != count || mails.len() != count {
-            return Err(Fault::Limits);
-        }
+        } = all;
         let tokens = bank.close(alloc, seats)?;
         let messages = book.close(alloc, mails)?;
         Ok(Closed {

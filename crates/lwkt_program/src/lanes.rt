@@ -1,7 +1,9 @@
 //! The lanes of a machine, one from each processor to each one.
+ghost use Rattle.std.specs.Prelude.{◌≡◌, Err, IfOk, OnErr, length};
+
 use lwkt_base::Fault;
 use lwkt_lane::{LaneIn, LaneOut, lane};
-use std::alloc::Global;
+use std::alloc::{AllocError, Global};
 
 // The notes that a lane has room for.
 const LANE_NOTES: usize = 32;
@@ -13,49 +15,60 @@ pub(crate) struct Lanes {
     pub ins: Vec<Vec<LaneIn>>,
 }
 
-// So many empty lists of sending ends.
-fn no_outs(alloc: Global, count: usize) -> Result<Vec<Vec<LaneOut>>, Fault> {
-    let mut lists = Vec::new(alloc);
-    for _made in 0..count {
-        lists.push(Vec::new(alloc)).map_err(|_| Fault::Memory)?;
+// A list for each of so many processors, of the ends of the lanes to it.
+fn no_ends(alloc: Global, cpus: usize) -> Result<Vec<Vec<LaneIn>>, AllocError>
+    ensures { IfOk result (λ ins. length ins.items ≡ cpus) }
+{
+    let mut ins = Vec::new(alloc);
+    for made in 0..cpus {
+        ins.push(Vec::new(alloc))?;
     }
-    Ok(lists)
+    Ok(ins)
 }
 
-// So many empty lists of receiving ends.
-fn no_ins(alloc: Global, count: usize) -> Result<Vec<Vec<LaneIn>>, Fault> {
-    let mut lists = Vec::new(alloc);
-    for _made in 0..count {
-        lists.push(Vec::new(alloc)).map_err(|_| Fault::Memory)?;
-    }
-    Ok(lists)
-}
-
-// A lane, whose ends go to these lists.
-fn add_lane(alloc: Global, outs: &mut Vec<LaneOut>, ins: &mut Vec<LaneIn>) -> Result<(), Fault> {
+// A lane, whose receiving end goes to this list.
+fn lane_to(alloc: Global, ends: &mut Vec<LaneIn>) -> Result<LaneOut, Fault>
+    ensures only { OnErr result (result ≡ Err Fault.Memory) }
+{
     let (out, into) = lane(alloc, LANE_NOTES)?;
-    outs.push(out).map_err(|_| Fault::Memory)?;
-    ins.push(into).map_err(|_| Fault::Memory)
+    ends.push(into).map_err(|_| Fault::Memory)?;
+    Ok(out)
 }
 
-// The lanes from one processor to each.
-fn lanes_from(
-    alloc: Global,
-    outs: &mut Vec<LaneOut>,
-    ins: &mut [Vec<LaneIn>],
-) -> Result<(), Fault> {
+// The lanes from a processor to each one.
+fn lanes_to_all(alloc: Global, ins: &mut [Vec<LaneIn>]) -> Result<Vec<LaneOut>, Fault>
+    ensures as_many { length ins.new ≡ length ins.old }
+    ensures only { OnErr result (result ≡ Err Fault.Memory) }
+{
+    let mut outs = Vec::new(alloc);
     for to in 0..ins.len() {
-        add_lane(alloc, outs, &mut ins[to])?;
+        let out = lane_to(alloc, &mut ins[to])?;
+        outs.push(out).map_err(|_| Fault::Memory)?;
     }
-    Ok(())
+    Ok(outs)
+}
+
+// The lanes from each processor.
+fn lanes_from_all(alloc: Global, ins: &mut [Vec<LaneIn>]) -> Result<Vec<Vec<LaneOut>>, Fault>
+    ensures outs { IfOk result (λ outs. length outs.items ≡ length ins.old) }
+    ensures as_many { length ins.new ≡ length ins.old }
+    ensures only { OnErr result (result ≡ Err Fault.Memory) }
+{
+    let mut outs = Vec::new(alloc);
+    for from in 0..ins.len() {
+        let row = lanes_to_all(alloc, ins)?;
+        outs.push(row).map_err(|_| Fault::Memory)?;
+    }
+    Ok(outs)
 }
 
 /// The lanes of so many processors.
-pub(crate) fn open_lanes(alloc: Global, cpus: usize) -> Result<Lanes, Fault> {
-    let mut outs = no_outs(alloc, cpus)?;
-    let mut ins = no_ins(alloc, cpus)?;
-    for from in 0..outs.len() {
-        lanes_from(alloc, &mut outs[from], &mut ins)?;
-    }
+pub(crate) fn open_lanes(alloc: Global, cpus: usize) -> Result<Lanes, Fault>
+    ensures outs { IfOk result (λ lanes. length lanes.outs.items ≡ cpus) }
+    ensures ins { IfOk result (λ lanes. length lanes.ins.items ≡ cpus) }
+    ensures only { OnErr result (result ≡ Err Fault.Memory) }
+{
+    let mut ins = no_ends(alloc, cpus).map_err(|_| Fault::Memory)?;
+    let outs = lanes_from_all(alloc, &mut ins)?;
     Ok(Lanes { outs, ins })
 }

@@ -8,12 +8,14 @@ pub mod lasting;
 pub mod machines;
 pub mod makers;
 mod openings;
+mod rounds;
 mod seatings;
 pub mod steps;
+mod stops;
 
 pub use closings::Closed;
 pub use lasting::Lasting;
 pub use lwkt_cpu::{Body, Turned};
 pub use lwkt_drive::{Ending, Limits};
 pub use machines::{LIMITS, Machine};
-pub use steps::{Stepper, Steps};
+pub use steps::{Stepper, Steps, Told};

@@ -1,8 +1,10 @@
 //! A machine, and the turns of its processors.
-ghost use Rattle.std.specs.Prelude.{◌≡◌, ◌<◌, All, length};
+ghost use Rattle.std.specs.Prelude.{◌≡◌, ◌<◌, All, Err, IfErr, IfOk, OnErr, length, option_map, slice_get, true};
+ghost use Rattle.std.specs.List.{AllZip};
 ghost use Rattle.lwkt_bank.specs.Seats.{id_of};
-ghost use Rattle.lwkt_drive.specs.Course.{IsAt};
+ghost use Rattle.lwkt_drive.specs.Course.{IsAt, IsDriven};
 ghost use Rattle.lwkt_program.specs.Machines.{Lasts};
+ghost use Rattle.lwkt_program.specs.Turns.{DoesAt, Makes, Stays, TurnsAt};
 
 use crate::lasting::Lasting;
 use lwkt_bank::Bank;
@@ -19,13 +21,11 @@ pub const LIMITS: Limits = Limits {
     idle: 100_000_000,
 };
 
-/// A bank, a book and the processors at them, the one of the last number first. All of them always belong together, and what each
-/// body keeps holds of it.
+/// A bank, a book and the processors at them, by number. All of them always belong together, and what each body keeps holds of it.
 #[derive(Drop)]
 pub struct Machine<B: Lasting> {
     pub(crate) bank: Bank,
     pub(crate) book: MsgBook,
-    pub(crate) count: usize,
     pub(crate) cpus: Vec<Driven<B>>,
 }
 
@@ -33,11 +33,11 @@ impl<B: Lasting> Model for Machine<B> {
     ghost use Rattle.lwkt_bank.specs.Seats.{id_of, cpus_of};
     ghost use Rattle.lwkt_program.specs.Machines.{Rig, rig_of, IsWhole};
 
-    ghost Value = { Rig };
+    ghost Value = { Rig B };
 
-    ghost view = { λ m. rig_of (id_of m.bank) m.book m.count };
+    ghost view = { λ m. rig_of (id_of m.bank) m.book m.cpus.items };
 
-    ghost invariant = { λ m. IsWhole B.kept (cpus_of m.bank) (id_of m.bank) m.book m.count m.cpus.items };
+    ghost invariant = { λ m. IsWhole B.kept (cpus_of m.bank) (id_of m.bank) m.book m.cpus.items };
 }
 
 // A turn of a processor of this bank and this book.
@@ -48,88 +48,53 @@ fn turn_one<B: Lasting>(
 ) -> Result<Turned, Fault>
     requires at { IsAt (id_of bank.now) book.now.table driven.old }
     requires kept { Lasts B.kept driven.old }
+    ensures ok { IfOk result (λ turned. Makes B.polled (id_of bank.now) turned driven.old driven.new) }
+    ensures err { OnErr result (Stays driven.old driven.new) }
+    ensures only { OnErr result (result ≡ Err Fault.Memory) }
     ensures at { IsAt (id_of bank.now) book.now.table driven.new }
     ensures kept { Lasts B.kept driven.new }
 {
     driven.cpu.turn(bank, book, &mut driven.trace)
 }
 
-// Where the processor of a number lies: the one of the last number is the first.
-fn place_of(number: usize, count: usize) -> usize
-    requires { number < count }
-    ensures { result < count }
-{
-    count - 1 - number
-}
-
-// A processor stops: its threads end and give up what they hold.
-fn stop_one<B: Lasting>(bank: &Bank, book: &MsgBook, driven: &mut Driven<B>) -> Result<(), Fault>
-    requires at { IsAt (id_of bank.now) book.now.table driven.old }
-    requires kept { Lasts B.kept driven.old }
-    ensures at { IsAt (id_of bank.now) book.now.table driven.new }
-    ensures kept { Lasts B.kept driven.new }
-{
-    driven.cpu.stop(bank, book, &mut driven.trace)
-}
-
-// Each processor stops, by rising number.
-fn stop_all<B: Lasting>(bank: &Bank, book: &MsgBook, cpus: &mut [Driven<B>]) -> Result<(), Fault>
+/// A turn of the processor of this number.
+pub(crate) fn turn_at<B: Lasting>(
+    bank: &Bank,
+    book: &MsgBook,
+    cpus: &mut [Driven<B>],
+    number: usize,
+) -> Result<Turned, Fault>
+    requires there { number < length cpus.old }
     requires at { All (IsAt (id_of bank.now) book.now.table) cpus.old }
     requires kept { All (Lasts B.kept) cpus.old }
+    ensures ok { IfOk result (λ turned. TurnsAt B.polled (id_of bank.now) number cpus.old cpus.new turned) }
+    ensures err { OnErr result (DoesAt Stays number cpus.old cpus.new) }
+    ensures only { OnErr result (result ≡ Err Fault.Memory) }
     ensures at { All (IsAt (id_of bank.now) book.now.table) cpus.new }
     ensures kept { All (Lasts B.kept) cpus.new }
+    ensures as_many { length cpus.new ≡ length cpus.old }
 {
-    for number in 0..cpus.len() {
-        let place = place_of(number, cpus.len());
-        stop_one(bank, book, &mut cpus[place])?;
-    }
-    Ok(())
-}
-
-// A turn of each processor, by rising number. Says whether every thread has ended.
-fn turn_all<B: Lasting>(bank: &Bank, book: &MsgBook, cpus: &mut [Driven<B>]) -> Result<bool, Fault>
-    requires at { All (IsAt (id_of bank.now) book.now.table) cpus.old }
-    requires kept { All (Lasts B.kept) cpus.old }
-    ensures at { All (IsAt (id_of bank.now) book.now.table) cpus.new }
-    ensures kept { All (Lasts B.kept) cpus.new }
-{
-    let mut over = true;
-    for number in 0..cpus.len() {
-        let place = place_of(number, cpus.len());
-        let turned = turn_one(bank, book, &mut cpus[place])?;
-        over = over && matches!(turned, Turned::AllExited);
-    }
-    Ok(over)
+    turn_one(bank, book, &mut cpus[number])
 }
 
 impl<B: Lasting> Machine<B> {
-    /// Makes a turn of the processor of this number.
+    ghost use Rattle.lwkt_program.specs.Turns.{Declines};
+
+    /// Makes a turn of the processor of this number, as `Cpu::turn` does.
     ///
-    /// Refused with `Limits` where there is no such processor, and with `Memory` where its trace can't be given room.
+    /// Refused with `Limits` exactly where there is no such processor, and with `Memory` where its trace can't be given room; nothing
+    /// has changed then.
     pub fn turn(&mut self, cpu: CpuId) -> Result<Turned, Fault>
-        ensures { self.new ≡ self.old }
+        ensures ok { IfOk result (λ turned. TurnsAt B.polled self.old.bank cpu.0 self.old.cpus self.new.cpus turned) }
+        ensures refused { IfErr result (λ fault. Declines cpu.0 self.old.cpus self.new.cpus fault) }
+        ensures bank { self.new.bank ≡ self.old.bank }
+        ensures book { self.new.book ≡ self.old.book }
     {
         let number = cpu.0 as usize;
         if number >= self.cpus.len() {
             return Err(Fault::Limits);
         }
-        let place = place_of(number, self.cpus.len());
-        turn_one(&self.bank, &self.book, &mut self.cpus[place])
-    }
-
-    /// Makes so many rounds, in each a turn of each processor by rising number, or ends after the first in which every thread had
-    /// ended.
-    ///
-    /// Refused with `Memory` where a trace can't be given room; the turns made so far stand.
-    pub fn run(&mut self, rounds: u32) -> Result<(), Fault>
-        ensures { self.new ≡ self.old }
-    {
-        for _round in 0..rounds {
-            if turn_all(&self.bank, &self.book, &mut self.cpus)? {
-                return Ok(());
-            }
-        }
-        Ok(())
+        turn_at(&self.bank, &self.book, &mut self.cpus, number)
     }
 
     /// Drives the processors, each on a thread of its own where one can be made, until every thread has ended, no turn can change
@@ -137,7 +102,9 @@ impl<B: Lasting> Machine<B> {
     pub fn drive<R: Threads + Sync>(&mut self, rt: &R, limits: &Limits)
     where
         B: Send,
-        ensures { self.new ≡ self.old }
+        ensures driven { AllZip (λ old new. IsDriven B.polled (λ cpu turn answer. answer ≡ true) self.old.bank limits.now old new new.ending) self.old.cpus self.new.cpus }
+        ensures bank { self.new.bank ≡ self.old.bank }
+        ensures book { self.new.book ≡ self.old.book }
     {
         drive_all(
             rt,
@@ -149,21 +116,11 @@ impl<B: Lasting> Machine<B> {
         );
     }
 
-    /// Why the processor of this number made no further turn when it was driven last; `None` if there is no such processor.
-    pub fn ending(&self, cpu: CpuId) -> Option<Ending> {
-        let number = cpu.0 as usize;
-        if number >= self.cpus.len() {
-            return None;
-        }
-        Some(self.cpus[place_of(number, self.cpus.len())].ending)
-    }
-
-    /// Stops the processors: each thread that hasn't ended gives up what it holds and ends. The bodies stay as they are.
-    ///
-    /// Refused with `Memory` where a trace can't be given room; the processors of lower numbers have stopped then.
-    pub fn stop(&mut self) -> Result<(), Fault>
-        ensures { self.new ≡ self.old }
+    /// Why the processor of this number made no further turn when it was driven last; `None` exactly where there is no such
+    /// processor.
+    pub fn ending(&self, cpu: CpuId) -> Option<Ending>
+        ensures { result ≡ option_map (λ d. d.ending) (slice_get self.now.cpus cpu.0) }
     {
-        stop_all(&self.bank, &self.book, &mut self.cpus)
+        Some(self.cpus.get(cpu.0 as usize)?.ending)
     }
 }

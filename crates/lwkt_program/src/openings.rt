@@ -1,9 +1,10 @@
 //! The opening of a machine.
-ghost use Rattle.std.specs.Prelude.{◌≡◌, ◌≢◌, All, IfOk, length};
-ghost use Rattle.lwkt_bank.specs.Seats.{id_of, cpus_of};
-ghost use Rattle.lwkt_bank.specs.Opened.{plans_of};
+ghost use Rattle.std.specs.Prelude.{◌≡◌, ◌≤◌, ◌↔◌, All, Err, IfErr, IfOk, IsTrue, OnErr, OnOk, length};
+ghost use Rattle.lwkt_bank.specs.Gathered.{IsOpened};
+ghost use Rattle.lwkt_core.specs.Opening.{AreWithin, AllOpenLawfully};
+ghost use Rattle.lwkt_msg.specs.Desks.{AreOpened};
 ghost use Rattle.lwkt_program.specs.Machines.{AreKept};
-ghost use Rattle.lwkt_program.specs.Sitting.{IsFree, IsGiven};
+ghost use Rattle.lwkt_program.specs.Opened.{DeclinesTables, Declines, IsOpenedMachine, IsWithin};
 
 use crate::lanes::{Lanes, open_lanes};
 use crate::lasting::Lasting;
@@ -11,50 +12,72 @@ use crate::machines::Machine;
 use crate::seatings::{Rest, origins_of};
 use lwkt_bank::{Bank, CpuSeat};
 use lwkt_base::{Fault, MsgSpec, TokSpec};
+use lwkt_cpu::cpus::THREAD_LIMIT;
 use lwkt_msg::{MsgBook, MsgSeat};
 use std::alloc::Global;
 
-// A bank of these tokens, with a seat for each processor.
-fn open_bank(alloc: Global, tokens: &[TokSpec], cpus: usize) -> Result<(Bank, Vec<CpuSeat>), Fault>
-    ensures plans { IfOk result (λ opened. (id_of opened.0).plans ≡ plans_of tokens.now) }
-    ensures cpus { IfOk result (λ opened. cpus_of opened.0 ≡ cpus) }
-    ensures seats { IfOk result (λ opened. All (IsFree (id_of opened.0)) opened.1.items) }
-{
-    Bank::open(alloc, tokens, cpus)
+// A bank and a book that were just opened, with their seats.
+#[derive(Drop)]
+struct Tables {
+    bank: Bank,
+    seats: Vec<CpuSeat>,
+    book: MsgBook,
+    mails: Vec<MsgSeat>,
 }
 
-// A book of these messages, with a seat for each processor.
-fn open_book(
+// Whether no list has more bodies than a processor may have threads.
+fn are_few<B>(lists: &[Vec<B>]) -> bool
+    ensures { IsTrue result ↔ All (λ v. length v.items ≤ 16) lists.now }
+{
+    lists.iter().all(|list| list.len() <= THREAD_LIMIT)
+}
+
+// Opens a bank of these tokens and a book of these messages. The book comes first, so that a law that is broken is told only
+// within all limits.
+fn open_tables(
     alloc: Global,
+    tokens: &[TokSpec],
     messages: &[MsgSpec],
     cpus: usize,
-) -> Result<(MsgBook, Vec<MsgSeat>), Fault>
-    ensures specs { IfOk result (λ opened. opened.0.specs ≡ messages.now) }
-    ensures cpus { IfOk result (λ opened. opened.0.cpus ≡ cpus) }
-    ensures seats { IfOk result (λ opened. All (IsGiven opened.0) opened.1.items) }
+) -> Result<Tables, Fault>
+    ensures bank { IfOk result (λ t. IsOpened cpus tokens.now t.bank t.seats.items) }
+    ensures book { IfOk result (λ t. AreOpened cpus messages.now t.book t.mails.items) }
+    ensures within { OnOk result (AreWithin cpus tokens.now messages.now × AllOpenLawfully tokens.now) }
+    ensures refused { IfErr result (λ fault. DeclinesTables cpus tokens.now messages.now fault) }
 {
-    MsgBook::open(alloc, messages, cpus)
+    let (book, mails) = MsgBook::open(alloc, messages, cpus)?;
+    let (bank, seats) = Bank::open(alloc, tokens, cpus)?;
+    Ok(Tables {
+        bank,
+        seats,
+        book,
+        mails,
+    })
 }
 
 impl<B: Lasting + Drop> Machine<B> {
-    /// Opens a machine of these tokens and messages, with a processor for each list of bodies and a thread for each body.
-    ///
-    /// Refused with `Limits`, `LawBroken` or `Memory`, as a bank, a book and processors are.
-    pub fn open(
+    // A machine at tables that were just opened.
+    fn open_at(
         alloc: Global,
         tokens: &[TokSpec],
         messages: &[MsgSpec],
+        tables: Tables,
         bodies: Vec<Vec<B>>,
     ) -> Result<Self, Fault>
+        requires bank { IsOpened (length bodies.items) tokens.now tables.bank tables.seats.items }
+        requires book { AreOpened (length bodies.items) messages.now tables.book tables.mails.items }
         requires kept { AreKept B.kept bodies.items }
-        ensures plans { IfOk result (λ machine. machine.bank.plans ≡ plans_of tokens.now) }
-        ensures specs { IfOk result (λ machine. machine.book.specs ≡ messages.now) }
-        ensures cpus { IfOk result (λ machine. machine.cpus ≡ length bodies.items) }
+        ensures ok { IfOk result (λ machine. IsOpenedMachine tokens.now messages.now bodies.items machine) }
+        ensures only { OnErr result (result ≡ Err Fault.Memory) }
     {
-        let count = bodies.len();
-        let (bank, seats) = open_bank(alloc, tokens, count)?;
-        let (book, mails) = open_book(alloc, messages, count)?;
-        let Lanes { outs, ins } = open_lanes(alloc, count)?;
+        let _ = tokens;
+        let Tables {
+            bank,
+            seats,
+            book,
+            mails,
+        } = tables;
+        let Lanes { outs, ins } = open_lanes(alloc, bodies.len())?;
         let origins = origins_of(alloc, messages).map_err(|_| Fault::Memory)?;
         let mut rest = Rest {
             seats,
@@ -64,11 +87,29 @@ impl<B: Lasting + Drop> Machine<B> {
             bodies,
         };
         let cpus = rest.seat_all(alloc, &bank, &book, &origins)?;
-        Ok(Machine {
-            bank,
-            book,
-            count,
-            cpus,
-        })
+        Ok(Machine { bank, book, cpus })
+    }
+
+    /// Opens a machine of these tokens and messages, with a processor for each list of bodies and a thread for each body, in order.
+    /// Each body is as it was handed in, and no thread was polled.
+    ///
+    /// Refused with `Limits` only if a limit is passed, a bank's, a book's, or 16 bodies of a processor; with `LawBroken` only if it is
+    /// within the limits and an opening row, with the length of its record, breaks its law; and else with `Memory`.
+    pub fn open(
+        alloc: Global,
+        tokens: &[TokSpec],
+        messages: &[MsgSpec],
+        bodies: Vec<Vec<B>>,
+    ) -> Result<Self, Fault>
+        requires kept { AreKept B.kept bodies.items }
+        ensures ok { IfOk result (λ machine. IsOpenedMachine tokens.now messages.now bodies.items machine) }
+        ensures within { OnOk result (IsWithin tokens.now messages.now bodies.items × AllOpenLawfully tokens.now) }
+        ensures refused { IfErr result (λ fault. Declines tokens.now messages.now bodies.items fault) }
+    {
+        if !are_few(&bodies) {
+            return Err(Fault::Limits);
+        }
+        let tables = open_tables(alloc, tokens, messages, bodies.len())?;
+        Machine::open_at(alloc, tokens, messages, tables, bodies)
     }
 }

@@ -1,12 +1,11 @@
 //! Processors put at their seats.
-ghost use Rattle.std.specs.Prelude.{◌≡◌, All, IfOk, map};
+ghost use Rattle.std.specs.Prelude.{◌≡◌, ◌+◌, ◌<◌, Err, IfOk, List, OnErr, Some, length, map, slice_get};
 ghost use Rattle.lwkt_base.specs.declared.openings.MsgSpec.{MsgSpec};
 ghost use Rattle.lwkt_bank.specs.Seats.{id_of};
-ghost use Rattle.lwkt_drive.specs.Course.{IsAt};
-ghost use Rattle.lwkt_program.specs.Machines.{Lasts, AreKept};
-ghost use Rattle.lwkt_program.specs.Sitting.{IsFree, IsGiven};
+ghost use Rattle.lwkt_msg.specs.Desks.{cpu_of, IsOpened};
+ghost use Rattle.lwkt_port.specs.Openings.{new_mail, AreNewPorts};
+ghost use Rattle.lwkt_program.specs.Opened.{IsSeat, IsOpenedCpu, AreOpenedCpus};
 
-use crate::lasting::Lasting;
 use lwkt_bank::{Bank, CpuSeat};
 use lwkt_base::{Fault, MsgSpec, ThreadId};
 use lwkt_cpu::Cpu;
@@ -16,7 +15,7 @@ use lwkt_msg::{MsgBook, MsgSeat};
 use lwkt_port::Ports;
 use std::alloc::{AllocError, Global};
 
-/// What processors are made of that weren't made yet: their seats, the ends of their lanes, and their bodies, by number.
+/// What processors are made of that weren't made yet, by number: their seats, the ends of their lanes, and their bodies.
 #[derive(Drop)]
 pub(crate) struct Rest<B> {
     pub seats: Vec<CpuSeat>,
@@ -33,44 +32,6 @@ pub(crate) fn origins_of(alloc: Global, specs: &[MsgSpec]) -> Result<Vec<ThreadI
     specs.iter().map(|spec| spec.origin).collect(alloc)
 }
 
-// The seat of the last processor that is left.
-fn last_seat(bank: &Bank, seats: &mut Vec<CpuSeat>) -> Result<CpuSeat, Fault>
-    requires { All (IsFree (id_of bank.now)) seats.old.items }
-    ensures seat { IfOk result (λ seat. IsFree (id_of bank.now) seat) }
-    ensures rest { All (IsFree (id_of bank.now)) seats.new.items }
-{
-    let _ = bank;
-    let Some(seat) = seats.pop() else {
-        return Err(Fault::Limits);
-    };
-    Ok(seat)
-}
-
-// Its seat at the book.
-fn last_mail(book: &MsgBook, mails: &mut Vec<MsgSeat>) -> Result<MsgSeat, Fault>
-    requires { All (IsGiven book.now) mails.old.items }
-    ensures mail { IfOk result (λ mail. IsGiven book.now mail) }
-    ensures rest { All (IsGiven book.now) mails.new.items }
-{
-    let _ = book;
-    let Some(mail) = mails.pop() else {
-        return Err(Fault::Limits);
-    };
-    Ok(mail)
-}
-
-// Its bodies.
-fn last_bodies<B: Lasting + Drop>(bodies: &mut Vec<Vec<B>>) -> Result<Vec<B>, Fault>
-    requires { AreKept B.kept bodies.old.items }
-    ensures last { IfOk result (λ last. All B.kept last.items) }
-    ensures rest { AreKept B.kept bodies.new.items }
-{
-    let Some(last) = bodies.pop() else {
-        return Err(Fault::Limits);
-    };
-    Ok(last)
-}
-
 // The ports of a processor, over its seat at the book.
 fn open_ports(
     alloc: Global,
@@ -80,74 +41,74 @@ fn open_ports(
     ins: Vec<LaneIn>,
     origins: &[ThreadId],
     threads: usize,
+    number: usize,
 ) -> Result<Ports, Fault>
-    requires mail { IsGiven book.now mail }
+    requires mail { IsOpened number book.now mail }
     requires origins { origins.now ≡ map (λ (spec : MsgSpec). spec.origin) book.now.specs }
-    ensures table { IfOk result (λ ports. ports.seat.table ≡ book.now.table) }
-    ensures seat { IfOk result (λ ports. ports.seat ≡ mail) }
+    ensures desk { IfOk result (λ ports. IsOpened number book.now ports.seat) }
+    ensures new { IfOk result (λ ports. AreNewPorts threads ports.ports) }
+    ensures mails { IfOk result (λ ports. ports.mails ≡ map (new_mail (cpu_of ports.seat)) (map (λ (spec : MsgSpec). spec.origin) book.now.specs)) }
+    ensures only { OnErr result (result ≡ Err Fault.Memory) }
 {
     let id = mail.cpu();
-    Ports::new(alloc, id, mail, outs, ins, origins, threads)
+    Ports::new(alloc, id, mail, outs, ins, origins, threads).map_err(|_| Fault::Memory)
 }
 
-// A processor with these bodies, over its seats and the ends of its lanes.
-fn seat_one<B: Lasting + Drop>(
+// The processor of this number, over its seat and its ports, with a thread for each of these bodies.
+fn seat_one<B: Drop>(
     alloc: Global,
     bank: &Bank,
     book: &MsgBook,
-    origins: &[ThreadId],
     seat: CpuSeat,
-    mail: MsgSeat,
-    outs: Vec<LaneOut>,
-    ins: Vec<LaneIn>,
+    ports: Ports,
     bodies: Vec<B>,
+    number: usize,
 ) -> Result<Driven<B>, Fault>
-    requires seat { IsFree (id_of bank.now) seat }
-    requires mail { IsGiven book.now mail }
-    requires origins { origins.now ≡ map (λ (spec : MsgSpec). spec.origin) book.now.specs }
-    requires bodies { All B.kept bodies.items }
-    ensures at { IfOk result (λ d. IsAt (id_of bank.now) book.now.table d) }
-    ensures kept { IfOk result (λ d. Lasts B.kept d) }
+    requires seat { IsSeat (id_of bank.now) number seat }
+    requires desk { IsOpened number book.now ports.seat }
+    requires new { AreNewPorts (length bodies.items) ports.ports }
+    requires mails { ports.mails ≡ map (new_mail (cpu_of ports.seat)) (map (λ (spec : MsgSpec). spec.origin) book.now.specs) }
+    ensures ok { IfOk result (λ d. IsOpenedCpu (id_of bank.now) book.now number bodies.items d) }
+    ensures only { OnErr result (result ≡ Err Fault.Memory) }
 {
     let id = seat.cpu();
-    if mail.cpu() != id {
-        return Err(Fault::Limits);
-    }
-    let ports = open_ports(alloc, book, mail, outs, ins, origins, bodies.len())?;
-    let cpu = Cpu::new(alloc, id, seat, ports, bodies)?;
+    let cpu = Cpu::new(alloc, id, seat, ports, bodies).map_err(|_| Fault::Memory)?;
     Ok(Driven::new(alloc, id, cpu))
 }
 
-impl<B: Lasting + Drop> Rest<B> {
-    ghost use Rattle.lwkt_program.specs.Sitting.{AreLeft};
+impl<B: Drop> Rest<B> {
+    ghost use Rattle.std.specs.declared.alloc.Global.{Global as Heap};
+    ghost use Rattle.std.specs.Prelude.{Vec as Items};
+    ghost use Rattle.lwkt_program.specs.Seating.{IsLeft, IsRest};
 
-    // The last processor that is left.
+    // The next processor.
     fn next(
         &mut self,
         alloc: Global,
         bank: &Bank,
         book: &MsgBook,
         origins: &[ThreadId],
+        number: usize,
     ) -> Result<Driven<B>, Fault>
-        requires left { AreLeft B.kept (id_of bank.now) book.now self.old }
+        requires some { 0 < length self.old.seats.items }
+        requires rest { IsRest (id_of bank.now) book.now number self.old }
         requires origins { origins.now ≡ map (λ (spec : MsgSpec). spec.origin) book.now.specs }
-        ensures at { IfOk result (λ d. IsAt (id_of bank.now) book.now.table d) }
-        ensures kept { IfOk result (λ d. Lasts B.kept d) }
-        ensures left { AreLeft B.kept (id_of bank.now) book.now self.new }
+        ensures ok { IfOk result (λ d. (v : Items B Heap) → slice_get self.old.bodies.items 0 ≡ Some v → IsOpenedCpu (id_of bank.now) book.now number v.items d) }
+        ensures left { IsLeft 1 self.old.bodies.items self.new.bodies.items }
+        ensures only { OnErr result (result ≡ Err Fault.Memory) }
+        ensures rest { IsRest (id_of bank.now) book.now (number + 1) self.new }
+        ensures fewer { length self.new.seats.items + 1 ≡ length self.old.seats.items }
     {
-        let seat = last_seat(bank, &mut self.seats)?;
-        let mail = last_mail(book, &mut self.mails)?;
-        let bodies = last_bodies(&mut self.bodies)?;
-        let Some(outs) = self.outs.pop() else {
-            return Err(Fault::Limits);
-        };
-        let Some(ins) = self.ins.pop() else {
-            return Err(Fault::Limits);
-        };
-        seat_one(alloc, bank, book, origins, seat, mail, outs, ins, bodies)
+        let seat = self.seats.remove(0);
+        let mail = self.mails.remove(0);
+        let outs = self.outs.remove(0);
+        let ins = self.ins.remove(0);
+        let bodies = self.bodies.remove(0);
+        let ports = open_ports(alloc, book, mail, outs, ins, origins, bodies.len(), number)?;
+        seat_one(alloc, bank, book, seat, ports, bodies, number)
     }
 
-    /// All the processors, the one of the last number first.
+    /// All the processors.
     pub(crate) fn seat_all(
         &mut self,
         alloc: Global,
@@ -155,16 +116,17 @@ impl<B: Lasting + Drop> Rest<B> {
         book: &MsgBook,
         origins: &[ThreadId],
     ) -> Result<Vec<Driven<B>>, Fault>
-        requires left { AreLeft B.kept (id_of bank.now) book.now self.old }
+        requires rest { IsRest (id_of bank.now) book.now 0 self.old }
         requires origins { origins.now ≡ map (λ (spec : MsgSpec). spec.origin) book.now.specs }
-        ensures at { IfOk result (λ all. All (IsAt (id_of bank.now) book.now.table) all.items) }
-        ensures kept { IfOk result (λ all. All (Lasts B.kept) all.items) }
+        ensures as_many { IfOk result (λ cpus. length cpus.items ≡ length self.old.seats.items) }
+        ensures each { IfOk result (λ cpus. AreOpenedCpus (id_of bank.now) book.now self.old.bodies.items cpus.items) }
+        ensures only { OnErr result (result ≡ Err Fault.Memory) }
     {
-        let mut all = Vec::new(alloc);
-        for _made in 0..self.seats.len() {
-            let driven = self.next(alloc, bank, book, origins)?;
-            all.push(driven).map_err(|_| Fault::Memory)?;
+        let mut cpus = Vec::new(alloc);
+        for number in 0..self.seats.len() {
+            let driven = self.next(alloc, bank, book, origins, number)?;
+            cpus.push(driven).map_err(|_| Fault::Memory)?;
         }
-        Ok(all)
+        Ok(cpus)
     }
 }

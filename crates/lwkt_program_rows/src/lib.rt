@@ -2,6 +2,8 @@
 #![tactic(auto)]
 
 #[cfg(test)]
+mod cautious;
+#[cfg(test)]
 mod listed;
 #[cfg(test)]
 mod rows;

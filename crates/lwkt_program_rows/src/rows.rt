@@ -1,4 +1,5 @@
 //! The rows: turns in both orders, a stop within a section, refusals, drives, a record.
+use crate::cautious::{Cautious, ends_at_a_refusal};
 use crate::listed::{Listed, TOKEN};
 use lwkt_base::{Ask, CpuId, Fault, TokSpec};
 use lwkt_program::{Closed, Ending, LIMITS, Machine, Stepper, Turned, makers};
@@ -127,5 +128,24 @@ fn record_under_len(rt: HostRuntime) -> Result<(), Fault> {
     assert_eq!(rt; closed.cell(TOKEN, 0), 3);
     let kept = closed.tokens.blobs.get(0).copied().flatten();
     assert!(rt; matches!(kept, Some(blob) if blob.as_slice() == b"abc".as_slice()));
+    Ok(())
+}
+
+#[test]
+fn a_refusal_is_told_as_one(rt: HostRuntime) -> Result<(), Fault> {
+    let alloc = rt.alloc();
+    let mut alone = Stepper::new(Cautious { refusals: 0 });
+    assert_eq!(rt; ends_at_a_refusal(&mut alone, Fault::NotHeld), Ask::Exit);
+    let bodies = makers::list(alloc, [Stepper::new(Cautious { refusals: 0 })])?;
+    let lists = makers::list(alloc, [bodies])?;
+    let mut machine = Machine::open(alloc, &[makers::any(alloc, &[0])?], &[], lists)?;
+    machine.run(9)?;
+    let closed = machine.close(alloc)?;
+    let refusals = closed
+        .bodies
+        .get(0)
+        .and_then(|list| list.get(0))
+        .map(|b| b.steps.refusals);
+    assert_eq!(rt; refusals, Some(1));
     Ok(())
 }

@@ -1,9 +1,9 @@
-use Rattle.std.specs.Prelude.{All}
-use Rattle.lwkt_bank.specs.Seats.{id_of}
-use Rattle.lwkt_drive.specs.Course.{IsAt}
-use Rattle.lwkt_program.specs.Machines.{Lasts}
-use Rattle.lwkt_program.specs.Sitting.{AreBack}
+use Rattle.std.proofs.Common.{◌≡◌, ◌+◌, length}
+use Rattle.lwkt_program.proofs.RetireMoves.{IsRetiring}
 use Rattle.lwkt_program.proofs.closings.Gathered.all.Given as goal
 
 abbrev pub invariant-loop-number : goal.invariant-loop-number
-invariant-loop-number g l = All (IsAt {B = g.row.B.Denot} (id_of l.bank) l.book.table) l.cpus.items × All (Lasts {B = g.row.B.Denot} g.B.Lasting.kept) l.cpus.items × AreBack {B = g.row.B.Denot} g.B.Lasting.kept (id_of l.bank) l.book l.all
+invariant-loop-number g l = record {
+  so_far : IsRetiring {B = g.row.B.Denot} l.initial.cpus.items l.cpus.items l.all;
+  left : length l.cpus.items + l._number ≡ length l.initial.cpus.items;
+}

@@ -1,0 +1,141 @@
+-- What the openings of a bank and a book give is what processors are made of, one by one.
+use Rattle.std.proofs.Common.{◌≡◌, ◌∙◌, ℕ, suc, ◌+◌, ◌<◌, List, [], ◌∷◌, ◌++◌, length, get_or, refl, ap, sym, subst, inl, inr, arith, Some}
+use Rattle.std.specs.Prelude.{All, Vec, slice_get}
+use Rattle.std.specs.List.{remove}
+use Rattle.std.specs.declared.alloc.Global.{Global}
+use Rattle.std.proofs.lemmas.List.Elements.{All-get_or}
+use Rattle.std.proofs.lemmas.Option.{slice_get_read, slice_get_within, get_or_from_slice_get}
+use Rattle.lwkt_base.specs.declared.openings.MsgSpec.{MsgSpec}
+use Rattle.lwkt_base.specs.declared.openings.TokSpec.{TokSpec}
+use Rattle.lwkt_bank.specs.declared.banks.Bank.{Bank}
+use Rattle.lwkt_bank.specs.declared.seats.CpuSeat.{CpuSeat}
+use Rattle.lwkt_bank.specs.Seats.{BankId, id_of}
+use Rattle.lwkt_bank.specs.Gathered.{IsOpened as IsOpenedBank}
+use Rattle.lwkt_msg.specs.Desks.{Desk, Shelf, IsOpened, AreOpened}
+use Rattle.lwkt_cpu.proofs.PlaceMoves.{get_there}
+use Rattle.lwkt_drive.specs.declared.driven.Driven.{Driven}
+use Rattle.lwkt_drive.specs.Course.{IsAt}
+use Rattle.lwkt_program.specs.Machines.{AreKept, Lasts, IsWhole}
+use Rattle.lwkt_program.specs.Opened.{IsSeat, IsOpenedCpu, AreOpenedCpus}
+use Rattle.lwkt_program.specs.Seating.{SeatsFrom, DesksFrom, IsRest, IsLeft}
+use Rattle.lwkt_program.specs.declared.seatings.Rest.{Rest}
+use Rattle.lwkt_program.proofs.ListMoves.{get_removed, length_removed, get_pushed, all_from_get}
+
+-- what holds of each place of a list, counted from a number on
+from_first : {A : Type 0} (P : ℕ → A → Type 0) (first : ℕ) (xs : List A) (x : A) → 0 < length xs → x ≡ get_or xs 0 x → ((j : ℕ) (y : A) → slice_get xs j ≡ Some y → P (first + j) y) → P first x
+from_first P first xs x some is each =
+    let F : ℕ → Type 0 = λ n. P n x in
+    let e : first + 0 ≡ first = omega arith in
+    subst F e (each 0 x (slice_get_read xs (length xs) 0 x refl some is))
+
+from_rest : {A : Type 0} (P : ℕ → A → Type 0) (first : ℕ) (xs ys : List A) → ys ≡ remove xs 0 → ((j : ℕ) (y : A) → slice_get xs j ≡ Some y → P (first + j) y) → (j : ℕ) (y : A) → slice_get ys j ≡ Some y → P (first + 1 + j) y
+from_rest P first xs ys is each j y at =
+    let F : ℕ → Type 0 = λ n. P n y in
+    let e : first + suc j ≡ first + 1 + j = omega arith in
+    subst F e (each (suc j) y (sym (get_removed xs j) ∙ ap (λ zs. slice_get zs j) (sym is) ∙ at))
+
+pub first_seat : (bank : BankId) (first : ℕ) (seats : List CpuSeat) (s : CpuSeat) → 0 < length seats → s ≡ get_or seats 0 s → SeatsFrom bank first seats → IsSeat bank first s
+first_seat bank first seats s some is from = from_first (λ n x. IsSeat bank n x) first seats s some is from
+
+pub first_desk : (book : Shelf) (first : ℕ) (desks : List Desk) (d : Desk) → 0 < length desks → d ≡ get_or desks 0 d → DesksFrom book first desks → IsOpened first book d
+first_desk book first desks d some is from = from_first (λ n x. IsOpened n book x) first desks d some is from
+
+fewer : {A B : Type 0} (xs vs : List A) (ys ws : List B) → 0 < length xs → length ys ≡ length xs → vs ≡ remove xs 0 → ws ≡ remove ys 0 → length ws ≡ length vs
+fewer xs vs ys ws some same v w =
+    let l = length_removed xs some in
+    let m = length_removed ys (omega (arith, some, same)) in
+    let a = ap length v in
+    let b = ap length w in
+    omega (arith, l, m, a, b, same)
+
+pub rest_more : {B : Type 0} (bank : BankId) (book : Shelf) (first : ℕ) (old new : Rest B) → 0 < length old.seats.items → new.seats.items ≡ remove old.seats.items 0 → new.mails.items ≡ remove old.mails.items 0 → new.outs.items ≡ remove old.outs.items 0 → new.ins.items ≡ remove old.ins.items 0 → new.bodies.items ≡ remove old.bodies.items 0 → IsRest bank book first old → IsRest bank book (first + 1) new
+rest_more bank book first old new some seats mails outs ins bodies rest = record {
+  seats = from_rest (λ n x. IsSeat bank n x) first old.seats.items new.seats.items seats rest.seats;
+  desks = from_rest (λ n x. IsOpened n book x) first old.mails.items new.mails.items mails rest.desks;
+  mails_are = fewer old.seats.items new.seats.items old.mails.items new.mails.items some rest.mails_are seats mails;
+  outs_are = fewer old.seats.items new.seats.items old.outs.items new.outs.items some rest.outs_are seats outs;
+  ins_are = fewer old.seats.items new.seats.items old.ins.items new.ins.items some rest.ins_are seats ins;
+  bodies_are = fewer old.seats.items new.seats.items old.bodies.items new.bodies.items some rest.bodies_are seats bodies;
+}
+
+pub rest_fewer : {A : Type 0} (xs ys : List A) → 0 < length xs → ys ≡ remove xs 0 → length ys + 1 ≡ length xs
+rest_fewer xs ys some is =
+    let l = length_removed xs some in
+    let a = ap length is in
+    omega (arith, l, a)
+
+-- the first list is gone
+pub left_one : {A : Type 0} (xs ys : List A) → ys ≡ remove xs 0 → IsLeft 1 xs ys
+left_one xs ys is j =
+    let F : ℕ → Type 0 = λ n. slice_get ys j ≡ slice_get xs n in
+    let e : suc j ≡ 1 + j = omega arith in
+    subst F e (ap (λ zs. slice_get zs j) is ∙ get_removed xs j)
+
+pub left_none : {A : Type 0} (xs : List A) → IsLeft 0 xs xs
+left_none xs j =
+    let e : j ≡ 0 + j = omega arith in
+    ap (λ n. slice_get xs n) e
+
+pub left_more : {A : Type 0} (count : ℕ) (xs ys zs : List A) → IsLeft count xs ys → IsLeft 1 ys zs → IsLeft (count + 1) xs zs
+left_more count xs ys zs left one j =
+    let e : count + (1 + j) ≡ count + 1 + j = omega arith in
+    one j ∙ left (1 + j) ∙ ap (λ n. slice_get xs n) e
+
+-- one processor more
+pub opened_more : {B : Type 0} (bank : BankId) (book : Shelf) (lists left : List (Vec B Global)) (cpus : List (Driven B)) (d : Driven B) → IsLeft (length cpus) lists left → ((v : Vec B Global) → slice_get left 0 ≡ Some v → IsOpenedCpu bank book (length cpus) v.items d) → AreOpenedCpus bank book lists cpus → AreOpenedCpus bank book lists (cpus ++ d ∷ [])
+opened_more {B} bank book lists left cpus d gone new each k v e of at = elim (get_pushed cpus d e k at) [
+  | inl there ↦ each k v e of there
+  | inr last ↦
+      let F : ℕ → Type 0 = λ n. IsOpenedCpu bank book n v.items e in
+      let G : Driven B → Type 0 = λ x. IsOpenedCpu bank book (length cpus) v.items x in
+      let n : length cpus + 0 ≡ k = omega (arith, last.0) in
+      subst F (sym last.0) (subst G (sym last.1) (new v (gone 0 ∙ ap (λ i. slice_get lists i) n ∙ of)))
+]
+
+seats_from : (cpus : ℕ) (specs : List TokSpec) (bank : Bank) (seats : List CpuSeat) → IsOpenedBank cpus specs bank seats → SeatsFrom (id_of bank) 0 seats
+seats_from cpus specs bank seats opened j s at =
+    let told = opened.seats_out.each j s (slice_get_within seats j s at) in
+    let e : get_or seats j s ≡ s = get_or_from_slice_get seats j s s at in
+    let n : j ≡ 0 + j = omega arith in
+    let F : CpuSeat → Type 0 = λ x. IsSeat (id_of bank) j x in
+    let G : ℕ → Type 0 = λ k. IsSeat (id_of bank) k s in
+    subst G n (subst F e (record { bank_is = told.0; new = told.1; number = told.2 }))
+
+desks_from : (cpus : ℕ) (specs : List MsgSpec) (book : Shelf) (desks : List Desk) → AreOpened cpus specs book desks → DesksFrom book 0 desks
+desks_from cpus specs book desks opened j d at =
+    let long = opened.seats_are.as_many in
+    let within = slice_get_within desks j d at in
+    let e : get_or desks j d ≡ d = get_or_from_slice_get desks j d d at in
+    let n : j ≡ 0 + j = omega arith in
+    let F : Desk → Type 0 = λ x. IsOpened j book x in
+    let G : ℕ → Type 0 = λ k. IsOpened k book d in
+    subst G n (subst F e (opened.seats_are.each j d (omega (arith, long, within))))
+
+-- nothing was made yet
+pub rest_first : {B : Type 0} (tokens : List TokSpec) (messages : List MsgSpec) (bank : Bank) (book : Shelf) (rest : Rest B) → IsOpenedBank (length rest.bodies.items) tokens bank rest.seats.items → AreOpened (length rest.bodies.items) messages book rest.mails.items → length rest.outs.items ≡ length rest.bodies.items → length rest.ins.items ≡ length rest.bodies.items → IsRest (id_of bank) book 0 rest
+rest_first tokens messages bank book rest opened given outs ins = record {
+  seats = seats_from (length rest.bodies.items) tokens bank rest.seats.items opened;
+  desks = desks_from (length rest.bodies.items) messages book rest.mails.items given;
+  mails_are = given.seats_are.as_many ∙ sym opened.as_many;
+  outs_are = outs ∙ sym opened.as_many;
+  ins_are = ins ∙ sym opened.as_many;
+  bodies_are = sym opened.as_many;
+}
+
+-- processors as they are opened belong to their bank and book, and keep what their bodies keep
+pub opened_whole : {B : Type 0} (kept : B → Type 0) (seats : ℕ) (bank : BankId) (book : Shelf) (lists : List (Vec B Global)) (cpus : List (Driven B)) → seats ≡ length cpus → book.cpus ≡ length cpus → length cpus ≡ length lists → AreOpenedCpus bank book lists cpus → AreKept kept lists → IsWhole kept seats bank book cpus
+opened_whole {B} kept seats bank book lists cpus seats_many mails_many many each before = record {
+  seats_are = seats_many;
+  mails_are = mails_many;
+  places = all_from_get (IsAt bank book.table) cpus (λ k d at.
+      let v = get_there lists k (omega (arith, many, slice_get_within cpus k d at)) in
+      let opened = each k v.0 d v.1 at in
+      record { bank_is = opened.seat.bank_is; book_is = opened.desk.table });
+  lasting = all_from_get (Lasts kept) cpus (λ k d at.
+      let within : k < length lists = omega (arith, many, slice_get_within cpus k d at) in
+      let v = get_there lists k within in
+      let opened = each k v.0 d v.1 at in
+      let F : List B → Type 0 = λ bodies. All kept bodies in
+      let G : Vec B Global → Type 0 = λ w. All kept w.items in
+      subst F (sym opened.bodies_are) (subst G (get_or_from_slice_get lists k v.0 v.0 v.1) (All-get_or G lists k v.0 within before)));
+}

@@ -1,0 +1,23 @@
+use Rattle.std.proofs.Common.{◌<◌, length, ap, arith}
+use Rattle.lwkt_program.proofs.ListMoves.{length_removed}
+use Rattle.lwkt_program.proofs.RetireMoves.{over_first, retiring_more}
+use Rattle.lwkt_program.proofs.closings.Gathered.all.Goals as goal
+
+pub loop-number-preserved : goal.loop-number-preserved
+loop-number-preserved g c =
+    let l = c.loop-number in
+    let rest = l.cpus.items in
+    let some : 0 < length rest = omega (arith, c.loop-number-test.true, l.invariant.left, l.auto, c.len-number-end.ensures, c.args.cpus.ok) in
+    let fewer = length_removed rest some in
+    let is = ap length c.remove-driven.ensures.items in
+    record {
+      so_far = retiring_more {B = g.row.B.Denot} c.args.cpus.items rest c.remove-driven.new.self.items l.all c.add.new.self c.remove-driven.result some c.remove-driven.ensures.value c.remove-driven.ensures.items l.invariant.so_far (c.in_ok-add.ensures l.invariant.so_far.done l.invariant.so_far.retired);
+      left = omega (arith, fewer, is, l.invariant.left);
+    }
+
+pub add-requires : goal.add-requires
+add-requires g c =
+    let l = c.loop-number in
+    let rest = l.cpus.items in
+    let some : 0 < length rest = omega (arith, c.loop-number-test.true, l.invariant.left, l.auto, c.len-number-end.ensures, c.args.cpus.ok) in
+    over_first {B = g.row.B.Denot} c.args.cpus.items rest l.all c.remove-driven.result some c.remove-driven.ensures.value l.invariant.so_far

@@ -1,0 +1,41 @@
+use Rattle.std.proofs.Common.{◌≡◌, ◌<◌, length, get_or, set, refl, arith, Some}
+use Rattle.std.specs.Prelude.{slice_get}
+use Rattle.std.proofs.lemmas.List.Elements.{All-set}
+use Rattle.std.proofs.lemmas.Option.{slice_get-get_or}
+use Rattle.lwkt_bank.specs.Seats.{id_of}
+use Rattle.lwkt_drive.specs.Course.{IsAt}
+use Rattle.lwkt_program.specs.Ended.{AreStoppedShort}
+use Rattle.lwkt_program.specs.Machines.{Lasts}
+use Rattle.lwkt_program.proofs.StopMoves.{stopped_more}
+use Rattle.lwkt_program.proofs.TurnMoves.{on_err}
+use Rattle.lwkt_program.proofs.stops.stop_all.Goals as goal
+
+pub returns-in_err-stop_one-clause-err : goal.returns-in_err-stop_one-clause-err
+returns-in_err-stop_one-clause-err g c =
+    let l = c.loop-number in
+    let d = c.index-cpus-number.result in
+    let within : l.number < length l.cpus = omega (arith, c.loop-number-test.true, l.auto.cpus) in
+    let p = get_or l.cpus l.number d in
+    let q = c.stop_one.new.driven in
+    let is : slice_get l.cpus l.number ≡ Some p = slice_get-get_or l.cpus l.number d within in
+    on_err c.from_residual.result (AreStoppedShort {B = g.row.B.Denot} c.args.cpus.now (set l.cpus l.number q))
+    (record {
+      count = l.number;
+      mids = l.cpus;
+      stopped = l.invariant.so_far;
+      stays = record { before = p; now = q; at_before = is; does = c.in_err-stop_one.ensures.err; cpus = refl };
+    })
+
+pub loop-number-preserved : goal.loop-number-preserved
+loop-number-preserved g c =
+    let l = c.loop-number in
+    let d = c.index-cpus-number.result in
+    let within : l.number < length l.cpus = omega (arith, c.loop-number-test.true, l.auto.cpus) in
+    let p = get_or l.cpus l.number d in
+    let q = c.stop_one.new.driven in
+    let is : slice_get l.cpus l.number ≡ Some p = slice_get-get_or l.cpus l.number d within in
+    record {
+      at = All-set (IsAt {B = g.row.B.Denot} (id_of c.args.bank.now) c.args.book.now.table) l.cpus l.number q c.stop_one.ensures.at l.invariant.at;
+      kept = All-set (Lasts {B = g.row.B.Denot} g.B.Lasting.kept) l.cpus l.number q c.stop_one.ensures.kept l.invariant.kept;
+      so_far = stopped_more {B = g.row.B.Denot} c.args.cpus.now l.cpus l.number p q within is c.in_ok-stop_one.ensures.ok l.invariant.so_far;
+    }

@@ -1,0 +1,64 @@
+-- The stop and the close of a machine (own).
+use Rattle.std.specs.Prelude.{◌≡◌, ℕ, ◌<◌, ◌≤◌, List, length, map, All, Vec, Some, slice_get}
+use Rattle.std.specs.declared.alloc.Global.{Global}
+use Rattle.lwkt_base.specs.Holding.{holds_nothing}
+use Rattle.lwkt_ask.specs.Telling.{TellsMail}
+use Rattle.lwkt_bank.specs.Gathered.{IsClosed}
+use Rattle.lwkt_bank.specs.Seats.{holding}
+use Rattle.lwkt_hold.specs.Runs.{Ran}
+use Rattle.lwkt_msg.specs.Desks.{AreClosed}
+use Rattle.lwkt_cpu.specs.Processors.{AllOver}
+use Rattle.lwkt_cpu.specs.Stopping.{Stops}
+use Rattle.lwkt_cpu.specs.Turning.{IsMailed}
+use Rattle.lwkt_drive.specs.declared.driven.Driven.{Driven}
+use Rattle.lwkt_program.specs.declared.closings.Closed.{Closed}
+use Rattle.lwkt_program.specs.declared.closings.Gathered.{Gathered}
+use Rattle.lwkt_program.specs.Machines.{Rig}
+use Rattle.lwkt_program.specs.Turns.{DoesAt, Stays}
+
+-- a processor stops, and the events by which its trace grows are what its seats at bank and book did; what was told of its driving
+-- stays
+pub record IsStopped {B : Type 0} (old new : Driven B) : Type 0 where
+  pub stops : Stops old.cpu new.cpu old.trace new.trace
+  pub ran : Ran (IsMailed old.cpu.threads) 258 old.cpu.seat new.cpu.seat old.trace new.trace
+  pub told : TellsMail old.cpu.post.seat new.cpu.post.seat old.trace.items new.trace.items
+  pub rest : new ≡ record old { cpu = new.cpu; trace = new.trace }
+
+-- the processors below this number have stopped, each once, and the others are as before
+pub record HaveStopped {B : Type 0} (count : ℕ) (olds news : List (Driven B)) : Type 0 where
+  pub as_many : length news ≡ length olds
+  pub below : (k : ℕ) (p q : Driven B) → k < count → slice_get olds k ≡ Some p → slice_get news k ≡ Some q → IsStopped p q
+  pub above : (k : ℕ) → count ≤ k → slice_get news k ≡ slice_get olds k
+
+-- all of them have
+abbrev pub AreStopped : {B : Type 0} → List (Driven B) → List (Driven B) → Type 0
+AreStopped olds news = HaveStopped (length olds) olds news
+
+-- some of them have, and the next one is as it was, but for the room of its trace
+pub record AreStoppedShort {B : Type 0} (olds news : List (Driven B)) : Type 0 where
+  pub count : ℕ
+  pub mids : List (Driven B)
+  pub stopped : HaveStopped count olds mids
+  pub stays : DoesAt Stays count mids news
+
+-- every thread of every processor has ended
+abbrev pub AreOver : {B : Type 0} → List (Driven B) → Type 0
+AreOver {B} cpus = (k : ℕ) (d : Driven B) → slice_get cpus k ≡ Some d → AllOver d.cpu.threads
+
+-- these processors gave back their seats, which hold nothing, their bodies and their traces, all in order
+pub record AreRetired {B : Type 0} (done : List (Driven B)) (all : Gathered B) : Type 0 where
+  pub seats : all.seats.items ≡ map (λ (d : Driven B). d.cpu.seat) done
+  pub empty : All (λ s. holding s ≡ holds_nothing) all.seats.items
+  pub mails : all.mails.items ≡ map (λ (d : Driven B). d.cpu.post.seat) done
+  pub bodies : map (λ (v : Vec B Global). v.items) all.bodies.items ≡ map (λ (d : Driven B). d.cpu.bodies) done
+  pub traces : all.traces.items ≡ map (λ (d : Driven B). d.trace) done
+
+-- a machine closes: each processor stops; the closing values are those of bank and book, after they took back the seats of these
+-- processors; the bodies and the traces are theirs, in order
+pub record IsClosedMachine {B : Type 0} (m : Rig B) (closed : Closed B) : Type 0 where
+  pub last : List (Driven B)
+  pub stopped : AreStopped m.cpus last
+  pub tokens : IsClosed m.bank (length m.cpus) (map (λ (d : Driven B). d.cpu.seat) last) closed.tokens
+  pub messages : AreClosed m.book (map (λ (d : Driven B). d.cpu.post.seat) last) closed.messages.items
+  pub bodies : map (λ (v : Vec B Global). v.items) closed.bodies.items ≡ map (λ (d : Driven B). d.cpu.bodies) last
+  pub traces : closed.traces.items ≡ map (λ (d : Driven B). d.trace) last

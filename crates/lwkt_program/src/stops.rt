@@ -1,0 +1,66 @@
+//! The stop of a machine.
+ghost use Rattle.std.specs.Prelude.{◌≡◌, All, Err, OnErr, OnOk, length};
+ghost use Rattle.lwkt_bank.specs.Seats.{id_of};
+ghost use Rattle.lwkt_cpu.specs.Processors.{AllOver};
+ghost use Rattle.lwkt_drive.specs.Course.{IsAt};
+ghost use Rattle.lwkt_program.specs.Ended.{IsStopped, AreStopped, AreStoppedShort};
+ghost use Rattle.lwkt_program.specs.Machines.{Lasts};
+ghost use Rattle.lwkt_program.specs.Turns.{Stays};
+
+use crate::lasting::Lasting;
+use crate::machines::Machine;
+use lwkt_bank::Bank;
+use lwkt_base::Fault;
+use lwkt_drive::Driven;
+use lwkt_msg::MsgBook;
+
+// A processor stops: its threads end and give up what they hold.
+fn stop_one<B: Lasting>(bank: &Bank, book: &MsgBook, driven: &mut Driven<B>) -> Result<(), Fault>
+    requires at { IsAt (id_of bank.now) book.now.table driven.old }
+    requires kept { Lasts B.kept driven.old }
+    ensures ok { OnOk result (IsStopped driven.old driven.new) }
+    ensures err { OnErr result (Stays driven.old driven.new) }
+    ensures only { OnErr result (result ≡ Err Fault.Memory) }
+    ensures at { IsAt (id_of bank.now) book.now.table driven.new }
+    ensures kept { Lasts B.kept driven.new }
+{
+    driven.cpu.stop(bank, book, &mut driven.trace)
+}
+
+/// Each processor stops, by rising number.
+pub(crate) fn stop_all<B: Lasting>(
+    bank: &Bank,
+    book: &MsgBook,
+    cpus: &mut [Driven<B>],
+) -> Result<(), Fault>
+    requires at { All (IsAt (id_of bank.now) book.now.table) cpus.old }
+    requires kept { All (Lasts B.kept) cpus.old }
+    ensures ok { OnOk result (AreStopped cpus.old cpus.new) }
+    ensures err { OnErr result (AreStoppedShort cpus.old cpus.new) }
+    ensures only { OnErr result (result ≡ Err Fault.Memory) }
+    ensures at { All (IsAt (id_of bank.now) book.now.table) cpus.new }
+    ensures kept { All (Lasts B.kept) cpus.new }
+    ensures as_many { length cpus.new ≡ length cpus.old }
+{
+    for number in 0..cpus.len() {
+        stop_one(bank, book, &mut cpus[number])?;
+    }
+    Ok(())
+}
+
+impl<B: Lasting> Machine<B> {
+    /// Stops the processors, by rising number: each thread that hasn't ended gives up what it holds and ends. The bodies stay as they
+    /// are.
+    ///
+    /// Refused with `Memory` where a trace can't be given room; the processors of lower numbers have stopped then, and nothing else
+    /// has changed.
+    pub fn stop(&mut self) -> Result<(), Fault>
+        ensures ok { OnOk result (AreStopped self.old.cpus self.new.cpus) }
+        ensures err { OnErr result (AreStoppedShort self.old.cpus self.new.cpus) }
+        ensures only { OnErr result (result ≡ Err Fault.Memory) }
+        ensures bank { self.new.bank ≡ self.old.bank }
+        ensures book { self.new.book ≡ self.old.book }
+    {
+        stop_all(&self.bank, &self.book, &mut self.cpus)
+    }
+}
