@@ -1,5 +1,5 @@
 //! The desk of a bank: for each processor a place where its seat rests between calls.
-ghost use Rattle.std.specs.Prelude.{◌≡◌, ◌⊎◌, ◌<◌, ◌≤◌, length, IfOk, IfErr, IfSome};
+ghost use Rattle.std.specs.Prelude.{◌≡◌, ◌⊎◌, ◌<◌, ◌≤◌, length, true, is_none, IfOk, IfErr, IfSome};
 ghost use Rattle.lwkt_seats.specs.Seated.{IsSeated};
 ghost use Rattle.lwkt_seats.specs.Spots.{AreSpots};
 
@@ -74,7 +74,8 @@ impl Desk {
 
     /// The place of this number, if there is one.
     pub(crate) fn place(&self, number: usize) -> Option<&Place>
-        ensures { IfSome result (λ place. IsPlaced self.now number place.now) }
+        ensures some { IfSome result (λ place. IsPlaced self.now number place.now) }
+        ensures none { is_none result ≡ true → length self.now.places.items ≤ number }
     {
         self.places.get(number)
     }
