@@ -69,6 +69,11 @@ JoinIsNoDeed = (plans : List Plan) (cpus : ℕ) (s : Bench) (id : ℕ) (v : View
     → other ≢ id → get_elem? s.views other ≡ some w → w.kind ≡ Of cpu → ((tok : ℕ) → tok < length plans → (at w.tokens tok).held ≡ Nothing)
     → (after : Told plans cpus (record { words = s.words; homes = s.homes; views = slice_set (slice_set s.views id (joined v w)) other spent })) × (after.rule.model ≡ told.rule.model) × (after.chronicle.history ≡ told.chronicle.history)
 
+-- one spent view more among the views, as a look from outside leaves one: no deed is done, and the machine stays
+abbrev pub SpentIsNoDeed : Type 0
+SpentIsNoDeed = (plans : List Plan) (cpus : ℕ) (s : Bench) (told : Told plans cpus s)
+    → (after : Told plans cpus (record { words = s.words; homes = s.homes; views = s.views ++ spent ∷ [] })) × (after.rule.model ≡ told.rule.model) × (after.chronicle.history ≡ told.chronicle.history)
+
 -- what an event at a cell is to the words before and after it: a read tells the value that is there, a write leaves its value
 abbrev pub IsCellMade : List ℕ → List ℕ → Event → Type 0
 IsCellMade words words' (Read cpu tok cell value) = value ≡ slice_index words (cell_word tok.0 cell)

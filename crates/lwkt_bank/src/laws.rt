@@ -1,5 +1,5 @@
 //! What the bank's rule is for, as laws.
-ghost use Rattle.lwkt_bank.specs.Laws.{RuleShowsSafety, StatesAreReached, ViewsDecide, OpeningIsDeclared, SplitIsNoDeed, JoinIsNoDeed, MadeAsTold, NothingUntold, LookIsLoad, ExchangeIsTake, ExchangeIsShare, AddIsAgain, OrIsMark, SubIsGiveOne, SubIsGiveClean, AddIsGiveWritten, CellLoadIsRead, CellStoreIsWrite, TallyStoreIsWrite, AccessIsReadBlob, AccessIsWriteBlob, DeedsAreTold};
+ghost use Rattle.lwkt_bank.specs.Laws.{RuleShowsSafety, StatesAreReached, ViewsDecide, OpeningIsDeclared, SplitIsNoDeed, JoinIsNoDeed, SpentIsNoDeed, MadeAsTold, NothingUntold, LookIsLoad, ExchangeIsTake, ExchangeIsShare, AddIsAgain, OrIsMark, SubIsGiveOne, SubIsGiveClean, AddIsGiveWritten, CellLoadIsRead, CellStoreIsWrite, TallyStoreIsWrite, AccessIsReadBlob, AccessIsWriteBlob, DeedsAreTold};
 ghost use Rattle.lwkt_bank.specs.Rule.{Bench};
 ghost use Rattle.lwkt_bank.specs.Told.{Told};
 ghost use Rattle.lwkt_bank.specs.Holdings.{TakingAdds, AgainAdds, GivingRemoves, OthersKeep, NothingCounts, AddedCounts};
@@ -54,6 +54,11 @@ pub fn steps_are_deeds()
     ensures join { JoinIsNoDeed }
 {}
 
+/// A spent view more among the views, as a look from outside leaves one, is no deed.
+pub fn looks_from_outside_are_no_deeds()
+    ensures { SpentIsNoDeed }
+{}
+
 /// The deeds that a call's contract tells are its seat's new events and steps, in order.
 pub fn deeds_are_told()
     ensures { DeedsAreTold }
@@ -73,13 +78,7 @@ pub fn references_are_counted()
     ensures added { AddedCounts }
 {}
 
-// Asks that the rule of a table be that of the laws here.
-fn is_that_of_the_laws<R: TableRule<Blob, View, Key>>()
-    requires { (key : Key) (s : Bench) → (R.holds key s → Told key.plans.items key.cpus s) × (Told key.plans.items key.cpus s → R.holds key s) }
+/// The rule that the bank's table keeps, which the type of `Bank::shared` names, is that of the laws here.
+pub fn bank_keeps_that_rule()
+    ensures { (key : Key) (s : Bench) → (⟦<BankRule as TableRule<Blob, View, Key>>⟧.holds key s → Told key.plans.items key.cpus s) × (Told key.plans.items key.cpus s → ⟦<BankRule as TableRule<Blob, View, Key>>⟧.holds key s) }
 {}
-
-/// The rule that the bank's table keeps, `BankRule`, is that of the laws here: the body asks so of it, and any other rule is
-/// refused there.
-pub fn bank_keeps_that_rule() {
-    is_that_of_the_laws::<BankRule>();
-}
