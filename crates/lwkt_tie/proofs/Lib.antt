@@ -1,0 +1,2 @@
+pub mod SoundMoves
+pub mod LookMoves
