@@ -116,6 +116,13 @@ abbrev pub NothingUntold : Type 0
 NothingUntold = (plans : List Plan) (cpus : ℕ) (s : Bench) (id i n : ℕ) (v w : View) (homes : Homes) → Told plans cpus s → get_elem? s.views id ≡ some v → page_of w ≡ page_of v → Told plans cpus (moved s i n id w homes)
     → (tok : ℕ) → tok < length plans → (slice_index (slice_set s.words i n) (token_word tok) ≡ slice_index s.words (token_word tok)) × ((cell : ℕ) → cell < (plan_at plans tok).cells → slice_index (slice_set s.words i n) (cell_word tok cell) ≡ slice_index s.words (cell_word tok cell))
 
+-- the same of any number of deeds that a play notes at once: they are done one after another, from the machine that the words and
+-- views show before it to the one that they show after it, and are what the history has more
+abbrev pub AllMadeAsTold : Type 0
+AllMadeAsTold = (plans : List Plan) (cpus : ℕ) (s : Bench) (id i n : ℕ) (v w : View) (homes : Homes) (cpu : CpuId) (deeds : List Deed) (told : Told plans cpus s) → get_elem? s.views id ≡ some v → v.kind ≡ Of cpu → w.kind ≡ Of cpu
+    → Grows cpu.0 v.past deeds w.past → AreOwn cpu.0 deeds → (after : Told plans cpus (moved s i n id w homes))
+    → Passes IsDone told.rule.model deeds after.rule.model × (after.chronicle.history ≡ told.chronicle.history ++ deeds)
+
 -- something that is so of each seat and token
 abbrev pub AtSeat : (List Plan → ℕ → ℕ → View → ℕ → Type 0) → Type 0
 AtSeat P = (plans : List Plan) (cpus id : ℕ) (v : View) (tok : ℕ) → v.kind ≡ Of (who v) → tok < length plans → P plans cpus id v tok

@@ -1,5 +1,5 @@
 //! What the bank's rule is for, as laws.
-ghost use Rattle.lwkt_bank.specs.Laws.{RuleShowsSafety, StatesAreReached, ViewsDecide, OpeningIsDeclared, SplitIsNoDeed, JoinIsNoDeed, SpentIsNoDeed, MadeAsTold, NothingUntold, LookIsLoad, ExchangeIsTake, ExchangeIsShare, AddIsAgain, OrIsMark, SubIsGiveOne, SubIsGiveClean, AddIsGiveWritten, CellLoadIsRead, CellStoreIsWrite, TallyStoreIsWrite, AccessIsReadBlob, AccessIsWriteBlob, DeedsAreTold};
+ghost use Rattle.lwkt_bank.specs.Laws.{RuleShowsSafety, StatesAreReached, ViewsDecide, OpeningIsDeclared, SplitIsNoDeed, JoinIsNoDeed, SpentIsNoDeed, MadeAsTold, AllMadeAsTold, NothingUntold, LookIsLoad, ExchangeIsTake, ExchangeIsShare, AddIsAgain, OrIsMark, SubIsGiveOne, SubIsGiveClean, AddIsGiveWritten, CellLoadIsRead, CellStoreIsWrite, TallyStoreIsWrite, AccessIsReadBlob, AccessIsWriteBlob, DeedsAreTold};
 ghost use Rattle.lwkt_bank.specs.Rule.{Bench};
 ghost use Rattle.lwkt_bank.specs.Told.{Told};
 ghost use Rattle.lwkt_bank.specs.Holdings.{TakingAdds, AgainAdds, GivingRemoves, OthersKeep, NothingCounts, AddedCounts};
@@ -32,6 +32,12 @@ pub fn opening_is_declared()
 pub fn made_as_told()
     ensures made { MadeAsTold }
     ensures nothing { NothingUntold }
+{}
+
+/// Any number of deeds that a play notes at once are done one after another between the machines shown before and after it. This
+/// too is so of any play that keeps the rule, and tells with what the history has grown: nothing else was done.
+pub fn all_made_as_told()
+    ensures { AllMadeAsTold }
 {}
 
 /// Each kind of step leads from a state of the rule to one of the rule, in which the history has one deed more, that of the kind:
