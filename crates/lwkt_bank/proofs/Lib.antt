@@ -16,7 +16,6 @@ pub mod RowMoves
 pub mod GatherMoves
 pub mod OpenMoves
 pub mod ToldMoves
-pub mod GrownMoves
 pub mod MadeMoves
 pub mod SpentMoves
 pub mod CloseMoves

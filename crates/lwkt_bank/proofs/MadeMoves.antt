@@ -19,17 +19,17 @@ use Rattle.lwkt_core.specs.Machine.{Machine, machine, PlaceNeeds, Happens, after
 use Rattle.lwkt_core.specs.Trace.{Run}
 use Rattle.lwkt_core.specs.History.{IsStepOver, left_by, told_by, Page, Chronicle}
 use Rattle.lwkt_core.proofs.MachineMoves.{changed_at}
-use Rattle.lwkt_core.proofs.HistoryLemmas.{Passes-run, Grows-front, events_by-past, steps_by-past}
+use Rattle.lwkt_core.proofs.HistoryLemmas.{Passes-run, events_by-past, steps_by-past}
 use Rattle.lwkt_core.proofs.ChronicleLemmas.{Chronicle-same, Chronicle-decides}
 use Rattle.lwkt_core.proofs.SeatingLemmas.{set_again, at_map, map-set}
-use Rattle.lwkt_core.proofs.ViewLemmas.{seated_pages, Views-between, Views-was_done}
+use Rattle.lwkt_core.proofs.ViewLemmas.{Views-between, Views-was_done}
+use Rattle.lwkt_clerk.proofs.GrownMoves.{Views-were_done}
 use Rattle.lwkt_bank.specs.declared.views.Plan.{Plan}
 use Rattle.lwkt_bank.specs.Views.{named, page_of}
 use Rattle.lwkt_bank.specs.Rule.{moved, Bench, Rule, token_word, cell_word, plan_at, token_at, no_token}
 use Rattle.lwkt_bank.specs.Told.{IsAtCell, IsOperation, word_in, IsStepOf, IsDone, first_machine}
 use Rattle.lwkt_bank.specs.Laws.{StatesAreReached, ViewsDecide, OpeningIsDeclared, IsCellMade, IsMade, MadeAsTold, AllMadeAsTold, NothingUntold}
 use Rattle.lwkt_bank.proofs.ToldMoves.{Told-opening, first_opening}
-use Rattle.lwkt_bank.proofs.GrownMoves.{grown_own, Chronicle-grown, Chronicle-were_done}
 
 -- a deed leaves one machine
 one_event : (e f : Event) → e ∷ [] ≡ f ∷ [] → e ≡ f
@@ -304,17 +304,7 @@ made_as_told plans cpus s id i n v w homes cpu between d told here kind own othe
 
 pub all_made_as_told : AllMadeAsTold
 all_made_as_told plans cpus s id i n v w homes cpu deeds told here kind still grows own after =
-    let first = first_machine plans cpus in
-    let pages = map page_of s.views in
-    let more = Grows-front cpu.0 v.past deeds w.past grows in
-    let F : List Page → Type 0 = λ ps. (x : Chronicle IsDone first ps after.rule.model) × (x.history ≡ after.chronicle.history) in
-    let q = subst F (map-set page_of s.views id w) (after.chronicle, refl) in
-    let seated = seated_pages page_of cpus s.views told.rule.seats in
-    let there = at_map page_of s.views id v here in
-    let mine = grown_own cpu.0 v.past deeds more.0 w.past grows own more.1 in (
-      Chronicle-were_done IsDone first told.rule.model after.rule.model cpus pages id (page_of v) (page_of w) cpu deeds more.0 seated there kind still more.1 mine told.chronicle q.0 done_decides,
-      sym q.1 ∙ Chronicle-grown IsDone first told.rule.model after.rule.model cpus pages id (page_of v) (page_of w) cpu deeds more.0 seated there kind still more.1 mine told.chronicle q.0,
-    )
+    Views-were_done IsDone page_of done_decides (first_machine plans cpus) told.rule.model after.rule.model cpus s.views id v w cpu deeds told.rule.seats here kind still grows own told.chronicle after.chronicle
 
 pub nothing_untold : NothingUntold
 nothing_untold plans cpus s id i n v w homes told here is after tok low =

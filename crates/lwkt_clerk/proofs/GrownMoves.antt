@@ -1,4 +1,4 @@
-use Rattle.std.proofs.Common.{inl, inr, ◌≡◌, ◌≢◌, ⊎_elim, ℕ, ◌<◌, ◌≤◌, List, [], ◌∷◌, ◌++◌, set, refl, ap, sym, ◌∙◌, subst, append_assoc, append-nil, flat_map, slice_index_or}
+use Rattle.std.proofs.Common.{inl, inr, ◌≡◌, ◌≢◌, ⊎_elim, ℕ, ◌<◌, ◌≤◌, List, [], ◌∷◌, ◌++◌, map, set, refl, ap, sym, ◌∙◌, subst, append_assoc, append-nil, flat_map, slice_index_or}
 use Rattle.std.proofs.lemmas.Bool.{cases_eq, cases_lt}
 use Rattle.std.proofs.lemmas.List.{append_cancel_left}
 use mathlib.Core.Option.{some, some-injective}
@@ -9,8 +9,9 @@ use Rattle.lwkt_core.specs.declared.seats.SeatKind.TheVariants.{Clerk, Of, Spent
 use Rattle.lwkt_core.specs.declared.seats.Deed.{Deed}
 use Rattle.lwkt_core.specs.Seating.{AreSeated}
 use Rattle.lwkt_core.specs.History.{Passes, part_by, AreOthers, AreOwn, IsPastOf, Grows, Page, kinds_of, HasClerk, HasSeen, Chronicle}
-use Rattle.lwkt_core.proofs.SeatingLemmas.{set_here, set_else, inside, at_map, of_map}
-use Rattle.lwkt_core.proofs.HistoryLemmas.{others-right, part_by-append, part_by-others, part_by-own, part_by-grows, Passes-split, Passes-same}
+use Rattle.lwkt_core.proofs.SeatingLemmas.{set_here, set_else, inside, at_map, of_map, map-set}
+use Rattle.lwkt_core.proofs.ViewLemmas.{seated_pages}
+use Rattle.lwkt_core.proofs.HistoryLemmas.{others-right, part_by-append, part_by-others, part_by-own, part_by-grows, Grows-front, Passes-split, Passes-same}
 
 abbrev cpu_in : SeatKind → CpuId
 cpu_in (Clerk made back) = record { 0 = 0 }
@@ -35,7 +36,7 @@ singles [] = refl
 singles (x ∷ xs) = ap (λ (l : List Deed). x ∷ l) (singles xs)
 
 -- what a processor has seen in addition has of its own deeds those that it has done
-pub grown_own : (cpu : ℕ) (past deeds grown later : List Deed) → Grows cpu past deeds later → AreOwn cpu deeds → later ≡ past ++ grown → part_by cpu single grown ≡ deeds
+grown_own : (cpu : ℕ) (past deeds grown later : List Deed) → Grows cpu past deeds later → AreOwn cpu deeds → later ≡ past ++ grown → part_by cpu single grown ≡ deeds
 grown_own cpu past deeds grown later grows own is =
     append_cancel_left (part_by cpu single past) (part_by cpu single grown) deeds
     (sym (part_by-append cpu single past grown) ∙ ap (part_by cpu single) (sym is) ∙ part_by-grows cpu single past deeds later grows own ∙ ap (λ (l : List Deed). part_by cpu single past ++ l) (singles deeds))
@@ -137,14 +138,30 @@ module _ {S : Type 0} (Done : S → Deed → S → Type 0) (first m n : S) (cpus
       ∙ mine in
       sym left ∙ ap (part_by cpu.0 single) whole ∙ right
 
-  pub Chronicle-grown : q.history ≡ r.history ++ deeds
+  Chronicle-grown : q.history ≡ r.history ++ deeds
   Chronicle-grown = front_of.1 ∙ ap (λ (l : List Deed). r.history ++ l) only_deeds
 
   -- and where deeds decide what they leave, they were done one after another between the two last states
-  pub Chronicle-were_done : ((a : S) (x : Deed) (b c : S) → Done a x b → Done a x c → b ≡ c) → Passes Done m deeds n
+  Chronicle-were_done : ((a : S) (x : Deed) (b c : S) → Done a x b → Done a x c → b ≡ c) → Passes Done m deeds n
   Chronicle-were_done decides =
       let F : List Deed → Type 0 = λ l. Passes Done first l n in
       let parts = Passes-split Done first r.history deeds n (subst F Chronicle-grown q.passes) in
       let same : parts.0 ≡ m = Passes-same Done decides first r.history parts.0 m parts.1.0 r.passes in
       let G : S → Type 0 = λ x. Passes Done x deeds n in
       subst G same parts.1.1
+
+-- the same for the views of a table that show the pages: whatever chronicles there are before and after a seat has noted some deeds at once
+pub Views-were_done : {S V : Type 0} (Done : S → Deed → S → Type 0) (page_of : V → Page) → ((a : S) (x : Deed) (b c : S) → Done a x b → Done a x c → b ≡ c) → (first m n : S) (cpus : ℕ) (views : List V) (id : ℕ) (v w : V) (cpu : CpuId) (deeds : List Deed)
+    → AreSeated cpus (map (λ x. (page_of x).kind) views) → get_elem? views id ≡ some v → (page_of v).kind ≡ Of cpu → (page_of w).kind ≡ Of cpu → Grows cpu.0 (page_of v).past deeds (page_of w).past → AreOwn cpu.0 deeds
+    → (r : Chronicle Done first (map page_of views) m) (q : Chronicle Done first (map page_of (set views id w)) n) → Passes Done m deeds n × (q.history ≡ r.history ++ deeds)
+Views-were_done Done page_of decides first m n cpus views id v w cpu deeds seated here kind still grows own r q =
+    let pages = map page_of views in
+    let more = Grows-front cpu.0 (page_of v).past deeds (page_of w).past grows in
+    let F : List Page → Type 0 = λ ps. (x : Chronicle Done first ps n) × (x.history ≡ q.history) in
+    let q' = subst F (map-set page_of views id w) (q, refl) in
+    let seated' = seated_pages page_of cpus views seated in
+    let there = at_map page_of views id v here in
+    let mine = grown_own cpu.0 (page_of v).past deeds more.0 (page_of w).past grows own more.1 in (
+      Chronicle-were_done Done first m n cpus pages id (page_of v) (page_of w) cpu deeds more.0 seated' there kind still more.1 mine r q'.0 decides,
+      sym q'.1 ∙ Chronicle-grown Done first m n cpus pages id (page_of v) (page_of w) cpu deeds more.0 seated' there kind still more.1 mine r q'.0,
+    )
