@@ -17,6 +17,7 @@ pub mod GatherMoves
 pub mod OpenMoves
 pub mod ToldMoves
 pub mod MadeMoves
+pub mod SpentMoves
 pub mod CloseMoves
 pub mod KeptMoves
 pub mod HoldMoves

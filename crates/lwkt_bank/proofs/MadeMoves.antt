@@ -23,11 +23,12 @@ use Rattle.lwkt_core.proofs.HistoryLemmas.{Passes-run, events_by-past, steps_by-
 use Rattle.lwkt_core.proofs.ChronicleLemmas.{Chronicle-same, Chronicle-decides}
 use Rattle.lwkt_core.proofs.SeatingLemmas.{set_again, at_map, map-set}
 use Rattle.lwkt_core.proofs.ViewLemmas.{Views-between, Views-was_done}
+use Rattle.lwkt_clerk.proofs.GrownMoves.{Views-were_done}
 use Rattle.lwkt_bank.specs.declared.views.Plan.{Plan}
 use Rattle.lwkt_bank.specs.Views.{named, page_of}
 use Rattle.lwkt_bank.specs.Rule.{moved, Bench, Rule, token_word, cell_word, plan_at, token_at, no_token}
 use Rattle.lwkt_bank.specs.Told.{IsAtCell, IsOperation, word_in, IsStepOf, IsDone, first_machine}
-use Rattle.lwkt_bank.specs.Laws.{StatesAreReached, ViewsDecide, OpeningIsDeclared, IsCellMade, IsMade, MadeAsTold, NothingUntold}
+use Rattle.lwkt_bank.specs.Laws.{StatesAreReached, ViewsDecide, OpeningIsDeclared, IsCellMade, IsMade, MadeAsTold, AllMadeAsTold, NothingUntold}
 use Rattle.lwkt_bank.proofs.ToldMoves.{Told-opening, first_opening}
 
 -- a deed leaves one machine
@@ -300,6 +301,10 @@ pub made_as_told : MadeAsTold
 made_as_told plans cpus s id i n v w homes cpu between d told here kind own others is after =
     let done = Views-was_done IsDone page_of (first_machine plans cpus) told.rule.model after.rule.model s.views told.chronicle id v w after.chronicle here cpus told.rule.seats cpu between d kind own others is done_decides in
     is_made plans cpus s (moved s i n id w homes) told.rule after.rule d done
+
+pub all_made_as_told : AllMadeAsTold
+all_made_as_told plans cpus s id i n v w homes cpu deeds told here kind still grows own after =
+    Views-were_done IsDone page_of done_decides (first_machine plans cpus) told.rule.model after.rule.model cpus s.views id v w cpu deeds told.rule.seats here kind still grows own told.chronicle after.chronicle
 
 pub nothing_untold : NothingUntold
 nothing_untold plans cpus s id i n v w homes told here is after tok low =

@@ -69,6 +69,11 @@ JoinIsNoDeed = (plans : List Plan) (cpus : ℕ) (s : Bench) (id : ℕ) (v : View
     → other ≢ id → get_elem? s.views other ≡ some w → w.kind ≡ Of cpu → ((tok : ℕ) → tok < length plans → (at w.tokens tok).held ≡ Nothing)
     → (after : Told plans cpus (record { words = s.words; homes = s.homes; views = slice_set (slice_set s.views id (joined v w)) other spent })) × (after.rule.model ≡ told.rule.model) × (after.chronicle.history ≡ told.chronicle.history)
 
+-- one spent view more among the views, as a look from outside leaves one: no deed is done, and the machine stays
+abbrev pub SpentIsNoDeed : Type 0
+SpentIsNoDeed = (plans : List Plan) (cpus : ℕ) (s : Bench) (told : Told plans cpus s)
+    → (after : Told plans cpus (record { words = s.words; homes = s.homes; views = s.views ++ spent ∷ [] })) × (after.rule.model ≡ told.rule.model) × (after.chronicle.history ≡ told.chronicle.history)
+
 -- what an event at a cell is to the words before and after it: a read tells the value that is there, a write leaves its value
 abbrev pub IsCellMade : List ℕ → List ℕ → Event → Type 0
 IsCellMade words words' (Read cpu tok cell value) = value ≡ slice_index words (cell_word tok.0 cell)
@@ -110,6 +115,13 @@ MadeAsTold = (plans : List Plan) (cpus : ℕ) (s : Bench) (id i n : ℕ) (v w : 
 abbrev pub NothingUntold : Type 0
 NothingUntold = (plans : List Plan) (cpus : ℕ) (s : Bench) (id i n : ℕ) (v w : View) (homes : Homes) → Told plans cpus s → get_elem? s.views id ≡ some v → page_of w ≡ page_of v → Told plans cpus (moved s i n id w homes)
     → (tok : ℕ) → tok < length plans → (slice_index (slice_set s.words i n) (token_word tok) ≡ slice_index s.words (token_word tok)) × ((cell : ℕ) → cell < (plan_at plans tok).cells → slice_index (slice_set s.words i n) (cell_word tok cell) ≡ slice_index s.words (cell_word tok cell))
+
+-- the same of any number of deeds that a play notes at once: they are done one after another, from the machine that the words and
+-- views show before it to the one that they show after it, and are what the history has more
+abbrev pub AllMadeAsTold : Type 0
+AllMadeAsTold = (plans : List Plan) (cpus : ℕ) (s : Bench) (id i n : ℕ) (v w : View) (homes : Homes) (cpu : CpuId) (deeds : List Deed) (told : Told plans cpus s) → get_elem? s.views id ≡ some v → v.kind ≡ Of cpu → w.kind ≡ Of cpu
+    → Grows cpu.0 v.past deeds w.past → AreOwn cpu.0 deeds → (after : Told plans cpus (moved s i n id w homes))
+    → Passes IsDone told.rule.model deeds after.rule.model × (after.chronicle.history ≡ told.chronicle.history ++ deeds)
 
 -- something that is so of each seat and token
 abbrev pub AtSeat : (List Plan → ℕ → ℕ → View → ℕ → Type 0) → Type 0

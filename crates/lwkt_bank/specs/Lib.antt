@@ -6,6 +6,7 @@ pub mod Told
 pub mod Plays
 pub mod Notes
 pub mod Seats
+pub mod Lent
 pub mod Opened
 pub mod Gathered
 pub mod Closing

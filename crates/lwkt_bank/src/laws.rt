@@ -1,5 +1,5 @@
 //! What the bank's rule is for, as laws.
-ghost use Rattle.lwkt_bank.specs.Laws.{RuleShowsSafety, StatesAreReached, ViewsDecide, OpeningIsDeclared, SplitIsNoDeed, JoinIsNoDeed, MadeAsTold, NothingUntold, LookIsLoad, ExchangeIsTake, ExchangeIsShare, AddIsAgain, OrIsMark, SubIsGiveOne, SubIsGiveClean, AddIsGiveWritten, CellLoadIsRead, CellStoreIsWrite, TallyStoreIsWrite, AccessIsReadBlob, AccessIsWriteBlob, DeedsAreTold};
+ghost use Rattle.lwkt_bank.specs.Laws.{RuleShowsSafety, StatesAreReached, ViewsDecide, OpeningIsDeclared, SplitIsNoDeed, JoinIsNoDeed, SpentIsNoDeed, MadeAsTold, AllMadeAsTold, NothingUntold, LookIsLoad, ExchangeIsTake, ExchangeIsShare, AddIsAgain, OrIsMark, SubIsGiveOne, SubIsGiveClean, AddIsGiveWritten, CellLoadIsRead, CellStoreIsWrite, TallyStoreIsWrite, AccessIsReadBlob, AccessIsWriteBlob, DeedsAreTold};
 ghost use Rattle.lwkt_bank.specs.Rule.{Bench};
 ghost use Rattle.lwkt_bank.specs.Told.{Told};
 ghost use Rattle.lwkt_bank.specs.Holdings.{TakingAdds, AgainAdds, GivingRemoves, OthersKeep, NothingCounts, AddedCounts};
@@ -34,6 +34,12 @@ pub fn made_as_told()
     ensures nothing { NothingUntold }
 {}
 
+/// Any number of deeds that a play notes at once are done one after another between the machines shown before and after it. This
+/// too is so of any play that keeps the rule, and tells with what the history has grown: nothing else was done.
+pub fn all_made_as_told()
+    ensures { AllMadeAsTold }
+{}
+
 /// Each kind of step leads from a state of the rule to one of the rule, in which the history has one deed more, that of the kind:
 /// its event relates the machines shown before and after it. A seat that is made or taken back is no deed.
 pub fn steps_are_deeds()
@@ -52,6 +58,11 @@ pub fn steps_are_deeds()
     ensures write_blob { AccessIsWriteBlob }
     ensures split { SplitIsNoDeed }
     ensures join { JoinIsNoDeed }
+{}
+
+/// A spent view more among the views, as a look from outside leaves one, is no deed.
+pub fn looks_from_outside_are_no_deeds()
+    ensures { SpentIsNoDeed }
 {}
 
 /// The deeds that a call's contract tells are its seat's new events and steps, in order.
@@ -73,13 +84,7 @@ pub fn references_are_counted()
     ensures added { AddedCounts }
 {}
 
-// Asks that the rule of a table be that of the laws here.
-fn is_that_of_the_laws<R: TableRule<Blob, View, Key>>()
-    requires { (key : Key) (s : Bench) → (R.holds key s → Told key.plans.items key.cpus s) × (Told key.plans.items key.cpus s → R.holds key s) }
+/// The rule that the bank's table keeps, which the type of `Bank::shared` names, is that of the laws here.
+pub fn bank_keeps_that_rule()
+    ensures { (key : Key) (s : Bench) → (⟦<BankRule as TableRule<Blob, View, Key>>⟧.holds key s → Told key.plans.items key.cpus s) × (Told key.plans.items key.cpus s → ⟦<BankRule as TableRule<Blob, View, Key>>⟧.holds key s) }
 {}
-
-/// The rule that the bank's table keeps, `BankRule`, is that of the laws here: the body asks so of it, and any other rule is
-/// refused there.
-pub fn bank_keeps_that_rule() {
-    is_that_of_the_laws::<BankRule>();
-}

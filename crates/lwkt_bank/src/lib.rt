@@ -13,6 +13,7 @@ mod gathers;
 mod gives;
 mod kept;
 pub mod laws;
+mod lends;
 mod notes;
 mod openings;
 mod places;

@@ -22,3 +22,4 @@ pub mod Handing
 pub mod Closing
 pub mod Ending
 pub mod Picturing
+pub mod Spending

@@ -15,7 +15,7 @@ use Rattle.lwkt_core.specs.declared.seats.Deed.{Deed}
 use Rattle.lwkt_core.specs.Machine.{IsSafe}
 use Rattle.lwkt_core.specs.Opening.{AreWithin}
 use Rattle.lwkt_core.specs.Trace.{Run}
-use Rattle.lwkt_core.specs.History.{AreOthers, AreOwn, IsStepOver, IsPastOf, Passes, events_in, events_by, steps_in, steps_by, noted_page}
+use Rattle.lwkt_core.specs.History.{AreOthers, AreOwn, IsStepOver, IsPastOf, Grows, Passes, events_in, events_by, steps_in, steps_by, noted_page}
 use Rattle.lwkt_msg.specs.declared.views.MessageEntry.{MessageEntry}
 use Rattle.lwkt_msg.specs.declared.views.Key.{Key}
 use Rattle.lwkt_msg.specs.declared.views.View.{View}
@@ -121,6 +121,10 @@ SeatingIsNoDeed = (key : Key) (s : State Rec View) (told : Told key s) (id : ℕ
     × ((other : ℕ) (w : View) (made back : ℕ) (cpu : CpuId) → v.kind ≡ Clerk made back → w.kind ≡ Of cpu → other ≢ id → get_elem? (slice_set s.views id (joined v w)) other ≡ some w
     → IsSame key s record { words = s.words; homes = s.homes; views = slice_set (slice_set s.views id (joined v w)) other spent_view } told)
 
+-- one spent view more among the views, as a look from outside leaves one: no deed is done, and the messages stay
+abbrev pub SpentIsNoDeed : Type 0
+SpentIsNoDeed = (key : Key) (s : State Rec View) (told : Told key s) → IsSame key s record { words = s.words; homes = s.homes; views = s.views ++ spent_view ∷ [] } told
+
 -- what a deed made of the words of so many messages: its step met and left the word of its message, and every other is as it was
 pub record IsMade (count : ℕ) (words others : List ℕ) (d : Deed) : Type 0 where
   pub step : WordStep
@@ -136,6 +140,13 @@ abbrev pub MadeAsTold : Type 0
 MadeAsTold = (key : Key) (s : State Rec View) (told : Told key s) (id : ℕ) (v w : View) (cpu : CpuId) (between : List Deed) (d : Deed) (i n : ℕ) (hands : List (ℕ × Rec)) (act : Act Rec) (after : Told key (stepped s i n id hands w act))
     → get_elem? s.views id ≡ some v → v.kind ≡ Of cpu → d.cpu ≡ cpu → AreOthers cpu.0 between → page_of w ≡ noted_page (page_of v) between d
     → IsNext key s (stepped s i n id hands w act) told d after × IsMade (length key.specs.items) s.words (slice_set s.words i n) d
+
+-- the same of any number of deeds that a play notes at once: they are done one after another, from the messages before it to those
+-- after it, and are what the history has more
+abbrev pub AllMadeAsTold : Type 0
+AllMadeAsTold = (key : Key) (s : State Rec View) (told : Told key s) (id : ℕ) (v w : View) (cpu : CpuId) (deeds : List Deed) (i n : ℕ) (hands : List (ℕ × Rec)) (act : Act Rec) (after : Told key (stepped s i n id hands w act))
+    → get_elem? s.views id ≡ some v → v.kind ≡ Of cpu → w.kind ≡ Of cpu → Grows cpu.0 v.past deeds w.past → AreOwn cpu.0 deeds
+    → Passes (IsDone key.cpus) told.rule.mails deeds after.rule.mails × (after.chronicle.history ≡ told.chronicle.history ++ deeds)
 
 -- and where it notes nothing, no message, no word of one and no slot of one has changed
 abbrev pub NothingUntold : Type 0

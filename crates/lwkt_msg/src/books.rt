@@ -1,11 +1,11 @@
-ghost use Rattle.std.specs.Prelude.{◌≡◌, ◌⊎◌, ℕ, ◌<◌, [], length, All, MatchResult, IfOk};
+ghost use Rattle.std.specs.Prelude.{◌≡◌, ◌⊎◌, ℕ, ◌+◌, ◌*◌, ◌<◌, [], length, All, MatchResult, IfOk};
 
 use crate::closings::{read_and_free, take_all};
 use crate::openings::{blank_records, known_specs, opening_words, seat_all};
-use crate::rules::{BookTable, Top};
+use crate::rules::{BookRule, BookTable, Top};
 use crate::seats::MsgSeat;
 use crate::views::{Key, View};
-use atomic_table::Perch;
+use atomic_table::{Perch, Shared};
 use lwkt_base::{Fault, MsgEnd, MsgSpec, Rec};
 use lwkt_core::are_within;
 use std::alloc::{AllocError, Global};
@@ -112,6 +112,18 @@ impl MsgBook {
             return Err(Fault::Memory);
         };
         Ok(shown)
+    }
+
+    /// The table that the book's seats step on. Its type names the rule that the kit keeps between any two steps of any
+    /// number of seats. Whoever steps on it has to keep that rule.
+    pub fn shared(&self) -> &Shared<Rec, View, Key, BookRule>
+        ensures table { result.now.table_id ≡ self.now.table }
+        ensures specs { result.now.key.specs.items ≡ self.now.specs }
+        ensures processors { result.now.key.cpus ≡ self.now.cpus }
+        ensures wide { result.now.table_id.words ≡ 16 * length self.now.specs + 1 }
+        ensures deep { result.now.table_id.slots ≡ 4 * length self.now.specs }
+    {
+        &self.table.shared
     }
 
     // The part of the table that seats step on.

@@ -5,7 +5,7 @@ ghost use Rattle.lwkt_msg.specs.declared.views.Key.{Key};
 ghost use Rattle.lwkt_msg.specs.declared.views.View.{View};
 ghost use Rattle.lwkt_msg.specs.Told.{Told};
 ghost use Rattle.lwkt_msg.specs.Records.{FoundIsWhatWasPut, HistoryTellsRecords, HistoryTellsRequests};
-ghost use Rattle.lwkt_msg.specs.Laws.{RuleShowsSafety, EachSendAtMostOnce, StatesAreReached, HistoryTellsCounts, ViewsDecide, OpeningIsDeclared, LoadIsLook, LostExchangeIsLook, HandingOutIsLook, StoreIsSend, ExchangeIsTake, AddIsReply, StoreIsReap, ExchangeIsDrop, OrIsAbort, SeatingIsNoDeed, MadeAsTold, NothingUntold, DeedsAreTold};
+ghost use Rattle.lwkt_msg.specs.Laws.{RuleShowsSafety, EachSendAtMostOnce, StatesAreReached, HistoryTellsCounts, ViewsDecide, OpeningIsDeclared, LoadIsLook, LostExchangeIsLook, HandingOutIsLook, StoreIsSend, ExchangeIsTake, AddIsReply, StoreIsReap, ExchangeIsDrop, OrIsAbort, SeatingIsNoDeed, SpentIsNoDeed, MadeAsTold, AllMadeAsTold, NothingUntold, DeedsAreTold};
 
 use crate::rules::BookRule;
 use crate::views::{Key, View};
@@ -41,6 +41,12 @@ pub fn made_as_told()
     ensures nothing { NothingUntold }
 {}
 
+/// Any number of deeds that a play notes at once are done one after another between the messages before and after it. This too is
+/// so of any play that keeps the rule, and tells with what the history has grown: nothing else was done.
+pub fn all_made_as_told()
+    ensures { AllMadeAsTold }
+{}
+
 /// Each kind of step leads from a state of the rule to one of the rule, in which the history has one deed more, that of the kind:
 /// a look, or its event. A seat that is made, cut off or taken back is no deed.
 pub fn steps_are_deeds()
@@ -54,6 +60,11 @@ pub fn steps_are_deeds()
     ensures drops { ExchangeIsDrop }
     ensures requests { OrIsAbort }
     ensures seating { SeatingIsNoDeed }
+{}
+
+/// A spent view more among the views, as a look from outside leaves one, is no deed.
+pub fn looks_from_outside_are_no_deeds()
+    ensures { SpentIsNoDeed }
 {}
 
 /// What a take or a drop found is what the last send put there, and what a reap found is that with what the one reply since
@@ -70,13 +81,7 @@ pub fn deeds_are_told()
     ensures { DeedsAreTold }
 {}
 
-// Asks that the rule of a table be that of the laws here.
-fn is_that_of_the_laws<R: TableRule<Rec, View, Key>>()
-    requires { (key : Key) (s : State Rec View) → (R.holds key s → Told key s) × (Told key s → R.holds key s) }
+/// The rule that the book's table keeps, which the type of `MsgBook::shared` names, is that of the laws here.
+pub fn book_keeps_that_rule()
+    ensures { (key : Key) (s : State Rec View) → (⟦<BookRule as TableRule<Rec, View, Key>>⟧.holds key s → Told key s) × (Told key s → ⟦<BookRule as TableRule<Rec, View, Key>>⟧.holds key s) }
 {}
-
-/// The rule that the book's table keeps, `BookRule`, is that of the laws here: the body asks so of it, and any other rule is
-/// refused there.
-pub fn book_keeps_that_rule() {
-    is_that_of_the_laws::<BookRule>();
-}

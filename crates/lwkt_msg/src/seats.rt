@@ -5,6 +5,8 @@ use crate::books::MsgBook;
 use crate::calls;
 use crate::calls::Sending;
 use crate::rules::Place;
+use crate::views::View;
+use atomic_table::Seat;
 use lwkt_base::{Call, CpuId, Fault, Flags, MsgId, Rec};
 use std::marker::Model;
 
@@ -220,5 +222,29 @@ impl MsgSeat {
         }
         let top = book.top();
         calls::is_aborted(top, &mut self.place, self.cpu, m)
+    }
+}
+
+impl MsgSeat {
+    ghost use Rattle.lwkt_core.specs.declared.seats.SeatKind.TheVariants.{Of};
+    ghost use Rattle.lwkt_msg.specs.Desks.{desk, cpu_of};
+    ghost use Rattle.lwkt_msg.specs.Hands.{AreHands};
+
+    /// The seat at the book's table that the calls step with.
+    pub fn seat(&self) -> &Seat<Rec, View>
+        ensures is { desk result.now ≡ self.now }
+        ensures kind { result.now.me.0.kind ≡ Of (cpu_of self.now) }
+        ensures hands { AreHands result.now.me.0 (cpu_of self.now).0 result.now.me.1 }
+    {
+        &self.place
+    }
+
+    /// Gives up the calls, and keeps the seat at the book's table. The book can't be closed then.
+    pub fn into_seat(self) -> Seat<Rec, View>
+        ensures is { desk result ≡ self }
+        ensures kind { result.me.0.kind ≡ Of (cpu_of self) }
+        ensures hands { AreHands result.me.0 (cpu_of self).0 result.me.1 }
+    {
+        self.into_place()
     }
 }

@@ -1,0 +1,2 @@
+pub mod SpentMoves
+pub mod GrownMoves

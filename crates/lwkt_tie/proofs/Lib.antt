@@ -1,0 +1,3 @@
+pub mod SoundMoves
+pub mod LookMoves
+pub mod MailMoves
