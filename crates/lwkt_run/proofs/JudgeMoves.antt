@@ -14,11 +14,12 @@ use Rattle.lwkt_verdict.specs.declared.turns.Poll.{Poll}
 use Rattle.lwkt_verdict.specs.declared.turns.Turn.{Turn}
 use Rattle.lwkt_verdict.specs.declared.turns.Pace.{Pace}
 use Rattle.lwkt_run.proofs.ChainMoves.{trace_chains}
+use Rattle.lwkt_run.specs.Keeping.{kept_as}
 use Rattle.lwkt_run.specs.Judging.{ArePlansOf, AreEndsOf, Judges}
 use Rattle.lwkt_run.specs.Run.{opening_of, ShowsClosing, RunsAt, IsJudgedBy}
 
 -- what was kept of a run is judged, whatever it is
-pub judged : (script : Script) (closing : Closing) (m : Machine) (pace : Pace) (order : List ℕ) (plans : List ThreadPlan) (ends : List ThreadEnd) (last : Final) (trace : List Event) (polls : List Poll) (turns : List Turn) → m ≡ opening_of script → ArePlansOf script.threads plans → AreEndsOf closing.threads.items ends → ShowsClosing closing last → RunsAt pace script order closing.threads.items trace last → Judges closing.verdict m pace order plans ends last trace polls turns → AreWithin script.cpus script.tokens script.messages → AllOpenLawfully script.tokens → IsJudgedBy pace script closing order trace polls turns
+pub judged : (script : Script) (closing : Closing) (m : Machine) (pace : Pace) (order : List ℕ) (plans : List ThreadPlan) (ends : List ThreadEnd) (last : Final) (trace : List Event) (polls : List Poll) (turns : List Turn) → m ≡ opening_of script → ArePlansOf script.threads plans → AreEndsOf closing.threads.items ends → ShowsClosing closing last → RunsAt pace script order closing.threads.items (kept_as order turns polls) trace last → Judges closing.verdict m pace order plans ends last trace polls turns → AreWithin script.cpus script.tokens script.messages → AllOpenLawfully script.tokens → IsJudgedBy pace script closing order trace polls turns
 judged script closing m pace order plans ends last trace polls turns same planned ended shown runs by within lawful = record {
   plans = plans;
   ends = ends;

@@ -1,17 +1,13 @@
 -- Rounds are the turns of an order that goes round the processors.
-use Rattle.std.proofs.Common.{◌≡◌, ℕ, zero, suc, ◌+◌, ◌*◌, ◌%◌, ◌<◌, ◌≤◌, List, [], ◌∷◌, ◌++◌, length, refl, ap, sym, ◌∙◌, subst, inl, inr, arith, Some}
-use Rattle.std.specs.Prelude.{Bool, true, false, slice_get}
+use Rattle.std.proofs.Common.{◌≡◌, ℕ, zero, suc, ◌+◌, ◌*◌, ◌%◌, ◌<◌, ◌≤◌, List, [], ◌∷◌, ◌++◌, length, refl, ap, sym, ◌∙◌, subst, inl, inr, arith}
+use Rattle.std.specs.Prelude.{Bool, true, false}
 use Rattle.std.proofs.lemmas.List.{length-set, length_push}
 use Rattle.std.proofs.lemmas.Nat.{mod-mul-add}
-use Rattle.lwkt_core.specs.declared.events.Event.{Event}
-use Rattle.lwkt_core.specs.declared.finals.Final.{Final}
 use Rattle.lwkt_port.specs.Chains.{Chain}
 use Rattle.lwkt_port.proofs.Chaining.{chain_none, chain_more}
-use Rattle.lwkt_report.specs.declared.closings.ThreadLine.{ThreadLine}
-use Rattle.lwkt_script.specs.declared.scripts.Script.{Script}
 use Rattle.lwkt_verdict.specs.Run.{whose, GoesRound}
 use Rattle.lwkt_run.specs.Running.{Scene, scene, Going, going, TakesTurn, MakesTurnAt, MakesTurns, MakesRound, HasMadeRounds}
-use Rattle.lwkt_run.specs.Run.{RunsInRounds, RunsAlong}
+use Rattle.lwkt_run.specs.Keeping.{none_kept}
 use Rattle.lwkt_run.specs.Orders.{RoundsAreAnOrder}
 use Rattle.lwkt_run.proofs.IdMoves.{opened_has}
 use Rattle.lwkt_run.proofs.RoundMoves.{round_keeps}
@@ -44,7 +40,7 @@ GoTurns cpus n x y = Chain Scene (λ k. MakesTurnAt (k % cpus)) n x y
 -- a round behind so many others
 one_round : (over : Bool) (number cpus count : ℕ) (x y : Scene) → length x.machine.cpus ≡ cpus → MakesRound over number x y → Chain Scene (λ j. MakesTurnAt ((count * cpus + j) % cpus)) cpus x y
 one_round over number cpus count x y same round =
-    let f : Going → Scene = λ z. scene z.machine z.trace in
+    let f : Going → Scene = λ z. z.at in
     let T : ℕ → Scene → Scene → Type 0 = λ j. MakesTurnAt ((count * cpus + j) % cpus) in
     let does : (k : ℕ) (u v : Going) → k < cpus → TakesTurn k u v → T k (f u) (f v) = λ k u v less turn.
     subst (λ c. MakesTurnAt c (f u) (f v)) (sym (mod-mul-add count cpus k less)) (turn.0, turn.1.0) in
@@ -53,11 +49,11 @@ one_round over number cpus count x y same round =
     chain_maps Going Scene f TakesTurn T cpus does cpus (going x true) (going y over) few chain
 
 -- a turn keeps the number of processors
-turn_keeps : (cpus cpu : ℕ) (x y : Going) → TakesTurn cpu x y → length x.machine.cpus ≡ cpus → length y.machine.cpus ≡ cpus
-turn_keeps cpus cpu x y turn same = ap length turn.1.0.cpus ∙ length-set x.machine.cpus cpu turn.1.0.now ∙ same
+turn_keeps : (cpus cpu : ℕ) (x y : Scene) → MakesTurnAt cpu x y → length x.machine.cpus ≡ cpus → length y.machine.cpus ≡ cpus
+turn_keeps cpus cpu x y turn same = ap length turn.1.makes.cpus ∙ length-set x.machine.cpus cpu turn.1.makes.now ∙ same
 
 keeps_round : (cpus : ℕ) (over : Bool) (number : ℕ) (x y : Scene) → MakesRound over number x y → length x.machine.cpus ≡ cpus → length y.machine.cpus ≡ cpus
-keeps_round cpus over number x y round same = round_keeps (λ m. length m.cpus ≡ cpus) (turn_keeps cpus) over number x y round same
+keeps_round cpus over number x y round same = round_keeps (λ z. length z.machine.cpus ≡ cpus) (turn_keeps cpus) over number x y round same
 
 -- a scene after so many rounds
 record Turned (cpus count : ℕ) (x y : Scene) : Type 0 where
@@ -146,10 +142,10 @@ along cpus n x y turns =
     subst (λ m. Chain Scene T m x y) (sym (list_long cpus n)) (chain_maps Scene Scene (λ z. z) S T n does n x y all turns)
 
 pub rounds_along : RoundsAreAnOrder
-rounds_along script lines trace last run =
+rounds_along script lines kept trace last run =
     let has = opened_has script run.opened run.opens in
-    let x = scene run.opened run.first in
-    let y = scene run.made run.mid in
+    let x = scene run.opened run.first none_kept in
+    let y = scene run.made run.mid kept in
     let t = made_turned script.cpus script.turns x y has.as_many run.rounds in (
       round_list script.cpus t.0,
       (
@@ -166,6 +162,7 @@ rounds_along script lines trace last run =
           shown = run.shown;
           leaves = run.leaves;
           trace_is = run.trace_is;
+          tells = run.tells;
         },
       ),
     )

@@ -82,36 +82,38 @@ has_turned cpus threads cpu old new t u turned d has =
     let F : List (Processor Scripted) → Type 0 = λ ps. HasThreads cpus threads ps in
     subst F (sym d.cpus) (has_set cpus threads old.cpus cpu d.before d.now d.at_before (turn_long IsPolled old.bank d.before d.now t u turned d.does) has)
 
-has_turn : (cpus : ℕ) (threads : List ThreadSpec) (cpu : ℕ) (x y : Going) → TakesTurn cpu x y → HasThreads cpus threads x.machine.cpus → HasThreads cpus threads y.machine.cpus
-has_turn cpus threads cpu x y turn has = has_turned cpus threads cpu x.machine y.machine x.trace y.trace turn.0 turn.1.0 has
+has_turn : (cpus : ℕ) (threads : List ThreadSpec) (cpu : ℕ) (x y : Scene) → MakesTurnAt cpu x y → HasThreads cpus threads x.machine.cpus → HasThreads cpus threads y.machine.cpus
+has_turn cpus threads cpu x y turn has = has_turned cpus threads cpu x.machine y.machine x.trace y.trace turn.0 turn.1.makes has
 
--- what each turn keeps of a machine, a round keeps
-pub round_keeps : (P : Rig → Type 0) → ((cpu : ℕ) (x y : Going) → TakesTurn cpu x y → P x.machine → P y.machine) → (over : Bool) (number : ℕ) (x y : Scene) → MakesRound over number x y → P x.machine → P y.machine
-round_keeps P keeps over number x y round p = chain_keeps Going TakesTurn (λ z. P z.machine) keeps (length x.machine.cpus) (going x true) (going y over) round p
+-- what each turn keeps, a round keeps
+pub round_keeps : (P : Scene → Type 0) → ((cpu : ℕ) (x y : Scene) → MakesTurnAt cpu x y → P x → P y) → (over : Bool) (number : ℕ) (x y : Scene) → MakesRound over number x y → P x → P y
+round_keeps P keeps over number x y round p = chain_keeps Going TakesTurn (λ z. P z.at) (λ cpu v w turn q. keeps cpu v.at w.at (turn.0, turn.1.0) q) (length x.machine.cpus) (going x true) (going y over) round p
 
 -- the rounds of a run too
-rounds_keep : (P : Rig → Type 0) → ((cpu : ℕ) (x y : Going) → TakesTurn cpu x y → P x.machine → P y.machine) → (limit : ℕ) (x y : Scene) → HasMadeRounds limit x y → P x.machine → P y.machine
+pub rounds_keep : (P : Scene → Type 0) → ((cpu : ℕ) (x y : Scene) → MakesTurnAt cpu x y → P x → P y) → (limit : ℕ) (x y : Scene) → HasMadeRounds limit x y → P x → P y
 rounds_keep P keeps limit x y rounds p =
-    let go : (k : ℕ) (v w : Scene) → MakesRound false k v w → P v.machine → P w.machine = λ k v w round q. round_keeps P keeps false k v w round q in
+    let go : (k : ℕ) (v w : Scene) → MakesRound false k v w → P v → P w = λ k v w round q. round_keeps P keeps false k v w round q in
     elim rounds [
       | inl ended ↦
           let e = ended.1.1 in
-          round_keeps P keeps true ended.0 e.mid y e.last (chain_keeps Scene (MakesRound false) (λ z. P z.machine) go ended.0 x e.mid e.earlier p)
-      | inr whole ↦ chain_keeps Scene (MakesRound false) (λ z. P z.machine) go limit x y whole p
+          round_keeps P keeps true ended.0 e.mid y e.last (chain_keeps Scene (MakesRound false) P go ended.0 x e.mid e.earlier p)
+      | inr whole ↦ chain_keeps Scene (MakesRound false) P go limit x y whole p
     ]
 
+-- and the turns of an order
+pub turns_keep : (P : Scene → Type 0) → ((cpu : ℕ) (x y : Scene) → MakesTurnAt cpu x y → P x → P y) → (order : List ℕ) (x y : Scene) → MakesTurns order x y → P x → P y
+turns_keep P keeps order x y turns p = chain_keeps Scene (λ k. MakesTurnAt (whose order k)) P (λ k v w turn q. keeps (whose order k) v w turn q) (length order) x y turns p
+
 pub has_rounds : (cpus : ℕ) (threads : List ThreadSpec) (limit : ℕ) (x y : Scene) → HasMadeRounds limit x y → HasThreads cpus threads x.machine.cpus → HasThreads cpus threads y.machine.cpus
-has_rounds cpus threads limit x y rounds has = rounds_keep (λ m. HasThreads cpus threads m.cpus) (has_turn cpus threads) limit x y rounds has
+has_rounds cpus threads limit x y rounds has = rounds_keep (λ z. HasThreads cpus threads z.machine.cpus) (has_turn cpus threads) limit x y rounds has
 
 -- the turns of an order do
 pub has_turns : (cpus : ℕ) (threads : List ThreadSpec) (order : List ℕ) (x y : Scene) → MakesTurns order x y → HasThreads cpus threads x.machine.cpus → HasThreads cpus threads y.machine.cpus
-has_turns cpus threads order x y turns has =
-    chain_keeps Scene (λ k. MakesTurnAt (whose order k)) (λ z. HasThreads cpus threads z.machine.cpus) (λ k v w turn h. has_turned cpus threads (whose order k) v.machine w.machine v.trace w.trace turn.0 turn.1 h) (length order) x y turns has
+has_turns cpus threads order x y turns has = turns_keep (λ z. HasThreads cpus threads z.machine.cpus) (has_turn cpus threads) order x y turns has
 
 -- and keep the bank
 pub turns_bank : (order : List ℕ) (x y : Scene) → MakesTurns order x y → y.machine.bank ≡ x.machine.bank
-turns_bank order x y turns =
-    chain_keeps Scene (λ k. MakesTurnAt (whose order k)) (λ z. z.machine.bank ≡ x.machine.bank) (λ k v w turn h. turn.1.bank ∙ h) (length order) x y turns refl
+turns_bank order x y turns = turns_keep (λ z. z.machine.bank ≡ x.machine.bank) (λ cpu v w turn h. turn.1.makes.bank ∙ h) order x y turns refl
 
 -- a machine that was driven
 pub has_driven : (answers : CpuId → ℕ → Bool → Type 0) (limits : Limits) (bank : BankId) (cpus : ℕ) (threads : List ThreadSpec) (olds news : List (Processor Scripted)) (traces : List (Vec Event Global)) → AreDriven answers limits bank olds news traces → HasThreads cpus threads olds → HasThreads cpus threads news
@@ -141,8 +143,7 @@ over_all n cpus few below = λ k p at. below k p (omega (arith, few, slice_get_w
 -- rounds keep the bank
 pub rounds_bank : (limit : ℕ) (x y : Scene) → HasMadeRounds limit x y → y.machine.bank ≡ x.machine.bank
 rounds_bank limit x y rounds =
-    let P : Rig → Type 0 = λ m. m.bank ≡ x.machine.bank in
-    rounds_keep P (λ cpu v w turn p. turn.1.0.bank ∙ p) limit x y rounds refl
+    rounds_keep (λ z. z.machine.bank ≡ x.machine.bank) (λ cpu v w turn p. turn.1.makes.bank ∙ p) limit x y rounds refl
 
 false_is_true : false ≡ true → ⊥
 false_is_true is = cc

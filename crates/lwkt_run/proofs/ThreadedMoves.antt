@@ -22,16 +22,18 @@ use Rattle.lwkt_machine.specs.Opened.{IsOpenedMachine}
 use Rattle.lwkt_report.specs.declared.closings.ThreadLine.{ThreadLine}
 use Rattle.lwkt_script.specs.declared.scripts.Script.{Script}
 use Rattle.lwkt_threads.specs.Driven.{IsDrivenMachine}
+use Rattle.lwkt_threads.specs.Parts.{parts_of}
 use Rattle.lwkt_threads.proofs.PartMoves.{threads_tell}
 use Rattle.lwkt_run.specs.Leaving.{Leaves}
 use Rattle.lwkt_run.specs.Running.{HasThreads, ShowThreads}
 use Rattle.lwkt_run.specs.Telling.{sections_of_all, AreSorted}
 use Rattle.lwkt_run.specs.Threaded.{EndsOnThreads}
+use Rattle.lwkt_run.proofs.JoinMoves.{one_run}
 use Rattle.lwkt_run.proofs.IdMoves.{opened_has}
 use Rattle.lwkt_run.proofs.RoundMoves.{has_driven}
 
 -- what was declared to bank and book is the model's opening
-tokens_from : (script : Script) (m : Rig) → IsOpenedMachine script m → AreWithin script.cpus script.tokens script.messages → first_machine m.bank.plans (length m.cpus) ≡ opening script.cpus script.tokens []
+pub tokens_from : (script : Script) (m : Rig) → IsOpenedMachine script m → AreWithin script.cpus script.tokens script.messages → first_machine m.bank.plans (length m.cpus) ≡ opening script.cpus script.tokens []
 tokens_from script m opens within =
     ap (λ (plans : List Plan). first_machine plans (length m.cpus)) opens.plans ∙ ap (λ (n : ℕ). first_machine (plans_of script.tokens) n) opens.as_many ∙ first_opening script.cpus script.tokens within.each_token
 
@@ -39,7 +41,7 @@ mails_opened : (specs : List MsgSpec) → map (λ (mail : Mail). mail.msg) (firs
 mails_opened [] = refl
 mails_opened (spec ∷ specs) = ap (λ (ms : List Message). opened_message spec ∷ ms) (mails_opened specs)
 
-messages_from : (script : Script) (m : Rig) → IsOpenedMachine script m → machine_of m.book.cpus (first_mails m.book.specs) ≡ opening script.cpus [] script.messages
+pub messages_from : (script : Script) (m : Rig) → IsOpenedMachine script m → machine_of m.book.cpus (first_mails m.book.specs) ≡ opening script.cpus [] script.messages
 messages_from script m opens =
     let F : List Message → Machine = λ ms. record { cpus = script.cpus; tokens = []; messages = ms } in
     ap (λ (specs : List MsgSpec). machine_of m.book.cpus (first_mails specs)) opens.specs ∙ ap (λ (n : ℕ). machine_of n (first_mails script.messages)) opens.desks_are ∙ ap F (mails_opened script.messages)
@@ -52,22 +54,27 @@ driven_has answers script opened driven traces opens drives =
 -- what a run on threads left, with the sections that were told of it
 pub ended : (answers : CpuId → ℕ → Bool → Type 0) (script : Script) (lines : List ThreadLine) (last : Final) (opened driven : Rig) (traces : List (Vec Event Global)) (none stops : Vec Event Global) (told : List Event) (sections : List Section) → IsOpenedMachine script opened → AreWithin script.cpus script.tokens script.messages → IsDrivenMachine answers (record { turns = script.turns; idle = script.idle }) opened driven traces → none.items ≡ [] → ShowThreads lines driven → Leaves driven none stops last
     → told ≡ stops.items → IsPermutation (sections_of_all traces told) sections → AreSorted sections → EndsOnThreads answers script lines last sections
-ended answers script lines last opened driven traces none stops told sections opens within drives empty shown leaves are same sorted = record {
-  runs = record {
-    opened = opened;
-    driven = driven;
-    traces = traces;
-    none = none;
-    stops = stops;
-    opens = opens;
-    drives = drives;
-    empty = empty;
-    shown = shown;
-    leaves = leaves;
-    tells = threads_tell answers (record { turns = script.turns; idle = script.idle }) script opened driven leaves.stopped traces none stops leaves.closed opens drives empty leaves.stops leaves.closes;
-    tokens_from = tokens_from script opened opens within;
-    messages_from = messages_from script opened opens;
-  };
-  told = subst (λ (events : List Event). IsPermutation (sections_of_all traces events) sections) are same;
-  sorted = sorted;
-}
+ended answers script lines last opened driven traces none stops told sections opens within drives empty shown leaves are same sorted =
+    let tells = threads_tell answers (record { turns = script.turns; idle = script.idle }) script opened driven leaves.stopped traces none stops leaves.closed opens drives empty leaves.stops leaves.closes in
+    let tokens = tokens_from script opened opens within in
+    let messages = messages_from script opened opens in
+    record {
+      runs = record {
+        opened = opened;
+        driven = driven;
+        traces = traces;
+        none = none;
+        stops = stops;
+        opens = opens;
+        drives = drives;
+        empty = empty;
+        shown = shown;
+        leaves = leaves;
+        tells = tells;
+        tokens_from = tokens;
+        messages_from = messages;
+        one = one_run script.cpus script.tokens script.messages opened leaves.closed last (parts_of 0 traces stops.items) tells tokens messages leaves.rows leaves.gens leaves.tallies leaves.blobs leaves.messages;
+      };
+      told = subst (λ (events : List Event). IsPermutation (sections_of_all traces events) sections) are same;
+      sorted = sorted;
+    }

@@ -1,4 +1,6 @@
 pub mod Chains
+pub mod Joining
+pub mod Keeping
 pub mod Judging
 pub mod Leaving
 pub mod Orders

@@ -1,6 +1,6 @@
 use Rattle.std.specs.Global.{Global}
 use Rattle.std.specs.Prelude.{codes, ◌<◌, length, All, string_bytes, String, Vec, ◌≡◌, ◌⊎◌, ℕ, Bool, true, false, List, [], map, take, Option, is_some, unwrap_or, IfSome, Result, Ok, Err}
-use Rattle.std.specs.List.{list_all}
+use Rattle.std.specs.List.{list_all, range_with_len}
 use Rattle.std.specs.Io.KnownBytes.{Appends, Keeps}
 use Rattle.lwkt_base.specs.declared.faults.Fault.{Fault as Refusal}
 use Rattle.lwkt_base.specs.declared.faults.Fault.TheVariants.{Script as ScriptFault, NoPort, Memory, Limits, LawBroken}
@@ -29,9 +29,13 @@ use Rattle.lwkt_verdict.specs.declared.turns.Poll.{Poll}
 use Rattle.lwkt_verdict.specs.declared.turns.Turn.{Turn}
 use Rattle.lwkt_verdict.specs.declared.turns.Pace.{Pace}
 use Rattle.lwkt_verdict.specs.declared.turns.Pace.TheVariants.{Rounds, Named}
+use Rattle.lwkt_machine.specs.declared.closings.Closed.{Closed as ClosedMachine}
 use Rattle.lwkt_machine.specs.Machines.{Rig}
 use Rattle.lwkt_machine.specs.Opened.{IsOpenedMachine, Declines as IsDeclined}
+use Rattle.lwkt_threads.specs.Parts.{of_cpu, TellTheRuns}
 use Rattle.lwkt_run.specs.Chains.{WritesChains}
+use Rattle.lwkt_run.specs.Joining.{AreOneRun}
+use Rattle.lwkt_run.specs.Keeping.{Kept, kept_as, none_kept}
 use Rattle.lwkt_run.specs.Values.{is_tally}
 use Rattle.lwkt_run.specs.Leaving.{Leaves}
 use Rattle.lwkt_run.specs.Running.{ShowThreads, scene, HasMadeRounds, MakesTurns}
@@ -53,10 +57,22 @@ pub record ShowsClosing (closing : Closing) (last : Final) : Type 0 where
   pub blobs : last.blobs.items ≡ map (λ line. line.blob) closing.tokens.items
   pub messages : last.messages.items ≡ closing.messages.items
 
--- the trace, closing values and lines of threads of a run in rounds: the script's machine was opened, and made rounds, as many as the
--- script says or until every thread of each processor had ended; the lines show how its threads stood then; it stopped, and its bank
--- and its book were closed with these values (own)
-pub record RunsInRounds (script : Script) (lines : List ThreadLine) (trace : List Event) (last : Final) : Type 0 where
+-- what each of so many processors did of the trace of all of them
+abbrev pub parts_in : ℕ → List Event → List (List Event)
+parts_in cpus trace = map (λ cpu. of_cpu cpu trace) (range_with_len 0 cpus)
+
+-- what the processors of a machine did from its opening by a script on, of which this is the trace, whatever is said of it: they are
+-- the parts of one run of the model on tokens and of one on messages, to the values at the close; and so of one run of the whole
+-- machine, from the script's opening to these closing values (own)
+pub record TellsOneRun (script : Script) (opened : Rig) (closed : ClosedMachine) (last : Final) (trace : List Event) : Type 0 where
+  pub tells : TellTheRuns opened closed (parts_in script.cpus trace)
+  pub one : AreOneRun script.cpus script.tokens script.messages last (parts_in script.cpus trace)
+
+-- the lines of threads, what was kept, the trace and the closing values of a run in rounds: the script's machine was opened, and made
+-- rounds, as many as the script says or until every thread of each processor had ended, and each turn of them was kept, and nothing
+-- else; the lines show how its threads stood then; it stopped, and its bank and its book were closed with these values; what its
+-- processors did is one run of the model (own)
+pub record RunsInRounds (script : Script) (lines : List ThreadLine) (kept : Kept) (trace : List Event) (last : Final) : Type 0 where
   pub opened : Rig
   pub made : Rig
   pub first : Vec Event Global
@@ -64,15 +80,16 @@ pub record RunsInRounds (script : Script) (lines : List ThreadLine) (trace : Lis
   pub whole : Vec Event Global
   pub opens : IsOpenedMachine script opened
   pub none : first.items ≡ []
-  pub rounds : HasMadeRounds script.turns (scene opened first) (scene made mid)
+  pub rounds : HasMadeRounds script.turns (scene opened first none_kept) (scene made mid kept)
   pub shown : ShowThreads lines made
   pub leaves : Leaves made mid whole last
   pub trace_is : trace ≡ whole.items
+  pub tells : TellsOneRun script opened leaves.closed last trace
 
 -- the same of a run along an order of processors: the script's machine was opened, and made the turn of each processor that the
--- order names, one after another; the lines show how its threads stood then; it stopped, and its bank and its book were closed with
--- these values (own)
-pub record RunsAlong (script : Script) (order : List ℕ) (lines : List ThreadLine) (trace : List Event) (last : Final) : Type 0 where
+-- order names, one after another, and each of these turns was kept, and nothing else; the lines show how its threads stood then; it
+-- stopped, and its bank and its book were closed with these values; what its processors did is one run of the model (own)
+pub record RunsAlong (script : Script) (order : List ℕ) (lines : List ThreadLine) (kept : Kept) (trace : List Event) (last : Final) : Type 0 where
   pub opened : Rig
   pub made : Rig
   pub first : Vec Event Global
@@ -80,19 +97,20 @@ pub record RunsAlong (script : Script) (order : List ℕ) (lines : List ThreadLi
   pub whole : Vec Event Global
   pub opens : IsOpenedMachine script opened
   pub none : first.items ≡ []
-  pub along : MakesTurns order (scene opened first) (scene made mid)
+  pub along : MakesTurns order (scene opened first none_kept) (scene made mid kept)
   pub shown : ShowThreads lines made
   pub leaves : Leaves made mid whole last
   pub trace_is : trace ≡ whole.items
+  pub tells : TellsOneRun script opened leaves.closed last trace
 
 -- the same of a run at a pace: in the rounds of the script, or along an order
-abbrev pub RunsAt : Pace → Script → List ℕ → List ThreadLine → List Event → Final → Type 0
-RunsAt (Rounds limit) script order lines trace last = (limit ≡ script.turns) × RunsInRounds script lines trace last
-RunsAt Named script order lines trace last = RunsAlong script order lines trace last
+abbrev pub RunsAt : Pace → Script → List ℕ → List ThreadLine → Kept → List Event → Final → Type 0
+RunsAt (Rounds limit) script order lines kept trace last = (limit ≡ script.turns) × RunsInRounds script lines kept trace last
+RunsAt Named script order lines kept trace last = RunsAlong script order lines kept trace last
 
--- a report gives its verdict on this trace and the turns of this order with their polls, as on a run of the script at this pace, from
--- its opening to the values and the threads' ends that it shows; where the verdict is lawful, the written sections of the trace are chains from the
--- opening rows to those of the token lines (own)
+-- a report gives its verdict on this trace and the turns of this order with their polls, which were kept of a run of the script at
+-- this pace, from its opening to the values and the threads' ends that it shows; where the verdict is lawful, the written sections of
+-- the trace are chains from the opening rows to those of the token lines (own)
 pub record IsJudgedBy (pace : Pace) (script : Script) (closing : Closing) (order : List ℕ) (trace : List Event) (polls : List Poll) (turns : List Turn) : Type 0 where
   pub plans : List ThreadPlan
   pub ends : List ThreadEnd
@@ -100,7 +118,7 @@ pub record IsJudgedBy (pace : Pace) (script : Script) (closing : Closing) (order
   pub are_plans : ArePlansOf script.threads plans
   pub are_ends : AreEndsOf closing.threads.items ends
   pub shows : ShowsClosing closing last
-  pub runs : RunsAt pace script order closing.threads.items trace last
+  pub runs : RunsAt pace script order closing.threads.items (kept_as order turns polls) trace last
   pub by : Judges closing.verdict (opening_of script) pace order plans ends last trace polls turns
   pub chains : closing.verdict ≡ Lawful → WritesChains (opening_of script) trace last
 

@@ -1,5 +1,5 @@
 -- What the machine of a script does in a run, and how the lines of a report show its threads (own).
-use Rattle.std.specs.Prelude.{◌≡◌, ◌⊎◌, ℕ, ◌<◌, Bool, true, false, if◌then◌else◌, List, [], length, map, All, Option, Some, None, Vec, slice_get}
+use Rattle.std.specs.Prelude.{◌≡◌, ◌⊎◌, ℕ, ◌+◌, ◌<◌, Bool, true, false, if◌then◌else◌, List, [], length, map, All, IsSomeAnd, Option, Some, None, Vec, slice_get}
 use Rattle.std.specs.declared.alloc.Global.{Global}
 use Rattle.lwkt_base.specs.declared.entries.Entry.{Entry}
 use Rattle.lwkt_core.specs.declared.events.Event.{Event}
@@ -16,6 +16,9 @@ use Rattle.lwkt_report.specs.declared.closings.ThreadLine.{ThreadLine}
 use Rattle.lwkt_script.specs.declared.scripts.ThreadSpec.{ThreadSpec}
 use Rattle.lwkt_script.specs.Format.{threads_on}
 use Rattle.lwkt_verdict.specs.Run.{whose}
+use Rattle.lwkt_run.specs.declared.polled.Polled.{Polled}
+use Rattle.lwkt_run.specs.declared.records.Record.{Record}
+use Rattle.lwkt_run.specs.Keeping.{Kept, kept_as, Keeps}
 
 -- so many processors, each with as many threads as a script has on it
 pub record HasThreads (cpus : ℕ) (threads : List ThreadSpec) (processors : List (Processor Scripted)) : Type 0 where
@@ -39,17 +42,57 @@ pub record ShowThreads (lines : List ThreadLine) (m : Rig) : Type 0 where
   pub lists : map (λ line. line.list) lines ≡ map (λ s. s.list) (standings_of m.cpus)
   pub logs : All (IsLogOf m) lines
 
--- a machine, and the trace of its events
+-- what the last poll of a thread was: its body was given this answer to what it asked before, and asked this
+pub record IsPolledAt (m : Rig) (cpu thread : ℕ) (p : Polled) : Type 0 where
+  pub id : p.thread ≡ record { cpu = record { 0 = cpu }; thread = thread }
+  pub body : Scripted
+  pub shown : ShowsBody m cpu thread (Some body)
+  pub told : body.told ≡ Some p.told
+  pub asked : body.asked ≡ Some p.asked
+
+-- what a turn of a processor asked, by its answer and the machine that it left: nothing where it ran no thread, else what the thread
+-- was told and asked that ran
+abbrev pub HasAsked : ℕ → Rig → Turned → Option Polled → Type 0
+HasAsked cpu m (Ran thread) None = ⊥
+HasAsked cpu m (Ran thread) (Some p) = IsPolledAt m cpu thread p
+HasAsked cpu m Idle asks = asks ≡ None
+HasAsked cpu m AllExited asks = asks ≡ None
+
+-- a thread that is there was polled; and so was the one that a turn ran, which is one of a processor's 16 threads
+abbrev pub WasPolled : Rig → ℕ → ℕ → Type 0
+WasPolled m cpu thread = IsSomeAnd (slice_get m.cpus cpu) (λ q. thread < length q.threads) × ((p : Polled) × IsPolledAt m cpu thread p)
+
+abbrev pub HasPolled : ℕ → Rig → Turned → Type 0
+HasPolled cpu m (Ran thread) = (thread < 16) × WasPolled m cpu thread
+HasPolled cpu m Idle = Unit {0}
+HasPolled cpu m AllExited = Unit {0}
+
+-- a machine, the trace of its events, and what is kept of its turns
 pub record Scene : Type 0 where
   pub machine : Rig
   pub trace : Vec Event Global
+  pub kept : Kept
 
-abbrev pub scene : Rig → Vec Event Global → Scene
-scene machine trace = record { machine = machine; trace = trace }
+abbrev pub scene : Rig → Vec Event Global → Kept → Scene
+scene machine trace kept = record { machine = machine; trace = trace; kept = kept }
+
+-- what a record keeps
+abbrev pub kept_of : Record → Kept
+kept_of r = kept_as r.order.items r.turns.items r.polls.items
+
+-- the processor of this number makes a turn, which says this; and it is kept as it was: with its processor, the number of events by
+-- which the trace grew, and what it asked
+pub record MakesKeptTurn (cpu : ℕ) (turned : Turned) (x y : Scene) : Type 0 where
+  pub makes : TurnsAt cpu x.machine y.machine x.trace y.trace turned
+  pub events : ℕ
+  pub grown : length y.trace.items ≡ length x.trace.items + events
+  pub asks : Option Polled
+  pub has_asked : HasAsked cpu y.machine turned asks
+  pub keeps : Keeps cpu events asks x.kept y.kept
 
 -- the processor of this number makes a turn
 abbrev pub MakesTurnAt : ℕ → Scene → Scene → Type 0
-MakesTurnAt cpu x y = (turned : Turned) × TurnsAt cpu x.machine y.machine x.trace y.trace turned
+MakesTurnAt cpu x y = (turned : Turned) × MakesKeptTurn cpu turned x y
 
 -- so many turns are made, each by the processor that an order names
 abbrev pub MakesSome : List ℕ → ℕ → Scene → Scene → Type 0
@@ -61,12 +104,11 @@ MakesTurns order x y = MakesSome order (length order) x y
 
 -- a scene within a round, and whether every processor that made its turn in it said that all its threads have ended
 pub record Going : Type 0 where
-  pub machine : Rig
-  pub trace : Vec Event Global
+  pub at : Scene
   pub over : Bool
 
 abbrev pub going : Scene → Bool → Going
-going x over = record { machine = x.machine; trace = x.trace; over = over }
+going x over = record { at = x; over = over }
 
 -- whether a turn says that every thread of its processor has ended
 abbrev pub says_over : Turned → Bool
@@ -79,7 +121,7 @@ both a b = if a then b else false
 
 -- the processor of this number makes a turn
 abbrev pub TakesTurn : ℕ → Going → Going → Type 0
-TakesTurn cpu x y = (turned : Turned) × (TurnsAt cpu x.machine y.machine x.trace y.trace turned × (y.over ≡ both x.over (says_over turned)))
+TakesTurn cpu x y = (turned : Turned) × (MakesKeptTurn cpu turned x.at y.at × (y.over ≡ both x.over (says_over turned)))
 
 -- a round: each processor makes one turn, by rising number; it is over exactly if each of these turns says that every thread of its
 -- processor has ended

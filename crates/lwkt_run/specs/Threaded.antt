@@ -26,6 +26,7 @@ use Rattle.lwkt_script.specs.Format.{script_of}
 use Rattle.lwkt_run.specs.declared.runs.End.{End}
 use Rattle.lwkt_run.specs.declared.threaded.ThreadRecord.{ThreadRecord}
 use Rattle.lwkt_run.specs.Chains.{WritesChains}
+use Rattle.lwkt_run.specs.Joining.{AreOneRun}
 use Rattle.lwkt_run.specs.Telling.{sections_of_all, AreSorted, AreTold}
 use Rattle.lwkt_run.specs.Judging.{ids_of}
 use Rattle.lwkt_run.specs.Leaving.{Leaves}
@@ -37,7 +38,7 @@ use Rattle.lwkt_run.specs.Run.{ShowsClosing, end_told, TellsBy, SaysAfterRun, st
 -- making turns where the gate may have said so, until a limit of the script was reached, the gate said no, every thread had ended, or it
 -- found that no turn could change anything; the lines show how the threads stood then; the machine stopped, and its bank and its book were closed with these values. What each
 -- processor did, in its turns and then in its stop, are the parts of one run of the model on tokens and of one on messages, from the
--- script's opening to these values (own)
+-- script's opening to these values, and so of one run of the whole machine (own)
 pub record RunsOnThreads (answers : CpuId → ℕ → Bool → Type 0) (script : Script) (lines : List ThreadLine) (last : Final) : Type 0 where
   pub opened : Rig
   pub driven : Rig
@@ -52,6 +53,7 @@ pub record RunsOnThreads (answers : CpuId → ℕ → Bool → Type 0) (script :
   pub tells : TellTheRuns opened leaves.closed (parts_of 0 traces stops.items)
   pub tokens_from : first_machine opened.bank.plans (length opened.cpus) ≡ opening script.cpus script.tokens []
   pub messages_from : machine_of opened.book.cpus (first_mails opened.book.specs) ≡ opening script.cpus [] script.messages
+  pub one : AreOneRun script.cpus script.tokens script.messages last (parts_of 0 traces stops.items)
 
 -- what stands of a run on threads at its end: its closing values, the lines of its threads, and the written sections that its traces
 -- and its stop tell, by token and generation

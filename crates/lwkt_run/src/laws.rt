@@ -1,7 +1,14 @@
 //! Laws of runs.
+ghost use Rattle.lwkt_run.specs.Joining.{RunsJoin};
 ghost use Rattle.lwkt_run.specs.Orders.{RoundsAreAnOrder};
 
 /// The law that a run in rounds is the run along an order that goes round the processors.
 pub fn rounds_are_an_order()
     ensures { RoundsAreAnOrder }
+{}
+
+/// The law that events on tokens change only tokens and those on messages only messages: a run of the tokens alone and one of the
+/// messages alone are, in whatever order between the two, one run of the whole machine.
+pub fn runs_join()
+    ensures { RunsJoin }
 {}

@@ -5,6 +5,7 @@ mod endings;
 mod givers;
 pub mod laws;
 mod lines;
+mod polled;
 mod programs;
 mod records;
 mod reports;

@@ -1,76 +1,100 @@
-use lwkt_base::{Answer, Ask, ThreadId};
+//! What is kept of a run beside its trace.
+ghost use Rattle.std.specs.Prelude.{◌≡◌, ℕ, ◌<◌, Some, slice_get, min};
+ghost use Rattle.lwkt_run.specs.Keeping.{last_place};
+
+use crate::polled::Polled;
+use lwkt_base::Answer;
 use lwkt_verdict::{Poll, Turn};
 use std::alloc::{AllocError, Global};
 
 // As many threads as there can be, 16 of each of 8 processors.
 const THREAD_LIMIT: usize = 128;
 
-/// What is kept of a run beside its trace: its turns in order, and their polls.
+/// What is kept of a run beside its trace: the processor of each turn, the turns in order, and their polls.
 #[derive(Drop)]
 pub struct Record {
+    pub order: Vec<u8>,
     pub polls: Vec<Poll>,
     pub turns: Vec<Turn>,
     // Of each thread the place of its last poll, 16 threads for each processor.
-    last: [Option<u32>; THREAD_LIMIT],
+    last: [Option<usize>; THREAD_LIMIT],
+    ghost places: { (slot : ℕ) → slot < 128 → slice_get last slot ≡ Some (last_place slot polls.items) },
 }
 
-/// What a turn asked.
-#[derive(Clone, Copy)]
-pub struct Polled {
-    pub thread: ThreadId,
-    /// What the thread's body was given: the answer to what it had asked before.
-    pub told: Answer,
-    pub asked: Ask,
+// The place of a poll behind so many others, as far as 32 bits go.
+fn place_behind(before: usize) -> u32
+    ensures { result ≡ min before 4294967295 }
+{
+    before.min(u32::MAX as usize) as u32
 }
 
 impl Record {
-    pub fn new(alloc: Global) -> Self {
+    ghost use Rattle.std.specs.Prelude.{IfSome, OnOk};
+    ghost use Rattle.lwkt_verdict.specs.Threads.{slot_of};
+    ghost use Rattle.lwkt_run.specs.Keeping.{none_kept, kept_as, answered, polls_after, Keeps};
+
+    pub fn new(alloc: Global) -> Self
+        ensures { kept_as result.order.items result.turns.items result.polls.items ≡ none_kept }
+    {
         Record {
+            order: Vec::new(alloc),
             polls: Vec::new(alloc),
             turns: Vec::new(alloc),
             last: [None; THREAD_LIMIT],
         }
     }
 
-    // Keeps the answer to what a thread asked before, if it was polled before; its next poll will be at this place.
-    fn keep_answer(&mut self, thread: ThreadId, told: Answer, place: u32) {
-        let slot = 16 * usize::from(thread.cpu.0) + usize::from(thread.thread);
-        let Some(last) = self.last.get_mut(slot) else {
-            return;
-        };
-        let before = last.replace(place);
-        if let Some(poll) = before.and_then(|place| self.polls.get_mut(place as usize)) {
-            poll.answer = Some(told);
+    // The last poll of a thread, if it was polled before, gets its answer.
+    fn answer(&mut self, slot: usize, told: Answer)
+        requires { slot < 128 }
+        ensures polls { self.new.polls.items ≡ answered slot told self.old.polls.items }
+        ensures turns { self.new.turns ≡ self.old.turns }
+        ensures order { self.new.order ≡ self.old.order }
+    {
+        if let Some(place) = self.last[slot] {
+            self.polls[place].answer = Some(told);
         }
     }
 
-    // Keeps a poll, and says at which place.
-    fn keep_poll(&mut self, polled: Polled) -> Result<u32, AllocError> {
+    // Keeps a poll, and the answer to what its thread asked before, if it was polled before.
+    fn keep_poll(&mut self, polled: Polled) -> Result<(), AllocError>
+        requires { slot_of polled.thread < 128 }
+        ensures polls { OnOk result (self.new.polls.items ≡ polls_after (Some polled) self.old.polls.items) }
+        ensures turns { self.new.turns ≡ self.old.turns }
+        ensures order { self.new.order ≡ self.old.order }
+    {
         let Polled {
             thread,
             told,
             asked,
         } = polled;
-        let place = u32::try_from(self.polls.len()).unwrap_or(u32::MAX);
-        self.keep_answer(thread, told, place);
+        let slot = 16 * usize::from(thread.cpu.0) + usize::from(thread.thread);
+        let place = self.polls.len();
+        self.answer(slot, told);
         self.polls.push(Poll {
             answer: None,
             ask: asked,
             thread,
         })?;
-        Ok(place)
+        self.last[slot] = Some(place);
+        Ok(())
     }
 
-    /// Keeps a turn that made so many events, and what it asked, if it polled a thread.
-    pub fn keep(&mut self, events: usize, polled: Option<Polled>) -> Result<(), AllocError> {
-        let poll = match polled {
+    /// Keeps a turn of a processor that made so many events, and what it asked, if it polled a thread.
+    pub fn keep(&mut self, cpu: u8, events: u16, asks: Option<Polled>) -> Result<(), AllocError>
+        requires { IfSome asks (λ p. slot_of p.thread < 128) }
+        ensures { OnOk result (Keeps cpu events asks (kept_as self.old.order.items self.old.turns.items self.old.polls.items) (kept_as self.new.order.items self.new.turns.items self.new.polls.items)) }
+    {
+        let before = self.polls.len();
+        let poll = match asks {
             None => None,
-            Some(polled) => Some(self.keep_poll(polled)?),
+            Some(polled) => {
+                self.keep_poll(polled)?;
+                Some(place_behind(before))
+            }
         };
-        self.turns.push(Turn {
-            poll,
-            events: u16::try_from(events).unwrap_or(u16::MAX),
-        })?;
+        self.turns.push(Turn { poll, events })?;
+        self.order.push(cpu)?;
         Ok(())
     }
 }

@@ -1,27 +1,45 @@
 //! The rounds of a run.
-ghost use Rattle.std.specs.Prelude.{◌≡◌, ◌<◌, All, length, IfOk, OnOk, OnErr, Err};
+ghost use Rattle.std.specs.Prelude.{◌≡◌, ◌<◌, ◌≤◌, ◌++◌, All, length, IfOk, IfSome, OnOk, OnErr, Err};
 ghost use Rattle.lwkt_cpu.specs.declared.answers.Turned.{Turned};
-ghost use Rattle.lwkt_machine.specs.Turns.{TurnsAt};
-ghost use Rattle.lwkt_run.specs.Running.{scene, says_over, both as both_so, RoundTold, HasMadeRounds, MakesTurns};
+ghost use Rattle.lwkt_verdict.specs.Threads.{slot_of};
+ghost use Rattle.lwkt_run.specs.Running.{WasPolled, HasPolled, IsPolledAt, HasAsked, MakesKeptTurn, kept_of, scene, says_over, both as both_so, RoundTold, HasMadeRounds, MakesTurns};
 
-use crate::records::{Polled, Record};
+use crate::polled::Polled;
+use crate::records::Record;
 use lwkt_base::{CpuId, Fault, ThreadId};
 use lwkt_core::Event;
 use lwkt_cpu::Turned;
 use lwkt_machine::Machine;
-use std::alloc::Global;
 
 // What the last turn of a processor asked, which polled this thread.
-fn polled_at(machine: &Machine, cpu: usize, thread: usize) -> Option<Polled> {
-    let body = machine.body(cpu, thread)?;
-    Some(Polled {
+fn polled_at(machine: &Machine, cpu: usize, thread: usize) -> Polled
+    requires processor { cpu < 8 }
+    requires numbered { thread < 16 }
+    requires polled { WasPolled machine.now cpu thread }
+    ensures { IsPolledAt machine.now cpu thread result }
+{
+    let body = machine.body(cpu, thread).unwrap();
+    Polled {
         thread: ThreadId {
-            cpu: CpuId(u8::try_from(cpu).unwrap_or(u8::MAX)),
-            thread: u8::try_from(thread).unwrap_or(u8::MAX),
+            cpu: CpuId(cpu as u8),
+            thread: thread as u8,
         },
-        told: body.told()?,
-        asked: body.asked()?,
-    })
+        told: body.told().unwrap(),
+        asked: body.asked().unwrap(),
+    }
+}
+
+// What the last turn of a processor asked, which says this.
+fn asks_of(machine: &Machine, cpu: usize, turned: Turned) -> Option<Polled>
+    requires processor { cpu < 8 }
+    requires polled { HasPolled cpu machine.now turned }
+    ensures asked { HasAsked cpu machine.now turned result }
+    ensures within { IfSome result (λ p. slot_of p.thread < 128) }
+{
+    match turned {
+        Turned::Ran { thread } => Some(polled_at(machine, cpu, thread)),
+        Turned::Idle | Turned::AllExited => None,
+    }
 }
 
 // Whether a turn says that every thread has ended.
@@ -45,19 +63,17 @@ fn make_turn(
     trace: &mut Vec<Event>,
     kept: &mut Record,
 ) -> Result<bool, Fault>
-    requires { cpu < length machine.old.cpus }
-    ensures ok { IfOk result (λ over. (turned : Turned) × (TurnsAt cpu machine.old machine.new trace.old trace.new turned × (over ≡ says_over turned))) }
+    requires there { cpu < length machine.old.cpus }
+    requires few { length machine.old.cpus ≤ 8 }
+    ensures ok { IfOk result (λ over. (turned : Turned) × (MakesKeptTurn cpu turned (scene machine.old trace.old (kept_of kept.old)) (scene machine.new trace.new (kept_of kept.new)) × (over ≡ says_over turned))) }
     ensures as_many { length machine.new.cpus ≡ length machine.old.cpus }
     ensures only { OnErr result (result ≡ Err Fault.Memory) }
 {
     let before = trace.len();
     let turned = machine.turn(cpu, trace)?;
-    let polled = match turned {
-        Turned::Ran { thread } => polled_at(machine, cpu, thread),
-        Turned::Idle | Turned::AllExited => None,
-    };
-    let events = trace.len().saturating_sub(before);
-    match kept.keep(events, polled) {
+    let asks = asks_of(machine, cpu, turned);
+    let events = (trace.len() - before) as u16;
+    match kept.keep(cpu as u8, events, asks) {
         Ok(()) => Ok(is_over(turned)),
         Err(_) => Err(Fault::Memory),
     }
@@ -69,7 +85,7 @@ fn make_round(
     trace: &mut Vec<Event>,
     kept: &mut Record,
 ) -> Result<bool, Fault>
-    ensures ok { IfOk result (λ over. RoundTold (scene machine.old trace.old) (scene machine.new trace.new) over) }
+    ensures ok { IfOk result (λ over. RoundTold (scene machine.old trace.old (kept_of kept.old)) (scene machine.new trace.new (kept_of kept.new)) over) }
     ensures only { OnErr result (result ≡ Err Fault.Memory) }
 {
     let mut over = true;
@@ -88,28 +104,15 @@ pub fn make_turns(
     kept: &mut Record,
 ) -> Result<(), Fault>
     requires processors { All (λ x. x < length machine.old.cpus) order.now }
-    ensures ok { OnOk result (MakesTurns order.now (scene machine.old trace.old) (scene machine.new trace.new)) }
+    requires few { length machine.old.cpus ≤ 8 }
+    ensures ok { OnOk result (MakesTurns order.now (scene machine.old trace.old (kept_of kept.old)) (scene machine.new trace.new (kept_of kept.new))) }
+    ensures order { OnOk result (kept.new.order.items ≡ kept.old.order.items ++ order.now) }
     ensures only { OnErr result (result ≡ Err Fault.Memory) }
 {
     for at in 0..order.len() {
         make_turn(machine, usize::from(order[at]), trace, kept)?;
     }
     Ok(())
-}
-
-/// The order of so many turns in rounds of so many processors.
-pub fn round_order(alloc: Global, cpus: usize, turns: usize) -> Result<Vec<u8>, Fault>
-    ensures only { OnErr result (result ≡ Err Fault.Memory) }
-{
-    let mut order = Vec::new(alloc);
-    for k in 0..turns {
-        let cpu = if cpus == 0 { 0 } else { k % cpus };
-        let number = u8::try_from(cpu).unwrap_or(0);
-        if order.push(number).is_err() {
-            return Err(Fault::Memory);
-        }
-    }
-    Ok(order)
 }
 
 /// Makes so many rounds, or fewer if in one of them every processor says that all its threads have ended.
@@ -119,7 +122,7 @@ pub fn make_rounds(
     trace: &mut Vec<Event>,
     kept: &mut Record,
 ) -> Result<(), Fault>
-    ensures ok { OnOk result (HasMadeRounds limit (scene machine.old trace.old) (scene machine.new trace.new)) }
+    ensures ok { OnOk result (HasMadeRounds limit (scene machine.old trace.old (kept_of kept.old)) (scene machine.new trace.new (kept_of kept.new))) }
     ensures only { OnErr result (result ≡ Err Fault.Memory) }
 {
     for _round in 0..limit {

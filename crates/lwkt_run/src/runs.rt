@@ -2,6 +2,7 @@ ghost use Rattle.std.specs.Prelude.{◌≡◌, ◌⊎◌, ◌<◌, All, map, is_
 ghost use Rattle.std.specs.List.{list_all};
 ghost use Rattle.lwkt_core.specs.Opening.{AreWithin, AllOpenLawfully};
 ghost use Rattle.lwkt_run.specs.Judging.{ids_of};
+ghost use Rattle.lwkt_run.specs.Running.{kept_of};
 ghost use Rattle.lwkt_run.specs.Values.{is_tally, AreValuesOf};
 ghost use Rattle.lwkt_run.specs.Run.{opening_of, RunsInRounds, RunsAlong, RunsAt, IsJudgedBy, MayClose, IsTurnsRun, IsOrderRun, DeclinesAlong, RefusesAlong, has_ended, end_told, HasRun, Declines, Refuses, Tells};
 
@@ -9,7 +10,7 @@ use crate::endings::{Left, left_by};
 use crate::lines::token_lines;
 use crate::records::Record;
 use crate::reports::{Done, conclude};
-use crate::rounds::{make_rounds, make_turns, round_order};
+use crate::rounds::{make_rounds, make_turns};
 use crate::verdicts::{ends_of, plans_of, verdict_of};
 use lwkt_base::{Fault, ThreadState};
 use lwkt_core::{Event, Final, State};
@@ -51,7 +52,6 @@ fn closing_of(
     alloc: Global,
     script: &Script,
     pace: Pace,
-    order: &[u8],
     opening: State,
     again: State,
     left: Left,
@@ -64,17 +64,25 @@ fn closing_of(
     requires lawful { AllOpenLawfully script.now.tokens }
     requires values { AreValuesOf script.now.tokens left.last }
     requires threads { map (λ line. line.id) left.threads.items ≡ ids_of script.now.cpus script.now.threads }
-    requires runs { RunsAt pace script.now order.now left.threads.items trace.now left.last }
+    requires runs { RunsAt pace script.now kept.now.order.items left.threads.items (kept_of kept.now) trace.now left.last }
     ensures kinds { IfOk result (λ closing. map (λ line. is_some line.tallies) closing.tokens.items ≡ map (λ spec. is_tally spec.law) script.now.tokens) }
     ensures threads { IfOk result (λ closing. map (λ line. line.id) closing.threads.items ≡ ids_of script.now.cpus script.now.threads) }
-    ensures judged { IfOk result (λ closing. IsJudgedBy pace script.now closing order.now trace.now kept.now.polls.items kept.now.turns.items) }
+    ensures judged { IfOk result (λ closing. IsJudgedBy pace script.now closing kept.now.order.items trace.now kept.now.polls.items kept.now.turns.items) }
 {
     let Left { last, threads } = left;
     let tokens = token_lines(alloc, script.tokens.as_slice(), &last)?;
     let plans = plans_of(alloc, script.threads.as_slice())?;
     let ends = ends_of(alloc, &threads)?;
     let verdict = verdict_of(
-        opening, again, pace, order, &plans, &ends, &last, trace, kept,
+        opening,
+        again,
+        pace,
+        &kept.order,
+        &plans,
+        &ends,
+        &last,
+        trace,
+        kept,
     );
     let Final { messages, .. } = last;
     Ok(Closing {
@@ -105,14 +113,13 @@ fn opened(alloc: Global, script: &Script) -> Result<State, Fault>
 struct Made {
     trace: Vec<Event>,
     kept: Record,
-    order: Vec<u8>,
     left: Left,
 }
 
 // Makes the rounds of a script.
 fn run_of(alloc: Global, script: &Script) -> Result<Made, Fault>
     ensures values { IfOk result (λ made. AreValuesOf script.now.tokens made.left.last) }
-    ensures runs { IfOk result (λ made. RunsInRounds script.now made.left.threads.items made.trace.items made.left.last) }
+    ensures runs { IfOk result (λ made. RunsInRounds script.now made.left.threads.items (kept_of made.kept) made.trace.items made.left.last) }
     ensures threads { IfOk result (λ made. map (λ line. line.id) made.left.threads.items ≡ ids_of script.now.cpus script.now.threads) }
     ensures refused { IfErr result (λ fault. Declines script.now fault) }
 {
@@ -120,64 +127,51 @@ fn run_of(alloc: Global, script: &Script) -> Result<Made, Fault>
     let mut trace = Vec::new(alloc);
     let mut kept = Record::new(alloc);
     make_rounds(&mut machine, script.turns, &mut trace, &mut kept)?;
-    let order = round_order(alloc, usize::from(script.cpus), kept.turns.len())?;
     let left = left_by(alloc, script, machine, &mut trace)?;
-    Ok(Made {
-        trace,
-        kept,
-        order,
-        left,
-    })
+    Ok(Made { trace, kept, left })
 }
 
 // Makes the turns of a script that an order names, each of a processor that is there.
-fn run_along(alloc: Global, script: &Script, order: Vec<u8>) -> Result<Made, Fault>
-    requires processors { All (λ x. x < script.now.cpus) order.items }
+fn run_along(alloc: Global, script: &Script, order: &[u8]) -> Result<Made, Fault>
+    requires processors { All (λ x. x < script.now.cpus) order.now }
     ensures values { IfOk result (λ made. AreValuesOf script.now.tokens made.left.last) }
-    ensures order { IfOk result (λ made. made.order ≡ order) }
-    ensures runs { IfOk result (λ made. RunsAlong script.now order.items made.left.threads.items made.trace.items made.left.last) }
+    ensures order { IfOk result (λ made. made.kept.order.items ≡ order.now) }
+    ensures runs { IfOk result (λ made. RunsAlong script.now made.kept.order.items made.left.threads.items (kept_of made.kept) made.trace.items made.left.last) }
     ensures threads { IfOk result (λ made. map (λ line. line.id) made.left.threads.items ≡ ids_of script.now.cpus script.now.threads) }
     ensures refused { IfErr result (λ fault. Declines script.now fault) }
 {
     let mut machine = Machine::open(alloc, script)?;
     let mut trace = Vec::new(alloc);
     let mut kept = Record::new(alloc);
-    make_turns(&mut machine, order.as_slice(), &mut trace, &mut kept)?;
+    make_turns(&mut machine, order, &mut trace, &mut kept)?;
     let left = left_by(alloc, script, machine, &mut trace)?;
-    Ok(Made {
-        trace,
-        kept,
-        order,
-        left,
-    })
+    Ok(Made { trace, kept, left })
 }
 
 // What was made of a script at a pace, with the verdict on it.
 fn judged_run(alloc: Global, pace: Pace, script: Script, made: Made) -> Result<TurnsRun, Fault>
     requires values { AreValuesOf script.tokens made.left.last }
     requires threads { map (λ line. line.id) made.left.threads.items ≡ ids_of script.cpus script.threads }
-    requires runs { RunsAt pace script made.order.items made.left.threads.items made.trace.items made.left.last }
+    requires runs { RunsAt pace script made.kept.order.items made.left.threads.items (kept_of made.kept) made.trace.items made.left.last }
     ensures script { IfOk result (λ run. run.script ≡ script) }
-    ensures order { IfOk result (λ run. run.order ≡ made.order) }
+    ensures order { IfOk result (λ run. run.order ≡ made.kept.order) }
     ensures closes { IfOk result (λ run. MayClose pace script run.closing) }
     ensures judged { IfOk result (λ run. IsJudgedBy pace script run.closing run.order.items run.trace.items run.polls.items run.turns.items) }
     ensures refused { IfErr result (λ fault. Declines script fault) }
 {
     let opening = opened(alloc, &script)?;
     let again = opened(alloc, &script)?;
-    let Made {
-        trace,
-        kept,
-        order,
-        left,
-    } = made;
-    let closing = match closing_of(
-        alloc, &script, pace, &order, opening, again, left, &trace, &kept,
-    ) {
+    let Made { trace, kept, left } = made;
+    let closing = match closing_of(alloc, &script, pace, opening, again, left, &trace, &kept) {
         Ok(closing) => closing,
         Err(_) => return Err(Fault::Memory),
     };
-    let Record { polls, turns, .. } = kept;
+    let Record {
+        order,
+        polls,
+        turns,
+        ..
+    } = kept;
     Ok(TurnsRun {
         script,
         trace,
@@ -215,14 +209,14 @@ pub fn turns_run(alloc: Global, bytes: &[u8]) -> Result<TurnsRun, Fault>
 }
 
 // The script of a run along an order, with what was kept of it and what its report shows.
-fn order_run_of(alloc: Global, script: Script, order: Vec<u8>) -> Result<TurnsRun, Fault>
-    ensures order { IfOk result (λ run. run.order ≡ order) }
+fn order_run_of(alloc: Global, script: Script, order: &[u8]) -> Result<TurnsRun, Fault>
+    ensures order { IfOk result (λ run. run.order.items ≡ order.now) }
     ensures script { IfOk result (λ run. run.script ≡ script) }
     ensures closes { IfOk result (λ run. MayClose Pace.Named script run.closing) }
     ensures judged { IfOk result (λ run. IsJudgedBy Pace.Named script run.closing run.order.items run.trace.items run.polls.items run.turns.items) }
-    ensures refused { IfErr result (λ fault. DeclinesAlong script order.items fault) }
+    ensures refused { IfErr result (λ fault. DeclinesAlong script order.now fault) }
 {
-    if !are_processors(usize::from(script.cpus), order.as_slice()) {
+    if !are_processors(usize::from(script.cpus), order) {
         return Err(Fault::NoPort);
     }
     let made = run_along(alloc, &script, order)?;
@@ -239,7 +233,7 @@ pub fn order_run(alloc: Global, bytes: &[u8], order: Vec<u8>) -> Result<TurnsRun
     ensures refused { IfErr result (λ fault. RefusesAlong bytes.now order.items fault) }
 {
     let script = read_script(alloc, bytes)?;
-    order_run_of(alloc, script, order)
+    order_run_of(alloc, script, order.as_slice())
 }
 
 /// How a run ended, by the contents of its report.

@@ -7,10 +7,13 @@ use Rattle.std.proofs.lemmas.List.{append_cancel_left, length-set}
 use Rattle.std.proofs.lemmas.List.Elements.{All-head, All-tail, filter-append}
 use Rattle.std.proofs.lemmas.Option.{slice_get-map, slice_get_within}
 use Rattle.lwkt_base.specs.declared.names.CpuId.{CpuId}
+use Rattle.lwkt_base.specs.Holding.{Holding}
 use Rattle.lwkt_core.specs.declared.events.Event.{Event}
 use Rattle.lwkt_core.specs.declared.seats.SeatKind.{SeatKind}
 use Rattle.lwkt_core.specs.Events.{cpu_of}
+use Rattle.lwkt_ask.specs.Telling.{TellsMail}
 use Rattle.lwkt_bank.specs.Seats.{BankId}
+use Rattle.lwkt_hold.specs.Runs.{Ran}
 use Rattle.lwkt_msg.specs.Desks.{Shelf, cpu_of as desk_cpu}
 use Rattle.lwkt_msg.specs.Views.{seat_cpu}
 use Rattle.lwkt_port.specs.Chains.{Chain}
@@ -61,13 +64,13 @@ parts_at n (trace ∷ traces) stops (suc k) part at =
     (x.0, (x.1.0, x.1.1 ∙ ap (λ (j : ℕ). x.0.items ++ of_cpu j stops) z))
 
 -- a processor at its number, of which these events tell both seats
-record IsToldAt (k : ℕ) (p : Processor Scripted) (part : List Event) : Type 0 where
-  seat : p.seat.cpu.0 ≡ k
-  desk : (desk_cpu p.post.seat).0 ≡ k
-  tokens : IsTold p.seat part
-  mails : IsMailTold p.post.seat part
+pub record IsToldAt (k : ℕ) (p : Processor Scripted) (part : List Event) : Type 0 where
+  pub seat : p.seat.cpu.0 ≡ k
+  pub desk : (desk_cpu p.post.seat).0 ≡ k
+  pub tokens : IsTold p.seat part
+  pub mails : IsMailTold p.post.seat part
 
-told_opened : (bank : BankId) (book : Shelf) (threads : List ThreadSpec) (k : ℕ) (p : Processor Scripted) → IsOpenedCpu bank book threads k p → IsToldAt k p []
+pub told_opened : (bank : BankId) (book : Shelf) (threads : List ThreadSpec) (k : ℕ) (p : Processor Scripted) → IsOpenedCpu bank book threads k p → IsToldAt k p []
 told_opened bank book threads k p o = record {
   seat = o.seat.number;
   desk = ap (λ (kind : SeatKind). (seat_cpu kind).0) o.desk.kind;
@@ -94,23 +97,19 @@ told_driven answers limits bank k p q trace first w =
     subst U w.trace_is (subst Q w.cpu (subst V (sym d.trace) now))
 
 -- each processor of a stage is told by the events of its turns and by its own among those of the stops so far
-record AreTold (traces : List (Vec Event Global)) (x : Stage) : Type 0 where
-  as_many : length x.cpus ≡ length traces
-  each : (k : ℕ) (p : Processor Scripted) (trace : Vec Event Global) → slice_get x.cpus k ≡ Some p → slice_get traces k ≡ Some trace → IsToldAt k p (trace.items ++ of_cpu k x.trace.items)
+pub record AreTold (traces : List (Vec Event Global)) (x : Stage) : Type 0 where
+  pub as_many : length x.cpus ≡ length traces
+  pub each : (k : ℕ) (p : Processor Scripted) (trace : Vec Event Global) → slice_get x.cpus k ≡ Some p → slice_get traces k ≡ Some trace → IsToldAt k p (trace.items ++ of_cpu k x.trace.items)
 
 of_cpu_more : (cpu : ℕ) (xs ys zs : List Event) → ys ≡ xs ++ zs → of_cpu cpu ys ≡ of_cpu cpu xs ++ of_cpu cpu zs
 of_cpu_more cpu xs ys zs is = ap (of_cpu cpu) is ∙ filter-append (λ (e : Event). cpu_of e == cpu) xs zs
 
--- one processor stops
-told_stopped : (traces : List (Vec Event Global)) (n : ℕ) (x y : Stage) → StopsAt n x y → AreTold traces x → (k : ℕ) (z : Processor Scripted) (trace : Vec Event Global) → slice_get y.cpus k ≡ Some z → slice_get traces k ≡ Some trace → IsToldAt k z (trace.items ++ of_cpu k y.trace.items)
-told_stopped traces n x y stops told k z trace at has =
-    let p = stops.0 in
-    let q = stops.1.0 in
-    let s = stops.1.1.1 in
-    let cpus : y.cpus ≡ set x.cpus n q = stops.1.1.2 in
-    let here : slice_get x.cpus n ≡ Some p = stops.1.1.0 in
-    let done = s.ran.done in
-    let grown : y.trace.items ≡ x.trace.items ++ done = s.ran.trace in
+-- one processor does something, and what it did is told behind what was told before
+told_here : (P : Holding → Type 0) (most : ℕ) (traces : List (Vec Event Global)) (n : ℕ) (x y : Stage) (p q : Processor Scripted) → slice_get x.cpus n ≡ Some p → y.cpus ≡ set x.cpus n q → Ran P most p.seat q.seat x.trace y.trace → TellsMail p.post.seat q.post.seat x.trace.items y.trace.items → AreTold traces x
+    → (k : ℕ) (z : Processor Scripted) (trace : Vec Event Global) → slice_get y.cpus k ≡ Some z → slice_get traces k ≡ Some trace → IsToldAt k z (trace.items ++ of_cpu k y.trace.items)
+told_here P most traces n x y p q here cpus ran mail told k z trace at has =
+    let done = ran.done in
+    let grown : y.trace.items ≡ x.trace.items ++ done = ran.trace in
     let F : List (Processor Scripted) → Type 0 = λ ps. slice_get ps k ≡ Some z in
     let at_set : slice_get (set x.cpus n q) k ≡ Some z = subst F cpus at in
     elim (cases_eq k n) [
@@ -121,16 +120,16 @@ told_stopped traces n x y stops told k z trace at has =
           let H : ℕ → Type 0 = λ i. slice_get traces i ≡ Some trace in
           let before : IsToldAt n p (trace.items ++ of_cpu n x.trace.items) = told.each n p trace here (subst H same has) in
           let O : ℕ → Type 0 = λ i. All (λ (e : Event). cpu_of e ≡ i) done in
-          let own : of_cpu n done ≡ done = of_cpu_own n done (subst O before.seat s.ran.own) in
+          let own : of_cpu n done ≡ done = of_cpu_own n done (subst O before.seat ran.own) in
           let mine : of_cpu n y.trace.items ≡ of_cpu n x.trace.items ++ done = of_cpu_more n x.trace.items y.trace.items done grown ∙ ap (λ es. of_cpu n x.trace.items ++ es) own in
           let whole : trace.items ++ of_cpu n y.trace.items ≡ (trace.items ++ of_cpu n x.trace.items) ++ done = ap (λ es. trace.items ++ es) mine ∙ sym (append_assoc trace.items (of_cpu n x.trace.items) done) in
-          let both : s.told.done ≡ done = append_cancel_left x.trace.items s.told.done done (sym s.told.trace_is ∙ grown) in
+          let both : mail.done ≡ done = append_cancel_left x.trace.items mail.done done (sym mail.trace_is ∙ grown) in
           let M : List Event → Type 0 = λ es. IsMailTold q.post.seat ((trace.items ++ of_cpu n x.trace.items) ++ es) in
           let now : IsToldAt n q ((trace.items ++ of_cpu n x.trace.items) ++ done) = record {
-            seat = ap (λ (c : CpuId). c.0) s.ran.cpu ∙ before.seat;
-            desk = ap (λ (kind : SeatKind). (seat_cpu kind).0) s.told.same.kind ∙ before.desk;
-            tokens = told_more (IsMailed p.threads) s.most p.seat q.seat x.trace y.trace s.ran (trace.items ++ of_cpu n x.trace.items) before.tokens;
-            mails = subst M both (mail_more p.post.seat q.post.seat x.trace.items y.trace.items s.told (trace.items ++ of_cpu n x.trace.items) before.mails);
+            seat = ap (λ (c : CpuId). c.0) ran.cpu ∙ before.seat;
+            desk = ap (λ (kind : SeatKind). (seat_cpu kind).0) mail.same.kind ∙ before.desk;
+            tokens = told_more P most p.seat q.seat x.trace y.trace ran (trace.items ++ of_cpu n x.trace.items) before.tokens;
+            mails = subst M both (mail_more p.post.seat q.post.seat x.trace.items y.trace.items mail (trace.items ++ of_cpu n x.trace.items) before.mails);
           } in
           let A : List Event → Type 0 = λ es. IsToldAt n q es in
           let B : Processor Scripted → Type 0 = λ w. IsToldAt n w (trace.items ++ of_cpu n y.trace.items) in
@@ -142,17 +141,23 @@ told_stopped traces n x y stops told k z trace at has =
           let its = get_there traces n (omega (arith, slice_get_within x.cpus n p here, told.as_many)) in
           let placed : p.seat.cpu.0 ≡ n = (told.each n p its.0 here its.1).seat in
           let O : ℕ → Type 0 = λ i. All (λ (e : Event). cpu_of e ≡ i) done in
-          let none : of_cpu k done ≡ [] = of_cpu_other k n done (λ is. apart (sym is)) (subst O placed s.ran.own) in
+          let none : of_cpu k done ≡ [] = of_cpu_other k n done (λ is. apart (sym is)) (subst O placed ran.own) in
           let mine : of_cpu k y.trace.items ≡ of_cpu k x.trace.items = of_cpu_more k x.trace.items y.trace.items done grown ∙ ap (λ es. of_cpu k x.trace.items ++ es) none ∙ append-nil (of_cpu k x.trace.items) in
           let A : List Event → Type 0 = λ es. IsToldAt k z (trace.items ++ es) in
           subst A (sym mine) before
     ]
 
-told_step : (traces : List (Vec Event Global)) (n : ℕ) (x y : Stage) → StopsAt n x y → AreTold traces x → AreTold traces y
-told_step traces n x y stops told = record {
-  as_many = ap length stops.1.1.2 ∙ length-set x.cpus n stops.1.0 ∙ told.as_many;
-  each = told_stopped traces n x y stops told;
+pub told_moved : (P : Holding → Type 0) (most : ℕ) (traces : List (Vec Event Global)) (n : ℕ) (x y : Stage) (p q : Processor Scripted) → slice_get x.cpus n ≡ Some p → y.cpus ≡ set x.cpus n q → Ran P most p.seat q.seat x.trace y.trace → TellsMail p.post.seat q.post.seat x.trace.items y.trace.items → AreTold traces x → AreTold traces y
+told_moved P most traces n x y p q here cpus ran mail told = record {
+  as_many = ap length cpus ∙ length-set x.cpus n q ∙ told.as_many;
+  each = told_here P most traces n x y p q here cpus ran mail told;
 }
+
+-- one processor stops
+told_step : (traces : List (Vec Event Global)) (n : ℕ) (x y : Stage) → StopsAt n x y → AreTold traces x → AreTold traces y
+told_step traces n x y stops told =
+    let s = stops.1.1.1 in
+    told_moved (IsMailed stops.0.threads) s.most traces n x y stops.0 stops.1.0 stops.1.1.0 stops.1.1.2 s.ran s.told told
 
 told_chain : (traces : List (Vec Event Global)) (n : ℕ) (x y : Stage) → Chain Stage StopsAt n x y → AreTold traces x → AreTold traces y
 unfolding Chain
@@ -179,13 +184,13 @@ told_all answers limits script opened driven traces t opens drives none =
 seat_at : {A : Type 0} (f : Processor Scripted → A) (cpus : List (Processor Scripted)) (k : ℕ) (p : Processor Scripted) → slice_get cpus k ≡ Some p → slice_get (map f cpus) k ≡ Some (f p)
 seat_at f cpus k p at = slice_get-map f cpus k ∙ ap (option_map f) at
 
-pub threads_tell : (answers : CpuId → ℕ → Bool → Type 0) (limits : Limits) (script : Script) (opened driven stopped : Rig) (traces : List (Vec Event Global)) (before after : Vec Event Global) (closed : Closed) → IsOpenedMachine script opened → IsDrivenMachine answers limits opened driven traces → before.items ≡ [] → StopsAll driven stopped before after → IsClosedMachine stopped closed → TellTheRuns opened closed (parts_of 0 traces after.items)
-threads_tell answers limits script opened driven stopped traces before after closed opens drives none stops closes =
-    let d = drives.cpus in
-    let told : AreTold traces (stage stopped.cpus after) = told_chain traces (length driven.cpus) (stage driven.cpus before) (stage stopped.cpus after) stops.stopped (told_all answers limits script opened driven traces before opens drives none) in
-    let bank : stopped.bank ≡ opened.bank = stops.bank ∙ drives.bank in
-    let book : stopped.book ≡ opened.book = stops.book ∙ drives.book in
-    let many : length stopped.cpus ≡ length opened.cpus = told.as_many ∙ d.traces_are in
+-- what was told of processors when none of them had stopped, and what they did as they stopped, are the parts of such runs
+pub rest_tells : (opened made stopped : Rig) (traces : List (Vec Event Global)) (before after : Vec Event Global) (closed : Closed) → length traces ≡ length opened.cpus → made.bank ≡ opened.bank → made.book ≡ opened.book → AreTold traces (stage made.cpus before) → StopsAll made stopped before after → IsClosedMachine stopped closed → TellTheRuns opened closed (parts_of 0 traces after.items)
+rest_tells opened made stopped traces before after closed as_many banks books first stops closes =
+    let told : AreTold traces (stage stopped.cpus after) = told_chain traces (length made.cpus) (stage made.cpus before) (stage stopped.cpus after) stops.stopped first in
+    let bank : stopped.bank ≡ opened.bank = stops.bank ∙ banks in
+    let book : stopped.book ≡ opened.book = stops.book ∙ books in
+    let many : length stopped.cpus ≡ length opened.cpus = told.as_many ∙ as_many in
     let parts = parts_of 0 traces after.items in
     let found : (cpu : ℕ) (part : List Event) → slice_get parts cpu ≡ Some part → (p : Processor Scripted) × ((slice_get stopped.cpus cpu ≡ Some p) × IsToldAt cpu p part) = λ cpu part at.
     let x = parts_at 0 traces after.items cpu part at in
@@ -204,3 +209,7 @@ threads_tell answers limits script opened driven stopped traces before after clo
           let f = found cpu part at in
           (f.0.post.seat, (seat_at (λ (p : Processor Scripted). p.post.seat) stopped.cpus cpu f.0 f.1.0, f.1.1.desk, f.1.1.mails))));
     }
+
+pub threads_tell : (answers : CpuId → ℕ → Bool → Type 0) (limits : Limits) (script : Script) (opened driven stopped : Rig) (traces : List (Vec Event Global)) (before after : Vec Event Global) (closed : Closed) → IsOpenedMachine script opened → IsDrivenMachine answers limits opened driven traces → before.items ≡ [] → StopsAll driven stopped before after → IsClosedMachine stopped closed → TellTheRuns opened closed (parts_of 0 traces after.items)
+threads_tell answers limits script opened driven stopped traces before after closed opens drives none stops closes =
+    rest_tells opened driven stopped traces before after closed drives.cpus.traces_are drives.bank drives.book (told_all answers limits script opened driven traces before opens drives none) stops closes

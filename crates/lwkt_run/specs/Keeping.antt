@@ -1,0 +1,50 @@
+-- What is kept of a run beside its trace (own).
+use Rattle.std.specs.Prelude.{◌≡◌, ℕ, ◌+◌, ◌==◌, if◌then◌else◌, List, [], ◌∷◌, ◌++◌, length, min, Option, Some, None, option_map}
+use Rattle.std.specs.Option.{option_map_or}
+use Rattle.lwkt_base.specs.declared.asks.Answer.{Answer}
+use Rattle.lwkt_core.specs.Machine.{changed}
+use Rattle.lwkt_verdict.specs.declared.turns.Poll.{Poll}
+use Rattle.lwkt_verdict.specs.declared.turns.Turn.{Turn}
+use Rattle.lwkt_verdict.specs.Threads.{slot_of}
+use Rattle.lwkt_run.specs.declared.polled.Polled.{Polled}
+
+-- what is kept of a run: the processor of each turn, the turns in order, and their polls
+pub record Kept : Type 0 where
+  pub order : List ℕ
+  pub turns : List Turn
+  pub polls : List Poll
+
+abbrev pub kept_as : List ℕ → List Turn → List Poll → Kept
+kept_as order turns polls = record { order = order; turns = turns; polls = polls }
+
+abbrev pub none_kept : Kept
+none_kept = kept_as [] [] []
+
+-- the place of the last poll of a thread among some polls
+abbrev pub last_place : ℕ → List Poll → Option ℕ
+last_place slot [] = None
+last_place slot (q ∷ polls) = option_map_or (λ place. Some (place + 1)) (last_place slot polls) (if slot_of q.thread == slot then Some 0 else None)
+
+-- a poll with its answer
+abbrev pub with_answer : Answer → Poll → Poll
+with_answer told q = record q { answer = Some told }
+
+-- polls, of which the last one of a thread, if it has one, gets its answer
+abbrev pub answered : ℕ → Answer → List Poll → List Poll
+answered slot told polls = option_map_or (λ place. changed (with_answer told) polls place) (last_place slot polls) polls
+
+-- the polls after a turn, by what it asked: where it polled a thread, that thread's last poll before has the answer that it was given
+-- now, and behind all stands the new one, without an answer
+abbrev pub polls_after : Option Polled → List Poll → List Poll
+polls_after None polls = polls
+polls_after (Some p) polls = answered (slot_of p.thread) p.told polls ++ record { answer = None; ask = p.asked; thread = p.thread } ∷ []
+
+-- a turn of so many events, by what it asked, where there were so many polls before: the place of its poll, as far as 32 bits go
+abbrev pub turn_of : Option Polled → ℕ → ℕ → Turn
+turn_of asks events before = record { poll = option_map (λ p. min before 4294967295) asks; events = events }
+
+-- a turn of a processor is kept: its processor, its number of events and its poll, and nothing else changes
+pub record Keeps (cpu events : ℕ) (asks : Option Polled) (old new : Kept) : Type 0 where
+  pub order : new.order ≡ old.order ++ cpu ∷ []
+  pub turns : new.turns ≡ old.turns ++ turn_of asks events (length old.polls) ∷ []
+  pub polls : new.polls ≡ polls_after asks old.polls
