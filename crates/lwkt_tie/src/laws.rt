@@ -27,6 +27,7 @@ pub fn states_are_sound(bank: &Bank)
     headline::runs_are_compatible();
     headline::runs_keep_laws();
     bank_laws::bank_keeps_that_rule();
+    // That the bank's table is one of this rule, its type says.
     let _table: &Shared<Blob, View, Key, BankRule> = bank.shared();
 }
 
@@ -38,5 +39,6 @@ pub fn book_states_are_sound(book: &MsgBook)
     book_laws::rule_shows_safety();
     book_laws::states_are_reached();
     book_laws::book_keeps_that_rule();
+    // That the book's table is one of this rule, its type says.
     let _table: &Shared<Rec, MailView, MailKey, BookRule> = book.shared();
 }
