@@ -35,8 +35,8 @@ use Rattle.lwkt_run.specs.Values.{is_tally}
 use Rattle.lwkt_run.specs.Run.{ShowsClosing, end_told, TellsBy, SaysAfterRun, status_of, AsksTurns}
 
 -- the closing values and lines of threads of a run on threads: the script's machine was opened, and its processors were driven, each
--- making turns where the gate may have said so, until a limit of the script was reached, the gate said no, every thread had ended, or it
--- found that no turn could change anything; the lines show how the threads stood then; the machine stopped, and its bank and its book were closed with these values. What each
+-- making turns where the gate may have said so, until a limit of the script was reached, the gate said no, every thread of its own
+-- had ended, or it found that no turn could change anything; the lines show how the threads stood then; the machine stopped, and its bank and its book were closed with these values. What each
 -- processor did, in its turns and then in its stop, are the parts of one run of the model on tokens and of one on messages, from the
 -- script's opening to these values, and so of one run of the whole machine (own)
 pub record RunsOnThreads (answers : CpuId → ℕ → Bool → Type 0) (script : Script) (lines : List ThreadLine) (last : Final) : Type 0 where

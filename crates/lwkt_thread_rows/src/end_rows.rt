@@ -48,6 +48,13 @@ pub const ROUND_OF_CALLS: &[u8] =
 const ROUND_OF_CALLS_REPORT: &[u8] =
     b"message 0 round 1 rest\nmessage 1 round 1 rest\nmessage 2 round 1 rest\nthread 0.0 exited list - log r=0:0:11 q=2:3:30\nthread 1.0 exited list - log q=0:1:10 r=1:0:22\nthread 2.0 exited list - log q=1:2:20 r=2:0:33\nclosed\n";
 
+// 1.0 ends at once; 0.0 calls it later, and is answered by the port of a thread that has ended.
+const CALLS_AN_ENDED_ONE: &[u8] =
+    b"{\"version\":1,\"turns\":50,\"idle\":100000000,\"cpus\":2,\"tokens\":[],\"messages\":[{\"of\":[0,0],\"round\":0}],\"threads\":[{\"cpu\":0,\"repeat\":1,\"steps\":[[\"yield\"],[\"yield\"],[\"do\",0,1,0,1,10]]},{\"cpu\":1,\"repeat\":1,\"steps\":[]}]}";
+
+const CALLS_AN_ENDED_ONE_REPORT: &[u8] =
+    b"message 0 round 1 rest\nthread 0.0 exited list - log r=0:30:0\nthread 1.0 exited list - log -\nclosed\n";
+
 // A run through a gate: how it ends, and its report.
 fn run<R: Threads + Sync, G: Gate + Sync>(
     rt: &R,
@@ -149,5 +156,22 @@ fn a_slow_processor_is_waited_for(rt: HostRuntime) -> Result<(), Fail> {
             )
         );
     }
+    Ok(())
+}
+
+// A processor whose own threads have ended goes on until those of the others have too: it still answers them.
+#[test]
+fn an_ended_processor_answers_others(rt: HostRuntime) -> Result<(), Fail> {
+    let gate = Slow(CpuId(0));
+    assert!(rt;
+        ends_as(
+            &rt,
+            rt.alloc(),
+            CALLS_AN_ENDED_ONE,
+            &gate,
+            End::Ended,
+            CALLS_AN_ENDED_ONE_REPORT
+        )
+    );
     Ok(())
 }
