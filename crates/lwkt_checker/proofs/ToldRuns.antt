@@ -1,9 +1,6 @@
 -- The events that are told, one after another.
 use Rattle.std.proofs.Common.{zero, suc, ◌≡◌, ◌<◌, ◌≤◌, ℕ, List, [], ◌∷◌, length, get_or, take, take_all, refl, ap, sym, ◌∙◌, subst, arith, Option, Some, None}
-use Rattle.std.specs.Prelude.{◌+◌, slice_get, IsSomeAnd, MatchOption, Result, IfOk, String, string_bytes}
-use Rattle.std.proofs.lemmas.Option.{slice_get-get_or}
-use Rattle.std.specs.declared.alloc.Global.{Global}
-use Rattle.std.specs.declared.alloc.AllocError.{AllocError}
+use Rattle.std.specs.Prelude.{◌+◌, slice_get, IsSomeAnd}
 use Rattle.std.specs.Option.{option_map_or}
 use Rattle.lwkt_base.specs.declared.names.CpuId.{CpuId}
 use Rattle.lwkt_base.specs.declared.names.TokId.{TokId}
@@ -18,8 +15,6 @@ use Rattle.lwkt_core.proofs.TraceLemmas.{Run_more, Run_all, StopsAt-event}
 use Rattle.lwkt_trace.specs.declared.traces.Told.{Told}
 use Rattle.lwkt_trace.specs.declared.traces.Told.TheVariants.{Whole, Given}
 use Rattle.lwkt_checker.specs.Told.{no_section, event_told, events_told, IsTold, ToldIsOnly}
-use Rattle.lwkt_checker.specs.Said.{IsReason, SaysWhy}
-use Rattle.lwkt_checker.specs.declared.judges.Finding.TheVariants.{Unlawful}
 
 -- as many events as are told
 pub length-events_told : (m : Machine) (told : List Told) → length (events_told m told) ≡ length told
@@ -79,20 +74,3 @@ pub ran_whole : (m : Machine) (told : List Told) (mid : Machine) → Run m (even
 ran_whole m told mid run =
     let long = length-events_told m told in
     subst (λ (es : List Event). Run m es mid) (sym (take_all (length told) (events_told m told) (omega arith))) run
-
--- the line of an index, where there is an event of it
-abbrev pub Explains : Machine → List Told → ℕ → List ℕ → Type 0
-Explains mid told index text = MatchOption (slice_get told index) (Unit {0}) (λ t. IsReason mid index t text)
-
-explained : (m mid : Machine) (told : List Told) (index : ℕ) (text : List ℕ) (o : Option Told) → Run m (take index (events_told m told)) mid → MatchOption o (Unit {0}) (λ t. IsReason mid index t text)
-    → MatchOption o (Unit {0}) (λ t. (k : Machine) × (Run m (take index (events_told m told)) k × IsReason k index t text))
-explained m mid told index text None run why = why
-explained m mid told index text (Some t) run why = (mid, (run, why))
-
--- a line that explains the index in the machine that the events before it lead to says why
-pub says_why : (m mid : Machine) (told : List Told) (index : ℕ) (why : String Global) → Run m (take index (events_told m told)) mid → Explains mid told index (string_bytes why) → SaysWhy m told (Unlawful index why)
-says_why m mid told index why run says = explained m mid told index (string_bytes why) (slice_get told index) run says
-
--- the reason of the event of an index
-pub explains_at : (mid : Machine) (told : List Told) (index : ℕ) (t : Told) (text : List ℕ) → index < length told → t ≡ get_or told index t → IsReason mid index t text → Explains mid told index text
-explains_at mid told index t text inside is why = subst (λ (o : Option Told). MatchOption o (Unit {0}) (λ u. IsReason mid index u text)) (sym (slice_get-get_or told index t inside ∙ ap (λ (u : Told). Some u) (sym is))) why
