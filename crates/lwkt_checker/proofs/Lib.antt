@@ -1,2 +1,3 @@
 pub mod ToldRuns
 pub mod Tellings
+pub mod Sayings

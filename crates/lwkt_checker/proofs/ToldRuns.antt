@@ -1,5 +1,5 @@
 -- The events that are told, one after another.
-use Rattle.std.proofs.Common.{zero, suc, ◌≡◌, ◌<◌, ◌≤◌, ℕ, List, [], ◌∷◌, length, get_or, take, refl, ap, sym, ◌∙◌, subst, arith, Option, Some, None}
+use Rattle.std.proofs.Common.{zero, suc, ◌≡◌, ◌<◌, ◌≤◌, ℕ, List, [], ◌∷◌, length, get_or, take, take_all, refl, ap, sym, ◌∙◌, subst, arith, Option, Some, None}
 use Rattle.std.specs.Prelude.{◌+◌, slice_get, IsSomeAnd}
 use Rattle.std.specs.Option.{option_map_or}
 use Rattle.lwkt_base.specs.declared.names.CpuId.{CpuId}
@@ -68,3 +68,9 @@ only_told m n (x ∷ xs) (e ∷ es) are run =
     let same : e ≡ event_told m x = only_event m x e are.0 run.1.0.0 in
     let rest : es ≡ events_told (after m e) xs = only_told (after m e) n xs es are.1 (subst (λ (k : Machine). Run k es n) run.1.0.1 run.1.1) in
     ap (λ (fs : List Event). e ∷ fs) rest ∙ ap (λ (f : Event). f ∷ events_told (after m f) xs) same
+
+-- of all events the first are all of them
+pub ran_whole : (m : Machine) (told : List Told) (mid : Machine) → Run m (events_told m told) mid → Run m (take (length told) (events_told m told)) mid
+ran_whole m told mid run =
+    let long = length-events_told m told in
+    subst (λ (es : List Event). Run m es mid) (sym (take_all (length told) (events_told m told) (omega arith))) run

@@ -11,7 +11,9 @@ use Rattle.lwkt_core.specs.Trace.{CanHappen, IsLawfulTrace, StopsAt, FailsAt}
 use Rattle.lwkt_trace.specs.declared.traces.Closing.{Closing}
 use Rattle.lwkt_trace.specs.declared.traces.Trace.{Trace}
 use Rattle.lwkt_trace.specs.Format.{trace_of}
+use Rattle.lwkt_trace.specs.declared.traces.Told.{Told}
 use Rattle.lwkt_checker.specs.Told.{events_told}
+use Rattle.lwkt_checker.specs.Said.{SaysWhy}
 use Rattle.lwkt_checker.specs.declared.judges.Finding.{Finding}
 use Rattle.lwkt_checker.specs.declared.judges.Finding.TheVariants.{Lawful, Unlawful}
 
@@ -42,9 +44,13 @@ Finds m events (Some last) Lawful = IsLawfulTrace m events last
 Finds m events None (Unlawful index why) = (mid : Machine) × StopsAt m events index mid
 Finds m events (Some last) (Unlawful index why) = FailsAt m events last index
 
--- the finding is true of the events that the trace tells
+-- a finding is true of the events that are told from a machine on, and its line says why
+abbrev pub FindsWhy : Machine → List Told → Option Final → Finding → Type 0
+FindsWhy m told last finding = Finds m (events_told m told) last finding × SaysWhy m told finding
+
+-- the finding is true of the events that the trace tells, and its line says why
 abbrev pub IsFound : Trace → Finding → Type 0
-IsFound trace finding = (last : Option Final) × (AreClosing trace.last last × Finds (opening_of trace) (events_told (opening_of trace) trace.events) last finding)
+IsFound trace finding = (last : Option Final) × (AreClosing trace.last last × FindsWhy (opening_of trace) trace.events last finding)
 
 -- why a trace is refused
 abbrev pub Declines : Trace → Refusal → Type 0

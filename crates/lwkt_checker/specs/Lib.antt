@@ -1,3 +1,4 @@
 pub mod Told
 pub mod Judgement
 pub mod Output
+pub mod Said

@@ -1,27 +1,77 @@
-use lwkt_base::{CpuId, Held, Mode};
+ghost use Rattle.std.specs.Prelude.{◌≡◌, ◌++◌, false, OnOk, string_bytes};
+ghost use Rattle.lwkt_checker.specs.Said.{is_in, before_said, mode_said, are_idle, exclusive_said, shared_said, holders_said};
+
+use lwkt_base::{Held, Mode};
 use lwkt_core::Token;
 use std::alloc::AllocError;
 
-// Appends the processors that hold a token in a mode, after the words for it.
-fn show_mode(out: &mut String, token: &Token, mode: Mode, words: &str) -> Result<(), AllocError> {
-    let mut before = words;
-    for cpu in 0..8u8 {
-        match token.held_by(CpuId(cpu)) {
-            Held::Holds(held, _) if held == mode => {
-                write!(out, "{}{}", before, cpu)?;
-                before = ", ";
-            }
-            _ => {}
+// Whether a holding is in a mode.
+fn is_in(mode: Mode, held: Held) -> bool
+    ensures { result ≡ is_in mode held }
+{
+    matches!(
+        (mode, held),
+        (Mode::Exclusive, Held::Holds(Mode::Exclusive, _))
+            | (Mode::Shared, Held::Holds(Mode::Shared, _))
+    )
+}
+
+// Appends what stands before a processor: some words before the first, a comma before each further one.
+fn show_before(out: &mut String, words: &str, found: bool) -> Result<(), AllocError>
+    ensures { OnOk result (string_bytes out.new ≡ string_bytes out.old ++ before_said words.now found) }
+{
+    if found {
+        out.push_str(", ")
+    } else {
+        out.push_str(words)
+    }
+}
+
+// Appends the processors that hold a token in a mode, behind some words.
+fn show_mode(out: &mut String, holders: &[Held], mode: Mode, words: &str) -> Result<(), AllocError>
+    ensures { OnOk result (string_bytes out.new ≡ string_bytes out.old ++ mode_said mode words.now false 0 holders.now) }
+{
+    let mut found = false;
+    for (cpu, held) in holders.iter().enumerate() {
+        if is_in(mode, *held) {
+            show_before(out, words, found)?;
+            write!(out, "{cpu}")?;
+            found = true;
         }
     }
     Ok(())
 }
 
+// Whether nobody holds anything.
+fn are_idle(holders: &[Held]) -> bool
+    ensures { result ≡ are_idle holders.now }
+{
+    holders.iter().all(|held| !held.is_held())
+}
+
+// Appends who holds a token exclusively.
+#[tactic(auto, unfolding(crate::specs::Said::exclusive_said))]
+fn show_exclusive(out: &mut String, holders: &[Held]) -> Result<(), AllocError>
+    ensures { OnOk result (string_bytes out.new ≡ string_bytes out.old ++ exclusive_said holders.now) }
+{
+    show_mode(out, holders, Mode::Exclusive, "held exclusively by ")
+}
+
+// Appends who holds a token shared.
+#[tactic(auto, unfolding(crate::specs::Said::shared_said))]
+fn show_shared(out: &mut String, holders: &[Held]) -> Result<(), AllocError>
+    ensures { OnOk result (string_bytes out.new ≡ string_bytes out.old ++ shared_said holders.now) }
+{
+    show_mode(out, holders, Mode::Shared, "held shared by ")
+}
+
 /// Appends who holds a token: `held shared by 0, 2`, or `held by nobody`.
-pub fn show_holders(out: &mut String, token: &Token) -> Result<(), AllocError> {
-    if token.is_free() {
+pub fn show_holders(out: &mut String, token: &Token) -> Result<(), AllocError>
+    ensures { OnOk result (string_bytes out.new ≡ string_bytes out.old ++ holders_said token.now) }
+{
+    if are_idle(&token.holders) {
         return out.push_str("held by nobody");
     }
-    show_mode(out, token, Mode::Exclusive, "held exclusively by ")?;
-    show_mode(out, token, Mode::Shared, "held shared by ")
+    show_exclusive(out, &token.holders)?;
+    show_shared(out, &token.holders)
 }

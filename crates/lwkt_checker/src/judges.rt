@@ -1,6 +1,6 @@
-ghost use Rattle.std.specs.Prelude.{◌≡◌, None, Some, IfOk, IfErr, string_bytes};
-ghost use Rattle.lwkt_checker.specs.Told.{events_told};
-ghost use Rattle.lwkt_checker.specs.Judgement.{opening_of, AreClosing, Finds, IsFound, Declines, finding_text};
+ghost use Rattle.std.specs.Prelude.{◌≡◌, ◌<◌, None, Some, IfOk, IfErr, MatchOption, length, slice_get, string_bytes};
+ghost use Rattle.lwkt_checker.specs.Said.{IsReason};
+ghost use Rattle.lwkt_checker.specs.Judgement.{opening_of, AreClosing, FindsWhy, IsFound, Declines, finding_text};
 
 use crate::differences::difference;
 use crate::lacks::reason;
@@ -43,6 +43,19 @@ fn last_of(last: Option<Closing>) -> Option<Final>
     }
 }
 
+// Why the event of an index can't happen in a state.
+fn reason_at(
+    alloc: Global,
+    state: &State,
+    events: &[Told],
+    index: usize,
+) -> Result<String, AllocError>
+    requires { index < length events.now }
+    ensures { IfOk result (λ why. MatchOption (slice_get events.now index) (Unit {0}) (λ told. IsReason state.now index told (string_bytes why))) }
+{
+    reason(alloc, state, index, &events[index])
+}
+
 // What is said of the state in which events fail at an index.
 fn why_of(
     alloc: Global,
@@ -50,7 +63,9 @@ fn why_of(
     events: &[Told],
     index: usize,
     last: &Final,
-) -> Result<String, AllocError> {
+) -> Result<String, AllocError>
+    ensures { IfOk result (λ why. MatchOption (slice_get events.now index) (Unit {0}) (λ told. IsReason state.now index told (string_bytes why))) }
+{
     match events.get(index) {
         Some(told) => reason(alloc, state, index, told),
         None => difference(alloc, state, last),
@@ -59,14 +74,14 @@ fn why_of(
 
 // What events alone are found to be, from an opening state.
 fn found_alone(alloc: Global, opening: State, events: &[Told]) -> Result<Finding, AllocError>
-    ensures { IfOk result (λ finding. Finds opening (events_told opening events.now) None finding) }
+    ensures { IfOk result (λ finding. FindsWhy opening events.now None finding) }
 {
     let mut state = opening;
     match play_told(&mut state, events) {
         Ok(()) => Ok(Finding::Lawful),
         Err(index) => Ok(Finding::Unlawful {
             index,
-            why: reason(alloc, &state, index, &events[index])?,
+            why: reason_at(alloc, &state, events, index)?,
         }),
     }
 }
@@ -78,7 +93,7 @@ fn found_closing(
     events: &[Told],
     last: &Final,
 ) -> Result<Finding, AllocError>
-    ensures { IfOk result (λ finding. Finds opening (events_told opening events.now) (Some last.now) finding) }
+    ensures { IfOk result (λ finding. FindsWhy opening events.now (Some last.now) finding) }
 {
     let mut state = opening;
     match play_told_to_close(&mut state, events, last) {
@@ -97,7 +112,7 @@ fn found(
     events: &[Told],
     last: &Option<Final>,
 ) -> Result<Finding, AllocError>
-    ensures { IfOk result (λ finding. Finds opening (events_told opening events.now) last.now finding) }
+    ensures { IfOk result (λ finding. FindsWhy opening events.now last.now finding) }
 {
     match last {
         None => found_alone(alloc, opening, events),

@@ -1,6 +1,11 @@
+ghost use Rattle.std.specs.Prelude.{◌≡◌, ◌++◌, OnOk, IfOk, slice_get, string_bytes};
+ghost use Rattle.lwkt_checker.specs.Told.{event_told};
+ghost use Rattle.lwkt_checker.specs.Said.{rows_said, records_said, unwritten_record_said, value_said, cell_said, raised_said, length_said, law_said, broken_said, own_said, token_lack_said, message_lack_said, place_lack_said, lack_said, some_lack_said, reason_text, IsReason};
+ghost use Rattle.lwkt_core.specs.Events.{place_of};
+
 use crate::holdings::show_holders;
 use crate::plays::event_told;
-use crate::words::{show_owner, show_record, show_section, show_told};
+use crate::words::{say, show_owner, show_record, show_section, show_told};
 use lwkt_base::Law;
 use lwkt_core::{Event, Lack, Message, State, Token};
 use lwkt_trace::Told;
@@ -8,7 +13,10 @@ use lwkt_trace::words::{Subject, law_name, show_numbers, subject_of};
 use std::alloc::{AllocError, Global};
 
 // Appends the row and the first row of a token.
-fn show_rows(out: &mut String, token: &Token) -> Result<(), AllocError> {
+#[tactic(auto, unfolding(crate::specs::Said::rows_said))]
+fn show_rows(out: &mut String, token: &Token) -> Result<(), AllocError>
+    ensures { OnOk result (string_bytes out.new ≡ string_bytes out.old ++ rows_said token.now) }
+{
     out.push_str("the row is")?;
     show_numbers(out, token.row.as_slice())?;
     out.push_str(" and was at the beginning of the section")?;
@@ -16,57 +24,101 @@ fn show_rows(out: &mut String, token: &Token) -> Result<(), AllocError> {
 }
 
 // Appends the record and the first record of a token.
-fn show_records(out: &mut String, token: &Token) -> Result<(), AllocError> {
+#[tactic(auto, unfolding(crate::specs::Said::records_said))]
+fn show_records(out: &mut String, token: &Token) -> Result<(), AllocError>
+    ensures { OnOk result (string_bytes out.new ≡ string_bytes out.old ++ records_said token.now) }
+{
     out.push_str("it has ")?;
     show_record(out, &token.blob)?;
     out.push_str(" and had at the beginning of the section ")?;
     show_record(out, &token.first_blob)
 }
 
-// Appends that neither the row nor, where there is one, the record of a token has changed.
-fn show_unwritten(out: &mut String, token: &Token) -> Result<(), AllocError> {
-    show_rows(out, token)?;
-    if token.blob.is_some() {
-        out.push_str(", and ")?;
-        show_records(out, token)?;
+// Appends that the record hasn't changed, where there is one.
+fn show_unwritten_record(out: &mut String, token: &Token) -> Result<(), AllocError>
+    ensures { OnOk result (string_bytes out.new ≡ string_bytes out.old ++ unwritten_record_said token.now) }
+{
+    if token.blob.is_none() {
+        return Ok(());
     }
-    Ok(())
+    out.push_str(", and ")?;
+    show_records(out, token)
+}
+
+// Appends that neither the row nor, where there is one, the record of a token has changed.
+fn show_unwritten(out: &mut String, token: &Token) -> Result<(), AllocError>
+    ensures { OnOk result (string_bytes out.new ≡ string_bytes out.old ++ rows_said token.now ++ unwritten_record_said token.now) }
+{
+    show_rows(out, token)?;
+    show_unwritten_record(out, token)
+}
+
+// Appends the value of a cell, or how many there are.
+fn show_value(out: &mut String, row: &[u64], cell: u8) -> Result<(), AllocError>
+    ensures { OnOk result (string_bytes out.new ≡ string_bytes out.old ++ value_said row.now (slice_get row.now cell)) }
+{
+    match row.get(cell as usize) {
+        Some(value) => write!(out, "the cell has {value}"),
+        None => write!(out, "it has {} cells", row.len()),
+    }
 }
 
 // Appends the value of the cell that an event is at.
-fn show_cell(out: &mut String, token: &Token, event: &Event) -> Result<(), AllocError> {
+fn show_cell(out: &mut String, token: &Token, event: &Event) -> Result<(), AllocError>
+    ensures { OnOk result (string_bytes out.new ≡ string_bytes out.old ++ cell_said token.now event.now) }
+{
     match *event {
         Event::Read { cell, .. } | Event::Write { cell, .. } => {
-            match token.row.as_slice().get(cell as usize) {
-                Some(value) => write!(out, "the cell has {value}"),
-                None => write!(out, "it has {} cells", token.row.as_slice().len()),
-            }
+            show_value(out, token.row.as_slice(), cell)
         }
         _ => Ok(()),
     }
+}
+
+// Appends the value of the cell that an event is at, which is more than its own.
+fn show_raised(out: &mut String, token: &Token, event: &Event) -> Result<(), AllocError>
+    ensures { OnOk result (string_bytes out.new ≡ string_bytes out.old ++ raised_said token.now event.now) }
+{
+    show_cell(out, token, event)?;
+    say(out, ", and a tally is only raised")
+}
+
+// Appends the length of a token's record, where its law is of it.
+fn show_length(out: &mut String, token: &Token) -> Result<(), AllocError>
+    ensures { OnOk result (string_bytes out.new ≡ string_bytes out.old ++ length_said token.now.law token.now.blob) }
+{
+    match (token.law, token.blob) {
+        (Law::Len, Some(blob)) => write!(out, ", the record has {} bytes", blob.len()),
+        _ => Ok(()),
+    }
+}
+
+// Appends the law that a row breaks.
+#[tactic(auto, unfolding(crate::specs::Said::law_said))]
+fn show_law(out: &mut String, law: Law, param: u64) -> Result<(), AllocError>
+    ensures { OnOk result (string_bytes out.new ≡ string_bytes out.old ++ law_said law param) }
+{
+    say(out, " breaks the law ")?;
+    out.push_str(law_name(law))?;
+    write!(out, " {param}")
 }
 
 // Appends the law of a token, and the row that breaks it.
-fn show_broken(out: &mut String, token: &Token) -> Result<(), AllocError> {
+#[tactic(auto, unfolding(crate::specs::Said::broken_said))]
+fn show_broken(out: &mut String, token: &Token) -> Result<(), AllocError>
+    ensures { OnOk result (string_bytes out.new ≡ string_bytes out.old ++ broken_said token.now) }
+{
     out.push_str("the row")?;
     show_numbers(out, token.row.as_slice())?;
-    write!(
-        out,
-        " breaks the law {} {}",
-        law_name(token.law),
-        token.param
-    )?;
-    match token.blob {
-        Some(blob) if token.law == Law::Len => {
-            write!(out, ", the record has {} bytes", blob.len())
-        }
-        _ => Ok(()),
-    }
+    show_law(out, token.law, token.param)?;
+    show_length(out, token)
 }
 
 // Appends the section of a token that would end now.
-fn show_own_section(out: &mut String, token: &Token) -> Result<(), AllocError> {
-    out.push_str("the section is of ")?;
+fn show_own_section(out: &mut String, token: &Token) -> Result<(), AllocError>
+    ensures { OnOk result (string_bytes out.new ≡ string_bytes out.old ++ own_said token.now) }
+{
+    say(out, "the section is of ")?;
     show_section(
         out,
         token.generation,
@@ -81,7 +133,9 @@ fn show_token_lack(
     token: &Token,
     event: &Event,
     lack: Lack,
-) -> Result<(), AllocError> {
+) -> Result<(), AllocError>
+    ensures { OnOk result (string_bytes out.new ≡ string_bytes out.old ++ token_lack_said token.now event.now lack) }
+{
     match lack {
         Lack::LastGeneration => write!(out, "its generation {} is the last", token.generation),
         Lack::LastExclusive => out.push_str("it is the last reference of an exclusive holding"),
@@ -102,10 +156,7 @@ fn show_token_lack(
         Lack::LawBroken => show_broken(out, token),
         Lack::OtherSection => show_own_section(out, token),
         Lack::NoCell | Lack::OtherValue => show_cell(out, token, event),
-        Lack::LessThanBefore => {
-            show_cell(out, token, event)?;
-            out.push_str(", and a tally is only raised")
-        }
+        Lack::LessThanBefore => show_raised(out, token, event),
         _ => show_holders(out, token),
     }
 }
@@ -116,12 +167,16 @@ fn show_message_lack(
     message: &Message,
     cpus: usize,
     lack: Lack,
-) -> Result<(), AllocError> {
-    if lack == Lack::NoTarget {
-        return write!(out, "there are {cpus} processors");
+) -> Result<(), AllocError>
+    ensures { OnOk result (string_bytes out.new ≡ string_bytes out.old ++ message_lack_said message.now cpus lack) }
+{
+    match lack {
+        Lack::NoTarget => write!(out, "there are {cpus} processors"),
+        _ => {
+            show_owner(out, message.owner)?;
+            write!(out, ", round {}", message.round)
+        }
     }
-    show_owner(out, message.owner)?;
-    write!(out, ", round {}", message.round)
 }
 
 // Appends why what an event is at doesn't meet a need of it.
@@ -130,7 +185,9 @@ fn show_place_lack(
     state: &State,
     event: &Event,
     lack: Lack,
-) -> Result<(), AllocError> {
+) -> Result<(), AllocError>
+    ensures { OnOk result (string_bytes out.new ≡ string_bytes out.old ++ place_lack_said state.now event.now lack (place_of event.now)) }
+{
     match subject_of(event) {
         Subject::Token(tok) => match state.token(tok) {
             Some(token) => show_token_lack(out, token, event, lack),
@@ -144,7 +201,9 @@ fn show_place_lack(
 }
 
 // Appends which need of an event isn't met.
-fn show_lack(out: &mut String, state: &State, event: &Event, lack: Lack) -> Result<(), AllocError> {
+fn show_lack(out: &mut String, state: &State, event: &Event, lack: Lack) -> Result<(), AllocError>
+    ensures { OnOk result (string_bytes out.new ≡ string_bytes out.old ++ lack_said state.now event.now lack) }
+{
     match lack {
         Lack::NoProcessor => write!(out, "there are {} processors", state.cpus()),
         Lack::TooManyReferences => out.push_str("the processor has 32 references"),
@@ -152,21 +211,47 @@ fn show_lack(out: &mut String, state: &State, event: &Event, lack: Lack) -> Resu
     }
 }
 
-/// The line that says which need of the event that is told at an index isn't met in a state.
-pub fn reason(
+// Appends which need of an event isn't met, where one is named.
+fn show_some_lack(
+    out: &mut String,
+    state: &State,
+    event: &Event,
+    lack: Option<Lack>,
+) -> Result<(), AllocError>
+    ensures { OnOk result (string_bytes out.new ≡ string_bytes out.old ++ some_lack_said state.now event.now lack) }
+{
+    match lack {
+        None => Ok(()),
+        Some(lack) => show_lack(out, state, event, lack),
+    }
+}
+
+// The line of an index, the event that is told there, and a need of it.
+#[tactic(auto, unfolding(crate::specs::Said::reason_text))]
+fn line_of(
     alloc: Global,
     state: &State,
     index: usize,
     told: &Told,
-) -> Result<String, AllocError> {
+    lack: Option<Lack>,
+) -> Result<String, AllocError>
+    ensures { IfOk result (λ text. string_bytes text ≡ reason_text state.now index told.now lack) }
+{
     let event = event_told(state, told);
     let mut out = String::new(alloc);
     write!(out, "event {index}: ")?;
     show_told(&mut out, &event, told)?;
     out.push_str(": ")?;
-    if let Some(lack) = state.lack(&event) {
-        show_lack(&mut out, state, &event, lack)?;
-    }
+    show_some_lack(&mut out, state, &event, lack)?;
     out.push_str("\n")?;
     Ok(out)
+}
+
+/// The line that says which need of the event that is told at an index isn't met in a state.
+pub fn reason(alloc: Global, state: &State, index: usize, told: &Told) -> Result<String, AllocError>
+    ensures { IfOk result (λ text. IsReason state.now index told.now (string_bytes text)) }
+{
+    let event = event_told(state, told);
+    let lack = state.lack(&event);
+    line_of(alloc, state, index, told, lack)
 }

@@ -1,4 +1,4 @@
-ghost use Rattle.std.specs.Prelude.{◌≡◌, ◌<◌, ◌≤◌, length, OnOk, IfErr};
+ghost use Rattle.std.specs.Prelude.{◌≡◌, ◌<◌, ◌≤◌, length, take, OnOk, IfErr};
 ghost use Rattle.lwkt_core.specs.Tokens.{section_at};
 ghost use Rattle.lwkt_core.specs.Trace.{Run, IsLawfulTrace, StopsAt, FailsAt};
 ghost use Rattle.lwkt_checker.specs.Told.{section_now, event_told, events_told, ToldIsOnly};
@@ -78,6 +78,7 @@ pub fn play_told(state: &mut State, told: &[Told]) -> Result<(), usize>
 pub fn play_told_to_close(state: &mut State, told: &[Told], last: &Final) -> Result<(), usize>
     ensures lawful { OnOk result (IsLawfulTrace state.old (events_told state.old told.now) last.now) }
     ensures failed { IfErr result (λ index. FailsAt state.old (events_told state.old told.now) last.now index) }
+    ensures left { IfErr result (λ index. Run state.old (take index (events_told state.old told.now)) state.new) }
 {
     match play_told(state, told) {
         Ok(()) => {}

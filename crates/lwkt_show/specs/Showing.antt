@@ -1,9 +1,9 @@
 -- What the program shows of a run (own).
-use Rattle.std.specs.Prelude.{◌≡◌, ◌≤◌, ℕ, Bool, length, List, Option, Result, Ok, Err}
-use Rattle.std.specs.Io.KnownBytes.{Keeps}
-use Rattle.lwkt_report.specs.declared.closings.Closing.{Closing}
+use Rattle.std.specs.Prelude.{◌≡◌, ◌≤◌, ℕ, Bool, length, List, codes, Option, Result, Ok, Err}
+use Rattle.std.specs.Io.KnownBytes.{Appends, Keeps}
 use Rattle.lwkt_report.specs.declared.streams.RunFault.{RunFault}
 use Rattle.lwkt_report.specs.declared.streams.RunFault.TheVariants.{Fault, Stream}
+use Rattle.lwkt_report.specs.Complaint.{IsSaid}
 use Rattle.lwkt_report.specs.Stream.{BlamesFailed}
 use Rattle.lwkt_run.specs.Run.{AreRead, IsTurnsRun, IsOrderRun, RefusesAlong, end_told, TellsBy, status_of}
 use Rattle.lwkt_run.specs.Threaded.{IsThreadRecord, lets_all}
@@ -13,25 +13,27 @@ use Rattle.lwkt_run.specs.declared.threaded.ThreadRecord.{ThreadRecord}
 use Rattle.lwkt_script.specs.declared.scripts.Script.{Script}
 use Rattle.lwkt_script.specs.Format.{script_of}
 use Rattle.lwkt_scenes.specs.Shown.{EndsInReport, first_turn}
+use Rattle.lwkt_trace.specs.Written.{trace_text}
 use Rattle.lwkt_show.specs.declared.options.Options.{Options}
 use Rattle.lwkt_show.specs.declared.options.View.{View}
 use Rattle.lwkt_show.specs.declared.options.View.TheVariants.{Lines, Trace, Picture, Chains}
 use Rattle.lwkt_show.specs.declared.programs.Outcome.{Outcome}
 use Rattle.lwkt_show.specs.declared.programs.Outcome.TheVariants.{Shown, Past}
 
--- what is said of a text that shows what was kept: lines end with the report; of the other views nothing is said
-abbrev pub ShowsAs : View → Closing → List ℕ → Type 0
-ShowsAs Lines closing text = EndsInReport closing text
-ShowsAs Trace closing text = Unit {0}
-ShowsAs Picture closing text = Unit {0}
-ShowsAs Chains closing text = Unit {0}
+-- what is said of a text that shows what was kept: lines end with the report; a trace is the text of the script's opening, of all events
+-- and of what the report closes with; of the other views nothing is said
+abbrev pub ShowsAs : View → TurnsRun → List ℕ → Type 0
+ShowsAs Lines run text = EndsInReport run.closing text
+ShowsAs Trace run text = text ≡ trace_text run.script run.trace.items run.closing
+ShowsAs Picture run text = Unit {0}
+ShowsAs Chains run text = Unit {0}
 
 -- there is a run of the script that these bytes are, with all that was kept of it, that ends so, and the text shows it
 pub record IsShown (view : View) (bytes : List ℕ) (end : End) (text : List ℕ) : Type 0 where
   pub run : TurnsRun
   pub is_run : IsTurnsRun bytes run
   pub is_end : end ≡ end_told run.closing
-  pub shows : ShowsAs view run.closing text
+  pub shows : ShowsAs view run text
 
 -- a run ended before the first turn that was chosen
 abbrev pub IsPast : Options → TurnsRun → Type 0
@@ -80,7 +82,7 @@ pub record IsShownAlong (order : List ℕ) (view : View) (bytes : List ℕ) (end
   pub run : TurnsRun
   pub is_run : IsOrderRun bytes order run
   pub is_end : end ≡ end_told run.closing
-  pub shows : ShowsAs view run.closing text
+  pub shows : ShowsAs view run text
 
 -- there is a run along this order of the script that these bytes are that ended before the first turn that was chosen
 pub record IsPastAlong (order : List ℕ) (options : Options) (bytes : List ℕ) : Type 0 where
@@ -99,3 +101,14 @@ TellsAlong order options left old new (Err Stream) = TellsBy (IsShownAlong order
 -- what the program does where its arguments are this order and these options
 abbrev pub IsShowingAlong : List ℕ → Options → Bool → Bool → Option (List ℕ) → Option (List ℕ) → Option (List ℕ) → ℕ → Type 0
 IsShowingAlong order options source_failed sink_failed left old new status = (outcome : Result Outcome RunFault) × (TellsAlong order options left old new outcome × (BlamesFailed source_failed sink_failed outcome × (status ≡ status_shown outcome)))
+
+-- the line that is said where the arguments are none of the program's
+unfoldable pub usage_line : List ℕ
+usage_line = codes "lwkt_show: turns, and behind it --order ORDER, then --turns A..B or --rounds A..B, and --svg, --trace or --chains; or threads --chains\n"
+
+-- that line is written where errors go, or where the sink fails a front of it, and perhaps words behind it
+pub record SaysUsage (failed : Bool) (old new : Option (List ℕ)) : Type 0 where
+  pub mid : Option (List ℕ)
+  pub said : IsSaid failed old mid usage_line
+  pub words : List ℕ
+  pub behind : Appends mid new words

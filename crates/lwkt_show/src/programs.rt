@@ -1,10 +1,11 @@
 ghost use Rattle.std.specs.Prelude.{◌≡◌, ◌≤◌, ◌⊎◌, if◌then◌else◌, Err, IsTrue, IfOk, IfErr, IfSome, IsNone, length, map, string_bytes};
 ghost use Rattle.lwkt_run.specs.Run.{IsTurnsRun, Refuses};
 ghost use Rattle.lwkt_scenes.specs.Shown.{first_turn};
-ghost use Rattle.std.specs.Prelude.{ℕ, List, OnErr};
+ghost use Rattle.std.specs.Prelude.{ℕ, List, OnErr, false};
+ghost use Rattle.lwkt_report.specs.Complaint.{IsSaid};
 ghost use Rattle.lwkt_show.specs.Arguments.{AreOptions, AskThreads};
 ghost use Rattle.lwkt_show.specs.Orders.{AreAlong, AreMisused};
-ghost use Rattle.lwkt_show.specs.Showing.{ShowsAs, IsShown, IsPast, IsPastIn, TellsShown, IsShowing, IsShowingAlong, IsShowingThreads, status_shown};
+ghost use Rattle.lwkt_show.specs.Showing.{ShowsAs, IsShown, IsPast, IsPastIn, TellsShown, IsShowing, IsShowingAlong, IsShowingThreads, status_shown, usage_line, SaysUsage};
 
 use crate::alongs::show_along;
 use crate::options::{Options, View, asks_threads, options_of};
@@ -66,7 +67,7 @@ pub(crate) fn text_of(
     run: &TurnsRun,
     order: Option<&[u8]>,
 ) -> Result<String, Fault>
-    ensures shows { IfOk result (λ text. ShowsAs options.now.view run.now.closing (string_bytes text)) }
+    ensures shows { IfOk result (λ text. ShowsAs options.now.view run.now (string_bytes text)) }
 {
     let reel = Reel {
         script: &run.script,
@@ -162,15 +163,33 @@ fn status_of(outcome: &Result<Outcome, RunFault>) -> u8
     }
 }
 
+// The line that is said where the arguments are none of the program's.
+#[tactic(auto, unfolding(crate::specs::Showing::usage_line))]
+fn usage() -> &'static str
+    ensures { result.now ≡ usage_line }
+{
+    USAGE
+}
+
+// Writes a line. If that fails, a front of it stands.
+fn say_line<E: Sink>(errors: &mut E, line: &str)
+    ensures { IsSaid (E.has_failed errors.new) (E.contents errors.old) (E.contents errors.new) line.now }
+{
+    let _ = write_whole(errors, line.as_bytes());
+}
+
 /// What is said and the status where the arguments are none of the program's, or can't be told: 3 for want of memory, else 1.
 pub fn refuse_arguments<E: Sink>(errors: &mut E, memory: bool) -> u8
-    ensures { result ≡ (if memory then 3 else 1) }
+    ensures status { result ≡ (if memory then 3 else 1) }
+    ensures said { memory ≡ false → SaysUsage (E.has_failed errors.new) (E.contents errors.old) (E.contents errors.new) }
 {
-    if !memory {
-        let _ = write_whole(errors, USAGE.as_bytes());
+    if memory {
+        Speaker::Show.say_arguments(errors, true);
+        return 3;
     }
-    Speaker::Show.say_arguments(errors, memory);
-    if memory { 3 } else { 1 }
+    say_line(errors, usage());
+    Speaker::Show.say_arguments(errors, false);
+    1
 }
 
 // Says that the run ended before the range that was chosen, and how the program is called.
@@ -255,7 +274,7 @@ pub fn run_show<R: Threads + Sync, S: Source, K: Sink, E: Sink>(
     ensures shows { (options : Options) → AreOptions (map string_bytes words.now) options → IsShowing options (S.has_failed source.new) (K.has_failed sink.new) (S.left source.old) (K.contents sink.old) (K.contents sink.new) result }
     ensures threads { AskThreads (map string_bytes words.now) → IsShowingThreads (S.has_failed source.new) (K.has_failed sink.new) (S.left source.old) (K.contents sink.old) (K.contents sink.new) result }
     ensures along { (options : Options) (order : List ℕ) → AreAlong (map string_bytes words.now) options order → IsShowingAlong order options (S.has_failed source.new) (K.has_failed sink.new) (S.left source.old) (K.contents sink.old) (K.contents sink.new) result }
-    ensures usage { AreMisused (map string_bytes words.now) → (result ≡ 1) × (source.new ≡ source.old) × (sink.new ≡ sink.old) }
+    ensures usage { AreMisused (map string_bytes words.now) → (result ≡ 1) × (source.new ≡ source.old) × (sink.new ≡ sink.old) × SaysUsage (E.has_failed errors.new) (E.contents errors.old) (E.contents errors.new) }
 {
     if let Some(options) = options_of(words) {
         return show_turns(alloc, &options, source, sink, errors);

@@ -1,3 +1,4 @@
 pub mod Guard
 pub mod Words
 pub mod Format
+pub mod Written

@@ -1,5 +1,5 @@
-//! Reads a trace: the tokens and messages at the opening, the events of the processors, and the closing values. The words of
-//! events and laws stand here for all that tell of them.
+//! Reads and writes a trace: the tokens and messages at the opening, the events of the processors, and the closing values. The
+//! words of events and laws stand here for all that tell of them.
 #![tactic(auto)]
 
 mod closings;
@@ -10,6 +10,8 @@ mod readers;
 mod sections;
 mod traces;
 pub mod words;
+mod writers;
 
 pub use readers::{LENGTH_LIMIT, read_trace};
 pub use traces::{Closing, Told, Trace};
+pub use writers::trace_text;

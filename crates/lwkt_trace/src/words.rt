@@ -3,6 +3,7 @@ ghost use Rattle.lwkt_base.specs.Hex.{bytes_text};
 ghost use Rattle.lwkt_core.specs.Events.{place_of};
 ghost use Rattle.lwkt_script.specs.Member.{law_of};
 ghost use Rattle.lwkt_trace.specs.Words.{IsWordOf, place_at, spaced, numbers_text};
+ghost use Rattle.lwkt_trace.specs.Written.{word_of, law_text};
 
 use lwkt_base::hexes::show_hex_or_none;
 use lwkt_base::{Blob, Law, MsgId, TokId};
@@ -11,7 +12,8 @@ use std::alloc::AllocError;
 
 /// The word of an event: the one that reading a trace takes for it.
 pub fn event_word(event: &Event) -> &'static str
-    ensures { IsWordOf result.now event.now }
+    ensures reads { IsWordOf result.now event.now }
+    ensures word { result.now ≡ word_of event.now }
 {
     match event {
         Event::Load { .. } => "load",
@@ -70,7 +72,8 @@ pub fn subject_of(event: &Event) -> Subject
 
 /// The name of a law: the one that reading a trace, or a script that has the law, takes for it.
 pub fn law_name(law: Law) -> &'static str
-    ensures { law_of result.now ≡ Some law }
+    ensures reads { law_of result.now ≡ Some law }
+    ensures word { result.now ≡ law_text law }
 {
     match law {
         Law::Any => "any",

@@ -43,6 +43,6 @@ returns-in-Err-clause-along g c = λ options order are. (
   Err (Fault Memory),
   (
     along_unread order options (g.S.Source.left c.args.source.now) (g.K.Sink.contents c.args.sink.now) (Fault Memory) (inr refl),
-    ((λ is. absurd (no_lack (ap fault_of is))), c.refuse_arguments-in-Err.ensures),
+    ((λ is. absurd (no_lack (ap fault_of is))), c.refuse_arguments-in-Err.ensures.status),
   ),
 )
