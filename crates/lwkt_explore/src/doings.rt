@@ -2,13 +2,12 @@
 use crate::mails::Mails;
 use crate::touches::{NOTHING, Touch, disturb, has, listed, touched_by, touched_by_all};
 use lwkt_base::{Ask, ThreadState};
-use lwkt_core::State;
 use lwkt_machine::Machine;
 use lwkt_script::{Script, ThreadSpec};
 
 /// What a processor may touch.
 #[derive(Clone, Copy, Debug, PartialEq, Eq)]
-struct Doing {
+pub(crate) struct Doing {
     // in its next turn
     next: Touch,
     // in all turns from here on
@@ -104,15 +103,26 @@ impl Doing {
 }
 
 impl Doings {
-    /// Those at the place of a machine, whose events led to a state of the model.
-    pub(crate) fn at(script: &Script, mails: &Mails, machine: &Machine, state: &State) -> Doings {
-        let mut doings = Doings { all: [IDLE; 8] };
+    /// Of processors that do nothing.
+    pub(crate) fn none() -> Doings {
+        Doings { all: [IDLE; 8] }
+    }
+
+    /// What the threads of a machine's processors may touch, their messages that are away left out.
+    pub(crate) fn of_threads(script: &Script, machine: &Machine) -> Doings {
+        let mut doings = Doings::none();
         let mut counts = [0usize; 8];
         for spec in script.threads.as_slice() {
             doings.note_thread(machine, spec, &mut counts);
         }
-        doings.add_mail(mails, mails.away(state));
         doings
+    }
+
+    /// Puts what a processor may touch.
+    pub(crate) fn put(&mut self, cpu: usize, doing: Doing) {
+        if let Some(own) = self.all.get_mut(cpu) {
+            *own = doing;
+        }
     }
 
     // Notes the next thread of a script.
@@ -134,16 +144,22 @@ impl Doings {
         named
     }
 
-    fn add_mail(&mut self, mails: &Mails, away: u64) {
+    /// Adds the messages that are away, or may still be named.
+    pub(crate) fn add_mail(&mut self, mails: &Mails, away: u64) {
         let named = self.named();
         for cpu in 0..8usize {
             self.all[cpu] = self.all[cpu].with_mail(mails, cpu, away, named);
         }
     }
 
-    // What a processor may touch.
-    fn of(&self, cpu: usize) -> Doing {
+    /// What a processor may touch.
+    pub(crate) fn of(&self, cpu: usize) -> Doing {
         self.all.get(cpu).copied().unwrap_or(IDLE)
+    }
+
+    /// What the next turn of a processor may touch.
+    pub(crate) fn next(&self, cpu: usize) -> Touch {
+        self.of(cpu).next
     }
 
     /// Whether the turn of a processor changes nothing, since all its threads have ended and no message can be with it.

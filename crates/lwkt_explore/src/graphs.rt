@@ -1,13 +1,10 @@
 //! The states that were found, with the turns that lead from one to the other.
 use crate::choices::{Choice, NO_CHOICE};
-use crate::packs::{hash_of, pack};
+use crate::lists::Lists;
 use std::alloc::{AllocError, Global};
 
 /// No state: what stands for one that wasn't kept.
 pub(crate) const NONE: u32 = u32::MAX;
-
-// How many slots the table of hashes has at first: a power of two.
-const SLOTS: usize = 1024;
 
 /// Not tried: what stands for the state that a turn leads to which wasn't made, since others stand for it.
 pub(crate) const UNTRIED: u32 = u32::MAX - 1;
@@ -15,15 +12,12 @@ pub(crate) const UNTRIED: u32 = u32::MAX - 1;
 /// What the turns of the processors lead to, by processor.
 pub(crate) type Row = [u32; 8];
 
-// A state: the one before it on a shortest order, the processor whose turn led here, how many turns lead here, and its text.
+// A state: the one before it on a shortest order, the processor whose turn led here, and how many turns lead here.
 #[derive(Clone, Copy)]
 struct Node {
     parent: u32,
-    cpu: u8,
     depth: u32,
-    hash: u64,
-    start: usize,
-    end: usize,
+    cpu: u8,
     choice: Choice,
 }
 
@@ -31,53 +25,18 @@ struct Node {
 #[derive(Drop)]
 pub(crate) struct Graph {
     nodes: Vec<Node>,
-    texts: Vec<u8>,
-    // The numbers of states by their hashes, with gaps.
-    slots: Vec<u32>,
+    // The parts of each state.
+    states: Lists,
     /// Of each state that was gone on from the states behind it, by processor.
     next: Vec<u32>,
     cpus: usize,
-}
-
-fn empty_slots(alloc: Global, count: usize) -> Result<Vec<u32>, AllocError> {
-    let mut slots = Vec::with_capacity(alloc, count)?;
-    for _ in 0..count {
-        slots.push(NONE)?;
-    }
-    Ok(slots)
-}
-
-// The first slot from a hash's own that is empty.
-fn free_slot(slots: &[u32], hash: u64) -> Option<usize> {
-    let count = slots.len();
-    if count == 0 {
-        return None;
-    }
-    let first = (hash % (count as u64)) as usize;
-    for step in 0..count {
-        let at = first.wrapping_add(step) % count;
-        if slots[at] == NONE {
-            return Some(at);
-        }
-    }
-    None
-}
-
-// Puts a state into a table of hashes.
-fn put(slots: &mut Vec<u32>, number: u32, hash: u64) {
-    if let Some(at) = free_slot(slots.as_slice(), hash) {
-        if let Some(slot) = slots.get_mut(at) {
-            *slot = number;
-        }
-    }
 }
 
 impl Graph {
     pub(crate) fn new(alloc: Global, cpus: usize) -> Result<Graph, AllocError> {
         Ok(Graph {
             nodes: Vec::new(alloc),
-            texts: Vec::new(alloc),
-            slots: empty_slots(alloc, SLOTS)?,
+            states: Lists::new(alloc)?,
             next: Vec::new(alloc),
             cpus,
         })
@@ -96,52 +55,15 @@ impl Graph {
         }
     }
 
-    // Whether a state has this text.
-    fn has_text(&self, number: u32, hash: u64, text: &[u8]) -> bool {
-        let Some(node) = self.nodes.get(number as usize) else {
-            return false;
-        };
-        if node.hash != hash {
-            return false;
-        }
-        match self.texts.get(node.start..node.end) {
-            Some(own) => own == text,
-            None => false,
-        }
+    /// The state of these parts.
+    pub(crate) fn find(&self, parts: &[u32]) -> Option<u32> {
+        self.states.find(parts)
     }
 
-    /// The state of this text.
-    pub(crate) fn find(&self, text: &[u8]) -> Option<u32> {
-        let hash = hash_of(text);
-        let count = self.slots.len();
-        if count == 0 {
-            return None;
-        }
-        let first = (hash % (count as u64)) as usize;
-        for step in 0..count {
-            let number = self.slots[first.wrapping_add(step) % count];
-            if number == NONE {
-                return None;
-            }
-            if self.has_text(number, hash, text) {
-                return Some(number);
-            }
-        }
-        None
-    }
-
-    // Gives the table of hashes room for one more.
-    fn make_room(&mut self, alloc: Global) -> Result<(), AllocError> {
-        let count = self.slots.len();
-        if self.nodes.len() < count / 2 {
-            return Ok(());
-        }
-        let mut slots = empty_slots(alloc, count.saturating_mul(2))?;
-        for (number, node) in self.nodes.iter().enumerate() {
-            put(&mut slots, u32::try_from(number).unwrap_or(NONE), node.hash);
-        }
-        self.slots = slots;
-        Ok(())
+    /// The parts of a state.
+    pub(crate) fn parts(&self, at: usize) -> &[u32] {
+        let number = u32::try_from(at).unwrap_or(NONE);
+        self.states.list(number).unwrap_or(&[])
     }
 
     /// Adds a state that the turn of a processor leads to, and tells its number.
@@ -150,14 +72,10 @@ impl Graph {
         alloc: Global,
         parent: usize,
         cpu: u8,
-        text: &[u8],
+        parts: &[u32],
         choice: Choice,
     ) -> Result<u32, AllocError> {
-        self.make_room(alloc)?;
-        let start = self.texts.len();
-        self.texts.extend_from_slice(text)?;
-        let number = u32::try_from(self.nodes.len()).unwrap_or(NONE);
-        let hash = hash_of(text);
+        let number = self.states.add(alloc, parts)?;
         let depth = if number == 0 {
             0
         } else {
@@ -167,14 +85,10 @@ impl Graph {
         };
         self.nodes.push(Node {
             parent: u32::try_from(parent).unwrap_or(NONE),
-            cpu,
             depth,
-            hash,
-            start,
-            end: self.texts.len(),
+            cpu,
             choice,
         })?;
-        put(&mut self.slots, number, hash);
         Ok(number)
     }
 
@@ -242,11 +156,4 @@ impl Graph {
         order.reverse();
         Ok(order)
     }
-}
-
-/// Packs a text's numbers into bytes.
-pub(crate) fn packed(alloc: Global, words: &[u64]) -> Result<Vec<u8>, AllocError> {
-    let mut bytes = Vec::new(alloc);
-    pack(&mut bytes, words)?;
-    Ok(bytes)
 }

@@ -1,7 +1,6 @@
 //! Which processors a message of a script can be with, and where its notes can go.
 use crate::touches::{Touch, bit, cpu_bit, has, touched_by};
-use lwkt_base::{Ask, MsgId, Owner};
-use lwkt_core::State;
+use lwkt_base::Ask;
 use lwkt_script::Script;
 use std::alloc::{AllocError, Global};
 
@@ -58,11 +57,11 @@ impl Mails {
         Ok(Mails { all })
     }
 
-    /// Those that aren't at rest, and those of which a note may be on its way all the same.
-    pub(crate) fn away(&self, state: &State) -> u64 {
-        let mut away = 0u64;
+    /// Those that aren't at rest, which are given, and those of which a note may be on its way all the same.
+    pub(crate) fn away(&self, unrested: u64) -> u64 {
+        let mut away = unrested;
         for (number, mail) in self.all.iter().enumerate() {
-            if mail.is_dropped || !is_at_rest(state, number) {
+            if mail.is_dropped {
                 away |= bit(number);
             }
         }
@@ -89,13 +88,5 @@ impl Mails {
             }
         }
         Touch { targets, ..touch }
-    }
-}
-
-// Whether a message is at rest.
-fn is_at_rest(state: &State, number: usize) -> bool {
-    match state.message(MsgId(u8::try_from(number).unwrap_or(u8::MAX))) {
-        Some(message) => matches!(message.owner, Owner::Rest { .. }),
-        None => true,
     }
 }

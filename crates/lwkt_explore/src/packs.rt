@@ -1,5 +1,5 @@
-//! Numbers in few bytes, and a hash of them.
-use std::alloc::AllocError;
+//! Numbers in few bytes.
+use std::alloc::{AllocError, Global};
 
 // Puts a number behind some bytes: seven bits a byte, the last byte below 128.
 fn pack_one(bytes: &mut Vec<u8>, word: u64) -> Result<(), AllocError> {
@@ -15,20 +15,29 @@ fn pack_one(bytes: &mut Vec<u8>, word: u64) -> Result<(), AllocError> {
     Ok(())
 }
 
-/// Puts numbers behind some bytes. Different lists of numbers give different bytes. The greatest number, which often stands for
-/// nothing, takes one byte as 0 does.
-pub(crate) fn pack(bytes: &mut Vec<u8>, words: &[u64]) -> Result<(), AllocError> {
+// Puts numbers behind some bytes. Different lists of numbers give different bytes. The greatest number, which often stands for
+// nothing, takes one byte as 0 does.
+fn pack(bytes: &mut Vec<u8>, words: &[u64]) -> Result<(), AllocError> {
     for word in words {
         pack_one(bytes, word.wrapping_add(1))?;
     }
     Ok(())
 }
 
-/// A hash of bytes, by which candidates are found.
-pub(crate) fn hash_of(bytes: &[u8]) -> u64 {
-    let mut hash = 14695981039346656037u64;
-    for byte in bytes {
-        hash = (hash ^ u64::from(*byte)).wrapping_mul(1099511628211);
+/// Numbers as a list of small numbers: how many bytes they take, and these bytes, four in a number. Different lists of numbers give
+/// different lists.
+pub(crate) fn packed(alloc: Global, words: &[u64]) -> Result<Vec<u32>, AllocError> {
+    let mut bytes = Vec::with_capacity(alloc, words.len().saturating_mul(2))?;
+    pack(&mut bytes, words)?;
+    let mut list = Vec::with_capacity(alloc, words.len())?;
+    list.push(u32::try_from(bytes.len()).unwrap_or(u32::MAX))?;
+    let mut number = 0u32;
+    for (at, byte) in bytes.iter().enumerate() {
+        number = (number << 8) | u32::from(*byte);
+        if at % 4 == 3 {
+            list.push(number)?;
+        }
     }
-    hash ^ (hash >> 29)
+    list.push(number)?;
+    Ok(list)
 }

@@ -1,8 +1,7 @@
 //! A script's machine under way, made along an order.
-use crate::choices::Choice;
 use crate::doings::Doings;
-use crate::mails::Mails;
-use crate::states::add_state;
+use crate::parts::Written;
+use crate::states::{add_state, away};
 use lwkt_base::{Fault, MsgId, Owner};
 use lwkt_core::{Event, Message, State};
 use lwkt_machine::{Machine, Sent, Turned};
@@ -11,6 +10,9 @@ use std::alloc::{AllocError, Global};
 
 // The most messages.
 const MESSAGES: u8 = 64;
+
+// The numbers that a place is given room for at first.
+const ROOM: usize = 256;
 
 /// A machine, and the state of the model that its events led to.
 #[derive(Drop)]
@@ -89,17 +91,23 @@ impl Place {
         Ok(())
     }
 
-    /// Of which processors the turns are tried here.
-    pub(crate) fn choice(&self, script: &Script, mails: &Mails) -> Choice {
-        let doings = Doings::at(script, mails, &self.machine, &self.state);
-        Choice::of(&doings, usize::from(script.cpus))
-    }
-
     /// Writes what tells this place apart from others of the same script, and gives it up.
-    pub(crate) fn encode(self, alloc: Global, words: &mut Vec<u64>) -> Result<(), AllocError> {
+    pub(crate) fn write(self, alloc: Global, script: &Script) -> Result<Written, AllocError> {
         let Place { machine, state } = self;
-        add_state(words, &state)?;
+        let mut written = Written {
+            words: Vec::with_capacity(alloc, ROOM)?,
+            ends: Vec::with_capacity(alloc, ROOM)?,
+            doings: Doings::of_threads(script, &machine),
+            away: away(&state),
+        };
+        add_state(&mut written.words, &mut written.ends, &state)?;
         let sent = all_sent(alloc, &state)?;
-        machine.encode(alloc, sent.as_slice(), words)
+        machine.encode(
+            alloc,
+            sent.as_slice(),
+            &mut written.words,
+            &mut written.ends,
+        )?;
+        Ok(written)
     }
 }

@@ -62,11 +62,11 @@ fn expand(
     requires { AreOutcomes bytes.now outcomes.old }
     ensures { AreOutcomes bytes.now outcomes.new }
 {
-    let order = memory(walk.graph.order(alloc, at))?;
-    let quiet = walk.go_on(alloc, at, order.as_slice())?;
+    let quiet = walk.go_on(alloc, at)?;
     if !quiet && !walk.is_far(at) {
         return walk.note_end(false);
     }
+    let order = memory(walk.graph.order(alloc, at))?;
     let kind = outcomes.add(alloc, bytes, order, !quiet)?;
     walk.note_end(kind == Kind::Ended)
 }

@@ -1,4 +1,5 @@
 //! What tells two states of the model apart, as numbers.
+use crate::touches::bit;
 use lwkt_base::{Blob, Cells, Held, Mode, MsgId, Owner, TokId};
 use lwkt_core::{Message, State, Token};
 use std::alloc::AllocError;
@@ -74,28 +75,62 @@ fn add_message(words: &mut Vec<u64>, message: &Message) -> Result<(), AllocError
     add(words, u64::from(message.asked))
 }
 
-fn add_tokens(words: &mut Vec<u64>, state: &State) -> Result<(), AllocError> {
+fn add_tokens(
+    words: &mut Vec<u64>,
+    ends: &mut Vec<usize>,
+    state: &State,
+) -> Result<(), AllocError> {
     for number in 0..LIMIT {
         match state.token(TokId(number)) {
             Some(token) => add_token(words, token)?,
             None => return Ok(()),
         }
+        ends.push(words.len())?;
     }
     Ok(())
 }
 
-fn add_messages(words: &mut Vec<u64>, state: &State) -> Result<(), AllocError> {
+fn add_messages(
+    words: &mut Vec<u64>,
+    ends: &mut Vec<usize>,
+    state: &State,
+) -> Result<(), AllocError> {
     for number in 0..LIMIT {
         match state.message(MsgId(number)) {
             Some(message) => add_message(words, message)?,
             None => return Ok(()),
         }
+        ends.push(words.len())?;
     }
     Ok(())
 }
 
-/// Writes what tells this state apart from others of the same script.
-pub(crate) fn add_state(words: &mut Vec<u64>, state: &State) -> Result<(), AllocError> {
-    add_tokens(words, state)?;
-    add_messages(words, state)
+/// Writes what tells this state apart from others of the same script: a part for each token, and then one for each message. `ends` is
+/// told where each part ends.
+pub(crate) fn add_state(
+    words: &mut Vec<u64>,
+    ends: &mut Vec<usize>,
+    state: &State,
+) -> Result<(), AllocError> {
+    add_tokens(words, ends, state)?;
+    add_messages(words, ends, state)
+}
+
+// Whether a message is at rest.
+fn is_at_rest(state: &State, number: u8) -> bool {
+    match state.message(MsgId(number)) {
+        Some(message) => matches!(message.owner, Owner::Rest { .. }),
+        None => true,
+    }
+}
+
+/// The messages that aren't at rest.
+pub(crate) fn away(state: &State) -> u64 {
+    let mut away = 0u64;
+    for number in 0..LIMIT {
+        if !is_at_rest(state, number) {
+            away |= bit(usize::from(number));
+        }
+    }
+    away
 }

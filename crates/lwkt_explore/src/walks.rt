@@ -1,8 +1,11 @@
 //! A walk over the states of a script.
 use crate::choices::Choice;
-use crate::graphs::{Graph, NONE, Row, UNTRIED, packed};
+use crate::doings::Doings;
+use crate::graphs::{Graph, NONE, Row, UNTRIED};
 use crate::losses::{Lost, lost_of};
 use crate::mails::Mails;
+use crate::memos::{Memos, picked, put_back};
+use crate::parts::{Layout, Parts, Written};
 use crate::places::Place;
 use crate::samples::Dice;
 use crate::searches::{Bounds, Method};
@@ -21,18 +24,14 @@ pub(crate) struct Walk {
     mails: Mails,
     bounds: Bounds,
     method: Method,
+    layout: Layout,
+    parts: Parts,
+    memos: Memos,
     pub graph: Graph,
     ends: Vec<bool>,
     pub turns: u64,
     pub is_complete: bool,
     trace: Vec<Event>,
-}
-
-// Where turns led: the text of the place, and of which processors the turns are tried there.
-#[derive(Drop)]
-struct Reached {
-    text: Vec<u8>,
-    choice: Choice,
 }
 
 /// What was given, or `Memory`.
@@ -41,6 +40,16 @@ pub(crate) fn memory<T>(given: Result<T, AllocError>) -> Result<T, Fault> {
         Ok(x) => Ok(x),
         Err(_) => Err(Fault::Memory),
     }
+}
+
+// How large a block is allocated and freed before the first machine is made.
+const BLOCK: usize = 1048576;
+
+// Allocates a large block and frees it. The C library's allocator gives the end of its memory back to the system where more is
+// free than twice the largest block that was freed, and a machine is made and given up for each turn that is made.
+fn keep_memory(alloc: Global) {
+    let block: Result<Vec<u8>, AllocError> = Vec::with_capacity(alloc, BLOCK);
+    let _ = block;
 }
 
 // Whether the turn of no processor leads to another state.
@@ -61,45 +70,87 @@ impl Walk {
         bounds: Bounds,
         method: Method,
     ) -> Result<Walk, Fault> {
+        keep_memory(alloc);
         let cpus = usize::from(script.cpus);
         let mails = memory(Mails::of(alloc, &script))?;
+        let layout = Layout::of(&script);
         let mut walk = Walk {
             script,
             mails,
             bounds,
             method,
+            layout,
+            parts: memory(Parts::new(alloc, layout))?,
+            memos: memory(Memos::new(alloc))?,
             graph: memory(Graph::new(alloc, cpus))?,
             ends: Vec::new(alloc),
             turns: 0,
             is_complete: true,
             trace: Vec::new(alloc),
         };
-        let Reached { text, choice } = walk.reach(alloc, &[], None)?;
-        memory(walk.graph.add(alloc, 0, 0, text.as_slice(), choice))?;
+        let opening = walk.make(alloc, &[], None)?;
+        let choice = walk.choice_at(opening.as_slice());
+        memory(walk.graph.add(alloc, 0, 0, opening.as_slice(), choice))?;
         Ok(walk)
     }
 
-    // Of which processors the turns are tried at a place.
-    fn choice_at(&self, place: &Place) -> Choice {
+    // Of which processors the turns are tried at a state.
+    fn choice_at(&self, state: &[u32]) -> Choice {
+        let cpus = usize::from(self.script.cpus);
         match self.method {
-            Method::Plain => Choice::all(usize::from(self.script.cpus)),
-            Method::Reduced => place.choice(&self.script, &self.mails),
+            Method::Plain => Choice::all(cpus),
+            Method::Reduced => Choice::of(&self.parts.doings(&self.mails, state), cpus),
         }
     }
 
-    // Goes along an order, and then makes the turn of a processor.
-    fn reach(&mut self, alloc: Global, order: &[u8], cpu: Option<usize>) -> Result<Reached, Fault> {
+    // Goes along an order, makes the turn of a processor then, and writes where that led.
+    fn write(&mut self, alloc: Global, order: &[u8], cpu: Option<usize>) -> Result<Written, Fault> {
         let mut place = Place::open(alloc, &self.script)?;
         place.go(order, &mut self.trace)?;
         if let Some(cpu) = cpu {
             place.turn(cpu, &mut self.trace)?;
             self.turns = self.turns.saturating_add(1);
         }
-        let choice = self.choice_at(&place);
-        let mut words = Vec::new(alloc);
-        memory(place.encode(alloc, &mut words))?;
-        let text = memory(packed(alloc, words.as_slice()))?;
-        Ok(Reached { text, choice })
+        memory(place.write(alloc, &self.script))
+    }
+
+    // The same; gives the state's parts.
+    fn make(&mut self, alloc: Global, order: &[u8], cpu: Option<usize>) -> Result<Vec<u32>, Fault> {
+        let written = self.write(alloc, order, cpu)?;
+        memory(self.parts.numbers_of(alloc, &written))
+    }
+
+    // Makes the turn of a processor from a state.
+    fn make_turn(&mut self, alloc: Global, at: usize, cpu: usize) -> Result<Vec<u32>, Fault> {
+        let order = memory(self.graph.order(alloc, at))?;
+        self.make(alloc, order.as_slice(), Some(cpu))
+    }
+
+    // Makes the turn of a processor from a state, unless one like it was made: from a state that has the same parts where the turn
+    // touches one.
+    fn turn_like(
+        &mut self,
+        alloc: Global,
+        at: usize,
+        doings: &Doings,
+        cpu: usize,
+    ) -> Result<Vec<u32>, Fault> {
+        let mut state = memory(Vec::from_slice(alloc, self.graph.parts(at)))?;
+        let places = memory(self.layout.touched(alloc, cpu, doings.next(cpu)))?;
+        let before = memory(picked(alloc, state.as_slice(), places.as_slice()))?;
+        if let Some(after) = self.memos.after(before.as_slice()) {
+            put_back(state.as_mut_slice(), places.as_slice(), after);
+            self.turns = self.turns.saturating_add(1);
+            return Ok(state);
+        }
+        let made = self.make_turn(alloc, at, cpu)?;
+        let after = memory(picked(alloc, made.as_slice(), places.as_slice()))?;
+        put_back(state.as_mut_slice(), places.as_slice(), after.as_slice());
+        // (a turn that changed another part would be made each time)
+        if state.as_slice() == made.as_slice() {
+            memory(self.memos.note(alloc, before.as_slice(), after.as_slice()))?;
+        }
+        Ok(made)
     }
 
     /// How far a walk is that has gone on from so many states.
@@ -132,9 +183,9 @@ impl Walk {
         alloc: Global,
         at: usize,
         cpu: usize,
-        reached: &Reached,
+        state: &[u32],
     ) -> Result<u32, Fault> {
-        if let Some(number) = self.graph.find(reached.text.as_slice()) {
+        if let Some(number) = self.graph.find(state) {
             return Ok(number);
         }
         if self.graph.len() >= self.bounds.states || self.is_far(at) {
@@ -142,10 +193,8 @@ impl Walk {
             return Ok(NONE);
         }
         let number = u8::try_from(cpu).unwrap_or(u8::MAX);
-        memory(
-            self.graph
-                .add(alloc, at, number, reached.text.as_slice(), reached.choice),
-        )
+        let choice = self.choice_at(state);
+        memory(self.graph.add(alloc, at, number, state, choice))
     }
 
     // Where the turn of a processor leads, if that is known without making it: where it can be exchanged with the turn that led here,
@@ -164,12 +213,21 @@ impl Walk {
     }
 
     // Where the turn of a processor leads from a state.
-    fn next(&mut self, alloc: Global, at: usize, order: &[u8], cpu: usize) -> Result<u32, Fault> {
+    fn next(
+        &mut self,
+        alloc: Global,
+        at: usize,
+        doings: &Doings,
+        cpu: usize,
+    ) -> Result<u32, Fault> {
         if let Some(number) = self.known(at, cpu) {
             return Ok(number);
         }
-        let reached = self.reach(alloc, order, Some(cpu))?;
-        self.number_of(alloc, at, cpu, &reached)
+        let state = match self.method {
+            Method::Plain => self.make_turn(alloc, at, cpu)?,
+            Method::Reduced => self.turn_like(alloc, at, doings, cpu)?,
+        };
+        self.number_of(alloc, at, cpu, state.as_slice())
     }
 
     // Tries the turns of a set from a state, those that weren't tried before. Says whether one leads to a state that is still to be
@@ -178,7 +236,7 @@ impl Walk {
         &mut self,
         alloc: Global,
         at: usize,
-        order: &[u8],
+        doings: &Doings,
         set: u8,
         row: &mut Row,
     ) -> Result<bool, Fault> {
@@ -186,7 +244,7 @@ impl Walk {
         for cpu in 0..8usize {
             if has(set, cpu) {
                 if row[cpu] == UNTRIED {
-                    row[cpu] = self.next(alloc, at, order, cpu)?;
+                    row[cpu] = self.next(alloc, at, doings, cpu)?;
                 }
                 leads_on = leads_on || row[cpu] as usize > at;
             }
@@ -195,15 +253,10 @@ impl Walk {
     }
 
     // Tries the turns of sets from a state, up to the first set that is enough.
-    fn try_sets(
-        &mut self,
-        alloc: Global,
-        at: usize,
-        order: &[u8],
-        row: &mut Row,
-    ) -> Result<(), Fault> {
+    fn try_sets(&mut self, alloc: Global, at: usize, row: &mut Row) -> Result<(), Fault> {
+        let doings = self.parts.doings(&self.mails, self.graph.parts(at));
         for set in self.graph.choice(at).sets {
-            if self.try_set(alloc, at, order, set, row)? {
+            if self.try_set(alloc, at, &doings, set, row)? {
                 return Ok(());
             }
         }
@@ -223,19 +276,19 @@ impl Walk {
     }
 
     /// Tries turns from a state, and says whether no processor's turn changes anything.
-    pub(crate) fn go_on(&mut self, alloc: Global, at: usize, order: &[u8]) -> Result<bool, Fault> {
+    pub(crate) fn go_on(&mut self, alloc: Global, at: usize) -> Result<bool, Fault> {
         let mut row = self.first_row(at);
-        self.try_sets(alloc, at, order, &mut row)?;
+        self.try_sets(alloc, at, &mut row)?;
         memory(self.graph.note(&row))?;
         Ok(is_quiet(&row, at, usize::from(self.script.cpus)))
     }
 
     // Whether no turn changes anything behind an order.
     fn is_quiet(&mut self, alloc: Global, order: &[u8]) -> Result<bool, Fault> {
-        let here = self.reach(alloc, order, None)?;
+        let here = self.write(alloc, order, None)?;
         for cpu in 0..usize::from(self.script.cpus) {
-            let next = self.reach(alloc, order, Some(cpu))?;
-            if next.text.as_slice() != here.text.as_slice() {
+            let next = self.write(alloc, order, Some(cpu))?;
+            if next.words.as_slice() != here.words.as_slice() {
                 return Ok(false);
             }
         }

@@ -208,9 +208,16 @@ fn add_message(
     collect_at(words, book, seats, sent.origin, msg, sent.round)
 }
 
+// Notes that a part ends here.
+fn end_part(words: &[u64], ends: &mut Vec<usize>) -> Result<(), AllocError> {
+    ends.push(words.len())?;
+    Ok(())
+}
+
 // Writes what the book has of each message.
 fn add_messages(
     words: &mut Vec<u64>,
+    ends: &mut Vec<usize>,
     book: &MsgBook,
     seats: &mut [MsgSeat],
     sent: &[Sent],
@@ -220,6 +227,7 @@ fn add_messages(
     for number in 0..sent.len() {
         let msg = MsgId(u8::try_from(number).unwrap_or(u8::MAX));
         add_message(words, book, seats, msg, sent[number])?;
+        end_part(words.as_slice(), ends)?;
     }
     Ok(())
 }
@@ -228,6 +236,7 @@ fn add_messages(
 fn add_cpus(
     alloc: Global,
     words: &mut Vec<u64>,
+    ends: &mut Vec<usize>,
     cpus: Vec<Cpu<ScriptBody>>,
 ) -> Result<Vec<MsgSeat>, AllocError>
     ensures { IfOk result (λ seats. seats.items ≡ map (λ p. p.post.seat) cpus.items) }
@@ -236,6 +245,7 @@ fn add_cpus(
     for cpu in cpus {
         let seat = add_cpu(words, cpu)?;
         seats.push(seat)?;
+        end_part(words.as_slice(), ends)?;
     }
     Ok(seats)
 }
@@ -244,18 +254,21 @@ impl Machine {
     /// Writes what tells this machine apart from what it was or will be at another time, but for what its trace says of tokens
     /// and messages: its processors with their threads, ports, lanes and bodies, and the records of the messages that are away.
     /// Much of it can't be seen without a step of a processor, so the machine is given up.
+    ///
+    /// Each processor has a part of the numbers, and behind them each message; `ends` is told where each part ends.
     pub fn encode(
         self,
         alloc: Global,
         sent: &[Sent],
         words: &mut Vec<u64>,
+        ends: &mut Vec<usize>,
     ) -> Result<(), AllocError> {
         let Machine {
             bank: _,
             book,
             cpus,
         } = self;
-        let mut seats = add_cpus(alloc, words, cpus)?;
-        add_messages(words, &book, &mut seats, sent)
+        let mut seats = add_cpus(alloc, words, ends, cpus)?;
+        add_messages(words, ends, &book, &mut seats, sent)
     }
 }
