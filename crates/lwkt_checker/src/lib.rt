@@ -1,5 +1,8 @@
 //! Checks a trace of another implementation: whether its events can happen one after another from its opening, and end
 //! with its closing values; and if not, which need isn't met.
+//!
+//! Words: a *finding* is that a trace is lawful, or the index at which it fails; the *reason* is the first need that isn't
+//! met there; a *difference* is a closing value that isn't the one that the events lead to.
 #![tactic(auto)]
 
 mod differences;

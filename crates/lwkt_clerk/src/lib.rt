@@ -1,5 +1,8 @@
 //! The clerk of a table rests: its seat is needed at the opening and at the close alone. A seat can't be shared by threads;
 //! at rest on a perch it lets them share what it belongs to, and costs nothing meanwhile. Bank and book keep their clerks so.
+//!
+//! Words: a *clerk* makes a table's seats and takes them back; a *perch* is the word on which its seat rests; a *spent* view
+//! is one that was joined into another.
 #![tactic(auto)]
 
 ghost use Rattle.std.specs.Prelude.{◌≡◌, [], IfOk, IfSome};

@@ -1,5 +1,11 @@
 //! The model of the threading layer as plain data: a machine of tokens and messages, the events of its processors, what
 //! each event needs and leaves, a checker of traces, and one of the written sections of tokens.
+//!
+//! Words: a *machine* is the state of all tokens and messages, and it is *safe* if its tokens and messages are; an *event*
+//! is one atomic step of one processor; its *needs* say when it can happen, and a *lack* is the first need that isn't met; a
+//! *run* is events that happen one after another; a *trace* is such events with the *closing values*; a *chain* is a token's
+//! written sections, generation by generation; a *deed* is a step of a seat, and a *history* the deeds of all seats of a
+//! table.
 #![tactic(auto)]
 
 pub mod checks;

@@ -1,4 +1,8 @@
 //! A processor: its threads, and the turns in which one of them at a time runs while its whole list is held.
+//!
+//! Words: a *turn* takes mail in, chooses a thread and polls its body once; a *search* tries the lists of the threads that
+//! are ready, from the *cursor* on, once round; a thread is *worn* if its list met a last generation; a *phase* is what a
+//! thread is doing; a processor is *at rest* between turns; a *stop* ends its threads.
 #![tactic(auto)]
 
 pub mod answers;

@@ -1,5 +1,9 @@
 //! Processors driven on threads: each goes through its turns on a thread of its own, as long as a gate lets it and as its
 //! limits allow.
+//!
+//! Words: a *gate* is asked before each turn whether it may be made; a processor *ends* because the gate said no, a limit
+//! was reached, its threads have ended, memory was refused, or nothing can change any more; the *board* has what the
+//! processors tell one another of this; a *slice* is a part of a drive, where several processors share a thread.
 #![tactic(auto)]
 
 mod boards;

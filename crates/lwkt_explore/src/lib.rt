@@ -1,5 +1,9 @@
 //! Every order of turns of a script: which outcomes there are, each once with a shortest order, and from which states no end can
 //! be reached.
+//!
+//! Words: a *state* is a machine between turns, as a list of *parts* that are each kept once; an *outcome* is a report
+//! without its verdict; a state is *stuck* if no turn changes it and a thread hasn't ended, and *lost* if no end can be
+//! reached from it.
 #![tactic(auto)]
 
 mod choices;

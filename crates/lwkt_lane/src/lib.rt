@@ -1,4 +1,7 @@
 //! A first-in-first-out lane of notes from one processor to one other: a queue, and one note in hand at the sender.
+//!
+//! Words: the *ends* of a lane are where notes are pushed and where they are popped; a note is *in hand* if the queue had no
+//! room for it; a lane is *settled* if both ends are given up and the notes that weren't popped are told.
 #![tactic(auto)]
 
 pub mod ins;

@@ -1,4 +1,8 @@
 //! The message book: the words and records of messages in one table, under a rule that gives each message one owner.
+//!
+//! Words: a *book* is the table of all message words and records; a *desk* is what contracts see of a seat; a message's
+//! *origin* is the thread that it belongs to, its *target* the processor that it was sent to; its *round* counts its sends;
+//! it is at *rest*, *out*, *with* its target or *back*; what is *stale* is of another round than the word.
 #![tactic(auto)]
 
 pub mod answers;

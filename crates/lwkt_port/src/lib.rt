@@ -1,4 +1,9 @@
 //! The message ports of a processor's threads, over the processor's seat at the book and its lanes.
+//!
+//! Words: a *port* is a thread's queues of notes, urgent ones and others; a *note* says that a message was sent to it or
+//! replied to; a *line* is both ends of the lanes between this processor and one other; a *mail* is what is kept of one
+//! message of the processor's own, or at it; a reply is *owed* where nobody saw the message, or where its thread ended; a
+//! *post* is what contracts see of all ports of a processor.
 #![tactic(auto)]
 
 mod clearings;

@@ -1,5 +1,8 @@
 //! A machine for bodies of any kind: tokens, messages, and processors whose threads are the caller's own bodies. It is opened, its
 //! processors make turns, in rounds or each on a thread of its own, and at its close each token's row meets the law that was declared.
+//!
+//! Words: a *maker* makes a token, a message or a thread of the declaration; a *stepper* keeps the answer to each of its
+//! asks beside it; what a body *keeps* is an invariant that holds after each poll.
 #![tactic(auto)]
 
 pub mod closings;

@@ -1,4 +1,8 @@
 //! The report that a run ends with, as text, and the streams that a run reads from and writes to.
+//!
+//! Words: a *line* of the report is that of a token, its tallies, its record, a message or a thread; a *complaint* is the
+//! line that stands in place of a report; a *source* and a *sink* are what is read from and written to; a stream is *blamed*
+//! only if it failed.
 #![tactic(auto)]
 
 mod arguments;

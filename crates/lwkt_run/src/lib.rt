@@ -1,4 +1,8 @@
 //! Runs a script: reads it, makes its rounds over a machine of processors, checks what was made, and writes the report.
+//!
+//! Words: a *round* is a turn of each processor; an *order* names the processor of each turn; what is *kept* of a run is the
+//! order, its turns and their polls; a *verdict* says what the checks make of it; an *outcome* is how the run ended; the
+//! *closing* is what the report shows.
 #![tactic(auto)]
 
 mod endings;

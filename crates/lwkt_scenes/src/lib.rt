@@ -1,5 +1,8 @@
 //! Shows a run of a script turn by turn: as lines, as a trace for `lwkt_check`, as a picture, or as the sections of
 //! each token.
+//!
+//! Words: a *scene* is a turn as it is shown; a *reel* is what was kept of a run; a *replay* makes it again, event by event;
+//! a *story* is what happened to one thread so far; a *picture* has bars for held tokens and arrows for messages.
 #![tactic(auto)]
 
 mod boxes;

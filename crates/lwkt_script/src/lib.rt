@@ -1,4 +1,7 @@
 //! Reads a script: the tokens, messages and threads of a run, and what each thread asks for.
+//!
+//! Words: the *place* of a fault is the number of the first bad part of a script; a *version* says what a script may have; a
+//! thread's *steps* are its asks, made so many times over.
 #![tactic(auto)]
 
 pub mod fields;

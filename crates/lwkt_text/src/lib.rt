@@ -1,4 +1,7 @@
 //! Reads and writes scripts as a text that people write.
+//!
+//! Words: a *text* names its processors, tokens, messages and threads; an *expectation* says of outcomes that a *claim*
+//! holds always, sometimes or never; a *wrong* is one thing that is wrong with a text, with its place.
 #![tactic(auto)]
 
 mod beginnings;

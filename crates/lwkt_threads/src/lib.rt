@@ -1,4 +1,6 @@
 //! The machine of a script, driven with each processor on a thread of its own.
+//!
+//! Words: a machine is taken apart into its processors, which are *driven* side by side, and put together again.
 #![tactic(auto)]
 
 pub mod laws;

@@ -1,5 +1,9 @@
 //! Reads and writes a trace: the tokens and messages at the opening, the events of the processors, and the closing values. The
 //! words of events and laws stand here for all that tell of them.
+//!
+//! Words: an event is *told* as it stands in the text, a written give with its section or without it, and its *subject* is
+//! the token or the message that it is at; a section that isn't told is the one of the machine that the events before lead
+//! to; the *closing* values are those at the end of a trace, if it has any.
 #![tactic(auto)]
 
 mod closings;

@@ -1,5 +1,9 @@
 //! Checks that the turns of a run are those that its script asks for: which thread was polled when, what it asked and was
 //! answered, which events of the trace came of it, what was logged, and how the threads ended.
+//!
+//! Words: a *poll* is one call of a thread's body: what it asked, and the answer that it was given later; a *piece* is a
+//! turn's poll and its *part* of the trace; a turn *fits* if its piece is what the threads may do then; the *progress* of a
+//! thread is how far it is in its steps and its log; a *pace* says how turns follow one another.
 #![tactic(auto)]
 
 mod asks;
