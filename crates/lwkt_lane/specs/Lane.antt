@@ -1,5 +1,5 @@
 -- What a contract sees of the two ends of a lane (own).
-use Rattle.std.specs.Prelude.{◌≡◌, ℕ, ◌+◌, List, ◌∷◌, ◌++◌, Option, Some, None, option_to_list}
+use Rattle.std.specs.Prelude.{◌≡◌, ℕ, ◌+◌, List, ◌∷◌, ◌++◌, length, Option, Some, None, option_to_list}
 use mathlib.Core.List.{IsPrefix}
 use denote.RawPtr.{Ptr}
 use Rattle.rtrb.specs.Shared.{Names}
@@ -20,6 +20,10 @@ sent out = ring.sent out.ring ++ option_to_list (in_hand out)
 -- how many places of the queue the sending end knows to be free
 abbrev pub free : LaneOut → ℕ
 free out = known_free out.ring
+
+-- how many notes wait at the sender, 0 or 1
+abbrev pub waiting : LaneOut → ℕ
+waiting out = length (option_to_list (in_hand out))
 
 -- every note popped so far, the oldest first
 abbrev pub received : LaneIn → List Note

@@ -1,4 +1,4 @@
-ghost use Rattle.std.specs.Prelude.{◌≡◌, ◌<◌, ◌≤◌, ◌↔◌, [], ◌∷◌, ◌++◌, Some, None, IsTrue, IsSome, IsOk, IfSome, IfErr, OnOk, OnErr};
+ghost use Rattle.std.specs.Prelude.{◌≡◌, ◌+◌, ◌<◌, ◌≤◌, ◌↔◌, [], ◌∷◌, ◌++◌, Some, None, IsTrue, IsSome, IsOk, IfSome, IfErr, OnOk, OnErr};
 ghost use Rattle.rtrb.specs.Ring.{producer_capacity};
 
 use crate::notes::Note;
@@ -14,7 +14,7 @@ pub struct LaneOut {
 }
 
 impl LaneOut {
-    ghost use Rattle.lwkt_lane.specs.Lane.{sent, in_hand, free, out_lane};
+    ghost use Rattle.lwkt_lane.specs.Lane.{sent, in_hand, waiting, free, out_lane};
 
     /// Moves the note in hand into the queue if that has room, and says whether none is in hand. If so the next `push`
     /// succeeds. The note stays in hand only if the queue was full at one moment of the call.
@@ -25,6 +25,7 @@ impl LaneOut {
         ensures full { IsSome (in_hand self.new) → free self.new ≡ 0 }
         ensures kept { IfSome (in_hand self.new) (λ note. in_hand self.old ≡ Some note) }
         ensures moves { 0 < free self.old → in_hand self.new ≡ None }
+        ensures places { free self.old ≤ free self.new + waiting self.old }
         ensures lane { out_lane self.new ≡ out_lane self.old }
     {
         if let Some(note) = self.hand
@@ -51,7 +52,7 @@ impl LaneOut {
         self.hand
     }
 
-    /// Sends a note. It goes into the queue at once if that has room, and else stays in hand.
+    /// Sends a note, after the one in hand. It goes into the queue at once if that has room, and else stays in hand.
     ///
     /// Refused with `LaneFull` exactly if a note is in hand and finds no room in the queue.
     #[inline(always)]
@@ -61,6 +62,7 @@ impl LaneOut {
             × (in_hand self.new ≡ in_hand self.old)) }
         ensures only { IfErr result (λ fault. fault ≡ Fault.LaneFull) }
         ensures hand { IsSome (in_hand self.new) → free self.new ≡ 0 }
+        ensures moves { waiting self.old < free self.old → in_hand self.new ≡ None }
         ensures succeeds { in_hand self.old ≡ None → IsOk result }
         ensures lane { out_lane self.new ≡ out_lane self.old }
     {
@@ -77,6 +79,7 @@ impl LaneOut {
         requires { in_hand self.old ≡ None }
         ensures sent { sent self.new ≡ sent self.old ++ note ∷ [] }
         ensures hand { IsSome (in_hand self.new) → free self.new ≡ 0 }
+        ensures moves { 0 < free self.old → in_hand self.new ≡ None }
         ensures lane { out_lane self.new ≡ out_lane self.old }
     {
         if self.ring.push(note).is_err() {

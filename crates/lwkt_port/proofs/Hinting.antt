@@ -124,7 +124,7 @@ withdraw_owes msg w w' (Ok rec) made refused none = owes_is w.mails w'.mails msg
 withdraw_owes msg w w' (Err fault) made refused none = owes_same w.mails w'.mails refused.1.mails_same none
 
 -- what each step of a chain keeps, the chain keeps
-chain_keeps : (A : Type 0) (Step : ℕ → A → A → Type 0) (P : A → Type 0) → ((k : ℕ) (x y : A) → Step k x y → P x → P y) → (k : ℕ) (x y : A) → Chain A Step k x y → P x → P y
+pub chain_keeps : (A : Type 0) (Step : ℕ → A → A → Type 0) (P : A → Type 0) → ((k : ℕ) (x y : A) → Step k x y → P x → P y) → (k : ℕ) (x y : A) → Chain A Step k x y → P x → P y
 unfolding Chain
 chain_keeps A Step P each zero x y chain is = subst P (sym chain) is
 chain_keeps A Step P each (suc k) x y chain is = each k chain.0 y chain.2 (chain_keeps A Step P each k x chain.0 chain.1 is)

@@ -14,4 +14,6 @@ pub mod Telling
 pub mod Withdrawing
 pub mod Departing
 pub mod Hinting
+pub mod HandMoves
 pub mod Passing
+pub mod Posting

@@ -1,9 +1,10 @@
 -- Lanes without notes are passed over, and the first one with a note is emptied; where nothing is to be done before that, it is taking
 -- notes in.
-use Rattle.std.proofs.Common.{◌≡◌, ℕ, zero, suc, ◌+◌, ◌-◌, ◌<◌, ◌≤◌, List, [], ◌∷◌, ◌++◌, length, get_or, ⊎_elim, inr, refl, ap, sym, ◌∙◌, subst, arith}
+use Rattle.std.proofs.Common.{◌≡◌, ℕ, zero, suc, ◌+◌, ◌-◌, ◌<◌, ◌≤◌, List, [], ◌∷◌, ◌++◌, length, get_or, ⊎_elim, refl, ap, sym, ◌∙◌, subst, arith}
 use Rattle.std.proofs.Math.ListN.{length-set}
 use Rattle.std.proofs.lemmas.List.{append-nil, set-get_or, get_or_default, get_or-set_same, set-set}
-use Rattle.std.specs.Prelude.{Option, None, slice_index_or, slice_set}
+use Rattle.std.proofs.lemmas.List.Elements.{All-get_or}
+use Rattle.std.specs.Prelude.{All, Option, None, slice_index_or, slice_set}
 use Rattle.lwkt_lane.specs.declared.notes.Note.{Note}
 use Rattle.lwkt_lane.specs.Lane.{received}
 use Rattle.lwkt_port.specs.declared.lines.Lane.{Lane}
@@ -11,32 +12,30 @@ use Rattle.lwkt_port.specs.declared.queues.Port.{Port}
 use Rattle.lwkt_port.specs.Chains.{Chain}
 use Rattle.lwkt_port.specs.Hints.{OwesNone}
 use Rattle.lwkt_port.specs.Intakes.{Desks, desks_of, Pops, EmptiesKept, Empties, Intake, EmptiesFrom, untaken, IsFronted, Clearing, ClearsAt, Hall, TakesIn}
-use Rattle.lwkt_port.specs.Lines.{IsRoomed, HasNone, IsLooked, IsFound}
+use Rattle.lwkt_port.specs.Lines.{HasNoneInHand, IsRoomed, HasNone, IsLooked, IsFound}
 use Rattle.lwkt_port.specs.Posts.{Changes}
 use Rattle.lwkt_port.specs.Works.{Work}
 use Rattle.lwkt_port.proofs.Chaining.{chain_more}
 use Rattle.lwkt_port.proofs.Dispatching.{changed}
 use Rattle.lwkt_port.proofs.Emptying.{kept_nothing, flow_nothing}
 use Rattle.lwkt_port.proofs.Hinting.{pays_none}
+use Rattle.lwkt_port.proofs.Posting.{room_itself}
 
 an_item : (A : Type 0) (xs : List A) → 0 < length xs → A
 an_item A [] there = absurd (omega arith)
 an_item A (x ∷ xs) there = x
 
 -- one thing of a list stays
-changes_itself : (A : Type 0) (R : A → A → Type 0) (k : ℕ) (xs : List A) → ((x : A) → R x x) → k < length xs → Changes R k xs xs
-changes_itself A R k xs same there =
+changes_itself : (A : Type 0) (P : A → Type 0) (R : A → A → Type 0) (k : ℕ) (xs : List A) → ((x : A) → P x → R x x) → All P xs → k < length xs → Changes R k xs xs
+changes_itself A P R k xs same all there =
     let first : A = an_item A xs (omega arith) in
     let x : A = get_or xs k first in
-    record { old = x; new = x; there = there; was = get_or_default xs k x first there; now = sym (set-get_or xs k first); does = same x }
+    record { old = x; new = x; there = there; was = get_or_default xs k x first there; now = sym (set-get_or xs k first); does = same x (All-get_or P xs k first there all) }
 
-room_itself : (line : Lane) → IsRoomed line line
-room_itself line = record { sent_same = refl; hand = inr refl; lane_same = refl; into_same = refl; kept_same = refl }
-
-rooms_none : (k : ℕ) (lanes : List Lane) → k ≤ length lanes → Chain (List Lane) (λ i a b. Changes IsRoomed i a b) k lanes lanes
+rooms_none : (k : ℕ) (lanes : List Lane) → All HasNoneInHand lanes → k ≤ length lanes → Chain (List Lane) (λ i a b. Changes IsRoomed i a b) k lanes lanes
 unfolding Chain
-rooms_none zero lanes within = refl
-rooms_none (suc k) lanes within = (lanes, rooms_none k lanes (omega arith), changes_itself Lane IsRoomed k lanes room_itself (omega arith))
+rooms_none zero lanes none within = refl
+rooms_none (suc k) lanes none within = (lanes, rooms_none k lanes none (omega arith), changes_itself Lane HasNoneInHand IsRoomed k lanes room_itself none (omega arith))
 
 -- a line that had no note was emptied
 none_empties : (most : ℕ) (line line' : Lane) (x : Desks) → HasNone line line' → Empties most 0 line line' x x
@@ -128,14 +127,14 @@ front_emptied limit k first w w' ports ports' before now line new f was does =
     } in
     chain_more Intake (EmptiesFrom limit) first (untaken w ports before) x y f.passes (k, changes, omega arith)
 
--- where nothing is owed, and no note in hand is moved on, taking notes in is emptying the lanes and clearing the closed ports
-pub calm_takes : (limit left : ℕ) (w : Work) (ports : List Port) (before : List Lane) (emptied : Intake) (y : Hall) → OwesNone w.mails → Chain Intake (EmptiesFrom limit) (length before) (untaken w ports before) emptied → Chain Clearing ClearsAt 16 (record { work = emptied.work; ports = emptied.ports; left = 16 }) (record { work = y.work; ports = y.ports; left = left }) → y.lanes ≡ emptied.lanes → TakesIn limit (record { work = w; lanes = before; ports = ports }) y emptied.count
-calm_takes limit left w ports before emptied y none notes closed lanes = record {
+-- where nothing is owed, and no note is in hand, taking notes in is emptying the lanes and clearing the closed ports
+pub calm_takes : (limit left : ℕ) (w : Work) (ports : List Port) (before : List Lane) (emptied : Intake) (y : Hall) → OwesNone w.mails → All HasNoneInHand before → Chain Intake (EmptiesFrom limit) (length before) (untaken w ports before) emptied → Chain Clearing ClearsAt 16 (record { work = emptied.work; ports = emptied.ports; left = 16 }) (record { work = y.work; ports = y.ports; left = left }) → y.lanes ≡ emptied.lanes → TakesIn limit (record { work = w; lanes = before; ports = ports }) y emptied.count
+calm_takes limit left w ports before emptied y none hands notes closed lanes = record {
   roomed = before;
   paid = record { work = w; lanes = before };
   emptied = emptied;
   left = left;
-  rooms = rooms_none (length before) before (omega arith);
+  rooms = rooms_none (length before) before hands (omega arith);
   owed = pays_none (length w.mails) (record { work = w; lanes = before }) none;
   notes = notes;
   closed = closed;

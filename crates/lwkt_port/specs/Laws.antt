@@ -1,5 +1,6 @@
 -- What the ports are for, as laws above the relations of the calls.
-use Rattle.std.specs.Prelude.{◌≡◌, ◌≢◌, ◌⊎◌, ℕ, ◌<◌, Bool, true, false, if◌then◌else◌, List, [], ◌∷◌, ◌++◌, length, Option, Some, None, Result, MatchOption, option_to_list}
+use Rattle.std.specs.Prelude.{◌≡◌, ◌≢◌, ◌⊎◌, ℕ, ◌<◌, Bool, true, false, if◌then◌else◌, List, [], ◌∷◌, ◌++◌, length, All, Option, Some, None, Result, MatchOption, option_to_list, Vec}
+use Rattle.std.specs.declared.alloc.Global.{Global}
 use Rattle.lwkt_base.specs.declared.asks.Item.{Item}
 use Rattle.lwkt_base.specs.declared.asks.Item.TheVariants as item
 use Rattle.lwkt_base.specs.declared.faults.Fault.{Fault}
@@ -23,8 +24,11 @@ use Rattle.lwkt_port.specs.declared.gets.Served.{Served}
 use Rattle.lwkt_port.specs.declared.gets.Served.TheVariants as served
 use Rattle.lwkt_port.specs.declared.lines.Lane.{Lane}
 use Rattle.lwkt_port.specs.declared.queues.Port.{Port}
-use Rattle.lwkt_port.specs.Intakes.{Desks, Handles, HandlesAll, Empties, Payer, Pays}
+use Rattle.lwkt_port.specs.Closings.{PostPays}
+use Rattle.lwkt_port.specs.Intakes.{Desks, Handles, HandlesAll, Empties, Payer, Pays, Hall, TakesIn}
+use Rattle.lwkt_port.specs.Lines.{WaitsForRoom}
 use Rattle.lwkt_port.specs.Mails.{mail_at, AreMails}
+use Rattle.lwkt_port.specs.Posts.{Post}
 use Rattle.lwkt_port.specs.Queues.{urgent_of, ordinary_of, queue_of, IsQueued, LeavesInOrder}
 use Rattle.lwkt_port.specs.Servings.{served_request, Serves, GetMeans, ServesPort}
 use Rattle.lwkt_port.specs.Tellings.{Tells}
@@ -125,3 +129,11 @@ pub record IsClaimed (thread : ℕ) (aborted : Bool) (old new : Mail) : Type 0 w
 abbrev pub EintrIfAborted : Type 0
 EintrIfAborted = (thread : ℕ) (note : Note) (w w' : Work) (rec : Rec) (aborted priority : Bool) → note.msg.0 < length w.mails → Takes (claim.Thread thread) note w w' (taken.Took rec aborted priority)
     → IsClaimed thread aborted (mail_at w.mails note.msg.0) (mail_at w'.mails note.msg.0) × (served_request note.msg (taken.Took rec aborted priority) ≡ (if aborted then served.Passed else served.Shown (item.Request note.msg (call_of rec))))
+
+-- where notes were taken in, and where the replies that are owed went out alone, a note is in hand at a sending end only if no place
+-- of its queue is known to be free
+abbrev pub HandsWaitForRoom : Type 0
+HandsWaitForRoom = (limit count : ℕ) (x y : Hall) → TakesIn limit x y count → All WaitsForRoom y.lanes
+
+abbrev pub PaidHandsWaitForRoom : Type 0
+PaidHandsWaitForRoom = (p p' : Post) (trace trace' : Vec Event Global) → PostPays p p' trace trace' → All WaitsForRoom p'.lanes

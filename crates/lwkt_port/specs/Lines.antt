@@ -1,19 +1,34 @@
-use Rattle.std.specs.Prelude.{◌≡◌, ◌⊎◌, [], ◌∷◌, ◌++◌, None}
+use Rattle.std.specs.Prelude.{◌≡◌, ◌⊎◌, ◌+◌, ◌<◌, ◌≤◌, [], ◌∷◌, ◌++◌, None, IsSome}
 use Rattle.lwkt_lane.specs.declared.notes.Note.{Note}
-use Rattle.lwkt_lane.specs.Lane.{sent, in_hand, out_lane, received, seen, in_lane}
+use Rattle.lwkt_lane.specs.Lane.{sent, in_hand, waiting, free, out_lane, received, seen, in_lane}
 use Rattle.lwkt_port.specs.declared.lines.Lane.{Lane}
 
--- at most the note in hand of a line went on into the queue
+-- no note is in hand at a line's sending end
+abbrev pub HasNoneInHand : Lane → Type 0
+HasNoneInHand line = in_hand line.out ≡ None
+
+-- a note is in hand at a line's sending end only where no place of the queue is known to be free
+abbrev pub WaitsForRoom : Lane → Type 0
+WaitsForRoom line = IsSome (in_hand line.out) → free line.out ≡ 0
+
+-- the note in hand of a line went on into the queue, if there is one: it stays in hand only where no place is known to be free then,
+-- and not where one was known to be free before; it alone takes a place
 pub record IsRoomed (line line' : Lane) : Type 0 where
   pub sent_same : sent line'.out ≡ sent line.out
-  pub hand : (in_hand line'.out ≡ None) ⊎ (in_hand line'.out ≡ in_hand line.out)
+  pub hand : HasNoneInHand line' ⊎ (in_hand line'.out ≡ in_hand line.out)
+  pub full : WaitsForRoom line'
+  pub moves : 0 < free line.out → HasNoneInHand line'
+  pub places : free line.out ≤ free line'.out + waiting line.out
   pub lane_same : out_lane line'.out ≡ out_lane line.out
   pub into_same : line'.into ≡ line.into
   pub kept_same : line'.kept ≡ line.kept
 
--- a note was sent over a line
+-- a note was sent over a line, after the one in hand: it stays in hand only where no place is known to be free then, and not where
+-- there were known to be places for all
 pub record HasPosted (note : Note) (line line' : Lane) : Type 0 where
   pub sent_more : sent line'.out ≡ sent line.out ++ note ∷ []
+  pub full : WaitsForRoom line'
+  pub moves : waiting line.out < free line.out → HasNoneInHand line'
   pub lane_same : out_lane line'.out ≡ out_lane line.out
   pub into_same : line'.into ≡ line.into
   pub kept_same : line'.kept ≡ line.kept

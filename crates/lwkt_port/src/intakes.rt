@@ -1,12 +1,11 @@
 //! The notes that came over the lanes are taken in.
 ghost use Rattle.std.specs.Prelude.{◌≡◌, ◌⊎◌, ℕ, ◌+◌, ◌-◌, ◌<◌, ◌≤◌, false, List, length, All, None, IsTrue, IfSome, vec_len, vec_capacity};
-ghost use Rattle.lwkt_lane.specs.Lane.{in_hand};
 ghost use Rattle.lwkt_msg.specs.Desks.{cpu_of, cpus_of, messages_of, IsSameDesk};
 ghost use Rattle.lwkt_port.specs.declared.lines.Lane.{Lane};
 ghost use Rattle.lwkt_port.specs.declared.queues.Port.{Port};
 ghost use Rattle.lwkt_port.specs.Chains.{Chain};
 ghost use Rattle.lwkt_port.specs.Hints.{OwesNone, AreClear};
-ghost use Rattle.lwkt_port.specs.Lines.{IsRoomed};
+ghost use Rattle.lwkt_port.specs.Lines.{IsRoomed, HasNoneInHand};
 ghost use Rattle.lwkt_port.specs.Mails.{mail_at, AreMails};
 ghost use Rattle.lwkt_port.specs.Posts.{Changes, KeepsNamed, IsSamePost};
 ghost use Rattle.lwkt_port.specs.Queues.{HasNamed};
@@ -254,7 +253,7 @@ fn take_rest(
     requires ready { IsReady seat.old lanes.old mails.old ports.old uncleared.old trace.old }
     requires owing { OwesNone mails.old.items }
     requires front { (before : List Lane) × IsFronted limit first (work seat.old mails.old trace.old) ports.old.items before lanes.old.items }
-    ensures takes { (before : List Lane) → IsFronted limit first (work seat.old mails.old trace.old) ports.old.items before lanes.old.items → TakesIn limit (record { work = work seat.old mails.old trace.old; lanes = before; ports = ports.old.items }) (hall (work seat.new mails.new trace.new) lanes.new ports.new) result }
+    ensures takes { (before : List Lane) → IsFronted limit first (work seat.old mails.old trace.old) ports.old.items before lanes.old.items → All HasNoneInHand before → TakesIn limit (record { work = work seat.old mails.old trace.old; lanes = before; ports = ports.old.items }) (hall (work seat.new mails.new trace.new) lanes.new ports.new) result }
     ensures leaves { LeavesReady limit result seat.old lanes.old mails.old trace.old seat.new lanes.new mails.new ports.new owing.new uncleared.new trace.new }
 {
     let count = empty_front(
@@ -300,7 +299,7 @@ fn take_all(
 // Whether no note is in hand at any sending end.
 #[inline(always)]
 fn have_none_in_hand(lanes: &Vec<Lane>) -> bool
-    ensures { IsTrue result → All (λ line. in_hand line.out ≡ None) lanes.now.items }
+    ensures { IsTrue result → All HasNoneInHand lanes.now.items }
 {
     lanes.iter().all(has_none_in_hand)
 }

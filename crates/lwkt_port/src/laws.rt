@@ -1,5 +1,5 @@
 //! What the ports are for. The functions do nothing: their contracts are the laws.
-ghost use Rattle.lwkt_port.specs.Laws.{LanesLoseNone, NotesLeaveServed, UrgentLeaveFirst, LeavingChains, NotesComeLast, RequestsAreShownOnce, OwedIsMadeOnce, UnowedIsNotMade, EintrIfAborted, NothingIsTold, TellsChain};
+ghost use Rattle.lwkt_port.specs.Laws.{LanesLoseNone, NotesLeaveServed, UrgentLeaveFirst, LeavingChains, NotesComeLast, RequestsAreShownOnce, OwedIsMadeOnce, UnowedIsNotMade, EintrIfAborted, NothingIsTold, TellsChain, HandsWaitForRoom, PaidHandsWaitForRoom};
 
 /// What left a lane is what was reaped, queued, found stale or foreign, in order, and at last what is kept for it.
 pub fn lanes_lose_none()
@@ -41,4 +41,11 @@ pub fn owed_replies_are_made_once()
 /// shown then; any other is shown.
 pub fn aborted_requests_are_owed()
     ensures { EintrIfAborted }
+{}
+
+/// Where notes were taken in, or the replies that are owed went out alone, a note is in hand at a sending end only if no place of
+/// its queue is known to be free.
+pub fn hands_wait_for_room()
+    ensures taken { HandsWaitForRoom }
+    ensures paid { PaidHandsWaitForRoom }
 {}

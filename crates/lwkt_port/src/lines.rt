@@ -31,6 +31,7 @@ pub(crate) fn has_none_in_hand(line: &Lane) -> bool
 
 /// Sends a note over a lane that has room for it.
 #[inline(always)]
+#[tactic(auto, using(crate::proofs::Posting::moves_alone))]
 pub(crate) fn post(line: &mut Lane, note: Note)
     requires { in_hand line.old.out ≡ None }
     ensures { HasPosted note line.old line.new }

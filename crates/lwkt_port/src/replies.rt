@@ -30,6 +30,7 @@ fn answer_of(msg: MsgId, mail: &Mail) -> Note
 }
 
 // Replies to a message over a line. False if the line is full.
+#[tactic(auto, using(crate::proofs::Posting::posted_over))]
 fn reply_over(
     book: &MsgBook,
     seat: &mut MsgSeat,

@@ -39,6 +39,7 @@ fn may_send(mails: &Vec<Mail>, sending: &Sending) -> bool
 }
 
 // Sends a message over the line to its target.
+#[tactic(auto, using(crate::proofs::Posting::posted_over))]
 fn send_over(
     book: &MsgBook,
     seat: &mut MsgSeat,

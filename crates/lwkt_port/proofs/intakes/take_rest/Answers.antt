@@ -12,7 +12,7 @@ use Rattle.lwkt_port.proofs.Passing.{calm_takes}
 use Rattle.lwkt_port.proofs.intakes.take_rest.Goals as goal
 
 pub returns-clause-takes : goal.returns-clause-takes
-returns-clause-takes c = λ before front.
+returns-clause-takes c = λ before front hands.
     let e = c.empty_front-count in
     let w : Work = work c.args.seat.now c.args.mails.now c.args.trace.now in
     let x : Intake = untaken w c.args.ports.now.items before in
@@ -20,7 +20,7 @@ returns-clause-takes c = λ before front.
     let F : ℕ → Type 0 = λ n. Chain Intake (EmptiesFrom c.args.limit) n x y in
     let now : vec_len c.args.lanes.now ≡ length c.args.lanes.now.items = search rules in
     let many : vec_len c.args.lanes.now ≡ length before = now ∙ front.as_many in
-    calm_takes c.args.limit c.clear_all.ensures.clears.0 w c.args.ports.now.items before y (hall (work c.clear_all.new.seat c.clear_all.new.mails c.clear_all.new.trace) e.new.lanes c.clear_all.new.ports) c.requires.owing (subst F many (e.ensures.notes before front)) c.clear_all.ensures.clears.1 refl
+    calm_takes c.args.limit c.clear_all.ensures.clears.0 w c.args.ports.now.items before y (hall (work c.clear_all.new.seat c.clear_all.new.mails c.clear_all.new.trace) e.new.lanes c.clear_all.new.ports) c.requires.owing hands (subst F many (e.ensures.notes before front)) c.clear_all.ensures.clears.1 refl
 
 pub returns-clause-leaves : goal.returns-clause-leaves
 returns-clause-leaves c =
