@@ -47,7 +47,7 @@ first_none s refs tok free broken = false≢true (sym free ∙ held_exclusive (h
 -- nothing was given up yet
 pub given_none : (s : CpuSeat) → GivenUp s s
 given_none s = record {
-  same = λ tok held. (section_from s s tok (entry s tok) refl refl refl refl refl refl, refl);
+  same = λ tok held. (section_from s s tok (entry s tok) refl refl refl refl refl refl refl, refl);
   given = λ tok free. (λ broken. absurd (false≢true (sym free ∙ held_exclusive (holding s tok) broken.exclusive)), λ fine. refl);
   records = λ tok free. (λ broken. absurd (false≢true (sym free ∙ held_exclusive (holding s tok) broken.exclusive)), λ fine. refl);
 }

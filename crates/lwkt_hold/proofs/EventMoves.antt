@@ -167,7 +167,7 @@ module _ (s m : CpuSeat) (tok : TokId) (restored : Bool) (t u v : List Event) (e
   ]
 
   goes_on : restored ≡ false → SameSection s m tok.0
-  goes_on is = record { row_is = (mends.no is).0; first_is = mends.first_is; blob_is = mends.no_blob is; first_blob_is = mends.first_blob_is; generation_is = mends.generation_is is }
+  goes_on is = record { row_is = (mends.no is).0; first_is = mends.first_is; blob_is = mends.no_blob is; first_blob_is = mends.first_blob_is; generation_is = mends.generation_is is; touched_is = mends.touched_is is }
 
   same_first : restored ≡ false → (IsUnwritten m tok.0 → IsUnwritten s tok.0) × (IsUnwritten s tok.0 → IsUnwritten m tok.0)
   same_first is = (unwritten_back s m tok.0 (goes_on is), unwritten_on s m tok.0 (goes_on is))

@@ -1,6 +1,6 @@
 use Rattle.std.proofs.Common.{◌≡◌, ◌≢◌, ◌⊎◌, ℕ, zero, suc, ◌+◌, ◌-◌, ◌<◌, ◌≤◌, Bool, true, false, cond, eqb, List, [], ◌∷◌, ◌++◌, length, take, get_or, refl, ap, sym, ◌∙◌, subst, arith, inl, inr, eq-eqb, append_assoc}
 use Rattle.std.specs.Prelude.{All, filter, Vec, vec_len, vec_capacity, Option, Some, None, slice_get, slice_index}
-use Rattle.std.specs.List.{AllZip}
+use Rattle.std.specs.List.{AllZip, list_any}
 use Rattle.std.specs.declared.alloc.Global.{Global}
 use Rattle.std.proofs.lemmas.List.{append-nil}
 use Rattle.std.proofs.lemmas.List.Elements.{All-append, filter-append, All-from_recursion, All-cons}
@@ -32,7 +32,7 @@ use Rattle.lwkt_bank.specs.Deeds.{reads, reads_all, writes_all, writes_blob_if}
 use Rattle.lwkt_bank.specs.Seats.{BankId, bank_of, plan_of, entry, holding, Changes, Knowing, PutsFirst, Restored, first_load, last_loads, lawful_loads, asked_record, written_over}
 use Rattle.lwkt_hold.specs.Steps.{is_counted, is_of_token, is_on_word, ShowsEvent, Tells}
 use Rattle.lwkt_hold.specs.Runs.{Moves, Ran}
-use Rattle.lwkt_hold.specs.Rows.{row, first_row, blob, first_blob, IsUnwritten, MeetsItsLaw, IsBroken, SameRow, SameSection, section_now, writes, writes_record, GivesBack, Mends}
+use Rattle.lwkt_hold.specs.Rows.{row, first_row, blob, first_blob, is_stored_to, IsUnwritten, MeetsItsLaw, IsBroken, SameRow, SameSection, section_now, writes, writes_record, GivesBack, Mends}
 use Rattle.lwkt_hold.specs.Givings.{StoresFirst, RestoresBy}
 use Rattle.lwkt_hold.proofs.HoldingMoves.{holding_of_more}
 use Rattle.lwkt_hold.proofs.RunMoves.{Moves-append, Tells-append, ran_quiet, ran_weaker, holding_kept}
@@ -277,13 +277,14 @@ same_law s m tok bank same alike meets =
     subst G (sym bank) (subst B (sym alike) (subst F (sym same) meets))
 
 -- what an entry leaves of rows and records
-pub section_from : (s m : CpuSeat) (tok : ℕ) (e : TokenEntry) → entry m tok ≡ e → e.row ≡ row s tok → e.first ≡ first_row s tok → e.blob ≡ blob s tok → e.first_blob ≡ first_blob s tok → e.generation ≡ (entry s tok).generation → SameSection s m tok
-section_from s m tok e is same first alike first_alike generation = record {
+pub section_from : (s m : CpuSeat) (tok : ℕ) (e : TokenEntry) → entry m tok ≡ e → e.row ≡ row s tok → e.first ≡ first_row s tok → e.blob ≡ blob s tok → e.first_blob ≡ first_blob s tok → e.generation ≡ (entry s tok).generation → e.touched ≡ (entry s tok).touched → SameSection s m tok
+section_from s m tok e is same first alike first_alike generation touched = record {
   row_is = ap (λ (x : TokenEntry). x.row) is ∙ same;
   first_is = ap (λ (x : TokenEntry). x.first) is ∙ first;
   blob_is = ap (λ (x : TokenEntry). x.blob) is ∙ alike;
   first_blob_is = ap (λ (x : TokenEntry). x.first_blob) is ∙ first_alike;
   generation_is = ap (λ (x : TokenEntry). x.generation) is ∙ generation;
+  touched_is = ap (λ (x : TokenEntry). x.touched) is ∙ touched;
 }
 
 pub row_from : (s m : CpuSeat) (tok : ℕ) (e : TokenEntry) → entry m tok ≡ e → e.row ≡ row s tok → e.first ≡ first_row s tok → e.blob ≡ blob s tok → e.first_blob ≡ first_blob s tok → SameRow s m tok
@@ -302,12 +303,13 @@ same_then a b c tok first second = record {
   blob_is = second.blob_is ∙ first.blob_is;
   first_blob_is = second.first_blob_is ∙ first.first_blob_is;
   generation_is = second.generation_is ∙ first.generation_is;
+  touched_is = second.touched_is ∙ first.touched_is;
 }
 
 -- a change of one token lets the sections of the others go on
 pub same_else : (s m : CpuSeat) (tok : ℕ) (e : TokenEntry) (deeds : List Deed) → Changes s m tok e deeds → (other : ℕ) → other ≢ tok → SameSection s m other
 same_else s m tok e deeds c other away =
-    section_from s m other (entry s other) (c.else_ other away) refl refl refl refl refl
+    section_from s m other (entry s other) (c.else_ other away) refl refl refl refl refl refl
 
 -- a section that goes on is the same one
 pub section_same : (a b : CpuSeat) (tok : TokId) → SameSection a b tok.0 → section_now b tok ≡ section_now a tok
@@ -345,6 +347,7 @@ module _ (s m : CpuSeat) (tok : ℕ) (restored : Bool) (held : is_held (holding 
           blob_is = (still left).blob_is ∙ mends.no_blob is;
           first_blob_is = (still left).first_blob_is ∙ mends.first_blob_is;
           generation_is = (still left).generation_is ∙ mends.generation_is is;
+          touched_is = (still left).touched_is ∙ mends.touched_is is;
         }
       ];
       yes = λ is. ((mends.yes is).0, same ∙ (mends.yes is).2, ended is);
@@ -362,8 +365,8 @@ same_rows s m tok other deeds k = elim (cases_Bool (eqb other tok)) [
   | inl is ↦
       let same = eqb-true other tok is in
       let F : ℕ → Type 0 = λ t. SameSection s m t in
-      subst F (sym same) (section_from s m tok (record (entry s tok) { known = k.known }) k.changes.here refl refl refl refl refl)
-  | inr is ↦ section_from s m other (entry s other) (k.changes.else_ other (eqb-false other tok is)) refl refl refl refl refl
+      subst F (sym same) (section_from s m tok (record (entry s tok) { known = k.known }) k.changes.here refl refl refl refl refl refl)
+  | inr is ↦ section_from s m other (entry s other) (k.changes.else_ other (eqb-false other tok is)) refl refl refl refl refl refl
 ]
 
 -- nothing is restored
@@ -372,7 +375,8 @@ mends_none s tok no_end = record {
   first_is = refl;
   first_blob_is = refl;
   generation_is = λ is. refl;
-  others = λ other away. section_from s s other (entry s other) refl refl refl refl refl refl;
+  touched_is = λ is. refl;
+  others = λ other away. section_from s s other (entry s other) refl refl refl refl refl refl refl;
   yes = λ is. cc;
   no = λ is. (refl, λ ends. absurd (no_end ends));
   yes_blob = λ is. cc;
@@ -384,6 +388,7 @@ mends_lawful s m tok deeds k meets = record {
   first_is = (same_rows s m tok tok deeds k).first_is;
   first_blob_is = (same_rows s m tok tok deeds k).first_blob_is;
   generation_is = λ is. (same_rows s m tok tok deeds k).generation_is;
+  touched_is = λ is. (same_rows s m tok tok deeds k).touched_is;
   others = λ other away. same_rows s m tok other deeds k;
   yes = λ is. cc;
   no = λ is. ((same_rows s m tok tok deeds k).row_is, λ ends. meets);
@@ -402,6 +407,7 @@ mends_broken s l m tok deeds k ends broken restored first brought first_brought 
   first_is = first ∙ (same_rows s l tok tok deeds k).first_is;
   first_blob_is = first_brought ∙ (same_rows s l tok tok deeds k).first_blob_is;
   generation_is = λ is. cc;
+  touched_is = λ is. cc;
   others = λ other away. same_then s l m other (same_rows s l tok other deeds k) (others other away);
   yes = λ is. (record { exclusive = exclusive_held (holding s tok) ends; broken = broken }, ends, restored ∙ (same_rows s l tok tok deeds k).first_is);
   no = λ is. cc;
@@ -409,14 +415,39 @@ mends_broken s l m tok deeds k ends broken restored first brought first_brought 
   no_blob = λ is. cc;
 }
 
--- the values of a restore make the row the first row
+-- the values of a restore are the first values of the cells that were stored to
 pub stores_first : (s s' : CpuSeat) (tok : ℕ) (values : List (Option ℕ)) (bytes : RecordOf) → Restored s s' tok values bytes → StoresFirst s tok values
-stores_first s s' tok values bytes r = record { makes_first = r.writes; inside = r.inside }
+stores_first s s' tok values bytes r = record { makes_first = r.writes; inside = r.inside; only = r.touched; each = r.each }
 
 -- a record that is put back as the first one, for a seat with the same records
 pub puts_same : (a s : CpuSeat) (tok : ℕ) (bytes : RecordOf) → SameSection a s tok → PutsFirst (entry s tok) bytes → PutsFirst (entry a tok) bytes
 puts_same a s tok None same puts = sym same.blob_is ∙ puts ∙ same.first_blob_is
 puts_same a s tok (Some bytes) same puts = (λ is. puts.0 (same.blob_is ∙ is ∙ sym same.first_blob_is), sym same.first_blob_is ∙ puts.1)
+
+-- a cell was stored to in a section that goes on exactly if it was before
+stored_same : (a s : CpuSeat) (tok cell : ℕ) → SameSection a s tok → is_stored_to s tok cell ≡ is_stored_to a tok cell
+stored_same a s tok cell same = ap (λ (cells : List ℕ). list_any (λ c. eqb c cell) cells) same.touched_is
+
+-- the values of a restore are the same for a seat whose section of the token is the same
+first_same : (a s : CpuSeat) (tok : ℕ) (values : List (Option ℕ)) → bank_of s ≡ bank_of a → SameSection a s tok → StoresFirst s tok values → StoresFirst a tok values
+first_same a s tok values bank same stores = record {
+  makes_first = ap (λ xs. written_over 0 values xs) (sym same.row_is) ∙ stores.makes_first ∙ same.first_is;
+  inside = λ cell value at. below cell (stores.inside cell value at);
+  only = λ cell value at. let o = stores.only cell value at in (sym (stored_same a s tok cell same) ∙ o.0, o.1 ∙ first cell);
+  each = λ cell within touched. stores.each cell (above cell within) (stored_same a s tok cell same ∙ touched) ∙ ap (λ (value : ℕ). Some (Some value)) (first cell);
+}
+  where
+    cells : bank_of s ≡ bank_of a → (plan_of (bank_of s) tok).cells ≡ (plan_of (bank_of a) tok).cells
+    cells is = ap (λ (b : BankId). (plan_of b tok).cells) is
+
+    below : (cell : ℕ) → cell < (plan_of (bank_of s) tok).cells → cell < (plan_of (bank_of a) tok).cells
+    below cell within = subst (λ (n : ℕ). cell < n) (cells bank) within
+
+    above : (cell : ℕ) → cell < (plan_of (bank_of a) tok).cells → cell < (plan_of (bank_of s) tok).cells
+    above cell within = subst (λ (n : ℕ). cell < n) (sym (cells bank)) within
+
+    first : (cell : ℕ) → slice_index (first_row s tok) cell ≡ slice_index (first_row a tok) cell
+    first cell = ap (λ (xs : List ℕ). slice_index xs cell) same.first_is
 
 -- the events of a restore are the same for a seat whose row and record of the token are the same
 pub restores_same : (a s : CpuSeat) (tok : TokId) (behind done : List Event) → bank_of s ≡ bank_of a → s.cpu ≡ a.cpu → SameSection a s tok.0 → RestoresBy s tok behind done → RestoresBy a tok behind done
@@ -425,18 +456,12 @@ restores_same a s tok behind done bank mine same r = (
   (
     r.1.0,
     (
-      record {
-        makes_first = ap (λ xs. over xs) (sym same.row_is) ∙ r.1.1.0.makes_first ∙ same.first_is;
-        inside = let G : BankId → Type 0 = λ b. (cell value : ℕ) → slice_get r.0 cell ≡ Some (Some value) → cell < (plan_of b tok.0).cells in subst G bank r.1.1.0.inside;
-      },
+      first_same a s tok.0 r.0 bank same r.1.1.0,
       puts_same a s tok.0 r.1.0 same r.1.1.1,
       r.1.1.2 ∙ ap (λ (c : CpuId). writes c tok 0 r.0 ++ (writes_record c tok r.1.0 ++ behind)) mine,
     ),
   ),
 )
-  where
-    over : List ℕ → List ℕ
-    over xs = written_over 0 r.0 xs
 
 -- the same with more events behind them
 pub restores_before : (s : CpuSeat) (tok : TokId) (more done : List Event) → RestoresBy s tok [] done → RestoresBy s tok more (done ++ more)

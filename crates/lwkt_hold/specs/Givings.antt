@@ -1,4 +1,4 @@
-use Rattle.std.specs.Prelude.{◌≡◌, ◌≢◌, ◌⊎◌, ℕ, Bool, ◌==◌, ◌<◌, if◌then◌else◌, List, [], ◌∷◌, ◌++◌, Option, Some, slice_get}
+use Rattle.std.specs.Prelude.{◌≡◌, ◌≢◌, ◌⊎◌, ℕ, Bool, true, ◌==◌, ◌<◌, if◌then◌else◌, List, [], ◌∷◌, ◌++◌, Option, Some, slice_get, slice_index}
 use Rattle.lwkt_base.specs.declared.names.CpuId.{CpuId}
 use Rattle.lwkt_base.specs.declared.names.TokId.{TokId}
 use Rattle.lwkt_base.specs.declared.names.Mode.TheVariants.{Exclusive, Shared}
@@ -11,7 +11,7 @@ use Rattle.lwkt_core.specs.declared.events.Event.TheVariants.{GiveOne, GiveClean
 use Rattle.lwkt_bank.specs.declared.seats.CpuSeat.{CpuSeat}
 use Rattle.lwkt_bank.specs.Views.{RecordOf}
 use Rattle.lwkt_bank.specs.Seats.{bank_of, plan_of, entry, holding, written_over, PutsFirst}
-use Rattle.lwkt_hold.specs.Rows.{row, first_row, section_now, IsUnwritten, MeetsItsLaw, GivesBack, writes, writes_record}
+use Rattle.lwkt_hold.specs.Rows.{row, first_row, is_stored_to, section_now, IsUnwritten, MeetsItsLaw, GivesBack, writes, writes_record}
 
 -- the event of giving a reference to a token back of which so much is held, and whose row and record are its first ones
 abbrev pub gives : CpuId → TokId → Held → Event
@@ -32,17 +32,21 @@ GivesBy s tok event =
     ⊎ ((holding s tok.0 ≡ Holds Exclusive 0) × IsUnwritten s tok.0 × (event ≡ GiveClean s.cpu tok))
     ⊎ ((holding s tok.0 ≡ Holds Exclusive 0) × (¬ IsUnwritten s tok.0) × (event ≡ GiveWritten s.cpu tok (section_now s tok)))
 
--- these values, stored in the cells of a token, make its row the section's first row, and each is stored in a cell that exists
+-- these values are the first values of exactly the cells of a token that were stored to since its section began, each at its cell's
+-- place; stored in their cells they make its row the section's first row
 pub record StoresFirst (s : CpuSeat) (tok : ℕ) (values : List (Option ℕ)) : Type 0 where
   pub makes_first : written_over 0 values (row s tok) ≡ first_row s tok
   pub inside : (cell value : ℕ) → slice_get values cell ≡ Some (Some value) → cell < (plan_of (bank_of s) tok).cells
+  pub only : (cell value : ℕ) → slice_get values cell ≡ Some (Some value) → (is_stored_to s tok cell ≡ true) × (value ≡ slice_index (first_row s tok) cell)
+  pub each : (cell : ℕ) → cell < (plan_of (bank_of s) tok).cells → is_stored_to s tok cell ≡ true → slice_get values cell ≡ Some (Some (slice_index (first_row s tok) cell))
 
--- the events of a restore, and behind them these: the stores of first values, and of the first record if the record was another
+-- the events of a restore, and behind them these: the stores of the first values of exactly the cells that were stored to, rising, and
+-- of the first record exactly if the record was another
 abbrev pub RestoresBy : CpuSeat → TokId → List Event → List Event → Type 0
 RestoresBy s tok behind events = (values : List (Option ℕ)) × ((bytes : RecordOf) × (StoresFirst s tok.0 values × PutsFirst (entry s tok.0) bytes × (events ≡ writes s.cpu tok 0 values ++ (writes_record s.cpu tok bytes ++ behind))))
 
 -- the events of giving a reference back to a token of which so much is held: one reference less; or the end of a section, which
--- is clean or written, and where the law is broken the stores of first values and of the first record and then a clean end (own)
+-- is clean or written, and where the law is broken the events of a restore and then a clean end (own)
 abbrev pub Releases : CpuSeat → Held → TokId → List Event → Type 0
 Releases s held tok events =
     ((held ≢ Holds Exclusive 0) × (events ≡ GiveOne s.cpu tok ∷ []))

@@ -14,7 +14,7 @@ use Rattle.lwkt_hold.specs.declared.answers.Blocked.TheVariants.{Clean, Restored
 use Rattle.lwkt_hold.specs.Fronts.{names}
 use Rattle.lwkt_bank.specs.declared.seats.CpuSeat.{CpuSeat}
 use Rattle.lwkt_base.specs.declared.sections.Section.{Section}
-use Rattle.lwkt_bank.specs.Views.{RecordOf, section_of}
+use Rattle.lwkt_bank.specs.Views.{RecordOf, is_touched, section_of}
 use Rattle.lwkt_bank.specs.Seats.{bank_of, plan_of, entry, holding, IsCleanIn}
 
 -- the row of a token that a seat holds, and the first row of its section
@@ -30,6 +30,10 @@ blob s tok = (entry s tok).blob
 
 abbrev pub first_blob : CpuSeat → ℕ → RecordOf
 first_blob s tok = (entry s tok).first_blob
+
+-- whether a cell of a token was stored to since its section began
+abbrev pub is_stored_to : CpuSeat → ℕ → ℕ → Bool
+is_stored_to s tok cell = is_touched (entry s tok) cell
 
 -- row and record of a token obey its law
 abbrev pub MeetsItsLaw : CpuSeat → ℕ → Type 0
@@ -51,13 +55,15 @@ pub record SameRow (old new : CpuSeat) (tok : ℕ) : Type 0 where
   pub blob_is : blob new tok ≡ blob old tok
   pub first_blob_is : first_blob new tok ≡ first_blob old tok
 
--- row, first row, record, first record and generation of a token are as before: a section that is open goes on
+-- row, first row, record, first record and generation of a token are as before, and the cells that were stored to since its section
+-- began: a section that is open goes on
 pub record SameSection (old new : CpuSeat) (tok : ℕ) : Type 0 where
   pub row_is : row new tok ≡ row old tok
   pub first_is : first_row new tok ≡ first_row old tok
   pub blob_is : blob new tok ≡ blob old tok
   pub first_blob_is : first_blob new tok ≡ first_blob old tok
   pub generation_is : (entry new tok).generation ≡ (entry old tok).generation
+  pub touched_is : (entry new tok).touched ≡ (entry old tok).touched
 
 -- the section of a token that would end now
 abbrev pub section_now : CpuSeat → TokId → Section
@@ -90,6 +96,7 @@ pub record Mends (old new : CpuSeat) (tok : ℕ) (restored : Bool) : Type 0 wher
   pub first_is : first_row new tok ≡ first_row old tok
   pub first_blob_is : first_blob new tok ≡ first_blob old tok
   pub generation_is : restored ≡ false → (entry new tok).generation ≡ (entry old tok).generation
+  pub touched_is : restored ≡ false → (entry new tok).touched ≡ (entry old tok).touched
   pub others : (other : ℕ) → other ≢ tok → SameSection old new other
   pub yes : restored ≡ true → IsBroken old tok × (holding old tok ≡ Holds Exclusive 0) × (row new tok ≡ first_row old tok)
   pub no : restored ≡ false → (row new tok ≡ row old tok) × (holding old tok ≡ Holds Exclusive 0 → MeetsItsLaw old tok)
