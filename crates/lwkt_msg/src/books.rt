@@ -37,8 +37,8 @@ impl MsgBook {
     ghost use Rattle.lwkt_msg.specs.Desks.{AreOpened, AreClosed};
 
     /// Opens a book of at most 64 messages, with a seat for each of 1 to 8 processors. Each message is at rest, and its
-    /// origin has its record. 32: an allocation was refused. 39: a limit is passed, a round is past the last, or the
-    /// processor of an origin isn't there.
+    /// origin has its record. 39 exactly if a limit is passed, a round is past the last, or the processor of an origin
+    /// isn't there; that is looked at before any memory is asked for. 32: an allocation was refused.
     pub fn open(
         alloc: Global,
         specs: &[MsgSpec],
@@ -46,13 +46,13 @@ impl MsgBook {
     ) -> Result<(MsgBook, Vec<MsgSeat>), Fault>
         ensures { MatchResult result
             (λ r. AreWithin cpus [] specs.now × AreOpened cpus specs.now r.0 r.1.items)
-            (λ fault. (fault ≡ Memory) ⊎ ((fault ≡ Limits) × (AreWithin cpus [] specs.now → ⊥))) }
+            (λ fault. ((fault ≡ Memory) × AreWithin cpus [] specs.now) ⊎ ((fault ≡ Limits) × ¬ AreWithin cpus [] specs.now)) }
     {
-        let seats = Vec::with_capacity(alloc, 8).map_err(|_| Fault::Memory)?;
-        let known = known_specs(alloc, specs).map_err(|_| Fault::Memory)?;
         if !are_within(cpus, &[], specs) {
             return Err(Fault::Limits);
         }
+        let seats = Vec::with_capacity(alloc, 8).map_err(|_| Fault::Memory)?;
+        let known = known_specs(alloc, specs).map_err(|_| Fault::Memory)?;
         let layout = Key { specs: known, cpus };
         MsgBook::open_within(alloc, specs, layout, seats).map_err(|_| Fault::Memory)
     }
