@@ -1,7 +1,9 @@
 use Rattle.std.proofs.Common.{eqb, ◌≡◌, ◌≢◌, ℕ, ◌<◌, Bool, true, false, cond, List, ◌∷◌, set, None, Some, refl, ap, sym, ◌∙◌, subst, arith}
 use Rattle.std.specs.Prelude.{slice_index}
 use Rattle.std.proofs.lemmas.Bool.{eqb-true, eqb-false}
-use mathlib.Core.Option.{some, none, some-injective}
+use Rattle.std.proofs.lemmas.List.{set-get_or}
+use Rattle.lwkt_core.proofs.SeatingLemmas.{set_again}
+use mathlib.Core.Option.{some, none}
 use lib.ListN.{get_elem?}
 use Rattle.atomic_table.specs.Table.{Act, Step, Me, keeps, takes, gives, chain, rest, put_back, carried_after, homes_after, Valid, stepped, Allows}
 use Rattle.lwkt_core.specs.declared.seats.Deed.{Deed}
@@ -10,10 +12,11 @@ use Rattle.lwkt_bank.specs.declared.views.View.{View}
 use Rattle.lwkt_bank.specs.Views.{RecordOf, at}
 use Rattle.lwkt_bank.specs.Hands.{Has, AreSame, AreHands, TakesOut, PutsBack, Brings}
 use Rattle.lwkt_bank.specs.Rule.{Bench, Homes, moved, without, token_word, cell_word}
-use Rattle.lwkt_bank.specs.Plays.{Amid, at_word, at_cell, takes_out, puts_back, reads_record, writes_record, Exchanges, ReadsBlob, WritesBlob}
+use Rattle.lwkt_bank.specs.Plays.{Amid, at_word, at_cell, takes_out, puts_back, brings_record, reads_record, writes_record, Exchanges, ReadsBlob, WritesBlob}
 use Rattle.lwkt_base.specs.declared.names.Mode.TheVariants.{Exclusive}
 use Rattle.lwkt_bank.specs.Told.{Told, Deeds, stays, taken_home, given_home, FindsAt}
 use Rattle.lwkt_bank.proofs.HandMoves.{Brought, bring}
+use Rattle.lwkt_bank.proofs.GuardMoves.{front_same}
 
 module _ (plans : List Plan) (cpus slots id : ℕ) (me : Me (List ℕ) View) (st : Step (List ℕ)) where
   -- a word's place tells its token
@@ -108,25 +111,29 @@ module _ (plans : List Plan) (cpus slots id : ℕ) (me : Me (List ℕ) View) (st
       let F : ℕ → Type 0 = λ k. Amid me.0 (λ between. ReadsBlob between k me.0 x.0) × Brings k me.1 (carried_after me.1 b.act) in
       (x.0, b.act, b.valid, subst T (sym b.homes_same) x.1.0, λ other at_other. subst F (one_first tok other at_tok at_other) (x.1.1.1, brings tok bytes s b))
 
-  pub allow_write_record : (tok : ℕ) (new : List ℕ) (f : ℕ → ℕ) (deed : ℕ → Deed) → st.word ≡ cell_word tok 0 → st.said ≡ some new → AreHands me.0 me.1
+  -- a load that is no deed leaves the table as it is
+  pub allow_bring : (tok : ℕ) → st.word ≡ cell_word tok 0 → AreHands me.0 me.1
       → ((s : Bench) → Told plans cpus s → get_elem? s.views id ≡ some me.0 → (k : ℕ) (bytes : List ℕ) → Has me.1 k bytes → get_elem? s.homes k ≡ some none)
-      → (bytes : List ℕ) → Has me.1 tok bytes
-      → Deeds plans cpus id me.0 (cell_word tok 0) f deed stays (λ _ _ w. Amid me.0 (λ between. WritesBlob new between tok me.0 w)) → Allows (Told plans cpus) slots id me (cell_word tok 0) f (writes_record st me)
-  allow_write_record tok new f deed at_tok said hands out bytes has deeds s told homes here fits =
-      let x = deeds s told here fits in
-      let n = slice_index s.words (cell_word tok 0) in
+      → (bytes : List ℕ) → Has me.1 tok bytes → Allows (Told plans cpus) slots id me (cell_word tok 0) (λ n. n) (brings_record st me)
+  allow_bring tok at_tok hands out bytes has s told homes here fits =
+      let i = cell_word tok 0 in
       let b = brought hands s (out s told here) tok bytes has in
-      let T : Homes → Type 0 = λ h. Told plans cpus (moved s (cell_word tok 0) (f n) id x.0 h) in
-      let F : ℕ → Type 0 = λ k. Amid me.0 (λ between. WritesBlob new between k me.0 x.0) × Brings k me.1 (carried_after me.1 b.act) in
-      let G : ℕ → List ℕ → Type 0 = λ k o. Amid me.0 (λ between. WritesBlob o between k me.0 x.0) × Brings k me.1 (carried_after me.1 b.act) in (
-        x.0,
-        b.act,
-        b.valid,
-        subst T (sym b.homes_same) x.1.0,
-        λ other told_bytes at_other told_is.
-            let same : new ≡ told_bytes = some-injective new told_bytes (sym said ∙ told_is) in
-            subst (λ (o : List ℕ). G other o) same (subst F (one_first tok other at_tok at_other) (x.1.1.1, brings tok bytes s b)),
-      )
+      let W : List ℕ → Type 0 = λ ws. Told plans cpus (record { words = ws; homes = s.homes; views = s.views }) in
+      let H : Homes → Type 0 = λ hs. Told plans cpus (record { words = set s.words i (slice_index s.words i); homes = hs; views = s.views }) in
+      let V : List View → Type 0 = λ vs. Told plans cpus (record { words = set s.words i (slice_index s.words i); homes = homes_after s.homes me.1 b.act; views = vs }) in
+      let after = subst V (sym (set_again s.views id me.0 here)) (subst H (sym b.homes_same) (subst W (sym (set-get_or s.words i 0)) told)) in
+      let F : ℕ → Type 0 = λ k. Brings k me.1 (carried_after me.1 b.act) in
+      (me.0, b.act, b.valid, after, λ other at_other. (refl, subst F (one_first tok other at_tok at_other) (brings tok bytes s b)))
+
+  -- a record in front that was written
+  pub allow_write_record : (tok : ℕ) (new : List ℕ) (f : ℕ → ℕ) (deed : ℕ → Deed) → st.word ≡ cell_word tok 0 → me.1 ≡ (tok, new) ∷ rest me.1
+      → Deeds plans cpus id me.0 (cell_word tok 0) f deed stays (λ _ _ w. Amid me.0 (λ between. WritesBlob new between tok me.0 w)) → Allows (Told plans cpus) slots id me (cell_word tok 0) f (writes_record st me)
+  allow_write_record tok new f deed at_tok front deeds s told homes here fits =
+      let x = deeds s told here fits in
+      let R : ℕ → List ℕ → Type 0 = λ k o. Amid me.0 (λ between. WritesBlob o between k me.0 x.0) × (me.1 ≡ me.1) in
+      let F : ℕ → Type 0 = λ k. (o : List ℕ) → me.1 ≡ (k, o) ∷ rest me.1 → R k o in
+      let here_told : F tok = λ o in_front. subst (λ (bytes : List ℕ). R tok bytes) (front_same tok new o me.1 (rest me.1) (rest me.1) front in_front) (x.1.1.1, refl) in
+      (x.0, keeps, tt, x.1.0, λ other o at_other in_front. subst F (one_first tok other at_tok at_other) here_told o in_front)
 
   -- a cell's place tells its token and its number
   at_one_cell : (tok cell : ℕ) (P : ℕ → ℕ → Type 0) → cell < 4 → st.word ≡ cell_word tok cell → P tok cell → (other c : ℕ) → c < 4 → st.word ≡ cell_word other c → P other c

@@ -3,7 +3,7 @@ use Rattle.std.specs.Prelude.{slice_index, bit_or, is_some}
 use mathlib.Core.Option.{some, none}
 use lib.ListN.{get_elem?}
 use prog.Atomic.{either}
-use Rattle.atomic_table.specs.Table.{Me, step, Allows}
+use Rattle.atomic_table.specs.Table.{Me, step, rest, Allows}
 use Rattle.atomic_table.specs.declared.shared.Seat.{Seat}
 use Rattle.lwkt_base.specs.declared.names.CpuId.{CpuId}
 use Rattle.lwkt_base.specs.declared.names.TokId.{TokId}
@@ -14,6 +14,7 @@ use Rattle.lwkt_base.specs.declared.words.Decision.TheVariants.{Take as Takes}
 use Rattle.lwkt_base.specs.Holding.{is_held, is_exclusive}
 use Rattle.lwkt_core.specs.declared.events.Event.TheVariants.{Load, Take, Share}
 use Rattle.lwkt_core.specs.declared.seats.Deed.{Deed}
+use Rattle.lwkt_core.specs.declared.seats.SeatKind.TheVariants.{Of}
 use Rattle.lwkt_core.specs.Tokens.{IsNotLastExclusive}
 use Rattle.lwkt_bank.specs.declared.views.Plan.{Plan}
 use Rattle.lwkt_bank.specs.declared.views.View.{View}
@@ -24,15 +25,21 @@ use Rattle.lwkt_bank.specs.Deeds.{deed_by, loads, adds_one, marks, gives_one, gi
 use Rattle.lwkt_bank.specs.Hands.{Has, AreHands, IsInHand}
 use Rattle.lwkt_bank.specs.Told.{Told, stays, given_home, Deeds}
 use Rattle.lwkt_bank.specs.Rule.{Bench, token_word, cell_word, plan_at}
-use Rattle.lwkt_bank.specs.Plays.{Amid, at_word, at_cell, takes_out, puts_back, reads_record, writes_record, Looks, Exchanges, AddsOne, Marks, GivesOne, GivesClean, GivesWritten, ReadsCell, StoresCell, RaisesCell}
+use Rattle.lwkt_bank.specs.Plays.{Amid, at_word, at_cell, takes_out, puts_back, brings_record, reads_record, writes_record, Looks, Exchanges, AddsOne, Marks, GivesOne, GivesClean, GivesWritten, ReadsCell, StoresCell, RaisesCell}
 use Rattle.lwkt_bank.specs.Seats.{IsOf, IsCleanIn, IsLawfulIn, Decides}
-use Rattle.lwkt_bank.proofs.AllowMoves.{allow_word, allow_take, allow_give, allow_read_record, allow_write_record, allow_cell, allow_store}
+use Rattle.lwkt_bank.proofs.AllowMoves.{allow_word, allow_take, allow_give, allow_read_record, allow_bring, allow_write_record, allow_cell, allow_store}
 use Rattle.lwkt_bank.proofs.DeedMoves.{look_deeds, take_deeds, share_deeds, again_deeds, mark_deeds, give_one_deeds, give_clean_deeds, give_written_deeds, read_deeds, store_deeds, raise_deeds, read_blob_deeds, write_blob_deeds}
 use Rattle.lwkt_bank.proofs.SeatMoves.{slot_out}
 use Rattle.lwkt_bank.proofs.HandMoves.{from_there}
 
 one_record : (xs ys : List ℕ) → Some xs ≡ Some ys → xs ≡ ys
 one_record xs ys same = cc
+
+-- a seat with the same view of the same table
+pub of_still : (bank : Bank) (seat seat' : Seat (List ℕ) View) → seat'.table_id ≡ seat.table_id → seat'.me.0 ≡ seat.me.0 → IsOf bank seat → IsOf bank seat'
+of_still bank seat seat' table view of =
+    let F : View → Type 0 = λ w. w.kind ≡ Of (who w) in
+    record { table = table ∙ of.table; plans = ap (λ (w : View). w.plans) view ∙ of.plans; named = subst F (sym view) of.named }
 
 module _ (bank : Bank) (seat : Seat (List ℕ) View) (tok : ℕ) (of : IsOf bank seat) (there : tok < length bank.key.plans.items) where
   abbrev key : Key
@@ -185,13 +192,23 @@ module _ (bank : Bank) (seat : Seat (List ℕ) View) (tok : ℕ) (of : IsOf bank
             (read_blob_deeds key.plans.items key.cpus seat.id v of.named tok there' has.0 held.0 known.2),
       )
 
-  pub write_record_asks : (word : ℕ) (bytes : List ℕ) → word ≡ cell_word tok 0 → AreHands v seat.me.1 → IsInHand v tok → length bytes ≤ 64 → Asks word (λ n. either (eqb n 0) 0 n) (writes_record (step slots word 0 0 (some bytes)) seat.me)
-  write_record_asks word bytes is hands held short =
-      let F : ℕ → Type 0 = λ w. Asks w (λ n. either (eqb n 0) 0 n) (writes_record (step slots w 0 0 (some bytes)) seat.me) in
+  pub bring_record_asks : (word : ℕ) → word ≡ cell_word tok 0 → AreHands v seat.me.1 → IsInHand v tok → Asks word (λ n. n) (brings_record (step slots word 0 0 none) seat.me)
+  bring_record_asks word is hands held =
+      let F : ℕ → Type 0 = λ w. Asks w (λ n. n) (brings_record (step slots w 0 0 none) seat.me) in
       let has = from_there seat.me.1 tok (hands.each tok held) in
       subst F (sym is) (
         of.table,
         cell_there 0 (omega arith),
-        allow_write_record key.plans.items key.cpus slots seat.id seat.me (step slots (cell_word tok 0) 0 0 (some bytes)) tok bytes (λ n. either (eqb n 0) 0 n) (λ _. writes_blob cpu tok bytes) refl refl hands (hands_out hands) has.0 has.1
+        allow_bring key.plans.items key.cpus slots seat.id seat.me (step slots (cell_word tok 0) 0 0 none) tok refl hands (hands_out hands) has.0 has.1,
+      )
+
+  -- the record in front, which was written
+  pub write_record_asks : (word : ℕ) (bytes : List ℕ) → word ≡ cell_word tok 0 → seat.me.1 ≡ (tok, bytes) ∷ rest seat.me.1 → IsInHand v tok → length bytes ≤ 64 → Asks word (λ n. n) (writes_record (step slots word 0 0 none) seat.me)
+  write_record_asks word bytes is front held short =
+      let F : ℕ → Type 0 = λ w. Asks w (λ n. n) (writes_record (step slots w 0 0 none) seat.me) in
+      subst F (sym is) (
+        of.table,
+        cell_there 0 (omega arith),
+        allow_write_record key.plans.items key.cpus slots seat.id seat.me (step slots (cell_word tok 0) 0 0 none) tok bytes (λ n. n) (λ _. writes_blob cpu tok bytes) refl front
             (write_blob_deeds key.plans.items key.cpus seat.id v of.named tok there' bytes held short),
       )

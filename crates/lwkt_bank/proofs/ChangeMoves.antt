@@ -1,7 +1,5 @@
-use Rattle.std.proofs.Common.{eq-eqb, ⊎_elim, Bool, true, false, cond, ◌≡◌, ◌≢◌, ℕ, ◌+◌, ◌<◌, ◌≤◌, List, [], ◌∷◌, ◌++◌, length, refl, ap, sym, ◌∙◌, subst, arith, set, zero, suc, take, get_or, Option, None, length-take, get_or-set_same, append_assoc}
+use Rattle.std.proofs.Common.{eq-eqb, ⊎_elim, Bool, true, cond, ◌≡◌, ◌≢◌, ℕ, ◌+◌, ◌<◌, ◌≤◌, List, [], ◌∷◌, ◌++◌, length, refl, ap, sym, ◌∙◌, subst, arith, set, zero, suc, take, get_or, Option, None, length-take, append_assoc}
 use Rattle.std.specs.Prelude.{slice_get, slice_index, All, Some, is_some}
-use Rattle.lwkt_bank.specs.declared.notes.Touch.{Touch}
-use Rattle.lwkt_bank.specs.declared.notes.KeptBlob.{KeptBlob}
 use Rattle.atomic_table.specs.declared.shared.Seat.{Seat}
 use Rattle.lwkt_base.specs.declared.names.CpuId.{CpuId}
 use Rattle.lwkt_core.specs.declared.seats.SeatKind.TheVariants.{Of}
@@ -16,7 +14,7 @@ use Rattle.lwkt_bank.specs.declared.banks.Bank.{Bank}
 use Rattle.lwkt_bank.specs.declared.seats.CpuSeat.{CpuSeat}
 use Rattle.std.proofs.lemmas.Bool.{cases_eq}
 use Rattle.std.proofs.Math.Path.{fun_ext}
-use Rattle.std.proofs.lemmas.List.{get_or-take, ext_get_or, get_or_default, set-set}
+use Rattle.std.proofs.lemmas.List.{get_or-take, ext_get_or, get_or_default}
 use Rattle.lwkt_base.specs.Holding.{is_held, is_exclusive}
 use Rattle.lwkt_base.specs.declared.names.Mode.{Mode}
 use Rattle.lwkt_base.specs.declared.names.Mode.TheVariants.{Exclusive, Shared}
@@ -33,11 +31,11 @@ use Rattle.lwkt_bank.proofs.GuardMoves.{hands_alike, hands_put, hands_taken, han
 use Rattle.lwkt_bank.specs.Views.{RecordOf, listed, wrote_record, at, noted, seat_cpu, who, read, seen, looked, taken, generation_in, raised, count_from}
 use Rattle.lwkt_bank.specs.Deeds.{loads, takes, loses, writes}
 use Rattle.lwkt_bank.specs.Rule.{plan_at}
-use Rattle.lwkt_bank.specs.Notes.{Keeps, IsNoted, no_note, note_at, begun, note_wrote, first_record, kept_bytes, FitsKept, is_stored, is_other}
+use Rattle.lwkt_bank.specs.Notes.{Keeps, IsNoted, no_note, note_at, begun, note_wrote, first_record, Overwrites}
 use Rattle.lwkt_bank.specs.declared.notes.TokenNote.{TokenNote}
 use Rattle.lwkt_bank.specs.Seats.{BankId, id_of, bank_of, tokens_of, plan_of, entry, past_of, holding, references, IsOf, Changes, Knowing, IsUnchanged, written_over, Looked, Took, Lost, Hit, Miss, Decides}
 use Rattle.lwkt_bank.proofs.ViewMoves.{at-here, at-else, at-tok}
-use Rattle.lwkt_bank.proofs.NoteMoves.{seat_told, IsNoted-seen, IsNoted-missed, IsNoted-wrote, short_old, Keeps-kept, Keeps-set}
+use Rattle.lwkt_bank.proofs.NoteMoves.{seat_told, IsNoted-seen, IsNoted-missed, IsNoted-wrote, Keeps-kept, Keeps-set}
 use Rattle.lwkt_bank.proofs.TurnMoves.{seen-keeps, exclusive_held}
 
 -- a seat is at the bank that it names
@@ -355,19 +353,15 @@ keeps_changed s w tok e between deed f d note room is there is_tok note_is here 
     subst F (sym (note_is ∙ ap f (note_read s tok d room))) (keeps_set s w tok e between deed (f (note_at s.notes tok)) room is there is_tok here)
 
 -- and after the note was written before an exchange, and taken back since that lost
-pub keeps_missed : (s : CpuSeat) (w : View) (tok g : ℕ) (between : List Deed) (deed : Deed) (mode : Mode) (d d' note : TokenNote) → tok < 64 → w ≡ noted between s.seat.me.0 (seen (entry s tok) g) deed → tok < length s.seat.me.0.plans → (entry s tok).held ≡ Nothing → note ≡ begun (get_or s.notes tok d) mode
-    → Keeps (set (set s.notes tok note) tok (record (get_or (set s.notes tok note) tok d') { references = 0 })) s.cpu w
-keeps_missed s w tok g between deed mode d d' note room is there free note_is =
-    let sized = s.sized in
-    let inside : tok < length s.notes = omega arith in
+pub keeps_missed : (s : CpuSeat) (w : View) (tok g : ℕ) (between : List Deed) (deed : Deed) (mode : Mode) (d note last : TokenNote) → tok < 64 → w ≡ noted between s.seat.me.0 (seen (entry s tok) g) deed → tok < length s.seat.me.0.plans → (entry s tok).held ≡ Nothing → note ≡ begun (get_or s.notes tok d) mode → last ≡ record note { references = 0 }
+    → Keeps (set s.notes tok last) s.cpu w
+keeps_missed s w tok g between deed mode d note last room is there free note_is last_is =
     let none : TokenNote → TokenNote = λ m. record m { references = 0 } in
-    let last : none (get_or (set s.notes tok note) tok d') ≡ none (begun (note_at s.notes tok) mode)
-    = ap none (get_or-set_same s.notes tok note d' inside ∙ note_is ∙ ap (λ (m : TokenNote). begun m mode) (note_read s tok d room)) in
-    let F : List TokenNote → Type 0 = λ ns. Keeps ns s.cpu w in
+    let ends : last ≡ none (begun (note_at s.notes tok) mode) = last_is ∙ ap none (note_is ∙ ap (λ (m : TokenNote). begun m mode) (note_read s tok d room)) in
+    let F : TokenNote → Type 0 = λ m. Keeps (set s.notes tok m) s.cpu w in
     let e = entry s tok in
     let here = IsNoted-seen (plan_at s.seat.me.0.plans tok) s.cpu.0 e g (none (begun (note_at s.notes tok) mode)) (IsNoted-missed (plan_at s.seat.me.0.plans tok) s.cpu.0 e mode (note_at s.notes tok) free (s.kept.each tok there)) in
-    subst F (sym (set-set s.notes tok note (none (get_or (set s.notes tok note) tok d')) ∙ ap (λ (m : TokenNote). set s.notes tok m) last))
-    (keeps_set s w tok (seen e g) between deed (none (begun (note_at s.notes tok) mode)) room is there ((seen-keeps e g).0 ∙ at-tok s.seat.me.0.tokens tok) here)
+    subst F (sym ends) (keeps_set s w tok (seen e g) between deed (none (begun (note_at s.notes tok) mode)) room is there ((seen-keeps e g).0 ∙ at-tok s.seat.me.0.tokens tok) here)
 
 -- a token that has a record by what is declared, and is held exclusively, has its record in hand
 pub guard_held : (s : CpuSeat) (tok : ℕ) → tok < length s.seat.me.0.plans → is_exclusive (holding s tok) ≡ true → is_some (plan_at s.seat.me.0.plans tok).blob ≡ true → IsInHand s.seat.me.0 tok
@@ -378,21 +372,13 @@ bytes_same xs ys is = cc
 
 -- what a seat keeps after a record was written
 pub keeps_wrote : (s : CpuSeat) (w : View) (tok : ℕ) (between : List Deed) (d : Deed) (old new : List ℕ) (from after : TokenNote) → tok < 64 → w ≡ noted between s.seat.me.0 (wrote_record (entry s tok) new) d → tok < length s.seat.me.0.plans → is_exclusive (holding s tok) ≡ true → (entry s tok).blob ≡ Some old
-    → ((touch : Touch) × ((kept : KeptBlob) × ((after ≡ note_wrote (get_or s.notes tok from) kept touch) × FitsKept kept × (kept_bytes kept ≡ first_record (get_or s.notes tok from) old) × (is_stored touch ≡ true) × (is_other touch ≡ false → new ≡ first_record (get_or s.notes tok from) old) × (is_other touch ≡ true → new ≢ first_record (get_or s.notes tok from) old))))
+    → Overwrites (get_or s.notes tok from) after old new
     → Keeps (set s.notes tok after) s.cpu w
 keeps_wrote s w tok between d old new from after room is there held blob_is wrote =
     let n = get_or s.notes tok from in
     let same : n ≡ note_at s.notes tok = note_read s tok from room in
     let e = wrote_record (entry s tok) new in
     let F : TokenNote → Type 0 = λ m. IsNoted (plan_at s.seat.me.0.plans tok) s.cpu.0 (entry s tok) m in
-    let x = wrote.1.1 in
-    let noted' = IsNoted-wrote (plan_at s.seat.me.0.plans tok) s.cpu.0 (entry s tok) n old new wrote.0 wrote.1.0 (subst F (sym same) (s.kept.each tok there)) held blob_is x.1 x.2 x.3 x.4 x.5 in
+    let noted' = IsNoted-wrote (plan_at s.seat.me.0.plans tok) s.cpu.0 (entry s tok) n old new wrote.0 (subst F (sym same) (s.kept.each tok there)) held blob_is wrote.1.1 in
     let G : TokenNote → Type 0 = λ m. Keeps (set s.notes tok m) s.cpu w in
-    subst G (sym x.0) (keeps_set s w tok e between d (note_wrote n wrote.1.0 wrote.0) room is there (entry_tok s tok) noted')
-
--- what is kept of a record that is held exclusively
-pub fits_note : (s : CpuSeat) (tok : ℕ) (from : TokenNote) → tok < 64 → tok < length s.seat.me.0.plans → FitsKept (get_or s.notes tok from).first_blob
-fits_note s tok from room there = let F : TokenNote → Type 0 = λ m. FitsKept m.first_blob in subst F (sym (note_read s tok from room)) (s.kept.each tok there).fits
-
-pub short_note : (s : CpuSeat) (tok : ℕ) (from : TokenNote) (old : List ℕ) → tok < 64 → tok < length s.seat.me.0.plans → is_exclusive (holding s tok) ≡ true → (entry s tok).blob ≡ Some old → is_stored (get_or s.notes tok from).record_ ≡ false → length old ≤ 64
-short_note s tok from old room there held blob_is new = short_old (plan_at s.seat.me.0.plans tok) s.cpu.0 (entry s tok) (note_at s.notes tok) old (s.kept.each tok there) held blob_is (ap (λ (m : TokenNote). is_stored m.record_) (sym (note_read s tok from room)) ∙ new)
+    subst G (sym wrote.1.0) (keeps_set s w tok e between d (note_wrote n (first_record n old) wrote.0) room is there (entry_tok s tok) noted')

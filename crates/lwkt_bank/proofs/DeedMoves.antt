@@ -163,5 +163,5 @@ module _ (plans : List Plan) (cpus id : ℕ) (v : View) (kind : v.kind ≡ Of (w
     pub read_blob_deeds : (bytes : List ℕ) → is_exclusive e.held ≡ true → e.blob ≡ Some bytes → Deeds plans cpus id v (cell_word tok 0) (λ n. n) (λ _. reads_blob cpu tok bytes) stays (λ _ _ w. Amid v (λ between. ReadsBlob between tok v w))
     read_blob_deeds bytes held is = cell_deeds (cell_word tok 0) (λ n. n) (λ _. ReadBlob cpu t bytes) (λ _ between _ w. ReadsBlob between tok v w) (λ n. (tt, refl)) (read_blob_steps plans cpus id v tok kind there bytes held is)
 
-    pub write_blob_deeds : (bytes : List ℕ) → IsInHand v tok → length bytes ≤ 64 → Deeds plans cpus id v (cell_word tok 0) (λ n. either (eqb n 0) 0 n) (λ _. writes_blob cpu tok bytes) stays (λ _ _ w. Amid v (λ between. WritesBlob bytes between tok v w))
-    write_blob_deeds bytes held short = cell_deeds (cell_word tok 0) (λ n. either (eqb n 0) 0 n) (λ _. WriteBlob cpu t bytes) (λ _ between _ w. WritesBlob bytes between tok v w) (λ n. (tt, refl)) (write_blob_steps plans cpus id v tok kind there bytes held short)
+    pub write_blob_deeds : (bytes : List ℕ) → IsInHand v tok → length bytes ≤ 64 → Deeds plans cpus id v (cell_word tok 0) (λ n. n) (λ _. writes_blob cpu tok bytes) stays (λ _ _ w. Amid v (λ between. WritesBlob bytes between tok v w))
+    write_blob_deeds bytes held short = cell_deeds (cell_word tok 0) (λ n. n) (λ _. WriteBlob cpu t bytes) (λ _ between _ w. WritesBlob bytes between tok v w) (λ n. (tt, refl)) (write_blob_steps plans cpus id v tok kind there bytes held short)

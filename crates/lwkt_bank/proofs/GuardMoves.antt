@@ -4,6 +4,7 @@ use Rattle.std.proofs.lemmas.Bool.{false≢true}
 use mathlib.Core.Logic.{dite}
 use mathlib.Core.Option.{some, some-injective, some-ne-none}
 use native.Mathlib.Decide.{ℕ_discrete}
+use Rattle.atomic_table.specs.Table.{rest}
 use Rattle.lwkt_base.specs.Holding.{is_exclusive}
 use Rattle.lwkt_base.specs.declared.holdings.Held.TheVariants.{Nothing}
 use Rattle.lwkt_core.specs.declared.seats.Deed.{Deed}
@@ -186,6 +187,10 @@ front_same tok one other xs ys zs first second = pairs (tok, one) (tok, other) y
   where
     pairs : (a b : ℕ × List ℕ) (us vs : List (ℕ × List ℕ)) → a ∷ us ≡ b ∷ vs → a.1 ≡ b.1
     pairs a b us vs same = let h : a ≡ b = cc in ap (λ (p : ℕ × List ℕ). p.1) h
+
+-- a list with this in front is that and its rest
+pub front_whole : (x : ℕ × List ℕ) (ys xs : List (ℕ × List ℕ)) → xs ≡ x ∷ ys → xs ≡ x ∷ rest xs
+front_whole x ys xs is = is ∙ ap (λ (zs : List (ℕ × List ℕ)). x ∷ zs) (sym (ap rest is))
 
 pub rest_same : (tok : ℕ) (one other : List ℕ) (xs ys zs : List (ℕ × List ℕ)) → xs ≡ (tok, one) ∷ ys → xs ≡ (tok, other) ∷ zs → ys ≡ zs
 rest_same tok one other xs ys zs first second = tails (tok, one) (tok, other) ys zs (sym first ∙ second)

@@ -1,7 +1,6 @@
 use Rattle.std.proofs.Common.{eqb, eq-eqb, ne_eqb, ◌-◌, ◌≡◌, ◌≢◌, ⊎_elim, ℕ, zero, suc, ◌+◌, ◌<◌, ◌≤◌, Bool, true, false, cond, List, [], ◌∷◌, length, set, refl, ap, sym, ◌∙◌, subst, arith, length-set, get_or-set_same, get_or-set_other}
 use Rattle.std.specs.Prelude.{slice_index, slice_index_or, slice_set, is_some, Some}
 use Rattle.lwkt_core.specs.Tokens.{IsShort}
-use Rattle.lwkt_bank.specs.declared.notes.KeptBlob.{KeptBlob}
 use Rattle.std.proofs.lemmas.Bool.{eqb-true, eqb-false, cases_eq, cases_Bool, false≢true}
 use Rattle.std.proofs.lemmas.List.{get_or_default, ext_get_or}
 use Rattle.std.proofs.lemmas.List.Folds.{Any-from_list_any, list_any_at, list_any_none, list_any-append}
@@ -29,7 +28,7 @@ use Rattle.lwkt_bank.specs.declared.notes.Touch.TheVariants.{Untouched, Same, Ot
 use Rattle.lwkt_bank.specs.declared.notes.TokenNote.{TokenNote}
 use Rattle.lwkt_bank.specs.Views.{RecordOf, wrote_record, at, amount, generation_in, is_touched, touching, seen, taken, less, more, stored, raised, noted}
 use Rattle.lwkt_bank.specs.Rule.{plan_at}
-use Rattle.lwkt_bank.specs.Notes.{seat_number, no_note, note_at, touch_at, touch_of, held_in, begun, note_changed, note_wrote, first_record, kept_bytes, FitsKept, is_stored, is_other, IsTouched, IsRecordTouched, IsNoted, Keeps}
+use Rattle.lwkt_bank.specs.Notes.{seat_number, no_note, note_at, touch_at, touch_of, held_in, begun, note_changed, note_wrote, first_record, IsToldApart, is_stored, is_other, IsTouched, IsRecordTouched, IsNoted, Keeps}
 use Rattle.lwkt_bank.proofs.ViewMoves.{at-here, at-else}
 use Rattle.lwkt_bank.proofs.TurnMoves.{seen-keeps, exclusive_held}
 
@@ -43,9 +42,8 @@ seat_told Spent cpu e = absurd (omega arith)
 pub IsNoted-same : (plan : Plan) (cpu : ℕ) (e e' : TokenEntry) (note : TokenNote) → e'.held ≡ e.held → e'.first ≡ e.first → e'.row ≡ e.row → e'.added ≡ e.added → e'.touched ≡ e.touched → e'.first_blob ≡ e.first_blob → e'.blob ≡ e.blob → IsNoted plan cpu e note → IsNoted plan cpu e' note
 IsNoted-same plan cpu e e' note held first row added touched first_blob blob noted' = record {
   record_touched = λ is.
-      let F : RecordOf → RecordOf → Type 0 = λ f b. IsRecordTouched note.record_ (kept_bytes note.first_blob) f b in
+      let F : RecordOf → RecordOf → Type 0 = λ f b. IsRecordTouched note.record_ note.first_blob f b in
       subst (λ (b : RecordOf). F e'.first_blob b) (sym blob) (subst (λ (f : RecordOf). F f e.blob) (sym first_blob) (noted'.record_touched (sym (ap is_exclusive held) ∙ is)));
-  fits = noted'.fits;
   guarded = λ is. let g = noted'.guarded (sym (ap is_held held) ∙ is) in (ap is_some blob ∙ g.0, ap is_some first_blob ∙ g.1);
   short = λ is bytes its. noted'.short (sym (ap is_held held) ∙ is) bytes (sym first_blob ∙ its);
   four = noted'.four;
@@ -74,7 +72,6 @@ IsNoted-seen plan cpu e g note noted' = let k = seen-keeps e g in IsNoted-same p
 pub IsNoted-nothing : (plan : Plan) (cpu : ℕ) (e e' : TokenEntry) (note : TokenNote) → e'.held ≡ Nothing → e'.added ≡ e.added → IsNoted plan cpu e note → IsNoted plan cpu e' (record note { references = 0 })
 IsNoted-nothing plan cpu e e' note held added noted' = record {
   record_touched = λ is. absurd (false≢true (sym (ap is_exclusive held) ∙ is));
-  fits = noted'.fits;
   guarded = λ is. absurd (false≢true (sym (ap is_held held) ∙ is));
   short = λ is. absurd (false≢true (sym (ap is_held held) ∙ is));
   four = noted'.four;
@@ -95,7 +92,6 @@ IsNoted-nothing plan cpu e e' note held added noted' = record {
 pub IsNoted-held : (plan : Plan) (cpu : ℕ) (e : TokenEntry) (h : Held) (references : ℕ) (note : TokenNote) → is_held e.held ≡ true → (is_held h ≡ true → is_exclusive h ≡ is_exclusive e.held) → references ≡ references_in h → IsNoted plan cpu e note → IsNoted plan cpu (record e { held = h }) (record note { references = references })
 IsNoted-held plan cpu e h references note was same count noted' = record {
   record_touched = λ is. noted'.record_touched (sym (same (exclusive_held h is)) ∙ is);
-  fits = noted'.fits;
   guarded = λ is. noted'.guarded was;
   short = λ is. noted'.short was;
   four = noted'.four;
@@ -180,7 +176,6 @@ IsNoted-taken plan cpu e word Exclusive row blob note long guard short noted' =
     let k = seen-keeps e (generation_in word) in
     record {
       record_touched = λ is. record { first_kept = λ s. absurd (false≢true s); same = λ s. refl; other = λ o. absurd (false≢true o) };
-      fits = noted'.fits;
       guarded = λ is. (guard, guard);
       short = λ is bytes its. let F : RecordOf → Type 0 = λ o. IsShort o in subst F its short;
       four = refl;
@@ -202,7 +197,6 @@ IsNoted-taken plan cpu e word Shared row blob note long guard short noted' =
     let k = seen-keeps e (generation_in word) in
     record {
       record_touched = λ is. absurd (false≢true is);
-      fits = noted'.fits;
       guarded = λ is. (guard, guard);
       short = λ is bytes its. let F : RecordOf → Type 0 = λ o. IsShort o in subst F its short;
       four = noted'.four;
@@ -368,7 +362,6 @@ module _ (plan : Plan) (cpu : ℕ) (e : TokenEntry) (note : TokenNote) (noted' :
   pub IsNoted-stored : plan.law ≢ Tally → IsNoted plan cpu (stored e cell change.last) (note_changed note cell change)
   IsNoted-stored untallied = record {
     record_touched = noted'.record_touched;
-    fits = noted'.fits;
     guarded = noted'.guarded;
     short = noted'.short;
     four = length-set note.cells cell (touch_of change) ∙ noted'.four;
@@ -394,7 +387,6 @@ IsNoted-raised plan cpu e note noted' is within change k inside first_is last_is
     let before = noted'.tally in
     record {
       record_touched = noted'.record_touched;
-      fits = noted'.fits;
       guarded = noted'.guarded;
       short = noted'.short;
       four = length-set note.cells 0 (touch_of change) ∙ noted'.four;
@@ -427,7 +419,6 @@ IsNoted-raised plan cpu e note noted' is within change k inside first_is last_is
 pub IsNoted-missed : (plan : Plan) (cpu : ℕ) (e : TokenEntry) (mode : Mode) (note : TokenNote) → e.held ≡ Nothing → IsNoted plan cpu e note → IsNoted plan cpu e (record (begun note mode) { references = 0 })
 IsNoted-missed plan cpu e Shared note held noted' = record {
   record_touched = λ is. absurd (false≢true (sym (ap is_exclusive held) ∙ is));
-  fits = noted'.fits;
   guarded = λ is. absurd (false≢true (sym (ap is_held held) ∙ is));
   short = λ is. absurd (false≢true (sym (ap is_held held) ∙ is));
   four = noted'.four;
@@ -445,7 +436,6 @@ IsNoted-missed plan cpu e Shared note held noted' = record {
 }
 IsNoted-missed plan cpu e Exclusive note held noted' = record {
   record_touched = λ is. absurd (false≢true (sym (ap is_exclusive held) ∙ is));
-  fits = noted'.fits;
   guarded = λ is. absurd (false≢true (sym (ap is_held held) ∙ is));
   short = λ is. absurd (false≢true (sym (ap is_held held) ∙ is));
   four = refl;
@@ -469,10 +459,9 @@ kept_first kept Same old first value known value_is = known.first_kept refl
 kept_first kept Other old first value known value_is = known.first_kept refl
 
 -- a record that was written
-pub IsNoted-wrote : (plan : Plan) (cpu : ℕ) (e : TokenEntry) (note : TokenNote) (old new : List ℕ) (touch : Touch) (kept : KeptBlob) → IsNoted plan cpu e note → is_exclusive e.held ≡ true → e.blob ≡ Some old → FitsKept kept → kept_bytes kept ≡ first_record note old → is_stored touch ≡ true → (is_other touch ≡ false → new ≡ first_record note old) → (is_other touch ≡ true → new ≢ first_record note old)
-    → IsNoted plan cpu (wrote_record e new) (note_wrote note kept touch)
-IsNoted-wrote plan cpu e note old new touch kept noted' held blob_is fits kept_is stored_to same other =
-    let first : e.first_blob ≡ Some (first_record note old) = kept_first (kept_bytes note.first_blob) note.record_ old e.first_blob e.blob (noted'.record_touched held) blob_is in
+pub IsNoted-wrote : (plan : Plan) (cpu : ℕ) (e : TokenEntry) (note : TokenNote) (old new : List ℕ) (touch : Touch) → IsNoted plan cpu e note → is_exclusive e.held ≡ true → e.blob ≡ Some old → IsToldApart touch (first_record note old) new → IsNoted plan cpu (wrote_record e new) (note_wrote note (first_record note old) touch)
+IsNoted-wrote plan cpu e note old new touch noted' held blob_is apart =
+    let first : e.first_blob ≡ Some (first_record note old) = kept_first note.first_blob note.record_ old e.first_blob e.blob (noted'.record_touched held) blob_is in
     record {
       four = noted'.four;
       firsts = noted'.firsts;
@@ -486,11 +475,10 @@ IsNoted-wrote plan cpu e note old new touch kept noted' held blob_is fits kept_i
       stored_to = noted'.stored_to;
       latest = noted'.latest;
       covered = noted'.covered;
-      fits = fits;
       record_touched = λ is. record {
-        first_kept = λ s. first ∙ ap (λ (x : List ℕ). Some x) (sym kept_is);
-        same = λ s. ap (λ (x : List ℕ). Some x) (same s) ∙ sym first;
-        other = λ o is_first. other o (one_record new (first_record note old) (is_first ∙ first));
+        first_kept = λ s. first;
+        same = λ s. ap (λ (x : List ℕ). Some x) (apart.same s) ∙ sym first;
+        other = λ o is_first. apart.other o (one_record new (first_record note old) (is_first ∙ first));
       };
       guarded = λ is. let g = noted'.guarded is in (sym (ap is_some blob_is) ∙ g.0, g.1);
       short = noted'.short;
@@ -498,15 +486,6 @@ IsNoted-wrote plan cpu e note old new touch kept noted' held blob_is fits kept_i
   where
     one_record : (xs ys : List ℕ) → Some xs ≡ Some ys → xs ≡ ys
     one_record xs ys is = cc
-
--- a record that wasn't written yet has at most 64 bytes
-pub short_old : (plan : Plan) (cpu : ℕ) (e : TokenEntry) (note : TokenNote) (old : List ℕ) → IsNoted plan cpu e note → is_exclusive e.held ≡ true → e.blob ≡ Some old → is_stored note.record_ ≡ false → length old ≤ 64
-short_old plan cpu e note old noted' held blob_is new = noted'.short (exclusive_held e.held held) old (sym ((noted'.record_touched held).same (not_other note.record_ new)) ∙ blob_is)
-  where
-    not_other : (t : Touch) → is_stored t ≡ false → is_other t ≡ false
-    not_other Untouched is = refl
-    not_other Same is = absurd (false≢true (sym is))
-    not_other Other is = absurd (false≢true (sym is))
 
 -- where the record is another, and where it isn't
 pub record_written : (plan : Plan) (cpu : ℕ) (e : TokenEntry) (note : TokenNote) → IsNoted plan cpu e note → is_exclusive e.held ≡ true → is_other note.record_ ≡ true → e.blob ≢ e.first_blob

@@ -185,7 +185,6 @@ Keeps-new cpu v w kind is =
           let G : TokenNote → Type 0 = λ n. IsNoted (plan_at v.plans tok) cpu.0 (blank tok) n in
           subst G (sym (replicated 64 tok no_note)) (record {
             record_touched = λ held. absurd (false≢true held);
-            fits = (omega arith, refl);
             guarded = λ held. absurd (false≢true held);
             short = λ held bytes its. absurd (false≢true held);
             four = refl;

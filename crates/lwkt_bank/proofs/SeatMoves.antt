@@ -502,23 +502,17 @@ module _ (plans : List Plan) (cpus id : ℕ) (v : View) (tok : ℕ) (kind : v.ki
       (e, (a.0, (a.1, (bytes, (blob_is', refl)))))
 
   -- and written
-  pub write_blob_steps : (bytes : List ℕ) → IsInHand v tok → length bytes ≤ 64 → Steps plans cpus id v (cell_word tok 0) (λ x. either (eqb x 0) 0 x) (λ _. WriteBlob cpu t bytes) (λ _. []) stays (λ _ between x w. WritesBlob bytes between tok v w)
+  pub write_blob_steps : (bytes : List ℕ) → IsInHand v tok → length bytes ≤ 64 → Steps plans cpus id v (cell_word tok 0) (λ x. x) (λ _. WriteBlob cpu t bytes) (λ _. []) stays (λ _ between x w. WritesBlob bytes between tok v w)
   write_blob_steps bytes in_hand short s r between here fits =
       let m = sight s r here in
       let x = slice_index s.words (cell_word tok 0) in
-      let y = either (eqb x 0) 0 x in
-      let same : y ≡ x = unchanged x (eqb x 0) refl in
       let tk = token_at r.model tok in
       let own = m.knows.holder (exclusive_held e.held in_hand.0) in
       let w = wrote_record e bytes in
       let F : List ℕ → Type 0 = λ ws. Turns (plan_at plans tok) tk (token_after tk (WriteBlob cpu t bytes)) cpu.0 e w (found s r here) (λ c. slice_index ws (cell_word tok c)) (in_slot tk) in
-      let a = cell_step s r here w between 0 y (WriteBlob cpu t bytes) (omega arith) (at-tok v.tokens tok) refl refl (ap is_exclusive (sym m.held) ∙ in_hand.0, ap is_some (sym own.4) ∙ in_hand.1, short) refl
-      (subst F (sym (stays_word s (cell_word tok 0) y same)) (turns_write_blob r.model.cpus (plan_at plans tok) tk cpu e (found s r here) (cells s r here) m in_hand.0 in_hand.1 t bytes)) in
+      let a = cell_step s r here w between 0 x (WriteBlob cpu t bytes) (omega arith) (at-tok v.tokens tok) refl refl (ap is_exclusive (sym m.held) ∙ in_hand.0, ap is_some (sym own.4) ∙ in_hand.1, short) refl
+      (subst F (sym (stays_word s (cell_word tok 0) x refl)) (turns_write_blob r.model.cpus (plan_at plans tok) tk cpu e (found s r here) (cells s r here) m in_hand.0 in_hand.1 t bytes)) in
       (w, (a.0, (a.1, refl)))
-    where
-      unchanged : (x : ℕ) (b : Bool) → eqb x 0 ≡ b → either b 0 x ≡ x
-      unchanged x true is = sym (eqb-true x 0 is)
-      unchanged x false is = refl
 
   -- nothing lies in the slot of a token whose record the seat has in hand
   pub slot_out : (s : Bench) (r : Rule plans cpus s) → get_elem? s.views id ≡ some v → IsInHand v tok → get_elem? s.homes tok ≡ some none

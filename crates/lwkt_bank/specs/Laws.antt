@@ -170,7 +170,7 @@ abbrev pub AccessIsReadBlob : Type 0
 AccessIsReadBlob = AtSeat (λ plans cpus id v tok. (bytes : List ℕ) → is_exclusive (at v.tokens tok).held ≡ true → (at v.tokens tok).blob ≡ Some bytes → Deeds plans cpus id v (cell_word tok 0) (λ n. n) (λ _. reads_blob (who v) tok bytes) stays (λ _ _ w. Amid v (λ between. ReadsBlob between tok v w)))
 
 abbrev pub AccessIsWriteBlob : Type 0
-AccessIsWriteBlob = AtSeat (λ plans cpus id v tok. (bytes : List ℕ) → IsInHand v tok → length bytes ≤ 64 → Deeds plans cpus id v (cell_word tok 0) (λ n. if n == 0 then 0 else n) (λ _. writes_blob (who v) tok bytes) stays (λ _ _ w. Amid v (λ between. WritesBlob bytes between tok v w)))
+AccessIsWriteBlob = AtSeat (λ plans cpus id v tok. (bytes : List ℕ) → IsInHand v tok → length bytes ≤ 64 → Deeds plans cpus id v (cell_word tok 0) (λ n. n) (λ _. writes_blob (who v) tok bytes) stays (λ _ _ w. Amid v (λ between. WritesBlob bytes between tok v w)))
 
 -- what a call's deeds tell of its seat's steps on token words and of its events: they are appended, in order
 abbrev pub DeedsAreTold : Type 0

@@ -1,4 +1,4 @@
-use Rattle.std.specs.Prelude.{◌≡◌, ◌≢◌, ℕ, ◌+◌, ◌-◌, ◌<◌, ◌≤◌, ◌==◌, if◌then◌else◌, Bool, true, false, List, [], ◌∷◌, length, slice_index, slice_index_or, slice_set, Some, is_some, take, replicate}
+use Rattle.std.specs.Prelude.{◌≡◌, ◌≢◌, ℕ, ◌+◌, ◌-◌, ◌<◌, ◌≤◌, ◌==◌, if◌then◌else◌, Bool, true, false, List, [], ◌∷◌, length, slice_index, slice_index_or, slice_set, Some, is_some}
 use Rattle.lwkt_base.specs.declared.names.CpuId.{CpuId}
 use Rattle.lwkt_base.specs.declared.names.Mode.{Mode}
 use Rattle.lwkt_base.specs.declared.names.Mode.TheVariants.{Exclusive, Shared}
@@ -12,7 +12,6 @@ use Rattle.lwkt_bank.specs.declared.views.Plan.{Plan}
 use Rattle.lwkt_bank.specs.declared.views.TokenEntry.{TokenEntry}
 use Rattle.lwkt_bank.specs.declared.views.View.{View}
 use Rattle.lwkt_bank.specs.declared.notes.Change.{Change}
-use Rattle.lwkt_bank.specs.declared.notes.KeptBlob.{KeptBlob}
 use Rattle.lwkt_bank.specs.declared.notes.Touch.{Touch}
 use Rattle.lwkt_bank.specs.declared.notes.Touch.TheVariants.{Untouched, Same, Other}
 use Rattle.lwkt_bank.specs.declared.notes.TokenNote.{TokenNote}
@@ -30,16 +29,9 @@ clerk_number (Clerk made back) = back + 1
 clerk_number (Of cpu) = 0
 clerk_number Spent = 0
 
--- the bytes of a record as a seat keeps it, and that it is one of at most 64
-abbrev pub kept_bytes : KeptBlob → List ℕ
-kept_bytes kept = take kept.len kept.bytes
-
-abbrev pub FitsKept : KeptBlob → Type 0
-FitsKept kept = (kept.len ≤ 64) × (length kept.bytes ≡ 64)
-
 -- what is kept of a token that was never taken, and what stands for a note past the last
 abbrev pub no_note : TokenNote
-no_note = record { first_blob = record { bytes = replicate 64 0; len = 0 }; record_ = Untouched; first = 0 ∷ 0 ∷ 0 ∷ 0 ∷ []; last = 0 ∷ 0 ∷ 0 ∷ 0 ∷ []; tally = 0; cells = Untouched ∷ Untouched ∷ Untouched ∷ Untouched ∷ []; mode = Exclusive; references = 0 }
+no_note = record { first_blob = []; record_ = Untouched; first = 0 ∷ 0 ∷ 0 ∷ 0 ∷ []; last = 0 ∷ 0 ∷ 0 ∷ 0 ∷ []; tally = 0; cells = Untouched ∷ Untouched ∷ Untouched ∷ Untouched ∷ []; mode = Exclusive; references = 0 }
 
 abbrev pub note_at : List TokenNote → ℕ → TokenNote
 note_at notes tok = slice_index_or notes tok no_note
@@ -64,7 +56,7 @@ abbrev pub note_changed : TokenNote → ℕ → Change → TokenNote
 note_changed note cell change = record note { first = slice_set note.first cell change.first; last = slice_set note.last cell change.last; cells = slice_set note.cells cell (touch_of change) }
 
 -- the note after the record was written: its first one is kept, and whether it is another now
-abbrev pub note_wrote : TokenNote → KeptBlob → Touch → TokenNote
+abbrev pub note_wrote : TokenNote → List ℕ → Touch → TokenNote
 note_wrote note first touch = record note { first_blob = first; record_ = touch }
 
 -- whether a cell was stored to, and whether it has another value than its first
@@ -80,7 +72,17 @@ is_other Other = true
 
 -- the first record that is kept after one more write over this one
 abbrev pub first_record : TokenNote → List ℕ → List ℕ
-first_record note old = if is_stored note.record_ then kept_bytes note.first_blob else old
+first_record note old = if is_stored note.record_ then note.first_blob else old
+
+-- how a record stands that was written: whether it is another than the section's first one
+pub record IsToldApart (touch : Touch) (first new : List ℕ) : Type 0 where
+  pub stored_to : is_stored touch ≡ true
+  pub same : is_other touch ≡ false → new ≡ first
+  pub other : is_other touch ≡ true → new ≢ first
+
+-- what becomes of a note as the record, which was the first of these, is written and is the second
+abbrev pub Overwrites : TokenNote → TokenNote → List ℕ → List ℕ → Type 0
+Overwrites note note' old new = (touch : Touch) × ((note' ≡ note_wrote note (first_record note old) touch) × IsToldApart touch (first_record note old) new)
 
 -- how a cell stands: the first value that is kept of it, its value in the first row, and its value
 pub record IsTouched (touch : Touch) (kept first value : ℕ) : Type 0 where
@@ -109,8 +111,7 @@ pub record IsNoted (plan : Plan) (cpu : ℕ) (e : TokenEntry) (note : TokenNote)
   pub stored_to : (cell : ℕ) → cell < plan.cells → is_exclusive e.held ≡ true → is_stored (touch_at note cell) ≡ is_touched e cell
   pub latest : (cell : ℕ) → is_exclusive e.held ≡ true → is_stored (touch_at note cell) ≡ true → slice_index note.last cell ≡ slice_index e.row cell
   pub covered : plan.law ≡ Tally → is_exclusive e.held ≡ true → is_stored (touch_at note 0) ≡ true → amount cpu e.added ≤ slice_index e.row 0
-  pub record_touched : is_exclusive e.held ≡ true → IsRecordTouched note.record_ (kept_bytes note.first_blob) e.first_blob e.blob
-  pub fits : FitsKept note.first_blob
+  pub record_touched : is_exclusive e.held ≡ true → IsRecordTouched note.record_ note.first_blob e.first_blob e.blob
   pub guarded : is_held e.held ≡ true → (is_some e.blob ≡ is_some plan.blob) × (is_some e.first_blob ≡ is_some plan.blob)
   pub short : is_held e.held ≡ true → (bytes : List ℕ) → e.first_blob ≡ Some bytes → length bytes ≤ 64
 

@@ -1,8 +1,7 @@
-use Rattle.std.specs.Prelude.{◌≡◌, ◌≢◌, ℕ, ◌+◌, ◌<◌, ◌≤◌, List, length, All, Some, slice_get, slice_index, is_some}
-use Rattle.atomic_table.specs.Table.{Me, Step}
+use Rattle.std.specs.Prelude.{◌≡◌, ◌≢◌, ℕ, ◌+◌, ◌<◌, ◌≤◌, List, ◌∷◌, length, All, Some, slice_get, slice_index, is_some}
+use Rattle.atomic_table.specs.Table.{Me, Step, rest}
 use Rattle.lwkt_base.specs.declared.names.Mode.{Mode}
 use Rattle.lwkt_base.specs.declared.laws.Law.TheVariants.{Tally}
-use mathlib.Core.Option.{some}
 use Rattle.lwkt_base.specs.declared.names.Mode.TheVariants.{Exclusive, Shared}
 use Rattle.lwkt_base.specs.Law.{Obeys}
 use Rattle.lwkt_core.specs.Tokens.{IsShort, length_of}
@@ -87,12 +86,16 @@ ReadsBlob between tok v w = (bytes : List ℕ) × (((at v.tokens tok).blob ≡ S
 abbrev pub reads_record : Step (List ℕ) → Me (List ℕ) View → ℕ → Me (List ℕ) View → Type 0
 reads_record st m n m' = (tok : ℕ) → st.word ≡ cell_word tok 0 → Amid m.0 (λ between. ReadsBlob between tok m.0 m'.0) × Brings tok m.1 m'.1
 
--- and one that is written: noted at an exchange of that word that changes nothing and announces the record
+-- a record that is brought to the front: a load of that word, which is no deed
+abbrev pub brings_record : Step (List ℕ) → Me (List ℕ) View → ℕ → Me (List ℕ) View → Type 0
+brings_record st m n m' = (tok : ℕ) → st.word ≡ cell_word tok 0 → (m'.0 ≡ m.0) × Brings tok m.1 m'.1
+
+-- and one that was written: noted at a load of that word, when it lies in front
 abbrev pub WritesBlob : List ℕ → List Deed → ℕ → View → View → Type 0
 WritesBlob bytes between tok v w = w ≡ noted between v (wrote_record (at v.tokens tok) bytes) (writes_blob (who v) tok bytes)
 
 abbrev pub writes_record : Step (List ℕ) → Me (List ℕ) View → ℕ → Me (List ℕ) View → Type 0
-writes_record st m n m' = (tok : ℕ) (bytes : List ℕ) → st.word ≡ cell_word tok 0 → st.said ≡ some bytes → Amid m.0 (λ between. WritesBlob bytes between tok m.0 m'.0) × Brings tok m.1 m'.1
+writes_record st m n m' = (tok : ℕ) (bytes : List ℕ) → st.word ≡ cell_word tok 0 → m.1 ≡ (tok, bytes) ∷ rest m.1 → Amid m.0 (λ between. WritesBlob bytes between tok m.0 m'.0) × (m'.1 ≡ m.1)
 
 -- what an exchange does to the records in hand
 abbrev pub TakesHands : Mode → ℕ → ℕ → ℕ → Me (List ℕ) View → Me (List ℕ) View → Type 0

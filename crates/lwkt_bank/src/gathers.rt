@@ -7,9 +7,8 @@ ghost use Rattle.lwkt_bank.specs.Notes.{clerk_number, note_at};
 ghost use Rattle.lwkt_bank.specs.Closing.{IsReady, Gathering};
 
 use crate::banks::Bank;
-use crate::kept::Kept;
+use crate::kept::{Kept, put_kept};
 use crate::plays::TakeBack;
-use crate::rooms::put_kept;
 use crate::rules::{BankRule, Key};
 use crate::seats::CpuSeat;
 use crate::views::View;
@@ -57,6 +56,6 @@ pub(crate) fn gather(
             cpu,
         } = seat;
         join(table, clerk, other, cpu);
-        put_kept(kept, Kept { notes, cpu });
+        put_kept(kept, notes, cpu);
     }
 }

@@ -61,8 +61,9 @@ impl CpuSeat {
         requires not_last { IsNotLastExclusive (holding self.old tok.0) }
         ensures { Stepped self.old self.new tok.0 (less (entry self.old tok.0)) gives_one }
     {
+        let note = &mut self.notes[tok.0 as usize];
         steps::give_one(bank, &mut self.seat, tok);
-        self.notes[tok.0 as usize].references -= 1;
+        note.one_less();
     }
 
     #[inline]
@@ -73,8 +74,9 @@ impl CpuSeat {
         requires clean { IsCleanIn (entry self.old tok.0) }
         ensures { Stepped self.old self.new tok.0 (less (entry self.old tok.0)) gives_clean }
     {
+        let note = &mut self.notes[tok.0 as usize];
         steps::give_clean(bank, &mut self.seat, tok);
-        self.notes[tok.0 as usize].references = 0;
+        note.end();
     }
 
     // Ends a written section, and answers the generation at which it began.
@@ -88,8 +90,9 @@ impl CpuSeat {
         ensures stepped { Stepped self.old self.new tok.0 (ended (entry self.old tok.0)) (gives_written (section_of tok.0 (entry self.old tok.0))) }
         ensures generation { result ≡ (entry self.old tok.0).generation }
     {
+        let note = &mut self.notes[tok.0 as usize];
         let found = steps::give_written(bank, &mut self.seat, tok);
-        self.notes[tok.0 as usize].references = 0;
+        note.end();
         generation_in(found)
     }
 

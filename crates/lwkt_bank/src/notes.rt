@@ -1,5 +1,5 @@
-ghost use Rattle.std.specs.Prelude.{◌≡◌, ◌≢◌, ◌+◌, ◌^◌, ◌<◌, ◌≤◌, true, false, length};
-ghost use Rattle.lwkt_bank.specs.Notes.{no_note, held_in, touch_of, begun, note_changed, note_wrote, first_record, kept_bytes, FitsKept, is_stored, is_other};
+ghost use Rattle.std.specs.Prelude.{◌≡◌, ◌+◌, ◌-◌, ◌^◌, ◌<◌, length};
+ghost use Rattle.lwkt_bank.specs.Notes.{no_note, held_in, touch_of, begun, note_changed, IsToldApart, Overwrites};
 
 use lwkt_base::{Blob, Held, Mode};
 
@@ -36,48 +36,15 @@ pub enum Touch {
     Other,
 }
 
-/// A record of at most 64 bytes, as a seat keeps it.
-#[derive(Clone, Copy)]
-pub struct KeptBlob {
-    pub bytes: [u8; 64],
-    /// How many of the bytes count.
-    pub len: u8,
-}
-
-impl KeptBlob {
-    fn of(blob: &Blob) -> KeptBlob
-        requires { length blob.now ≤ 64 }
-        ensures fits { FitsKept result }
-        ensures bytes { kept_bytes result ≡ blob.now }
-    {
-        let source = blob.as_slice();
-        let mut bytes = [0; 64];
-        bytes[..source.len()].copy_from_slice(source);
-        KeptBlob {
-            bytes,
-            len: source.len() as u8,
-        }
-    }
-
-    // How a record stands that is this one now.
-    fn touch(&self, blob: &Blob) -> Touch
-        requires { FitsKept self.now }
-        ensures stored_to { is_stored result ≡ true }
-        ensures same { is_other result ≡ false → blob.now ≡ kept_bytes self.now }
-        ensures other { is_other result ≡ true → blob.now ≢ kept_bytes self.now }
-    {
-        if self.blob().is_same(blob) {
-            Touch::Same
-        } else {
-            Touch::Other
-        }
-    }
-
-    pub(crate) fn blob(&self) -> Blob
-        requires { FitsKept self.now }
-        ensures { result ≡ kept_bytes self.now }
-    {
-        Blob::of(&self.bytes[..self.len as usize])
+// How a record stands whose first one in the section is this, and which is the other now.
+#[inline]
+fn touch_of_record(first: &Blob, blob: &Blob) -> Touch
+    ensures { IsToldApart result first.now blob.now }
+{
+    if first.is_same(blob) {
+        Touch::Same
+    } else {
+        Touch::Other
     }
 }
 
@@ -93,7 +60,7 @@ pub struct TokenNote {
     /// How each cell stands. It counts only while the token is held exclusively.
     pub cells: [Touch; 4],
     /// The section's first record. It counts only while the token is held exclusively and the record was written.
-    pub first_blob: KeptBlob,
+    pub first_blob: Blob,
     /// How the record stands. It counts only while the token is held exclusively.
     pub record_: Touch,
     /// The mode of the first reference that the seat has.
@@ -112,10 +79,7 @@ impl TokenNote {
             last: [0; 4],
             tally: 0,
             cells: [Touch::Untouched; 4],
-            first_blob: KeptBlob {
-                bytes: [0; 64],
-                len: 0,
-            },
+            first_blob: Blob::of(&[]),
             record_: Touch::Untouched,
             mode: Mode::Exclusive,
             references: 0,
@@ -147,6 +111,32 @@ impl TokenNote {
         self.references = 1;
     }
 
+    /// One reference more.
+    #[inline]
+    pub(crate) fn one_more(&mut self)
+        requires { self.old.references + 1 < 256 }
+        ensures { self.new ≡ record self.old { references = self.old.references + 1 } }
+    {
+        self.references += 1;
+    }
+
+    /// One reference less.
+    #[inline]
+    pub(crate) fn one_less(&mut self)
+        requires { 0 < self.old.references }
+        ensures { self.new ≡ record self.old { references = self.old.references - 1 } }
+    {
+        self.references -= 1;
+    }
+
+    /// No reference any more.
+    #[inline]
+    pub(crate) fn end(&mut self)
+        ensures { self.new ≡ record self.old { references = 0 } }
+    {
+        self.references = 0;
+    }
+
     /// The cell is stored to.
     #[inline]
     pub(crate) fn change(&mut self, cell: usize, change: Change)
@@ -160,29 +150,19 @@ impl TokenNote {
         self.cells[cell] = change.touch();
     }
 
-    /// The record was this one, and is written now.
+    /// The record was this one, and is written now. The first write in a section keeps it, as the section's first record.
+    #[inline]
     pub(crate) fn write(&mut self, old: &Blob, blob: &Blob)
-        requires fits { FitsKept self.old.first_blob }
-        requires short { is_stored self.old.record_ ≡ false → length old.now ≤ 64 }
-        ensures { (touch : Touch) × ((kept : KeptBlob) × ((self.new ≡ note_wrote self.old kept touch) × FitsKept kept × (kept_bytes kept ≡ first_record self.old old.now) × (is_stored touch ≡ true)
-            × (is_other touch ≡ false → blob.now ≡ first_record self.old old.now) × (is_other touch ≡ true → blob.now ≢ first_record self.old old.now))) }
-    {
-        let first = self.first_of(old);
-        let touch = first.touch(blob);
-        self.first_blob = first;
-        self.record_ = touch;
-    }
-
-    // The section's first record, where the record was this one.
-    fn first_of(&self, old: &Blob) -> KeptBlob
-        requires fits { FitsKept self.now.first_blob }
-        requires short { is_stored self.now.record_ ≡ false → length old.now ≤ 64 }
-        ensures fits { FitsKept result }
-        ensures bytes { kept_bytes result ≡ first_record self.now old.now }
+        ensures { Overwrites self.old self.new old.now blob.now }
     {
         match self.record_ {
-            Touch::Untouched => KeptBlob::of(old),
-            Touch::Same | Touch::Other => self.first_blob,
+            Touch::Untouched => {
+                self.record_ = touch_of_record(old, blob);
+                self.first_blob = *old;
+            }
+            Touch::Same | Touch::Other => {
+                self.record_ = touch_of_record(&self.first_blob, blob);
+            }
         }
     }
 

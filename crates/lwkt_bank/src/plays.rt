@@ -1,5 +1,5 @@
 //! What each step on the table tells its seat.
-ghost use Rattle.lwkt_bank.specs.Plays.{at_word, at_cell, shares, takes_out, puts_back, reads_record, writes_record, Looks, AddsOne, Marks, GivesOne, GivesClean, GivesWritten, ReadsCell, StoresCell, RaisesCell};
+ghost use Rattle.lwkt_bank.specs.Plays.{at_word, at_cell, shares, takes_out, puts_back, brings_record, reads_record, writes_record, Looks, AddsOne, Marks, GivesOne, GivesClean, GivesWritten, ReadsCell, StoresCell, RaisesCell};
 ghost use Rattle.lwkt_bank.specs.Views.{clerk_after, new_seat, joined, spent};
 
 use crate::views::View;
@@ -90,7 +90,14 @@ impl Play<Blob, View> for ReadRecord {
     ghost then = { reads_record };
 }
 
-/// An exchange that changes nothing and notes that a record is written.
+/// A load that brings a record to the front, and notes nothing.
+pub(crate) struct BringRecord;
+
+impl Play<Blob, View> for BringRecord {
+    ghost then = { brings_record };
+}
+
+/// A load that notes that the record in front was written.
 pub(crate) struct WriteRecord;
 
 impl Play<Blob, View> for WriteRecord {

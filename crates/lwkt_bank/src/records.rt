@@ -13,6 +13,7 @@ use lwkt_base::{Blob, TokId};
 impl CpuSeat {
     /// The record of a token: what the last written section left, or what this one wrote. That the seat holds the token
     /// exclusively and that it has a record is the caller's condition.
+    #[inline]
     pub fn read_blob(&mut self, bank: &Bank, tok: TokId) -> Blob
         requires of { bank_of self.old ≡ id_of bank.now }
         requires there { tok.0 < tokens_of (bank_of self.old) }
@@ -26,6 +27,7 @@ impl CpuSeat {
 
     /// Writes the record of a token. That the seat holds the token exclusively, that it has a record, and that the new one
     /// has at most 64 bytes is the caller's condition.
+    #[inline]
     pub fn write_blob(&mut self, bank: &Bank, tok: TokId, blob: &Blob)
         requires of { bank_of self.old ≡ id_of bank.now }
         requires there { tok.0 < tokens_of (bank_of self.old) }
@@ -34,7 +36,7 @@ impl CpuSeat {
         requires short { length blob.now ≤ 64 }
         ensures { Changes self.old self.new tok.0 (wrote_record (entry self.old tok.0) blob.now) (writes_blob self.old.cpu tok.0 blob.now ∷ []) }
     {
-        let old = steps::write_record(bank, &mut self.seat, tok, blob);
-        self.notes[tok.0 as usize].write(&old, blob);
+        let note = &mut self.notes[tok.0 as usize];
+        steps::write_record(bank, &mut self.seat, tok, note, blob);
     }
 }

@@ -4,7 +4,6 @@ ghost use Rattle.lwkt_bank.specs.Closing.{IsEmptyRoom};
 
 use crate::blanks::Blank;
 use crate::closed::Closed;
-use crate::kept::Kept;
 use lwkt_base::{Blob, Cells};
 use std::alloc::{AllocError, Global};
 
@@ -42,15 +41,6 @@ pub(crate) fn put_slot(list: &mut Vec<Blob>, blob: Blob)
     ensures room { vec_capacity list.old ≤ vec_capacity list.new }
 {
     let _ = list.push(blob);
-}
-
-/// Appends what a seat had kept to a list that has room.
-pub(crate) fn put_kept(list: &mut Vec<Kept>, kept: Kept)
-    requires { length list.old.items < vec_capacity list.old }
-    ensures items { list.new.items ≡ list.old.items ++ kept ∷ [] }
-    ensures room { vec_capacity list.old ≤ vec_capacity list.new }
-{
-    let _ = list.push(kept);
 }
 
 /// Room for the rows and tallies of so many tokens.

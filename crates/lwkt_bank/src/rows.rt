@@ -175,7 +175,7 @@ impl CpuSeat {
         if !is_other(note.record_) {
             return None;
         }
-        let first = note.first_blob.blob();
+        let first = note.first_blob;
         self.write_blob(bank, tok, &first);
         Some(first)
     }

@@ -1,5 +1,5 @@
 //! The steps of a seat on the words and cells of one token.
-ghost use Rattle.std.specs.Prelude.{◌≡◌, ◌≢◌, ◌⊎◌, ℕ, ◌+◌, ◌*◌, ◌<◌, ◌≤◌, Bool, true, length, Some, slice_index};
+ghost use Rattle.std.specs.Prelude.{◌≡◌, ◌≢◌, ◌⊎◌, ℕ, ◌+◌, ◌*◌, ◌<◌, ◌≤◌, Bool, List, true, length, Some, slice_index};
 ghost use Rattle.lwkt_base.specs.Holding.{is_held, is_exclusive};
 ghost use Rattle.lwkt_bank.specs.Hands.{AreHands, IsInHand, PutsBack};
 ghost use Rattle.lwkt_base.specs.declared.holdings.Held.{Held};
@@ -7,14 +7,16 @@ ghost use Rattle.lwkt_base.specs.declared.laws.Law.TheVariants.{Tally};
 ghost use Rattle.lwkt_core.specs.Tokens.{IsNotLastExclusive};
 ghost use Rattle.lwkt_bank.specs.Views.{at, count_from, held_of};
 ghost use Rattle.lwkt_bank.specs.Rule.{plan_at};
+ghost use Rattle.lwkt_bank.specs.Notes.{Overwrites};
 ghost use Rattle.lwkt_bank.specs.Plays.{Amid, Looks, Exchanges, AddsOne, Marks, GivesOne, GivesClean, GivesWritten, ReadsCell, StoresCell, RaisesCell, ReadsBlob, WritesBlob, TakesHands};
 ghost use Rattle.lwkt_bank.specs.Seats.{IsOf, IsSame, IsCleanIn, IsLawfulIn, Decides};
 
 use crate::banks::Bank;
+use crate::notes::TokenNote;
 use crate::places::{SECTION, word_of_cell, word_of_token};
 use crate::plays::{
-    AddOne, GiveClean, GiveOne, GiveWritten, Look, RaiseCell, ReadCell, ReadRecord, SetMark, Share,
-    StoreCell, Take, WriteRecord,
+    AddOne, BringRecord, GiveClean, GiveOne, GiveWritten, Look, RaiseCell, ReadCell, ReadRecord,
+    SetMark, Share, StoreCell, Take, WriteRecord,
 };
 use crate::views::View;
 use atomic_table::Seat;
@@ -166,6 +168,7 @@ pub(crate) fn raise_cell(bank: &Bank, seat: &mut Seat<Blob, View>, tok: TokId, v
 }
 
 /// Reads the record of a token that is held exclusively and has one. It lies in front then.
+#[inline]
 pub(crate) fn read_record(bank: &Bank, seat: &mut Seat<Blob, View>, tok: TokId) -> Blob
     requires of { IsOf bank.now seat.old }
     requires there { tok.0 < length bank.now.key.plans.items }
@@ -181,26 +184,29 @@ pub(crate) fn read_record(bank: &Bank, seat: &mut Seat<Blob, View>, tok: TokId) 
     *seat.slot_mut(&bank.table.shared, tok.0 as usize)
 }
 
-/// Writes the record of a token that is held exclusively and has one, and answers what it was.
+/// Writes the record of a token that is held exclusively and has one, and notes what it was. It is brought to the front first,
+/// by a load that is no deed, and the new one lies there when the load is made that is the deed.
+#[inline]
 pub(crate) fn write_record(
     bank: &Bank,
     seat: &mut Seat<Blob, View>,
     tok: TokId,
+    note: &mut TokenNote,
     blob: &Blob,
-) -> Blob
+)
     requires of { IsOf bank.now seat.old }
     requires there { tok.0 < length bank.now.key.plans.items }
     requires held { IsInHand seat.old.me.0 tok.0 }
     requires short { length blob.now ≤ 64 }
     requires hands { AreHands seat.old.me.0 seat.old.me.1 }
     ensures table { seat.new.table_id ≡ seat.old.table_id }
-    ensures value { (at seat.old.me.0.tokens tok.0).blob ≡ Some result }
+    ensures notes { (old : List ℕ) × (((at seat.old.me.0.tokens tok.0).blob ≡ Some old) × Overwrites note.old note.new old blob.now) }
     ensures writes { Amid seat.old.me.0 (λ between. WritesBlob blob.now between tok.0 seat.old.me.0 seat.new.me.0) }
     ensures hands { AreHands seat.new.me.0 seat.new.me.1 }
 {
     let word = word_of_cell(tok, 0);
-    bank.table
-        .shared
-        .compare_exchange_with::<WriteRecord>(seat, word, 0, 0, blob);
-    bank.table.shared.exchange(seat, tok.0 as usize, *blob)
+    bank.table.shared.load::<BringRecord>(seat, word);
+    note.write(seat.slot_mut(&bank.table.shared, tok.0 as usize), blob);
+    bank.table.shared.exchange(seat, tok.0 as usize, *blob);
+    bank.table.shared.load::<WriteRecord>(seat, word);
 }

@@ -53,12 +53,12 @@ impl CpuSeat {
         ensures hit { result ≡ true → Hit self.old self.new tok.0 mode word next }
         ensures miss { result ≡ false → Miss self.old self.new tok.0 word next }
     {
-        let at = tok.0 as usize;
         // Noted before the exchange: between two atomic steps a write would be waited for.
-        self.notes[at].take(mode);
+        let note = &mut self.notes[tok.0 as usize];
+        note.take(mode);
         let found = steps::swing(bank, &mut self.seat, tok, mode, word, next);
         if found != word {
-            self.notes[at].references = 0;
+            note.end();
             return false;
         }
         true
@@ -99,8 +99,9 @@ impl CpuSeat {
         requires few { references self.old < 32 }
         ensures { Stepped self.old self.new tok.0 (more (entry self.old tok.0)) adds_one }
     {
+        let note = &mut self.notes[tok.0 as usize];
         steps::add_one(bank, &mut self.seat, tok);
-        self.notes[tok.0 as usize].references += 1;
+        note.one_more();
     }
 
     /// Marks the token for an exclusive request.

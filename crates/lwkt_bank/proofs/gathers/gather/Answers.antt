@@ -21,16 +21,17 @@ loop-seat-preserved c =
     let more = length-append front (c.in-Some.seat ∷ []) in
     let F : ℕ → Type 0 = λ b. Gathering bank c.join.new.clerk.me.0 all front c.put_kept.new.list.items b in
     let G : List Kept → Type 0 = λ ks. Gathering bank c.join.new.clerk.me.0 all front ks (length all - length rest + 1) in
-    let step = gathering_more bank c.loop-seat.clerk.me.0 c.join.new.clerk.me.0 all rest front c.in-Some.seat c.loop-seat.kept.items _ (length all - length rest) i.so_far last (ap (λ m. m.0) c.join.ensures.2) refl refl in
+    let put = c.put_kept.ensures.items in
+    let step = gathering_more bank c.loop-seat.clerk.me.0 c.join.new.clerk.me.0 all rest front c.in-Some.seat c.loop-seat.kept.items put.0 (length all - length rest) i.so_far last (ap (λ m. m.0) c.join.ensures.2) put.1.0 put.1.1 in
     record {
       same = c.join.ensures.0 ∙ i.same;
       id = c.join.ensures.1 ∙ i.id;
-      room = (let old = i.room in let wider = c.put_kept.ensures.room in let one = kept_longer c.loop-seat.kept.items c.put_kept.new.list.items _ c.put_kept.ensures.items in omega arith);
-      so_far = subst F (omega arith) (subst G (sym c.put_kept.ensures.items) step);
+      room = (let old = i.room in let wider = c.put_kept.ensures.room in let one = kept_longer c.loop-seat.kept.items c.put_kept.new.list.items put.0 put.1.2 in omega arith);
+      so_far = subst F (omega arith) (subst G (sym put.1.2) step);
     }
 
-pub put_kept-requires : goal.put_kept-requires
-put_kept-requires c =
+pub put_kept-requires-clause-room : goal.put_kept-requires-clause-room
+put_kept-requires-clause-room c =
     let old = c.loop-seat.invariant.room in
     let longer = ap length c.in-Some.ensures.items in
     let more = length-append c.pop.new.self.items (c.in-Some.seat ∷ []) in

@@ -3,7 +3,7 @@ use Rattle.lwkt_bank.specs.Notes.{note_at}
 use Rattle.lwkt_bank.specs.Seats.{entry}
 use Rattle.lwkt_bank.specs.Views.{ended, section_of}
 use Rattle.lwkt_bank.proofs.NoteMoves.{IsNoted-nothing}
-use Rattle.lwkt_bank.proofs.ChangeMoves.{changed, keeps_part, room_of, put_hands, entry_tok}
+use Rattle.lwkt_bank.proofs.ChangeMoves.{changed, keeps_changed, room_of, put_hands, entry_tok}
 use Rattle.lwkt_bank.specs.Deeds.{gives_written}
 use Rattle.lwkt_bank.proofs.seats.CpuSeat.end_written.Goals as goal
 
@@ -13,7 +13,7 @@ invariant_of-self c =
     let t = c.args.tok.0 in
     let noted' = IsNoted-nothing _ s.cpu.0 (entry s t) (ended (entry s t)) (note_at s.notes t) refl refl (s.kept.each t c.requires.there) in
     record {
-      kept = keeps_part s c.give_written-found.new.seat.me.0 t (ended (entry s t)) c.give_written-found.ensures.gives.0 _ (λ m. record m { references = 0 }) _ (room_of c.args.bank.now s t c.requires.of c.requires.there) c.give_written-found.ensures.gives.1.1.1 c.requires.there (entry_tok s t) noted';
+      kept = keeps_changed s c.give_written-found.new.seat.me.0 t (ended (entry s t)) c.give_written-found.ensures.gives.0 _ (λ m. record m { references = 0 }) _ c.end.new.self (room_of c.args.bank.now s t c.requires.of c.requires.there) c.give_written-found.ensures.gives.1.1.1 c.requires.there (entry_tok s t) c.end.ensures noted';
       hands = put_hands s c.give_written-found.new.seat t (ended (entry s t)) c.give_written-found.ensures.gives.0 _ c.give_written-found.ensures.puts c.give_written-found.ensures.gives.1.1.1 (entry_tok s t) refl;
       sized = length-set s.notes t _ ∙ s.sized;
     }

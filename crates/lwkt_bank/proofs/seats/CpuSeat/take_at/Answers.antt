@@ -1,5 +1,5 @@
 use Rattle.lwkt_base.specs.Holding.{is_exclusive}
-use Rattle.std.proofs.Common.{refl, set, length-set, ◌∙◌, ap}
+use Rattle.std.proofs.Common.{refl, length-set, ◌∙◌, ap}
 use Rattle.lwkt_bank.specs.Views.{generation_in, looked, taken}
 use Rattle.lwkt_bank.specs.Deeds.{loses, takes}
 use Rattle.lwkt_bank.specs.Seats.{entry}
@@ -15,9 +15,9 @@ invariant_of-self c =
     let t = c.args.tok.0 in
     let miss = c.swing-found.ensures.exchanges.1.1.1 c.if-found-word.true in
     record {
-      kept = keeps_missed s c.swing-found.new.seat.me.0 t (generation_in c.swing-found.result) c.swing-found.ensures.exchanges.0 _ c.args.mode _ _ c.take.new.self (room_of c.args.bank.now s t c.requires.of c.requires.there) miss.1 c.requires.there c.requires.free c.take.ensures;
+      kept = keeps_missed s c.swing-found.new.seat.me.0 t (generation_in c.swing-found.result) c.swing-found.ensures.exchanges.0 _ c.args.mode _ c.take.new.self c.end.new.self (room_of c.args.bank.now s t c.requires.of c.requires.there) miss.1 c.requires.there c.requires.free c.take.ensures c.end.ensures;
       hands = still_hands s c.swing-found.new.seat t (looked (entry s t) c.swing-found.result) c.swing-found.ensures.exchanges.0 _ (miss_hands s c.swing-found.new.seat t c.args.word c.swing-found.result c.args.mode c.swing-found.ensures.hands c.if-found-word.true) miss.1 ((seen-keeps (entry s t) (generation_in c.swing-found.result)).0 ∙ entry_tok s t) (ap is_exclusive (seen-keeps (entry s t) (generation_in c.swing-found.result)).1) (seen-keeps (entry s t) (generation_in c.swing-found.result)).9;
-      sized = length-set (set s.notes t c.take.new.self) t _ ∙ length-set s.notes t _ ∙ s.sized;
+      sized = length-set s.notes t _ ∙ s.sized;
     }
 
 pub returns-then-found-word-clause-miss : goal.returns-then-found-word-clause-miss
