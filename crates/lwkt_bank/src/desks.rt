@@ -121,10 +121,10 @@ impl Bank {
 
     /// Opens a bank of these tokens, with a seat for each processor.
     ///
-    /// Refused with `Memory` only if an allocation is; with `Limits` only if a limit is passed: 1 to 8 processors, at most
-    /// 64 tokens, at most 4 cells and exactly 1 under `Law::Tally`, a generation past the last, a record of more than 64
-    /// bytes, `Law::Len` without a record or a cell, or `Law::Tally` with a record; with `LawBroken` only if an opening row,
-    /// with its record's length, breaks its law.
+    /// Refused with `Limits` exactly if a limit is passed: 1 to 8 processors, at most 64 tokens, at most 4 cells and exactly
+    /// 1 under `Law::Tally`, a generation past the last, a record of more than 64 bytes, `Law::Len` without a record or a cell,
+    /// or `Law::Tally` with a record; else with `LawBroken` exactly if an opening row, with its record's length, breaks its
+    /// law; else with `Memory` only if an allocation is. No memory is asked for before.
     pub fn open(
         alloc: Global,
         specs: &[TokSpec],
@@ -133,17 +133,19 @@ impl Bank {
         ensures ok { IfOk result (λ opened. IsOpened cpus specs.now opened.0 opened.1.items) }
         ensures within { OnOk result (AreWithin cpus specs.now [] × AllOpenLawfully specs.now) }
         ensures limits { result ≡ Err Fault.Limits → ¬ AreWithin cpus specs.now [] }
+        ensures each_limit { (¬ AreWithin cpus specs.now []) → result ≡ Err Fault.Limits }
         ensures broken { result ≡ Err Fault.LawBroken → AreWithin cpus specs.now [] × ¬ AllOpenLawfully specs.now }
+        ensures each_law { AreWithin cpus specs.now [] → (¬ AllOpenLawfully specs.now) → result ≡ Err Fault.LawBroken }
         ensures only { IfErr result (λ f. (f ≡ Fault.Memory) ⊎ ((f ≡ Fault.Limits) ⊎ (f ≡ Fault.LawBroken))) }
     {
-        let seats = Vec::with_capacity(alloc, 8).map_err(|_| Fault::Memory)?;
-        let plans = openings::plans_of(alloc, specs).map_err(|_| Fault::Memory)?;
         if !openings::are_within(cpus, specs) {
             return Err(Fault::Limits);
         }
         if !all_open_lawfully(specs) {
             return Err(Fault::LawBroken);
         }
+        let seats = Vec::with_capacity(alloc, 8).map_err(|_| Fault::Memory)?;
+        let plans = openings::plans_of(alloc, specs).map_err(|_| Fault::Memory)?;
         let words = openings::words_of(alloc, specs).map_err(|_| Fault::Memory)?;
         let slots = openings::slots_of(alloc, specs).map_err(|_| Fault::Memory)?;
         let key = Key { plans, cpus };
