@@ -17,6 +17,7 @@ pub mod posts;
 pub mod queues;
 mod replies;
 mod sendings;
+mod sights;
 mod traces;
 mod withdrawals;
 
