@@ -31,10 +31,10 @@ use Rattle.lwkt_cpu.proofs.RestMoves.{live_awaits, settled_none}
 
 -- the ports are the same ones
 pub post_none : (p : Post) → IsSamePost p p
-post_none p = record { seat = same_none p.seat; threads = refl }
+post_none p = record { seat = same_none p.seat; lanes = record { outs = refl; ins = refl }; threads = refl }
 
 pub post_then : (p q r : Post) → IsSamePost p q → IsSamePost q r → IsSamePost p r
-post_then p q r one two = record { seat = same_then p.seat q.seat r.seat one.seat two.seat; threads = two.threads ∙ one.threads }
+post_then p q r one two = record { seat = same_then p.seat q.seat r.seat one.seat two.seat; lanes = record { outs = two.lanes.outs ∙ one.lanes.outs; ins = two.lanes.ins ∙ one.lanes.ins }; threads = two.threads ∙ one.threads }
 
 pub grew_wider : (cpu : CpuId) (m n : ℕ) (t u : Vec Event Global) → m ≤ n → Grew cpu m t u → Grew cpu n t u
 grew_wider cpu m n t u wide g = record { made = g.made; trace_is = g.trace_is; own = g.own; few = omega (arith, g.few, wide); grown = g.grown; room = g.room }

@@ -1,5 +1,5 @@
 -- What a contract sees of the two ends of a lane (own).
-use Rattle.std.specs.Prelude.{◌≡◌, ℕ, ◌+◌, List, ◌∷◌, ◌++◌, length, Option, Some, None, option_to_list}
+use Rattle.std.specs.Prelude.{◌≡◌, ℕ, ◌+◌, ◌≤◌, List, ◌∷◌, ◌++◌, length, Option, Some, None, option_to_list}
 use mathlib.Core.List.{IsPrefix}
 use denote.RawPtr.{Ptr}
 use Rattle.rtrb.specs.Shared.{Names}
@@ -13,9 +13,13 @@ use Rattle.lwkt_lane.specs.declared.ins.LaneIn.{LaneIn}
 abbrev pub in_hand : LaneOut → Option Note
 in_hand out = out.hand
 
+-- every note that went into the queue so far, the oldest first
+abbrev pub queued : LaneOut → List Note
+queued out = ring.sent out.ring
+
 -- every note pushed so far, the oldest first; a note in hand counts as sent
 abbrev pub sent : LaneOut → List Note
-sent out = ring.sent out.ring ++ option_to_list (in_hand out)
+sent out = queued out ++ option_to_list (in_hand out)
 
 -- how many places of the queue the sending end knows to be free
 abbrev pub free : LaneOut → ℕ
@@ -56,6 +60,14 @@ in_lane into = record { room = consumer_capacity into.ring; words = into.ring.en
 -- the two are the ends of one lane
 abbrev pub IsLane : LaneOut → LaneIn → Type 0
 IsLane out into = out_lane out ≡ in_lane into
+
+-- a sending end beside which the other end was looked at: nothing went into the queue, the note in hand stays, and no place that was
+-- known to be free is lost
+pub record IsBeside (out out' : LaneOut) : Type 0 where
+  pub queued_same : queued out' ≡ queued out
+  pub hand_same : in_hand out' ≡ in_hand out
+  pub places : free out ≤ free out'
+  pub lane_same : out_lane out' ≡ out_lane out
 
 -- how many notes a lane keeps at most: those of the queue and the one in hand
 abbrev pub lane_capacity : LaneId → ℕ

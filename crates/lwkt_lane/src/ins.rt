@@ -1,6 +1,5 @@
 ghost use Rattle.std.specs.Prelude.{◌≡◌, ◌≤◌, ◌↔◌, [], ◌∷◌, ◌++◌, true, length, None, IsTrue, MatchOption};
 ghost use mathlib.Core.List.{IsPrefix};
-ghost use Rattle.rtrb.specs.Ring.{sent as pushed};
 
 use crate::notes::Note;
 use crate::outs::LaneOut;
@@ -13,7 +12,7 @@ pub struct LaneIn {
 }
 
 impl LaneIn {
-    ghost use Rattle.lwkt_lane.specs.Lane.{received, seen, IsSeenGone, IsLane, in_lane};
+    ghost use Rattle.lwkt_lane.specs.Lane.{received, seen, queued, IsSeenGone, IsLane, IsBeside, in_lane};
 
     /// The oldest note of the queue, or None if the queue was empty at one moment of the call. It is never None while a
     /// note is left that this end has seen there. Of notes that it hasn't seen yet no clause says when they are found,
@@ -45,11 +44,16 @@ impl LaneIn {
         self.ring.slots() == 0
     }
 
-    // Sees every note that is left in the queue, beside the sending end, and says how many there are.
-    pub(crate) fn see_all(&mut self, out: &mut LaneOut) -> usize
+    /// Sees every note that is left in the queue, beside the lane's sending end, and says how many there are. What was received and
+    /// what is seen is then all that went into the queue: all that was sent, up to the note in hand.
+    ///
+    /// That `out` is the sending end of this lane is the caller's condition.
+    pub fn see_all(&mut self, out: &mut LaneOut) -> usize
         requires { IsLane out.old self.old }
-        ensures left { received self.new ++ seen self.new ≡ pushed out.old.ring }
-        ensures hand { out.new.hand ≡ out.old.hand }
+        ensures left { received self.new ++ seen self.new ≡ queued out.old }
+        ensures keeps { IsPrefix (seen self.old) (seen self.new) }
+        ensures beside { IsBeside out.old out.new }
+        ensures lane { in_lane self.new ≡ in_lane self.old }
         ensures count { result ≡ length (seen self.new) }
         ensures most { result ≤ (in_lane self.old).room }
         ensures received { received self.new ≡ received self.old }

@@ -4,7 +4,8 @@ use Rattle.std.proofs.lemmas.List.{append-nil}
 use Rattle.std.specs.Prelude.{vec_len, All, Option, Some, None, MatchOption, option_to_list}
 use Rattle.lwkt_base.specs.declared.names.CpuId.{CpuId}
 use Rattle.lwkt_lane.specs.declared.notes.Note.{Note}
-use Rattle.lwkt_lane.specs.Lane.{received, seen, in_lane}
+use mathlib.Core.List.{IsPrefix}
+use Rattle.lwkt_lane.specs.Lane.{received, seen, IsSeenGone, in_lane}
 use Rattle.lwkt_msg.specs.Views.{seat_cpu}
 use Rattle.lwkt_msg.specs.Desks.{cpu_of, IsSameDesk}
 use Rattle.lwkt_port.specs.declared.handlings.Fate.{Fate}
@@ -45,11 +46,26 @@ handles_more [] note how x y z is h =
     let F : Desks → Type 0 = λ d. Handles note d z (Some how) in (z, how, subst F is h, refl)
 handles_more (n ∷ notes) note how x y z p h = (p.0, p.1, p.2, handles_more notes note how p.0 y z p.3 h)
 
+-- a front of a front
+pub front_then : (a b c : List Note) → IsPrefix a b → IsPrefix b c → IsPrefix a c
+front_then a b c p q = (p.0 ++ q.0, sym (append_assoc a p.0 q.0) ∙ ap (λ l. l ++ q.0) p.1 ∙ q.1)
+
+front_itself : (a : List Note) → IsPrefix a a
+front_itself a = ([], append-nil a)
+
+-- the notes that were seen come first, also after another pop, and after one that found none
+first_more : (before popped now now' : List Note) (note : Note) → IsPrefix before (popped ++ now) → IsPrefix now (note ∷ now') → IsPrefix before ((popped ++ note ∷ []) ++ now')
+first_more before popped now now' note p q = (p.0 ++ q.0, sym (append_assoc before p.0 q.0) ∙ ap (λ l. l ++ q.0) p.1 ∙ append_assoc popped now q.0 ∙ ap (λ l. popped ++ l) q.1 ∙ sym (append_assoc popped (note ∷ []) now'))
+
+first_same : (before popped now now' : List Note) → IsPrefix before (popped ++ now) → now' ≡ now → IsPrefix before (popped ++ now')
+first_same before popped now now' p same = let F : List Note → Type 0 = λ l. IsPrefix before (popped ++ l) in subst F (sym same) p
+
 -- so many notes were popped from a lane and handled
 pub record IsPopping (turn : ℕ) (line : Lane) (s : Standing) (line' : Lane) (s' : Standing) : Type 0 where
   pub popped : List Note
   pub as_many : length popped ≡ turn
   pub received_is : received line'.into ≡ received line.into ++ popped
+  pub first : IsPrefix (seen line.into) (popped ++ seen line'.into)
   pub handles : HandlesAll popped (desks_at s) (desks_at s')
   pub none : line'.kept ≡ None
   pub out_same : line'.out ≡ line.out
@@ -57,11 +73,12 @@ pub record IsPopping (turn : ℕ) (line : Lane) (s : Standing) (line' : Lane) (s
   pub keeps : Keeps s s'
 
 pub popping_none : (line : Lane) (s : Standing) → line.kept ≡ None → Keeps s s → IsPopping 0 line s line s
-popping_none line s none keeps = record { popped = []; as_many = refl; received_is = sym (append-nil (received line.into)); handles = refl; none = none; out_same = refl; lane_same = refl; keeps = keeps }
+popping_none line s none keeps = record { popped = []; as_many = refl; received_is = sym (append-nil (received line.into)); first = front_itself (seen line.into); handles = refl; none = none; out_same = refl; lane_same = refl; keeps = keeps }
 
 -- what a pop of a note leaves of a line
 pub record HasPopped (note : Note) (line line' : Lane) : Type 0 where
   pub received_is : received line'.into ≡ received line.into ++ note ∷ []
+  pub first : IsPrefix (seen line.into) (note ∷ seen line'.into)
   pub lane : in_lane line'.into ≡ in_lane line.into
   pub out_same : line'.out ≡ line.out
   pub kept_same : line'.kept ≡ line.kept
@@ -71,6 +88,7 @@ popping_more turn line s line1 s1 line2 s2 note how i pop handles keeps = record
   popped = i.popped ++ note ∷ [];
   as_many = omega (arith, length-append i.popped (note ∷ []), i.as_many);
   received_is = pop.received_is ∙ ap (λ l. l ++ note ∷ []) i.received_is ∙ append_assoc (received line.into) i.popped (note ∷ []);
+  first = first_more (seen line.into) i.popped (seen line1.into) (seen line2.into) note i.first pop.first;
   handles = handles_more i.popped note how (desks_at s) (desks_at s1) (desks_at s2) i.handles handles;
   none = pop.kept_same ∙ i.none;
   out_same = pop.out_same ∙ i.out_same;
@@ -85,12 +103,13 @@ pub flow_nothing : (popped : List Note) (o : Option Note) → o ≡ None → pop
 flow_nothing popped o is = sym (append-nil popped) ∙ ap (λ p. popped ++ option_to_list p) (sym is)
 
 -- the lane had no more notes
-pub popped_empty : (most turn : ℕ) (line : Lane) (s : Standing) (line1 : Lane) (s1 : Standing) (line2 : Lane) → turn < most → IsPopping turn line s line1 s1 → received line2.into ≡ received line1.into → seen line2.into ≡ [] → in_lane line2.into ≡ in_lane line1.into → line2.out ≡ line1.out → line2.kept ≡ line1.kept → Pops most turn line line2 (desks_at s) (desks_at s1)
-popped_empty most turn line s line1 s1 line2 within i received_same empty lane out kept = record {
+pub popped_empty : (most turn : ℕ) (line : Lane) (s : Standing) (line1 : Lane) (s1 : Standing) (line2 : Lane) → turn < most → IsPopping turn line s line1 s1 → received line2.into ≡ received line1.into → seen line2.into ≡ seen line1.into → seen line2.into ≡ [] → in_lane line2.into ≡ in_lane line1.into → line2.out ≡ line1.out → line2.kept ≡ line1.kept → Pops most turn line line2 (desks_at s) (desks_at s1)
+popped_empty most turn line s line1 s1 line2 within i received_same same empty lane out kept = record {
   popped = i.popped;
   done = i.popped;
   between = desks_at s1;
   received_is = received_same ∙ i.received_is;
+  first = first_same (seen line.into) i.popped (seen line1.into) (seen line2.into) i.first same;
   as_many = i.as_many;
   within = omega arith;
   flow = flow_nothing i.popped line2.kept (kept ∙ i.none);
@@ -108,6 +127,7 @@ popped_most most turn line s line1 s1 is i = record {
   done = i.popped;
   between = desks_at s1;
   received_is = i.received_is;
+  first = i.first;
   as_many = i.as_many ∙ is;
   within = omega arith;
   flow = flow_nothing i.popped line1.kept i.none;
@@ -127,6 +147,7 @@ popped_full most turn line s line1 s1 line2 line3 s2 note within i pop handles i
       done = i.popped;
       between = desks_at s1;
       received_is = pop.received_is ∙ ap (λ l. l ++ note ∷ []) i.received_is ∙ append_assoc (received line.into) i.popped (note ∷ []);
+      first = first_more (seen line.into) i.popped (seen line1.into) (seen line2.into) note i.first pop.first;
       as_many = omega (arith, length-append i.popped (note ∷ []), i.as_many);
       within = omega arith;
       flow = refl;

@@ -15,5 +15,9 @@ pub mod Withdrawing
 pub mod Departing
 pub mod Hinting
 pub mod HandMoves
+pub mod JoinMoves
+pub mod SightMoves
+pub mod SameLanes
+pub mod DeliveryMoves
 pub mod Passing
 pub mod Posting

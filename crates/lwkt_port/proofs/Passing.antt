@@ -6,7 +6,7 @@ use Rattle.std.proofs.lemmas.List.{append-nil, set-get_or, get_or_default, get_o
 use Rattle.std.proofs.lemmas.List.Elements.{All-get_or}
 use Rattle.std.specs.Prelude.{All, Option, None, slice_index_or, slice_set}
 use Rattle.lwkt_lane.specs.declared.notes.Note.{Note}
-use Rattle.lwkt_lane.specs.Lane.{received}
+use Rattle.lwkt_lane.specs.Lane.{received, seen}
 use Rattle.lwkt_port.specs.declared.lines.Lane.{Lane}
 use Rattle.lwkt_port.specs.declared.queues.Port.{Port}
 use Rattle.lwkt_port.specs.Chains.{Chain}
@@ -17,7 +17,7 @@ use Rattle.lwkt_port.specs.Posts.{Changes}
 use Rattle.lwkt_port.specs.Works.{Work}
 use Rattle.lwkt_port.proofs.Chaining.{chain_more}
 use Rattle.lwkt_port.proofs.Dispatching.{changed}
-use Rattle.lwkt_port.proofs.Emptying.{kept_nothing, flow_nothing}
+use Rattle.lwkt_port.proofs.Emptying.{front_then, kept_nothing, flow_nothing}
 use Rattle.lwkt_port.proofs.Hinting.{pays_none}
 use Rattle.lwkt_port.proofs.Posting.{room_itself}
 
@@ -47,6 +47,7 @@ none_empties most line line' x h =
       done = [];
       between = x;
       received_is = h.received_same ∙ sym (append-nil (received line.into));
+      first = h.first;
       as_many = refl;
       within = omega arith;
       flow = flow_nothing [] line'.kept none;
@@ -90,6 +91,7 @@ looked_empties most count line0 line1 line2 x y l e =
       done = p.done;
       between = p.between;
       received_is = p.received_is ∙ ap (λ r. r ++ p.popped) l.received_same;
+      first = front_then (seen line0.into) (seen line1.into) (p.popped ++ seen line2.into) l.first p.first;
       as_many = p.as_many;
       within = p.within;
       flow = p.flow;

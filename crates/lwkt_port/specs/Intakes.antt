@@ -2,6 +2,7 @@
 -- msgport(9) reaches another processor's port; owed replies, closed ports and the limits are own.
 use Rattle.std.specs.Prelude.{◌≡◌, ◌⊎◌, ℕ, ◌+◌, ◌-◌, ◌<◌, ◌≤◌, Bool, true, false, List, [], ◌∷◌, ◌++◌, length, All, Option, Some, None, MatchOption, Vec, vec_len, vec_capacity, option_to_list}
 use Rattle.std.specs.declared.alloc.Global.{Global}
+use mathlib.Core.List.{IsPrefix}
 use Rattle.lwkt_core.specs.declared.events.Event.{Event}
 use Rattle.lwkt_lane.specs.declared.notes.Note.{Note}
 use Rattle.lwkt_lane.specs.declared.notes.NoteKind.{NoteKind}
@@ -81,12 +82,14 @@ HandlesAll [] x y = y ≡ x
 HandlesAll (note ∷ notes) x y = (z : Desks) × (how : Fate) × Handles note x z (Some how) × HandlesAll notes z y
 
 -- so many notes, and at most so many, were popped from a lane with no kept note and handled in order; only the last one may have
--- found its port's queue full, and is kept then. With fewer notes than allowed the last was kept, or the lane had no more
+-- found its port's queue full, and is kept then. The notes that were seen at the lane's end before come first. With fewer notes than
+-- allowed the last was kept, or the lane had no more
 pub record Pops (most count : ℕ) (line line' : Lane) (x y : Desks) : Type 0 where
   pub popped : List Note
   pub done : List Note
   pub between : Desks
   pub received_is : received line'.into ≡ received line.into ++ popped
+  pub first : IsPrefix (seen line.into) (popped ++ seen line'.into)
   pub as_many : length popped ≡ count
   pub within : count ≤ most
   pub flow : popped ≡ done ++ option_to_list line'.kept

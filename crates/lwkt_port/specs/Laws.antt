@@ -1,6 +1,7 @@
 -- What the ports are for, as laws above the relations of the calls.
-use Rattle.std.specs.Prelude.{◌≡◌, ◌≢◌, ◌⊎◌, ℕ, ◌<◌, Bool, true, false, if◌then◌else◌, List, [], ◌∷◌, ◌++◌, length, All, Option, Some, None, Result, MatchOption, option_to_list, Vec}
+use Rattle.std.specs.Prelude.{◌≡◌, ◌≢◌, ◌⊎◌, ℕ, ◌<◌, ◌≤◌, Bool, true, false, if◌then◌else◌, List, [], ◌∷◌, ◌++◌, length, All, Option, Some, None, Result, IsSome, MatchOption, option_to_list, slice_index_or, Vec}
 use Rattle.std.specs.declared.alloc.Global.{Global}
+use mathlib.Core.List.{IsPrefix}
 use Rattle.lwkt_base.specs.declared.asks.Item.{Item}
 use Rattle.lwkt_base.specs.declared.asks.Item.TheVariants as item
 use Rattle.lwkt_base.specs.declared.faults.Fault.{Fault}
@@ -11,9 +12,10 @@ use Rattle.lwkt_base.specs.declared.records.Rec.{Rec}
 use Rattle.lwkt_core.specs.declared.events.Event.{Event}
 use Rattle.lwkt_core.specs.declared.events.Event.TheVariants.{Reply}
 use Rattle.lwkt_core.specs.declared.seats.SeatKind.TheVariants.{Of}
+use Rattle.lwkt_lane.specs.declared.ins.LaneIn.{LaneIn}
 use Rattle.lwkt_lane.specs.declared.notes.Note.{Note}
 use Rattle.lwkt_lane.specs.declared.notes.NoteKind.TheVariants.{Request}
-use Rattle.lwkt_lane.specs.Lane.{received}
+use Rattle.lwkt_lane.specs.Lane.{received, seen}
 use Rattle.lwkt_msg.specs.declared.answers.Taken.TheVariants as taken
 use Rattle.lwkt_msg.specs.Desks.{Desk, cpu_of, entry}
 use Rattle.lwkt_msg.specs.Views.{call_of}
@@ -137,3 +139,14 @@ HandsWaitForRoom = (limit count : ℕ) (x y : Hall) → TakesIn limit x y count 
 
 abbrev pub PaidHandsWaitForRoom : Type 0
 PaidHandsWaitForRoom = (p p' : Post) (trace trace' : Vec Event Global) → PostPays p p' trace trace' → All WaitsForRoom p'.lanes
+
+-- what a lane's receiving end had seen is received, in order, unless its line keeps a note that found its port's queue full, or as
+-- many notes were taken in as are allowed
+pub record TakesSeen (limit count : ℕ) (into : LaneIn) (line : Lane) : Type 0 where
+  pub popped : List Note
+  pub received_is : received line.into ≡ received into ++ popped
+  pub rest : IsPrefix (seen into) popped ⊎ (IsSome line.kept ⊎ (limit ≤ count))
+
+-- where notes are taken in this is so of each lane
+abbrev pub SeenAreTakenIn : Type 0
+SeenAreTakenIn = (limit count : ℕ) (x y : Hall) → TakesIn limit x y count → (k : ℕ) (d : Lane) → k < length x.lanes → TakesSeen limit count (slice_index_or x.lanes k d).into (slice_index_or y.lanes k d)

@@ -15,3 +15,4 @@ pub mod Withdrawals
 pub mod Closings
 pub mod Hints
 pub mod Counts
+pub mod Sights

@@ -1,4 +1,5 @@
 use Rattle.std.specs.Prelude.{◌≡◌, ◌⊎◌, ◌+◌, ◌<◌, ◌≤◌, [], ◌∷◌, ◌++◌, None, IsSome}
+use mathlib.Core.List.{IsPrefix}
 use Rattle.lwkt_lane.specs.declared.notes.Note.{Note}
 use Rattle.lwkt_lane.specs.Lane.{sent, in_hand, waiting, free, out_lane, received, seen, in_lane}
 use Rattle.lwkt_port.specs.declared.lines.Lane.{Lane}
@@ -37,6 +38,7 @@ pub record HasPosted (note : Note) (line line' : Lane) : Type 0 where
 pub record HasNone (line line' : Lane) : Type 0 where
   pub none : line.kept ≡ None
   pub received_same : received line'.into ≡ received line.into
+  pub first : IsPrefix (seen line.into) (seen line'.into)
   pub empty : seen line'.into ≡ []
   pub lane_same : in_lane line'.into ≡ in_lane line.into
   pub out_same : line'.out ≡ line.out
@@ -46,6 +48,7 @@ pub record HasNone (line line' : Lane) : Type 0 where
 pub record IsLooked (line line' : Lane) : Type 0 where
   pub none : line.kept ≡ None
   pub received_same : received line'.into ≡ received line.into
+  pub first : IsPrefix (seen line.into) (seen line'.into)
   pub lane_same : in_lane line'.into ≡ in_lane line.into
   pub out_same : line'.out ≡ line.out
   pub kept_same : line'.kept ≡ line.kept

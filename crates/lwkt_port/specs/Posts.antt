@@ -1,5 +1,6 @@
-use Rattle.std.specs.Prelude.{◌≡◌, ℕ, ◌<◌, ◌≤◌, List, length, slice_index_or, slice_set, All, IfSome, Vec}
+use Rattle.std.specs.Prelude.{◌≡◌, ℕ, ◌<◌, ◌≤◌, List, length, slice_index_or, slice_set, map, All, IfSome, Vec}
 use Rattle.std.specs.declared.alloc.Global.{Global}
+use Rattle.lwkt_lane.specs.Lane.{LaneId, out_lane, in_lane}
 use Rattle.lwkt_msg.specs.Desks.{Desk, cpus_of, IsSameDesk}
 use Rattle.lwkt_port.specs.declared.lines.Lane.{Lane}
 use Rattle.lwkt_port.specs.declared.mails.Mail.{Mail}
@@ -44,7 +45,20 @@ pub record Changes {A : Type 0} (R : A → A → Type 0) (i : ℕ) (xs ys : List
   pub now : ys ≡ slice_set xs i new
   pub does : R old new
 
--- the ports are still those that they were: over the same seat, for as many threads
+-- the lanes of a processor's lines, by their sending ends, and by their receiving ends
+abbrev pub out_lanes : List Lane → List LaneId
+out_lanes lanes = map (λ (line : Lane). out_lane line.out) lanes
+
+abbrev pub in_lanes : List Lane → List LaneId
+in_lanes lanes = map (λ (line : Lane). in_lane line.into) lanes
+
+-- lines go over the lanes that they went over before
+pub record AreSameLanes (lanes lanes' : List Lane) : Type 0 where
+  pub outs : out_lanes lanes' ≡ out_lanes lanes
+  pub ins : in_lanes lanes' ≡ in_lanes lanes
+
+-- the ports are still those that they were: over the same seat and the same lanes, for as many threads
 pub record IsSamePost (p p' : Post) : Type 0 where
   pub seat : IsSameDesk p.seat p'.seat
+  pub lanes : AreSameLanes p.lanes p'.lanes
   pub threads : p'.threads ≡ p.threads

@@ -1,5 +1,6 @@
 //! What the ports are for. The functions do nothing: their contracts are the laws.
-ghost use Rattle.lwkt_port.specs.Laws.{LanesLoseNone, NotesLeaveServed, UrgentLeaveFirst, LeavingChains, NotesComeLast, RequestsAreShownOnce, OwedIsMadeOnce, UnowedIsNotMade, EintrIfAborted, NothingIsTold, TellsChain, HandsWaitForRoom, PaidHandsWaitForRoom};
+ghost use Rattle.lwkt_port.specs.Sights.{SentAreDelivered, StayJoined, OpenedAreJoined};
+ghost use Rattle.lwkt_port.specs.Laws.{LanesLoseNone, NotesLeaveServed, UrgentLeaveFirst, LeavingChains, NotesComeLast, RequestsAreShownOnce, OwedIsMadeOnce, UnowedIsNotMade, EintrIfAborted, NothingIsTold, TellsChain, HandsWaitForRoom, PaidHandsWaitForRoom, SeenAreTakenIn};
 
 /// What left a lane is what was reaped, queued, found stale or foreign, in order, and at last what is kept for it.
 pub fn lanes_lose_none()
@@ -48,4 +49,22 @@ pub fn aborted_requests_are_owed()
 pub fn hands_wait_for_room()
     ensures taken { HandsWaitForRoom }
     ensures paid { PaidHandsWaitForRoom }
+{}
+
+/// Where notes are taken in, those that a lane's receiving end had seen are received, in order, unless its line keeps a note that
+/// found its port's queue full, or as many notes were taken in as are allowed.
+pub fn seen_notes_are_taken_in()
+    ensures { SeenAreTakenIn }
+{}
+
+/// What a processor's ports have put into the queue of the lane to another one's is received by a `take_in` of that one that
+/// follows a `see`, in order, unless a note is kept that found its port's queue full, or as many were taken in as are allowed.
+pub fn sent_notes_are_delivered()
+    ensures { SentAreDelivered }
+{}
+
+/// Two processors' ports that are opened over the two ends of a lane have it between them, and keep it whatever calls they make.
+pub fn lanes_stay_joined()
+    ensures opened { OpenedAreJoined }
+    ensures stay { StayJoined }
 {}

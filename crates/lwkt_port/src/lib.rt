@@ -22,6 +22,7 @@ pub mod posts;
 pub mod queues;
 mod replies;
 mod sendings;
+mod sights;
 mod traces;
 mod withdrawals;
 

@@ -1,6 +1,6 @@
 //! The two lanes that join a processor with another one, or with itself.
 ghost use Rattle.std.specs.Prelude.{◌≡◌, ◌++◌, ◌∷◌, [], ◌↔◌, None, IsTrue, IsSome, IfSome, Some, true, false, MatchOption};
-ghost use Rattle.lwkt_lane.specs.Lane.{sent, in_hand, received, seen, in_lane};
+ghost use Rattle.lwkt_lane.specs.Lane.{sent, in_hand, received, seen, IsSeenGone, in_lane};
 ghost use Rattle.lwkt_port.specs.Lines.{IsRoomed, HasPosted, HasNone, IsFound};
 
 use lwkt_lane::{LaneIn, LaneOut, Note};
@@ -43,6 +43,7 @@ pub(crate) fn post(line: &mut Lane, note: Note)
 #[inline(always)]
 pub(crate) fn pop(line: &mut Lane) -> Option<Note>
     ensures received { MatchOption result (received line.new.into ≡ received line.old.into) (λ note. received line.new.into ≡ received line.old.into ++ note ∷ []) }
+    ensures seen { IsSeenGone result (seen line.old.into) (seen line.new.into) }
     ensures none { result ≡ None → seen line.new.into ≡ [] }
     ensures lane { in_lane line.new.into ≡ in_lane line.old.into }
     ensures same { (line.new.out ≡ line.old.out) × (line.new.kept ≡ line.old.kept) }

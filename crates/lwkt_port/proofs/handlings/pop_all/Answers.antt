@@ -15,7 +15,7 @@ returns-in_default-handle-clause-pops c =
     let s : Standing = standing c.args.seat.now c.args.mails.now c.args.trace.now c.args.ports.now in
     let s1 : Standing = standing l.seat l.mails l.trace l.ports in
     let s2 : Standing = standing c.handle.new.seat c.handle.new.mails c.handle.new.trace c.handle.new.ports in
-    let popped : HasPopped c.in-Some.note l.line c.pop.new.line = record { received_is = e.received; lane = e.lane; out_same = e.same.0; kept_same = e.same.1 } in
+    let popped : HasPopped c.in-Some.note l.line c.pop.new.line = record { received_is = e.received; first = e.seen; lane = e.lane; out_same = e.same.0; kept_same = e.same.1 } in
     popped_full c.args.most l.popped c.args.line.now s l.line s1 c.pop.new.line c.keep.new.line s2 c.in-Some.note c.loop-popped-test.true l.invariant.popping popped h.handles c.keep.ensures
 
 pub loop-popped-preserved : goal.loop-popped-preserved
@@ -26,5 +26,5 @@ loop-popped-preserved c =
     let s : Standing = standing c.args.seat.now c.args.mails.now c.args.trace.now c.args.ports.now in
     let s1 : Standing = standing l.seat l.mails l.trace l.ports in
     let s2 : Standing = standing c.handle.new.seat c.handle.new.mails c.handle.new.trace c.handle.new.ports in
-    let popped : HasPopped c.in-Some.note l.line c.pop.new.line = record { received_is = e.received; lane = e.lane; out_same = e.same.0; kept_same = e.same.1 } in
+    let popped : HasPopped c.in-Some.note l.line c.pop.new.line = record { received_is = e.received; first = e.seen; lane = e.lane; out_same = e.same.0; kept_same = e.same.1 } in
     record { popping = popping_more l.popped c.args.line.now s l.line s1 c.pop.new.line s2 c.in-Some.note c.in-Some-handle._fate l.invariant.popping popped h.handles (keeps_one s1 s2 h.kept h.same h.len h.ports h.named h.grew h.away); hint = h.hint }

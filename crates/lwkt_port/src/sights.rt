@@ -1,0 +1,46 @@
+//! Where the ports of two processors are both at hand, the one sees what the other has sent.
+ghost use Rattle.std.specs.Prelude.{◌≡◌, ℕ, ◌<◌, All, slice_index_or, vec_len};
+ghost use Rattle.lwkt_lane.specs.Lane.{IsLane};
+ghost use Rattle.lwkt_port.specs.Posts.{AreSameLanes, KeepsNamed, IsSamePost};
+ghost use Rattle.lwkt_port.specs.Sights.{AreEnds, SeesAll, LooksBeside, Sees, AreJoined, PostSees};
+
+use crate::lines::Lane;
+use crate::posts::Ports;
+
+// A line sees all that a sender's line has put into the queue of the lane between them.
+fn see_line(line: &mut Lane, sender: &mut Lane)
+    requires { IsLane sender.old.out line.old.into }
+    ensures sees { SeesAll sender.old.out line.old line.new }
+    ensures beside { LooksBeside sender.old sender.new }
+{
+    let _ = line.into.see_all(&mut sender.out);
+}
+
+// Lines see all that came from a sender.
+fn see_from(lanes: &mut Vec<Lane>, from: usize, sender: &mut Vec<Lane>, to: usize)
+    requires { AreEnds from to sender.old.items lanes.old.items }
+    ensures sees { Sees from to sender.old.items sender.new.items lanes.old.items lanes.new.items }
+    ensures len { (vec_len lanes.new ≡ vec_len lanes.old) × (vec_len sender.new ≡ vec_len sender.old) }
+    ensures same { AreSameLanes lanes.old.items lanes.new.items × AreSameLanes sender.old.items sender.new.items }
+    ensures named { (n : ℕ) → All (KeepsNamed n) lanes.old.items → All (KeepsNamed n) lanes.new.items }
+    ensures sender { (n : ℕ) → All (KeepsNamed n) sender.old.items → All (KeepsNamed n) sender.new.items }
+{
+    see_line(&mut lanes[from], &mut sender[to]);
+}
+
+impl Ports {
+    /// Sees every note that another processor's ports have put into the queue of the lane to this one. A `take_in` that follows
+    /// takes these notes in first, up to its limit and the room of their ports' queues.
+    ///
+    /// That the lane between the two has its ends at them is the caller's condition.
+    pub fn see(&mut self, sender: &mut Ports)
+        requires { AreJoined sender.old self.old }
+        ensures sees { PostSees sender.old sender.new self.old self.new }
+        ensures same { IsSamePost self.old self.new }
+        ensures sender { IsSamePost sender.old sender.new }
+    {
+        let from = usize::from(sender.seat.cpu().0);
+        let to = usize::from(self.seat.cpu().0);
+        see_from(&mut self.lanes, from, &mut sender.lanes, to);
+    }
+}
