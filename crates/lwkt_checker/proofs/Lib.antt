@@ -1,3 +1,4 @@
 pub mod ToldRuns
 pub mod Tellings
 pub mod Sayings
+pub mod Closings

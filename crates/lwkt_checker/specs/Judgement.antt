@@ -46,7 +46,7 @@ Finds m events (Some last) (Unlawful index why) = FailsAt m events last index
 
 -- a finding is true of the events that are told from a machine on, and its line says why
 abbrev pub FindsWhy : Machine → List Told → Option Final → Finding → Type 0
-FindsWhy m told last finding = Finds m (events_told m told) last finding × SaysWhy m told finding
+FindsWhy m told last finding = Finds m (events_told m told) last finding × SaysWhy m told last finding
 
 -- the finding is true of the events that the trace tells, and its line says why
 abbrev pub IsFound : Trace → Finding → Type 0

@@ -2,3 +2,4 @@ pub mod Told
 pub mod Judgement
 pub mod Output
 pub mod Said
+pub mod Shown

@@ -1,5 +1,6 @@
--- What is said of the first event that can't happen: its index, the event, and its first need that isn't met (own).
-use Rattle.std.specs.Prelude.{◌≡◌, ℕ, ◌+◌, Bool, true, false, not, List, [], ◌∷◌, ◌++◌, length, take, codes, nat_lt, is_some, if◌then◌else◌, string_bytes, Option, None, Some, MatchOption, slice_get}
+-- What is said of the first event that can't happen: its index, the event, and its first need that isn't met; and of a close that
+-- differs: the first value that does (own).
+use Rattle.std.specs.Prelude.{◌≡◌, ◌≢◌, ◌⊎◌, ℕ, ◌+◌, ◌==◌, ◌<◌, Bool, true, false, not, List, [], ◌∷◌, ◌++◌, length, take, codes, nat_lt, is_some, if◌then◌else◌, string_bytes, Option, None, Some, MatchOption, option_map, slice_get}
 use Rattle.std.specs.Fmt.{decimal}
 use Rattle.std.specs.List.{list_all}
 use Rattle.lwkt_base.specs.Hex.{bytes_text}
@@ -10,17 +11,19 @@ use Rattle.lwkt_base.specs.declared.laws.Law.{Law}
 use Rattle.lwkt_base.specs.declared.laws.Law.TheVariants.{Len}
 use Rattle.lwkt_base.specs.declared.names.Mode.{Mode}
 use Rattle.lwkt_base.specs.declared.names.Mode.TheVariants.{Exclusive, Shared}
+use Rattle.lwkt_base.specs.declared.owners.MsgEnd.{MsgEnd}
 use Rattle.lwkt_base.specs.declared.owners.Owner.{Owner}
 use Rattle.lwkt_base.specs.declared.owners.Owner.TheVariants.{Rest, Out, With, Back}
 use Rattle.lwkt_core.specs.Events.{cpu_of, place_of}
 use Rattle.lwkt_core.specs.Lacks.{Lacks}
 use Rattle.lwkt_core.specs.Machine.{Machine, Needs}
-use Rattle.lwkt_core.specs.Tokens.{held_by}
-use Rattle.lwkt_core.specs.Trace.{Run}
+use Rattle.lwkt_core.specs.Tokens.{held_by, IsFree}
+use Rattle.lwkt_core.specs.Trace.{Run, shown_tallies, end_of}
 use Rattle.lwkt_core.specs.declared.events.Event.{Event}
 use Rattle.lwkt_core.specs.declared.events.Event.TheVariants.{GiveWritten, Read, Write, ReadBlob, WriteBlob, Send, TakeMsg}
 use Rattle.lwkt_core.specs.declared.events.Place.{Place}
 use Rattle.lwkt_core.specs.declared.events.Place.TheVariants.{AtToken, AtMessage}
+use Rattle.lwkt_core.specs.declared.finals.Final.{Final}
 use Rattle.lwkt_core.specs.declared.lacks.Lack.{Lack}
 use Rattle.lwkt_core.specs.declared.lacks.Lack.TheVariants.{NoProcessor, TooManyReferences, LastGeneration, LastExclusive, FurtherReferences, RowChanged, RecordChanged, RowUnchanged, LawBroken, OtherSection, NoCell, OtherValue, LessThanBefore, NoRecord, OtherRecord, RecordLong, NoTarget}
 use Rattle.lwkt_core.specs.declared.messages.Message.{Message}
@@ -31,6 +34,8 @@ use Rattle.lwkt_trace.specs.Written.{word_of, law_text}
 use Rattle.lwkt_trace.specs.declared.traces.Told.{Told}
 use Rattle.lwkt_trace.specs.declared.traces.Told.TheVariants.{Whole, Given}
 use Rattle.lwkt_checker.specs.Told.{event_told, events_told}
+use Rattle.lwkt_checker.specs.declared.differences.Other.{Other}
+use Rattle.lwkt_checker.specs.declared.differences.Other.TheVariants.{Holders, Row, Generation, Tallies, Record}
 use Rattle.lwkt_checker.specs.declared.judges.Finding.{Finding}
 use Rattle.lwkt_checker.specs.declared.judges.Finding.TheVariants.{Lawful, Unlawful}
 
@@ -231,8 +236,129 @@ pub record IsReason (m : Machine) (index : ℕ) (told : Told) (text : List ℕ) 
   pub tells : MatchOption lack (Needs m (event_told m told)) (λ l. Lacks m (event_told m told) l)
   pub is : text ≡ reason_text m index told lack
 
--- the line beside an index says why the event of that index can't happen in the machine that those before it lead to; where
--- only the close differs nothing is said of it
-abbrev pub SaysWhy : Machine → List Told → Finding → Type 0
-SaysWhy m told Lawful = Unit {0}
-SaysWhy m told (Unlawful index why) = MatchOption (slice_get told index) (Unit {0}) (λ t. (mid : Machine) × (Run m (take index (events_told m told)) mid × IsReason mid index t (string_bytes why)))
+-- the numbers that are given, where there are some
+abbrev pub given_numbers_said : Option (List ℕ) → List ℕ
+given_numbers_said None = []
+given_numbers_said (Some numbers) = numbers_text numbers
+
+-- the generation that is given, where there is one
+abbrev pub given_generation_said : Option ℕ → List ℕ
+given_generation_said None = []
+given_generation_said (Some generation) = decimal generation
+
+-- the record that is given, or none, where that is told
+abbrev pub given_record_said : Option (Option (List ℕ)) → List ℕ
+given_record_said None = []
+given_record_said (Some blob) = record_said blob
+
+-- the row of a token and the one that is given, its generation, its tallies and its record
+unfoldable pub rows_differ_said : Token → Final → ℕ → List ℕ
+rows_differ_said tok last place = codes "the row is" ++ numbers_text tok.row ++ codes " and not" ++ given_numbers_said (slice_get last.rows.items place)
+
+unfoldable pub generations_differ_said : Token → Final → ℕ → List ℕ
+generations_differ_said tok last place = codes "the generation is " ++ decimal tok.generation ++ codes " and not " ++ given_generation_said (slice_get last.gens.items place)
+
+-- the tallies that a token shows
+unfoldable pub shown_said : Token → ℕ → List ℕ
+shown_said tok cpus = numbers_text (shown_tallies tok.law cpus tok.tallies)
+
+unfoldable pub tallies_differ_said : Token → ℕ → Final → ℕ → List ℕ
+tallies_differ_said tok cpus last place = codes "the tallies are" ++ shown_said tok cpus ++ codes " and not" ++ given_numbers_said (slice_get last.tallies.items place)
+
+unfoldable pub records_differ_said : Token → Final → ℕ → List ℕ
+records_differ_said tok last place = codes "it has " ++ record_said tok.blob ++ codes " and not " ++ given_record_said (slice_get last.blobs.items place)
+
+-- what is said of a thing that a token has otherwise than the closing values of its place, with both values
+abbrev pub other_said : ℕ → Final → ℕ → Token → Other → List ℕ
+other_said cpus last place tok Holders = holders_said tok
+other_said cpus last place tok Row = rows_differ_said tok last place
+other_said cpus last place tok Generation = generations_differ_said tok last place
+other_said cpus last place tok Tallies = tallies_differ_said tok cpus last place
+other_said cpus last place tok Record = records_differ_said tok last place
+
+-- the same, behind the token's number
+unfoldable pub token_other_said : ℕ → Final → ℕ → Token → Other → List ℕ
+token_other_said cpus last place tok other = codes "token " ++ decimal place ++ codes ": " ++ other_said cpus last place tok other
+
+-- the first thing that a token has otherwise than these closing values, in the order in which they are compared: nobody may hold
+-- it, and its row, its generation, its tallies and its record are to be these
+abbrev pub IsOther : Token → ℕ → List ℕ → ℕ → List ℕ → Option (List ℕ) → Option Other → Type 0
+IsOther tok cpus row generation tallies blob None = IsFree tok × ((row ≡ tok.row) × ((generation ≡ tok.generation) × ((tallies ≡ shown_tallies tok.law cpus tok.tallies) × (tok.blob ≡ blob))))
+IsOther tok cpus row generation tallies blob (Some Holders) = ¬ IsFree tok
+IsOther tok cpus row generation tallies blob (Some Row) = IsFree tok × (row ≢ tok.row)
+IsOther tok cpus row generation tallies blob (Some Generation) = IsFree tok × ((row ≡ tok.row) × (generation ≢ tok.generation))
+IsOther tok cpus row generation tallies blob (Some Tallies) = IsFree tok × ((row ≡ tok.row) × ((generation ≡ tok.generation) × (tallies ≢ shown_tallies tok.law cpus tok.tallies)))
+IsOther tok cpus row generation tallies blob (Some Record) = IsFree tok × ((row ≡ tok.row) × ((generation ≡ tok.generation) × ((tallies ≡ shown_tallies tok.law cpus tok.tallies) × (tok.blob ≢ blob))))
+
+-- the same of the closing values of a place; a token differs only where all of them are given
+abbrev pub IsOtherAt : Token → ℕ → Final → ℕ → Option Other → Type 0
+IsOtherAt tok cpus last place other =
+    MatchOption (slice_get last.rows.items place) (other ≡ None) (λ row. MatchOption (slice_get last.gens.items place) (other ≡ None) (λ generation.
+    MatchOption (slice_get last.tallies.items place) (other ≡ None) (λ tallies. MatchOption (slice_get last.blobs.items place) (other ≡ None) (λ blob. IsOther tok cpus row generation tallies blob other))))
+
+-- what is said of the token of a place, or nothing where there is none, or where it doesn't differ
+abbrev pub SaysToken : Machine → Final → ℕ → Option (List ℕ) → Type 0
+SaysToken m last place said =
+    MatchOption (slice_get m.tokens place) (said ≡ None) (λ tok. (other : Option Other) × (IsOtherAt tok m.cpus last place other × (said ≡ option_map (λ o. token_other_said m.cpus last place tok o) other)))
+
+-- where a message is and its round, and where it is told to be
+unfoldable pub message_other_said : ℕ → Message → MsgEnd → List ℕ
+message_other_said place msg end =
+    codes "message " ++ decimal place ++ codes ": " ++ owner_said msg.owner ++ codes ", round " ++ decimal msg.round ++ codes ", and not " ++ owner_said end.state ++ codes ", round " ++ decimal end.round
+
+-- what is said of a message that is to be this at the close
+abbrev pub SaysEnd : ℕ → Message → MsgEnd → Option (List ℕ) → Type 0
+SaysEnd place msg end None = end ≡ end_of msg
+SaysEnd place msg end (Some text) = (end ≢ end_of msg) × (text ≡ message_other_said place msg end)
+
+-- what is said of the message of a place, or nothing where there is none or its end isn't given, or where it doesn't differ
+abbrev pub SaysMessage : Machine → Final → ℕ → Option (List ℕ) → Type 0
+SaysMessage m last place said = MatchOption (slice_get m.messages place) (said ≡ None) (λ msg. MatchOption (slice_get last.messages.items place) (said ≡ None) (λ end. SaysEnd place msg end said))
+
+-- a text is what is said at the first place at which anything is said
+abbrev pub IsFirst : (ℕ → Option (List ℕ) → Type 0) → List ℕ → Type 0
+IsFirst Says text = (place : ℕ) × (Says place (Some text) × ((p : ℕ) → p < place → Says p None))
+
+-- nothing is said at any place; there are at most 64 tokens and messages
+abbrev pub IsSilent : (ℕ → Option (List ℕ) → Type 0) → Type 0
+IsSilent Says = (p : ℕ) → p < 64 → Says p None
+
+-- how many records were given, where that isn't as many as rows
+abbrev pub records_given_said : Final → List ℕ
+records_given_said last = if length last.blobs.items == length last.rows.items then [] else codes ", and " ++ decimal (length last.blobs.items) ++ codes " records"
+
+-- how many rows and generations were given
+unfoldable pub rows_given_said : Final → List ℕ
+rows_given_said last = decimal (length last.rows.items) ++ codes " rows, " ++ decimal (length last.gens.items) ++ codes " generations, "
+
+-- how many lists of tallies and ends of messages were given
+unfoldable pub lists_given_said : Final → List ℕ
+lists_given_said last = decimal (length last.tallies.items) ++ codes " lists of tallies and " ++ decimal (length last.messages.items) ++ codes " ends of messages were given"
+
+-- how many closing values were given
+unfoldable pub given_in_all_said : Final → List ℕ
+given_in_all_said last = rows_given_said last ++ lists_given_said last ++ records_given_said last
+
+-- a text says how a machine differs from closing values: it is that of the first token that differs, or of the first message where no
+-- token does, or where no message does either it says how many values were given
+abbrev pub SaysClose : Machine → Final → List ℕ → Type 0
+SaysClose m last text =
+    IsFirst (SaysToken m last) text ⊎ (IsSilent (SaysToken m last) × (IsFirst (SaysMessage m last) text ⊎ (IsSilent (SaysMessage m last) × (text ≡ given_in_all_said last))))
+
+-- a text is the line that says how a machine differs from closing values
+pub record IsDifference (m : Machine) (last : Final) (text : List ℕ) : Type 0 where
+  pub said : List ℕ
+  pub says : SaysClose m last said
+  pub is : text ≡ codes "close: " ++ said ++ codes "\n"
+
+-- the same where closing values are given
+abbrev pub IsDifferenceOf : Machine → Option Final → List ℕ → Type 0
+IsDifferenceOf m None text = Unit {0}
+IsDifferenceOf m (Some last) text = IsDifference m last text
+
+-- the line beside an index says why the event of that index can't happen in the machine that those before it lead to, or where only
+-- the close differs how the machine at the end does
+abbrev pub SaysWhy : Machine → List Told → Option Final → Finding → Type 0
+SaysWhy m told last Lawful = Unit {0}
+SaysWhy m told last (Unlawful index why) =
+    (mid : Machine) × (Run m (take index (events_told m told)) mid × MatchOption (slice_get told index) (IsDifferenceOf mid last (string_bytes why)) (λ t. IsReason mid index t (string_bytes why)))

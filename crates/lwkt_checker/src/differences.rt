@@ -1,164 +1,383 @@
+ghost use Rattle.std.specs.Prelude.{◌≡◌, ◌↔◌, ◌++◌, ◌≤◌, IsTrue, OnOk, IfOk, slice_get, string_bytes};
+ghost use Rattle.lwkt_core.specs.Trace.{shown_tallies, end_of};
+ghost use Rattle.lwkt_checker.specs.Said.{given_numbers_said, given_generation_said, given_record_said, rows_differ_said, generations_differ_said, shown_said, tallies_differ_said, records_differ_said, other_said, token_other_said, IsOther, IsOtherAt, SaysToken, message_other_said, SaysMessage, records_given_said, rows_given_said, lists_given_said, given_in_all_said, SaysClose, IsDifference};
+ghost use Rattle.lwkt_checker.specs.Shown.{Appends, Shows, ShowsFirst};
+
 use crate::holdings::show_holders;
 use crate::words::{show_owner, show_record};
 use lwkt_base::blobs::are_same;
-use lwkt_base::{Blob, Law, MsgEnd, MsgId, TokId};
+use lwkt_base::{Blob, Cells, Law, MsgEnd, MsgId, TokId};
 use lwkt_core::{Final, Message, State, Token};
 use lwkt_trace::words::show_numbers;
 use std::alloc::{AllocError, Global};
 
-// Whether these are the tallies that a token shows.
-fn shows(token: &Token, cpus: usize, tallies: &[u64]) -> bool {
+/// What a token has otherwise than its closing values.
+#[derive(Clone, Copy, Debug)]
+pub enum Other {
+    /// Somebody holds it.
+    Holders,
+    /// Its cells.
+    Row,
+    /// Its generation.
+    Generation,
+    /// Its tallies.
+    Tallies,
+    /// Its record.
+    Record,
+}
+
+// The tallies that a token shows.
+fn shown(token: &Token, cpus: usize) -> &[u64]
+    requires { cpus ≤ 8 }
+    ensures { result.now ≡ shown_tallies token.now.law cpus token.now.tallies }
+{
     match token.law {
-        Law::Tally => {
-            tallies.len() == cpus
-                && tallies
-                    .iter()
-                    .enumerate()
-                    .all(|(cpu, tally)| token.tallies.get(cpu) == Some(tally))
-        }
-        _ => tallies.is_empty(),
+        Law::Tally => &token.tallies[..cpus],
+        _ => &token.tallies[..0],
     }
 }
 
-// Appends the tallies of a token.
-fn show_tallies(out: &mut String, token: &Token, cpus: usize) -> Result<(), AllocError> {
-    if token.law != Law::Tally {
-        return out.push_str(" -");
+// The first thing that a token has otherwise than these closing values.
+fn other_of(
+    token: &Token,
+    cpus: usize,
+    row: &Cells,
+    generation: u64,
+    tallies: &Cells,
+    blob: &Option<Blob>,
+) -> Option<Other>
+    requires { cpus ≤ 8 }
+    ensures { IsOther token.now cpus row.now generation tallies.now blob.now result }
+{
+    if !token.is_free() {
+        return Some(Other::Holders);
     }
-    for cpu in 0..cpus {
-        if let Some(tally) = token.tallies.get(cpu) {
-            write!(out, " {tally}")?;
-        }
+    if row.as_slice() != token.row.as_slice() {
+        return Some(Other::Row);
     }
-    Ok(())
+    if generation != token.generation {
+        return Some(Other::Generation);
+    }
+    if tallies.as_slice() != shown(token, cpus) {
+        return Some(Other::Tallies);
+    }
+    if !are_same(&token.blob, blob) {
+        return Some(Other::Record);
+    }
+    None
 }
 
-// Appends how a token differs from its closing values, if it does, and says whether it does.
-fn show_token(
+// The same of the closing values of a place, or none where they aren't all given.
+fn other_at(token: &Token, cpus: usize, last: &Final, place: usize) -> Option<Other>
+    requires { cpus ≤ 8 }
+    ensures { IsOtherAt token.now cpus last.now place result }
+{
+    let row = last.rows.get(place)?;
+    let generation = last.gens.get(place)?;
+    let tallies = last.tallies.get(place)?;
+    let blob = last.blobs.get(place)?;
+    other_of(token, cpus, row, *generation, tallies, blob)
+}
+
+// Appends the row that is given for a token.
+fn show_given_row(out: &mut String, last: &Final, place: usize) -> Result<(), AllocError>
+    ensures { OnOk result (string_bytes out.new ≡ string_bytes out.old ++ given_numbers_said (slice_get last.now.rows.items place)) }
+{
+    match last.rows.get(place) {
+        None => Ok(()),
+        Some(row) => show_numbers(out, row.as_slice()),
+    }
+}
+
+// Appends the generation that is given for a token.
+fn show_given_generation(out: &mut String, last: &Final, place: usize) -> Result<(), AllocError>
+    ensures { OnOk result (string_bytes out.new ≡ string_bytes out.old ++ given_generation_said (slice_get last.now.gens.items place)) }
+{
+    match last.gens.get(place) {
+        None => Ok(()),
+        Some(generation) => write!(out, "{}", *generation),
+    }
+}
+
+// Appends the tallies that are given for a token.
+fn show_given_tallies(out: &mut String, last: &Final, place: usize) -> Result<(), AllocError>
+    ensures { OnOk result (string_bytes out.new ≡ string_bytes out.old ++ given_numbers_said (slice_get last.now.tallies.items place)) }
+{
+    match last.tallies.get(place) {
+        None => Ok(()),
+        Some(tallies) => show_numbers(out, tallies.as_slice()),
+    }
+}
+
+// Appends the record that is given for a token.
+fn show_given_record(out: &mut String, last: &Final, place: usize) -> Result<(), AllocError>
+    ensures { OnOk result (string_bytes out.new ≡ string_bytes out.old ++ given_record_said (slice_get last.now.blobs.items place)) }
+{
+    match last.blobs.get(place) {
+        None => Ok(()),
+        Some(blob) => show_record(out, blob),
+    }
+}
+
+// Appends the row of a token, and the one that is given for it.
+#[tactic(auto, unfolding(crate::specs::Said::rows_differ_said))]
+fn show_rows(out: &mut String, token: &Token, last: &Final, place: usize) -> Result<(), AllocError>
+    ensures { OnOk result (string_bytes out.new ≡ string_bytes out.old ++ rows_differ_said token.now last.now place) }
+{
+    out.push_str("the row is")?;
+    show_numbers(out, token.row.as_slice())?;
+    out.push_str(" and not")?;
+    show_given_row(out, last, place)
+}
+
+// Appends the generation of a token, and the one that is given for it.
+#[tactic(auto, unfolding(crate::specs::Said::generations_differ_said))]
+fn show_generations(
     out: &mut String,
-    state: &State,
-    place: usize,
     token: &Token,
     last: &Final,
-) -> Result<bool, AllocError> {
-    let (Some(row), Some(generation), Some(tallies), Some(blob)) = (
-        last.rows.get(place),
-        last.gens.get(place),
-        last.tallies.get(place),
-        last.blobs.get(place),
-    ) else {
-        return Ok(false);
-    };
-    if !token.is_free() {
-        write!(out, "token {place}: ")?;
-        show_holders(out, token)?;
-    } else if row.as_slice() != token.row.as_slice() {
-        write!(out, "token {place}: the row is")?;
-        show_numbers(out, token.row.as_slice())?;
-        out.push_str(" and not")?;
-        show_numbers(out, row.as_slice())?;
-    } else if *generation != token.generation {
-        write!(
-            out,
-            "token {}: the generation is {} and not {}",
-            place, token.generation, generation
-        )?;
-    } else if !shows(token, state.cpus(), tallies.as_slice()) {
-        write!(out, "token {place}: the tallies are")?;
-        show_tallies(out, token, state.cpus())?;
-        out.push_str(" and not")?;
-        show_numbers(out, tallies.as_slice())?;
-    } else {
-        return show_other_record(out, place, token, blob);
-    }
-    Ok(true)
+    place: usize,
+) -> Result<(), AllocError>
+    ensures { OnOk result (string_bytes out.new ≡ string_bytes out.old ++ generations_differ_said token.now last.now place) }
+{
+    write!(out, "the generation is {} and not ", token.generation)?;
+    show_given_generation(out, last, place)
 }
 
-// Appends how a token's record differs from the closing one, if it does, and says whether it does.
-fn show_other_record(
+// Appends the tallies that a token shows.
+#[tactic(auto, unfolding(crate::specs::Said::shown_said))]
+fn show_shown(out: &mut String, token: &Token, cpus: usize) -> Result<(), AllocError>
+    requires { cpus ≤ 8 }
+    ensures { OnOk result (string_bytes out.new ≡ string_bytes out.old ++ shown_said token.now cpus) }
+{
+    show_numbers(out, shown(token, cpus))
+}
+
+// Appends the tallies of a token, and those that are given for it.
+#[tactic(auto, unfolding(crate::specs::Said::tallies_differ_said))]
+fn show_tallies(
     out: &mut String,
-    place: usize,
     token: &Token,
-    blob: &Option<Blob>,
-) -> Result<bool, AllocError> {
-    if are_same(&token.blob, blob) {
-        return Ok(false);
-    }
-    write!(out, "token {place}: it has ")?;
+    cpus: usize,
+    last: &Final,
+    place: usize,
+) -> Result<(), AllocError>
+    requires { cpus ≤ 8 }
+    ensures { OnOk result (string_bytes out.new ≡ string_bytes out.old ++ tallies_differ_said token.now cpus last.now place) }
+{
+    out.push_str("the tallies are")?;
+    show_shown(out, token, cpus)?;
+    out.push_str(" and not")?;
+    show_given_tallies(out, last, place)
+}
+
+// Appends the record of a token, and the one that is given for it.
+#[tactic(auto, unfolding(crate::specs::Said::records_differ_said))]
+fn show_records(
+    out: &mut String,
+    token: &Token,
+    last: &Final,
+    place: usize,
+) -> Result<(), AllocError>
+    ensures { OnOk result (string_bytes out.new ≡ string_bytes out.old ++ records_differ_said token.now last.now place) }
+{
+    out.push_str("it has ")?;
     show_record(out, &token.blob)?;
     out.push_str(" and not ")?;
-    show_record(out, blob)?;
-    Ok(true)
+    show_given_record(out, last, place)
 }
 
-// Appends how a message differs from its closing values, if it does, and says whether it does.
-fn show_message(
+// Appends what a token has otherwise than the closing values of its place, and both values.
+fn show_other(
     out: &mut String,
+    token: &Token,
+    cpus: usize,
+    last: &Final,
     place: usize,
-    message: &Message,
-    end: &MsgEnd,
-) -> Result<bool, AllocError> {
-    if end.round == message.round && end.state == message.owner {
-        return Ok(false);
+    other: Other,
+) -> Result<(), AllocError>
+    requires { cpus ≤ 8 }
+    ensures { OnOk result (string_bytes out.new ≡ string_bytes out.old ++ other_said cpus last.now place token.now other) }
+{
+    match other {
+        Other::Holders => show_holders(out, token),
+        Other::Row => show_rows(out, token, last, place),
+        Other::Generation => show_generations(out, token, last, place),
+        Other::Tallies => show_tallies(out, token, cpus, last, place),
+        Other::Record => show_records(out, token, last, place),
     }
-    write!(out, "message {place}: ")?;
-    show_owner(out, message.owner)?;
-    write!(out, ", round {}, and not ", message.round)?;
-    show_owner(out, end.state)?;
-    write!(out, ", round {}", end.round)?;
-    Ok(true)
+}
+
+// Appends the same behind the token's number.
+#[tactic(auto, unfolding(crate::specs::Said::token_other_said))]
+fn show_token_other(
+    out: &mut String,
+    token: &Token,
+    cpus: usize,
+    last: &Final,
+    place: usize,
+    other: Other,
+) -> Result<(), AllocError>
+    requires { cpus ≤ 8 }
+    ensures { OnOk result (string_bytes out.new ≡ string_bytes out.old ++ token_other_said cpus last.now place token.now other) }
+{
+    write!(out, "token {place}: ")?;
+    show_other(out, token, cpus, last, place, other)
+}
+
+// Appends how the token of a place differs from its closing values, if there is one that does, and says whether there is.
+fn show_token(out: &mut String, state: &State, last: &Final, place: u8) -> Result<bool, AllocError>
+    ensures { IfOk result (λ found. Shows (SaysToken state.now last.now place) (string_bytes out.old) (string_bytes out.new) found) }
+{
+    let cpus = state.cpus();
+    let Some(token) = state.token(TokId(place)) else {
+        return Ok(false);
+    };
+    match other_at(token, cpus, last, usize::from(place)) {
+        None => Ok(false),
+        Some(other) => {
+            show_token_other(out, token, cpus, last, usize::from(place), other)?;
+            Ok(true)
+        }
+    }
 }
 
 // Appends the first token that differs, and says whether there is one.
-fn show_tokens(out: &mut String, state: &State, last: &Final) -> Result<bool, AllocError> {
+fn show_tokens(out: &mut String, state: &State, last: &Final) -> Result<bool, AllocError>
+    ensures { IfOk result (λ found. ShowsFirst (SaysToken state.now last.now) (string_bytes out.old) (string_bytes out.new) found) }
+{
     for place in 0..64u8 {
-        if let Some(token) = state.token(TokId(place)) {
-            if show_token(out, state, place as usize, token, last)? {
-                return Ok(true);
-            }
+        if show_token(out, state, last, place)? {
+            return Ok(true);
         }
     }
     Ok(false)
 }
 
+// Whether this is the end of a message.
+fn is_end(end: &MsgEnd, message: &Message) -> bool
+    ensures { IsTrue result ↔ (end.now ≡ end_of message.now) }
+{
+    end.round == message.round && end.state == message.owner
+}
+
+// Appends where a message is and its round, and where it is told to be.
+#[tactic(auto, unfolding(crate::specs::Said::message_other_said))]
+fn show_message_other(
+    out: &mut String,
+    place: u8,
+    message: &Message,
+    end: &MsgEnd,
+) -> Result<(), AllocError>
+    ensures { OnOk result (string_bytes out.new ≡ string_bytes out.old ++ message_other_said place message.now end.now) }
+{
+    write!(out, "message {place}: ")?;
+    show_owner(out, message.owner)?;
+    write!(out, ", round {}, and not ", message.round)?;
+    show_owner(out, end.state)?;
+    write!(out, ", round {}", end.round)
+}
+
+// Appends how the message of a place differs from its closing values, if there is one that does, and says whether there is.
+fn show_message(
+    out: &mut String,
+    state: &State,
+    last: &Final,
+    place: u8,
+) -> Result<bool, AllocError>
+    ensures { IfOk result (λ found. Shows (SaysMessage state.now last.now place) (string_bytes out.old) (string_bytes out.new) found) }
+{
+    let Some(message) = state.message(MsgId(place)) else {
+        return Ok(false);
+    };
+    let Some(end) = last.messages.get(usize::from(place)) else {
+        return Ok(false);
+    };
+    if is_end(end, message) {
+        return Ok(false);
+    }
+    show_message_other(out, place, message, end)?;
+    Ok(true)
+}
+
 // Appends the first message that differs, and says whether there is one.
-fn show_messages(out: &mut String, state: &State, last: &Final) -> Result<bool, AllocError> {
+fn show_messages(out: &mut String, state: &State, last: &Final) -> Result<bool, AllocError>
+    ensures { IfOk result (λ found. ShowsFirst (SaysMessage state.now last.now) (string_bytes out.old) (string_bytes out.new) found) }
+{
     for place in 0..64u8 {
-        if let (Some(message), Some(end)) = (
-            state.message(MsgId(place)),
-            last.messages.get(place as usize),
-        ) {
-            if show_message(out, place as usize, message, end)? {
-                return Ok(true);
-            }
+        if show_message(out, state, last, place)? {
+            return Ok(true);
         }
     }
     Ok(false)
 }
 
 // Appends how many records were given, where that isn't as many as rows.
-fn show_records_given(out: &mut String, last: &Final) -> Result<(), AllocError> {
+fn show_records_given(out: &mut String, last: &Final) -> Result<(), AllocError>
+    ensures { OnOk result (string_bytes out.new ≡ string_bytes out.old ++ records_given_said last.now) }
+{
     if last.blobs.len() == last.rows.len() {
         return Ok(());
     }
     write!(out, ", and {} records", last.blobs.len())
 }
 
+// Appends how many rows and generations were given.
+#[tactic(auto, unfolding(crate::specs::Said::rows_given_said))]
+fn show_rows_given(out: &mut String, last: &Final) -> Result<(), AllocError>
+    ensures { OnOk result (string_bytes out.new ≡ string_bytes out.old ++ rows_given_said last.now) }
+{
+    write!(
+        out,
+        "{} rows, {} generations, ",
+        last.rows.len(),
+        last.gens.len()
+    )
+}
+
+// Appends how many lists of tallies and ends of messages were given.
+#[tactic(auto, unfolding(crate::specs::Said::lists_given_said))]
+fn show_lists_given(out: &mut String, last: &Final) -> Result<(), AllocError>
+    ensures { OnOk result (string_bytes out.new ≡ string_bytes out.old ++ lists_given_said last.now) }
+{
+    write!(
+        out,
+        "{} lists of tallies and {} ends of messages were given",
+        last.tallies.len(),
+        last.messages.len()
+    )
+}
+
+// Appends how many closing values were given.
+#[tactic(auto, unfolding(crate::specs::Said::given_in_all_said))]
+fn show_given_in_all(out: &mut String, last: &Final) -> Result<(), AllocError>
+    ensures { OnOk result (string_bytes out.new ≡ string_bytes out.old ++ given_in_all_said last.now) }
+{
+    show_rows_given(out, last)?;
+    show_lists_given(out, last)?;
+    show_records_given(out, last)
+}
+
+// Appends how a state differs from closing values: the first value that does, or how many were given.
+fn show_difference(out: &mut String, state: &State, last: &Final) -> Result<(), AllocError>
+    ensures { OnOk result (Appends (SaysClose state.now last.now) (string_bytes out.old) (string_bytes out.new)) }
+{
+    if show_tokens(out, state, last)? {
+        return Ok(());
+    }
+    if show_messages(out, state, last)? {
+        return Ok(());
+    }
+    show_given_in_all(out, last)
+}
+
 /// The line that says which value of the close differs: the first one that does, or how many values were given.
-pub fn difference(alloc: Global, state: &State, last: &Final) -> Result<String, AllocError> {
+pub fn difference(alloc: Global, state: &State, last: &Final) -> Result<String, AllocError>
+    ensures { IfOk result (λ text. IsDifference state.now last.now (string_bytes text)) }
+{
     let mut out = String::new(alloc);
     out.push_str("close: ")?;
-    if !show_tokens(&mut out, state, last)? && !show_messages(&mut out, state, last)? {
-        write!(
-            out,
-            "{} rows, {} generations, {} lists of tallies and {} ends of messages were given",
-            last.rows.len(),
-            last.gens.len(),
-            last.tallies.len(),
-            last.messages.len()
-        )?;
-        show_records_given(&mut out, last)?;
-    }
+    show_difference(&mut out, state, last)?;
     out.push_str("\n")?;
     Ok(out)
 }

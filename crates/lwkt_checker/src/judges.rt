@@ -1,5 +1,5 @@
 ghost use Rattle.std.specs.Prelude.{◌≡◌, ◌<◌, None, Some, IfOk, IfErr, MatchOption, length, slice_get, string_bytes};
-ghost use Rattle.lwkt_checker.specs.Said.{IsReason};
+ghost use Rattle.lwkt_checker.specs.Said.{IsReason, IsDifference};
 ghost use Rattle.lwkt_checker.specs.Judgement.{opening_of, AreClosing, FindsWhy, IsFound, Declines, finding_text};
 
 use crate::differences::difference;
@@ -64,7 +64,7 @@ fn why_of(
     index: usize,
     last: &Final,
 ) -> Result<String, AllocError>
-    ensures { IfOk result (λ why. MatchOption (slice_get events.now index) (Unit {0}) (λ told. IsReason state.now index told (string_bytes why))) }
+    ensures { IfOk result (λ why. MatchOption (slice_get events.now index) (IsDifference state.now last.now (string_bytes why)) (λ told. IsReason state.now index told (string_bytes why))) }
 {
     match events.get(index) {
         Some(told) => reason(alloc, state, index, told),

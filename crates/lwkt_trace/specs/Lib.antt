@@ -2,3 +2,4 @@ pub mod Guard
 pub mod Words
 pub mod Format
 pub mod Written
+pub mod Readback

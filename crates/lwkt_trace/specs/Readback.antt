@@ -1,0 +1,163 @@
+-- The events of a written trace, its messages and where they are at the close as values of JSON, and what is read of them (own).
+use Rattle.std.specs.Prelude.{◌≡◌, ℕ, ◌<◌, ◌≤◌, List, [], ◌∷◌, ◌++◌, length, map, take, codes, Some, Ok}
+use Rattle.serde_json.specs.Data.{Data, number, unsigned, string, array, object, Items, no_items, item, no_members, member}
+use Rattle.lwkt_base.specs.Blob.{kept_of}
+use Rattle.lwkt_base.specs.Hex.{hex_text}
+use Rattle.lwkt_base.specs.declared.openings.MsgSpec.{MsgSpec}
+use Rattle.lwkt_base.specs.declared.owners.Owner.{Owner}
+use Rattle.lwkt_base.specs.declared.owners.Owner.TheVariants.{Rest, Out, With, Back}
+use Rattle.lwkt_base.specs.declared.owners.MsgEnd.{MsgEnd}
+use Rattle.lwkt_core.specs.Events.{cpu_of}
+use Rattle.lwkt_core.specs.declared.events.Event.{Event}
+use Rattle.lwkt_core.specs.declared.events.Event.TheVariants.{Load, Take, Share, Again, Mark, GiveOne, GiveClean, GiveWritten, Read, Write, ReadBlob, WriteBlob, Send, TakeMsg, DropMsg, Reply, Reap, Abort}
+use Rattle.lwkt_script.specs.Limits.{IsMessage}
+use Rattle.lwkt_script.specs.Outcome.{each}
+use Rattle.lwkt_trace.specs.Format.{event, end, message}
+use Rattle.lwkt_trace.specs.Words.{event_of}
+use Rattle.lwkt_trace.specs.Written.{word_of, past_text}
+use Rattle.lwkt_trace.specs.declared.traces.Told.{Told}
+use Rattle.lwkt_trace.specs.declared.traces.Told.TheVariants.{Whole, Given}
+
+-- a whole number, and a record by its digits
+abbrev pub number_data : ℕ → Data
+number_data n = number (unsigned n)
+
+abbrev pub blob_data : List ℕ → Data
+blob_data blob = string (hex_text (take 64 blob) ++ past_text blob)
+
+-- one item, two and three
+abbrev pub one_item : Data → Items
+one_item a = item a no_items
+
+abbrev pub two_items : Data → Data → Items
+two_items a b = item a (one_item b)
+
+abbrev pub three_items : Data → Data → Data → Items
+three_items a b c = item a (two_items b c)
+
+-- what an event is at, and what else it says; of a written give not its section
+abbrev pub rest_data : Event → Items
+rest_data (Load cpu tok) = one_item (number_data tok.0)
+rest_data (Take cpu tok) = one_item (number_data tok.0)
+rest_data (Share cpu tok) = one_item (number_data tok.0)
+rest_data (Again cpu tok) = one_item (number_data tok.0)
+rest_data (Mark cpu tok) = one_item (number_data tok.0)
+rest_data (GiveOne cpu tok) = one_item (number_data tok.0)
+rest_data (GiveClean cpu tok) = one_item (number_data tok.0)
+rest_data (GiveWritten cpu tok section) = one_item (number_data tok.0)
+rest_data (Read cpu tok cell value) = three_items (number_data tok.0) (number_data cell) (number_data value)
+rest_data (Write cpu tok cell value) = three_items (number_data tok.0) (number_data cell) (number_data value)
+rest_data (ReadBlob cpu tok blob) = two_items (number_data tok.0) (blob_data blob)
+rest_data (WriteBlob cpu tok blob) = two_items (number_data tok.0) (blob_data blob)
+rest_data (Send cpu msg to round) = three_items (number_data msg.0) (number_data to.0) (number_data round)
+rest_data (TakeMsg cpu msg round) = two_items (number_data msg.0) (number_data round)
+rest_data (DropMsg cpu msg) = one_item (number_data msg.0)
+rest_data (Reply cpu msg) = one_item (number_data msg.0)
+rest_data (Reap cpu msg) = one_item (number_data msg.0)
+rest_data (Abort cpu msg) = one_item (number_data msg.0)
+
+-- an event as a list: its word, its processor, and the rest
+abbrev pub event_data : Event → Data
+event_data e = array (item (string (word_of e)) (item (number_data (cpu_of e)) (rest_data e)))
+
+-- an event as it is told where no section is
+abbrev pub told_alone : Event → Told
+told_alone (GiveWritten cpu tok section) = Given cpu tok
+told_alone e = Whole e
+
+-- numbers of 8 bits
+abbrev pub AreBytes : List ℕ → Type 0
+AreBytes [] = Unit {0}
+AreBytes (b ∷ bs) = (b < 256) × AreBytes bs
+
+-- a record of at most 64 bytes, or one of 65, which is too long for every token and keeps 64
+pub record IsToldBlob (blob : List ℕ) : Type 0 where
+  pub short : length blob ≤ 65
+  pub bytes : AreBytes blob
+  pub kept : kept_of blob ≡ blob
+
+-- a processor and what it is at have numbers of 8 bits
+abbrev pub AreSmall : ℕ → ℕ → Type 0
+AreSmall cpu place = (cpu ≤ 255) × (place ≤ 255)
+
+-- an event whose parts are of their types
+abbrev pub IsTellable : Event → Type 0
+IsTellable (Load cpu tok) = AreSmall cpu.0 tok.0
+IsTellable (Take cpu tok) = AreSmall cpu.0 tok.0
+IsTellable (Share cpu tok) = AreSmall cpu.0 tok.0
+IsTellable (Again cpu tok) = AreSmall cpu.0 tok.0
+IsTellable (Mark cpu tok) = AreSmall cpu.0 tok.0
+IsTellable (GiveOne cpu tok) = AreSmall cpu.0 tok.0
+IsTellable (GiveClean cpu tok) = AreSmall cpu.0 tok.0
+IsTellable (GiveWritten cpu tok section) = AreSmall cpu.0 tok.0
+IsTellable (Read cpu tok cell value) = AreSmall cpu.0 tok.0 × (cell ≤ 255)
+IsTellable (Write cpu tok cell value) = AreSmall cpu.0 tok.0 × (cell ≤ 255)
+IsTellable (ReadBlob cpu tok blob) = AreSmall cpu.0 tok.0 × IsToldBlob blob
+IsTellable (WriteBlob cpu tok blob) = AreSmall cpu.0 tok.0 × IsToldBlob blob
+IsTellable (Send cpu msg to round) = AreSmall cpu.0 msg.0 × (to.0 ≤ 255)
+IsTellable (TakeMsg cpu msg round) = AreSmall cpu.0 msg.0
+IsTellable (DropMsg cpu msg) = AreSmall cpu.0 msg.0
+IsTellable (Reply cpu msg) = AreSmall cpu.0 msg.0
+IsTellable (Reap cpu msg) = AreSmall cpu.0 msg.0
+IsTellable (Abort cpu msg) = AreSmall cpu.0 msg.0
+
+-- events as a list
+abbrev pub events_data : List Event → Items
+events_data [] = no_items
+events_data (e ∷ es) = item (event_data e) (events_data es)
+
+abbrev pub AreTellable : List Event → Type 0
+AreTellable [] = Unit {0}
+AreTellable (e ∷ es) = IsTellable e × AreTellable es
+
+-- a law: the list that an event is written as is read as this event
+abbrev pub EventsAreReadBack : Type 0
+EventsAreReadBack = (e : Event) → IsTellable e → event_of (event_data e) ≡ Some (told_alone e)
+
+-- a law: the list of the lists that events are written as is read as these events, where a trace may have so many
+abbrev pub EventListsAreReadBack : Type 0
+EventListsAreReadBack = (es : List Event) → AreTellable es → length es ≤ 50000000 → each event [] (events_data es) ≡ Ok (map told_alone es)
+
+-- where a message is, as a list: a word, its processors and its round
+abbrev pub end_data : Owner → ℕ → Data
+end_data (Rest origin) round = array (item (string (codes "rest")) (two_items (number_data origin.0) (number_data round)))
+end_data (Out origin target) round = array (item (string (codes "out")) (three_items (number_data origin.0) (number_data target.0) (number_data round)))
+end_data (With origin target) round = array (item (string (codes "with")) (three_items (number_data origin.0) (number_data target.0) (number_data round)))
+end_data (Back origin target) round = array (item (string (codes "back")) (three_items (number_data origin.0) (number_data target.0) (number_data round)))
+
+-- the processors have numbers of 8 bits
+abbrev pub IsTellablePlace : Owner → Type 0
+IsTellablePlace (Rest origin) = origin.0 ≤ 255
+IsTellablePlace (Out origin target) = AreSmall origin.0 target.0
+IsTellablePlace (With origin target) = AreSmall origin.0 target.0
+IsTellablePlace (Back origin target) = AreSmall origin.0 target.0
+
+-- ends of messages as a list
+abbrev pub ends_data : List MsgEnd → Items
+ends_data [] = no_items
+ends_data (e ∷ es) = item (end_data e.state e.round) (ends_data es)
+
+abbrev pub AreTellableEnds : List MsgEnd → Type 0
+AreTellableEnds [] = Unit {0}
+AreTellableEnds (e ∷ es) = IsTellablePlace e.state × AreTellableEnds es
+
+-- a law: the list of the ends of at most 64 messages is read as these ends
+abbrev pub EndsAreReadBack : Type 0
+EndsAreReadBack = (es : List MsgEnd) → AreTellableEnds es → length es ≤ 64 → each end [] (ends_data es) ≡ Ok es
+
+-- a message of the opening: its origin and its round
+abbrev pub message_data : MsgSpec → Data
+message_data m = object (member (codes "of") (array (two_items (number_data m.origin.cpu.0) (number_data m.origin.thread))) (member (codes "round") (number_data m.round) no_members))
+
+-- messages of the opening as a list
+abbrev pub messages_data : List MsgSpec → Items
+messages_data [] = no_items
+messages_data (m ∷ ms) = item (message_data m) (messages_data ms)
+
+abbrev pub AreMessages : ℕ → List MsgSpec → Type 0
+AreMessages cpus [] = Unit {0}
+AreMessages cpus (m ∷ ms) = IsMessage cpus m × AreMessages cpus ms
+
+-- a law: the list of at most 64 messages that a script may have is read as these messages
+abbrev pub MessagesAreReadBack : Type 0
+MessagesAreReadBack = (cpus : ℕ) (ms : List MsgSpec) → AreMessages cpus ms → length ms ≤ 64 → each (message cpus) [] (messages_data ms) ≡ Ok ms
