@@ -36,7 +36,7 @@ are_compatible m events mid safe way =
 pub keep_laws : RunsKeepLaws
 keep_laws m events mid safe way =
     let there : IsSafe mid = stays m way.0 mid safe way.2.1 in
-    λ k tok low idle. (unwritten mid.cpus _ (there.each_token k tok low) idle, (there.each_token k tok low).tallied)
+    λ k tok low idle. unwritten mid.cpus _ (there.each_token k tok low) idle
 
 -- a run of two lists of events has a machine between them
 pub Run-split : (m : Machine) (xs ys : List Event) (n : Machine) → Run m (xs ++ ys) n → (k : Machine) × (Run m xs k × Run k ys n)

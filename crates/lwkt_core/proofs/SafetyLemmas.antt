@@ -82,7 +82,7 @@ pub unwritten : UnwrittenRowsAreLawful
 unwritten cpus tok safe idle =
     let F : List ℕ → Type 0 = λ row. Obeys tok.law tok.param row (length_of tok.blob) in
     let G : Option (List ℕ) → Type 0 = λ blob. Obeys tok.law tok.param tok.first (length_of blob) in
-    subst F (sym settled.0) (subst G (sym settled.1) safe.lawful)
+    (subst F (sym settled.0) (subst G (sym settled.1) safe.lawful), safe.tallied)
   where
     settled : IsClean tok
     settled = elim (holder_or_open tok) [

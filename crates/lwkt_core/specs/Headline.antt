@@ -3,23 +3,19 @@ use Rattle.std.specs.Option.{option_map_or}
 use Rattle.lwkt_base.specs.declared.names.CpuId.{CpuId}
 use Rattle.lwkt_base.specs.declared.names.MsgId.{MsgId}
 use Rattle.lwkt_base.specs.declared.laws.Law.TheVariants.{Tally}
-use Rattle.lwkt_base.specs.Law.{Obeys, IsTallied}
+use Rattle.lwkt_base.specs.Law.{Obeys}
 use Rattle.lwkt_core.specs.declared.tokens.Token.{Token}
 use Rattle.lwkt_core.specs.declared.messages.Message.{Message}
 use Rattle.lwkt_core.specs.declared.events.Event.{Event}
 use Rattle.lwkt_core.specs.declared.events.Event.TheVariants.{GiveWritten, Write, WriteBlob, Send, TakeMsg, DropMsg, Reply, Reap}
-use Rattle.lwkt_core.specs.Tokens.{tally_of, IsOpen, IsLawful, length_of}
+use Rattle.lwkt_core.specs.Tokens.{tally_of, IsOpen, length_of}
 use Rattle.lwkt_core.specs.Machine.{Machine, IsSafe, after}
 use Rattle.lwkt_core.specs.Trace.{Run}
-use Rattle.lwkt_core.specs.Safety.{IsCompatible, IsWriting}
+use Rattle.lwkt_core.specs.Safety.{IsCompatible, IsWriting, KeepsLaw}
 
 -- a run of these events goes through a machine: a front of them leads to it
 abbrev pub GoesThrough : Machine → List Event → Machine → Type 0
 GoesThrough m events mid = (front rest : List Event) × ((events ≡ front ++ rest) × Run m front mid)
-
--- the token's row, with the length of its record, obeys its declared law, and the cell of a Tally token is the parameter plus what all processors have added
-abbrev pub KeepsLaw : Token → Type 0
-KeepsLaw tok = IsLawful tok × IsTallied tok.law tok.param tok.row tok.tallies
 
 -- a law: in every machine that a run goes through each token has one exclusive holder or only shared ones (token(9))
 abbrev pub RunsAreCompatible : Type 0

@@ -2,6 +2,7 @@ use Rattle.std.specs.Prelude.{◌≡◌, ◌≢◌, ◌⊎◌, ℕ, ◌+◌, ◌
 use Rattle.lwkt_base.specs.declared.openings.TokSpec.{TokSpec}
 use Rattle.lwkt_base.specs.declared.openings.MsgSpec.{MsgSpec}
 use Rattle.lwkt_base.specs.declared.holdings.Held.TheVariants.{Nothing}
+use Rattle.lwkt_base.specs.Law.{IsTallied}
 use Rattle.lwkt_core.specs.declared.tokens.Token.{Token}
 use Rattle.lwkt_core.specs.declared.messages.Message.{Message}
 use Rattle.lwkt_core.specs.declared.events.Event.{Event}
@@ -19,6 +20,10 @@ IsCompatible tok = ((cpu : ℕ) × (IsExclusiveHolder tok cpu × ((other : ℕ) 
 abbrev pub IsWriting : Token → ℕ → Type 0
 IsWriting tok cpu = IsExclusiveHolder tok cpu × (¬ IsClean tok)
 
+-- the token's row, with the length of its record, obeys its declared law, and the cell of a Tally token is the parameter plus what all processors have added
+abbrev pub KeepsLaw : Token → Type 0
+KeepsLaw tok = IsLawful tok × IsTallied tok.law tok.param tok.row tok.tallies
+
 -- a law: a machine that was opened within the limits and lawfully is safe
 abbrev pub OpeningsAreSafe : Type 0
 OpeningsAreSafe = (cpus : ℕ) (tokens : List TokSpec) (messages : List MsgSpec) → AreWithin cpus tokens messages → AllOpenLawfully tokens → IsSafe (opening cpus tokens messages)
@@ -31,9 +36,9 @@ RunsStaySafe = (m : Machine) (events : List Event) (n : Machine) → IsSafe m �
 abbrev pub HoldersAreCompatible : Type 0
 HoldersAreCompatible = (cpus : ℕ) (tok : Token) → IsSafeToken cpus tok → IsCompatible tok
 
--- a law: row and record of a safe token obey the token's law where no processor is writing it
+-- a law: a safe token that no processor is writing keeps its declared law
 abbrev pub UnwrittenRowsAreLawful : Type 0
-UnwrittenRowsAreLawful = (cpus : ℕ) (tok : Token) → IsSafeToken cpus tok → ((cpu : ℕ) → ¬ IsWriting tok cpu) → IsLawful tok
+UnwrittenRowsAreLawful = (cpus : ℕ) (tok : Token) → IsSafeToken cpus tok → ((cpu : ℕ) → ¬ IsWriting tok cpu) → KeepsLaw tok
 
 -- a law: of a safe message each send is taken or dropped at most once, and replied to at most once
 abbrev pub SendsAreAnsweredOnce : Type 0

@@ -15,7 +15,8 @@ pub fn holders_are_compatible()
     ensures { HoldersAreCompatible }
 {}
 
-/// The law that row and record of a safe token obey the token's law where no processor is writing it.
+/// The law that a safe token that no processor is writing keeps its declared law: row and record obey it, and the cell of a
+/// Tally token is the parameter plus what all processors have added.
 pub fn unwritten_rows_are_lawful()
     ensures { UnwrittenRowsAreLawful }
 {}

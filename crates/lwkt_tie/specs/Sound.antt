@@ -1,8 +1,7 @@
 use Rattle.std.specs.Prelude.{◌≡◌, ℕ, ◌<◌, List, length, All, slice_index}
 use Rattle.lwkt_core.specs.Tokens.{held_by}
 use Rattle.lwkt_core.specs.Machine.{IsSafe}
-use Rattle.lwkt_core.specs.Safety.{IsCompatible, IsWriting}
-use Rattle.lwkt_core.specs.Headline.{KeepsLaw}
+use Rattle.lwkt_core.specs.Safety.{IsCompatible, IsWriting, KeepsLaw}
 use Rattle.lwkt_core.specs.History.{IsPastOf, events_in, events_by, steps_by}
 use Rattle.lwkt_core.specs.Trace.{Run}
 use Rattle.lwkt_bank.specs.declared.views.Plan.{Plan}
