@@ -18,7 +18,7 @@ use Rattle.lwkt_cpu.specs.declared.answers.Drove.{Drove}
 use Rattle.lwkt_cpu.specs.declared.threads.Thread.{Thread}
 use Rattle.lwkt_cpu.specs.Processors.{Processor}
 use Rattle.lwkt_cpu.specs.Searches.{IsOfOne}
-use Rattle.lwkt_cpu.specs.Turning.{IsOfThread, HasSameEvents, MakesTurn}
+use Rattle.lwkt_cpu.specs.Turning.{IsOfThread, HasSameEvents, LacksRoom, MakesTurn}
 use Rattle.lwkt_cpu.specs.Driving.{Made, stood, IsOfSome, counted, none_driven, Drives, DrivesShort}
 
 -- a turn more, after others
@@ -123,8 +123,8 @@ drives_over polled bank old mid new t v u drove next turned count limit less las
     }
 
 -- a turn was refused: those made so far stand
-pub short : {B : Type 0} (polled : B → Answer → Ask → B → Type 0) (bank : BankId) (old mid new : Processor B) (t v u : Vec Event Global) (drove : Drove) (count limit : ℕ) → count < limit → IsDriven polled bank old mid t v drove count → new ≡ mid → HasSameEvents v u → DrivesShort polled bank old new t u limit
-short {B} polled bank old mid new t v u drove count limit less d same is =
+pub short : {B : Type 0} (polled : B → Answer → Ask → B → Type 0) (bank : BankId) (old mid new : Processor B) (t v u : Vec Event Global) (drove : Drove) (count limit : ℕ) → count < limit → IsDriven polled bank old mid t v drove count → new ≡ mid → HasSameEvents v u → LacksRoom u → DrivesShort polled bank old new t u limit
+short {B} polled bank old mid new t v u drove count limit less d same is full =
     let F : Processor B → Type 0 = λ p. DrivesShort polled bank old p t u limit in
     subst F (sym same) (record {
       turns = d.turns;
@@ -134,6 +134,7 @@ short {B} polled bank old mid new t v u drove count limit less d same is =
       ran = ran_with_more (IsOfSome (stood polled bank old mid t v d.turns d.made)) (4096 * length d.turns) old.seat mid.seat t v u is (made_ran polled bank old mid t v d.turns d.made);
       few = omega (arith, d.long, less);
       going = d.going;
+      full = full;
     })
 
 -- of a refusal, whichever it is

@@ -12,7 +12,7 @@ use Rattle.lwkt_cpu.specs.declared.answers.Drove.{Drove}
 use Rattle.lwkt_cpu.specs.declared.threads.Thread.{Thread}
 use Rattle.lwkt_cpu.specs.Processors.{Processor}
 use Rattle.lwkt_cpu.specs.Searches.{IsOfOne}
-use Rattle.lwkt_cpu.specs.Turning.{HasSameEvents, MakesTurn}
+use Rattle.lwkt_cpu.specs.Turning.{HasSameEvents, LacksRoom, MakesTurn}
 
 -- turns made one after the other
 abbrev pub Made : {B : Type 0} → (B → Answer → Ask → B → Type 0) → BankId → Processor B → Processor B → Vec Event Global → Vec Event Global → List Turned → Type 0
@@ -47,8 +47,8 @@ pub record Drives {B : Type 0} (polled : B → Answer → Ask → B → Type 0) 
   pub stops : (All (λ turned. turned ≢ AllExited) turns × (length turns ≡ limit))
       ⊎ ((earlier : List Turned) × (All (λ turned. turned ≢ AllExited) earlier × (turns ≡ earlier ++ AllExited ∷ []) × (length turns ≤ limit)))
 
--- a processor driven until a turn was refused: the turns made so far stand, fewer than the limit, at none of which every thread had
--- ended, and nothing else was done
+-- a processor driven until a turn was refused, for which the trace had no room: the turns made so far stand, fewer than the limit, at
+-- none of which every thread had ended, and nothing else was done
 pub record DrivesShort {B : Type 0} (polled : B → Answer → Ask → B → Type 0) (bank : BankId) (old new : Processor B) (t u : Vec Event Global) (limit : ℕ) : Type 0 where
   pub turns : List Turned
   pub v : Vec Event Global
@@ -57,3 +57,4 @@ pub record DrivesShort {B : Type 0} (polled : B → Answer → Ask → B → Typ
   pub ran : Runs (IsOfSome (stood polled bank old new t v turns made)) (4096 * length turns) old.seat new.seat t u
   pub few : length turns < limit
   pub going : All (λ turned. turned ≢ AllExited) turns
+  pub full : LacksRoom u

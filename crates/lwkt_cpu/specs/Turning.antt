@@ -1,4 +1,4 @@
-use Rattle.std.specs.Prelude.{◌≡◌, ◌⊎◌, ℕ, ◌+◌, ◌≤◌, Bool, if◌then◌else◌, List, Vec, vec_len, vec_capacity, Option, Some, None, slice_get, slice_set}
+use Rattle.std.specs.Prelude.{◌≡◌, ◌⊎◌, ℕ, ◌+◌, ◌<◌, ◌≤◌, Bool, if◌then◌else◌, List, Vec, vec_len, vec_capacity, Option, Some, None, slice_get, slice_set}
 use Rattle.std.specs.declared.alloc.Global.{Global}
 use Rattle.lwkt_base.specs.declared.asks.Ask.{Ask}
 use Rattle.lwkt_base.specs.declared.asks.Answer.{Answer}
@@ -63,6 +63,10 @@ IsOfThread olds news h = (h ≡ holds_nothing) ⊎ IsOfOne olds h ⊎ IsOfOne ne
 -- a trace has the events that it had, and no less room
 abbrev pub HasSameEvents : Vec Event Global → Vec Event Global → Type 0
 HasSameEvents t u = (u.items ≡ t.items) × (vec_len u ≡ vec_len t) × (vec_capacity t ≤ vec_capacity u)
+
+-- a trace has no room for the events of a turn
+abbrev pub LacksRoom : Vec Event Global → Type 0
+LacksRoom t = vec_capacity t < vec_len t + 4096
 
 -- a whole turn: the trace is given room for 4,096 events, mail is taken in, and then the turn is made; each event is one of the seat's steps, and
 -- after it the seat holds what a front of one thread's list holds; at its end the seat holds exactly the list of the thread that runs, in

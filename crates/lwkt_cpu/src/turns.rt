@@ -4,7 +4,7 @@ ghost use Rattle.lwkt_bank.specs.Seats.{id_of, bank_of};
 ghost use Rattle.lwkt_hold.specs.Runs.{Ran};
 ghost use Rattle.lwkt_cpu.specs.Processors.{AllOver, IsAtRest};
 ghost use Rattle.lwkt_cpu.specs.Searches.{IsOfOne};
-ghost use Rattle.lwkt_cpu.specs.Turning.{cursor_after, Chooses, RunsOne, IsMailed, IsOfThread, HasSameEvents, MakesTurn};
+ghost use Rattle.lwkt_cpu.specs.Turning.{cursor_after, Chooses, RunsOne, IsMailed, IsOfThread, HasSameEvents, LacksRoom, MakesTurn};
 ghost use Rattle.lwkt_cpu.specs.Waking.{TakesMail, AreWoken};
 ghost use Rattle.lwkt_ask.specs.Telling.{TellsMail, IsQuiet};
 
@@ -121,8 +121,8 @@ impl<B: Body> Cpu<B> {
     /// Makes a turn: the running thread, or the first one from the cursor on, round once, that can run and whose whole list
     /// can be held, is polled once, and its ask is performed. That seat and bank belong together is the caller's condition.
     ///
-    /// Refused with `Memory` where the trace can't be given room for 4,096 events; nothing has changed then, and the trace has
-    /// no less room than before.
+    /// Refused with `Memory` where the trace lacks room for 4,096 events and can't be given it; nothing has changed then, and the
+    /// trace has no less room than before.
     pub fn turn(
         &mut self,
         bank: &Bank,
@@ -133,6 +133,7 @@ impl<B: Body> Cpu<B> {
         requires table { self.old.post.seat.table ≡ book.now.table }
         ensures ok { IfOk result (λ turned. MakesTurn B.polled (id_of bank.now) self.old self.new trace.old trace.new turned) }
         ensures err { OnErr result ((self.new ≡ self.old) × HasSameEvents trace.old trace.new) }
+        ensures full { OnErr result (LacksRoom trace.new) }
         ensures only { OnErr result (result ≡ Err Fault.Memory) }
         ensures of { bank_of self.new.seat ≡ bank_of self.old.seat }
         ensures table { self.new.post.seat.table ≡ self.old.post.seat.table }

@@ -23,7 +23,7 @@ use Rattle.lwkt_cpu.specs.Driving.{Made, counted, none_driven}
 use Rattle.lwkt_drive.specs.declared.driven.Driven.{Driven}
 use Rattle.lwkt_drive.specs.declared.driven.Limits.{Limits}
 use Rattle.lwkt_drive.specs.declared.driven.Ending.{Ending}
-use Rattle.lwkt_drive.specs.Course.{IsAt, IsWithin, GoesOn, EndsBy, MakesOne, Stays, IsDriven, IsUnderWay, IsSo, ComesTo, GoesTo, DrivesOn, DrivesOut, begun, counts}
+use Rattle.lwkt_drive.specs.Course.{IsAt, IsWithin, GoesOn, EndsBy, noted, MakesOne, Stays, IsDriven, IsUnderWay, IsSo, ComesTo, GoesTo, DrivesOn, DrivesOut, begun, counts}
 
 -- a turn more, after others
 pub made_more : {B : Type 0} (polled : B → Answer → Ask → B → Type 0) (bank : BankId) (old mid new : Processor B) (t v u : Vec Event Global) (turns : List Turned) (turned : Turned) → Made polled bank old mid t v turns → MakesTurn polled bank mid new v u turned → Made polled bank old new t u (turns ++ turned ∷ [])
@@ -42,6 +42,7 @@ under_none polled answers bank limits d = record {
   going = λ k less. absurd (omega (arith, less));
   drove = refl;
   all = refl;
+  said = refl;
   same = refl;
   seat = refl;
 }
@@ -88,6 +89,7 @@ under_more {B} polled answers bank limits old mid new turn total u m same =
       going = going_more answers limits old.id u.turns m.turned u.going last;
       drove = m.drove ∙ (ap (λ d. counted d m.turned) u.drove ∙ sym (fold-append counted none_driven u.turns (m.turned ∷ [])));
       all = subst T (sym m.drove) (omega (arith, counted_all mid.drove m.turned, u.all, length-append u.turns (m.turned ∷ [])));
+      said = m.said ∙ u.said;
       same = same ∙ u.same;
       seat = m.makes.ran.cpu ∙ u.seat;
     }
@@ -110,9 +112,9 @@ driven_by : {B : Type 0} (polled : B → Answer → Ask → B → Type 0) (answe
 driven_by {B} polled answers bank limits old mid new ending turn total u s same =
     let long : length u.turns ≡ turn = sym u.all ∙ total in
     let M : Processor B → Type 0 = λ p. Made polled bank old.cpu p old.trace mid.trace u.turns in
-    let I : CpuId → Type 0 = λ id. EndsBy answers limits id turn mid.drove ending in
-    let N : ℕ → Type 0 = λ n. EndsBy answers limits old.id n mid.drove ending in
-    let D : Drove → Type 0 = λ d. EndsBy answers limits old.id (length u.turns) d ending in
+    let I : CpuId → Type 0 = λ id. EndsBy answers limits id turn mid.drove new.trace ending in
+    let N : ℕ → Type 0 = λ n. EndsBy answers limits old.id n mid.drove new.trace ending in
+    let D : Drove → Type 0 = λ d. EndsBy answers limits old.id (length u.turns) d new.trace ending in
     record {
       turns = u.turns;
       v = mid.trace;
@@ -120,6 +122,7 @@ driven_by {B} polled answers bank limits old mid new ending turn total u s same 
       trace = s.trace;
       going = u.going;
       drove = s.drove ∙ u.drove;
+      said = s.said ∙ ap (noted ending) u.said;
       ends = subst D (sym s.drove) (subst N (sym long) (subst I u.same s.ends));
       same = same ∙ u.same;
       seat = ap (λ p. p.seat.cpu) s.cpu ∙ u.seat;
@@ -134,6 +137,7 @@ driven_out polled answers bank limits old new reached within u = record {
   trace = refl;
   going = u.going;
   drove = u.drove;
+  said = u.said;
   ends = omega (arith, reached, within.ran, within.idle);
   same = u.same;
   seat = u.seat;
@@ -176,15 +180,15 @@ going_out polled answers bank book limits first now turn reached g old u =
     let t = g.total in inr (driven_out polled answers bank limits old now (omega (arith, t, reached)) g.within (g.under old u))
 
 -- none ends as one that wasn't driven
-never : (answers : CpuId → ℕ → Bool → Type 0) (limits : Limits) (cpu : CpuId) (turns : ℕ) (drove : Drove) (ending : Ending) → ending ≡ NotDriven → EndsBy answers limits cpu turns drove ending → ⊥
-never answers limits cpu turns drove ending is ends =
-    let F : Ending → Type 0 = λ e. EndsBy answers limits cpu turns drove e in
+never : (answers : CpuId → ℕ → Bool → Type 0) (limits : Limits) (cpu : CpuId) (turns : ℕ) (drove : Drove) (trace : Vec Event Global) (ending : Ending) → ending ≡ NotDriven → EndsBy answers limits cpu turns drove trace ending → ⊥
+never answers limits cpu turns drove trace ending is ends =
+    let F : Ending → Type 0 = λ e. EndsBy answers limits cpu turns drove trace e in
     subst F is ends
 
 pub comes_more : {B : Type 0} (polled : B → Answer → Ask → B → Type 0) (answers : CpuId → ℕ → Bool → Type 0) (bank : BankId) (book : TableId) (limits : Limits) (first mid new : Driven B) (turn : ℕ) (ending : Ending) → IsGoing polled answers bank book limits first mid turn → ComesTo polled answers bank limits turn mid new ending → ending ≡ NotDriven → first.drove.ran + first.drove.idle < new.drove.ran + new.drove.idle
 comes_more polled answers bank book limits first mid new turn ending g comes is = elim comes [
   | inl made ↦ let t = total_more polled answers bank limits mid new turn g.total made.1 in let l = g.least in omega (arith, t, l)
-  | inr stays ↦ absurd (never answers limits mid.id turn mid.drove ending is stays.ends)
+  | inr stays ↦ absurd (never answers limits mid.id turn mid.drove new.trace ending is stays.ends)
 ]
 
 pub comes_within : {B : Type 0} (polled : B → Answer → Ask → B → Type 0) (answers : CpuId → ℕ → Bool → Type 0) (bank : BankId) (book : TableId) (limits : Limits) (first mid new : Driven B) (turn : ℕ) (ending : Ending) → IsGoing polled answers bank book limits first mid turn → ComesTo polled answers bank limits turn mid new ending → IsWithin limits new.drove
@@ -194,16 +198,16 @@ comes_within polled answers bank book limits first mid new turn ending g comes =
 ]
 
 -- an end that is noted changes nothing else
-under_noted : {B : Type 0} (polled : B → Answer → Ask → B → Type 0) (answers : CpuId → ℕ → Bool → Type 0) (bank : BankId) (limits : Limits) (old new : Driven B) (noted : Ending) → IsUnderWay polled answers bank limits old new → IsUnderWay polled answers bank limits old (record new { ending = noted })
-under_noted polled answers bank limits old new noted u = record { turns = u.turns; made = u.made; going = u.going; drove = u.drove; all = u.all; same = u.same; seat = u.seat }
+under_noted : {B : Type 0} (polled : B → Answer → Ask → B → Type 0) (answers : CpuId → ℕ → Bool → Type 0) (bank : BankId) (limits : Limits) (old new : Driven B) (by : Ending) → IsUnderWay polled answers bank limits old new → IsUnderWay polled answers bank limits old (record new { ending = by })
+under_noted polled answers bank limits old new by u = record { turns = u.turns; made = u.made; going = u.going; drove = u.drove; all = u.all; said = u.said; same = u.same; seat = u.seat }
 
-driven_noted : {B : Type 0} (polled : B → Answer → Ask → B → Type 0) (answers : CpuId → ℕ → Bool → Type 0) (bank : BankId) (limits : Limits) (old new : Driven B) (noted ending : Ending) → IsDriven polled answers bank limits old new ending → IsDriven polled answers bank limits old (record new { ending = noted }) ending
-driven_noted polled answers bank limits old new noted ending d = record { turns = d.turns; v = d.v; made = d.made; trace = d.trace; going = d.going; drove = d.drove; ends = d.ends; same = d.same; seat = d.seat }
+driven_noted : {B : Type 0} (polled : B → Answer → Ask → B → Type 0) (answers : CpuId → ℕ → Bool → Type 0) (bank : BankId) (limits : Limits) (old new : Driven B) (by ending : Ending) → IsDriven polled answers bank limits old new ending → IsDriven polled answers bank limits old (record new { ending = by }) ending
+driven_noted polled answers bank limits old new by ending d = record { turns = d.turns; v = d.v; made = d.made; trace = d.trace; going = d.going; drove = d.drove; said = d.said; ends = d.ends; same = d.same; seat = d.seat }
 
-so_noted : {B : Type 0} (polled : B → Answer → Ask → B → Type 0) (answers : CpuId → ℕ → Bool → Type 0) (bank : BankId) (limits : Limits) (old new : Driven B) (noted ending : Ending) → IsSo polled answers bank limits old new ending → IsSo polled answers bank limits old (record new { ending = noted }) ending
-so_noted polled answers bank limits old new noted ending so = elim so [
-  | inl under ↦ inl (under.0, under_noted polled answers bank limits old new noted under.1)
-  | inr driven ↦ inr (driven_noted polled answers bank limits old new noted ending driven)
+so_noted : {B : Type 0} (polled : B → Answer → Ask → B → Type 0) (answers : CpuId → ℕ → Bool → Type 0) (bank : BankId) (limits : Limits) (old new : Driven B) (by ending : Ending) → IsSo polled answers bank limits old new ending → IsSo polled answers bank limits old (record new { ending = by }) ending
+so_noted polled answers bank limits old new by ending so = elim so [
+  | inl under ↦ inl (under.0, under_noted polled answers bank limits old new by under.1)
+  | inr driven ↦ inr (driven_noted polled answers bank limits old new by ending driven)
 ]
 
 -- a processor that has ended is left as it is
@@ -215,7 +219,7 @@ pub drives_more : {B : Type 0} (polled : B → Answer → Ask → B → Type 0) 
 drives_more polled answers bank limits mid new ending is goes more = record {
   so = λ old so. elim so [
     | inl under ↦ so_noted polled answers bank limits old new ending ending (goes old under.1)
-    | inr driven ↦ absurd (never answers limits old.id (length driven.turns) mid.drove mid.ending is driven.ends)
+    | inr driven ↦ absurd (never answers limits old.id (length driven.turns) mid.drove mid.trace mid.ending is driven.ends)
   ];
   more = λ none. (is, more none);
 }

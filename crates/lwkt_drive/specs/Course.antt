@@ -1,4 +1,4 @@
-use Rattle.std.specs.Prelude.{◌≡◌, ◌⊎◌, ℕ, ◌+◌, ◌<◌, ◌≤◌, Bool, true, false, List, length, take, fold, Vec}
+use Rattle.std.specs.Prelude.{◌≡◌, ◌⊎◌, ℕ, ◌+◌, ◌<◌, ◌≤◌, ◌%◌, ◌^◌, Bool, true, false, List, length, take, fold, Vec}
 use Rattle.std.specs.declared.alloc.Global.{Global}
 use Rattle.atomic_table.specs.Seated.{TableId}
 use Rattle.lwkt_base.specs.declared.names.CpuId.{CpuId}
@@ -8,10 +8,11 @@ use Rattle.lwkt_core.specs.declared.events.Event.{Event}
 use Rattle.lwkt_bank.specs.Seats.{BankId, bank_of}
 use Rattle.lwkt_cpu.specs.declared.answers.Turned.{Turned}
 use Rattle.lwkt_cpu.specs.declared.answers.Drove.{Drove}
-use Rattle.lwkt_cpu.specs.Turning.{MakesTurn}
+use Rattle.lwkt_cpu.specs.Turning.{LacksRoom, MakesTurn}
 use Rattle.lwkt_cpu.specs.Driving.{Made, counted, none_driven}
 use Rattle.lwkt_drive.specs.declared.driven.Driven.{Driven}
 use Rattle.lwkt_drive.specs.declared.driven.Limits.{Limits}
+use Rattle.lwkt_drive.specs.declared.driven.Said.{Said}
 use Rattle.lwkt_drive.specs.declared.driven.Ending.{Ending}
 use Rattle.lwkt_drive.specs.declared.driven.Ending.TheVariants.{NotDriven, Stopped, TurnsOut, IdleOut, AllExited, NoMemory, CalledOff, Quiet}
 
@@ -35,18 +36,33 @@ pub record GoesOn (answers : CpuId → ℕ → Bool → Type 0) (limits : Limits
   pub idle : drove.idle < limits.idle
   pub passed : answers cpu turns true
 
--- after so many turns, counted so, a processor makes no other, and why. Nothing is claimed of the others: neither that their threads
--- have ended, nor that they were refused memory, nor that no turn of theirs can change anything; but one that ends as quiet has made a
--- turn that ran no thread
-abbrev pub EndsBy : (CpuId → ℕ → Bool → Type 0) → Limits → CpuId → ℕ → Drove → Ending → Type 0
-EndsBy answers limits cpu turns drove NotDriven = ⊥
-EndsBy answers limits cpu turns drove Stopped = answers cpu turns false
-EndsBy answers limits cpu turns drove TurnsOut = drove.ran ≡ limits.turns
-EndsBy answers limits cpu turns drove IdleOut = drove.idle ≡ limits.idle
-EndsBy answers limits cpu turns drove AllExited = drove.all_exited ≡ true
-EndsBy answers limits cpu turns drove NoMemory = Unit {0}
-EndsBy answers limits cpu turns drove CalledOff = Unit {0}
-EndsBy answers limits cpu turns drove Quiet = 0 < drove.idle
+-- what the gate has said to a processor as its drive begins: not no, and one drive more has begun
+abbrev pub opened : Said → Said
+opened said = record { drives = (said.drives + 1) % 2 ^ 64; no = false }
+
+-- what the gate has said to a processor as its drive ends so: no where it ends by that, and otherwise what it had said
+abbrev pub noted : Ending → Said → Said
+noted NotDriven said = said
+noted Stopped said = record said { no = true }
+noted TurnsOut said = said
+noted IdleOut said = said
+noted AllExited said = said
+noted NoMemory said = said
+noted CalledOff said = said
+noted Quiet said = said
+
+-- after so many turns, counted so, a processor with this trace makes no other, and why; one that ends for want of memory was to make
+-- another, for which its trace had no room. Nothing is claimed of the others: neither that their threads have ended, nor that they were
+-- refused memory, nor that no turn of theirs can change anything; but one that ends as quiet has made a turn that ran no thread
+abbrev pub EndsBy : (CpuId → ℕ → Bool → Type 0) → Limits → CpuId → ℕ → Drove → Vec Event Global → Ending → Type 0
+EndsBy answers limits cpu turns drove trace NotDriven = ⊥
+EndsBy answers limits cpu turns drove trace Stopped = answers cpu turns false
+EndsBy answers limits cpu turns drove trace TurnsOut = drove.ran ≡ limits.turns
+EndsBy answers limits cpu turns drove trace IdleOut = drove.idle ≡ limits.idle
+EndsBy answers limits cpu turns drove trace AllExited = drove.all_exited ≡ true
+EndsBy answers limits cpu turns drove trace NoMemory = GoesOn answers limits cpu turns drove × LacksRoom trace
+EndsBy answers limits cpu turns drove trace CalledOff = Unit {0}
+EndsBy answers limits cpu turns drove trace Quiet = 0 < drove.idle
 
 -- a processor makes its turn of this number, which is counted
 pub record MakesOne {B : Type 0} (polled : B → Answer → Ask → B → Type 0) (answers : CpuId → ℕ → Bool → Type 0) (bank : BankId) (limits : Limits) (turn : ℕ) (old new : Driven B) : Type 0 where
@@ -54,16 +70,18 @@ pub record MakesOne {B : Type 0} (polled : B → Answer → Ask → B → Type 0
   pub goes : GoesOn answers limits old.id turn old.drove
   pub makes : MakesTurn polled bank old.cpu new.cpu old.trace new.trace turned
   pub drove : new.drove ≡ counted old.drove turned
+  pub said : new.said ≡ old.said
 
 -- a processor stays as it is, and why
 pub record Stays {B : Type 0} (answers : CpuId → ℕ → Bool → Type 0) (limits : Limits) (turn : ℕ) (old new : Driven B) (ending : Ending) : Type 0 where
   pub cpu : new.cpu ≡ old.cpu
   pub trace : new.trace.items ≡ old.trace.items
   pub drove : new.drove ≡ old.drove
-  pub ends : EndsBy answers limits old.id turn old.drove ending
+  pub said : new.said ≡ noted ending old.said
+  pub ends : EndsBy answers limits old.id turn old.drove new.trace ending
 
--- a processor was driven: it made these turns one after the other, each where it went on, until there was a reason to end; the
--- trace grew by theirs (own)
+-- a processor was driven: it made these turns one after the other, each where it went on, until there was a reason to end, which is the
+-- gate's no where the gate has said no to it since this drive began; the trace grew by theirs (own)
 pub record IsDriven {B : Type 0} (polled : B → Answer → Ask → B → Type 0) (answers : CpuId → ℕ → Bool → Type 0) (bank : BankId) (limits : Limits) (old new : Driven B) (ending : Ending) : Type 0 where
   pub turns : List Turned
   pub v : Vec Event Global
@@ -71,22 +89,24 @@ pub record IsDriven {B : Type 0} (polled : B → Answer → Ask → B → Type 0
   pub trace : new.trace.items ≡ v.items
   pub going : (k : ℕ) → k < length turns → GoesOn answers limits old.id k (counts (take k turns))
   pub drove : new.drove ≡ counts turns
-  pub ends : EndsBy answers limits old.id (length turns) new.drove ending
+  pub said : new.said ≡ noted ending (opened old.said)
+  pub ends : EndsBy answers limits old.id (length turns) new.drove new.trace ending
   pub same : new.id ≡ old.id
   pub seat : new.cpu.seat.cpu ≡ old.cpu.seat.cpu
 
 -- a processor before its first turn of a drive
 abbrev pub begun : {B : Type 0} → Driven B → Driven B
-begun d = record d { drove = none_driven; ending = NotDriven }
+begun d = record d { said = opened d.said; drove = none_driven; ending = NotDriven }
 
--- a processor is being driven: so far it has made these turns one after the other, each where it went on; the trace grew by theirs
--- (own)
+-- a processor is being driven: so far it has made these turns one after the other, each where it went on, and the gate hasn't said no
+-- to it since this drive began; the trace grew by theirs (own)
 pub record IsUnderWay {B : Type 0} (polled : B → Answer → Ask → B → Type 0) (answers : CpuId → ℕ → Bool → Type 0) (bank : BankId) (limits : Limits) (old new : Driven B) : Type 0 where
   pub turns : List Turned
   pub made : Made polled bank old.cpu new.cpu old.trace new.trace turns
   pub going : (k : ℕ) → k < length turns → GoesOn answers limits old.id k (counts (take k turns))
   pub drove : new.drove ≡ counts turns
   pub all : new.drove.ran + new.drove.idle ≡ length turns
+  pub said : new.said ≡ opened old.said
   pub same : new.id ≡ old.id
   pub seat : new.cpu.seat.cpu ≡ old.cpu.seat.cpu
 

@@ -1,7 +1,8 @@
 //! A processor that is driven, and how its driving ended.
-ghost use Rattle.std.specs.Prelude.{◌≡◌, []};
+ghost use Rattle.std.specs.Prelude.{◌≡◌, true, false, []};
 ghost use Rattle.lwkt_cpu.specs.Driving.{none_driven};
 
+use crate::gates::Gate;
 use lwkt_base::CpuId;
 use lwkt_core::Event;
 use lwkt_cpu::{Cpu, Drove};
@@ -38,12 +39,36 @@ pub struct Limits {
     pub idle: u32,
 }
 
+/// What the gate has said to a processor. It is made with the processor, and only the beginning of a drive and a no change it.
+#[derive(Debug, Drop)]
+pub struct Said {
+    // How many drives have begun, modulo 2^64.
+    drives: u64,
+    // Whether the gate has said no since the last one began.
+    no: bool,
+}
+
+/// The gate as a drive has it: it is asked by `Driven::ask` alone, which keeps a no.
+#[derive(Clone, Copy)]
+pub(crate) struct Door<'a, G> {
+    gate: &'a G,
+}
+
+impl<'a, G> Door<'a, G> {
+    pub(crate) fn new(gate: &'a G) -> Self
+        ensures { result.gate.now ≡ gate.now }
+    {
+        Door { gate }
+    }
+}
+
 /// A processor with the events of its turns, how many of these it made when it was driven last, and why it made no further one.
 #[derive(Drop)]
 pub struct Driven<B> {
     pub id: CpuId,
     pub cpu: Cpu<B>,
     pub trace: Vec<Event>,
+    pub said: Said,
     pub drove: Drove,
     pub ending: Ending,
 }
@@ -54,6 +79,7 @@ impl<B> Driven<B> {
         ensures id { result.id ≡ id }
         ensures cpu { result.cpu ≡ cpu }
         ensures trace { result.trace.items ≡ [] }
+        ensures said { result.said ≡ record { drives = 0; no = false } }
         ensures drove { result.drove ≡ none_driven }
         ensures ending { result.ending ≡ Ending.NotDriven }
     {
@@ -61,6 +87,10 @@ impl<B> Driven<B> {
             id,
             cpu,
             trace: Vec::new(alloc),
+            said: Said {
+                drives: 0,
+                no: false,
+            },
             drove: Drove {
                 ran: 0,
                 idle: 0,
@@ -68,5 +98,36 @@ impl<B> Driven<B> {
             },
             ending: Ending::NotDriven,
         }
+    }
+
+    ghost use Rattle.lwkt_drive.specs.Course.{begun, noted};
+
+    /// Has made no turn, and hasn't ended.
+    pub(crate) fn begin(&mut self)
+        ensures { self.new ≡ begun self.old }
+    {
+        self.said = Said {
+            drives: self.said.drives.wrapping_add(1),
+            no: false,
+        };
+        self.drove = Drove {
+            ran: 0,
+            idle: 0,
+            all_exited: false,
+        };
+        self.ending = Ending::NotDriven;
+    }
+
+    /// Asks the gate whether the processor goes on with its turn of this number. A no is kept.
+    pub(crate) fn ask<G: Gate>(&mut self, door: &Door<'_, G>, turn: u64) -> bool
+        ensures answers { G.answers door.now.gate.now self.old.id turn result }
+        ensures yes { result ≡ true → self.new ≡ self.old }
+        ensures no { result ≡ false → self.new ≡ record self.old { said = noted Ending.Stopped self.old.said } }
+    {
+        if door.gate.pass(self.id, turn) {
+            return true;
+        }
+        self.said.no = true;
+        false
     }
 }

@@ -2,15 +2,15 @@
 ghost use Rattle.std.specs.Prelude.{◌≡◌, ◌≢◌, true, false, ◌+◌, ◌<◌, ◌≤◌, ◌^◌, IfSome, All, None};
 ghost use Rattle.std.specs.List.{AllZip};
 ghost use Rattle.lwkt_bank.specs.Seats.{id_of};
-ghost use Rattle.lwkt_drive.specs.Course.{IsAt, IsWithin, IsDriven, MakesOne, ComesTo, GoesTo, DrivesOn, begun};
+ghost use Rattle.lwkt_drive.specs.Course.{IsAt, IsWithin, IsDriven, MakesOne, ComesTo, GoesTo, DrivesOn};
 
 use crate::boards::Board;
-use crate::driven::{Driven, Ending, Limits};
+use crate::driven::{Door, Driven, Ending, Limits};
 use crate::gates::Gate;
 use crate::slices::{begin_all, drive_slices};
 use crate::watches::Watch;
 use lwkt_bank::Bank;
-use lwkt_cpu::{Body, Drove, Turned};
+use lwkt_cpu::{Body, Turned};
 use lwkt_msg::MsgBook;
 use std::thread::Threads;
 
@@ -29,7 +29,7 @@ impl<B: Body> Driven<B> {
     // is told as `NotDriven`, since it hasn't ended.
     fn step<G: Gate>(
         &mut self,
-        gate: &G,
+        door: &Door<'_, G>,
         watch: &mut Watch<'_>,
         limits: &Limits,
         bank: &Bank,
@@ -38,12 +38,12 @@ impl<B: Body> Driven<B> {
     ) -> Option<Ending>
         requires at { IsAt (id_of bank.now) book.now.table self.old }
         requires within { IsWithin limits.now self.old.drove }
-        ensures some { IfSome result (λ ending. ComesTo B.polled (G.answers gate.now) (id_of bank.now) limits.now turn self.old self.new ending) }
-        ensures none { result ≡ None → MakesOne B.polled (G.answers gate.now) (id_of bank.now) limits.now turn self.old self.new }
+        ensures some { IfSome result (λ ending. ComesTo B.polled (G.answers door.now.gate.now) (id_of bank.now) limits.now turn self.old self.new ending) }
+        ensures none { result ≡ None → MakesOne B.polled (G.answers door.now.gate.now) (id_of bank.now) limits.now turn self.old self.new }
         ensures at { IsAt (id_of bank.now) book.now.table self.new }
         ensures same { self.new.id ≡ self.old.id }
     {
-        if let Some(ending) = self.ends(gate, watch, limits, turn) {
+        if let Some(ending) = self.ends(door, watch, limits, turn) {
             return Some(ending);
         }
         match self.advance(watch, bank, book) {
@@ -64,7 +64,7 @@ impl<B: Body> Driven<B> {
     // Makes turns, and says why it makes no further one: with `NotDriven` it goes on in a later slice.
     fn go_on<G: Gate>(
         &mut self,
-        gate: &G,
+        door: &Door<'_, G>,
         watch: &mut Watch<'_>,
         limits: &Limits,
         bank: &Bank,
@@ -72,37 +72,25 @@ impl<B: Body> Driven<B> {
     ) -> Ending
         requires at { IsAt (id_of bank.now) book.now.table self.old }
         requires within { IsWithin limits.now self.old.drove }
-        ensures goes { GoesTo B.polled (G.answers gate.now) (id_of bank.now) limits.now self.old self.new result }
+        ensures goes { GoesTo B.polled (G.answers door.now.gate.now) (id_of bank.now) limits.now self.old self.new result }
         ensures more { result ≡ Ending.NotDriven → self.old.drove.ran + self.old.drove.idle < self.new.drove.ran + self.new.drove.idle }
         ensures at { IsAt (id_of bank.now) book.now.table self.new }
         ensures within { IsWithin limits.now self.new.drove }
     {
         let made = self.drove.ran + self.drove.idle;
         for turn in made..u64::from(limits.turns) + u64::from(limits.idle) {
-            if let Some(ending) = self.step(gate, watch, limits, bank, book, turn) {
+            if let Some(ending) = self.step(door, watch, limits, bank, book, turn) {
                 return ending;
             }
         }
         Ending::TurnsOut
     }
 
-    /// Has made no turn, and hasn't ended.
-    pub(crate) fn begin(&mut self)
-        ensures { self.new ≡ begun self.old }
-    {
-        self.drove = Drove {
-            ran: 0,
-            idle: 0,
-            all_exited: false,
-        };
-        self.ending = Ending::NotDriven;
-    }
-
     /// Drives the processor in a slice, if it hasn't ended. It waits so many longest pauses for others to come under way, before it
     /// leaves the slice for them.
     pub(crate) fn drive_on<G: Gate>(
         &mut self,
-        gate: &G,
+        door: &Door<'_, G>,
         board: &Board,
         number: usize,
         waits: u32,
@@ -112,7 +100,7 @@ impl<B: Body> Driven<B> {
     )
         requires at { IsAt (id_of bank.now) book.now.table self.old }
         requires within { IsWithin limits.now self.old.drove }
-        ensures on { DrivesOn B.polled (G.answers gate.now) (id_of bank.now) limits.now self.old self.new }
+        ensures on { DrivesOn B.polled (G.answers door.now.gate.now) (id_of bank.now) limits.now self.old self.new }
         ensures at { IsAt (id_of bank.now) book.now.table self.new }
         ensures within { IsWithin limits.now self.new.drove }
     {
@@ -121,7 +109,7 @@ impl<B: Body> Driven<B> {
         }
         let before = self.sight();
         let mut watch = Watch::new(board, number, waits);
-        self.ending = self.go_on(gate, &mut watch, limits, bank, book);
+        self.ending = self.go_on(door, &mut watch, limits, bank, book);
         if self.has_ended() {
             watch.stop();
         } else {
@@ -174,6 +162,7 @@ pub fn drive_on_threads<R: Threads + Sync, G: Gate + Sync, B: Body + Send>(
     ensures at { All (IsAt (id_of bank.now) book.now.table) all.new }
 {
     let board = Board::new(all.len(), peers(all));
+    let door = Door::new(gate);
     begin_all(rt, all);
-    drive_slices(rt, threads, gate, &board, limits, bank, book, all);
+    drive_slices(rt, threads, &door, &board, limits, bank, book, all);
 }

@@ -15,6 +15,6 @@ mod slices;
 mod turns;
 mod watches;
 
-pub use driven::{Driven, Ending, Limits};
+pub use driven::{Driven, Ending, Limits, Said};
 pub use drives::{drive_all, drive_on_threads};
 pub use gates::{Gate, OpenGate};

@@ -6,7 +6,7 @@ ghost use Rattle.lwkt_bank.specs.Seats.{id_of};
 ghost use Rattle.lwkt_drive.specs.Course.{IsAt, IsWithin, DrivesOn, DrivesOut, begun};
 
 use crate::boards::Board;
-use crate::driven::{Driven, Ending, Limits};
+use crate::driven::{Door, Driven, Ending, Limits};
 use crate::gates::Gate;
 use lwkt_bank::Bank;
 use lwkt_cpu::Body;
@@ -56,7 +56,7 @@ fn is_one_left<B>(all: &[Driven<B>]) -> bool
 fn drive_slice<R: Threads + Sync, G: Gate + Sync, B: Body + Send>(
     rt: &R,
     threads: usize,
-    gate: &G,
+    door: &Door<'_, G>,
     board: &Board,
     waits: u32,
     limits: &Limits,
@@ -66,7 +66,7 @@ fn drive_slice<R: Threads + Sync, G: Gate + Sync, B: Body + Send>(
 )
     requires at { All (IsAt (id_of bank.now) book.now.table) all.old }
     requires within { All (λ d. IsWithin limits.now d.drove) all.old }
-    ensures on { AllZip (DrivesOn B.polled (G.answers gate.now) (id_of bank.now) limits.now) all.old all.new }
+    ensures on { AllZip (DrivesOn B.polled (G.answers door.now.gate.now) (id_of bank.now) limits.now) all.old all.new }
     ensures at { All (IsAt (id_of bank.now) book.now.table) all.new }
     ensures within { All (λ d. IsWithin limits.now d.drove) all.new }
 {
@@ -74,7 +74,7 @@ fn drive_slice<R: Threads + Sync, G: Gate + Sync, B: Body + Send>(
         rt,
         all,
         threads.max(1),
-        &|number, driven| { driven.drive_on(gate, board, number, waits, limits, bank, book) },
+        &|number, driven| { driven.drive_on(door, board, number, waits, limits, bank, book) },
     );
 }
 
@@ -83,7 +83,7 @@ fn drive_slice<R: Threads + Sync, G: Gate + Sync, B: Body + Send>(
 pub(crate) fn drive_slices<R: Threads + Sync, G: Gate + Sync, B: Body + Send>(
     rt: &R,
     threads: usize,
-    gate: &G,
+    door: &Door<'_, G>,
     board: &Board,
     limits: &Limits,
     bank: &Bank,
@@ -92,7 +92,7 @@ pub(crate) fn drive_slices<R: Threads + Sync, G: Gate + Sync, B: Body + Send>(
 )
     requires at { All (IsAt (id_of bank.now) book.now.table) all.old }
     requires within { All (λ d. IsWithin limits.now d.drove) all.old }
-    ensures out { AllZip (DrivesOut B.polled (G.answers gate.now) (id_of bank.now) limits.now) all.old all.new }
+    ensures out { AllZip (DrivesOut B.polled (G.answers door.now.gate.now) (id_of bank.now) limits.now) all.old all.new }
     ensures at { All (IsAt (id_of bank.now) book.now.table) all.new }
 {
     for number in 0..u64::from(limits.turns) + u64::from(limits.idle) + 1 {
@@ -102,7 +102,7 @@ pub(crate) fn drive_slices<R: Threads + Sync, G: Gate + Sync, B: Body + Send>(
             waits(rt, number)
         };
         board.open_slice();
-        drive_slice(rt, threads, gate, board, waits, limits, bank, book, all);
+        drive_slice(rt, threads, door, board, waits, limits, bank, book, all);
         if !is_one_left(all) {
             return;
         }

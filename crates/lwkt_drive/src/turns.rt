@@ -2,10 +2,10 @@
 ghost use Rattle.std.specs.Prelude.{◌≡◌, ◌+◌, ◌<◌, ◌≤◌, ◌^◌, IfOk, IfSome, OnErr, None};
 ghost use Rattle.lwkt_bank.specs.Seats.{id_of};
 ghost use Rattle.lwkt_cpu.specs.Driving.{counted};
-ghost use Rattle.lwkt_cpu.specs.Turning.{MakesTurn};
-ghost use Rattle.lwkt_drive.specs.Course.{IsAt, IsWithin, GoesOn, EndsBy};
+ghost use Rattle.lwkt_cpu.specs.Turning.{LacksRoom, MakesTurn};
+ghost use Rattle.lwkt_drive.specs.Course.{IsAt, IsWithin, GoesOn, EndsBy, noted};
 
-use crate::driven::{Driven, Ending, Limits};
+use crate::driven::{Door, Driven, Ending, Limits};
 use crate::gates::Gate;
 use crate::watches::{Sight, Watch};
 use lwkt_bank::Bank;
@@ -16,16 +16,16 @@ use lwkt_msg::MsgBook;
 impl<B> Driven<B> {
     /// Why no further turn is made, if there is a reason.
     pub(crate) fn ends<G: Gate>(
-        &self,
-        gate: &G,
+        &mut self,
+        door: &Door<'_, G>,
         watch: &Watch<'_>,
         limits: &Limits,
         turn: u64,
     ) -> Option<Ending>
-        requires { IsWithin limits.now self.now.drove }
-        ensures some { IfSome result (λ ending. EndsBy (G.answers gate.now) limits.now self.now.id turn self.now.drove ending) }
-        ensures none { result ≡ None → GoesOn (G.answers gate.now) limits.now self.now.id turn self.now.drove }
-        ensures few { result ≡ None → self.now.drove.ran + self.now.drove.idle + 1 < 2 ^ 64 }
+        requires { IsWithin limits.now self.old.drove }
+        ensures some { IfSome result (λ ending. (self.new ≡ record self.old { said = noted ending self.old.said }) × EndsBy (G.answers door.now.gate.now) limits.now self.old.id turn self.old.drove self.old.trace ending) }
+        ensures none { result ≡ None → (self.new ≡ self.old) × GoesOn (G.answers door.now.gate.now) limits.now self.old.id turn self.old.drove }
+        ensures few { result ≡ None → self.new.drove.ran + self.new.drove.idle + 1 < 2 ^ 64 }
     {
         if self.drove.ran >= u64::from(limits.turns) {
             return Some(Ending::TurnsOut);
@@ -42,7 +42,7 @@ impl<B> Driven<B> {
         if self.drove.idle > 0 && watch.is_over() {
             return Some(Ending::Quiet);
         }
-        if gate.pass(self.id, turn) {
+        if self.ask(door, turn) {
             None
         } else {
             Some(Ending::Stopped)
@@ -93,7 +93,7 @@ impl<B> Driven<B> {
 }
 
 impl<B: Body> Driven<B> {
-    /// Makes a turn, and counts it. Refused with `Memory` as `Cpu::turn` is.
+    /// Makes a turn, and counts it. Refused with `Memory` as `Cpu::turn` is; nothing has changed then.
     pub(crate) fn advance(
         &mut self,
         watch: &Watch<'_>,
@@ -103,7 +103,8 @@ impl<B: Body> Driven<B> {
         requires at { IsAt (id_of bank.now) book.now.table self.old }
         requires few { self.old.drove.ran + self.old.drove.idle + 1 < 2 ^ 64 }
         ensures ok { IfOk result (λ turned. MakesTurn B.polled (id_of bank.now) self.old.cpu self.new.cpu self.old.trace self.new.trace turned × (self.new.drove ≡ counted self.old.drove turned)) }
-        ensures err { OnErr result ((self.new.cpu ≡ self.old.cpu) × (self.new.trace.items ≡ self.old.trace.items) × (self.new.drove ≡ self.old.drove)) }
+        ensures err { OnErr result ((self.new.cpu ≡ self.old.cpu) × (self.new.trace.items ≡ self.old.trace.items) × (self.new.drove ≡ self.old.drove) × LacksRoom self.new.trace) }
+        ensures said { self.new.said ≡ self.old.said }
         ensures at { IsAt (id_of bank.now) book.now.table self.new }
         ensures same { self.new.id ≡ self.old.id }
     {

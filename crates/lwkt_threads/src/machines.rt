@@ -1,5 +1,5 @@
 //! A machine whose processors are driven on threads.
-ghost use Rattle.std.specs.Prelude.{◌≡◌, ◌≤◌, false, length, All, IfOk, OnErr, Err, map};
+ghost use Rattle.std.specs.Prelude.{◌≡◌, ◌≤◌, ◌↔◌, false, length, All, IfOk, OnErr, Err, map};
 ghost use Rattle.std.specs.List.{AllZip};
 ghost use Rattle.lwkt_bank.specs.Seats.{id_of};
 ghost use Rattle.lwkt_machine.specs.Machines.{IsOf};
@@ -63,14 +63,14 @@ fn take_apart(alloc: Global, all: Vec<Driven<ScriptBody>>) -> Result<Apart, Faul
 
 // Whether this is an end for want of memory.
 fn is_short(ending: Ending) -> bool
-    ensures { result ≡ false → IsAmple ending }
+    ensures { (result ≡ false) ↔ IsAmple ending }
 {
     matches!(ending, Ending::NoMemory | Ending::CalledOff)
 }
 
 // Whether a processor's driving ended for want of memory, its own or another's.
 fn was_short(all: &[Driven<ScriptBody>]) -> bool
-    ensures { result ≡ false → All (λ d. IsAmple d.ending) all.now }
+    ensures { (result ≡ false) ↔ All (λ d. IsAmple d.ending) all.now }
 {
     all.iter().any(|driven| is_short(driven.ending))
 }

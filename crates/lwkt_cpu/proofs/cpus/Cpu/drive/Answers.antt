@@ -10,7 +10,7 @@ pub returns-in_err-turned-clause-err : goal.returns-in_err-turned-clause-err
 returns-in_err-turned-clause-err g c =
     let l = c.loop-made in
     on_err c.from_residual.result (DrivesShort {B = g.row.B.Denot} g.B.Body.polled (id_of c.args.bank.now) c.args.self.now c.turn.new.self c.args.trace.now c.turn.new.trace c.args.limit)
-    (short {B = g.row.B.Denot} g.B.Body.polled (id_of c.args.bank.now) c.args.self.now l.self c.turn.new.self c.args.trace.now l.trace c.turn.new.trace l.drove l.made c.args.limit c.loop-made-test.true l.invariant c.in_err-turned.ensures.err.0 c.in_err-turned.ensures.err.1)
+    (short {B = g.row.B.Denot} g.B.Body.polled (id_of c.args.bank.now) c.args.self.now l.self c.turn.new.self c.args.trace.now l.trace c.turn.new.trace l.drove l.made c.args.limit c.loop-made-test.true l.invariant c.in_err-turned.ensures.err.0 c.in_err-turned.ensures.err.1 c.in_err-turned.ensures.full)
 
 pub returns-then-is_last-clause-ok : goal.returns-then-is_last-clause-ok
 returns-then-is_last-clause-ok g c =
