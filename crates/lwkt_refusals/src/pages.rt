@@ -1,3 +1,7 @@
+ghost use Rattle.std.specs.Prelude.{◌≡◌, ◌<◌, ◌++◌, [], ◌∷◌, false, IfOk, string_bytes};
+ghost use Rattle.std.specs.Fmt.{decimal};
+ghost use Rattle.lwkt_refusals.specs.Pages.{Grows};
+
 use lwkt_base::{Fault, Law};
 use std::alloc::{AllocError, Global};
 
@@ -11,7 +15,9 @@ pub struct Page {
 
 impl Page {
     /// An empty text.
-    pub fn new(alloc: Global) -> Page {
+    pub fn new(alloc: Global) -> Page
+        ensures { string_bytes result.text ≡ [] }
+    {
         Page {
             text: String::new(alloc),
             is_lost: false,
@@ -19,29 +25,53 @@ impl Page {
     }
 
     /// Appends a text.
-    pub fn add(&mut self, text: &str) {
-        if !self.is_lost && self.text.push_str(text).is_err() {
-            self.is_lost = true;
+    pub fn add(&mut self, text: &str)
+        ensures { Grows self.old self.new text.now }
+    {
+        if !self.is_lost {
+            match self.text.push_str(text) {
+                Ok(()) => {}
+                Err(_) => self.is_lost = true,
+            }
         }
     }
 
     /// Appends a character.
-    pub fn letter(&mut self, letter: char) {
-        if !self.is_lost && self.text.push(letter).is_err() {
-            self.is_lost = true;
+    pub fn letter(&mut self, letter: char)
+        ensures { letter < 128 → Grows self.old self.new (letter ∷ []) }
+    {
+        if !self.is_lost {
+            match self.text.push(letter) {
+                Ok(()) => {}
+                Err(_) => self.is_lost = true,
+            }
+        }
+    }
+
+    // Appends a number.
+    fn digits(&mut self, number: u64)
+        ensures { Grows self.old self.new (decimal number) }
+    {
+        if !self.is_lost {
+            match write!(self.text, "{number}") {
+                Ok(()) => {}
+                Err(_) => self.is_lost = true,
+            }
         }
     }
 
     /// Appends a text, and a number behind it.
-    pub fn number(&mut self, before: &str, number: u64) {
+    pub fn number(&mut self, before: &str, number: u64)
+        ensures { Grows self.old self.new (before.now ++ decimal number) }
+    {
         self.add(before);
-        if !self.is_lost && write!(self.text, "{number}").is_err() {
-            self.is_lost = true;
-        }
+        self.digits(number)
     }
 
     /// Appends a text, and a number of parts behind it.
-    pub fn size(&mut self, before: &str, number: usize) {
+    pub fn size(&mut self, before: &str, number: usize)
+        ensures { Grows self.old self.new (before.now ++ decimal number) }
+    {
         self.number(before, number as u64);
     }
 
@@ -64,9 +94,14 @@ impl Page {
     }
 
     /// Appends what was made on another page.
-    pub fn add_page(&mut self, page: &Page) {
+    pub fn add_page(&mut self, page: &Page)
+        ensures text { Grows self.old self.new (string_bytes page.now.text) }
+        ensures kept { self.new.is_lost ≡ false → page.now.is_lost ≡ false }
+    {
         self.add(page.text.as_str());
-        self.is_lost = self.is_lost || page.is_lost;
+        if page.is_lost {
+            self.is_lost = true;
+        }
     }
 
     /// Appends what was made on another page, without white space at its end.
@@ -88,7 +123,9 @@ impl Page {
     /// The text.
     ///
     /// Refused where memory was refused for a piece of it.
-    pub fn whole(self) -> Result<String, AllocError> {
+    pub fn whole(self) -> Result<String, AllocError>
+        ensures { IfOk result (λ text. (self.is_lost ≡ false) × (string_bytes text ≡ string_bytes self.text)) }
+    {
         if self.is_lost {
             return Err(AllocError);
         }
