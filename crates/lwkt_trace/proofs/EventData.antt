@@ -1,13 +1,8 @@
 -- An event's list is read as the event.
-use Rattle.std.proofs.Common.{◌≡◌, ℕ, ◌≤◌, List, ◌++◌, take, codes, Option, Some, None, refl, ap, ◌∙◌, arith, le-leb}
+use Rattle.std.proofs.Common.{◌≡◌, ℕ, ◌≤◌, List, codes, None, refl, arith, le-leb}
 use Rattle.serde_json.specs.Data.{string, array, item}
-use Rattle.lwkt_base.specs.Hex.{hex_text}
-use Rattle.lwkt_core.specs.declared.events.Event.{Event}
 use Rattle.lwkt_core.specs.declared.events.Event.TheVariants.{Load, Take, Share, Again, Mark, GiveOne, GiveClean, GiveWritten, Read, Write, ReadBlob, WriteBlob, Send, TakeMsg, DropMsg, Reply, Reap, Abort}
-use Rattle.lwkt_script.specs.Record.{blob_of}
 use Rattle.lwkt_trace.specs.Words.{event_of, told_at, whole_event, or_else, with_round, with_value, with_record}
-use Rattle.lwkt_trace.specs.Written.{past_text}
-use Rattle.lwkt_trace.specs.declared.traces.Told.{Told}
 use Rattle.lwkt_trace.specs.Readback.{number_data, blob_data, one_item, two_items, three_items, IsToldBlob, EventsAreReadBack}
 use Rattle.lwkt_trace.proofs.BlobTexts.{blob_read}
 
