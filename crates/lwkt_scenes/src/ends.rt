@@ -2,6 +2,7 @@ use crate::pages::Page;
 use crate::records::show_hex;
 use crate::replays::Replay;
 use crate::stories::{Logged, Story};
+use crate::turns::show_step;
 use crate::words::{show_ask, show_fault, show_thread};
 use lwkt_base::{Blob, Entry, ThreadState};
 use lwkt_report::ThreadLine;
@@ -84,7 +85,7 @@ fn show_logged(out: &mut Page, story: &Story, entry: Entry, logged: Logged) {
     out.add("  ");
     show_entry(out, entry);
     out.add(" of ");
-    story.show_step(out, logged.number);
+    show_step(out, story.step_at(logged.number));
     out.add(": ");
     show_ask(out, &logged.ask);
     out.add("\n");

@@ -1,3 +1,10 @@
+ghost use Rattle.std.specs.Prelude.{◌≡◌, true, take};
+ghost use Rattle.std.specs.List.{list_all};
+ghost use Rattle.lwkt_base.specs.Hex.{hex_text};
+ghost use Rattle.lwkt_refusals.specs.Pages.{Grows};
+ghost use Rattle.lwkt_trace.specs.Written.{blob_text};
+ghost use Rattle.lwkt_scenes.specs.Words.{is_shown, bytes_words, cut_words, full_words, record_words};
+
 use crate::pages::Page;
 use lwkt_base::Blob;
 use lwkt_base::hexes::digits_of;
@@ -6,7 +13,9 @@ use lwkt_base::hexes::digits_of;
 const SHOWN: usize = 24;
 
 /// Appends bytes, two digits for each.
-pub(crate) fn show_hex(out: &mut Page, bytes: &[u8]) {
+pub(crate) fn show_hex(out: &mut Page, bytes: &[u8])
+    ensures { Grows out.old out.new (hex_text bytes.now) }
+{
     for byte in bytes {
         let (high, low) = digits_of(*byte);
         out.add(high);
@@ -15,34 +24,33 @@ pub(crate) fn show_hex(out: &mut Page, bytes: &[u8]) {
 }
 
 /// Appends a record as it stands in a script or a trace: its digits in quotes.
-pub(crate) fn show_digits(out: &mut Page, blob: &Blob) {
+#[tactic(auto, unfolding(lwkt_trace::specs::Written::blob_text))]
+pub(crate) fn show_digits(out: &mut Page, blob: &Blob)
+    ensures { Grows out.old out.new (blob_text blob.now) }
+{
     out.add("\"");
     show_hex(out, blob.as_slice());
-    if blob.len() > 64 {
-        out.add("00");
-    }
-    out.add("\"");
+    out.add(if blob.len() > 64 { "00\"" } else { "\"" })
 }
 
-// Whether a byte is a character of ASCII that is shown as it is.
-fn is_printable(byte: u8) -> bool {
-    32 <= byte && byte < 127
-}
-
-// Whether a byte has a meaning of its own where text is shown, in a line or in a picture.
-fn is_special(byte: u8) -> bool {
-    matches!(byte, b'"' | b'&' | b'<' | b'>')
+// Whether a byte is a character of ASCII that is shown as it is, and has no meaning of its own in a line or a picture.
+fn is_shown(byte: u8) -> bool
+    ensures { result ≡ is_shown byte }
+{
+    32 <= byte && byte < 127 && !(byte == 34 || byte == 38 || byte == 60 || byte == 62)
 }
 
 // Whether bytes are shown as text.
-fn is_text(bytes: &[u8]) -> bool {
-    bytes
-        .iter()
-        .all(|byte| is_printable(*byte) && !is_special(*byte))
+fn is_text(bytes: &[u8]) -> bool
+    ensures { result ≡ list_all is_shown bytes.now }
+{
+    bytes.iter().all(|byte| is_shown(*byte))
 }
 
 // The bytes that are shown.
-fn front_of(bytes: &[u8]) -> &[u8] {
+fn front_of(bytes: &[u8]) -> &[u8]
+    ensures { result.now ≡ take 24 bytes.now }
+{
     if bytes.len() > SHOWN {
         &bytes[..SHOWN]
     } else {
@@ -50,25 +58,59 @@ fn front_of(bytes: &[u8]) -> &[u8] {
     }
 }
 
-/// Appends a record: as text where all of it is printable, else as hexadecimal digits; cut where it is long, and then with its
-/// length.
-pub(crate) fn show_record(out: &mut Page, blob: &Blob) {
-    let bytes = blob.as_slice();
-    if bytes.is_empty() {
-        return out.add("an empty record");
+// Appends bytes as text, those that are shown as they are.
+fn show_letters(out: &mut Page, bytes: &[u8])
+    requires { list_all is_shown bytes.now ≡ true }
+    ensures { Grows out.old out.new bytes.now }
+{
+    for byte in bytes {
+        out.letter(*byte as char);
     }
-    out.add("record ");
+}
+
+// Appends bytes as text where all of them are shown as they are, else as hexadecimal digits; cut where they are many.
+fn show_bytes(out: &mut Page, bytes: &[u8])
+    ensures { Grows out.old out.new (bytes_words bytes.now) }
+{
+    let front = front_of(bytes);
     if is_text(bytes) {
         out.add("'");
-        for byte in front_of(bytes) {
-            out.letter(*byte as char);
-        }
-        out.add("'");
+        show_letters(out, front);
+        out.add("'")
     } else {
-        show_hex(out, front_of(bytes));
+        show_hex(out, front)
     }
-    if bytes.len() > SHOWN {
+}
+
+// Appends how many bytes a record has, where it is cut.
+fn show_cut(out: &mut Page, blob: &Blob)
+    ensures { Grows out.old out.new (cut_words blob.now) }
+{
+    if blob.len() > 24 {
         out.number(".., ", u64::from(blob.len()));
-        out.add(" bytes");
+        out.add(" bytes")
+    } else {
+        out.add("")
+    }
+}
+
+// Appends a record that has bytes.
+fn show_full(out: &mut Page, blob: &Blob)
+    ensures { Grows out.old out.new (full_words blob.now) }
+{
+    out.add("record ");
+    show_bytes(out, blob.as_slice());
+    show_cut(out, blob)
+}
+
+/// Appends a record: as text where all of it is printable, else as hexadecimal digits; cut where it is long, and then with its
+/// length.
+pub(crate) fn show_record(out: &mut Page, blob: &Blob)
+    ensures { Grows out.old out.new (record_words blob.now) }
+{
+    if blob.is_empty() {
+        out.add("an empty record")
+    } else {
+        show_full(out, blob)
     }
 }

@@ -1,3 +1,4 @@
+use crate::scenes::round_length;
 use lwkt_core::Event;
 use lwkt_report::Closing;
 use lwkt_script::Script;
@@ -36,12 +37,16 @@ pub struct Chosen {
 }
 
 impl Chosen {
-    ghost use Rattle.std.specs.Prelude.{◌↔◌, ◌≤◌, IsTrue};
+    ghost use Rattle.std.specs.Prelude.{◌≡◌, ◌↔◌, ◌≤◌, IsTrue};
     ghost use Rattle.lwkt_scenes.specs.Shown.{first_turn};
+    ghost use Rattle.lwkt_scenes.specs.Lines.{first_of, last_of, round_length};
 
     /// The same as turns of so many processors.
-    pub(crate) fn in_turns(&self, cpus: u8) -> Chosen {
-        let cpus = usize::from(cpus).max(1);
+    pub(crate) fn in_turns(&self, cpus: u8) -> Chosen
+        ensures first { result.first ≡ first_of self.now.counted self.now.first (round_length cpus) }
+        ensures last { result.last ≡ last_of self.now.counted self.now.last (round_length cpus) }
+    {
+        let cpus = round_length(cpus);
         match self.counted {
             Counted::Turns => *self,
             Counted::Rounds => Chosen {

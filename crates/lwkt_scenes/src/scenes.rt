@@ -1,3 +1,8 @@
+ghost use Rattle.std.specs.Prelude.{◌≡◌};
+ghost use Rattle.std.specs.Option.{option_copied};
+ghost use Rattle.lwkt_verdict.specs.Run.{poll_of};
+ghost use Rattle.lwkt_scenes.specs.Lines.{round_length, round_of, processor_of};
+
 use crate::reels::Reel;
 use lwkt_core::Event;
 use lwkt_verdict::turns::poll_of;
@@ -25,25 +30,50 @@ pub(crate) fn part_of(events: &[Event], from: usize, count: usize) -> &[Event] {
     &rest[..count]
 }
 
-// The round and the processor of the turn of a number. Along an order each turn is a round of its own.
-fn place_of(run: &Reel, number: usize) -> (usize, u8) {
-    if let Some(order) = run.order {
-        return (number, order.get(number).copied().unwrap_or(0));
+/// How many turns a round has; one where there is no processor.
+pub(crate) fn round_length(cpus: u8) -> usize
+    ensures { result ≡ round_length cpus }
+{
+    if cpus == 0 { 1 } else { usize::from(cpus) }
+}
+
+// The round of the turn of a number. Along an order each turn is a round of its own.
+fn round_of(run: &Reel, number: usize) -> usize
+    ensures { result ≡ round_of (option_copied run.now.order) run.now.script.now.cpus number }
+{
+    match run.order {
+        Some(_) => number,
+        None => number / round_length(run.script.cpus),
     }
-    let cpus = usize::from(run.script.cpus);
-    if cpus == 0 {
-        return (0, 0);
+}
+
+// The processor of the turn of a number.
+fn processor_of(run: &Reel, number: usize) -> u8
+    ensures { result ≡ processor_of (option_copied run.now.order) run.now.script.now.cpus number }
+{
+    match run.order {
+        Some(order) => {
+            if number < order.len() {
+                order[number]
+            } else {
+                0
+            }
+        }
+        None => (number % round_length(run.script.cpus)) as u8,
     }
-    (number / cpus, u8::try_from(number % cpus).unwrap_or(0))
 }
 
 /// The turn of a number, whose events begin at a place of the trace.
-pub(crate) fn scene_of<'a>(run: &Reel<'a>, number: usize, turn: &Turn, from: usize) -> Scene<'a> {
-    let (round, cpu) = place_of(run, number);
+pub(crate) fn scene_of<'a>(run: &Reel<'a>, number: usize, turn: &Turn, from: usize) -> Scene<'a>
+    ensures number { result.number ≡ number }
+    ensures round { result.round ≡ round_of (option_copied run.now.order) run.now.script.now.cpus number }
+    ensures cpu { result.cpu ≡ processor_of (option_copied run.now.order) run.now.script.now.cpus number }
+    ensures poll { result.poll ≡ poll_of run.now.polls.now turn.now }
+{
     Scene {
         number,
-        round,
-        cpu,
+        round: round_of(run, number),
+        cpu: processor_of(run, number),
         poll: poll_of(run.polls, turn).copied(),
         part: part_of(run.trace, from, usize::from(turn.events)),
     }

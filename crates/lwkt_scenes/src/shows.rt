@@ -1,11 +1,13 @@
-ghost use Rattle.std.specs.Prelude.{IfOk, string_bytes};
+ghost use Rattle.std.specs.Prelude.{◌≡◌, ◌+◌, min, IfOk, string_bytes};
+ghost use Rattle.std.specs.Option.{option_copied};
+ghost use Rattle.lwkt_scenes.specs.Lines.{most, is_shown, IsTextOf, AreLines, Adds, BeginsWithLines};
 ghost use Rattle.lwkt_scenes.specs.Shown.{EndsInReport};
 
 use crate::ends::show_ends;
 use crate::pages::Page;
 use crate::reels::{Chosen, Reel};
 use crate::replays::Replay;
-use crate::scenes::{part_of, scene_of};
+use crate::scenes::{Scene, part_of, scene_of};
 use crate::turns::{pass_turn, show_turn};
 use lwkt_base::Fault;
 use lwkt_report::report;
@@ -30,8 +32,28 @@ fn show_choice(out: &mut Page, chosen: Chosen, turns: usize) {
 }
 
 // The last turn that is shown.
-fn last_shown(chosen: Chosen) -> usize {
+fn last_shown(chosen: Chosen) -> usize
+    ensures { result ≡ min chosen.last (min (chosen.first + 9999) most) }
+{
     chosen.last.min(chosen.first.saturating_add(TURN_LIMIT - 1))
+}
+
+// Whether the turn of a number is shown.
+fn is_shown(chosen: Chosen, number: usize) -> bool
+    ensures { result ≡ is_shown chosen.first chosen.last number }
+{
+    chosen.first <= number && number <= last_shown(chosen)
+}
+
+// Makes a turn happen, and appends its line if it is shown.
+fn show_one(alloc: Global, out: &mut Page, replay: &mut Replay, scene: &Scene, shown: bool)
+    ensures { Adds (IsTextOf shown scene.now.number scene.now.round scene.now.cpu scene.now.poll) out.old out.new }
+{
+    if shown {
+        show_turn(alloc, replay, out, scene)
+    } else {
+        pass_turn(alloc, replay, scene)
+    }
 }
 
 // Makes all turns happen, appends the lines of those that are shown, and says where the events of the stop begin.
@@ -41,16 +63,13 @@ fn show_turns(
     run: &Reel,
     replay: &mut Replay,
     chosen: Chosen,
-) -> usize {
+) -> usize
+    ensures { Adds (AreLines chosen.first chosen.last (option_copied run.now.order) run.now.script.now.cpus run.now.polls.now 0 run.now.turns.now) out.old out.new }
+{
     let mut from = 0usize;
-    let end = last_shown(chosen);
     for (number, turn) in run.turns.iter().enumerate() {
         let scene = scene_of(run, number, turn, from);
-        if chosen.first <= number && number <= end {
-            show_turn(alloc, replay, out, &scene);
-        } else {
-            pass_turn(alloc, replay, &scene);
-        }
+        show_one(alloc, out, replay, &scene, is_shown(chosen, number));
         from = from.saturating_add(usize::from(turn.events));
     }
     from
@@ -68,20 +87,31 @@ fn show_stop(alloc: Global, out: &mut Page, run: &Reel, replay: &mut Replay, fro
     out.add("\n");
 }
 
-// Appends all that is said of a run before its report.
-fn show_run(alloc: Global, out: &mut Page, run: &Reel, replay: &mut Replay, chosen: Chosen) {
-    let chosen = chosen.in_turns(run.script.cpus);
-    let from = show_turns(alloc, out, run, replay, chosen);
+// Appends all that is said of a run behind its turns and before its report.
+fn show_behind(
+    alloc: Global,
+    out: &mut Page,
+    run: &Reel,
+    replay: &mut Replay,
+    chosen: Chosen,
+    from: usize,
+) {
     show_choice(out, chosen, run.turns.len());
     show_ends(out, replay, &run.closing.threads);
     show_stop(alloc, out, run, replay, from);
 }
 
 // All that is said of a run before its report.
-fn front_of(alloc: Global, run: &Reel, chosen: Chosen) -> Result<String, Fault> {
+fn front_of(alloc: Global, run: &Reel, chosen: Chosen) -> Result<String, Fault>
+    ensures { IfOk result (λ text. BeginsWithLines run.now chosen (string_bytes text)) }
+{
     let mut replay = Replay::open(alloc, run.script, &run.closing.threads)?;
     let mut out = Page::new(alloc);
-    show_run(alloc, &mut out, run, &mut replay, chosen);
+    let mut behind = Page::new(alloc);
+    let turns = chosen.in_turns(run.script.cpus);
+    let from = show_turns(alloc, &mut out, run, &mut replay, turns);
+    show_behind(alloc, &mut behind, run, &mut replay, turns, from);
+    out.add_page(&behind);
     match out.whole() {
         Ok(text) => Ok(text),
         Err(_) => Err(Fault::Memory),
@@ -93,7 +123,8 @@ fn front_of(alloc: Global, run: &Reel, chosen: Chosen) -> Result<String, Fault> 
 ///
 /// Refused with `Memory` if an allocation is, and as `State::open` is for an opening that it refuses.
 pub fn lines_of(alloc: Global, run: &Reel, chosen: Chosen) -> Result<String, Fault>
-    ensures { IfOk result (λ text. EndsInReport run.now.closing.now (string_bytes text)) }
+    ensures report { IfOk result (λ text. EndsInReport run.now.closing.now (string_bytes text)) }
+    ensures lines { IfOk result (λ text. BeginsWithLines run.now chosen (string_bytes text)) }
 {
     let mut out = front_of(alloc, run, chosen)?;
     let text = report(alloc, run.closing)?;

@@ -27,6 +27,27 @@ pub(crate) enum Doing {
     Ended,
 }
 
+/// What came of a step.
+#[derive(Clone, Copy)]
+pub enum Came {
+    /// The thread goes on.
+    Runs,
+    /// It waits.
+    Waits,
+    /// It ends.
+    Ends,
+    /// It ends by this fault.
+    Faulted(Fault),
+}
+
+/// Which step a thread makes: how many polls it has had, how many steps it makes, and how many times over.
+#[derive(Clone, Copy)]
+pub struct Step {
+    pub polls: u64,
+    pub steps: u64,
+    pub repeat: u64,
+}
+
 /// What a thread has come to after some turns.
 #[derive(Drop)]
 pub(crate) struct Story {
@@ -216,16 +237,24 @@ impl Story {
         }
     }
 
-    /// Appends which of its steps a thread makes: `step 2`, and where it makes them several times which time, from 1.
-    pub(crate) fn show_step(&self, out: &mut Page, polls: u64) {
-        if self.steps == 0 || polls / self.steps >= self.repeat {
-            out.add("after its steps");
-            return;
+    /// Which step the thread makes after so many polls.
+    pub(crate) fn step_at(&self, polls: u64) -> Step {
+        Step {
+            polls,
+            steps: self.steps,
+            repeat: self.repeat,
         }
-        out.number("step ", polls % self.steps);
-        if self.repeat > 1 {
-            let time = (polls / self.steps).saturating_add(1);
-            out.number(" of time ", time);
+    }
+
+    /// What came of a step that left the thread doing this.
+    pub(crate) fn came(&self, doing: Doing) -> Came {
+        match doing {
+            Doing::Runs => Came::Runs,
+            Doing::Ended => match self.end {
+                ThreadState::Faulted(fault) => Came::Faulted(fault),
+                _ => Came::Ends,
+            },
+            _ => Came::Waits,
         }
     }
 

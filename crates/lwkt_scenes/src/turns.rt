@@ -1,60 +1,120 @@
+ghost use Rattle.std.specs.Prelude.{◌≡◌, ◌/◌, ◌<◌};
+ghost use Rattle.lwkt_refusals.specs.Pages.{Grows};
+ghost use Rattle.lwkt_scenes.specs.Lines.{late_text, faulted_text, came_text, time_text, step_text, poll_text, turn_text, IsDoing, IsLine, Adds};
+
 use crate::pages::Page;
 use crate::replays::Replay;
 use crate::scenes::Scene;
-use crate::stories::{Doing, Outcome, Story};
+use crate::stories::{Came, Doing, Outcome, Step, Story};
 use crate::words::{show_answer, show_ask, show_fault, show_thread};
-use lwkt_base::ThreadState;
+use lwkt_base::{Answer, Fault, ThreadId, ThreadState};
 use lwkt_verdict::Poll;
 use std::alloc::Global;
 
-// Appends the answer to an ask that doesn't end its thread, and whether the thread waits before it has it.
-fn show_outcome(out: &mut Page, poll: &Poll, outcome: Outcome) {
-    let waits = !matches!(outcome.doing, Doing::Runs | Doing::Ended);
-    match poll.answer {
-        None if waits => out.add("waits"),
-        None => out.add("not asked again"),
-        Some(answer) => {
-            if waits {
-                out.add("waits, then ");
-            }
-            show_answer(out, answer)
-        }
+// Appends the answer to an ask whose thread waits before it has it.
+fn show_late(out: &mut Page, answer: Answer)
+    ensures { Grows out.old out.new (late_text answer) }
+{
+    out.add("waits, then ");
+    show_answer(out, answer)
+}
+
+// Appends that a thread ends by a fault.
+fn show_faulted(out: &mut Page, fault: Fault)
+    ensures { Grows out.old out.new (faulted_text fault) }
+{
+    out.add("ends faulted ");
+    show_fault(out, fault)
+}
+
+// Appends what came of a step.
+fn show_came(out: &mut Page, came: Came, answer: Option<Answer>)
+    ensures { Grows out.old out.new (came_text came answer) }
+{
+    match came {
+        Came::Runs => match answer {
+            None => out.add("not asked again"),
+            Some(answer) => show_answer(out, answer),
+        },
+        Came::Waits => match answer {
+            None => out.add("waits"),
+            Some(answer) => show_late(out, answer),
+        },
+        Came::Ends => out.add("ends"),
+        Came::Faulted(fault) => show_faulted(out, fault),
     }
 }
 
-// Appends how a thread ends.
-fn show_ended(out: &mut Page, story: &Story) {
-    match story.end {
-        ThreadState::Faulted(fault) => {
-            out.add("ends faulted ");
-            show_fault(out, fault)
-        }
-        _ => out.add("ends"),
-    }
-}
-
-// Appends what an ask came to.
-fn show_result(out: &mut Page, story: &Story, poll: &Poll, outcome: Outcome) {
-    if outcome.doing == Doing::Ended {
-        show_ended(out, story);
+// Appends which time over a thread makes its steps, from 1, where it makes them several times.
+fn show_time(out: &mut Page, step: Step, time: u64)
+    requires { (0 < step.steps) × (time ≡ step.polls / step.steps) × (time < step.repeat) }
+    ensures { Grows out.old out.new (time_text step) }
+{
+    if step.repeat > 1 {
+        out.number(" of time ", time + 1)
     } else {
-        show_outcome(out, poll, outcome);
+        out.add("")
     }
 }
 
-// Appends a poll: thread, step, ask and answer.
-fn show_poll(out: &mut Page, replay: &Replay, poll: &Poll, outcome: Outcome) {
+/// Appends which of its steps a thread makes: `step 2`, and where it makes them several times which time, from 1.
+pub(crate) fn show_step(out: &mut Page, step: Step)
+    ensures { Grows out.old out.new (step_text step) }
+{
+    if step.steps == 0 {
+        return out.add("after its steps");
+    }
+    let time = step.polls / step.steps;
+    if time >= step.repeat {
+        return out.add("after its steps");
+    }
+    out.number("step ", step.polls % step.steps);
+    show_time(out, step, time)
+}
+
+// Appends a poll: thread, step, ask and what came of it.
+fn show_poll(out: &mut Page, poll: &Poll, step: Step, came: Came)
+    ensures { Grows out.old out.new (poll_text poll.now step came) }
+{
     out.add(", thread ");
     show_thread(out, poll.thread);
-    let Some(story) = replay.story(poll.thread) else {
-        return;
-    };
     out.add(", ");
-    story.show_step(out, story.polls);
+    show_step(out, step);
     out.add(": ");
     show_ask(out, &poll.ask);
     out.add(": ");
-    show_result(out, story, poll, outcome);
+    show_came(out, came, poll.answer)
+}
+
+// Which step a thread makes next.
+fn step_of(replay: &Replay, id: ThreadId) -> Step {
+    match replay.story(id) {
+        Some(story) => story.step_at(story.polls),
+        None => Step {
+            polls: 0,
+            steps: 0,
+            repeat: 0,
+        },
+    }
+}
+
+// What came of the step of a thread.
+fn came_of(replay: &Replay, id: ThreadId, outcome: Option<Outcome>) -> Came {
+    let Some(outcome) = outcome else {
+        return Came::Runs;
+    };
+    match replay.story(id) {
+        Some(story) => story.came(outcome.doing),
+        None => Came::Runs,
+    }
+}
+
+// Appends that a thread ends in a turn.
+fn show_ended(out: &mut Page, story: &Story) {
+    match story.end {
+        ThreadState::Faulted(fault) => show_came(out, Came::Faulted(fault), None),
+        _ => show_came(out, Came::Ends, None),
+    }
 }
 
 // Appends why a thread doesn't run in a turn, or that it ends in it.
@@ -85,26 +145,49 @@ fn show_idle(out: &mut Page, replay: &Replay, scene: &Scene) {
 }
 
 // Appends what the polled thread of a turn asked, or why no thread runs.
-fn show_doing(out: &mut Page, replay: &Replay, scene: &Scene, outcome: Option<Outcome>) {
-    let Some(outcome) = outcome else {
-        return show_idle(out, replay, scene);
-    };
-    if let Some(poll) = &scene.poll {
-        show_poll(out, replay, poll, outcome);
+fn show_doing(
+    alloc: Global,
+    out: &mut Page,
+    replay: &Replay,
+    scene: &Scene,
+    outcome: Option<Outcome>,
+)
+    ensures { Adds (IsDoing scene.now.poll) out.old out.new }
+{
+    match scene.poll {
+        Some(poll) => {
+            let step = step_of(replay, poll.thread);
+            let came = came_of(replay, poll.thread, outcome);
+            show_poll(out, &poll, step, came)
+        }
+        None => {
+            let mut idle = Page::new(alloc);
+            show_idle(&mut idle, replay, scene);
+            out.add_page(&idle)
+        }
     }
 }
 
+// Appends a turn by its number, its round and its processor.
+fn show_head(out: &mut Page, scene: &Scene)
+    ensures { Grows out.old out.new (turn_text scene.now.number scene.now.round scene.now.cpu) }
+{
+    out.size("turn ", scene.number);
+    out.size(", round ", scene.round);
+    out.number(", processor ", u64::from(scene.cpu))
+}
+
 /// Makes a turn happen, and appends its line.
-pub(crate) fn show_turn(alloc: Global, replay: &mut Replay, out: &mut Page, scene: &Scene) {
+pub(crate) fn show_turn(alloc: Global, replay: &mut Replay, out: &mut Page, scene: &Scene)
+    ensures { Adds (IsLine scene.now.number scene.now.round scene.now.cpu scene.now.poll) out.old out.new }
+{
     let mail = replay.take_mail(scene.part);
     let mut events = Page::new(alloc);
     let mut why = Page::new(alloc);
     let broken = replay.play(&mut events, &mut why, scene.part, Some(scene));
     let outcome = replay.outcome(scene, mail, broken);
-    out.size("turn ", scene.number);
-    out.size(", round ", scene.round);
-    out.number(", processor ", u64::from(scene.cpu));
-    show_doing(out, replay, scene, outcome);
+    show_head(out, scene);
+    show_doing(alloc, out, replay, scene, outcome);
     out.add_page(&events);
     out.add("\n");
     replay.note(scene, outcome, why);

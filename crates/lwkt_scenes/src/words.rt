@@ -1,15 +1,25 @@
+ghost use Rattle.std.specs.Prelude.{◌≡◌, ◌++◌};
+ghost use Rattle.std.specs.Fmt.{decimal};
+ghost use Rattle.lwkt_refusals.specs.Pages.{Grows};
+ghost use Rattle.lwkt_trace.specs.Written.{comma};
+ghost use Rattle.lwkt_scenes.specs.Words.{thread_text, ask_word, token_parts, call_text, flags_number, message_parts, ask_text, fault_words, fault_place, fault_text, item_text, dropped_text, refused_text, answer_text};
+
 use crate::pages::Page;
 use crate::records::{show_digits, show_record};
-use lwkt_base::{Answer, Ask, Call, Fault, Item, Mode, MsgId, ThreadId};
+use lwkt_base::{Answer, Ask, Call, Fault, Flags, Item, Mode, MsgId, Rec, ThreadId};
 
 /// Appends a thread by its processor and its number: `1.0`.
-pub(crate) fn show_thread(out: &mut Page, id: ThreadId) {
+pub(crate) fn show_thread(out: &mut Page, id: ThreadId)
+    ensures { Grows out.old out.new (thread_text id) }
+{
     out.number("", u64::from(id.cpu.0));
     out.number(".", u64::from(id.thread));
 }
 
 // The word of an ask, as in a script.
-fn ask_word(ask: &Ask) -> &'static str {
+fn ask_word(ask: &Ask) -> &'static str
+    ensures { result.now ≡ ask_word ask.now }
+{
     match ask {
         Ask::Get(_) => "get",
         Ask::GetShared(_) => "gets",
@@ -34,119 +44,221 @@ fn ask_word(ask: &Ask) -> &'static str {
     }
 }
 
-/// Appends numbers, each after a comma.
-pub(crate) fn show_behind(out: &mut Page, numbers: &[u64]) {
-    for number in numbers {
-        out.number(",", *number);
-    }
+// Appends a number after a comma.
+fn show_part(out: &mut Page, number: u64)
+    ensures { Grows out.old out.new (comma number) }
+{
+    out.number(",", number)
 }
 
-// Appends the numbers of an ask for a token.
-fn show_token_ask(out: &mut Page, ask: &Ask) {
+// Appends the parts of an ask for a token.
+fn show_token_parts(out: &mut Page, ask: &Ask)
+    ensures { Grows out.old out.new (token_parts ask.now) }
+{
     match ask {
         Ask::Get(tok)
         | Ask::GetShared(tok)
         | Ask::TryGet(tok)
         | Ask::Rel(tok)
-        | Ask::ReadBlob(tok) => show_behind(out, &[u64::from(tok.0)]),
+        | Ask::ReadBlob(tok) => show_part(out, u64::from(tok.0)),
         Ask::WriteBlob(tok, blob) => {
-            show_behind(out, &[u64::from(tok.0)]);
+            show_part(out, u64::from(tok.0));
             out.add(",");
             show_digits(out, blob)
         }
-        Ask::Read(tok, cell) => show_behind(out, &[u64::from(tok.0), u64::from(*cell)]),
-        Ask::Write(tok, cell, value) => {
-            show_behind(out, &[u64::from(tok.0), u64::from(*cell), *value])
+        Ask::Read(tok, cell) => {
+            show_part(out, u64::from(tok.0));
+            show_part(out, u64::from(*cell))
         }
-        Ask::Add(tok, more) => show_behind(out, &[u64::from(tok.0), *more]),
-        _ => {}
+        Ask::Write(tok, cell, value) => {
+            show_part(out, u64::from(tok.0));
+            show_part(out, u64::from(*cell));
+            show_part(out, *value)
+        }
+        Ask::Add(tok, more) => {
+            show_part(out, u64::from(tok.0));
+            show_part(out, *more)
+        }
+        _ => out.add(""),
     }
 }
 
 // Appends a message, a thread and a call.
-fn show_call(out: &mut Page, msg: MsgId, to: ThreadId, call: Call) {
-    out.number(",", u64::from(msg.0));
-    out.number(",", u64::from(to.cpu.0));
-    out.number(",", u64::from(to.thread));
-    out.number(",", u64::from(call.op));
-    out.number(",", call.arg);
+fn show_call(out: &mut Page, msg: MsgId, to: ThreadId, call: Call)
+    ensures { Grows out.old out.new (call_text msg to call) }
+{
+    show_part(out, u64::from(msg.0));
+    show_part(out, u64::from(to.cpu.0));
+    show_part(out, u64::from(to.thread));
+    show_part(out, u64::from(call.op));
+    show_part(out, call.arg)
 }
 
-// Appends the numbers of an ask.
-fn show_ask_numbers(out: &mut Page, ask: &Ask) {
+// The flags of a send as a number.
+fn flags_number(flags: Flags) -> u8
+    ensures { result ≡ flags_number flags }
+{
+    let dropable = if flags.dropable { 1 } else { 0 };
+    let abortable = if flags.abortable { 2 } else { 0 };
+    let priority = if flags.priority { 4 } else { 0 };
+    dropable + abortable + priority
+}
+
+// Appends the parts of an ask for a message.
+fn show_message_parts(out: &mut Page, ask: &Ask)
+    ensures { Grows out.old out.new (message_parts ask.now) }
+{
     match ask {
         Ask::Send(msg, to, call, flags) => {
             show_call(out, *msg, *to, *call);
-            let flags = u8::from(flags.dropable)
-                + 2 * u8::from(flags.abortable)
-                + 4 * u8::from(flags.priority);
-            show_behind(out, &[u64::from(flags)])
+            show_part(out, u64::from(flags_number(*flags)))
         }
         Ask::Do(msg, to, call) => show_call(out, *msg, *to, *call),
         Ask::Reply(msg, error, outcome) => {
-            show_behind(out, &[u64::from(msg.0), u64::from(*error), *outcome])
+            show_part(out, u64::from(msg.0));
+            show_part(out, u64::from(*error));
+            show_part(out, *outcome)
         }
         Ask::Abort(msg) | Ask::IsAborted(msg) | Ask::DropMsg(msg) => {
-            show_behind(out, &[u64::from(msg.0)])
+            show_part(out, u64::from(msg.0))
         }
-        _ => show_token_ask(out, ask),
+        _ => out.add(""),
     }
 }
 
 /// Appends an ask as the step of a script that stands for it: `["add",0,5]`.
-pub(crate) fn show_ask(out: &mut Page, ask: &Ask) {
+pub(crate) fn show_ask(out: &mut Page, ask: &Ask)
+    ensures { Grows out.old out.new (ask_text ask.now) }
+{
     out.add("[\"");
     out.add(ask_word(ask));
     out.add("\"");
-    show_ask_numbers(out, ask);
+    show_token_parts(out, ask);
+    show_message_parts(out, ask);
     out.add("]");
 }
 
+// The words of a fault, but for a number behind them.
+fn fault_words(fault: Fault) -> &'static str
+    ensures { result.now ≡ fault_words fault }
+{
+    match fault {
+        Fault::ListFull => "list full",
+        Fault::Upgrade => "shared reference can't become exclusive",
+        Fault::NotLast => "not the last reference",
+        Fault::NotHeld => "token not held",
+        Fault::SwapSame => "swap of one token",
+        Fault::SwapShort => "swap needs two references",
+        Fault::NoToken => "no such token",
+        Fault::NoCell => "no such cell",
+        Fault::SharedWrite => "write under a shared token",
+        Fault::Broken => "law broken, cells restored",
+        Fault::Worn => "last generation",
+        Fault::Overflow => "sum too large",
+        Fault::TallyOnly => "call and law don't fit",
+        Fault::Busy => "token busy",
+        Fault::LaneFull => "lane full",
+        Fault::NotOwner => "message not owned",
+        Fault::NotOut => "message not out",
+        Fault::NotAbortable => "message not abortable",
+        Fault::NotDropable => "message not dropable",
+        Fault::SelfDo => "synchronous send to itself",
+        Fault::NoPort => "no such port",
+        Fault::NotTaken => "message not taken",
+        Fault::Memory => "out of memory",
+        Fault::Script { .. } => "script refused at ",
+        Fault::Again => "lost a race, try again",
+        Fault::Unlawful { .. } => "unlawful at ",
+        Fault::RoundsOut => "last round",
+        Fault::SharedRecord => "record under a shared token",
+        Fault::RecordLong => "record too long",
+        Fault::Limits => "limit passed",
+        Fault::LawBroken => "opening breaks its law",
+    }
+}
+
+// Appends the number behind them.
+fn show_fault_place(out: &mut Page, fault: Fault)
+    ensures { Grows out.old out.new (fault_place fault) }
+{
+    match fault {
+        Fault::Script { place } => out.number("", u64::from(place)),
+        Fault::Unlawful { index } => out.size("", index),
+        _ => out.add(""),
+    }
+}
+
 /// Appends a fault by its number and its text: `23, token busy`.
-pub(crate) fn show_fault(out: &mut Page, fault: Fault) {
+pub(crate) fn show_fault(out: &mut Page, fault: Fault)
+    ensures { Grows out.old out.new (fault_text fault) }
+{
     out.number("", u64::from(fault.number()));
-    out.fault(", ", fault);
+    out.add(", ");
+    out.add(fault_words(fault));
+    show_fault_place(out, fault)
 }
 
 // Appends a message with two numbers, each behind its words.
-fn show_values(out: &mut Page, words: [&str; 3], msg: MsgId, first: u64, second: u64) {
-    let [before, middle, behind] = words;
-    out.number(before, u64::from(msg.0));
+fn show_values(out: &mut Page, middle: &str, msg: MsgId, first: u64, behind: &str, second: u64)
+    ensures { Grows out.old out.new (decimal msg.0 ++ middle.now ++ decimal first ++ behind.now ++ decimal second) }
+{
+    out.number("", u64::from(msg.0));
     out.number(middle, first);
     out.number(behind, second);
 }
 
 // Appends an item of a port.
-fn show_item(out: &mut Page, item: Item) {
+fn show_item(out: &mut Page, item: Item)
+    ensures { Grows out.old out.new (item_text item) }
+{
     match item {
         Item::Request(msg, call) => {
-            let words = ["the request message ", ", op ", ", arg "];
-            show_values(out, words, msg, u64::from(call.op), call.arg)
+            out.add("the request message ");
+            show_values(out, ", op ", msg, u64::from(call.op), ", arg ", call.arg)
         }
         Item::Answered(msg, error, outcome) => {
-            let words = ["the reply to message ", ", error ", ", result "];
-            show_values(out, words, msg, u64::from(error), outcome)
+            out.add("the reply to message ");
+            show_values(out, ", error ", msg, u64::from(error), ", result ", outcome)
         }
     }
 }
 
+// Appends a message that was taken back.
+fn show_dropped(out: &mut Page, msg: MsgId, rec: Rec)
+    ensures { Grows out.old out.new (dropped_text msg rec) }
+{
+    out.add("message ");
+    show_values(
+        out,
+        " taken back, op ",
+        msg,
+        u64::from(rec.op),
+        ", arg ",
+        rec.arg,
+    )
+}
+
+// Appends a refusal.
+fn show_refused(out: &mut Page, fault: Fault)
+    ensures { Grows out.old out.new (refused_text fault) }
+{
+    out.add("refused ");
+    show_fault(out, fault)
+}
+
 /// Appends an answer: `done`, `value 15`, `refused 23, token busy`.
-pub(crate) fn show_answer(out: &mut Page, answer: Answer) {
+pub(crate) fn show_answer(out: &mut Page, answer: Answer)
+    ensures { Grows out.old out.new (answer_text answer) }
+{
     match answer {
         Answer::Begin => out.add("not asked before"),
         Answer::Done => out.add("done"),
         Answer::Value(value) => out.number("value ", value),
         Answer::Bytes(blob) => show_record(out, &blob),
-        Answer::Dropped(msg, rec) => {
-            let words = ["message ", " taken back, op ", ", arg "];
-            show_values(out, words, msg, u64::from(rec.op), rec.arg)
-        }
+        Answer::Dropped(msg, rec) => show_dropped(out, msg, rec),
         Answer::Got(item) => show_item(out, item),
         Answer::NoMsg => out.add("nothing at the port"),
-        Answer::Refused(fault) => {
-            out.add("refused ");
-            show_fault(out, fault)
-        }
+        Answer::Refused(fault) => show_refused(out, fault),
     }
 }
 

@@ -1,0 +1,65 @@
+-- Lines of turns, one behind another.
+use Rattle.std.proofs.Common.{Bool, ◌≡◌, ℕ, ◌+◌, ◌<◌, List, [], ◌∷◌, ◌++◌, length, drop, get_or, Option, refl, subst, sym, append_assoc, ◌∙◌, ap, false, string_bytes}
+use Rattle.std.proofs.lemmas.List.{drop_more}
+use Rattle.lwkt_refusals.specs.declared.pages.Page.{Page}
+use Rattle.lwkt_refusals.specs.Pages.{Grows}
+use Rattle.lwkt_refusals.proofs.Growing.{grows_twice, grows_nothing}
+use Rattle.lwkt_verdict.specs.declared.turns.Poll.{Poll}
+use Rattle.lwkt_verdict.specs.declared.turns.Turn.{Turn}
+use Rattle.lwkt_verdict.specs.Run.{poll_of}
+use Rattle.lwkt_scenes.specs.Lines.{is_shown, round_of, processor_of, IsTextOf, AreLines, Adds, Begins}
+
+-- no lines
+pub no_lines : (first last : ℕ) (order : Option (List ℕ)) (cpus : ℕ) (polls : List Poll) (n : ℕ) (page : Page) → Adds (AreLines first last order cpus polls n []) page page
+no_lines first last order cpus polls n page = record { words = []; holds = refl; grows = grows_nothing page }
+
+-- the lines of some turns behind what stands for one before them
+pub one_before : (first last : ℕ) (order : Option (List ℕ)) (cpus : ℕ) (polls : List Poll) (n : ℕ) (turn : Turn) (turns : List Turn) (old mid new : Page)
+    → Adds (IsTextOf (is_shown first last n) n (round_of order cpus n) (processor_of order cpus n) (poll_of polls turn)) old mid
+    → Adds (AreLines first last order cpus polls (n + 1) turns) mid new
+    → Adds (AreLines first last order cpus polls n (turn ∷ turns)) old new
+one_before first last order cpus polls n turn turns old mid new a b = record {
+  words = a.words ++ b.words;
+  holds = (a.words, b.words, refl, a.holds, b.holds);
+  grows = grows_twice old mid new a.words b.words a.grows b.grows;
+}
+
+-- the lines from a turn of a list on
+pub one_more : (first last : ℕ) (order : Option (List ℕ)) (cpus : ℕ) (polls : List Poll) (n : ℕ) (turn : Turn) (turns : List Turn) (old mid new : Page)
+    → n < length turns
+    → Adds (IsTextOf (is_shown first last n) n (round_of order cpus n) (processor_of order cpus n) (poll_of polls (get_or turns n turn))) old mid
+    → Adds (AreLines first last order cpus polls (n + 1) (drop (n + 1) turns)) mid new
+    → Adds (AreLines first last order cpus polls n (drop n turns)) old new
+one_more first last order cpus polls n turn turns old mid new inside a b =
+    let Lines : List Turn → Type 0 = λ rest. Adds (AreLines first last order cpus polls n rest) old new in
+    subst Lines (sym (drop_more turns n turn inside)) (one_before first last order cpus polls n (get_or turns n turn) (drop (n + 1) turns) old mid new a b)
+
+-- what stands on a page that was empty before some words
+pub begins : (Holds : List ℕ → Type 0) (old mid new : Page) (behind text : List ℕ) → string_bytes old.text ≡ [] → Adds Holds old mid → Grows mid new behind → new.is_lost ≡ false → text ≡ string_bytes new.text → Begins Holds text
+begins Holds old mid new behind text empty a more here is = record {
+    front = a.words;
+    rest = behind;
+    holds = a.holds;
+    is = is ∙ more.behind here ∙ ap (λ (front : List ℕ). front ++ behind) (a.grows.behind (more.kept here) ∙ ap (λ (front : List ℕ). front ++ a.words) empty);
+}
+
+-- a text that begins so, with more behind it
+pub begins_still : (Holds : List ℕ → Type 0) (front more text : List ℕ) → Begins Holds front → text ≡ front ++ more → Begins Holds text
+begins_still Holds front more text b is = record {
+    front = b.front;
+    rest = b.rest ++ more;
+    holds = b.holds;
+    is = is ∙ ap (λ (xs : List ℕ). xs ++ more) b.is ∙ append_assoc b.front b.rest more;
+}
+
+-- what stands for a turn, where it is told by other names
+pub told_as : (shown shown' : Bool) (number number' round round' cpu cpu' : ℕ) (poll poll' : Option Poll) (old new : Page)
+    → shown ≡ shown' → number ≡ number' → round ≡ round' → cpu ≡ cpu' → poll ≡ poll'
+    → Adds (IsTextOf shown number round cpu poll) old new → Adds (IsTextOf shown' number' round' cpu' poll') old new
+told_as shown shown' number number' round round' cpu cpu' poll poll' old new is_shown' is_number is_round is_cpu is_poll a =
+    let Shown : Bool → Type 0 = λ s. Adds (IsTextOf s number round cpu poll) old new in
+    let Number : ℕ → Type 0 = λ n. Adds (IsTextOf shown' n round cpu poll) old new in
+    let Round : ℕ → Type 0 = λ r. Adds (IsTextOf shown' number' r cpu poll) old new in
+    let Cpu : ℕ → Type 0 = λ c. Adds (IsTextOf shown' number' round' c poll) old new in
+    let Polled : Option Poll → Type 0 = λ p. Adds (IsTextOf shown' number' round' cpu' p) old new in
+    subst Polled is_poll (subst Cpu is_cpu (subst Round is_round (subst Number is_number (subst Shown is_shown' a))))

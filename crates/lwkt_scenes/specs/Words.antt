@@ -1,0 +1,170 @@
+-- The words of asks and answers (own).
+use Rattle.std.specs.Prelude.{ℕ, ◌+◌, ◌==◌, ◌&&◌, ◌||◌, nat_le, nat_lt, Bool, not, List, [], ◌++◌, length, take, codes, if◌then◌else◌}
+use Rattle.std.specs.Fmt.{decimal}
+use Rattle.std.specs.List.{list_all}
+use Rattle.lwkt_base.specs.Fault.{number_of}
+use Rattle.lwkt_base.specs.Hex.{hex_text}
+use Rattle.lwkt_base.specs.declared.asks.Answer.{Answer}
+use Rattle.lwkt_base.specs.declared.asks.Answer.TheVariants.{Begin, Done, Value, Bytes, Dropped, Got, NoMsg, Refused}
+use Rattle.lwkt_base.specs.declared.asks.Ask.{Ask}
+use Rattle.lwkt_base.specs.declared.asks.Ask.TheVariants.{Get, GetShared, TryGet, Rel, Swap, Read, Write, Add, ReadBlob, WriteBlob, Send, Do, Reply, Abort, IsAborted, DropMsg, GetPort, WaitPort, Yield, Exit}
+use Rattle.lwkt_base.specs.declared.asks.Item.{Item}
+use Rattle.lwkt_base.specs.declared.asks.Item.TheVariants.{Request, Answered}
+use Rattle.lwkt_base.specs.declared.faults.Fault.{Fault}
+use Rattle.lwkt_base.specs.declared.faults.Fault.TheVariants.{ListFull, Upgrade, NotLast, NotHeld, SwapSame, SwapShort, NoToken, NoCell, SharedWrite, Broken, Worn, Overflow, TallyOnly, Busy, LaneFull, NotOwner, NotOut, NotAbortable, NotDropable, SelfDo, NoPort, NotTaken, Memory, Script, Again, Unlawful, RoundsOut, SharedRecord, RecordLong, Limits, LawBroken}
+use Rattle.lwkt_base.specs.declared.names.MsgId.{MsgId}
+use Rattle.lwkt_base.specs.declared.names.ThreadId.{ThreadId}
+use Rattle.lwkt_base.specs.declared.records.Call.{Call}
+use Rattle.lwkt_base.specs.declared.records.Flags.{Flags}
+use Rattle.lwkt_base.specs.declared.records.Rec.{Rec}
+use Rattle.lwkt_trace.specs.Written.{comma, blob_text}
+
+-- a thread by its processor and its number: `1.0`
+abbrev pub thread_text : ThreadId → List ℕ
+thread_text id = decimal id.cpu.0 ++ codes "." ++ decimal id.thread
+
+-- the words of a fault, but for a number behind them
+abbrev pub fault_words : Fault → List ℕ
+fault_words ListFull = codes "list full"
+fault_words Upgrade = codes "shared reference can't become exclusive"
+fault_words NotLast = codes "not the last reference"
+fault_words NotHeld = codes "token not held"
+fault_words SwapSame = codes "swap of one token"
+fault_words SwapShort = codes "swap needs two references"
+fault_words NoToken = codes "no such token"
+fault_words NoCell = codes "no such cell"
+fault_words SharedWrite = codes "write under a shared token"
+fault_words Broken = codes "law broken, cells restored"
+fault_words Worn = codes "last generation"
+fault_words Overflow = codes "sum too large"
+fault_words TallyOnly = codes "call and law don't fit"
+fault_words Busy = codes "token busy"
+fault_words LaneFull = codes "lane full"
+fault_words NotOwner = codes "message not owned"
+fault_words NotOut = codes "message not out"
+fault_words NotAbortable = codes "message not abortable"
+fault_words NotDropable = codes "message not dropable"
+fault_words SelfDo = codes "synchronous send to itself"
+fault_words NoPort = codes "no such port"
+fault_words NotTaken = codes "message not taken"
+fault_words Memory = codes "out of memory"
+fault_words (Script place) = codes "script refused at "
+fault_words Again = codes "lost a race, try again"
+fault_words (Unlawful index) = codes "unlawful at "
+fault_words RoundsOut = codes "last round"
+fault_words SharedRecord = codes "record under a shared token"
+fault_words RecordLong = codes "record too long"
+fault_words Limits = codes "limit passed"
+fault_words LawBroken = codes "opening breaks its law"
+
+-- the number behind them
+abbrev pub fault_place : Fault → List ℕ
+fault_place (Script place) = decimal place
+fault_place (Unlawful index) = decimal index
+fault_place _ = []
+
+-- a fault by its number and its words: `23, token busy`
+abbrev pub fault_text : Fault → List ℕ
+fault_text fault = decimal (number_of fault) ++ codes ", " ++ fault_words fault ++ fault_place fault
+
+-- the word of an ask, as in a script
+abbrev pub ask_word : Ask → List ℕ
+ask_word (Get tok) = codes "get"
+ask_word (GetShared tok) = codes "gets"
+ask_word (TryGet tok) = codes "try"
+ask_word (Rel tok) = codes "rel"
+ask_word Swap = codes "swap"
+ask_word (Read tok cell) = codes "read"
+ask_word (Write tok cell value) = codes "write"
+ask_word (Add tok more) = codes "add"
+ask_word (ReadBlob tok) = codes "rrec"
+ask_word (WriteBlob tok blob) = codes "wrec"
+ask_word (Send message to call flags) = codes "send"
+ask_word (Do message to call) = codes "do"
+ask_word (Reply message error outcome) = codes "reply"
+ask_word (Abort message) = codes "abort"
+ask_word (IsAborted message) = codes "isab"
+ask_word (DropMsg message) = codes "drop"
+ask_word GetPort = codes "getport"
+ask_word WaitPort = codes "wait"
+ask_word Yield = codes "yield"
+ask_word Exit = codes "exit"
+
+-- the flags of a send as a number
+abbrev pub flags_number : Flags → ℕ
+flags_number flags = (if flags.dropable then 1 else 0) + (if flags.abortable then 2 else 0) + (if flags.priority then 4 else 0)
+
+-- a message, the thread that it goes to, and what it asks for
+abbrev pub call_text : MsgId → ThreadId → Call → List ℕ
+call_text message to call = comma message.0 ++ comma to.cpu.0 ++ comma to.thread ++ comma call.op ++ comma call.arg
+
+-- what stands behind the word of an ask for a token, each part after a comma
+abbrev pub token_parts : Ask → List ℕ
+token_parts (Get tok) = comma tok.0
+token_parts (GetShared tok) = comma tok.0
+token_parts (TryGet tok) = comma tok.0
+token_parts (Rel tok) = comma tok.0
+token_parts (Read tok cell) = comma tok.0 ++ comma cell
+token_parts (Write tok cell value) = comma tok.0 ++ comma cell ++ comma value
+token_parts (Add tok more) = comma tok.0 ++ comma more
+token_parts (ReadBlob tok) = comma tok.0
+token_parts (WriteBlob tok blob) = comma tok.0 ++ codes "," ++ blob_text blob
+token_parts _ = []
+
+-- what stands behind the word of an ask for a message
+abbrev pub message_parts : Ask → List ℕ
+message_parts (Send message to call flags) = call_text message to call ++ comma (flags_number flags)
+message_parts (Do message to call) = call_text message to call
+message_parts (Reply message error outcome) = comma message.0 ++ comma error ++ comma outcome
+message_parts (Abort message) = comma message.0
+message_parts (IsAborted message) = comma message.0
+message_parts (DropMsg message) = comma message.0
+message_parts _ = []
+
+-- an ask as the step of a script that stands for it: `["add",0,5]`
+abbrev pub ask_text : Ask → List ℕ
+ask_text ask = codes "[\"" ++ ask_word ask ++ codes "\"" ++ token_parts ask ++ message_parts ask ++ codes "]"
+
+-- what came to a port
+abbrev pub item_text : Item → List ℕ
+item_text (Request message call) = codes "the request message " ++ decimal message.0 ++ codes ", op " ++ decimal call.op ++ codes ", arg " ++ decimal call.arg
+item_text (Answered message error outcome) = codes "the reply to message " ++ decimal message.0 ++ codes ", error " ++ decimal error ++ codes ", result " ++ decimal outcome
+
+-- whether a byte is a character that is shown as it is, and has no meaning of its own in a line or a picture
+abbrev pub is_shown : ℕ → Bool
+is_shown byte = nat_le 32 byte && nat_lt byte 127 && not (byte == 34 || byte == 38 || byte == 60 || byte == 62)
+
+-- bytes as text in quotes where all of them are shown as they are, else two digits for each; of more than 24 the first 24
+abbrev pub bytes_words : List ℕ → List ℕ
+bytes_words bytes = if list_all is_shown bytes then codes "'" ++ take 24 bytes ++ codes "'" else hex_text (take 24 bytes)
+
+-- how many bytes a record has, where not all are shown
+abbrev pub cut_words : List ℕ → List ℕ
+cut_words blob = if nat_lt 24 (length blob) then codes ".., " ++ decimal (length blob) ++ codes " bytes" else []
+
+-- a record that has bytes, of which at most 64 are kept
+abbrev pub full_words : List ℕ → List ℕ
+full_words blob = codes "record " ++ bytes_words (take 64 blob) ++ cut_words blob
+
+-- a record: `record 'hello'`
+abbrev pub record_words : List ℕ → List ℕ
+record_words blob = if length blob == 0 then codes "an empty record" else full_words blob
+
+-- a message that was taken back
+abbrev pub dropped_text : MsgId → Rec → List ℕ
+dropped_text message rec = codes "message " ++ decimal message.0 ++ codes " taken back, op " ++ decimal rec.op ++ codes ", arg " ++ decimal rec.arg
+
+-- a refusal
+abbrev pub refused_text : Fault → List ℕ
+refused_text fault = codes "refused " ++ fault_text fault
+
+-- an answer: `done`, `value 15`, `refused 23, token busy`
+abbrev pub answer_text : Answer → List ℕ
+answer_text Begin = codes "not asked before"
+answer_text Done = codes "done"
+answer_text (Value value) = codes "value " ++ decimal value
+answer_text (Bytes blob) = record_words blob
+answer_text (Dropped message rec) = dropped_text message rec
+answer_text (Got item) = item_text item
+answer_text NoMsg = codes "nothing at the port"
+answer_text (Refused fault) = refused_text fault
