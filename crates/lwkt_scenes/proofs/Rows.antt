@@ -37,19 +37,19 @@ one_more first last order cpus polls n turn turns old mid new inside a b =
 -- what stands on a page that was empty before some words
 pub begins : (Holds : List ℕ → Type 0) (old mid new : Page) (behind text : List ℕ) → string_bytes old.text ≡ [] → Adds Holds old mid → Grows mid new behind → new.is_lost ≡ false → text ≡ string_bytes new.text → Begins Holds text
 begins Holds old mid new behind text empty a more here is = record {
-    front = a.words;
-    rest = behind;
-    holds = a.holds;
-    is = is ∙ more.behind here ∙ ap (λ (front : List ℕ). front ++ behind) (a.grows.behind (more.kept here) ∙ ap (λ (front : List ℕ). front ++ a.words) empty);
+  front = a.words;
+  rest = behind;
+  holds = a.holds;
+  is = is ∙ more.behind here ∙ ap (λ (front : List ℕ). front ++ behind) (a.grows.behind (more.kept here) ∙ ap (λ (front : List ℕ). front ++ a.words) empty);
 }
 
 -- a text that begins so, with more behind it
 pub begins_still : (Holds : List ℕ → Type 0) (front more text : List ℕ) → Begins Holds front → text ≡ front ++ more → Begins Holds text
 begins_still Holds front more text b is = record {
-    front = b.front;
-    rest = b.rest ++ more;
-    holds = b.holds;
-    is = is ∙ ap (λ (xs : List ℕ). xs ++ more) b.is ∙ append_assoc b.front b.rest more;
+  front = b.front;
+  rest = b.rest ++ more;
+  holds = b.holds;
+  is = is ∙ ap (λ (xs : List ℕ). xs ++ more) b.is ∙ append_assoc b.front b.rest more;
 }
 
 -- what stands for a turn, where it is told by other names

@@ -5,17 +5,17 @@ use Rattle.lwkt_scenes.proofs.turns.show_doing.Goals as goal
 pub returns-in-Some : goal.returns-in-Some
 returns-in-Some c =
     let told : Adds (IsDoing (Some c.in-Some.poll)) c.args.out.now c.show_poll.new.out = record {
-        words = poll_text c.in-Some.poll c.step_of-step.result c.came_of-came.result;
-        holds = (c.step_of-step.result, c.came_of-came.result, refl);
-        grows = c.show_poll.ensures;
+      words = poll_text c.in-Some.poll c.step_of-step.result c.came_of-came.result;
+      holds = (c.step_of-step.result, c.came_of-came.result, refl);
+      grows = c.show_poll.ensures;
     } in
     rw c.in-Some.is told
 
 pub returns-in-None : goal.returns-in-None
 returns-in-None c =
     let told : Adds (IsDoing None) c.args.out.now c.add_page.new.self = record {
-        words = string_bytes c.show_idle.new.out.text;
-        holds = tt;
-        grows = c.add_page.ensures.text;
+      words = string_bytes c.show_idle.new.out.text;
+      holds = tt;
+      grows = c.add_page.ensures.text;
     } in
     rw c.in-None.is told
