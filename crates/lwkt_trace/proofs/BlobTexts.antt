@@ -74,12 +74,19 @@ front_short zero bs = omega arith
 front_short (suc n) [] = omega arith
 front_short (suc n) (b ∷ bs) = let rest = front_short n bs in omega (arith, rest)
 
-blob_short : (blob : List ℕ) → length blob ≤ 64 → IsToldBlob blob → blob_of 65 (hex_text (take 64 blob) ++ past_text blob) ≡ Some blob
-blob_short blob few is =
-    let count : length (hex_text blob) ≡ 2 * length blob = digits_count blob is.bytes in
-    let room : length (hex_text blob) ≤ 130 = omega (arith, count, few) in
-    let read : bytes_behind [] (hex_text blob) ≡ Some blob = ap (λ (l : List ℕ). bytes_behind [] l) (sym (append-nil (hex_text blob))) ∙ bytes_read [] blob [] is.bytes in
-    rw (le-ltb 64 (length blob) few, take_all 64 blob few, append-nil (hex_text blob), le-leb (length (hex_text blob)) 130 room, read) (ap (λ (l : List ℕ). Some l) is.kept)
+-- a record of at most 64 bytes is what is kept of it
+kept_short : (blob : List ℕ) → length blob ≤ 64 → kept_of blob ≡ blob
+kept_short blob few =
+    let none : length blob - 64 ≡ 0 = omega (arith, few) in
+    ap (λ (n : ℕ). take 64 blob ++ replicate n 0) none ∙ append-nil (take 64 blob) ∙ take_all 64 blob few
+
+-- a record of at most 64 bytes is read from its digits, where so many may stand
+pub guard_digits : (most : ℕ) (blob : List ℕ) → length blob ≤ most → length blob ≤ 64 → AreBytes blob → blob_of most (hex_text (take 64 blob) ++ past_text blob) ≡ Some blob
+guard_digits most blob within few bytes =
+    let count : length (hex_text blob) ≡ 2 * length blob = digits_count blob bytes in
+    let room : length (hex_text blob) ≤ 2 * most = omega (arith, count, within) in
+    let read : bytes_behind [] (hex_text blob) ≡ Some blob = ap (λ (l : List ℕ). bytes_behind [] l) (sym (append-nil (hex_text blob))) ∙ bytes_read [] blob [] bytes in
+    rw (le-ltb 64 (length blob) few, take_all 64 blob few, append-nil (hex_text blob), le-leb (length (hex_text blob)) (2 * most) room, read) (ap (λ (l : List ℕ). Some l) (kept_short blob few))
 
 blob_long : (blob : List ℕ) → 64 < length blob → IsToldBlob blob → blob_of 65 (hex_text (take 64 blob) ++ past_text blob) ≡ Some blob
 blob_long blob many is =
@@ -95,4 +102,4 @@ blob_long blob many is =
 
 -- a record is read from its digits
 pub blob_read : (blob : List ℕ) → IsToldBlob blob → blob_of 65 (hex_text (take 64 blob) ++ past_text blob) ≡ Some blob
-blob_read blob is = elim (cases_lt 64 (length blob)) [ inl many ↦ blob_long blob many is | inr few ↦ blob_short blob few is ]
+blob_read blob is = elim (cases_lt 64 (length blob)) [ inl many ↦ blob_long blob many is | inr few ↦ guard_digits 65 blob is.short few is.bytes ]

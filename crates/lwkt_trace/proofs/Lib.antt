@@ -4,3 +4,7 @@ pub mod BlobTexts
 pub mod EventData
 pub mod EventLists
 pub mod MessageLists
+pub mod ListReads
+pub mod TokenLists
+pub mod ClosingValues
+pub mod WholeTraces

@@ -3,3 +3,4 @@ pub mod Words
 pub mod Format
 pub mod Written
 pub mod Readback
+pub mod Values

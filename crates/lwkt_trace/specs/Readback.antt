@@ -35,6 +35,11 @@ two_items a b = item a (one_item b)
 abbrev pub three_items : Data → Data → Data → Items
 three_items a b c = item a (two_items b c)
 
+-- values of one kind as items, in order
+abbrev pub items_as : {A : Type 0} → (A → Data) → List A → Items
+items_as value [] = no_items
+items_as value (x ∷ xs) = item (value x) (items_as value xs)
+
 -- what an event is at, and what else it says; of a written give not its section
 abbrev pub rest_data : Event → Items
 rest_data (Load cpu tok) = one_item (number_data tok.0)
@@ -103,8 +108,7 @@ IsTellable (Abort cpu msg) = AreSmall cpu.0 msg.0
 
 -- events as a list
 abbrev pub events_data : List Event → Items
-events_data [] = no_items
-events_data (e ∷ es) = item (event_data e) (events_data es)
+events_data es = items_as event_data es
 
 abbrev pub AreTellable : List Event → Type 0
 AreTellable [] = Unit {0}
@@ -134,8 +138,7 @@ IsTellablePlace (Back origin target) = AreSmall origin.0 target.0
 
 -- ends of messages as a list
 abbrev pub ends_data : List MsgEnd → Items
-ends_data [] = no_items
-ends_data (e ∷ es) = item (end_data e.state e.round) (ends_data es)
+ends_data es = items_as (λ e. end_data e.state e.round) es
 
 abbrev pub AreTellableEnds : List MsgEnd → Type 0
 AreTellableEnds [] = Unit {0}
@@ -151,8 +154,7 @@ message_data m = object (member (codes "of") (array (two_items (number_data m.or
 
 -- messages of the opening as a list
 abbrev pub messages_data : List MsgSpec → Items
-messages_data [] = no_items
-messages_data (m ∷ ms) = item (message_data m) (messages_data ms)
+messages_data ms = items_as message_data ms
 
 abbrev pub AreMessages : ℕ → List MsgSpec → Type 0
 AreMessages cpus [] = Unit {0}

@@ -1,4 +1,5 @@
 ghost use Rattle.lwkt_trace.specs.Readback.{EventsAreReadBack, EventListsAreReadBack, MessagesAreReadBack, EndsAreReadBack};
+ghost use Rattle.lwkt_trace.specs.Values.{TokensAreReadBack, ClosingIsReadBack, TraceIsReadBack};
 
 /// The law that the list which an event is written as is read as this event, where its parts are of their types; of a written
 /// give without its section.
@@ -18,4 +19,16 @@ pub fn messages_are_read_back()
 
     // Where messages are at the close.
     ensures ends { EndsAreReadBack }
+{}
+
+/// The laws that the values which a trace is written as, its parts and the whole, are read as what they were written for.
+pub fn traces_are_read_back()
+    // The tokens of the opening.
+    ensures tokens { TokensAreReadBack }
+
+    // The closing values.
+    ensures closing { ClosingIsReadBack }
+
+    // The whole trace.
+    ensures whole { TraceIsReadBack }
 {}
