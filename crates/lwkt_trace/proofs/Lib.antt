@@ -8,3 +8,7 @@ pub mod ListReads
 pub mod TokenLists
 pub mod ClosingValues
 pub mod WholeTraces
+pub mod Lexemes
+pub mod JsonTexts
+pub mod PartTexts
+pub mod WrittenTexts

@@ -4,3 +4,4 @@ pub mod Format
 pub mod Written
 pub mod Readback
 pub mod Values
+pub mod Printed

@@ -1,5 +1,6 @@
 ghost use Rattle.lwkt_trace.specs.Readback.{EventsAreReadBack, EventListsAreReadBack, MessagesAreReadBack, EndsAreReadBack};
 ghost use Rattle.lwkt_trace.specs.Values.{TokensAreReadBack, ClosingIsReadBack, TraceIsReadBack};
+ghost use Rattle.lwkt_trace.specs.Printed.{TextIsOfValue, WrittenIsReadBack};
 
 /// The law that the list which an event is written as is read as this event, where its parts are of their types; of a written
 /// give without its section.
@@ -31,4 +32,14 @@ pub fn traces_are_read_back()
 
     // The whole trace.
     ensures whole { TraceIsReadBack }
+{}
+
+/// The laws that the text which a trace is written as is a text of its value, and that its bytes are read as what they were
+/// written for.
+pub fn written_traces_are_read_back()
+    // The text and the value.
+    ensures text { TextIsOfValue }
+
+    // The bytes and the trace.
+    ensures bytes { WrittenIsReadBack }
 {}

@@ -17,7 +17,9 @@ mod traces;
 pub mod words;
 mod writers;
 
-pub use laws::{events_are_read_back, messages_are_read_back, traces_are_read_back};
+pub use laws::{
+    events_are_read_back, messages_are_read_back, traces_are_read_back, written_traces_are_read_back,
+};
 pub use readers::{LENGTH_LIMIT, read_trace};
 pub use traces::{Closing, Told, Trace};
 pub use writers::trace_text;

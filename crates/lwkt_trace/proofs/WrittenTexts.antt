@@ -1,0 +1,146 @@
+-- The text of a trace is a text of its value, and is read as the trace.
+use Rattle.std.proofs.Common.{◌≡◌, ℕ, ◌<◌, ◌≤◌, ◌^◌, List, [], ◌∷◌, ◌++◌, length, Bool, true, false, Option, Some, decimal, IsAscii, refl, sym, ap, ◌∙◌, subst, arith, append_assoc, append-nil}
+use Rattle.std.specs.Prelude.{codes, if◌then◌else◌}
+use Rattle.std.specs.List.{list_any}
+use Rattle.std.proofs.lemmas.Fmt.{decimal_digit}
+use Rattle.std.proofs.lemmas.Str.{IsUtf8-from_ascii, IsAscii-append}
+use Rattle.json.specs.Lex.{between, lex}
+use Rattle.json.specs.Tree.{depth}
+use Rattle.serde_json.specs.Data.{Data, array, object, Members, no_members, member, put}
+use Rattle.serde_json.specs.Read.{read}
+use Rattle.lwkt_base.specs.declared.owners.MsgEnd.{MsgEnd}
+use Rattle.lwkt_core.specs.declared.events.Event.{Event}
+use Rattle.lwkt_report.specs.declared.closings.Closing as report
+use Rattle.lwkt_report.specs.declared.closings.TokenLine.{TokenLine}
+use Rattle.lwkt_script.specs.declared.scripts.Script.{Script}
+use Rattle.lwkt_trace.specs.Written.{named, parted, comma_at, line_at, row_text, generation_text, tally_text, record_text, has_record, token_text, message_text, event_text, end_text, records_text, listed_text, cpus_text, tokens_text, messages_text, events_text, rows_text, generations_text, all_tallies_text, ends_text, closing_text, trace_text}
+use Rattle.lwkt_trace.specs.Readback.{number_data, items_as, event_data, events_data, end_data, ends_data, message_data, messages_data}
+use Rattle.lwkt_trace.specs.Values.{token_data, row_data, generation_data, tally_data, record_data, rows_members, closing_data, trace_data}
+use Rattle.lwkt_trace.specs.Printed.{HasWords, ItemsHaveWords, MembersHaveWords, TextIsOfValue, WrittenIsReadBack}
+use Rattle.lwkt_trace.proofs.ClosingValues.{closing_by}
+use Rattle.lwkt_trace.proofs.JsonTexts.{deeper, plain_from, ascii_from, Tells, number_tells, comma_is, line_is, array_tells, MembersTell, no_more_members, member_first, member_more, object_tells, IsBreak, comma_breaks, line_breaks, parts_tell}
+use Rattle.lwkt_trace.proofs.Lexemes.{value_onto, text_is}
+use Rattle.lwkt_trace.proofs.PartTexts.{numbers_tell, token_tells, message_tells, end_tells, event_tells, tallies_tell, last_blob_tells}
+use Rattle.lwkt_trace.proofs.TraceTexts.{text_read}
+use Rattle.lwkt_trace.proofs.WholeTraces.{trace_read_back}
+
+-- a list of numbered parts
+abbrev listed : {A : Type 0} → (ℕ → List ℕ) → (A → List ℕ) → List A → List ℕ
+listed before text xs = codes "[" ++ (parted before text 0 xs ++ codes "]")
+
+-- ---- the closing values
+
+rows_tell : (lines : List TokenLine) → ItemsHaveWords (items_as row_data lines) → Tells (listed comma_at row_text lines) (array (items_as row_data lines)) 3
+rows_tell lines words = array_tells 2 (parts_tell comma_at comma_breaks row_text row_data 2 (λ line w. numbers_tell line.cells 1 w) lines words)
+
+generations_tell : (lines : List TokenLine) → ItemsHaveWords (items_as generation_data lines) → Tells (listed comma_at generation_text lines) (array (items_as generation_data lines)) 3
+generations_tell lines words = array_tells 2 (parts_tell comma_at comma_breaks generation_text generation_data 2 (λ line w. number_tells line.generation 2 w) lines words)
+
+tallies_of_all_tell : (lines : List TokenLine) → ItemsHaveWords (items_as tally_data lines) → Tells (listed comma_at tally_text lines) (array (items_as tally_data lines)) 3
+tallies_of_all_tell lines words = array_tells 2 (parts_tell comma_at comma_breaks tally_text tally_data 2 (λ line w. tallies_tell line.tallies w) lines words)
+
+records_tell : (lines : List TokenLine) → ItemsHaveWords (items_as record_data lines) → Tells (listed comma_at record_text lines) (array (items_as record_data lines)) 3
+records_tell lines words = array_tells 2 (parts_tell comma_at comma_breaks record_text record_data 2 (λ line w. last_blob_tells line.blob) lines words)
+
+ends_tell : (ends : List MsgEnd) → ItemsHaveWords (ends_data ends) → Tells (listed line_at end_text ends) (array (ends_data ends)) 3
+ends_tell ends words = array_tells 2 (parts_tell line_at line_breaks end_text (λ e. end_data e.state e.round) 2 end_tells ends words)
+
+-- the records and the ends of messages, up to the closing brace
+abbrev behind_text : Bool → List TokenLine → List MsgEnd → List ℕ
+behind_text true lines ends =
+    codes ",\n" ++ (named (codes "records") ++ (listed comma_at record_text lines ++ (codes ",\n" ++ (named (codes "messages") ++ (listed line_at end_text ends ++ codes "}")))))
+behind_text false lines ends = codes ",\n" ++ (named (codes "messages") ++ (listed line_at end_text ends ++ codes "}"))
+
+abbrev behind_puts : Bool → List TokenLine → List MsgEnd → Members → Members
+behind_puts true lines ends found = put (codes "messages") (array (ends_data ends)) (put (codes "records") (array (items_as record_data lines)) found)
+behind_puts false lines ends found = put (codes "messages") (array (ends_data ends)) found
+
+last_member : (ends : List MsgEnd) → ItemsHaveWords (ends_data ends) → MembersTell true (behind_text false [] ends) (λ found. put (codes "messages") (array (ends_data ends)) found) 3
+last_member ends words = member_more (codes "messages") (plain_from (codes "messages") refl) (ends_tell ends words) (no_more_members true 3) (codes ",\n") line_is
+
+behind_tells : (recorded : Bool) (lines : List TokenLine) (ends : List MsgEnd) → HasWords (closing_by recorded lines ends) → MembersTell true (behind_text recorded lines ends) (λ found. behind_puts recorded lines ends found) 3
+behind_tells true lines ends words =
+    member_more (codes "records") (plain_from (codes "records") refl) (records_tell lines words.1.1.0) (last_member ends words.1.0) (codes ",\n") line_is
+behind_tells false lines ends words = last_member ends words.1.0
+
+-- the words of the rows and the tallies
+rows_words : (recorded : Bool) (lines : List TokenLine) (ends : List MsgEnd) → HasWords (closing_by recorded lines ends) → ItemsHaveWords (items_as row_data lines) × ItemsHaveWords (items_as tally_data lines)
+rows_words true lines ends words = (words.1.1.1.0, words.1.1.1.1.0)
+rows_words false lines ends words = (words.1.1.0, words.1.1.1.0)
+
+abbrev closing_members : Bool → List TokenLine → List MsgEnd → List ℕ
+closing_members recorded lines ends =
+    named (codes "rows") ++ (listed comma_at row_text lines ++ (codes ",\n" ++ (named (codes "gens") ++ (listed comma_at generation_text lines ++ (codes ",\n" ++ (named (codes "tallies") ++ (listed comma_at tally_text lines ++ behind_text recorded lines ends)))))))
+
+-- the members by name
+closing_put : (recorded : Bool) (lines : List TokenLine) (ends : List MsgEnd)
+    → object (behind_puts recorded lines ends (put (codes "tallies") (array (items_as tally_data lines)) (put (codes "gens") (array (items_as generation_data lines)) (put (codes "rows") (array (items_as row_data lines)) no_members)))) ≡ closing_by recorded lines ends
+closing_put true lines ends = refl
+closing_put false lines ends = refl
+
+closing_tells_by : (recorded : Bool) (lines : List TokenLine) (ends : List MsgEnd) → HasWords (closing_by recorded lines ends) → Tells (codes "{" ++ closing_members recorded lines ends) (closing_by recorded lines ends) 4
+closing_tells_by recorded lines ends words =
+    let others = rows_words recorded lines ends words in
+    let tallies = member_more (codes "tallies") (plain_from (codes "tallies") refl) (tallies_of_all_tell lines others.1) (behind_tells recorded lines ends words) (codes ",\n") line_is in
+    let gens = member_more (codes "gens") (plain_from (codes "gens") refl) (generations_tell lines words.0) tallies (codes ",\n") line_is in
+    let rows = member_first (codes "rows") (plain_from (codes "rows") refl) (rows_tell lines others.0) gens in
+    subst (λ (d : Data). Tells (codes "{" ++ closing_members recorded lines ends) d 4) (closing_put recorded lines ends) (object_tells 3 rows)
+
+-- the same text as it is written
+abbrev closing_inside : Bool → List TokenLine → List MsgEnd → List ℕ
+closing_inside recorded lines ends =
+    codes "{" ++ (rows_text lines ++ (generations_text lines ++ (all_tallies_text lines ++ ((if recorded then listed_text lines else []) ++ (ends_text ends ++ codes "}")))))
+
+closing_grouped : (recorded : Bool) (lines : List TokenLine) (ends : List MsgEnd) → closing_inside recorded lines ends ≡ codes "{" ++ closing_members recorded lines ends
+unfolding rows_text generations_text all_tallies_text listed_text ends_text
+closing_grouped true lines ends = simp append_assoc
+closing_grouped false lines ends = simp append_assoc
+
+closing_tells : (c : report.Closing) → HasWords (closing_data c) → Tells (closing_inside (list_any has_record c.tokens.items) c.tokens.items c.messages.items) (closing_data c) 4
+closing_tells c words =
+    let recorded : Bool = list_any has_record c.tokens.items in
+    subst (λ (t : List ℕ). Tells t (closing_data c) 4) (sym (closing_grouped recorded c.tokens.items c.messages.items)) (closing_tells_by recorded c.tokens.items c.messages.items words)
+
+-- ---- the whole trace
+
+abbrev trace_members : Script → List Event → report.Closing → List ℕ
+trace_members script events c =
+    named (codes "version") ++ (decimal 1 ++ (codes "," ++ (named (codes "cpus") ++ (decimal script.cpus ++ (codes ",\n" ++ (named (codes "tokens") ++ (listed line_at token_text script.tokens ++ (codes ",\n" ++ (named (codes "messages") ++ (listed line_at message_text script.messages ++ (codes ",\n" ++ (named (codes "events") ++ (listed line_at event_text events ++ (codes ",\n" ++ (named (codes "last") ++ (closing_inside (list_any has_record c.tokens.items) c.tokens.items c.messages.items ++ codes "}"))))))))))))))))
+
+trace_tells : (script : Script) (events : List Event) (c : report.Closing) → HasWords (trace_data script events c) → Tells (codes "{" ++ trace_members script events c) (trace_data script events c) 5
+trace_tells script events c words =
+    let four : 3 ≤ 4 = omega arith in
+    let one : 1 < 2 ^ 64 = omega arith in
+    let event_list = deeper 4 four (array_tells 2 (parts_tell line_at line_breaks event_text event_data 2 event_tells events words.1.0)) in
+    let message_list = deeper 4 four (array_tells 2 (parts_tell line_at line_breaks message_text message_data 2 message_tells script.messages words.1.1.1.0)) in
+    let token_list = deeper 4 four (array_tells 2 (parts_tell line_at line_breaks token_text token_data 2 token_tells script.tokens words.1.1.1.1.0)) in
+    let last = member_more (codes "last") (plain_from (codes "last") refl) (closing_tells c words.1.1.0) (no_more_members true 4) (codes ",\n") line_is in
+    let event_member = member_more (codes "events") (plain_from (codes "events") refl) event_list last (codes ",\n") line_is in
+    let message_member = member_more (codes "messages") (plain_from (codes "messages") refl) message_list event_member (codes ",\n") line_is in
+    let token_member = member_more (codes "tokens") (plain_from (codes "tokens") refl) token_list message_member (codes ",\n") line_is in
+    let cpus = member_more (codes "cpus") (plain_from (codes "cpus") refl) (number_tells script.cpus 4 words.0) token_member (codes ",") comma_is in
+    object_tells 4 (member_first (codes "version") (plain_from (codes "version") refl) (number_tells 1 4 one) cpus)
+
+one_digit : decimal 1 ≡ codes "1"
+one_digit = decimal_digit 1 (omega arith)
+
+-- the text as it is written: a line feed stands behind the object
+trace_grouped : (script : Script) (events : List Event) (c : report.Closing) → trace_text script events c ≡ (codes "{" ++ trace_members script events c) ++ codes "\n"
+unfolding trace_text cpus_text tokens_text messages_text events_text closing_text
+trace_grouped script events c = simp (one_digit, append_assoc)
+
+text_ends : (text : List ℕ) (d : Data) → Tells text d 5 → read (text ++ codes "\n") ≡ Some d
+unfolding lex
+text_ends text d is =
+    let shallow = is.shallow in text_is (text ++ codes "\n") is.value d (is.reads (codes "\n") refl) (omega (arith, shallow)) is.is
+
+pub text_is_of_value : TextIsOfValue
+text_is_of_value script events c words =
+    ap read (trace_grouped script events c) ∙ text_ends (codes "{" ++ trace_members script events c) (trace_data script events c) (trace_tells script events c words)
+
+pub written_read_back : WrittenIsReadBack
+written_read_back script events c is words short =
+    let inside = trace_tells script events c words in
+    let ascii : IsAscii (trace_text script events c) =
+        subst IsAscii (sym (trace_grouped script events c)) (IsAscii-append (codes "{" ++ trace_members script events c) (codes "\n") inside.ascii (ascii_from (codes "\n") refl)) in
+    text_read (trace_text script events c) (trace_data script events c) short (IsUtf8-from_ascii (trace_text script events c) ascii) (text_is_of_value script events c words) ∙ trace_read_back script events c is
