@@ -1,11 +1,10 @@
 -- Texts of values of JSON, and how they are put together.
-use Rattle.std.proofs.Common.{inl, inr, ◌≡◌, ℕ, zero, suc, ◌+◌, ◌<◌, ◌≤◌, ◌^◌, List, [], ◌∷◌, ◌++◌, Bool, true, false, ◌&&◌, ◌==◌, not, nat_lt, nat_le, Option, Some, None, IsAscii, decimal, get_or, max, refl, sym, ap, ap₂, ◌∙◌, subst, arith, append_assoc, ne_eqb}
-use Rattle.std.specs.Prelude.{codes, option_map, option_and_then, if◌then◌else◌}
+use Rattle.std.proofs.Common.{◌≡◌, ℕ, zero, suc, ◌+◌, ◌<◌, ◌≤◌, ◌^◌, List, [], ◌∷◌, ◌++◌, Bool, true, false, ◌&&◌, ◌==◌, not, nat_lt, nat_le, Option, Some, IsAscii, decimal, refl, sym, ap, ap₂, ◌∙◌, subst, arith, append_assoc, ne_eqb}
+use Rattle.std.specs.Prelude.{codes, option_map, if◌then◌else◌}
 use Rattle.std.proofs.lemmas.Bool.{and_parts, leb-true, ltb-true, not-true, eqb-false}
 use Rattle.std.proofs.lemmas.Str.{IsAscii-append}
 use Rattle.std.proofs.lemmas.Fmt.{IsAscii-decimal}
 use Rattle.json.specs.Token.{Token}
-use Rattle.json.specs.Text.{content}
 use Rattle.json.specs.Word.{ends_word, word}
 use Rattle.json.specs.Lex.{Lexeme, token, comma, colon, string_token, between, lex}
 use Rattle.json.specs.Json as json
@@ -20,7 +19,7 @@ use Rattle.serde_json.specs.Read.{of_json, of_items, of_members}
 use Rattle.lwkt_trace.specs.Written.{named, comma_at, line_at, parted}
 use Rattle.lwkt_trace.specs.Readback.{number_data, items_as}
 use Rattle.lwkt_trace.specs.Printed.{HasWords, ItemsHaveWords}
-use Rattle.lwkt_trace.proofs.Lexemes.{comma_onto, value_onto, items_onto, members_onto}
+use Rattle.lwkt_trace.proofs.Lexemes.{value_onto, items_onto, members_onto}
 
 -- ---- bytes
 

@@ -1,5 +1,5 @@
 -- The texts of the parts of a trace are texts of their values.
-use Rattle.std.proofs.Common.{◌≡◌, ℕ, ◌+◌, ◌/◌, ◌%◌, ◌<◌, ◌≤◌, ◌^◌, List, [], ◌∷◌, ◌++◌, Bool, true, false, ◌==◌, nat_lt, length, take, Option, Some, None, decimal, refl, sym, ap, ◌∙◌, subst, arith, append_assoc}
+use Rattle.std.proofs.Common.{◌≡◌, ℕ, ◌+◌, ◌/◌, ◌%◌, ◌<◌, ◌^◌, List, [], ◌∷◌, ◌++◌, Bool, true, false, ◌==◌, nat_lt, length, take, Option, Some, None, decimal, refl, sym, subst, append_assoc}
 use Rattle.std.specs.Prelude.{codes, if◌then◌else◌}
 use Rattle.serde_json.specs.Data.{Data, string, array, object, Items, item, Members, no_members, member, put}
 use Rattle.lwkt_base.specs.Hex.{digit_text, byte_text, hex_text}
@@ -13,10 +13,10 @@ use Rattle.lwkt_base.specs.declared.owners.MsgEnd.{MsgEnd}
 use Rattle.lwkt_core.specs.Events.{cpu_of}
 use Rattle.lwkt_core.specs.declared.events.Event.{Event}
 use Rattle.lwkt_core.specs.declared.events.Event.TheVariants.{Load, Take, Share, Again, Mark, GiveOne, GiveClean, GiveWritten, Read, Write, ReadBlob, WriteBlob, Send, TakeMsg, DropMsg, Reply, Reap, Abort}
-use Rattle.lwkt_trace.specs.Written.{named, comma, comma_at, parted, list_text, past_text, blob_text, law_text, guard_text, cells_text, law_member_text, param_text, gen_text, token_text, message_text, word_of, rest_text, event_text, place_text, end_text, tallies_text, last_blob_text}
+use Rattle.lwkt_trace.specs.Written.{named, comma, comma_at, list_text, past_text, blob_text, law_text, guard_text, cells_text, law_member_text, param_text, gen_text, token_text, message_text, word_of, rest_text, event_text, place_text, end_text, tallies_text, last_blob_text}
 use Rattle.lwkt_trace.specs.Readback.{number_data, blob_data, one_item, two_items, three_items, rest_data, event_data, end_data, message_data}
 use Rattle.lwkt_trace.specs.Values.{numbers_data, guard_data, token_data, tallies_data, last_blob_data}
-use Rattle.lwkt_trace.specs.Printed.{HasWords, ItemsHaveWords, MembersHaveWords}
+use Rattle.lwkt_trace.specs.Printed.{HasWords, ItemsHaveWords}
 use Rattle.lwkt_trace.proofs.JsonTexts.{IsPlain, plain_from, plain_both, in_quotes, Tells, number_tells, null_tells, string_tells, comma_is, nothing_is, ItemsTell, no_more_items, item_first, item_more, array_tells, MembersTell, no_more_members, member_first, member_more, object_tells, comma_breaks, parts_tell, left_parts}
 
 -- ---- words and digits
@@ -97,13 +97,17 @@ guard_tells (Some blob) =
 
 -- the members of a token by name
 token_put : (blob : Option (List ℕ)) (cells law param generation : Data)
-    → guard_puts blob (put (codes "gen") generation (put (codes "param") param (put (codes "law") law (put (codes "cells") cells no_members)))) ≡ member (codes "cells") cells (member (codes "gen") generation (member (codes "law") law (member (codes "param") param (guard_data blob))))
+    → guard_puts blob (put (codes "gen") generation (put (codes "param") param (put (codes "law") law (put (codes "cells") cells no_members))))
+    ≡ member (codes "cells") cells (member (codes "gen") generation (member (codes "law") law (member (codes "param") param (guard_data blob))))
 token_put None cells law param generation = refl
 token_put (Some blob) cells law param generation = refl
 
 abbrev token_members : TokSpec → List ℕ
 token_members t =
-    named (codes "cells") ++ (list_text t.cells ++ (codes "," ++ (named (codes "law") ++ (in_quotes (law_text t.law) ++ (codes "," ++ (named (codes "param") ++ (decimal t.param ++ (codes "," ++ (named (codes "gen") ++ (decimal t.generation ++ (guard_text t.blob ++ codes "}")))))))))))
+    named (codes "cells") ++ (list_text t.cells ++ (codes "," ++ (
+    named (codes "law") ++ (in_quotes (law_text t.law) ++ (codes "," ++ (
+    named (codes "param") ++ (decimal t.param ++ (codes "," ++ (
+    named (codes "gen") ++ (decimal t.generation ++ (guard_text t.blob ++ codes "}")))))))))))
 
 token_grouped : (t : TokSpec) → token_text t ≡ codes "{" ++ token_members t
 unfolding cells_text law_member_text param_text gen_text
@@ -164,11 +168,11 @@ worded numbers word plain rest = array_tells 1 (item_first (string_tells word 1 
 pub end_tells : (e : MsgEnd) → HasWords (end_data e.state e.round) → Tells (end_text e) (end_data e.state e.round) 2
 end_tells e words = place_tells e.state e.round words
   where
-  place_tells : (o : Owner) (round : ℕ) → HasWords (end_data o round) → Tells (place_text o ++ comma round ++ codes "]") (end_data o round) 2
-  place_tells (Rest origin) round w = worded (comma origin.0 ++ comma round) (codes "rest") (plain_from (codes "rest") refl) (two_tell origin.0 round w.1.0 w.1.1.0)
-  place_tells (Out origin target) round w = worded (comma origin.0 ++ comma target.0 ++ comma round) (codes "out") (plain_from (codes "out") refl) (three_tell origin.0 target.0 round w.1.0 w.1.1.0 w.1.1.1.0)
-  place_tells (With origin target) round w = worded (comma origin.0 ++ comma target.0 ++ comma round) (codes "with") (plain_from (codes "with") refl) (three_tell origin.0 target.0 round w.1.0 w.1.1.0 w.1.1.1.0)
-  place_tells (Back origin target) round w = worded (comma origin.0 ++ comma target.0 ++ comma round) (codes "back") (plain_from (codes "back") refl) (three_tell origin.0 target.0 round w.1.0 w.1.1.0 w.1.1.1.0)
+    place_tells : (o : Owner) (round : ℕ) → HasWords (end_data o round) → Tells (place_text o ++ comma round ++ codes "]") (end_data o round) 2
+    place_tells (Rest origin) round w = worded (comma origin.0 ++ comma round) (codes "rest") (plain_from (codes "rest") refl) (two_tell origin.0 round w.1.0 w.1.1.0)
+    place_tells (Out origin target) round w = worded (comma origin.0 ++ comma target.0 ++ comma round) (codes "out") (plain_from (codes "out") refl) (three_tell origin.0 target.0 round w.1.0 w.1.1.0 w.1.1.1.0)
+    place_tells (With origin target) round w = worded (comma origin.0 ++ comma target.0 ++ comma round) (codes "with") (plain_from (codes "with") refl) (three_tell origin.0 target.0 round w.1.0 w.1.1.0 w.1.1.1.0)
+    place_tells (Back origin target) round w = worded (comma origin.0 ++ comma target.0 ++ comma round) (codes "back") (plain_from (codes "back") refl) (three_tell origin.0 target.0 round w.1.0 w.1.1.0 w.1.1.1.0)
 
 -- ---- events
 

@@ -1,25 +1,24 @@
 -- The text of a trace is a text of its value, and is read as the trace.
-use Rattle.std.proofs.Common.{◌≡◌, ℕ, ◌<◌, ◌≤◌, ◌^◌, List, [], ◌∷◌, ◌++◌, length, Bool, true, false, Option, Some, decimal, IsAscii, refl, sym, ap, ◌∙◌, subst, arith, append_assoc, append-nil}
+use Rattle.std.proofs.Common.{◌≡◌, ℕ, ◌<◌, ◌≤◌, ◌^◌, List, [], ◌++◌, Bool, true, false, Some, decimal, IsAscii, refl, sym, ap, ◌∙◌, subst, arith, append_assoc}
 use Rattle.std.specs.Prelude.{codes, if◌then◌else◌}
 use Rattle.std.specs.List.{list_any}
 use Rattle.std.proofs.lemmas.Fmt.{decimal_digit}
 use Rattle.std.proofs.lemmas.Str.{IsUtf8-from_ascii, IsAscii-append}
-use Rattle.json.specs.Lex.{between, lex}
-use Rattle.json.specs.Tree.{depth}
-use Rattle.serde_json.specs.Data.{Data, array, object, Members, no_members, member, put}
+use Rattle.json.specs.Lex.{lex}
+use Rattle.serde_json.specs.Data.{Data, array, object, Members, no_members, put}
 use Rattle.serde_json.specs.Read.{read}
 use Rattle.lwkt_base.specs.declared.owners.MsgEnd.{MsgEnd}
 use Rattle.lwkt_core.specs.declared.events.Event.{Event}
 use Rattle.lwkt_report.specs.declared.closings.Closing as report
 use Rattle.lwkt_report.specs.declared.closings.TokenLine.{TokenLine}
 use Rattle.lwkt_script.specs.declared.scripts.Script.{Script}
-use Rattle.lwkt_trace.specs.Written.{named, parted, comma_at, line_at, row_text, generation_text, tally_text, record_text, has_record, token_text, message_text, event_text, end_text, records_text, listed_text, cpus_text, tokens_text, messages_text, events_text, rows_text, generations_text, all_tallies_text, ends_text, closing_text, trace_text}
-use Rattle.lwkt_trace.specs.Readback.{number_data, items_as, event_data, events_data, end_data, ends_data, message_data, messages_data}
-use Rattle.lwkt_trace.specs.Values.{token_data, row_data, generation_data, tally_data, record_data, rows_members, closing_data, trace_data}
-use Rattle.lwkt_trace.specs.Printed.{HasWords, ItemsHaveWords, MembersHaveWords, TextIsOfValue, WrittenIsReadBack}
+use Rattle.lwkt_trace.specs.Written.{named, parted, comma_at, line_at, row_text, generation_text, tally_text, record_text, has_record, token_text, message_text, event_text, end_text, listed_text, cpus_text, tokens_text, messages_text, events_text, rows_text, generations_text, all_tallies_text, ends_text, closing_text, trace_text}
+use Rattle.lwkt_trace.specs.Readback.{items_as, event_data, end_data, ends_data, message_data}
+use Rattle.lwkt_trace.specs.Values.{token_data, row_data, generation_data, tally_data, record_data, closing_data, trace_data}
+use Rattle.lwkt_trace.specs.Printed.{HasWords, ItemsHaveWords, TextIsOfValue, WrittenIsReadBack}
 use Rattle.lwkt_trace.proofs.ClosingValues.{closing_by}
-use Rattle.lwkt_trace.proofs.JsonTexts.{deeper, plain_from, ascii_from, Tells, number_tells, comma_is, line_is, array_tells, MembersTell, no_more_members, member_first, member_more, object_tells, IsBreak, comma_breaks, line_breaks, parts_tell}
-use Rattle.lwkt_trace.proofs.Lexemes.{value_onto, text_is}
+use Rattle.lwkt_trace.proofs.JsonTexts.{deeper, plain_from, ascii_from, Tells, number_tells, comma_is, line_is, array_tells, MembersTell, no_more_members, member_first, member_more, object_tells, comma_breaks, line_breaks, parts_tell}
+use Rattle.lwkt_trace.proofs.Lexemes.{text_is}
 use Rattle.lwkt_trace.proofs.PartTexts.{numbers_tell, token_tells, message_tells, end_tells, event_tells, tallies_tell, last_blob_tells}
 use Rattle.lwkt_trace.proofs.TraceTexts.{text_read}
 use Rattle.lwkt_trace.proofs.WholeTraces.{trace_read_back}
@@ -48,7 +47,8 @@ ends_tell ends words = array_tells 2 (parts_tell line_at line_breaks end_text (�
 -- the records and the ends of messages, up to the closing brace
 abbrev behind_text : Bool → List TokenLine → List MsgEnd → List ℕ
 behind_text true lines ends =
-    codes ",\n" ++ (named (codes "records") ++ (listed comma_at record_text lines ++ (codes ",\n" ++ (named (codes "messages") ++ (listed line_at end_text ends ++ codes "}")))))
+    codes ",\n" ++ (named (codes "records") ++ (listed comma_at record_text lines ++ (
+    codes ",\n" ++ (named (codes "messages") ++ (listed line_at end_text ends ++ codes "}")))))
 behind_text false lines ends = codes ",\n" ++ (named (codes "messages") ++ (listed line_at end_text ends ++ codes "}"))
 
 abbrev behind_puts : Bool → List TokenLine → List MsgEnd → Members → Members
@@ -70,7 +70,9 @@ rows_words false lines ends words = (words.1.1.0, words.1.1.1.0)
 
 abbrev closing_members : Bool → List TokenLine → List MsgEnd → List ℕ
 closing_members recorded lines ends =
-    named (codes "rows") ++ (listed comma_at row_text lines ++ (codes ",\n" ++ (named (codes "gens") ++ (listed comma_at generation_text lines ++ (codes ",\n" ++ (named (codes "tallies") ++ (listed comma_at tally_text lines ++ behind_text recorded lines ends)))))))
+    named (codes "rows") ++ (listed comma_at row_text lines ++ (codes ",\n" ++ (
+    named (codes "gens") ++ (listed comma_at generation_text lines ++ (codes ",\n" ++ (
+    named (codes "tallies") ++ (listed comma_at tally_text lines ++ behind_text recorded lines ends)))))))
 
 -- the members by name
 closing_put : (recorded : Bool) (lines : List TokenLine) (ends : List MsgEnd)
@@ -105,7 +107,12 @@ closing_tells c words =
 
 abbrev trace_members : Script → List Event → report.Closing → List ℕ
 trace_members script events c =
-    named (codes "version") ++ (decimal 1 ++ (codes "," ++ (named (codes "cpus") ++ (decimal script.cpus ++ (codes ",\n" ++ (named (codes "tokens") ++ (listed line_at token_text script.tokens ++ (codes ",\n" ++ (named (codes "messages") ++ (listed line_at message_text script.messages ++ (codes ",\n" ++ (named (codes "events") ++ (listed line_at event_text events ++ (codes ",\n" ++ (named (codes "last") ++ (closing_inside (list_any has_record c.tokens.items) c.tokens.items c.messages.items ++ codes "}"))))))))))))))))
+    named (codes "version") ++ (decimal 1 ++ (codes "," ++ (
+    named (codes "cpus") ++ (decimal script.cpus ++ (codes ",\n" ++ (
+    named (codes "tokens") ++ (listed line_at token_text script.tokens ++ (codes ",\n" ++ (
+    named (codes "messages") ++ (listed line_at message_text script.messages ++ (codes ",\n" ++ (
+    named (codes "events") ++ (listed line_at event_text events ++ (codes ",\n" ++ (
+    named (codes "last") ++ (closing_inside (list_any has_record c.tokens.items) c.tokens.items c.messages.items ++ codes "}"))))))))))))))))
 
 trace_tells : (script : Script) (events : List Event) (c : report.Closing) → HasWords (trace_data script events c) → Tells (codes "{" ++ trace_members script events c) (trace_data script events c) 5
 trace_tells script events c words =
@@ -142,5 +149,5 @@ pub written_read_back : WrittenIsReadBack
 written_read_back script events c is words short =
     let inside = trace_tells script events c words in
     let ascii : IsAscii (trace_text script events c) =
-        subst IsAscii (sym (trace_grouped script events c)) (IsAscii-append (codes "{" ++ trace_members script events c) (codes "\n") inside.ascii (ascii_from (codes "\n") refl)) in
+    subst IsAscii (sym (trace_grouped script events c)) (IsAscii-append (codes "{" ++ trace_members script events c) (codes "\n") inside.ascii (ascii_from (codes "\n") refl)) in
     text_read (trace_text script events c) (trace_data script events c) short (IsUtf8-from_ascii (trace_text script events c) ascii) (text_is_of_value script events c words) ∙ trace_read_back script events c is

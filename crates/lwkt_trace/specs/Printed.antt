@@ -1,5 +1,5 @@
 -- The text of a written trace as the text of its value, and what is read of its bytes (own).
-use Rattle.std.specs.Prelude.{◌≡◌, ℕ, ◌<◌, ◌≤◌, ◌^◌, List, length, Some, Ok}
+use Rattle.std.specs.Prelude.{◌≡◌, ◌<◌, ◌≤◌, ◌^◌, List, length, Some, Ok}
 use Rattle.serde_json.specs.Data.{Num, unsigned, negative, float, Data, null, boolean, number, string, array, object, Items, no_items, item, Members, no_members, member}
 use Rattle.serde_json.specs.Read.{read}
 use Rattle.lwkt_core.specs.declared.events.Event.{Event}
@@ -35,8 +35,11 @@ abbrev mutual
 
 -- a law: the text of a trace is a text of its value, where the value's numbers are all of 64 bits
 abbrev pub TextIsOfValue : Type 0
-TextIsOfValue = (script : Script) (events : List Event) (c : report.Closing) → HasWords (trace_data script events c) → read (trace_text script events c) ≡ Some (trace_data script events c)
+TextIsOfValue =
+    (script : Script) (events : List Event) (c : report.Closing) → HasWords (trace_data script events c) → read (trace_text script events c) ≡ Some (trace_data script events c)
 
 -- a law: at most 268435456 bytes that a trace is written as are read as this trace
 abbrev pub WrittenIsReadBack : Type 0
-WrittenIsReadBack = (script : Script) (events : List Event) (c : report.Closing) → IsTellableTrace script events c → HasWords (trace_data script events c) → length (trace_text script events c) ≤ 268435456 → trace_of (trace_text script events c) ≡ Ok (told_trace script events c)
+WrittenIsReadBack =
+    (script : Script) (events : List Event) (c : report.Closing) → IsTellableTrace script events c → HasWords (trace_data script events c)
+    → length (trace_text script events c) ≤ 268435456 → trace_of (trace_text script events c) ≡ Ok (told_trace script events c)

@@ -27,7 +27,11 @@ guard_data (Some blob) = member (codes "record") (blob_data blob) no_members
 
 -- a token of the opening
 abbrev pub token_data : TokSpec → Data
-token_data t = object (member (codes "cells") (numbers_data t.cells) (member (codes "gen") (number_data t.generation) (member (codes "law") (string (law_text t.law)) (member (codes "param") (number_data t.param) (guard_data t.blob)))))
+token_data t =
+    object (member (codes "cells") (numbers_data t.cells) (
+    member (codes "gen") (number_data t.generation) (
+    member (codes "law") (string (law_text t.law)) (
+    member (codes "param") (number_data t.param) (guard_data t.blob)))))
 
 -- a token whose parts are of their types: a parameter of 64 bits, and a record of bytes
 pub record IsTyped (t : TokSpec) : Type 0 where
@@ -63,7 +67,9 @@ record_data line = last_blob_data line.blob
 
 -- the rows and the tallies of the close
 abbrev pub rows_members : List TokenLine → Members
-rows_members lines = member (codes "rows") (array (items_as row_data lines)) (member (codes "tallies") (array (items_as tally_data lines)) no_members)
+rows_members lines =
+    member (codes "rows") (array (items_as row_data lines)) (
+    member (codes "tallies") (array (items_as tally_data lines)) no_members)
 
 -- the same behind the records, where a token has one
 abbrev pub records_members : List TokenLine → Members
@@ -72,7 +78,9 @@ records_members lines =
 
 -- the closing values
 abbrev pub closing_data : report.Closing → Data
-closing_data c = object (member (codes "gens") (array (items_as generation_data c.tokens.items)) (member (codes "messages") (array (ends_data c.messages.items)) (records_members c.tokens.items)))
+closing_data c =
+    object (member (codes "gens") (array (items_as generation_data c.tokens.items)) (
+    member (codes "messages") (array (ends_data c.messages.items)) (records_members c.tokens.items)))
 
 -- the closing values of a report as a trace has them: tallies of each token, none where its law isn't Tally
 abbrev pub told_closing : report.Closing → Closing
@@ -105,7 +113,13 @@ ClosingIsReadBack = (c : report.Closing) → IsTellableClosing c → closing (cl
 
 -- a trace: the opening of a script, events, and closing values
 abbrev pub trace_data : Script → List Event → report.Closing → Data
-trace_data script events c = object (member (codes "cpus") (number_data script.cpus) (member (codes "events") (array (events_data events)) (member (codes "last") (closing_data c) (member (codes "messages") (array (messages_data script.messages)) (member (codes "tokens") (array (items_as token_data script.tokens)) (member (codes "version") (number_data 1) no_members))))))
+trace_data script events c =
+    object (member (codes "cpus") (number_data script.cpus) (
+    member (codes "events") (array (events_data events)) (
+    member (codes "last") (closing_data c) (
+    member (codes "messages") (array (messages_data script.messages)) (
+    member (codes "tokens") (array (items_as token_data script.tokens)) (
+    member (codes "version") (number_data 1) no_members))))))
 
 -- what is read of it: the opening, the events as they are told where no section is, and the closing values
 abbrev pub told_trace : Script → List Event → report.Closing → Trace
@@ -127,4 +141,5 @@ pub record IsTellableTrace (script : Script) (events : List Event) (c : report.C
 
 -- a law: the object that a trace is written as is read as this trace
 abbrev pub TraceIsReadBack : Type 0
-TraceIsReadBack = (script : Script) (events : List Event) (c : report.Closing) → IsTellableTrace script events c → trace (trace_data script events c) ≡ Ok (told_trace script events c)
+TraceIsReadBack =
+    (script : Script) (events : List Event) (c : report.Closing) → IsTellableTrace script events c → trace (trace_data script events c) ≡ Ok (told_trace script events c)

@@ -18,7 +18,8 @@ pub mod words;
 mod writers;
 
 pub use laws::{
-    events_are_read_back, messages_are_read_back, traces_are_read_back, written_traces_are_read_back,
+    events_are_read_back, messages_are_read_back, traces_are_read_back,
+    written_traces_are_read_back,
 };
 pub use readers::{LENGTH_LIMIT, read_trace};
 pub use traces::{Closing, Told, Trace};
