@@ -38,11 +38,11 @@ impl State {
 
     /// The opening state: nobody holds a token, and each message is at rest.
     ///
-    /// Refused with `Memory` only if an allocation is; with `Limits` only if a limit is passed: 1 to 8 processors, at
-    /// most 64 tokens and 64 messages, at most 4 cells and exactly 1 under `Law::Tally`, a record of at most 64 bytes, which
-    /// is there with a cell under `Law::Len` and isn't under `Law::Tally`, a generation or round past its
-    /// last, an origin's processor that isn't there or a thread number of 16 or more; with `LawBroken` only if an
-    /// opening row, with the length of its record, breaks its law.
+    /// Refused with `Limits` exactly if a limit is passed: 1 to 8 processors, at most 64 tokens and 64 messages, at most 4
+    /// cells and exactly 1 under `Law::Tally`, a record of at most 64 bytes, which is there with a cell under `Law::Len` and
+    /// isn't under `Law::Tally`, a generation or round past its last, an origin's processor that isn't there or a thread
+    /// number of 16 or more; else with `LawBroken` exactly if an opening row, with the length of its record, breaks its law;
+    /// else with `Memory` only if an allocation is.
     pub fn open(
         alloc: Global,
         tokens: &[TokSpec],
@@ -53,17 +53,19 @@ impl State {
         ensures within { OnOk result (AreWithin cpus tokens.now messages.now) }
         ensures lawful { OnOk result (AllOpenLawfully tokens.now) }
         ensures limits { result ≡ Err Fault.Limits → ¬ AreWithin cpus tokens.now messages.now }
+        ensures each_limit { (¬ AreWithin cpus tokens.now messages.now) → result ≡ Err Fault.Limits }
         ensures broken { result ≡ Err Fault.LawBroken → AreWithin cpus tokens.now messages.now × ¬ AllOpenLawfully tokens.now }
+        ensures each_law { AreWithin cpus tokens.now messages.now → (¬ AllOpenLawfully tokens.now) → result ≡ Err Fault.LawBroken }
         ensures only { IfErr result (λ f. (f ≡ Fault.Memory) ⊎ ((f ≡ Fault.Limits) ⊎ (f ≡ Fault.LawBroken))) }
     {
-        let opened_tokens = openings::opened_tokens(alloc, tokens)?;
-        let opened_messages = openings::opened_messages(alloc, messages)?;
         if !openings::are_within(cpus, tokens, messages) {
             return Err(Fault::Limits);
         }
         if !openings::all_open_lawfully(tokens) {
             return Err(Fault::LawBroken);
         }
+        let opened_tokens = openings::opened_tokens(alloc, tokens)?;
+        let opened_messages = openings::opened_messages(alloc, messages)?;
         Ok(State {
             cpus,
             tokens: opened_tokens,
