@@ -5,3 +5,4 @@ mod ListMoves
 mod BlockMoves
 mod BriefMoves
 mod CloseMoves
+mod OpeningMoves

@@ -1,12 +1,13 @@
 //! The opening of a bank for C.
-ghost use Rattle.std.specs.Prelude.{◌≡◌, ◌≢◌, ◌⊎◌, ◌↔◌, ℕ, ◌<◌, ◌≤◌, [], length, IsTrue, IfOk, IfErr, Err, OnOk, slice_get};
+ghost use Rattle.std.specs.Prelude.{◌≡◌, ◌≢◌, ◌⊎◌, ◌↔◌, ℕ, ◌<◌, ◌≤◌, [], length, option_map, All, IsTrue, IfOk, IfErr, Err, OnOk, slice_get};
 ghost use Rattle.std.specs.Arc.{arc_value};
-ghost use Rattle.lwkt_core.specs.Opening.{AreWithin, AllOpenLawfully};
+ghost use Rattle.lwkt_base.specs.Law.{OpensLawfully};
+ghost use Rattle.lwkt_core.specs.Opening.{AreWithin, AllOpenLawfully, IsTokenWithin};
 ghost use Rattle.lwkt_bank.specs.Seats.{id_of, bank_of, cpus_of};
 ghost use Rattle.lwkt_bank.specs.Gathered.{AreHandedOut};
 ghost use Rattle.lwkt_seats.specs.Seated.{AreBrief};
 ghost use Rattle.lwkt_seats.specs.Spots.{AreSpotsOf};
-ghost use Rattle.lwkt_seats.specs.Openings.{AreTokens, specs_of};
+ghost use Rattle.lwkt_seats.specs.Openings.{AreTokens, spec_of, specs_of};
 
 use crate::desks::{Desk, Place};
 use crate::handles::hand_out;
@@ -23,6 +24,45 @@ fn are_tokens(tokens: &[LwktToken]) -> bool
     ensures { IsTrue result ↔ AreTokens tokens.now }
 {
     tokens.iter().all(|token| token.is_token())
+}
+
+fn each_is_within(tokens: &[LwktToken]) -> bool
+    requires { AreTokens tokens.now }
+    ensures { IsTrue result ↔ All (λ token. IsTokenWithin (spec_of token)) tokens.now }
+{
+    tokens.iter().all(|token| token.is_within())
+}
+
+// Whether neither the seats nor the tokens are too many, and there is a seat.
+fn are_few(tokens: &[LwktToken], seats: usize) -> bool
+    ensures { IsTrue result ↔ ((0 < seats) × (seats ≤ 8) × (length tokens.now ≤ 64)) }
+{
+    0 < seats && seats <= 8 && tokens.len() <= 64
+}
+
+// Whether so many seats of these tokens keep the limits of an opening.
+#[tactic(auto, using(crate::proofs::OpeningMoves::within_of_each, crate::proofs::OpeningMoves::few_of_within, crate::proofs::OpeningMoves::each_of_within))]
+fn are_within(tokens: &[LwktToken], seats: usize) -> bool
+    requires { AreTokens tokens.now }
+    ensures { IsTrue result ↔ AreWithin seats (specs_of tokens.now) [] }
+{
+    are_few(tokens, seats) && each_is_within(tokens)
+}
+
+fn each_opens_lawfully(tokens: &[LwktToken]) -> bool
+    requires { AreTokens tokens.now }
+    ensures { IsTrue result ↔ All (λ token. OpensLawfully (spec_of token).law (spec_of token).param (spec_of token).cells (option_map length (spec_of token).blob)) tokens.now }
+{
+    tokens.iter().all(|token| token.opens_lawfully())
+}
+
+// Whether each row, with the length of its record, obeys its law.
+#[tactic(auto, using(crate::proofs::OpeningMoves::lawful_of_each, crate::proofs::OpeningMoves::each_of_lawful))]
+fn all_open_lawfully(tokens: &[LwktToken]) -> bool
+    requires { AreTokens tokens.now }
+    ensures { IsTrue result ↔ AllOpenLawfully (specs_of tokens.now) }
+{
+    each_opens_lawfully(tokens)
 }
 
 // What is declared of all tokens.
@@ -86,11 +126,16 @@ fn desk_of(alloc: Global, bank: Bank, seats: Vec<CpuSeat>) -> Result<Box<Desk>, 
 fn open(alloc: Global, tokens: &[LwktToken], seats: usize) -> Result<Box<Desk>, Fault>
     ensures opened { IfOk result (λ desk. AreTokens tokens.now × AreWithin seats (specs_of tokens.now) [] × AllOpenLawfully (specs_of tokens.now) × (length desk.value.places.items ≡ seats)) }
     ensures limits { result ≡ Err Fault.Limits → ¬ (AreTokens tokens.now × AreWithin seats (specs_of tokens.now) []) }
+    ensures each_limit { (¬ (AreTokens tokens.now × AreWithin seats (specs_of tokens.now) [])) → result ≡ Err Fault.Limits }
     ensures broken { result ≡ Err Fault.LawBroken → AreTokens tokens.now × AreWithin seats (specs_of tokens.now) [] × ¬ AllOpenLawfully (specs_of tokens.now) }
+    ensures each_law { AreTokens tokens.now → AreWithin seats (specs_of tokens.now) [] → (¬ AllOpenLawfully (specs_of tokens.now)) → result ≡ Err Fault.LawBroken }
     ensures only { IfErr result (λ fault. (fault ≡ Fault.Memory) ⊎ (fault ≡ Fault.Limits) ⊎ (fault ≡ Fault.LawBroken)) }
 {
-    if !are_tokens(tokens) {
+    if !are_tokens(tokens) || !are_within(tokens, seats) {
         return Err(Fault::Limits);
+    }
+    if !all_open_lawfully(tokens) {
+        return Err(Fault::LawBroken);
     }
     let specs = specs_of(alloc, tokens).map_err(|_| Fault::Memory)?;
     let (bank, seats) = Bank::open(alloc, &specs, seats)?;
@@ -100,9 +145,9 @@ fn open(alloc: Global, tokens: &[LwktToken], seats: usize) -> Result<Box<Desk>, 
 /// Opens a bank of these tokens with so many seats, which are numbered from 0. `out` gets where it is; it stays as it was but
 /// with 0.
 ///
-/// 0; or 39 where a limit is passed: 1 to 8 seats, at most 64 tokens, at most 4 cells and exactly 1 under tally, a law above 5, a
-/// generation past the last, a record of more than 64 bytes, more than one record, one under tally, none or no cell under len; 40
-/// where an opening row, with its record's length, breaks its law; 32 for want of memory.
+/// 0; or 39 exactly if a limit is passed: 1 to 8 seats, at most 64 tokens, at most 4 cells and exactly 1 under tally, a law above 5,
+/// a generation past the last, a record of more than 64 bytes, more than one record, one under tally, none or no cell under len;
+/// else 40 exactly if an opening row, with its record's length, breaks its law; else 32 for want of memory.
 #[unsafe(no_mangle)]
 pub extern "C" fn lwkt_bank_open(
     alloc: Global,
@@ -112,7 +157,9 @@ pub extern "C" fn lwkt_bank_open(
 ) -> u32
     ensures opened { result ≡ 0 → AreTokens tokens.now × AreWithin seats (specs_of tokens.now) [] × AllOpenLawfully (specs_of tokens.now) }
     ensures limits { result ≡ 39 → ¬ (AreTokens tokens.now × AreWithin seats (specs_of tokens.now) []) }
+    ensures each_limit { (¬ (AreTokens tokens.now × AreWithin seats (specs_of tokens.now) [])) → result ≡ 39 }
     ensures broken { result ≡ 40 → AreTokens tokens.now × AreWithin seats (specs_of tokens.now) [] × ¬ AllOpenLawfully (specs_of tokens.now) }
+    ensures each_law { AreTokens tokens.now → AreWithin seats (specs_of tokens.now) [] → (¬ AllOpenLawfully (specs_of tokens.now)) → result ≡ 40 }
     ensures only { (result ≡ 0) ⊎ (result ≡ 32) ⊎ (result ≡ 39) ⊎ (result ≡ 40) }
     ensures kept { result ≢ 0 → out.new ≡ out.old }
 {

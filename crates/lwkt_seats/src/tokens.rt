@@ -1,7 +1,10 @@
 //! The tokens of a bank, as C declares them.
-ghost use Rattle.std.specs.Prelude.{◌≡◌, ◌↔◌, ◌≤◌, IsTrue, IfOk};
+ghost use Rattle.std.specs.Prelude.{◌≡◌, ◌↔◌, ◌≤◌, length, option_map, IsTrue, IfOk};
+ghost use Rattle.lwkt_base.specs.Law.{OpensLawfully};
+ghost use Rattle.lwkt_core.specs.Opening.{IsTokenWithin};
 
-use lwkt_base::{Blob, Cells, Law, TokSpec};
+use lwkt_base::blobs::length_of;
+use lwkt_base::{Blob, Cells, LAST_GENERATION, Law, TokSpec};
 use std::alloc::{AllocError, Global};
 
 /// A token as C declares it.
@@ -63,6 +66,34 @@ impl LwktToken {
             return None;
         }
         Some(Blob::of(&self.bytes[..self.length as usize]))
+    }
+
+    /// Whether what is declared of it keeps the limits of an opening: exactly one cell and no record under tally, a cell and a
+    /// record under len, and a generation that isn't past the last.
+    pub fn is_within(&self) -> bool
+        requires { IsToken self.now }
+        ensures { IsTrue result ↔ IsTokenWithin (spec_of self.now) }
+    {
+        let all = [self.first, self.second, self.third, self.fourth];
+        let cells = all[..self.cells as usize].len();
+        let record = self.record();
+        let law = self.law();
+        cells <= 4
+            && (law != Law::Tally || (cells == 1 && record.is_none()))
+            && (law != Law::Len || (cells > 0 && record.is_some()))
+            && self.generation <= LAST_GENERATION
+            && self.length <= 64
+    }
+
+    /// Whether its row, with the length of its record, obeys its law.
+    pub fn opens_lawfully(&self) -> bool
+        requires { IsToken self.now }
+        ensures { IsTrue result ↔ OpensLawfully (spec_of self.now).law (spec_of self.now).param (spec_of self.now).cells (option_map length (spec_of self.now).blob) }
+    {
+        let all = [self.first, self.second, self.third, self.fourth];
+        let cells = &all[..self.cells as usize];
+        self.law()
+            .holds(cells, self.param, length_of(&self.record()))
     }
 
     /// What is declared of it.
