@@ -30,16 +30,18 @@ fn is_written(cells: &[Touch]) -> bool
     cells.iter().any(|touch| is_other(*touch))
 }
 
-// Whether this is one exclusive reference.
-#[inline]
-fn is_last(held: Held) -> bool
-    ensures last { result ≡ true → held ≡ Held.Holds Mode.Exclusive 0 }
-    ensures not_last { result ≡ false → is_held held ≡ true → IsNotLastExclusive held }
-{
-    matches!(held, Held::Holds(Mode::Exclusive, 0))
-}
-
 impl CpuSeat {
+    // Whether this is the last reference of an exclusive holding.
+    #[inline(always)]
+    fn is_last(&self, bank: &Bank, tok: TokId) -> bool
+        requires of { bank_of self.now ≡ id_of bank.now }
+        requires there { tok.0 < tokens_of (bank_of self.now) }
+        ensures last { result ≡ true → holding self.now tok.0 ≡ Held.Holds Mode.Exclusive 0 }
+        ensures not_last { result ≡ false → is_held (holding self.now tok.0) ≡ true → IsNotLastExclusive (holding self.now tok.0) }
+    {
+        self.notes[tok.0 as usize].is_last()
+    }
+
     // Whether row or record of a token that is held exclusively differ from the section's first ones.
     #[inline]
     fn has_written(&self, bank: &Bank, tok: TokId) -> bool
@@ -51,6 +53,20 @@ impl CpuSeat {
     {
         let note = &self.notes[tok.0 as usize];
         is_written(&note.cells) || is_other(note.record_)
+    }
+
+    // The same of a token with one cell.
+    #[inline(always)]
+    fn single_has_written(&self, bank: &Bank, tok: TokId) -> bool
+        requires of { bank_of self.now ≡ id_of bank.now }
+        requires there { tok.0 < tokens_of (bank_of self.now) }
+        requires single { (plan_of (bank_of self.now) tok.0).cells ≡ 1 }
+        requires held { is_exclusive (holding self.now tok.0) ≡ true }
+        ensures written { result ≡ true → ¬ IsCleanIn (entry self.now tok.0) }
+        ensures clean { result ≡ false → IsCleanIn (entry self.now tok.0) }
+    {
+        let note = &self.notes[tok.0 as usize];
+        is_other(note.cells[0]) || is_other(note.record_)
     }
 
     #[inline]
@@ -137,20 +153,37 @@ impl CpuSeat {
         }
     }
 
-    // Ends a written section, and tells it.
+    // Ends a section of a token with one cell.
     #[inline(always)]
-    fn end_told(&mut self, bank: &Bank, tok: TokId) -> Section
+    fn give_single(&mut self, bank: &Bank, tok: TokId) -> Given
+        requires of { bank_of self.old ≡ id_of bank.now }
+        requires there { tok.0 < tokens_of (bank_of self.old) }
+        requires single { (plan_of (bank_of self.old) tok.0).cells ≡ 1 }
+        requires last { holding self.old tok.0 ≡ Held.Holds Mode.Exclusive 0 }
+        requires lawful { IsCleanIn (entry self.old tok.0) ⊎ IsLawfulIn (plan_of (bank_of self.old) tok.0) (entry self.old tok.0) }
+        ensures { Gave self.old self.new tok.0 result }
+    {
+        if self.single_has_written(bank, tok) {
+            return Given::Written(self.end_single(bank, tok));
+        }
+        self.end_clean(bank, tok);
+        Given::Clean
+    }
+
+    // The same of a token with any number of cells.
+    #[inline(never)]
+    fn give_whole(&mut self, bank: &Bank, tok: TokId) -> Given
         requires of { bank_of self.old ≡ id_of bank.now }
         requires there { tok.0 < tokens_of (bank_of self.old) }
         requires last { holding self.old tok.0 ≡ Held.Holds Mode.Exclusive 0 }
-        requires written { ¬ IsCleanIn (entry self.old tok.0) }
-        requires lawful { IsLawfulIn (plan_of (bank_of self.old) tok.0) (entry self.old tok.0) }
-        ensures { SectionEnded self.old self.new tok.0 result }
+        requires lawful { IsCleanIn (entry self.old tok.0) ⊎ IsLawfulIn (plan_of (bank_of self.old) tok.0) (entry self.old tok.0) }
+        ensures { Gave self.old self.new tok.0 result }
     {
-        if bank.cells(tok) == 1 {
-            return self.end_single(bank, tok);
+        if self.has_written(bank, tok) {
+            return Given::Written(self.end_whole(bank, tok));
         }
-        self.end_whole(bank, tok)
+        self.end_clean(bank, tok);
+        Given::Clean
     }
 
     // Ends a section.
@@ -162,11 +195,10 @@ impl CpuSeat {
         requires lawful { IsCleanIn (entry self.old tok.0) ⊎ IsLawfulIn (plan_of (bank_of self.old) tok.0) (entry self.old tok.0) }
         ensures { Gave self.old self.new tok.0 result }
     {
-        if self.has_written(bank, tok) {
-            return Given::Written(self.end_told(bank, tok));
+        if bank.cells(tok) == 1 {
+            return self.give_single(bank, tok);
         }
-        self.end_clean(bank, tok);
-        Given::Clean
+        self.give_whole(bank, tok)
     }
 
     /// Gives a reference back. That the seat holds the token is the caller's condition, and if that ends a section, that the
@@ -180,7 +212,7 @@ impl CpuSeat {
         requires lawful { holding self.old tok.0 ≡ Held.Holds Mode.Exclusive 0 → IsCleanIn (entry self.old tok.0) ⊎ IsLawfulIn (plan_of (bank_of self.old) tok.0) (entry self.old tok.0) }
         ensures { Gave self.old self.new tok.0 result }
     {
-        if !is_last(self.held(bank, tok)) {
+        if !self.is_last(bank, tok) {
             self.give_one(bank, tok);
             return Given::One;
         }

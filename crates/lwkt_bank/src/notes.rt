@@ -1,4 +1,6 @@
-ghost use Rattle.std.specs.Prelude.{◌≡◌, ◌+◌, ◌-◌, ◌^◌, ◌<◌, length};
+ghost use Rattle.std.specs.Prelude.{◌≡◌, ◌≢◌, ◌↔◌, ◌+◌, ◌-◌, ◌^◌, ◌<◌, length, true, false, IsTrue, MatchOption};
+ghost use Rattle.lwkt_base.specs.Holding.{is_held};
+ghost use Rattle.lwkt_core.specs.Tokens.{IsNotLastExclusive};
 ghost use Rattle.lwkt_bank.specs.Notes.{no_note, held_in, touch_of, begun, note_changed, IsToldApart, Overwrites};
 
 use lwkt_base::{Blob, Held, Mode};
@@ -36,12 +38,35 @@ pub enum Touch {
     Other,
 }
 
+// The bytes of a record that has 64 of them.
+#[inline(always)]
+fn full(blob: &Blob) -> Option<&[u8; 64]>
+    ensures { MatchOption result (length blob.now ≢ 64) (λ bytes. bytes.now ≡ blob.now) }
+{
+    if blob.len() == 64 {
+        blob.as_slice().as_array()
+    } else {
+        None
+    }
+}
+
+// Whether two records are the same. Those of 64 bytes are compared without a call.
+#[inline(always)]
+fn are_same(first: &Blob, blob: &Blob) -> bool
+    ensures { IsTrue result ↔ (first.now ≡ blob.now) }
+{
+    match (full(first), full(blob)) {
+        (Some(first), Some(blob)) => *first == *blob,
+        _ => first.is_same(blob),
+    }
+}
+
 // How a record stands whose first one in the section is this, and which is the other now.
-#[inline]
+#[inline(always)]
 fn touch_of_record(first: &Blob, blob: &Blob) -> Touch
     ensures { IsToldApart result first.now blob.now }
 {
-    if first.is_same(blob) {
+    if are_same(first, blob) {
         Touch::Same
     } else {
         Touch::Other
@@ -98,6 +123,15 @@ impl TokenNote {
         }
     }
 
+    /// Whether the seat has one reference, which is exclusive.
+    #[inline(always)]
+    pub(crate) fn is_last(&self) -> bool
+        ensures last { result ≡ true → held_in self.now ≡ Held.Holds Mode.Exclusive 0 }
+        ensures not_last { result ≡ false → is_held (held_in self.now) ≡ true → IsNotLastExclusive (held_in self.now) }
+    {
+        self.references == 1 && matches!(self.mode, Mode::Exclusive)
+    }
+
     /// The token was taken in this mode.
     #[inline]
     pub(crate) fn take(&mut self, mode: Mode)
@@ -151,7 +185,7 @@ impl TokenNote {
     }
 
     /// The record was this one, and is written now. The first write in a section keeps it, as the section's first record.
-    #[inline]
+    #[inline(always)]
     pub(crate) fn write(&mut self, old: &Blob, blob: &Blob)
         ensures { Overwrites self.old self.new old.now blob.now }
     {
