@@ -66,7 +66,7 @@ impl CpuSeat {
         ensures clean { result ≡ false → IsCleanIn (entry self.now tok.0) }
     {
         let note = &self.notes[tok.0 as usize];
-        is_other(note.cells[0]) || is_other(note.record_)
+        is_other(note.record_) || is_other(note.cells[0])
     }
 
     #[inline]
@@ -153,6 +153,19 @@ impl CpuSeat {
         }
     }
 
+    // Ends a section that wrote nothing.
+    #[inline(always)]
+    fn give_clean(&mut self, bank: &Bank, tok: TokId) -> Given
+        requires of { bank_of self.old ≡ id_of bank.now }
+        requires there { tok.0 < tokens_of (bank_of self.old) }
+        requires last { holding self.old tok.0 ≡ Held.Holds Mode.Exclusive 0 }
+        requires clean { IsCleanIn (entry self.old tok.0) }
+        ensures { Gave self.old self.new tok.0 result }
+    {
+        self.end_clean(bank, tok);
+        Given::Clean
+    }
+
     // Ends a section of a token with one cell.
     #[inline(always)]
     fn give_single(&mut self, bank: &Bank, tok: TokId) -> Given
@@ -166,8 +179,7 @@ impl CpuSeat {
         if self.single_has_written(bank, tok) {
             return Given::Written(self.end_single(bank, tok));
         }
-        self.end_clean(bank, tok);
-        Given::Clean
+        self.give_clean(bank, tok)
     }
 
     // The same of a token with any number of cells.
@@ -182,8 +194,7 @@ impl CpuSeat {
         if self.has_written(bank, tok) {
             return Given::Written(self.end_whole(bank, tok));
         }
-        self.end_clean(bank, tok);
-        Given::Clean
+        self.give_clean(bank, tok)
     }
 
     // Ends a section.

@@ -32,10 +32,10 @@ impl Change {
 pub enum Touch {
     /// It wasn't stored to.
     Untouched,
-    /// It was stored to, and has its first value.
-    Same,
     /// It was stored to, and has another value.
     Other,
+    /// It was stored to, and has its first value.
+    Same,
 }
 
 // The bytes of a record that has 64 of them.
@@ -129,7 +129,7 @@ impl TokenNote {
         ensures last { result ≡ true → held_in self.now ≡ Held.Holds Mode.Exclusive 0 }
         ensures not_last { result ≡ false → is_held (held_in self.now) ≡ true → IsNotLastExclusive (held_in self.now) }
     {
-        self.references == 1 && matches!(self.mode, Mode::Exclusive)
+        matches!(self.mode, Mode::Exclusive) && self.references == 1
     }
 
     /// The token was taken in this mode.

@@ -3,13 +3,16 @@ ghost use Rattle.std.specs.Prelude.{◌≡◌};
 ghost use Rattle.lwkt_bank.specs.Views.{generation_in};
 ghost use Rattle.lwkt_bank.specs.Rule.{token_word, cell_word};
 
-use lwkt_base::TokId;
+use lwkt_base::{LAST_GENERATION, TokId};
 
 /// How much one generation is in a token word.
 pub(crate) const GENERATION: u64 = 262144;
 
 /// What the end of a written section adds to a token word: a generation, less the exclusive bit.
 pub(crate) const SECTION: u64 = GENERATION - 1;
+
+/// The first token word of the last generation.
+pub(crate) const LAST_WORD: u64 = GENERATION * LAST_GENERATION;
 
 // How many words of the table a token has.
 const BLOCK: usize = 16;

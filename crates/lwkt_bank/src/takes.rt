@@ -1,5 +1,5 @@
 //! Taking tokens.
-ghost use Rattle.std.specs.Prelude.{◌≡◌, ℕ, ◌+◌, ◌<◌, Bool, true, false, [], ◌∷◌};
+ghost use Rattle.std.specs.Prelude.{◌≡◌, ℕ, ◌+◌, ◌%◌, ◌^◌, ◌<◌, Bool, true, false, [], ◌∷◌};
 ghost use Rattle.lwkt_base.specs.Holding.{is_held};
 ghost use Rattle.lwkt_bank.specs.Views.{more, looked};
 ghost use Rattle.lwkt_bank.specs.Deeds.{adds_one, marks};
@@ -7,10 +7,31 @@ ghost use Rattle.lwkt_bank.specs.Seats.{id_of, bank_of, tokens_of, entry, holdin
 
 use crate::answers::Try;
 use crate::banks::Bank;
-use crate::places::generation_in;
+use crate::places::{GENERATION, LAST_WORD, generation_in};
 use crate::seats::CpuSeat;
 use crate::steps;
 use lwkt_base::{CpuId, Decision, Held, Mode, TokId, TokWord};
+
+// Whether a word shows neither holders nor a mark, and a generation below the last one. So nearly each exclusive take finds
+// it, and needs no other part of the word.
+#[inline(always)]
+fn is_free(word: u64) -> bool
+    ensures { result ≡ true → (word % GENERATION ≡ 0) × (word < LAST_WORD) }
+{
+    word % GENERATION == 0 && word < LAST_WORD
+}
+
+// What a word answers, as `TokWord::decide`.
+#[inline(always)]
+fn decide(word: u64, mode: Mode, alone: bool) -> Decision
+    requires { word + 4 < 2 ^ 64 }
+    ensures { Decides word mode alone result }
+{
+    if matches!(mode, Mode::Exclusive) && is_free(word) {
+        return Decision::Take(word + 1);
+    }
+    TokWord::decide(word, mode, alone)
+}
 
 impl CpuSeat {
     /// The processor whose seat this is. A seat holds no token that its bank doesn't have, and of one that it holds it has record
@@ -76,7 +97,7 @@ impl CpuSeat {
         ensures { Tried self.old self.new tok.0 mode alone result }
     {
         let word = self.word(bank, tok);
-        match TokWord::decide(word, mode, alone) {
+        match decide(word, mode, alone) {
             Decision::Held | Decision::Marked => Try::Busy { word },
             Decision::Worn => Try::Worn,
             Decision::Take(next) => {
