@@ -183,7 +183,7 @@ impl CpuSeat {
     }
 
     // The same of a token with any number of cells.
-    #[inline(never)]
+    #[inline(always)]
     fn give_whole(&mut self, bank: &Bank, tok: TokId) -> Given
         requires of { bank_of self.old ≡ id_of bank.now }
         requires there { tok.0 < tokens_of (bank_of self.old) }
