@@ -12,13 +12,26 @@ use crate::seats::CpuSeat;
 use crate::steps;
 use lwkt_base::{CpuId, Decision, Held, Mode, TokId, TokWord};
 
-// Whether a word shows neither holders nor a mark, and a generation below the last one. So nearly each exclusive take finds
-// it, and needs no other part of the word.
+// Whether a word shows neither holders nor a mark.
 #[inline(always)]
 fn is_free(word: u64) -> bool
-    ensures { result ≡ true → (word % GENERATION ≡ 0) × (word < LAST_WORD) }
+    ensures { result ≡ true → word % GENERATION ≡ 0 }
 {
-    word % GENERATION == 0 && word < LAST_WORD
+    word % GENERATION == 0
+}
+
+// What such a word answers an exclusive request: nearly each take finds one, and needs no other part of the word.
+#[inline(always)]
+fn decide_free(word: u64) -> Decision
+    requires free { word % GENERATION ≡ 0 }
+    requires room { word + 4 < 2 ^ 64 }
+    ensures { (alone : Bool) → Decides word Mode.Exclusive alone result }
+{
+    if word < LAST_WORD {
+        Decision::Take(word + 1)
+    } else {
+        Decision::Worn
+    }
 }
 
 // What a word answers, as `TokWord::decide`.
@@ -28,7 +41,7 @@ fn decide(word: u64, mode: Mode, alone: bool) -> Decision
     ensures { Decides word mode alone result }
 {
     if matches!(mode, Mode::Exclusive) && is_free(word) {
-        return Decision::Take(word + 1);
+        return decide_free(word);
     }
     TokWord::decide(word, mode, alone)
 }
