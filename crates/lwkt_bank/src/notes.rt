@@ -91,22 +91,23 @@ fn touch_of_record(first: &Blob, blob: &Blob) -> Touch
 /// What a seat keeps of one token.
 #[derive(Clone, Copy)]
 pub struct TokenNote {
-    /// The first values of the cells that were stored to since the section began.
-    pub first: [u64; 4],
-    /// Their values now. They count only while the token is held exclusively.
-    pub last: [u64; 4],
-    /// What this processor has added to the cell of a Tally token.
-    pub tally: u64,
+    /// The section's first record. It counts only while the token is held exclusively and the record was written. It stands
+    /// first, so that it lies on a multiple of 16 bytes where the seat does.
+    pub first_blob: Blob,
     /// How each cell stands. It counts only while the token is held exclusively.
     pub cells: [Touch; 4],
-    /// The section's first record. It counts only while the token is held exclusively and the record was written.
-    pub first_blob: Blob,
     /// How the record stands. It counts only while the token is held exclusively.
     pub record_: Touch,
     /// The mode of the first reference that the seat has.
     pub mode: Mode,
     /// How many references it has.
     pub references: u8,
+    /// The first values of the cells that were stored to since the section began.
+    pub first: [u64; 4],
+    /// Their values now. They count only while the token is held exclusively.
+    pub last: [u64; 4],
+    /// What this processor has added to the cell of a Tally token.
+    pub tally: u64,
 }
 
 impl TokenNote {
