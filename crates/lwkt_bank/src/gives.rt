@@ -42,20 +42,7 @@ impl CpuSeat {
         self.notes[tok.0 as usize].is_last()
     }
 
-    // Whether row or record of a token that is held exclusively differ from the section's first ones.
-    #[inline]
-    fn has_written(&self, bank: &Bank, tok: TokId) -> bool
-        requires of { bank_of self.now ≡ id_of bank.now }
-        requires there { tok.0 < tokens_of (bank_of self.now) }
-        requires held { is_exclusive (holding self.now tok.0) ≡ true }
-        ensures written { result ≡ true → ¬ IsCleanIn (entry self.now tok.0) }
-        ensures clean { result ≡ false → IsCleanIn (entry self.now tok.0) }
-    {
-        let note = &self.notes[tok.0 as usize];
-        is_written(&note.cells) || is_other(note.record_)
-    }
-
-    // The same of a token with one cell.
+    // Whether row or record of a token with one cell that is held exclusively differ from the section's first ones.
     #[inline(always)]
     fn single_has_written(&self, bank: &Bank, tok: TokId) -> bool
         requires of { bank_of self.now ≡ id_of bank.now }
@@ -67,6 +54,34 @@ impl CpuSeat {
     {
         let note = &self.notes[tok.0 as usize];
         is_other(note.record_) || is_other(note.cells[0])
+    }
+
+    // The same of a token with any number of cells.
+    #[inline]
+    fn whole_has_written(&self, bank: &Bank, tok: TokId) -> bool
+        requires of { bank_of self.now ≡ id_of bank.now }
+        requires there { tok.0 < tokens_of (bank_of self.now) }
+        requires held { is_exclusive (holding self.now tok.0) ≡ true }
+        ensures written { result ≡ true → ¬ IsCleanIn (entry self.now tok.0) }
+        ensures clean { result ≡ false → IsCleanIn (entry self.now tok.0) }
+    {
+        let note = &self.notes[tok.0 as usize];
+        is_written(&note.cells) || is_other(note.record_)
+    }
+
+    // Whether row or record of a token that is held exclusively differ from the section's first ones.
+    #[inline(always)]
+    fn has_written(&self, bank: &Bank, tok: TokId) -> bool
+        requires of { bank_of self.now ≡ id_of bank.now }
+        requires there { tok.0 < tokens_of (bank_of self.now) }
+        requires held { is_exclusive (holding self.now tok.0) ≡ true }
+        ensures written { result ≡ true → ¬ IsCleanIn (entry self.now tok.0) }
+        ensures clean { result ≡ false → IsCleanIn (entry self.now tok.0) }
+    {
+        if bank.cells(tok) == 1 {
+            return self.single_has_written(bank, tok);
+        }
+        self.whole_has_written(bank, tok)
     }
 
     #[inline]
@@ -153,48 +168,20 @@ impl CpuSeat {
         }
     }
 
-    // Ends a section that wrote nothing.
+    // Ends a written section, and tells it.
     #[inline(always)]
-    fn give_clean(&mut self, bank: &Bank, tok: TokId) -> Given
+    fn end_told(&mut self, bank: &Bank, tok: TokId) -> Section
         requires of { bank_of self.old ≡ id_of bank.now }
         requires there { tok.0 < tokens_of (bank_of self.old) }
         requires last { holding self.old tok.0 ≡ Held.Holds Mode.Exclusive 0 }
-        requires clean { IsCleanIn (entry self.old tok.0) }
-        ensures { Gave self.old self.new tok.0 result }
+        requires written { ¬ IsCleanIn (entry self.old tok.0) }
+        requires lawful { IsLawfulIn (plan_of (bank_of self.old) tok.0) (entry self.old tok.0) }
+        ensures { SectionEnded self.old self.new tok.0 result }
     {
-        self.end_clean(bank, tok);
-        Given::Clean
-    }
-
-    // Ends a section of a token with one cell.
-    #[inline(always)]
-    fn give_single(&mut self, bank: &Bank, tok: TokId) -> Given
-        requires of { bank_of self.old ≡ id_of bank.now }
-        requires there { tok.0 < tokens_of (bank_of self.old) }
-        requires single { (plan_of (bank_of self.old) tok.0).cells ≡ 1 }
-        requires last { holding self.old tok.0 ≡ Held.Holds Mode.Exclusive 0 }
-        requires lawful { IsCleanIn (entry self.old tok.0) ⊎ IsLawfulIn (plan_of (bank_of self.old) tok.0) (entry self.old tok.0) }
-        ensures { Gave self.old self.new tok.0 result }
-    {
-        if self.single_has_written(bank, tok) {
-            return Given::Written(self.end_single(bank, tok));
+        if bank.cells(tok) == 1 {
+            return self.end_single(bank, tok);
         }
-        self.give_clean(bank, tok)
-    }
-
-    // The same of a token with any number of cells.
-    #[inline(always)]
-    fn give_whole(&mut self, bank: &Bank, tok: TokId) -> Given
-        requires of { bank_of self.old ≡ id_of bank.now }
-        requires there { tok.0 < tokens_of (bank_of self.old) }
-        requires last { holding self.old tok.0 ≡ Held.Holds Mode.Exclusive 0 }
-        requires lawful { IsCleanIn (entry self.old tok.0) ⊎ IsLawfulIn (plan_of (bank_of self.old) tok.0) (entry self.old tok.0) }
-        ensures { Gave self.old self.new tok.0 result }
-    {
-        if self.has_written(bank, tok) {
-            return Given::Written(self.end_whole(bank, tok));
-        }
-        self.give_clean(bank, tok)
+        self.end_whole(bank, tok)
     }
 
     // Ends a section.
@@ -206,10 +193,11 @@ impl CpuSeat {
         requires lawful { IsCleanIn (entry self.old tok.0) ⊎ IsLawfulIn (plan_of (bank_of self.old) tok.0) (entry self.old tok.0) }
         ensures { Gave self.old self.new tok.0 result }
     {
-        if bank.cells(tok) == 1 {
-            return self.give_single(bank, tok);
+        if self.has_written(bank, tok) {
+            return Given::Written(self.end_told(bank, tok));
         }
-        self.give_whole(bank, tok)
+        self.end_clean(bank, tok);
+        Given::Clean
     }
 
     /// Gives a reference back. That the seat holds the token is the caller's condition, and if that ends a section, that the

@@ -6,7 +6,7 @@ use Rattle.lwkt_bank.specs.Rule.{plan_at}
 use Rattle.lwkt_bank.specs.Seats.{entry}
 use Rattle.lwkt_bank.proofs.NoteMoves.{row_written, row_clean, record_written, record_clean}
 use Rattle.lwkt_bank.proofs.ChangeMoves.{note_read, room_of, short_row}
-use Rattle.lwkt_bank.proofs.seats.CpuSeat.has_written.Goals as goal
+use Rattle.lwkt_bank.proofs.seats.CpuSeat.whole_has_written.Goals as goal
 
 pub returns-then-is_written-clause-written : goal.returns-then-is_written-clause-written
 returns-then-is_written-clause-written c = λ yes' clean.
