@@ -1,3 +1,4 @@
+pub mod Briefs
 pub mod Nexts
 pub mod Calls
 pub mod Leaving

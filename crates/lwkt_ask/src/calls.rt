@@ -6,12 +6,13 @@ ghost use Rattle.lwkt_bank.specs.Seats.{id_of, bank_of, tokens_of, holding};
 ghost use Rattle.lwkt_hold.specs.Holds.{seat_of};
 ghost use Rattle.lwkt_hold.specs.Fronts.{IsFront, IsBetween};
 ghost use Rattle.lwkt_hold.specs.Runs.{Ran};
+ghost use Rattle.lwkt_ask.specs.Briefs.{answer_of, next_of};
 ghost use Rattle.lwkt_ask.specs.Nexts.{kept_list, HoldsAfter, done_or, value_or, bytes_or};
 ghost use Rattle.lwkt_ask.specs.Calls.{Tries, Rels, Swaps, Reads, Stores, Adds, ReadsRecord, StoresRecord};
 ghost use Rattle.lwkt_ask.specs.Table.{Gets};
 
+use crate::briefs::{Brief, Course};
 use crate::leaves::give_up;
-use crate::nexts::Next;
 use lwkt_bank::Bank;
 use lwkt_base::{Answer, Blob, Fault, Ref, TokId, TokList};
 use lwkt_core::Event;
@@ -19,12 +20,12 @@ use lwkt_hold::{Acquired, Hold};
 
 // The answer for a call that answers nothing.
 #[inline(always)]
-pub(crate) fn done(told: Result<(), Fault>) -> Answer
-    ensures { result ≡ done_or told }
+pub(crate) fn done(told: Result<(), Fault>) -> Brief
+    ensures { answer_of result ≡ done_or told }
 {
     match told {
-        Ok(()) => Answer::Done,
-        Err(fault) => Answer::Refused(fault),
+        Ok(()) => Brief::Done,
+        Err(fault) => Brief::Refused(fault),
     }
 }
 
@@ -36,22 +37,22 @@ pub(crate) fn get(
     list: &mut TokList,
     new: Ref,
     trace: &mut Vec<Event>,
-) -> Next
+) -> Course
     requires of { bank_of (seat_of hold.old) ≡ id_of bank.now }
     requires held { holding (seat_of hold.old) ≡ holding_of list.old }
     requires room { vec_len trace.old + 512 ≤ vec_capacity trace.old }
-    ensures ran { Ran (IsBetween list.old (kept_list result list.new)) 320 (seat_of hold.old) (seat_of hold.new) trace.old trace.new }
-    ensures held { HoldsAfter result (holding (seat_of hold.new)) list.new }
+    ensures ran { Ran (IsBetween list.old (kept_list (next_of result) list.new)) 320 (seat_of hold.old) (seat_of hold.new) trace.old trace.new }
+    ensures held { HoldsAfter (next_of result) (holding (seat_of hold.new)) list.new }
     ensures there { All (λ r. r.tok.0 < tokens_of (bank_of (seat_of hold.old))) list.old → All (λ r. r.tok.0 < tokens_of (bank_of (seat_of hold.old))) list.new }
-    ensures gets { Gets (id_of bank.now) (seat_of hold.old) (seat_of hold.new) list.old list.new new trace.old trace.new result }
+    ensures gets { Gets (id_of bank.now) (seat_of hold.old) (seat_of hold.new) list.old list.new new trace.old trace.new (next_of result) }
 {
     match hold.get(bank, list, new, trace) {
-        Ok(Acquired::Got) => Next::Runs(Answer::Done),
+        Ok(Acquired::Got) => Course::Runs(Brief::Done),
         Ok(Acquired::MustSwitch { .. }) => {
             let held = list.len() - 1;
-            give_up(hold, bank, list, held, Next::Readies(Answer::Done), trace)
+            give_up(hold, bank, list, held, Course::Readies, trace)
         }
-        Err(fault) => Next::Runs(Answer::Refused(fault)),
+        Err(fault) => Course::Runs(Brief::Refused(fault)),
     }
 }
 
@@ -63,14 +64,14 @@ pub(crate) fn try_get(
     list: &mut TokList,
     tok: TokId,
     trace: &mut Vec<Event>,
-) -> Answer
+) -> Brief
     requires of { bank_of (seat_of hold.old) ≡ id_of bank.now }
     requires held { holding (seat_of hold.old) ≡ holding_of list.old }
     requires room { vec_len trace.old + 512 ≤ vec_capacity trace.old }
     ensures ran { Ran (IsBetween list.old list.new) 320 (seat_of hold.old) (seat_of hold.new) trace.old trace.new }
     ensures held { holding (seat_of hold.new) ≡ holding_of list.new }
     ensures there { All (λ r. r.tok.0 < tokens_of (bank_of (seat_of hold.old))) list.old → All (λ r. r.tok.0 < tokens_of (bank_of (seat_of hold.old))) list.new }
-    ensures tries { (told : Result (Unit {0}) Fault) × (Tries (id_of bank.now) (seat_of hold.old) (seat_of hold.new) list.old list.new tok trace.old trace.new told × (result ≡ done_or told)) }
+    ensures tries { (told : Result (Unit {0}) Fault) × (Tries (id_of bank.now) (seat_of hold.old) (seat_of hold.new) list.old list.new tok trace.old trace.new told × (answer_of result ≡ done_or told)) }
 {
     let told = hold.try_get(bank, list, tok, trace);
     done(told)
@@ -84,14 +85,14 @@ pub(crate) fn rel(
     list: &mut TokList,
     tok: TokId,
     trace: &mut Vec<Event>,
-) -> Answer
+) -> Brief
     requires of { bank_of (seat_of hold.old) ≡ id_of bank.now }
     requires held { holding (seat_of hold.old) ≡ holding_of list.old }
     requires room { vec_len trace.old + 512 ≤ vec_capacity trace.old }
     ensures ran { Ran (IsBetween list.old list.new) 320 (seat_of hold.old) (seat_of hold.new) trace.old trace.new }
     ensures held { holding (seat_of hold.new) ≡ holding_of list.new }
     ensures there { All (λ r. r.tok.0 < tokens_of (bank_of (seat_of hold.old))) list.old → All (λ r. r.tok.0 < tokens_of (bank_of (seat_of hold.old))) list.new }
-    ensures rels { (told : Result (Unit {0}) Fault) × (Rels (seat_of hold.old) (seat_of hold.new) list.old list.new tok trace.old trace.new told × (result ≡ done_or told)) }
+    ensures rels { (told : Result (Unit {0}) Fault) × (Rels (seat_of hold.old) (seat_of hold.new) list.old list.new tok trace.old trace.new told × (answer_of result ≡ done_or told)) }
 {
     let told = hold.rel(bank, list, tok, trace);
     done(told)
@@ -99,10 +100,10 @@ pub(crate) fn rel(
 
 /// Exchanges the two last references.
 #[inline(always)]
-pub(crate) fn swap(list: &mut TokList) -> Answer
+pub(crate) fn swap(list: &mut TokList) -> Brief
     ensures held { holding_of list.new ≡ holding_of list.old }
     ensures there { (n : ℕ) → All (λ r. r.tok.0 < n) list.old → All (λ r. r.tok.0 < n) list.new }
-    ensures swaps { (told : Result (Unit {0}) Fault) × (Swaps list.old list.new told × (result ≡ done_or told)) }
+    ensures swaps { (told : Result (Unit {0}) Fault) × (Swaps list.old list.new told × (answer_of result ≡ done_or told)) }
 {
     let told = list.swap();
     done(told)
@@ -117,17 +118,17 @@ pub(crate) fn read(
     tok: TokId,
     cell: u8,
     trace: &mut Vec<Event>,
-) -> Answer
+) -> Brief
     requires of { bank_of (seat_of hold.old) ≡ id_of bank.now }
     requires held { holding (seat_of hold.old) ≡ holding_of list.now }
     requires room { vec_len trace.old + 512 ≤ vec_capacity trace.old }
     ensures ran { Ran (IsFront list.now) 1 (seat_of hold.old) (seat_of hold.new) trace.old trace.new }
     ensures held { holding (seat_of hold.new) ≡ holding_of list.now }
-    ensures reads { (told : Result ℕ Fault) × (Reads (id_of bank.now) (seat_of hold.old) (seat_of hold.new) list.now tok cell trace.old trace.new told × (result ≡ value_or told)) }
+    ensures reads { (told : Result ℕ Fault) × (Reads (id_of bank.now) (seat_of hold.old) (seat_of hold.new) list.now tok cell trace.old trace.new told × (answer_of result ≡ value_or told)) }
 {
     match hold.read(bank, list, tok, cell, trace) {
-        Ok(value) => Answer::Value(value),
-        Err(fault) => Answer::Refused(fault),
+        Ok(value) => Brief::Value(value),
+        Err(fault) => Brief::Refused(fault),
     }
 }
 
@@ -141,13 +142,13 @@ pub(crate) fn write(
     cell: u8,
     value: u64,
     trace: &mut Vec<Event>,
-) -> Answer
+) -> Brief
     requires of { bank_of (seat_of hold.old) ≡ id_of bank.now }
     requires held { holding (seat_of hold.old) ≡ holding_of list.now }
     requires room { vec_len trace.old + 512 ≤ vec_capacity trace.old }
     ensures ran { Ran (IsFront list.now) 1 (seat_of hold.old) (seat_of hold.new) trace.old trace.new }
     ensures held { holding (seat_of hold.new) ≡ holding_of list.now }
-    ensures stores { (told : Result (Unit {0}) Fault) × (Stores (id_of bank.now) (seat_of hold.old) (seat_of hold.new) list.now tok cell value trace.old trace.new told × (result ≡ done_or told)) }
+    ensures stores { (told : Result (Unit {0}) Fault) × (Stores (id_of bank.now) (seat_of hold.old) (seat_of hold.new) list.now tok cell value trace.old trace.new told × (answer_of result ≡ done_or told)) }
 {
     let told = hold.write(bank, list, tok, cell, value, trace);
     done(told)
@@ -162,13 +163,13 @@ pub(crate) fn add(
     tok: TokId,
     k: u64,
     trace: &mut Vec<Event>,
-) -> Answer
+) -> Brief
     requires of { bank_of (seat_of hold.old) ≡ id_of bank.now }
     requires held { holding (seat_of hold.old) ≡ holding_of list.now }
     requires room { vec_len trace.old + 512 ≤ vec_capacity trace.old }
     ensures ran { Ran (IsFront list.now) 1 (seat_of hold.old) (seat_of hold.new) trace.old trace.new }
     ensures held { holding (seat_of hold.new) ≡ holding_of list.now }
-    ensures adds { (told : Result (Unit {0}) Fault) × (Adds (id_of bank.now) (seat_of hold.old) (seat_of hold.new) list.now tok k trace.old trace.new told × (result ≡ done_or told)) }
+    ensures adds { (told : Result (Unit {0}) Fault) × (Adds (id_of bank.now) (seat_of hold.old) (seat_of hold.new) list.now tok k trace.old trace.new told × (answer_of result ≡ done_or told)) }
 {
     let told = hold.add(bank, list, tok, k, trace);
     done(told)
@@ -203,13 +204,13 @@ pub(crate) fn write_blob(
     tok: TokId,
     blob: &Blob,
     trace: &mut Vec<Event>,
-) -> Answer
+) -> Brief
     requires of { bank_of (seat_of hold.old) ≡ id_of bank.now }
     requires held { holding (seat_of hold.old) ≡ holding_of list.now }
     requires room { vec_len trace.old + 512 ≤ vec_capacity trace.old }
     ensures ran { Ran (IsFront list.now) 1 (seat_of hold.old) (seat_of hold.new) trace.old trace.new }
     ensures held { holding (seat_of hold.new) ≡ holding_of list.now }
-    ensures stores { (told : Result (Unit {0}) Fault) × (StoresRecord (id_of bank.now) (seat_of hold.old) (seat_of hold.new) list.now tok blob.now trace.old trace.new told × (result ≡ done_or told)) }
+    ensures stores { (told : Result (Unit {0}) Fault) × (StoresRecord (id_of bank.now) (seat_of hold.old) (seat_of hold.new) list.now tok blob.now trace.old trace.new told × (answer_of result ≡ done_or told)) }
 {
     let told = hold.write_blob(bank, list, tok, blob, trace);
     done(told)

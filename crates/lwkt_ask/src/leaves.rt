@@ -5,9 +5,11 @@ ghost use Rattle.lwkt_bank.specs.Seats.{id_of, bank_of, holding};
 ghost use Rattle.lwkt_hold.specs.Holds.{seat_of};
 ghost use Rattle.lwkt_hold.specs.Fronts.{IsFront};
 ghost use Rattle.lwkt_hold.specs.Runs.{Ran};
+ghost use Rattle.lwkt_ask.specs.Briefs.{next_of};
 ghost use Rattle.lwkt_ask.specs.Leaving.{GivesUp};
 ghost use Rattle.lwkt_ask.specs.Nexts.{unless_broken};
 
+use crate::briefs::Course;
 use crate::nexts::Next;
 use lwkt_bank::Bank;
 use lwkt_base::{Fault, TokList};
@@ -16,12 +18,12 @@ use lwkt_hold::{Blocked, Hold};
 
 // What comes next once everything was given up.
 #[inline(always)]
-fn after_blocking(meant: Next, blocked: Blocked) -> Next
-    ensures { result ≡ unless_broken meant blocked }
+fn after_blocking(meant: Course, blocked: Blocked) -> Course
+    ensures { next_of result ≡ unless_broken (next_of meant) blocked }
 {
     match blocked {
         Blocked::Clean => meant,
-        Blocked::Restored(_) => Next::Faults(Fault::Broken),
+        Blocked::Restored(_) => Course::Faults(Fault::Broken),
     }
 }
 
@@ -33,16 +35,16 @@ pub(crate) fn give_up(
     bank: &Bank,
     list: &TokList,
     held: usize,
-    meant: Next,
+    meant: Course,
     trace: &mut Vec<Event>,
-) -> Next
+) -> Course
     requires of { bank_of (seat_of hold.old) ≡ id_of bank.now }
     requires within { held ≤ length list.now }
     requires held { holding (seat_of hold.old) ≡ holding_of (take held list.now) }
     requires room { vec_len trace.old + 256 ≤ vec_capacity trace.old }
     ensures ran { Ran (IsFront (take held list.now)) 192 (seat_of hold.old) (seat_of hold.new) trace.old trace.new }
     ensures empty { holding (seat_of hold.new) ≡ holds_nothing }
-    ensures gives_up { GivesUp (seat_of hold.old) (seat_of hold.new) list.now held trace.old trace.new meant result }
+    ensures gives_up { GivesUp (seat_of hold.old) (seat_of hold.new) list.now held trace.old trace.new (next_of meant) (next_of result) }
 {
     let blocked = hold.block(bank, list, held, trace);
     after_blocking(meant, blocked)
@@ -54,15 +56,15 @@ pub(crate) fn leave(
     hold: &mut Hold,
     bank: &Bank,
     list: &TokList,
-    meant: Next,
+    meant: Course,
     trace: &mut Vec<Event>,
-) -> Next
+) -> Course
     requires of { bank_of (seat_of hold.old) ≡ id_of bank.now }
     requires held { holding (seat_of hold.old) ≡ holding_of list.now }
     requires room { vec_len trace.old + 256 ≤ vec_capacity trace.old }
     ensures ran { Ran (IsFront list.now) 192 (seat_of hold.old) (seat_of hold.new) trace.old trace.new }
     ensures empty { holding (seat_of hold.new) ≡ holds_nothing }
-    ensures gives_up { GivesUp (seat_of hold.old) (seat_of hold.new) list.now (length list.now) trace.old trace.new meant result }
+    ensures gives_up { GivesUp (seat_of hold.old) (seat_of hold.new) list.now (length list.now) trace.old trace.new (next_of meant) (next_of result) }
 {
     let held = list.len();
     give_up(hold, bank, list, held, meant, trace)
@@ -78,5 +80,5 @@ pub fn exit(hold: &mut Hold, bank: &Bank, list: &TokList, trace: &mut Vec<Event>
     ensures empty { holding (seat_of hold.new) ≡ holds_nothing }
     ensures gives_up { GivesUp (seat_of hold.old) (seat_of hold.new) list.now (length list.now) trace.old trace.new Next.Exits result }
 {
-    leave(hold, bank, list, Next::Exits, trace)
+    leave(hold, bank, list, Course::Exits, trace).whole()
 }

@@ -6,6 +6,7 @@
 
 pub mod bodies;
 pub mod boxed;
+mod briefs;
 mod calls;
 pub mod leaves;
 mod mails;

@@ -14,15 +14,17 @@ ghost use Rattle.lwkt_msg.specs.Desks.{cpu_of, messages_of};
 ghost use Rattle.lwkt_port.specs.Posts.{IsSamePost};
 ghost use Rattle.lwkt_port.specs.Works.{Grew};
 ghost use Rattle.lwkt_port.specs.Servings.{PostGets};
+ghost use Rattle.lwkt_ask.specs.declared.nexts.Next.{Next};
+ghost use Rattle.lwkt_ask.specs.Briefs.{answer_of, next_of};
 ghost use Rattle.lwkt_ask.specs.Nexts.{HoldsAfter, done_or, bit_or};
 ghost use Rattle.lwkt_ask.specs.Telling.{TellsMail};
 ghost use Rattle.lwkt_ask.specs.Mailing.{sending, plain_flags, SendsMail, RepliesMail, AbortsMail, HearsMail, DropsMail, dropped_or, item_or, Does, WaitsPort};
 
+use crate::briefs::{Brief, Course};
 use crate::calls::done;
 use crate::leaves::leave;
-use crate::nexts::Next;
 use lwkt_bank::Bank;
-use lwkt_base::{Answer, Call, Fault, Flags, Item, MsgId, Rec, ThreadId, TokList};
+use lwkt_base::{Call, Fault, Flags, Item, MsgId, Rec, ThreadId, TokList};
 use lwkt_core::Event;
 use lwkt_hold::Hold;
 use lwkt_msg::MsgBook;
@@ -30,36 +32,36 @@ use lwkt_port::Ports;
 
 // The answer for a look at a port.
 #[inline(always)]
-fn shown(told: Result<Option<Item>, Fault>) -> Answer
-    ensures { result ≡ item_or told }
+fn shown(told: Result<Option<Item>, Fault>) -> Brief
+    ensures { answer_of result ≡ item_or told }
 {
     match told {
-        Ok(Some(item)) => Answer::Got(item),
-        Ok(None) => Answer::NoMsg,
-        Err(fault) => Answer::Refused(fault),
+        Ok(Some(item)) => Brief::Got(item),
+        Ok(None) => Brief::NoMsg,
+        Err(fault) => Brief::Refused(fault),
     }
 }
 
 // The answer to a question: 1 for yes, 0 for no.
 #[inline(always)]
-fn said(told: Result<bool, Fault>) -> Answer
-    ensures { result ≡ bit_or told }
+fn said(told: Result<bool, Fault>) -> Brief
+    ensures { answer_of result ≡ bit_or told }
 {
     match told {
-        Ok(true) => Answer::Value(1),
-        Ok(false) => Answer::Value(0),
-        Err(fault) => Answer::Refused(fault),
+        Ok(true) => Brief::Value(1),
+        Ok(false) => Brief::Value(0),
+        Err(fault) => Brief::Refused(fault),
     }
 }
 
 // The answer for a drop of a message: the message and the record that it was sent with.
 #[inline(always)]
-fn given_back(msg: MsgId, told: Result<Rec, Fault>) -> Answer
-    ensures { result ≡ dropped_or msg told }
+fn given_back(msg: MsgId, told: Result<Rec, Fault>) -> Brief
+    ensures { answer_of result ≡ dropped_or msg told }
 {
     match told {
-        Ok(rec) => Answer::Dropped(msg, rec),
-        Err(fault) => Answer::Refused(fault),
+        Ok(rec) => Brief::Dropped(msg, rec),
+        Err(fault) => Brief::Refused(fault),
     }
 }
 
@@ -74,10 +76,10 @@ pub(crate) fn send(
     call: Call,
     flags: Flags,
     trace: &mut Vec<Event>,
-) -> Answer
+) -> Brief
     requires table { ports.old.seat.table ≡ book.now.table }
     requires room { vec_len trace.old + 512 ≤ vec_capacity trace.old }
-    ensures sends { (told : Result (Unit {0}) Fault) × (SendsMail (sending thread msg to call flags false) ports.old ports.new trace.old trace.new told × (result ≡ done_or told)) }
+    ensures sends { (told : Result (Unit {0}) Fault) × (SendsMail (sending thread msg to call flags false) ports.old ports.new trace.old trace.new told × (answer_of result ≡ done_or told)) }
     ensures same { IsSamePost ports.old ports.new }
     ensures grew { Grew (cpu_of ports.old.seat) 1 trace.old trace.new }
     ensures told { TellsMail ports.old.seat ports.new.seat trace.old.items trace.new.items }
@@ -99,23 +101,23 @@ pub(crate) fn send_and_wait(
     to: ThreadId,
     call: Call,
     trace: &mut Vec<Event>,
-) -> Next
+) -> Course
     requires of { bank_of (seat_of hold.old) ≡ id_of bank.now }
     requires table { ports.old.seat.table ≡ book.now.table }
     requires mine { cpu_of ports.old.seat ≡ (seat_of hold.old).cpu }
     requires held { holding (seat_of hold.old) ≡ holding_of list.now }
     requires room { vec_len trace.old + 512 ≤ vec_capacity trace.old }
-    ensures does { Does (sending thread msg to call plain_flags true) ports.old ports.new (seat_of hold.old) (seat_of hold.new) list.now trace.old trace.new result }
+    ensures does { Does (sending thread msg to call plain_flags true) ports.old ports.new (seat_of hold.old) (seat_of hold.new) list.now trace.old trace.new (next_of result) }
     ensures ran { Ran (IsFront list.now) 320 (seat_of hold.old) (seat_of hold.new) trace.old trace.new }
-    ensures held { HoldsAfter result (holding (seat_of hold.new)) list.now }
+    ensures held { HoldsAfter (next_of result) (holding (seat_of hold.new)) list.now }
     ensures same { IsSamePost ports.old ports.new }
-    ensures named { (m : MsgId) → result ≡ Next.AwaitsReply m → m.0 < messages_of ports.new.seat }
+    ensures named { (m : MsgId) → next_of result ≡ Next.AwaitsReply m → m.0 < messages_of ports.new.seat }
     ensures told { TellsMail ports.old.seat ports.new.seat trace.old.items trace.new.items }
 {
     let _ = ports.threads();
     match ports.send_sync(book, thread, msg, to, call, trace) {
-        Ok(()) => leave(hold, bank, list, Next::AwaitsReply(msg), trace),
-        Err(fault) => Next::Runs(Answer::Refused(fault)),
+        Ok(()) => leave(hold, bank, list, Course::AwaitsReply(msg), trace),
+        Err(fault) => Course::Runs(Brief::Refused(fault)),
     }
 }
 
@@ -129,10 +131,10 @@ pub(crate) fn reply(
     error: u32,
     outcome: u64,
     trace: &mut Vec<Event>,
-) -> Answer
+) -> Brief
     requires table { ports.old.seat.table ≡ book.now.table }
     requires room { vec_len trace.old + 512 ≤ vec_capacity trace.old }
-    ensures replies { (told : Result (Unit {0}) Fault) × (RepliesMail thread msg error outcome ports.old ports.new trace.old trace.new told × (result ≡ done_or told)) }
+    ensures replies { (told : Result (Unit {0}) Fault) × (RepliesMail thread msg error outcome ports.old ports.new trace.old trace.new told × (answer_of result ≡ done_or told)) }
     ensures same { IsSamePost ports.old ports.new }
     ensures grew { Grew (cpu_of ports.old.seat) 1 trace.old trace.new }
     ensures told { TellsMail ports.old.seat ports.new.seat trace.old.items trace.new.items }
@@ -149,10 +151,10 @@ pub(crate) fn abort(
     thread: u8,
     msg: MsgId,
     trace: &mut Vec<Event>,
-) -> Answer
+) -> Brief
     requires table { ports.old.seat.table ≡ book.now.table }
     requires room { vec_len trace.old + 512 ≤ vec_capacity trace.old }
-    ensures aborts { (told : Result (Unit {0}) Fault) × (AbortsMail thread msg ports.old ports.new trace.old trace.new told × (result ≡ done_or told)) }
+    ensures aborts { (told : Result (Unit {0}) Fault) × (AbortsMail thread msg ports.old ports.new trace.old trace.new told × (answer_of result ≡ done_or told)) }
     ensures same { IsSamePost ports.old ports.new }
     ensures grew { Grew (cpu_of ports.old.seat) 1 trace.old trace.new }
     ensures told { TellsMail ports.old.seat ports.new.seat trace.old.items trace.new.items }
@@ -163,9 +165,9 @@ pub(crate) fn abort(
 
 /// Says whether a message that the thread was shown is to be aborted.
 #[inline(always)]
-pub(crate) fn is_aborted(ports: &mut Ports, book: &MsgBook, thread: u8, msg: MsgId) -> Answer
+pub(crate) fn is_aborted(ports: &mut Ports, book: &MsgBook, thread: u8, msg: MsgId) -> Brief
     requires table { ports.old.seat.table ≡ book.now.table }
-    ensures hears { (told : Result Bool Fault) × (HearsMail thread msg ports.old ports.new told × (result ≡ bit_or told)) }
+    ensures hears { (told : Result Bool Fault) × (HearsMail thread msg ports.old ports.new told × (answer_of result ≡ bit_or told)) }
     ensures same { IsSamePost ports.old ports.new }
     ensures told { (events : List Event) → TellsMail ports.old.seat ports.new.seat events events }
 {
@@ -181,10 +183,10 @@ pub(crate) fn drop_msg(
     thread: u8,
     msg: MsgId,
     trace: &mut Vec<Event>,
-) -> Answer
+) -> Brief
     requires table { ports.old.seat.table ≡ book.now.table }
     requires room { vec_len trace.old + 512 ≤ vec_capacity trace.old }
-    ensures drops { (told : Result Rec Fault) × (DropsMail thread msg ports.old ports.new trace.old trace.new told × (result ≡ dropped_or msg told)) }
+    ensures drops { (told : Result Rec Fault) × (DropsMail thread msg ports.old ports.new trace.old trace.new told × (answer_of result ≡ dropped_or msg told)) }
     ensures same { IsSamePost ports.old ports.new }
     ensures grew { Grew (cpu_of ports.old.seat) 1 trace.old trace.new }
     ensures told { TellsMail ports.old.seat ports.new.seat trace.old.items trace.new.items }
@@ -200,11 +202,11 @@ pub(crate) fn get_port(
     book: &MsgBook,
     thread: u8,
     trace: &mut Vec<Event>,
-) -> Answer
+) -> Brief
     requires table { ports.old.seat.table ≡ book.now.table }
     requires exists { thread < ports.old.threads }
     requires room { vec_len trace.old + 512 ≤ vec_capacity trace.old }
-    ensures gets { (told : Result (Option Item) Fault) × (PostGets thread ports.old ports.new trace.old trace.new told × (result ≡ item_or told)) }
+    ensures gets { (told : Result (Option Item) Fault) × (PostGets thread ports.old ports.new trace.old trace.new told × (answer_of result ≡ item_or told)) }
     ensures same { IsSamePost ports.old ports.new }
     ensures grew { Grew (cpu_of ports.old.seat) 128 trace.old trace.new }
     ensures told { TellsMail ports.old.seat ports.new.seat trace.old.items trace.new.items }
@@ -223,23 +225,23 @@ pub(crate) fn wait_port(
     thread: u8,
     list: &TokList,
     trace: &mut Vec<Event>,
-) -> Next
+) -> Course
     requires of { bank_of (seat_of hold.old) ≡ id_of bank.now }
     requires table { ports.old.seat.table ≡ book.now.table }
     requires exists { thread < ports.old.threads }
     requires mine { cpu_of ports.old.seat ≡ (seat_of hold.old).cpu }
     requires held { holding (seat_of hold.old) ≡ holding_of list.now }
     requires room { vec_len trace.old + 512 ≤ vec_capacity trace.old }
-    ensures waits { WaitsPort thread ports.old ports.new (seat_of hold.old) (seat_of hold.new) list.now trace.old trace.new result }
+    ensures waits { WaitsPort thread ports.old ports.new (seat_of hold.old) (seat_of hold.new) list.now trace.old trace.new (next_of result) }
     ensures ran { Ran (IsFront list.now) 320 (seat_of hold.old) (seat_of hold.new) trace.old trace.new }
-    ensures held { HoldsAfter result (holding (seat_of hold.new)) list.now }
+    ensures held { HoldsAfter (next_of result) (holding (seat_of hold.new)) list.now }
     ensures same { IsSamePost ports.old ports.new }
-    ensures named { (m : MsgId) → result ≡ Next.AwaitsReply m → m.0 < messages_of ports.new.seat }
+    ensures named { (m : MsgId) → next_of result ≡ Next.AwaitsReply m → m.0 < messages_of ports.new.seat }
     ensures told { TellsMail ports.old.seat ports.new.seat trace.old.items trace.new.items }
 {
     match ports.get(book, thread, trace) {
-        Ok(Some(item)) => Next::Runs(Answer::Got(item)),
-        Ok(None) => leave(hold, bank, list, Next::AwaitsItem, trace),
-        Err(_) => leave(hold, bank, list, Next::AwaitsItem, trace),
+        Ok(Some(item)) => Course::Runs(Brief::Got(item)),
+        Ok(None) => leave(hold, bank, list, Course::AwaitsItem, trace),
+        Err(_) => leave(hold, bank, list, Course::AwaitsItem, trace),
     }
 }

@@ -4,6 +4,7 @@ use Rattle.lwkt_bank.specs.Seats.{bank_of, tokens_of, holding}
 use Rattle.lwkt_hold.specs.declared.answers.Acquired.{Acquired}
 use Rattle.lwkt_base.specs.declared.faults.Fault.{Fault}
 use Rattle.std.specs.Prelude.{Result}
+use Rattle.lwkt_ask.specs.Briefs.{next_of}
 use Rattle.lwkt_base.specs.declared.asks.Answer.TheVariants.{Done, Refused}
 use Rattle.lwkt_ask.specs.declared.nexts.Next.TheVariants.{Runs}
 use Rattle.lwkt_ask.specs.Table.{GoesOn}
@@ -61,7 +62,7 @@ returns-in-Ok-MustSwitch-clause-ran c =
     let m = c.in-Ok-MustSwitch.ensures.must_switch c.in-Ok-MustSwitch.field-0-0 (ap Ok c.in-Ok-MustSwitch.field-0-is) in
     let long = one_more c.args.list.now c.get.new.list c.args.new m.0 in
     let held : c.len-held.result - 1 ≡ length c.args.list.now = omega (arith, c.len-held.ensures.value, long) in
-    ran_switched c.args.list.now (kept_list c.give_up.result c.get.new.list) c.args.hold.now.seat c.get.new.self.seat c.give_up.new.hold.seat c.args.trace.now c.get.new.trace c.give_up.new.trace _ (front_is c.args.list.now c.get.new.list c.args.new (c.len-held.result - 1) m.0 held)
+    ran_switched c.args.list.now (kept_list (next_of c.give_up.result) c.get.new.list) c.args.hold.now.seat c.get.new.self.seat c.give_up.new.hold.seat c.args.trace.now c.get.new.trace c.give_up.new.trace _ (front_is c.args.list.now c.get.new.list c.args.new (c.len-held.result - 1) m.0 held)
     (c.in-Ok-MustSwitch.ensures.switched c.in-Ok-MustSwitch.field-0-0 (ap Ok c.in-Ok-MustSwitch.field-0-is))
     c.give_up.ensures.ran
 
@@ -77,7 +78,7 @@ returns-in-Ok-MustSwitch-clause-gets c =
     let long = one_more c.args.list.now c.get.new.list c.args.new m.0 in
     let held : c.len-held.result - 1 ≡ length c.args.list.now = omega (arith, c.len-held.ensures.value, long) in
     let g = c.give_up.ensures.gives_up in
-    let F : Result Acquired Fault → Type 0 = λ r. GoesOn c.get.new.self.seat c.give_up.new.hold.seat c.args.list.now c.get.new.list c.get.new.trace c.give_up.new.trace c.give_up.result r in
+    let F : Result Acquired Fault → Type 0 = λ r. GoesOn c.get.new.self.seat c.give_up.new.hold.seat c.args.list.now c.get.new.list c.get.new.trace c.give_up.new.trace (next_of c.give_up.result) r in
     record {
       mid = c.get.new.self.seat;
       v = c.get.new.trace;
@@ -96,7 +97,7 @@ returns-in-Ok-MustSwitch-clause-gets c =
         worn = e.worn;
         only = e.only;
       };
-      goes_on = subst F (sym (c.in-Ok-MustSwitch.is ∙ ap Ok c.in-Ok-MustSwitch.field-0-is)) (given_up_at c.get.new.self.seat c.give_up.new.hold.seat c.get.new.list (c.len-held.result - 1) (length c.args.list.now) c.get.new.trace c.give_up.new.trace c.give_up.result held g);
+      goes_on = subst F (sym (c.in-Ok-MustSwitch.is ∙ ap Ok c.in-Ok-MustSwitch.field-0-is)) (given_up_at c.get.new.self.seat c.give_up.new.hold.seat c.get.new.list (c.len-held.result - 1) (length c.args.list.now) c.get.new.trace c.give_up.new.trace (next_of c.give_up.result) held g);
     }
 
 pub returns-in-Err-clause-gets : goal.returns-in-Err-clause-gets

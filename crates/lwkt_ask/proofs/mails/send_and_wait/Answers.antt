@@ -3,6 +3,7 @@ use Rattle.std.specs.Prelude.{Result}
 use Rattle.lwkt_base.specs.declared.asks.Answer.TheVariants.{Refused}
 use Rattle.lwkt_base.specs.declared.faults.Fault.{Fault}
 use Rattle.lwkt_msg.specs.Desks.{cpu_of}
+use Rattle.lwkt_ask.specs.Briefs.{next_of}
 use Rattle.lwkt_ask.specs.declared.nexts.Next.TheVariants.{Runs}
 use Rattle.lwkt_ask.specs.Mailing.{WaitsReply}
 use Rattle.lwkt_ask.proofs.MailMoves.{ran_mail_held, ran_mail_left}
@@ -12,7 +13,7 @@ use Rattle.lwkt_ask.proofs.mails.send_and_wait.Goals as goal
 pub returns-in-Ok-clause-does : goal.returns-in-Ok-clause-does
 returns-in-Ok-clause-does c =
     let m = c.send_sync in
-    let F : Result (Unit {0}) Fault → Type 0 = λ r. WaitsReply c.args.hold.now.seat c.leave.new.hold.seat c.args.list.now m.new.trace c.leave.new.trace c.args.msg c.leave.result r in
+    let F : Result (Unit {0}) Fault → Type 0 = λ r. WaitsReply c.args.hold.now.seat c.leave.new.hold.seat c.args.list.now m.new.trace c.leave.new.trace c.args.msg (next_of c.leave.result) r in
     record {
       v = m.new.trace;
       result = m.result;

@@ -4,6 +4,7 @@ use Rattle.lwkt_base.specs.declared.asks.Item.{Item}
 use Rattle.lwkt_base.specs.declared.asks.Answer.TheVariants.{Got}
 use Rattle.lwkt_base.specs.declared.faults.Fault.{Fault}
 use Rattle.lwkt_msg.specs.Desks.{cpu_of}
+use Rattle.lwkt_ask.specs.Briefs.{next_of}
 use Rattle.lwkt_ask.specs.declared.nexts.Next.TheVariants.{Runs}
 use Rattle.lwkt_ask.specs.Mailing.{WaitsItem}
 use Rattle.lwkt_ask.proofs.MailMoves.{ran_mail_held, ran_mail_left}
@@ -26,7 +27,7 @@ returns-in-Ok-Some-clause-ran c = ran_mail_held c.args.list.now (cpu_of c.args.p
 
 pub returns-in-Ok-None-clause-waits : goal.returns-in-Ok-None-clause-waits
 returns-in-Ok-None-clause-waits c =
-    let F : Result (Option Item) Fault → Type 0 = λ r. WaitsItem c.args.hold.now.seat c.leave.new.hold.seat c.args.list.now c.get.new.trace c.leave.new.trace c.leave.result r in
+    let F : Result (Option Item) Fault → Type 0 = λ r. WaitsItem c.args.hold.now.seat c.leave.new.hold.seat c.args.list.now c.get.new.trace c.leave.new.trace (next_of c.leave.result) r in
     record {
       v = c.get.new.trace;
       result = c.get.result;
@@ -40,7 +41,7 @@ returns-in-Ok-None-clause-ran c = ran_mail_left c.args.list.now (cpu_of c.args.p
 pub returns-in-Err-clause-waits : goal.returns-in-Err-clause-waits
 returns-in-Err-clause-waits c =
     let l = c.leave-in-Err in
-    let F : Result (Option Item) Fault → Type 0 = λ r. WaitsItem c.args.hold.now.seat l.new.hold.seat c.args.list.now c.get.new.trace l.new.trace l.result r in
+    let F : Result (Option Item) Fault → Type 0 = λ r. WaitsItem c.args.hold.now.seat l.new.hold.seat c.args.list.now c.get.new.trace l.new.trace (next_of l.result) r in
     record {
       v = c.get.new.trace;
       result = c.get.result;
