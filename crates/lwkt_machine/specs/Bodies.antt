@@ -1,9 +1,11 @@
 -- The body of a script's thread (own).
-use Rattle.std.specs.Prelude.{◌≡◌, ℕ, ◌+◌, nat_lt, if◌then◌else◌, List, [], ◌∷◌, ◌++◌, length, min, Option, Some, None, unwrap_or, option_and_then}
+use Rattle.std.specs.Prelude.{◌≡◌, ℕ, ◌+◌, nat_lt, if◌then◌else◌, List, [], ◌∷◌, ◌++◌, length, min, Option, Some, None, unwrap_or, option_and_then, slice_get}
 use Rattle.lwkt_base.specs.declared.asks.Ask.{Ask}
 use Rattle.lwkt_base.specs.declared.asks.Ask.TheVariants.{Exit}
 use Rattle.lwkt_base.specs.declared.asks.Answer.{Answer}
 use Rattle.lwkt_base.specs.declared.entries.Entry.{Entry}
+use Rattle.lwkt_machine.specs.declared.bodies.Asked.{Asked}
+use Rattle.lwkt_machine.specs.declared.bodies.Asked.TheVariants.{Nothing, Step, Exit as AskedExit}
 use Rattle.lwkt_verdict.specs.Asks.{entry_of}
 use Rattle.lwkt_verdict.specs.Threads.{ask_in}
 
@@ -16,6 +18,12 @@ pub record Scripted : Type 0 where
   pub asked : Option Ask
   pub told : Option Answer
   pub log : List Entry
+
+-- what a body asked last, of its steps
+abbrev pub asked_by : List Ask → Asked → Option Ask
+asked_by steps Nothing = None
+asked_by steps (Step at) = slice_get steps at
+asked_by steps AskedExit = Some Exit
 
 -- a body that was never polled
 abbrev pub unpolled : List Ask → ℕ → Scripted

@@ -1,6 +1,6 @@
 //! The bodies of a script's threads.
-ghost use Rattle.std.specs.Prelude.{◌≡◌, ◌≤◌, length, IfOk, Some};
-ghost use Rattle.lwkt_machine.specs.Bodies.{unpolled, next_ask, entry_for, logged};
+ghost use Rattle.std.specs.Prelude.{◌≡◌, ◌<◌, ◌≤◌, length, IfOk, Some, unwrap_or};
+ghost use Rattle.lwkt_machine.specs.Bodies.{unpolled, next_ask, entry_for, logged, asked_by};
 
 use lwkt_ask::Body;
 use lwkt_base::{Answer, Ask, Entry};
@@ -11,6 +11,17 @@ use std::marker::Model;
 /// The most entries of a log.
 pub const LOG_LIMIT: usize = 32;
 
+/// What a body asked last. A step is told by its place, so that an ask, which has room for a record, isn't copied.
+#[derive(Clone, Copy)]
+enum Asked {
+    /// Nothing yet.
+    Nothing,
+    /// The step of this number.
+    Step(usize),
+    /// To end, after the last step.
+    Exit,
+}
+
 /// The body of a script's thread: it asks its steps in order, so many times over, and then `Exit`, and `Exit` ever after. Its
 /// log has the first 32 entries that its answers make.
 #[derive(Drop)]
@@ -18,18 +29,18 @@ pub struct ScriptBody {
     steps: Vec<Ask>,
     repeat: u32,
     polls: u64,
-    asked: Option<Ask>,
+    asked: Asked,
     told: Option<Answer>,
     log: Vec<Entry>,
 }
 
 impl Model for ScriptBody {
     ghost use Rattle.std.specs.Prelude.{◌≤◌, length, vec_capacity};
-    ghost use Rattle.lwkt_machine.specs.Bodies.{Scripted};
+    ghost use Rattle.lwkt_machine.specs.Bodies.{Scripted, asked_by};
 
     ghost Value = { Scripted };
 
-    ghost view = { λ b. record { steps = b.steps.items; repeat = b.repeat; polls = b.polls; asked = b.asked; told = b.told; log = b.log.items } };
+    ghost view = { λ b. record { steps = b.steps.items; repeat = b.repeat; polls = b.polls; asked = asked_by b.steps.items b.asked; told = b.told; log = b.log.items } };
 
     ghost invariant = { λ b. (length b.log.items ≤ 32) × (32 ≤ vec_capacity b.log) };
 }
@@ -55,7 +66,7 @@ impl ScriptBody {
             steps,
             repeat,
             polls: 0,
-            asked: None,
+            asked: Asked::Nothing,
             told: None,
             log,
         })
@@ -72,7 +83,11 @@ impl ScriptBody {
     pub fn asked(&self) -> Option<Ask>
         ensures { result ≡ self.now.asked }
     {
-        self.asked
+        match self.asked {
+            Asked::Nothing => None,
+            Asked::Step(at) => self.steps.get(at).copied(),
+            Asked::Exit => Some(Ask::Exit),
+        }
     }
 
     /// The answer that the body was given at its last poll: that to the ask before.
@@ -100,33 +115,50 @@ impl ScriptBody {
     }
 
     // What the body asks next.
-    fn next_ask(&self) -> Ask
-        ensures { result ≡ next_ask self.now }
+    #[inline(always)]
+    fn next(&self) -> Asked
+        ensures { asked_by self.now.steps result ≡ Some (next_ask self.now) }
     {
         let count = self.steps.len() as u64;
         if count == 0 || self.polls / count >= u64::from(self.repeat) {
-            return Ask::Exit;
+            return Asked::Exit;
         }
-        self.steps[(self.polls % count) as usize]
+        Asked::Step((self.polls % count) as usize)
+    }
+
+    // The ask that is told so, `Exit` if none is.
+    #[inline(always)]
+    fn ask_of(&self, asked: Asked) -> Ask
+        ensures { result ≡ unwrap_or (asked_by self.now.steps asked) Ask.Exit }
+    {
+        match asked {
+            Asked::Step(at) => match self.steps.get(at) {
+                Some(ask) => *ask,
+                None => Ask::Exit,
+            },
+            Asked::Nothing | Asked::Exit => Ask::Exit,
+        }
+    }
+
+    // Keeps what an answer puts in the log, which has room for it.
+    #[inline(never)]
+    fn add_entry(&mut self, last: &Answer)
+        requires { length self.old.log < 32 }
+        ensures { self.new ≡ record self.old { log = logged self.old.log (entry_for self.old.asked last.now) } }
+    {
+        if let Some(entry) = entry_for(self.asked(), *last) {
+            self.log.push(entry).unwrap();
+        }
     }
 
     // Keeps what an answer puts in the log, if the log has room.
-    fn keep(&mut self, last: Answer)
-        ensures { self.new ≡ record self.old { log = logged self.old.log (entry_for self.old.asked last) } }
+    #[inline(always)]
+    fn keep(&mut self, last: &Answer)
+        ensures { self.new ≡ record self.old { log = logged self.old.log (entry_for self.old.asked last.now) } }
     {
-        if let Some(entry) = entry_for(self.asked, last) {
-            if self.log.len() < LOG_LIMIT {
-                self.log.push(entry).unwrap();
-            }
+        if self.log.len() < LOG_LIMIT {
+            self.add_entry(last);
         }
-    }
-
-    // Keeps what was asked, and the answer that came before.
-    fn note(&mut self, ask: &Ask, last: &Answer)
-        ensures { self.new ≡ record self.old { asked = Some ask.now; told = Some last.now } }
-    {
-        self.asked = Some(*ask);
-        self.told = Some(*last);
     }
 }
 
@@ -135,11 +167,13 @@ impl Body for ScriptBody {
 
     ghost polled = { IsPolled };
 
+    #[inline(always)]
     fn poll(&mut self, last: Answer) -> Ask {
-        self.keep(last);
-        let ask = self.next_ask();
+        self.keep(&last);
+        let next = self.next();
         self.polls = self.polls.saturating_add(1);
-        self.note(&ask, &last);
-        ask
+        self.asked = next;
+        self.told = Some(last);
+        self.ask_of(next)
     }
 }
