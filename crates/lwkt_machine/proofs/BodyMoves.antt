@@ -6,6 +6,7 @@ use Rattle.std.proofs.lemmas.Bool.Decides.{nat_tests}
 use Rattle.lwkt_base.specs.declared.asks.Ask.{Ask}
 use Rattle.lwkt_base.specs.declared.asks.Ask.TheVariants.{Exit}
 use Rattle.lwkt_base.specs.declared.asks.Answer.{Answer}
+use Rattle.lwkt_base.specs.declared.asks.Answer.TheVariants.{Begin, Done}
 use Rattle.lwkt_base.specs.declared.entries.Entry.{Entry}
 use Rattle.lwkt_verdict.specs.Threads.{ask_in}
 use Rattle.lwkt_machine.specs.Bodies.{Scripted, unpolled, entry_for, logged, after_poll}
@@ -38,6 +39,15 @@ take_all {A = A} [] zero few = refl
 take_all {A = A} [] (suc n) few = refl
 take_all {A = A} (x ∷ xs) zero few = absurd (omega (arith, few))
 take_all {A = A} (x ∷ xs) (suc n) few = ap (λ ys. x ∷ ys) (take_all xs n (omega (arith, few)))
+
+-- nothing is put in the log where nothing was asked before, and where an ask was only done
+pub nothing_begun : (asked : Option Ask) → entry_for asked Begin ≡ None
+nothing_begun None = refl
+nothing_begun (Some ask) = refl
+
+pub nothing_done : (asked : Option Ask) → entry_for asked Done ≡ None
+nothing_done None = refl
+nothing_done (Some ask) = refl
 
 -- a full log takes nothing more
 full : (log rest more : List Entry) → length log ≡ 32 → take 32 (log ++ rest) ≡ take 32 (log ++ more)

@@ -1,5 +1,5 @@
 //! The bodies of a script's threads.
-ghost use Rattle.std.specs.Prelude.{◌≡◌, ◌<◌, ◌≤◌, length, IfOk, Some, unwrap_or};
+ghost use Rattle.std.specs.Prelude.{◌≡◌, ◌<◌, ◌≤◌, length, false, IfOk, Option, Some, None, unwrap_or};
 ghost use Rattle.lwkt_machine.specs.Bodies.{unpolled, next_ask, entry_for, logged, asked_by};
 
 use lwkt_ask::Body;
@@ -27,6 +27,8 @@ enum Asked {
 #[derive(Drop)]
 pub struct ScriptBody {
     steps: Vec<Ask>,
+    // The ask after the last step. It has its place here, so that each ask is copied from where it stands.
+    end: Ask,
     repeat: u32,
     polls: u64,
     asked: Asked,
@@ -35,14 +37,15 @@ pub struct ScriptBody {
 }
 
 impl Model for ScriptBody {
-    ghost use Rattle.std.specs.Prelude.{◌≤◌, length, vec_capacity};
+    ghost use Rattle.std.specs.Prelude.{◌≡◌, ◌≤◌, length, vec_capacity};
+    ghost use Rattle.lwkt_base.specs.declared.asks.Ask.TheVariants.{Exit};
     ghost use Rattle.lwkt_machine.specs.Bodies.{Scripted, asked_by};
 
     ghost Value = { Scripted };
 
     ghost view = { λ b. record { steps = b.steps.items; repeat = b.repeat; polls = b.polls; asked = asked_by b.steps.items b.asked; told = b.told; log = b.log.items } };
 
-    ghost invariant = { λ b. (length b.log.items ≤ 32) × (32 ≤ vec_capacity b.log) };
+    ghost invariant = { λ b. (length b.log.items ≤ 32) × (32 ≤ vec_capacity b.log) × (b.end ≡ Exit) };
 }
 
 // What an answer puts in the log, by the ask that it answers.
@@ -55,6 +58,15 @@ fn entry_for(asked: Option<Ask>, answer: Answer) -> Option<Entry>
     }
 }
 
+// Whether an answer may put something in the log.
+#[inline(always)]
+#[tactic(auto, using(crate::proofs::BodyMoves::nothing_begun, crate::proofs::BodyMoves::nothing_done))]
+fn may_log(answer: &Answer) -> bool
+    ensures { result ≡ false → (asked : Option Ask) → entry_for asked answer.now ≡ None }
+{
+    !matches!(answer, Answer::Begin | Answer::Done)
+}
+
 impl ScriptBody {
     /// A body that makes these steps `repeat` times. Its log has its room from the beginning.
     pub fn new(alloc: Global, steps: &[Ask], repeat: u32) -> Result<Self, AllocError>
@@ -64,6 +76,7 @@ impl ScriptBody {
         let steps = Vec::from_slice(alloc, steps)?;
         Ok(ScriptBody {
             steps,
+            end: Ask::Exit,
             repeat,
             polls: 0,
             asked: Asked::Nothing,
@@ -128,25 +141,25 @@ impl ScriptBody {
 
     // The ask that is told so, `Exit` if none is.
     #[inline(always)]
-    fn ask_of(&self, asked: Asked) -> Ask
-        ensures { result ≡ unwrap_or (asked_by self.now.steps asked) Ask.Exit }
+    fn ask_of(&self, asked: Asked) -> &Ask
+        ensures { result.now ≡ unwrap_or (asked_by self.now.steps asked) Ask.Exit }
     {
         match asked {
             Asked::Step(at) => match self.steps.get(at) {
-                Some(ask) => *ask,
-                None => Ask::Exit,
+                Some(ask) => ask,
+                None => &self.end,
             },
-            Asked::Nothing | Asked::Exit => Ask::Exit,
+            Asked::Nothing | Asked::Exit => &self.end,
         }
     }
 
     // Keeps what an answer puts in the log, which has room for it.
     #[inline(never)]
-    fn add_entry(&mut self, last: &Answer)
+    fn add_entry(&mut self, last: Answer)
         requires { length self.old.log < 32 }
-        ensures { self.new ≡ record self.old { log = logged self.old.log (entry_for self.old.asked last.now) } }
+        ensures { self.new ≡ record self.old { log = logged self.old.log (entry_for self.old.asked last) } }
     {
-        if let Some(entry) = entry_for(self.asked(), *last) {
+        if let Some(entry) = entry_for(self.asked(), last) {
             self.log.push(entry).unwrap();
         }
     }
@@ -156,8 +169,8 @@ impl ScriptBody {
     fn keep(&mut self, last: &Answer)
         ensures { self.new ≡ record self.old { log = logged self.old.log (entry_for self.old.asked last.now) } }
     {
-        if self.log.len() < LOG_LIMIT {
-            self.add_entry(last);
+        if may_log(last) && self.log.len() < LOG_LIMIT {
+            self.add_entry(*last);
         }
     }
 }
@@ -174,6 +187,6 @@ impl Body for ScriptBody {
         self.polls = self.polls.saturating_add(1);
         self.asked = next;
         self.told = Some(last);
-        self.ask_of(next)
+        *self.ask_of(next)
     }
 }
