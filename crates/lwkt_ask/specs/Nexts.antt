@@ -7,6 +7,8 @@ use Rattle.lwkt_base.specs.declared.asks.Answer.TheVariants.{Done, Value, Bytes,
 use Rattle.lwkt_base.specs.Holding.{Holding, holding_of, holds_nothing}
 use Rattle.lwkt_hold.specs.declared.answers.Blocked.{Blocked}
 use Rattle.lwkt_hold.specs.declared.answers.Blocked.TheVariants.{Clean, Restored}
+use Rattle.lwkt_ask.specs.declared.nexts.Going.{Going}
+use Rattle.lwkt_ask.specs.declared.nexts.Going.TheVariants.{Runs as GoingRuns, Readies as GoingReadies, AwaitsItem as GoingAwaitsItem, AwaitsReply as GoingAwaitsReply, Exits as GoingExits, Faults as GoingFaults}
 use Rattle.lwkt_ask.specs.declared.nexts.Next.{Next}
 use Rattle.lwkt_ask.specs.declared.nexts.Next.TheVariants.{Runs, Readies, AwaitsItem, AwaitsReply, Exits, Faults}
 
@@ -51,3 +53,21 @@ bit_or (Err fault) = Refused fault
 abbrev pub unless_broken : Next → Blocked → Next
 unless_broken next Clean = next
 unless_broken next (Restored tok) = Faults Broken
+
+-- what comes next, with the answer that is kept for the thread
+abbrev pub next_with : Going → Answer → Next
+next_with GoingRuns answer = Runs answer
+next_with GoingReadies answer = Readies answer
+next_with GoingAwaitsItem answer = AwaitsItem
+next_with (GoingAwaitsReply msg) answer = AwaitsReply msg
+next_with GoingExits answer = Exits
+next_with (GoingFaults fault) answer = Faults fault
+
+-- the answer that was kept before stays, where none comes now
+abbrev pub KeepsAnswer : Going → Answer → Answer → Type 0
+KeepsAnswer GoingRuns old new = Unit {0}
+KeepsAnswer GoingReadies old new = Unit {0}
+KeepsAnswer GoingAwaitsItem old new = new ≡ old
+KeepsAnswer (GoingAwaitsReply msg) old new = new ≡ old
+KeepsAnswer GoingExits old new = new ≡ old
+KeepsAnswer (GoingFaults fault) old new = new ≡ old

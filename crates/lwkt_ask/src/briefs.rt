@@ -2,7 +2,7 @@
 //!
 //! An `Answer` has room for a record, so it is large. Every ask but the one for a record answers in brief, and the whole
 //! answer is made of that in one place.
-use crate::nexts::Next;
+use crate::nexts::{Going, Next};
 use lwkt_base::{Answer, Fault, Item, MsgId, Rec};
 
 /// The answer to an ask that isn't for a record.
@@ -42,6 +42,7 @@ pub(crate) enum Course {
 impl Course {
     ghost use Rattle.std.specs.Prelude.{◌≡◌};
     ghost use Rattle.lwkt_ask.specs.Briefs.{next_of};
+    ghost use Rattle.lwkt_ask.specs.Nexts.{next_with, KeepsAnswer};
 
     /// What comes next, with its whole answer.
     #[inline(always)]
@@ -60,6 +61,48 @@ impl Course {
             Course::AwaitsReply(msg) => Next::AwaitsReply(msg),
             Course::Exits => Next::Exits,
             Course::Faults(fault) => Next::Faults(fault),
+        }
+    }
+
+    // Keeps the answer, if there is one. Each kind is written by itself, since only a record takes all the room.
+    #[inline(always)]
+    pub(crate) fn keep(self, last: &mut Answer) -> Going
+        ensures next { next_with result last.new ≡ next_of self }
+        ensures kept { KeepsAnswer result last.old last.new }
+    {
+        match self {
+            Course::Runs(brief) => {
+                brief.keep(last);
+                Going::Runs
+            }
+            Course::Readies => {
+                *last = Answer::Done;
+                Going::Readies
+            }
+            Course::AwaitsItem => Going::AwaitsItem,
+            Course::AwaitsReply(msg) => Going::AwaitsReply(msg),
+            Course::Exits => Going::Exits,
+            Course::Faults(fault) => Going::Faults(fault),
+        }
+    }
+}
+
+impl Brief {
+    ghost use Rattle.std.specs.Prelude.{◌≡◌};
+    ghost use Rattle.lwkt_ask.specs.Briefs.{answer_of};
+
+    // Keeps the answer.
+    #[inline(always)]
+    fn keep(self, last: &mut Answer)
+        ensures { last.new ≡ answer_of self }
+    {
+        match self {
+            Brief::Done => *last = Answer::Done,
+            Brief::Value(value) => *last = Answer::Value(value),
+            Brief::Dropped(msg, rec) => *last = Answer::Dropped(msg, rec),
+            Brief::Got(item) => *last = Answer::Got(item),
+            Brief::NoMsg => *last = Answer::NoMsg,
+            Brief::Refused(fault) => *last = Answer::Refused(fault),
         }
     }
 }

@@ -15,5 +15,5 @@ pub mod performs;
 
 pub use bodies::Body;
 pub use leaves::exit;
-pub use nexts::Next;
-pub use performs::perform;
+pub use nexts::{Going, Next};
+pub use performs::{perform, perform_at};

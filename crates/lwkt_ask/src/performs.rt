@@ -9,7 +9,7 @@ ghost use Rattle.lwkt_base.specs.declared.names.MsgId.{MsgId};
 ghost use Rattle.lwkt_msg.specs.Desks.{cpu_of, messages_of};
 ghost use Rattle.lwkt_port.specs.Posts.{IsSamePost};
 ghost use Rattle.lwkt_ask.specs.Briefs.{is_brief, next_of};
-ghost use Rattle.lwkt_ask.specs.Nexts.{kept_list, HoldsAfter};
+ghost use Rattle.lwkt_ask.specs.Nexts.{kept_list, HoldsAfter, next_with, KeepsAnswer};
 ghost use Rattle.lwkt_ask.specs.Table.{Performs};
 ghost use Rattle.lwkt_ask.specs.Telling.{TellsMail};
 
@@ -17,9 +17,9 @@ use crate::briefs::Course;
 use crate::calls::{add, get, read, read_blob, rel, swap, try_get, write, write_blob};
 use crate::leaves::leave;
 use crate::mails::{abort, drop_msg, get_port, is_aborted, reply, send, send_and_wait, wait_port};
-use crate::nexts::Next;
+use crate::nexts::{Going, Next};
 use lwkt_bank::Bank;
-use lwkt_base::{Ask, Mode, Ref, TokId, TokList};
+use lwkt_base::{Answer, Ask, Mode, Ref, TokId, TokList};
 use lwkt_core::Event;
 use lwkt_hold::Hold;
 use lwkt_msg::MsgBook;
@@ -136,5 +136,43 @@ pub fn perform(
     match ask {
         Ask::ReadBlob(tok) => Next::Runs(read_blob(hold, bank, list, tok, trace)),
         _ => perform_brief(hold, ports, bank, book, thread, list, &ask, trace).whole(),
+    }
+}
+
+/// Performs an ask as `perform` does, and keeps its answer where that is kept, if there is one. That the trace has
+/// room for 512 events is the caller's condition; no ask makes more than 320.
+#[inline(always)]
+pub fn perform_at(
+    hold: &mut Hold,
+    ports: &mut Ports,
+    bank: &Bank,
+    book: &MsgBook,
+    thread: u8,
+    list: &mut TokList,
+    ask: &Ask,
+    last: &mut Answer,
+    trace: &mut Vec<Event>,
+) -> Going
+    requires of { bank_of (seat_of hold.old) ≡ id_of bank.now }
+    requires table { ports.old.seat.table ≡ book.now.table }
+    requires exists { thread < ports.old.threads }
+    requires mine { cpu_of ports.old.seat ≡ (seat_of hold.old).cpu }
+    requires held { holding (seat_of hold.old) ≡ holding_of list.old }
+    requires room { vec_len trace.old + 512 ≤ vec_capacity trace.old }
+    ensures ran { Ran (IsBetween list.old (kept_list (next_with result last.new) list.new)) 320 (seat_of hold.old) (seat_of hold.new) trace.old trace.new }
+    ensures kept { KeepsAnswer result last.old last.new }
+    ensures held { HoldsAfter (next_with result last.new) (holding (seat_of hold.new)) list.new }
+    ensures there { All (λ r. r.tok.0 < tokens_of (bank_of (seat_of hold.old))) list.old → All (λ r. r.tok.0 < tokens_of (bank_of (seat_of hold.old))) list.new }
+    ensures performs { Performs (id_of bank.now) thread (seat_of hold.old) (seat_of hold.new) ports.old ports.new list.old list.new trace.old trace.new ask.now (next_with result last.new) }
+    ensures same { IsSamePost ports.old ports.new }
+    ensures named { (m : MsgId) → next_with result last.new ≡ Next.AwaitsReply m → m.0 < messages_of ports.new.seat }
+    ensures told { TellsMail ports.old.seat ports.new.seat trace.old.items trace.new.items }
+{
+    match *ask {
+        Ask::ReadBlob(tok) => {
+            *last = read_blob(hold, bank, list, tok, trace);
+            Going::Runs
+        }
+        _ => perform_brief(hold, ports, bank, book, thread, list, ask, trace).keep(last),
     }
 }

@@ -8,7 +8,7 @@ ghost use Rattle.lwkt_cpu.specs.Polling.{became, goes_on};
 use crate::phases::{Phase, ToClose};
 use crate::threads::Thread;
 use lwkt_ask::Next;
-use lwkt_base::{Answer, TokList};
+use lwkt_base::TokList;
 use lwkt_port::Ports;
 
 /// Ends a thread: its list is empty from now on.
@@ -48,23 +48,6 @@ pub(crate) fn close_all(ports: &mut Ports, threads: &[Thread], which: ToClose)
     }
 }
 
-// Keeps an answer for the thread's next poll. Each kind is written by itself, since only a record takes all the room.
-#[inline(always)]
-fn keep_answer(thread: &mut Thread, answer: Answer)
-    ensures { thread.new ≡ record thread.old { last = answer } }
-{
-    match answer {
-        Answer::Begin => thread.last = Answer::Begin,
-        Answer::Done => thread.last = Answer::Done,
-        Answer::Value(value) => thread.last = Answer::Value(value),
-        Answer::Bytes(blob) => thread.last = Answer::Bytes(blob),
-        Answer::Dropped(msg, rec) => thread.last = Answer::Dropped(msg, rec),
-        Answer::Got(item) => thread.last = Answer::Got(item),
-        Answer::NoMsg => thread.last = Answer::NoMsg,
-        Answer::Refused(fault) => thread.last = Answer::Refused(fault),
-    }
-}
-
 /// What comes next for a thread comes; says whether it goes on running.
 #[inline(always)]
 pub(crate) fn go_on(thread: &mut Thread, next: Next) -> bool
@@ -73,11 +56,11 @@ pub(crate) fn go_on(thread: &mut Thread, next: Next) -> bool
 {
     match next {
         Next::Runs(answer) => {
-            keep_answer(thread, answer);
+            thread.last = answer;
             true
         }
         Next::Readies(answer) => {
-            keep_answer(thread, answer);
+            thread.last = answer;
             false
         }
         Next::AwaitsItem => {
