@@ -1,4 +1,5 @@
 pub mod PlaceMoves
+pub mod PollMoves
 pub mod SearchMoves
 pub mod RestMoves
 pub mod StopMoves

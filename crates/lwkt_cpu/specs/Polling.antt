@@ -7,6 +7,8 @@ use Rattle.lwkt_core.specs.declared.events.Event.{Event}
 use Rattle.lwkt_bank.specs.declared.seats.CpuSeat.{CpuSeat}
 use Rattle.lwkt_bank.specs.Seats.{BankId}
 use Rattle.lwkt_port.specs.Posts.{Post}
+use Rattle.lwkt_ask.specs.declared.nexts.Going.{Going}
+use Rattle.lwkt_ask.specs.declared.nexts.Going.TheVariants.{Runs as GoingRuns, Readies as GoingReadies, AwaitsItem as GoingAwaitsItem, AwaitsReply as GoingAwaitsReply, Exits as GoingExits, Faults as GoingFaults}
 use Rattle.lwkt_ask.specs.declared.nexts.Next.{Next}
 use Rattle.lwkt_ask.specs.declared.nexts.Next.TheVariants.{Runs, Readies, AwaitsItem, AwaitsReply, Exits, Faults}
 use Rattle.lwkt_ask.specs.Table.{Performs}
@@ -32,6 +34,23 @@ goes_on AwaitsItem = false
 goes_on (AwaitsReply msg) = false
 goes_on Exits = false
 goes_on (Faults fault) = false
+
+-- a thread after what came next for it, where its answer is kept already, and whether it goes on running
+abbrev pub went : Thread → Going → Thread
+went t GoingRuns = t
+went t GoingReadies = t
+went t GoingAwaitsItem = record t { phase = Awaits }
+went t (GoingAwaitsReply msg) = record t { phase = AwaitsFor msg }
+went t GoingExits = ended_by Exited t
+went t (GoingFaults fault) = ended_by (Faulted fault) t
+
+abbrev pub goes : Going → Bool
+goes GoingRuns = true
+goes GoingReadies = false
+goes GoingAwaitsItem = false
+goes (GoingAwaitsReply msg) = false
+goes GoingExits = false
+goes (GoingFaults fault) = false
 
 -- a thread's body is polled once, with the answer kept for the thread, and its ask is performed; the answer to it is kept for the
 -- thread's next poll, and no refusal of its list is kept any more, or the thread has ended and its port is closed

@@ -3,11 +3,11 @@ ghost use Rattle.std.specs.Prelude.{◌≡◌, ◌<◌, ◌≤◌, length};
 ghost use Rattle.lwkt_port.specs.Posts.{IsSamePost};
 ghost use Rattle.lwkt_cpu.specs.Searches.{ended_by};
 ghost use Rattle.lwkt_cpu.specs.Ending.{ClosesIf, Closes, includes};
-ghost use Rattle.lwkt_cpu.specs.Polling.{became, goes_on};
+ghost use Rattle.lwkt_cpu.specs.Polling.{became, goes_on, went, goes};
 
 use crate::phases::{Phase, ToClose};
 use crate::threads::Thread;
-use lwkt_ask::Next;
+use lwkt_ask::{Going, Next};
 use lwkt_base::TokList;
 use lwkt_port::Ports;
 
@@ -76,6 +76,34 @@ pub(crate) fn go_on(thread: &mut Thread, next: Next) -> bool
             false
         }
         Next::Faults(fault) => {
+            end(thread, Phase::Faulted(fault));
+            false
+        }
+    }
+}
+
+/// What comes next for a thread comes, whose answer is kept already; says whether it goes on running.
+#[inline(always)]
+pub(crate) fn go(thread: &mut Thread, going: Going) -> bool
+    ensures becomes { thread.new ≡ went thread.old going }
+    ensures runs { result ≡ goes going }
+{
+    match going {
+        Going::Runs => true,
+        Going::Readies => false,
+        Going::AwaitsItem => {
+            thread.phase = Phase::AwaitsItem;
+            false
+        }
+        Going::AwaitsReply(msg) => {
+            thread.phase = Phase::AwaitsReply(msg);
+            false
+        }
+        Going::Exits => {
+            end(thread, Phase::Exited);
+            false
+        }
+        Going::Faults(fault) => {
             end(thread, Phase::Faulted(fault));
             false
         }
