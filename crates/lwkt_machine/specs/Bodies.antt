@@ -37,6 +37,10 @@ next_ask b = unwrap_or (ask_in b.repeat b.steps b.polls) Exit
 abbrev pub entry_for : Option Ask → Answer → Option Entry
 entry_for asked answer = option_and_then (λ ask. entry_of ask answer) asked
 
+-- the same of an answer that was told; nothing, if none was
+abbrev pub entry_told : Option Ask → Option Answer → Option Entry
+entry_told asked told = option_and_then (λ answer. entry_for asked answer) told
+
 -- a log keeps its first 32 entries
 abbrev pub logged : List Entry → Option Entry → List Entry
 logged log None = log

@@ -1,6 +1,6 @@
 //! The bodies of a script's threads.
 ghost use Rattle.std.specs.Prelude.{◌≡◌, ◌<◌, ◌≤◌, length, false, IfOk, Option, Some, None, unwrap_or};
-ghost use Rattle.lwkt_machine.specs.Bodies.{unpolled, next_ask, entry_for, logged, asked_by};
+ghost use Rattle.lwkt_machine.specs.Bodies.{unpolled, next_ask, entry_for, entry_told, logged, asked_by};
 
 use lwkt_ask::Body;
 use lwkt_base::{Answer, Ask, Entry};
@@ -58,13 +58,23 @@ fn entry_for(asked: Option<Ask>, answer: Answer) -> Option<Entry>
     }
 }
 
-// Whether an answer may put something in the log.
+// What an answer that was told puts in the log.
+fn entry_told(asked: Option<Ask>, told: &Option<Answer>) -> Option<Entry>
+    ensures { result ≡ entry_told asked told.now }
+{
+    match told {
+        None => None,
+        Some(answer) => entry_for(asked, *answer),
+    }
+}
+
+// Whether an answer that was told may put something in the log.
 #[inline(always)]
 #[tactic(auto, using(crate::proofs::BodyMoves::nothing_begun, crate::proofs::BodyMoves::nothing_done))]
-fn may_log(answer: &Answer) -> bool
-    ensures { result ≡ false → (asked : Option Ask) → entry_for asked answer.now ≡ None }
+fn may_log(told: &Option<Answer>) -> bool
+    ensures { result ≡ false → (asked : Option Ask) → entry_told asked told.now ≡ None }
 {
-    !matches!(answer, Answer::Begin | Answer::Done)
+    !matches!(told, None | Some(Answer::Begin | Answer::Done))
 }
 
 impl ScriptBody {
@@ -153,24 +163,24 @@ impl ScriptBody {
         }
     }
 
-    // Keeps what an answer puts in the log, which has room for it.
+    // Keeps what the answer that was told puts in the log, which has room for it.
     #[inline(never)]
-    fn add_entry(&mut self, last: Answer)
+    fn add_entry(&mut self)
         requires { length self.old.log < 32 }
-        ensures { self.new ≡ record self.old { log = logged self.old.log (entry_for self.old.asked last) } }
+        ensures { self.new ≡ record self.old { log = logged self.old.log (entry_told self.old.asked self.old.told) } }
     {
-        if let Some(entry) = entry_for(self.asked(), last) {
+        if let Some(entry) = entry_told(self.asked(), &self.told) {
             self.log.push(entry).unwrap();
         }
     }
 
-    // Keeps what an answer puts in the log, if the log has room.
+    // Keeps what the answer that was told puts in the log, if the log has room.
     #[inline(always)]
-    fn keep(&mut self, last: &Answer)
-        ensures { self.new ≡ record self.old { log = logged self.old.log (entry_for self.old.asked last.now) } }
+    fn keep(&mut self)
+        ensures { self.new ≡ record self.old { log = logged self.old.log (entry_told self.old.asked self.old.told) } }
     {
-        if may_log(last) && self.log.len() < LOG_LIMIT {
-            self.add_entry(*last);
+        if may_log(&self.told) && self.log.len() < LOG_LIMIT {
+            self.add_entry();
         }
     }
 }
@@ -182,11 +192,11 @@ impl Body for ScriptBody {
 
     #[inline(always)]
     fn poll(&mut self, last: Answer) -> Ask {
-        self.keep(&last);
+        self.told = Some(last);
+        self.keep();
         let next = self.next();
         self.polls = self.polls.saturating_add(1);
         self.asked = next;
-        self.told = Some(last);
         *self.ask_of(next)
     }
 }
