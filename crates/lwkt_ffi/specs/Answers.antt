@@ -109,14 +109,14 @@ AreMisused arguments = IsUtf8 arguments → AskNothing (words_in arguments)
 -- what came of a script that was to be shown with these options: a run of it ended so, and the text shows it; or it ended before the
 -- first turn that was chosen; or it is refused for this fault
 abbrev pub Displays : Options → List ℕ → Result Showing Fault → List ℕ → Type 0
-Displays options script (Ok (Shown end)) whole = IsShown options.view (read_of script) end whole
+Displays options script (Ok (Shown end)) whole = IsShown options (read_of script) end whole
 Displays options script (Ok Past) whole = IsPastIn options (read_of script)
 Displays options script (Ok Misused) whole = ⊥
 Displays options script (Err fault) whole = Refuses (read_of script) fault
 
 -- the same of a script that was to be run along this order; it is also refused where the order names a processor that isn't there
 abbrev pub DisplaysAlong : List ℕ → Options → List ℕ → Result Showing Fault → List ℕ → Type 0
-DisplaysAlong order options script (Ok (Shown end)) whole = IsShownAlong order options.view (read_of script) end whole
+DisplaysAlong order options script (Ok (Shown end)) whole = IsShownAlong order options (read_of script) end whole
 DisplaysAlong order options script (Ok Past) whole = IsPastAlong order options (read_of script)
 DisplaysAlong order options script (Ok Misused) whole = ⊥
 DisplaysAlong order options script (Err fault) whole = RefusesAlong (read_of script) order fault

@@ -1,2 +1,6 @@
+pub mod AskPartings
+pub mod AskTexts
+pub mod Partings
 pub mod Pieces
 pub mod Rows
+pub mod Splits

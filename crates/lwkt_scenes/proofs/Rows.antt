@@ -1,5 +1,5 @@
 -- Lines of turns, one behind another.
-use Rattle.std.proofs.Common.{Bool, ◌≡◌, ℕ, ◌+◌, ◌<◌, List, [], ◌∷◌, ◌++◌, length, drop, get_or, Option, refl, subst, sym, append_assoc, ◌∙◌, ap, false, string_bytes}
+use Rattle.std.proofs.Common.{Bool, ◌≡◌, ℕ, ◌+◌, ◌<◌, List, [], ◌∷◌, ◌++◌, length, drop, get_or, Option, refl, subst, sym, ◌∙◌, ap, false, string_bytes}
 use Rattle.std.proofs.lemmas.List.{drop_more}
 use Rattle.lwkt_refusals.specs.declared.pages.Page.{Page}
 use Rattle.lwkt_refusals.specs.Pages.{Grows}
@@ -7,7 +7,10 @@ use Rattle.lwkt_refusals.proofs.Growing.{grows_twice, grows_nothing}
 use Rattle.lwkt_verdict.specs.declared.turns.Poll.{Poll}
 use Rattle.lwkt_verdict.specs.declared.turns.Turn.{Turn}
 use Rattle.lwkt_verdict.specs.Run.{poll_of}
-use Rattle.lwkt_scenes.specs.Lines.{is_shown, round_of, processor_of, IsTextOf, AreLines, Adds, Begins}
+use Rattle.lwkt_report.specs.declared.closings.Closing.{Closing}
+use Rattle.lwkt_report.specs.Report.{report_text}
+use Rattle.lwkt_scenes.specs.declared.reels.Chosen.{Chosen}
+use Rattle.lwkt_scenes.specs.Lines.{is_shown, round_of, processor_of, IsTextOf, first_of, last_of, round_length, choice_text, AreLines, AreShown, Adds, Begins, IsTold}
 
 -- no lines
 pub no_lines : (first last : ℕ) (order : Option (List ℕ)) (cpus : ℕ) (polls : List Poll) (n : ℕ) (page : Page) → Adds (AreLines first last order cpus polls n []) page page
@@ -34,6 +37,16 @@ one_more first last order cpus polls n turn turns old mid new inside a b =
     let Lines : List Turn → Type 0 = λ rest. Adds (AreLines first last order cpus polls n rest) old new in
     subst Lines (sym (drop_more turns n turn inside)) (one_before first last order cpus polls n (get_or turns n turn) (drop (n + 1) turns) old mid new a b)
 
+-- the lines that are chosen, with which turns are left out behind them
+pub shown_with : (chosen : Chosen) (order : Option (List ℕ)) (cpus : ℕ) (polls : List Poll) (turns : List Turn) (first last : ℕ) (old mid new : Page)
+    → first ≡ first_of chosen.counted chosen.first (round_length cpus) → last ≡ last_of chosen.counted chosen.last (round_length cpus)
+    → Adds (AreLines first last order cpus polls 0 turns) old mid → Grows mid new (choice_text first last (length turns)) → Adds (AreShown chosen order cpus polls turns) old new
+shown_with chosen order cpus polls turns first last old mid new is_first is_last a more = record {
+  words = a.words ++ choice_text first last (length turns);
+  holds = record { first = first; last = last; lines = a.words; is_first = is_first; is_last = is_last; are = a.holds; parts = refl };
+  grows = grows_twice old mid new a.words (choice_text first last (length turns)) a.grows more;
+}
+
 -- what stands on a page that was empty before some words
 pub begins : (Holds : List ℕ → Type 0) (old mid new : Page) (behind text : List ℕ) → string_bytes old.text ≡ [] → Adds Holds old mid → Grows mid new behind → new.is_lost ≡ false → text ≡ string_bytes new.text → Begins Holds text
 begins Holds old mid new behind text empty a more here is = record {
@@ -43,13 +56,14 @@ begins Holds old mid new behind text empty a more here is = record {
   is = is ∙ more.behind here ∙ ap (λ (front : List ℕ). front ++ behind) (a.grows.behind (more.kept here) ∙ ap (λ (front : List ℕ). front ++ a.words) empty);
 }
 
--- a text that begins so, with more behind it
-pub begins_still : (Holds : List ℕ → Type 0) (front more text : List ℕ) → Begins Holds front → text ≡ front ++ more → Begins Holds text
-begins_still Holds front more text b is = record {
+-- a text that begins with lines, with the report behind it
+pub told_whole : (chosen : Chosen) (order : Option (List ℕ)) (cpus : ℕ) (polls : List Poll) (turns : List Turn) (closing : Closing) (front report text : List ℕ)
+    → Begins (AreShown chosen order cpus polls turns) front → report ≡ report_text closing → text ≡ front ++ report → IsTold chosen order cpus polls turns closing text
+told_whole chosen order cpus polls turns closing front report text b is_report is = record {
   front = b.front;
-  rest = b.rest ++ more;
-  holds = b.holds;
-  is = is ∙ ap (λ (xs : List ℕ). xs ++ more) b.is ∙ append_assoc b.front b.rest more;
+  behind = b.rest;
+  shown = b.holds;
+  parts = is ∙ ap (λ (xs : List ℕ). xs ++ report) b.is ∙ ap (λ (xs : List ℕ). b.front ++ b.rest ++ xs) is_report;
 }
 
 -- what stands for a turn, where it is told by other names

@@ -1,3 +1,4 @@
+pub mod Apart
 pub mod Lines
 pub mod Shown
 pub mod Words

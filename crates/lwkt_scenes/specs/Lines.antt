@@ -1,5 +1,5 @@
 -- The lines of turns (own).
-use Rattle.std.specs.Prelude.{◌≡◌, ℕ, ◌+◌, ◌*◌, ◌-◌, ◌/◌, ◌%◌, ◌==◌, ◌&&◌, min, nat_le, nat_lt, Bool, true, false, List, [], ◌∷◌, ◌++◌, get_or, codes, if◌then◌else◌, Option, Some, None}
+use Rattle.std.specs.Prelude.{◌≡◌, ◌⊎◌, ℕ, ◌+◌, ◌*◌, ◌-◌, ◌/◌, ◌%◌, ◌==◌, ◌&&◌, min, nat_le, nat_lt, Bool, true, false, List, [], ◌∷◌, ◌++◌, length, get_or, codes, if◌then◌else◌, Option, Some, None}
 use Rattle.std.specs.Fmt.{decimal}
 use Rattle.std.specs.Option.{option_copied}
 use Rattle.lwkt_base.specs.declared.asks.Answer.{Answer}
@@ -9,6 +9,8 @@ use Rattle.lwkt_refusals.specs.Pages.{Grows}
 use Rattle.lwkt_verdict.specs.declared.turns.Poll.{Poll}
 use Rattle.lwkt_verdict.specs.declared.turns.Turn.{Turn}
 use Rattle.lwkt_verdict.specs.Run.{poll_of}
+use Rattle.lwkt_report.specs.declared.closings.Closing.{Closing}
+use Rattle.lwkt_report.specs.Report.{report_text}
 use Rattle.lwkt_scenes.specs.declared.reels.Chosen.{Chosen}
 use Rattle.lwkt_scenes.specs.declared.reels.Counted.{Counted}
 use Rattle.lwkt_scenes.specs.declared.reels.Counted.TheVariants.{Turns, Rounds}
@@ -26,14 +28,22 @@ late_text answer = codes "waits, then " ++ answer_text answer
 abbrev pub faulted_text : Fault → List ℕ
 faulted_text fault = codes "ends faulted " ++ fault_text fault
 
--- what came of a step: what its thread does then, and the answer that it got, if it was asked again
+-- the answer to an ask, where this came of it
+abbrev pub answered_text : Came → Answer → List ℕ
+answered_text Waits answer = late_text answer
+answered_text _ answer = answer_text answer
+
+-- what came of a step whose thread isn't asked again
+abbrev pub unanswered_text : Came → List ℕ
+unanswered_text Runs = codes "not asked again"
+unanswered_text Waits = codes "waits"
+unanswered_text Ends = codes "ends"
+unanswered_text (Faulted fault) = faulted_text fault
+
+-- what came of a step: the answer that its thread got, if it was asked again, else what it did then
 abbrev pub came_text : Came → Option Answer → List ℕ
-came_text Runs None = codes "not asked again"
-came_text Runs (Some answer) = answer_text answer
-came_text Waits None = codes "waits"
-came_text Waits (Some answer) = late_text answer
-came_text Ends answer = codes "ends"
-came_text (Faulted fault) answer = faulted_text fault
+came_text came (Some answer) = answered_text came answer
+came_text came None = unanswered_text came
 
 -- which time over a thread makes its steps, from 1, where it makes them more than once
 abbrev pub time_text : Step → List ℕ
@@ -54,10 +64,13 @@ poll_text poll step came =
 abbrev pub turn_text : ℕ → ℕ → ℕ → List ℕ
 turn_text number round cpu = (codes "turn " ++ decimal number) ++ (codes ", round " ++ decimal round) ++ (codes ", processor " ++ decimal cpu)
 
--- some words tell a turn's poll, if it has one; which of its steps the thread made, and what it did then, is not said; nor is what a
--- turn without a poll tells
+-- some words say that no thread runs: none is left, or why the others don't, which is not said
+abbrev pub IsIdle : List ℕ → Type 0
+IsIdle words = (words ≡ codes ": no thread is left") ⊎ ((why : List ℕ) × (words ≡ codes ": no thread runs: " ++ why))
+
+-- some words tell a turn's poll, or that it has none; which of its steps the thread made, and what it did then, is not said
 abbrev pub IsDoing : Option Poll → List ℕ → Type 0
-IsDoing None words = Unit {0}
+IsDoing None words = IsIdle words
 IsDoing (Some poll) words = (step : Step) × (came : Came) × (words ≡ poll_text poll step came)
 
 -- the line of a turn: the turn, its poll, its events and the end of the line; what is said of its events is not said
@@ -94,9 +107,26 @@ abbrev pub last_of : Counted → ℕ → ℕ → ℕ
 last_of Turns last turns = last
 last_of Rounds last turns = min (min (last + 1) most * turns) most - 1
 
--- whether a turn is shown: it is one of those from the first to the last, and of the first 10000 of these
+-- the last turn that is shown of those from the first to the last: at most the first 10000 of these are
+abbrev pub last_shown : ℕ → ℕ → ℕ
+last_shown first last = min last (min (first + 9999) most)
+
+-- whether a turn is shown
 abbrev pub is_shown : ℕ → ℕ → ℕ → Bool
-is_shown first last number = nat_le first number && nat_le number (min last (min (first + 9999) most))
+is_shown first last number = nat_le first number && nat_le number (last_shown first last)
+
+-- what is said of the turns before the first that is shown
+abbrev pub before_text : ℕ → List ℕ
+before_text first = if nat_lt 0 first then codes "turns before turn " ++ decimal first ++ codes " are not shown\n" else []
+
+-- what is said of those behind the last one, of so many turns
+abbrev pub after_text : ℕ → ℕ → List ℕ
+after_text last turns =
+    if nat_lt last (turns - 1) then (codes "turns behind turn " ++ decimal last) ++ (codes " are not shown, of " ++ decimal turns) ++ (codes " in all; at most " ++ decimal 10000) ++ codes " are, chosen by --turns A..B or --rounds A..B\n" else []
+
+-- which turns are left out, of so many, where those from the first to the last are chosen
+abbrev pub choice_text : ℕ → ℕ → ℕ → List ℕ
+choice_text first last turns = before_text first ++ after_text (last_shown first last) turns
 
 -- what stands for a turn: its line if it is shown, else nothing
 abbrev pub IsTextOf : Bool → ℕ → ℕ → ℕ → Option Poll → List ℕ → Type 0
@@ -122,7 +152,24 @@ pub record Begins (Holds : List ℕ → Type 0) (text : List ℕ) : Type 0 where
   pub holds : Holds front
   pub is : text ≡ front ++ rest
 
--- a text begins with the lines of a run's turns, of those that are chosen
+-- the lines of a run's turns, of those that are chosen, and then which turns are left out
+pub record AreShown (chosen : Chosen) (order : Option (List ℕ)) (cpus : ℕ) (polls : List Poll) (turns : List Turn) (text : List ℕ) : Type 0 where
+  pub first : ℕ
+  pub last : ℕ
+  pub lines : List ℕ
+  pub is_first : first ≡ first_of chosen.counted chosen.first (round_length cpus)
+  pub is_last : last ≡ last_of chosen.counted chosen.last (round_length cpus)
+  pub are : AreLines first last order cpus polls 0 turns lines
+  pub parts : text ≡ lines ++ choice_text first last (length turns)
+
+-- the same of what was kept of a run, at the beginning of a text
 abbrev pub BeginsWithLines : Reel → Chosen → List ℕ → Type 0
-BeginsWithLines run chosen text =
-    Begins (AreLines (first_of chosen.counted chosen.first (round_length run.script.now.cpus)) (last_of chosen.counted chosen.last (round_length run.script.now.cpus)) (option_copied run.order) run.script.now.cpus run.polls.now 0 run.turns.now) text
+BeginsWithLines run chosen text = Begins (AreShown chosen (option_copied run.order) run.script.now.cpus run.polls.now run.turns.now) text
+
+-- a text is the lines of a run's turns, of those that are chosen, one behind another; then which turns are left out, and some words;
+-- and then the run's report
+pub record IsTold (chosen : Chosen) (order : Option (List ℕ)) (cpus : ℕ) (polls : List Poll) (turns : List Turn) (closing : Closing) (text : List ℕ) : Type 0 where
+  pub front : List ℕ
+  pub behind : List ℕ
+  pub shown : AreShown chosen order cpus polls turns front
+  pub parts : text ≡ front ++ behind ++ report_text closing

@@ -11,6 +11,7 @@ mod drawings;
 mod ends;
 mod events;
 mod labels;
+mod laws;
 mod layouts;
 mod legends;
 mod pages;
@@ -33,6 +34,7 @@ mod whys;
 mod words;
 
 pub use chains::{chains_of, chains_of_sections};
+pub use laws::{lines_tell_turns, texts_tell_asks};
 pub use pictures::picture_of;
 pub use reels::{Chosen, Counted, Reel};
 pub use shows::lines_of;

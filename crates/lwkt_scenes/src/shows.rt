@@ -1,6 +1,7 @@
-ghost use Rattle.std.specs.Prelude.{◌≡◌, ◌+◌, min, IfOk, string_bytes};
+ghost use Rattle.std.specs.Prelude.{◌≡◌, IfOk, string_bytes};
 ghost use Rattle.std.specs.Option.{option_copied};
-ghost use Rattle.lwkt_scenes.specs.Lines.{most, is_shown, IsTextOf, AreLines, Adds, BeginsWithLines};
+ghost use Rattle.lwkt_refusals.specs.Pages.{Grows};
+ghost use Rattle.lwkt_scenes.specs.Lines.{last_shown, before_text, after_text, choice_text, is_shown, IsTextOf, AreLines, Adds, BeginsWithLines, IsTold};
 ghost use Rattle.lwkt_scenes.specs.Shown.{EndsInReport};
 
 use crate::ends::show_ends;
@@ -16,26 +17,45 @@ use std::alloc::Global;
 // The most turns that are shown as lines.
 const TURN_LIMIT: usize = 10_000;
 
-// Appends which turns are shown, if not all are.
-fn show_choice(out: &mut Page, chosen: Chosen, turns: usize) {
-    let end = last_shown(chosen);
-    if chosen.first > 0 {
-        out.size("turns before turn ", chosen.first);
-        out.add(" are not shown\n");
-    }
-    if end < turns.saturating_sub(1) {
-        out.size("turns behind turn ", end);
-        out.size(" are not shown, of ", turns);
-        out.size(" in all; at most ", TURN_LIMIT);
-        out.add(" are, chosen by --turns A..B or --rounds A..B\n");
+// The last turn that is shown.
+fn last_shown(chosen: Chosen) -> usize
+    ensures { result ≡ last_shown chosen.first chosen.last }
+{
+    chosen.last.min(chosen.first.saturating_add(TURN_LIMIT - 1))
+}
+
+// Appends that turns before the first that is shown are left out, if there are any.
+fn show_before(out: &mut Page, first: usize)
+    ensures { Grows out.old out.new (before_text first) }
+{
+    if first > 0 {
+        out.size("turns before turn ", first);
+        out.add(" are not shown\n")
+    } else {
+        out.add("")
     }
 }
 
-// The last turn that is shown.
-fn last_shown(chosen: Chosen) -> usize
-    ensures { result ≡ min chosen.last (min (chosen.first + 9999) most) }
+// Appends that turns behind the last that is shown are left out, if there are any.
+fn show_after(out: &mut Page, last: usize, turns: usize)
+    ensures { Grows out.old out.new (after_text last turns) }
 {
-    chosen.last.min(chosen.first.saturating_add(TURN_LIMIT - 1))
+    if last < turns.saturating_sub(1) {
+        out.size("turns behind turn ", last);
+        out.size(" are not shown, of ", turns);
+        out.size(" in all; at most ", TURN_LIMIT);
+        out.add(" are, chosen by --turns A..B or --rounds A..B\n")
+    } else {
+        out.add("")
+    }
+}
+
+// Appends which turns are left out, if not all are shown.
+fn show_choice(out: &mut Page, chosen: Chosen, turns: usize)
+    ensures { Grows out.old out.new (choice_text chosen.first chosen.last turns) }
+{
+    show_before(out, chosen.first);
+    show_after(out, last_shown(chosen), turns)
 }
 
 // Whether the turn of a number is shown.
@@ -87,16 +107,8 @@ fn show_stop(alloc: Global, out: &mut Page, run: &Reel, replay: &mut Replay, fro
     out.add("\n");
 }
 
-// Appends all that is said of a run behind its turns and before its report.
-fn show_behind(
-    alloc: Global,
-    out: &mut Page,
-    run: &Reel,
-    replay: &mut Replay,
-    chosen: Chosen,
-    from: usize,
-) {
-    show_choice(out, chosen, run.turns.len());
+// Appends all that is said of a run behind its turns and before its report, but for which turns are left out.
+fn show_behind(alloc: Global, out: &mut Page, run: &Reel, replay: &mut Replay, from: usize) {
     show_ends(out, replay, &run.closing.threads);
     show_stop(alloc, out, run, replay, from);
 }
@@ -110,7 +122,8 @@ fn front_of(alloc: Global, run: &Reel, chosen: Chosen) -> Result<String, Fault>
     let mut behind = Page::new(alloc);
     let turns = chosen.in_turns(run.script.cpus);
     let from = show_turns(alloc, &mut out, run, &mut replay, turns);
-    show_behind(alloc, &mut behind, run, &mut replay, turns, from);
+    show_choice(&mut out, turns, run.turns.len());
+    show_behind(alloc, &mut behind, run, &mut replay, from);
     out.add_page(&behind);
     match out.whole() {
         Ok(text) => Ok(text),
@@ -124,7 +137,7 @@ fn front_of(alloc: Global, run: &Reel, chosen: Chosen) -> Result<String, Fault>
 /// Refused with `Memory` if an allocation is, and as `State::open` is for an opening that it refuses.
 pub fn lines_of(alloc: Global, run: &Reel, chosen: Chosen) -> Result<String, Fault>
     ensures report { IfOk result (λ text. EndsInReport run.now.closing.now (string_bytes text)) }
-    ensures lines { IfOk result (λ text. BeginsWithLines run.now chosen (string_bytes text)) }
+    ensures lines { IfOk result (λ text. IsTold chosen (option_copied run.now.order) run.now.script.now.cpus run.now.polls.now run.now.turns.now run.now.closing.now (string_bytes text)) }
 {
     let mut out = front_of(alloc, run, chosen)?;
     let text = report(alloc, run.closing)?;

@@ -1,6 +1,6 @@
 ghost use Rattle.std.specs.Prelude.{◌≡◌, ◌/◌, ◌<◌};
 ghost use Rattle.lwkt_refusals.specs.Pages.{Grows};
-ghost use Rattle.lwkt_scenes.specs.Lines.{late_text, faulted_text, came_text, time_text, step_text, poll_text, turn_text, IsDoing, IsLine, Adds};
+ghost use Rattle.lwkt_scenes.specs.Lines.{late_text, faulted_text, answered_text, unanswered_text, came_text, time_text, step_text, poll_text, turn_text, IsIdle, IsDoing, IsLine, Adds};
 
 use crate::pages::Page;
 use crate::replays::Replay;
@@ -27,21 +27,35 @@ fn show_faulted(out: &mut Page, fault: Fault)
     show_fault(out, fault)
 }
 
-// Appends what came of a step.
+// Appends the answer to an ask, and whether its thread waits before it has it.
+fn show_answered(out: &mut Page, came: Came, answer: Answer)
+    ensures { Grows out.old out.new (answered_text came answer) }
+{
+    match came {
+        Came::Waits => show_late(out, answer),
+        _ => show_answer(out, answer),
+    }
+}
+
+// Appends what came of a step whose thread isn't asked again.
+fn show_unanswered(out: &mut Page, came: Came)
+    ensures { Grows out.old out.new (unanswered_text came) }
+{
+    match came {
+        Came::Runs => out.add("not asked again"),
+        Came::Waits => out.add("waits"),
+        Came::Ends => out.add("ends"),
+        Came::Faulted(fault) => show_faulted(out, fault),
+    }
+}
+
+// Appends what came of a step: the answer, if its thread is asked again.
 fn show_came(out: &mut Page, came: Came, answer: Option<Answer>)
     ensures { Grows out.old out.new (came_text came answer) }
 {
-    match came {
-        Came::Runs => match answer {
-            None => out.add("not asked again"),
-            Some(answer) => show_answer(out, answer),
-        },
-        Came::Waits => match answer {
-            None => out.add("waits"),
-            Some(answer) => show_late(out, answer),
-        },
-        Came::Ends => out.add("ends"),
-        Came::Faulted(fault) => show_faulted(out, fault),
+    match answer {
+        Some(answer) => show_answered(out, came, answer),
+        None => show_unanswered(out, came),
     }
 }
 
@@ -112,8 +126,8 @@ fn came_of(replay: &Replay, id: ThreadId, outcome: Option<Outcome>) -> Came {
 // Appends that a thread ends in a turn.
 fn show_ended(out: &mut Page, story: &Story) {
     match story.end {
-        ThreadState::Faulted(fault) => show_came(out, Came::Faulted(fault), None),
-        _ => show_came(out, Came::Ends, None),
+        ThreadState::Faulted(fault) => show_unanswered(out, Came::Faulted(fault)),
+        _ => show_unanswered(out, Came::Ends),
     }
 }
 
@@ -128,19 +142,30 @@ fn show_rest(out: &mut Page, replay: &Replay, story: &Story, turn: usize) {
     }
 }
 
-// Appends why a processor runs no thread: what each of its threads waits for.
-fn show_idle(out: &mut Page, replay: &Replay, scene: &Scene) {
+// Appends what each thread of a turn's processor waits for, and answers whether there is such a thread.
+fn show_waits(out: &mut Page, replay: &Replay, scene: &Scene) -> bool {
     let mut some = false;
     for story in &replay.stories {
         let is_here = story.id.cpu.0 == scene.cpu;
         if is_here && (story.doing != Doing::Ended || story.ended_in == Some(scene.number)) {
-            out.add(if some { "; " } else { ": no thread runs: " });
+            out.add(if some { "; " } else { "" });
             show_rest(out, replay, story, scene.number);
             some = true;
         }
     }
-    if !some {
-        out.add(": no thread is left");
+    some
+}
+
+// Appends that a turn's processor runs no thread, and why.
+fn show_idle(alloc: Global, out: &mut Page, replay: &Replay, scene: &Scene)
+    ensures { Adds IsIdle out.old out.new }
+{
+    let mut why = Page::new(alloc);
+    if show_waits(&mut why, replay, scene) {
+        out.add(": no thread runs: ");
+        out.add_page(&why)
+    } else {
+        out.add(": no thread is left")
     }
 }
 
@@ -160,11 +185,7 @@ fn show_doing(
             let came = came_of(replay, poll.thread, outcome);
             show_poll(out, &poll, step, came)
         }
-        None => {
-            let mut idle = Page::new(alloc);
-            show_idle(&mut idle, replay, scene);
-            out.add_page(&idle)
-        }
+        None => show_idle(alloc, out, replay, scene),
     }
 }
 

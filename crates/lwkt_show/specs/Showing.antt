@@ -1,5 +1,5 @@
 -- What the program shows of a run (own).
-use Rattle.std.specs.Prelude.{◌≡◌, ◌≤◌, ℕ, Bool, length, List, codes, Option, Result, Ok, Err}
+use Rattle.std.specs.Prelude.{◌≡◌, ◌≤◌, ℕ, Bool, length, List, codes, Option, None, Some, Result, Ok, Err}
 use Rattle.std.specs.Io.KnownBytes.{Appends, Keeps}
 use Rattle.lwkt_report.specs.declared.streams.RunFault.{RunFault}
 use Rattle.lwkt_report.specs.declared.streams.RunFault.TheVariants.{Fault, Stream}
@@ -12,7 +12,9 @@ use Rattle.lwkt_run.specs.declared.runs.TurnsRun.{TurnsRun}
 use Rattle.lwkt_run.specs.declared.threaded.ThreadRecord.{ThreadRecord}
 use Rattle.lwkt_script.specs.declared.scripts.Script.{Script}
 use Rattle.lwkt_script.specs.Format.{script_of}
-use Rattle.lwkt_scenes.specs.Shown.{EndsInReport, first_turn}
+use Rattle.lwkt_scenes.specs.declared.reels.Chosen.{Chosen}
+use Rattle.lwkt_scenes.specs.Lines.{IsTold}
+use Rattle.lwkt_scenes.specs.Shown.{first_turn}
 use Rattle.lwkt_trace.specs.Written.{trace_text}
 use Rattle.lwkt_show.specs.declared.options.Options.{Options}
 use Rattle.lwkt_show.specs.declared.options.View.{View}
@@ -20,20 +22,33 @@ use Rattle.lwkt_show.specs.declared.options.View.TheVariants.{Lines, Trace, Pict
 use Rattle.lwkt_show.specs.declared.programs.Outcome.{Outcome}
 use Rattle.lwkt_show.specs.declared.programs.Outcome.TheVariants.{Shown, Past}
 
--- what is said of a text that shows what was kept: lines end with the report; a trace is the text of the script's opening, of all events
--- and of what the report closes with; of the other views nothing is said
-abbrev pub ShowsAs : View → TurnsRun → List ℕ → Type 0
-ShowsAs Lines run text = EndsInReport run.closing text
-ShowsAs Trace run text = text ≡ trace_text run.script run.trace.items run.closing
-ShowsAs Picture run text = Unit {0}
-ShowsAs Chains run text = Unit {0}
+-- the turns or rounds that these options choose
+abbrev pub chosen_by : Options → Chosen
+chosen_by options = record { counted = options.counted; first = options.first; last = options.last }
 
--- there is a run of the script that these bytes are, with all that was kept of it, that ends so, and the text shows it
-pub record IsShown (view : View) (bytes : List ℕ) (end : End) (text : List ℕ) : Type 0 where
+-- the lines of a run in rounds, or along an order: of each turn that the options choose its line, one behind another, then some words,
+-- and then the run's report
+abbrev pub HasLines : Options → Option (List ℕ) → TurnsRun → List ℕ → Type 0
+HasLines options order run text = IsTold (chosen_by options) order run.script.cpus run.polls.items run.turns.items run.closing text
+
+-- what is said of a text that shows what was kept: it has the lines of the chosen turns, and ends with the report; a trace is the text of
+-- the script's opening, of all events and of what the report closes with; of the other views nothing is said
+abbrev pub ShowsBy : View → Options → Option (List ℕ) → TurnsRun → List ℕ → Type 0
+ShowsBy Lines options order run text = HasLines options order run text
+ShowsBy Trace options order run text = text ≡ trace_text run.script run.trace.items run.closing
+ShowsBy Picture options order run text = Unit {0}
+ShowsBy Chains options order run text = Unit {0}
+
+-- the same of the view that the options name
+abbrev pub ShowsAs : Options → Option (List ℕ) → TurnsRun → List ℕ → Type 0
+ShowsAs options order run text = ShowsBy options.view options order run text
+
+-- there is a run of the script that these bytes are, with all that was kept of it, that ends so, and the text shows it as the options say
+pub record IsShown (options : Options) (bytes : List ℕ) (end : End) (text : List ℕ) : Type 0 where
   pub run : TurnsRun
   pub is_run : IsTurnsRun bytes run
   pub is_end : end ≡ end_told run.closing
-  pub shows : ShowsAs view run text
+  pub shows : ShowsAs options None run text
 
 -- a run ended before the first turn that was chosen
 abbrev pub IsPast : Options → TurnsRun → Type 0
@@ -48,9 +63,9 @@ pub record IsPastIn (options : Options) (bytes : List ℕ) : Type 0 where
 -- what is said by the answer, of what was left to read and of what was written before and after it: the run is shown, or refused as a
 -- run is; or nothing is written, since it ended before the first turn that was chosen
 abbrev pub TellsShown : Options → Option (List ℕ) → Option (List ℕ) → Option (List ℕ) → Result Outcome RunFault → Type 0
-TellsShown options left old new (Ok (Shown end)) = TellsBy (IsShown options.view) left old new (Ok end)
+TellsShown options left old new (Ok (Shown end)) = TellsBy (IsShown options) left old new (Ok end)
 TellsShown options left old new (Ok Past) = Keeps old new × ((bytes : List ℕ) × (AreRead left bytes × IsPastIn options bytes))
-TellsShown options left old new (Err fault) = TellsBy (IsShown options.view) left old new (Err fault)
+TellsShown options left old new (Err fault) = TellsBy (IsShown options) left old new (Err fault)
 
 -- the status of an outcome: that of a run, and 1 where nothing is shown
 abbrev pub status_shown : Result Outcome RunFault → ℕ
@@ -78,11 +93,12 @@ abbrev pub IsShowingThreads : Bool → Bool → Option (List ℕ) → Option (Li
 IsShowingThreads source_failed sink_failed left old new status = (outcome : Result End RunFault) × (TellsBy IsShownOnThreads left old new outcome × (BlamesFailed source_failed sink_failed outcome × (status ≡ status_of outcome)))
 
 -- there is a run along this order of the script that these bytes are, with all that was kept of it, that ends so, and the text shows it
-pub record IsShownAlong (order : List ℕ) (view : View) (bytes : List ℕ) (end : End) (text : List ℕ) : Type 0 where
+-- as the options say
+pub record IsShownAlong (order : List ℕ) (options : Options) (bytes : List ℕ) (end : End) (text : List ℕ) : Type 0 where
   pub run : TurnsRun
   pub is_run : IsOrderRun bytes order run
   pub is_end : end ≡ end_told run.closing
-  pub shows : ShowsAs view run text
+  pub shows : ShowsAs options (Some order) run text
 
 -- there is a run along this order of the script that these bytes are that ended before the first turn that was chosen
 pub record IsPastAlong (order : List ℕ) (options : Options) (bytes : List ℕ) : Type 0 where
@@ -93,10 +109,10 @@ pub record IsPastAlong (order : List ℕ) (options : Options) (bytes : List ℕ)
 -- what is said by the answer of a run along an order: as of a run in rounds, but that a run may also be refused since the order names
 -- a processor that isn't there
 abbrev pub TellsAlong : List ℕ → Options → Option (List ℕ) → Option (List ℕ) → Option (List ℕ) → Result Outcome RunFault → Type 0
-TellsAlong order options left old new (Ok (Shown end)) = TellsBy (IsShownAlong order options.view) left old new (Ok end)
+TellsAlong order options left old new (Ok (Shown end)) = TellsBy (IsShownAlong order options) left old new (Ok end)
 TellsAlong order options left old new (Ok Past) = Keeps old new × ((bytes : List ℕ) × (AreRead left bytes × IsPastAlong order options bytes))
 TellsAlong order options left old new (Err (Fault fault)) = Keeps old new × ((bytes : List ℕ) × (AreRead left bytes × RefusesAlong bytes order fault))
-TellsAlong order options left old new (Err Stream) = TellsBy (IsShownAlong order options.view) left old new (Err Stream)
+TellsAlong order options left old new (Err Stream) = TellsBy (IsShownAlong order options) left old new (Err Stream)
 
 -- what the program does where its arguments are this order and these options
 abbrev pub IsShowingAlong : List ℕ → Options → Bool → Bool → Option (List ℕ) → Option (List ℕ) → Option (List ℕ) → ℕ → Type 0

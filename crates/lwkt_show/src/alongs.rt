@@ -16,7 +16,7 @@ const ABSENT: &str = "lwkt_show: the order names a processor that the script doe
 // Runs the script that the bytes are along an order, to the text that shows it; there is none where the run ended before the first
 // turn that was chosen.
 fn done_of_bytes(alloc: Global, along: Along, bytes: &[u8]) -> Result<Option<Done>, Fault>
-    ensures shown { IfOk result (λ shown. IfSome shown (λ done. IsShownAlong along.order.items along.options.view bytes.now done.end (string_bytes done.text))) }
+    ensures shown { IfOk result (λ shown. IfSome shown (λ done. IsShownAlong along.order.items along.options bytes.now done.end (string_bytes done.text))) }
     ensures past { IfOk result (λ shown. IsNone shown → IsPastAlong along.order.items along.options bytes.now) }
     ensures refused { IfErr result (λ fault. RefusesAlong bytes.now along.order.items fault) }
 {

@@ -1,11 +1,12 @@
 ghost use Rattle.std.specs.Prelude.{◌≡◌, ◌≤◌, ◌⊎◌, if◌then◌else◌, Err, IsTrue, IfOk, IfErr, IfSome, IsNone, length, map, string_bytes};
+ghost use Rattle.std.specs.Option.{option_copied};
 ghost use Rattle.lwkt_run.specs.Run.{IsTurnsRun, Refuses};
 ghost use Rattle.lwkt_scenes.specs.Shown.{first_turn};
 ghost use Rattle.std.specs.Prelude.{ℕ, List, OnErr, false};
 ghost use Rattle.lwkt_report.specs.Complaint.{IsSaid};
 ghost use Rattle.lwkt_show.specs.Arguments.{AreOptions, AskThreads};
 ghost use Rattle.lwkt_show.specs.Orders.{AreAlong, AreMisused};
-ghost use Rattle.lwkt_show.specs.Showing.{ShowsAs, IsShown, IsPast, IsPastIn, TellsShown, IsShowing, IsShowingAlong, IsShowingThreads, status_shown, usage_line, SaysUsage};
+ghost use Rattle.lwkt_show.specs.Showing.{chosen_by, ShowsAs, IsShown, IsPast, IsPastIn, TellsShown, IsShowing, IsShowingAlong, IsShowingThreads, status_shown, usage_line, SaysUsage};
 
 use crate::alongs::show_along;
 use crate::options::{Options, View, asks_threads, options_of};
@@ -44,7 +45,7 @@ pub(crate) struct Done {
 
 // The range of these options.
 fn chosen_of(options: &Options) -> Chosen
-    ensures { (result.counted ≡ options.now.counted) × (result.first ≡ options.now.first) }
+    ensures { result ≡ chosen_by options.now }
 {
     Chosen {
         counted: options.counted,
@@ -67,7 +68,7 @@ pub(crate) fn text_of(
     run: &TurnsRun,
     order: Option<&[u8]>,
 ) -> Result<String, Fault>
-    ensures shows { IfOk result (λ text. ShowsAs options.now.view run.now (string_bytes text)) }
+    ensures shows { IfOk result (λ text. ShowsAs options.now (option_copied order) run.now (string_bytes text)) }
 {
     let reel = Reel {
         script: &run.script,
@@ -89,7 +90,7 @@ pub(crate) fn text_of(
 // Runs the script that the bytes are, to the text that shows it; there is none where the run ended before the first turn that
 // was chosen.
 fn done_of_bytes(alloc: Global, options: &Options, bytes: &[u8]) -> Result<Option<Done>, Fault>
-    ensures shown { IfOk result (λ shown. IfSome shown (λ done. IsShown options.now.view bytes.now done.end (string_bytes done.text))) }
+    ensures shown { IfOk result (λ shown. IfSome shown (λ done. IsShown options.now bytes.now done.end (string_bytes done.text))) }
     ensures past { IfOk result (λ shown. IsNone shown → IsPastIn options.now bytes.now) }
     ensures refused { IfErr result (λ fault. Refuses bytes.now fault) }
 {

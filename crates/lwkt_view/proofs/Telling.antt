@@ -65,7 +65,7 @@ status_unread : (fault : RunFault) → (fault ≡ Stream) ⊎ (fault ≡ Fault M
 status_unread fault why = elim why [ inl is ↦ subst (λ f. 3 ≡ status_shown (Err f)) (sym is) refl | inr is ↦ subst (λ f. 3 ≡ status_shown (Err f)) (sym is) refl ]
 
 pub shows_unread : (options : Options) (bytes : List ℕ) (source sink : Bool) (old : Option (List ℕ)) (fault : RunFault) → (fault ≡ Stream) ⊎ (fault ≡ Fault Memory) → (fault ≡ Stream → IsTrue source ⊎ IsTrue sink) → IsShowing options source sink (Some bytes) old old 3
-shows_unread options bytes source sink old fault why blames = (Err fault, (tells_unread (IsShown options.view) (Some bytes) old fault why, (blames_as source sink fault blames, status_unread fault why)))
+shows_unread options bytes source sink old fault why blames = (Err fault, (tells_unread (IsShown options) (Some bytes) old fault why, (blames_as source sink fault blames, status_unread fault why)))
 
 pub threads_unread : (bytes : List ℕ) (source sink : Bool) (old : Option (List ℕ)) (fault : RunFault) → (fault ≡ Stream) ⊎ (fault ≡ Fault Memory) → (fault ≡ Stream → IsTrue source ⊎ IsTrue sink) → IsShowingThreads source sink (Some bytes) old old 3
 threads_unread bytes source sink old fault why blames = (Err fault, (tells_unread IsShownOnThreads (Some bytes) old fault why, (blames_as source sink fault blames, status_unread fault why)))

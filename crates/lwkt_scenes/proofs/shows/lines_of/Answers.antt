@@ -1,6 +1,10 @@
 use Rattle.std.proofs.Common.{string_bytes}
-use Rattle.lwkt_scenes.proofs.Rows.{begins_still}
+use Rattle.std.specs.Option.{option_copied}
+use Rattle.lwkt_scenes.proofs.Rows.{told_whole}
 use Rattle.lwkt_scenes.proofs.shows.lines_of.Goals as goal
 
 pub returns-in-Ok-clause-lines : goal.returns-in-Ok-clause-lines
-returns-in-Ok-clause-lines c = begins_still _ (string_bytes c.in_ok-out.out) c.as_str.result.now (string_bytes c.push_str.new.self) c.in_ok-out.ensures c.in-Ok.ensures.bytes
+returns-in-Ok-clause-lines c =
+    let run = c.args.run.now in
+    told_whole c.args.chosen (option_copied run.order) run.script.now.cpus run.polls.now run.turns.now run.closing.now (string_bytes c.in_ok-out.out) c.as_str.result.now (string_bytes c.push_str.new.self)
+    c.in_ok-out.ensures c.as_str.ensures c.in-Ok.ensures.bytes

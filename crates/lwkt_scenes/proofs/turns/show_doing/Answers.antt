@@ -1,4 +1,4 @@
-use Rattle.std.proofs.Common.{refl, Some, None, string_bytes}
+use Rattle.std.proofs.Common.{refl, Some, None}
 use Rattle.lwkt_scenes.specs.Lines.{IsDoing, Adds, poll_text}
 use Rattle.lwkt_scenes.proofs.turns.show_doing.Goals as goal
 
@@ -13,9 +13,5 @@ returns-in-Some c =
 
 pub returns-in-None : goal.returns-in-None
 returns-in-None c =
-    let told : Adds (IsDoing None) c.args.out.now c.add_page.new.self = record {
-      words = string_bytes c.show_idle.new.out.text;
-      holds = tt;
-      grows = c.add_page.ensures.text;
-    } in
+    let told : Adds (IsDoing None) c.args.out.now c.show_idle.new.out = c.show_idle.ensures in
     rw c.in-None.is told

@@ -23,10 +23,10 @@ returns-in-None-clause-tells g c =
 
 pub returns-in-Ok-write_whole-clause-tells : goal.returns-in-Ok-write_whole-clause-tells
 returns-in-Ok-write_whole-clause-tells g c =
-    tells_done (IsShownAlong c.args.along.order.items c.args.along.options.view) (g.S.Source.left c.args.source.now) (g.K.Sink.contents c.args.sink.now) (g.K.Sink.contents c.write_whole.new.sink) c.in-Ok.bytes.items c.deref.result.now _ c.as_bytes.result.now c.in-Some.done.end
-    c.deref.ensures.value c.as_bytes.ensures.value c.in-Ok.ensures.bytes (subst (λ s. IfSome s (λ d. IsShownAlong c.args.along.order.items c.args.along.options.view c.deref.result.now d.end (string_bytes d.text))) c.in-Some.is c.in-Ok-done_of_bytes.ensures.shown) c.in-Ok-write_whole.ensures.whole
+    tells_done (IsShownAlong c.args.along.order.items c.args.along.options) (g.S.Source.left c.args.source.now) (g.K.Sink.contents c.args.sink.now) (g.K.Sink.contents c.write_whole.new.sink) c.in-Ok.bytes.items c.deref.result.now _ c.as_bytes.result.now c.in-Some.done.end
+    c.deref.ensures.value c.as_bytes.ensures.value c.in-Ok.ensures.bytes (subst (λ s. IfSome s (λ d. IsShownAlong c.args.along.order.items c.args.along.options c.deref.result.now d.end (string_bytes d.text))) c.in-Some.is c.in-Ok-done_of_bytes.ensures.shown) c.in-Ok-write_whole.ensures.whole
 
 pub returns-clause-tells : goal.returns-clause-tells
 returns-clause-tells g c =
-    tells_front (IsShownAlong c.args.along.order.items c.args.along.options.view) (g.S.Source.left c.args.source.now) (g.K.Sink.contents c.args.sink.now) (g.K.Sink.contents c.write_whole.new.sink) c.in-Ok.bytes.items c.deref.result.now _ c.as_bytes.result.now c.in-Some.done.end
-    c.deref.ensures.value c.as_bytes.ensures.value c.in-Ok.ensures.bytes (subst (λ s. IfSome s (λ d. IsShownAlong c.args.along.order.items c.args.along.options.view c.deref.result.now d.end (string_bytes d.text))) c.in-Some.is c.in-Ok-done_of_bytes.ensures.shown) c.in-Err-write_whole.ensures.front
+    tells_front (IsShownAlong c.args.along.order.items c.args.along.options) (g.S.Source.left c.args.source.now) (g.K.Sink.contents c.args.sink.now) (g.K.Sink.contents c.write_whole.new.sink) c.in-Ok.bytes.items c.deref.result.now _ c.as_bytes.result.now c.in-Some.done.end
+    c.deref.ensures.value c.as_bytes.ensures.value c.in-Ok.ensures.bytes (subst (λ s. IfSome s (λ d. IsShownAlong c.args.along.order.items c.args.along.options c.deref.result.now d.end (string_bytes d.text))) c.in-Some.is c.in-Ok-done_of_bytes.ensures.shown) c.in-Err-write_whole.ensures.front

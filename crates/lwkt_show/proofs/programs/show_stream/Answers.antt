@@ -10,11 +10,11 @@ pub returns-in-Err-clause-tells : goal.returns-in-Err-clause-tells
 returns-in-Err-clause-tells g c =
     let why : (c.in-Err.fault ≡ Stream) ⊎ (c.in-Err.fault ≡ Fault Memory) =
     elim c.in-Err.ensures.only [ inl is ↦ inl cc | inr is ↦ inr cc ] in
-    tells_unread (IsShown c.args.options.now.view) (g.S.Source.left c.args.source.now) (g.K.Sink.contents c.args.sink.now) c.in-Err.fault why
+    tells_unread (IsShown c.args.options.now) (g.S.Source.left c.args.source.now) (g.K.Sink.contents c.args.sink.now) c.in-Err.fault why
 
 pub returns-in-Err-done_of_bytes-clause-tells : goal.returns-in-Err-done_of_bytes-clause-tells
 returns-in-Err-done_of_bytes-clause-tells g c =
-    tells_refused (IsShown c.args.options.now.view) (g.S.Source.left c.args.source.now) (g.K.Sink.contents c.args.sink.now) c.in-Ok.bytes.items c.deref.result.now c.in-Err-done_of_bytes.fault
+    tells_refused (IsShown c.args.options.now) (g.S.Source.left c.args.source.now) (g.K.Sink.contents c.args.sink.now) c.in-Ok.bytes.items c.deref.result.now c.in-Err-done_of_bytes.fault
     c.deref.ensures.value c.in-Ok.ensures.bytes c.in-Err-done_of_bytes.ensures.refused
 
 pub returns-in-None-clause-tells : goal.returns-in-None-clause-tells
@@ -24,10 +24,10 @@ returns-in-None-clause-tells g c =
 
 pub returns-in-Ok-write_whole-clause-tells : goal.returns-in-Ok-write_whole-clause-tells
 returns-in-Ok-write_whole-clause-tells g c =
-    tells_done (IsShown c.args.options.now.view) (g.S.Source.left c.args.source.now) (g.K.Sink.contents c.args.sink.now) (g.K.Sink.contents c.write_whole.new.sink) c.in-Ok.bytes.items c.deref.result.now _ c.as_bytes.result.now c.in-Some.done.end
-    c.deref.ensures.value c.as_bytes.ensures.value c.in-Ok.ensures.bytes (subst (λ s. IfSome s (λ d. IsShown c.args.options.now.view c.deref.result.now d.end (string_bytes d.text))) c.in-Some.is c.in-Ok-done_of_bytes.ensures.shown) c.in-Ok-write_whole.ensures.whole
+    tells_done (IsShown c.args.options.now) (g.S.Source.left c.args.source.now) (g.K.Sink.contents c.args.sink.now) (g.K.Sink.contents c.write_whole.new.sink) c.in-Ok.bytes.items c.deref.result.now _ c.as_bytes.result.now c.in-Some.done.end
+    c.deref.ensures.value c.as_bytes.ensures.value c.in-Ok.ensures.bytes (subst (λ s. IfSome s (λ d. IsShown c.args.options.now c.deref.result.now d.end (string_bytes d.text))) c.in-Some.is c.in-Ok-done_of_bytes.ensures.shown) c.in-Ok-write_whole.ensures.whole
 
 pub returns-clause-tells : goal.returns-clause-tells
 returns-clause-tells g c =
-    tells_front (IsShown c.args.options.now.view) (g.S.Source.left c.args.source.now) (g.K.Sink.contents c.args.sink.now) (g.K.Sink.contents c.write_whole.new.sink) c.in-Ok.bytes.items c.deref.result.now _ c.as_bytes.result.now c.in-Some.done.end
-    c.deref.ensures.value c.as_bytes.ensures.value c.in-Ok.ensures.bytes (subst (λ s. IfSome s (λ d. IsShown c.args.options.now.view c.deref.result.now d.end (string_bytes d.text))) c.in-Some.is c.in-Ok-done_of_bytes.ensures.shown) c.in-Err-write_whole.ensures.front
+    tells_front (IsShown c.args.options.now) (g.S.Source.left c.args.source.now) (g.K.Sink.contents c.args.sink.now) (g.K.Sink.contents c.write_whole.new.sink) c.in-Ok.bytes.items c.deref.result.now _ c.as_bytes.result.now c.in-Some.done.end
+    c.deref.ensures.value c.as_bytes.ensures.value c.in-Ok.ensures.bytes (subst (λ s. IfSome s (λ d. IsShown c.args.options.now c.deref.result.now d.end (string_bytes d.text))) c.in-Some.is c.in-Ok-done_of_bytes.ensures.shown) c.in-Err-write_whole.ensures.front

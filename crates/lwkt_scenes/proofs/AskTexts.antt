@@ -1,0 +1,158 @@
+-- Characters that the texts of asks and steps don't have.
+use Rattle.std.proofs.Common.{◌≡◌, ◌≢◌, ◌+◌, ◌/◌, ◌%◌, ◌==◌, ℕ, List, [], ◌∷◌, ◌++◌, refl, arith, length, take, codes, if◌then◌else◌, nat_lt, nat_le}
+use Rattle.std.specs.Fmt.{decimal}
+use Rattle.lwkt_base.specs.Hex.{digit_text, byte_text, hex_text}
+use Rattle.lwkt_base.specs.declared.asks.Ask.{Ask}
+use Rattle.lwkt_base.specs.declared.asks.Ask.TheVariants.{Get, GetShared, TryGet, Rel, Swap, Read, Write, Add, ReadBlob, WriteBlob, Send, Do, Reply, Abort, IsAborted, DropMsg, GetPort, WaitPort, Yield, Exit}
+use Rattle.lwkt_base.specs.declared.names.MsgId.{MsgId}
+use Rattle.lwkt_base.specs.declared.names.ThreadId.{ThreadId}
+use Rattle.lwkt_base.specs.declared.records.Call.{Call}
+use Rattle.lwkt_trace.specs.Written.{comma, blob_text, past_text}
+use Rattle.lwkt_scenes.specs.declared.stories.Step.{Step}
+use Rattle.lwkt_scenes.specs.Lines.{time_text, step_text}
+use Rattle.lwkt_scenes.specs.Words.{ask_word, flags_number, call_text, token_parts, message_parts}
+use Rattle.lwkt_scenes.proofs.Splits.{Each, IsDigit, each_append, each_if, each_flat, none_of, decimal_none}
+
+-- a character that isn't a quotation mark
+abbrev pub Unquoted : ℕ → Type 0
+Unquoted c = c ≢ 34
+
+-- a character that doesn't end the text of an ask
+abbrev pub Inside : ℕ → Type 0
+Inside c = c ≢ 93
+
+-- a character that doesn't end the words before an ask
+abbrev pub Before : ℕ → Type 0
+Before c = c ≢ 58
+
+pub word_unquoted : (ask : Ask) → Each Unquoted (ask_word ask)
+word_unquoted (Get tok) = none_of 34 refl (codes "get") refl
+word_unquoted (GetShared tok) = none_of 34 refl (codes "gets") refl
+word_unquoted (TryGet tok) = none_of 34 refl (codes "try") refl
+word_unquoted (Rel tok) = none_of 34 refl (codes "rel") refl
+word_unquoted Swap = none_of 34 refl (codes "swap") refl
+word_unquoted (Read tok cell) = none_of 34 refl (codes "read") refl
+word_unquoted (Write tok cell value) = none_of 34 refl (codes "write") refl
+word_unquoted (Add tok more) = none_of 34 refl (codes "add") refl
+word_unquoted (ReadBlob tok) = none_of 34 refl (codes "rrec") refl
+word_unquoted (WriteBlob tok blob) = none_of 34 refl (codes "wrec") refl
+word_unquoted (Send message to call flags) = none_of 34 refl (codes "send") refl
+word_unquoted (Do message to call) = none_of 34 refl (codes "do") refl
+word_unquoted (Reply message error outcome) = none_of 34 refl (codes "reply") refl
+word_unquoted (Abort message) = none_of 34 refl (codes "abort") refl
+word_unquoted (IsAborted message) = none_of 34 refl (codes "isab") refl
+word_unquoted (DropMsg message) = none_of 34 refl (codes "drop") refl
+word_unquoted GetPort = none_of 34 refl (codes "getport") refl
+word_unquoted WaitPort = none_of 34 refl (codes "wait") refl
+word_unquoted Yield = none_of 34 refl (codes "yield") refl
+word_unquoted Exit = none_of 34 refl (codes "exit") refl
+
+word_inside : (ask : Ask) → Each Inside (ask_word ask)
+word_inside (Get tok) = none_of 93 refl (codes "get") refl
+word_inside (GetShared tok) = none_of 93 refl (codes "gets") refl
+word_inside (TryGet tok) = none_of 93 refl (codes "try") refl
+word_inside (Rel tok) = none_of 93 refl (codes "rel") refl
+word_inside Swap = none_of 93 refl (codes "swap") refl
+word_inside (Read tok cell) = none_of 93 refl (codes "read") refl
+word_inside (Write tok cell value) = none_of 93 refl (codes "write") refl
+word_inside (Add tok more) = none_of 93 refl (codes "add") refl
+word_inside (ReadBlob tok) = none_of 93 refl (codes "rrec") refl
+word_inside (WriteBlob tok blob) = none_of 93 refl (codes "wrec") refl
+word_inside (Send message to call flags) = none_of 93 refl (codes "send") refl
+word_inside (Do message to call) = none_of 93 refl (codes "do") refl
+word_inside (Reply message error outcome) = none_of 93 refl (codes "reply") refl
+word_inside (Abort message) = none_of 93 refl (codes "abort") refl
+word_inside (IsAborted message) = none_of 93 refl (codes "isab") refl
+word_inside (DropMsg message) = none_of 93 refl (codes "drop") refl
+word_inside GetPort = none_of 93 refl (codes "getport") refl
+word_inside WaitPort = none_of 93 refl (codes "wait") refl
+word_inside Yield = none_of 93 refl (codes "yield") refl
+word_inside Exit = none_of 93 refl (codes "exit") refl
+
+no_digit_closes : IsDigit 93 → ⊥
+no_digit_closes digit = omega (arith, digit.1)
+
+comma_inside : (n : ℕ) → Each Inside (comma n)
+comma_inside n = each_append Inside (codes ",") (decimal n) (none_of 93 refl (codes ",") refl) (decimal_none 93 n no_digit_closes)
+
+-- texts behind texts
+then_inside : (xs ys : List ℕ) → Each Inside xs → Each Inside ys → Each Inside (xs ++ ys)
+then_inside xs ys a b = each_append Inside xs ys a b
+
+call_inside : (message : MsgId) (to : ThreadId) (call : Call) → Each Inside (call_text message to call)
+call_inside message to call =
+    then_inside _ (comma call.arg) (then_inside _ (comma call.op) (then_inside _ (comma to.thread) (then_inside (comma message.0) (comma to.cpu.0) (comma_inside message.0) (comma_inside to.cpu.0)) (comma_inside to.thread)) (comma_inside call.op)) (comma_inside call.arg)
+
+digit_inside : (n : ℕ) → Each Inside (digit_text n)
+digit_inside n =
+    each_if Inside (n == 0) (codes "0") _ (none_of 93 refl (codes "0") refl) (
+    each_if Inside (n == 1) (codes "1") _ (none_of 93 refl (codes "1") refl) (
+    each_if Inside (n == 2) (codes "2") _ (none_of 93 refl (codes "2") refl) (
+    each_if Inside (n == 3) (codes "3") _ (none_of 93 refl (codes "3") refl) (
+    each_if Inside (n == 4) (codes "4") _ (none_of 93 refl (codes "4") refl) (
+    each_if Inside (n == 5) (codes "5") _ (none_of 93 refl (codes "5") refl) (
+    each_if Inside (n == 6) (codes "6") _ (none_of 93 refl (codes "6") refl) (
+    each_if Inside (n == 7) (codes "7") _ (none_of 93 refl (codes "7") refl) (
+    each_if Inside (n == 8) (codes "8") _ (none_of 93 refl (codes "8") refl) (
+    each_if Inside (n == 9) (codes "9") _ (none_of 93 refl (codes "9") refl) (
+    each_if Inside (n == 10) (codes "a") _ (none_of 93 refl (codes "a") refl) (
+    each_if Inside (n == 11) (codes "b") _ (none_of 93 refl (codes "b") refl) (
+    each_if Inside (n == 12) (codes "c") _ (none_of 93 refl (codes "c") refl) (
+    each_if Inside (n == 13) (codes "d") _ (none_of 93 refl (codes "d") refl) (
+    each_if Inside (n == 14) (codes "e") _ (none_of 93 refl (codes "e") refl) (none_of 93 refl (codes "f") refl)))))))))))))))
+
+byte_inside : (byte : ℕ) → Each Inside (byte_text byte)
+byte_inside byte = each_append Inside (digit_text (byte / 16)) (digit_text (byte % 16)) (digit_inside (byte / 16)) (digit_inside (byte % 16))
+
+past_inside : (blob : List ℕ) → Each Inside (past_text blob)
+past_inside blob = each_if Inside (nat_lt 64 (length blob)) (codes "00") [] (none_of 93 refl (codes "00") refl) tt
+
+blob_inside : (blob : List ℕ) → Each Inside (blob_text blob)
+unfolding blob_text
+blob_inside blob =
+    then_inside _ (codes "\"") (then_inside _ (past_text blob) (then_inside (codes "\"") (hex_text (take 64 blob)) (none_of 93 refl (codes "\"") refl) (each_flat Inside byte_text byte_inside (take 64 blob))) (past_inside blob)) (none_of 93 refl (codes "\"") refl)
+
+token_inside : (ask : Ask) → Each Inside (token_parts ask)
+token_inside (Get tok) = comma_inside tok.0
+token_inside (GetShared tok) = comma_inside tok.0
+token_inside (TryGet tok) = comma_inside tok.0
+token_inside (Rel tok) = comma_inside tok.0
+token_inside (Read tok cell) = then_inside (comma tok.0) (comma cell) (comma_inside tok.0) (comma_inside cell)
+token_inside (Write tok cell value) = then_inside _ (comma value) (then_inside (comma tok.0) (comma cell) (comma_inside tok.0) (comma_inside cell)) (comma_inside value)
+token_inside (Add tok more) = then_inside (comma tok.0) (comma more) (comma_inside tok.0) (comma_inside more)
+token_inside (ReadBlob tok) = comma_inside tok.0
+token_inside (WriteBlob tok blob) = then_inside _ (blob_text blob) (then_inside (comma tok.0) (codes ",") (comma_inside tok.0) (none_of 93 refl (codes ",") refl)) (blob_inside blob)
+token_inside _ = tt
+
+message_inside : (ask : Ask) → Each Inside (message_parts ask)
+message_inside (Send message to call flags) = then_inside (call_text message to call) (comma (flags_number flags)) (call_inside message to call) (comma_inside (flags_number flags))
+message_inside (Do message to call) = call_inside message to call
+message_inside (Reply message error outcome) = then_inside _ (comma outcome) (then_inside (comma message.0) (comma error) (comma_inside message.0) (comma_inside error)) (comma_inside outcome)
+message_inside (Abort message) = comma_inside message.0
+message_inside (IsAborted message) = comma_inside message.0
+message_inside (DropMsg message) = comma_inside message.0
+message_inside _ = tt
+
+-- the text of an ask but for its end
+abbrev pub ask_front : Ask → List ℕ
+ask_front ask = codes "[\"" ++ ask_word ask ++ codes "\"" ++ token_parts ask ++ message_parts ask
+
+pub front_inside : (ask : Ask) → Each Inside (ask_front ask)
+front_inside ask =
+    then_inside _ (message_parts ask) (then_inside _ (token_parts ask) (then_inside _ (codes "\"") (then_inside (codes "[\"") (ask_word ask) (none_of 93 refl (codes "[\"") refl) (word_inside ask)) (none_of 93 refl (codes "\"") refl)) (token_inside ask)) (message_inside ask)
+
+no_digit_parts : IsDigit 58 → ⊥
+no_digit_parts digit = omega (arith, digit.1)
+
+time_before : (step : Step) → Each Before (time_text step)
+time_before step =
+    each_if Before (nat_lt 1 step.repeat) (codes " of time " ++ decimal (step.polls / step.steps + 1)) []
+    (each_append Before (codes " of time ") (decimal (step.polls / step.steps + 1)) (none_of 58 refl (codes " of time ") refl) (decimal_none 58 (step.polls / step.steps + 1) no_digit_parts)) tt
+
+pub step_before : (step : Step) → Each Before (step_text step)
+step_before step =
+    let after : Each Before (codes "after its steps") = none_of 58 refl (codes "after its steps") refl in
+    let number : ℕ = step.polls % step.steps in
+    each_if Before (step.steps == 0) (codes "after its steps") _ after
+    (each_if Before (nat_le step.repeat (step.polls / step.steps)) (codes "after its steps") (codes "step " ++ decimal number ++ time_text step) after
+    (each_append Before (codes "step " ++ decimal number) (time_text step) (each_append Before (codes "step ") (decimal number) (none_of 58 refl (codes "step ") refl) (decimal_none 58 number no_digit_parts)) (time_before step)))

@@ -1,0 +1,86 @@
+-- What can be told from the line of a turn (own).
+use Rattle.std.specs.Prelude.{◌≡◌, ◌<◌, ◌^◌, ℕ, Bool, true, false, List, [], ◌∷◌, Option, None, Some, IfSome}
+use Rattle.lwkt_base.specs.declared.asks.Ask.{Ask}
+use Rattle.lwkt_base.specs.declared.asks.Ask.TheVariants.{Get, GetShared, TryGet, Rel, Swap, Read, Write, Add, ReadBlob, WriteBlob, Send, Do, Reply, Abort, IsAborted, DropMsg, GetPort, WaitPort, Yield, Exit}
+use Rattle.lwkt_verdict.specs.declared.turns.Poll.{Poll}
+use Rattle.lwkt_scenes.specs.Words.{ask_text, ask_word, flags_number}
+use Rattle.lwkt_scenes.specs.Lines.{IsLine}
+
+-- a turn as its line tells it: its number, its round, its processor, and its poll if it has one
+pub record Told : Type 0 where
+  pub number : ℕ
+  pub round : ℕ
+  pub cpu : ℕ
+  pub poll : Option Poll
+
+-- the numbers of a turn are some of a word each
+pub record AreWords (turn : Told) : Type 0 where
+  pub number : turn.number < 2 ^ 64
+  pub round : turn.round < 2 ^ 64
+  pub cpu : turn.cpu < 2 ^ 64
+  pub poll : IfSome turn.poll (λ poll. (poll.thread.cpu.0 < 2 ^ 64) × (poll.thread.thread < 2 ^ 64))
+
+-- a line is that of a turn
+abbrev pub IsLineOf : Told → List ℕ → Type 0
+IsLineOf turn line = IsLine turn.number turn.round turn.cpu turn.poll line
+
+-- two polls are of one thread, and their asks have one word, and are the same step of a script
+pub record AskAlike (one other : Poll) : Type 0 where
+  pub thread : one.thread ≡ other.thread
+  pub word : ask_word one.ask ≡ ask_word other.ask
+  pub step : ask_text one.ask ≡ ask_text other.ask
+
+-- two turns have no poll, or two that ask alike
+abbrev pub PollAlike : Option Poll → Option Poll → Type 0
+PollAlike None None = Unit {0}
+PollAlike None (Some other) = ⊥
+PollAlike (Some one) None = ⊥
+PollAlike (Some one) (Some other) = AskAlike one other
+
+-- two turns are alike in all that a line tells of them for certain
+pub record AreAlike (one other : Told) : Type 0 where
+  pub number : one.number ≡ other.number
+  pub round : one.round ≡ other.round
+  pub cpu : one.cpu ≡ other.cpu
+  pub poll : PollAlike one.poll other.poll
+
+-- turns that have the same line are alike
+abbrev pub LinesTellTurns : Type 0
+LinesTellTurns = (one other : Told) (line : List ℕ) → AreWords one → AreWords other → IsLineOf one line → IsLineOf other line → AreAlike one other
+
+-- the numbers that stand behind the word of an ask
+abbrev pub numbers_of : Ask → List ℕ
+numbers_of (Get tok) = tok.0 ∷ []
+numbers_of (GetShared tok) = tok.0 ∷ []
+numbers_of (TryGet tok) = tok.0 ∷ []
+numbers_of (Rel tok) = tok.0 ∷ []
+numbers_of Swap = []
+numbers_of (Read tok cell) = tok.0 ∷ cell ∷ []
+numbers_of (Write tok cell value) = tok.0 ∷ cell ∷ value ∷ []
+numbers_of (Add tok more) = tok.0 ∷ more ∷ []
+numbers_of (ReadBlob tok) = tok.0 ∷ []
+numbers_of (WriteBlob tok blob) = tok.0 ∷ []
+numbers_of (Send message to call flags) = message.0 ∷ to.cpu.0 ∷ to.thread ∷ call.op ∷ call.arg ∷ flags_number flags ∷ []
+numbers_of (Do message to call) = message.0 ∷ to.cpu.0 ∷ to.thread ∷ call.op ∷ call.arg ∷ []
+numbers_of (Reply message error outcome) = message.0 ∷ error ∷ outcome ∷ []
+numbers_of (Abort message) = message.0 ∷ []
+numbers_of (IsAborted message) = message.0 ∷ []
+numbers_of (DropMsg message) = message.0 ∷ []
+numbers_of GetPort = []
+numbers_of WaitPort = []
+numbers_of Yield = []
+numbers_of Exit = []
+
+-- numbers of a word each
+abbrev pub AreAllWords : List ℕ → Type 0
+AreAllWords [] = Unit {0}
+AreAllWords (n ∷ ns) = (n < 2 ^ 64) × AreAllWords ns
+
+-- whether an ask writes a record, of which its text may not tell all
+abbrev pub writes_record : Ask → Bool
+writes_record (WriteBlob tok blob) = true
+writes_record _ = false
+
+-- asks with the same text are the same, but for writes of records
+abbrev pub TextsTellAsks : Type 0
+TextsTellAsks = (one other : Ask) → writes_record one ≡ false → AreAllWords (numbers_of one) → AreAllWords (numbers_of other) → ask_text one ≡ ask_text other → one ≡ other
