@@ -1,5 +1,5 @@
 -- Characters that the texts of asks and steps don't have.
-use Rattle.std.proofs.Common.{◌≡◌, ◌≢◌, ◌+◌, ◌/◌, ◌%◌, ◌==◌, ℕ, List, [], ◌∷◌, ◌++◌, refl, arith, length, take, codes, if◌then◌else◌, nat_lt, nat_le}
+use Rattle.std.proofs.Common.{◌≢◌, ◌+◌, ◌/◌, ◌%◌, ◌==◌, ℕ, List, [], ◌++◌, refl, arith, length, take, codes, if◌then◌else◌, nat_lt, nat_le}
 use Rattle.std.specs.Fmt.{decimal}
 use Rattle.lwkt_base.specs.Hex.{digit_text, byte_text, hex_text}
 use Rattle.lwkt_base.specs.declared.asks.Ask.{Ask}
@@ -81,7 +81,11 @@ then_inside xs ys a b = each_append Inside xs ys a b
 
 call_inside : (message : MsgId) (to : ThreadId) (call : Call) → Each Inside (call_text message to call)
 call_inside message to call =
-    then_inside _ (comma call.arg) (then_inside _ (comma call.op) (then_inside _ (comma to.thread) (then_inside (comma message.0) (comma to.cpu.0) (comma_inside message.0) (comma_inside to.cpu.0)) (comma_inside to.thread)) (comma_inside call.op)) (comma_inside call.arg)
+    let two : List ℕ = comma message.0 ++ comma to.cpu.0 in
+    let three : List ℕ = two ++ comma to.thread in
+    let four : List ℕ = three ++ comma call.op in
+    then_inside four (comma call.arg)
+    (then_inside three (comma call.op) (then_inside two (comma to.thread) (then_inside (comma message.0) (comma to.cpu.0) (comma_inside message.0) (comma_inside to.cpu.0)) (comma_inside to.thread)) (comma_inside call.op)) (comma_inside call.arg)
 
 digit_inside : (n : ℕ) → Each Inside (digit_text n)
 digit_inside n =
@@ -107,10 +111,15 @@ byte_inside byte = each_append Inside (digit_text (byte / 16)) (digit_text (byte
 past_inside : (blob : List ℕ) → Each Inside (past_text blob)
 past_inside blob = each_if Inside (nat_lt 64 (length blob)) (codes "00") [] (none_of 93 refl (codes "00") refl) tt
 
+quote_inside : Each Inside (codes "\"")
+quote_inside = none_of 93 refl (codes "\"") refl
+
 blob_inside : (blob : List ℕ) → Each Inside (blob_text blob)
 unfolding blob_text
 blob_inside blob =
-    then_inside _ (codes "\"") (then_inside _ (past_text blob) (then_inside (codes "\"") (hex_text (take 64 blob)) (none_of 93 refl (codes "\"") refl) (each_flat Inside byte_text byte_inside (take 64 blob))) (past_inside blob)) (none_of 93 refl (codes "\"") refl)
+    let digits : List ℕ = codes "\"" ++ hex_text (take 64 blob) in
+    then_inside (digits ++ past_text blob) (codes "\"")
+    (then_inside digits (past_text blob) (then_inside (codes "\"") (hex_text (take 64 blob)) quote_inside (each_flat Inside byte_text byte_inside (take 64 blob))) (past_inside blob)) quote_inside
 
 token_inside : (ask : Ask) → Each Inside (token_parts ask)
 token_inside (Get tok) = comma_inside tok.0
@@ -118,16 +127,16 @@ token_inside (GetShared tok) = comma_inside tok.0
 token_inside (TryGet tok) = comma_inside tok.0
 token_inside (Rel tok) = comma_inside tok.0
 token_inside (Read tok cell) = then_inside (comma tok.0) (comma cell) (comma_inside tok.0) (comma_inside cell)
-token_inside (Write tok cell value) = then_inside _ (comma value) (then_inside (comma tok.0) (comma cell) (comma_inside tok.0) (comma_inside cell)) (comma_inside value)
+token_inside (Write tok cell value) = then_inside (comma tok.0 ++ comma cell) (comma value) (then_inside (comma tok.0) (comma cell) (comma_inside tok.0) (comma_inside cell)) (comma_inside value)
 token_inside (Add tok more) = then_inside (comma tok.0) (comma more) (comma_inside tok.0) (comma_inside more)
 token_inside (ReadBlob tok) = comma_inside tok.0
-token_inside (WriteBlob tok blob) = then_inside _ (blob_text blob) (then_inside (comma tok.0) (codes ",") (comma_inside tok.0) (none_of 93 refl (codes ",") refl)) (blob_inside blob)
+token_inside (WriteBlob tok blob) = then_inside (comma tok.0 ++ codes ",") (blob_text blob) (then_inside (comma tok.0) (codes ",") (comma_inside tok.0) (none_of 93 refl (codes ",") refl)) (blob_inside blob)
 token_inside _ = tt
 
 message_inside : (ask : Ask) → Each Inside (message_parts ask)
 message_inside (Send message to call flags) = then_inside (call_text message to call) (comma (flags_number flags)) (call_inside message to call) (comma_inside (flags_number flags))
 message_inside (Do message to call) = call_inside message to call
-message_inside (Reply message error outcome) = then_inside _ (comma outcome) (then_inside (comma message.0) (comma error) (comma_inside message.0) (comma_inside error)) (comma_inside outcome)
+message_inside (Reply message error outcome) = then_inside (comma message.0 ++ comma error) (comma outcome) (then_inside (comma message.0) (comma error) (comma_inside message.0) (comma_inside error)) (comma_inside outcome)
 message_inside (Abort message) = comma_inside message.0
 message_inside (IsAborted message) = comma_inside message.0
 message_inside (DropMsg message) = comma_inside message.0
@@ -139,7 +148,11 @@ ask_front ask = codes "[\"" ++ ask_word ask ++ codes "\"" ++ token_parts ask ++ 
 
 pub front_inside : (ask : Ask) → Each Inside (ask_front ask)
 front_inside ask =
-    then_inside _ (message_parts ask) (then_inside _ (token_parts ask) (then_inside _ (codes "\"") (then_inside (codes "[\"") (ask_word ask) (none_of 93 refl (codes "[\"") refl) (word_inside ask)) (none_of 93 refl (codes "\"") refl)) (token_inside ask)) (message_inside ask)
+    let word : List ℕ = codes "[\"" ++ ask_word ask in
+    let quoted : List ℕ = word ++ codes "\"" in
+    let tokens : List ℕ = quoted ++ token_parts ask in
+    then_inside tokens (message_parts ask)
+    (then_inside quoted (token_parts ask) (then_inside word (codes "\"") (then_inside (codes "[\"") (ask_word ask) (none_of 93 refl (codes "[\"") refl) (word_inside ask)) quote_inside) (token_inside ask)) (message_inside ask)
 
 no_digit_parts : IsDigit 58 → ⊥
 no_digit_parts digit = omega (arith, digit.1)
@@ -153,6 +166,6 @@ pub step_before : (step : Step) → Each Before (step_text step)
 step_before step =
     let after : Each Before (codes "after its steps") = none_of 58 refl (codes "after its steps") refl in
     let number : ℕ = step.polls % step.steps in
-    each_if Before (step.steps == 0) (codes "after its steps") _ after
+    each_if Before (step.steps == 0) (codes "after its steps") (if nat_le step.repeat (step.polls / step.steps) then codes "after its steps" else codes "step " ++ decimal number ++ time_text step) after
     (each_if Before (nat_le step.repeat (step.polls / step.steps)) (codes "after its steps") (codes "step " ++ decimal number ++ time_text step) after
     (each_append Before (codes "step " ++ decimal number) (time_text step) (each_append Before (codes "step ") (decimal number) (none_of 58 refl (codes "step ") refl) (decimal_none 58 number no_digit_parts)) (time_before step)))

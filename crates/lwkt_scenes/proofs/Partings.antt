@@ -1,5 +1,5 @@
 -- What two turns that have the same line have in common.
-use Rattle.std.proofs.Common.{inl, inr, ◌≡◌, ◌≢◌, ◌⊎◌, ◌<◌, ◌^◌, ℕ, List, [], ◌∷◌, ◌++◌, Option, None, Some, IfSome, refl, sym, subst, ap, ap₂, ◌∙◌, arith, codes, append_assoc, drop, get_or}
+use Rattle.std.proofs.Common.{inl, inr, ◌≡◌, ◌<◌, ◌^◌, ℕ, List, ◌∷◌, ◌++◌, Option, None, Some, IfSome, refl, sym, ap, ap₂, ◌∙◌, arith, codes, append_assoc, drop, get_or}
 use Rattle.std.specs.Fmt.{decimal}
 use Rattle.std.proofs.lemmas.List.{append_cancel_left}
 use Rattle.lwkt_base.specs.declared.asks.Ask.{Ask}
@@ -7,16 +7,20 @@ use Rattle.lwkt_base.specs.declared.names.ThreadId.{ThreadId}
 use Rattle.lwkt_verdict.specs.declared.turns.Poll.{Poll}
 use Rattle.lwkt_scenes.specs.declared.stories.Came.{Came}
 use Rattle.lwkt_scenes.specs.declared.stories.Step.{Step}
-use Rattle.lwkt_scenes.specs.Apart.{AskAlike, PollAlike, AreAlike, LinesTellTurns}
-use Rattle.lwkt_scenes.specs.Lines.{IsIdle, IsDoing, IsLine, came_text, step_text, poll_text, turn_text}
-use Rattle.lwkt_scenes.specs.Words.{thread_text, ask_text, ask_word, token_parts, message_parts}
+use Rattle.lwkt_scenes.specs.Apart.{AskAlike, PollAlike, LinesTellTurns}
+use Rattle.lwkt_scenes.specs.Lines.{IsIdle, IsDoing, came_text, step_text, poll_text, turn_text}
+use Rattle.lwkt_scenes.specs.Words.{ask_word, token_parts, message_parts}
 use Rattle.lwkt_scenes.proofs.AskTexts.{Unquoted, Inside, Before, ask_front, word_unquoted, front_inside, step_before}
 use Rattle.lwkt_scenes.proofs.Splits.{IsDigit, same_split, same_number}
+
+-- texts behind texts, from the front on
+grouped : (a b c d e f g h i : List ℕ) → (a ++ b) ++ (c ++ d) ++ (e ++ f) ++ g ++ h ++ i ≡ a ++ (b ++ (c ++ (d ++ (e ++ (f ++ (g ++ (h ++ i)))))))
+grouped a b c d e f g h i = simp append_assoc
 
 -- the line of a turn, from its front on
 head_is : (number round cpu : ℕ) (doing events : List ℕ)
     → turn_text number round cpu ++ doing ++ events ++ codes "\n" ≡ codes "turn " ++ (decimal number ++ (codes ", round " ++ (decimal round ++ (codes ", processor " ++ (decimal cpu ++ (doing ++ (events ++ codes "\n")))))))
-head_is number round cpu doing events = simp append_assoc
+head_is number round cpu doing events = grouped (codes "turn ") (decimal number) (codes ", round ") (decimal round) (codes ", processor ") (decimal cpu) doing events (codes "\n")
 
 -- a poll, from its front on
 poll_is : (poll : Poll) (step : Step) (came : Came) (rest : List ℕ)
@@ -41,8 +45,8 @@ same_thread a b cpu thread = ap₂ (λ (c n : ℕ). record { cpu = record { 0 = 
 same_word : (a b : Ask) → ask_front a ≡ ask_front b → ask_word a ≡ ask_word b
 same_word a b e =
     let more = append_cancel_left (codes "[\"") _ _ (sym (front_is a) ∙ e ∙ front_is b) in
-    let no : Unquoted 34 → ⊥ = λ no. no refl in
-    (same_split Unquoted (ask_word a) (ask_word b) 34 34 (token_parts a ++ message_parts a) (token_parts b ++ message_parts b) (word_unquoted a) (word_unquoted b) no no more).0
+    let stop : Unquoted 34 → ⊥ = λ unquoted. unquoted refl in
+    (same_split Unquoted (ask_word a) (ask_word b) 34 34 (token_parts a ++ message_parts a) (token_parts b ++ message_parts b) (word_unquoted a) (word_unquoted b) stop stop more).0
 
 -- polls that have the same text ask alike
 polls_alike : (a b : Poll) (step step' : Step) (came came' : Came) (rest rest' : List ℕ)
@@ -54,9 +58,9 @@ polls_alike a b step step' came came' rest rest' small small' e =
     let comma : IsDigit 44 → ⊥ = no_digit 44 (omega arith) in
     let cpu = same_number a.thread.cpu.0 b.thread.cpu.0 46 46 _ _ small.0 small'.0 stop stop whole in
     let thread = same_number a.thread.thread b.thread.thread 44 44 _ _ small.1 small'.1 comma comma (append_cancel_left (codes ".") _ _ cpu.1) in
-    let no : Before 58 → ⊥ = λ no. no refl in
-    let steps = same_split Before (step_text step) (step_text step') 58 58 _ _ (step_before step) (step_before step') no no (append_cancel_left (codes ", ") _ _ thread.1) in
-    let end : Inside 93 → ⊥ = λ no. no refl in
+    let colon : Before 58 → ⊥ = λ before. before refl in
+    let steps = same_split Before (step_text step) (step_text step') 58 58 _ _ (step_before step) (step_before step') colon colon (append_cancel_left (codes ", ") _ _ thread.1) in
+    let end : Inside 93 → ⊥ = λ inside. inside refl in
     let asks = same_split Inside (ask_front a.ask) (ask_front b.ask) 93 93 _ _ (front_inside a.ask) (front_inside b.ask) end end (append_cancel_left (codes ": ") _ _ steps.1) in
     record {
       thread = same_thread a.thread b.thread cpu.0 thread.0;
@@ -68,16 +72,16 @@ polls_alike a b step step' came came' rest rest' small small' e =
 record Opens (words : List ℕ) : Type 0 where
   first : ℕ
   behind : List ℕ
-  no : IsDigit first → ⊥
+  never : IsDigit first → ⊥
   is : words ≡ first ∷ behind
 
 idle_opens : (words : List ℕ) → IsIdle words → Opens words
-idle_opens words (inl is) = record { first = 58; behind = codes " no thread is left"; no = no_colon; is = is }
-idle_opens words (inr why) = record { first = 58; behind = codes " no thread runs: " ++ why.0; no = no_colon; is = why.1 }
+idle_opens words (inl is) = record { first = 58; behind = codes " no thread is left"; never = no_colon; is = is }
+idle_opens words (inr why) = record { first = 58; behind = codes " no thread runs: " ++ why.0; never = no_colon; is = why.1 }
 
 opens : (poll : Option Poll) (words : List ℕ) → IsDoing poll words → Opens words
 opens None words idle = idle_opens words idle
-opens (Some poll) words tells = record { first = 44; behind = drop 1 (poll_text poll tells.0 tells.1); no = no_digit 44 (omega arith); is = tells.2 }
+opens (Some poll) words tells = record { first = 44; behind = drop 1 (poll_text poll tells.0 tells.1); never = no_digit 44 (omega arith); is = tells.2 }
 
 -- and with this one where there is no poll, and with that one where there is one
 idle_first : (words rest : List ℕ) → IsIdle words → get_or (words ++ rest) 0 0 ≡ 58
@@ -113,7 +117,7 @@ same_cpu : (m n : ℕ) (words words' rest rest' : List ℕ) → m < 2 ^ 64 → n
 same_cpu m n words words' rest rest' small small' a b e =
     let one : words ++ rest ≡ a.first ∷ (a.behind ++ rest) = ap (λ (ws : List ℕ). ws ++ rest) a.is in
     let other : words' ++ rest' ≡ b.first ∷ (b.behind ++ rest') = ap (λ (ws : List ℕ). ws ++ rest') b.is in
-    let cut = same_number m n a.first b.first (a.behind ++ rest) (b.behind ++ rest') small small' a.no b.no (ap (λ (ws : List ℕ). decimal m ++ ws) (sym one) ∙ e ∙ ap (λ (ws : List ℕ). decimal n ++ ws) other) in
+    let cut = same_number m n a.first b.first (a.behind ++ rest) (b.behind ++ rest') small small' a.never b.never (ap (λ (ws : List ℕ). decimal m ++ ws) (sym one) ∙ e ∙ ap (λ (ws : List ℕ). decimal n ++ ws) other) in
     (cut.0, one ∙ cut.1 ∙ sym other)
 
 pub lines_apart : LinesTellTurns

@@ -73,7 +73,7 @@ decimal_digits n = onto_digits 64 n [] tt
 
 -- and has none of this character, which is no digit
 pub decimal_none : (c n : ℕ) → (IsDigit c → ⊥) → Each (λ x. x ≢ c) (decimal n)
-decimal_none c n no = each_more IsDigit (λ x. x ≢ c) (λ x digit is. no (subst IsDigit is digit)) (decimal n) (decimal_digits n)
+decimal_none c n never = each_more IsDigit (λ x. x ≢ c) (λ x digit is. never (subst IsDigit is digit)) (decimal n) (decimal_digits n)
 
 -- two texts that begin with a number, and go on with no digit, begin with the same one
 pub same_number : (m n c d : ℕ) (us vs : List ℕ) → m < 2 ^ 64 → n < 2 ^ 64 → (IsDigit c → ⊥) → (IsDigit d → ⊥) → decimal m ++ (c ∷ us) ≡ decimal n ++ (d ∷ vs) → (m ≡ n) × (c ∷ us ≡ d ∷ vs)

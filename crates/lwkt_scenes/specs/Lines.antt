@@ -117,7 +117,7 @@ is_shown first last number = nat_le first number && nat_le number (last_shown fi
 
 -- what is said of the turns before the first that is shown
 abbrev pub before_text : ℕ → List ℕ
-before_text first = if nat_lt 0 first then codes "turns before turn " ++ decimal first ++ codes " are not shown\n" else []
+before_text first = if first == 0 then [] else codes "turns before turn " ++ decimal first ++ codes " are not shown\n"
 
 -- what is said of those behind the last one, of so many turns
 abbrev pub after_text : ℕ → ℕ → List ℕ

@@ -28,11 +28,11 @@ fn last_shown(chosen: Chosen) -> usize
 fn show_before(out: &mut Page, first: usize)
     ensures { Grows out.old out.new (before_text first) }
 {
-    if first > 0 {
+    if first == 0 {
+        out.add("")
+    } else {
         out.size("turns before turn ", first);
         out.add(" are not shown\n")
-    } else {
-        out.add("")
     }
 }
 

@@ -9,9 +9,9 @@ returns-then-show_waits c = record {
   grows = joined c.add.ensures c.add_page.ensures.text;
 }
 
-pub returns-else-show_waits : goal.returns-else-show_waits
-returns-else-show_waits c = record {
+pub returns : goal.returns
+returns c = record {
   words = codes ": no thread is left";
   holds = inl refl;
-  grows = c.add-2.ensures;
+  grows = c.add-else-show_waits.ensures;
 }
