@@ -1,4 +1,4 @@
-use Rattle.std.proofs.Common.{inl, inr, ◌≡◌, ◌⊎◌, ℕ, List, [], take, rules, refl, sym, Option, None, Some, IsNone, Result, Err, Ok, IfOk, String, string_bytes, subst}
+use Rattle.std.proofs.Common.{inl, inr, ◌≡◌, ◌⊎◌, ℕ, List, [], take, rules, refl, sym, Option, None, Some, IsNone, Result, Err, Ok, subst, ◌∙◌}
 use Rattle.std.specs.Io.KnownBytes.{Appends, Keeps}
 use Rattle.lwkt_base.specs.declared.faults.Fault.{Fault as Refusal}
 use Rattle.lwkt_base.specs.declared.faults.Fault.TheVariants.{Memory}
@@ -8,18 +8,11 @@ use Rattle.lwkt_report.specs.declared.streams.RunFault.TheVariants.{Fault, Strea
 use Rattle.lwkt_report.specs.Stream.{AppendsFront}
 use Rattle.lwkt_run.specs.declared.runs.End.{End}
 use Rattle.lwkt_run.proofs.RunLemmas.{tells_unread}
-use Rattle.lwkt_run.specs.Run.{AreRead, Refuses, RefusesAlong, TellsBy}
+use Rattle.lwkt_run.specs.Run.{AreRead, IsOrderRun, end_told, Refuses, RefusesAlong, TellsBy}
 use Rattle.lwkt_show.specs.declared.options.Options.{Options}
 use Rattle.lwkt_show.specs.declared.programs.Outcome.TheVariants.{Past}
-use Rattle.std.specs.Global.{Global}
-use Rattle.lwkt_scenes.specs.declared.reels.Chosen.{Chosen}
-use Rattle.lwkt_scenes.specs.Lines.{IsTold}
 use Rattle.lwkt_run.specs.declared.runs.TurnsRun.{TurnsRun}
-use Rattle.lwkt_verdict.specs.declared.turns.Poll.{Poll}
-use Rattle.lwkt_verdict.specs.declared.turns.Turn.{Turn}
-use Rattle.lwkt_show.specs.declared.options.View.{View}
-use Rattle.lwkt_show.specs.declared.options.View.TheVariants.{Lines}
-use Rattle.lwkt_show.specs.Showing.{chosen_by, ShowsBy, ShowsAs, IsPastIn, TellsShown, IsShownAlong, IsPastAlong, TellsAlong}
+use Rattle.lwkt_show.specs.Showing.{ShowsAs, IsPastIn, TellsShown, IsShownAlong, IsPastAlong, TellsAlong}
 
 -- what was written stays what it is
 keeps_itself : (o : Option (List ℕ)) → Keeps o o
@@ -82,13 +75,12 @@ fault_of (Err fault) = fault
 pub no_lack : Fault Memory ≡ Stream → ⊥
 no_lack is = search rules
 
--- lines of a run, by what was kept of it
-pub told_by : (options : Options) (order : Option (List ℕ)) (run : TurnsRun) (chosen : Chosen) (polls : List Poll) (turns : List Turn) (answer : Result (String Global) Refusal)
-    → options.view ≡ Lines → chosen ≡ chosen_by options → polls ≡ run.polls.items → turns ≡ run.turns.items
-    → IfOk answer (λ text. IsTold chosen order run.script.cpus polls turns run.closing (string_bytes text)) → IfOk answer (λ text. ShowsAs options order run (string_bytes text))
-told_by options order run chosen polls turns answer is_lines is_chosen are_polls are_turns told =
-    let ByChosen : Chosen → Type 0 = λ c. IfOk answer (λ text. IsTold c order run.script.cpus polls turns run.closing (string_bytes text)) in
-    let Polled : List Poll → Type 0 = λ ps. IfOk answer (λ text. IsTold (chosen_by options) order run.script.cpus ps turns run.closing (string_bytes text)) in
-    let Turned : List Turn → Type 0 = λ ts. IfOk answer (λ text. IsTold (chosen_by options) order run.script.cpus run.polls.items ts run.closing (string_bytes text)) in
-    let Seen : View → Type 0 = λ v. IfOk answer (λ text. ShowsBy v options order run (string_bytes text)) in
-    subst Seen (sym is_lines) (subst Turned are_turns (subst Polled are_polls (subst ByChosen is_chosen told)))
+-- a run along an order, shown along what was kept of the order
+pub along_shown : (order : List ℕ) (options : Options) (bytes : List ℕ) (run : TurnsRun) (kept : List ℕ) (end : End) (text : List ℕ)
+    → IsOrderRun bytes order run → kept ≡ run.order.items → end ≡ end_told run.closing → ShowsAs options (Some kept) run text → IsShownAlong order options bytes end text
+along_shown order options bytes run kept end text is_run same is_end shows = record {
+  run = run;
+  is_run = is_run;
+  is_end = is_end;
+  shows = subst (λ o. ShowsAs options (Some o) run text) (same ∙ is_run.is_order) shows;
+}

@@ -68,7 +68,7 @@ pub(crate) fn text_of(
     run: &TurnsRun,
     order: Option<&[u8]>,
 ) -> Result<String, Fault>
-    ensures shows { IfOk result (λ text. ShowsAs options.now (option_copied order) run.now (string_bytes text)) }
+    ensures shows { IfOk result (λ text. ShowsAs options.now (option_copied order.entry) run.now (string_bytes text)) }
 {
     let reel = Reel {
         script: &run.script,

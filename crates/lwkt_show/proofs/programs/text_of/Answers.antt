@@ -1,8 +1,14 @@
-use Rattle.std.proofs.Common.{option_copied}
-use Rattle.lwkt_show.proofs.Telling.{told_by}
+use Rattle.std.proofs.Common.{subst, sym, IfOk, string_bytes, option_copied}
+use Rattle.lwkt_scenes.specs.Lines.{IsTold}
+use Rattle.lwkt_show.specs.Showing.{chosen_by, ShowsBy}
 use Rattle.lwkt_show.proofs.programs.text_of.Goals as goal
 
 pub returns-in-Lines : goal.returns-in-Lines
 returns-in-Lines c =
-    told_by c.args.options.now (option_copied c.args.order) c.args.run.now c.chosen_of-chosen.result c.deref-2.result.now c.deref-3.result.now c.lines_of.result
-    c.in-Lines.is c.chosen_of-chosen.ensures c.deref-2.ensures.value c.deref-3.ensures.value c.lines_of.ensures.lines
+    let run = c.args.run.now in
+    let order = option_copied c.args.order in
+    let answer = c.lines_of.result in
+    let chose = subst (λ ch. IfOk answer (λ text. IsTold ch order run.script.cpus c.deref-2.result.now c.deref-3.result.now run.closing (string_bytes text))) c.chosen_of-chosen.ensures c.lines_of.ensures.lines in
+    let polled = subst (λ ps. IfOk answer (λ text. IsTold (chosen_by c.args.options.now) order run.script.cpus ps c.deref-3.result.now run.closing (string_bytes text))) c.deref-2.ensures.value chose in
+    let turned = subst (λ ts. IfOk answer (λ text. IsTold (chosen_by c.args.options.now) order run.script.cpus run.polls.items ts run.closing (string_bytes text))) c.deref-3.ensures.value polled in
+    record { shows = subst (λ view. IfOk answer (λ text. ShowsBy view c.args.options.now order run (string_bytes text))) (sym c.in-Lines.is) turned }
