@@ -273,20 +273,6 @@ module _ (plan : Plan) (cpu : ℕ) (e : TokenEntry) (note : TokenNote) (noted' :
           (λ no'. no')
           (cases_Bool (is_other (touch_at note cell)))
 
--- the same of a row of one cell
-module _ (plan : Plan) (cpu : ℕ) (e : TokenEntry) (note : TokenNote) (noted' : IsNoted plan cpu e note) (held : is_exclusive e.held ≡ true) (single : plan.cells ≡ 1) where
-  pub single_written : is_other (touch_at note 0) ≡ true → e.row ≢ e.first
-  single_written other same = (noted'.touched 0 held).other other (ap (λ r. slice_index r 0) same)
-
-  pub single_clean : is_other (touch_at note 0) ≡ false → e.row ≡ e.first
-  single_clean none =
-      let long = noted'.long (exclusive_held e.held held) in
-      ext_get_or 0 e.row e.first (long.1 ∙ sym long.0) (λ cell inside_row.
-      let l = long.1 in
-      let first : cell ≡ 0 = omega arith in
-      let F : ℕ → Type 0 = λ k. is_other (touch_at note k) ≡ false in
-      (noted'.touched cell held).same (subst F (sym first) none))
-
 -- which cells were stored to, after one more was
 stored_by : (b : Bool) → is_stored (cond b Same Other) ≡ true
 stored_by true = refl

@@ -1,4 +1,4 @@
-use Rattle.std.proofs.Common.{◌≡◌, ◌≢◌, ℕ, ◌<◌, true, false, length}
+use Rattle.std.proofs.Common.{◌≡◌, ◌≢◌, ℕ, ◌<◌, true, false}
 use Rattle.std.specs.Prelude.{slice_index}
 use Rattle.lwkt_bank.proofs.notes.same_bytes.Given as goal
 
