@@ -1,8 +1,10 @@
-use Rattle.std.specs.Prelude.{ℕ}
+-- Faults: their numbers and their messages (own).
+use Rattle.std.specs.Prelude.{ℕ, List, [], ◌++◌, codes}
+use Rattle.std.specs.Fmt.{decimal}
 use Rattle.lwkt_base.specs.declared.faults.Fault.{Fault}
 use Rattle.lwkt_base.specs.declared.faults.Fault.TheVariants.{ListFull, Upgrade, NotLast, NotHeld, SwapSame, SwapShort, NoToken, NoCell, SharedWrite, Broken, Worn, Overflow, TallyOnly, Busy, LaneFull, NotOwner, NotOut, NotAbortable, NotDropable, SelfDo, NoPort, NotTaken, Memory, Script, Again, Unlawful, RoundsOut, SharedRecord, RecordLong, Limits, LawBroken}
 
--- the number by which reports name a fault (own)
+-- the number by which reports name a fault
 abbrev pub number_of : Fault → ℕ
 number_of ListFull = 10
 number_of Upgrade = 11
@@ -35,3 +37,47 @@ number_of SharedRecord = 37
 number_of RecordLong = 38
 number_of Limits = 39
 number_of LawBroken = 40
+
+-- the words of a fault's message, but for a number at the end
+abbrev pub fault_words : Fault → List ℕ
+fault_words ListFull = codes "list full"
+fault_words Upgrade = codes "shared reference can't become exclusive"
+fault_words NotLast = codes "not the last reference"
+fault_words NotHeld = codes "token not held"
+fault_words SwapSame = codes "swap of one token"
+fault_words SwapShort = codes "swap needs two references"
+fault_words NoToken = codes "no such token"
+fault_words NoCell = codes "no such cell"
+fault_words SharedWrite = codes "write under a shared token"
+fault_words Broken = codes "law broken, cells restored"
+fault_words Worn = codes "last generation"
+fault_words Overflow = codes "sum too large"
+fault_words TallyOnly = codes "call and law don't fit"
+fault_words Busy = codes "token busy"
+fault_words LaneFull = codes "lane full"
+fault_words NotOwner = codes "message not owned"
+fault_words NotOut = codes "message not out"
+fault_words NotAbortable = codes "message not abortable"
+fault_words NotDropable = codes "message not dropable"
+fault_words SelfDo = codes "synchronous send to itself"
+fault_words NoPort = codes "no such port"
+fault_words NotTaken = codes "message not taken"
+fault_words Memory = codes "out of memory"
+fault_words (Script place) = codes "script refused at "
+fault_words Again = codes "lost a race, try again"
+fault_words (Unlawful index) = codes "unlawful at "
+fault_words RoundsOut = codes "last round"
+fault_words SharedRecord = codes "record under a shared token"
+fault_words RecordLong = codes "record too long"
+fault_words Limits = codes "limit passed"
+fault_words LawBroken = codes "opening breaks its law"
+
+-- the number at the end of a fault's message
+abbrev pub fault_place : Fault → List ℕ
+fault_place (Script place) = decimal place
+fault_place (Unlawful index) = decimal index
+fault_place _ = []
+
+-- a fault's message
+abbrev pub fault_message : Fault → List ℕ
+fault_message fault = fault_words fault ++ fault_place fault

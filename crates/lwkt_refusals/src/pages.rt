@@ -1,5 +1,6 @@
 ghost use Rattle.std.specs.Prelude.{◌≡◌, ◌<◌, ◌++◌, [], ◌∷◌, false, IfOk, string_bytes};
 ghost use Rattle.std.specs.Fmt.{decimal};
+ghost use Rattle.lwkt_base.specs.Fault.{fault_message};
 ghost use Rattle.lwkt_refusals.specs.Pages.{Grows};
 
 use lwkt_base::{Fault, Law};
@@ -85,12 +86,24 @@ impl Page {
         }
     }
 
-    /// Appends a text, and that of a fault behind it.
-    pub fn fault(&mut self, before: &str, fault: Fault) {
-        self.add(before);
-        if !self.is_lost && write!(self.text, "{fault}").is_err() {
-            self.is_lost = true;
+    // Appends the message of a fault.
+    fn message(&mut self, fault: Fault)
+        ensures { Grows self.old self.new (fault_message fault) }
+    {
+        if !self.is_lost {
+            match write!(self.text, "{fault}") {
+                Ok(()) => {}
+                Err(_) => self.is_lost = true,
+            }
         }
+    }
+
+    /// Appends a text, and the message of a fault behind it.
+    pub fn fault(&mut self, before: &str, fault: Fault)
+        ensures { Grows self.old self.new (before.now ++ fault_message fault) }
+    {
+        self.add(before);
+        self.message(fault)
     }
 
     /// Appends what was made on another page.

@@ -2,7 +2,7 @@
 use Rattle.std.specs.Prelude.{ℕ, ◌+◌, ◌==◌, ◌&&◌, ◌||◌, nat_le, nat_lt, Bool, not, List, [], ◌++◌, length, take, codes, if◌then◌else◌}
 use Rattle.std.specs.Fmt.{decimal}
 use Rattle.std.specs.List.{list_all}
-use Rattle.lwkt_base.specs.Fault.{number_of}
+use Rattle.lwkt_base.specs.Fault.{number_of, fault_message}
 use Rattle.lwkt_base.specs.Hex.{hex_text}
 use Rattle.lwkt_base.specs.declared.asks.Answer.{Answer}
 use Rattle.lwkt_base.specs.declared.asks.Answer.TheVariants.{Begin, Done, Value, Bytes, Dropped, Got, NoMsg, Refused}
@@ -11,7 +11,6 @@ use Rattle.lwkt_base.specs.declared.asks.Ask.TheVariants.{Get, GetShared, TryGet
 use Rattle.lwkt_base.specs.declared.asks.Item.{Item}
 use Rattle.lwkt_base.specs.declared.asks.Item.TheVariants.{Request, Answered}
 use Rattle.lwkt_base.specs.declared.faults.Fault.{Fault}
-use Rattle.lwkt_base.specs.declared.faults.Fault.TheVariants.{ListFull, Upgrade, NotLast, NotHeld, SwapSame, SwapShort, NoToken, NoCell, SharedWrite, Broken, Worn, Overflow, TallyOnly, Busy, LaneFull, NotOwner, NotOut, NotAbortable, NotDropable, SelfDo, NoPort, NotTaken, Memory, Script, Again, Unlawful, RoundsOut, SharedRecord, RecordLong, Limits, LawBroken}
 use Rattle.lwkt_base.specs.declared.names.MsgId.{MsgId}
 use Rattle.lwkt_base.specs.declared.names.ThreadId.{ThreadId}
 use Rattle.lwkt_base.specs.declared.records.Call.{Call}
@@ -23,49 +22,9 @@ use Rattle.lwkt_trace.specs.Written.{comma, blob_text}
 abbrev pub thread_text : ThreadId → List ℕ
 thread_text id = decimal id.cpu.0 ++ codes "." ++ decimal id.thread
 
--- the words of a fault, but for a number behind them
-abbrev pub fault_words : Fault → List ℕ
-fault_words ListFull = codes "list full"
-fault_words Upgrade = codes "shared reference can't become exclusive"
-fault_words NotLast = codes "not the last reference"
-fault_words NotHeld = codes "token not held"
-fault_words SwapSame = codes "swap of one token"
-fault_words SwapShort = codes "swap needs two references"
-fault_words NoToken = codes "no such token"
-fault_words NoCell = codes "no such cell"
-fault_words SharedWrite = codes "write under a shared token"
-fault_words Broken = codes "law broken, cells restored"
-fault_words Worn = codes "last generation"
-fault_words Overflow = codes "sum too large"
-fault_words TallyOnly = codes "call and law don't fit"
-fault_words Busy = codes "token busy"
-fault_words LaneFull = codes "lane full"
-fault_words NotOwner = codes "message not owned"
-fault_words NotOut = codes "message not out"
-fault_words NotAbortable = codes "message not abortable"
-fault_words NotDropable = codes "message not dropable"
-fault_words SelfDo = codes "synchronous send to itself"
-fault_words NoPort = codes "no such port"
-fault_words NotTaken = codes "message not taken"
-fault_words Memory = codes "out of memory"
-fault_words (Script place) = codes "script refused at "
-fault_words Again = codes "lost a race, try again"
-fault_words (Unlawful index) = codes "unlawful at "
-fault_words RoundsOut = codes "last round"
-fault_words SharedRecord = codes "record under a shared token"
-fault_words RecordLong = codes "record too long"
-fault_words Limits = codes "limit passed"
-fault_words LawBroken = codes "opening breaks its law"
-
--- the number behind them
-abbrev pub fault_place : Fault → List ℕ
-fault_place (Script place) = decimal place
-fault_place (Unlawful index) = decimal index
-fault_place _ = []
-
--- a fault by its number and its words: `23, token busy`
+-- a fault by its number and its message: `23, token busy`
 abbrev pub fault_text : Fault → List ℕ
-fault_text fault = decimal (number_of fault) ++ codes ", " ++ fault_words fault ++ fault_place fault
+fault_text fault = decimal (number_of fault) ++ codes ", " ++ fault_message fault
 
 -- the word of an ask, as in a script
 abbrev pub ask_word : Ask → List ℕ

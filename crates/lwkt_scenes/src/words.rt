@@ -2,7 +2,7 @@ ghost use Rattle.std.specs.Prelude.{◌≡◌, ◌++◌};
 ghost use Rattle.std.specs.Fmt.{decimal};
 ghost use Rattle.lwkt_refusals.specs.Pages.{Grows};
 ghost use Rattle.lwkt_trace.specs.Written.{comma};
-ghost use Rattle.lwkt_scenes.specs.Words.{thread_text, ask_word, token_parts, call_text, flags_number, message_parts, ask_text, fault_words, fault_place, fault_text, item_text, dropped_text, refused_text, answer_text};
+ghost use Rattle.lwkt_scenes.specs.Words.{thread_text, ask_word, token_parts, call_text, flags_number, message_parts, ask_text, fault_text, item_text, dropped_text, refused_text, answer_text};
 
 use crate::pages::Page;
 use crate::records::{show_digits, show_record};
@@ -138,64 +138,12 @@ pub(crate) fn show_ask(out: &mut Page, ask: &Ask)
     out.add("]");
 }
 
-// The words of a fault, but for a number behind them.
-fn fault_words(fault: Fault) -> &'static str
-    ensures { result.now ≡ fault_words fault }
-{
-    match fault {
-        Fault::ListFull => "list full",
-        Fault::Upgrade => "shared reference can't become exclusive",
-        Fault::NotLast => "not the last reference",
-        Fault::NotHeld => "token not held",
-        Fault::SwapSame => "swap of one token",
-        Fault::SwapShort => "swap needs two references",
-        Fault::NoToken => "no such token",
-        Fault::NoCell => "no such cell",
-        Fault::SharedWrite => "write under a shared token",
-        Fault::Broken => "law broken, cells restored",
-        Fault::Worn => "last generation",
-        Fault::Overflow => "sum too large",
-        Fault::TallyOnly => "call and law don't fit",
-        Fault::Busy => "token busy",
-        Fault::LaneFull => "lane full",
-        Fault::NotOwner => "message not owned",
-        Fault::NotOut => "message not out",
-        Fault::NotAbortable => "message not abortable",
-        Fault::NotDropable => "message not dropable",
-        Fault::SelfDo => "synchronous send to itself",
-        Fault::NoPort => "no such port",
-        Fault::NotTaken => "message not taken",
-        Fault::Memory => "out of memory",
-        Fault::Script { .. } => "script refused at ",
-        Fault::Again => "lost a race, try again",
-        Fault::Unlawful { .. } => "unlawful at ",
-        Fault::RoundsOut => "last round",
-        Fault::SharedRecord => "record under a shared token",
-        Fault::RecordLong => "record too long",
-        Fault::Limits => "limit passed",
-        Fault::LawBroken => "opening breaks its law",
-    }
-}
-
-// Appends the number behind them.
-fn show_fault_place(out: &mut Page, fault: Fault)
-    ensures { Grows out.old out.new (fault_place fault) }
-{
-    match fault {
-        Fault::Script { place } => out.number("", u64::from(place)),
-        Fault::Unlawful { index } => out.size("", index),
-        _ => out.add(""),
-    }
-}
-
-/// Appends a fault by its number and its text: `23, token busy`.
+/// Appends a fault by its number and its message: `23, token busy`.
 pub(crate) fn show_fault(out: &mut Page, fault: Fault)
     ensures { Grows out.old out.new (fault_text fault) }
 {
     out.number("", u64::from(fault.number()));
-    out.add(", ");
-    out.add(fault_words(fault));
-    show_fault_place(out, fault)
+    out.fault(", ", fault)
 }
 
 // Appends a message with two numbers, each behind its words.
