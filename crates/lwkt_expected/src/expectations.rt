@@ -1,6 +1,7 @@
 //! What a text says of the outcomes of its script, over all orders.
-ghost use Rattle.std.specs.Prelude.{◌≡◌, IsTrue, IfSome, IsSomeAnd, is_some, slice_get};
-ghost use Rattle.std.specs.List.{list_all, list_any};
+ghost use Rattle.std.specs.Prelude.{◌≡◌};
+ghost use Rattle.std.specs.List.{list_all, list_any, find};
+ghost use Rattle.std.specs.Option.{option_copied};
 ghost use Rattle.lwkt_expected.specs.Expectations.{is_whole, decides_by, decides, met_by, is_met, status_of_text};
 
 use lwkt_explore::{Found, Kind, Outcome, status_of};
@@ -48,14 +49,11 @@ fn is_decided(expectation: &Expectation, outcomes: &[Outcome]) -> bool
 /// The first outcome that decides an expectation: that breaks what is said of each one or of none, or shows what is said of one.
 /// Among the outcomes of a search, which come by the length of their orders, no other such one has a shorter order.
 pub fn deciding<'a>(expectation: &Expectation, outcomes: &'a [Outcome]) -> Option<&'a Outcome>
-    ensures { IfSome result (λ outcome. IsTrue (decides expectation.now outcome.now)) }
+    ensures { option_copied result ≡ find (decides expectation.now) outcomes.now }
 {
-    for outcome in outcomes {
-        if decides(expectation, outcome) {
-            return Some(outcome);
-        }
-    }
-    None
+    outcomes
+        .iter()
+        .find(|outcome| decides(expectation, outcome))
 }
 
 /// Whether what a text says of the outcomes of its script is so of those that were found, but for those that were cut.
