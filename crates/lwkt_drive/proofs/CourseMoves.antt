@@ -1,5 +1,6 @@
 use Rattle.std.proofs.Common.{◌≡◌, ℕ, suc, ◌+◌, ◌<◌, ◌≤◌, List, [], ◌∷◌, ◌++◌, length, take, refl, ap, sym, ◌∙◌, subst, arith, inl, inr}
-use Rattle.std.specs.Prelude.{Bool, Vec, slice_index_or}
+use Rattle.std.specs.Prelude.{Bool, false, ◌%◌, ◌^◌, Vec, slice_index_or}
+use Rattle.std.proofs.Math.Nat.{mod-add-mod}
 use Rattle.std.specs.List.{All, AllZip}
 use Rattle.std.proofs.lemmas.List.Elements.{AllZip-get_or, length_all_zip}
 use Rattle.std.specs.declared.alloc.Global.{Global}
@@ -22,8 +23,9 @@ use Rattle.lwkt_cpu.specs.Turning.{MakesTurn}
 use Rattle.lwkt_cpu.specs.Driving.{Made, counted, none_driven}
 use Rattle.lwkt_drive.specs.declared.driven.Driven.{Driven}
 use Rattle.lwkt_drive.specs.declared.driven.Limits.{Limits}
+use Rattle.lwkt_drive.specs.declared.driven.Said.{Said}
 use Rattle.lwkt_drive.specs.declared.driven.Ending.{Ending}
-use Rattle.lwkt_drive.specs.Course.{IsAt, IsWithin, GoesOn, EndsBy, noted, MakesOne, Stays, IsDriven, IsUnderWay, IsSo, ComesTo, GoesTo, DrivesOn, DrivesOut, begun, counts}
+use Rattle.lwkt_drive.specs.Course.{IsAt, IsWithin, GoesOn, EndsBy, agreed, heard, noted, MakesOne, Stays, IsDriven, IsUnderWay, IsSo, ComesTo, GoesTo, DrivesOn, DrivesOut, begun, counts}
 
 -- a turn more, after others
 pub made_more : {B : Type 0} (polled : B → Answer → Ask → B → Type 0) (bank : BankId) (old mid new : Processor B) (t v u : Vec Event Global) (turns : List Turned) (turned : Turned) → Made polled bank old mid t v turns → MakesTurn polled bank mid new v u turned → Made polled bank old new t u (turns ++ turned ∷ [])
@@ -33,6 +35,12 @@ made_more {B} polled bank old mid new t v u [] turned made last =
     (new, (u, (subst G made.1 (subst F made.0 last), (refl, refl))))
 made_more polled bank old mid new t v u (x ∷ turns) turned made last =
     (made.0, (made.1.0, (made.1.1.0, made_more polled bank made.0 mid new made.1.0 v u turns turned made.1.1.1 last)))
+
+-- one yes more
+heard_more : (turns : List Turned) (turned : Turned) (said : Said) → agreed (heard (length turns) said) ≡ heard (length (turns ++ turned ∷ [])) said
+heard_more turns turned said =
+    let F : ℕ → Said = λ n. record { drives = (said.drives + 1) % 2 ^ 64; yeses = n; no = false } in
+    ap F (mod-add-mod (length turns) (2 ^ 64) 1 ∙ ap (λ n. n % 2 ^ 64) (sym (length-append turns (turned ∷ []))))
 
 -- no turn was made yet
 pub under_none : {B : Type 0} (polled : B → Answer → Ask → B → Type 0) (answers : CpuId → ℕ → Bool → Type 0) (bank : BankId) (limits : Limits) (d : Driven B) → IsUnderWay polled answers bank limits d (begun d)
@@ -89,7 +97,7 @@ under_more {B} polled answers bank limits old mid new turn total u m same =
       going = going_more answers limits old.id u.turns m.turned u.going last;
       drove = m.drove ∙ (ap (λ d. counted d m.turned) u.drove ∙ sym (fold-append counted none_driven u.turns (m.turned ∷ [])));
       all = subst T (sym m.drove) (omega (arith, counted_all mid.drove m.turned, u.all, length-append u.turns (m.turned ∷ [])));
-      said = m.said ∙ u.said;
+      said = m.said ∙ (ap agreed u.said ∙ heard_more u.turns m.turned old.said);
       same = same ∙ u.same;
       seat = m.makes.ran.cpu ∙ u.seat;
     }

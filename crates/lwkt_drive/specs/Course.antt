@@ -36,18 +36,27 @@ pub record GoesOn (answers : CpuId → ℕ → Bool → Type 0) (limits : Limits
   pub idle : drove.idle < limits.idle
   pub passed : answers cpu turns true
 
--- what the gate has said to a processor as its drive begins: not no, and one drive more has begun
+-- what the gate has said to a processor as its drive begins: nothing yet, and one drive more has begun
 abbrev pub opened : Said → Said
-opened said = record { drives = (said.drives + 1) % 2 ^ 64; no = false }
+opened said = record { drives = (said.drives + 1) % 2 ^ 64; yeses = 0; no = false }
 
--- what the gate has said to a processor as its drive ends so: no where it ends by that, and otherwise what it had said
+-- what it has said with one yes more
+abbrev pub agreed : Said → Said
+agreed said = record said { yeses = (said.yeses + 1) % 2 ^ 64 }
+
+-- what it has said after so many turns of a drive that began so: one yes to each
+abbrev pub heard : ℕ → Said → Said
+heard turns said = record (opened said) { yeses = turns % 2 ^ 64 }
+
+-- what the gate has said to a processor as its drive ends so: no where it ends by that; yes once more where it ends for want of memory,
+-- to the turn that wasn't made; and otherwise what it had said
 abbrev pub noted : Ending → Said → Said
 noted NotDriven said = said
 noted Stopped said = record said { no = true }
 noted TurnsOut said = said
 noted IdleOut said = said
 noted AllExited said = said
-noted NoMemory said = said
+noted NoMemory said = agreed said
 noted CalledOff said = said
 noted Quiet said = said
 
@@ -64,13 +73,13 @@ EndsBy answers limits cpu turns drove trace NoMemory = GoesOn answers limits cpu
 EndsBy answers limits cpu turns drove trace CalledOff = Unit {0}
 EndsBy answers limits cpu turns drove trace Quiet = 0 < drove.idle
 
--- a processor makes its turn of this number, which is counted
+-- a processor makes its turn of this number, to which the gate says yes once and which is counted
 pub record MakesOne {B : Type 0} (polled : B → Answer → Ask → B → Type 0) (answers : CpuId → ℕ → Bool → Type 0) (bank : BankId) (limits : Limits) (turn : ℕ) (old new : Driven B) : Type 0 where
   pub turned : Turned
   pub goes : GoesOn answers limits old.id turn old.drove
   pub makes : MakesTurn polled bank old.cpu new.cpu old.trace new.trace turned
   pub drove : new.drove ≡ counted old.drove turned
-  pub said : new.said ≡ old.said
+  pub said : new.said ≡ agreed old.said
 
 -- a processor stays as it is, and why
 pub record Stays {B : Type 0} (answers : CpuId → ℕ → Bool → Type 0) (limits : Limits) (turn : ℕ) (old new : Driven B) (ending : Ending) : Type 0 where
@@ -81,7 +90,8 @@ pub record Stays {B : Type 0} (answers : CpuId → ℕ → Bool → Type 0) (lim
   pub ends : EndsBy answers limits old.id turn old.drove new.trace ending
 
 -- a processor was driven: it made these turns one after the other, each where it went on, until there was a reason to end, which is the
--- gate's no where the gate has said no to it since this drive began; the trace grew by theirs (own)
+-- gate's no where the gate has said no to it since this drive began; the gate said yes once to each turn, and once more only where the
+-- drive ends for want of memory; the trace grew by theirs (own)
 pub record IsDriven {B : Type 0} (polled : B → Answer → Ask → B → Type 0) (answers : CpuId → ℕ → Bool → Type 0) (bank : BankId) (limits : Limits) (old new : Driven B) (ending : Ending) : Type 0 where
   pub turns : List Turned
   pub v : Vec Event Global
@@ -89,7 +99,7 @@ pub record IsDriven {B : Type 0} (polled : B → Answer → Ask → B → Type 0
   pub trace : new.trace.items ≡ v.items
   pub going : (k : ℕ) → k < length turns → GoesOn answers limits old.id k (counts (take k turns))
   pub drove : new.drove ≡ counts turns
-  pub said : new.said ≡ noted ending (opened old.said)
+  pub said : new.said ≡ noted ending (heard (length turns) old.said)
   pub ends : EndsBy answers limits old.id (length turns) new.drove new.trace ending
   pub same : new.id ≡ old.id
   pub seat : new.cpu.seat.cpu ≡ old.cpu.seat.cpu
@@ -98,15 +108,15 @@ pub record IsDriven {B : Type 0} (polled : B → Answer → Ask → B → Type 0
 abbrev pub begun : {B : Type 0} → Driven B → Driven B
 begun d = record d { said = opened d.said; drove = none_driven; ending = NotDriven }
 
--- a processor is being driven: so far it has made these turns one after the other, each where it went on, and the gate hasn't said no
--- to it since this drive began; the trace grew by theirs (own)
+-- a processor is being driven: so far it has made these turns one after the other, each where it went on, and the gate has said yes
+-- once to each, and not no, since this drive began; the trace grew by theirs (own)
 pub record IsUnderWay {B : Type 0} (polled : B → Answer → Ask → B → Type 0) (answers : CpuId → ℕ → Bool → Type 0) (bank : BankId) (limits : Limits) (old new : Driven B) : Type 0 where
   pub turns : List Turned
   pub made : Made polled bank old.cpu new.cpu old.trace new.trace turns
   pub going : (k : ℕ) → k < length turns → GoesOn answers limits old.id k (counts (take k turns))
   pub drove : new.drove ≡ counts turns
   pub all : new.drove.ran + new.drove.idle ≡ length turns
-  pub said : new.said ≡ opened old.said
+  pub said : new.said ≡ heard (length turns) old.said
   pub same : new.id ≡ old.id
   pub seat : new.cpu.seat.cpu ≡ old.cpu.seat.cpu
 

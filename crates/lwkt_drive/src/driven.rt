@@ -39,16 +39,19 @@ pub struct Limits {
     pub idle: u32,
 }
 
-/// What the gate has said to a processor. It is made with the processor, and only the beginning of a drive and a no change it.
+/// What the gate has said to a processor. It is made with the processor, and only the beginning of a drive and the gate's answers
+/// change it.
 #[derive(Debug, Drop)]
 pub struct Said {
     // How many drives have begun, modulo 2^64.
     drives: u64,
+    // How often the gate has said yes since the last one began, modulo 2^64.
+    yeses: u64,
     // Whether the gate has said no since the last one began.
     no: bool,
 }
 
-/// The gate as a drive has it: it is asked by `Driven::ask` alone, which keeps a no.
+/// The gate as a drive has it: it is asked by `Driven::ask` alone, which counts each yes and keeps a no.
 #[derive(Clone, Copy)]
 pub(crate) struct Door<'a, G> {
     gate: &'a G,
@@ -79,7 +82,7 @@ impl<B> Driven<B> {
         ensures id { result.id ≡ id }
         ensures cpu { result.cpu ≡ cpu }
         ensures trace { result.trace.items ≡ [] }
-        ensures said { result.said ≡ record { drives = 0; no = false } }
+        ensures said { result.said ≡ record { drives = 0; yeses = 0; no = false } }
         ensures drove { result.drove ≡ none_driven }
         ensures ending { result.ending ≡ Ending.NotDriven }
     {
@@ -89,6 +92,7 @@ impl<B> Driven<B> {
             trace: Vec::new(alloc),
             said: Said {
                 drives: 0,
+                yeses: 0,
                 no: false,
             },
             drove: Drove {
@@ -100,7 +104,7 @@ impl<B> Driven<B> {
         }
     }
 
-    ghost use Rattle.lwkt_drive.specs.Course.{begun, noted};
+    ghost use Rattle.lwkt_drive.specs.Course.{agreed, begun, noted};
 
     /// Has made no turn, and hasn't ended.
     pub(crate) fn begin(&mut self)
@@ -108,6 +112,7 @@ impl<B> Driven<B> {
     {
         self.said = Said {
             drives: self.said.drives.wrapping_add(1),
+            yeses: 0,
             no: false,
         };
         self.drove = Drove {
@@ -118,13 +123,14 @@ impl<B> Driven<B> {
         self.ending = Ending::NotDriven;
     }
 
-    /// Asks the gate whether the processor goes on with its turn of this number. A no is kept.
+    /// Asks the gate whether the processor goes on with its turn of this number. A yes is counted, and a no is kept.
     pub(crate) fn ask<G: Gate>(&mut self, door: &Door<'_, G>, turn: u64) -> bool
         ensures answers { G.answers door.now.gate.now self.old.id turn result }
-        ensures yes { result ≡ true → self.new ≡ self.old }
+        ensures yes { result ≡ true → self.new ≡ record self.old { said = agreed self.old.said } }
         ensures no { result ≡ false → self.new ≡ record self.old { said = noted Ending.Stopped self.old.said } }
     {
         if door.gate.pass(self.id, turn) {
+            self.said.yeses = self.said.yeses.wrapping_add(1);
             return true;
         }
         self.said.no = true;

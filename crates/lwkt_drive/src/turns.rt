@@ -3,7 +3,7 @@ ghost use Rattle.std.specs.Prelude.{◌≡◌, ◌+◌, ◌<◌, ◌≤◌, ◌^
 ghost use Rattle.lwkt_bank.specs.Seats.{id_of};
 ghost use Rattle.lwkt_cpu.specs.Driving.{counted};
 ghost use Rattle.lwkt_cpu.specs.Turning.{LacksRoom, MakesTurn};
-ghost use Rattle.lwkt_drive.specs.Course.{IsAt, IsWithin, GoesOn, EndsBy, noted};
+ghost use Rattle.lwkt_drive.specs.Course.{IsAt, IsWithin, GoesOn, EndsBy, agreed, noted};
 
 use crate::driven::{Door, Driven, Ending, Limits};
 use crate::gates::Gate;
@@ -24,7 +24,7 @@ impl<B> Driven<B> {
     ) -> Option<Ending>
         requires { IsWithin limits.now self.old.drove }
         ensures some { IfSome result (λ ending. (self.new ≡ record self.old { said = noted ending self.old.said }) × EndsBy (G.answers door.now.gate.now) limits.now self.old.id turn self.old.drove self.old.trace ending) }
-        ensures none { result ≡ None → (self.new ≡ self.old) × GoesOn (G.answers door.now.gate.now) limits.now self.old.id turn self.old.drove }
+        ensures none { result ≡ None → (self.new ≡ record self.old { said = agreed self.old.said }) × GoesOn (G.answers door.now.gate.now) limits.now self.old.id turn self.old.drove }
         ensures few { result ≡ None → self.new.drove.ran + self.new.drove.idle + 1 < 2 ^ 64 }
     {
         if self.drove.ran >= u64::from(limits.turns) {
