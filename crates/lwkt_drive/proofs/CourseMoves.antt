@@ -1,5 +1,5 @@
 use Rattle.std.proofs.Common.{◌≡◌, ℕ, suc, ◌+◌, ◌<◌, ◌≤◌, List, [], ◌∷◌, ◌++◌, length, take, refl, ap, sym, ◌∙◌, subst, arith, inl, inr}
-use Rattle.std.specs.Prelude.{Bool, false, ◌%◌, ◌^◌, Vec, slice_index_or}
+use Rattle.std.specs.Prelude.{Bool, true, false, ◌%◌, ◌^◌, Vec, slice_index_or}
 use Rattle.std.proofs.Math.Nat.{mod-add-mod}
 use Rattle.std.specs.List.{All, AllZip}
 use Rattle.std.proofs.lemmas.List.Elements.{AllZip-get_or, length_all_zip}
@@ -7,7 +7,7 @@ use Rattle.std.specs.declared.alloc.Global.{Global}
 use Rattle.std.proofs.lemmas.List.Sums.{fold-append}
 use Rattle.std.proofs.lemmas.List.{take-append-le, take_all}
 use lib.ListN.{length-append}
-use Rattle.std.proofs.lemmas.Bool.{cases_lt}
+use Rattle.std.proofs.lemmas.Bool.{cases_lt, false≢true}
 use Rattle.lwkt_drive.specs.declared.driven.Ending.TheVariants.{NotDriven, TurnsOut}
 use Rattle.atomic_table.specs.Seated.{TableId}
 use Rattle.lwkt_base.specs.declared.names.CpuId.{CpuId}
@@ -25,7 +25,7 @@ use Rattle.lwkt_drive.specs.declared.driven.Driven.{Driven}
 use Rattle.lwkt_drive.specs.declared.driven.Limits.{Limits}
 use Rattle.lwkt_drive.specs.declared.driven.Said.{Said}
 use Rattle.lwkt_drive.specs.declared.driven.Ending.{Ending}
-use Rattle.lwkt_drive.specs.Course.{IsAt, IsWithin, GoesOn, EndsBy, agreed, heard, noted, MakesOne, Stays, IsDriven, IsUnderWay, IsSo, ComesTo, GoesTo, DrivesOn, DrivesOut, begun, counts}
+use Rattle.lwkt_drive.specs.Course.{IsAt, IsWithin, GoesOn, EndsBy, IsQuiet, EndsQuiet, agreed, heard, noted, MakesOne, Stays, IsDriven, IsUnderWay, IsSo, ComesTo, GoesTo, DrivesOn, DrivesOut, begun, counts}
 
 -- a turn more, after others
 pub made_more : {B : Type 0} (polled : B → Answer → Ask → B → Type 0) (bank : BankId) (old mid new : Processor B) (t v u : Vec Event Global) (turns : List Turned) (turned : Turned) → Made polled bank old mid t v turns → MakesTurn polled bank mid new v u turned → Made polled bank old new t u (turns ++ turned ∷ [])
@@ -35,6 +35,17 @@ made_more {B} polled bank old mid new t v u [] turned made last =
     (new, (u, (subst G made.1 (subst F made.0 last), (refl, refl))))
 made_more polled bank old mid new t v u (x ∷ turns) turned made last =
     (made.0, (made.1.0, (made.1.1.0, made_more polled bank made.0 mid new made.1.0 v u turns turned made.1.1.1 last)))
+
+-- a quiet turn more, after others
+ends_quiet : {B : Type 0} (polled : B → Answer → Ask → B → Type 0) (bank : BankId) (old mid new : Processor B) (t v u : Vec Event Global) (turns : List Turned) (turned : Turned) (made : Made polled bank old mid t v turns) (last : MakesTurn polled bank mid new v u turned) → IsQuiet turned v u → EndsQuiet polled bank old new t u (turns ++ turned ∷ []) (made_more polled bank old mid new t v u turns turned made last)
+unfolding made_more
+ends_quiet polled bank old mid new t v u [] turned made last quiet =
+    let F : Vec Event Global → Type 0 = λ x. IsQuiet turned x u in
+    subst F made.1 quiet
+ends_quiet polled bank old mid new t v u (x ∷ []) turned made last quiet =
+    ends_quiet polled bank made.0 mid new made.1.0 v u [] turned made.1.1.1 last quiet
+ends_quiet polled bank old mid new t v u (x ∷ y ∷ turns) turned made last quiet =
+    ends_quiet polled bank made.0 mid new made.1.0 v u (y ∷ turns) turned made.1.1.1 last quiet
 
 -- one yes more
 heard_more : (turns : List Turned) (turned : Turned) (said : Said) → agreed (heard (length turns) said) ≡ heard (length (turns ++ turned ∷ [])) said
@@ -50,6 +61,7 @@ under_none polled answers bank limits d = record {
   going = λ k less. absurd (omega (arith, less));
   drove = refl;
   all = refl;
+  quiet = λ is. absurd (false≢true is);
   said = refl;
   same = refl;
   seat = refl;
@@ -97,6 +109,7 @@ under_more {B} polled answers bank limits old mid new turn total u m same =
       going = going_more answers limits old.id u.turns m.turned u.going last;
       drove = m.drove ∙ (ap (λ d. counted d m.turned) u.drove ∙ sym (fold-append counted none_driven u.turns (m.turned ∷ [])));
       all = subst T (sym m.drove) (omega (arith, counted_all mid.drove m.turned, u.all, length-append u.turns (m.turned ∷ [])));
+      quiet = λ is. ends_quiet polled bank old.cpu mid.cpu new.cpu old.trace mid.trace new.trace u.turns m.turned u.made m.makes (m.quiet is);
       said = m.said ∙ (ap agreed u.said ∙ heard_more u.turns m.turned old.said);
       same = same ∙ u.same;
       seat = m.makes.ran.cpu ∙ u.seat;
@@ -119,19 +132,22 @@ total_more polled answers bank limits mid new turn total m =
 driven_by : {B : Type 0} (polled : B → Answer → Ask → B → Type 0) (answers : CpuId → ℕ → Bool → Type 0) (bank : BankId) (limits : Limits) (old mid new : Driven B) (ending : Ending) (turn : ℕ) → mid.drove.ran + mid.drove.idle ≡ turn → IsUnderWay polled answers bank limits old mid → Stays answers limits turn mid new ending → new.id ≡ mid.id → IsDriven polled answers bank limits old new ending
 driven_by {B} polled answers bank limits old mid new ending turn total u s same =
     let long : length u.turns ≡ turn = sym u.all ∙ total in
-    let M : Processor B → Type 0 = λ p. Made polled bank old.cpu p old.trace mid.trace u.turns in
-    let I : CpuId → Type 0 = λ id. EndsBy answers limits id turn mid.drove new.trace ending in
-    let N : ℕ → Type 0 = λ n. EndsBy answers limits old.id n mid.drove new.trace ending in
-    let D : Drove → Type 0 = λ d. EndsBy answers limits old.id (length u.turns) d new.trace ending in
+    let M : Processor B → Type 0 = λ p. (made : Made polled bank old.cpu p old.trace mid.trace u.turns) × (new.quiet ≡ true → EndsQuiet polled bank old.cpu p old.trace mid.trace u.turns made) in
+    let made : M new.cpu = subst M (sym s.cpu) (u.made, λ is. u.quiet (sym s.quiet ∙ is)) in
+    let I : CpuId → Type 0 = λ id. EndsBy answers limits id turn mid.drove mid.quiet new.trace ending in
+    let N : ℕ → Type 0 = λ n. EndsBy answers limits old.id n mid.drove mid.quiet new.trace ending in
+    let D : Drove → Type 0 = λ d. EndsBy answers limits old.id (length u.turns) d mid.quiet new.trace ending in
+    let Q : Bool → Type 0 = λ q. EndsBy answers limits old.id (length u.turns) new.drove q new.trace ending in
     record {
       turns = u.turns;
       v = mid.trace;
-      made = subst M (sym s.cpu) u.made;
+      made = made.0;
       trace = s.trace;
       going = u.going;
       drove = s.drove ∙ u.drove;
+      quiet = made.1;
       said = s.said ∙ ap (noted ending) u.said;
-      ends = subst D (sym s.drove) (subst N (sym long) (subst I u.same s.ends));
+      ends = subst Q (sym s.quiet) (subst D (sym s.drove) (subst N (sym long) (subst I u.same s.ends)));
       same = same ∙ u.same;
       seat = ap (λ p. p.seat.cpu) s.cpu ∙ u.seat;
     }
@@ -145,6 +161,7 @@ driven_out polled answers bank limits old new reached within u = record {
   trace = refl;
   going = u.going;
   drove = u.drove;
+  quiet = u.quiet;
   said = u.said;
   ends = omega (arith, reached, within.ran, within.idle);
   same = u.same;
@@ -188,15 +205,15 @@ going_out polled answers bank book limits first now turn reached g old u =
     let t = g.total in inr (driven_out polled answers bank limits old now (omega (arith, t, reached)) g.within (g.under old u))
 
 -- none ends as one that wasn't driven
-never : (answers : CpuId → ℕ → Bool → Type 0) (limits : Limits) (cpu : CpuId) (turns : ℕ) (drove : Drove) (trace : Vec Event Global) (ending : Ending) → ending ≡ NotDriven → EndsBy answers limits cpu turns drove trace ending → ⊥
-never answers limits cpu turns drove trace ending is ends =
-    let F : Ending → Type 0 = λ e. EndsBy answers limits cpu turns drove trace e in
+never : (answers : CpuId → ℕ → Bool → Type 0) (limits : Limits) (cpu : CpuId) (turns : ℕ) (drove : Drove) (quiet : Bool) (trace : Vec Event Global) (ending : Ending) → ending ≡ NotDriven → EndsBy answers limits cpu turns drove quiet trace ending → ⊥
+never answers limits cpu turns drove quiet trace ending is ends =
+    let F : Ending → Type 0 = λ e. EndsBy answers limits cpu turns drove quiet trace e in
     subst F is ends
 
 pub comes_more : {B : Type 0} (polled : B → Answer → Ask → B → Type 0) (answers : CpuId → ℕ → Bool → Type 0) (bank : BankId) (book : TableId) (limits : Limits) (first mid new : Driven B) (turn : ℕ) (ending : Ending) → IsGoing polled answers bank book limits first mid turn → ComesTo polled answers bank limits turn mid new ending → ending ≡ NotDriven → first.drove.ran + first.drove.idle < new.drove.ran + new.drove.idle
 comes_more polled answers bank book limits first mid new turn ending g comes is = elim comes [
   | inl made ↦ let t = total_more polled answers bank limits mid new turn g.total made.1 in let l = g.least in omega (arith, t, l)
-  | inr stays ↦ absurd (never answers limits mid.id turn mid.drove new.trace ending is stays.ends)
+  | inr stays ↦ absurd (never answers limits mid.id turn mid.drove mid.quiet new.trace ending is stays.ends)
 ]
 
 pub comes_within : {B : Type 0} (polled : B → Answer → Ask → B → Type 0) (answers : CpuId → ℕ → Bool → Type 0) (bank : BankId) (book : TableId) (limits : Limits) (first mid new : Driven B) (turn : ℕ) (ending : Ending) → IsGoing polled answers bank book limits first mid turn → ComesTo polled answers bank limits turn mid new ending → IsWithin limits new.drove
@@ -207,10 +224,10 @@ comes_within polled answers bank book limits first mid new turn ending g comes =
 
 -- an end that is noted changes nothing else
 under_noted : {B : Type 0} (polled : B → Answer → Ask → B → Type 0) (answers : CpuId → ℕ → Bool → Type 0) (bank : BankId) (limits : Limits) (old new : Driven B) (by : Ending) → IsUnderWay polled answers bank limits old new → IsUnderWay polled answers bank limits old (record new { ending = by })
-under_noted polled answers bank limits old new by u = record { turns = u.turns; made = u.made; going = u.going; drove = u.drove; all = u.all; said = u.said; same = u.same; seat = u.seat }
+under_noted polled answers bank limits old new by u = record { turns = u.turns; made = u.made; going = u.going; drove = u.drove; all = u.all; quiet = u.quiet; said = u.said; same = u.same; seat = u.seat }
 
 driven_noted : {B : Type 0} (polled : B → Answer → Ask → B → Type 0) (answers : CpuId → ℕ → Bool → Type 0) (bank : BankId) (limits : Limits) (old new : Driven B) (by ending : Ending) → IsDriven polled answers bank limits old new ending → IsDriven polled answers bank limits old (record new { ending = by }) ending
-driven_noted polled answers bank limits old new by ending d = record { turns = d.turns; v = d.v; made = d.made; trace = d.trace; going = d.going; drove = d.drove; said = d.said; ends = d.ends; same = d.same; seat = d.seat }
+driven_noted polled answers bank limits old new by ending d = record { turns = d.turns; v = d.v; made = d.made; trace = d.trace; going = d.going; drove = d.drove; quiet = d.quiet; said = d.said; ends = d.ends; same = d.same; seat = d.seat }
 
 so_noted : {B : Type 0} (polled : B → Answer → Ask → B → Type 0) (answers : CpuId → ℕ → Bool → Type 0) (bank : BankId) (limits : Limits) (old new : Driven B) (by ending : Ending) → IsSo polled answers bank limits old new ending → IsSo polled answers bank limits old (record new { ending = by }) ending
 so_noted polled answers bank limits old new by ending so = elim so [
@@ -227,7 +244,7 @@ pub drives_more : {B : Type 0} (polled : B → Answer → Ask → B → Type 0) 
 drives_more polled answers bank limits mid new ending is goes more = record {
   so = λ old so. elim so [
     | inl under ↦ so_noted polled answers bank limits old new ending ending (goes old under.1)
-    | inr driven ↦ absurd (never answers limits old.id (length driven.turns) mid.drove mid.trace mid.ending is driven.ends)
+    | inr driven ↦ absurd (never answers limits old.id (length driven.turns) mid.drove mid.quiet mid.trace mid.ending is driven.ends)
   ];
   more = λ none. (is, more none);
 }

@@ -1,4 +1,4 @@
-use Rattle.std.specs.Prelude.{◌≡◌, ◌⊎◌, ℕ, ◌+◌, ◌<◌, ◌≤◌, ◌%◌, ◌^◌, Bool, true, false, List, length, take, fold, Vec}
+use Rattle.std.specs.Prelude.{◌≡◌, ◌⊎◌, ℕ, ◌+◌, ◌<◌, ◌≤◌, ◌%◌, ◌^◌, Bool, true, false, List, [], ◌∷◌, length, take, fold, Vec}
 use Rattle.std.specs.declared.alloc.Global.{Global}
 use Rattle.atomic_table.specs.Seated.{TableId}
 use Rattle.lwkt_base.specs.declared.names.CpuId.{CpuId}
@@ -7,7 +7,9 @@ use Rattle.lwkt_base.specs.declared.asks.Answer.{Answer}
 use Rattle.lwkt_core.specs.declared.events.Event.{Event}
 use Rattle.lwkt_bank.specs.Seats.{BankId, bank_of}
 use Rattle.lwkt_cpu.specs.declared.answers.Turned.{Turned}
+use Rattle.lwkt_cpu.specs.declared.answers.Turned.TheVariants.{Ran, Idle, AllExited as TurnedAllExited}
 use Rattle.lwkt_cpu.specs.declared.answers.Drove.{Drove}
+use Rattle.lwkt_cpu.specs.Processors.{Processor}
 use Rattle.lwkt_cpu.specs.Turning.{LacksRoom, MakesTurn}
 use Rattle.lwkt_cpu.specs.Driving.{Made, counted, none_driven}
 use Rattle.lwkt_drive.specs.declared.driven.Driven.{Driven}
@@ -62,23 +64,40 @@ noted Quiet said = said
 
 -- after so many turns, counted so, a processor with this trace makes no other, and why; one that ends for want of memory was to make
 -- another, for which its trace had no room. Nothing is claimed of the others: neither that their threads have ended, nor that they were
--- refused memory, nor that no turn of theirs can change anything; but one that ends as quiet has made a turn that ran no thread
-abbrev pub EndsBy : (CpuId → ℕ → Bool → Type 0) → Limits → CpuId → ℕ → Drove → Vec Event Global → Ending → Type 0
-EndsBy answers limits cpu turns drove trace NotDriven = ⊥
-EndsBy answers limits cpu turns drove trace Stopped = answers cpu turns false
-EndsBy answers limits cpu turns drove trace TurnsOut = drove.ran ≡ limits.turns
-EndsBy answers limits cpu turns drove trace IdleOut = drove.idle ≡ limits.idle
-EndsBy answers limits cpu turns drove trace AllExited = drove.all_exited ≡ true
-EndsBy answers limits cpu turns drove trace NoMemory = GoesOn answers limits cpu turns drove × LacksRoom trace
-EndsBy answers limits cpu turns drove trace CalledOff = Unit {0}
-EndsBy answers limits cpu turns drove trace Quiet = 0 < drove.idle
+-- refused memory, nor that no turn of theirs can change anything; but the last turn of one that ends as quiet was quiet, by its mark
+abbrev pub EndsBy : (CpuId → ℕ → Bool → Type 0) → Limits → CpuId → ℕ → Drove → Bool → Vec Event Global → Ending → Type 0
+EndsBy answers limits cpu turns drove quiet trace NotDriven = ⊥
+EndsBy answers limits cpu turns drove quiet trace Stopped = answers cpu turns false
+EndsBy answers limits cpu turns drove quiet trace TurnsOut = drove.ran ≡ limits.turns
+EndsBy answers limits cpu turns drove quiet trace IdleOut = drove.idle ≡ limits.idle
+EndsBy answers limits cpu turns drove quiet trace AllExited = drove.all_exited ≡ true
+EndsBy answers limits cpu turns drove quiet trace NoMemory = GoesOn answers limits cpu turns drove × LacksRoom trace
+EndsBy answers limits cpu turns drove quiet trace CalledOff = Unit {0}
+EndsBy answers limits cpu turns drove quiet trace Quiet = quiet ≡ true
 
--- a processor makes its turn of this number, to which the gate says yes once and which is counted
+-- a turn ran no thread
+abbrev pub RanNone : Turned → Type 0
+RanNone (Ran thread) = ⊥
+RanNone Idle = Unit {0}
+RanNone TurnedAllExited = Unit {0}
+
+-- a turn was quiet: it ran no thread and appended no event
+abbrev pub IsQuiet : Turned → Vec Event Global → Vec Event Global → Type 0
+IsQuiet turned t u = RanNone turned × (u.items ≡ t.items)
+
+-- turns were made, and the last of them was quiet
+abbrev pub EndsQuiet : {B : Type 0} (polled : B → Answer → Ask → B → Type 0) (bank : BankId) (old new : Processor B) (t u : Vec Event Global) (turns : List Turned) → Made polled bank old new t u turns → Type 0
+EndsQuiet polled bank old new t u [] made = ⊥
+EndsQuiet polled bank old new t u (turned ∷ []) made = IsQuiet turned t u
+EndsQuiet polled bank old new t u (turned ∷ next ∷ turns) made = EndsQuiet polled bank made.0 new made.1.0 u (next ∷ turns) made.1.1.1
+
+-- a processor makes its turn of this number, to which the gate says yes once and which is counted; it is marked only if it was quiet
 pub record MakesOne {B : Type 0} (polled : B → Answer → Ask → B → Type 0) (answers : CpuId → ℕ → Bool → Type 0) (bank : BankId) (limits : Limits) (turn : ℕ) (old new : Driven B) : Type 0 where
   pub turned : Turned
   pub goes : GoesOn answers limits old.id turn old.drove
   pub makes : MakesTurn polled bank old.cpu new.cpu old.trace new.trace turned
   pub drove : new.drove ≡ counted old.drove turned
+  pub quiet : new.quiet ≡ true → IsQuiet turned old.trace new.trace
   pub said : new.said ≡ agreed old.said
 
 -- a processor stays as it is, and why
@@ -86,12 +105,13 @@ pub record Stays {B : Type 0} (answers : CpuId → ℕ → Bool → Type 0) (lim
   pub cpu : new.cpu ≡ old.cpu
   pub trace : new.trace.items ≡ old.trace.items
   pub drove : new.drove ≡ old.drove
+  pub quiet : new.quiet ≡ old.quiet
   pub said : new.said ≡ noted ending old.said
-  pub ends : EndsBy answers limits old.id turn old.drove new.trace ending
+  pub ends : EndsBy answers limits old.id turn old.drove old.quiet new.trace ending
 
 -- a processor was driven: it made these turns one after the other, each where it went on, until there was a reason to end, which is the
 -- gate's no where the gate has said no to it since this drive began; the gate said yes once to each turn, and once more only where the
--- drive ends for want of memory; the trace grew by theirs (own)
+-- drive ends for want of memory; the trace grew by theirs; where the last turn is marked as quiet, it was (own)
 pub record IsDriven {B : Type 0} (polled : B → Answer → Ask → B → Type 0) (answers : CpuId → ℕ → Bool → Type 0) (bank : BankId) (limits : Limits) (old new : Driven B) (ending : Ending) : Type 0 where
   pub turns : List Turned
   pub v : Vec Event Global
@@ -99,23 +119,25 @@ pub record IsDriven {B : Type 0} (polled : B → Answer → Ask → B → Type 0
   pub trace : new.trace.items ≡ v.items
   pub going : (k : ℕ) → k < length turns → GoesOn answers limits old.id k (counts (take k turns))
   pub drove : new.drove ≡ counts turns
+  pub quiet : new.quiet ≡ true → EndsQuiet polled bank old.cpu new.cpu old.trace v turns made
   pub said : new.said ≡ noted ending (heard (length turns) old.said)
-  pub ends : EndsBy answers limits old.id (length turns) new.drove new.trace ending
+  pub ends : EndsBy answers limits old.id (length turns) new.drove new.quiet new.trace ending
   pub same : new.id ≡ old.id
   pub seat : new.cpu.seat.cpu ≡ old.cpu.seat.cpu
 
 -- a processor before its first turn of a drive
 abbrev pub begun : {B : Type 0} → Driven B → Driven B
-begun d = record d { said = opened d.said; drove = none_driven; ending = NotDriven }
+begun d = record d { said = opened d.said; drove = none_driven; quiet = false; ending = NotDriven }
 
 -- a processor is being driven: so far it has made these turns one after the other, each where it went on, and the gate has said yes
--- once to each, and not no, since this drive began; the trace grew by theirs (own)
+-- once to each, and not no, since this drive began; the trace grew by theirs; where the last one is marked as quiet, it was (own)
 pub record IsUnderWay {B : Type 0} (polled : B → Answer → Ask → B → Type 0) (answers : CpuId → ℕ → Bool → Type 0) (bank : BankId) (limits : Limits) (old new : Driven B) : Type 0 where
   pub turns : List Turned
   pub made : Made polled bank old.cpu new.cpu old.trace new.trace turns
   pub going : (k : ℕ) → k < length turns → GoesOn answers limits old.id k (counts (take k turns))
   pub drove : new.drove ≡ counts turns
   pub all : new.drove.ran + new.drove.idle ≡ length turns
+  pub quiet : new.quiet ≡ true → EndsQuiet polled bank old.cpu new.cpu old.trace new.trace turns made
   pub said : new.said ≡ heard (length turns) old.said
   pub same : new.id ≡ old.id
   pub seat : new.cpu.seat.cpu ≡ old.cpu.seat.cpu

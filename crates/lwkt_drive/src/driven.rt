@@ -73,6 +73,8 @@ pub struct Driven<B> {
     pub trace: Vec<Event>,
     pub said: Said,
     pub drove: Drove,
+    /// Whether the last turn of this drive ran no thread and appended no event.
+    pub quiet: bool,
     pub ending: Ending,
 }
 
@@ -84,6 +86,7 @@ impl<B> Driven<B> {
         ensures trace { result.trace.items ≡ [] }
         ensures said { result.said ≡ record { drives = 0; yeses = 0; no = false } }
         ensures drove { result.drove ≡ none_driven }
+        ensures quiet { result.quiet ≡ false }
         ensures ending { result.ending ≡ Ending.NotDriven }
     {
         Driven {
@@ -100,6 +103,7 @@ impl<B> Driven<B> {
                 idle: 0,
                 all_exited: false,
             },
+            quiet: false,
             ending: Ending::NotDriven,
         }
     }
@@ -120,6 +124,7 @@ impl<B> Driven<B> {
             idle: 0,
             all_exited: false,
         };
+        self.quiet = false;
         self.ending = Ending::NotDriven;
     }
 

@@ -1,9 +1,9 @@
 //! One turn of a processor that is driven, and whether it makes another.
-ghost use Rattle.std.specs.Prelude.{◌≡◌, ◌+◌, ◌<◌, ◌≤◌, ◌^◌, IfOk, IfSome, OnErr, None};
+ghost use Rattle.std.specs.Prelude.{◌≡◌, true, ◌+◌, ◌<◌, ◌≤◌, ◌^◌, IfOk, IfSome, OnErr, None};
 ghost use Rattle.lwkt_bank.specs.Seats.{id_of};
 ghost use Rattle.lwkt_cpu.specs.Driving.{counted};
 ghost use Rattle.lwkt_cpu.specs.Turning.{LacksRoom, MakesTurn};
-ghost use Rattle.lwkt_drive.specs.Course.{IsAt, IsWithin, GoesOn, EndsBy, agreed, noted};
+ghost use Rattle.lwkt_drive.specs.Course.{IsAt, IsWithin, GoesOn, EndsBy, RanNone, IsQuiet, agreed, noted};
 
 use crate::driven::{Door, Driven, Ending, Limits};
 use crate::gates::Gate;
@@ -12,6 +12,16 @@ use lwkt_bank::Bank;
 use lwkt_base::Fault;
 use lwkt_cpu::{Body, Turned};
 use lwkt_msg::MsgBook;
+
+// Whether a turn was quiet, by how many events there were before it and after.
+fn was_quiet(turned: Turned, before: usize, now: usize) -> bool
+    ensures { result ≡ true → RanNone turned × (now ≡ before) }
+{
+    match turned {
+        Turned::Ran { .. } => false,
+        Turned::Idle | Turned::AllExited => now == before,
+    }
+}
 
 impl<B> Driven<B> {
     /// Why no further turn is made, if there is a reason.
@@ -23,7 +33,7 @@ impl<B> Driven<B> {
         turn: u64,
     ) -> Option<Ending>
         requires { IsWithin limits.now self.old.drove }
-        ensures some { IfSome result (λ ending. (self.new ≡ record self.old { said = noted ending self.old.said }) × EndsBy (G.answers door.now.gate.now) limits.now self.old.id turn self.old.drove self.old.trace ending) }
+        ensures some { IfSome result (λ ending. (self.new ≡ record self.old { said = noted ending self.old.said }) × EndsBy (G.answers door.now.gate.now) limits.now self.old.id turn self.old.drove self.old.quiet self.old.trace ending) }
         ensures none { result ≡ None → (self.new ≡ record self.old { said = agreed self.old.said }) × GoesOn (G.answers door.now.gate.now) limits.now self.old.id turn self.old.drove }
         ensures few { result ≡ None → self.new.drove.ran + self.new.drove.idle + 1 < 2 ^ 64 }
     {
@@ -39,7 +49,7 @@ impl<B> Driven<B> {
         if watch.board().is_called_off() {
             return Some(Ending::CalledOff);
         }
-        if self.drove.idle > 0 && watch.is_over() {
+        if self.quiet && watch.is_over() {
             return Some(Ending::Quiet);
         }
         if self.ask(door, turn) {
@@ -93,7 +103,7 @@ impl<B> Driven<B> {
 }
 
 impl<B: Body> Driven<B> {
-    /// Makes a turn, and counts it. Refused with `Memory` as `Cpu::turn` is; nothing has changed then.
+    /// Makes a turn, counts it, and marks it if it was quiet. Refused with `Memory` as `Cpu::turn` is; nothing has changed then.
     pub(crate) fn advance(
         &mut self,
         watch: &Watch<'_>,
@@ -102,14 +112,16 @@ impl<B: Body> Driven<B> {
     ) -> Result<Turned, Fault>
         requires at { IsAt (id_of bank.now) book.now.table self.old }
         requires few { self.old.drove.ran + self.old.drove.idle + 1 < 2 ^ 64 }
-        ensures ok { IfOk result (λ turned. MakesTurn B.polled (id_of bank.now) self.old.cpu self.new.cpu self.old.trace self.new.trace turned × (self.new.drove ≡ counted self.old.drove turned)) }
-        ensures err { OnErr result ((self.new.cpu ≡ self.old.cpu) × (self.new.trace.items ≡ self.old.trace.items) × (self.new.drove ≡ self.old.drove) × LacksRoom self.new.trace) }
+        ensures ok { IfOk result (λ turned. MakesTurn B.polled (id_of bank.now) self.old.cpu self.new.cpu self.old.trace self.new.trace turned × (self.new.drove ≡ counted self.old.drove turned) × (self.new.quiet ≡ true → IsQuiet turned self.old.trace self.new.trace)) }
+        ensures err { OnErr result ((self.new.cpu ≡ self.old.cpu) × (self.new.trace.items ≡ self.old.trace.items) × (self.new.drove ≡ self.old.drove) × (self.new.quiet ≡ self.old.quiet) × LacksRoom self.new.trace) }
         ensures said { self.new.said ≡ self.old.said }
         ensures at { IsAt (id_of bank.now) book.now.table self.new }
         ensures same { self.new.id ≡ self.old.id }
     {
+        let events = self.trace.len();
         let turned = self.cpu.turn(bank, book, &mut self.trace)?;
         self.note(watch, turned);
+        self.quiet = was_quiet(turned, events, self.trace.len());
         Ok(turned)
     }
 }
