@@ -10,7 +10,7 @@ ghost use Rattle.lwkt_hold.specs.Rows.{row, first_row, blob, first_blob, IsUnwri
 ghost use Rattle.lwkt_hold.specs.Givings.{gives_all, GivesBy, RestoresBy, Releases};
 ghost use Rattle.lwkt_core.specs.declared.events.Event.{Event};
 
-use crate::traces::{note, note_cells, note_record};
+use crate::traces::{note_cells, note_clean, note_one, note_record, note_written};
 use lwkt_bank::{Bank, CpuSeat, Given};
 use lwkt_base::{CpuId, Held, Mode, Ref, TokId};
 use lwkt_core::Event;
@@ -71,6 +71,50 @@ fn mend(seat: &mut CpuSeat, bank: &Bank, tok: TokId, trace: &mut Vec<Event>) -> 
 }
 
 /// Gives a reference to a token back, and says so in the trace.
+#[inline(always)]
+fn give_told(seat: &mut CpuSeat, bank: &Bank, cpu: CpuId, tok: TokId, trace: &mut Vec<Event>)
+    requires of { bank_of seat.old ≡ id_of bank.now }
+    requires mine { cpu ≡ seat.old.cpu }
+    requires there { tok.0 < tokens_of (bank_of seat.old) }
+    requires held { is_held (holding seat.old tok.0) ≡ true }
+    requires ready { holding seat.old tok.0 ≡ Holds Exclusive 0 → IsUnwritten seat.old tok.0 ⊎ MeetsItsLaw seat.old tok.0 }
+    requires room { vec_len trace.old < vec_capacity trace.old }
+    ensures ran { Ran (λ h. h ≡ removed (holding seat.old) tok.0) 1 seat.old seat.new trace.old trace.new }
+    ensures given { holding seat.new ≡ removed (holding seat.old) tok.0 }
+    ensures others { (other : ℕ) → other ≢ tok.0 → SameSection seat.old seat.new other }
+    ensures row { row seat.new tok.0 ≡ row seat.old tok.0 }
+    ensures blob { blob seat.new tok.0 ≡ blob seat.old tok.0 }
+    ensures still { is_held (holding seat.new tok.0) ≡ true → SameSection seat.old seat.new tok.0 }
+    ensures told { (event : Event) × ((trace.new.items ≡ trace.old.items ++ event ∷ []) × GivesBy seat.old tok event) }
+{
+    match seat.give(bank, tok) {
+        Given::One => note_one(trace, cpu, tok),
+        Given::Clean => note_clean(trace, cpu, tok),
+        Given::Written(section) => note_written(trace, cpu, tok, section),
+    }
+}
+
+/// The same for a token with any number of cells, whose section is told by a loop.
+#[inline(never)]
+fn give_whole(seat: &mut CpuSeat, bank: &Bank, cpu: CpuId, tok: TokId, trace: &mut Vec<Event>)
+    requires of { bank_of seat.old ≡ id_of bank.now }
+    requires mine { cpu ≡ seat.old.cpu }
+    requires there { tok.0 < tokens_of (bank_of seat.old) }
+    requires held { is_held (holding seat.old tok.0) ≡ true }
+    requires ready { holding seat.old tok.0 ≡ Holds Exclusive 0 → IsUnwritten seat.old tok.0 ⊎ MeetsItsLaw seat.old tok.0 }
+    requires room { vec_len trace.old < vec_capacity trace.old }
+    ensures ran { Ran (λ h. h ≡ removed (holding seat.old) tok.0) 1 seat.old seat.new trace.old trace.new }
+    ensures given { holding seat.new ≡ removed (holding seat.old) tok.0 }
+    ensures others { (other : ℕ) → other ≢ tok.0 → SameSection seat.old seat.new other }
+    ensures row { row seat.new tok.0 ≡ row seat.old tok.0 }
+    ensures blob { blob seat.new tok.0 ≡ blob seat.old tok.0 }
+    ensures still { is_held (holding seat.new tok.0) ≡ true → SameSection seat.old seat.new tok.0 }
+    ensures told { (event : Event) × ((trace.new.items ≡ trace.old.items ++ event ∷ []) × GivesBy seat.old tok event) }
+{
+    give_told(seat, bank, cpu, tok, trace);
+}
+
+/// The same for any token. One with one cell has its section told without a loop, straight into the trace.
 #[inline]
 fn give(seat: &mut CpuSeat, bank: &Bank, tok: TokId, trace: &mut Vec<Event>)
     requires of { bank_of seat.old ≡ id_of bank.now }
@@ -86,10 +130,10 @@ fn give(seat: &mut CpuSeat, bank: &Bank, tok: TokId, trace: &mut Vec<Event>)
     ensures told { (event : Event) × ((trace.new.items ≡ trace.old.items ++ event ∷ []) × GivesBy seat.old tok event) }
 {
     let cpu = seat.cpu();
-    match seat.give(bank, tok) {
-        Given::One => note(trace, Event::GiveOne { cpu, tok }),
-        Given::Clean => note(trace, Event::GiveClean { cpu, tok }),
-        Given::Written(section) => note(trace, Event::GiveWritten { cpu, tok, section }),
+    if bank.cells(tok) == 1 {
+        give_told(seat, bank, cpu, tok, trace);
+    } else {
+        give_whole(seat, bank, cpu, tok, trace);
     }
 }
 

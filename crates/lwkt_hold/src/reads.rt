@@ -8,7 +8,7 @@ ghost use Rattle.lwkt_hold.specs.Fronts.{IsFront};
 ghost use Rattle.lwkt_hold.specs.Runs.{Ran};
 
 use crate::holds::Hold;
-use crate::traces::note;
+use crate::traces::{note_read, note_write};
 use lwkt_bank::Bank;
 use lwkt_base::{Fault, Held, Mode, TokId, TokList};
 use lwkt_core::Event;
@@ -89,15 +89,7 @@ impl Hold {
         }
         let cpu = self.seat.cpu();
         let value = self.seat.load(bank, tok, cell);
-        note(
-            trace,
-            Event::Read {
-                cpu,
-                tok,
-                cell,
-                value,
-            },
-        );
+        note_read(trace, cpu, tok, cell, value);
         Ok(value)
     }
 
@@ -141,15 +133,7 @@ impl Hold {
         self.may_write(bank, list, tok)?;
         let cpu = self.seat.cpu();
         self.seat.store(bank, tok, cell, value)?;
-        note(
-            trace,
-            Event::Write {
-                cpu,
-                tok,
-                cell,
-                value,
-            },
-        );
+        note_write(trace, cpu, tok, cell, value);
         Ok(())
     }
 
@@ -189,15 +173,7 @@ impl Hold {
         self.may_write(bank, list, tok)?;
         let cpu = self.seat.cpu();
         let value = self.seat.add(bank, tok, k)?;
-        note(
-            trace,
-            Event::Write {
-                cpu,
-                tok,
-                cell: 0,
-                value,
-            },
-        );
+        note_write(trace, cpu, tok, 0, value);
         Ok(())
     }
 }

@@ -4,14 +4,13 @@ ghost use Rattle.lwkt_base.specs.Holding.{holding_of};
 ghost use Rattle.lwkt_bank.specs.Seats.{id_of, bank_of, tokens_of, holding};
 ghost use Rattle.lwkt_hold.specs.Fronts.{IsFront, is_alone};
 ghost use Rattle.lwkt_hold.specs.Runs.{Ran};
-ghost use Rattle.lwkt_hold.specs.Steps.{taking};
 ghost use Rattle.lwkt_hold.specs.Takings.{takes, TakesRows};
 ghost use Rattle.lwkt_hold.specs.Misses.{Misses};
 
 use crate::answers::Missed;
-use crate::traces::note;
+use crate::traces::{note_again, note_taken};
 use lwkt_bank::{Bank, CpuSeat, Try};
-use lwkt_base::{CpuId, Mode, Ref, TokId};
+use lwkt_base::{Ref, TokId};
 use lwkt_core::Event;
 
 /// Whether the list has no reference to another token.
@@ -22,19 +21,8 @@ fn has_only(refs: &[Ref], tok: TokId) -> bool
     refs.iter().all(|r| r.tok.0 == tok.0)
 }
 
-/// The event of taking a first reference.
-#[inline]
-fn taken(cpu: CpuId, new: Ref) -> Event
-    ensures { result ≡ taking cpu new.tok new.mode }
-{
-    match new.mode {
-        Mode::Exclusive => Event::Take { cpu, tok: new.tok },
-        Mode::Shared => Event::Share { cpu, tok: new.tok },
-    }
-}
-
 /// Takes the reference of this place, those before it being held. Of a miss it says why.
-#[inline]
+#[inline(always)]
 pub(crate) fn take_one(
     seat: &mut CpuSeat,
     bank: &Bank,
@@ -60,13 +48,13 @@ pub(crate) fn take_one(
     let cpu = seat.cpu();
     if seat.held(bank, new.tok).is_held() {
         seat.again(bank, new.tok);
-        note(trace, Event::Again { cpu, tok: new.tok });
+        note_again(trace, cpu, new.tok);
         return Ok(());
     }
     let alone = has_only(refs, new.tok);
     match seat.try_take(bank, new.tok, new.mode, alone) {
         Try::Got { .. } => {
-            note(trace, taken(cpu, new));
+            note_taken(trace, cpu, new);
             Ok(())
         }
         Try::Busy { word } => Err(Missed::Busy { word }),

@@ -8,6 +8,7 @@ use Rattle.lwkt_base.specs.Holding.{is_held}
 use Rattle.lwkt_hold.proofs.ListMoves.{takes_changed, looked_rows, lost_rows}
 use Rattle.lwkt_hold.proofs.EventMoves.{again_told, first_told}
 use Rattle.lwkt_hold.specs.Fronts.{IsFront}
+use Rattle.lwkt_hold.specs.Steps.{taking}
 use Rattle.lwkt_hold.specs.declared.answers.Missed.TheVariants.{Busy, Again, Worn}
 use Rattle.lwkt_hold.proofs.TakeMoves.{unused, front_names, held_in_front, free_in_front, few_in_front, again_holds, again_ran, took_holds, took_ran, looked_ran, looked_kept, lost_ran, lost_kept, misses}
 use Rattle.lwkt_hold.proofs.takes.take_one.Goals as goal
@@ -19,7 +20,7 @@ pub again-requires-clause-few : goal.again-requires-clause-few
 again-requires-clause-few c = few_in_front c.args.seat.now c.args.refs.now c.args.at c.requires.front c.requires.within c.requires.short
 
 pub returns-then-is_held-clause-ran : goal.returns-then-is_held-clause-ran
-returns-then-is_held-clause-ran c = again_ran c.args.seat.now c.again.new.self c.args.refs.now c.args.at unused c.cpu-cpu.result c.args.trace.now c.note.new.trace c.requires.within c.requires.front (front_names c.args.seat.now c.args.refs.now c.args.at (get_or c.args.refs.now c.args.at unused).tok.0 c.held.result c.is_held.result true c.requires.front c.held.ensures c.is_held.ensures c.if-is_held.true) c.again.ensures c.cpu-cpu.ensures.is c.note.ensures.items c.note.ensures.longer c.note.ensures.room
+returns-then-is_held-clause-ran c = again_ran c.args.seat.now c.again.new.self c.args.refs.now c.args.at unused c.cpu-cpu.result c.args.trace.now c.note_again.new.trace c.requires.within c.requires.front (front_names c.args.seat.now c.args.refs.now c.args.at (get_or c.args.refs.now c.args.at unused).tok.0 c.held.result c.is_held.result true c.requires.front c.held.ensures c.is_held.ensures c.if-is_held.true) c.again.ensures c.cpu-cpu.ensures.is c.note_again.ensures.items c.note_again.ensures.longer c.note_again.ensures.room
 
 pub returns-then-is_held-clause-taken : goal.returns-then-is_held-clause-taken
 returns-then-is_held-clause-taken c = (again_holds c.args.seat.now c.again.new.self c.args.refs.now c.args.at unused c.requires.within c.requires.front (front_names c.args.seat.now c.args.refs.now c.args.at (get_or c.args.refs.now c.args.at unused).tok.0 c.held.result c.is_held.result true c.requires.front c.held.ensures c.is_held.ensures c.if-is_held.true) c.again.ensures).1
@@ -31,7 +32,7 @@ pub try_take-requires-clause-few : goal.try_take-requires-clause-few
 try_take-requires-clause-few c = few_in_front c.args.seat.now c.args.refs.now c.args.at c.requires.front c.requires.within c.requires.short
 
 pub returns-in-Got-clause-ran : goal.returns-in-Got-clause-ran
-returns-in-Got-clause-ran c = took_ran c.args.seat.now c.try_take.new.self c.args.refs.now c.args.at unused c.has_only-alone.result c.in-Got.generation c.cpu-cpu.result c.taken.result c.args.trace.now c.note-in-Got.new.trace c.requires.within c.requires.front (front_names c.args.seat.now c.args.refs.now c.args.at (get_or c.args.refs.now c.args.at unused).tok.0 c.held.result c.is_held.result false c.requires.front c.held.ensures c.is_held.ensures c.if-is_held.false) c.in-Got.ensures c.cpu-cpu.ensures.is c.taken.ensures c.note-in-Got.ensures.items c.note-in-Got.ensures.longer c.note-in-Got.ensures.room
+returns-in-Got-clause-ran c = took_ran c.args.seat.now c.try_take.new.self c.args.refs.now c.args.at unused c.has_only-alone.result c.in-Got.generation c.cpu-cpu.result (taking c.cpu-cpu.result (get_or c.args.refs.now c.args.at unused).tok (get_or c.args.refs.now c.args.at unused).mode) c.args.trace.now c.note_taken.new.trace c.requires.within c.requires.front (front_names c.args.seat.now c.args.refs.now c.args.at (get_or c.args.refs.now c.args.at unused).tok.0 c.held.result c.is_held.result false c.requires.front c.held.ensures c.is_held.ensures c.if-is_held.false) c.in-Got.ensures c.cpu-cpu.ensures.is refl c.note_taken.ensures.items c.note_taken.ensures.longer c.note_taken.ensures.room
 
 pub returns-in-Got-clause-taken : goal.returns-in-Got-clause-taken
 returns-in-Got-clause-taken c = (took_holds c.args.seat.now c.try_take.new.self c.args.refs.now c.args.at unused c.has_only-alone.result c.in-Got.generation c.requires.within c.requires.front (front_names c.args.seat.now c.args.refs.now c.args.at (get_or c.args.refs.now c.args.at unused).tok.0 c.held.result c.is_held.result false c.requires.front c.held.ensures c.is_held.ensures c.if-is_held.false) c.in-Got.ensures).1
@@ -100,7 +101,7 @@ returns-in-Worn-clause-rows c =
     looked_rows c.args.seat.now c.try_take.new.self tok c.in-Worn.ensures.0 free c.in-Worn.ensures.1.1
 
 pub returns-then-is_held-clause-told : goal.returns-then-is_held-clause-told
-returns-then-is_held-clause-told c = again_told c.args.refs.now c.args.at unused c.args.seat.now.cpu c.cpu-cpu.result c.args.trace.now c.note.new.trace c.requires.within (front_names c.args.seat.now c.args.refs.now c.args.at (get_or c.args.refs.now c.args.at unused).tok.0 c.held.result c.is_held.result true c.requires.front c.held.ensures c.is_held.ensures c.if-is_held.true) c.cpu-cpu.ensures.is c.note.ensures.items
+returns-then-is_held-clause-told c = again_told c.args.refs.now c.args.at unused c.args.seat.now.cpu c.cpu-cpu.result c.args.trace.now c.note_again.new.trace c.requires.within (front_names c.args.seat.now c.args.refs.now c.args.at (get_or c.args.refs.now c.args.at unused).tok.0 c.held.result c.is_held.result true c.requires.front c.held.ensures c.is_held.ensures c.if-is_held.true) c.cpu-cpu.ensures.is c.note_again.ensures.items
 
 pub returns-in-Got-clause-told : goal.returns-in-Got-clause-told
-returns-in-Got-clause-told c = first_told c.args.refs.now c.args.at unused c.args.seat.now.cpu c.cpu-cpu.result c.taken.result c.args.trace.now c.note-in-Got.new.trace c.requires.within (front_names c.args.seat.now c.args.refs.now c.args.at (get_or c.args.refs.now c.args.at unused).tok.0 c.held.result c.is_held.result false c.requires.front c.held.ensures c.is_held.ensures c.if-is_held.false) c.cpu-cpu.ensures.is c.taken.ensures c.note-in-Got.ensures.items
+returns-in-Got-clause-told c = first_told c.args.refs.now c.args.at unused c.args.seat.now.cpu c.cpu-cpu.result (taking c.cpu-cpu.result (get_or c.args.refs.now c.args.at unused).tok (get_or c.args.refs.now c.args.at unused).mode) c.args.trace.now c.note_taken.new.trace c.requires.within (front_names c.args.seat.now c.args.refs.now c.args.at (get_or c.args.refs.now c.args.at unused).tok.0 c.held.result c.is_held.result false c.requires.front c.held.ensures c.is_held.ensures c.if-is_held.false) c.cpu-cpu.ensures.is refl c.note_taken.ensures.items

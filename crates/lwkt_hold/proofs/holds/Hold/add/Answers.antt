@@ -39,13 +39,13 @@ returns-clause-ran c =
     let sum = slice_index (entry s c.args.tok.0).row 0 + c.args.k in
     let F : ℕ → Type 0 = λ v. Tells (events_in (first_load s.cpu c.args.tok.0 (entry s c.args.tok.0) 0 ++ writes s.cpu c.args.tok.0 0 sum ∷ [])) (Write c.cpu-cpu.result c.args.tok 0 v ∷ []) × (steps_in (first_load s.cpu c.args.tok.0 (entry s c.args.tok.0) 0 ++ writes s.cpu c.args.tok.0 0 sum ∷ []) ≡ []) in
     let told = subst F (sym c.in_ok-value.ensures.value) (tells_store s c.args.tok c.cpu-cpu.result 0 sum c.cpu-cpu.ensures.is) in
-    write_ran c.args.list.now s c.add.new.self c.args.tok (raised (entry s c.args.tok.0) s.cpu c.args.k) _ c.cpu-cpu.result 0 c.in_ok-value.value c.args.trace.now c.note.new.trace c.in_ok-value.ensures.ok
-    told.0 told.1 refl c.requires.held c.cpu-cpu.ensures.is c.note.ensures.items c.note.ensures.longer c.note.ensures.room
+    write_ran c.args.list.now s c.add.new.self c.args.tok (raised (entry s c.args.tok.0) s.cpu c.args.k) _ c.cpu-cpu.result 0 c.in_ok-value.value c.args.trace.now c.note_write.new.trace c.in_ok-value.ensures.ok
+    told.0 told.1 refl c.requires.held c.cpu-cpu.ensures.is c.note_write.ensures.items c.note_write.ensures.longer c.note_write.ensures.room
 
 pub returns-clause-written : goal.returns-clause-written
 returns-clause-written c =
     let s = c.args.self.now.seat in
-    c.note.ensures.items
+    c.note_write.ensures.items
     ∙ ap (λ cpu. c.args.trace.now.items ++ Write cpu c.args.tok 0 c.in_ok-value.value ∷ []) c.cpu-cpu.ensures.is
     ∙ ap (λ v. c.args.trace.now.items ++ Write s.cpu c.args.tok 0 v ∷ []) c.in_ok-value.ensures.value
 

@@ -22,7 +22,7 @@ pub returns-in_err-store-clause-ran : goal.returns-in_err-store-clause-ran
 returns-in_err-store-clause-ran c = unchanged_ran (IsFront c.args.list.now) 1 c.args.self.now.seat c.store.new.self c.args.trace.now c.in_err-store.ensures.only.1
 
 pub returns-clause-ran : goal.returns-clause-ran
-returns-clause-ran c = write_ran c.args.list.now c.args.self.now.seat c.store.new.self c.args.tok (stored (entry c.args.self.now.seat c.args.tok.0) c.args.cell c.args.value) _ c.cpu-cpu.result c.args.cell c.args.value c.args.trace.now c.note.new.trace c.in_ok-store.ensures.ok (tells_store c.args.self.now.seat c.args.tok c.cpu-cpu.result c.args.cell c.args.value c.cpu-cpu.ensures.is).0 (tells_store c.args.self.now.seat c.args.tok c.cpu-cpu.result c.args.cell c.args.value c.cpu-cpu.ensures.is).1 refl c.requires.held c.cpu-cpu.ensures.is c.note.ensures.items c.note.ensures.longer c.note.ensures.room
+returns-clause-ran c = write_ran c.args.list.now c.args.self.now.seat c.store.new.self c.args.tok (stored (entry c.args.self.now.seat c.args.tok.0) c.args.cell c.args.value) _ c.cpu-cpu.result c.args.cell c.args.value c.args.trace.now c.note_write.new.trace c.in_ok-store.ensures.ok (tells_store c.args.self.now.seat c.args.tok c.cpu-cpu.result c.args.cell c.args.value c.cpu-cpu.ensures.is).0 (tells_store c.args.self.now.seat c.args.tok c.cpu-cpu.result c.args.cell c.args.value c.cpu-cpu.ensures.is).1 refl c.requires.held c.cpu-cpu.ensures.is c.note_write.ensures.items c.note_write.ensures.longer c.note_write.ensures.room
 
 pub returns-clause-kept : goal.returns-clause-kept
 returns-clause-kept c =
