@@ -6,6 +6,7 @@ use Rattle.std.proofs.lemmas.List.Elements.{All-append, All-from_recursion}
 use Rattle.std.proofs.Math.ListN.{get_or-append}
 use Rattle.std.proofs.Math.Seq.{get_or-append_seam}
 use Rattle.std.proofs.lemmas.List.{get_or-append-add}
+use Rattle.lwkt_base.specs.declared.asks.Answer.{Answer}
 use Rattle.lwkt_base.specs.declared.names.TokId.{TokId}
 use Rattle.lwkt_base.specs.declared.names.Ref.{Ref}
 use Rattle.lwkt_base.specs.declared.faults.Fault.TheVariants.{Broken, NotHeld, NotLast}
@@ -63,7 +64,7 @@ err_ends refs now h k t u (Ok x) p = tt
 err_ends refs now h k t u (Err e) p = (p.0, p.2)
 
 -- so many references given up, by another count of them
-pub given_up_at : (a b : CpuSeat) (refs : List Ref) (m n : ℕ) (t u : Vec Event Global) (next : Next) → m ≡ n → GivesUp a b refs m t u (Readies Done) next → GivesUp a b refs n t u (Readies Done) next
+pub given_up_at : (a b : CpuSeat) (refs : List Ref) (m n : ℕ) (t u : Vec Event Global) (next : Next Answer) → m ≡ n → GivesUp a b refs m t u (Readies Done) next → GivesUp a b refs n t u (Readies Done) next
 given_up_at a b refs m n t u next same g = let F : ℕ → Type 0 = λ k. GivesUp a b refs k t u (Readies Done) next in subst F same g
 
 -- after a try: the list has the reference, whose token exists, or is as before

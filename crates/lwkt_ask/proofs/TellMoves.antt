@@ -4,6 +4,7 @@ use Rattle.std.proofs.lemmas.List.{append-nil, append_cancel_left}
 use Rattle.std.proofs.lemmas.List.Elements.{filter-append}
 use Rattle.std.specs.Prelude.{All, Option, Some, None, Result, Ok, Err, Vec, filter}
 use Rattle.std.specs.declared.alloc.Global.{Global}
+use Rattle.lwkt_base.specs.declared.asks.Answer.{Answer}
 use Rattle.lwkt_base.specs.declared.faults.Fault.{Fault}
 use Rattle.lwkt_base.specs.declared.holdings.Held.{Held}
 use Rattle.lwkt_base.specs.declared.holdings.Held.TheVariants.{Nothing, Holds}
@@ -191,7 +192,7 @@ plain_gives_all cpu front [] = refl
 plain_gives_all cpu front (r ∷ refs) = plain_append (gives_all cpu (front ++ r ∷ []) refs) (gives cpu r.tok (holding_of (front ++ r ∷ []) r.tok.0) ∷ []) (plain_gives_all cpu (front ++ r ∷ []) refs) (plain_gives cpu r.tok (holding_of (front ++ r ∷ []) r.tok.0))
 
 -- each call on the hold
-pub given_quiet : (a b : CpuSeat) (refs : List Ref) (held : ℕ) (t u : Vec Event Global) (meant next : Next) → GivesUp a b refs held t u meant next → IsQuiet t.items u.items
+pub given_quiet : (a b : CpuSeat) (refs : List Ref) (held : ℕ) (t u : Vec Event Global) (meant next : Next Answer) → GivesUp a b refs held t u meant next → IsQuiet t.items u.items
 given_quiet a b refs held t u meant next g = record { done = g.done; trace_is = g.told; quiet = plain_releases_all a [] (take held refs) g.done g.releases }
 
 marked_quiet : (mode : Mode) (cpu : CpuId) (tok : TokId) (t v : Vec Event Global) → (mode ≡ Exclusive → v.items ≡ t.items ++ Mark cpu tok ∷ []) → (mode ≡ Shared → v ≡ t) → IsQuiet t.items v.items
@@ -203,12 +204,12 @@ acquired_quiet bank a b refs now new t v (Ok Got) acquires = quiet_one t.items v
 acquired_quiet bank a b refs now new t v (Ok (MustSwitch why)) acquires = marked_quiet new.mode a.cpu new.tok t v (acquires.marked why refl) (acquires.unmarked why refl)
 acquired_quiet bank a b refs now new t v (Err fault) acquires = quiet_same t v acquires.err.1
 
-went_on_quiet : (mid b : CpuSeat) (refs now : List Ref) (v u : Vec Event Global) (next : Next) (result : Result Acquired Fault) → GoesOn mid b refs now v u next result → IsQuiet v.items u.items
+went_on_quiet : (mid b : CpuSeat) (refs now : List Ref) (v u : Vec Event Global) (next : Next Answer) (result : Result Acquired Fault) → GoesOn mid b refs now v u next result → IsQuiet v.items u.items
 went_on_quiet mid b refs now v u next (Ok Got) g = quiet_same v u g.1
 went_on_quiet mid b refs now v u next (Ok (MustSwitch why)) g = given_quiet mid b now (length refs) v u (Readies Done) next g
 went_on_quiet mid b refs now v u next (Err fault) g = quiet_same v u g.1
 
-pub got_quiet : (bank : BankId) (a b : CpuSeat) (refs now : List Ref) (new : Ref) (t u : Vec Event Global) (next : Next) → Gets bank a b refs now new t u next → IsQuiet t.items u.items
+pub got_quiet : (bank : BankId) (a b : CpuSeat) (refs now : List Ref) (new : Ref) (t u : Vec Event Global) (next : Next Answer) → Gets bank a b refs now new t u next → IsQuiet t.items u.items
 got_quiet bank a b refs now new t u next g = quiet_then t.items g.v.items u.items (acquired_quiet bank a g.mid refs now new t g.v g.result g.acquires) (went_on_quiet g.mid b refs now g.v u next g.result g.goes_on)
 
 pub tried_quiet : (bank : BankId) (a b : CpuSeat) (refs now : List Ref) (tok : TokId) (t u : Vec Event Global) (result : Result (Unit {0}) Fault) → Tries bank a b refs now tok t u result → IsQuiet t.items u.items

@@ -1,5 +1,6 @@
 use Rattle.std.specs.Prelude.{◌≡◌, ℕ, List, [], ◌++◌, take, Vec}
 use Rattle.std.specs.declared.alloc.Global.{Global}
+use Rattle.lwkt_base.specs.declared.asks.Answer.{Answer}
 use Rattle.lwkt_base.specs.declared.names.Ref.{Ref}
 use Rattle.lwkt_core.specs.declared.events.Event.{Event}
 use Rattle.lwkt_bank.specs.declared.seats.CpuSeat.{CpuSeat}
@@ -10,7 +11,7 @@ use Rattle.lwkt_ask.specs.declared.nexts.Next.{Next}
 use Rattle.lwkt_ask.specs.Nexts.{unless_broken}
 
 -- what giving up the first few references of a list tells: `Hold::block`; and what comes next for the thread
-pub record GivesUp (a b : CpuSeat) (refs : List Ref) (held : ℕ) (t u : Vec Event Global) (meant next : Next) : Type 0 where
+pub record GivesUp (a b : CpuSeat) (refs : List Ref) (held : ℕ) (t u : Vec Event Global) (meant next : Next Answer) : Type 0 where
   pub blocked : Blocked
   pub blocks : Blocks a refs blocked
   pub rows : GivenUp a b

@@ -1,4 +1,3 @@
-pub mod Briefs
 pub mod Nexts
 pub mod Calls
 pub mod Leaving

@@ -61,12 +61,12 @@ item_or (Ok None) = NoMsg
 item_or (Err fault) = Refused fault
 
 -- what follows on a synchronous send: the thread gives up everything and waits for the reply, or goes on, refused
-abbrev pub WaitsReply : CpuSeat → CpuSeat → List Ref → Vec Event Global → Vec Event Global → MsgId → Next → Result (Unit {0}) Fault → Type 0
+abbrev pub WaitsReply : CpuSeat → CpuSeat → List Ref → Vec Event Global → Vec Event Global → MsgId → Next Answer → Result (Unit {0}) Fault → Type 0
 WaitsReply a b refs v u msg next (Ok done) = GivesUp a b refs (length refs) v u (AwaitsReply msg) next
 WaitsReply a b refs v u msg next (Err fault) = (b ≡ a) × (u ≡ v) × (next ≡ Runs (Refused fault))
 
 -- an ask to send and wait for the reply (lwkt_domsg of msgport(9))
-pub record Does (s : Sending) (p q : Post) (a b : CpuSeat) (refs : List Ref) (t u : Vec Event Global) (next : Next) : Type 0 where
+pub record Does (s : Sending) (p q : Post) (a b : CpuSeat) (refs : List Ref) (t u : Vec Event Global) (next : Next Answer) : Type 0 where
   pub v : Vec Event Global
   pub result : Result (Unit {0}) Fault
   pub sends : SendsMail s p q t v result
@@ -74,13 +74,13 @@ pub record Does (s : Sending) (p q : Post) (a b : CpuSeat) (refs : List Ref) (t 
 
 -- what follows on a look at the port of a thread that waits: an item is given at once; else, also where another processor's step came
 -- between, the thread gives up everything and waits
-abbrev pub WaitsItem : CpuSeat → CpuSeat → List Ref → Vec Event Global → Vec Event Global → Next → Result (Option Item) Fault → Type 0
+abbrev pub WaitsItem : CpuSeat → CpuSeat → List Ref → Vec Event Global → Vec Event Global → Next Answer → Result (Option Item) Fault → Type 0
 WaitsItem a b refs v u next (Ok (Some item)) = (b ≡ a) × (u ≡ v) × (next ≡ Runs (Got item))
 WaitsItem a b refs v u next (Ok None) = GivesUp a b refs (length refs) v u AwaitsItem next
 WaitsItem a b refs v u next (Err fault) = GivesUp a b refs (length refs) v u AwaitsItem next
 
 -- an ask to wait for an item (lwkt_waitport of msgport(9))
-pub record WaitsPort (thread : ℕ) (p q : Post) (a b : CpuSeat) (refs : List Ref) (t u : Vec Event Global) (next : Next) : Type 0 where
+pub record WaitsPort (thread : ℕ) (p q : Post) (a b : CpuSeat) (refs : List Ref) (t u : Vec Event Global) (next : Next Answer) : Type 0 where
   pub v : Vec Event Global
   pub result : Result (Option Item) Fault
   pub gets : PostGets thread p q t v result

@@ -7,13 +7,12 @@ use Rattle.lwkt_base.specs.declared.asks.Answer.TheVariants.{Done, Value, Bytes,
 use Rattle.lwkt_base.specs.Holding.{Holding, holding_of, holds_nothing}
 use Rattle.lwkt_hold.specs.declared.answers.Blocked.{Blocked}
 use Rattle.lwkt_hold.specs.declared.answers.Blocked.TheVariants.{Clean, Restored}
-use Rattle.lwkt_ask.specs.declared.nexts.Going.{Going}
-use Rattle.lwkt_ask.specs.declared.nexts.Going.TheVariants.{Runs as GoingRuns, Readies as GoingReadies, AwaitsItem as GoingAwaitsItem, AwaitsReply as GoingAwaitsReply, Exits as GoingExits, Faults as GoingFaults}
+use Rattle.lwkt_ask.specs.declared.nexts.Kept.{Kept}
 use Rattle.lwkt_ask.specs.declared.nexts.Next.{Next}
 use Rattle.lwkt_ask.specs.declared.nexts.Next.TheVariants.{Runs, Readies, AwaitsItem, AwaitsReply, Exits, Faults}
 
 -- the list of a thread after its ask: one that ends has an empty list (own)
-abbrev pub kept_list : Next → List Ref → List Ref
+abbrev pub kept_list : Next Answer → List Ref → List Ref
 kept_list (Runs answer) refs = refs
 kept_list (Readies answer) refs = refs
 kept_list AwaitsItem refs = refs
@@ -22,7 +21,7 @@ kept_list Exits refs = []
 kept_list (Faults fault) refs = []
 
 -- what a processor holds after an ask: the list of a thread that goes on running, else nothing (token(9))
-abbrev pub HoldsAfter : Next → Holding → List Ref → Type 0
+abbrev pub HoldsAfter : Next Answer → Holding → List Ref → Type 0
 HoldsAfter (Runs answer) holding refs = holding ≡ holding_of refs
 HoldsAfter (Readies answer) holding refs = holding ≡ holds_nothing
 HoldsAfter AwaitsItem holding refs = holding ≡ holds_nothing
@@ -50,24 +49,24 @@ bit_or (Ok false) = Value 0
 bit_or (Err fault) = Refused fault
 
 -- what comes after everything was given up: a thread whose section had broken its law ends (own)
-abbrev pub unless_broken : Next → Blocked → Next
+abbrev pub unless_broken : Next Answer → Blocked → Next Answer
 unless_broken next Clean = next
 unless_broken next (Restored tok) = Faults Broken
 
 -- what comes next, with the answer that is kept for the thread
-abbrev pub next_with : Going → Answer → Next
-next_with GoingRuns answer = Runs answer
-next_with GoingReadies answer = Readies answer
-next_with GoingAwaitsItem answer = AwaitsItem
-next_with (GoingAwaitsReply msg) answer = AwaitsReply msg
-next_with GoingExits answer = Exits
-next_with (GoingFaults fault) answer = Faults fault
+abbrev pub next_with : Next Kept → Answer → Next Answer
+next_with (Runs kept) answer = Runs answer
+next_with (Readies kept) answer = Readies answer
+next_with AwaitsItem answer = AwaitsItem
+next_with (AwaitsReply msg) answer = AwaitsReply msg
+next_with Exits answer = Exits
+next_with (Faults fault) answer = Faults fault
 
 -- the answer that was kept before stays, where none comes now
-abbrev pub KeepsAnswer : Going → Answer → Answer → Type 0
-KeepsAnswer GoingRuns old new = Unit {0}
-KeepsAnswer GoingReadies old new = Unit {0}
-KeepsAnswer GoingAwaitsItem old new = new ≡ old
-KeepsAnswer (GoingAwaitsReply msg) old new = new ≡ old
-KeepsAnswer GoingExits old new = new ≡ old
-KeepsAnswer (GoingFaults fault) old new = new ≡ old
+abbrev pub KeepsAnswer : Next Kept → Answer → Answer → Type 0
+KeepsAnswer (Runs kept) old new = Unit {0}
+KeepsAnswer (Readies kept) old new = Unit {0}
+KeepsAnswer AwaitsItem old new = new ≡ old
+KeepsAnswer (AwaitsReply msg) old new = new ≡ old
+KeepsAnswer Exits old new = new ≡ old
+KeepsAnswer (Faults fault) old new = new ≡ old

@@ -1,5 +1,6 @@
 use Rattle.std.specs.Prelude.{◌≡◌, List, length, Result, Ok, Err, Option, ℕ, Bool, false, true, Vec}
 use Rattle.std.specs.declared.alloc.Global.{Global}
+use Rattle.lwkt_base.specs.declared.asks.Answer.{Answer}
 use Rattle.lwkt_base.specs.declared.names.TokId.{TokId}
 use Rattle.lwkt_base.specs.declared.names.Mode.TheVariants.{Shared}
 use Rattle.lwkt_base.specs.declared.names.Ref.{Ref}
@@ -30,13 +31,13 @@ shared tok = record { tok = tok; mode = Shared }
 
 -- what follows on an answer for a reference: the thread goes on, with the reference or refused, or it gives up what it held
 -- before and is ready, its answer being Done once it is resumed
-abbrev pub GoesOn : CpuSeat → CpuSeat → List Ref → List Ref → Vec Event Global → Vec Event Global → Next → Result Acquired Fault → Type 0
+abbrev pub GoesOn : CpuSeat → CpuSeat → List Ref → List Ref → Vec Event Global → Vec Event Global → Next Answer → Result Acquired Fault → Type 0
 GoesOn mid b refs now v u next (Ok Got) = (b ≡ mid) × (u ≡ v) × (next ≡ Runs Done)
 GoesOn mid b refs now v u next (Ok (MustSwitch why)) = GivesUp mid b now (length refs) v u (Readies Done) next
 GoesOn mid b refs now v u next (Err fault) = (b ≡ mid) × (u ≡ v) × (next ≡ Runs (Refused fault))
 
 -- an ask for a reference
-pub record Gets (bank : BankId) (a b : CpuSeat) (refs now : List Ref) (new : Ref) (t u : Vec Event Global) (next : Next) : Type 0 where
+pub record Gets (bank : BankId) (a b : CpuSeat) (refs now : List Ref) (new : Ref) (t u : Vec Event Global) (next : Next Answer) : Type 0 where
   pub mid : CpuSeat
   pub v : Vec Event Global
   pub result : Result Acquired Fault
@@ -45,7 +46,7 @@ pub record Gets (bank : BankId) (a b : CpuSeat) (refs now : List Ref) (new : Ref
 
 -- an ask of a thread and what comes next: from one seat, list and trace to the next, and from one state of the ports to the next, ask
 -- by ask, by the call that it makes (token(9), msgport(9); own)
-abbrev pub Performs : BankId → ℕ → CpuSeat → CpuSeat → Post → Post → List Ref → List Ref → Vec Event Global → Vec Event Global → Ask → Next → Type 0
+abbrev pub Performs : BankId → ℕ → CpuSeat → CpuSeat → Post → Post → List Ref → List Ref → Vec Event Global → Vec Event Global → Ask → Next Answer → Type 0
 Performs bank thread a b p q refs now t u (Get tok) next = (q ≡ p) × Gets bank a b refs now (exclusive tok) t u next
 Performs bank thread a b p q refs now t u (GetShared tok) next = (q ≡ p) × Gets bank a b refs now (shared tok) t u next
 Performs bank thread a b p q refs now t u (TryGet tok) next = (q ≡ p) × ((result : Result (Unit {0}) Fault) × (Tries bank a b refs now tok t u result × (next ≡ Runs (done_or result))))

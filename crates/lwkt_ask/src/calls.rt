@@ -6,27 +6,51 @@ ghost use Rattle.lwkt_bank.specs.Seats.{id_of, bank_of, tokens_of, holding};
 ghost use Rattle.lwkt_hold.specs.Holds.{seat_of};
 ghost use Rattle.lwkt_hold.specs.Fronts.{IsFront, IsBetween};
 ghost use Rattle.lwkt_hold.specs.Runs.{Ran};
-ghost use Rattle.lwkt_ask.specs.Briefs.{answer_of, next_of};
-ghost use Rattle.lwkt_ask.specs.Nexts.{kept_list, HoldsAfter, done_or, value_or, bytes_or};
+ghost use Rattle.lwkt_ask.specs.Nexts.{kept_list, HoldsAfter, next_with, KeepsAnswer, done_or, value_or, bytes_or};
 ghost use Rattle.lwkt_ask.specs.Calls.{Tries, Rels, Swaps, Reads, Stores, Adds, ReadsRecord, StoresRecord};
 ghost use Rattle.lwkt_ask.specs.Table.{Gets};
 
-use crate::briefs::{Brief, Course};
-use crate::leaves::give_up;
+use crate::leaves::be_ready;
+use crate::nexts::{Kept, Next};
 use lwkt_bank::Bank;
 use lwkt_base::{Answer, Blob, Fault, Ref, TokId, TokList};
 use lwkt_core::Event;
 use lwkt_hold::{Acquired, Hold};
 
-// The answer for a call that answers nothing.
+// Keeps the answer for a call that answers nothing.
 #[inline(always)]
-pub(crate) fn done(told: Result<(), Fault>) -> Brief
-    ensures { answer_of result ≡ done_or told }
+pub(crate) fn done(told: Result<(), Fault>, last: &mut Answer) -> Kept
+    ensures { last.new ≡ done_or told }
 {
     match told {
-        Ok(()) => Brief::Done,
-        Err(fault) => Brief::Refused(fault),
+        Ok(()) => *last = Answer::Done,
+        Err(fault) => *last = Answer::Refused(fault),
     }
+    Kept
+}
+
+// Keeps the answer for a call that answers a value.
+#[inline(always)]
+fn value(told: Result<u64, Fault>, last: &mut Answer) -> Kept
+    ensures { last.new ≡ value_or told }
+{
+    match told {
+        Ok(value) => *last = Answer::Value(value),
+        Err(fault) => *last = Answer::Refused(fault),
+    }
+    Kept
+}
+
+// Keeps the answer for a call that answers a record.
+#[inline(always)]
+fn bytes(told: Result<Blob, Fault>, last: &mut Answer) -> Kept
+    ensures { last.new ≡ bytes_or told }
+{
+    match told {
+        Ok(blob) => *last = Answer::Bytes(blob),
+        Err(fault) => *last = Answer::Refused(fault),
+    }
+    Kept
 }
 
 /// Asks for a reference. Where it is missed, the references before it are given up, and the thread is ready.
@@ -36,23 +60,25 @@ pub(crate) fn get(
     bank: &Bank,
     list: &mut TokList,
     new: Ref,
+    last: &mut Answer,
     trace: &mut Vec<Event>,
-) -> Course
+) -> Next<Kept>
     requires of { bank_of (seat_of hold.old) ≡ id_of bank.now }
     requires held { holding (seat_of hold.old) ≡ holding_of list.old }
     requires room { vec_len trace.old + 512 ≤ vec_capacity trace.old }
-    ensures ran { Ran (IsBetween list.old (kept_list (next_of result) list.new)) 320 (seat_of hold.old) (seat_of hold.new) trace.old trace.new }
-    ensures held { HoldsAfter (next_of result) (holding (seat_of hold.new)) list.new }
+    ensures ran { Ran (IsBetween list.old (kept_list (next_with result last.new) list.new)) 320 (seat_of hold.old) (seat_of hold.new) trace.old trace.new }
+    ensures held { HoldsAfter (next_with result last.new) (holding (seat_of hold.new)) list.new }
     ensures there { All (λ r. r.tok.0 < tokens_of (bank_of (seat_of hold.old))) list.old → All (λ r. r.tok.0 < tokens_of (bank_of (seat_of hold.old))) list.new }
-    ensures gets { Gets (id_of bank.now) (seat_of hold.old) (seat_of hold.new) list.old list.new new trace.old trace.new (next_of result) }
+    ensures kept { KeepsAnswer result last.old last.new }
+    ensures gets { Gets (id_of bank.now) (seat_of hold.old) (seat_of hold.new) list.old list.new new trace.old trace.new (next_with result last.new) }
 {
     match hold.get(bank, list, new, trace) {
-        Ok(Acquired::Got) => Course::Runs(Brief::Done),
+        Ok(Acquired::Got) => Next::Runs(done(Ok(()), last)),
         Ok(Acquired::MustSwitch { .. }) => {
             let held = list.len() - 1;
-            give_up(hold, bank, list, held, Course::Readies, trace)
+            be_ready(hold, bank, list, held, last, trace)
         }
-        Err(fault) => Course::Runs(Brief::Refused(fault)),
+        Err(fault) => Next::Runs(done(Err(fault), last)),
     }
 }
 
@@ -63,18 +89,19 @@ pub(crate) fn try_get(
     bank: &Bank,
     list: &mut TokList,
     tok: TokId,
+    last: &mut Answer,
     trace: &mut Vec<Event>,
-) -> Brief
+) -> Kept
     requires of { bank_of (seat_of hold.old) ≡ id_of bank.now }
     requires held { holding (seat_of hold.old) ≡ holding_of list.old }
     requires room { vec_len trace.old + 512 ≤ vec_capacity trace.old }
     ensures ran { Ran (IsBetween list.old list.new) 320 (seat_of hold.old) (seat_of hold.new) trace.old trace.new }
     ensures held { holding (seat_of hold.new) ≡ holding_of list.new }
     ensures there { All (λ r. r.tok.0 < tokens_of (bank_of (seat_of hold.old))) list.old → All (λ r. r.tok.0 < tokens_of (bank_of (seat_of hold.old))) list.new }
-    ensures tries { (told : Result (Unit {0}) Fault) × (Tries (id_of bank.now) (seat_of hold.old) (seat_of hold.new) list.old list.new tok trace.old trace.new told × (answer_of result ≡ done_or told)) }
+    ensures tries { (told : Result (Unit {0}) Fault) × (Tries (id_of bank.now) (seat_of hold.old) (seat_of hold.new) list.old list.new tok trace.old trace.new told × (last.new ≡ done_or told)) }
 {
     let told = hold.try_get(bank, list, tok, trace);
-    done(told)
+    done(told, last)
 }
 
 /// Gives the last reference back.
@@ -84,29 +111,30 @@ pub(crate) fn rel(
     bank: &Bank,
     list: &mut TokList,
     tok: TokId,
+    last: &mut Answer,
     trace: &mut Vec<Event>,
-) -> Brief
+) -> Kept
     requires of { bank_of (seat_of hold.old) ≡ id_of bank.now }
     requires held { holding (seat_of hold.old) ≡ holding_of list.old }
     requires room { vec_len trace.old + 512 ≤ vec_capacity trace.old }
     ensures ran { Ran (IsBetween list.old list.new) 320 (seat_of hold.old) (seat_of hold.new) trace.old trace.new }
     ensures held { holding (seat_of hold.new) ≡ holding_of list.new }
     ensures there { All (λ r. r.tok.0 < tokens_of (bank_of (seat_of hold.old))) list.old → All (λ r. r.tok.0 < tokens_of (bank_of (seat_of hold.old))) list.new }
-    ensures rels { (told : Result (Unit {0}) Fault) × (Rels (seat_of hold.old) (seat_of hold.new) list.old list.new tok trace.old trace.new told × (answer_of result ≡ done_or told)) }
+    ensures rels { (told : Result (Unit {0}) Fault) × (Rels (seat_of hold.old) (seat_of hold.new) list.old list.new tok trace.old trace.new told × (last.new ≡ done_or told)) }
 {
     let told = hold.rel(bank, list, tok, trace);
-    done(told)
+    done(told, last)
 }
 
 /// Exchanges the two last references.
 #[inline(always)]
-pub(crate) fn swap(list: &mut TokList) -> Brief
+pub(crate) fn swap(list: &mut TokList, last: &mut Answer) -> Kept
     ensures held { holding_of list.new ≡ holding_of list.old }
     ensures there { (n : ℕ) → All (λ r. r.tok.0 < n) list.old → All (λ r. r.tok.0 < n) list.new }
-    ensures swaps { (told : Result (Unit {0}) Fault) × (Swaps list.old list.new told × (answer_of result ≡ done_or told)) }
+    ensures swaps { (told : Result (Unit {0}) Fault) × (Swaps list.old list.new told × (last.new ≡ done_or told)) }
 {
     let told = list.swap();
-    done(told)
+    done(told, last)
 }
 
 /// Reads a cell.
@@ -117,19 +145,18 @@ pub(crate) fn read(
     list: &TokList,
     tok: TokId,
     cell: u8,
+    last: &mut Answer,
     trace: &mut Vec<Event>,
-) -> Brief
+) -> Kept
     requires of { bank_of (seat_of hold.old) ≡ id_of bank.now }
     requires held { holding (seat_of hold.old) ≡ holding_of list.now }
     requires room { vec_len trace.old + 512 ≤ vec_capacity trace.old }
     ensures ran { Ran (IsFront list.now) 1 (seat_of hold.old) (seat_of hold.new) trace.old trace.new }
     ensures held { holding (seat_of hold.new) ≡ holding_of list.now }
-    ensures reads { (told : Result ℕ Fault) × (Reads (id_of bank.now) (seat_of hold.old) (seat_of hold.new) list.now tok cell trace.old trace.new told × (answer_of result ≡ value_or told)) }
+    ensures reads { (told : Result ℕ Fault) × (Reads (id_of bank.now) (seat_of hold.old) (seat_of hold.new) list.now tok cell trace.old trace.new told × (last.new ≡ value_or told)) }
 {
-    match hold.read(bank, list, tok, cell, trace) {
-        Ok(value) => Brief::Value(value),
-        Err(fault) => Brief::Refused(fault),
-    }
+    let told = hold.read(bank, list, tok, cell, trace);
+    value(told, last)
 }
 
 /// Stores a value in a cell.
@@ -141,17 +168,18 @@ pub(crate) fn write(
     tok: TokId,
     cell: u8,
     value: u64,
+    last: &mut Answer,
     trace: &mut Vec<Event>,
-) -> Brief
+) -> Kept
     requires of { bank_of (seat_of hold.old) ≡ id_of bank.now }
     requires held { holding (seat_of hold.old) ≡ holding_of list.now }
     requires room { vec_len trace.old + 512 ≤ vec_capacity trace.old }
     ensures ran { Ran (IsFront list.now) 1 (seat_of hold.old) (seat_of hold.new) trace.old trace.new }
     ensures held { holding (seat_of hold.new) ≡ holding_of list.now }
-    ensures stores { (told : Result (Unit {0}) Fault) × (Stores (id_of bank.now) (seat_of hold.old) (seat_of hold.new) list.now tok cell value trace.old trace.new told × (answer_of result ≡ done_or told)) }
+    ensures stores { (told : Result (Unit {0}) Fault) × (Stores (id_of bank.now) (seat_of hold.old) (seat_of hold.new) list.now tok cell value trace.old trace.new told × (last.new ≡ done_or told)) }
 {
     let told = hold.write(bank, list, tok, cell, value, trace);
-    done(told)
+    done(told, last)
 }
 
 /// Adds to the cell of a Tally token.
@@ -162,17 +190,18 @@ pub(crate) fn add(
     list: &TokList,
     tok: TokId,
     k: u64,
+    last: &mut Answer,
     trace: &mut Vec<Event>,
-) -> Brief
+) -> Kept
     requires of { bank_of (seat_of hold.old) ≡ id_of bank.now }
     requires held { holding (seat_of hold.old) ≡ holding_of list.now }
     requires room { vec_len trace.old + 512 ≤ vec_capacity trace.old }
     ensures ran { Ran (IsFront list.now) 1 (seat_of hold.old) (seat_of hold.new) trace.old trace.new }
     ensures held { holding (seat_of hold.new) ≡ holding_of list.now }
-    ensures adds { (told : Result (Unit {0}) Fault) × (Adds (id_of bank.now) (seat_of hold.old) (seat_of hold.new) list.now tok k trace.old trace.new told × (answer_of result ≡ done_or told)) }
+    ensures adds { (told : Result (Unit {0}) Fault) × (Adds (id_of bank.now) (seat_of hold.old) (seat_of hold.new) list.now tok k trace.old trace.new told × (last.new ≡ done_or told)) }
 {
     let told = hold.add(bank, list, tok, k, trace);
-    done(told)
+    done(told, last)
 }
 
 /// Reads a record.
@@ -181,19 +210,18 @@ pub(crate) fn read_blob(
     bank: &Bank,
     list: &TokList,
     tok: TokId,
+    last: &mut Answer,
     trace: &mut Vec<Event>,
-) -> Answer
+) -> Kept
     requires of { bank_of (seat_of hold.old) ≡ id_of bank.now }
     requires held { holding (seat_of hold.old) ≡ holding_of list.now }
     requires room { vec_len trace.old + 512 ≤ vec_capacity trace.old }
     ensures ran { Ran (IsFront list.now) 1 (seat_of hold.old) (seat_of hold.new) trace.old trace.new }
     ensures held { holding (seat_of hold.new) ≡ holding_of list.now }
-    ensures reads { (told : Result (List ℕ) Fault) × (ReadsRecord (id_of bank.now) (seat_of hold.old) (seat_of hold.new) list.now tok trace.old trace.new told × (result ≡ bytes_or told)) }
+    ensures reads { (told : Result (List ℕ) Fault) × (ReadsRecord (id_of bank.now) (seat_of hold.old) (seat_of hold.new) list.now tok trace.old trace.new told × (last.new ≡ bytes_or told)) }
 {
-    match hold.read_blob(bank, list, tok, trace) {
-        Ok(blob) => Answer::Bytes(blob),
-        Err(fault) => Answer::Refused(fault),
-    }
+    let told = hold.read_blob(bank, list, tok, trace);
+    bytes(told, last)
 }
 
 /// Stores a record.
@@ -203,15 +231,16 @@ pub(crate) fn write_blob(
     list: &TokList,
     tok: TokId,
     blob: &Blob,
+    last: &mut Answer,
     trace: &mut Vec<Event>,
-) -> Brief
+) -> Kept
     requires of { bank_of (seat_of hold.old) ≡ id_of bank.now }
     requires held { holding (seat_of hold.old) ≡ holding_of list.now }
     requires room { vec_len trace.old + 512 ≤ vec_capacity trace.old }
     ensures ran { Ran (IsFront list.now) 1 (seat_of hold.old) (seat_of hold.new) trace.old trace.new }
     ensures held { holding (seat_of hold.new) ≡ holding_of list.now }
-    ensures stores { (told : Result (Unit {0}) Fault) × (StoresRecord (id_of bank.now) (seat_of hold.old) (seat_of hold.new) list.now tok blob.now trace.old trace.new told × (answer_of result ≡ done_or told)) }
+    ensures stores { (told : Result (Unit {0}) Fault) × (StoresRecord (id_of bank.now) (seat_of hold.old) (seat_of hold.new) list.now tok blob.now trace.old trace.new told × (last.new ≡ done_or told)) }
 {
     let told = hold.write_blob(bank, list, tok, blob, trace);
-    done(told)
+    done(told, last)
 }

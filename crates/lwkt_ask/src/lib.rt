@@ -6,7 +6,6 @@
 
 pub mod bodies;
 pub mod boxed;
-mod briefs;
 mod calls;
 pub mod leaves;
 mod mails;
@@ -15,5 +14,5 @@ pub mod performs;
 
 pub use bodies::Body;
 pub use leaves::exit;
-pub use nexts::{Going, Next};
-pub use performs::{perform, perform_at};
+pub use nexts::{Kept, Next};
+pub use performs::perform;

@@ -14,55 +14,56 @@ ghost use Rattle.lwkt_msg.specs.Desks.{cpu_of, messages_of};
 ghost use Rattle.lwkt_port.specs.Posts.{IsSamePost};
 ghost use Rattle.lwkt_port.specs.Works.{Grew};
 ghost use Rattle.lwkt_port.specs.Servings.{PostGets};
-ghost use Rattle.lwkt_ask.specs.declared.nexts.Next.{Next};
-ghost use Rattle.lwkt_ask.specs.Briefs.{answer_of, next_of};
-ghost use Rattle.lwkt_ask.specs.Nexts.{HoldsAfter, done_or, bit_or};
+ghost use Rattle.lwkt_ask.specs.Nexts.{HoldsAfter, next_with, KeepsAnswer, done_or, bit_or};
 ghost use Rattle.lwkt_ask.specs.Telling.{TellsMail};
 ghost use Rattle.lwkt_ask.specs.Mailing.{sending, plain_flags, SendsMail, RepliesMail, AbortsMail, HearsMail, DropsMail, dropped_or, item_or, Does, WaitsPort};
 
-use crate::briefs::{Brief, Course};
 use crate::calls::done;
 use crate::leaves::leave;
+use crate::nexts::{Kept, Next};
 use lwkt_bank::Bank;
-use lwkt_base::{Call, Fault, Flags, Item, MsgId, Rec, ThreadId, TokList};
+use lwkt_base::{Answer, Call, Fault, Flags, Item, MsgId, Rec, ThreadId, TokList};
 use lwkt_core::Event;
 use lwkt_hold::Hold;
 use lwkt_msg::MsgBook;
 use lwkt_port::Ports;
 
-// The answer for a look at a port.
+// Keeps the answer for a look at a port.
 #[inline(always)]
-fn shown(told: Result<Option<Item>, Fault>) -> Brief
-    ensures { answer_of result ≡ item_or told }
+fn shown(told: Result<Option<Item>, Fault>, last: &mut Answer) -> Kept
+    ensures { last.new ≡ item_or told }
 {
     match told {
-        Ok(Some(item)) => Brief::Got(item),
-        Ok(None) => Brief::NoMsg,
-        Err(fault) => Brief::Refused(fault),
+        Ok(Some(item)) => *last = Answer::Got(item),
+        Ok(None) => *last = Answer::NoMsg,
+        Err(fault) => *last = Answer::Refused(fault),
     }
+    Kept
 }
 
-// The answer to a question: 1 for yes, 0 for no.
+// Keeps the answer to a question: 1 for yes, 0 for no.
 #[inline(always)]
-fn said(told: Result<bool, Fault>) -> Brief
-    ensures { answer_of result ≡ bit_or told }
+fn said(told: Result<bool, Fault>, last: &mut Answer) -> Kept
+    ensures { last.new ≡ bit_or told }
 {
     match told {
-        Ok(true) => Brief::Value(1),
-        Ok(false) => Brief::Value(0),
-        Err(fault) => Brief::Refused(fault),
+        Ok(true) => *last = Answer::Value(1),
+        Ok(false) => *last = Answer::Value(0),
+        Err(fault) => *last = Answer::Refused(fault),
     }
+    Kept
 }
 
-// The answer for a drop of a message: the message and the record that it was sent with.
+// Keeps the answer for a drop of a message: the message and the record that it was sent with.
 #[inline(always)]
-fn given_back(msg: MsgId, told: Result<Rec, Fault>) -> Brief
-    ensures { answer_of result ≡ dropped_or msg told }
+fn given_back(msg: MsgId, told: Result<Rec, Fault>, last: &mut Answer) -> Kept
+    ensures { last.new ≡ dropped_or msg told }
 {
     match told {
-        Ok(rec) => Brief::Dropped(msg, rec),
-        Err(fault) => Brief::Refused(fault),
+        Ok(rec) => *last = Answer::Dropped(msg, rec),
+        Err(fault) => *last = Answer::Refused(fault),
     }
+    Kept
 }
 
 /// Sends a message of the thread.
@@ -75,17 +76,18 @@ pub(crate) fn send(
     to: ThreadId,
     call: Call,
     flags: Flags,
+    last: &mut Answer,
     trace: &mut Vec<Event>,
-) -> Brief
+) -> Kept
     requires table { ports.old.seat.table ≡ book.now.table }
     requires room { vec_len trace.old + 512 ≤ vec_capacity trace.old }
-    ensures sends { (told : Result (Unit {0}) Fault) × (SendsMail (sending thread msg to call flags false) ports.old ports.new trace.old trace.new told × (answer_of result ≡ done_or told)) }
+    ensures sends { (told : Result (Unit {0}) Fault) × (SendsMail (sending thread msg to call flags false) ports.old ports.new trace.old trace.new told × (last.new ≡ done_or told)) }
     ensures same { IsSamePost ports.old ports.new }
     ensures grew { Grew (cpu_of ports.old.seat) 1 trace.old trace.new }
     ensures told { TellsMail ports.old.seat ports.new.seat trace.old.items trace.new.items }
 {
     let told = ports.send(book, thread, msg, to, call, flags, trace);
-    done(told)
+    done(told, last)
 }
 
 /// Sends a message of the thread, which then gives up everything and waits for the reply.
@@ -100,24 +102,26 @@ pub(crate) fn send_and_wait(
     msg: MsgId,
     to: ThreadId,
     call: Call,
+    last: &mut Answer,
     trace: &mut Vec<Event>,
-) -> Course
+) -> Next<Kept>
     requires of { bank_of (seat_of hold.old) ≡ id_of bank.now }
     requires table { ports.old.seat.table ≡ book.now.table }
     requires mine { cpu_of ports.old.seat ≡ (seat_of hold.old).cpu }
     requires held { holding (seat_of hold.old) ≡ holding_of list.now }
     requires room { vec_len trace.old + 512 ≤ vec_capacity trace.old }
-    ensures does { Does (sending thread msg to call plain_flags true) ports.old ports.new (seat_of hold.old) (seat_of hold.new) list.now trace.old trace.new (next_of result) }
+    ensures does { Does (sending thread msg to call plain_flags true) ports.old ports.new (seat_of hold.old) (seat_of hold.new) list.now trace.old trace.new (next_with result last.new) }
     ensures ran { Ran (IsFront list.now) 320 (seat_of hold.old) (seat_of hold.new) trace.old trace.new }
-    ensures held { HoldsAfter (next_of result) (holding (seat_of hold.new)) list.now }
+    ensures kept { KeepsAnswer result last.old last.new }
+    ensures held { HoldsAfter (next_with result last.new) (holding (seat_of hold.new)) list.now }
     ensures same { IsSamePost ports.old ports.new }
-    ensures named { (m : MsgId) → next_of result ≡ Next.AwaitsReply m → m.0 < messages_of ports.new.seat }
+    ensures named { (m : MsgId) → next_with result last.new ≡ Next.AwaitsReply m → m.0 < messages_of ports.new.seat }
     ensures told { TellsMail ports.old.seat ports.new.seat trace.old.items trace.new.items }
 {
     let _ = ports.threads();
     match ports.send_sync(book, thread, msg, to, call, trace) {
-        Ok(()) => leave(hold, bank, list, Course::AwaitsReply(msg), trace),
-        Err(fault) => Course::Runs(Brief::Refused(fault)),
+        Ok(()) => leave(hold, bank, list, Next::AwaitsReply(msg), trace),
+        Err(fault) => Next::Runs(done(Err(fault), last)),
     }
 }
 
@@ -130,17 +134,18 @@ pub(crate) fn reply(
     msg: MsgId,
     error: u32,
     outcome: u64,
+    last: &mut Answer,
     trace: &mut Vec<Event>,
-) -> Brief
+) -> Kept
     requires table { ports.old.seat.table ≡ book.now.table }
     requires room { vec_len trace.old + 512 ≤ vec_capacity trace.old }
-    ensures replies { (told : Result (Unit {0}) Fault) × (RepliesMail thread msg error outcome ports.old ports.new trace.old trace.new told × (answer_of result ≡ done_or told)) }
+    ensures replies { (told : Result (Unit {0}) Fault) × (RepliesMail thread msg error outcome ports.old ports.new trace.old trace.new told × (last.new ≡ done_or told)) }
     ensures same { IsSamePost ports.old ports.new }
     ensures grew { Grew (cpu_of ports.old.seat) 1 trace.old trace.new }
     ensures told { TellsMail ports.old.seat ports.new.seat trace.old.items trace.new.items }
 {
     let told = ports.reply(book, thread, msg, error, outcome, trace);
-    done(told)
+    done(told, last)
 }
 
 /// Asks for a message of the thread to be aborted.
@@ -150,29 +155,36 @@ pub(crate) fn abort(
     book: &MsgBook,
     thread: u8,
     msg: MsgId,
+    last: &mut Answer,
     trace: &mut Vec<Event>,
-) -> Brief
+) -> Kept
     requires table { ports.old.seat.table ≡ book.now.table }
     requires room { vec_len trace.old + 512 ≤ vec_capacity trace.old }
-    ensures aborts { (told : Result (Unit {0}) Fault) × (AbortsMail thread msg ports.old ports.new trace.old trace.new told × (answer_of result ≡ done_or told)) }
+    ensures aborts { (told : Result (Unit {0}) Fault) × (AbortsMail thread msg ports.old ports.new trace.old trace.new told × (last.new ≡ done_or told)) }
     ensures same { IsSamePost ports.old ports.new }
     ensures grew { Grew (cpu_of ports.old.seat) 1 trace.old trace.new }
     ensures told { TellsMail ports.old.seat ports.new.seat trace.old.items trace.new.items }
 {
     let told = ports.abort(book, thread, msg, trace);
-    done(told)
+    done(told, last)
 }
 
 /// Says whether a message that the thread was shown is to be aborted.
 #[inline(always)]
-pub(crate) fn is_aborted(ports: &mut Ports, book: &MsgBook, thread: u8, msg: MsgId) -> Brief
+pub(crate) fn is_aborted(
+    ports: &mut Ports,
+    book: &MsgBook,
+    thread: u8,
+    msg: MsgId,
+    last: &mut Answer,
+) -> Kept
     requires table { ports.old.seat.table ≡ book.now.table }
-    ensures hears { (told : Result Bool Fault) × (HearsMail thread msg ports.old ports.new told × (answer_of result ≡ bit_or told)) }
+    ensures hears { (told : Result Bool Fault) × (HearsMail thread msg ports.old ports.new told × (last.new ≡ bit_or told)) }
     ensures same { IsSamePost ports.old ports.new }
     ensures told { (events : List Event) → TellsMail ports.old.seat ports.new.seat events events }
 {
     let told = ports.is_aborted(book, thread, msg);
-    said(told)
+    said(told, last)
 }
 
 /// Drops a message of the thread that nobody has taken yet.
@@ -182,17 +194,18 @@ pub(crate) fn drop_msg(
     book: &MsgBook,
     thread: u8,
     msg: MsgId,
+    last: &mut Answer,
     trace: &mut Vec<Event>,
-) -> Brief
+) -> Kept
     requires table { ports.old.seat.table ≡ book.now.table }
     requires room { vec_len trace.old + 512 ≤ vec_capacity trace.old }
-    ensures drops { (told : Result Rec Fault) × (DropsMail thread msg ports.old ports.new trace.old trace.new told × (answer_of result ≡ dropped_or msg told)) }
+    ensures drops { (told : Result Rec Fault) × (DropsMail thread msg ports.old ports.new trace.old trace.new told × (last.new ≡ dropped_or msg told)) }
     ensures same { IsSamePost ports.old ports.new }
     ensures grew { Grew (cpu_of ports.old.seat) 1 trace.old trace.new }
     ensures told { TellsMail ports.old.seat ports.new.seat trace.old.items trace.new.items }
 {
     let told = ports.drop_msg(book, thread, msg, trace);
-    given_back(msg, told)
+    given_back(msg, told, last)
 }
 
 /// Gives the next item of the thread's port.
@@ -201,18 +214,19 @@ pub(crate) fn get_port(
     ports: &mut Ports,
     book: &MsgBook,
     thread: u8,
+    last: &mut Answer,
     trace: &mut Vec<Event>,
-) -> Brief
+) -> Kept
     requires table { ports.old.seat.table ≡ book.now.table }
     requires exists { thread < ports.old.threads }
     requires room { vec_len trace.old + 512 ≤ vec_capacity trace.old }
-    ensures gets { (told : Result (Option Item) Fault) × (PostGets thread ports.old ports.new trace.old trace.new told × (answer_of result ≡ item_or told)) }
+    ensures gets { (told : Result (Option Item) Fault) × (PostGets thread ports.old ports.new trace.old trace.new told × (last.new ≡ item_or told)) }
     ensures same { IsSamePost ports.old ports.new }
     ensures grew { Grew (cpu_of ports.old.seat) 128 trace.old trace.new }
     ensures told { TellsMail ports.old.seat ports.new.seat trace.old.items trace.new.items }
 {
     let told = ports.get(book, thread, trace);
-    shown(told)
+    shown(told, last)
 }
 
 /// Gives the next item of the thread's port at once; without one the thread gives up everything and waits.
@@ -224,24 +238,26 @@ pub(crate) fn wait_port(
     book: &MsgBook,
     thread: u8,
     list: &TokList,
+    last: &mut Answer,
     trace: &mut Vec<Event>,
-) -> Course
+) -> Next<Kept>
     requires of { bank_of (seat_of hold.old) ≡ id_of bank.now }
     requires table { ports.old.seat.table ≡ book.now.table }
     requires exists { thread < ports.old.threads }
     requires mine { cpu_of ports.old.seat ≡ (seat_of hold.old).cpu }
     requires held { holding (seat_of hold.old) ≡ holding_of list.now }
     requires room { vec_len trace.old + 512 ≤ vec_capacity trace.old }
-    ensures waits { WaitsPort thread ports.old ports.new (seat_of hold.old) (seat_of hold.new) list.now trace.old trace.new (next_of result) }
+    ensures waits { WaitsPort thread ports.old ports.new (seat_of hold.old) (seat_of hold.new) list.now trace.old trace.new (next_with result last.new) }
     ensures ran { Ran (IsFront list.now) 320 (seat_of hold.old) (seat_of hold.new) trace.old trace.new }
-    ensures held { HoldsAfter (next_of result) (holding (seat_of hold.new)) list.now }
+    ensures kept { KeepsAnswer result last.old last.new }
+    ensures held { HoldsAfter (next_with result last.new) (holding (seat_of hold.new)) list.now }
     ensures same { IsSamePost ports.old ports.new }
-    ensures named { (m : MsgId) → next_of result ≡ Next.AwaitsReply m → m.0 < messages_of ports.new.seat }
+    ensures named { (m : MsgId) → next_with result last.new ≡ Next.AwaitsReply m → m.0 < messages_of ports.new.seat }
     ensures told { TellsMail ports.old.seat ports.new.seat trace.old.items trace.new.items }
 {
     match ports.get(book, thread, trace) {
-        Ok(Some(item)) => Course::Runs(Brief::Got(item)),
-        Ok(None) => leave(hold, bank, list, Course::AwaitsItem, trace),
-        Err(_) => leave(hold, bank, list, Course::AwaitsItem, trace),
+        Ok(Some(item)) => Next::Runs(shown(Ok(Some(item)), last)),
+        Ok(None) => leave(hold, bank, list, Next::AwaitsItem, trace),
+        Err(_) => leave(hold, bank, list, Next::AwaitsItem, trace),
     }
 }

@@ -1,12 +1,12 @@
-use lwkt_base::{Answer, Fault, MsgId};
+use lwkt_base::{Fault, MsgId};
 
-/// What comes next for a thread whose ask was performed.
+/// What comes next for a thread whose ask was performed, with the answer that it has then, if it has one.
 #[derive(Clone, Copy, Debug, PartialEq, Eq)]
-pub enum Next {
+pub enum Next<A> {
     /// It goes on running, with this answer.
-    Runs(Answer),
+    Runs(A),
     /// It has given up its tokens and is ready; once it is resumed, it has this answer.
-    Readies(Answer),
+    Readies(A),
     /// It has given up its tokens and waits for an item at its port.
     AwaitsItem,
     /// It has given up its tokens and waits for the reply to this message of its own.
@@ -17,19 +17,6 @@ pub enum Next {
     Faults(Fault),
 }
 
-/// What comes next for a thread whose ask was performed, without its answer, which is kept elsewhere.
+/// In place of an answer: it is kept already, where the caller keeps the thread's answers.
 #[derive(Clone, Copy, Debug, PartialEq, Eq)]
-pub enum Going {
-    /// It goes on running, with the answer that is kept.
-    Runs,
-    /// It has given up its tokens and is ready; once it is resumed, it has the answer that is kept.
-    Readies,
-    /// It has given up its tokens and waits for an item at its port.
-    AwaitsItem,
-    /// It has given up its tokens and waits for the reply to this message of its own.
-    AwaitsReply(MsgId),
-    /// It has ended by itself.
-    Exits,
-    /// It was ended by this fault.
-    Faults(Fault),
-}
+pub struct Kept;

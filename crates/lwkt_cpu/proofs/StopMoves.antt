@@ -4,6 +4,7 @@ use Rattle.std.specs.declared.alloc.Global.{Global}
 use Rattle.std.proofs.lemmas.Bool.{cases_lt, false≢true}
 use Rattle.std.proofs.lemmas.List.{length-set}
 use Rattle.std.proofs.lemmas.Option.{slice_get-get_or}
+use Rattle.lwkt_base.specs.declared.asks.Answer.{Answer}
 use Rattle.lwkt_base.specs.declared.names.Ref.{Ref}
 use Rattle.lwkt_base.specs.Holding.{Holding, holding_of, holds_nothing}
 use Rattle.lwkt_core.specs.declared.events.Event.{Event}
@@ -106,23 +107,23 @@ rest_stopped s post bodies olds news running cursor none all rest = record {
 }
 
 -- a thread that gave up everything and ends
-pub exit_empty : (next : Next) (blocked : Blocked) (h : Holding) (refs : List Ref) → next ≡ unless_broken Exits blocked → HoldsAfter next h refs → h ≡ holds_nothing
-exit_empty next Clean h refs is held = let F : Next → Type 0 = λ n. HoldsAfter n h refs in subst F is held
-exit_empty next (Restored tok) h refs is held = let F : Next → Type 0 = λ n. HoldsAfter n h refs in subst F is held
+pub exit_empty : (next : Next Answer) (blocked : Blocked) (h : Holding) (refs : List Ref) → next ≡ unless_broken Exits blocked → HoldsAfter next h refs → h ≡ holds_nothing
+exit_empty next Clean h refs is held = let F : Next Answer → Type 0 = λ n. HoldsAfter n h refs in subst F is held
+exit_empty next (Restored tok) h refs is held = let F : Next Answer → Type 0 = λ n. HoldsAfter n h refs in subst F is held
 
-pub became_over : (t : Thread) (next : Next) (blocked : Blocked) → next ≡ unless_broken Exits blocked → has_ended (became t next).phase ≡ true
+pub became_over : (t : Thread) (next : Next Answer) (blocked : Blocked) → next ≡ unless_broken Exits blocked → has_ended (became t next).phase ≡ true
 became_over t next Clean is = ap (λ n. has_ended (became t n).phase) is
 became_over t next (Restored tok) is = ap (λ n. has_ended (became t n).phase) is
 
-pub became_empty : (t : Thread) (next : Next) (blocked : Blocked) → next ≡ unless_broken Exits blocked → (became t next).list ≡ []
+pub became_empty : (t : Thread) (next : Next Answer) (blocked : Blocked) → next ≡ unless_broken Exits blocked → (became t next).list ≡ []
 became_empty t next Clean is = ap (λ n. (became t n).list) is
 became_empty t next (Restored tok) is = ap (λ n. (became t n).list) is
 
-pub became_free : (t : Thread) (next : Next) (blocked : Blocked) → next ≡ unless_broken Exits blocked → (became t next).busy ≡ None
+pub became_free : (t : Thread) (next : Next Answer) (blocked : Blocked) → next ≡ unless_broken Exits blocked → (became t next).busy ≡ None
 became_free t next Clean is = ap (λ n. (became t n).busy) is
 became_free t next (Restored tok) is = ap (λ n. (became t n).busy) is
 
-kept_empty : (next : Next) (blocked : Blocked) (refs : List Ref) → next ≡ unless_broken Exits blocked → kept_list next refs ≡ []
+kept_empty : (next : Next Answer) (blocked : Blocked) (refs : List Ref) → next ≡ unless_broken Exits blocked → kept_list next refs ≡ []
 kept_empty next Clean refs is = ap (λ n. kept_list n refs) is
 kept_empty next (Restored tok) refs is = ap (λ n. kept_list n refs) is
 

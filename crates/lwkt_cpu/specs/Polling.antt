@@ -7,8 +7,6 @@ use Rattle.lwkt_core.specs.declared.events.Event.{Event}
 use Rattle.lwkt_bank.specs.declared.seats.CpuSeat.{CpuSeat}
 use Rattle.lwkt_bank.specs.Seats.{BankId}
 use Rattle.lwkt_port.specs.Posts.{Post}
-use Rattle.lwkt_ask.specs.declared.nexts.Going.{Going}
-use Rattle.lwkt_ask.specs.declared.nexts.Going.TheVariants.{Runs as GoingRuns, Readies as GoingReadies, AwaitsItem as GoingAwaitsItem, AwaitsReply as GoingAwaitsReply, Exits as GoingExits, Faults as GoingFaults}
 use Rattle.lwkt_ask.specs.declared.nexts.Next.{Next}
 use Rattle.lwkt_ask.specs.declared.nexts.Next.TheVariants.{Runs, Readies, AwaitsItem, AwaitsReply, Exits, Faults}
 use Rattle.lwkt_ask.specs.Table.{Performs}
@@ -19,7 +17,7 @@ use Rattle.lwkt_cpu.specs.Searches.{ended_by}
 use Rattle.lwkt_cpu.specs.Ending.{ClosesIf}
 
 -- a thread after what came next for it, and whether it goes on running
-abbrev pub became : Thread → Next → Thread
+abbrev pub became : Thread → Next Answer → Thread
 became t (Runs answer) = record t { last = answer }
 became t (Readies answer) = record t { last = answer }
 became t AwaitsItem = record t { phase = Awaits }
@@ -27,7 +25,7 @@ became t (AwaitsReply msg) = record t { phase = AwaitsFor msg }
 became t Exits = ended_by Exited t
 became t (Faults fault) = ended_by (Faulted fault) t
 
-abbrev pub goes_on : Next → Bool
+abbrev pub goes_on : Next Answer → Bool
 goes_on (Runs answer) = true
 goes_on (Readies answer) = false
 goes_on AwaitsItem = false
@@ -35,28 +33,11 @@ goes_on (AwaitsReply msg) = false
 goes_on Exits = false
 goes_on (Faults fault) = false
 
--- a thread after what came next for it, where its answer is kept already, and whether it goes on running
-abbrev pub went : Thread → Going → Thread
-went t GoingRuns = t
-went t GoingReadies = t
-went t GoingAwaitsItem = record t { phase = Awaits }
-went t (GoingAwaitsReply msg) = record t { phase = AwaitsFor msg }
-went t GoingExits = ended_by Exited t
-went t (GoingFaults fault) = ended_by (Faulted fault) t
-
-abbrev pub goes : Going → Bool
-goes GoingRuns = true
-goes GoingReadies = false
-goes GoingAwaitsItem = false
-goes (GoingAwaitsReply msg) = false
-goes GoingExits = false
-goes (GoingFaults fault) = false
-
 -- a thread's body is polled once, with the answer kept for the thread, and its ask is performed; the answer to it is kept for the
 -- thread's next poll, and no refusal of its list is kept any more, or the thread has ended and its port is closed
 pub record Polls {B : Type 0} (polled : B → Answer → Ask → B → Type 0) (bank : BankId) (number : ℕ) (a b : CpuSeat) (p q : Post) (body next_body : B) (old new : Thread) (t u : Vec Event Global) (runs : Bool) : Type 0 where
   pub ask : Ask
-  pub next : Next
+  pub next : Next Answer
   pub list : List Ref
   pub mid : Post
   pub polled_once : polled body old.last ask next_body

@@ -1,5 +1,6 @@
 use Rattle.std.specs.Prelude.{◌≡◌, ℕ, if◌then◌else◌, List, length, Vec, Option, Some, None, option_map, slice_get, slice_set}
 use Rattle.std.specs.declared.alloc.Global.{Global}
+use Rattle.lwkt_base.specs.declared.asks.Answer.{Answer}
 use Rattle.lwkt_base.specs.Holding.{holds_nothing}
 use Rattle.lwkt_core.specs.declared.events.Event.{Event}
 use Rattle.lwkt_bank.specs.Seats.{holding}
@@ -27,7 +28,7 @@ AreStopped olds news = (k : ℕ) → slice_get news k ≡ option_map stopped (sl
 -- port is closed
 pub record Halts {B : Type 0} (old new : Processor B) (t u : Vec Event Global) (place : ℕ) : Type 0 where
   pub before : Thread
-  pub next : Next
+  pub next : Next Answer
   pub at_before : slice_get old.threads place ≡ Some before
   pub gives_up : GivesUp old.seat new.seat before.list (length before.list) t u Exits next
   pub threads : new.threads ≡ slice_set old.threads place (became before next)

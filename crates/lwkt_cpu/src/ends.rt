@@ -3,11 +3,12 @@ ghost use Rattle.std.specs.Prelude.{◌≡◌, ◌<◌, ◌≤◌, length};
 ghost use Rattle.lwkt_port.specs.Posts.{IsSamePost};
 ghost use Rattle.lwkt_cpu.specs.Searches.{ended_by};
 ghost use Rattle.lwkt_cpu.specs.Ending.{ClosesIf, Closes, includes};
-ghost use Rattle.lwkt_cpu.specs.Polling.{became, goes_on, went, goes};
+ghost use Rattle.lwkt_ask.specs.Nexts.{next_with};
+ghost use Rattle.lwkt_cpu.specs.Polling.{became, goes_on};
 
 use crate::phases::{Phase, ToClose};
 use crate::threads::Thread;
-use lwkt_ask::{Going, Next};
+use lwkt_ask::{Kept, Next};
 use lwkt_base::TokList;
 use lwkt_port::Ports;
 
@@ -48,21 +49,15 @@ pub(crate) fn close_all(ports: &mut Ports, threads: &[Thread], which: ToClose)
     }
 }
 
-/// What comes next for a thread comes; says whether it goes on running.
+/// What comes next for a thread comes, whose answer is kept already; says whether it goes on running.
 #[inline(always)]
-pub(crate) fn go_on(thread: &mut Thread, next: Next) -> bool
-    ensures becomes { thread.new ≡ became thread.old next }
-    ensures runs { result ≡ goes_on next }
+pub(crate) fn go_on(thread: &mut Thread, next: Next<Kept>) -> bool
+    ensures becomes { thread.new ≡ became thread.old (next_with next thread.old.last) }
+    ensures runs { result ≡ goes_on (next_with next thread.old.last) }
 {
     match next {
-        Next::Runs(answer) => {
-            thread.last = answer;
-            true
-        }
-        Next::Readies(answer) => {
-            thread.last = answer;
-            false
-        }
+        Next::Runs(_) => true,
+        Next::Readies(_) => false,
         Next::AwaitsItem => {
             thread.phase = Phase::AwaitsItem;
             false
@@ -76,34 +71,6 @@ pub(crate) fn go_on(thread: &mut Thread, next: Next) -> bool
             false
         }
         Next::Faults(fault) => {
-            end(thread, Phase::Faulted(fault));
-            false
-        }
-    }
-}
-
-/// What comes next for a thread comes, whose answer is kept already; says whether it goes on running.
-#[inline(always)]
-pub(crate) fn go(thread: &mut Thread, going: Going) -> bool
-    ensures becomes { thread.new ≡ went thread.old going }
-    ensures runs { result ≡ goes going }
-{
-    match going {
-        Going::Runs => true,
-        Going::Readies => false,
-        Going::AwaitsItem => {
-            thread.phase = Phase::AwaitsItem;
-            false
-        }
-        Going::AwaitsReply(msg) => {
-            thread.phase = Phase::AwaitsReply(msg);
-            false
-        }
-        Going::Exits => {
-            end(thread, Phase::Exited);
-            false
-        }
-        Going::Faults(fault) => {
             end(thread, Phase::Faulted(fault));
             false
         }

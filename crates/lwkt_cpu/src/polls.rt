@@ -13,10 +13,10 @@ ghost use Rattle.lwkt_port.specs.Posts.{IsSamePost};
 ghost use Rattle.lwkt_ask.specs.Telling.{TellsMail};
 ghost use Rattle.lwkt_cpu.specs.Polling.{Polls};
 
-use crate::ends::{close_if, go};
+use crate::ends::{close_if, go_on};
 use crate::phases::Phase;
 use crate::threads::Thread;
-use lwkt_ask::{Body, perform_at};
+use lwkt_ask::{Body, perform};
 use lwkt_bank::Bank;
 use lwkt_base::TokList;
 use lwkt_core::Event;
@@ -59,7 +59,7 @@ fn close_ended(ports: &mut Ports, number: u8, thread: &Thread, runs: bool)
 /// Polls a thread whose list is held with the answer that is kept for it, and performs its ask; a thread that ends then has
 /// its port closed. Says whether it goes on running.
 #[inline(always)]
-#[tactic(auto, using(crate::proofs::PollMoves::went_is, crate::proofs::PollMoves::goes_is))]
+#[tactic(auto, using(crate::proofs::PollMoves::became_is))]
 pub(crate) fn poll_one<B: Body>(
     hold: &mut Hold,
     ports: &mut Ports,
@@ -89,7 +89,7 @@ pub(crate) fn poll_one<B: Body>(
 {
     forget_refusal(thread);
     let ask = body.poll(thread.last);
-    let going = perform_at(
+    let next = perform(
         hold,
         ports,
         bank,
@@ -100,7 +100,7 @@ pub(crate) fn poll_one<B: Body>(
         &mut thread.last,
         trace,
     );
-    let runs = go(thread, going);
+    let runs = go_on(thread, next);
     is_lawful(&thread.list);
     close_ended(ports, number, thread, runs);
     runs

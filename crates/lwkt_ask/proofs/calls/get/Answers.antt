@@ -4,11 +4,10 @@ use Rattle.lwkt_bank.specs.Seats.{bank_of, tokens_of, holding}
 use Rattle.lwkt_hold.specs.declared.answers.Acquired.{Acquired}
 use Rattle.lwkt_base.specs.declared.faults.Fault.{Fault}
 use Rattle.std.specs.Prelude.{Result}
-use Rattle.lwkt_ask.specs.Briefs.{next_of}
-use Rattle.lwkt_base.specs.declared.asks.Answer.TheVariants.{Done, Refused}
+use Rattle.lwkt_base.specs.declared.asks.Answer.{Answer}
 use Rattle.lwkt_ask.specs.declared.nexts.Next.TheVariants.{Runs}
 use Rattle.lwkt_ask.specs.Table.{GoesOn}
-use Rattle.lwkt_ask.specs.Nexts.{kept_list}
+use Rattle.lwkt_ask.specs.Nexts.{kept_list, next_with}
 use Rattle.lwkt_ask.proofs.AskMoves.{given_up_at, ran_right, ran_switched, front_is, one_more, there_pushed, err_ends}
 use Rattle.lwkt_ask.proofs.calls.get.Goals as goal
 
@@ -18,8 +17,8 @@ overflow_sub-held c =
     let long = one_more c.args.list.now c.get.new.list c.args.new m.0 in
     omega (arith, c.len-held.ensures.value, long)
 
-pub give_up-requires-clause-held : goal.give_up-requires-clause-held
-give_up-requires-clause-held c =
+pub be_ready-requires-clause-held : goal.be_ready-requires-clause-held
+be_ready-requires-clause-held c =
     let m = c.in-Ok-MustSwitch.ensures.must_switch c.in-Ok-MustSwitch.field-0-0 (ap Ok c.in-Ok-MustSwitch.field-0-is) in
     let long = one_more c.args.list.now c.get.new.list c.args.new m.0 in
     let held : c.len-held.result - 1 ≡ length c.args.list.now = omega (arith, c.len-held.ensures.value, long) in
@@ -35,7 +34,7 @@ returns-in-Ok-Got-clause-there c =
 pub returns-in-Ok-Got-clause-gets : goal.returns-in-Ok-Got-clause-gets
 returns-in-Ok-Got-clause-gets c =
     let e = c.get.ensures in
-    let F : Result Acquired Fault → Type 0 = λ r. GoesOn c.get.new.self.seat c.get.new.self.seat c.args.list.now c.get.new.list c.get.new.trace c.get.new.trace (Runs Done) r in
+    let F : Result Acquired Fault → Type 0 = λ r. GoesOn c.get.new.self.seat c.get.new.self.seat c.args.list.now c.get.new.list c.get.new.trace c.get.new.trace (Runs c.done.new.last) r in
     record {
       mid = c.get.new.self.seat;
       v = c.get.new.trace;
@@ -54,7 +53,7 @@ returns-in-Ok-Got-clause-gets c =
         worn = e.worn;
         only = e.only;
       };
-      goes_on = subst F (sym (c.in-Ok-Got.is ∙ ap Ok c.in-Ok-Got.field-0-is)) (refl, refl, refl);
+      goes_on = subst F (sym (c.in-Ok-Got.is ∙ ap Ok c.in-Ok-Got.field-0-is)) (refl, refl, ap (λ (a : Answer). Runs a) c.done.ensures);
     }
 
 pub returns-in-Ok-MustSwitch-clause-ran : goal.returns-in-Ok-MustSwitch-clause-ran
@@ -62,9 +61,9 @@ returns-in-Ok-MustSwitch-clause-ran c =
     let m = c.in-Ok-MustSwitch.ensures.must_switch c.in-Ok-MustSwitch.field-0-0 (ap Ok c.in-Ok-MustSwitch.field-0-is) in
     let long = one_more c.args.list.now c.get.new.list c.args.new m.0 in
     let held : c.len-held.result - 1 ≡ length c.args.list.now = omega (arith, c.len-held.ensures.value, long) in
-    ran_switched c.args.list.now (kept_list (next_of c.give_up.result) c.get.new.list) c.args.hold.now.seat c.get.new.self.seat c.give_up.new.hold.seat c.args.trace.now c.get.new.trace c.give_up.new.trace _ (front_is c.args.list.now c.get.new.list c.args.new (c.len-held.result - 1) m.0 held)
+    ran_switched c.args.list.now (kept_list (next_with c.be_ready.result c.be_ready.new.last) c.get.new.list) c.args.hold.now.seat c.get.new.self.seat c.be_ready.new.hold.seat c.args.trace.now c.get.new.trace c.be_ready.new.trace _ (front_is c.args.list.now c.get.new.list c.args.new (c.len-held.result - 1) m.0 held)
     (c.in-Ok-MustSwitch.ensures.switched c.in-Ok-MustSwitch.field-0-0 (ap Ok c.in-Ok-MustSwitch.field-0-is))
-    c.give_up.ensures.ran
+    c.be_ready.ensures.ran
 
 pub returns-in-Ok-MustSwitch-clause-there : goal.returns-in-Ok-MustSwitch-clause-there
 returns-in-Ok-MustSwitch-clause-there c =
@@ -77,8 +76,8 @@ returns-in-Ok-MustSwitch-clause-gets c =
     let m = c.in-Ok-MustSwitch.ensures.must_switch c.in-Ok-MustSwitch.field-0-0 (ap Ok c.in-Ok-MustSwitch.field-0-is) in
     let long = one_more c.args.list.now c.get.new.list c.args.new m.0 in
     let held : c.len-held.result - 1 ≡ length c.args.list.now = omega (arith, c.len-held.ensures.value, long) in
-    let g = c.give_up.ensures.gives_up in
-    let F : Result Acquired Fault → Type 0 = λ r. GoesOn c.get.new.self.seat c.give_up.new.hold.seat c.args.list.now c.get.new.list c.get.new.trace c.give_up.new.trace (next_of c.give_up.result) r in
+    let g = c.be_ready.ensures.gives_up in
+    let F : Result Acquired Fault → Type 0 = λ r. GoesOn c.get.new.self.seat c.be_ready.new.hold.seat c.args.list.now c.get.new.list c.get.new.trace c.be_ready.new.trace (next_with c.be_ready.result c.be_ready.new.last) r in
     record {
       mid = c.get.new.self.seat;
       v = c.get.new.trace;
@@ -97,13 +96,13 @@ returns-in-Ok-MustSwitch-clause-gets c =
         worn = e.worn;
         only = e.only;
       };
-      goes_on = subst F (sym (c.in-Ok-MustSwitch.is ∙ ap Ok c.in-Ok-MustSwitch.field-0-is)) (given_up_at c.get.new.self.seat c.give_up.new.hold.seat c.get.new.list (c.len-held.result - 1) (length c.args.list.now) c.get.new.trace c.give_up.new.trace (next_of c.give_up.result) held g);
+      goes_on = subst F (sym (c.in-Ok-MustSwitch.is ∙ ap Ok c.in-Ok-MustSwitch.field-0-is)) (given_up_at c.get.new.self.seat c.be_ready.new.hold.seat c.get.new.list (c.len-held.result - 1) (length c.args.list.now) c.get.new.trace c.be_ready.new.trace (next_with c.be_ready.result c.be_ready.new.last) held g);
     }
 
 pub returns-in-Err-clause-gets : goal.returns-in-Err-clause-gets
 returns-in-Err-clause-gets c =
     let e = c.get.ensures in
-    let F : Result Acquired Fault → Type 0 = λ r. GoesOn c.get.new.self.seat c.get.new.self.seat c.args.list.now c.get.new.list c.get.new.trace c.get.new.trace (Runs (Refused c.in-Err.fault)) r in
+    let F : Result Acquired Fault → Type 0 = λ r. GoesOn c.get.new.self.seat c.get.new.self.seat c.args.list.now c.get.new.list c.get.new.trace c.get.new.trace (Runs c.done-in-Err.new.last) r in
     record {
       mid = c.get.new.self.seat;
       v = c.get.new.trace;
@@ -122,5 +121,5 @@ returns-in-Err-clause-gets c =
         worn = e.worn;
         only = e.only;
       };
-      goes_on = subst F (sym c.in-Err.is) (refl, refl, refl);
+      goes_on = subst F (sym c.in-Err.is) (refl, refl, ap (λ (a : Answer). Runs a) c.done-in-Err.ensures);
     }

@@ -1,9 +1,9 @@
-use Rattle.std.proofs.Common.{refl, sym, subst, arith}
+use Rattle.std.proofs.Common.{refl, ap, sym, subst, arith}
 use Rattle.std.specs.Prelude.{Result}
-use Rattle.lwkt_base.specs.declared.asks.Answer.TheVariants.{Refused}
+use Rattle.lwkt_base.specs.declared.asks.Answer.{Answer}
 use Rattle.lwkt_base.specs.declared.faults.Fault.{Fault}
 use Rattle.lwkt_msg.specs.Desks.{cpu_of}
-use Rattle.lwkt_ask.specs.Briefs.{next_of}
+use Rattle.lwkt_ask.specs.Nexts.{next_with}
 use Rattle.lwkt_ask.specs.declared.nexts.Next.TheVariants.{Runs}
 use Rattle.lwkt_ask.specs.Mailing.{WaitsReply}
 use Rattle.lwkt_ask.proofs.MailMoves.{ran_mail_held, ran_mail_left}
@@ -13,12 +13,12 @@ use Rattle.lwkt_ask.proofs.mails.send_and_wait.Goals as goal
 pub returns-in-Ok-clause-does : goal.returns-in-Ok-clause-does
 returns-in-Ok-clause-does c =
     let m = c.send_sync in
-    let F : Result (Unit {0}) Fault → Type 0 = λ r. WaitsReply c.args.hold.now.seat c.leave.new.hold.seat c.args.list.now m.new.trace c.leave.new.trace c.args.msg (next_of c.leave.result) r in
+    let F : Result (Unit {0}) Fault → Type 0 = λ r. WaitsReply c.args.hold.now.seat c.leave.new.hold.seat c.args.list.now m.new.trace c.leave.new.trace c.args.msg (next_with c.leave.result c.args.last.now) r in
     record {
       v = m.new.trace;
       result = m.result;
       sends = (m.ensures.sent, m.ensures.refused);
-      goes_on = subst F (sym c.in-Ok.is) c.leave.ensures.gives_up;
+      goes_on = subst F (sym c.in-Ok.is) (c.leave.ensures.gives_up c.args.last.now);
     }
 
 pub returns-in-Ok-clause-ran : goal.returns-in-Ok-clause-ran
@@ -28,12 +28,12 @@ pub returns-in-Err-clause-does : goal.returns-in-Err-clause-does
 returns-in-Err-clause-does c =
     let m = c.send_sync in
     let s = c.args.hold.now.seat in
-    let F : Result (Unit {0}) Fault → Type 0 = λ r. WaitsReply s s c.args.list.now m.new.trace m.new.trace c.args.msg (Runs (Refused c.in-Err.fault)) r in
+    let F : Result (Unit {0}) Fault → Type 0 = λ r. WaitsReply s s c.args.list.now m.new.trace m.new.trace c.args.msg (Runs c.done.new.last) r in
     record {
       v = m.new.trace;
       result = m.result;
       sends = (m.ensures.sent, m.ensures.refused);
-      goes_on = subst F (sym c.in-Err.is) (refl, refl, refl);
+      goes_on = subst F (sym c.in-Err.is) (refl, refl, ap (λ (a : Answer). Runs a) c.done.ensures);
     }
 
 pub returns-in-Err-clause-ran : goal.returns-in-Err-clause-ran
@@ -46,7 +46,7 @@ returns-in-Ok-clause-told c =
     let l = c.leave in
     mail_quiet p m.new.self.seat m.new.self.seat c.args.trace.now.items m.new.trace.items l.new.trace.items
     (mail_told (cpu_of p) 1 p m.new.self.seat c.args.trace.now m.new.trace m.ensures.told m.ensures.grew)
-    (given_quiet _ _ _ _ m.new.trace l.new.trace _ _ l.ensures.gives_up) refl
+    (given_quiet _ _ _ _ m.new.trace l.new.trace _ _ (l.ensures.gives_up c.args.last.now)) refl
 
 pub returns-in-Err-clause-told : goal.returns-in-Err-clause-told
 returns-in-Err-clause-told c =

@@ -1,5 +1,6 @@
 use Rattle.std.proofs.Common.{◌≡◌, set, refl, ap, ◌∙◌, subst, Some, None}
 use Rattle.lwkt_hold.specs.Runs.{Ran}
+use Rattle.lwkt_ask.specs.Nexts.{next_with}
 use Rattle.lwkt_ask.proofs.TellMoves.{given_quiet}
 use Rattle.lwkt_cpu.specs.declared.threads.Thread.{Thread}
 use Rattle.lwkt_cpu.specs.Processors.{Processor, has_ended, processor_of}
@@ -17,12 +18,13 @@ invariant_of-self g c =
     let p = c.exit-next in
     let runs : i.running ≡ Some place = ap (λ (x : Processor g.row.B.Denot). x.running) c.self.view_is ∙ c.requires.runs in
     let within = placed i.hold.seat i.threads.items i.running place runs c.self.invariant.held in
-    let up = p.ensures.gives_up in
+    let last = c.index_mut-thread.result.now.last in
+    let up = p.ensures.gives_up last in
     rest_posted {B = g.row.B.Denot} p.new.hold.seat i.ports c.close_port.new.self i.bodies.items (set i.threads.items place c.go_on.new.thread) None i.cursor c.close_port.ensures.same
     (rest_halted {B = g.row.B.Denot} i.hold.seat p.new.hold.seat i.ports i.bodies.items i.threads.items i.running i.cursor place c.go_on.new.thread c.self.invariant within p.ensures.ran.bank p.ensures.ran.cpu
-    (ap (λ (t : Thread). has_ended t.phase) c.go_on.ensures.becomes ∙ became_over c.index_mut-thread.result.now p.result up.blocked up.next_is)
-    (ap (λ (t : Thread). t.list) c.go_on.ensures.becomes ∙ became_empty c.index_mut-thread.result.now p.result up.blocked up.next_is)
-    (ap (λ (t : Thread). t.busy) c.go_on.ensures.becomes ∙ became_free c.index_mut-thread.result.now p.result up.blocked up.next_is)
+    (ap (λ (t : Thread). has_ended t.phase) c.go_on.ensures.becomes ∙ became_over c.index_mut-thread.result.now (next_with p.result last) up.blocked up.next_is)
+    (ap (λ (t : Thread). t.list) c.go_on.ensures.becomes ∙ became_empty c.index_mut-thread.result.now (next_with p.result last) up.blocked up.next_is)
+    (ap (λ (t : Thread). t.busy) c.go_on.ensures.becomes ∙ became_free c.index_mut-thread.result.now (next_with p.result last) up.blocked up.next_is)
     p.ensures.empty)
 
 pub returns-clause-halts : goal.returns-clause-halts
@@ -36,9 +38,9 @@ returns-clause-halts g c =
     let F : Processor g.row.B.Denot → Type 0 = λ x. Halts {B = g.row.B.Denot} x (processor_of p.new.hold.seat c.close_port.new.self i.bodies.items (set i.threads.items place c.go_on.new.thread) None i.cursor) c.args.trace.now p.new.trace place in
     subst F c.self.view_is (record {
       before = before;
-      next = p.result;
+      next = next_with p.result before.last;
       at_before = thread_at i.threads.items place before within c.index_mut-thread.ensures.value;
-      gives_up = p.ensures.gives_up;
+      gives_up = p.ensures.gives_up before.last;
       threads = ap (λ (t : Thread). set i.threads.items place t) c.go_on.ensures.becomes;
       closes = c.close_port.ensures.closed;
       bodies = refl;
@@ -54,9 +56,8 @@ returns-clause-ran g c =
     let runs : i.running ≡ Some place = ap (λ (x : Processor g.row.B.Denot). x.running) c.self.view_is ∙ c.requires.runs in
     let within = placed i.hold.seat i.threads.items i.running place runs c.self.invariant.held in
     let at = thread_at i.threads.items place before within c.index_mut-thread.ensures.value in
-    let up = p.ensures.gives_up in
     let F : Processor g.row.B.Denot → Type 0 = λ x. Ran (IsOfOne x.threads) 194 x.seat p.new.hold.seat c.args.trace.now p.new.trace in
     subst F c.self.view_is (ran_halted i.hold.seat p.new.hold.seat c.args.trace.now p.new.trace i.threads.items place before at p.ensures.ran)
 
 pub returns-clause-quiet : goal.returns-clause-quiet
-returns-clause-quiet g c = given_quiet _ _ _ _ c.args.trace.now c.exit-next.new.trace _ _ c.exit-next.ensures.gives_up
+returns-clause-quiet g c = given_quiet _ _ _ _ c.args.trace.now c.exit-next.new.trace _ _ (c.exit-next.ensures.gives_up c.index_mut-thread.result.now.last)
