@@ -7,7 +7,7 @@ ghost use Rattle.lwkt_hold.specs.Fronts.{IsFront};
 ghost use Rattle.lwkt_hold.specs.Runs.{Ran};
 
 use crate::holds::Hold;
-use crate::traces::note;
+use crate::traces::{note_record_read, note_record_written};
 use lwkt_bank::Bank;
 use lwkt_base::{Blob, Fault, Mode, TokId, TokList};
 use lwkt_core::Event;
@@ -71,7 +71,7 @@ impl Hold {
         self.may_use_record(bank, list, tok)?;
         let cpu = self.seat.cpu();
         let blob = self.seat.read_blob(bank, tok);
-        note(trace, Event::ReadBlob { cpu, tok, blob });
+        note_record_read(trace, cpu, tok, &blob);
         Ok(blob)
     }
 
@@ -110,14 +110,7 @@ impl Hold {
         }
         let cpu = self.seat.cpu();
         self.seat.write_blob(bank, tok, blob);
-        note(
-            trace,
-            Event::WriteBlob {
-                cpu,
-                tok,
-                blob: *blob,
-            },
-        );
+        note_record_written(trace, cpu, tok, blob);
         Ok(())
     }
 }

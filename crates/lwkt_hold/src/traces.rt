@@ -86,7 +86,8 @@ pub(crate) fn note_clean(trace: &mut Vec<Event>, cpu: CpuId, tok: TokId)
     note(trace, Event::GiveClean { cpu, tok });
 }
 
-/// A written section was ended.
+/// A written section was ended. The event is made of the section's parts: as a whole, it would be copied with the bytes behind
+/// its token too.
 #[inline(always)]
 pub(crate) fn note_written(trace: &mut Vec<Event>, cpu: CpuId, tok: TokId, section: Section)
     requires { vec_len trace.old < vec_capacity trace.old }
@@ -94,6 +95,18 @@ pub(crate) fn note_written(trace: &mut Vec<Event>, cpu: CpuId, tok: TokId, secti
     ensures longer { vec_len trace.new ≡ vec_len trace.old + 1 }
     ensures room { vec_capacity trace.old ≤ vec_capacity trace.new }
 {
+    let Section {
+        before,
+        after,
+        generation,
+        tok: ended,
+    } = section;
+    let section = Section {
+        before,
+        after,
+        generation,
+        tok: ended,
+    };
     note(trace, Event::GiveWritten { cpu, tok, section });
 }
 
@@ -135,6 +148,42 @@ pub(crate) fn note_write(trace: &mut Vec<Event>, cpu: CpuId, tok: TokId, cell: u
     );
 }
 
+/// A record was read.
+#[inline(always)]
+pub(crate) fn note_record_read(trace: &mut Vec<Event>, cpu: CpuId, tok: TokId, blob: &Blob)
+    requires { vec_len trace.old < vec_capacity trace.old }
+    ensures items { trace.new.items ≡ trace.old.items ++ Event.ReadBlob cpu tok blob.now ∷ [] }
+    ensures longer { vec_len trace.new ≡ vec_len trace.old + 1 }
+    ensures room { vec_capacity trace.old ≤ vec_capacity trace.new }
+{
+    note(
+        trace,
+        Event::ReadBlob {
+            cpu,
+            tok,
+            blob: *blob,
+        },
+    );
+}
+
+/// A record was written.
+#[inline(always)]
+pub(crate) fn note_record_written(trace: &mut Vec<Event>, cpu: CpuId, tok: TokId, blob: &Blob)
+    requires { vec_len trace.old < vec_capacity trace.old }
+    ensures items { trace.new.items ≡ trace.old.items ++ Event.WriteBlob cpu tok blob.now ∷ [] }
+    ensures longer { vec_len trace.new ≡ vec_len trace.old + 1 }
+    ensures room { vec_capacity trace.old ≤ vec_capacity trace.new }
+{
+    note(
+        trace,
+        Event::WriteBlob {
+            cpu,
+            tok,
+            blob: *blob,
+        },
+    );
+}
+
 fn note_cell(trace: &mut Vec<Event>, cpu: CpuId, tok: TokId, cell: u8, value: Option<u64>)
     requires { vec_len trace.old < vec_capacity trace.old }
     ensures items { trace.new.items ≡ trace.old.items ++ writes cpu tok cell (value ∷ []) }
@@ -171,6 +220,6 @@ pub(crate) fn note_record(trace: &mut Vec<Event>, cpu: CpuId, tok: TokId, stored
     ensures room { vec_capacity trace.old ≤ vec_capacity trace.new }
 {
     if let Some(blob) = stored {
-        note(trace, Event::WriteBlob { cpu, tok, blob });
+        note_record_written(trace, cpu, tok, &blob);
     }
 }

@@ -15,7 +15,7 @@ pub returns-clause-ran : goal.returns-clause-ran
 returns-clause-ran c =
     let s = c.args.self.now.seat in
     let r = c.read_blob-blob in
-    read_record_ran c.args.list.now s r.new.self c.args.tok (entry s c.args.tok.0) c.cpu-cpu.result r.result c.args.trace.now c.note.new.trace r.ensures.changes refl c.requires.held c.cpu-cpu.ensures.is c.note.ensures.items c.note.ensures.longer c.note.ensures.room
+    read_record_ran c.args.list.now s r.new.self c.args.tok (entry s c.args.tok.0) c.cpu-cpu.result r.result c.args.trace.now c.note_record_read.new.trace r.ensures.changes refl c.requires.held c.cpu-cpu.ensures.is c.note_record_read.ensures.items c.note_record_read.ensures.longer c.note_record_read.ensures.room
 
 pub returns-clause-kept : goal.returns-clause-kept
 returns-clause-kept c = let s = c.args.self.now.seat in holding_kept s c.read_blob-blob.new.self c.args.tok.0 (entry s c.args.tok.0) _ c.read_blob-blob.ensures.changes refl ∙ c.requires.held

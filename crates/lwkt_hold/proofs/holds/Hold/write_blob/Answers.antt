@@ -18,7 +18,7 @@ write_blob-requires-clause-held c = exclusive_listed c.args.self.now.seat c.args
 pub returns-clause-ran : goal.returns-clause-ran
 returns-clause-ran c =
     let s = c.args.self.now.seat in
-    write_record_ran c.args.list.now s c.write_blob.new.self c.args.tok (wrote_record (entry s c.args.tok.0) c.args.blob.now) c.cpu-cpu.result c.args.blob.now c.args.trace.now c.note.new.trace c.write_blob.ensures refl c.requires.held c.cpu-cpu.ensures.is c.note.ensures.items c.note.ensures.longer c.note.ensures.room
+    write_record_ran c.args.list.now s c.write_blob.new.self c.args.tok (wrote_record (entry s c.args.tok.0) c.args.blob.now) c.cpu-cpu.result c.args.blob.now c.args.trace.now c.note_record_written.new.trace c.write_blob.ensures refl c.requires.held c.cpu-cpu.ensures.is c.note_record_written.ensures.items c.note_record_written.ensures.longer c.note_record_written.ensures.room
 
 pub returns-clause-kept : goal.returns-clause-kept
 returns-clause-kept c = let s = c.args.self.now.seat in holding_kept s c.write_blob.new.self c.args.tok.0 (wrote_record (entry s c.args.tok.0) c.args.blob.now) _ c.write_blob.ensures refl ∙ c.requires.held
