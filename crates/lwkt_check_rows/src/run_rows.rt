@@ -310,6 +310,7 @@ fn laws_and_polls(rt: HostRuntime) -> Result<(), Fail> {
     all_but_the_last_are_answered();
     logs_are_the_first_entries();
     let sheet = crossed_lists(rt.alloc())?;
+    let polls = sheet.packed(rt.alloc())?;
     let asked: [(usize, Option<Ask>); 3] = [
         (0, Some(Ask::Get(TokId(0)))),
         (1, Some(Ask::Get(TokId(1)))),
@@ -317,7 +318,7 @@ fn laws_and_polls(rt: HostRuntime) -> Result<(), Fail> {
     ];
     for (place, want) in asked {
         let turn = sheet.turns.get(place).ok_or("the run has this turn")?;
-        let poll = poll_of(sheet.polls.as_slice(), turn).copied();
+        let poll = poll_of(&polls, turn);
         assert_eq!(rt; poll.map(|poll| poll.ask), want, "turn {place}");
     }
     Ok(())

@@ -4,7 +4,7 @@ use lwkt_base::{
     Answer, Ask, Cells, CpuId, Entry, Fault, Law, MsgSpec, ThreadId, ThreadState, TokSpec,
 };
 use lwkt_core::{Event, State};
-use lwkt_verdict::{Pace, Poll, ThreadEnd, ThreadPlan, Turn, is_script_run};
+use lwkt_verdict::{Pace, Poll, PollList, ThreadEnd, ThreadPlan, Turn, is_script_run};
 use std::alloc::{AllocError, Global};
 
 /// A run by hand.
@@ -119,6 +119,18 @@ impl Sheet {
         self.turn(None, events)
     }
 
+    /// The polls as a run keeps them.
+    pub fn packed(&self, alloc: Global) -> Result<PollList, AllocError> {
+        let mut list = PollList::new(alloc);
+        for (place, poll) in self.polls.iter().enumerate() {
+            list.push(poll.thread, &poll.ask)?;
+            if let Some(answer) = &poll.answer {
+                list.set_answer(place, answer)?;
+            }
+        }
+        Ok(list)
+    }
+
     // The order of the turns, in rounds.
     fn order(&self, alloc: Global) -> Result<Vec<u8>, Fault> {
         let mut order = Vec::new(alloc);
@@ -140,12 +152,13 @@ impl Sheet {
             self.cpus,
         )?;
         let order = self.order(alloc)?;
+        let polls = self.packed(alloc).map_err(|_| Fault::Memory)?;
         Ok(is_script_run(
             self.plans.as_slice(),
             Pace::Rounds(self.limit),
             order.as_slice(),
             opening,
-            self.polls.as_slice(),
+            &polls,
             self.turns.as_slice(),
             self.trace.as_slice(),
             self.lines.as_slice(),

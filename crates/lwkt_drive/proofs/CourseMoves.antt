@@ -25,7 +25,7 @@ use Rattle.lwkt_drive.specs.declared.driven.Driven.{Driven}
 use Rattle.lwkt_drive.specs.declared.driven.Limits.{Limits}
 use Rattle.lwkt_drive.specs.declared.driven.Said.{Said}
 use Rattle.lwkt_drive.specs.declared.driven.Ending.{Ending}
-use Rattle.lwkt_drive.specs.Course.{IsAt, IsWithin, GoesOn, EndsBy, IsQuiet, EndsQuiet, agreed, heard, noted, MakesOne, Stays, IsDriven, IsUnderWay, IsSo, ComesTo, GoesTo, DrivesOn, DrivesOut, begun, counts}
+use Rattle.lwkt_drive.specs.Course.{IsAt, IsWithin, GoesOn, EndsBy, WasQuiet, EndsQuiet, agreed, heard, noted, MakesOne, Stays, IsDriven, IsUnderWay, IsSo, ComesTo, GoesTo, DrivesOn, DrivesOut, begun, counts}
 
 -- a turn more, after others
 pub made_more : {B : Type 0} (polled : B → Answer → Ask → B → Type 0) (bank : BankId) (old mid new : Processor B) (t v u : Vec Event Global) (turns : List Turned) (turned : Turned) → Made polled bank old mid t v turns → MakesTurn polled bank mid new v u turned → Made polled bank old new t u (turns ++ turned ∷ [])
@@ -37,10 +37,10 @@ made_more polled bank old mid new t v u (x ∷ turns) turned made last =
     (made.0, (made.1.0, (made.1.1.0, made_more polled bank made.0 mid new made.1.0 v u turns turned made.1.1.1 last)))
 
 -- a quiet turn more, after others
-ends_quiet : {B : Type 0} (polled : B → Answer → Ask → B → Type 0) (bank : BankId) (old mid new : Processor B) (t v u : Vec Event Global) (turns : List Turned) (turned : Turned) (made : Made polled bank old mid t v turns) (last : MakesTurn polled bank mid new v u turned) → IsQuiet turned v u → EndsQuiet polled bank old new t u (turns ++ turned ∷ []) (made_more polled bank old mid new t v u turns turned made last)
+ends_quiet : {B : Type 0} (polled : B → Answer → Ask → B → Type 0) (bank : BankId) (old mid new : Processor B) (t v u : Vec Event Global) (turns : List Turned) (turned : Turned) (made : Made polled bank old mid t v turns) (last : MakesTurn polled bank mid new v u turned) → WasQuiet turned v u → EndsQuiet polled bank old new t u (turns ++ turned ∷ []) (made_more polled bank old mid new t v u turns turned made last)
 unfolding made_more
 ends_quiet polled bank old mid new t v u [] turned made last quiet =
-    let F : Vec Event Global → Type 0 = λ x. IsQuiet turned x u in
+    let F : Vec Event Global → Type 0 = λ x. WasQuiet turned x u in
     subst F made.1 quiet
 ends_quiet polled bank old mid new t v u (x ∷ []) turned made last quiet =
     ends_quiet polled bank made.0 mid new made.1.0 v u [] turned made.1.1.1 last quiet

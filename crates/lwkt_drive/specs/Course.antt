@@ -82,13 +82,13 @@ RanNone Idle = Unit {0}
 RanNone TurnedAllExited = Unit {0}
 
 -- a turn was quiet: it ran no thread and appended no event
-abbrev pub IsQuiet : Turned → Vec Event Global → Vec Event Global → Type 0
-IsQuiet turned t u = RanNone turned × (u.items ≡ t.items)
+abbrev pub WasQuiet : Turned → Vec Event Global → Vec Event Global → Type 0
+WasQuiet turned t u = RanNone turned × (u.items ≡ t.items)
 
 -- turns were made, and the last of them was quiet
 abbrev pub EndsQuiet : {B : Type 0} (polled : B → Answer → Ask → B → Type 0) (bank : BankId) (old new : Processor B) (t u : Vec Event Global) (turns : List Turned) → Made polled bank old new t u turns → Type 0
 EndsQuiet polled bank old new t u [] made = ⊥
-EndsQuiet polled bank old new t u (turned ∷ []) made = IsQuiet turned t u
+EndsQuiet polled bank old new t u (turned ∷ []) made = WasQuiet turned t u
 EndsQuiet polled bank old new t u (turned ∷ next ∷ turns) made = EndsQuiet polled bank made.0 new made.1.0 u (next ∷ turns) made.1.1.1
 
 -- a processor makes its turn of this number, to which the gate says yes once and which is counted; it is marked only if it was quiet
@@ -97,7 +97,7 @@ pub record MakesOne {B : Type 0} (polled : B → Answer → Ask → B → Type 0
   pub goes : GoesOn answers limits old.id turn old.drove
   pub makes : MakesTurn polled bank old.cpu new.cpu old.trace new.trace turned
   pub drove : new.drove ≡ counted old.drove turned
-  pub quiet : new.quiet ≡ true → IsQuiet turned old.trace new.trace
+  pub quiet : new.quiet ≡ true → WasQuiet turned old.trace new.trace
   pub said : new.said ≡ agreed old.said
 
 -- a processor stays as it is, and why

@@ -1,5 +1,6 @@
 //! The bodies of a script's threads.
 ghost use Rattle.std.specs.Prelude.{◌≡◌, ◌<◌, ◌≤◌, length, false, IfOk, Option, Some, None, unwrap_or};
+ghost use Rattle.std.specs.Option.{option_copied};
 ghost use Rattle.lwkt_machine.specs.Bodies.{unpolled, next_ask, entry_for, entry_told, logged, asked_by};
 
 use lwkt_ask::Body;
@@ -103,21 +104,21 @@ impl ScriptBody {
     }
 
     /// What the body asked at its last poll.
-    pub fn asked(&self) -> Option<Ask>
-        ensures { result ≡ self.now.asked }
+    pub fn asked(&self) -> Option<&Ask>
+        ensures { option_copied result ≡ self.now.asked }
     {
         match self.asked {
             Asked::Nothing => None,
-            Asked::Step(at) => self.steps.get(at).copied(),
-            Asked::Exit => Some(Ask::Exit),
+            Asked::Step(at) => self.steps.get(at),
+            Asked::Exit => Some(&self.end),
         }
     }
 
     /// The answer that the body was given at its last poll: that to the ask before.
-    pub fn told(&self) -> Option<Answer>
-        ensures { result ≡ self.now.told }
+    pub fn told(&self) -> Option<&Answer>
+        ensures { option_copied result ≡ self.now.told }
     {
-        self.told
+        self.told.as_ref()
     }
 
     /// The log, at most 32 entries.
@@ -169,7 +170,7 @@ impl ScriptBody {
         requires { length self.old.log < 32 }
         ensures { self.new ≡ record self.old { log = logged self.old.log (entry_told self.old.asked self.old.told) } }
     {
-        if let Some(entry) = entry_told(self.asked(), &self.told) {
+        if let Some(entry) = entry_told(self.asked().copied(), &self.told) {
             self.log.push(entry).unwrap();
         }
     }

@@ -1,10 +1,11 @@
 -- The place of a thread's last poll, as polls are kept.
 use Rattle.std.proofs.Common.{◌≡◌, ◌≢◌, ℕ, zero, suc, ◌+◌, ◌<◌, ◌==◌, Bool, true, false, List, [], ◌∷◌, ◌++◌, length, get_or, set, refl, ap, sym, ◌∙◌, subst, inl, inr, arith, Option, Some, None, replicate, eq-eqb, ne_eqb}
-use Rattle.std.specs.Prelude.{slice_get, slice_set, if◌then◌else◌}
+use Rattle.std.specs.Prelude.{slice_get, slice_set, if◌then◌else◌, Result, Ok, Err}
+use Rattle.std.specs.Result.{OnOk, OnErr}
 use Rattle.std.specs.Option.{option_map_or}
 use Rattle.std.proofs.lemmas.Bool.{cases_eq}
 use Rattle.std.proofs.lemmas.List.{length-set}
-use Rattle.std.proofs.lemmas.Option.{slice_get_within, slice_get-get_or, get_or_from_slice_get}
+use Rattle.std.proofs.lemmas.Option.{slice_get_within, get_or_from_slice_get}
 use Rattle.lwkt_base.specs.declared.asks.Answer.{Answer}
 use Rattle.lwkt_base.specs.declared.names.ThreadId.{ThreadId}
 use Rattle.lwkt_core.specs.Machine.{changed}
@@ -47,8 +48,8 @@ place_set slot (x ∷ polls) (suc k) q r at same =
     ap F (place_set slot polls k q r at same)
 
 -- the last poll of a thread gets its answer, if there is one
-pub some_answered : (slot : ℕ) (told : Answer) (polls : List Poll) (place : ℕ) (q : Poll) → last_place slot polls ≡ Some place → slice_get polls place ≡ Some q → answered slot told polls ≡ set polls place (with_answer told q)
-some_answered slot told polls place q is at = ap (λ o. option_map_or (λ k. changed (with_answer told) polls k) o polls) is ∙ changed_at (with_answer told) polls place q at
+pub some_answered : (slot : ℕ) (told : Answer) (polls : List Poll) (place : ℕ) → last_place slot polls ≡ Some place → answered slot told polls ≡ changed (with_answer told) polls place
+some_answered slot told polls place is = ap (λ o. option_map_or (λ k. changed (with_answer told) polls k) o polls) is
 
 pub none_answered : (slot : ℕ) (told : Answer) (polls : List Poll) → last_place slot polls ≡ None → answered slot told polls ≡ polls
 none_answered slot told polls is = ap (λ o. option_map_or (λ k. changed (with_answer told) polls k) o polls) is
@@ -82,9 +83,13 @@ pushed_other slot (x ∷ polls) q apart =
     let F : Option ℕ → Option ℕ = λ o. option_map_or (λ place. Some (place + 1)) o (if slot_of x.thread == slot then Some 0 else None) in
     ap F (pushed_other slot polls q apart)
 
--- a poll at a place
-pub poll_at : (polls : List Poll) (place : ℕ) (d q : Poll) → place < length polls → q ≡ get_or polls place d → slice_get polls place ≡ Some q
-poll_at polls place d q within is = slice_get-get_or polls place d within ∙ ap (λ (x : Poll). Some x) (sym is)
+-- the place of a thread's last poll, where a poll is answered
+place_changed : (slot : ℕ) (told : Answer) (polls : List Poll) (place : ℕ) → last_place slot (changed (with_answer told) polls place) ≡ last_place slot polls
+place_changed slot told polls place = go (slice_get polls place) refl
+  where
+    go : (o : Option Poll) → slice_get polls place ≡ o → last_place slot (changed (with_answer told) polls place) ≡ last_place slot polls
+    go None at = ap (λ o. last_place slot (option_map_or (λ x. slice_set polls place (with_answer told x)) o polls)) at
+    go (Some q) at = ap (last_place slot) (changed_at (with_answer told) polls place q at) ∙ place_set slot polls place q (with_answer told q) at refl
 
 -- the places of last polls
 abbrev pub ArePlaces : List (Option ℕ) → List Poll → Type 0
@@ -94,8 +99,8 @@ ArePlaces last polls = (k : ℕ) → k < 128 → slice_get last k ≡ Some (last
 pub place_told : (last : List (Option ℕ)) (polls : List Poll) (slot : ℕ) (o : Option ℕ) → ArePlaces last polls → slot < 128 → get_or last slot None ≡ o → last_place slot polls ≡ o
 place_told last polls slot o are few is = sym (get_or_from_slice_get last slot (last_place slot polls) None (are slot few)) ∙ is
 
-pub places_set : (last : List (Option ℕ)) (polls : List Poll) (place : ℕ) (q r : Poll) → ArePlaces last polls → slice_get polls place ≡ Some q → r.thread ≡ q.thread → ArePlaces last (set polls place r)
-places_set last polls place q r are at same = λ k less. are k less ∙ ap (λ (o : Option ℕ). Some o) (sym (place_set k polls place q r at same))
+pub places_changed : (last : List (Option ℕ)) (polls : List Poll) (place : ℕ) (told : Answer) → ArePlaces last polls → ArePlaces last (changed (with_answer told) polls place)
+places_changed last polls place told are = λ k less. are k less ∙ ap (λ (o : Option ℕ). Some o) (sym (place_changed k told polls place))
 
 pub places_pushed : (last : List (Option ℕ)) (polls : List Poll) (slot len : ℕ) (q : Poll) → ArePlaces last polls → slot_of q.thread ≡ slot → slot < 128 → len ≡ length polls → ArePlaces (set last slot (Some len)) (polls ++ q ∷ [])
 places_pushed last polls slot len q are is few long = λ k less.
@@ -118,3 +123,8 @@ none_at (suc n) (suc i) less = none_at n i (omega (arith, less))
 
 pub places_none : (polls : List Poll) → polls ≡ [] → ArePlaces (replicate 128 None) polls
 places_none polls none = λ k less. none_at 128 k less ∙ ap (λ (ps : List Poll). Some (last_place k ps)) (sym none)
+
+-- what holds of a list that a call changed or left
+pub either_way : {A E : Type 0} (r : Result A E) (new one other : List Poll) (F : List Poll → Type 0) → OnOk r (new ≡ one) → OnErr r (new ≡ other) → F one → F other → F new
+either_way (Ok x) new one other F ok err a b = subst F (sym ok) a
+either_way (Err e) new one other F ok err a b = subst F (sym err) b

@@ -7,6 +7,11 @@ use Rattle.lwkt_verdict.specs.declared.turns.Poll.{Poll}
 use Rattle.lwkt_verdict.specs.declared.turns.Turn.{Turn}
 use Rattle.lwkt_verdict.specs.Threads.{slot_of}
 use Rattle.lwkt_run.specs.declared.polled.Polled.{Polled}
+use Rattle.lwkt_run.specs.declared.polled.Heard.{Heard}
+
+-- what a turn asked, by where it stands
+abbrev pub polled_of : Heard → Polled
+polled_of h = record { thread = h.thread; told = h.told.now; asked = h.asked.now }
 
 -- what is kept of a run: the processor of each turn, the turns in order, and their polls
 pub record Kept : Type 0 where

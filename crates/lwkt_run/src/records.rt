@@ -2,9 +2,9 @@
 ghost use Rattle.std.specs.Prelude.{◌≡◌, ℕ, ◌<◌, Some, slice_get, min};
 ghost use Rattle.lwkt_run.specs.Keeping.{last_place};
 
-use crate::polled::Polled;
+use crate::polled::Heard;
 use lwkt_base::Answer;
-use lwkt_verdict::{Poll, Turn};
+use lwkt_verdict::{PollList, Turn};
 use std::alloc::{AllocError, Global};
 
 // As many threads as there can be, 16 of each of 8 processors.
@@ -14,11 +14,11 @@ const THREAD_LIMIT: usize = 128;
 #[derive(Drop)]
 pub struct Record {
     pub order: Vec<u8>,
-    pub polls: Vec<Poll>,
+    pub polls: PollList,
     pub turns: Vec<Turn>,
     // Of each thread the place of its last poll, 16 threads for each processor.
     last: [Option<usize>; THREAD_LIMIT],
-    ghost places: { (slot : ℕ) → slot < 128 → slice_get last slot ≡ Some (last_place slot polls.items) },
+    ghost places: { (slot : ℕ) → slot < 128 → slice_get last slot ≡ Some (last_place slot polls) },
 }
 
 // The place of a poll behind so many others, as far as 32 bits go.
@@ -29,67 +29,64 @@ fn place_behind(before: usize) -> u32
 }
 
 impl Record {
-    ghost use Rattle.std.specs.Prelude.{IfSome, OnOk};
+    ghost use Rattle.std.specs.Prelude.{IfSome, OnOk, option_map};
     ghost use Rattle.lwkt_verdict.specs.Threads.{slot_of};
-    ghost use Rattle.lwkt_run.specs.Keeping.{none_kept, kept_as, answered, polls_after, Keeps};
+    ghost use Rattle.lwkt_run.specs.Keeping.{polled_of, none_kept, kept_as, answered, polls_after, Keeps};
 
     pub fn new(alloc: Global) -> Self
-        ensures { kept_as result.order.items result.turns.items result.polls.items ≡ none_kept }
+        ensures { kept_as result.order.items result.turns.items result.polls ≡ none_kept }
     {
         Record {
             order: Vec::new(alloc),
-            polls: Vec::new(alloc),
+            polls: PollList::new(alloc),
             turns: Vec::new(alloc),
             last: [None; THREAD_LIMIT],
         }
     }
 
     // The last poll of a thread, if it was polled before, gets its answer.
-    fn answer(&mut self, slot: usize, told: Answer)
+    fn answer(&mut self, slot: usize, told: &Answer) -> Result<(), AllocError>
         requires { slot < 128 }
-        ensures polls { self.new.polls.items ≡ answered slot told self.old.polls.items }
+        ensures polls { OnOk result (self.new.polls ≡ answered slot told.now self.old.polls) }
         ensures turns { self.new.turns ≡ self.old.turns }
         ensures order { self.new.order ≡ self.old.order }
     {
         if let Some(place) = self.last[slot] {
-            self.polls[place].answer = Some(told);
+            self.polls.set_answer(place, told)?;
         }
+        Ok(())
     }
 
     // Keeps a poll, and the answer to what its thread asked before, if it was polled before.
-    fn keep_poll(&mut self, polled: Polled) -> Result<(), AllocError>
-        requires { slot_of polled.thread < 128 }
-        ensures polls { OnOk result (self.new.polls.items ≡ polls_after (Some polled) self.old.polls.items) }
+    fn keep_poll(&mut self, heard: Heard<'_>) -> Result<(), AllocError>
+        requires { slot_of heard.thread < 128 }
+        ensures polls { OnOk result (self.new.polls ≡ polls_after (Some (polled_of heard.entry)) self.old.polls) }
         ensures turns { self.new.turns ≡ self.old.turns }
         ensures order { self.new.order ≡ self.old.order }
     {
-        let Polled {
+        let Heard {
             thread,
             told,
             asked,
-        } = polled;
+        } = heard;
         let slot = 16 * usize::from(thread.cpu.0) + usize::from(thread.thread);
         let place = self.polls.len();
-        self.answer(slot, told);
-        self.polls.push(Poll {
-            answer: None,
-            ask: asked,
-            thread,
-        })?;
+        self.answer(slot, told)?;
+        self.polls.push(thread, asked)?;
         self.last[slot] = Some(place);
         Ok(())
     }
 
     /// Keeps a turn of a processor that made so many events, and what it asked, if it polled a thread.
-    pub fn keep(&mut self, cpu: u8, events: u16, asks: Option<Polled>) -> Result<(), AllocError>
+    pub fn keep(&mut self, cpu: u8, events: u16, asks: Option<Heard<'_>>) -> Result<(), AllocError>
         requires { IfSome asks (λ p. slot_of p.thread < 128) }
-        ensures { OnOk result (Keeps cpu events asks (kept_as self.old.order.items self.old.turns.items self.old.polls.items) (kept_as self.new.order.items self.new.turns.items self.new.polls.items)) }
+        ensures { OnOk result (Keeps cpu events (option_map polled_of asks.entry) (kept_as self.old.order.items self.old.turns.items self.old.polls) (kept_as self.new.order.items self.new.turns.items self.new.polls)) }
     {
         let before = self.polls.len();
         let poll = match asks {
             None => None,
-            Some(polled) => {
-                self.keep_poll(polled)?;
+            Some(heard) => {
+                self.keep_poll(heard)?;
                 Some(place_behind(before))
             }
         };

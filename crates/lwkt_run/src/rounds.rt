@@ -1,10 +1,11 @@
 //! The rounds of a run.
-ghost use Rattle.std.specs.Prelude.{◌≡◌, ◌<◌, ◌≤◌, ◌++◌, All, length, IfOk, IfSome, OnOk, OnErr, Err};
+ghost use Rattle.std.specs.Prelude.{◌≡◌, ◌<◌, ◌≤◌, ◌++◌, All, length, IfOk, IfSome, OnOk, OnErr, Err, option_map};
 ghost use Rattle.lwkt_cpu.specs.declared.answers.Turned.{Turned};
 ghost use Rattle.lwkt_verdict.specs.Threads.{slot_of};
+ghost use Rattle.lwkt_run.specs.Keeping.{polled_of};
 ghost use Rattle.lwkt_run.specs.Running.{WasPolled, HasPolled, IsPolledAt, HasAsked, MakesKeptTurn, kept_of, scene, says_over, both as both_so, RoundTold, HasMadeRounds, MakesTurns};
 
-use crate::polled::Polled;
+use crate::polled::Heard;
 use crate::records::Record;
 use lwkt_base::{CpuId, Fault, ThreadId};
 use lwkt_core::Event;
@@ -12,14 +13,14 @@ use lwkt_cpu::Turned;
 use lwkt_machine::Machine;
 
 // What the last turn of a processor asked, which polled this thread.
-fn polled_at(machine: &Machine, cpu: usize, thread: usize) -> Polled
+fn polled_at(machine: &Machine, cpu: usize, thread: usize) -> Heard<'_>
     requires processor { cpu < 8 }
     requires numbered { thread < 16 }
     requires polled { WasPolled machine.now cpu thread }
-    ensures { IsPolledAt machine.now cpu thread result }
+    ensures { IsPolledAt machine.now cpu thread (polled_of result) }
 {
     let body = machine.body(cpu, thread).unwrap();
-    Polled {
+    Heard {
         thread: ThreadId {
             cpu: CpuId(cpu as u8),
             thread: thread as u8,
@@ -30,10 +31,10 @@ fn polled_at(machine: &Machine, cpu: usize, thread: usize) -> Polled
 }
 
 // What the last turn of a processor asked, which says this.
-fn asks_of(machine: &Machine, cpu: usize, turned: Turned) -> Option<Polled>
+fn asks_of(machine: &Machine, cpu: usize, turned: Turned) -> Option<Heard<'_>>
     requires processor { cpu < 8 }
     requires polled { HasPolled cpu machine.now turned }
-    ensures asked { HasAsked cpu machine.now turned result }
+    ensures asked { HasAsked cpu machine.now turned (option_map polled_of result) }
     ensures within { IfSome result (λ p. slot_of p.thread < 128) }
 {
     match turned {

@@ -17,7 +17,7 @@ use lwkt_core::{Event, Final, State};
 use lwkt_machine::Machine;
 use lwkt_report::{Closing, RunFault, Sink, Source, ThreadLine, Verdict, read_capped, report};
 use lwkt_script::{Script, read_script};
-use lwkt_verdict::{Pace, Poll, Turn, are_processors};
+use lwkt_verdict::{Pace, PollList, Turn, are_processors};
 use std::alloc::{AllocError, Global};
 
 /// How a run ended.
@@ -38,7 +38,7 @@ pub struct TurnsRun {
     /// The events of all turns in order, and behind them those of the stop.
     pub trace: Vec<Event>,
     /// The polls of all turns, in order.
-    pub polls: Vec<Poll>,
+    pub polls: PollList,
     /// The turns in order.
     pub turns: Vec<Turn>,
     /// The processor of each turn.
@@ -67,7 +67,7 @@ fn closing_of(
     requires runs { RunsAt pace script.now kept.now.order.items left.threads.items (kept_of kept.now) trace.now left.last }
     ensures kinds { IfOk result (λ closing. map (λ line. is_some line.tallies) closing.tokens.items ≡ map (λ spec. is_tally spec.law) script.now.tokens) }
     ensures threads { IfOk result (λ closing. map (λ line. line.id) closing.threads.items ≡ ids_of script.now.cpus script.now.threads) }
-    ensures judged { IfOk result (λ closing. IsJudgedBy pace script.now closing kept.now.order.items trace.now kept.now.polls.items kept.now.turns.items) }
+    ensures judged { IfOk result (λ closing. IsJudgedBy pace script.now closing kept.now.order.items trace.now kept.now.polls kept.now.turns.items) }
 {
     let Left { last, threads } = left;
     let tokens = token_lines(alloc, script.tokens.as_slice(), &last)?;
@@ -156,7 +156,7 @@ fn judged_run(alloc: Global, pace: Pace, script: Script, made: Made) -> Result<T
     ensures script { IfOk result (λ run. run.script ≡ script) }
     ensures order { IfOk result (λ run. run.order ≡ made.kept.order) }
     ensures closes { IfOk result (λ run. MayClose pace script run.closing) }
-    ensures judged { IfOk result (λ run. IsJudgedBy pace script run.closing run.order.items run.trace.items run.polls.items run.turns.items) }
+    ensures judged { IfOk result (λ run. IsJudgedBy pace script run.closing run.order.items run.trace.items run.polls run.turns.items) }
     ensures refused { IfErr result (λ fault. Declines script fault) }
 {
     let opening = opened(alloc, &script)?;
@@ -188,7 +188,7 @@ fn judged_run(alloc: Global, pace: Pace, script: Script, made: Made) -> Result<T
 pub fn turns_run_of(alloc: Global, script: Script) -> Result<TurnsRun, Fault>
     ensures script { IfOk result (λ run. run.script ≡ script) }
     ensures closes { IfOk result (λ run. MayClose (Pace.Rounds script.turns) script run.closing) }
-    ensures judged { IfOk result (λ run. IsJudgedBy (Pace.Rounds script.turns) script run.closing run.order.items run.trace.items run.polls.items run.turns.items) }
+    ensures judged { IfOk result (λ run. IsJudgedBy (Pace.Rounds script.turns) script run.closing run.order.items run.trace.items run.polls run.turns.items) }
     ensures refused { IfErr result (λ fault. Declines script fault) }
 {
     let made = run_of(alloc, &script)?;
@@ -213,7 +213,7 @@ fn order_run_of(alloc: Global, script: Script, order: &[u8]) -> Result<TurnsRun,
     ensures order { IfOk result (λ run. run.order.items ≡ order.now) }
     ensures script { IfOk result (λ run. run.script ≡ script) }
     ensures closes { IfOk result (λ run. MayClose Pace.Named script run.closing) }
-    ensures judged { IfOk result (λ run. IsJudgedBy Pace.Named script run.closing run.order.items run.trace.items run.polls.items run.turns.items) }
+    ensures judged { IfOk result (λ run. IsJudgedBy Pace.Named script run.closing run.order.items run.trace.items run.polls run.turns.items) }
     ensures refused { IfErr result (λ fault. DeclinesAlong script order.now fault) }
 {
     if !are_processors(usize::from(script.cpus), order) {

@@ -72,7 +72,7 @@ pub fn verdict_of(
     kept: &Record,
 ) -> Verdict
     requires { again ≡ opening }
-    ensures { Judges result opening pace order.now plans.now ends.now last.now trace.now kept.now.polls.items kept.now.turns.items }
+    ensures { Judges result opening pace order.now plans.now ends.now last.now trace.now kept.now.polls kept.now.turns.items }
 {
     match check(opening, trace, last) {
         Ok(()) => {}

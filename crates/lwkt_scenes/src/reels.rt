@@ -2,7 +2,7 @@ use crate::scenes::round_length;
 use lwkt_core::Event;
 use lwkt_report::Closing;
 use lwkt_script::Script;
-use lwkt_verdict::{Poll, Turn};
+use lwkt_verdict::{PollList, Turn};
 
 /// A run of a script, in rounds or along an order of its processors: what was kept of it, and what its report shows.
 #[derive(Clone, Copy)]
@@ -11,7 +11,7 @@ pub struct Reel<'a> {
     /// The events of all turns in order, and behind them those of the stop.
     pub trace: &'a [Event],
     /// The polls of all turns, in order.
-    pub polls: &'a [Poll],
+    pub polls: &'a PollList,
     /// The turns in order.
     pub turns: &'a [Turn],
     /// The processor of each turn, where the processors don't take their turns in rounds.

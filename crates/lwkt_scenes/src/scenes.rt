@@ -74,7 +74,7 @@ pub(crate) fn scene_of<'a>(run: &Reel<'a>, number: usize, turn: &Turn, from: usi
         number,
         round: round_of(run, number),
         cpu: processor_of(run, number),
-        poll: poll_of(run.polls, turn).copied(),
+        poll: poll_of(run.polls, turn),
         part: part_of(run.trace, from, usize::from(turn.events)),
     }
 }

@@ -7,3 +7,4 @@ pub mod RunMoves
 pub mod LawMoves
 pub mod TraceMoves
 pub mod HistoryMoves
+pub mod ShortMoves

@@ -1,18 +1,17 @@
 -- What a check of a run keeps while it goes over the turns (own).
-use Rattle.std.specs.Prelude.{◌≡◌, ℕ, ◌+◌, ◌*◌, ◌<◌, Bool, List, length, slice_get, Option, Some, MatchOption, option_map}
-use Rattle.std.specs.Borrow.{Bor}
+use Rattle.std.specs.Prelude.{◌≡◌, ℕ, ◌+◌, ◌*◌, ◌<◌, Bool, List, length, slice_get, Option, Some, MatchOption, option_map, option_and_then}
 use Rattle.lwkt_verdict.specs.declared.turns.ThreadPlan.{ThreadPlan}
 use Rattle.lwkt_verdict.specs.declared.turns.ThreadEnd.{ThreadEnd}
-use Rattle.lwkt_verdict.specs.declared.turns.Poll.{Poll}
+use Rattle.lwkt_verdict.specs.declared.places.PollPlace.{PollPlace}
 use Rattle.lwkt_verdict.specs.declared.progress.Asked.{Asked}
 use Rattle.lwkt_verdict.specs.declared.progress.Progress.{Progress}
 use Rattle.lwkt_verdict.specs.declared.progress.Piece.{Piece}
 use Rattle.lwkt_verdict.specs.Threads.{thread_of, line_of, Ends}
-use Rattle.lwkt_verdict.specs.Run.{asked, came}
+use Rattle.lwkt_verdict.specs.Run.{poll_of, asked, came}
 
 -- what a thread last asked, if anything, by where its poll lies and whether its part shows that it blocked the thread
-abbrev pub last_asked : Option (Bor Poll) → Bool → Option Asked
-last_asked last blocked = option_map (λ q. asked q.now blocked) last
+abbrev pub last_asked : Option PollPlace → Bool → Option Asked
+last_asked last blocked = option_and_then (λ p. option_map (λ q. asked q blocked) (poll_of p.polls.now p.turn)) last
 
 -- a table says how far each thread has come after some turns, 16 for each of 8 processors
 pub record ShowsProgress (before : List Piece) (table : List Progress) : Type 0 where

@@ -1,10 +1,10 @@
-ghost use Rattle.std.specs.Prelude.{◌≡◌, ℕ, ◌<◌, ◌≤◌, ◌+◌, ◌*◌, ◌-◌, ◌^◌, ◌%◌, ◌↔◌, IsTrue, List, [], ◌∷◌, ◌++◌, length, take, All, MatchOption};
+ghost use Rattle.std.specs.Prelude.{◌≡◌, ℕ, ◌<◌, ◌≤◌, ◌+◌, ◌*◌, ◌-◌, ◌^◌, ◌%◌, ◌↔◌, IsTrue, List, [], ◌∷◌, ◌++◌, length, take, All, MatchOption, Some, None, if◌then◌else◌};
 ghost use Rattle.std.specs.Option.{option_copied};
 ghost use Rattle.lwkt_core.specs.Events.{cpu_of};
 ghost use Rattle.lwkt_verdict.specs.declared.progress.Piece.{Piece};
 ghost use Rattle.lwkt_verdict.specs.Parts.{after_all};
 ghost use Rattle.lwkt_verdict.specs.Threads.{slot_of};
-ghost use Rattle.lwkt_verdict.specs.Run.{piece, came, Makes, Idles, Polls, Fits, Runs, EndsRun, IsScriptRun};
+ghost use Rattle.lwkt_verdict.specs.Run.{poll_of, piece, came, Makes, Idles, Polls, Fits, Runs, EndsRun, IsScriptRun};
 ghost use Rattle.lwkt_verdict.specs.Homes.{AreHomes};
 ghost use Rattle.lwkt_verdict.specs.Progressed.{ShowsProgress};
 
@@ -12,10 +12,12 @@ use crate::ends::all_end;
 use crate::homes::{Home, homes_of};
 use crate::owns::has_blocked;
 use crate::parts::{goes_quietly, is_part_of};
+use crate::places::PollPlace;
+use crate::poll_lists::PollList;
 use crate::polls::{idles, note_poll};
 use crate::progress::Standing;
 use crate::rounds::{are_listed, are_processors, keeps_pace, whose};
-use crate::turns::{Pace, Poll, ThreadEnd, ThreadPlan, Turn, poll_of};
+use crate::turns::{Pace, Poll, ThreadEnd, ThreadPlan, Turn, read_poll};
 use lwkt_core::{Event, State};
 
 // Whether each event of a part is of this processor.
@@ -53,10 +55,12 @@ fn asks<'a>(
     homes: &[Option<Home>],
     table: &mut [Standing<'a>],
     cpu: usize,
-    poll: Option<&'a Poll>,
+    place: PollPlace<'a>,
+    poll: Option<&Poll>,
     blocked: bool,
 ) -> bool
     requires processor { cpu < 8 }
+    requires placed { poll_of place.polls.now place.turn ≡ option_copied poll }
     requires homes { AreHomes plans.now lines.now homes.now }
     requires shows { (before : List Piece) × (ShowsProgress before table.old × (length before < 2 ^ 64 - 1)) }
     ensures right { (before : List Piece) → ShowsProgress before table.old → (IsTrue result ↔ MatchOption (option_copied poll.entry) (Idles plans.now cpu (came before)) (λ q. Polls plans.now lines.now cpu (came before (slot_of q.thread)) q)) }
@@ -64,8 +68,15 @@ fn asks<'a>(
 {
     match poll {
         None => idles(plans, lines, homes, table, cpu),
-        Some(poll) => note_poll(plans, lines, homes, table, cpu, poll, blocked),
+        Some(poll) => note_poll(plans, lines, homes, table, cpu, place, poll, blocked),
     }
+}
+
+// The poll that was read, if one was.
+fn poll_read(polled: bool, room: &Poll) -> Option<&Poll>
+    ensures { option_copied result ≡ (if polled then Some room.now else None) }
+{
+    if polled { Some(room) } else { None }
 }
 
 // Whether a turn fits the turns before it, and its part the machine that it finds; both then go on.
@@ -76,28 +87,34 @@ fn fits<'a>(
     table: &mut [Standing<'a>],
     state: &mut State,
     cpu: usize,
-    poll: Option<&'a Poll>,
+    polls: &'a PollList,
+    turn: &Turn,
+    room: &mut Poll,
     part: &[Event],
 ) -> bool
     requires processor { cpu < 8 }
     requires homes { AreHomes plans.now lines.now homes.now }
     requires shows { (before : List Piece) × (ShowsProgress before table.old × (length before < 2 ^ 64 - 1)) }
-    ensures right { (before : List Piece) → ShowsProgress before table.old → (IsTrue result ↔ Fits plans.now lines.now cpu state.old before (option_copied poll.entry) part.now) }
+    ensures right { (before : List Piece) → ShowsProgress before table.old → (IsTrue result ↔ Fits plans.now lines.now cpu state.old before (poll_of polls.now turn.now) part.now) }
     ensures moved { IsTrue result → state.new ≡ after_all state.old part.now }
-    ensures noted { (before : List Piece) → ShowsProgress before table.old → IsTrue result → ShowsProgress (before ++ piece (option_copied poll.entry) part.now ∷ []) table.new }
+    ensures noted { (before : List Piece) → ShowsProgress before table.old → IsTrue result → ShowsProgress (before ++ piece (poll_of polls.now turn.now) part.now ∷ []) table.new }
 {
     if !are_of(cpu, part) {
         return false;
     }
+    let polled = read_poll(polls, turn, room);
+    let poll = poll_read(polled, room);
     if !makes(state, poll, part) {
         return false;
     }
+    let place = PollPlace { polls, turn: *turn };
     asks(
         plans,
         lines,
         homes,
         table,
         cpu,
+        place,
         poll,
         blocked_by(poll, part),
     )
@@ -127,7 +144,7 @@ fn runs<'a>(
     table: &mut [Standing<'a>],
     state: &mut State,
     order: &[u8],
-    polls: &'a [Poll],
+    polls: &'a PollList,
     turns: &[Turn],
     trace: &[Event],
 ) -> bool
@@ -138,15 +155,17 @@ fn runs<'a>(
     ensures { IsTrue result ↔ Runs plans.now lines.now polls.now order.now state.old [] turns.now trace.now }
 {
     let mut rest = trace;
+    let mut room = Poll::unasked();
     for (i, turn) in turns.iter().enumerate() {
         let count = turn.events as usize;
-        let poll = poll_of(polls, turn);
         if count > rest.len() {
             return false;
         }
         let (part, later) = rest.split_at(count);
         let cpu = whose(order, i);
-        if !fits(plans, lines, homes, table, state, cpu, poll, part) {
+        if !fits(
+            plans, lines, homes, table, state, cpu, polls, turn, &mut room, part,
+        ) {
             return false;
         }
         rest = later;
@@ -167,7 +186,7 @@ fn is_run_from(
     pace: Pace,
     order: &[u8],
     state: &mut State,
-    polls: &[Poll],
+    polls: &PollList,
     turns: &[Turn],
     trace: &[Event],
     lines: &[ThreadEnd],
@@ -206,7 +225,7 @@ pub fn is_script_run(
     pace: Pace,
     order: &[u8],
     opening: State,
-    polls: &[Poll],
+    polls: &PollList,
     turns: &[Turn],
     trace: &[Event],
     lines: &[ThreadEnd],

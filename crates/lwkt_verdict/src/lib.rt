@@ -3,7 +3,8 @@
 //!
 //! Words: a *poll* is one call of a thread's body: what it asked, and the answer that it was given later; a *piece* is a
 //! turn's poll and its *part* of the trace; a turn *fits* if its piece is what the threads may do then; the *progress* of a
-//! thread is how far it is in its steps and its log; a *pace* says how turns follow one another.
+//! thread is how far it is in its steps and its log; a *pace* says how turns follow one another; a *short* ask or answer is kept
+//! without room for a record, and a *long* one is one that has a record.
 #![tactic(auto)]
 
 mod asks;
@@ -13,13 +14,17 @@ mod homes;
 pub mod laws;
 mod owns;
 mod parts;
+mod places;
 mod plans;
+mod poll_lists;
 mod polls;
 mod progress;
 mod rounds;
+mod shorts;
 pub mod turns;
 
 pub use asks::entry_of;
 pub use checks::is_script_run;
+pub use poll_lists::PollList;
 pub use rounds::are_processors;
 pub use turns::{Pace, Poll, ThreadEnd, ThreadPlan, Turn};

@@ -1,11 +1,12 @@
-ghost use Rattle.std.specs.Prelude.{◌≡◌, ℕ, ◌<◌, ◌+◌, ◌*◌, ◌-◌, ◌^◌, ◌↔◌, IsTrue, true, length, MatchOption, IfSome, slice_get, slice_set, slice_index_or, None};
+ghost use Rattle.std.specs.Prelude.{◌≡◌, ℕ, ◌<◌, ◌+◌, ◌*◌, ◌-◌, ◌^◌, ◌↔◌, IsTrue, true, length, MatchOption, IfSome, slice_get, slice_set, slice_index_or, Some, None};
 ghost use Rattle.lwkt_verdict.specs.Asks.{may_answer};
 ghost use Rattle.lwkt_verdict.specs.Threads.{slot_of, progress_after, Rests};
-ghost use Rattle.lwkt_verdict.specs.Run.{asked, Polls, IdlesAt};
+ghost use Rattle.lwkt_verdict.specs.Run.{poll_of, asked, Polls, IdlesAt};
 ghost use Rattle.lwkt_verdict.specs.Homes.{IsHome, AreHomes};
 
 use crate::asks::may_answer;
 use crate::homes::{Home, home_at};
+use crate::places::PollPlace;
 use crate::progress::{Standing, is_logged, may_ask, progress_after, rests};
 use crate::turns::{Poll, ThreadEnd, ThreadPlan};
 use lwkt_base::{Answer, Ask};
@@ -57,10 +58,12 @@ pub fn note_poll<'a>(
     homes: &[Option<Home>],
     table: &mut [Standing<'a>],
     cpu: usize,
-    poll: &'a Poll,
+    place: PollPlace<'a>,
+    poll: &Poll,
     blocked: bool,
 ) -> bool
     requires processor { cpu < 8 }
+    requires placed { poll_of place.polls.now place.turn ≡ Some poll.now }
     requires homes { AreHomes plans.now lines.now homes.now }
     requires room { length table.old ≡ 128 }
     requires few { (k : ℕ) → k < 128 → IfSome (slice_get table.old k) (λ p. p.polls < 2 ^ 64 - 1) }
@@ -76,7 +79,7 @@ pub fn note_poll<'a>(
     if !poll_fits(plans, lines, home, cpu, standing, poll) {
         return false;
     }
-    let next = progress_after(standing, poll, blocked);
+    let next = progress_after(standing, place, poll, blocked);
     table[slot] = next;
     true
 }

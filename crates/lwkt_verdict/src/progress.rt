@@ -1,11 +1,12 @@
-ghost use Rattle.std.specs.Prelude.{◌≡◌, ◌<◌, ◌+◌, ◌^◌, ◌-◌, ◌↔◌, IsTrue, true, false, Some, None, slice_get, is_some, min, MatchOption};
+ghost use Rattle.std.specs.Prelude.{◌≡◌, ◌<◌, ◌+◌, ◌^◌, ◌-◌, ◌↔◌, IsTrue, true, false, Some, None, slice_get, is_some, min, MatchOption, option_map};
 ghost use Rattle.std.specs.Option.{option_map_or};
 ghost use Rattle.lwkt_base.specs.declared.entries.Entry.TheVariants.{Bytes};
 ghost use Rattle.lwkt_verdict.specs.Asks.{entry_of};
-ghost use Rattle.lwkt_verdict.specs.Run.{asked};
+ghost use Rattle.lwkt_verdict.specs.Run.{poll_of, asked};
 ghost use Rattle.lwkt_verdict.specs.Threads.{logged_by, progress_after, MayAsk, IsLogged, is_blocked, Rests, may_fault, may_end_after, may_end, EndsAs};
 
 use crate::asks::{entry_of, is_exit, is_refused, may_block, may_wait};
+use crate::places::PollPlace;
 use crate::plans::is_ask_at;
 use crate::turns::{Poll, ThreadEnd, ThreadPlan};
 use lwkt_base::{Answer, Ask, Blob, Entry, ThreadState};
@@ -14,8 +15,7 @@ use std::marker::Model;
 /// The most entries of a log.
 pub const LOG_LIMIT: usize = 32;
 
-/// An ask of a thread, its answer, if it has one, and whether its part of the trace shows that it blocked the thread. Only proofs
-/// have values of it.
+/// An ask of a thread, its answer, if it has one, and whether its part of the trace shows that it blocked the thread.
 #[derive(Clone, Copy, Debug, PartialEq, Eq)]
 pub struct Asked {
     pub ask: Ask,
@@ -38,7 +38,7 @@ pub struct Progress {
 #[derive(Drop)]
 pub struct Standing<'a> {
     polls: u64,
-    last: Option<&'a Poll>,
+    last: Option<PollPlace<'a>>,
     // Whether the last poll's part shows that it blocked the thread.
     blocked: bool,
     logged: usize,
@@ -106,15 +106,54 @@ fn logged_after(logged: usize, poll: &Poll) -> usize
 }
 
 /// How far a thread has come after one more poll.
-pub fn progress_after<'a>(standing: &Standing<'a>, poll: &'a Poll, blocked: bool) -> Standing<'a>
-    requires { standing.now.polls < 2 ^ 64 - 1 }
+pub fn progress_after<'a>(
+    standing: &Standing<'a>,
+    place: PollPlace<'a>,
+    poll: &Poll,
+    blocked: bool,
+) -> Standing<'a>
+    requires few { standing.now.polls < 2 ^ 64 - 1 }
+    requires placed { poll_of place.polls.now place.turn ≡ Some poll.now }
     ensures { result ≡ progress_after standing.now (asked poll.now blocked) }
 {
     Standing {
         polls: standing.polls + 1,
-        last: Some(poll),
+        last: Some(place),
         blocked,
         logged: logged_after(standing.logged, poll),
+    }
+}
+
+// What was asked last, if anything was.
+fn last_asked(standing: &Standing<'_>) -> Option<Asked>
+    ensures { result ≡ standing.now.last }
+{
+    match standing.last {
+        None => None,
+        Some(place) => place.asked(standing.blocked),
+    }
+}
+
+// Whether what was asked last has its answer, if anything was asked.
+fn answered(standing: &Standing<'_>) -> Option<bool>
+    ensures { result ≡ option_map (λ a. is_some a.answer) standing.now.last }
+{
+    match standing.last {
+        None => None,
+        Some(place) => place.is_answered(),
+    }
+}
+
+// Whether what was asked last blocks its thread, if anything was asked.
+fn blocks(standing: &Standing<'_>) -> Option<bool>
+    ensures { result ≡ option_map is_blocked standing.now.last }
+{
+    match standing.last {
+        None => None,
+        Some(place) => match place.is_refused() {
+            None => None,
+            Some(refused) => Some(!refused && standing.blocked),
+        },
     }
 }
 
@@ -122,9 +161,9 @@ pub fn progress_after<'a>(standing: &Standing<'a>, poll: &'a Poll, blocked: bool
 fn is_answered(standing: &Standing<'_>) -> bool
     ensures { IsTrue result ↔ MatchOption standing.now.last (Unit {0}) (λ a. is_some a.answer ≡ true) }
 {
-    match standing.last {
+    match answered(standing) {
         None => true,
-        Some(poll) => poll.answer.is_some(),
+        Some(is) => is,
     }
 }
 
@@ -132,9 +171,9 @@ fn is_answered(standing: &Standing<'_>) -> bool
 fn is_unanswered(standing: &Standing<'_>) -> bool
     ensures { IsTrue result ↔ MatchOption standing.now.last (Unit {0}) (λ a. is_some a.answer ≡ false) }
 {
-    match standing.last {
+    match answered(standing) {
         None => true,
-        Some(poll) => poll.answer.is_none(),
+        Some(is) => !is,
     }
 }
 
@@ -205,20 +244,20 @@ pub fn is_logged(line: &ThreadEnd, standing: &Standing<'_>, poll: &Poll) -> bool
     standing.logged >= LOG_LIMIT || is_logged_at(line, standing.logged, poll)
 }
 
-// Whether a thread is blocked by a poll.
-fn is_blocked(poll: &Poll, blocked: bool) -> bool
-    ensures { result ≡ is_blocked (asked poll.now blocked) }
+// Whether a thread is blocked by what it asked.
+fn is_blocked(asked: &Asked) -> bool
+    ensures { result ≡ is_blocked asked.now }
 {
-    !is_refused(&poll.answer) && blocked
+    !is_refused(&asked.answer) && asked.blocked
 }
 
 /// Whether a thread may rest.
 pub fn rests(standing: &Standing<'_>) -> bool
     ensures { IsTrue result ↔ Rests standing.now }
 {
-    match standing.last {
+    match blocks(standing) {
         None => false,
-        Some(poll) => is_blocked(poll, standing.blocked),
+        Some(is) => is,
     }
 }
 
@@ -229,17 +268,17 @@ fn may_fault(number: u8, ask: &Ask) -> bool
     (number == 19 && (is_exit(ask) || may_block(ask))) || (number == 20 && may_block(ask))
 }
 
-// Whether a thread may be in this state whose last poll was this.
-fn may_end_after(state: ThreadState, poll: &Poll, blocked: bool) -> bool
-    ensures { result ≡ may_end_after state (asked poll.now blocked) }
+// Whether a thread may be in this state that asked this last.
+fn may_end_after(state: ThreadState, asked: &Asked) -> bool
+    ensures { result ≡ may_end_after state asked.now }
 {
     match state {
-        ThreadState::Ready => is_blocked(poll, blocked) && may_block(&poll.ask),
-        ThreadState::Waiting => is_blocked(poll, blocked) && may_wait(&poll.ask),
-        ThreadState::Running => !is_exit(&poll.ask),
-        ThreadState::Exited => is_exit(&poll.ask),
+        ThreadState::Ready => is_blocked(asked) && may_block(&asked.ask),
+        ThreadState::Waiting => is_blocked(asked) && may_wait(&asked.ask),
+        ThreadState::Running => !is_exit(&asked.ask),
+        ThreadState::Exited => is_exit(&asked.ask),
         ThreadState::Faulted(fault) => {
-            is_blocked(poll, blocked) && may_fault(fault.number(), &poll.ask)
+            is_blocked(asked) && may_fault(fault.number(), &asked.ask)
         }
     }
 }
@@ -248,9 +287,9 @@ fn may_end_after(state: ThreadState, poll: &Poll, blocked: bool) -> bool
 fn may_end(state: ThreadState, standing: &Standing<'_>) -> bool
     ensures { result ≡ may_end state standing.now.last }
 {
-    match standing.last {
+    match last_asked(standing) {
         None => matches!(state, ThreadState::Ready),
-        Some(poll) => may_end_after(state, poll, standing.blocked),
+        Some(asked) => may_end_after(state, &asked),
     }
 }
 

@@ -3,7 +3,8 @@ ghost use Rattle.lwkt_verdict.specs.Threads.{slot_of, has_ended};
 ghost use Rattle.lwkt_verdict.specs.Run.{poll_of, whose, AreListed, EndsEarly, GoesRound, AreRounds, KeepsPace};
 
 use crate::plans::slot_of;
-use crate::turns::{Pace, Poll, ThreadEnd, Turn, poll_of};
+use crate::poll_lists::PollList;
+use crate::turns::{Pace, ThreadEnd, Turn, poll_of};
 use lwkt_base::ThreadState;
 
 // Whether a line is of a thread that can be, and comes after those before it.
@@ -42,14 +43,20 @@ fn all_ended(lines: &[ThreadEnd]) -> bool
 }
 
 // Whether no turn has an ask.
-fn none_asked(polls: &[Poll], turns: &[Turn]) -> bool
+fn none_asked(polls: &PollList, turns: &[Turn]) -> bool
     ensures { IsTrue result ↔ All (λ turn. is_some (poll_of polls.now turn) ≡ false) turns.now }
 {
     turns.iter().all(|turn| poll_of(polls, turn).is_none())
 }
 
 // Whether the rounds end before the script's are used up.
-fn ends_early(polls: &[Poll], cpus: usize, limit: u32, turns: &[Turn], lines: &[ThreadEnd]) -> bool
+fn ends_early(
+    polls: &PollList,
+    cpus: usize,
+    limit: u32,
+    turns: &[Turn],
+    lines: &[ThreadEnd],
+) -> bool
     requires { cpus ≤ 8 }
     ensures { IsTrue result ↔ EndsEarly polls.now cpus limit turns.now lines.now }
 {
@@ -73,7 +80,7 @@ fn goes_round(cpus: usize, order: &[u8]) -> bool
 
 // Whether the turns of an order are whole rounds, at least one, and the script's or fewer.
 fn are_rounds(
-    polls: &[Poll],
+    polls: &PollList,
     cpus: usize,
     limit: u32,
     order: &[u8],
@@ -95,7 +102,7 @@ fn are_rounds(
 /// Whether turns follow one another as they should.
 pub fn keeps_pace(
     pace: Pace,
-    polls: &[Poll],
+    polls: &PollList,
     cpus: usize,
     order: &[u8],
     turns: &[Turn],

@@ -1,7 +1,7 @@
-ghost use Rattle.std.specs.Prelude.{◌≡◌};
-ghost use Rattle.std.specs.Option.{option_copied};
+ghost use Rattle.std.specs.Prelude.{◌≡◌, Some, None, if◌then◌else◌};
 ghost use Rattle.lwkt_verdict.specs.Run.{poll_of};
 
+use crate::poll_lists::PollList;
 use lwkt_base::{Answer, Ask, CpuId, Entry, ThreadId, ThreadState};
 
 /// What a script says of one of its threads. The threads lie as in the script; a thread's number is its place among those
@@ -30,6 +30,20 @@ pub struct Poll {
     pub thread: ThreadId,
 }
 
+impl Poll {
+    /// A poll that nobody made, as room for another.
+    pub(crate) fn unasked() -> Self {
+        Poll {
+            answer: None,
+            ask: Ask::Exit,
+            thread: ThreadId {
+                cpu: CpuId(0),
+                thread: 0,
+            },
+        }
+    }
+}
+
 /// One turn of a processor, which an order of processors names by the turn's place. The polls lie in a list of their own, since
 /// most turns of a long run may have none.
 #[derive(Clone, Copy, Debug, PartialEq, Eq)]
@@ -50,9 +64,20 @@ pub enum Pace {
     Named,
 }
 
+/// Writes the poll of a turn, if it has one, and says whether it has.
+#[inline(always)]
+pub(crate) fn read_poll(polls: &PollList, turn: &Turn, poll: &mut Poll) -> bool
+    ensures { poll_of polls.now turn.now ≡ (if result then Some poll.new else None) }
+{
+    match turn.poll {
+        None => false,
+        Some(place) => polls.read(place as usize, poll),
+    }
+}
+
 /// The poll of a turn, by its place among the polls.
-pub fn poll_of<'a>(polls: &'a [Poll], turn: &Turn) -> Option<&'a Poll>
-    ensures { option_copied result ≡ poll_of polls.now turn.now }
+pub fn poll_of(polls: &PollList, turn: &Turn) -> Option<Poll>
+    ensures { result ≡ poll_of polls.now turn.now }
 {
     match turn.poll {
         None => None,

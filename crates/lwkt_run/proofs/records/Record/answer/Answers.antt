@@ -1,29 +1,18 @@
-use Rattle.std.proofs.Common.{refl, sym, arith}
-use Rattle.lwkt_run.proofs.KeepMoves.{place_within, place_told, poll_at, places_set, some_answered, none_answered}
+use Rattle.std.proofs.Common.{List, sym}
+use Rattle.lwkt_core.specs.Machine.{changed}
+use Rattle.lwkt_verdict.specs.declared.turns.Poll.{Poll}
+use Rattle.lwkt_run.specs.Keeping.{with_answer}
+use Rattle.lwkt_run.proofs.KeepMoves.{ArePlaces, place_told, places_changed, either_way, none_answered}
 use Rattle.lwkt_run.proofs.records.Record.answer.Goals as goal
-
-pub index_mut-requires : goal.index_mut-requires
-index_mut-requires c =
-    let s = c.args.self.now in
-    let within = place_within c.args.slot s.polls.items c.in-Some.place (place_told s.last s.polls.items c.args.slot _ s.places c.requires c.in-Some.is) in
-    omega (arith, within, s.polls.ok)
 
 pub invariant_of-self : goal.invariant_of-self
 invariant_of-self c =
     let s = c.args.self.now in
-    let within = place_within c.args.slot s.polls.items c.in-Some.place (place_told s.last s.polls.items c.args.slot _ s.places c.requires c.in-Some.is) in
-    let at = poll_at s.polls.items c.in-Some.place _ c.index_mut.result.now within c.index_mut.ensures.value in
-    record { places = places_set s.last s.polls.items c.in-Some.place c.index_mut.result.now _ s.places at refl }
-
-pub returns-in-Some-clause-polls : goal.returns-in-Some-clause-polls
-returns-in-Some-clause-polls c =
-    let s = c.args.self.now in
-    let is = place_told s.last s.polls.items c.args.slot _ s.places c.requires c.in-Some.is in
-    let within = place_within c.args.slot s.polls.items c.in-Some.place is in
-    let at = poll_at s.polls.items c.in-Some.place _ c.index_mut.result.now within c.index_mut.ensures.value in
-    sym (some_answered c.args.slot c.args.told s.polls.items c.in-Some.place c.index_mut.result.now is at)
+    let set : List Poll = changed (with_answer c.args.told.now) s.polls c.in-Some.place in
+    let IsTold : List Poll → Type 0 = λ ps. ArePlaces s.last ps in
+    record { places = either_way c.set_answer.result c.set_answer.new.self set s.polls IsTold c.set_answer.ensures.ok c.set_answer.ensures.err (places_changed s.last s.polls c.in-Some.place c.args.told.now s.places) s.places }
 
 pub returns-in_default-clause-polls : goal.returns-in_default-clause-polls
 returns-in_default-clause-polls c =
     let s = c.args.self.now in
-    sym (none_answered c.args.slot c.args.told s.polls.items (place_told s.last s.polls.items c.args.slot _ s.places c.requires c.in_default.is))
+    sym (none_answered c.args.slot c.args.told.now s.polls (place_told s.last s.polls c.args.slot _ s.places c.requires c.in_default.is))

@@ -1,0 +1,87 @@
+-- Asks and answers without room for a record, and the polls that are kept by them (own).
+use Rattle.std.specs.Prelude.{◌≡◌, ℕ, ◌<◌, Bool, true, false, List, map, ◌++◌, get_or, Option, Some, None}
+use Rattle.lwkt_base.specs.declared.asks.Ask.{Ask}
+use Rattle.lwkt_base.specs.declared.asks.Ask.TheVariants.{Get, GetShared, TryGet, Rel, Swap, Read, Write, Add, ReadBlob, WriteBlob, Send, Do, Reply, Abort, IsAborted, DropMsg, GetPort, WaitPort, Yield, Exit}
+use Rattle.lwkt_base.specs.declared.asks.Item.TheVariants.{Request, Answered}
+use Rattle.lwkt_base.specs.declared.asks.Answer.{Answer}
+use Rattle.lwkt_base.specs.declared.asks.Answer.TheVariants.{Begin, Done, Value, Bytes, Dropped, Got, NoMsg, Refused}
+use Rattle.lwkt_verdict.specs.declared.turns.Poll.{Poll}
+use Rattle.lwkt_verdict.specs.declared.shorts.ShortAsk.{ShortAsk}
+use Rattle.lwkt_verdict.specs.declared.shorts.ShortAsk.TheVariants.{Get as ShortGet, GetShared as ShortGetShared, TryGet as ShortTryGet, Rel as ShortRel, Swap as ShortSwap, Read as ShortRead, Write as ShortWrite, Add as ShortAdd, ReadBlob as ShortReadBlob, Send as ShortSend, Do as ShortDo, Reply as ShortReply, Abort as ShortAbort, IsAborted as ShortIsAborted, DropMsg as ShortDropMsg, GetPort as ShortGetPort, WaitPort as ShortWaitPort, Yield as ShortYield, Exit as ShortExit, Long as LongAsk}
+use Rattle.lwkt_verdict.specs.declared.shorts.ShortAnswer.{ShortAnswer}
+use Rattle.lwkt_verdict.specs.declared.shorts.ShortAnswer.TheVariants.{NotYet, Begin as ShortBegin, Done as ShortDone, Value as ShortValue, Request as ShortRequest, Answered as ShortAnswered, NoMsg as ShortNoMsg, Refused as ShortRefused, Long as LongAnswer}
+use Rattle.lwkt_verdict.specs.declared.poll_lists.Row.{Row}
+
+-- the asks that are too long for a row: those with a record
+abbrev pub is_long_ask : Ask → Bool
+is_long_ask (WriteBlob tok blob) = true
+is_long_ask _ = false
+
+-- the answers that are too long for a row: those with a record, of a token or of a message
+abbrev pub is_long_answer : Answer → Bool
+is_long_answer (Bytes blob) = true
+is_long_answer (Dropped msg rec) = true
+is_long_answer _ = false
+
+-- the ask that a short one stands for, where the long ones are these
+abbrev pub ask_of : List Ask → ShortAsk → Ask
+ask_of longs (ShortGet tok) = Get tok
+ask_of longs (ShortGetShared tok) = GetShared tok
+ask_of longs (ShortTryGet tok) = TryGet tok
+ask_of longs (ShortRel tok) = Rel tok
+ask_of longs ShortSwap = Swap
+ask_of longs (ShortRead tok cell) = Read tok cell
+ask_of longs (ShortWrite tok cell value) = Write tok cell value
+ask_of longs (ShortAdd tok more) = Add tok more
+ask_of longs (ShortReadBlob tok) = ReadBlob tok
+ask_of longs (ShortSend msg to flags call) = Send msg to call flags
+ask_of longs (ShortDo msg to call) = Do msg to call
+ask_of longs (ShortReply msg error outcome) = Reply msg error outcome
+ask_of longs (ShortAbort msg) = Abort msg
+ask_of longs (ShortIsAborted msg) = IsAborted msg
+ask_of longs (ShortDropMsg msg) = DropMsg msg
+ask_of longs ShortGetPort = GetPort
+ask_of longs ShortWaitPort = WaitPort
+ask_of longs ShortYield = Yield
+ask_of longs ShortExit = Exit
+ask_of longs (LongAsk place) = get_or longs place Exit
+
+-- the answer that a short one stands for, if it is there, where the long ones are these
+abbrev pub answer_of : List Answer → ShortAnswer → Option Answer
+answer_of longs NotYet = None
+answer_of longs ShortBegin = Some Begin
+answer_of longs ShortDone = Some Done
+answer_of longs (ShortValue value) = Some (Value value)
+answer_of longs (ShortRequest msg call) = Some (Got (Request msg call))
+answer_of longs (ShortAnswered msg error outcome) = Some (Got (Answered msg error outcome))
+answer_of longs ShortNoMsg = Some NoMsg
+answer_of longs (ShortRefused fault) = Some (Refused fault)
+answer_of longs (LongAnswer place) = Some (get_or longs place Begin)
+
+-- the place of a long ask is one of so many
+abbrev pub IsAskIn : ℕ → ShortAsk → Type 0
+IsAskIn many (LongAsk place) = place < many
+IsAskIn many _ = Unit {0}
+
+-- the place of a long answer is one of so many
+abbrev pub IsAnswerIn : ℕ → ShortAnswer → Type 0
+IsAnswerIn many (LongAnswer place) = place < many
+IsAnswerIn many _ = Unit {0}
+
+-- the poll that a row stands for, where the long asks and answers are these
+abbrev pub poll_in : List Ask → List Answer → Row → Poll
+poll_in asks answers row = record { answer = answer_of answers row.answer; ask = ask_of asks row.ask; thread = row.thread }
+
+-- the polls that rows stand for
+abbrev pub polls_in : List Ask → List Answer → List Row → List Poll
+polls_in asks answers rows = map (poll_in asks answers) rows
+
+-- a row's ask and answer are there, where there are so many long ones
+pub record IsRowIn (asks answers : ℕ) (row : Row) : Type 0 where
+  pub ask : IsAskIn asks row.ask
+  pub answer : IsAnswerIn answers row.answer
+
+-- a list has more behind what it had, or nothing more
+pub record Grows {A : Type 0} (old new : List A) : Type 0 where
+  pub more : List A
+  pub is : new ≡ old ++ more
