@@ -145,7 +145,7 @@ impl Sheet {
 
     /// Whether this is a run of its script.
     pub fn is_run(&self, alloc: Global) -> Result<bool, Fault> {
-        let opening = State::open(
+        let mut state = State::open(
             alloc,
             self.tokens.as_slice(),
             self.messages.as_slice(),
@@ -157,7 +157,7 @@ impl Sheet {
             self.plans.as_slice(),
             Pace::Rounds(self.limit),
             order.as_slice(),
-            opening,
+            &mut state,
             &polls,
             self.turns.as_slice(),
             self.trace.as_slice(),

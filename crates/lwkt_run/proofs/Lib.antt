@@ -16,3 +16,4 @@ pub mod ThreadedLemmas
 pub mod ThreadedMoves
 pub mod ToldMoves
 pub mod TurnMoves
+pub mod VerdictMoves

@@ -1,4 +1,5 @@
-ghost use Rattle.std.specs.Prelude.{◌≡◌, IfOk};
+ghost use Rattle.std.specs.Prelude.{◌≡◌, ◌⊎◌, ℕ, length, IfOk};
+ghost use Rattle.lwkt_core.specs.Trace.{Closes, IsLawfulTrace, FailsAt};
 ghost use Rattle.lwkt_run.specs.Judging.{ArePlansOf, AreEndsOf, Judges};
 
 use crate::records::Record;
@@ -57,9 +58,33 @@ pub fn ends_of(alloc: Global, lines: &[ThreadLine]) -> Result<Vec<ThreadEnd>, Al
     Ok(ends)
 }
 
+// The verdict on a trace whose turns are no run of the script.
+fn failure_of(opening: State, last: &Final, trace: &[Event]) -> Verdict
+    ensures { (index : ℕ) × ((result ≡ Verdict.Unlawful index) × (FailsAt opening trace.now last.now index ⊎ (IsLawfulTrace opening trace.now last.now × (index ≡ length trace.now)))) }
+{
+    match check(opening, trace, last) {
+        Ok(()) => Verdict::Unlawful { index: trace.len() },
+        Err(Fault::Unlawful { index }) => Verdict::Unlawful { index },
+        // it has no other refusal
+        Err(_) => Verdict::Unlawful { index: 0 },
+    }
+}
+
+// The verdict on a trace that has led its opening to this state, and whose turns are a run of the script.
+fn close_of(state: &State, last: &Final, trace: &[Event]) -> Verdict
+    ensures { (Closes state.now last.now × (result ≡ Verdict.Lawful)) ⊎ ((¬ Closes state.now last.now) × (result ≡ Verdict.Unlawful (length trace.now))) }
+{
+    if state.closes(last) {
+        Verdict::Lawful
+    } else {
+        Verdict::Unlawful { index: trace.len() }
+    }
+}
+
 /// The verdict on a run: `Lawful` if the trace leads from the opening to the closing values and the turns are a run of the
 /// script's threads along the order, at this pace, over it; else the index of the first event that can't happen, or the number of
-/// events, if the close or the run alone isn't so. Each check needs an opening of its own.
+/// events, if the close or the run alone isn't so. The check of the turns plays the trace; only where it says no is the trace
+/// played from another opening, for the index.
 pub fn verdict_of(
     opening: State,
     again: State,
@@ -74,24 +99,19 @@ pub fn verdict_of(
     requires { again ≡ opening }
     ensures { Judges result opening pace order.now plans.now ends.now last.now trace.now kept.now.polls kept.now.turns.items }
 {
-    match check(opening, trace, last) {
-        Ok(()) => {}
-        Err(Fault::Unlawful { index }) => return Verdict::Unlawful { index },
-        // it has no other refusal
-        Err(_) => return Verdict::Unlawful { index: 0 },
-    }
+    let mut state = opening;
     if is_script_run(
         plans,
         pace,
         order,
-        again,
+        &mut state,
         &kept.polls,
         &kept.turns,
         trace,
         ends,
     ) {
-        Verdict::Lawful
+        close_of(&state, last, trace)
     } else {
-        Verdict::Unlawful { index: trace.len() }
+        failure_of(again, last, trace)
     }
 }

@@ -1,6 +1,7 @@
 ghost use Rattle.std.specs.Prelude.{◌≡◌, ℕ, ◌<◌, ◌≤◌, ◌+◌, ◌*◌, ◌-◌, ◌^◌, ◌%◌, ◌↔◌, IsTrue, List, [], ◌∷◌, ◌++◌, length, take, All, MatchOption, Some, None, if◌then◌else◌};
 ghost use Rattle.std.specs.Option.{option_copied};
 ghost use Rattle.lwkt_core.specs.Events.{cpu_of};
+ghost use Rattle.lwkt_core.specs.Trace.{Run};
 ghost use Rattle.lwkt_verdict.specs.declared.progress.Piece.{Piece};
 ghost use Rattle.lwkt_verdict.specs.Parts.{after_all};
 ghost use Rattle.lwkt_verdict.specs.Threads.{slot_of};
@@ -131,12 +132,13 @@ fn closes(
 ) -> bool
     requires homes { AreHomes plans.now lines.now homes.now }
     requires shows { (before : List Piece) × ShowsProgress before table.now }
-    ensures { (before : List Piece) → ShowsProgress before table.now → (IsTrue result ↔ EndsRun plans.now lines.now state.old before stop.now) }
+    ensures right { (before : List Piece) → ShowsProgress before table.now → (IsTrue result ↔ EndsRun plans.now lines.now state.old before stop.now) }
+    ensures moved { IsTrue result → state.new ≡ after_all state.old stop.now }
 {
     goes_quietly(state, stop) && all_end(plans, lines, homes, table)
 }
 
-// Whether the turns are those of a run, over a trace from this machine.
+// Whether the turns are those of a run, over a trace from this machine, which the trace then has led on.
 fn runs<'a>(
     plans: &[ThreadPlan],
     lines: &[ThreadEnd],
@@ -152,7 +154,8 @@ fn runs<'a>(
     requires processors { All (λ x. x < 8) order.now }
     requires homes { AreHomes plans.now lines.now homes.now }
     requires shows { ShowsProgress [] table.old }
-    ensures { IsTrue result ↔ Runs plans.now lines.now polls.now order.now state.old [] turns.now trace.now }
+    ensures right { IsTrue result ↔ Runs plans.now lines.now polls.now order.now state.old [] turns.now trace.now }
+    ensures led { IsTrue result → Run state.old trace.now state.new }
 {
     let mut rest = trace;
     let mut room = Poll::unasked();
@@ -180,8 +183,10 @@ fn start<'a>() -> [Standing<'a>; 128]
     Default::default()
 }
 
-// Whether the turns are a run of a script from this machine.
-fn is_run_from(
+/// Whether these turns, with their polls, are a run of a script with these threads along this order of processors, at this pace,
+/// over this trace from the opening, which ends as the lines of the threads say. If so, the trace has led the opening to the
+/// state that is left. Takes no memory; the work is in proportion to turns and events.
+pub fn is_script_run(
     plans: &[ThreadPlan],
     pace: Pace,
     order: &[u8],
@@ -191,7 +196,8 @@ fn is_run_from(
     trace: &[Event],
     lines: &[ThreadEnd],
 ) -> bool
-    ensures { IsTrue result ↔ IsScriptRun plans.now pace order.now state.old polls.now turns.now trace.now lines.now }
+    ensures right { IsTrue result ↔ IsScriptRun plans.now pace order.now state.old polls.now turns.now trace.now lines.now }
+    ensures led { IsTrue result → Run state.old trace.now state.new }
 {
     let cpus = state.cpus();
     if !are_listed(cpus, lines) {
@@ -215,23 +221,4 @@ fn is_run_from(
             )
         }
     }
-}
-
-/// Whether these turns, with their polls, are a run of a script with these threads along this order of processors, at this pace,
-/// over this trace from the opening, which ends as the lines of the threads say. Takes no memory; the work is in proportion to
-/// turns and events.
-pub fn is_script_run(
-    plans: &[ThreadPlan],
-    pace: Pace,
-    order: &[u8],
-    opening: State,
-    polls: &PollList,
-    turns: &[Turn],
-    trace: &[Event],
-    lines: &[ThreadEnd],
-) -> bool
-    ensures { IsTrue result ↔ IsScriptRun plans.now pace order.now opening polls.now turns.now trace.now lines.now }
-{
-    let mut state = opening;
-    is_run_from(plans, pace, order, &mut state, polls, turns, trace, lines)
 }
