@@ -104,56 +104,71 @@ fn packed(alloc: Global, polls: &[Poll]) -> Result<PollList, AllocError> {
     Ok(list)
 }
 
+// Whether the poll at a place comes out as it was put in.
+fn comes_out(list: &PollList, place: usize, poll: &Poll) -> bool {
+    let refused = matches!(poll.answer, Some(Answer::Refused(_)));
+    list.get(place) == Some(*poll)
+        && list.is_answered(place) == Some(poll.answer.is_some())
+        && list.is_refused(place) == Some(refused)
+}
+
+// Whether all polls come out as they were put in.
+fn all_come_out(list: &PollList, polls: &[Poll]) -> bool {
+    polls
+        .iter()
+        .enumerate()
+        .all(|(place, poll)| comes_out(list, place, poll))
+}
+
+// Whether there is no poll at a place.
+fn is_past(list: &PollList, place: usize) -> bool {
+    list.get(place).is_none()
+        && list.is_answered(place).is_none()
+        && list.is_refused(place).is_none()
+}
+
 #[test]
 fn polls_come_out_as_they_were_put_in(rt: HostRuntime) -> Result<(), Fail> {
     let alloc = rt.alloc();
     let polls = polls(alloc)?;
     let list = packed(alloc, polls.as_slice())?;
-    assert_eq!(rt; list.len(), polls.len());
-    for (place, poll) in polls.iter().enumerate() {
-        assert_eq!(rt; list.get(place), Some(*poll), "poll {place}");
-        assert_eq!(rt;
-            list.is_answered(place),
-            Some(poll.answer.is_some()),
-            "poll {place}"
-        );
-        let refused = matches!(poll.answer, Some(Answer::Refused(_)));
-        assert_eq!(rt; list.is_refused(place), Some(refused), "poll {place}");
-    }
-    assert_eq!(rt; list.get(polls.len()), None);
-    assert_eq!(rt; list.is_answered(polls.len()), None);
-    assert_eq!(rt; list.is_refused(polls.len()), None);
+    assert!(rt; list.len() == polls.len());
+    assert!(rt; all_come_out(&list, polls.as_slice()));
+    assert!(rt; is_past(&list, polls.len()));
     Ok(())
+}
+
+// Whether a poll of a list takes each of these answers in place of the one before.
+fn takes_each(
+    list: &mut PollList,
+    place: usize,
+    poll: &Poll,
+    answers: &[Option<Answer>],
+) -> Result<bool, AllocError> {
+    let mut all = true;
+    for answer in answers {
+        if let Some(told) = answer {
+            list.set_answer(place, told)?;
+            all = all && comes_out(list, place, &Poll { answer: *answer, ..*poll });
+        }
+    }
+    Ok(all)
 }
 
 #[test]
 fn an_answer_takes_the_place_of_another(rt: HostRuntime) -> Result<(), Fail> {
     let alloc = rt.alloc();
-    let ask = Ask::ReadBlob(TokId(0));
-    let mut list = PollList::new(alloc);
-    for _ in 0..3 {
-        list.push(TO, &ask)?;
-    }
-    for answer in &answers(alloc)? {
-        if let Some(answer) = answer {
-            list.set_answer(1, answer)?;
-            let want = Poll {
-                answer: Some(*answer),
-                ask,
-                thread: TO,
-            };
-            assert_eq!(rt; list.get(1), Some(want));
-        }
-    }
-    let unasked = Poll {
+    let unanswered = Poll {
         answer: None,
-        ask,
+        ask: Ask::ReadBlob(TokId(0)),
         thread: TO,
     };
+    let mut list = packed(alloc, &[unanswered, unanswered, unanswered])?;
+    let answers = answers(alloc)?;
+    assert!(rt; takes_each(&mut list, 1, &unanswered, answers.as_slice())?);
     list.set_answer(3, &Answer::Done)?;
-    assert_eq!(rt; list.len(), 3);
-    for place in [0, 2] {
-        assert_eq!(rt; list.get(place), Some(unasked));
-    }
+    assert!(rt; list.len() == 3);
+    assert!(rt; comes_out(&list, 0, &unanswered));
+    assert!(rt; comes_out(&list, 2, &unanswered));
     Ok(())
 }
