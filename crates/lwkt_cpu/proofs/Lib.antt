@@ -7,4 +7,6 @@ pub mod DriveMoves
 pub mod WakeMoves
 pub mod LawMoves
 pub mod ToldMoves
+pub mod TurnMoves
 pub mod ShutMoves
+pub mod SightMoves

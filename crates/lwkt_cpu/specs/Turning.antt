@@ -6,6 +6,7 @@ use Rattle.lwkt_base.specs.Holding.{Holding, holding_of, holds_nothing}
 use Rattle.lwkt_core.specs.declared.events.Event.{Event}
 use Rattle.lwkt_bank.specs.Seats.{BankId, holding}
 use Rattle.lwkt_hold.specs.Runs.{Ran as Runs}
+use Rattle.lwkt_port.specs.Posts.{IsSamePost}
 use Rattle.lwkt_ask.specs.Telling.{TellsMail}
 use Rattle.lwkt_cpu.specs.declared.phases.Phase.TheVariants.{Live}
 use Rattle.lwkt_cpu.specs.declared.answers.Turned.{Turned}
@@ -70,7 +71,7 @@ LacksRoom t = vec_capacity t < vec_len t + 4096
 
 -- a whole turn: the trace is given room for 4,096 events, mail is taken in, and then the turn is made; each event is one of the seat's steps, and
 -- after it the seat holds what a front of one thread's list holds; at its end the seat holds exactly the list of the thread that runs, in
--- its modes, or nothing if none runs
+-- its modes, or nothing if none runs; and the ports are still the same ones, over the same lanes
 pub record MakesTurn {B : Type 0} (polled : B → Answer → Ask → B → Type 0) (bank : BankId) (old new : Processor B) (t u : Vec Event Global) (turned : Turned) : Type 0 where
   pub room : Vec Event Global
   pub same : room.items ≡ t.items
@@ -80,4 +81,5 @@ pub record MakesTurn {B : Type 0} (polled : B → Answer → Ask → B → Type 
   pub turns : Turns polled bank mid new v u turned
   pub ran : Runs (IsOfThread old.threads new.threads) 4096 old.seat new.seat t u
   pub told : TellsMail old.post.seat new.post.seat t.items u.items
+  pub ports : IsSamePost old.post new.post
   pub rest : IsAtRest new

@@ -2,7 +2,8 @@
 //!
 //! Words: a *turn* takes mail in, chooses a thread and polls its body once; a *search* tries the lists of the threads that
 //! are ready, from the *cursor* on, once round; a thread is *worn* if its list met a last generation; a *phase* is what a
-//! thread is doing; a processor is *at rest* between turns; a *stop* ends its threads.
+//! thread is doing; a processor is *at rest* between turns; a *stop* ends its threads; one processor *sees* what another, that
+//! is at hand too, has sent to it.
 #![tactic(auto)]
 
 pub mod answers;
@@ -15,6 +16,7 @@ pub mod laws;
 pub mod phases;
 mod polls;
 mod searches;
+pub mod sights;
 pub mod stops;
 pub mod threads;
 pub mod turns;
@@ -24,3 +26,4 @@ pub use answers::{Drove, Status, Turned};
 pub use counts::Progress;
 pub use cpus::Cpu;
 pub use lwkt_ask::Body;
+pub use turns::TURN_EVENTS;

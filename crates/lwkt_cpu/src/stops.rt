@@ -54,6 +54,7 @@ impl<B> Cpu<B> {
         ensures halts { Halts self.old self.new trace.old trace.new place }
         ensures ran { Ran (IsOfOne self.old.threads) 194 self.old.seat self.new.seat trace.old trace.new }
         ensures quiet { IsQuiet trace.old.items trace.new.items }
+        ensures same { IsSamePost self.old.post self.new.post }
     {
         let thread = &mut self.threads[place];
         let next = exit(&mut self.hold, bank, &thread.list, trace);
@@ -72,6 +73,7 @@ impl<B> Cpu<B> {
         ensures none { self.new.running ≡ None }
         ensures bodies { self.new.bodies ≡ self.old.bodies }
         ensures post { self.new.post.seat ≡ self.old.post.seat }
+        ensures same { IsSamePost self.old.post self.new.post }
     {
         match self.running {
             Some(place) => self.halt(bank, place, trace),
@@ -90,6 +92,7 @@ impl<B> Cpu<B> {
         ensures post { self.new.post.seat ≡ self.old.post.seat }
         ensures none { self.new.running ≡ None }
         ensures empty { holding self.new.seat ≡ holds_nothing }
+        ensures same { IsSamePost self.old.post self.new.post }
     {
         close_all(&mut self.ports, &self.threads, ToClose::Others);
         stop_all(&mut self.threads);
@@ -107,6 +110,7 @@ impl<B> Cpu<B> {
         ensures grew { Grew (cpu_of self.old.post.seat) 64 trace.old trace.new }
         ensures mine { cpu_of self.old.post.seat ≡ self.old.seat.cpu }
         ensures told { Tells self.old.post.seat self.new.post.seat trace.old.items trace.new.items }
+        ensures same { IsSamePost self.old.post self.new.post }
     {
         self.ports.send_owed(book, trace);
     }
@@ -124,6 +128,7 @@ impl<B> Cpu<B> {
         ensures only { OnErr result (result ≡ Err Fault.Memory) }
         ensures ran { Ran (IsMailed self.old.threads) 258 self.old.seat self.new.seat trace.old trace.new }
         ensures told { TellsMail self.old.post.seat self.new.post.seat trace.old.items trace.new.items }
+        ensures same { IsSamePost self.old.post self.new.post }
     {
         if trace.reserve(TURN_EVENTS).is_err() {
             return Err(Fault::Memory);

@@ -2,6 +2,7 @@
 ghost use Rattle.std.specs.Prelude.{◌≡◌, ◌⊎◌, ℕ, ◌+◌, ◌<◌, ◌≤◌, ◌↔◌, IsTrue, IfOk, IfSome, OnErr, Some, None, Err, vec_len, vec_capacity};
 ghost use Rattle.lwkt_bank.specs.Seats.{id_of, bank_of};
 ghost use Rattle.lwkt_hold.specs.Runs.{Ran};
+ghost use Rattle.lwkt_port.specs.Posts.{IsSamePost};
 ghost use Rattle.lwkt_cpu.specs.Processors.{AllOver, IsAtRest};
 ghost use Rattle.lwkt_cpu.specs.Searches.{IsOfOne};
 ghost use Rattle.lwkt_cpu.specs.Turning.{cursor_after, Chooses, RunsOne, IsMailed, IsOfThread, HasSameEvents, LacksRoom, MakesTurn};
@@ -22,7 +23,7 @@ use lwkt_core::Event;
 use lwkt_msg::MsgBook;
 
 /// The room that a turn makes in its trace.
-pub(crate) const TURN_EVENTS: usize = 4096;
+pub const TURN_EVENTS: usize = 4096;
 
 /// The notes that a turn takes in.
 const TURN_NOTES: usize = 16;
@@ -57,6 +58,7 @@ impl<B> Cpu<B> {
         ensures told { TellsMail self.old.post.seat self.new.post.seat trace.old.items trace.new.items }
         ensures woken { AreWoken self.old.threads self.new.threads }
         ensures table { self.new.post.seat.table ≡ self.old.post.seat.table }
+        ensures same { IsSamePost self.old.post self.new.post }
     {
         let count = self.ports.take_in(book, TURN_NOTES, trace);
         self.popped = self.popped.wrapping_add(count as u64);
@@ -73,6 +75,7 @@ impl<B> Cpu<B> {
         ensures mail { self.new.post.seat ≡ self.old.post.seat }
         ensures ran { Ran (IsOfOne self.old.threads) 1024 self.old.seat self.new.seat trace.old trace.new }
         ensures quiet { IsQuiet trace.old.items trace.new.items }
+        ensures same { IsSamePost self.old.post self.new.post }
     {
         match self.running {
             Some(place) => Some(place),
@@ -99,6 +102,7 @@ impl<B: Body> Cpu<B> {
         ensures ran { Ran (IsOfThread self.old.threads self.new.threads) 320 self.old.seat self.new.seat trace.old trace.new }
         ensures told { TellsMail self.old.post.seat self.new.post.seat trace.old.items trace.new.items }
         ensures table { self.new.post.seat.table ≡ self.old.post.seat.table }
+        ensures same { IsSamePost self.old.post self.new.post }
         ensures rest { IsAtRest self.new }
     {
         let body = &mut self.bodies[place];
@@ -137,19 +141,33 @@ impl<B: Body> Cpu<B> {
         ensures only { OnErr result (result ≡ Err Fault.Memory) }
         ensures of { bank_of self.new.seat ≡ bank_of self.old.seat }
         ensures table { self.new.post.seat.table ≡ self.old.post.seat.table }
+        ensures same { IsSamePost self.old.post self.new.post }
         ensures told { TellsMail self.old.post.seat self.new.post.seat trace.old.items trace.new.items }
     {
         if trace.reserve(TURN_EVENTS).is_err() {
             return Err(Fault::Memory);
         }
+        Ok(self.turn_in_room(bank, book, trace))
+    }
+
+    /// Makes a turn as `turn` does, with a trace that has room for 4,096 events. That it has is the caller's condition.
+    #[inline]
+    pub fn turn_in_room(&mut self, bank: &Bank, book: &MsgBook, trace: &mut Vec<Event>) -> Turned
+        requires of { bank_of self.old.seat ≡ id_of bank.now }
+        requires table { self.old.post.seat.table ≡ book.now.table }
+        requires room { vec_len trace.old + 4096 ≤ vec_capacity trace.old }
+        ensures makes { MakesTurn B.polled (id_of bank.now) self.old self.new trace.old trace.new result }
+        ensures of { bank_of self.new.seat ≡ bank_of self.old.seat }
+        ensures table { self.new.post.seat.table ≡ self.old.post.seat.table }
+    {
         self.take_mail(book, trace);
         match self.choose(bank, trace) {
             Some(place) => {
                 self.run_on(bank, book, place, trace);
-                Ok(Turned::Ran { thread: place })
+                Turned::Ran { thread: place }
             }
-            None if self.all_over() => Ok(Turned::AllExited),
-            None => Ok(Turned::Idle),
+            None if self.all_over() => Turned::AllExited,
+            None => Turned::Idle,
         }
     }
 }

@@ -7,5 +7,6 @@ pub mod OpenMoves
 pub mod PartMoves
 pub mod RetireMoves
 pub mod SeatMoves
+pub mod SightMoves
 pub mod StandMoves
 pub mod StopMoves

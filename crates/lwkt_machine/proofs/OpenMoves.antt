@@ -1,6 +1,7 @@
 -- What the openings of a bank and a book give is what processors are made of.
-use Rattle.std.proofs.Common.{◌≡◌, ℕ, ◌+◌, ◌≤◌, List, length, get_or, sym, ◌∙◌, subst, arith}
-use Rattle.std.proofs.lemmas.Option.{slice_get_within, get_or_from_slice_get}
+use Rattle.std.proofs.Common.{◌≡◌, ℕ, ◌+◌, ◌<◌, ◌≤◌, List, length, get_or, sym, ◌∙◌, subst, arith, Some}
+use Rattle.std.specs.Prelude.{slice_get}
+use Rattle.std.proofs.lemmas.Option.{slice_get_within, slice_get-get_or, get_or_from_slice_get}
 use Rattle.lwkt_base.specs.declared.openings.MsgSpec.{MsgSpec}
 use Rattle.lwkt_base.specs.declared.openings.TokSpec.{TokSpec}
 use Rattle.lwkt_bank.specs.declared.banks.Bank.{Bank}
@@ -9,10 +10,11 @@ use Rattle.lwkt_bank.specs.Seats.{BankId, id_of}
 use Rattle.lwkt_bank.specs.Gathered.{IsOpened as IsOpenedBank}
 use Rattle.lwkt_msg.specs.Desks.{Desk, Shelf, IsOpened, AreOpened}
 use Rattle.lwkt_script.specs.declared.scripts.ThreadSpec.{ThreadSpec}
+use Rattle.lwkt_port.specs.Sights.{AreEnds}
 use Rattle.lwkt_cpu.specs.Processors.{Processor}
 use Rattle.lwkt_machine.specs.Bodies.{Scripted}
-use Rattle.lwkt_machine.specs.Machines.{IsOf, AreParts}
-use Rattle.lwkt_machine.specs.Opened.{IsSeat, AreOpenedCpus}
+use Rattle.lwkt_machine.specs.Machines.{IsOf, AreAllJoined, AreParts}
+use Rattle.lwkt_machine.specs.Opened.{IsSeat, AreOpenedCpus, AreWired}
 use Rattle.lwkt_machine.specs.Seating.{SeatsFrom, DesksFrom, IsRest}
 use Rattle.lwkt_machine.specs.declared.seatings.Rest.{Rest}
 use Rattle.lwkt_machine.proofs.ListMoves.{all_from_get}
@@ -46,12 +48,25 @@ rest_first cpus tokens messages bank book rest opened given outs ins = record {
   ins_are = ins ∙ sym opened.as_many;
 }
 
+-- processors that are wired as they are opened are joined
+opened_joined : (cpus : List (Processor Scripted)) → AreWired cpus → ((k : ℕ) (p : Processor Scripted) → slice_get cpus k ≡ Some p → p.seat.cpu.0 ≡ k) → AreAllJoined cpus
+opened_joined cpus wired numbered i j s p at_s at_p =
+    let F : ℕ × ℕ → Type 0 = λ n. AreEnds n.0 n.1 s.post.lanes p.post.lanes in
+    let there : j < length s.post.lanes = omega (arith, wired.lines_are i s at_s, slice_get_within cpus j p at_p) in
+    let back : i < length p.post.lanes = omega (arith, wired.lines_are j p at_p, slice_get_within cpus i s at_s) in
+    subst F (λ k. (sym (numbered i s at_s) k, sym (numbered j p at_p) k)) (record {
+      there = there;
+      back = back;
+      one = λ d. (wired.lanes i j s p (get_or s.post.lanes j d) (get_or p.post.lanes i d) at_s at_p (slice_get-get_or s.post.lanes j d there) (slice_get-get_or p.post.lanes i d back)).one;
+    })
+
 -- processors as they are opened belong to their bank and book
-pub opened_parts : (seats : ℕ) (bank : BankId) (book : Shelf) (threads : List ThreadSpec) (cpus : List (Processor Scripted)) → seats ≡ length cpus → book.cpus ≡ length cpus → length cpus ≤ 8 → AreOpenedCpus bank book threads cpus → AreParts seats bank book cpus
-opened_parts seats bank book threads cpus seats_many mails_many few each = record {
+pub opened_parts : (seats : ℕ) (bank : BankId) (book : Shelf) (threads : List ThreadSpec) (cpus : List (Processor Scripted)) → seats ≡ length cpus → book.cpus ≡ length cpus → length cpus ≤ 8 → AreOpenedCpus bank book threads cpus → AreWired cpus → AreParts seats bank book cpus
+opened_parts seats bank book threads cpus seats_many mails_many few each wired = record {
   seats_are = seats_many;
   mails_are = mails_many;
   few = few;
   each = all_from_get (IsOf bank book) cpus (λ k p at. record { bank_is = (each k p at).seat.bank_is; table_is = (each k p at).desk.table });
   numbered = λ k p at. (each k p at).seat.number;
+  joined = opened_joined cpus wired (λ k p at. (each k p at).seat.number);
 }

@@ -1,57 +1,32 @@
--- One processor changes, and the parts of a machine still belong together.
-use Rattle.std.proofs.Common.{◌≡◌, ℕ, ◌<◌, List, length, set, refl, ap, sym, ◌∙◌, subst, inl, inr, arith, Some, Result, Ok, Err}
-use Rattle.std.specs.Prelude.{Vec, IfOk, OnErr, slice_get}
+-- One processor of a machine makes a turn, after it saw what the others have sent to it, and the parts of the machine still belong together.
+use Rattle.std.proofs.Common.{◌≡◌, ℕ, List, set, refl, Some}
+use Rattle.std.specs.Prelude.{Vec, slice_get}
 use Rattle.std.specs.declared.alloc.Global.{Global}
-use Rattle.std.proofs.lemmas.Bool.{cases_eq}
-use Rattle.std.proofs.lemmas.List.{length-set}
-use Rattle.std.proofs.lemmas.List.Elements.{All-set}
-use Rattle.std.proofs.lemmas.Result.{IfOk-weaker}
-use Rattle.lwkt_base.specs.declared.faults.Fault.{Fault}
-use Rattle.lwkt_base.specs.declared.names.CpuId.{CpuId}
+use Rattle.std.proofs.lemmas.Option.{slice_get_within}
 use Rattle.lwkt_core.specs.declared.events.Event.{Event}
-use Rattle.lwkt_bank.specs.Seats.{BankId, bank_of}
+use Rattle.lwkt_bank.specs.Seats.{BankId}
 use Rattle.lwkt_msg.specs.Desks.{Shelf}
 use Rattle.lwkt_cpu.specs.declared.answers.Turned.{Turned}
 use Rattle.lwkt_cpu.specs.Processors.{Processor}
-use Rattle.lwkt_cpu.specs.Turning.{HasSameEvents, MakesTurn}
-use Rattle.lwkt_cpu.proofs.PlaceMoves.{get_set_same, get_set_other, some_same}
+use Rattle.lwkt_cpu.specs.Turning.{MakesTurn}
 use Rattle.lwkt_machine.specs.Bodies.{Scripted, IsPolled}
-use Rattle.lwkt_machine.specs.Machines.{rig_of, IsOf, AreParts}
+use Rattle.lwkt_machine.specs.Ended.{AreSameCpus}
+use Rattle.lwkt_machine.specs.Machines.{rig_of, AreParts}
+use Rattle.lwkt_machine.specs.Sights.{SeesOthers}
 use Rattle.lwkt_machine.specs.Turns.{TurnsAt}
+use Rattle.lwkt_machine.proofs.SightMoves.{others_looked, looked_same, others_seen, seen_delivered}
+use Rattle.lwkt_machine.proofs.StopMoves.{same_set}
 
--- a processor is of the same bank and book, and has the same number
-pub record IsSameCpu (p q : Processor Scripted) : Type 0 where
-  pub bank : bank_of q.seat ≡ bank_of p.seat
-  pub table : q.post.seat.table ≡ p.post.seat.table
-  pub cpu : q.seat.cpu ≡ p.seat.cpu
+-- the processors are still the same ones after it
+pub turned_same : (bank : BankId) (olds mids : List (Processor Scripted)) (k : ℕ) (p q : Processor Scripted) (t u : Vec Event Global) (turned : Turned) → SeesOthers k olds mids → slice_get mids k ≡ Some p → MakesTurn IsPolled bank p q t u turned → AreSameCpus olds (set mids k q)
+turned_same bank olds mids k p q t u turned sees at made =
+    same_set olds mids k p q (slice_get_within mids k p at) at (record { bank = made.ran.bank; table = made.ports.seat.table; number = made.ran.cpu; ports = made.ports }) (looked_same olds mids (others_looked k olds mids sees))
 
-numbered_set : (cpus : List (Processor Scripted)) (k : ℕ) (p q : Processor Scripted) → k < length cpus → slice_get cpus k ≡ Some p → q.seat.cpu ≡ p.seat.cpu → ((j : ℕ) (x : Processor Scripted) → slice_get cpus j ≡ Some x → x.seat.cpu.0 ≡ j) → (j : ℕ) (x : Processor Scripted) → slice_get (set cpus k q) j ≡ Some x → x.seat.cpu.0 ≡ j
-numbered_set cpus k p q within at same each j x is = elim (cases_eq j k) [
-  | inl here ↦
-      let F : ℕ → Type 0 = λ i. slice_get (set cpus k q) i ≡ Some x in
-      let e : x ≡ q = some_same x q (Some x) refl (sym (subst F here is) ∙ get_set_same cpus k q within) in
-      ap (λ (y : Processor Scripted). y.seat.cpu.0) e ∙ ap (λ (y : CpuId). y.0) same ∙ each k p at ∙ sym here
-  | inr apart ↦ each j x (sym (get_set_other cpus k j q apart) ∙ is)
-]
-
--- a processor that is still the one that it was takes its place
-pub parts_set : (seats : ℕ) (bank : BankId) (book : Shelf) (cpus : List (Processor Scripted)) (k : ℕ) (p q : Processor Scripted) → k < length cpus → slice_get cpus k ≡ Some p → bank_of q.seat ≡ bank → q.post.seat.table ≡ book.table → q.seat.cpu ≡ p.seat.cpu → AreParts seats bank book cpus → AreParts seats bank book (set cpus k q)
-parts_set seats bank book cpus k p q within at of table same parts = record {
-  seats_are = parts.seats_are ∙ sym (length-set cpus k q);
-  mails_are = parts.mails_are ∙ sym (length-set cpus k q);
-  few = omega (arith, parts.few, length-set cpus k q);
-  each = All-set (IsOf bank book) cpus k q (record { bank_is = of; table_is = table }) parts.each;
-  numbered = numbered_set cpus k p q within at same parts.numbered;
+-- it is a turn of the machine
+pub turned_at : (seats : ℕ) (bank : BankId) (book : Shelf) (olds mids : List (Processor Scripted)) (k : ℕ) (p q : Processor Scripted) (t u : Vec Event Global) (turned : Turned) → AreParts seats bank book olds → SeesOthers k olds mids → slice_get mids k ≡ Some p → MakesTurn IsPolled bank p q t u turned → TurnsAt k (rig_of bank book olds) (rig_of bank book (set mids k q)) t u turned
+turned_at seats bank book olds mids k p q t u turned parts sees at made = record {
+  seen = mids;
+  sees = sees;
+  turns = record { before = p; now = q; at_before = at; does = made; cpus = refl; bank = refl; book = refl };
+  delivered = λ j s d e apart from. seen_delivered j 16 made.mail.count _ p.post made.mail.post made.room made.mail.v e (others_seen k olds mids sees parts.numbered p at j s d apart from) made.mail.takes;
 }
-
--- a turn keeps the processor's number
-pub turn_keeps_number : (bank : BankId) (p q : Processor Scripted) (t u : Vec Event Global) (r : Result Turned Fault) → IfOk r (λ turned. MakesTurn IsPolled bank p q t u turned) → OnErr r ((q ≡ p) × HasSameEvents t u) → q.seat.cpu ≡ p.seat.cpu
-turn_keeps_number bank p q t u (Ok turned) made err = made.ran.cpu
-turn_keeps_number bank p q t u (Err fault) ok same = ap (λ (x : Processor Scripted). x.seat.cpu) same.0
-
--- a turn of one processor is one of the machine
-pub turned_at : (bank : BankId) (book : Shelf) (cpus : List (Processor Scripted)) (k : ℕ) (p q : Processor Scripted) (t u : Vec Event Global) (r : Result Turned Fault) → slice_get cpus k ≡ Some p → IfOk r (λ turned. MakesTurn IsPolled bank p q t u turned) → IfOk r (λ turned. TurnsAt k (rig_of bank book cpus) (rig_of bank book (set cpus k q)) t u turned)
-turned_at bank book cpus k p q t u r at made =
-    IfOk-weaker r (λ turned. MakesTurn IsPolled bank p q t u turned) (λ turned. TurnsAt k (rig_of bank book cpus) (rig_of bank book (set cpus k q)) t u turned)
-    (λ turned yes. record { before = p; now = q; at_before = at; does = yes; cpus = refl; bank = refl; book = refl })
-    made

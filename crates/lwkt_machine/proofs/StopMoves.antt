@@ -9,16 +9,18 @@ use Rattle.lwkt_bank.specs.Seats.{BankId}
 use Rattle.lwkt_msg.specs.Desks.{Shelf}
 use Rattle.lwkt_cpu.specs.Processors.{Processor, AllOver}
 use Rattle.lwkt_cpu.proofs.PlaceMoves.{get_set_same, get_set_other, some_same}
+use Rattle.lwkt_cpu.proofs.SightMoves.{joined_stay}
+use Rattle.lwkt_cpu.proofs.WakeMoves.{post_none, post_then}
 use Rattle.lwkt_machine.specs.Bodies.{Scripted}
 use Rattle.lwkt_machine.specs.Machines.{IsOf, AreParts}
 use Rattle.lwkt_machine.specs.Ended.{IsSameCpu, AreSameCpus}
 use Rattle.lwkt_machine.proofs.ListMoves.{all_from_get}
 
 pub same_none : (cpus : List (Processor Scripted)) → AreSameCpus cpus cpus
-same_none cpus = record { as_many = refl; each = λ k q at. (q, (at, record { bank = refl; table = refl; number = refl })) }
+same_none cpus = record { as_many = refl; each = λ k q at. (q, (at, record { bank = refl; table = refl; number = refl; ports = post_none q.post })) }
 
 same_then : (p q r : Processor Scripted) → IsSameCpu p q → IsSameCpu q r → IsSameCpu p r
-same_then p q r a b = record { bank = b.bank ∙ a.bank; table = b.table ∙ a.table; number = b.number ∙ a.number }
+same_then p q r a b = record { bank = b.bank ∙ a.bank; table = b.table ∙ a.table; number = b.number ∙ a.number; ports = post_then p.post q.post r.post a.ports b.ports }
 
 -- one of them is another, and still the same
 pub same_set : (olds mids : List (Processor Scripted)) (k : ℕ) (p q : Processor Scripted) → k < length mids → slice_get mids k ≡ Some p → IsSameCpu p q → AreSameCpus olds mids → AreSameCpus olds (set mids k q)
@@ -56,6 +58,10 @@ parts_same seats bank book olds news same parts = record {
   numbered = λ k q at.
       let x = same.each k q at in
       ap (λ (i : _). i.0) x.1.1.number ∙ parts.numbered k x.0 x.1.0;
+  joined = λ i j s p at_s at_p.
+      let x = same.each i s at_s in
+      let y = same.each j p at_p in
+      joined_stay x.0 s y.0 p x.1.1.number y.1.1.number x.1.1.ports y.1.1.ports (parts.joined i j x.0 y.0 x.1.0 y.1.0);
 }
 
 pub on_err : {T E : Type 0} (r : Result T E) (P : Type 0) → P → OnErr r P

@@ -6,17 +6,19 @@ use Rattle.lwkt_ask.specs.Telling.{TellsMail}
 use Rattle.lwkt_bank.specs.Seats.{bank_of}
 use Rattle.lwkt_hold.specs.Runs.{Ran}
 use Rattle.lwkt_port.specs.Chains.{Chain}
+use Rattle.lwkt_port.specs.Posts.{IsSamePost}
 use Rattle.lwkt_cpu.specs.Processors.{Processor, AllOver}
 use Rattle.lwkt_cpu.specs.Turning.{IsMailed}
 use Rattle.lwkt_cpu.specs.Stopping.{Stops}
 use Rattle.lwkt_machine.specs.Bodies.{Scripted}
 use Rattle.lwkt_machine.specs.Machines.{Rig}
 
--- a processor is still the one that it was: of the same bank and book, with the same number
+-- a processor is still the one that it was: of the same bank and book, with the same number and over the same lanes
 pub record IsSameCpu (p q : Processor Scripted) : Type 0 where
   pub bank : bank_of q.seat ≡ bank_of p.seat
   pub table : q.post.seat.table ≡ p.post.seat.table
   pub number : q.seat.cpu ≡ p.seat.cpu
+  pub ports : IsSamePost p.post q.post
 
 -- the same of each processor of a list
 pub record AreSameCpus (olds news : List (Processor Scripted)) : Type 0 where

@@ -8,5 +8,6 @@ pub mod Machines
 pub mod Opened
 pub mod Retiring
 pub mod Seating
+pub mod Sights
 pub mod Standings
 pub mod Turns

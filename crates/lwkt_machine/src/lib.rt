@@ -13,6 +13,7 @@ pub mod laws;
 pub mod machines;
 pub mod openings;
 mod seatings;
+mod sights;
 pub mod standings;
 pub mod stops;
 

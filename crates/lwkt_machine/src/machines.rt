@@ -4,15 +4,16 @@ ghost use Rattle.lwkt_bank.specs.Seats.{id_of, cpus_of};
 ghost use Rattle.lwkt_cpu.specs.Processors.{IsAtRest};
 
 use crate::bodies::ScriptBody;
+use crate::sights::see_others;
 use lwkt_bank::Bank;
 use lwkt_base::Fault;
 use lwkt_core::Event;
-use lwkt_cpu::{Cpu, Status, Turned};
+use lwkt_cpu::{Cpu, Status, TURN_EVENTS, Turned};
 use lwkt_msg::MsgBook;
 use std::marker::Model;
 
 /// A bank, a book and the processors at them, by number, whose threads are those of a script. All of them always belong
-/// together.
+/// together: the processors are of the bank and the book, and joined by their lanes.
 #[derive(Drop)]
 pub struct Machine {
     pub(crate) bank: Bank,
@@ -82,7 +83,9 @@ impl Machine {
         Machine { bank, book, cpus }
     }
 
-    /// Makes a turn of a processor, as `Cpu::turn` does. That the processor is there is the caller's condition.
+    /// Makes a turn of a processor, as `Cpu::turn` does, which first sees what each other processor has put into the queue of its
+    /// lane to it: all of this is taken in, up to the 16 notes of a turn and the room of their ports' queues. That the processor is
+    /// there is the caller's condition.
     ///
     /// Refused with `Memory` where the trace can't be given room for 4,096 events; nothing has changed then.
     pub fn turn(&mut self, cpu: usize, trace: &mut Vec<Event>) -> Result<Turned, Fault>
@@ -94,6 +97,10 @@ impl Machine {
         ensures book { self.new.book ≡ self.old.book }
         ensures as_many { length self.new.cpus ≡ length self.old.cpus }
     {
-        self.cpus[cpu].turn(&self.bank, &self.book, trace)
+        if trace.reserve(TURN_EVENTS).is_err() {
+            return Err(Fault::Memory);
+        }
+        see_others(&mut self.cpus, cpu);
+        Ok(self.cpus[cpu].turn_in_room(&self.bank, &self.book, trace))
     }
 }

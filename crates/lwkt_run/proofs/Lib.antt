@@ -1,3 +1,4 @@
+pub mod ArriveMoves
 pub mod ChainMoves
 pub mod CloseMoves
 pub mod GatherMoves

@@ -18,11 +18,12 @@ use Rattle.lwkt_run.specs.Running.{WasPolled, HasPolled}
 
 -- the thread that a turn ran was polled, with the answer that was kept for it, and its body asked
 pub turn_polled : (cpu : ℕ) (old new : Rig) (t u : Vec Event Global) (turned : Turned) → TurnsAt cpu old new t u turned → HasPolled cpu new turned
-turn_polled cpu old new t u (Ran place) d =
+turn_polled cpu old new t u (Ran place) made =
+    let d = made.turns in
     let m = d.does in
     let mid = m.turns.0 in
     let runs = m.turns.1.1.1 in
-    let here : slice_get new.cpus cpu ≡ Some d.now = ap (λ (ps : List (Processor Scripted)). slice_get ps cpu) d.cpus ∙ get_set_same old.cpus cpu d.now (slice_get_within old.cpus cpu d.before d.at_before) in
+    let here : slice_get new.cpus cpu ≡ Some d.now = ap (λ (ps : List (Processor Scripted)). slice_get ps cpu) d.cpus ∙ get_set_same made.seen cpu d.now (slice_get_within made.seen cpu d.before d.at_before) in
     let long : length d.now.threads ≡ length mid.threads = ap length runs.threads ∙ length-set mid.threads place runs.now in
     let within : place < length d.now.threads = omega (arith, slice_get_within mid.threads place runs.before runs.at_before, long) in
     let few : place < 16 = omega (arith, within, m.rest.few) in

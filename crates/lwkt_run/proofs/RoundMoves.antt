@@ -1,6 +1,7 @@
 -- Turns and rounds keep the threads of a machine.
 use Rattle.std.proofs.Common.{◌≡◌, ℕ, zero, suc, ◌+◌, ◌<◌, ◌≤◌, List, [], ◌∷◌, length, set, refl, ap, sym, ◌∙◌, subst, inl, inr, arith, Option, Some, None}
 use Rattle.std.specs.Prelude.{Bool, true, false, Vec, slice_get}
+use Rattle.std.specs.List.{AllZip}
 use Rattle.std.specs.declared.alloc.Global.{Global}
 use Rattle.std.proofs.lemmas.Bool.{cases_eq}
 use Rattle.std.proofs.lemmas.List.{length-set}
@@ -13,18 +14,20 @@ use Rattle.lwkt_bank.specs.Seats.{BankId}
 use Rattle.lwkt_port.specs.Chains.{Chain}
 use Rattle.lwkt_cpu.specs.declared.answers.Turned.{Turned}
 use Rattle.lwkt_cpu.specs.declared.answers.Turned.TheVariants.{Ran, Idle, AllExited}
-use Rattle.lwkt_cpu.specs.Processors.{Processor}
+use Rattle.lwkt_cpu.specs.Processors.{Processor, AllOver}
 use Rattle.lwkt_cpu.specs.Driving.{Made}
 use Rattle.lwkt_cpu.specs.Searches.{point}
 use Rattle.lwkt_cpu.specs.Turning.{Chooses, Turns, MakesTurn}
 use Rattle.lwkt_cpu.specs.Waking.{Ward, ward, WakesAt}
 use Rattle.lwkt_cpu.proofs.SearchMoves.{finds_long}
+use Rattle.lwkt_cpu.proofs.SightMoves.{IsLooked}
 use Rattle.lwkt_cpu.proofs.PlaceMoves.{some_same, get_there, get_set_same, get_set_other}
 use Rattle.lwkt_drive.specs.declared.driven.Limits.{Limits}
 use Rattle.lwkt_machine.specs.Bodies.{Scripted, IsPolled}
 use Rattle.lwkt_machine.specs.Ended.{AreOver}
 use Rattle.lwkt_machine.specs.Machines.{Rig}
 use Rattle.lwkt_machine.specs.Turns.{TurnsAt}
+use Rattle.lwkt_machine.proofs.SightMoves.{zip_long, zip_get, others_looked}
 use Rattle.lwkt_machine.proofs.StopMoves.{AreOverBelow, over_more}
 use Rattle.lwkt_script.specs.declared.scripts.ThreadSpec.{ThreadSpec}
 use Rattle.lwkt_script.specs.Format.{threads_on}
@@ -77,10 +80,20 @@ has_set cpus threads ps k p q at same has = record {
   ];
 }
 
+-- processors that were looked at have as many threads
+has_looked : (cpus : ℕ) (threads : List ThreadSpec) (olds news : List (Processor Scripted)) → AllZip (IsLooked {B = Scripted}) olds news → HasThreads cpus threads olds → HasThreads cpus threads news
+has_looked cpus threads olds news zip has = record {
+  as_many = zip_long (IsLooked {B = Scripted}) olds news zip ∙ has.as_many;
+  each = λ k q at.
+      let x = zip_get (IsLooked {B = Scripted}) olds news zip k q at in
+      ap (λ (y : Processor Scripted). length y.threads) x.1.1.else_same ∙ has.each k x.0 x.1.0;
+}
+
 has_turned : (cpus : ℕ) (threads : List ThreadSpec) (cpu : ℕ) (old new : Rig) (t u : Vec Event Global) (turned : Turned) → TurnsAt cpu old new t u turned → HasThreads cpus threads old.cpus → HasThreads cpus threads new.cpus
 has_turned cpus threads cpu old new t u turned d has =
     let F : List (Processor Scripted) → Type 0 = λ ps. HasThreads cpus threads ps in
-    subst F (sym d.cpus) (has_set cpus threads old.cpus cpu d.before d.now d.at_before (turn_long IsPolled old.bank d.before d.now t u turned d.does) has)
+    let e = d.turns in
+    subst F (sym e.cpus) (has_set cpus threads d.seen cpu e.before e.now e.at_before (turn_long IsPolled old.bank e.before e.now t u turned e.does) (has_looked cpus threads old.cpus d.seen (others_looked cpu old.cpus d.seen d.sees) has))
 
 has_turn : (cpus : ℕ) (threads : List ThreadSpec) (cpu : ℕ) (x y : Scene) → MakesTurnAt cpu x y → HasThreads cpus threads x.machine.cpus → HasThreads cpus threads y.machine.cpus
 has_turn cpus threads cpu x y turn has = has_turned cpus threads cpu x.machine y.machine x.trace y.trace turn.0 turn.1.makes has
@@ -113,7 +126,7 @@ has_turns cpus threads order x y turns has = turns_keep (λ z. HasThreads cpus t
 
 -- and keep the bank
 pub turns_bank : (order : List ℕ) (x y : Scene) → MakesTurns order x y → y.machine.bank ≡ x.machine.bank
-turns_bank order x y turns = turns_keep (λ z. z.machine.bank ≡ x.machine.bank) (λ cpu v w turn h. turn.1.makes.bank ∙ h) order x y turns refl
+turns_bank order x y turns = turns_keep (λ z. z.machine.bank ≡ x.machine.bank) (λ cpu v w turn h. turn.1.makes.turns.bank ∙ h) order x y turns refl
 
 -- a machine that was driven
 pub has_driven : (answers : CpuId → ℕ → Bool → Type 0) (limits : Limits) (bank : BankId) (cpus : ℕ) (threads : List ThreadSpec) (olds news : List (Processor Scripted)) (traces : List (Vec Event Global)) → AreDriven answers limits bank olds news traces → HasThreads cpus threads olds → HasThreads cpus threads news
@@ -128,13 +141,21 @@ has_driven answers limits bank cpus threads olds news traces d has = record {
       ap f (sym w.cpu) ∙ made_long IsPolled bank w.old.cpu w.new.cpu w.old.trace w.driven.v w.driven.turns w.driven.made ∙ ap f w.fresh.cpu ∙ has.each k p.0 p.1;
 }
 
+-- processors that were looked at are over still
+over_looked : (n : ℕ) (olds news : List (Processor Scripted)) → AllZip (IsLooked {B = Scripted}) olds news → AreOverBelow n olds → AreOverBelow n news
+over_looked n olds news zip below k q less at =
+    let x = zip_get (IsLooked {B = Scripted}) olds news zip k q at in
+    let F : Processor Scripted → Type 0 = λ y. AllOver y.threads in
+    subst F (sym x.1.1.else_same) (below k x.0 less x.1.0)
+
 -- a turn that says that every thread of its processor has ended, and the processors before it are over
 pub over_later : (cpu : ℕ) (old new : Rig) (t u : Vec Event Global) (turned : Turned) → TurnsAt cpu old new t u turned → turned ≡ AllExited → AreOverBelow cpu old.cpus → AreOverBelow (cpu + 1) new.cpus
 over_later cpu old new t u turned d is below =
     let F : Turned → Type 0 = λ x. TurnsAt cpu old new t u x in
     let e : TurnsAt cpu old new t u AllExited = subst F is d in
     let G : List (Processor Scripted) → Type 0 = λ ps. AreOverBelow (cpu + 1) ps in
-    subst G (sym e.cpus) (over_more old.cpus cpu e.now (slice_get_within old.cpus cpu e.before e.at_before) e.does.turns.1 below)
+    let o = e.turns in
+    subst G (sym o.cpus) (over_more e.seen cpu o.now (slice_get_within e.seen cpu o.before o.at_before) o.does.turns.1 (over_looked cpu old.cpus e.seen (others_looked cpu old.cpus e.seen e.sees) below))
 
 -- all of them
 pub over_all : (n : ℕ) (cpus : List (Processor Scripted)) → length cpus ≤ n → AreOverBelow n cpus → AreOver cpus
@@ -143,7 +164,7 @@ over_all n cpus few below = λ k p at. below k p (omega (arith, few, slice_get_w
 -- rounds keep the bank
 pub rounds_bank : (limit : ℕ) (x y : Scene) → HasMadeRounds limit x y → y.machine.bank ≡ x.machine.bank
 rounds_bank limit x y rounds =
-    rounds_keep (λ z. z.machine.bank ≡ x.machine.bank) (λ cpu v w turn p. turn.1.makes.bank ∙ p) limit x y rounds refl
+    rounds_keep (λ z. z.machine.bank ≡ x.machine.bank) (λ cpu v w turn p. turn.1.makes.turns.bank ∙ p) limit x y rounds refl
 
 false_is_true : false ≡ true → ⊥
 false_is_true is = cc

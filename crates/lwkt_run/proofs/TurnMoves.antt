@@ -1,13 +1,17 @@
 -- What the processors did in turns, one after another, and then as they stopped, is one run.
 use Rattle.std.proofs.Common.{◌≡◌, ℕ, zero, suc, ◌+◌, List, [], ◌∷◌, ◌++◌, length, map, replicate, refl, ap, sym, ◌∙◌, subst, Option, Some, None}
 use Rattle.std.specs.Prelude.{Vec, slice_get}
-use Rattle.std.specs.List.{range_with_len}
+use Rattle.std.specs.List.{AllZip, range_with_len}
 use Rattle.std.specs.declared.alloc.Global.{Global}
 use Rattle.std.proofs.lemmas.List.{length-replicate}
 use Rattle.lwkt_core.specs.declared.events.Event.{Event}
 use Rattle.lwkt_core.specs.declared.finals.Final.{Final}
 use Rattle.lwkt_core.specs.Opening.{AreWithin}
 use Rattle.lwkt_cpu.specs.Turning.{IsOfThread}
+use Rattle.lwkt_cpu.specs.Processors.{Processor}
+use Rattle.lwkt_cpu.proofs.SightMoves.{IsLooked}
+use Rattle.lwkt_machine.proofs.SightMoves.{zip_long, zip_get, others_looked}
+use Rattle.lwkt_machine.specs.Bodies.{Scripted}
 use Rattle.lwkt_machine.specs.Ended.{stage}
 use Rattle.lwkt_machine.specs.Machines.{Rig}
 use Rattle.lwkt_machine.specs.Opened.{IsOpenedMachine}
@@ -28,11 +32,23 @@ record Stands (traces : List (Vec Event Global)) (opened : Rig) (z : Scene) : Ty
   bank : z.machine.bank ≡ opened.bank
   book : z.machine.book ≡ opened.book
 
+-- processors that were looked at are told by the same trace
+told_looked : (traces : List (Vec Event Global)) (trace : Vec Event Global) (olds news : List (Processor Scripted)) → AllZip (IsLooked {B = Scripted}) olds news → AreTold traces (stage olds trace) → AreTold traces (stage news trace)
+told_looked traces trace olds news zip told = record {
+  as_many = zip_long (IsLooked {B = Scripted}) olds news zip ∙ told.as_many;
+  each = λ k q part at has.
+      let x = zip_get (IsLooked {B = Scripted}) olds news zip k q at in
+      let w = told.each k x.0 part x.1.0 has in
+      let F : Processor Scripted → Type 0 = λ y. IsToldAt k y (part.items ++ of_cpu k trace.items) in
+      subst F (sym x.1.1.else_same) (record { seat = w.seat; desk = w.desk; tokens = w.tokens; mails = w.mails });
+}
+
 stands_turn : (traces : List (Vec Event Global)) (opened : Rig) (cpu : ℕ) (x y : Scene) → MakesTurnAt cpu x y → Stands traces opened x → Stands traces opened y
 stands_turn traces opened cpu x y turn s =
-    let d = turn.1.makes in
+    let seen = turn.1.makes.seen in
+    let d = turn.1.makes.turns in
     record {
-      told = told_moved (IsOfThread d.before.threads d.now.threads) 4096 traces cpu (stage x.machine.cpus x.trace) (stage y.machine.cpus y.trace) d.before d.now d.at_before d.cpus d.does.ran d.does.told s.told;
+      told = told_moved (IsOfThread d.before.threads d.now.threads) 4096 traces cpu (stage seen x.trace) (stage y.machine.cpus y.trace) d.before d.now d.at_before d.cpus d.does.ran d.does.told (told_looked traces x.trace x.machine.cpus seen (others_looked cpu x.machine.cpus seen turn.1.makes.sees) s.told);
       bank = d.bank ∙ s.bank;
       book = d.book ∙ s.book;
     }

@@ -1,3 +1,4 @@
+pub mod Arriving
 pub mod Chains
 pub mod Joining
 pub mod Keeping

@@ -1,4 +1,5 @@
 //! Laws of runs.
+ghost use Rattle.lwkt_run.specs.Arriving.{NotesArrive};
 ghost use Rattle.lwkt_run.specs.Joining.{RunsJoin};
 ghost use Rattle.lwkt_run.specs.Orders.{RoundsAreAnOrder};
 
@@ -11,4 +12,11 @@ pub fn rounds_are_an_order()
 /// messages alone are, in whatever order between the two, one run of the whole machine.
 pub fn runs_join()
     ensures { RunsJoin }
+{}
+
+/// The law that what a processor has put into the queue of its lane to another one is received in each turn that this one makes before
+/// the sender makes one again, in order, unless a note is kept that found its port's queue full, or the turn took in its 16 notes. So
+/// in rounds notes arrive within a round.
+pub fn notes_arrive()
+    ensures { NotesArrive }
 {}

@@ -11,14 +11,17 @@ use Rattle.lwkt_core.specs.declared.events.Event.{Event}
 use Rattle.lwkt_bank.specs.Seats.{BankId}
 use Rattle.lwkt_msg.specs.Desks.{Shelf}
 use Rattle.lwkt_hold.proofs.RunMoves.{AllZip-append}
+use Rattle.lwkt_port.specs.Posts.{IsSamePost}
 use Rattle.lwkt_cpu.specs.Processors.{Processor}
 use Rattle.lwkt_cpu.proofs.PlaceMoves.{some_same, get_there}
+use Rattle.lwkt_cpu.proofs.SightMoves.{joined_stay}
+use Rattle.lwkt_cpu.proofs.TurnMoves.{made_ports}
 use Rattle.lwkt_drive.specs.declared.driven.Driven.{Driven}
 use Rattle.lwkt_drive.specs.declared.driven.Limits.{Limits}
 use Rattle.lwkt_drive.specs.declared.driven.Ending.TheVariants.{NoMemory}
 use Rattle.lwkt_drive.specs.Course.{IsAt, IsDriven}
 use Rattle.lwkt_machine.specs.Bodies.{Scripted, IsPolled}
-use Rattle.lwkt_machine.specs.Machines.{IsOf, AreParts}
+use Rattle.lwkt_machine.specs.Machines.{IsOf, AreAllJoined, AreParts}
 use Rattle.lwkt_threads.specs.Driven.{IsFresh, IsAmple, WasDriven, AreDriven}
 
 behind : {A : Type 0} (xs ys : List A) (y : A) → slice_get (xs ++ y ∷ ys) (length xs) ≡ Some y
@@ -139,6 +142,26 @@ numbered_again answers limits bank olds news traces d numbered k q at =
     let n : q.seat.cpu ≡ p.0.seat.cpu = ap (λ (x : Processor Scripted). x.seat.cpu) (sym w.cpu) ∙ w.driven.seat ∙ ap (λ (x : Processor Scripted). x.seat.cpu) w.fresh.cpu in
     ap (λ (x : CpuId). x.0) n ∙ numbered k p.0 p.1
 
+-- a processor that was driven is over the same lanes, and has the same number
+ports_again : (answers : CpuId → ℕ → Bool → Type 0) (limits : Limits) (bank : BankId) (p q : Processor Scripted) (trace : Vec Event Global) → WasDriven answers limits bank p q trace → IsSamePost p.post q.post × (q.seat.cpu ≡ p.seat.cpu)
+ports_again answers limits bank p q trace w =
+    let F : Processor Scripted × Processor Scripted → Type 0 = λ x. IsSamePost x.0.post x.1.post in (
+      subst F (λ k. (w.fresh.cpu k, w.cpu k)) (made_ports IsPolled bank w.old.cpu w.new.cpu w.old.trace w.driven.v w.driven.turns w.driven.made),
+      ap (λ (x : Processor Scripted). x.seat.cpu) (sym w.cpu) ∙ w.driven.seat ∙ ap (λ (x : Processor Scripted). x.seat.cpu) w.fresh.cpu,
+    )
+
+joined_again : (answers : CpuId → ℕ → Bool → Type 0) (limits : Limits) (bank : BankId) (olds news : List (Processor Scripted)) (traces : List (Vec Event Global)) → AreDriven answers limits bank olds news traces → AreAllJoined olds → AreAllJoined news
+joined_again answers limits bank olds news traces d joined i j s p at_s at_p =
+    let long_s : i < length olds = omega (arith, slice_get_within news i s at_s, d.as_many) in
+    let long_p : j < length olds = omega (arith, slice_get_within news j p at_p, d.as_many) in
+    let a = get_there olds i long_s in
+    let b = get_there olds j long_p in
+    let t = get_there traces i (omega (arith, d.traces_are, long_s)) in
+    let u = get_there traces j (omega (arith, d.traces_are, long_p)) in
+    let one = ports_again answers limits bank a.0 s t.0 (d.each i a.0 s t.0 a.1 at_s t.1) in
+    let two = ports_again answers limits bank b.0 p u.0 (d.each j b.0 p u.0 b.1 at_p u.1) in
+    joined_stay a.0 s b.0 p one.1 two.1 one.0 two.0 (joined i j a.0 b.0 a.1 b.1)
+
 -- the parts of a machine whose processors were driven still belong together
 pub parts_again : (answers : CpuId → ℕ → Bool → Type 0) (limits : Limits) (seats : ℕ) (bank : BankId) (book : Shelf) (olds news : List (Processor Scripted)) (traces : List (Vec Event Global)) → AreParts seats bank book olds → AreDriven answers limits bank olds news traces → All (IsOf bank book) news → AreParts seats bank book news
 parts_again answers limits seats bank book olds news traces parts d of = record {
@@ -147,4 +170,5 @@ parts_again answers limits seats bank book olds news traces parts d of = record 
   few = omega (arith, parts.few, d.as_many);
   each = of;
   numbered = numbered_again answers limits bank olds news traces d parts.numbered;
+  joined = joined_again answers limits bank olds news traces d parts.joined;
 }

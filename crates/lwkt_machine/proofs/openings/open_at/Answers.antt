@@ -19,7 +19,9 @@ invariant_of-result c =
     let s = c.args.script.now in
     let made = c.in_ok-cpus in
     let long = made.ensures.as_many ∙ c.requires.bank.as_many in
+    let f = c.in_ok-outs in
     opened_parts (cpus_of t.bank) (id_of t.bank) t.book c.as_slice-2.result.now made.cpus.items (c.requires.bank.processors ∙ sym long) (c.requires.book.cpus_is ∙ sym long) (omega (arith, long, c.requires.few)) made.ensures.each
+    (wired c.from.result f.field-0.outs.items f.field-0.ins.items made.cpus.items f.ensures.ok made.ensures.lines (long ∙ sym c.from.ensures))
 
 pub returns-clause-ok : goal.returns-clause-ok
 returns-clause-ok c =

@@ -55,7 +55,7 @@ loop-at-preserved c =
     let ran = c.stop.ensures.ran in
     record {
       stopped = chain_more Stage StopsAt l.at (stage c.args.cpus.now c.args.trace.now) (stage l.cpus l.trace) (stage (set l.cpus l.at q) c.stop.new.trace) l.invariant.stopped (p, (q, (is, record { stops = stops; most = 258; ran = ran; told = c.stop.ensures.told }, refl)));
-      same = same_set c.args.cpus.now l.cpus l.at p q within is (record { bank = ran.bank; table = c.stop.ensures.told.same.table; number = ran.cpu }) l.invariant.same;
+      same = same_set c.args.cpus.now l.cpus l.at p q within is (record { bank = ran.bank; table = c.stop.ensures.told.same.table; number = ran.cpu; ports = c.stop.ensures.same }) l.invariant.same;
       over = over_more l.cpus l.at q within stops.over l.invariant.over;
     }
 

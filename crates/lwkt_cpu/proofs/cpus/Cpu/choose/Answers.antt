@@ -8,6 +8,7 @@ use Rattle.lwkt_cpu.specs.Turning.{Chooses}
 use Rattle.lwkt_cpu.proofs.RestMoves.{refilled, rest_found}
 use Rattle.lwkt_cpu.proofs.SearchMoves.{finds_long}
 use Rattle.lwkt_cpu.proofs.ShutMoves.{rest_posted}
+use Rattle.lwkt_cpu.proofs.WakeMoves.{post_none}
 use Rattle.lwkt_cpu.proofs.cpus.Cpu.choose.Goals as goal
 
 pub returns-in-Some-clause-ran : goal.returns-in-Some-clause-ran
@@ -54,3 +55,6 @@ returns-in-None-clause-chooses g c =
     let K : List Thread → Type 0 = λ xs. Chooses {B = g.row.B.Denot} start (end xs) t u i.running f.result in
     let L : Processor g.row.B.Denot → Type 0 = λ p. Chooses {B = g.row.B.Denot} p (end (take i.threads.len (f.new.threads ++ drop (length f.new.threads) i.threads.items))) t u p.running f.result in
     subst L c.self.view_is (subst K (sym back) (subst H (sym c.in-None.is) (found, closed, refl, refl, c.past-self-inside.ensures)))
+
+pub returns-in-Some-clause-same : goal.returns-in-Some-clause-same
+returns-in-Some-clause-same g c = post_none c.args.self.now.post

@@ -15,6 +15,7 @@ use Rattle.lwkt_cpu.specs.Searches.{IsOfOne}
 use Rattle.lwkt_cpu.specs.Turning.{IsMailed}
 use Rattle.lwkt_cpu.specs.Stopping.{AreStopped}
 use Rattle.lwkt_cpu.proofs.ToldMoves.{quiet_items}
+use Rattle.lwkt_cpu.proofs.WakeMoves.{post_none, post_then}
 use Rattle.lwkt_cpu.proofs.cpus.Cpu.stop.Goals as goal
 
 pub returns-then-is_err-clause-ran : goal.returns-then-is_err-clause-ran
@@ -84,3 +85,14 @@ returns-clause-told g c =
     mail_then d n.new.self.post.seat y.new.self.post.seat t h.new.trace.items y.new.trace.items
     (subst F (sym same) (mail_none d t h.new.trace.items (quiet_then t r.items h.new.trace.items (quiet_items t r.items c.reserve.ensures.items) h.ensures.quiet)))
     (mail_told (cpu_of n.new.self.post.seat) 64 n.new.self.post.seat y.new.self.post.seat h.new.trace y.new.trace y.ensures.told y.ensures.grew)
+
+pub returns-then-is_err-clause-same : goal.returns-then-is_err-clause-same
+returns-then-is_err-clause-same g c = post_none c.args.self.now.post
+
+pub returns-clause-same : goal.returns-clause-same
+returns-clause-same g c =
+    let p = c.args.self.now.post in
+    let h = c.halt_running in
+    let n = c.end_all in
+    let y = c.pay in
+    post_then p n.new.self.post y.new.self.post (post_then p h.new.self.post n.new.self.post h.ensures.same n.ensures.same) y.ensures.same

@@ -1,6 +1,7 @@
 use Rattle.std.proofs.Common.{◌*◌, ◌≤◌, List, length, refl, ap, sym, ◌∙◌, subst, arith}
 use Rattle.lwkt_hold.specs.Runs.{Ran}
 use Rattle.lwkt_msg.specs.Desks.{cpu_of}
+use Rattle.lwkt_port.specs.Posts.{IsSamePost}
 use Rattle.lwkt_port.proofs.Telling.{tells_then}
 use Rattle.lwkt_ask.specs.Telling.{TellsMail}
 use Rattle.lwkt_ask.proofs.MailMoves.{ran_mail}
@@ -65,3 +66,11 @@ returns-clause-told g c =
     subst F c.self.view_is (mail_told (cpu_of i.ports.seat) 2304 i.ports.seat w.new.ports.seat c.args.trace.now w.new.trace
     (tells_then i.ports.seat t.new.self.seat w.new.ports.seat c.args.trace.now.items t.new.trace.items w.new.trace.items t.ensures.told w.ensures.told)
     (grew_more i.ports t.new.self 256 (128 * length c.deref_mut.result.now) 2304 c.args.trace.now t.new.trace w.new.trace (omega (arith, few)) t.ensures.same t.ensures.grew w.ensures.grew))
+
+pub returns-clause-same : goal.returns-clause-same
+returns-clause-same g c =
+    let i = c.self.inside in
+    let w = c.wake_all in
+    let t = c.take_in-count in
+    let F : Processor g.row.B.Denot → Type 0 = λ p. IsSamePost p.post w.new.ports in
+    subst F c.self.view_is (post_then i.ports t.new.self w.new.ports t.ensures.same w.ensures.same)

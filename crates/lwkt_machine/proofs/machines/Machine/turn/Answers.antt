@@ -1,36 +1,96 @@
-use Rattle.std.proofs.Common.{◌≡◌, ◌<◌, ◌∙◌, refl, sym, ap, subst, set, length, arith, Some}
-use Rattle.std.specs.Prelude.{IfOk, slice_get}
+use Rattle.std.proofs.Common.{◌≡◌, ◌<◌, ◌++◌, ◌∙◌, refl, sym, ap, subst, set, take, drop, List, length, arith, Some}
+use Rattle.std.specs.Prelude.{slice_get}
 use Rattle.std.proofs.lemmas.Option.{slice_get_read}
-use Rattle.std.proofs.lemmas.List.Elements.{All-get_or}
 use Rattle.lwkt_bank.specs.Seats.{id_of, cpus_of}
 use Rattle.lwkt_cpu.specs.Processors.{Processor}
-use Rattle.lwkt_machine.specs.Bodies.{Scripted}
-use Rattle.lwkt_machine.specs.Machines.{Rig, rig_of, IsOf}
+use Rattle.lwkt_cpu.proofs.TurnMoves.{turn_from_room}
+use Rattle.lwkt_machine.specs.Bodies.{Scripted, IsPolled}
+use Rattle.lwkt_machine.specs.Machines.{Rig, rig_of, AreAllJoined, AreParts}
+use Rattle.lwkt_machine.specs.Sights.{SeesOthers}
 use Rattle.lwkt_machine.specs.Turns.{TurnsAt}
-use Rattle.lwkt_machine.proofs.PartMoves.{parts_set, turn_keeps_number, turned_at}
+use Rattle.lwkt_machine.proofs.ListMoves.{refilled}
+use Rattle.lwkt_machine.proofs.PartMoves.{turned_same, turned_at}
+use Rattle.lwkt_machine.proofs.SightMoves.{others_looked, looked_same}
+use Rattle.lwkt_machine.proofs.StopMoves.{same_of, parts_same}
 use Rattle.lwkt_machine.proofs.machines.Machine.turn.Goals as goal
+
+pub see_others-requires-clause-joined : goal.see_others-requires-clause-joined
+see_others-requires-clause-joined c = let F : List (Processor Scripted) → Type 0 = λ xs. AreAllJoined xs in subst F (sym c.deref_mut.ensures.value) c.self.invariant.joined
+
+pub turn_in_room-requires-clause-of : goal.turn_in_room-requires-clause-of
+turn_in_room-requires-clause-of c =
+    let i = c.self.inside in
+    let k = c.args.cpu in
+    let p = c.index_mut.result.now in
+    let mids = c.see_others.new.cpus in
+    let back : List (Processor Scripted) = take i.cpus.len (mids ++ drop (length mids) i.cpus.items) in
+    let full : back ≡ mids = refilled mids i.cpus.items i.cpus.len (c.see_others.ensures.as_many ∙ c.deref_mut.ensures.len) in
+    let S : List (Processor Scripted) → Type 0 = λ xs. SeesOthers k xs mids in
+    let sees : SeesOthers k i.cpus.items mids = subst S c.deref_mut.ensures.value c.see_others.ensures.sees in
+    let long : length i.cpus.items ≡ length c.args.self.now.cpus = ap (λ (m : Rig). length m.cpus) c.self.view_is in
+    let same = looked_same i.cpus.items mids (others_looked k i.cpus.items mids sees) in
+    let within : k < length back = omega (arith, ap length full, same.as_many, long, c.requires) in
+    let A : List (Processor Scripted) → Type 0 = λ xs. slice_get xs k ≡ Some p in
+    let at : slice_get mids k ≡ Some p = subst A full (slice_get_read back (length back) k p refl within c.index_mut.ensures.value) in
+    (same_of (id_of i.bank) i.book i.cpus.items mids k p at same c.self.invariant.each).bank_is
+
+pub turn_in_room-requires-clause-table : goal.turn_in_room-requires-clause-table
+turn_in_room-requires-clause-table c =
+    let i = c.self.inside in
+    let k = c.args.cpu in
+    let p = c.index_mut.result.now in
+    let mids = c.see_others.new.cpus in
+    let back : List (Processor Scripted) = take i.cpus.len (mids ++ drop (length mids) i.cpus.items) in
+    let full : back ≡ mids = refilled mids i.cpus.items i.cpus.len (c.see_others.ensures.as_many ∙ c.deref_mut.ensures.len) in
+    let S : List (Processor Scripted) → Type 0 = λ xs. SeesOthers k xs mids in
+    let sees : SeesOthers k i.cpus.items mids = subst S c.deref_mut.ensures.value c.see_others.ensures.sees in
+    let long : length i.cpus.items ≡ length c.args.self.now.cpus = ap (λ (m : Rig). length m.cpus) c.self.view_is in
+    let same = looked_same i.cpus.items mids (others_looked k i.cpus.items mids sees) in
+    let within : k < length back = omega (arith, ap length full, same.as_many, long, c.requires) in
+    let A : List (Processor Scripted) → Type 0 = λ xs. slice_get xs k ≡ Some p in
+    let at : slice_get mids k ≡ Some p = subst A full (slice_get_read back (length back) k p refl within c.index_mut.ensures.value) in
+    (same_of (id_of i.bank) i.book i.cpus.items mids k p at same c.self.invariant.each).table_is
 
 pub invariant_of-self : goal.invariant_of-self
 invariant_of-self c =
     let i = c.self.inside in
     let k = c.args.cpu in
     let p = c.index_mut.result.now in
-    let q = c.turn.new.self in
+    let q = c.turn_in_room.new.self in
+    let mids = c.see_others.new.cpus in
+    let back : List (Processor Scripted) = take i.cpus.len (mids ++ drop (length mids) i.cpus.items) in
+    let full : back ≡ mids = refilled mids i.cpus.items i.cpus.len (c.see_others.ensures.as_many ∙ c.deref_mut.ensures.len) in
+    let S : List (Processor Scripted) → Type 0 = λ xs. SeesOthers k xs mids in
+    let sees : SeesOthers k i.cpus.items mids = subst S c.deref_mut.ensures.value c.see_others.ensures.sees in
     let long : length i.cpus.items ≡ length c.args.self.now.cpus = ap (λ (m : Rig). length m.cpus) c.self.view_is in
-    let within : k < length i.cpus.items = omega (arith, long, c.requires) in
-    let at : slice_get i.cpus.items k ≡ Some p = slice_get_read i.cpus.items (length i.cpus.items) k p refl within c.index_mut.ensures.value in
-    let F : Processor Scripted → Type 0 = λ x. IsOf (id_of i.bank) i.book x in
-    let of : IsOf (id_of i.bank) i.book p = subst F (sym c.index_mut.ensures.value) (All-get_or F i.cpus.items k p within c.self.invariant.each) in
-    parts_set (cpus_of i.bank) (id_of i.bank) i.book i.cpus.items k p q within at (c.turn.ensures.of ∙ of.bank_is) (c.turn.ensures.table ∙ of.table_is) (turn_keeps_number (id_of i.bank) p q c.args.trace.now c.turn.new.trace c.turn.result c.turn.ensures.ok c.turn.ensures.err) c.self.invariant
+    let same = looked_same i.cpus.items mids (others_looked k i.cpus.items mids sees) in
+    let within : k < length back = omega (arith, ap length full, same.as_many, long, c.requires) in
+    let A : List (Processor Scripted) → Type 0 = λ xs. slice_get xs k ≡ Some p in
+    let at : slice_get mids k ≡ Some p = subst A full (slice_get_read back (length back) k p refl within c.index_mut.ensures.value) in
+    let F : List (Processor Scripted) → Type 0 = λ xs. AreParts (cpus_of i.bank) (id_of i.bank) i.book (set xs k q) in
+    subst F (sym full) (parts_same (cpus_of i.bank) (id_of i.bank) i.book i.cpus.items (set mids k q) (turned_same (id_of i.bank) i.cpus.items mids k p q c.reserve.new.self c.turn_in_room.new.trace c.turn_in_room.result sees at c.turn_in_room.ensures.makes) c.self.invariant)
 
 pub returns-clause-ok : goal.returns-clause-ok
 returns-clause-ok c =
     let i = c.self.inside in
     let k = c.args.cpu in
     let p = c.index_mut.result.now in
-    let q = c.turn.new.self in
+    let q = c.turn_in_room.new.self in
+    let t = c.args.trace.now in
+    let u = c.turn_in_room.new.trace in
+    let turned = c.turn_in_room.result in
+    let e = c.reserve.ensures in
+    let mids = c.see_others.new.cpus in
+    let back : List (Processor Scripted) = take i.cpus.len (mids ++ drop (length mids) i.cpus.items) in
+    let full : back ≡ mids = refilled mids i.cpus.items i.cpus.len (c.see_others.ensures.as_many ∙ c.deref_mut.ensures.len) in
+    let S : List (Processor Scripted) → Type 0 = λ xs. SeesOthers k xs mids in
+    let sees : SeesOthers k i.cpus.items mids = subst S c.deref_mut.ensures.value c.see_others.ensures.sees in
     let long : length i.cpus.items ≡ length c.args.self.now.cpus = ap (λ (m : Rig). length m.cpus) c.self.view_is in
-    let within : k < length i.cpus.items = omega (arith, long, c.requires) in
-    let at : slice_get i.cpus.items k ≡ Some p = slice_get_read i.cpus.items (length i.cpus.items) k p refl within c.index_mut.ensures.value in
-    let F : Rig → Type 0 = λ m. IfOk c.turn.result (λ turned. TurnsAt k m (rig_of (id_of i.bank) i.book (set i.cpus.items k q)) c.args.trace.now c.turn.new.trace turned) in
-    subst F c.self.view_is (turned_at (id_of i.bank) i.book i.cpus.items k p q c.args.trace.now c.turn.new.trace c.turn.result at c.turn.ensures.ok)
+    let same = looked_same i.cpus.items mids (others_looked k i.cpus.items mids sees) in
+    let within : k < length back = omega (arith, ap length full, same.as_many, long, c.requires) in
+    let A : List (Processor Scripted) → Type 0 = λ xs. slice_get xs k ≡ Some p in
+    let at : slice_get mids k ≡ Some p = subst A full (slice_get_read back (length back) k p refl within c.index_mut.ensures.value) in
+    let made = turn_from_room IsPolled (id_of i.bank) p q t c.reserve.new.self u turned e.items e.len e.capacity c.turn_in_room.ensures.makes in
+    let F : Rig → Type 0 = λ m. TurnsAt k m (rig_of (id_of i.bank) i.book (set back k q)) t u turned in
+    let G : List (Processor Scripted) → Type 0 = λ xs. TurnsAt k (rig_of (id_of i.bank) i.book i.cpus.items) (rig_of (id_of i.bank) i.book (set xs k q)) t u turned in
+    subst F c.self.view_is (subst G (sym full) (turned_at (cpus_of i.bank) (id_of i.bank) i.book i.cpus.items mids k p q t u turned c.self.invariant sees at made))

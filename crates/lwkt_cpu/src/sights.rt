@@ -1,0 +1,21 @@
+//! Where two processors are both at hand, the one sees what the other has sent to it.
+ghost use Rattle.lwkt_port.specs.Posts.{IsSamePost};
+ghost use Rattle.lwkt_cpu.specs.Sights.{AreJoined, Sees};
+
+use crate::cpus::Cpu;
+
+impl<B> Cpu<B> {
+    /// Sees every note that another processor has put into the queue of its lane to this one. A turn that follows takes these notes
+    /// in first, up to the 16 notes that a turn takes in and the room of their ports' queues.
+    ///
+    /// That the lane from that processor to this one has its ends at them is the caller's condition.
+    #[inline]
+    pub fn see(&mut self, sender: &mut Cpu<B>)
+        requires { AreJoined sender.old self.old }
+        ensures sees { Sees sender.old sender.new self.old self.new }
+        ensures same { IsSamePost self.old.post self.new.post }
+        ensures sender { IsSamePost sender.old.post sender.new.post }
+    {
+        self.ports.see(&mut sender.ports);
+    }
+}

@@ -1,0 +1,33 @@
+//! A processor of a machine sees what the others have sent to it.
+ghost use Rattle.std.specs.Prelude.{◌≡◌, ◌<◌, All, Some, length, slice_get};
+ghost use Rattle.lwkt_cpu.specs.Sights.{AreJoined};
+ghost use Rattle.lwkt_machine.specs.Machines.{AreAllJoined};
+ghost use Rattle.lwkt_machine.specs.Sights.{SeesEach, SeesOthers};
+
+use crate::bodies::ScriptBody;
+use lwkt_cpu::Cpu;
+
+// A processor sees all that each of these others has put into the queue of its lane to it.
+fn see_each(cpu: &mut Cpu<ScriptBody>, others: &mut [Cpu<ScriptBody>])
+    requires { All (λ s. AreJoined s cpu.old) others.old }
+    ensures sees { SeesEach cpu.old cpu.new others.old others.new }
+    ensures as_many { length others.new ≡ length others.old }
+{
+    for at in 0..others.len() {
+        cpu.see(&mut others[at]);
+    }
+}
+
+/// The processor of this number sees all that each other one has put into the queue of its lane to it. That the processor is there
+/// and the lanes have their ends at them is the caller's condition.
+pub(crate) fn see_others(cpus: &mut [Cpu<ScriptBody>], cpu: usize)
+    requires there { cpu < length cpus.old }
+    requires joined { AreAllJoined cpus.old }
+    ensures sees { SeesOthers cpu cpus.old cpus.new }
+    ensures as_many { length cpus.new ≡ length cpus.old }
+{
+    let (lower, rest) = cpus.split_at_mut(cpu);
+    let (one, upper) = rest.split_at_mut(1);
+    see_each(&mut one[0], lower);
+    see_each(&mut one[0], upper);
+}
