@@ -7,16 +7,17 @@ ghost use Rattle.lwkt_bank.specs.Notes.{clerk_number};
 
 use crate::rules::{BankRule, Key};
 use crate::views::View;
-use atomic_table::{Perch, Table};
+use atomic_table::Table;
 use lwkt_base::Blob;
+use lwkt_clerk::Resting;
 use std::alloc::Global;
 
 /// The token words and cells of a machine.
 #[derive(Drop)]
 pub struct Bank {
     pub(crate) table: Table<Blob, View, Key, BankRule, Global>,
-    // Where the clerk's seat rests from the opening to the close, so that threads may share the bank.
-    pub(crate) clerk: Perch<Blob, View>,
+    // The clerk rests from the opening to the close, so that threads may share the bank.
+    pub(crate) clerk: Resting<Blob, View>,
     pub(crate) key: Key,
     ghost told: { table.shared.key ≡ key } by { Coded-set key-code table.shared.key key },
     ghost wide: { table.shared.table_id.words ≡ table_words (length key.plans.items) },
@@ -24,8 +25,8 @@ pub struct Bank {
     ghost few: { length key.plans.items ≤ 64 },
     ghost short: { (tok : ℕ) → (plan_at key.plans.items tok).cells ≤ 4 },
     ghost single: { (tok : ℕ) → (plan_at key.plans.items tok).law ≡ Tally → (plan_at key.plans.items tok).cells ≡ 1 },
-    ghost seated: { clerk.table_id ≡ table.shared.table_id },
-    ghost counts: { clerk_number clerk.view.kind ≡ 1 },
-    ghost informed: { length clerk.view.plans ≡ length key.plans.items },
-    ghost clean: { (tok : ℕ) → ((at clerk.view.tokens tok).written ≡ 0) × ((cpu : ℕ) → amount cpu (at clerk.view.tokens tok).added ≡ 0) },
+    ghost seated: { clerk.seat.table_id ≡ table.shared.table_id },
+    ghost counts: { clerk_number clerk.seat.me.0.kind ≡ 1 },
+    ghost informed: { length clerk.seat.me.0.plans ≡ length key.plans.items },
+    ghost clean: { (tok : ℕ) → ((at clerk.seat.me.0.tokens tok).written ≡ 0) × ((cpu : ℕ) → amount cpu (at clerk.seat.me.0.tokens tok).added ≡ 0) },
 }

@@ -24,7 +24,6 @@ pub(crate) struct ClerkDesk {
     ghost short: { (tok : ℕ) → (plan_at key.plans.items tok).cells ≤ 4 },
     ghost single: { (tok : ℕ) → (plan_at key.plans.items tok).law ≡ Tally → (plan_at key.plans.items tok).cells ≡ 1 },
     ghost seated: { clerk.table_id ≡ table.shared.table_id },
-    ghost quiet: { length clerk.me.1 ≡ 0 },
     ghost counts: { clerk_number clerk.me.0.kind ≡ 1 },
     ghost informed: { length clerk.me.0.plans ≡ length key.plans.items },
     ghost clean: { (tok : ℕ) → ((at clerk.me.0.tokens tok).written ≡ 0) × ((cpu : ℕ) → amount cpu (at clerk.me.0.tokens tok).added ≡ 0) },

@@ -267,10 +267,7 @@ impl Bank {
         ensures ok { IfOk result (λ closed. IsClosed (id_of self) (cpus_of self) seats.items closed) }
         ensures only { IfErr result (λ f. f ≡ Fault.Memory) }
     {
-        // The clerk's seat has rested there since the opening.
-        let Some(desk) = self.into_desk() else {
-            return Err(Fault::Memory);
-        };
+        let desk = self.into_desk();
         desk.close_seats(alloc, seats).map_err(|_| Fault::Memory)
     }
 }

@@ -115,8 +115,7 @@ impl Bank {
     {
         let mut desk = ClerkDesk::with_key(alloc, specs, words, slots, key)?;
         desk.hand_out_all(&mut seats)?;
-        let bank = desk.into_bank()?;
-        Ok((bank, seats))
+        Ok((desk.into_bank(), seats))
     }
 
     /// Opens a bank of these tokens, with a seat for each processor.

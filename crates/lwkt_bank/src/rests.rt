@@ -1,29 +1,29 @@
-//! The clerk's seat rests on a perch while the bank is in use.
-ghost use Rattle.std.specs.Prelude.{◌≡◌, IfOk, IfSome};
+//! The clerk's seat rests while the bank is in use.
+ghost use Rattle.std.specs.Prelude.{◌≡◌};
 ghost use Rattle.lwkt_bank.specs.Seats.{id_of, id_of_desk};
 
 use crate::banks::Bank;
 use crate::clerks::ClerkDesk;
-use std::alloc::AllocError;
+use lwkt_clerk::Resting;
 
 impl ClerkDesk {
-    /// The bank, whose clerk's seat rests from now on.
-    pub(crate) fn into_bank(self) -> Result<Bank, AllocError>
-        ensures { IfOk result (λ bank. (id_of bank ≡ id_of_desk self) × (bank.key ≡ self.key)) }
+    /// The bank, whose clerk rests from now on.
+    pub(crate) fn into_bank(self) -> Bank
+        ensures { (id_of result ≡ id_of_desk self) × (result.key ≡ self.key) }
     {
         let ClerkDesk { table, clerk, key } = self;
-        let clerk = lwkt_clerk::rest(clerk)?;
-        Ok(Bank { table, clerk, key })
+        let clerk = Resting::of(clerk);
+        Bank { table, clerk, key }
     }
 }
 
 impl Bank {
     /// The bank with its clerk's seat at hand again.
-    pub(crate) fn into_desk(self) -> Option<ClerkDesk>
-        ensures { IfSome result (λ desk. (id_of_desk desk ≡ id_of self) × (desk.key ≡ self.key)) }
+    pub(crate) fn into_desk(self) -> ClerkDesk
+        ensures { (id_of_desk result ≡ id_of self) × (result.key ≡ self.key) }
     {
         let Bank { table, clerk, key } = self;
-        let clerk = lwkt_clerk::wake(clerk)?;
-        Some(ClerkDesk { table, clerk, key })
+        let clerk = clerk.wake();
+        ClerkDesk { table, clerk, key }
     }
 }

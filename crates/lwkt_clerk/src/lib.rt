@@ -1,32 +1,50 @@
 //! The clerk of a table rests: its seat is needed at the opening and at the close alone. A seat can't be shared by threads;
-//! at rest on a perch it lets them share what it belongs to, and costs nothing meanwhile. Bank and book keep their clerks so.
+//! at rest it lets them share what it belongs to, and costs nothing meanwhile. Bank and book keep their clerks so.
 //!
-//! Words: a *clerk* makes a table's seats and takes them back; a *perch* is the word on which its seat rests; a *spent* view
-//! is one that was joined into another.
+//! Words: a *clerk* makes a table's seats and takes them back; it *rests* while others step on the table, and *wakes* for the
+//! close; a *spent* view is one that was joined into another.
 #![tactic(auto)]
 
-ghost use Rattle.std.specs.Prelude.{◌≡◌, [], IfOk, IfSome};
+ghost use Rattle.std.specs.Prelude.{◌≡◌};
+ghost use Rattle.std.specs.Borrow.{ftrue};
 
-use atomic_table::{Perch, Seat};
-use std::alloc::AllocError;
+use atomic_table::Seat;
+use std::marker::Model;
 
-/// A perch on which the clerk's seat rests from now on. That the clerk has no record in hand is the caller's condition.
-/// `AllocError`: never, as far as the perch does what it is for; no clause says so.
-pub fn rest<S, V>(seat: Seat<S, V>) -> Result<Perch<S, V>, AllocError>
-    requires free { seat.me.1 ≡ [] }
-    ensures { IfOk result (λ perch. (perch.table_id ≡ seat.table_id) × (perch.view ≡ seat.me.0)) }
-{
-    let perch = Perch::new(&seat, 0);
-    // Nobody else knows the perch yet, so this can't fail.
-    if let Err(_seat) = perch.give(seat, 0, 2) {
-        return Err(AllocError);
+/// A clerk's seat at rest. A reference to it gives no seat, so threads may share what it lies in; who owns it wakes the clerk.
+pub struct Resting<S, V> {
+    seat: Seat<S, V>,
+}
+
+impl<S, V> Model for Resting<S, V> {
+    // It owns nothing beside the seat. By this member a reference to it shows none of its fields.
+    ghost also_owns = { λ _. ftrue };
+}
+
+impl<S, V> Resting<S, V> {
+    /// The clerk's seat, which rests from now on.
+    pub fn of(seat: Seat<S, V>) -> Resting<S, V>
+        ensures { result.seat ≡ seat }
+    {
+        Resting { seat }
     }
-    Ok(perch)
+
+    /// The clerk's seat, as it was when it came to rest.
+    pub fn wake(self) -> Seat<S, V>
+        ensures { result ≡ self.seat }
+    {
+        let Resting { seat } = self;
+        seat
+    }
 }
 
-/// The clerk's seat, as it was when it came to rest. `None`: never, where it rests; no clause says so.
-pub fn wake<S, V>(perch: Perch<S, V>) -> Option<Seat<S, V>>
-    ensures { IfSome result (λ seat. (seat.table_id ≡ perch.table_id) × (seat.me ≡ (perch.view, []))) }
-{
-    perch.take(0).1
+impl<S, V> Drop for Resting<S, V> {
+    fn drop(self) {
+        drop(self.wake());
+    }
 }
+
+unsafe impl<S: Send, V> Send for Resting<S, V> {}
+
+// Who has a reference has no seat.
+unsafe impl<S: Send, V> Sync for Resting<S, V> {}

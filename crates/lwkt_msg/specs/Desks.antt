@@ -2,7 +2,6 @@ use Rattle.std.specs.Prelude.{◌≡◌, ℕ, zero, suc, ◌+◌, ◌*◌, ◌<�
 use mathlib.Core.Option.{some}
 use lib.ListN.{get_elem?}
 use Rattle.atomic_table.specs.Seated.{TableId}
-use Rattle.atomic_table.specs.Perched.{Roost}
 use Rattle.atomic_table.specs.declared.shared.Seat.{Seat}
 use Rattle.lwkt_base.specs.declared.names.CpuId.{CpuId}
 use Rattle.lwkt_base.specs.declared.openings.MsgSpec.{MsgSpec}
@@ -58,17 +57,17 @@ pub record IsMsgSeat (cpu : CpuId) (cpus messages : ℕ) (place : Seat Rec View)
   pub messages_is : messages ≡ length place.me.0.specs
 
 -- the fields of a book are those of a table of so many processors and messages, with the clerk who has made all seats
-pub record IsMsgBook (cpus messages : ℕ) (table : TableId) (key : Key) (clerk : Roost View) : Type 0 where
+pub record IsMsgBook (cpus messages : ℕ) (table : TableId) (key : Key) (clerk : Seat Rec View) : Type 0 where
   pub words : table.words ≡ 16 * messages + 1
   pub slots : table.slots ≡ 4 * messages
   pub few : messages ≤ 64
   pub cpus_is : cpus ≡ key.cpus
   pub messages_is : messages ≡ length key.specs.items
   pub clerk_table : clerk.table_id ≡ table
-  pub clerk_kind : clerk.view.kind ≡ Clerk cpus 0
-  pub clerk_cpus : clerk.view.cpus ≡ cpus
-  pub clerk_specs : clerk.view.specs ≡ key.specs.items
-  pub no_chapters : clerk.view.chapters ≡ []
+  pub clerk_kind : clerk.me.0.kind ≡ Clerk cpus 0
+  pub clerk_cpus : clerk.me.0.cpus ≡ cpus
+  pub clerk_specs : clerk.me.0.specs ≡ key.specs.items
+  pub no_chapters : clerk.me.0.chapters ≡ []
 
 -- the processor of a seat
 abbrev pub cpu_of : Desk → CpuId

@@ -5,8 +5,9 @@ use crate::openings::{blank_records, known_specs, opening_words, seat_all};
 use crate::rules::{BookRule, BookTable, Top};
 use crate::seats::MsgSeat;
 use crate::views::{Key, View};
-use atomic_table::{Perch, Shared};
+use atomic_table::Shared;
 use lwkt_base::{Fault, MsgEnd, MsgSpec, Rec};
+use lwkt_clerk::Resting;
 use lwkt_core::are_within;
 use std::alloc::{AllocError, Global};
 use std::marker::Model;
@@ -15,8 +16,8 @@ use std::marker::Model;
 #[derive(Drop)]
 pub struct MsgBook {
     table: BookTable,
-    // Where the clerk's place rests until the close, so that threads may share the book.
-    clerk: Perch<Rec, View>,
+    // The clerk rests until the close, so that threads may share the book.
+    clerk: Resting<Rec, View>,
     cpus: usize,
     messages: usize,
 }
@@ -28,7 +29,7 @@ impl Model for MsgBook {
 
     ghost view = { λ b. let z : Shelf = record { table = b.table.shared.table_id; cpus = b.cpus; specs = b.table.shared.key.specs.items } in z };
 
-    ghost invariant = { λ b. IsMsgBook b.cpus b.messages b.table.shared.table_id b.table.shared.key b.clerk };
+    ghost invariant = { λ b. IsMsgBook b.cpus b.messages b.table.shared.table_id b.table.shared.key b.clerk.seat };
 }
 
 impl MsgBook {
@@ -76,10 +77,9 @@ impl MsgBook {
             return Err(AllocError);
         };
         seat_all(&table.shared, &mut clerk, cpus, specs, &mut seats)?;
-        let clerk = lwkt_clerk::rest(clerk)?;
         let book = MsgBook {
             table,
-            clerk,
+            clerk: Resting::of(clerk),
             cpus,
             messages: specs.len(),
         };
@@ -99,11 +99,8 @@ impl MsgBook {
             cpus,
             messages,
         } = self;
+        let mut clerk = clerk.wake();
         let Ok(ends) = Vec::with_capacity(alloc, messages) else {
-            return Err(Fault::Memory);
-        };
-        // The clerk's place has rested there since the opening.
-        let Some(mut clerk) = lwkt_clerk::wake(clerk) else {
             return Err(Fault::Memory);
         };
         take_all(&table.shared, &mut clerk, cpus, seats);

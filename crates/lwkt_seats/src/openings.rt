@@ -139,7 +139,10 @@ fn open(alloc: Global, tokens: &[LwktToken], seats: usize) -> Result<Box<Desk>, 
     }
     let specs = specs_of(alloc, tokens).map_err(|_| Fault::Memory)?;
     let (bank, seats) = Bank::open(alloc, &specs, seats)?;
-    desk_of(alloc, bank, seats).map_err(|_| Fault::Memory)
+    let Ok(desk) = desk_of(alloc, bank, seats) else {
+        return Err(Fault::Memory);
+    };
+    Ok(desk)
 }
 
 /// Opens a bank of these tokens with so many seats, which are numbered from 0. `out` gets where it is; it stays as it was but

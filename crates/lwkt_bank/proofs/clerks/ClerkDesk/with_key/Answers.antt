@@ -41,7 +41,6 @@ invariant_of-result c =
       short = subst F (sym c.requires.plans) (short_plans specs c.requires.within.each_token);
       single = subst G (sym c.requires.plans) (single_plans specs c.requires.within.each_token);
       seated = t.2;
-      quiet = ap (λ m. length m.1) t.4;
       counts = ap (λ m. clerk_number m.0.kind) t.4;
       informed = ap (λ m. length m.0.plans) t.4;
       clean = λ tok. (ap (λ m. (at m.0.tokens tok).written) t.4, λ cpu. ap (λ m. amount cpu (at m.0.tokens tok).added) t.4);

@@ -12,7 +12,7 @@ returns c =
     let book : Shelf = record { table = inside.table.shared.table_id; cpus = inside.cpus; specs = key.specs.items } in
     let final = c.close_with-closed.ensures.values.2 in
     let ends = c.in-Ok-read_and_free.shown.items in
-    let clerk = c.in-Some.clerk in
+    let clerk = c.wake-clerk.result in
     let view_is : book ≡ c.args.self = c.self.view_is in
     let F : Shelf → Type 0 = λ b. AreClosed b c.args.seats.items ends in
     let G : ℕ → Type 0 = λ n. AreShown n (slots_items c.close_with-closed.result.words) ends in
