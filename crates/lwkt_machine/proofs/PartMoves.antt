@@ -1,8 +1,8 @@
 -- One processor of a machine makes a turn, after it saw what the others have sent to it, and the parts of the machine still belong together.
-use Rattle.std.proofs.Common.{◌≡◌, ℕ, List, set, refl, Some}
+use Rattle.std.proofs.Common.{◌≡◌, ℕ, ◌<◌, ◌++◌, List, length, set, get_or, take, drop, refl, subst, arith, Some}
 use Rattle.std.specs.Prelude.{Vec, slice_get}
 use Rattle.std.specs.declared.alloc.Global.{Global}
-use Rattle.std.proofs.lemmas.Option.{slice_get_within}
+use Rattle.std.proofs.lemmas.Option.{slice_get_within, slice_get_read}
 use Rattle.lwkt_core.specs.declared.events.Event.{Event}
 use Rattle.lwkt_bank.specs.Seats.{BankId}
 use Rattle.lwkt_msg.specs.Desks.{Shelf}
@@ -14,8 +14,15 @@ use Rattle.lwkt_machine.specs.Ended.{AreSameCpus}
 use Rattle.lwkt_machine.specs.Machines.{rig_of, AreParts}
 use Rattle.lwkt_machine.specs.Sights.{SeesOthers}
 use Rattle.lwkt_machine.specs.Turns.{TurnsAt}
+use Rattle.lwkt_machine.proofs.ListMoves.{refilled}
 use Rattle.lwkt_machine.proofs.SightMoves.{others_looked, looked_same, others_seen, seen_delivered}
 use Rattle.lwkt_machine.proofs.StopMoves.{same_set}
+
+-- the processor of a number, read from what a list of processors was written back to
+pub read_back : (mids items : List (Processor Scripted)) (n k : ℕ) (p : Processor Scripted) → length mids ≡ n → k < n → p ≡ get_or (take n (mids ++ drop (length mids) items)) k p → slice_get mids k ≡ Some p
+read_back mids items n k p long within is =
+    let F : List (Processor Scripted) → Type 0 = λ xs. p ≡ get_or xs k p in
+    slice_get_read mids (length mids) k p refl (omega (arith, long, within)) (subst F (refilled mids items n long) is)
 
 -- the processors are still the same ones after it
 pub turned_same : (bank : BankId) (olds mids : List (Processor Scripted)) (k : ℕ) (p q : Processor Scripted) (t u : Vec Event Global) (turned : Turned) → SeesOthers k olds mids → slice_get mids k ≡ Some p → MakesTurn IsPolled bank p q t u turned → AreSameCpus olds (set mids k q)
