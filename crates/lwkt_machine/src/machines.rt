@@ -2,6 +2,7 @@
 ghost use Rattle.std.specs.Prelude.{◌≡◌, ◌<◌, length, IfOk, OnErr, Err, IsSomeAnd, slice_get, option_map};
 ghost use Rattle.lwkt_bank.specs.Seats.{id_of, cpus_of};
 ghost use Rattle.lwkt_cpu.specs.Processors.{IsAtRest};
+ghost use Rattle.lwkt_cpu.specs.Turning.{HasSameEvents, LacksRoom};
 
 use crate::bodies::ScriptBody;
 use crate::sights::see_others;
@@ -87,11 +88,13 @@ impl Machine {
     /// lane to it: all of this is taken in, up to the 16 notes of a turn and the room of their ports' queues. That the processor is
     /// there is the caller's condition.
     ///
-    /// Refused with `Memory` where the trace can't be given room for 4,096 events; nothing has changed then.
+    /// Refused with `Memory` where the trace lacks room for 4,096 events and can't be given it; nothing has changed then, and the
+    /// trace has no less room than before.
     pub fn turn(&mut self, cpu: usize, trace: &mut Vec<Event>) -> Result<Turned, Fault>
         requires { cpu < length self.old.cpus }
         ensures ok { IfOk result (λ turned. TurnsAt cpu self.old self.new trace.old trace.new turned) }
-        ensures err { OnErr result ((self.new ≡ self.old) × (trace.new.items ≡ trace.old.items)) }
+        ensures err { OnErr result ((self.new ≡ self.old) × HasSameEvents trace.old trace.new) }
+        ensures full { OnErr result (LacksRoom trace.new) }
         ensures only { OnErr result (result ≡ Err Fault.Memory) }
         ensures bank { self.new.bank ≡ self.old.bank }
         ensures book { self.new.book ≡ self.old.book }
