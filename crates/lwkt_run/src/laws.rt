@@ -15,8 +15,8 @@ pub fn runs_join()
 {}
 
 /// The law that what a processor has put into the queue of its lane to another one is received in each turn that this one makes before
-/// the sender makes one again, in order, unless a note is kept that found its port's queue full, or the turn took in its 16 notes. So
-/// in rounds notes arrive within a round.
+/// the sender makes one again, in order, unless a note is kept that found its port's queue full, or the turn took in its 16 notes. In
+/// rounds that is the target's next turn.
 pub fn notes_arrive()
     ensures { NotesArrive }
 {}
