@@ -149,7 +149,11 @@ fn takes_each(
     for answer in answers {
         if let Some(told) = answer {
             list.set_answer(place, told)?;
-            all = all && comes_out(list, place, &Poll { answer: *answer, ..*poll });
+            let want = Poll {
+                answer: *answer,
+                ..*poll
+            };
+            all = all && comes_out(list, place, &want);
         }
     }
     Ok(all)

@@ -13,8 +13,7 @@ loop-i-preserved c =
     let yes = c.if-not-fits.false in
     let fits = (c.fits.ensures.right goes.before goes.shows).0 yes in
     let part = c.split_at.result.0.now in
-    let led : Run c.loop-i.state part c.fits.new.state = subst (λ (k : Machine). Run c.loop-i.state part k) (sym (c.fits.ensures.moved yes)) (part_happens c.loop-i.state _ part fits.makes) in
-    (
+    let led : Run c.loop-i.state part c.fits.new.state = subst (λ (k : Machine). Run c.loop-i.state part k) (sym (c.fits.ensures.moved yes)) (part_happens c.loop-i.state _ part fits.makes) in (
       goes_next P c.args.plans.now c.args.lines.now c.args.polls.now c.args.order.now c.loop-i.state c.loop-i.table c.args.turns.now c.loop-i.i c.loop-i.rest.now _ goes c.fits.new.state c.fits.new.table _ part c.split_at.result.1.now c.whose-cpu.result refl c.split_at.ensures.front c.split_at.ensures.back c.whose-cpu.ensures.value c.loop-i-test.true c.if-count-rest.false fits (c.fits.ensures.moved yes) (c.fits.ensures.noted goes.before goes.shows yes),
       led_on c.args.state.now c.args.trace.now c.loop-i.state c.loop-i.rest.now _ c.fits.new.state part c.split_at.result.1.now c.loop-i.invariant.1 c.split_at.ensures.front c.split_at.ensures.back led,
     )
