@@ -1,5 +1,5 @@
-//! Rows Tally-Add, Two-Threads-One-Token, Crossed-Lists and Call-And-Reply as runs by hand: each is a run of its script. Of the changes at one place
-//! two leave it one: as many rounds as it has, and a law that was broken at its end.
+//! Rows Tally-Add, Two-Threads-One-Token, Crossed-Lists and Call-And-Reply, and a section that breaks its law, as runs by hand: each
+//! is a run of its script. Of the changes at one place two leave it one: as many rounds as it has, and a law that was broken at its end.
 
 use crate::run_changes::{Change, make_change};
 use crate::sheets::{Sheet, first_of};
@@ -38,6 +38,8 @@ const ADD: Ask = Ask::Add(TokId(0), 5);
 const ONE: Ask = Ask::Write(TokId(0), 0, 1);
 
 const TWO: Ask = Ask::Write(TokId(0), 0, 2);
+
+const HIGH: Ask = Ask::Write(TokId(0), 0, 12);
 
 const REPLY: Ask = Ask::Reply(MESSAGE, 7, 42);
 
@@ -294,10 +296,34 @@ fn two_threads(alloc: Global) -> Result<Sheet, AllocError> {
     Ok(sheet)
 }
 
+// A thread takes a token twice, breaks its law and gives it back: as the section ends its first row is stored again.
+fn broken_law(alloc: Global) -> Result<Sheet, AllocError> {
+    let mut sheet = Sheet::new(alloc, 1, 50);
+    sheet.token(alloc, Law::Cap, 9, 5)?;
+    let steps = [GET, GET, HIGH, REL, REL];
+    sheet.thread(
+        alloc,
+        first_of(0),
+        &steps,
+        ThreadState::Exited,
+        &[Entry::Refused(19)],
+    )?;
+    let (cpu, tok) = (CpuId(0), TokId(0));
+    sheet.asks(first_of(0), GET, DONE, &[take(0, 0)])?;
+    sheet.asks(first_of(0), GET, DONE, &[Event::Again { cpu, tok }])?;
+    sheet.asks(first_of(0), HIGH, DONE, &[write(0, 12)])?;
+    sheet.asks(first_of(0), REL, DONE, &[Event::GiveOne { cpu, tok }])?;
+    let broken = Some(Answer::Refused(Fault::Broken));
+    sheet.asks(first_of(0), REL, broken, &[write(0, 5), give_clean(0, 0)])?;
+    sheet.asks(first_of(0), Ask::Exit, None, &[])?;
+    sheet.idles(&[])?;
+    Ok(sheet)
+}
+
 // Whether a run with a change is one of its script.
 fn still_runs(alloc: Global, made: Result<Sheet, AllocError>, how: Change) -> Result<bool, Fault> {
-    let mut sheet = made.map_err(|_| Fault::Memory)?;
-    make_change(&mut sheet, how).map_err(|_| Fault::Memory)?;
+    let mut sheet = made.map_err(Fault::Memory)?;
+    make_change(&mut sheet, how).map_err(Fault::Memory)?;
     sheet.is_run(alloc)
 }
 
@@ -374,11 +400,32 @@ fn two_threads_with_changes(rt: HostRuntime) -> Result<(), Fail> {
         (Change::Unasked(7), false),
         (Change::Answered(4, Some(Answer::Value(2))), false),
         (Change::Other(6, give_written(0, 1, 0, 2)), false),
+        // a first value stored unasked, where no section can break the law
+        (Change::Made(3, 4, write(0, 1)), false),
         (Change::Unlogged(1), false),
         (Change::LineLess, false),
     ];
     for (how, want) in rows {
         let runs = still_runs(alloc, two_threads(alloc), how);
+        assert_eq!(rt; runs, Ok(want), "{how:?}");
+    }
+    Ok(())
+}
+
+#[test]
+fn broken_law_with_changes(rt: HostRuntime) -> Result<(), Fail> {
+    let alloc = rt.alloc();
+    let rows = [
+        (Change::Nothing, true),
+        (Change::Answered(4, DONE), false),
+        (Change::Other(4, write(0, 6)), false),
+        // the first value stored unasked, while a further reference is held
+        (Change::Made(3, 3, write(0, 5)), false),
+        (Change::Made(3, 4, write(0, 6)), false),
+        (Change::Unlogged(0), false),
+    ];
+    for (how, want) in rows {
+        let runs = still_runs(alloc, broken_law(alloc), how);
         assert_eq!(rt; runs, Ok(want), "{how:?}");
     }
     Ok(())

@@ -1,31 +1,55 @@
 -- The events that an ask makes itself, and those that may stand in a part of a trace unasked (own).
-use Rattle.std.specs.Prelude.{◌≡◌, ℕ, ◌+◌, ◌-◌, ◌==◌, ◌&&◌, nat_lt, bytes_eq, Bool, true, false, not, List, [], ◌∷◌, length, slice_get, if◌then◌else◌, Option, Some, None, option_and_then}
+use Rattle.std.specs.Prelude.{◌≡◌, ℕ, ◌+◌, ◌-◌, ◌==◌, ◌&&◌, nat_lt, bytes_eq, Bool, true, false, not, List, [], ◌∷◌, length, slice_get, if◌then◌else◌, Option, Some, None, IsSomeAnd}
 use Rattle.std.specs.Option.{option_map_or}
 use Rattle.lwkt_base.specs.declared.asks.Ask.{Ask}
 use Rattle.lwkt_base.specs.declared.asks.Ask.TheVariants.{Get, GetShared, TryGet, Rel, Swap, Read as ReadAsk, Write as WriteAsk, Add as AddAsk, ReadBlob as ReadBlobAsk, WriteBlob as WriteBlobAsk, Send as SendAsk, Do as DoAsk, Reply as ReplyAsk, Abort as AbortAsk, IsAborted, DropMsg as DropAsk, GetPort, WaitPort, Yield, Exit}
 use Rattle.lwkt_base.specs.declared.asks.Answer.{Answer}
 use Rattle.lwkt_base.specs.declared.asks.Answer.TheVariants.{Begin, Done, Value, Bytes, Dropped, Got, NoMsg, Refused}
+use Rattle.lwkt_base.specs.declared.laws.Law.{Law}
+use Rattle.lwkt_base.specs.declared.laws.Law.TheVariants.{Any, Sum, Order, Cap, Tally, Len}
+use Rattle.lwkt_base.specs.declared.names.Mode.TheVariants.{Exclusive}
+use Rattle.lwkt_base.specs.declared.holdings.Held.TheVariants.{Holds}
+use Rattle.lwkt_core.specs.declared.tokens.Token.{Token}
 use Rattle.lwkt_core.specs.declared.events.Event.{Event}
 use Rattle.lwkt_core.specs.declared.events.Event.TheVariants.{Load, Take, Share, Again, Mark, GiveOne, GiveClean, GiveWritten, Read, Write, ReadBlob, WriteBlob, Send, TakeMsg, DropMsg, Reply, Reap, Abort}
 use Rattle.lwkt_core.specs.Events.{adds_reference}
 use Rattle.lwkt_core.specs.Machine.{Machine}
-use Rattle.lwkt_core.specs.Values.{cell_at, first_at}
+use Rattle.lwkt_core.specs.Tokens.{held_by}
+use Rattle.lwkt_core.specs.Values.{cell_at}
 use Rattle.lwkt_verdict.specs.Asks.{is_do}
 
--- the first record of a token, if there is such a token and it has a record
-abbrev pub first_blob_at : Machine → ℕ → Option (List ℕ)
-first_blob_at m tok = option_and_then (λ t. t.first_blob) (slice_get m.tokens tok)
+-- the laws that a section can break: nothing breaks Any, and the law of a Tally token asks nothing of a section
+abbrev pub can_break : Law → Bool
+can_break Any = false
+can_break Sum = true
+can_break Order = true
+can_break Cap = true
+can_break Tally = false
+can_break Len = true
 
--- an event may happen unasked: no read, send, abort or drop may, a write of a cell only of its value in the first row, and a write of a
--- record only of the first record
+-- a section of a token may be ending broken: its law is one that a section can break, and of the processor's references one is left,
+-- which is exclusive
+abbrev pub MayEndBroken : Token → ℕ → Type 0
+MayEndBroken t cpu = (can_break t.law ≡ true) × (held_by t cpu ≡ Holds Exclusive 0)
+
+-- as such a section ends, this value may be stored again in this cell: it is the first one
+abbrev pub MayStoreFirst : ℕ → ℕ → ℕ → Token → Type 0
+MayStoreFirst cpu cell value t = MayEndBroken t cpu × (slice_get t.first cell ≡ Some value)
+
+-- as such a section ends, this record may be stored again: it is the first one, another one is there, and the row is the first one
+abbrev pub MayPutFirst : ℕ → List ℕ → Token → Type 0
+MayPutFirst cpu blob t = MayEndBroken t cpu × ((t.first_blob ≡ Some blob) × (¬ (t.blob ≡ Some blob)) × (t.row ≡ t.first))
+
+-- an event may happen unasked: no read, send, abort or drop may; a write of a cell or of a record only as a section of its token may be
+-- ending broken, of the cell's first value or of the first record in place of another
 abbrev pub IsQuiet : Machine → Event → Type 0
 IsQuiet m (Read cpu tok cell value) = ⊥
 IsQuiet m (Send cpu msg to round) = ⊥
 IsQuiet m (Abort cpu msg) = ⊥
 IsQuiet m (DropMsg cpu msg) = ⊥
-IsQuiet m (Write cpu tok cell value) = first_at m tok.0 cell ≡ Some value
+IsQuiet m (Write cpu tok cell value) = IsSomeAnd (slice_get m.tokens tok.0) (MayStoreFirst cpu.0 cell value)
 IsQuiet m (ReadBlob cpu tok blob) = ⊥
-IsQuiet m (WriteBlob cpu tok blob) = first_blob_at m tok.0 ≡ Some blob
+IsQuiet m (WriteBlob cpu tok blob) = IsSomeAnd (slice_get m.tokens tok.0) (MayPutFirst cpu.0 blob)
 IsQuiet m (Load cpu tok) = Unit {0}
 IsQuiet m (Take cpu tok) = Unit {0}
 IsQuiet m (Share cpu tok) = Unit {0}

@@ -1,5 +1,5 @@
 -- Asks and answers without room for a record, and the polls that are kept by them (own).
-use Rattle.std.specs.Prelude.{◌≡◌, ℕ, ◌<◌, Bool, true, false, List, map, ◌++◌, get_or, Option, Some, None}
+use Rattle.std.specs.Prelude.{◌≡◌, ℕ, ◌<◌, Bool, true, false, if◌then◌else◌, List, [], ◌∷◌, length, map, ◌++◌, get_or, Option, Some, None}
 use Rattle.lwkt_base.specs.declared.asks.Ask.{Ask}
 use Rattle.lwkt_base.specs.declared.asks.Ask.TheVariants.{Get, GetShared, TryGet, Rel, Swap, Read, Write, Add, ReadBlob, WriteBlob, Send, Do, Reply, Abort, IsAborted, DropMsg, GetPort, WaitPort, Yield, Exit}
 use Rattle.lwkt_base.specs.declared.asks.Item.TheVariants.{Request, Answered}
@@ -67,6 +67,24 @@ IsAskIn many _ = Unit {0}
 abbrev pub IsAnswerIn : ℕ → ShortAnswer → Type 0
 IsAnswerIn many (LongAnswer place) = place < many
 IsAnswerIn many _ = Unit {0}
+
+-- the place of an ask among the long ones, if it is kept there
+abbrev pub ask_place : ShortAsk → Option ℕ
+ask_place (LongAsk place) = Some place
+ask_place _ = None
+
+-- the place of an answer among the long ones, if it is kept there
+abbrev pub answer_place : ShortAnswer → Option ℕ
+answer_place (LongAnswer place) = Some place
+answer_place _ = None
+
+-- where one more is kept, beside these long ones: behind them if it is long, and else not among them
+abbrev pub end_of : {A : Type 0} → Bool → List A → Option ℕ
+end_of is_long longs = if is_long then Some (length longs) else None
+
+-- the long ones with one more, if it is long
+abbrev pub with_one : {A : Type 0} → Bool → List A → A → List A
+with_one is_long longs one = if is_long then (longs ++ one ∷ []) else longs
 
 -- the poll that a row stands for, where the long asks and answers are these
 abbrev pub poll_in : List Ask → List Answer → Row → Poll

@@ -1,20 +1,50 @@
-ghost use Rattle.std.specs.Prelude.{◌≡◌, ◌≤◌, ◌↔◌, ◌+◌, ◌==◌, IsTrue, length, Some};
-ghost use Rattle.lwkt_core.specs.Values.{first_at, cell_at};
-ghost use Rattle.lwkt_verdict.specs.Owns.{first_blob_at, IsQuiet, agrees, agrees_with_record, is_read, is_write, is_record_read, is_record_write, is_raise, is_send_of, is_reply_of, is_abort_of, is_drop_of, is_own, is_send, first_send, own_place, ends_taking, has_blocked};
+ghost use Rattle.std.specs.Prelude.{◌≡◌, ◌≤◌, ◌↔◌, ◌+◌, ◌==◌, IsTrue, length, slice_get, Some};
+ghost use Rattle.lwkt_base.specs.declared.holdings.Held.TheVariants.{Holds};
+ghost use Rattle.lwkt_base.specs.declared.names.Mode.TheVariants.{Exclusive};
+ghost use Rattle.lwkt_core.specs.Values.{cell_at};
+ghost use Rattle.lwkt_verdict.specs.Owns.{can_break, MayEndBroken, MayStoreFirst, MayPutFirst, IsQuiet, agrees, agrees_with_record, is_read, is_write, is_record_read, is_record_write, is_raise, is_send_of, is_reply_of, is_abort_of, is_drop_of, is_own, is_send, first_send, own_place, ends_taking, has_blocked};
 
 use crate::asks::is_do;
 use lwkt_base::blobs::same_bytes;
-use lwkt_base::{Answer, Ask, Blob, TokId};
-use lwkt_core::{Event, State};
+use lwkt_base::{Answer, Ask, Blob, CpuId, Held, Law, Mode, TokId};
+use lwkt_core::{Event, State, Token};
+
+// Whether a law is one that a section can break.
+fn can_break(law: Law) -> bool
+    ensures { result ≡ can_break law }
+{
+    !matches!(law, Law::Any | Law::Tally)
+}
+
+// Whether this is one exclusive reference.
+fn is_last_exclusive(held: Held) -> bool
+    ensures { IsTrue result ↔ (held ≡ Holds Exclusive 0) }
+{
+    matches!(held, Held::Holds(Mode::Exclusive, 0))
+}
+
+// Whether a section of a token may be ending broken.
+fn may_end_broken(token: &Token, cpu: CpuId) -> bool
+    ensures { IsTrue result ↔ MayEndBroken token.now cpu.0 }
+{
+    can_break(token.law) && is_last_exclusive(token.held_by(cpu))
+}
 
 // Whether a cell has this value in the first row.
-fn is_first(state: &State, tok: TokId, cell: u8, value: u64) -> bool
-    ensures { IsTrue result ↔ (first_at state.now tok.0 cell ≡ Some value) }
+fn is_first(token: &Token, cell: u8, value: u64) -> bool
+    ensures { IsTrue result ↔ (slice_get token.now.first cell ≡ Some value) }
 {
-    match state.first(tok, cell) {
+    match token.first.as_slice().get(cell as usize) {
         None => false,
-        Some(first) => first == value,
+        Some(first) => *first == value,
     }
+}
+
+// Whether the row is the first one.
+fn is_first_row(token: &Token) -> bool
+    ensures { IsTrue result ↔ (token.now.row ≡ token.now.first) }
+{
+    token.row.as_slice() == token.first.as_slice()
 }
 
 // Whether a record is there and is this one.
@@ -27,14 +57,25 @@ fn is_record(kept: &Option<Blob>, blob: &Blob) -> bool
     }
 }
 
-// Whether a record is the first one of a token.
-fn is_first_record(state: &State, tok: TokId, blob: &Blob) -> bool
-    ensures { IsTrue result ↔ (first_blob_at state.now tok.0 ≡ Some blob.now) }
+// Whether a value may be stored again in a cell, as a section that is broken ends.
+fn may_store_first(token: &Token, cpu: CpuId, cell: u8, value: u64) -> bool
+    ensures { IsTrue result ↔ MayStoreFirst cpu.0 cell value token.now }
 {
-    match state.token(tok) {
-        None => false,
-        Some(token) => is_record(&token.first_blob, blob),
-    }
+    may_end_broken(token, cpu) && is_first(token, cell, value)
+}
+
+// Whether a record is the first one, and another one is there.
+fn is_first_for_another(token: &Token, blob: &Blob) -> bool
+    ensures { IsTrue result ↔ ((token.now.first_blob ≡ Some blob.now) × (¬ (token.now.blob ≡ Some blob.now))) }
+{
+    is_record(&token.first_blob, blob) && !is_record(&token.blob, blob)
+}
+
+// Whether a record may be stored again, as a section that is broken ends.
+fn may_put_first(token: &Token, cpu: CpuId, blob: &Blob) -> bool
+    ensures { IsTrue result ↔ MayPutFirst cpu.0 blob.now token.now }
+{
+    may_end_broken(token, cpu) && is_first_for_another(token, blob) && is_first_row(token)
 }
 
 /// Whether an event may happen unasked.
@@ -48,12 +89,18 @@ pub fn is_quiet(state: &State, event: &Event) -> bool
         | Event::Abort { .. }
         | Event::DropMsg { .. } => false,
         Event::Write {
+            cpu,
             tok,
             cell,
             value,
-            ..
-        } => is_first(state, *tok, *cell, *value),
-        Event::WriteBlob { tok, blob, .. } => is_first_record(state, *tok, blob),
+        } => match state.token(*tok) {
+            None => false,
+            Some(token) => may_store_first(token, *cpu, *cell, *value),
+        },
+        Event::WriteBlob { cpu, tok, blob } => match state.token(*tok) {
+            None => false,
+            Some(token) => may_put_first(token, *cpu, blob),
+        },
         _ => true,
     }
 }

@@ -2,9 +2,9 @@
 //!
 //! An `Ask` and an `Answer` have room for a record, so they are large. A store of a record, an answer by one, and the record of a
 //! message that was taken back lie in lists of their own, and are kept short by their place there. All others are kept as they are.
-ghost use Rattle.std.specs.Prelude.{◌≡◌, ◌<◌, true, false, length, Some, IfSome, IfOk, is_some};
+ghost use Rattle.std.specs.Prelude.{◌≡◌, ◌<◌, not, length, Some, IfSome, IfOk, OnErr, is_some};
 ghost use Rattle.lwkt_verdict.specs.Asks.{is_refused};
-ghost use Rattle.lwkt_verdict.specs.Shorts.{ask_of, answer_of, is_long_ask, is_long_answer, IsAskIn, IsAnswerIn, Grows};
+ghost use Rattle.lwkt_verdict.specs.Shorts.{ask_of, answer_of, is_long_ask, is_long_answer, ask_place, answer_place, end_of, with_one, IsAskIn, IsAnswerIn, Grows};
 
 use lwkt_base::{Answer, Ask, Call, Fault, Flags, Item, MsgId, ThreadId, TokId};
 use std::alloc::AllocError;
@@ -58,7 +58,7 @@ impl ShortAsk {
     fn of(ask: &Ask) -> Option<ShortAsk>
         ensures same { IfSome result (λ short. (longs : _) → ask_of longs short ≡ ask.now) }
         ensures inside { IfSome result (λ short. IsAskIn 0 short) }
-        ensures long { is_some result ≡ false → is_long_ask ask.now ≡ true }
+        ensures short { is_some result ≡ not (is_long_ask ask.now) }
     {
         match *ask {
             Ask::Get(tok) => Some(ShortAsk::Get(tok)),
@@ -122,7 +122,7 @@ impl ShortAnswer {
     fn of(answer: &Answer) -> Option<ShortAnswer>
         ensures same { IfSome result (λ short. (longs : _) → answer_of longs short ≡ Some answer.now) }
         ensures inside { IfSome result (λ short. IsAnswerIn 0 short) }
-        ensures long { is_some result ≡ false → is_long_answer answer.now ≡ true }
+        ensures short { is_some result ≡ not (is_long_answer answer.now) }
     {
         match *answer {
             Answer::Begin => Some(ShortAnswer::Begin),
@@ -187,10 +187,13 @@ impl ShortAnswer {
     }
 }
 
-/// An ask kept short; a long one lies behind the others then. Where memory for it is refused, nothing changes.
+/// An ask kept short: a long one, and no other, lies behind the others then. Where memory for it is refused, nothing changes.
 pub fn keep_ask(longs: &mut Vec<Ask>, ask: &Ask) -> Result<ShortAsk, AllocError>
     ensures same { IfOk result (λ short. ask_of longs.new.items short ≡ ask.now) }
     ensures inside { IfOk result (λ short. IsAskIn (length longs.new.items) short) }
+    ensures short { IfOk result (λ short. ask_place short ≡ end_of (is_long_ask ask.now) longs.old.items) }
+    ensures added { IfOk result (λ short. longs.new.items ≡ with_one (is_long_ask ask.now) longs.old.items ask.now) }
+    ensures refused { OnErr result (longs.new.items ≡ longs.old.items) }
     ensures grows { Grows longs.old.items longs.new.items }
 {
     if let Some(short) = ShortAsk::of(ask) {
@@ -201,10 +204,13 @@ pub fn keep_ask(longs: &mut Vec<Ask>, ask: &Ask) -> Result<ShortAsk, AllocError>
     Ok(ShortAsk::Long(place))
 }
 
-/// An answer kept short; a long one lies behind the others then. Where memory for it is refused, nothing changes.
+/// An answer kept short: a long one, and no other, lies behind the others then. Where memory for it is refused, nothing changes.
 pub fn keep_answer(longs: &mut Vec<Answer>, answer: &Answer) -> Result<ShortAnswer, AllocError>
     ensures same { IfOk result (λ short. answer_of longs.new.items short ≡ Some answer.now) }
     ensures inside { IfOk result (λ short. IsAnswerIn (length longs.new.items) short) }
+    ensures short { IfOk result (λ short. answer_place short ≡ end_of (is_long_answer answer.now) longs.old.items) }
+    ensures added { IfOk result (λ short. longs.new.items ≡ with_one (is_long_answer answer.now) longs.old.items answer.now) }
+    ensures refused { OnErr result (longs.new.items ≡ longs.old.items) }
     ensures grows { Grows longs.old.items longs.new.items }
 {
     if let Some(short) = ShortAnswer::of(answer) {
