@@ -8,7 +8,7 @@ use Rattle.std.proofs.lemmas.List.Sums.{fold-append}
 use Rattle.std.proofs.lemmas.List.{take-append-le, take_all}
 use lib.ListN.{length-append}
 use Rattle.std.proofs.lemmas.Bool.{cases_lt, false≢true}
-use Rattle.lwkt_drive.specs.declared.driven.Ending.TheVariants.{NotDriven, TurnsOut}
+use Rattle.lwkt_drive.specs.declared.driven.Ending.TheVariants.{NotDriven, TurnsOut, Quiet}
 use Rattle.atomic_table.specs.Seated.{TableId}
 use Rattle.lwkt_base.specs.declared.names.CpuId.{CpuId}
 use Rattle.lwkt_base.specs.declared.asks.Ask.{Ask}
@@ -25,7 +25,7 @@ use Rattle.lwkt_drive.specs.declared.driven.Driven.{Driven}
 use Rattle.lwkt_drive.specs.declared.driven.Limits.{Limits}
 use Rattle.lwkt_drive.specs.declared.driven.Said.{Said}
 use Rattle.lwkt_drive.specs.declared.driven.Ending.{Ending}
-use Rattle.lwkt_drive.specs.Course.{IsAt, IsWithin, GoesOn, EndsBy, WasQuiet, EndsQuiet, agreed, heard, noted, MakesOne, Stays, IsDriven, IsUnderWay, IsSo, ComesTo, GoesTo, DrivesOn, DrivesOut, begun, counts}
+use Rattle.lwkt_drive.specs.Course.{IsAt, IsWithin, GoesOn, EndsBy, WasQuiet, EndsQuiet, agreed, heard, noted, MakesOne, Stays, IsDriven, EndedQuietly, IsUnderWay, IsSo, ComesTo, GoesTo, DrivesOn, DrivesOut, begun, counts}
 
 -- a turn more, after others
 pub made_more : {B : Type 0} (polled : B → Answer → Ask → B → Type 0) (bank : BankId) (old mid new : Processor B) (t v u : Vec Event Global) (turns : List Turned) (turned : Turned) → Made polled bank old mid t v turns → MakesTurn polled bank mid new v u turned → Made polled bank old new t u (turns ++ turned ∷ [])
@@ -46,6 +46,63 @@ ends_quiet polled bank old mid new t v u (x ∷ []) turned made last quiet =
     ends_quiet polled bank made.0 mid new made.1.0 v u [] turned made.1.1.1 last quiet
 ends_quiet polled bank old mid new t v u (x ∷ y ∷ turns) turned made last quiet =
     ends_quiet polled bank made.0 mid new made.1.0 v u (y ∷ turns) turned made.1.1.1 last quiet
+
+-- the last of some turns, where it was quiet
+record LastOf {B : Type 0} (polled : B → Answer → Ask → B → Type 0) (bank : BankId) (old new : Processor B) (t u : Vec Event Global) (turns : List Turned) : Type 0 where
+  earlier : List Turned
+  last : Turned
+  turns_are : turns ≡ earlier ++ last ∷ []
+  before : Processor B
+  trace : Vec Event Global
+  came : Made polled bank old before t trace earlier
+  makes : MakesTurn polled bank before new trace u last
+  was_quiet : WasQuiet last trace u
+
+last_of : {B : Type 0} (polled : B → Answer → Ask → B → Type 0) (bank : BankId) (old new : Processor B) (t u : Vec Event Global) (turns : List Turned) (made : Made polled bank old new t u turns) → EndsQuiet polled bank old new t u turns made → LastOf polled bank old new t u turns
+last_of polled bank old new t u [] made ends = absurd ends
+last_of {B} polled bank old new t u (turned ∷ []) made ends =
+    let F : Processor B → Type 0 = λ p. MakesTurn polled bank old p t u turned in
+    let G : Vec Event Global → Type 0 = λ x. MakesTurn polled bank old made.0 t x turned in
+    record {
+      earlier = [];
+      last = turned;
+      turns_are = refl;
+      before = old;
+      trace = t;
+      came = (refl, refl);
+      makes = subst F (sym made.1.1.1.0) (subst G (sym made.1.1.1.1) made.1.1.0);
+      was_quiet = ends;
+    }
+last_of polled bank old new t u (turned ∷ next ∷ turns) made ends =
+    let l = last_of polled bank made.0 new made.1.0 u (next ∷ turns) made.1.1.1 ends in
+    record {
+      earlier = turned ∷ l.earlier;
+      last = l.last;
+      turns_are = ap (λ (xs : List Turned). turned ∷ xs) l.turns_are;
+      before = l.before;
+      trace = l.trace;
+      came = (made.0, (made.1.0, (made.1.1.0, l.came)));
+      makes = l.makes;
+      was_quiet = l.was_quiet;
+    }
+
+-- a drive that ends as quiet
+pub ended_quietly : {B : Type 0} (polled : B → Answer → Ask → B → Type 0) (answers : CpuId → ℕ → Bool → Type 0) (bank : BankId) (limits : Limits) (old new : Driven B) → IsDriven polled answers bank limits old new Quiet → EndedQuietly polled bank old new
+ended_quietly polled answers bank limits old new d =
+    let l = last_of polled bank old.cpu new.cpu old.trace d.v d.turns d.made (d.quiet d.ends) in
+    record {
+      earlier = l.earlier;
+      last = l.last;
+      drove = d.drove ∙ ap counts l.turns_are;
+      before = l.before;
+      trace = l.trace;
+      left = d.v;
+      came = l.came;
+      makes = l.makes;
+      now = d.trace;
+      ran_none = l.was_quiet.0;
+      no_event = d.trace ∙ l.was_quiet.1;
+    }
 
 -- one yes more
 heard_more : (turns : List Turned) (turned : Turned) (said : Said) → agreed (heard (length turns) said) ≡ heard (length (turns ++ turned ∷ [])) said

@@ -1,4 +1,5 @@
-//! What the traces of processors that were driven tell, as laws.
+//! What the traces of processors that were driven tell, and how one ends as quiet, as laws.
+ghost use Rattle.lwkt_drive.specs.Course.{QuietEndsAreQuiet};
 ghost use Rattle.lwkt_drive.specs.Telling.{NewIsTold, StopsAreTold, DrivesAreTold, TracesTellOneRun, NewMailIsTold, MailStaysTold, MailDrivesAreTold, TracesTellOneMailRun};
 
 use crate::gates::Gate;
@@ -30,4 +31,9 @@ pub fn traces_tell_desks<B: Body, G: Gate>()
 /// closing owner states and rounds.
 pub fn traces_tell_one_mail_run()
     ensures { TracesTellOneMailRun }
+{}
+
+/// Where a processor's drive ends as quiet, it made a turn, and its last turn ran no thread and appended no event.
+pub fn quiet_ends_are_quiet<B: Body, G: Gate>()
+    ensures { QuietEndsAreQuiet B.polled G.answers }
 {}
