@@ -1,19 +1,21 @@
 -- A processor sees what another has put into the queue of the lane to it, over the ports of both.
-use Rattle.std.proofs.Common.{◌≡◌, ℕ, ◌<◌, List, length, map, set, get_or, refl, ap, sym, ◌∙◌, subst, arith, get_or-set_same, get_or-set_other}
-use Rattle.std.proofs.lemmas.List.{length-map, get_or-map, get_or_default}
+use Rattle.std.proofs.Common.{◌≡◌, ℕ, List, set, get_or, refl, ap, sym, ◌∙◌, subst, get_or-set_same, get_or-set_other}
+use Rattle.std.proofs.lemmas.List.{get_or_default}
 use mathlib.Core.Logic.{dite}
 use native.Mathlib.Decide.{ℕ_discrete}
 use Rattle.lwkt_base.specs.declared.names.CpuId.{CpuId}
-use Rattle.lwkt_lane.specs.Lane.{LaneId, queued, out_lane, in_lane}
+use Rattle.lwkt_lane.specs.Lane.{queued, in_lane}
 use Rattle.lwkt_msg.specs.Desks.{Desk, cpu_of, IsSameDesk}
 use Rattle.lwkt_port.specs.declared.lines.Lane.{Lane}
 use Rattle.lwkt_port.specs.Posts.{Post, Changes, AreSameLanes, IsSamePost}
-use Rattle.lwkt_port.specs.Sights.{AreEnds, PostSees, Sees as LanesSee}
+use Rattle.lwkt_port.specs.Sights.{AreEnds, LooksBeside, PostSees, PostSeesOwn, Sees as LanesSee, SeesOwn as LineSeesOwn}
 use Rattle.lwkt_port.specs.Sights as port
 use Rattle.lwkt_port.proofs.Growing.{same_none}
-use Rattle.lwkt_port.proofs.SightMoves.{sight_lanes}
+use Rattle.lwkt_port.proofs.JoinMoves.{same_ends}
+use Rattle.lwkt_port.proofs.SameLanes.{lanes_change}
+use Rattle.lwkt_port.proofs.SightMoves.{sight_lanes, own_lanes}
 use Rattle.lwkt_cpu.specs.Processors.{Processor}
-use Rattle.lwkt_cpu.specs.Sights.{AreJoined, Sees}
+use Rattle.lwkt_cpu.specs.Sights.{AreJoined, Sees, SeesOwn}
 
 -- the ports of joined processors are joined
 pub joined_posts : {B : Type 0} (s p : Processor B) → cpu_of s.post.seat ≡ s.seat.cpu → cpu_of p.post.seat ≡ p.seat.cpu → AreJoined s p → port.AreJoined s.post p.post
@@ -31,35 +33,14 @@ see_posts {B} s p q r one two sees =
       else_same = ap (λ (x : Post). record p { post = x }) sees.else_same;
     }
 
--- lines over the same lanes: as many, and each end is of the lane that it was of
-abbrev out_of : Lane → LaneId
-out_of line = out_lane line.out
-
-abbrev in_of : Lane → LaneId
-in_of line = in_lane line.into
-
-same_many : (a b : List Lane) → AreSameLanes a b → length b ≡ length a
-same_many a b s =
-    let before : length (map out_of a) ≡ length a = length-map a out_of in
-    let now : length (map out_of b) ≡ length b = length-map b out_of in
-    sym now ∙ ap length s.outs ∙ before
-
-same_out : (a b : List Lane) (i : ℕ) (d : Lane) → i < length a → AreSameLanes a b → out_of (get_or b i d) ≡ out_of (get_or a i d)
-same_out a b i d there s =
-    let many : length b ≡ length a = same_many a b s in
-    sym (get_or-map out_of b i d (out_of d) (omega (arith, there, many))) ∙ ap (λ l. get_or l i (out_of d)) s.outs ∙ get_or-map out_of a i d (out_of d) there
-
-same_into : (a b : List Lane) (i : ℕ) (d : Lane) → i < length a → AreSameLanes a b → in_of (get_or b i d) ≡ in_of (get_or a i d)
-same_into a b i d there s =
-    let many : length b ≡ length a = same_many a b s in
-    sym (get_or-map in_of b i d (in_of d) (omega (arith, there, many))) ∙ ap (λ l. get_or l i (in_of d)) s.ins ∙ get_or-map in_of a i d (in_of d) there
-
-same_ends : (from to : ℕ) (sender sender' lanes lanes' : List Lane) → AreEnds from to sender lanes → AreSameLanes sender sender' → AreSameLanes lanes lanes' → AreEnds from to sender' lanes'
-same_ends from to sender sender' lanes lanes' ends s p = record {
-  there = (let many : length sender' ≡ length sender = same_many sender sender' s in omega (arith, many, ends.there));
-  back = (let many : length lanes' ≡ length lanes = same_many lanes lanes' p in omega (arith, many, ends.back));
-  one = λ d. same_out sender sender' to d ends.there s ∙ ends.one d ∙ sym (same_into lanes lanes' from d ends.back p);
-}
+-- so it is with what they see of what they have sent to themselves
+pub see_own_post : {B : Type 0} (p : Processor B) (r : Post) → cpu_of p.post.seat ≡ p.seat.cpu → PostSeesOwn p.post r → SeesOwn p (record p { post = r })
+see_own_post {B} p r mine sees =
+    let F : CpuId → Type 0 = λ k. Changes LineSeesOwn k.0 p.post.lanes r.lanes in
+    record {
+      sees = subst F mine sees.sees;
+      else_same = ap (λ (x : Post). record p { post = x }) sees.else_same;
+    }
 
 -- joined processors stay joined while their ports are the same ones
 pub joined_stay : {B : Type 0} (s s' p p' : Processor B) → s'.seat.cpu ≡ s.seat.cpu → p'.seat.cpu ≡ p.seat.cpu → IsSamePost s.post s'.post → IsSamePost p.post p'.post → AreJoined s p → AreJoined s' p'
@@ -99,12 +80,27 @@ queues_change R i a b c stays to d = dite (ℕ_discrete to i)
     (λ same. ap (λ l. queued (get_or l to d).out) c.now ∙ ap (λ n. queued (get_or (set a i c.new) n d).out) same ∙ ap (λ (l : Lane). queued l.out) (get_or-set_same a i c.new d c.there) ∙ stays ∙ ap (λ (l : Lane). queued l.out) (sym (get_or_default a i d c.old c.there ∙ c.was)) ∙ sym (ap (λ n. queued (get_or a n d).out) same))
     (λ apart. ap (λ l. queued (get_or l to d).out) c.now ∙ ap (λ (l : Lane). queued l.out) (get_or-set_other a i to c.new d apart))
 
+-- beside whose line to a number another one looked, it is looked at
+pub beside_looked : {B : Type 0} (to : ℕ) (s s' : Processor B) → Changes LooksBeside to s.post.lanes s'.post.lanes → s' ≡ record s { post = record s.post { lanes = s'.post.lanes } } → IsLooked s s'
+beside_looked to s s' c is = record {
+  lanes = lanes_change LooksBeside to s.post.lanes s'.post.lanes c c.does.beside.lane_same (ap (λ i. in_lane i) c.does.into_same);
+  queues = queues_change LooksBeside to s.post.lanes s'.post.lanes c c.does.beside.queued_same;
+  else_same = is;
+}
+
 -- where a processor sees what another has sent, both are looked at
 pub sees_looked : {B : Type 0} (s s' p p' : Processor B) → Sees s s' p p' → IsLooked p p' × IsLooked s s'
 sees_looked s s' p p' sees =
     let same = sight_lanes s.seat.cpu.0 p.seat.cpu.0 s.post.lanes s'.post.lanes p.post.lanes p'.post.lanes sees.lanes in
-    let b = sees.lanes.beside in
     let c = sees.lanes.sees in (
       record { lanes = same.0; queues = queues_change _ s.seat.cpu.0 p.post.lanes p'.post.lanes c (ap (λ o. queued o) c.does.out_same); else_same = sees.else_same },
-      record { lanes = same.1; queues = queues_change _ p.seat.cpu.0 s.post.lanes s'.post.lanes b b.does.beside.queued_same; else_same = sees.sender_else },
+      beside_looked p.seat.cpu.0 s s' sees.lanes.beside sees.sender_else,
     )
+
+-- where a processor sees what it has sent to itself, it is looked at
+pub sees_own_looked : {B : Type 0} (p p' : Processor B) → SeesOwn p p' → IsLooked p p'
+sees_own_looked p p' own = record {
+  lanes = own_lanes p.seat.cpu.0 p.post.lanes p'.post.lanes own.sees;
+  queues = queues_change _ p.seat.cpu.0 p.post.lanes p'.post.lanes own.sees own.sees.does.beside.queued_same;
+  else_same = own.else_same;
+}

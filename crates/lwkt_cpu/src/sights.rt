@@ -1,6 +1,6 @@
-//! Where two processors are both at hand, the one sees what the other has sent to it.
+//! Where two processors are both at hand, the one sees what the other has sent to it, and what it has sent to itself.
 ghost use Rattle.lwkt_port.specs.Posts.{IsSamePost};
-ghost use Rattle.lwkt_cpu.specs.Sights.{AreJoined, Sees};
+ghost use Rattle.lwkt_cpu.specs.Sights.{AreJoined, Sees, SeesOwn};
 
 use crate::cpus::Cpu;
 
@@ -17,5 +17,16 @@ impl<B> Cpu<B> {
         ensures sender { IsSamePost sender.old.post sender.new.post }
     {
         self.ports.see(&mut sender.ports);
+    }
+    /// Sees every note that this processor has put into the queue of the lane to itself, as `see` does of another's.
+    ///
+    /// That this lane has both its ends here is the caller's condition.
+    #[inline]
+    pub fn see_own(&mut self)
+        requires { AreJoined self.old self.old }
+        ensures sees { SeesOwn self.old self.new }
+        ensures same { IsSamePost self.old.post self.new.post }
+    {
+        self.ports.see_own();
     }
 }

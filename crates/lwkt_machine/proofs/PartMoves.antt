@@ -1,4 +1,4 @@
--- One processor of a machine makes a turn, after it saw what the others have sent to it, and the parts of the machine still belong together.
+-- One processor of a machine makes a turn, after it saw what was sent to it, and the parts of the machine still belong together.
 use Rattle.std.proofs.Common.{◌≡◌, ℕ, ◌<◌, ◌++◌, List, length, set, get_or, take, drop, refl, subst, arith, Some}
 use Rattle.std.specs.Prelude.{Vec, slice_get}
 use Rattle.std.specs.declared.alloc.Global.{Global}
@@ -12,10 +12,10 @@ use Rattle.lwkt_cpu.specs.Turning.{MakesTurn}
 use Rattle.lwkt_machine.specs.Bodies.{Scripted, IsPolled}
 use Rattle.lwkt_machine.specs.Ended.{AreSameCpus}
 use Rattle.lwkt_machine.specs.Machines.{rig_of, AreParts}
-use Rattle.lwkt_machine.specs.Sights.{SeesOthers}
+use Rattle.lwkt_machine.specs.Sights.{SeesSent}
 use Rattle.lwkt_machine.specs.Turns.{TurnsAt}
 use Rattle.lwkt_machine.proofs.ListMoves.{refilled}
-use Rattle.lwkt_machine.proofs.SightMoves.{others_looked, looked_same, others_seen, seen_delivered}
+use Rattle.lwkt_machine.proofs.SightMoves.{sent_looked, looked_same, sent_seen, seen_delivered}
 use Rattle.lwkt_machine.proofs.StopMoves.{same_set}
 
 -- the processor of a number, read from what a list of processors was written back to
@@ -25,15 +25,15 @@ read_back mids items n k p long within is =
     slice_get_read mids (length mids) k p refl (omega (arith, long, within)) (subst F (refilled mids items n long) is)
 
 -- the processors are still the same ones after it
-pub turned_same : (bank : BankId) (olds mids : List (Processor Scripted)) (k : ℕ) (p q : Processor Scripted) (t u : Vec Event Global) (turned : Turned) → SeesOthers k olds mids → slice_get mids k ≡ Some p → MakesTurn IsPolled bank p q t u turned → AreSameCpus olds (set mids k q)
+pub turned_same : (bank : BankId) (olds mids : List (Processor Scripted)) (k : ℕ) (p q : Processor Scripted) (t u : Vec Event Global) (turned : Turned) → SeesSent k olds mids → slice_get mids k ≡ Some p → MakesTurn IsPolled bank p q t u turned → AreSameCpus olds (set mids k q)
 turned_same bank olds mids k p q t u turned sees at made =
-    same_set olds mids k p q (slice_get_within mids k p at) at (record { bank = made.ran.bank; table = made.ports.seat.table; number = made.ran.cpu; ports = made.ports }) (looked_same olds mids (others_looked k olds mids sees))
+    same_set olds mids k p q (slice_get_within mids k p at) at (record { bank = made.ran.bank; table = made.ports.seat.table; number = made.ran.cpu; ports = made.ports }) (looked_same olds mids (sent_looked k olds mids sees))
 
 -- it is a turn of the machine
-pub turned_at : (seats : ℕ) (bank : BankId) (book : Shelf) (olds mids : List (Processor Scripted)) (k : ℕ) (p q : Processor Scripted) (t u : Vec Event Global) (turned : Turned) → AreParts seats bank book olds → SeesOthers k olds mids → slice_get mids k ≡ Some p → MakesTurn IsPolled bank p q t u turned → TurnsAt k (rig_of bank book olds) (rig_of bank book (set mids k q)) t u turned
+pub turned_at : (seats : ℕ) (bank : BankId) (book : Shelf) (olds mids : List (Processor Scripted)) (k : ℕ) (p q : Processor Scripted) (t u : Vec Event Global) (turned : Turned) → AreParts seats bank book olds → SeesSent k olds mids → slice_get mids k ≡ Some p → MakesTurn IsPolled bank p q t u turned → TurnsAt k (rig_of bank book olds) (rig_of bank book (set mids k q)) t u turned
 turned_at seats bank book olds mids k p q t u turned parts sees at made = record {
   seen = mids;
   sees = sees;
   turns = record { before = p; now = q; at_before = at; does = made; cpus = refl; bank = refl; book = refl };
-  delivered = λ j s d e apart from. seen_delivered j 16 made.mail.count _ p.post made.mail.post made.room made.mail.v e (others_seen k olds mids sees parts.numbered p at j s d apart from) made.mail.takes;
+  delivered = λ j s d e from. (let own = sent_seen k olds mids sees parts.numbered parts.joined p at j s d e from in seen_delivered j 16 made.mail.count (get_or s.post.lanes k d).out p.post made.mail.post made.room made.mail.v e own.0 own.1 made.mail.takes);
 }

@@ -22,6 +22,10 @@ pub record IsOf (bank : BankId) (book : Shelf) (p : Processor Scripted) : Type 0
   pub bank_is : bank_of p.seat ≡ bank
   pub table_is : p.post.seat.table ≡ book.table
 
+-- the processors have the numbers of their places
+abbrev pub AreNumbered : List (Processor Scripted) → Type 0
+AreNumbered cpus = (k : ℕ) (p : Processor Scripted) → slice_get cpus k ≡ Some p → p.seat.cpu.0 ≡ k
+
 -- the lane from each of these processors to each one has its two ends there
 abbrev pub AreAllJoined : List (Processor Scripted) → Type 0
 AreAllJoined cpus = (i j : ℕ) (s p : Processor Scripted) → slice_get cpus i ≡ Some s → slice_get cpus j ≡ Some p → AreJoined s p
@@ -33,7 +37,7 @@ pub record AreParts (seats : ℕ) (bank : BankId) (book : Shelf) (cpus : List (P
   pub mails_are : book.cpus ≡ length cpus
   pub few : length cpus ≤ 8
   pub each : All (IsOf bank book) cpus
-  pub numbered : (k : ℕ) (p : Processor Scripted) → slice_get cpus k ≡ Some p → p.seat.cpu.0 ≡ k
+  pub numbered : AreNumbered cpus
   pub joined : AreAllJoined cpus
 
 -- the same of a machine

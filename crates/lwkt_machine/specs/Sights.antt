@@ -1,38 +1,43 @@
--- A processor of a machine sees what the others have sent to it, and takes it in (own).
-use Rattle.std.specs.Prelude.{◌≡◌, ◌≢◌, ℕ, List, [], ◌∷◌, ◌++◌, length, Some, slice_get, slice_index_or, Vec}
+-- A processor of a machine sees what has been sent to it, and takes it in (own).
+use Rattle.std.specs.Prelude.{◌≡◌, ◌≢◌, ℕ, ◌≤◌, List, [], ◌∷◌, length, Some, slice_get, slice_index_or, Vec}
 use Rattle.std.specs.declared.alloc.Global.{Global}
 use Rattle.lwkt_core.specs.declared.events.Event.{Event}
 use Rattle.lwkt_port.specs.declared.lines.Lane.{Lane}
-use Rattle.lwkt_port.specs.Sights.{IsDelivered}
+use Rattle.lwkt_port.specs.Posts.{Changes}
+use Rattle.lwkt_port.specs.Sights.{SeesAll, SeesOwn, LooksBeside, IsDelivered}
 use Rattle.lwkt_cpu.specs.Processors.{Processor}
 use Rattle.lwkt_cpu.specs.Sights.{Sees}
 use Rattle.lwkt_cpu.specs.Waking.{TakesMail}
 use Rattle.lwkt_machine.specs.Bodies.{Scripted}
 
--- a processor sees all that each of these others has put into the queue of the lane to it, one after another
+-- a step of the look: a processor sees all that each of these others has put into the queue of the lane to it, one after another
 abbrev pub SeesEach : Processor Scripted → Processor Scripted → List (Processor Scripted) → List (Processor Scripted) → Type 0
 SeesEach p q [] [] = q ≡ p
 SeesEach p q [] (_ ∷ _) = ⊥
 SeesEach p q (_ ∷ _) [] = ⊥
 SeesEach p q (s ∷ olds) (s' ∷ news) = (mid : Processor Scripted) × (Sees s s' p mid × SeesEach mid q olds news)
 
--- the processor of this number sees all that each other one has put into the queue of the lane to it: first those of lower numbers,
--- then those of higher ones
-pub record SeesOthers (cpu : ℕ) (olds news : List (Processor Scripted)) : Type 0 where
-  pub lower : List (Processor Scripted)
-  pub upper : List (Processor Scripted)
-  pub lower' : List (Processor Scripted)
-  pub upper' : List (Processor Scripted)
-  pub before : Processor Scripted
-  pub mid : Processor Scripted
-  pub after : Processor Scripted
-  pub number : length lower ≡ cpu
-  pub were : olds ≡ lower ++ before ∷ upper
-  pub are : news ≡ lower' ++ after ∷ upper'
-  pub from_lower : SeesEach before mid lower lower'
-  pub from_upper : SeesEach mid after upper upper'
+-- of a processor no more changed than that its line to the processor of this number was looked at
+pub record IsLookedAt (cpu : ℕ) (s s' : Processor Scripted) : Type 0 where
+  pub line : Changes LooksBeside cpu s.post.lanes s'.post.lanes
+  pub else_same : s' ≡ record s { post = record s.post { lanes = s'.post.lanes } }
 
--- what each other processor had put into the queue of its lane to the one of this number is received by that one as it takes mail in, in
--- order, unless its line keeps a note that found its port's queue full, or it took in the 16 notes of a turn
+-- the processor of this number saw all that each of these processors, itself too, had put into the queue of the lane to it; nothing
+-- else of it changed
+pub record SeesFrom (cpu : ℕ) (cpus : List (Processor Scripted)) (p p' : Processor Scripted) : Type 0 where
+  pub as_many : length p'.post.lanes ≡ length p.post.lanes
+  pub others : (k : ℕ) (s : Processor Scripted) (d e : Lane) → k ≢ cpu → slice_get cpus k ≡ Some s → SeesAll (slice_index_or s.post.lanes cpu d).out (slice_index_or p.post.lanes k e) (slice_index_or p'.post.lanes k e)
+  pub own : (d : Lane) → SeesOwn (slice_index_or p.post.lanes cpu d) (slice_index_or p'.post.lanes cpu d)
+  pub rest : (k : ℕ) (d : Lane) → length cpus ≤ k → slice_index_or p'.post.lanes k d ≡ slice_index_or p.post.lanes k d
+  pub else_same : p' ≡ record p { post = record p.post { lanes = p'.post.lanes } }
+
+-- of these processors the one of this number saw all that was sent to it, and no more changed of the others than this takes
+pub record SeesSent (cpu : ℕ) (olds news : List (Processor Scripted)) : Type 0 where
+  pub as_many : length news ≡ length olds
+  pub others : (k : ℕ) (s s' : Processor Scripted) → k ≢ cpu → slice_get olds k ≡ Some s → slice_get news k ≡ Some s' → IsLookedAt cpu s s'
+  pub sees : (p p' : Processor Scripted) → slice_get olds cpu ≡ Some p → slice_get news cpu ≡ Some p' → SeesFrom cpu olds p p'
+
+-- what each processor, also this one itself, had put into the queue of its lane to the one of this number is received by that one as it
+-- takes mail in, in order, unless its line keeps a note that found its port's queue full, or it took in the 16 notes of a turn
 abbrev pub AreDelivered : (cpu : ℕ) (olds : List (Processor Scripted)) {p q : Processor Scripted} {t u : Vec Event Global} → TakesMail p q t u → Type 0
-AreDelivered cpu olds mail = (k : ℕ) (s : Processor Scripted) (d e : Lane) → k ≢ cpu → slice_get olds k ≡ Some s → IsDelivered 16 mail.count (slice_index_or s.post.lanes cpu d).out (slice_index_or mail.post.lanes k e)
+AreDelivered cpu olds mail = (k : ℕ) (s : Processor Scripted) (d e : Lane) → slice_get olds k ≡ Some s → IsDelivered 16 mail.count (slice_index_or s.post.lanes cpu d).out (slice_index_or mail.post.lanes k e)

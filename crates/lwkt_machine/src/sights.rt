@@ -1,8 +1,8 @@
-//! A processor of a machine sees what the others have sent to it.
+//! A processor of a machine sees what has been sent to it.
 ghost use Rattle.std.specs.Prelude.{◌≡◌, ◌<◌, All, Some, length, slice_get};
 ghost use Rattle.lwkt_cpu.specs.Sights.{AreJoined};
-ghost use Rattle.lwkt_machine.specs.Machines.{AreAllJoined};
-ghost use Rattle.lwkt_machine.specs.Sights.{SeesEach, SeesOthers};
+ghost use Rattle.lwkt_machine.specs.Machines.{AreAllJoined, AreNumbered};
+ghost use Rattle.lwkt_machine.specs.Sights.{SeesEach, SeesSent};
 
 use crate::bodies::ScriptBody;
 use lwkt_cpu::Cpu;
@@ -18,16 +18,19 @@ fn see_each(cpu: &mut Cpu<ScriptBody>, others: &mut [Cpu<ScriptBody>])
     }
 }
 
-/// The processor of this number sees all that each other one has put into the queue of its lane to it. That the processor is there
-/// and the lanes have their ends at them is the caller's condition.
-pub(crate) fn see_others(cpus: &mut [Cpu<ScriptBody>], cpu: usize)
+/// The processor of this number sees all that each one, itself too, has put into the queue of its lane to it. That the processor is
+/// there, that each is at its number, and that the lanes have their ends at them is the caller's condition.
+pub(crate) fn see_sent(cpus: &mut [Cpu<ScriptBody>], cpu: usize)
     requires there { cpu < length cpus.old }
+    requires numbered { AreNumbered cpus.old }
     requires joined { AreAllJoined cpus.old }
-    ensures sees { SeesOthers cpu cpus.old cpus.new }
+    ensures sees { SeesSent cpu cpus.old cpus.new }
     ensures as_many { length cpus.new ≡ length cpus.old }
 {
     let (lower, rest) = cpus.split_at_mut(cpu);
     let (one, upper) = rest.split_at_mut(1);
-    see_each(&mut one[0], lower);
-    see_each(&mut one[0], upper);
+    let target = &mut one[0];
+    target.see_own();
+    see_each(target, lower);
+    see_each(target, upper);
 }

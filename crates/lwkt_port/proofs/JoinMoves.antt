@@ -19,7 +19,7 @@ out_of line = out_lane line.out
 abbrev in_of : Lane → LaneId
 in_of line = in_lane line.into
 
-same_many : (a b : List Lane) → AreSameLanes a b → length b ≡ length a
+pub same_many : (a b : List Lane) → AreSameLanes a b → length b ≡ length a
 same_many a b s =
     let before : length (map out_of a) ≡ length a = length-map a out_of in
     let now : length (map out_of b) ≡ length b = length-map b out_of in
@@ -35,7 +35,8 @@ same_into a b i d there s =
     let many : length b ≡ length a = same_many a b s in
     sym (get_or-map in_of b i d (in_of d) (omega (arith, there, many))) ∙ ap (λ l. get_or l i (in_of d)) s.ins ∙ get_or-map in_of a i d (in_of d) there
 
-same_ends : (from to : ℕ) (sender sender' lanes lanes' : List Lane) → AreEnds from to sender lanes → AreSameLanes sender sender' → AreSameLanes lanes lanes' → AreEnds from to sender' lanes'
+-- ends of one lane stay so
+pub same_ends : (from to : ℕ) (sender sender' lanes lanes' : List Lane) → AreEnds from to sender lanes → AreSameLanes sender sender' → AreSameLanes lanes lanes' → AreEnds from to sender' lanes'
 same_ends from to sender sender' lanes lanes' ends s p = record {
   there = (let many : length sender' ≡ length sender = same_many sender sender' s in omega (arith, many, ends.there));
   back = (let many : length lanes' ≡ length lanes = same_many lanes lanes' p in omega (arith, many, ends.back));

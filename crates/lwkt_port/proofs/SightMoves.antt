@@ -5,14 +5,16 @@ use mathlib.Core.List.{IsPrefix}
 use Rattle.std.specs.Prelude.{◌⊎◌, All, IsSome, slice_index_or, Vec}
 use Rattle.std.specs.declared.alloc.Global.{Global}
 use Rattle.lwkt_core.specs.declared.events.Event.{Event}
+use Rattle.lwkt_lane.specs.declared.ins.LaneIn.{LaneIn}
 use Rattle.lwkt_lane.specs.declared.notes.Note.{Note}
 use Rattle.lwkt_lane.specs.declared.outs.LaneOut.{LaneOut}
-use Rattle.lwkt_lane.specs.Lane.{queued, received, seen, out_lane, in_lane}
+use Rattle.lwkt_lane.specs.Lane.{queued, received, seen, out_lane, in_lane, IsLane}
 use Rattle.lwkt_msg.specs.Desks.{cpu_of}
 use Rattle.lwkt_port.specs.declared.lines.Lane.{Lane}
+use Rattle.lwkt_port.specs.Intakes.{PostTakesIn}
 use Rattle.lwkt_port.specs.Laws.{TakesSeen}
 use Rattle.lwkt_port.specs.Posts.{Post, Changes, AreSameLanes}
-use Rattle.lwkt_port.specs.Sights.{SeesAll, LooksBeside, Sees, IsDelivered, SentAreDelivered}
+use Rattle.lwkt_port.specs.Sights.{AreEnds, SeesQueue, SeesAll, LooksBeside, SeesOwn, Sees, IsDelivered, SentAreDelivered, OwnAreDelivered}
 use Rattle.lwkt_port.proofs.DeliveryMoves.{seen_taken}
 use Rattle.lwkt_port.proofs.Dispatching.{changed}
 use Rattle.lwkt_port.proofs.SameLanes.{lanes_change}
@@ -25,12 +27,37 @@ lines_see from to sender lanes s s' line line' there was back at beside sees = r
 
 pub sight_lanes : (from to : ℕ) (sender sender' lanes lanes' : List Lane) → Sees from to sender sender' lanes lanes' → AreSameLanes lanes lanes' × AreSameLanes sender sender'
 sight_lanes from to sender sender' lanes lanes' s = (
-  lanes_change (SeesAll s.beside.old.out) from lanes lanes' s.sees (ap (λ o. out_lane o) s.sees.does.out_same) s.sees.does.lane_same,
+  lanes_change (SeesAll s.beside.old.out) from lanes lanes' s.sees (ap (λ o. out_lane o) s.sees.does.out_same) s.sees.does.into.lane_same,
   lanes_change LooksBeside to sender sender' s.beside s.beside.does.beside.lane_same (ap (λ i. in_lane i) s.beside.does.into_same),
 )
 
+-- so it is with a line whose two ends are of one lane
+pub line_sees : (at : ℕ) (lanes : List Lane) (line line' : Lane) → at < length lanes → line ≡ slice_index_or lanes at line → SeesOwn line line' → Changes SeesOwn at lanes (set lanes at line')
+line_sees at lanes line line' there was sees = changed Lane SeesOwn at at lanes line line' there was refl sees
+
+pub own_lanes : (at : ℕ) (lanes lanes' : List Lane) → Changes SeesOwn at lanes lanes' → AreSameLanes lanes lanes'
+own_lanes at lanes lanes' c = lanes_change SeesOwn at lanes lanes' c c.does.beside.lane_same c.does.into.lane_same
+
+-- the two ends at one place are of one lane
+pub own_ends : (at : ℕ) (lanes : List Lane) (line : Lane) → AreEnds at at lanes lanes → line ≡ slice_index_or lanes at line → IsLane line.out line.into
+own_ends at lanes line ends was = let F : Lane → Type 0 = λ l. IsLane l.out l.into in subst F (sym was) (ends.one line)
+
 front : (a b c : List Note) → IsPrefix a b → IsPrefix (c ++ a) (c ++ b)
 front a b c p = (p.0, append_assoc c a p.0 ∙ ap (λ l. c ++ l) p.1)
+
+-- what a line has seen of a queue is received, where notes are taken in
+line_delivered : (at limit count : ℕ) (out : LaneOut) (into : LaneIn) (line : Lane) (q r : Post) (t u : Vec Event Global) (e : Lane) → at < length q.lanes → slice_index_or q.lanes at e ≡ line → SeesQueue out into line.into → PostTakesIn limit q r t u count → IsDelivered limit count out (slice_index_or r.lanes at e)
+line_delivered at limit count out into line q r t u e there is sees takes =
+    let taken : TakesSeen limit count (slice_index_or q.lanes at e).into (slice_index_or r.lanes at e) = seen_taken limit count _ _ takes.takes at e there in
+    let F : Lane → Type 0 = λ l. TakesSeen limit count l.into (slice_index_or r.lanes at e) in
+    let got : TakesSeen limit count line.into (slice_index_or r.lanes at e) = subst F is taken in
+    let after : Lane = slice_index_or r.lanes at e in
+    let G : List Note → Type 0 = λ l. IsPrefix l (received after.into) in
+    let H : List Note → Type 0 = λ l. IsPrefix (received line.into ++ seen line.into) l in
+    ⊎_elim
+    (λ (first : IsPrefix (seen line.into) got.popped). inl (subst G sees.all (subst H (sym got.received_is) (front (seen line.into) got.popped (received line.into) first))))
+    (λ (held : IsSome after.kept ⊎ (limit ≤ count)). inr held)
+    got.rest
 
 pub sent_delivered : SentAreDelivered
 sent_delivered s s' p q r limit count t u d e ends sight takes =
@@ -41,15 +68,17 @@ sent_delivered s s' p q r limit count t u d e ends sight takes =
     let many : length q.lanes ≡ length p.lanes = ap length c.now ∙ length-set p.lanes from c.new in
     let out_is : slice_index_or s.lanes to d ≡ b.old = get_or_default s.lanes to d b.old b.there ∙ b.was in
     let line_is : slice_index_or q.lanes from e ≡ c.new = ap (λ l. get_or l from e) c.now ∙ get_or-set_same p.lanes from c.new e c.there in
-    let taken : TakesSeen limit count (slice_index_or q.lanes from e).into (slice_index_or r.lanes from e) = seen_taken limit count _ _ takes.takes from e (let h : from < length p.lanes = c.there in omega (arith, h, many)) in
-    let F : Lane → Type 0 = λ l. TakesSeen limit count l.into (slice_index_or r.lanes from e) in
-    let got : TakesSeen limit count c.new.into (slice_index_or r.lanes from e) = subst F line_is taken in
-    let line : Lane = slice_index_or r.lanes from e in
-    let G : List Note → Type 0 = λ l. IsPrefix l (received line.into) in
-    let H : List Note → Type 0 = λ l. IsPrefix (received c.new.into ++ seen c.new.into) l in
-    let D : Lane → Type 0 = λ l. IsDelivered limit count l.out line in
-    let then : IsDelivered limit count b.old.out line = ⊎_elim
-    (λ (first : IsPrefix (seen c.new.into) got.popped). inl (subst G c.does.all (subst H (sym got.received_is) (front (seen c.new.into) got.popped (received c.new.into) first))))
-    (λ (held : IsSome line.kept ⊎ (limit ≤ count)). inr held)
-    got.rest in
-    subst D (sym out_is) then
+    let there : from < length q.lanes = (let h : from < length p.lanes = c.there in omega (arith, h, many)) in
+    let D : Lane → Type 0 = λ l. IsDelivered limit count l.out (slice_index_or r.lanes from e) in
+    subst D (sym out_is) (line_delivered from limit count b.old.out c.old.into c.new q r t u e there line_is c.does.into takes)
+
+pub own_delivered : OwnAreDelivered
+own_delivered p q r limit count t u d e sight takes =
+    let own : ℕ = (cpu_of p.seat).0 in
+    let c = sight.sees in
+    let many : length q.lanes ≡ length p.lanes = ap length c.now ∙ length-set p.lanes own c.new in
+    let out_is : slice_index_or p.lanes own d ≡ c.old = get_or_default p.lanes own d c.old c.there ∙ c.was in
+    let line_is : slice_index_or q.lanes own e ≡ c.new = ap (λ l. get_or l own e) c.now ∙ get_or-set_same p.lanes own c.new e c.there in
+    let there : own < length q.lanes = (let h : own < length p.lanes = c.there in omega (arith, h, many)) in
+    let D : Lane → Type 0 = λ l. IsDelivered limit count l.out (slice_index_or r.lanes own e) in
+    subst D (sym out_is) (line_delivered own limit count c.old.out c.old.into c.new q r t u e there line_is c.does.into takes)

@@ -1,5 +1,5 @@
--- Where the ports of two processors are both at hand, the one sees all that the other has put into the queue of the lane between them
--- (own).
+-- Where the ports of two processors are both at hand, the one sees all that the other has put into the queue of the lane between them,
+-- and what it has itself put into that of the lane to itself (own).
 use Rattle.std.specs.Prelude.{◌≡◌, ◌⊎◌, ℕ, ◌<◌, ◌≤◌, List, ◌++◌, length, IsSome, slice_index_or, Vec}
 use Rattle.std.specs.declared.alloc.Global.{Global}
 use mathlib.Core.List.{IsPrefix}
@@ -19,12 +19,16 @@ pub record AreEnds (from to : ℕ) (sender lanes : List Lane) : Type 0 where
   pub back : from < length lanes
   pub one : (d : Lane) → IsLane (slice_index_or sender to d).out (slice_index_or lanes from d).into
 
+-- a receiving end has seen all that this sending end has put into the queue
+pub record SeesQueue (out : LaneOut) (into into' : LaneIn) : Type 0 where
+  pub all : received into' ++ seen into' ≡ queued out
+  pub received_same : received into' ≡ received into
+  pub first : IsPrefix (seen into) (seen into')
+  pub lane_same : in_lane into' ≡ in_lane into
+
 -- a line's receiving end has seen all that this sending end has put into the queue; nothing else of the line changed
 pub record SeesAll (out : LaneOut) (line line' : Lane) : Type 0 where
-  pub all : received line'.into ++ seen line'.into ≡ queued out
-  pub received_same : received line'.into ≡ received line.into
-  pub first : IsPrefix (seen line.into) (seen line'.into)
-  pub lane_same : in_lane line'.into ≡ in_lane line.into
+  pub into : SeesQueue out line.into line'.into
   pub out_same : line'.out ≡ line.out
   pub kept_same : line'.kept ≡ line.kept
 
@@ -32,6 +36,12 @@ pub record SeesAll (out : LaneOut) (line line' : Lane) : Type 0 where
 pub record LooksBeside (line line' : Lane) : Type 0 where
   pub beside : IsBeside line.out line'.out
   pub into_same : line'.into ≡ line.into
+  pub kept_same : line'.kept ≡ line.kept
+
+-- a line's receiving end has seen all that the line's own sending end has put into the queue; nothing else of the line changed
+pub record SeesOwn (line line' : Lane) : Type 0 where
+  pub into : SeesQueue line.out line.into line'.into
+  pub beside : IsBeside line.out line'.out
   pub kept_same : line'.kept ≡ line.kept
 
 -- of a sender's lines and a receiver's, the receiver saw all that came from the sender's number
@@ -49,6 +59,11 @@ pub record PostSees (s s' p p' : Post) : Type 0 where
   pub sender_else : s' ≡ record s { lanes = s'.lanes }
   pub else_same : p' ≡ record p { lanes = p'.lanes }
 
+-- a processor's ports saw all that they had put into the queue of the lane to themselves
+pub record PostSeesOwn (p p' : Post) : Type 0 where
+  pub sees : Changes SeesOwn (cpu_of p.seat).0 p.lanes p'.lanes
+  pub else_same : p' ≡ record p { lanes = p'.lanes }
+
 -- all that a sending end had put into the queue of its lane is received at this line, in order, unless the line keeps a note that
 -- found its port's queue full, or as many notes were taken in as are allowed
 abbrev pub IsDelivered : ℕ → ℕ → LaneOut → Lane → Type 0
@@ -58,6 +73,11 @@ IsDelivered limit count out line = IsPrefix (queued out) (received line.into) �
 abbrev pub SentAreDelivered : Type 0
 SentAreDelivered = (s s' p q r : Post) (limit count : ℕ) (trace trace' : Vec Event Global) (d e : Lane) → AreJoined s p → PostSees s s' p q → PostTakesIn limit q r trace trace' count
     → IsDelivered limit count (slice_index_or s.lanes (cpu_of p.seat).0 d).out (slice_index_or r.lanes (cpu_of s.seat).0 e)
+
+-- what one processor's ports had put into the queue of the lane to themselves, which they then saw and took in
+abbrev pub OwnAreDelivered : Type 0
+OwnAreDelivered = (p q r : Post) (limit count : ℕ) (trace trace' : Vec Event Global) (d e : Lane) → PostSeesOwn p q → PostTakesIn limit q r trace trace' count
+    → IsDelivered limit count (slice_index_or p.lanes (cpu_of p.seat).0 d).out (slice_index_or r.lanes (cpu_of p.seat).0 e)
 
 -- whatever calls two processors' ports make, the lane between them has its two ends there still
 abbrev pub StayJoined : Type 0

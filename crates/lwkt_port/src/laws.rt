@@ -1,5 +1,5 @@
 //! What the ports are for. The functions do nothing: their contracts are the laws.
-ghost use Rattle.lwkt_port.specs.Sights.{SentAreDelivered, StayJoined, OpenedAreJoined};
+ghost use Rattle.lwkt_port.specs.Sights.{SentAreDelivered, OwnAreDelivered, StayJoined, OpenedAreJoined};
 ghost use Rattle.lwkt_port.specs.Laws.{LanesLoseNone, NotesLeaveServed, UrgentLeaveFirst, LeavingChains, NotesComeLast, RequestsAreShownOnce, OwedIsMadeOnce, UnowedIsNotMade, EintrIfAborted, NothingIsTold, TellsChain, HandsWaitForRoom, PaidHandsWaitForRoom, SeenAreTakenIn};
 
 /// What left a lane is what was reaped, queued, found stale or foreign, in order, and at last what is kept for it.
@@ -58,9 +58,11 @@ pub fn seen_notes_are_taken_in()
 {}
 
 /// What a processor's ports have put into the queue of the lane to another one's is received by a `take_in` of that one that
-/// follows a `see`, in order, unless a note is kept that found its port's queue full, or as many were taken in as are allowed.
+/// follows a `see`, in order, unless a note is kept that found its port's queue full, or as many were taken in as are allowed. So
+/// it is with what they have put into the queue of the lane to themselves, after a `see_own`.
 pub fn sent_notes_are_delivered()
-    ensures { SentAreDelivered }
+    ensures others { SentAreDelivered }
+    ensures own { OwnAreDelivered }
 {}
 
 /// Two processors' ports that are opened over the two ends of a lane have it between them, and keep it whatever calls they make.

@@ -1,6 +1,6 @@
 //! The ports as they are opened.
 ghost use Rattle.std.specs.Prelude.{◌≡◌, ◌⊎◌, ℕ, ◌<◌, ◌≤◌, [], false, length, All, IfOk, MatchResult, ◌↔◌, IsTrue, vec_len, map};
-ghost use Rattle.lwkt_base.specs.declared.faults.Fault.TheVariants.{Memory, Limits};
+ghost use Rattle.lwkt_base.specs.declared.faults.Fault.TheVariants.{Limits};
 ghost use Rattle.lwkt_msg.specs.Desks.{cpu_of, cpus_of, messages_of};
 ghost use Rattle.lwkt_port.specs.Mails.{mail_at, AreMails};
 ghost use Rattle.lwkt_port.specs.Openings.{new_mail, AreNewPorts, new_line, ArePaired, AreWithin, IsFresh, AreOrigins, IsOpenedPost};
@@ -92,6 +92,8 @@ fn are_within(
 }
 
 impl Ports {
+    ghost use Rattle.lwkt_base.specs.Fault.{no_memory};
+
     /// Opens the ports of a processor's threads, each without an item, over the processor's seat at the book, the sending
     /// ends of the lanes to each processor, and the receiving ends of those from each. `origins` are the threads that the
     /// messages belong to. In msgport(9) each thread has a port that lwkt_initport_thread makes; here they are made
@@ -117,18 +119,21 @@ impl Ports {
         requires origins { AreOrigins seat origins.now }
         ensures { MatchResult result
             (λ p. AreWithin seat outs.items ins.items origins.now threads × IsOpenedPost cpu seat outs.items ins.items origins.now threads p)
-            (λ fault. (fault ≡ Memory) ⊎ ((fault ≡ Limits) × (AreWithin seat outs.items ins.items origins.now threads → ⊥))) }
+            (λ fault. (fault ≡ no_memory) ⊎ ((fault ≡ Limits) × (AreWithin seat outs.items ins.items origins.now threads → ⊥))) }
     {
         let own = seat.cpu();
         let within = are_within(&seat, &outs, &ins, origins, threads);
-        let Ok(lanes) = pair(alloc, outs, ins) else {
-            return Err(Fault::Memory);
+        let lanes = match pair(alloc, outs, ins) {
+            Ok(lanes) => lanes,
+            Err(refused) => return Err(Fault::Memory(refused)),
         };
-        let Ok(ports) = new_ports(alloc, threads) else {
-            return Err(Fault::Memory);
+        let ports = match new_ports(alloc, threads) {
+            Ok(ports) => ports,
+            Err(refused) => return Err(Fault::Memory(refused)),
         };
-        let Ok(mails) = open_mails(alloc, origins, own) else {
-            return Err(Fault::Memory);
+        let mails = match open_mails(alloc, origins, own) {
+            Ok(mails) => mails,
+            Err(refused) => return Err(Fault::Memory(refused)),
         };
         if !within {
             return Err(Fault::Limits);

@@ -1,8 +1,8 @@
-//! Where the ports of two processors are both at hand, the one sees what the other has sent.
+//! Where the ports of two processors are both at hand, the one sees what the other has sent, and what it has sent to itself.
 ghost use Rattle.std.specs.Prelude.{◌≡◌, ℕ, ◌<◌, All, slice_index_or, vec_len};
 ghost use Rattle.lwkt_lane.specs.Lane.{IsLane};
-ghost use Rattle.lwkt_port.specs.Posts.{AreSameLanes, KeepsNamed, IsSamePost};
-ghost use Rattle.lwkt_port.specs.Sights.{AreEnds, SeesAll, LooksBeside, Sees, AreJoined, PostSees};
+ghost use Rattle.lwkt_port.specs.Posts.{Changes, AreSameLanes, KeepsNamed, IsSamePost};
+ghost use Rattle.lwkt_port.specs.Sights.{AreEnds, SeesAll, LooksBeside, SeesOwn, Sees, AreJoined, PostSees, PostSeesOwn};
 
 use crate::lines::Lane;
 use crate::posts::Ports;
@@ -28,6 +28,25 @@ fn see_from(lanes: &mut Vec<Lane>, from: usize, sender: &mut Vec<Lane>, to: usiz
     see_line(&mut lanes[from], &mut sender[to]);
 }
 
+// A line whose two ends are those of one lane sees all that was put into its queue.
+fn see_line_own(line: &mut Lane)
+    requires { IsLane line.old.out line.old.into }
+    ensures { SeesOwn line.old line.new }
+{
+    let _ = line.into.see_all(&mut line.out);
+}
+
+// The line at this place sees all that came over the lane of its own two ends.
+fn see_at(lanes: &mut Vec<Lane>, at: usize)
+    requires { AreEnds at at lanes.old.items lanes.old.items }
+    ensures sees { Changes SeesOwn at lanes.old.items lanes.new.items }
+    ensures len { vec_len lanes.new ≡ vec_len lanes.old }
+    ensures same { AreSameLanes lanes.old.items lanes.new.items }
+    ensures named { (n : ℕ) → All (KeepsNamed n) lanes.old.items → All (KeepsNamed n) lanes.new.items }
+{
+    see_line_own(&mut lanes[at]);
+}
+
 impl Ports {
     /// Sees every note that another processor's ports have put into the queue of the lane to this one. A `take_in` that follows
     /// takes these notes in first, up to its limit and the room of their ports' queues.
@@ -42,5 +61,17 @@ impl Ports {
         let from = usize::from(sender.seat.cpu().0);
         let to = usize::from(self.seat.cpu().0);
         see_from(&mut self.lanes, from, &mut sender.lanes, to);
+    }
+    /// Sees every note that these ports have put into the queue of the lane to themselves. A `take_in` that follows takes these notes
+    /// in first, as after `see`.
+    ///
+    /// That the lane has both its ends here is the caller's condition.
+    pub fn see_own(&mut self)
+        requires { AreJoined self.old self.old }
+        ensures sees { PostSeesOwn self.old self.new }
+        ensures same { IsSamePost self.old self.new }
+    {
+        let own = usize::from(self.seat.cpu().0);
+        see_at(&mut self.lanes, own);
     }
 }

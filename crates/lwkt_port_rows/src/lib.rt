@@ -64,6 +64,8 @@ mod end_rows;
 #[cfg(test)]
 mod rows;
 #[cfg(test)]
+mod sight_rows;
+#[cfg(test)]
 mod stations;
 #[cfg(test)]
 mod threads;

@@ -1,7 +1,8 @@
 //! A book and the ports of two processors, and tables of calls on them.
-ghost use Rattle.std.specs.Prelude.{◌≡◌, ℕ, ◌+◌, ◌<◌, ◌≤◌, length, map, vec_len, vec_capacity, IfOk, IfSome};
+ghost use Rattle.std.specs.Prelude.{◌≡◌, ℕ, ◌+◌, ◌<◌, ◌≤◌, ◌∷◌, [], length, map, vec_len, vec_capacity, IfOk, IfSome};
 ghost use Rattle.lwkt_msg.specs.Desks.{AreSeats, IsOpened, messages_of, cpus_of};
 ghost use Rattle.lwkt_base.specs.declared.openings.MsgSpec.{MsgSpec};
+ghost use Rattle.lwkt_port.specs.Openings.{ArePaired};
 ghost use Rattle.lwkt_port_rows.specs.Stations.{Sits};
 
 use lwkt_base::{Call, CpuId, Fault, Flags, Item, MsgId, MsgSpec, Rec, ThreadId};
@@ -147,7 +148,7 @@ pub fn play(
     requires { Sits book.now messages ports.old }
     ensures { Sits book.now messages ports.new }
 {
-    let mut trace = Vec::with_capacity(alloc, 256).map_err(|_| Fault::Memory)?;
+    let mut trace = Vec::with_capacity(alloc, 256).map_err(Fault::Memory)?;
     let told = match ask {
         Ask::Send(thread, m, cpu, target, op, arg) => {
             let to = ThreadId {
@@ -217,10 +218,12 @@ pub fn open_ports(
 ) -> Result<Ports, Fault>
     requires opened { (cpu : ℕ) × IsOpened cpu book.now seat }
     requires specs { book.now.specs ≡ specs.now }
-    ensures { IfOk result (λ ports. Sits book.now (length specs.now) ports) }
+    ensures sits { IfOk result (λ ports. Sits book.now (length specs.now) ports) }
+    ensures lanes { IfOk result (λ ports. ArePaired outs.items ins.items ports.lanes × (ports.seat ≡ seat)) }
 {
-    let Ok(origins) = origins_of(alloc, specs) else {
-        return Err(Fault::Memory);
+    let origins = match origins_of(alloc, specs) {
+        Ok(origins) => origins,
+        Err(refused) => return Err(Fault::Memory(refused)),
     };
     let cpu = seat.cpu();
     Ports::new(alloc, cpu, seat, outs, ins, &origins, 2)
@@ -245,10 +248,14 @@ pub fn both(mut seats: Vec<MsgSeat>, book: &MsgBook) -> Option<(MsgSeat, MsgSeat
 }
 
 /// Two ends in a list.
-pub fn listed<T: Drop>(alloc: Global, first: T, second: T) -> Result<Vec<T>, Fault> {
-    let mut list = Vec::with_capacity(alloc, 2).map_err(|_| Fault::Memory)?;
-    list.push(first).map_err(|_| Fault::Memory)?;
-    list.push(second).map_err(|_| Fault::Memory)?;
+pub fn listed<T: Drop>(alloc: Global, first: T, second: T) -> Result<Vec<T>, Fault>
+    ensures { IfOk result (λ list. list.items ≡ first ∷ second ∷ []) }
+{
+    let mut list = Vec::with_capacity(alloc, 2).map_err(Fault::Memory)?;
+    list.push(first)
+        .map_err(|refused| Fault::Memory(refused.into()))?;
+    list.push(second)
+        .map_err(|refused| Fault::Memory(refused.into()))?;
     Ok(list)
 }
 
@@ -270,9 +277,10 @@ fn join(
     requires most { capacity ≤ 32 }
 {
     let (out, into) = lane(alloc, capacity)?;
-    if outs.push(out).is_err() || ins.push(into).is_err() {
-        return Err(Fault::Memory);
-    }
+    outs.push(out)
+        .map_err(|refused| Fault::Memory(refused.into()))?;
+    ins.push(into)
+        .map_err(|refused| Fault::Memory(refused.into()))?;
     Ok(())
 }
 
@@ -323,7 +331,7 @@ pub fn open(alloc: Global, specs: &[MsgSpec], capacity: usize) -> Result<Pair, F
 {
     let (book, seats) = MsgBook::open(alloc, specs, 2)?;
     let Some((seat, other)) = both(seats, &book) else {
-        return Err(Fault::Memory);
+        return Err(Fault::Limits);
     };
     let mut here = no_ends(alloc);
     let mut there = no_ends(alloc);

@@ -11,7 +11,7 @@ use Rattle.lwkt_cpu.specs.Processors.{Processor}
 use Rattle.lwkt_cpu.proofs.PlaceMoves.{some_same, get_there, get_set_other}
 use Rattle.lwkt_cpu.proofs.SightMoves.{IsLooked}
 use Rattle.lwkt_machine.specs.Bodies.{Scripted}
-use Rattle.lwkt_machine.proofs.SightMoves.{zip_long, zip_get, others_looked}
+use Rattle.lwkt_machine.proofs.SightMoves.{zip_long, zip_get, sent_looked}
 use Rattle.lwkt_verdict.specs.Run.{whose}
 use Rattle.lwkt_run.specs.Arriving.{NotesArrive}
 use Rattle.lwkt_run.specs.Running.{Scene, MakesTurnAt}
@@ -26,7 +26,7 @@ record Waits (from : ℕ) (s : Processor Scripted) (z : Scene) : Type 0 where
 waits_turn : (cpu from : ℕ) (s : Processor Scripted) (x y : Scene) → cpu ≢ from → MakesTurnAt cpu x y → Waits from s x → Waits from s y
 waits_turn cpu from s x y apart turn w =
     let made = turn.1.makes in
-    let zip = others_looked cpu x.machine.cpus made.seen made.sees in
+    let zip = sent_looked cpu x.machine.cpus made.seen made.sees in
     let there = get_there made.seen from (omega (arith, zip_long (IsLooked {B = Scripted}) x.machine.cpus made.seen zip, slice_get_within x.machine.cpus from w.now w.here)) in
     let was = zip_get (IsLooked {B = Scripted}) x.machine.cpus made.seen zip from there.0 there.1 in
     let same : was.0 ≡ w.now = some_same was.0 w.now (slice_get x.machine.cpus from) was.1.0 w.here in
@@ -46,10 +46,10 @@ waits_turns order from s others (suc n) few x y chain w =
     waits_turn (whose order n) from s chain.0 y apart chain.2 (waits_turns order from s others n less x chain.0 chain.1 w)
 
 pub notes_arrive : NotesArrive
-notes_arrive from to order x y z apart others turns turn s d e at =
+notes_arrive from to order x y z others turns turn s d e at =
     let all : length order ≤ length order = omega arith in
     let w : Waits from s y = waits_turns order from s others (length order) all x y turns (record { now = s; here = at; queues = λ k l. refl }) in
     let mail = turn.1.makes.turns.does.mail in
     let line : Lane = slice_index_or mail.post.lanes from e in
     let F : List Note → Type 0 = λ l. IsPrefix l (received line.into) ⊎ (IsSome line.kept ⊎ (16 ≤ mail.count)) in
-    subst F (w.queues to d) (turn.1.makes.delivered from w.now d e apart w.here)
+    subst F (w.queues to d) (turn.1.makes.delivered from w.now d e w.here)

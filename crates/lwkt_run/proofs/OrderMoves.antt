@@ -5,7 +5,7 @@ use Rattle.std.proofs.lemmas.List.{length-set, length_push}
 use Rattle.std.proofs.lemmas.Nat.{mod-mul-add}
 use Rattle.lwkt_port.specs.Chains.{Chain}
 use Rattle.lwkt_port.proofs.Chaining.{chain_none, chain_more}
-use Rattle.lwkt_machine.proofs.SightMoves.{zip_long, others_looked}
+use Rattle.lwkt_machine.proofs.SightMoves.{zip_long, sent_looked}
 use Rattle.lwkt_verdict.specs.Run.{whose, GoesRound}
 use Rattle.lwkt_run.specs.Running.{Scene, scene, Going, going, TakesTurn, MakesTurnAt, MakesTurns, MakesRound, HasMadeRounds}
 use Rattle.lwkt_run.specs.Keeping.{none_kept}
@@ -53,7 +53,7 @@ one_round over number cpus count x y same round =
 turn_keeps : (cpus cpu : ℕ) (x y : Scene) → MakesTurnAt cpu x y → length x.machine.cpus ≡ cpus → length y.machine.cpus ≡ cpus
 turn_keeps cpus cpu x y turn same =
     let d = turn.1.makes in
-    ap length d.turns.cpus ∙ length-set d.seen cpu d.turns.now ∙ zip_long _ x.machine.cpus d.seen (others_looked cpu x.machine.cpus d.seen d.sees) ∙ same
+    ap length d.turns.cpus ∙ length-set d.seen cpu d.turns.now ∙ zip_long _ x.machine.cpus d.seen (sent_looked cpu x.machine.cpus d.seen d.sees) ∙ same
 
 keeps_round : (cpus : ℕ) (over : Bool) (number : ℕ) (x y : Scene) → MakesRound over number x y → length x.machine.cpus ≡ cpus → length y.machine.cpus ≡ cpus
 keeps_round cpus over number x y round same = round_keeps (λ z. length z.machine.cpus ≡ cpus) (turn_keeps cpus) over number x y round same

@@ -27,7 +27,7 @@ use Rattle.lwkt_machine.specs.Bodies.{Scripted, IsPolled}
 use Rattle.lwkt_machine.specs.Ended.{AreOver}
 use Rattle.lwkt_machine.specs.Machines.{Rig}
 use Rattle.lwkt_machine.specs.Turns.{TurnsAt}
-use Rattle.lwkt_machine.proofs.SightMoves.{zip_long, zip_get, others_looked}
+use Rattle.lwkt_machine.proofs.SightMoves.{zip_long, zip_get, sent_looked}
 use Rattle.lwkt_machine.proofs.StopMoves.{AreOverBelow, over_more}
 use Rattle.lwkt_script.specs.declared.scripts.ThreadSpec.{ThreadSpec}
 use Rattle.lwkt_script.specs.Format.{threads_on}
@@ -93,7 +93,7 @@ has_turned : (cpus : ℕ) (threads : List ThreadSpec) (cpu : ℕ) (old new : Rig
 has_turned cpus threads cpu old new t u turned d has =
     let F : List (Processor Scripted) → Type 0 = λ ps. HasThreads cpus threads ps in
     let e = d.turns in
-    subst F (sym e.cpus) (has_set cpus threads d.seen cpu e.before e.now e.at_before (turn_long IsPolled old.bank e.before e.now t u turned e.does) (has_looked cpus threads old.cpus d.seen (others_looked cpu old.cpus d.seen d.sees) has))
+    subst F (sym e.cpus) (has_set cpus threads d.seen cpu e.before e.now e.at_before (turn_long IsPolled old.bank e.before e.now t u turned e.does) (has_looked cpus threads old.cpus d.seen (sent_looked cpu old.cpus d.seen d.sees) has))
 
 has_turn : (cpus : ℕ) (threads : List ThreadSpec) (cpu : ℕ) (x y : Scene) → MakesTurnAt cpu x y → HasThreads cpus threads x.machine.cpus → HasThreads cpus threads y.machine.cpus
 has_turn cpus threads cpu x y turn has = has_turned cpus threads cpu x.machine y.machine x.trace y.trace turn.0 turn.1.makes has
@@ -155,7 +155,7 @@ over_later cpu old new t u turned d is below =
     let e : TurnsAt cpu old new t u AllExited = subst F is d in
     let G : List (Processor Scripted) → Type 0 = λ ps. AreOverBelow (cpu + 1) ps in
     let o = e.turns in
-    subst G (sym o.cpus) (over_more e.seen cpu o.now (slice_get_within e.seen cpu o.before o.at_before) o.does.turns.1 (over_looked cpu old.cpus e.seen (others_looked cpu old.cpus e.seen e.sees) below))
+    subst G (sym o.cpus) (over_more e.seen cpu o.now (slice_get_within e.seen cpu o.before o.at_before) o.does.turns.1 (over_looked cpu old.cpus e.seen (sent_looked cpu old.cpus e.seen e.sees) below))
 
 -- all of them
 pub over_all : (n : ℕ) (cpus : List (Processor Scripted)) → length cpus ≤ n → AreOverBelow n cpus → AreOver cpus

@@ -10,7 +10,7 @@ use Rattle.lwkt_core.specs.Opening.{AreWithin}
 use Rattle.lwkt_cpu.specs.Turning.{IsOfThread}
 use Rattle.lwkt_cpu.specs.Processors.{Processor}
 use Rattle.lwkt_cpu.proofs.SightMoves.{IsLooked}
-use Rattle.lwkt_machine.proofs.SightMoves.{zip_long, zip_get, others_looked}
+use Rattle.lwkt_machine.proofs.SightMoves.{zip_long, zip_get, sent_looked}
 use Rattle.lwkt_machine.specs.Bodies.{Scripted}
 use Rattle.lwkt_machine.specs.Ended.{stage}
 use Rattle.lwkt_machine.specs.Machines.{Rig}
@@ -48,7 +48,7 @@ stands_turn traces opened cpu x y turn s =
     let seen = turn.1.makes.seen in
     let d = turn.1.makes.turns in
     record {
-      told = told_moved (IsOfThread d.before.threads d.now.threads) 4096 traces cpu (stage seen x.trace) (stage y.machine.cpus y.trace) d.before d.now d.at_before d.cpus d.does.ran d.does.told (told_looked traces x.trace x.machine.cpus seen (others_looked cpu x.machine.cpus seen turn.1.makes.sees) s.told);
+      told = told_moved (IsOfThread d.before.threads d.now.threads) 4096 traces cpu (stage seen x.trace) (stage y.machine.cpus y.trace) d.before d.now d.at_before d.cpus d.does.ran d.does.told (told_looked traces x.trace x.machine.cpus seen (sent_looked cpu x.machine.cpus seen turn.1.makes.sees) s.told);
       bank = d.bank ∙ s.bank;
       book = d.book ∙ s.book;
     }

@@ -6,10 +6,10 @@ use Rattle.lwkt_cpu.specs.Processors.{Processor}
 use Rattle.lwkt_machine.specs.Bodies.{Scripted}
 use Rattle.lwkt_run.specs.Running.{Scene, MakesTurns, MakesTurnAt}
 
--- a law: what a processor has put into the queue of its lane to another one is received by this one as it takes mail in, in each turn that
--- it makes before the sender makes one again, whatever turns others make meanwhile; in order, unless its line keeps a note that found its
--- port's queue full, or the turn took in its 16 notes
+-- a law: what a processor has put into the queue of its lane to one, another or itself, is received by that one as it takes mail in, in each
+-- turn that it makes before the sender has made one again, whatever turns others make meanwhile; in order, unless its line keeps a note that
+-- found its port's queue full, or the turn took in its 16 notes
 abbrev pub NotesArrive : Type 0
-NotesArrive = (from to : ℕ) (order : List ℕ) (x y z : Scene) → from ≢ to → All (λ cpu. cpu ≢ from) order → MakesTurns order x y → (turn : MakesTurnAt to y z)
+NotesArrive = (from to : ℕ) (order : List ℕ) (x y z : Scene) → All (λ cpu. cpu ≢ from) order → MakesTurns order x y → (turn : MakesTurnAt to y z)
     → (s : Processor Scripted) (d e : Lane) → slice_get x.machine.cpus from ≡ Some s
     → IsDelivered 16 turn.1.makes.turns.does.mail.count (slice_index_or s.post.lanes to d).out (slice_index_or turn.1.makes.turns.does.mail.post.lanes from e)

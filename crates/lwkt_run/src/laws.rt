@@ -14,9 +14,9 @@ pub fn runs_join()
     ensures { RunsJoin }
 {}
 
-/// The law that what a processor has put into the queue of its lane to another one is received in each turn that this one makes before
-/// the sender makes one again, in order, unless a note is kept that found its port's queue full, or the turn took in its 16 notes. In
-/// rounds that is the target's next turn.
+/// The law that what a processor has put into the queue of its lane to one, another or itself, is received in each turn that its target
+/// makes before the sender has made one again, in order, unless a note is kept that found its port's queue full, or the turn took in its
+/// 16 notes. In rounds that is the target's next turn.
 pub fn notes_arrive()
     ensures { NotesArrive }
 {}

@@ -4,53 +4,56 @@ use Rattle.lwkt_bank.specs.Seats.{id_of, cpus_of}
 use Rattle.lwkt_cpu.specs.Processors.{Processor}
 use Rattle.lwkt_cpu.proofs.TurnMoves.{turn_from_room}
 use Rattle.lwkt_machine.specs.Bodies.{Scripted, IsPolled}
-use Rattle.lwkt_machine.specs.Machines.{Rig, rig_of, AreAllJoined, AreParts}
-use Rattle.lwkt_machine.specs.Sights.{SeesOthers}
+use Rattle.lwkt_machine.specs.Machines.{Rig, rig_of, AreAllJoined, AreNumbered, AreParts}
+use Rattle.lwkt_machine.specs.Sights.{SeesSent}
 use Rattle.lwkt_machine.specs.Turns.{TurnsAt}
 use Rattle.lwkt_machine.proofs.ListMoves.{refilled}
 use Rattle.lwkt_machine.proofs.PartMoves.{read_back, turned_same, turned_at}
-use Rattle.lwkt_machine.proofs.SightMoves.{others_looked, looked_same}
+use Rattle.lwkt_machine.proofs.SightMoves.{sent_looked, looked_same}
 use Rattle.lwkt_machine.proofs.StopMoves.{same_of, parts_same}
 use Rattle.lwkt_machine.proofs.machines.Machine.turn.Goals as goal
 
-pub see_others-requires-clause-joined : goal.see_others-requires-clause-joined
-see_others-requires-clause-joined c = let F : List (Processor Scripted) → Type 0 = λ xs. AreAllJoined xs in subst F (sym c.deref_mut.ensures.value) c.self.invariant.joined
+pub see_sent-requires-clause-joined : goal.see_sent-requires-clause-joined
+see_sent-requires-clause-joined c = let F : List (Processor Scripted) → Type 0 = λ xs. AreAllJoined xs in subst F (sym c.deref_mut.ensures.value) c.self.invariant.joined
+
+pub see_sent-requires-clause-numbered : goal.see_sent-requires-clause-numbered
+see_sent-requires-clause-numbered c = let F : List (Processor Scripted) → Type 0 = λ xs. AreNumbered xs in subst F (sym c.deref_mut.ensures.value) c.self.invariant.numbered
 
 pub turn_in_room-requires-clause-of : goal.turn_in_room-requires-clause-of
 turn_in_room-requires-clause-of c =
     let i = c.self.inside in
     let k = c.args.cpu in
     let p = c.index_mut.result.now in
-    let mids = c.see_others.new.cpus in
-    let S : List (Processor Scripted) → Type 0 = λ xs. SeesOthers k xs mids in
-    let sees : SeesOthers k i.cpus.items mids = subst S c.deref_mut.ensures.value c.see_others.ensures.sees in
-    let long : length mids ≡ i.cpus.len = c.see_others.ensures.as_many ∙ c.deref_mut.ensures.len in
+    let mids = c.see_sent.new.cpus in
+    let S : List (Processor Scripted) → Type 0 = λ xs. SeesSent k xs mids in
+    let sees : SeesSent k i.cpus.items mids = subst S c.deref_mut.ensures.value c.see_sent.ensures.sees in
+    let long : length mids ≡ i.cpus.len = c.see_sent.ensures.as_many ∙ c.deref_mut.ensures.len in
     let within : k < i.cpus.len = omega (arith, ap (λ (m : Rig). length m.cpus) c.self.view_is, c.self.inside.cpus.ok, c.requires) in
     let at : slice_get mids k ≡ Some p = read_back mids i.cpus.items i.cpus.len k p long within c.index_mut.ensures.value in
-    (same_of (id_of i.bank) i.book i.cpus.items mids k p at (looked_same i.cpus.items mids (others_looked k i.cpus.items mids sees)) c.self.invariant.each).bank_is
+    (same_of (id_of i.bank) i.book i.cpus.items mids k p at (looked_same i.cpus.items mids (sent_looked k i.cpus.items mids sees)) c.self.invariant.each).bank_is
 
 pub turn_in_room-requires-clause-table : goal.turn_in_room-requires-clause-table
 turn_in_room-requires-clause-table c =
     let i = c.self.inside in
     let k = c.args.cpu in
     let p = c.index_mut.result.now in
-    let mids = c.see_others.new.cpus in
-    let S : List (Processor Scripted) → Type 0 = λ xs. SeesOthers k xs mids in
-    let sees : SeesOthers k i.cpus.items mids = subst S c.deref_mut.ensures.value c.see_others.ensures.sees in
-    let long : length mids ≡ i.cpus.len = c.see_others.ensures.as_many ∙ c.deref_mut.ensures.len in
+    let mids = c.see_sent.new.cpus in
+    let S : List (Processor Scripted) → Type 0 = λ xs. SeesSent k xs mids in
+    let sees : SeesSent k i.cpus.items mids = subst S c.deref_mut.ensures.value c.see_sent.ensures.sees in
+    let long : length mids ≡ i.cpus.len = c.see_sent.ensures.as_many ∙ c.deref_mut.ensures.len in
     let within : k < i.cpus.len = omega (arith, ap (λ (m : Rig). length m.cpus) c.self.view_is, c.self.inside.cpus.ok, c.requires) in
     let at : slice_get mids k ≡ Some p = read_back mids i.cpus.items i.cpus.len k p long within c.index_mut.ensures.value in
-    (same_of (id_of i.bank) i.book i.cpus.items mids k p at (looked_same i.cpus.items mids (others_looked k i.cpus.items mids sees)) c.self.invariant.each).table_is
+    (same_of (id_of i.bank) i.book i.cpus.items mids k p at (looked_same i.cpus.items mids (sent_looked k i.cpus.items mids sees)) c.self.invariant.each).table_is
 
 pub invariant_of-self : goal.invariant_of-self
 invariant_of-self c =
     let i = c.self.inside in
     let k = c.args.cpu in
     let p = c.index_mut.result.now in
-    let mids = c.see_others.new.cpus in
-    let S : List (Processor Scripted) → Type 0 = λ xs. SeesOthers k xs mids in
-    let sees : SeesOthers k i.cpus.items mids = subst S c.deref_mut.ensures.value c.see_others.ensures.sees in
-    let long : length mids ≡ i.cpus.len = c.see_others.ensures.as_many ∙ c.deref_mut.ensures.len in
+    let mids = c.see_sent.new.cpus in
+    let S : List (Processor Scripted) → Type 0 = λ xs. SeesSent k xs mids in
+    let sees : SeesSent k i.cpus.items mids = subst S c.deref_mut.ensures.value c.see_sent.ensures.sees in
+    let long : length mids ≡ i.cpus.len = c.see_sent.ensures.as_many ∙ c.deref_mut.ensures.len in
     let within : k < i.cpus.len = omega (arith, ap (λ (m : Rig). length m.cpus) c.self.view_is, c.self.inside.cpus.ok, c.requires) in
     let at : slice_get mids k ≡ Some p = read_back mids i.cpus.items i.cpus.len k p long within c.index_mut.ensures.value in
     let q = c.turn_in_room.new.self in
@@ -62,10 +65,10 @@ returns-clause-ok c =
     let i = c.self.inside in
     let k = c.args.cpu in
     let p = c.index_mut.result.now in
-    let mids = c.see_others.new.cpus in
-    let S : List (Processor Scripted) → Type 0 = λ xs. SeesOthers k xs mids in
-    let sees : SeesOthers k i.cpus.items mids = subst S c.deref_mut.ensures.value c.see_others.ensures.sees in
-    let long : length mids ≡ i.cpus.len = c.see_others.ensures.as_many ∙ c.deref_mut.ensures.len in
+    let mids = c.see_sent.new.cpus in
+    let S : List (Processor Scripted) → Type 0 = λ xs. SeesSent k xs mids in
+    let sees : SeesSent k i.cpus.items mids = subst S c.deref_mut.ensures.value c.see_sent.ensures.sees in
+    let long : length mids ≡ i.cpus.len = c.see_sent.ensures.as_many ∙ c.deref_mut.ensures.len in
     let within : k < i.cpus.len = omega (arith, ap (λ (m : Rig). length m.cpus) c.self.view_is, c.self.inside.cpus.ok, c.requires) in
     let at : slice_get mids k ≡ Some p = read_back mids i.cpus.items i.cpus.len k p long within c.index_mut.ensures.value in
     let q = c.turn_in_room.new.self in
