@@ -1,7 +1,11 @@
 -- What the openings of a bank and a book give is what processors are made of.
-use Rattle.std.proofs.Common.{◌≡◌, ℕ, ◌+◌, ◌<◌, ◌≤◌, List, length, get_or, sym, ◌∙◌, subst, arith, Some}
+use Rattle.std.proofs.Common.{◌≡◌, ℕ, ◌+◌, ◌<◌, ◌≤◌, List, length, get_or, sym, ◌∙◌, subst, inl, inr, arith, Some}
 use Rattle.std.specs.Prelude.{slice_get}
+use Rattle.std.proofs.lemmas.Bool.{cases_eq}
+use Rattle.std.proofs.lemmas.Grind.{common_steps}
 use Rattle.std.proofs.lemmas.Option.{slice_get_within, slice_get-get_or, get_or_from_slice_get}
+use Rattle.lwkt_base.specs.declared.faults.Fault.{Fault}
+use Rattle.lwkt_base.specs.declared.faults.Fault.TheVariants.{Memory, Limits, LawBroken}
 use Rattle.lwkt_base.specs.declared.openings.MsgSpec.{MsgSpec}
 use Rattle.lwkt_base.specs.declared.openings.TokSpec.{TokSpec}
 use Rattle.lwkt_bank.specs.declared.banks.Bank.{Bank}
@@ -9,12 +13,15 @@ use Rattle.lwkt_bank.specs.declared.seats.CpuSeat.{CpuSeat}
 use Rattle.lwkt_bank.specs.Seats.{BankId, id_of}
 use Rattle.lwkt_bank.specs.Gathered.{IsOpened as IsOpenedBank}
 use Rattle.lwkt_msg.specs.Desks.{Desk, Shelf, IsOpened, AreOpened}
+use Rattle.lwkt_script.specs.declared.scripts.Script.{Script}
 use Rattle.lwkt_script.specs.declared.scripts.ThreadSpec.{ThreadSpec}
+use Rattle.lwkt_script.specs.Format.{threads_on}
 use Rattle.lwkt_port.specs.Sights.{AreEnds}
 use Rattle.lwkt_cpu.specs.Processors.{Processor}
 use Rattle.lwkt_machine.specs.Bodies.{Scripted}
+use Rattle.lwkt_machine.specs.Lanes.{AreLanes}
 use Rattle.lwkt_machine.specs.Machines.{IsOf, AreAllJoined, AreParts}
-use Rattle.lwkt_machine.specs.Opened.{IsSeat, AreOpenedCpus, AreWired}
+use Rattle.lwkt_machine.specs.Opened.{IsSeat, AreFew, DeclinesTables, Declines, AreOpenedCpus, AreWired}
 use Rattle.lwkt_machine.specs.Seating.{SeatsFrom, DesksFrom, IsRest}
 use Rattle.lwkt_machine.specs.declared.seatings.Rest.{Rest}
 use Rattle.lwkt_machine.proofs.ListMoves.{all_from_get}
@@ -39,14 +46,32 @@ desks_from cpus specs book desks opened j d at =
     subst G n (subst F e (opened.seats_are.each j d (omega (arith, long, within))))
 
 -- nothing was made yet
-pub rest_first : (cpus : ℕ) (tokens : List TokSpec) (messages : List MsgSpec) (bank : Bank) (book : Shelf) (rest : Rest) → IsOpenedBank cpus tokens bank rest.seats.items → AreOpened cpus messages book rest.mails.items → length rest.outs.items ≡ cpus → length rest.ins.items ≡ cpus → IsRest (id_of bank) book 0 rest
-rest_first cpus tokens messages bank book rest opened given outs ins = record {
+pub rest_first : (cpus : ℕ) (tokens : List TokSpec) (messages : List MsgSpec) (bank : Bank) (book : Shelf) (rest : Rest) → IsOpenedBank cpus tokens bank rest.seats.items → AreOpened cpus messages book rest.mails.items → AreLanes cpus cpus rest.outs.items rest.ins.items → IsRest (id_of bank) book 0 rest
+rest_first cpus tokens messages bank book rest opened given lanes = record {
   seats = seats_from cpus tokens bank rest.seats.items opened;
   desks = desks_from cpus messages book rest.mails.items given;
   mails_are = given.seats_are.as_many ∙ sym opened.as_many;
-  outs_are = outs ∙ sym opened.as_many;
-  ins_are = ins ∙ sym opened.as_many;
+  outs_are = lanes.outs_are ∙ sym opened.as_many;
+  ins_are = lanes.ins_are ∙ sym opened.as_many;
+  outs_long = λ k v at. lanes.outs_long k v at ∙ sym given.cpus_is;
+  ins_long = λ k v at. lanes.ins_long k v at ∙ sym given.cpus_is;
 }
+
+-- one processor more has few threads
+pub few_more : (cpus : ℕ) (threads : List ThreadSpec) → threads_on cpus threads ≤ 16 → AreFew cpus threads → AreFew (cpus + 1) threads
+few_more cpus threads here few = λ cpu less. elim (cases_eq cpu cpus) [
+  | inl same ↦
+      let F : ℕ → Type 0 = λ n. threads_on n threads ≤ 16 in
+      subst F (sym same) here
+  | inr apart ↦ few cpu (omega (arith, less, apart))
+]
+
+-- why no tables are opened is why no machine is, where no processor has too many threads
+pub declines_more : (script : Script) (fault : Fault) → AreFew script.cpus script.threads → DeclinesTables script.cpus script.tokens script.messages fault → Declines script fault
+declines_more script (Memory refused) few why = cc
+declines_more script Limits few why = λ within. why within.tables
+declines_more script LawBroken few why = (record { tables = why.0; few = few }, why.1)
+declines_more script fault few why = grind (arith, common_steps)
 
 -- processors that are wired as they are opened are joined
 opened_joined : (cpus : List (Processor Scripted)) → AreWired cpus → ((k : ℕ) (p : Processor Scripted) → slice_get cpus k ≡ Some p → p.seat.cpu.0 ≡ k) → AreAllJoined cpus

@@ -1,15 +1,25 @@
 -- Seats that are left, and processors that are made.
-use Rattle.std.proofs.Common.{◌≡◌, ℕ, suc, ◌+◌, ◌<◌, List, [], ◌∷◌, ◌++◌, length, get_or, refl, ap, sym, ◌∙◌, subst, inl, inr, arith, Some}
-use Rattle.std.specs.Prelude.{slice_get}
+use Rattle.std.specs.Global.{Global}
+use Rattle.std.proofs.Common.{◌≡◌, ℕ, suc, ◌+◌, ◌<◌, ◌≤◌, ◌==◌, List, [], ◌∷◌, ◌++◌, length, map, get_or, refl, ap, sym, ◌∙◌, subst, inl, inr, arith, Some}
+use Rattle.std.specs.Prelude.{Vec, filter, slice_get}
 use Rattle.std.specs.List.{remove}
+use Rattle.std.proofs.lemmas.List.{length-map}
+use Rattle.std.proofs.lemmas.List.Sums.{length-filter}
 use Rattle.std.proofs.lemmas.Option.{slice_get_read}
+use Rattle.lwkt_base.specs.declared.names.ThreadId.{ThreadId}
+use Rattle.lwkt_base.specs.declared.openings.MsgSpec.{MsgSpec}
 use Rattle.lwkt_bank.specs.declared.seats.CpuSeat.{CpuSeat}
 use Rattle.lwkt_bank.specs.Seats.{BankId}
+use Rattle.lwkt_lane.specs.declared.ins.LaneIn.{LaneIn}
+use Rattle.lwkt_lane.specs.declared.outs.LaneOut.{LaneOut}
 use Rattle.lwkt_msg.specs.Desks.{Desk, Shelf, IsOpened}
+use Rattle.lwkt_port.specs.Openings.{AreWithin}
 use Rattle.lwkt_script.specs.declared.scripts.ThreadSpec.{ThreadSpec}
+use Rattle.lwkt_script.specs.Format.{threads_on}
 use Rattle.lwkt_cpu.specs.Processors.{Processor}
 use Rattle.lwkt_machine.specs.Bodies.{Scripted}
-use Rattle.lwkt_machine.specs.Opened.{IsSeat, IsOpenedCpu, AreOpenedCpus}
+use Rattle.lwkt_machine.specs.Lanes.{AreLong}
+use Rattle.lwkt_machine.specs.Opened.{body_of, bodies_on, IsSeat, IsOpenedCpu, AreOpenedCpus}
 use Rattle.lwkt_machine.specs.Seating.{SeatsFrom, DesksFrom, IsRest}
 use Rattle.lwkt_machine.specs.declared.seatings.Rest.{Rest}
 use Rattle.lwkt_machine.proofs.ListMoves.{get_removed, length_removed, get_pushed}
@@ -33,6 +43,26 @@ first_seat bank first seats s some is from = from_first (λ n x. IsSeat bank n x
 pub first_desk : (book : Shelf) (first : ℕ) (desks : List Desk) (d : Desk) → 0 < length desks → d ≡ get_or desks 0 d → DesksFrom book first desks → IsOpened first book d
 first_desk book first desks d some is from = from_first (λ n x. IsOpened n book x) first desks d some is from
 
+-- a processor has a body for each of its threads
+pub length_bodies : (cpu : ℕ) (threads : List ThreadSpec) → length (bodies_on cpu threads) ≡ threads_on cpu threads
+length_bodies cpu threads = length-map (filter (λ (t : ThreadSpec). t.cpu.0 == cpu) threads) body_of ∙ length-filter (λ (t : ThreadSpec). t.cpu.0 == cpu) threads
+
+-- of lists that are each so long, the first one is, and so are those behind it
+first_long : {A : Type 0} (n : ℕ) (lists : List (Vec A Global)) (v : Vec A Global) → 0 < length lists → v ≡ get_or lists 0 v → AreLong {A = A} n lists → length v.items ≡ n
+first_long {A} n lists v some is each = each 0 v (slice_get_read lists (length lists) 0 v refl some is)
+
+rest_long : {A : Type 0} (n : ℕ) (xs ys : List (Vec A Global)) → ys ≡ remove xs 0 → AreLong {A = A} n xs → AreLong {A = A} n ys
+rest_long {A} n xs ys is each = λ j v at. each (suc j) v (sym (get_removed xs j) ∙ ap (λ zs. slice_get zs j) (sym is) ∙ at)
+
+-- the next processor keeps the limits of its ports
+pub first_within : (bank : BankId) (book : Shelf) (first : ℕ) (rest : Rest) (mail : Desk) (outs : Vec LaneOut Global) (ins : Vec LaneIn Global) (origins : List ThreadId) (threads : ℕ) → 0 < length rest.seats.items → IsOpened first book mail → outs ≡ get_or rest.outs.items 0 outs → ins ≡ get_or rest.ins.items 0 ins → origins ≡ map (λ (spec : MsgSpec). spec.origin) book.specs → threads ≤ 16 → IsRest bank book first rest → AreWithin mail outs.items ins.items origins threads
+first_within bank book first rest mail outs ins origins threads some opened out into are few r = record {
+  few = few;
+  outs_are = first_long book.cpus rest.outs.items outs (omega (arith, some, r.outs_are)) out r.outs_long ∙ sym opened.cpus;
+  ins_are = first_long book.cpus rest.ins.items ins (omega (arith, some, r.ins_are)) into r.ins_long ∙ sym opened.cpus;
+  origins_are = ap length are ∙ length-map book.specs (λ (spec : MsgSpec). spec.origin) ∙ ap length (sym opened.specs);
+}
+
 fewer : {A B : Type 0} (xs vs : List A) (ys ws : List B) → 0 < length xs → length ys ≡ length xs → vs ≡ remove xs 0 → ws ≡ remove ys 0 → length ws ≡ length vs
 fewer xs vs ys ws some same v w =
     let l = length_removed xs some in
@@ -48,6 +78,8 @@ rest_more bank book first old new some seats mails outs ins rest = record {
   mails_are = fewer old.seats.items new.seats.items old.mails.items new.mails.items some rest.mails_are seats mails;
   outs_are = fewer old.seats.items new.seats.items old.outs.items new.outs.items some rest.outs_are seats outs;
   ins_are = fewer old.seats.items new.seats.items old.ins.items new.ins.items some rest.ins_are seats ins;
+  outs_long = rest_long book.cpus old.outs.items new.outs.items outs rest.outs_long;
+  ins_long = rest_long book.cpus old.ins.items new.ins.items ins rest.ins_long;
 }
 
 -- one processor more

@@ -1,5 +1,5 @@
 -- A machine as it is opened (own).
-use Rattle.std.specs.Prelude.{◌≡◌, ℕ, ◌==◌, List, length, map, filter, replicate, Some, None, slice_get}
+use Rattle.std.specs.Prelude.{◌≡◌, ℕ, ◌<◌, ◌≤◌, ◌==◌, List, length, map, filter, replicate, Some, None, slice_get}
 use Rattle.lwkt_base.specs.declared.faults.Fault.{Fault}
 use Rattle.lwkt_base.specs.declared.faults.Fault.TheVariants.{Memory, Limits, LawBroken}
 use Rattle.lwkt_base.specs.declared.openings.MsgSpec.{MsgSpec}
@@ -7,6 +7,7 @@ use Rattle.lwkt_base.specs.declared.openings.TokSpec.{TokSpec}
 use Rattle.lwkt_core.specs.Opening.{AreWithin, AllOpenLawfully}
 use Rattle.lwkt_script.specs.declared.scripts.Script.{Script}
 use Rattle.lwkt_script.specs.declared.scripts.ThreadSpec.{ThreadSpec}
+use Rattle.lwkt_script.specs.Format.{threads_on}
 use Rattle.lwkt_bank.specs.declared.seats.CpuSeat.{CpuSeat}
 use Rattle.lwkt_bank.specs.Opened.{plans_of}
 use Rattle.lwkt_bank.specs.Seats.{BankId, bank_of}
@@ -68,10 +69,26 @@ pub record IsOpenedMachine (script : Script) (m : Rig) : Type 0 where
   pub each : AreOpenedCpus m.bank m.book script.threads m.cpus
   pub wired : AreWired m.cpus
 
--- why a machine of so many processors, these tokens and these messages isn't opened: out of memory, of which nothing is claimed;
--- or a limit is passed; or within the limits an opening row breaks its law
-abbrev pub Declines : ℕ → List TokSpec → List MsgSpec → Fault → Type 0
-Declines cpus tokens messages Memory = Unit {0}
-Declines cpus tokens messages Limits = ¬ AreWithin cpus tokens messages
-Declines cpus tokens messages LawBroken = AreWithin cpus tokens messages × ¬ AllOpenLawfully tokens
-Declines cpus tokens messages _ = ⊥
+-- none of so many processors has more than 16 of these threads
+abbrev pub AreFew : ℕ → List ThreadSpec → Type 0
+AreFew cpus threads = (cpu : ℕ) → cpu < cpus → threads_on cpu threads ≤ 16
+
+-- the opening of a script keeps the limits, those of bank and book, and at most 16 threads for each processor
+pub record IsWithin (script : Script) : Type 0 where
+  pub tables : AreWithin script.cpus script.tokens script.messages
+  pub few : AreFew script.cpus script.threads
+
+-- why no bank and book of so many processors are opened: out of memory, of which nothing is claimed; or a limit is passed; or within
+-- the limits an opening row breaks its law
+abbrev pub DeclinesTables : ℕ → List TokSpec → List MsgSpec → Fault → Type 0
+DeclinesTables cpus tokens messages (Memory refused) = Unit {0}
+DeclinesTables cpus tokens messages Limits = ¬ AreWithin cpus tokens messages
+DeclinesTables cpus tokens messages LawBroken = AreWithin cpus tokens messages × ¬ AllOpenLawfully tokens
+DeclinesTables cpus tokens messages _ = ⊥
+
+-- the same of a script's machine
+abbrev pub Declines : Script → Fault → Type 0
+Declines script (Memory refused) = Unit {0}
+Declines script Limits = ¬ IsWithin script
+Declines script LawBroken = IsWithin script × ¬ AllOpenLawfully script.tokens
+Declines script _ = ⊥

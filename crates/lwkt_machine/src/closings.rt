@@ -66,6 +66,7 @@ impl Retired {
 
 impl Machine {
     ghost use Rattle.lwkt_machine.specs.Closing.{IsClosedMachine};
+    ghost use Rattle.lwkt_base.specs.Fault.{no_memory};
 
     /// Closes the machine, whose threads have all ended: every processor gives back its seats, and bank and book are closed with
     /// them.
@@ -74,11 +75,12 @@ impl Machine {
     pub fn close(self, alloc: Global) -> Result<Closed, Fault>
         requires { AreOver self.cpus }
         ensures ok { IfOk result (λ closed. IsClosedMachine self closed) }
-        ensures only { OnErr result (result ≡ Err Fault.Memory) }
+        ensures only { OnErr result (result ≡ Err no_memory) }
     {
         let Machine { bank, book, cpus } = self;
-        let Ok(retired) = Retired::all(alloc, cpus) else {
-            return Err(Fault::Memory);
+        let retired = match Retired::all(alloc, cpus) {
+            Ok(retired) => retired,
+            Err(refused) => return Err(Fault::Memory(refused)),
         };
         let Retired {
             seats,

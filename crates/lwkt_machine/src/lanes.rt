@@ -1,6 +1,7 @@
 //! The lanes of a machine, one from each processor to each one.
 ghost use Rattle.std.specs.Prelude.{◌≡◌, length, OnErr, IfOk, Err};
 ghost use Rattle.lwkt_machine.specs.Lanes.{HasEnd, HasEnds, AreLong, AreLanes};
+ghost use Rattle.lwkt_base.specs.Fault.{no_memory};
 
 use lwkt_base::Fault;
 use lwkt_lane::{LaneIn, LaneOut, lane};
@@ -31,22 +32,24 @@ fn no_ends(alloc: Global, cpus: usize) -> Result<Vec<Vec<LaneIn>>, AllocError>
 // A lane, whose receiving end goes to this list.
 fn lane_to(alloc: Global, ends: &mut Vec<LaneIn>) -> Result<LaneOut, Fault>
     ensures ok { IfOk result (λ out. HasEnd ends.old.items ends.new.items out) }
-    ensures only { OnErr result (result ≡ Err Fault.Memory) }
+    ensures only { OnErr result (result ≡ Err no_memory) }
 {
     let (out, into) = lane(alloc, LANE_NOTES)?;
-    ends.push(into).map_err(|_| Fault::Memory)?;
+    ends.push(into)
+        .map_err(|refused| Fault::Memory(refused.into()))?;
     Ok(out)
 }
 
 // The lanes from a processor to each one.
 fn lanes_to_all(alloc: Global, ins: &mut [Vec<LaneIn>]) -> Result<Vec<LaneOut>, Fault>
     ensures ok { IfOk result (λ outs. HasEnds ins.old ins.new outs.items) }
-    ensures only { OnErr result (result ≡ Err Fault.Memory) }
+    ensures only { OnErr result (result ≡ Err no_memory) }
 {
     let mut outs = Vec::new(alloc);
     for to in 0..ins.len() {
         let out = lane_to(alloc, &mut ins[to])?;
-        outs.push(out).map_err(|_| Fault::Memory)?;
+        outs.push(out)
+            .map_err(|refused| Fault::Memory(refused.into()))?;
     }
     Ok(outs)
 }
@@ -55,12 +58,13 @@ fn lanes_to_all(alloc: Global, ins: &mut [Vec<LaneIn>]) -> Result<Vec<LaneOut>, 
 fn lanes_from_all(alloc: Global, ins: &mut [Vec<LaneIn>]) -> Result<Vec<Vec<LaneOut>>, Fault>
     requires { AreLong 0 ins.old }
     ensures ok { IfOk result (λ outs. AreLanes (length ins.old) (length ins.old) outs.items ins.new) }
-    ensures only { OnErr result (result ≡ Err Fault.Memory) }
+    ensures only { OnErr result (result ≡ Err no_memory) }
 {
     let mut outs = Vec::new(alloc);
     for from in 0..ins.len() {
         let row = lanes_to_all(alloc, ins)?;
-        outs.push(row).map_err(|_| Fault::Memory)?;
+        outs.push(row)
+            .map_err(|refused| Fault::Memory(refused.into()))?;
     }
     Ok(outs)
 }
@@ -68,9 +72,9 @@ fn lanes_from_all(alloc: Global, ins: &mut [Vec<LaneIn>]) -> Result<Vec<Vec<Lane
 /// The lanes of so many processors.
 pub(crate) fn open_lanes(alloc: Global, cpus: usize) -> Result<Lanes, Fault>
     ensures ok { IfOk result (λ lanes. AreLanes cpus cpus lanes.outs.items lanes.ins.items) }
-    ensures only { OnErr result (result ≡ Err Fault.Memory) }
+    ensures only { OnErr result (result ≡ Err no_memory) }
 {
-    let mut ins = no_ends(alloc, cpus).map_err(|_| Fault::Memory)?;
+    let mut ins = no_ends(alloc, cpus).map_err(Fault::Memory)?;
     let outs = lanes_from_all(alloc, &mut ins)?;
     Ok(Lanes { outs, ins })
 }

@@ -5,7 +5,7 @@ ghost use Rattle.lwkt_cpu.specs.Processors.{IsAtRest};
 ghost use Rattle.lwkt_cpu.specs.Turning.{HasSameEvents, LacksRoom};
 
 use crate::bodies::ScriptBody;
-use crate::sights::see_others;
+use crate::sights::see_sent;
 use lwkt_bank::Bank;
 use lwkt_base::Fault;
 use lwkt_core::Event;
@@ -36,6 +36,7 @@ impl Model for Machine {
 impl Machine {
     ghost use Rattle.lwkt_machine.specs.Machines.{rig_of, AreParts, IsWhole, ShowsBody, ShowsThreadAt};
     ghost use Rattle.lwkt_machine.specs.Turns.{TurnsAt};
+    ghost use Rattle.lwkt_base.specs.Fault.{no_memory};
 
     /// How many processors there are. All parts of the machine belong together.
     pub fn cpus(&self) -> usize
@@ -84,9 +85,9 @@ impl Machine {
         Machine { bank, book, cpus }
     }
 
-    /// Makes a turn of a processor, as `Cpu::turn` does, which first sees what each other processor has put into the queue of its
-    /// lane to it: all of this is taken in, up to the 16 notes of a turn and the room of their ports' queues. That the processor is
-    /// there is the caller's condition.
+    /// Makes a turn of a processor, as `Cpu::turn` does, which first sees what each processor, also this one itself, has put into the
+    /// queue of its lane to it: all of this is taken in, up to the 16 notes of a turn and the room of their ports' queues. That the
+    /// processor is there is the caller's condition.
     ///
     /// Refused with `Memory` where the trace lacks room for 4,096 events and can't be given it; nothing has changed then, and the
     /// trace has no less room than before.
@@ -95,15 +96,15 @@ impl Machine {
         ensures ok { IfOk result (λ turned. TurnsAt cpu self.old self.new trace.old trace.new turned) }
         ensures err { OnErr result ((self.new ≡ self.old) × HasSameEvents trace.old trace.new) }
         ensures full { OnErr result (LacksRoom trace.new) }
-        ensures only { OnErr result (result ≡ Err Fault.Memory) }
+        ensures only { OnErr result (result ≡ Err no_memory) }
         ensures bank { self.new.bank ≡ self.old.bank }
         ensures book { self.new.book ≡ self.old.book }
         ensures as_many { length self.new.cpus ≡ length self.old.cpus }
     {
-        if trace.reserve(TURN_EVENTS).is_err() {
-            return Err(Fault::Memory);
+        if let Err(refused) = trace.reserve(TURN_EVENTS) {
+            return Err(Fault::Memory(refused));
         }
-        see_others(&mut self.cpus, cpu);
+        see_sent(&mut self.cpus, cpu);
         Ok(self.cpus[cpu].turn_in_room(&self.bank, &self.book, trace))
     }
 }

@@ -1,17 +1,20 @@
 //! The opening of a machine.
-ghost use Rattle.std.specs.Prelude.{◌≡◌, ◌≤◌, IfOk, IfErr, OnOk, OnErr, Err};
+ghost use Rattle.std.specs.Prelude.{◌≡◌, ◌≤◌, true, false, IfOk, IfErr, OnOk, OnErr, Err};
 ghost use Rattle.lwkt_core.specs.Opening.{AreWithin, AllOpenLawfully};
 ghost use Rattle.lwkt_bank.specs.Gathered.{IsOpened};
 ghost use Rattle.lwkt_msg.specs.Desks.{AreOpened};
-ghost use Rattle.lwkt_machine.specs.Opened.{IsOpenedMachine, Declines};
+ghost use Rattle.lwkt_script.specs.Format.{threads_on};
+ghost use Rattle.lwkt_machine.specs.Opened.{IsOpenedMachine, AreFew, DeclinesTables, Declines};
+ghost use Rattle.lwkt_base.specs.Fault.{no_memory};
 
 use crate::lanes::{Lanes, open_lanes};
 use crate::machines::Machine;
 use crate::seatings::{Rest, origins_of};
 use lwkt_bank::{Bank, CpuSeat};
 use lwkt_base::{Fault, MsgSpec, TokSpec};
+use lwkt_cpu::cpus::THREAD_LIMIT;
 use lwkt_msg::{MsgBook, MsgSeat};
-use lwkt_script::Script;
+use lwkt_script::{Script, ThreadSpec};
 use std::alloc::Global;
 
 // A bank and a book that were just opened, with their seats.
@@ -21,6 +24,30 @@ struct Tables {
     seats: Vec<CpuSeat>,
     book: MsgBook,
     mails: Vec<MsgSeat>,
+}
+
+// How many of these threads are of a processor.
+fn threads_on(threads: &[ThreadSpec], cpu: usize) -> usize
+    ensures { result ≡ threads_on cpu threads.now }
+{
+    threads
+        .iter()
+        .filter(|spec| spec.cpu.0 as usize == cpu)
+        .count()
+}
+
+// Whether no processor of a script has more threads than it may have.
+fn are_few(script: &Script) -> bool
+    ensures yes { result ≡ true → AreFew script.now.cpus script.now.threads }
+    ensures no { result ≡ false → ¬ AreFew script.now.cpus script.now.threads }
+{
+    let threads = script.threads.as_slice();
+    for cpu in 0..usize::from(script.cpus) {
+        if threads_on(threads, cpu) > THREAD_LIMIT {
+            return false;
+        }
+    }
+    true
 }
 
 // Opens a bank of these tokens and a book of these messages. The book comes first, so that a law that is broken is told only
@@ -34,7 +61,7 @@ fn open_tables(
     ensures bank { IfOk result (λ t. IsOpened cpus tokens.now t.bank t.seats.items) }
     ensures book { IfOk result (λ t. AreOpened cpus messages.now t.book t.mails.items) }
     ensures within { OnOk result (AreWithin cpus tokens.now messages.now × AllOpenLawfully tokens.now) }
-    ensures refused { IfErr result (λ fault. Declines cpus tokens.now messages.now fault) }
+    ensures refused { IfErr result (λ fault. DeclinesTables cpus tokens.now messages.now fault) }
 {
     let (book, mails) = MsgBook::open(alloc, messages, cpus)?;
     let (bank, seats) = Bank::open(alloc, tokens, cpus)?;
@@ -51,8 +78,9 @@ fn open_at(alloc: Global, script: &Script, tables: Tables) -> Result<Machine, Fa
     requires bank { IsOpened script.now.cpus script.now.tokens tables.bank tables.seats.items }
     requires book { AreOpened script.now.cpus script.now.messages tables.book tables.mails.items }
     requires few { script.now.cpus ≤ 8 }
+    requires threads { AreFew script.now.cpus script.now.threads }
     ensures ok { IfOk result (λ machine. IsOpenedMachine script.now machine) }
-    ensures only { OnErr result (result ≡ Err Fault.Memory) }
+    ensures only { OnErr result (result ≡ Err no_memory) }
 {
     let Tables {
         bank,
@@ -61,7 +89,7 @@ fn open_at(alloc: Global, script: &Script, tables: Tables) -> Result<Machine, Fa
         mails,
     } = tables;
     let Lanes { outs, ins } = open_lanes(alloc, usize::from(script.cpus))?;
-    let origins = origins_of(alloc, script.messages.as_slice()).map_err(|_| Fault::Memory)?;
+    let origins = origins_of(alloc, script.messages.as_slice()).map_err(Fault::Memory)?;
     let mut rest = Rest {
         seats,
         mails,
@@ -76,14 +104,20 @@ impl Machine {
     /// Opens the machine of a script: a bank of its tokens, a book of its messages, and its processors, with lanes for 32 notes
     /// from each to each. Each thread of the script is one of its processor, in the script's order, and was never polled.
     ///
-    /// Refused with `Limits` only if the opening passes a limit, with `LawBroken` only if it is within the limits and an opening
-    /// row, with the length of its record, breaks its law, and else with `Memory`.
+    /// Refused with `Limits` only if a limit is passed, a bank's, a book's, or 16 threads of a processor; with `LawBroken` only if
+    /// it is within the limits and an opening row, with the length of its record, breaks its law; and else with `Memory`. Whether
+    /// a processor has too many threads is looked at first.
     pub fn open(alloc: Global, script: &Script) -> Result<Machine, Fault>
         ensures ok { IfOk result (λ machine. IsOpenedMachine script.now machine) }
         ensures within { OnOk result (AreWithin script.now.cpus script.now.tokens script.now.messages) }
+        ensures few { OnOk result (AreFew script.now.cpus script.now.threads) }
         ensures lawful { OnOk result (AllOpenLawfully script.now.tokens) }
-        ensures refused { IfErr result (λ fault. Declines script.now.cpus script.now.tokens script.now.messages fault) }
+        ensures many { ¬ AreFew script.now.cpus script.now.threads → result ≡ Err Fault.Limits }
+        ensures refused { IfErr result (λ fault. Declines script.now fault) }
     {
+        if !are_few(script) {
+            return Err(Fault::Limits);
+        }
         let tables = open_tables(
             alloc,
             script.tokens.as_slice(),

@@ -1,11 +1,13 @@
 //! Processors put at their seats.
-ghost use Rattle.std.specs.Prelude.{◌≡◌, ℕ, ◌+◌, ◌<◌, length, map, IfOk, OnErr, Err};
+ghost use Rattle.std.specs.Prelude.{◌≡◌, ℕ, ◌+◌, ◌<◌, ◌≤◌, length, map, IfOk, OnErr, Err};
 ghost use Rattle.lwkt_base.specs.declared.openings.MsgSpec.{MsgSpec};
 ghost use Rattle.lwkt_bank.specs.Seats.{id_of};
 ghost use Rattle.lwkt_msg.specs.Desks.{cpu_of, IsOpened};
-ghost use Rattle.lwkt_port.specs.Openings.{new_mail, AreNewPorts, ArePaired};
+ghost use Rattle.lwkt_port.specs.Openings.{new_mail, AreNewPorts, ArePaired, AreWithin};
+ghost use Rattle.lwkt_script.specs.Format.{threads_on};
 ghost use Rattle.lwkt_machine.specs.Lanes.{HasLines, HaveLines, AreLeft};
-ghost use Rattle.lwkt_machine.specs.Opened.{bodies_on, IsSeat, IsOpenedCpu, AreOpenedCpus};
+ghost use Rattle.lwkt_machine.specs.Opened.{bodies_on, IsSeat, IsOpenedCpu, AreOpenedCpus, AreFew};
+ghost use Rattle.lwkt_base.specs.Fault.{no_memory};
 
 use crate::bodies::ScriptBody;
 use lwkt_bank::{Bank, CpuSeat};
@@ -63,14 +65,16 @@ fn open_ports(
 ) -> Result<Ports, Fault>
     requires mail { IsOpened number book.now mail }
     requires origins { origins.now ≡ map (λ (spec : MsgSpec). spec.origin) book.now.specs }
+    requires within { AreWithin mail outs.items ins.items origins.now threads }
     ensures desk { IfOk result (λ ports. IsOpened number book.now ports.seat) }
     ensures new { IfOk result (λ ports. AreNewPorts threads ports.ports) }
     ensures mails { IfOk result (λ ports. ports.mails ≡ map (new_mail (cpu_of ports.seat)) (map (λ (spec : MsgSpec). spec.origin) book.now.specs)) }
     ensures lines { IfOk result (λ ports. ArePaired outs.items ins.items ports.lanes) }
-    ensures only { OnErr result (result ≡ Err Fault.Memory) }
+    ensures threads { IfOk result (λ ports. ports.threads ≡ threads) }
+    ensures only { OnErr result (result ≡ Err no_memory) }
 {
     let id = mail.cpu();
-    Ports::new(alloc, id, mail, outs, ins, origins, threads).map_err(|_| Fault::Memory)
+    Ports::new(alloc, id, mail, outs, ins, origins, threads)
 }
 
 // The processor of this number, at its seats, with a thread for each of the script's threads of its number.
@@ -89,16 +93,19 @@ fn seat_one(
     requires new { AreNewPorts (length bodies.items) ports.ports }
     requires mails { ports.mails ≡ map (new_mail (cpu_of ports.seat)) (map (λ (spec : MsgSpec). spec.origin) book.now.specs) }
     requires bodies { bodies.items ≡ bodies_on number threads.now }
+    requires few { length bodies.items ≤ 16 }
+    requires threads { ports.threads ≡ length bodies.items }
     ensures ok { IfOk result (λ cpu. IsOpenedCpu (id_of bank.now) book.now threads.now number cpu) }
     ensures lines { IfOk result (λ cpu. cpu.post.lanes ≡ ports.lanes) }
-    ensures only { OnErr result (result ≡ Err Fault.Memory) }
+    ensures only { OnErr result (result ≡ Err no_memory) }
 {
     let id = seat.cpu();
-    Cpu::new(alloc, id, seat, ports, bodies).map_err(|_| Fault::Memory)
+    Cpu::new(alloc, id, seat, ports, bodies)
 }
 
 impl Rest {
     ghost use Rattle.lwkt_machine.specs.Seating.{IsRest};
+    ghost use Rattle.lwkt_base.specs.Fault.{no_memory};
 
     // The next processor.
     fn next(
@@ -113,10 +120,11 @@ impl Rest {
         requires some { 0 < length self.old.seats.items }
         requires rest { IsRest (id_of bank.now) book.now number self.old }
         requires origins { origins.now ≡ map (λ (spec : MsgSpec). spec.origin) book.now.specs }
+        requires few { threads_on number threads.now ≤ 16 }
         ensures ok { IfOk result (λ cpu. IsOpenedCpu (id_of bank.now) book.now threads.now number cpu) }
         ensures lines { IfOk result (λ cpu. HasLines self.old.outs.items self.old.ins.items 0 cpu) }
         ensures left { AreLeft 1 self.old self.new }
-        ensures only { OnErr result (result ≡ Err Fault.Memory) }
+        ensures only { OnErr result (result ≡ Err no_memory) }
         ensures rest { IsRest (id_of bank.now) book.now (number + 1) self.new }
         ensures fewer { length self.new.seats.items + 1 ≡ length self.old.seats.items }
     {
@@ -124,7 +132,7 @@ impl Rest {
         let mail = self.mails.remove(0);
         let outs = self.outs.remove(0);
         let ins = self.ins.remove(0);
-        let bodies = bodies_on(alloc, threads, number).map_err(|_| Fault::Memory)?;
+        let bodies = bodies_on(alloc, threads, number).map_err(Fault::Memory)?;
         let ports = open_ports(alloc, book, mail, outs, ins, origins, bodies.len(), number)?;
         seat_one(alloc, bank, book, seat, ports, threads, bodies, number)
     }
@@ -140,15 +148,17 @@ impl Rest {
     ) -> Result<Vec<Cpu<ScriptBody>>, Fault>
         requires rest { IsRest (id_of bank.now) book.now 0 self.old }
         requires origins { origins.now ≡ map (λ (spec : MsgSpec). spec.origin) book.now.specs }
+        requires few { AreFew (length self.old.seats.items) threads.now }
         ensures as_many { IfOk result (λ cpus. length cpus.items ≡ length self.old.seats.items) }
         ensures each { IfOk result (λ cpus. AreOpenedCpus (id_of bank.now) book.now threads.now cpus.items) }
         ensures lines { IfOk result (λ cpus. HaveLines self.old.outs.items self.old.ins.items cpus.items) }
-        ensures only { OnErr result (result ≡ Err Fault.Memory) }
+        ensures only { OnErr result (result ≡ Err no_memory) }
     {
         let mut cpus = Vec::new(alloc);
         for number in 0..self.seats.len() {
             let cpu = self.next(alloc, bank, book, origins, threads, number)?;
-            cpus.push(cpu).map_err(|_| Fault::Memory)?;
+            cpus.push(cpu)
+                .map_err(|refused| Fault::Memory(refused.into()))?;
         }
         Ok(cpus)
     }

@@ -3,6 +3,7 @@ ghost use Rattle.std.specs.Prelude.{◌≡◌, ℕ, ◌<◌, All, OnOk, OnErr, E
 ghost use Rattle.lwkt_bank.specs.Seats.{id_of};
 ghost use Rattle.lwkt_machine.specs.Machines.{IsOf};
 ghost use Rattle.lwkt_machine.specs.Ended.{AreSameCpus, AreOver, AreStopped, AreStoppedShort, StopsAll, StopsShort};
+ghost use Rattle.lwkt_base.specs.Fault.{no_memory};
 
 use crate::bodies::ScriptBody;
 use crate::machines::Machine;
@@ -23,7 +24,7 @@ fn stop_all(
     ensures ok { OnOk result (AreStopped cpus.old cpus.new trace.old trace.new) }
     ensures over { OnOk result (AreOver cpus.new) }
     ensures err { OnErr result (AreStoppedShort cpus.old cpus.new trace.old trace.new) }
-    ensures only { OnErr result (result ≡ Err Fault.Memory) }
+    ensures only { OnErr result (result ≡ Err no_memory) }
     ensures same { AreSameCpus cpus.old cpus.new }
 {
     for at in 0..cpus.len() {
@@ -33,6 +34,8 @@ fn stop_all(
 }
 
 impl Machine {
+    ghost use Rattle.lwkt_base.specs.Fault.{no_memory};
+
     /// Stops each processor once, by rising number, as `Cpu::stop` does.
     ///
     /// Refused with `Memory` where the trace can't be given room for a processor's events; the processors before it have stopped
@@ -41,7 +44,7 @@ impl Machine {
         ensures ok { OnOk result (StopsAll self.old self.new trace.old trace.new) }
         ensures over { OnOk result (AreOver self.new.cpus) }
         ensures err { OnErr result (StopsShort self.old self.new trace.old trace.new) }
-        ensures only { OnErr result (result ≡ Err Fault.Memory) }
+        ensures only { OnErr result (result ≡ Err no_memory) }
         ensures same { AreSameCpus self.old.cpus self.new.cpus }
         ensures bank { self.new.bank ≡ self.old.bank }
         ensures book { self.new.book ≡ self.old.book }

@@ -1,8 +1,8 @@
-//! Worked rows: a tally, one token for two processors, a call that is replied to, and refusals.
+//! Worked rows: a tally, one token for two processors, a call that is replied to, a note of a processor to itself, and refusals.
 use crate::sheets::{left_after, refusal, script, thread, token};
 use lwkt_base::{
-    Ask, Call, CpuId, Entry, Fault, Law, MsgEnd, MsgId, MsgSpec, Owner, ThreadId, ThreadState,
-    TokId,
+    Ask, Call, CpuId, Entry, Fault, Flags, Law, MsgEnd, MsgId, MsgSpec, Owner, ThreadId,
+    ThreadState, TokId,
 };
 use lwkt_script::Script;
 use std::alloc::{AllocError, Global};
@@ -18,6 +18,12 @@ const OWN: MsgSpec = MsgSpec {
         cpu: CpuId(0),
         thread: 0,
     },
+};
+
+const FLAGS: Flags = Flags {
+    dropable: false,
+    abortable: false,
+    priority: false,
 };
 
 const THERE: ThreadId = ThreadId {
@@ -62,6 +68,23 @@ fn call(alloc: Global) -> Result<Script, AllocError> {
     Ok(script(2, Vec::new(alloc), messages, threads))
 }
 
+// A thread sends to itself, and then asks its port without waiting.
+fn own(alloc: Global) -> Result<Script, AllocError> {
+    let messages = vec![in alloc; OWN]?;
+    let asks = [Ask::Send(MsgId(0), OWN.origin, CALL, FLAGS), Ask::GetPort];
+    let threads = vec![in alloc; thread(alloc, 0, 1, &asks)?]?;
+    Ok(script(1, Vec::new(alloc), messages, threads))
+}
+
+// So many threads of the second processor.
+fn crowd(alloc: Global, count: usize) -> Result<Script, AllocError> {
+    let mut threads = Vec::new(alloc);
+    for number in 0..count {
+        threads.push(thread(alloc, 1, 1, &[Ask::WaitPort])?)?;
+    }
+    Ok(script(2, Vec::new(alloc), Vec::new(alloc), threads))
+}
+
 #[test]
 fn tally_add(rt: HostRuntime) -> Result<(), Fail> {
     let alloc = rt.alloc();
@@ -102,6 +125,16 @@ fn call_and_reply(rt: HostRuntime) -> Result<(), Fail> {
     Ok(())
 }
 
+// The turn behind that of the send has the note: the port is asked in it.
+#[test]
+fn own_note_is_there_in_the_next_turn(rt: HostRuntime) -> Result<(), Fail> {
+    let alloc = rt.alloc();
+    let left = left_after(alloc, &own(alloc)?, 3)?;
+    assert!(rt; left.stands(0, 0, ThreadState::Exited, 0));
+    assert!(rt; left.logged(0, 3, &[Entry::Request(MsgId(0), CALL)]));
+    Ok(())
+}
+
 #[test]
 fn refusals(rt: HostRuntime) -> Result<(), Fail> {
     let alloc = rt.alloc();
@@ -112,5 +145,13 @@ fn refusals(rt: HostRuntime) -> Result<(), Fail> {
     let broken = vec![in alloc; token(alloc, Law::Tally, 5, 4)?]?;
     let unlawful = script(1, broken, messages, Vec::new(alloc));
     assert!(rt; refusal(alloc, &unlawful) == Some(Fault::LawBroken));
+    Ok(())
+}
+
+#[test]
+fn sixteen_threads_at_most(rt: HostRuntime) -> Result<(), Fail> {
+    let alloc = rt.alloc();
+    assert!(rt; refusal(alloc, &crowd(alloc, 17)?) == Some(Fault::Limits));
+    assert!(rt; refusal(alloc, &crowd(alloc, 16)?).is_none());
     Ok(())
 }

@@ -72,7 +72,7 @@ pub fn left_after(alloc: Global, script: &Script, rounds: usize) -> Result<Left,
     for round in 0..rounds {
         make_round(&mut machine, &mut trace)?;
     }
-    let standings = machine.standings(alloc).map_err(|_| Fault::Memory)?;
+    let standings = machine.standings(alloc).map_err(Fault::Memory)?;
     machine.stop(&mut trace)?;
     let closed = machine.close(alloc)?;
     Ok(Left { standings, closed })

@@ -1,4 +1,5 @@
 mod KeptMoves
+mod LaneMoves
 mod ListMoves
 mod OpenMoves
 mod RetireMoves

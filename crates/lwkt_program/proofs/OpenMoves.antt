@@ -1,10 +1,12 @@
 -- What the openings of a bank and a book give is what processors are made of, one by one.
-use Rattle.std.proofs.Common.{◌≡◌, ◌∙◌, ℕ, suc, ◌+◌, ◌<◌, List, [], ◌∷◌, ◌++◌, length, get_or, refl, ap, sym, subst, inl, inr, arith, Some}
+use Rattle.std.proofs.Common.{◌≡◌, ◌∙◌, ℕ, suc, ◌+◌, ◌<◌, ◌≤◌, List, [], ◌∷◌, ◌++◌, length, map, get_or, refl, ap, sym, subst, inl, inr, arith, Some}
 use Rattle.std.specs.Prelude.{All, Vec, slice_get}
 use Rattle.std.specs.List.{remove}
 use Rattle.std.specs.declared.alloc.Global.{Global}
-use Rattle.std.proofs.lemmas.List.Elements.{All-get_or}
+use Rattle.std.proofs.lemmas.List.{length-map}
+use Rattle.std.proofs.lemmas.List.Elements.{All-get_or, All-head, All-tail}
 use Rattle.std.proofs.lemmas.Option.{slice_get_read, slice_get_within, get_or_from_slice_get}
+use Rattle.lwkt_base.specs.declared.names.ThreadId.{ThreadId}
 use Rattle.lwkt_base.specs.declared.openings.MsgSpec.{MsgSpec}
 use Rattle.lwkt_base.specs.declared.openings.TokSpec.{TokSpec}
 use Rattle.lwkt_bank.specs.declared.banks.Bank.{Bank}
@@ -12,13 +14,18 @@ use Rattle.lwkt_bank.specs.declared.seats.CpuSeat.{CpuSeat}
 use Rattle.lwkt_bank.specs.Seats.{BankId, id_of}
 use Rattle.lwkt_bank.specs.Gathered.{IsOpened as IsOpenedBank}
 use Rattle.lwkt_msg.specs.Desks.{Desk, Shelf, IsOpened, AreOpened}
+use Rattle.lwkt_lane.specs.declared.ins.LaneIn.{LaneIn}
+use Rattle.lwkt_lane.specs.declared.outs.LaneOut.{LaneOut}
+use Rattle.lwkt_port.specs.Openings.{AreWithin}
 use Rattle.lwkt_cpu.proofs.PlaceMoves.{get_there}
 use Rattle.lwkt_drive.specs.declared.driven.Driven.{Driven}
 use Rattle.lwkt_drive.specs.Course.{IsAt}
+use Rattle.lwkt_program.specs.Lanes.{AreLanes}
 use Rattle.lwkt_program.specs.Machines.{AreKept, Lasts, IsWhole}
 use Rattle.lwkt_program.specs.Opened.{IsSeat, IsOpenedCpu, AreOpenedCpus}
 use Rattle.lwkt_program.specs.Seating.{SeatsFrom, DesksFrom, IsRest, IsLeft}
 use Rattle.lwkt_program.specs.declared.seatings.Rest.{Rest}
+use Rattle.lwkt_program.proofs.LaneMoves.{first_long, rest_long}
 use Rattle.lwkt_program.proofs.ListMoves.{get_removed, length_removed, get_pushed, all_from_get}
 
 -- what holds of each place of a list, counted from a number on
@@ -40,6 +47,29 @@ first_seat bank first seats s some is from = from_first (λ n x. IsSeat bank n x
 pub first_desk : (book : Shelf) (first : ℕ) (desks : List Desk) (d : Desk) → 0 < length desks → d ≡ get_or desks 0 d → DesksFrom book first desks → IsOpened first book d
 first_desk book first desks d some is from = from_first (λ n x. IsOpened n book x) first desks d some is from
 
+-- the bodies of the next processor are few, and so are those behind them
+pub first_few : {B : Type 0} (lists : List (Vec B Global)) (v : Vec B Global) → 0 < length lists → v ≡ get_or lists 0 v → All (λ (w : Vec B Global). length w.items ≤ 16) lists → length v.items ≤ 16
+first_few {B} [] v some is all = absurd (omega (arith, some))
+first_few {B} (w ∷ lists) v some is all =
+    let F : Vec B Global → Type 0 = λ x. length x.items ≤ 16 in
+    subst F (sym is) (All-head F w lists all)
+
+rest_few : {B : Type 0} (xs ys : List (Vec B Global)) → 0 < length xs → ys ≡ remove xs 0 → All (λ (w : Vec B Global). length w.items ≤ 16) xs → All (λ (w : Vec B Global). length w.items ≤ 16) ys
+rest_few {B} [] ys some is all = absurd (omega (arith, some))
+rest_few {B} (x ∷ xs) ys some is all =
+    let F : Vec B Global → Type 0 = λ w. length w.items ≤ 16 in
+    let G : List (Vec B Global) → Type 0 = λ zs. All F zs in
+    subst G (sym is) (All-tail F x xs all)
+
+-- the next processor keeps the limits of its ports
+pub first_within : {B : Type 0} (bank : BankId) (book : Shelf) (first : ℕ) (rest : Rest B) (mail : Desk) (outs : Vec LaneOut Global) (ins : Vec LaneIn Global) (origins : List ThreadId) (threads : ℕ) → 0 < length rest.seats.items → IsOpened first book mail → outs ≡ get_or rest.outs.items 0 outs → ins ≡ get_or rest.ins.items 0 ins → origins ≡ map (λ (spec : MsgSpec). spec.origin) book.specs → threads ≤ 16 → IsRest bank book first rest → AreWithin mail outs.items ins.items origins threads
+first_within bank book first rest mail outs ins origins threads some opened out into are few r = record {
+  few = few;
+  outs_are = first_long book.cpus rest.outs.items outs (omega (arith, some, r.outs_are)) out r.outs_long ∙ sym opened.cpus;
+  ins_are = first_long book.cpus rest.ins.items ins (omega (arith, some, r.ins_are)) into r.ins_long ∙ sym opened.cpus;
+  origins_are = ap length are ∙ length-map book.specs (λ (spec : MsgSpec). spec.origin) ∙ ap length (sym opened.specs);
+}
+
 fewer : {A B : Type 0} (xs vs : List A) (ys ws : List B) → 0 < length xs → length ys ≡ length xs → vs ≡ remove xs 0 → ws ≡ remove ys 0 → length ws ≡ length vs
 fewer xs vs ys ws some same v w =
     let l = length_removed xs some in
@@ -56,6 +86,9 @@ rest_more bank book first old new some seats mails outs ins bodies rest = record
   outs_are = fewer old.seats.items new.seats.items old.outs.items new.outs.items some rest.outs_are seats outs;
   ins_are = fewer old.seats.items new.seats.items old.ins.items new.ins.items some rest.ins_are seats ins;
   bodies_are = fewer old.seats.items new.seats.items old.bodies.items new.bodies.items some rest.bodies_are seats bodies;
+  outs_long = rest_long book.cpus old.outs.items new.outs.items outs rest.outs_long;
+  ins_long = rest_long book.cpus old.ins.items new.ins.items ins rest.ins_long;
+  few = rest_few old.bodies.items new.bodies.items (omega (arith, some, rest.bodies_are)) bodies rest.few;
 }
 
 pub rest_fewer : {A : Type 0} (xs ys : List A) → 0 < length xs → ys ≡ remove xs 0 → length ys + 1 ≡ length xs
@@ -112,14 +145,17 @@ desks_from cpus specs book desks opened j d at =
     subst G n (subst F e (opened.seats_are.each j d (omega (arith, long, within))))
 
 -- nothing was made yet
-pub rest_first : {B : Type 0} (tokens : List TokSpec) (messages : List MsgSpec) (bank : Bank) (book : Shelf) (rest : Rest B) → IsOpenedBank (length rest.bodies.items) tokens bank rest.seats.items → AreOpened (length rest.bodies.items) messages book rest.mails.items → length rest.outs.items ≡ length rest.bodies.items → length rest.ins.items ≡ length rest.bodies.items → IsRest (id_of bank) book 0 rest
-rest_first tokens messages bank book rest opened given outs ins = record {
+pub rest_first : {B : Type 0} (tokens : List TokSpec) (messages : List MsgSpec) (bank : Bank) (book : Shelf) (rest : Rest B) → IsOpenedBank (length rest.bodies.items) tokens bank rest.seats.items → AreOpened (length rest.bodies.items) messages book rest.mails.items → AreLanes (length rest.bodies.items) (length rest.bodies.items) rest.outs.items rest.ins.items → All (λ v. length v.items ≤ 16) rest.bodies.items → IsRest (id_of bank) book 0 rest
+rest_first tokens messages bank book rest opened given lanes few = record {
   seats = seats_from (length rest.bodies.items) tokens bank rest.seats.items opened;
   desks = desks_from (length rest.bodies.items) messages book rest.mails.items given;
   mails_are = given.seats_are.as_many ∙ sym opened.as_many;
-  outs_are = outs ∙ sym opened.as_many;
-  ins_are = ins ∙ sym opened.as_many;
+  outs_are = lanes.outs_are ∙ sym opened.as_many;
+  ins_are = lanes.ins_are ∙ sym opened.as_many;
   bodies_are = sym opened.as_many;
+  outs_long = λ k v at. lanes.outs_long k v at ∙ sym given.cpus_is;
+  ins_long = λ k v at. lanes.ins_long k v at ∙ sym given.cpus_is;
+  few = few;
 }
 
 -- processors as they are opened belong to their bank and book, and keep what their bodies keep

@@ -1,4 +1,5 @@
 pub mod Ended
+pub mod Lanes
 pub mod Machines
 pub mod Opened
 pub mod Seating

@@ -61,14 +61,14 @@ pub record IsWithin {B : Type 0} (tokens : List TokSpec) (messages : List MsgSpe
 -- why no bank and book of so many processors are opened: out of memory, of which nothing is claimed; or a limit is passed; or within
 -- the limits an opening row breaks its law
 abbrev pub DeclinesTables : ℕ → List TokSpec → List MsgSpec → Fault → Type 0
-DeclinesTables cpus tokens messages Memory = Unit {0}
+DeclinesTables cpus tokens messages (Memory refused) = Unit {0}
 DeclinesTables cpus tokens messages Limits = ¬ AreWithin cpus tokens messages
 DeclinesTables cpus tokens messages LawBroken = AreWithin cpus tokens messages × ¬ AllOpenLawfully tokens
 DeclinesTables cpus tokens messages _ = ⊥
 
 -- the same of a machine
 abbrev pub Declines : {B : Type 0} → List TokSpec → List MsgSpec → List (Vec B Global) → Fault → Type 0
-Declines tokens messages lists Memory = Unit {0}
+Declines tokens messages lists (Memory refused) = Unit {0}
 Declines tokens messages lists Limits = ¬ IsWithin tokens messages lists
 Declines tokens messages lists LawBroken = IsWithin tokens messages lists × ¬ AllOpenLawfully tokens
 Declines tokens messages lists _ = ⊥

@@ -1,8 +1,9 @@
 -- Seats and bodies of processors that are still to be made (own).
-use Rattle.std.specs.Prelude.{◌≡◌, ℕ, ◌+◌, List, length, Some, slice_get}
+use Rattle.std.specs.Prelude.{◌≡◌, ℕ, ◌+◌, ◌≤◌, All, List, length, Some, slice_get}
 use Rattle.lwkt_bank.specs.declared.seats.CpuSeat.{CpuSeat}
 use Rattle.lwkt_bank.specs.Seats.{BankId}
 use Rattle.lwkt_msg.specs.Desks.{Desk, Shelf, IsOpened}
+use Rattle.lwkt_program.specs.Lanes.{AreLong}
 use Rattle.lwkt_program.specs.Opened.{IsSeat}
 use Rattle.lwkt_program.specs.declared.seatings.Rest.{Rest}
 
@@ -14,8 +15,8 @@ SeatsFrom bank first seats = (j : ℕ) (s : CpuSeat) → slice_get seats j ≡ S
 abbrev pub DesksFrom : Shelf → ℕ → List Desk → Type 0
 DesksFrom book first desks = (j : ℕ) (d : Desk) → slice_get desks j ≡ Some d → IsOpened (first + j) book d
 
--- what is left for the processors from this number on: a seat at the bank, one at the book, the lanes' ends, and a list of bodies, for
--- each
+-- what is left for the processors from this number on: a seat at the bank, one at the book, the lanes' ends, one each way for each
+-- processor of the book, and a list of at most 16 bodies, for each
 pub record IsRest {B : Type 0} (bank : BankId) (book : Shelf) (first : ℕ) (rest : Rest B) : Type 0 where
   pub seats : SeatsFrom bank first rest.seats.items
   pub desks : DesksFrom book first rest.mails.items
@@ -23,6 +24,9 @@ pub record IsRest {B : Type 0} (bank : BankId) (book : Shelf) (first : ℕ) (res
   pub outs_are : length rest.outs.items ≡ length rest.seats.items
   pub ins_are : length rest.ins.items ≡ length rest.seats.items
   pub bodies_are : length rest.bodies.items ≡ length rest.seats.items
+  pub outs_long : AreLong book.cpus rest.outs.items
+  pub ins_long : AreLong book.cpus rest.ins.items
+  pub few : All (λ v. length v.items ≤ 16) rest.bodies.items
 
 -- a list is left when the first so many are gone
 abbrev pub IsLeft : {A : Type 0} → ℕ → List A → List A → Type 0

@@ -36,7 +36,7 @@ TurnsAt polled bank cpu olds news turned = DoesAt (Makes polled bank turned) cpu
 -- Nothing has changed
 abbrev pub Declines : {B : Type 0} → ℕ → List (Driven B) → List (Driven B) → Fault → Type 0
 Declines cpu olds news Limits = (length olds ≤ cpu) × (news ≡ olds)
-Declines cpu olds news Memory = DoesAt Stays cpu olds news
+Declines cpu olds news (Memory refused) = DoesAt Stays cpu olds news
 Declines cpu olds news _ = ⊥
 
 -- turns of the processors from this number on, by rising number, which return these

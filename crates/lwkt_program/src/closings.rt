@@ -103,6 +103,7 @@ impl<B: Drop> Gathered<B> {
 
 impl<B: Lasting + Drop> Machine<B> {
     ghost use Rattle.lwkt_program.specs.Ended.{IsClosedMachine};
+    ghost use Rattle.lwkt_base.specs.Fault.{no_memory};
 
     /// Closes the machine: each processor is stopped, its threads end and give up what they hold, and bank and book are closed. Each
     /// token's row, with its record and its tallies, then meets the law that was declared for it, and what each body keeps holds of it
@@ -113,13 +114,14 @@ impl<B: Lasting + Drop> Machine<B> {
         ensures lawful { IfOk result (λ closed. AreLawful 0 self.bank.plans closed.tokens) }
         ensures closed { IfOk result (λ closed. IsClosedMachine self closed) }
         ensures kept { IfOk result (λ closed. AreKept B.kept closed.bodies.items) }
-        ensures only { OnErr result (result ≡ Err Fault.Memory) }
+        ensures only { OnErr result (result ≡ Err no_memory) }
     {
         let Machine { bank, book, cpus } = self;
         let mut cpus = cpus;
         stop_all(&bank, &book, &mut cpus)?;
-        let Ok(all) = Gathered::all(alloc, cpus) else {
-            return Err(Fault::Memory);
+        let all = match Gathered::all(alloc, cpus) {
+            Ok(all) => all,
+            Err(refused) => return Err(Fault::Memory(refused)),
         };
         let Gathered {
             seats,

@@ -1,5 +1,7 @@
 //! The lanes of a machine, one from each processor to each one.
-ghost use Rattle.std.specs.Prelude.{◌≡◌, Err, IfOk, OnErr, length};
+ghost use Rattle.std.specs.Prelude.{◌≡◌, ◌+◌, Err, IfOk, OnErr, length};
+ghost use Rattle.lwkt_program.specs.Lanes.{AreLanes, AreLong, HasEnds};
+ghost use Rattle.lwkt_base.specs.Fault.{no_memory};
 
 use lwkt_base::Fault;
 use lwkt_lane::{LaneIn, LaneOut, lane};
@@ -17,7 +19,8 @@ pub(crate) struct Lanes {
 
 // A list for each of so many processors, of the ends of the lanes to it.
 fn no_ends(alloc: Global, cpus: usize) -> Result<Vec<Vec<LaneIn>>, AllocError>
-    ensures { IfOk result (λ ins. length ins.items ≡ cpus) }
+    ensures as_many { IfOk result (λ ins. length ins.items ≡ cpus) }
+    ensures empty { IfOk result (λ ins. AreLong 0 ins.items) }
 {
     let mut ins = Vec::new(alloc);
     for made in 0..cpus {
@@ -28,47 +31,52 @@ fn no_ends(alloc: Global, cpus: usize) -> Result<Vec<Vec<LaneIn>>, AllocError>
 
 // A lane, whose receiving end goes to this list.
 fn lane_to(alloc: Global, ends: &mut Vec<LaneIn>) -> Result<LaneOut, Fault>
-    ensures only { OnErr result (result ≡ Err Fault.Memory) }
+    ensures ok { IfOk result (λ _. length ends.new.items ≡ length ends.old.items + 1) }
+    ensures only { OnErr result (result ≡ Err no_memory) }
 {
     let (out, into) = lane(alloc, LANE_NOTES)?;
-    ends.push(into).map_err(|_| Fault::Memory)?;
+    ends.push(into)
+        .map_err(|refused| Fault::Memory(refused.into()))?;
     Ok(out)
 }
 
 // The lanes from a processor to each one.
 fn lanes_to_all(alloc: Global, ins: &mut [Vec<LaneIn>]) -> Result<Vec<LaneOut>, Fault>
+    ensures ok { IfOk result (λ outs. HasEnds ins.old ins.new outs.items) }
     ensures as_many { length ins.new ≡ length ins.old }
-    ensures only { OnErr result (result ≡ Err Fault.Memory) }
+    ensures only { OnErr result (result ≡ Err no_memory) }
 {
     let mut outs = Vec::new(alloc);
     for to in 0..ins.len() {
         let out = lane_to(alloc, &mut ins[to])?;
-        outs.push(out).map_err(|_| Fault::Memory)?;
+        outs.push(out)
+            .map_err(|refused| Fault::Memory(refused.into()))?;
     }
     Ok(outs)
 }
 
 // The lanes from each processor.
 fn lanes_from_all(alloc: Global, ins: &mut [Vec<LaneIn>]) -> Result<Vec<Vec<LaneOut>>, Fault>
-    ensures outs { IfOk result (λ outs. length outs.items ≡ length ins.old) }
+    requires { AreLong 0 ins.old }
+    ensures ok { IfOk result (λ outs. AreLanes (length ins.old) (length ins.old) outs.items ins.new) }
     ensures as_many { length ins.new ≡ length ins.old }
-    ensures only { OnErr result (result ≡ Err Fault.Memory) }
+    ensures only { OnErr result (result ≡ Err no_memory) }
 {
     let mut outs = Vec::new(alloc);
     for from in 0..ins.len() {
         let row = lanes_to_all(alloc, ins)?;
-        outs.push(row).map_err(|_| Fault::Memory)?;
+        outs.push(row)
+            .map_err(|refused| Fault::Memory(refused.into()))?;
     }
     Ok(outs)
 }
 
 /// The lanes of so many processors.
 pub(crate) fn open_lanes(alloc: Global, cpus: usize) -> Result<Lanes, Fault>
-    ensures outs { IfOk result (λ lanes. length lanes.outs.items ≡ cpus) }
-    ensures ins { IfOk result (λ lanes. length lanes.ins.items ≡ cpus) }
-    ensures only { OnErr result (result ≡ Err Fault.Memory) }
+    ensures ok { IfOk result (λ lanes. AreLanes cpus cpus lanes.outs.items lanes.ins.items) }
+    ensures only { OnErr result (result ≡ Err no_memory) }
 {
-    let mut ins = no_ends(alloc, cpus).map_err(|_| Fault::Memory)?;
+    let mut ins = no_ends(alloc, cpus).map_err(Fault::Memory)?;
     let outs = lanes_from_all(alloc, &mut ins)?;
     Ok(Lanes { outs, ins })
 }

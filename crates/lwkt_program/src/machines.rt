@@ -5,6 +5,7 @@ ghost use Rattle.lwkt_bank.specs.Seats.{id_of};
 ghost use Rattle.lwkt_drive.specs.Course.{IsAt, IsDriven};
 ghost use Rattle.lwkt_program.specs.Machines.{Lasts};
 ghost use Rattle.lwkt_program.specs.Turns.{DoesAt, Makes, Stays, TurnsAt};
+ghost use Rattle.lwkt_base.specs.Fault.{no_memory};
 
 use crate::lasting::Lasting;
 use lwkt_bank::Bank;
@@ -50,7 +51,7 @@ fn turn_one<B: Lasting>(
     requires kept { Lasts B.kept driven.old }
     ensures ok { IfOk result (λ turned. Makes B.polled (id_of bank.now) turned driven.old driven.new) }
     ensures err { OnErr result (Stays driven.old driven.new) }
-    ensures only { OnErr result (result ≡ Err Fault.Memory) }
+    ensures only { OnErr result (result ≡ Err no_memory) }
     ensures at { IsAt (id_of bank.now) book.now.table driven.new }
     ensures kept { Lasts B.kept driven.new }
 {
@@ -69,7 +70,7 @@ pub(crate) fn turn_at<B: Lasting>(
     requires kept { All (Lasts B.kept) cpus.old }
     ensures ok { IfOk result (λ turned. TurnsAt B.polled (id_of bank.now) number cpus.old cpus.new turned) }
     ensures err { OnErr result (DoesAt Stays number cpus.old cpus.new) }
-    ensures only { OnErr result (result ≡ Err Fault.Memory) }
+    ensures only { OnErr result (result ≡ Err no_memory) }
     ensures at { All (IsAt (id_of bank.now) book.now.table) cpus.new }
     ensures kept { All (Lasts B.kept) cpus.new }
     ensures as_many { length cpus.new ≡ length cpus.old }

@@ -1,5 +1,6 @@
 //! Tokens and messages as they are declared, and lists of what a machine is opened with.
 ghost use Rattle.std.specs.Prelude.{◌≡◌, ◌⊎◌, ◌<◌, ◌≤◌, ◌∷◌, [], length, Err, IfOk, OnErr, OnOk, None, Some};
+ghost use Rattle.lwkt_base.specs.Fault.{no_memory};
 
 use lwkt_base::{Blob, Cells, CpuId, Fault, Law, MsgSpec, ThreadId, TokSpec};
 use std::alloc::Global;
@@ -7,9 +8,9 @@ use std::alloc::Global;
 // A token with these cells under this law.
 fn token(alloc: Global, cells: &[u64], law: Law, param: u64) -> Result<TokSpec, Fault>
     ensures ok { IfOk result (λ spec. spec ≡ record { cells = cells.now; law = law; param = param; generation = 0; blob = None }) }
-    ensures only { OnErr result (result ≡ Err Fault.Memory) }
+    ensures only { OnErr result (result ≡ Err no_memory) }
 {
-    let row = Vec::from_slice(alloc, cells).map_err(|_| Fault::Memory)?;
+    let row = Vec::from_slice(alloc, cells).map_err(Fault::Memory)?;
     Ok(TokSpec {
         cells: Cells::from_vec(row),
         law,
@@ -24,7 +25,7 @@ fn token(alloc: Global, cells: &[u64], law: Law, param: u64) -> Result<TokSpec, 
 /// Refused with `Memory`.
 pub fn any(alloc: Global, cells: &[u64]) -> Result<TokSpec, Fault>
     ensures ok { IfOk result (λ spec. spec ≡ record { cells = cells.now; law = Law.Any; param = 0; generation = 0; blob = None }) }
-    ensures only { OnErr result (result ≡ Err Fault.Memory) }
+    ensures only { OnErr result (result ≡ Err no_memory) }
 {
     token(alloc, cells, Law::Any, 0)
 }
@@ -34,7 +35,7 @@ pub fn any(alloc: Global, cells: &[u64]) -> Result<TokSpec, Fault>
 /// Refused with `Memory`.
 pub fn sum(alloc: Global, cells: &[u64], total: u64) -> Result<TokSpec, Fault>
     ensures ok { IfOk result (λ spec. spec ≡ record { cells = cells.now; law = Law.Sum; param = total; generation = 0; blob = None }) }
-    ensures only { OnErr result (result ≡ Err Fault.Memory) }
+    ensures only { OnErr result (result ≡ Err no_memory) }
 {
     token(alloc, cells, Law::Sum, total)
 }
@@ -44,7 +45,7 @@ pub fn sum(alloc: Global, cells: &[u64], total: u64) -> Result<TokSpec, Fault>
 /// Refused with `Memory`.
 pub fn order(alloc: Global, cells: &[u64]) -> Result<TokSpec, Fault>
     ensures ok { IfOk result (λ spec. spec ≡ record { cells = cells.now; law = Law.Order; param = 0; generation = 0; blob = None }) }
-    ensures only { OnErr result (result ≡ Err Fault.Memory) }
+    ensures only { OnErr result (result ≡ Err no_memory) }
 {
     token(alloc, cells, Law::Order, 0)
 }
@@ -54,7 +55,7 @@ pub fn order(alloc: Global, cells: &[u64]) -> Result<TokSpec, Fault>
 /// Refused with `Memory`.
 pub fn cap(alloc: Global, cells: &[u64], most: u64) -> Result<TokSpec, Fault>
     ensures ok { IfOk result (λ spec. spec ≡ record { cells = cells.now; law = Law.Cap; param = most; generation = 0; blob = None }) }
-    ensures only { OnErr result (result ≡ Err Fault.Memory) }
+    ensures only { OnErr result (result ≡ Err no_memory) }
 {
     token(alloc, cells, Law::Cap, most)
 }
@@ -64,7 +65,7 @@ pub fn cap(alloc: Global, cells: &[u64], most: u64) -> Result<TokSpec, Fault>
 /// Refused with `Memory`.
 pub fn tally(alloc: Global, first: u64) -> Result<TokSpec, Fault>
     ensures ok { IfOk result (λ spec. spec ≡ record { cells = first ∷ []; law = Law.Tally; param = first; generation = 0; blob = None }) }
-    ensures only { OnErr result (result ≡ Err Fault.Memory) }
+    ensures only { OnErr result (result ≡ Err no_memory) }
 {
     token(alloc, &[first], Law::Tally, first)
 }
@@ -102,7 +103,7 @@ pub fn guarding(token: TokSpec, record_: &[u8]) -> Result<TokSpec, Fault>
 pub fn len(alloc: Global, cells: &[u64], record_: &[u8]) -> Result<TokSpec, Fault>
     ensures ok { IfOk result (λ spec. spec ≡ record { cells = cells.now; law = Law.Len; param = 0; generation = 0; blob = Some record_.now }) }
     ensures within { OnOk result (length record_.now ≤ 64) }
-    ensures only { OnErr result ((result ≡ Err Fault.Memory) ⊎ ((result ≡ Err Fault.Limits) × (64 < length record_.now))) }
+    ensures only { OnErr result ((result ≡ Err no_memory) ⊎ ((result ≡ Err Fault.Limits) × (64 < length record_.now))) }
 {
     let token = token(alloc, cells, Law::Len, 0)?;
     guarding(token, record_)
@@ -130,10 +131,11 @@ pub fn message(origin: ThreadId) -> MsgSpec
 /// Refused with `Memory`; what was handed over is then dropped.
 pub fn list<T: Drop, const N: usize>(alloc: Global, items: [T; N]) -> Result<Vec<T>, Fault>
     ensures ok { IfOk result (λ list. list.items ≡ items) }
-    ensures only { OnErr result (result ≡ Err Fault.Memory) }
+    ensures only { OnErr result (result ≡ Err no_memory) }
 {
-    let Ok(list) = Vec::from_array(alloc, items) else {
-        return Err(Fault::Memory);
+    let list = match Vec::from_array(alloc, items) {
+        Ok(list) => list,
+        Err(refused) => return Err(Fault::Memory(refused.into())),
     };
     Ok(list)
 }

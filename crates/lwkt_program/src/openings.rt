@@ -56,6 +56,8 @@ fn open_tables(
 }
 
 impl<B: Lasting + Drop> Machine<B> {
+    ghost use Rattle.lwkt_base.specs.Fault.{no_memory};
+
     // A machine at tables that were just opened.
     fn open_at(
         alloc: Global,
@@ -66,9 +68,10 @@ impl<B: Lasting + Drop> Machine<B> {
     ) -> Result<Self, Fault>
         requires bank { IsOpened (length bodies.items) tokens.now tables.bank tables.seats.items }
         requires book { AreOpened (length bodies.items) messages.now tables.book tables.mails.items }
+        requires few { All (λ v. length v.items ≤ 16) bodies.items }
         requires kept { AreKept B.kept bodies.items }
         ensures ok { IfOk result (λ machine. IsOpenedMachine tokens.now messages.now bodies.items machine) }
-        ensures only { OnErr result (result ≡ Err Fault.Memory) }
+        ensures only { OnErr result (result ≡ Err no_memory) }
     {
         let _ = tokens;
         let Tables {
@@ -78,7 +81,7 @@ impl<B: Lasting + Drop> Machine<B> {
             mails,
         } = tables;
         let Lanes { outs, ins } = open_lanes(alloc, bodies.len())?;
-        let origins = origins_of(alloc, messages).map_err(|_| Fault::Memory)?;
+        let origins = origins_of(alloc, messages).map_err(Fault::Memory)?;
         let mut rest = Rest {
             seats,
             mails,

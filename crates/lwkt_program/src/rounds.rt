@@ -5,6 +5,7 @@ ghost use Rattle.lwkt_cpu.specs.declared.answers.Turned.{Turned as Told};
 ghost use Rattle.lwkt_drive.specs.Course.{IsAt};
 ghost use Rattle.lwkt_program.specs.Machines.{Lasts};
 ghost use Rattle.lwkt_program.specs.Turns.{IsOver, MakesRound, MakesRoundShort, Runs, RunsShort};
+ghost use Rattle.lwkt_base.specs.Fault.{no_memory};
 
 use crate::lasting::Lasting;
 use crate::machines::{Machine, turn_at};
@@ -28,7 +29,7 @@ fn turn_all<B: Lasting>(bank: &Bank, book: &MsgBook, cpus: &mut [Driven<B>]) -> 
     requires kept { All (Lasts B.kept) cpus.old }
     ensures ok { IfOk result (λ over. (turns : List Told) × (MakesRound B.polled (id_of bank.now) cpus.old cpus.new turns × (over ≡ true → IsOver turns) × (over ≡ false → ¬ IsOver turns))) }
     ensures err { OnErr result (MakesRoundShort B.polled (id_of bank.now) cpus.old cpus.new) }
-    ensures only { OnErr result (result ≡ Err Fault.Memory) }
+    ensures only { OnErr result (result ≡ Err no_memory) }
     ensures at { All (IsAt (id_of bank.now) book.now.table) cpus.new }
     ensures kept { All (Lasts B.kept) cpus.new }
     ensures as_many { length cpus.new ≡ length cpus.old }
@@ -52,7 +53,7 @@ fn run_all<B: Lasting>(
     requires kept { All (Lasts B.kept) cpus.old }
     ensures ok { OnOk result (Runs B.polled (id_of bank.now) rounds cpus.old cpus.new) }
     ensures err { OnErr result (RunsShort B.polled (id_of bank.now) rounds cpus.old cpus.new) }
-    ensures only { OnErr result (result ≡ Err Fault.Memory) }
+    ensures only { OnErr result (result ≡ Err no_memory) }
     ensures at { All (IsAt (id_of bank.now) book.now.table) cpus.new }
     ensures kept { All (Lasts B.kept) cpus.new }
     ensures as_many { length cpus.new ≡ length cpus.old }
@@ -66,6 +67,8 @@ fn run_all<B: Lasting>(
 }
 
 impl<B: Lasting> Machine<B> {
+    ghost use Rattle.lwkt_base.specs.Fault.{no_memory};
+
     /// Makes so many rounds, in each a turn of each processor by rising number, or ends after the first in which every thread had
     /// ended.
     ///
@@ -73,7 +76,7 @@ impl<B: Lasting> Machine<B> {
     pub fn run(&mut self, rounds: u32) -> Result<(), Fault>
         ensures ok { OnOk result (Runs B.polled self.old.bank rounds self.old.cpus self.new.cpus) }
         ensures err { OnErr result (RunsShort B.polled self.old.bank rounds self.old.cpus self.new.cpus) }
-        ensures only { OnErr result (result ≡ Err Fault.Memory) }
+        ensures only { OnErr result (result ≡ Err no_memory) }
         ensures bank { self.new.bank ≡ self.old.bank }
         ensures book { self.new.book ≡ self.old.book }
     {

@@ -1,10 +1,11 @@
 //! Processors put at their seats.
-ghost use Rattle.std.specs.Prelude.{◌≡◌, ◌+◌, ◌<◌, Err, IfOk, List, OnErr, Some, length, map, slice_get};
+ghost use Rattle.std.specs.Prelude.{◌≡◌, ◌+◌, ◌<◌, ◌≤◌, Err, IfOk, List, OnErr, Some, length, map, slice_get};
 ghost use Rattle.lwkt_base.specs.declared.openings.MsgSpec.{MsgSpec};
 ghost use Rattle.lwkt_bank.specs.Seats.{id_of};
 ghost use Rattle.lwkt_msg.specs.Desks.{cpu_of, IsOpened};
-ghost use Rattle.lwkt_port.specs.Openings.{new_mail, AreNewPorts};
+ghost use Rattle.lwkt_port.specs.Openings.{new_mail, AreNewPorts, AreWithin};
 ghost use Rattle.lwkt_program.specs.Opened.{IsSeat, IsOpenedCpu, AreOpenedCpus};
+ghost use Rattle.lwkt_base.specs.Fault.{no_memory};
 
 use lwkt_bank::{Bank, CpuSeat};
 use lwkt_base::{Fault, MsgSpec, ThreadId};
@@ -45,13 +46,15 @@ fn open_ports(
 ) -> Result<Ports, Fault>
     requires mail { IsOpened number book.now mail }
     requires origins { origins.now ≡ map (λ (spec : MsgSpec). spec.origin) book.now.specs }
+    requires within { AreWithin mail outs.items ins.items origins.now threads }
     ensures desk { IfOk result (λ ports. IsOpened number book.now ports.seat) }
     ensures new { IfOk result (λ ports. AreNewPorts threads ports.ports) }
     ensures mails { IfOk result (λ ports. ports.mails ≡ map (new_mail (cpu_of ports.seat)) (map (λ (spec : MsgSpec). spec.origin) book.now.specs)) }
-    ensures only { OnErr result (result ≡ Err Fault.Memory) }
+    ensures threads { IfOk result (λ ports. ports.threads ≡ threads) }
+    ensures only { OnErr result (result ≡ Err no_memory) }
 {
     let id = mail.cpu();
-    Ports::new(alloc, id, mail, outs, ins, origins, threads).map_err(|_| Fault::Memory)
+    Ports::new(alloc, id, mail, outs, ins, origins, threads)
 }
 
 // The processor of this number, over its seat and its ports, with a thread for each of these bodies.
@@ -68,11 +71,13 @@ fn seat_one<B: Drop>(
     requires desk { IsOpened number book.now ports.seat }
     requires new { AreNewPorts (length bodies.items) ports.ports }
     requires mails { ports.mails ≡ map (new_mail (cpu_of ports.seat)) (map (λ (spec : MsgSpec). spec.origin) book.now.specs) }
+    requires few { length bodies.items ≤ 16 }
+    requires threads { ports.threads ≡ length bodies.items }
     ensures ok { IfOk result (λ d. IsOpenedCpu (id_of bank.now) book.now number bodies.items d) }
-    ensures only { OnErr result (result ≡ Err Fault.Memory) }
+    ensures only { OnErr result (result ≡ Err no_memory) }
 {
     let id = seat.cpu();
-    let cpu = Cpu::new(alloc, id, seat, ports, bodies).map_err(|_| Fault::Memory)?;
+    let cpu = Cpu::new(alloc, id, seat, ports, bodies)?;
     Ok(Driven::new(alloc, id, cpu))
 }
 
@@ -80,6 +85,7 @@ impl<B: Drop> Rest<B> {
     ghost use Rattle.std.specs.declared.alloc.Global.{Global as Heap};
     ghost use Rattle.std.specs.Prelude.{Vec as Items};
     ghost use Rattle.lwkt_program.specs.Seating.{IsLeft, IsRest};
+    ghost use Rattle.lwkt_base.specs.Fault.{no_memory};
 
     // The next processor.
     fn next(
@@ -95,7 +101,7 @@ impl<B: Drop> Rest<B> {
         requires origins { origins.now ≡ map (λ (spec : MsgSpec). spec.origin) book.now.specs }
         ensures ok { IfOk result (λ d. (v : Items B Heap) → slice_get self.old.bodies.items 0 ≡ Some v → IsOpenedCpu (id_of bank.now) book.now number v.items d) }
         ensures left { IsLeft 1 self.old.bodies.items self.new.bodies.items }
-        ensures only { OnErr result (result ≡ Err Fault.Memory) }
+        ensures only { OnErr result (result ≡ Err no_memory) }
         ensures rest { IsRest (id_of bank.now) book.now (number + 1) self.new }
         ensures fewer { length self.new.seats.items + 1 ≡ length self.old.seats.items }
     {
@@ -120,12 +126,13 @@ impl<B: Drop> Rest<B> {
         requires origins { origins.now ≡ map (λ (spec : MsgSpec). spec.origin) book.now.specs }
         ensures as_many { IfOk result (λ cpus. length cpus.items ≡ length self.old.seats.items) }
         ensures each { IfOk result (λ cpus. AreOpenedCpus (id_of bank.now) book.now self.old.bodies.items cpus.items) }
-        ensures only { OnErr result (result ≡ Err Fault.Memory) }
+        ensures only { OnErr result (result ≡ Err no_memory) }
     {
         let mut cpus = Vec::new(alloc);
         for number in 0..self.seats.len() {
             let driven = self.next(alloc, bank, book, origins, number)?;
-            cpus.push(driven).map_err(|_| Fault::Memory)?;
+            cpus.push(driven)
+                .map_err(|refused| Fault::Memory(refused.into()))?;
         }
         Ok(cpus)
     }

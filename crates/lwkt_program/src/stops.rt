@@ -6,6 +6,7 @@ ghost use Rattle.lwkt_drive.specs.Course.{IsAt};
 ghost use Rattle.lwkt_program.specs.Ended.{IsStopped, AreStopped, AreStoppedShort};
 ghost use Rattle.lwkt_program.specs.Machines.{Lasts};
 ghost use Rattle.lwkt_program.specs.Turns.{Stays};
+ghost use Rattle.lwkt_base.specs.Fault.{no_memory};
 
 use crate::lasting::Lasting;
 use crate::machines::Machine;
@@ -20,7 +21,7 @@ fn stop_one<B: Lasting>(bank: &Bank, book: &MsgBook, driven: &mut Driven<B>) -> 
     requires kept { Lasts B.kept driven.old }
     ensures ok { OnOk result (IsStopped driven.old driven.new) }
     ensures err { OnErr result (Stays driven.old driven.new) }
-    ensures only { OnErr result (result ≡ Err Fault.Memory) }
+    ensures only { OnErr result (result ≡ Err no_memory) }
     ensures at { IsAt (id_of bank.now) book.now.table driven.new }
     ensures kept { Lasts B.kept driven.new }
 {
@@ -37,7 +38,7 @@ pub(crate) fn stop_all<B: Lasting>(
     requires kept { All (Lasts B.kept) cpus.old }
     ensures ok { OnOk result (AreStopped cpus.old cpus.new) }
     ensures err { OnErr result (AreStoppedShort cpus.old cpus.new) }
-    ensures only { OnErr result (result ≡ Err Fault.Memory) }
+    ensures only { OnErr result (result ≡ Err no_memory) }
     ensures at { All (IsAt (id_of bank.now) book.now.table) cpus.new }
     ensures kept { All (Lasts B.kept) cpus.new }
     ensures as_many { length cpus.new ≡ length cpus.old }
@@ -49,6 +50,8 @@ pub(crate) fn stop_all<B: Lasting>(
 }
 
 impl<B: Lasting> Machine<B> {
+    ghost use Rattle.lwkt_base.specs.Fault.{no_memory};
+
     /// Stops the processors, by rising number: each thread that hasn't ended gives up what it holds and ends. The bodies stay as they
     /// are.
     ///
@@ -57,7 +60,7 @@ impl<B: Lasting> Machine<B> {
     pub fn stop(&mut self) -> Result<(), Fault>
         ensures ok { OnOk result (AreStopped self.old.cpus self.new.cpus) }
         ensures err { OnErr result (AreStoppedShort self.old.cpus self.new.cpus) }
-        ensures only { OnErr result (result ≡ Err Fault.Memory) }
+        ensures only { OnErr result (result ≡ Err no_memory) }
         ensures bank { self.new.bank ≡ self.old.bank }
         ensures book { self.new.book ≡ self.old.book }
     {

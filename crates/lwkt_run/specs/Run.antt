@@ -182,12 +182,12 @@ pub record IsOrderRun (bytes : List ℕ) (order : List ℕ) (run : TurnsRun) : T
 
 -- why a run of this script is refused: its machine isn't opened
 abbrev pub Declines : Script → Refusal → Type 0
-Declines script fault = IsDeclined script.cpus script.tokens script.messages fault
+Declines script fault = IsDeclined script fault
 
 -- why a run of these bytes is refused
 abbrev pub Refuses : List ℕ → Refusal → Type 0
 Refuses bytes (ScriptFault place) = script_of bytes ≡ Err place
-Refuses bytes Memory = Unit {0}
+Refuses bytes (Memory refused) = Unit {0}
 Refuses bytes Limits = (script : Script) × ((script_of bytes ≡ Ok script) × Declines script Limits)
 Refuses bytes LawBroken = (script : Script) × ((script_of bytes ≡ Ok script) × Declines script LawBroken)
 Refuses bytes _ = ⊥
@@ -231,7 +231,7 @@ abbrev pub status_of : Result End RunFault → ℕ
 status_of (Ok Ended) = 0
 status_of (Ok TurnsOut) = 2
 status_of (Ok UnlawfulEnd) = 4
-status_of (Err (Fault Memory)) = 3
+status_of (Err (Fault (Memory refused))) = 3
 status_of (Err (Fault _)) = 1
 status_of (Err Stream) = 3
 

@@ -1,6 +1,7 @@
 ghost use Rattle.std.specs.Prelude.{◌≡◌, ◌⊎◌, ◌<◌, All, map, is_some, IfOk, IfErr, OnOk, Err, IsTrue, string_bytes};
 ghost use Rattle.std.specs.List.{list_all};
 ghost use Rattle.lwkt_core.specs.Opening.{AreWithin, AllOpenLawfully};
+ghost use Rattle.lwkt_machine.specs.Opened.{AreFew};
 ghost use Rattle.lwkt_run.specs.Judging.{ids_of};
 ghost use Rattle.lwkt_run.specs.Running.{kept_of};
 ghost use Rattle.lwkt_run.specs.Values.{is_tally, AreValuesOf};
@@ -95,6 +96,7 @@ fn closing_of(
 
 // The opening state of a script.
 fn opened(alloc: Global, script: &Script) -> Result<State, Fault>
+    requires few { AreFew script.now.cpus script.now.threads }
     ensures ok { IfOk result (λ state. state ≡ opening_of script.now) }
     ensures within { OnOk result (AreWithin script.now.cpus script.now.tokens script.now.messages) }
     ensures lawful { OnOk result (AllOpenLawfully script.now.tokens) }
@@ -121,6 +123,7 @@ fn run_of(alloc: Global, script: &Script) -> Result<Made, Fault>
     ensures values { IfOk result (λ made. AreValuesOf script.now.tokens made.left.last) }
     ensures runs { IfOk result (λ made. RunsInRounds script.now made.left.threads.items (kept_of made.kept) made.trace.items made.left.last) }
     ensures threads { IfOk result (λ made. map (λ line. line.id) made.left.threads.items ≡ ids_of script.now.cpus script.now.threads) }
+    ensures few { OnOk result (AreFew script.now.cpus script.now.threads) }
     ensures refused { IfErr result (λ fault. Declines script.now fault) }
 {
     let mut machine = Machine::open(alloc, script)?;
@@ -138,6 +141,7 @@ fn run_along(alloc: Global, script: &Script, order: &[u8]) -> Result<Made, Fault
     ensures order { IfOk result (λ made. made.kept.order.items ≡ order.now) }
     ensures runs { IfOk result (λ made. RunsAlong script.now made.kept.order.items made.left.threads.items (kept_of made.kept) made.trace.items made.left.last) }
     ensures threads { IfOk result (λ made. map (λ line. line.id) made.left.threads.items ≡ ids_of script.now.cpus script.now.threads) }
+    ensures few { OnOk result (AreFew script.now.cpus script.now.threads) }
     ensures refused { IfErr result (λ fault. Declines script.now fault) }
 {
     let mut machine = Machine::open(alloc, script)?;
@@ -153,6 +157,7 @@ fn judged_run(alloc: Global, pace: Pace, script: Script, made: Made) -> Result<T
     requires values { AreValuesOf script.tokens made.left.last }
     requires threads { map (λ line. line.id) made.left.threads.items ≡ ids_of script.cpus script.threads }
     requires runs { RunsAt pace script made.kept.order.items made.left.threads.items (kept_of made.kept) made.trace.items made.left.last }
+    requires few { AreFew script.cpus script.threads }
     ensures script { IfOk result (λ run. run.script ≡ script) }
     ensures order { IfOk result (λ run. run.order ≡ made.kept.order) }
     ensures closes { IfOk result (λ run. MayClose pace script run.closing) }
@@ -164,7 +169,7 @@ fn judged_run(alloc: Global, pace: Pace, script: Script, made: Made) -> Result<T
     let Made { trace, kept, left } = made;
     let closing = match closing_of(alloc, &script, pace, opening, again, left, &trace, &kept) {
         Ok(closing) => closing,
-        Err(_) => return Err(Fault::Memory),
+        Err(refused) => return Err(Fault::Memory(refused)),
     };
     let Record {
         order,

@@ -1,9 +1,10 @@
-use Rattle.std.proofs.Common.{◌∙◌, List, arith, sym, subst}
+use Rattle.std.proofs.Common.{◌∙◌, ℕ, List, length, arith, sym, subst}
 use Rattle.lwkt_bank.specs.Seats.{id_of, cpus_of}
 use Rattle.lwkt_machine.proofs.LaneMoves.{wired}
 use Rattle.lwkt_machine.proofs.OpenMoves.{rest_first, opened_parts}
 use Rattle.lwkt_script.specs.declared.scripts.ThreadSpec.{ThreadSpec}
-use Rattle.lwkt_machine.specs.Opened.{AreOpenedCpus}
+use Rattle.lwkt_machine.specs.Lanes.{AreLanes}
+use Rattle.lwkt_machine.specs.Opened.{AreFew, AreOpenedCpus}
 use Rattle.lwkt_machine.proofs.openings.open_at.Goals as goal
 
 pub seat_all-requires-clause-rest : goal.seat_all-requires-clause-rest
@@ -11,7 +12,14 @@ seat_all-requires-clause-rest c =
     let t = c.args.tables in
     let s = c.args.script.now in
     let f = c.in_ok-outs in
-    rest_first s.cpus s.tokens s.messages t.bank t.book (record { seats = t.seats; mails = t.mails; outs = f.field-0.outs; ins = f.field-0.ins }) c.requires.bank c.requires.book (f.ensures.ok.outs_are ∙ c.from.ensures) (f.ensures.ok.ins_are ∙ c.from.ensures)
+    let F : ℕ → Type 0 = λ n. AreLanes n n f.field-0.outs.items f.field-0.ins.items in
+    rest_first s.cpus s.tokens s.messages t.bank t.book (record { seats = t.seats; mails = t.mails; outs = f.field-0.outs; ins = f.field-0.ins }) c.requires.bank c.requires.book (subst F c.from.ensures f.ensures.ok)
+
+pub seat_all-requires-clause-few : goal.seat_all-requires-clause-few
+seat_all-requires-clause-few c =
+    let F : ℕ → Type 0 = λ n. AreFew n c.args.script.now.threads in
+    let H : List ThreadSpec → Type 0 = λ xs. AreFew (length c.args.tables.seats.items) xs in
+    subst H (sym c.as_slice-2.ensures) (subst F (sym c.requires.bank.as_many) c.requires.threads)
 
 pub invariant_of-result : goal.invariant_of-result
 invariant_of-result c =

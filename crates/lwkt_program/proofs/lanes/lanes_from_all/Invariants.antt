@@ -1,8 +1,6 @@
-use Rattle.std.proofs.Common.{◌≡◌, length}
+use Rattle.std.proofs.Common.{length}
+use Rattle.lwkt_program.specs.Lanes.{AreLanes}
 use Rattle.lwkt_program.proofs.lanes.lanes_from_all.Given as goal
 
 abbrev pub invariant-loop-from : goal.invariant-loop-from
-invariant-loop-from l = record {
-  outs : length l.outs.items ≡ l.from;
-  as_many : length l.ins ≡ length l.initial.ins;
-}
+invariant-loop-from l = AreLanes l.from (length l.initial.ins) l.outs.items l.ins

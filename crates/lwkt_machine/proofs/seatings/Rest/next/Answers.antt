@@ -1,10 +1,11 @@
-use Rattle.std.proofs.Common.{◌≡◌, ◌<◌, length, refl, ◌∙◌, arith}
+use Rattle.std.proofs.Common.{rules, ◌≡◌, ◌<◌, length, ap, refl, ◌∙◌, arith}
 use Rattle.std.proofs.lemmas.Option.{slice_get_read}
 use Rattle.std.proofs.lemmas.Result.{IfOk-weaker}
 use Rattle.lwkt_bank.specs.Seats.{id_of}
 use Rattle.lwkt_machine.specs.Lanes.{HasLines}
+use Rattle.lwkt_machine.specs.Opened.{bodies_on}
 use Rattle.lwkt_machine.proofs.LaneMoves.{left_first}
-use Rattle.lwkt_machine.proofs.SeatMoves.{first_seat, first_desk, rest_more}
+use Rattle.lwkt_machine.proofs.SeatMoves.{first_seat, first_desk, first_within, length_bodies, rest_more}
 use Rattle.lwkt_machine.proofs.seatings.Rest.next.Goals as goal
 
 pub returns-in_err-bodies-clause-rest : goal.returns-in_err-bodies-clause-rest
@@ -14,6 +15,14 @@ pub open_ports-requires-clause-mail : goal.open_ports-requires-clause-mail
 open_ports-requires-clause-mail c =
     let some : 0 < length c.args.self.now.mails.items = omega (arith, c.requires.some, c.requires.rest.mails_are) in
     first_desk c.args.book.now c.args.number c.args.self.now.mails.items c.remove-mail.result some c.remove-mail.ensures.value c.requires.rest.desks
+
+pub open_ports-requires-clause-within : goal.open_ports-requires-clause-within
+open_ports-requires-clause-within c =
+    let few = c.requires.few in
+    let are : c.in_ok-bodies.bodies.items ≡ bodies_on c.args.number c.args.threads.now = search rules in
+    let long = ap length are in
+    let each = length_bodies c.args.number c.args.threads.now in
+    first_within (id_of c.args.bank.now) c.args.book.now c.args.number c.args.self.now c.remove-mail.result c.remove-outs.result c.remove-ins.result c.args.origins.now c.len.result c.requires.some (open_ports-requires-clause-mail c) c.remove-outs.ensures.value c.remove-ins.ensures.value c.requires.origins (omega (arith, few, long, each, c.len.ensures)) c.requires.rest
 
 pub returns-in_err-ports-clause-rest : goal.returns-in_err-ports-clause-rest
 returns-in_err-ports-clause-rest c = rest_more (id_of c.args.bank.now) c.args.book.now c.args.number c.args.self.now (record { seats = c.remove-seat.new.self; mails = c.remove-mail.new.self; outs = c.remove-outs.new.self; ins = c.remove-ins.new.self }) c.requires.some c.remove-seat.ensures.items c.remove-mail.ensures.items c.remove-outs.ensures.items c.remove-ins.ensures.items c.requires.rest

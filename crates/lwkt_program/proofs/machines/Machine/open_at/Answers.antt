@@ -1,5 +1,6 @@
-use Rattle.std.proofs.Common.{◌≡◌, ◌∙◌, length, sym, arith}
+use Rattle.std.proofs.Common.{◌≡◌, ◌∙◌, ℕ, length, subst, sym, arith}
 use Rattle.lwkt_bank.specs.Seats.{id_of, cpus_of}
+use Rattle.lwkt_program.specs.Lanes.{AreLanes}
 use Rattle.lwkt_program.proofs.OpenMoves.{rest_first, opened_whole}
 use Rattle.lwkt_program.proofs.machines.Machine.open_at.Goals as goal
 
@@ -8,7 +9,8 @@ seat_all-requires-clause-rest g c =
     let t = c.args.tables in
     let f = c.in_ok-outs in
     let many : c.len.result ≡ length c.args.bodies.items = omega (arith, c.len.ensures, c.args.bodies.ok) in
-    rest_first {B = g.row.B.Denot} c.args.tokens.now c.args.messages.now t.bank t.book (record { seats = t.seats; mails = t.mails; outs = f.field-0.outs; ins = f.field-0.ins; bodies = c.args.bodies }) c.requires.bank c.requires.book (f.ensures.outs ∙ many) (f.ensures.ins ∙ many)
+    let F : ℕ → Type 0 = λ n. AreLanes n n f.field-0.outs.items f.field-0.ins.items in
+    rest_first {B = g.row.B.Denot} c.args.tokens.now c.args.messages.now t.bank t.book (record { seats = t.seats; mails = t.mails; outs = f.field-0.outs; ins = f.field-0.ins; bodies = c.args.bodies }) c.requires.bank c.requires.book (subst F many f.ensures.ok) c.requires.few
 
 pub invariant_of-result : goal.invariant_of-result
 invariant_of-result g c =

@@ -1,12 +1,24 @@
 use Rattle.std.proofs.Common.{◌<◌, length, arith}
 use Rattle.lwkt_bank.specs.Seats.{id_of}
-use Rattle.lwkt_program.proofs.OpenMoves.{first_seat, first_desk, rest_more, left_one}
+use Rattle.lwkt_program.proofs.OpenMoves.{first_seat, first_desk, first_few, first_within, rest_more, left_one}
 use Rattle.lwkt_program.proofs.seatings.Rest.next.Goals as goal
 
 pub open_ports-requires-clause-mail : goal.open_ports-requires-clause-mail
 open_ports-requires-clause-mail g c =
     let some : 0 < length c.args.self.now.mails.items = omega (arith, c.requires.some, c.requires.rest.mails_are) in
     first_desk c.args.book.now c.args.number c.args.self.now.mails.items c.remove-mail.result some c.remove-mail.ensures.value c.requires.rest.desks
+
+pub open_ports-requires-clause-within : goal.open_ports-requires-clause-within
+open_ports-requires-clause-within g c =
+    let r = c.requires.rest in
+    let some : 0 < length c.args.self.now.bodies.items = omega (arith, c.requires.some, r.bodies_are) in
+    let few = first_few {B = g.row.B.Denot} c.args.self.now.bodies.items c.remove-bodies.result some c.remove-bodies.ensures.value r.few in
+    first_within {B = g.row.B.Denot} (id_of c.args.bank.now) c.args.book.now c.args.number c.args.self.now c.remove-mail.result c.remove-outs.result c.remove-ins.result c.args.origins.now c.len.result c.requires.some (open_ports-requires-clause-mail g c) c.remove-outs.ensures.value c.remove-ins.ensures.value c.requires.origins (omega (arith, few, c.len.ensures)) r
+
+pub seat_one-requires-clause-few : goal.seat_one-requires-clause-few
+seat_one-requires-clause-few g c =
+    let some : 0 < length c.args.self.now.bodies.items = omega (arith, c.requires.some, c.requires.rest.bodies_are) in
+    first_few {B = g.row.B.Denot} c.args.self.now.bodies.items c.remove-bodies.result some c.remove-bodies.ensures.value c.requires.rest.few
 
 pub returns-in_err-ports-clause-rest : goal.returns-in_err-ports-clause-rest
 returns-in_err-ports-clause-rest g c = rest_more {B = g.row.B.Denot} (id_of c.args.bank.now) c.args.book.now c.args.number c.args.self.now (record { seats = c.remove-seat.new.self; mails = c.remove-mail.new.self; outs = c.remove-outs.new.self; ins = c.remove-ins.new.self; bodies = c.remove-bodies.new.self }) c.requires.some c.remove-seat.ensures.items c.remove-mail.ensures.items c.remove-outs.ensures.items c.remove-ins.ensures.items c.remove-bodies.ensures.items c.requires.rest

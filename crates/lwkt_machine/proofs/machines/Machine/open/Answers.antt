@@ -1,0 +1,29 @@
+use Rattle.std.proofs.Common.{rules}
+use Rattle.std.proofs.lemmas.Result.{IfOk-weaker, IfErr-weaker}
+use Rattle.std.specs.Prelude.{IfErr}
+use Rattle.lwkt_machine.specs.Opened.{AreFew, DeclinesTables, Declines, IsOpenedMachine}
+use Rattle.lwkt_machine.proofs.OpenMoves.{declines_more}
+use Rattle.lwkt_machine.proofs.machines.Machine.open.Goals as goal
+
+pub returns-then-not-are_few-clause-refused : goal.returns-then-not-are_few-clause-refused
+returns-then-not-are_few-clause-refused c = λ within. c.are_few.ensures.no c.if-not-are_few.true within.few
+
+pub returns-in_err-tables-clause-many : goal.returns-in_err-tables-clause-many
+returns-in_err-tables-clause-many c = λ many. absurd (many (c.are_few.ensures.yes c.if-not-are_few.false))
+
+pub returns-in_err-tables-clause-refused : goal.returns-in_err-tables-clause-refused
+returns-in_err-tables-clause-refused c =
+    let s = c.args.script.now in
+    let told : IfErr c.from_residual.result (λ fault. DeclinesTables s.cpus s.tokens s.messages fault) = search rules in
+    IfErr-weaker c.from_residual.result (λ fault. DeclinesTables s.cpus s.tokens s.messages fault) (λ fault. Declines s fault) (λ fault why. declines_more s fault (c.are_few.ensures.yes c.if-not-are_few.false) why) told
+
+pub open_at-requires-clause-threads : goal.open_at-requires-clause-threads
+open_at-requires-clause-threads c = c.are_few.ensures.yes c.if-not-are_few.false
+
+pub returns-clause-few : goal.returns-clause-few
+returns-clause-few c =
+    let s = c.args.script.now in
+    IfOk-weaker c.open_at.result (λ machine. IsOpenedMachine s machine) (λ machine. AreFew s.cpus s.threads) (λ machine opened. c.are_few.ensures.yes c.if-not-are_few.false) c.open_at.ensures.ok
+
+pub returns-clause-many : goal.returns-clause-many
+returns-clause-many c = λ many. absurd (many (c.are_few.ensures.yes c.if-not-are_few.false))
