@@ -2,7 +2,7 @@ use Rattle.std.proofs.Common.{inl, inr, ◌≡◌, ◌⊎◌, ℕ, List, [], tak
 use Rattle.std.proofs.lemmas.Bool.{false≢true}
 use Rattle.std.specs.Prelude.{Bool, true, false, Option, None, Some, Result, Err, Ok, IsTrue}
 use Rattle.std.specs.Io.KnownBytes.{Keeps}
-use Rattle.lwkt_base.specs.declared.faults.Fault.TheVariants.{Memory}
+use Rattle.lwkt_base.specs.Fault.{no_memory}
 use Rattle.lwkt_report.specs.declared.sources.TheConstants.{READ_LIMIT}
 use Rattle.lwkt_report.specs.declared.streams.RunFault.{RunFault}
 use Rattle.lwkt_report.specs.declared.streams.RunFault.TheVariants.{Fault, Stream}
@@ -46,7 +46,7 @@ keeps_itself : (o : Option (List ℕ)) → Keeps o o
 keeps_itself o = search rules
 
 -- where nothing is known of a text but that a stream failed, or memory was refused, nothing is written
-text_unread : (mode : Mode) (bytes : List ℕ) (old : Option (List ℕ)) (fault : RunFault) → (fault ≡ Stream) ⊎ (fault ≡ Fault Memory) → TellsText mode bytes old old (Err fault)
+text_unread : (mode : Mode) (bytes : List ℕ) (old : Option (List ℕ)) (fault : RunFault) → (fault ≡ Stream) ⊎ (fault ≡ Fault no_memory) → TellsText mode bytes old old (Err fault)
 text_unread mode bytes old fault why =
     let Tells : RunFault → Type 0 = λ f. TellsText mode bytes old old (Err f) in
     elim why [
@@ -63,13 +63,13 @@ fault_of (Err fault) = fault
 blames_as : {A : Type 0} (source sink : Bool) (fault : RunFault) → (fault ≡ Stream → IsTrue source ⊎ IsTrue sink) → BlamesFailed {A = A} source sink (Err fault)
 blames_as source sink fault blames = λ is. blames (ap fault_of is)
 
-json_unread : (mode : Mode) (bytes : List ℕ) (source sink : Bool) (old new : Option (List ℕ)) (fault : RunFault) (status : ℕ) → (fault ≡ Stream) ⊎ (fault ≡ Fault Memory) → (fault ≡ Stream → IsTrue source ⊎ IsTrue sink)
+json_unread : (mode : Mode) (bytes : List ℕ) (source sink : Bool) (old new : Option (List ℕ)) (fault : RunFault) (status : ℕ) → (fault ≡ Stream) ⊎ (fault ≡ Fault no_memory) → (fault ≡ Stream → IsTrue source ⊎ IsTrue sink)
     → SaysAfterRun sink old new (Err fault) → status ≡ status_of (Err fault) → RunsJsonAs mode source sink (Some bytes) old new status
 json_unread Turns bytes source sink old new fault status why blames says is = (Err fault, (old, (tells_unread HasRun (Some bytes) old fault why, (says, (blames_as source sink fault blames, is)))))
 json_unread Threads bytes source sink old new fault status why blames says is = (Err fault, (old, (tells_unread (HasThreadedRun lets_all) (Some bytes) old fault why, (says, (blames_as source sink fault blames, is)))))
 
 -- where reading failed, or memory was refused
-pub runs_unread : (mode : Mode) (bytes : List ℕ) (source sink : Bool) (old new : Option (List ℕ)) (fault : RunFault) (status : ℕ) → (fault ≡ Stream) ⊎ (fault ≡ Fault Memory) → (fault ≡ Stream → IsTrue source ⊎ IsTrue sink)
+pub runs_unread : (mode : Mode) (bytes : List ℕ) (source sink : Bool) (old new : Option (List ℕ)) (fault : RunFault) (status : ℕ) → (fault ≡ Stream) ⊎ (fault ≡ Fault no_memory) → (fault ≡ Stream → IsTrue source ⊎ IsTrue sink)
     → SaysAfterRun sink old new (Err fault) → status ≡ status_of (Err fault) → RunsBytesAs mode bytes source sink old new status
 runs_unread mode bytes source sink old new fault status why blames says is =
     by_form (is_text bytes) (RunsTextAs mode bytes source sink old new status) (RunsJsonAs mode source sink (Some bytes) old new status)
@@ -82,5 +82,5 @@ some_read None = ([], tt)
 some_read (Some all) = (take READ_LIMIT all, refl)
 
 -- a lack of memory is no failed stream
-pub never_stream : Fault Memory ≡ Stream → ⊥
+pub never_stream : Fault no_memory ≡ Stream → ⊥
 never_stream is = search rules

@@ -44,7 +44,7 @@ pub record HasTextRun (mode : Mode) (bytes : List ℕ) (judgement : Judgement) (
 -- why a run of a text is refused: something is wrong with it, and it is refused as bytes that are no JSON; or its opening is
 abbrev pub RefusesText : List ℕ → Refusal → Type 0
 RefusesText bytes (ScriptFault place) = (place ≡ 0) × ((wrongs : List Wrong) × (reading_of bytes ≡ Err wrongs))
-RefusesText bytes Memory = Unit {0}
+RefusesText bytes (Memory refused) = Unit {0}
 RefusesText bytes Limits = (reading : Reading) × ((reading_of bytes ≡ Ok reading) × Declines reading.script Limits)
 RefusesText bytes LawBroken = (reading : Reading) × ((reading_of bytes ≡ Ok reading) × Declines reading.script LawBroken)
 RefusesText bytes _ = ⊥

@@ -9,10 +9,10 @@ mod texts;
 use crate::tellings::run_told;
 use lwkt_refusals::Speaker;
 use lwkt_report::{
-    NotedReader, NotedWriter, Program, ReaderSource, WriterSink, refuse_arguments, words_of,
+    NotedReader, NotedWriter, Program, ReaderSource, WriterSink, refusal_of, refuse_arguments,
+    words_of,
 };
 use std::alloc::Global;
-use std::io;
 use std::process::ExitCode;
 
 fn main(rt: HostRuntime) -> ExitCode {
@@ -25,9 +25,9 @@ fn main(rt: HostRuntime) -> ExitCode {
             run_told(&rt, alloc, &words, &mut source, &mut sink, &mut errors)
         }
         Err(error) => {
-            let memory = error.kind() == io::ErrorKind::OutOfMemory;
-            Speaker::Run.say_arguments(&mut errors, memory);
-            refuse_arguments(&mut sink, Program::Run, memory)
+            let refused = refusal_of(&error);
+            Speaker::Run.say_arguments(&mut errors, refused.is_some());
+            refuse_arguments(&mut sink, Program::Run, refused)
         }
     };
     ExitCode::from(status)

@@ -93,7 +93,7 @@ fn run_bytes<R: Threads + Sync, K: Sink, E: Sink>(
     match is_text(alloc, bytes) {
         Ok(true) => run_as_text(rt, alloc, mode, bytes, sink, errors),
         Ok(false) => run_json(rt, alloc, mode, words, bytes, sink, errors),
-        Err(_) => finish(sink, &Err(RunFault::Fault(Fault::Memory))),
+        Err(refused) => finish(sink, &Err(RunFault::Fault(Fault::Memory(refused)))),
     }
 }
 

@@ -22,7 +22,7 @@ fn say<E: Sink>(alloc: Global, errors: &mut E, made: Result<String, AllocError>)
         Ok(text) => {
             let _ = write_whole(errors, text.as_bytes());
         }
-        Err(_) => Speaker::Run.say_refusal(alloc, errors, None, Fault::Memory),
+        Err(_) => Speaker::Run.say_no_words(errors),
     }
 }
 
@@ -61,7 +61,7 @@ fn read_told<E: Sink>(alloc: Global, bytes: &[u8], errors: &mut E) -> Result<Rea
 {
     match read_text(alloc, bytes) {
         Ok(reading) => Ok(reading),
-        Err(Refusal::Memory) => Err(Fault::Memory),
+        Err(Refusal::Memory(refused)) => Err(Fault::Memory(refused)),
         Err(Refusal::Wrongs(wrongs)) => {
             say(alloc, errors, wrongs_said(alloc, None, bytes, wrongs));
             Err(Fault::Script { place: 0 })
@@ -87,7 +87,7 @@ fn account_of_bytes<R: Threads + Sync, E: Sink>(
     } = read_told(alloc, bytes, errors)?;
     let closing = match closing_by(rt, alloc, mode, script) {
         Ok(closing) => closing,
-        Err(Fault::Memory) => return Err(Fault::Memory),
+        Err(Fault::Memory(refused)) => return Err(Fault::Memory(refused)),
         Err(fault) => {
             say(alloc, errors, opening_line(alloc, bytes, fault));
             return Err(fault);
@@ -95,7 +95,7 @@ fn account_of_bytes<R: Threads + Sync, E: Sink>(
     };
     match account_of(alloc, None, bytes, expectations.as_slice(), &closing) {
         Ok(account) => Ok(account),
-        Err(_) => Err(Fault::Memory),
+        Err(refused) => Err(Fault::Memory(refused)),
     }
 }
 

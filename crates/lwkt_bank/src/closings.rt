@@ -257,6 +257,8 @@ impl ClerkDesk {
 }
 
 impl Bank {
+    ghost use Rattle.lwkt_base.specs.Fault.{no_memory};
+
     /// Closes the bank, with all its seats, in any order. That there are as many as processors, all of this bank, and that
     /// each holds nothing is the caller's condition. What each seat knew of a token stands: the closing generation isn't
     /// below the one that it last saw, and if it is that one, the row has each cell that it knew. All memory is taken before
@@ -265,9 +267,9 @@ impl Bank {
         requires ready { All (IsReady (id_of self)) seats.items }
         requires all { length seats.items ≡ cpus_of self }
         ensures ok { IfOk result (λ closed. IsClosed (id_of self) (cpus_of self) seats.items closed) }
-        ensures only { IfErr result (λ f. f ≡ Fault.Memory) }
+        ensures only { IfErr result (λ f. f ≡ no_memory) }
     {
         let desk = self.into_desk();
-        desk.close_seats(alloc, seats).map_err(|_| Fault::Memory)
+        desk.close_seats(alloc, seats).map_err(Fault::Memory)
     }
 }

@@ -17,6 +17,7 @@ use crate::seats::CpuSeat;
 use crate::views::View;
 use atomic_table::{Seat, Table};
 use lwkt_base::{Blob, CpuId, Fault, TokSpec};
+use lwkt_clerk::refusal_of;
 use lwkt_core::{SeatKind, all_open_lawfully};
 use std::alloc::{AllocError, Global};
 
@@ -59,10 +60,10 @@ impl ClerkDesk {
         requires slots { slots.items ≡ opening_slots specs.now }
         ensures { IfOk result (λ desk. (desk.key ≡ key) × HasMade desk 0) }
     {
-        let Ok((table, clerk)) = Table::new(alloc, words, slots, &key) else {
-            return Err(AllocError);
-        };
-        Ok(ClerkDesk { table, clerk, key })
+        match Table::new(alloc, words, slots, &key) {
+            Ok((table, clerk)) => Ok(ClerkDesk { table, clerk, key }),
+            Err(refused) => Err(refusal_of(refused)),
+        }
     }
 
     // The seat of the next processor.
@@ -97,6 +98,8 @@ impl ClerkDesk {
 }
 
 impl Bank {
+    ghost use Rattle.lwkt_base.specs.Fault.{no_memory};
+
     fn open_within(
         alloc: Global,
         specs: &[TokSpec],
@@ -135,7 +138,7 @@ impl Bank {
         ensures each_limit { (¬ AreWithin cpus specs.now []) → result ≡ Err Fault.Limits }
         ensures broken { result ≡ Err Fault.LawBroken → AreWithin cpus specs.now [] × ¬ AllOpenLawfully specs.now }
         ensures each_law { AreWithin cpus specs.now [] → (¬ AllOpenLawfully specs.now) → result ≡ Err Fault.LawBroken }
-        ensures only { IfErr result (λ f. (f ≡ Fault.Memory) ⊎ ((f ≡ Fault.Limits) ⊎ (f ≡ Fault.LawBroken))) }
+        ensures only { IfErr result (λ f. (f ≡ no_memory) ⊎ ((f ≡ Fault.Limits) ⊎ (f ≡ Fault.LawBroken))) }
     {
         if !openings::are_within(cpus, specs) {
             return Err(Fault::Limits);
@@ -143,13 +146,11 @@ impl Bank {
         if !all_open_lawfully(specs) {
             return Err(Fault::LawBroken);
         }
-        let seats = Vec::with_capacity(alloc, 8).map_err(|_| Fault::Memory)?;
-        let plans = openings::plans_of(alloc, specs).map_err(|_| Fault::Memory)?;
-        let words = openings::words_of(alloc, specs).map_err(|_| Fault::Memory)?;
-        let slots = openings::slots_of(alloc, specs).map_err(|_| Fault::Memory)?;
+        let seats = Vec::with_capacity(alloc, 8).map_err(Fault::Memory)?;
+        let plans = openings::plans_of(alloc, specs).map_err(Fault::Memory)?;
+        let words = openings::words_of(alloc, specs).map_err(Fault::Memory)?;
+        let slots = openings::slots_of(alloc, specs).map_err(Fault::Memory)?;
         let key = Key { plans, cpus };
-        Bank::open_within(alloc, specs, words.as_slice(), slots, key, seats).map_err(
-            |_| Fault::Memory,
-        )
+        Bank::open_within(alloc, specs, words.as_slice(), slots, key, seats).map_err(Fault::Memory)
     }
 }

@@ -72,8 +72,9 @@ fn has_ends(closed: &Closed, ends: &[End]) -> Result<(), Miss> {
 
 // Plays the calls of a row.
 fn play_row(alloc: Global, row: &Played) -> Result<(), Miss> {
-    let Ok(specs) = tokens(alloc, row.tokens) else {
-        return Err(Miss::Fault(Fault::Memory));
+    let specs = match tokens(alloc, row.tokens) {
+        Ok(specs) => specs,
+        Err(refused) => return Err(Miss::Fault(Fault::Memory(refused))),
     };
     let closed = play(alloc, &specs, row.cpus, row.lines)?;
     has_ends(&closed, row.ends)
@@ -322,8 +323,9 @@ const THREADS_END: &[End] = &[End(&[12_000], 4000, &[3000; 4])];
 
 // Four threads that add 3 to one tally, each so often.
 fn added<R: Threads + Sync>(rt: &R, alloc: Global) -> Result<(), Miss> {
-    let Ok(specs) = tokens(alloc, &[Opened(Law::Tally, 0, 0, &[0])]) else {
-        return Err(Miss::Fault(Fault::Memory));
+    let specs = match tokens(alloc, &[Opened(Law::Tally, 0, 0, &[0])]) {
+        Ok(specs) => specs,
+        Err(refused) => return Err(Miss::Fault(Fault::Memory(refused))),
     };
     let (bank, mut desks) = open(alloc, &specs, 4).map_err(Miss::Fault)?;
     add_by_threads(rt, &bank, desks.as_mut_slice());

@@ -172,8 +172,9 @@ fn close_all(alloc: Global, bank: Bank, worked: Vec<Worked>) -> Result<Closed, M
     requires sit { All (λ w. Sits (id_of bank) w.desk.seat w.desk.refs) worked.items }
     requires as_many { length worked.items ≡ cpus_of bank }
 {
-    let Ok(desks) = desks_of(alloc, worked) else {
-        return Err(Miss::Fault(Fault::Memory));
+    let desks = match desks_of(alloc, worked) {
+        Ok(desks) => desks,
+        Err(refused) => return Err(Miss::Fault(Fault::Memory(refused))),
     };
     close(alloc, bank, desks)
 }
@@ -188,18 +189,21 @@ fn race<R: Threads + Sync>(
     requires sit { All (λ d. Sits (id_of bank) d.seat d.refs) desks.items }
     requires as_many { length desks.items ≡ cpus_of bank }
 {
-    let Ok(worked) = by_threads(rt, &bank, desks) else {
-        return Err(Miss::Fault(Fault::Memory));
+    let worked = match by_threads(rt, &bank, desks) {
+        Ok(worked) => worked,
+        Err(refused) => return Err(Miss::Fault(Fault::Memory(refused))),
     };
-    let Ok(counts) = counts_of(alloc, worked.as_slice()) else {
-        return Err(Miss::Fault(Fault::Memory));
+    let counts = match counts_of(alloc, worked.as_slice()) {
+        Ok(counts) => counts,
+        Err(refused) => return Err(Miss::Fault(Fault::Memory(refused))),
     };
     Ok((close_all(alloc, bank, worked)?, counts))
 }
 
 fn counted<R: Threads + Sync>(rt: &R, alloc: Global) -> Result<(Closed, Vec<Counts>), Miss> {
-    let Ok(specs) = tokens(alloc, &OPENING) else {
-        return Err(Miss::Fault(Fault::Memory));
+    let specs = match tokens(alloc, &OPENING) {
+        Ok(specs) => specs,
+        Err(refused) => return Err(Miss::Fault(Fault::Memory(refused))),
     };
     let (bank, desks) = open(alloc, &specs, 4).map_err(Miss::Fault)?;
     race(rt, alloc, bank, desks)

@@ -455,7 +455,7 @@ pub fn open(
 {
     references_are_counted();
     let (bank, seats) = Bank::open(alloc, tokens, cpus)?;
-    let desks = desks_of(alloc, seats).map_err(|_| Fault::Memory)?;
+    let desks = desks_of(alloc, seats).map_err(Fault::Memory)?;
     Ok((bank, desks))
 }
 
@@ -477,7 +477,7 @@ pub fn close(alloc: Global, bank: Bank, desks: Vec<ListedSeat>) -> Result<Closed
     if !are_empty(&desks) {
         return Err(Miss::Held);
     }
-    let seats = seats_of(alloc, desks).map_err(|_| Miss::Fault(Fault::Memory))?;
+    let seats = seats_of(alloc, desks).map_err(|refused| Miss::Fault(Fault::Memory(refused)))?;
     bank.close(alloc, seats).map_err(Miss::Fault)
 }
 

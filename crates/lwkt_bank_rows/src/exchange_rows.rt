@@ -132,8 +132,9 @@ fn trade_by_threads<R: Threads + Sync>(rt: &R, bank: &Bank, desks: &mut [ListedS
 
 // The closing values after 10,000 sections of two threads.
 fn traded<R: Threads + Sync>(rt: &R, alloc: Global) -> Result<Closed, Miss> {
-    let Ok(mut specs) = tokens(alloc, &[Opened(Law::Any, 0, 0, &[])]) else {
-        return Err(Miss::Fault(Fault::Memory));
+    let mut specs = match tokens(alloc, &[Opened(Law::Any, 0, 0, &[])]) {
+        Ok(specs) => specs,
+        Err(refused) => return Err(Miss::Fault(Fault::Memory(refused))),
     };
     for spec in specs.iter_mut() {
         spec.blob = Some(page(0));

@@ -174,7 +174,7 @@ fn first_otherwise(closed: &Closed) -> Result<(), Miss> {
 
 // A bank of 64 tokens that eight seats have used.
 fn used(alloc: Global) -> Result<(), Miss> {
-    let specs = specs(alloc).map_err(|_| Miss::Fault(Fault::Memory))?;
+    let specs = specs(alloc).map_err(|refused| Miss::Fault(Fault::Memory(refused)))?;
     let (bank, mut desks) = open(alloc, &specs, SEATS as usize).map_err(Miss::Fault)?;
     use_by_each(&bank, &mut desks)?;
     first_otherwise(&close(alloc, bank, desks)?)

@@ -103,7 +103,7 @@ pub fn next_desk<'a>(
 pub fn make_room(trace: &mut Vec<Event>) -> Result<(), Fault>
     ensures { OnOk result (vec_len trace.new + 512 ≤ vec_capacity trace.new) }
 {
-    trace.reserve(512).map_err(|_| Fault::Memory)
+    trace.reserve(512).map_err(Fault::Memory)
 }
 
 /// The list of these references, to tokens that exist.

@@ -110,16 +110,18 @@ fn play_at(alloc: Global, bank: &Bank, mut seats: Vec<CpuSeat>, row: &Played) ->
     let Some(mut watch) = next_watch(bank, &mut seats) else {
         return Err(Miss::Seat);
     };
-    let Ok(mut desks) = desks_of(alloc, bank, &mut seats) else {
-        return Err(Miss::Fault(Fault::Memory));
+    let mut desks = match desks_of(alloc, bank, &mut seats) {
+        Ok(desks) => desks,
+        Err(refused) => return Err(Miss::Fault(Fault::Memory(refused))),
     };
     play_lines(&mut desks, &mut watch, row.lines)?;
     is_left(&desks, row)
 }
 
 fn play_row(alloc: Global, row: &Played) -> Result<(), Miss> {
-    let Ok(mut specs) = tokens(alloc, row.tokens) else {
-        return Err(Miss::Fault(Fault::Memory));
+    let mut specs = match tokens(alloc, row.tokens) {
+        Ok(specs) => specs,
+        Err(refused) => return Err(Miss::Fault(Fault::Memory(refused))),
     };
     guard(&mut specs, row.records);
     let (bank, seats) = open(alloc, &specs, row.cpus).map_err(Miss::Fault)?;

@@ -50,8 +50,9 @@ fn has_end(closed: &Closed, end: &End) -> Result<(), Miss> {
 }
 
 fn play_row(alloc: Global, row: &Played) -> Result<(), Miss> {
-    let Ok(mut specs) = tokens(alloc, &[row.token]) else {
-        return Err(Miss::Fault(Fault::Memory));
+    let mut specs = match tokens(alloc, &[row.token]) {
+        Ok(specs) => specs,
+        Err(refused) => return Err(Miss::Fault(Fault::Memory(refused))),
     };
     guard(&mut specs, &[row.record]);
     let closed = play(alloc, &specs, 2, row.lines)?;

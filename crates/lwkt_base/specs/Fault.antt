@@ -4,6 +4,10 @@ use Rattle.std.specs.Fmt.{decimal}
 use Rattle.lwkt_base.specs.declared.faults.Fault.{Fault}
 use Rattle.lwkt_base.specs.declared.faults.Fault.TheVariants.{ListFull, Upgrade, NotLast, NotHeld, SwapSame, SwapShort, NoToken, NoCell, SharedWrite, Broken, Worn, Overflow, TallyOnly, Busy, LaneFull, NotOwner, NotOut, NotAbortable, NotDropable, SelfDo, NoPort, NotTaken, Memory, Script, Again, Unlawful, RoundsOut, SharedRecord, RecordLong, Limits, LawBroken}
 
+-- want of memory. Each refusal of an allocator is the same value.
+abbrev pub no_memory : Fault
+no_memory = Memory (record {})
+
 -- the number by which reports name a fault
 abbrev pub number_of : Fault → ℕ
 number_of ListFull = 10
@@ -28,7 +32,7 @@ number_of NotDropable = 28
 number_of SelfDo = 29
 number_of NoPort = 30
 number_of NotTaken = 31
-number_of Memory = 32
+number_of (Memory refused) = 32
 number_of (Script place) = 33
 number_of Again = 34
 number_of (Unlawful index) = 35
@@ -62,7 +66,7 @@ fault_words NotDropable = codes "message not dropable"
 fault_words SelfDo = codes "synchronous send to itself"
 fault_words NoPort = codes "no such port"
 fault_words NotTaken = codes "message not taken"
-fault_words Memory = codes "out of memory"
+fault_words (Memory refused) = codes "out of memory"
 fault_words (Script place) = codes "script refused at "
 fault_words Again = codes "lost a race, try again"
 fault_words (Unlawful index) = codes "unlawful at "

@@ -1,6 +1,7 @@
 //! Why a call was refused: each fault's number and its message.
 ghost use Rattle.std.specs.Prelude.{◌≡◌};
 
+use std::alloc::AllocError;
 use std::error::Error;
 use std::fmt;
 
@@ -51,8 +52,8 @@ pub enum Fault {
     NoPort,
     /// 31: the message was not taken by this thread.
     NotTaken,
-    /// 32: an allocation was refused.
-    Memory,
+    /// 32: an allocation was refused, with what the allocator said of it. Nothing else makes such a value.
+    Memory(AllocError),
     /// 33: a script was refused; the place of its first bad part.
     Script { place: u32 },
     /// 34: another processor's step came between.
@@ -102,7 +103,7 @@ impl Fault {
             Fault::SelfDo => 29,
             Fault::NoPort => 30,
             Fault::NotTaken => 31,
-            Fault::Memory => 32,
+            Fault::Memory(_) => 32,
             Fault::Script { .. } => 33,
             Fault::Again => 34,
             Fault::Unlawful { .. } => 35,
@@ -141,7 +142,7 @@ impl Fault {
             Fault::SelfDo => "synchronous send to itself",
             Fault::NoPort => "no such port",
             Fault::NotTaken => "message not taken",
-            Fault::Memory => "out of memory",
+            Fault::Memory(_) => "out of memory",
             Fault::Script { .. } => "script refused at ",
             Fault::Again => "lost a race, try again",
             Fault::Unlawful { .. } => "unlawful at ",

@@ -136,8 +136,8 @@ impl Sheet {
         let mut order = Vec::new(alloc);
         for k in 0..self.turns.len() {
             let cpu = if self.cpus == 0 { 0 } else { k % self.cpus };
-            if order.push(u8::try_from(cpu).unwrap_or(0)).is_err() {
-                return Err(Fault::Memory);
+            if let Err(refused) = order.push(u8::try_from(cpu).unwrap_or(0)) {
+                return Err(Fault::Memory(refused.into()));
             }
         }
         Ok(order)
@@ -152,7 +152,7 @@ impl Sheet {
             self.cpus,
         )?;
         let order = self.order(alloc)?;
-        let polls = self.packed(alloc).map_err(|_| Fault::Memory)?;
+        let polls = self.packed(alloc).map_err(Fault::Memory)?;
         Ok(is_script_run(
             self.plans.as_slice(),
             Pace::Rounds(self.limit),

@@ -1,7 +1,7 @@
 use Rattle.std.proofs.Common.{Result, inl, inr, ◌≡◌, ◌⊎◌, ℕ, List, [], Bool, take, refl, rules, Option, None, Some, Err, Ok, sym, subst}
 use Rattle.std.specs.Io.KnownBytes.{Appends, Keeps}
 use Rattle.lwkt_base.specs.declared.faults.Fault.{Fault as Refusal}
-use Rattle.lwkt_base.specs.declared.faults.Fault.TheVariants.{Memory}
+use Rattle.lwkt_base.specs.Fault.{no_memory}
 use Rattle.lwkt_report.specs.declared.streams.RunFault.{RunFault}
 use Rattle.lwkt_report.specs.declared.streams.RunFault.TheVariants.{Fault, Stream}
 use Rattle.lwkt_report.specs.Stream.{AppendsFront}
@@ -21,7 +21,7 @@ some_read None = ([], tt)
 some_read (Some all) = (take 268435457 all, refl)
 
 -- where reading fails nothing is written
-pub tells_unread : (left old : Option (List ℕ)) (fault : RunFault) → (fault ≡ Stream) ⊎ (fault ≡ Fault Memory) → Tells left old old (Err fault)
+pub tells_unread : (left old : Option (List ℕ)) (fault : RunFault) → (fault ≡ Stream) ⊎ (fault ≡ Fault no_memory) → Tells left old old (Err fault)
 tells_unread left old fault why =
     let T : RunFault → Type 0 = λ f. Tells left old old (Err f) in
     elim why [

@@ -54,7 +54,7 @@ IsFound trace finding = (last : Option Final) × (AreClosing trace.last last × 
 
 -- why a trace is refused
 abbrev pub Declines : Trace → Refusal → Type 0
-Declines trace Memory = Unit {0}
+Declines trace (Memory refused) = Unit {0}
 Declines trace Limits = ¬ AreWithin trace.cpus trace.tokens trace.messages
 Declines trace LawBroken = AreWithin trace.cpus trace.tokens trace.messages × ¬ AllOpenLawfully trace.tokens
 Declines trace _ = ⊥
@@ -62,7 +62,7 @@ Declines trace _ = ⊥
 -- why bytes are refused
 abbrev pub Refuses : List ℕ → Refusal → Type 0
 Refuses bytes (ScriptFault place) = trace_of bytes ≡ Err place
-Refuses bytes Memory = Unit {0}
+Refuses bytes (Memory refused) = Unit {0}
 Refuses bytes Limits = (trace : Trace) × ((trace_of bytes ≡ Ok trace) × Declines trace Limits)
 Refuses bytes LawBroken = (trace : Trace) × ((trace_of bytes ≡ Ok trace) × Declines trace LawBroken)
 Refuses bytes _ = ⊥

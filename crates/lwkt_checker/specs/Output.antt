@@ -24,7 +24,7 @@ Tells left old new (Err Stream) = Keeps old new ⊎ ((bytes : List ℕ) × (AreR
 abbrev pub status_of : Result Bool RunFault → ℕ
 status_of (Ok true) = 0
 status_of (Ok false) = 4
-status_of (Err (Fault Memory)) = 3
+status_of (Err (Fault (Memory refused))) = 3
 status_of (Err (Fault _)) = 1
 status_of (Err Stream) = 3
 

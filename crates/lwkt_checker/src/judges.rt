@@ -132,7 +132,7 @@ pub fn judge(alloc: Global, trace: Trace) -> Result<Finding, Fault>
     let last = last_of(last);
     match found(alloc, opening, events.as_slice(), &last) {
         Ok(finding) => Ok(finding),
-        Err(_) => Err(Fault::Memory),
+        Err(refused) => Err(Fault::Memory(refused)),
     }
 }
 

@@ -30,7 +30,7 @@ fn done_of_bytes(alloc: Global, bytes: &[u8]) -> Result<Done, Fault>
             text,
             lawful: matches!(finding, Finding::Lawful),
         }),
-        Err(_) => Err(Fault::Memory),
+        Err(refused) => Err(Fault::Memory(refused)),
     }
 }
 
@@ -70,7 +70,7 @@ pub fn status_of(outcome: &Result<bool, RunFault>) -> u8
     match outcome {
         Ok(true) => 0,
         Ok(false) => 4,
-        Err(RunFault::Fault(Fault::Memory)) | Err(RunFault::Stream) => 3,
+        Err(RunFault::Fault(Fault::Memory(_))) | Err(RunFault::Stream) => 3,
         Err(RunFault::Fault(_)) => 1,
     }
 }

@@ -2,6 +2,7 @@ ghost use Rattle.std.specs.Prelude.{◌≡◌, ◌↔◌, ◌<◌, ◌≤◌, �
 ghost use Rattle.lwkt_base.specs.Law.{OpensLawfully};
 ghost use Rattle.lwkt_core.specs.Tokens.{IsShort};
 ghost use Rattle.lwkt_core.specs.Opening.{opened_token, opened_message, IsRecordWithin, IsTokenWithin, IsMessageWithin, AreWithin, AllOpenLawfully};
+ghost use Rattle.lwkt_base.specs.Fault.{no_memory};
 
 use crate::messages::{LAST_ROUND, Message};
 use crate::tokens::{CPU_LIMIT, Token};
@@ -47,9 +48,9 @@ fn opened_message(spec: &MsgSpec) -> Message
 
 /// The tokens at the opening.
 pub fn opened_tokens(alloc: Global, specs: &[TokSpec]) -> Result<Vec<Token>, Fault>
-    ensures { MatchResult result (λ v. v.items ≡ map opened_token specs.now) (λ f. f ≡ Fault.Memory) }
+    ensures { MatchResult result (λ v. v.items ≡ map opened_token specs.now) (λ f. f ≡ no_memory) }
 {
-    collect_tokens(alloc, specs).map_err(|_| Fault::Memory)
+    collect_tokens(alloc, specs).map_err(Fault::Memory)
 }
 
 fn collect_tokens(alloc: Global, specs: &[TokSpec]) -> Result<Vec<Token>, AllocError>
@@ -64,9 +65,9 @@ fn collect_tokens(alloc: Global, specs: &[TokSpec]) -> Result<Vec<Token>, AllocE
 
 /// The messages at the opening.
 pub fn opened_messages(alloc: Global, specs: &[MsgSpec]) -> Result<Vec<Message>, Fault>
-    ensures { MatchResult result (λ v. v.items ≡ map opened_message specs.now) (λ f. f ≡ Fault.Memory) }
+    ensures { MatchResult result (λ v. v.items ≡ map opened_message specs.now) (λ f. f ≡ no_memory) }
 {
-    collect_messages(alloc, specs).map_err(|_| Fault::Memory)
+    collect_messages(alloc, specs).map_err(Fault::Memory)
 }
 
 fn collect_messages(alloc: Global, specs: &[MsgSpec]) -> Result<Vec<Message>, AllocError>

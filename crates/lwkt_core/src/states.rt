@@ -35,6 +35,7 @@ impl State {
     ghost use Rattle.lwkt_core.specs.Lacks.{Lacks};
     ghost use Rattle.lwkt_core.specs.Trace.{Closes};
     ghost use Rattle.lwkt_core.specs.Values.{cell_at, first_at, generation_at, tally_at};
+    ghost use Rattle.lwkt_base.specs.Fault.{no_memory};
 
     /// The opening state: nobody holds a token, and each message is at rest.
     ///
@@ -56,7 +57,7 @@ impl State {
         ensures each_limit { (¬ AreWithin cpus tokens.now messages.now) → result ≡ Err Fault.Limits }
         ensures broken { result ≡ Err Fault.LawBroken → AreWithin cpus tokens.now messages.now × ¬ AllOpenLawfully tokens.now }
         ensures each_law { AreWithin cpus tokens.now messages.now → (¬ AllOpenLawfully tokens.now) → result ≡ Err Fault.LawBroken }
-        ensures only { IfErr result (λ f. (f ≡ Fault.Memory) ⊎ ((f ≡ Fault.Limits) ⊎ (f ≡ Fault.LawBroken))) }
+        ensures only { IfErr result (λ f. (f ≡ no_memory) ⊎ ((f ≡ Fault.Limits) ⊎ (f ≡ Fault.LawBroken))) }
     {
         if !openings::are_within(cpus, tokens, messages) {
             return Err(Fault::Limits);

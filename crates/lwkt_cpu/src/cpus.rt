@@ -5,6 +5,7 @@ ghost use Rattle.lwkt_base.specs.Refs.{IsLawful};
 ghost use Rattle.lwkt_bank.specs.Seats.{holding};
 ghost use Rattle.lwkt_msg.specs.Desks.{cpu_of};
 ghost use Rattle.lwkt_cpu.specs.Fresh.{fresh};
+ghost use Rattle.lwkt_base.specs.Fault.{no_memory};
 
 use crate::answers::Status;
 use crate::phases::Phase;
@@ -47,7 +48,7 @@ impl<B> Model for Cpu<B> {
 // So many threads, each ready and never polled.
 fn fresh_threads(alloc: Global, count: usize) -> Result<Vec<Thread>, Fault>
     ensures ok { IfOk result (λ threads. threads.items ≡ replicate count fresh) }
-    ensures only { OnErr result (result ≡ Err Fault.Memory) }
+    ensures only { OnErr result (result ≡ Err no_memory) }
 {
     let mut threads = Vec::new(alloc);
     for made in 0..count {
@@ -57,7 +58,9 @@ fn fresh_threads(alloc: Global, count: usize) -> Result<Vec<Thread>, Fault>
             phase: Phase::Live,
             busy: None,
         };
-        threads.push(thread).map_err(|_| Fault::Memory)?;
+        threads
+            .push(thread)
+            .map_err(|refused| Fault::Memory(refused.into()))?;
     }
     Ok(threads)
 }
@@ -76,6 +79,7 @@ fn fits(ports: &Ports, count: usize) -> bool
 impl<B> Cpu<B> {
     ghost use Rattle.lwkt_cpu.specs.Processors.{IsAtRest};
     ghost use Rattle.lwkt_cpu.specs.Shown.{IsNew, ShowsThread};
+    ghost use Rattle.lwkt_base.specs.Fault.{no_memory};
 
     /// A processor over this seat, with a ready thread for each body. That the seat is this processor's and holds nothing are
     /// the caller's conditions.
@@ -94,7 +98,7 @@ impl<B> Cpu<B> {
         requires ports { cpu_of ports.seat ≡ id }
         requires empty { holding seat ≡ holds_nothing }
         ensures ok { IfOk result (λ cpu. IsNew seat ports bodies.items cpu) }
-        ensures only { OnErr result ((result ≡ Err Fault.Memory) ⊎ ((result ≡ Err Fault.Limits) × ((16 < vec_len bodies) ⊎ (ports.threads ≢ vec_len bodies)))) }
+        ensures only { OnErr result ((result ≡ Err no_memory) ⊎ ((result ≡ Err Fault.Limits) × ((16 < vec_len bodies) ⊎ (ports.threads ≢ vec_len bodies)))) }
     {
         let _ = id;
         let count = bodies.len();

@@ -50,6 +50,8 @@ fn is_last(turned: Turned) -> bool
 }
 
 impl<B: Body> Cpu<B> {
+    ghost use Rattle.lwkt_base.specs.Fault.{no_memory};
+
     /// Makes turns: so many, or up to the first at which every thread has ended. That seat and bank belong together is the
     /// caller's condition.
     ///
@@ -65,7 +67,7 @@ impl<B: Body> Cpu<B> {
         requires table { self.old.post.seat.table ≡ book.now.table }
         ensures ok { IfOk result (λ drove. Drives B.polled (id_of bank.now) self.old self.new trace.old trace.new limit drove) }
         ensures err { OnErr result (DrivesShort B.polled (id_of bank.now) self.old self.new trace.old trace.new limit) }
-        ensures only { OnErr result (result ≡ Err Fault.Memory) }
+        ensures only { OnErr result (result ≡ Err no_memory) }
         ensures of { bank_of self.new.seat ≡ bank_of self.old.seat }
         ensures table { self.new.post.seat.table ≡ self.old.post.seat.table }
         ensures told { TellsMail self.old.post.seat self.new.post.seat trace.old.items trace.new.items }

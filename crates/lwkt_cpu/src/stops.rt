@@ -46,6 +46,8 @@ fn stop_all(threads: &mut [Thread])
 }
 
 impl<B> Cpu<B> {
+    ghost use Rattle.lwkt_base.specs.Fault.{no_memory};
+
     // The thread that runs gives up everything and ends, and its port is closed.
     fn halt(&mut self, bank: &Bank, place: usize, trace: &mut Vec<Event>)
         requires of { bank_of self.old.seat ≡ id_of bank.now }
@@ -125,13 +127,13 @@ impl<B> Cpu<B> {
         requires table { self.old.post.seat.table ≡ book.now.table }
         ensures ok { OnOk result (Stops self.old self.new trace.old trace.new) }
         ensures err { OnErr result ((self.new ≡ self.old) × HasSameEvents trace.old trace.new) }
-        ensures only { OnErr result (result ≡ Err Fault.Memory) }
+        ensures only { OnErr result (result ≡ Err no_memory) }
         ensures ran { Ran (IsMailed self.old.threads) 258 self.old.seat self.new.seat trace.old trace.new }
         ensures told { TellsMail self.old.post.seat self.new.post.seat trace.old.items trace.new.items }
         ensures same { IsSamePost self.old.post self.new.post }
     {
-        if trace.reserve(TURN_EVENTS).is_err() {
-            return Err(Fault::Memory);
+        if let Err(refused) = trace.reserve(TURN_EVENTS) {
+            return Err(Fault::Memory(refused));
         }
         self.halt_running(bank, trace);
         self.end_all();

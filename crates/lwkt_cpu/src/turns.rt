@@ -91,6 +91,8 @@ impl<B> Cpu<B> {
 }
 
 impl<B: Body> Cpu<B> {
+    ghost use Rattle.lwkt_base.specs.Fault.{no_memory};
+
     // Polls the thread that runs.
     #[inline]
     fn run_on(&mut self, bank: &Bank, book: &MsgBook, place: usize, trace: &mut Vec<Event>)
@@ -138,14 +140,14 @@ impl<B: Body> Cpu<B> {
         ensures ok { IfOk result (λ turned. MakesTurn B.polled (id_of bank.now) self.old self.new trace.old trace.new turned) }
         ensures err { OnErr result ((self.new ≡ self.old) × HasSameEvents trace.old trace.new) }
         ensures full { OnErr result (LacksRoom trace.new) }
-        ensures only { OnErr result (result ≡ Err Fault.Memory) }
+        ensures only { OnErr result (result ≡ Err no_memory) }
         ensures of { bank_of self.new.seat ≡ bank_of self.old.seat }
         ensures table { self.new.post.seat.table ≡ self.old.post.seat.table }
         ensures same { IsSamePost self.old.post self.new.post }
         ensures told { TellsMail self.old.post.seat self.new.post.seat trace.old.items trace.new.items }
     {
-        if trace.reserve(TURN_EVENTS).is_err() {
-            return Err(Fault::Memory);
+        if let Err(refused) = trace.reserve(TURN_EVENTS) {
+            return Err(Fault::Memory(refused));
         }
         Ok(self.turn_in_room(bank, book, trace))
     }

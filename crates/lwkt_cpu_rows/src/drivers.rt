@@ -70,7 +70,7 @@ pub fn token(alloc: Global, law: Law, param: u64, cells: &[u64]) -> Result<TokSp
 pub fn add<T: Drop>(list: &mut Vec<T>, item: T) -> Result<(), Fault> {
     match list.push(item) {
         Ok(()) => Ok(()),
-        Err(_) => Err(Fault::Memory),
+        Err(refused) => Err(Fault::Memory(refused.into())),
     }
 }
 
@@ -152,7 +152,7 @@ pub fn open(
 {
     let (bank, seats) = open_bank(alloc, tokens, cpus)?;
     let (book, mails) = open_book(alloc, messages, cpus)?;
-    let origins = origins_of(alloc, messages).map_err(|_| Fault::Memory)?;
+    let origins = origins_of(alloc, messages).map_err(Fault::Memory)?;
     let mut ins = no_ends(alloc, cpus)?;
     let outs = lanes_from_all(alloc, &mut ins)?;
     let board = Board {
@@ -338,7 +338,7 @@ impl<B> Driver<'_, B> {
     /// Stops the processor. Where memory was refused the call is made again: nothing has changed then.
     pub fn stop(&mut self) -> Result<(), Fault> {
         match self.cpu.stop(self.bank, self.book, &mut self.trace) {
-            Err(Fault::Memory) => self.cpu.stop(self.bank, self.book, &mut self.trace),
+            Err(Fault::Memory(_)) => self.cpu.stop(self.bank, self.book, &mut self.trace),
             answer => answer,
         }
     }
@@ -348,7 +348,7 @@ impl<B: Body> Driver<'_, B> {
     /// Makes a turn. Where memory was refused the call is made again: nothing has changed then.
     pub fn turn(&mut self) -> Result<Turned, Fault> {
         match self.cpu.turn(self.bank, self.book, &mut self.trace) {
-            Err(Fault::Memory) => self.cpu.turn(self.bank, self.book, &mut self.trace),
+            Err(Fault::Memory(_)) => self.cpu.turn(self.bank, self.book, &mut self.trace),
             answer => answer,
         }
     }

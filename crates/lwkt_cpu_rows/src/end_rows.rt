@@ -50,7 +50,8 @@ fn four(alloc: Global, board: &Board, seats: &mut Seats) -> Result<Vec<Cpu<Worke
     let mut cpus = Vec::new(alloc);
     for made in 0..4u8 {
         let cpu = next_cpu(alloc, board, seats, workers(alloc, 3 - made)?)?;
-        cpus.push(cpu).map_err(|_| Fault::Memory)?;
+        cpus.push(cpu)
+            .map_err(|refused| Fault::Memory(refused.into()))?;
     }
     Ok(cpus)
 }
@@ -100,8 +101,12 @@ fn end_all(
     let mut mails = Vec::new(alloc);
     while let Some(cpu) = cpus.pop() {
         let (seat, mail, bodies) = end(alloc, bank, book, cpu)?;
-        seats.push(seat).map_err(|_| Fault::Memory)?;
-        mails.push(mail).map_err(|_| Fault::Memory)?;
+        seats
+            .push(seat)
+            .map_err(|refused| Fault::Memory(refused.into()))?;
+        mails
+            .push(mail)
+            .map_err(|refused| Fault::Memory(refused.into()))?;
         add_up(counts, &bodies);
     }
     Ok((seats, mails))

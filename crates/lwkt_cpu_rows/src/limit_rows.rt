@@ -11,7 +11,7 @@ fn bodies_of(alloc: Global, count: usize) -> Result<Vec<Script>, Fault> {
     for made in 0..count {
         match Script::new(alloc, &[]) {
             Ok(script) => add(&mut bodies, script)?,
-            Err(_) => return Err(Fault::Memory),
+            Err(refused) => return Err(Fault::Memory(refused)),
         }
     }
     Ok(bodies)

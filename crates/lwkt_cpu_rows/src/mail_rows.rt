@@ -129,11 +129,13 @@ fn close_both(
 {
     let (seat, mail, _) = end(alloc, &board.bank, &board.book, first)?;
     let (other, other_mail, _) = end(alloc, &board.bank, &board.book, second)?;
-    let Ok(seats) = Vec::from_array(alloc, [seat, other]) else {
-        return Err(Fault::Memory);
+    let seats = match Vec::from_array(alloc, [seat, other]) {
+        Ok(seats) => seats,
+        Err(refused) => return Err(Fault::Memory(refused.into())),
     };
-    let Ok(mails) = Vec::from_array(alloc, [mail, other_mail]) else {
-        return Err(Fault::Memory);
+    let mails = match Vec::from_array(alloc, [mail, other_mail]) {
+        Ok(mails) => mails,
+        Err(refused) => return Err(Fault::Memory(refused.into())),
     };
     let (_, ends) = close(alloc, board, 2, seats, mails)?;
     Ok(ends)

@@ -287,7 +287,7 @@ pub fn open_all(
 {
     match tokens_of(alloc, tokens) {
         Ok(specs) => open(alloc, &specs, messages, cpus),
-        Err(_) => Err(Fault::Memory),
+        Err(refused) => Err(Fault::Memory(refused)),
     }
 }
 
@@ -308,7 +308,7 @@ fn play(alloc: Global, scene: &Scene) -> Result<Option<usize>, Fault> {
 /// more: so it has to go as it is told with one allocation refused, too.
 pub fn expect(rt: &impl Abort, alloc: Global, scene: &Scene) {
     let other = match play(alloc, scene) {
-        Err(Fault::Memory) => play(alloc, scene),
+        Err(Fault::Memory(_)) => play(alloc, scene),
         other => other,
     };
     assert!(rt; other == Ok(None), "{other:?}");

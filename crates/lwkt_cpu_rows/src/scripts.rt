@@ -38,7 +38,7 @@ pub fn one(alloc: Global, asks: &[Want]) -> Result<Vec<Script>, Fault> {
     let mut bodies = Vec::new(alloc);
     match Script::new(alloc, asks) {
         Ok(script) => add(&mut bodies, script)?,
-        Err(_) => return Err(Fault::Memory),
+        Err(refused) => return Err(Fault::Memory(refused)),
     }
     Ok(bodies)
 }

@@ -1,4 +1,4 @@
-use Rattle.std.specs.Prelude.{◌≡◌, ◌⊎◌, ℕ, ◌+◌, ◌<◌, ◌≤◌, ◌%◌, ◌^◌, Bool, true, false, List, [], ◌∷◌, length, take, fold, Vec}
+use Rattle.std.specs.Prelude.{◌≡◌, ◌⊎◌, ℕ, ◌+◌, ◌<◌, ◌≤◌, ◌%◌, ◌^◌, Bool, true, false, List, [], ◌∷◌, ◌++◌, length, take, fold, Vec}
 use Rattle.std.specs.declared.alloc.Global.{Global}
 use Rattle.atomic_table.specs.Seated.{TableId}
 use Rattle.lwkt_base.specs.declared.names.CpuId.{CpuId}
@@ -58,8 +58,8 @@ noted Stopped said = record said { no = true }
 noted TurnsOut said = said
 noted IdleOut said = said
 noted AllExited said = said
-noted NoMemory said = agreed said
-noted CalledOff said = said
+noted (NoMemory refused) said = agreed said
+noted (CalledOff refused) said = said
 noted Quiet said = said
 
 -- after so many turns, counted so, a processor with this trace makes no other, and why; one that ends for want of memory was to make
@@ -71,8 +71,8 @@ EndsBy answers limits cpu turns drove quiet trace Stopped = answers cpu turns fa
 EndsBy answers limits cpu turns drove quiet trace TurnsOut = drove.ran ≡ limits.turns
 EndsBy answers limits cpu turns drove quiet trace IdleOut = drove.idle ≡ limits.idle
 EndsBy answers limits cpu turns drove quiet trace AllExited = drove.all_exited ≡ true
-EndsBy answers limits cpu turns drove quiet trace NoMemory = GoesOn answers limits cpu turns drove × LacksRoom trace
-EndsBy answers limits cpu turns drove quiet trace CalledOff = Unit {0}
+EndsBy answers limits cpu turns drove quiet trace (NoMemory refused) = GoesOn answers limits cpu turns drove × LacksRoom trace
+EndsBy answers limits cpu turns drove quiet trace (CalledOff refused) = Unit {0}
 EndsBy answers limits cpu turns drove quiet trace Quiet = quiet ≡ true
 
 -- a turn ran no thread
@@ -124,6 +124,25 @@ pub record IsDriven {B : Type 0} (polled : B → Answer → Ask → B → Type 0
   pub ends : EndsBy answers limits old.id (length turns) new.drove new.quiet new.trace ending
   pub same : new.id ≡ old.id
   pub seat : new.cpu.seat.cpu ≡ old.cpu.seat.cpu
+
+-- a processor was driven, and its last turn ran no thread and appended no event: after the earlier turns it was as `before` with this
+-- trace, it made the last turn from there to what it is now, and its trace has the same events still (own)
+pub record EndedQuietly {B : Type 0} (polled : B → Answer → Ask → B → Type 0) (bank : BankId) (old new : Driven B) : Type 0 where
+  pub earlier : List Turned
+  pub last : Turned
+  pub drove : new.drove ≡ counts (earlier ++ last ∷ [])
+  pub before : Processor B
+  pub trace : Vec Event Global
+  pub left : Vec Event Global
+  pub came : Made polled bank old.cpu before old.trace trace earlier
+  pub makes : MakesTurn polled bank before new.cpu trace left last
+  pub now : new.trace.items ≡ left.items
+  pub ran_none : RanNone last
+  pub no_event : new.trace.items ≡ trace.items
+
+-- a law: where a drive ends as quiet, it made a turn, and its last turn ran no thread and appended no event
+abbrev pub QuietEndsAreQuiet : {B G : Type 0} → (B → Answer → Ask → B → Type 0) → (G → CpuId → ℕ → Bool → Type 0) → Type 0
+QuietEndsAreQuiet {B} {G} polled answers = (gate : G) (bank : BankId) (limits : Limits) (old new : Driven B) → IsDriven polled (answers gate) bank limits old new Quiet → EndedQuietly polled bank old new
 
 -- a processor before its first turn of a drive
 abbrev pub begun : {B : Type 0} → Driven B → Driven B

@@ -17,6 +17,7 @@
 //! left. Where in a whole slice none has ended or changed anything, each that hasn't ended has made an idle turn in it, and nothing
 //! has changed from before the first of these turns to after the last. So the next turn of each would do what that one did.
 
+use std::alloc::AllocError;
 use std::sync::atomic::{AtomicU64, Ordering};
 
 /// The most processors of a board. A bank has no more.
@@ -86,13 +87,18 @@ impl Board {
     }
 
     /// A turn was refused for want of memory: nobody goes on.
-    pub(crate) fn call_off(&self) {
+    pub(crate) fn call_off(&self, _refused: AllocError) {
         self.called_off.store(1, Ordering::SeqCst);
     }
 
-    /// Whether a turn was refused.
-    pub(crate) fn is_called_off(&self) -> bool {
-        self.called_off.load(Ordering::SeqCst) != 0
+    /// What the allocator said where a turn was refused. The word has no room for it, so it is made anew of a word that only who had
+    /// it could set.
+    pub(crate) fn called_off(&self) -> Option<AllocError> {
+        if self.called_off.load(Ordering::SeqCst) != 0 {
+            Some(AllocError)
+        } else {
+            None
+        }
     }
 
     /// The count of changes.

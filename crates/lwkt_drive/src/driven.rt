@@ -6,7 +6,7 @@ use crate::gates::Gate;
 use lwkt_base::CpuId;
 use lwkt_core::Event;
 use lwkt_cpu::{Cpu, Drove};
-use std::alloc::Global;
+use std::alloc::{AllocError, Global};
 
 /// Why a processor made no further turn.
 #[derive(Clone, Copy, Debug, PartialEq, Eq)]
@@ -21,10 +21,10 @@ pub enum Ending {
     IdleOut,
     /// A turn has said that every thread of this processor has ended, and so has one of each other processor.
     AllExited,
-    /// A turn was refused for want of memory.
-    NoMemory,
+    /// A turn was refused for want of memory, with what the allocator said.
+    NoMemory(AllocError),
     /// A turn of another processor was refused for want of memory.
-    CalledOff,
+    CalledOff(AllocError),
     /// No turn of any processor could change anything any more: each had stopped, or its last turn was one that polled no thread,
     /// appended no event, moved no note and ended no thread.
     Quiet,

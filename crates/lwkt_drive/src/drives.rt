@@ -53,9 +53,9 @@ impl<B: Body> Driven<B> {
                     return Some(Ending::NotDriven);
                 }
             }
-            Err(_) => {
-                watch.board().call_off();
-                return Some(Ending::NoMemory);
+            Err(refused) => {
+                watch.board().call_off(refused);
+                return Some(Ending::NoMemory(refused));
             }
         }
         None

@@ -12,6 +12,7 @@ use lwkt_bank::Bank;
 use lwkt_base::Fault;
 use lwkt_cpu::{Body, Turned};
 use lwkt_msg::MsgBook;
+use std::alloc::AllocError;
 
 // Whether a turn was quiet, by how many events there were before it and after.
 fn was_quiet(turned: Turned, before: usize, now: usize) -> bool
@@ -46,8 +47,8 @@ impl<B> Driven<B> {
         if self.drove.all_exited && watch.board().have_all_exited() {
             return Some(Ending::AllExited);
         }
-        if watch.board().is_called_off() {
-            return Some(Ending::CalledOff);
+        if let Some(refused) = watch.board().called_off() {
+            return Some(Ending::CalledOff(refused));
         }
         if self.quiet && watch.is_over() {
             return Some(Ending::Quiet);
@@ -103,13 +104,13 @@ impl<B> Driven<B> {
 }
 
 impl<B: Body> Driven<B> {
-    /// Makes a turn, counts it, and marks it if it was quiet. Refused with `Memory` as `Cpu::turn` is; nothing has changed then.
+    /// Makes a turn, counts it, and marks it if it was quiet. Refused where memory is, as `Cpu::turn` is; nothing has changed then.
     pub(crate) fn advance(
         &mut self,
         watch: &Watch<'_>,
         bank: &Bank,
         book: &MsgBook,
-    ) -> Result<Turned, Fault>
+    ) -> Result<Turned, AllocError>
         requires at { IsAt (id_of bank.now) book.now.table self.old }
         requires few { self.old.drove.ran + self.old.drove.idle + 1 < 2 ^ 64 }
         ensures ok { IfOk result (λ turned. MakesTurn B.polled (id_of bank.now) self.old.cpu self.new.cpu self.old.trace self.new.trace turned × (self.new.drove ≡ counted self.old.drove turned) × (self.new.quiet ≡ true → WasQuiet turned self.old.trace self.new.trace)) }
@@ -119,7 +120,11 @@ impl<B: Body> Driven<B> {
         ensures same { self.new.id ≡ self.old.id }
     {
         let events = self.trace.len();
-        let turned = self.cpu.turn(bank, book, &mut self.trace)?;
+        let turned = match self.cpu.turn(bank, book, &mut self.trace) {
+            Ok(turned) => turned,
+            Err(Fault::Memory(refused)) => return Err(refused),
+            Err(_) => unreachable!(),
+        };
         self.note(watch, turned);
         self.quiet = was_quiet(turned, events, self.trace.len());
         Ok(turned)

@@ -36,7 +36,7 @@ fn text_read(alloc: Global, words: &[String], bytes: &[u8]) -> Result<String, Fa
         return Err(Fault::Limits);
     };
     let fronts = fronts_of(alloc, bytes, lengths)?;
-    text_of(alloc, fronts.as_slice()).map_err(|_| Fault::Memory)
+    text_of(alloc, fronts.as_slice()).map_err(Fault::Memory)
 }
 
 fn main(rt: HostRuntime) -> ExitCode {

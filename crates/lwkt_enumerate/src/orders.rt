@@ -54,14 +54,15 @@ pub fn fronts_of(alloc: Global, bytes: &[u8], lengths: Lengths) -> Result<Vec<St
     };
     let mut fronts = Vec::new(alloc);
     for number in 0..count {
-        let Ok(order) = order_of(alloc, cpus, lengths, number) else {
-            return Err(Fault::Memory);
+        let order = match order_of(alloc, cpus, lengths, number) {
+            Ok(order) => order,
+            Err(refused) => return Err(Fault::Memory(refused)),
         };
         let run = order_run(alloc, bytes, order)?;
         let front = report_front(alloc, &run.closing)?;
         if !has(fronts.as_slice(), front.as_str()) {
-            if fronts.push(front).is_err() {
-                return Err(Fault::Memory);
+            if let Err(refused) = fronts.push(front) {
+                return Err(Fault::Memory(refused.into()));
             }
         }
     }

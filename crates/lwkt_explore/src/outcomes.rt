@@ -79,7 +79,7 @@ fn why_of(alloc: Global, kind: Kind, run: &TurnsRun) -> Result<Option<String>, F
     };
     match whys_of(alloc, &reel) {
         Ok(why) => Ok(Some(why)),
-        Err(_) => Err(Fault::Memory),
+        Err(fault) => Err(fault),
     }
 }
 
@@ -144,8 +144,12 @@ impl Outcomes {
         ensures ok { OnOk result (self.new.all.items ≡ self.old.all.items ++ outcome ∷ []) }
         ensures err { OnErr result (self.new.all.items ≡ self.old.all.items) }
     {
-        self.counts.push(1).map_err(|_| Fault::Memory)?;
-        self.all.push(outcome).map_err(|_| Fault::Memory)?;
+        self.counts
+            .push(1)
+            .map_err(|refused| Fault::Memory(refused.into()))?;
+        self.all
+            .push(outcome)
+            .map_err(|refused| Fault::Memory(refused.into()))?;
         Ok(())
     }
 

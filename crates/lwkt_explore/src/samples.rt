@@ -108,7 +108,7 @@ pub fn sample<W: Watch>(
     );
     match made {
         Ok(()) => {}
-        Err(Fault::Memory) => {}
+        Err(Fault::Memory(_)) => {}
         Err(fault) => return Err(fault),
     }
     let tried = Tried::Orders(outcomes.total());

@@ -119,7 +119,7 @@ pub fn explore<W: Watch>(
     let mut outcomes = Outcomes::new(alloc);
     match search(alloc, bytes, &mut walk, &mut outcomes, bounds.states, watch) {
         Ok(()) => {}
-        Err(Fault::Memory) => walk.is_complete = false,
+        Err(Fault::Memory(_)) => walk.is_complete = false,
         Err(fault) => return Err(fault),
     }
     let lost = walk.lost(alloc)?;

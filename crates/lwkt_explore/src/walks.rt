@@ -38,7 +38,7 @@ pub(crate) struct Walk {
 pub(crate) fn memory<T>(given: Result<T, AllocError>) -> Result<T, Fault> {
     match given {
         Ok(x) => Ok(x),
-        Err(_) => Err(Fault::Memory),
+        Err(refused) => Err(Fault::Memory(refused)),
     }
 }
 
@@ -319,8 +319,8 @@ impl Walk {
                 Turned::Ran { .. } => 0,
                 Turned::Idle | Turned::AllExited => idle.saturating_add(1),
             };
-            if order.push(u8::try_from(cpu).unwrap_or(u8::MAX)).is_err() {
-                return Err(Fault::Memory);
+            if let Err(refused) = order.push(u8::try_from(cpu).unwrap_or(u8::MAX)) {
+                return Err(Fault::Memory(refused.into()));
             }
         }
         Ok((order, false))
@@ -330,7 +330,7 @@ impl Walk {
     pub(crate) fn note_end(&mut self, is_end: bool) -> Result<(), Fault> {
         match self.ends.push(is_end) {
             Ok(()) => Ok(()),
-            Err(_) => Err(Fault::Memory),
+            Err(refused) => Err(Fault::Memory(refused.into())),
         }
     }
 

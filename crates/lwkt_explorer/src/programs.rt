@@ -37,7 +37,7 @@ fn refused<E: Sink>(
     fault: Fault,
 ) -> u8 {
     match fault {
-        Fault::Memory => {
+        Fault::Memory(_) => {
             Speaker::Explore.say_memory(errors);
             3
         }

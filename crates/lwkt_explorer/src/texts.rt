@@ -37,7 +37,7 @@ pub fn read_told<E: Sink>(alloc: Global, bytes: &[u8], errors: &mut E) -> Result
         expectations,
     } = match read_text(alloc, bytes) {
         Ok(reading) => reading,
-        Err(Refusal::Memory) => {
+        Err(Refusal::Memory(_)) => {
             Speaker::Explore.say_memory(errors);
             return Err(3);
         }
@@ -48,7 +48,7 @@ pub fn read_told<E: Sink>(alloc: Global, bytes: &[u8], errors: &mut E) -> Result
     };
     match json_of(alloc, &script) {
         Ok(json) => Ok(Told { json, expectations }),
-        Err(Unsaid::Memory) => {
+        Err(Unsaid::Memory(_)) => {
             Speaker::Explore.say_memory(errors);
             Err(3)
         }

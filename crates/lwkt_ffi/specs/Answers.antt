@@ -5,6 +5,7 @@ use Rattle.std.specs.Result.{result_err}
 use Rattle.std.specs.Str.{IsUtf8}
 use Rattle.lwkt_base.specs.declared.faults.Fault.{Fault}
 use Rattle.lwkt_base.specs.declared.faults.Fault.TheVariants.{Script, Memory}
+use Rattle.lwkt_base.specs.Fault.{no_memory}
 use Rattle.lwkt_base.specs.Fault.{number_of}
 use Rattle.lwkt_report.specs.declared.sources.TheConstants.{READ_LIMIT}
 use Rattle.lwkt_run.specs.declared.runs.End.{End}
@@ -41,7 +42,7 @@ status_of_end Unlawful = 4
 
 -- the status of a call that was refused
 abbrev pub status_of_fault : Fault → ℕ
-status_of_fault Memory = 3
+status_of_fault (Memory refused) = 3
 status_of_fault _ = 1
 
 -- what stands in the caller's buffer and answer after a call with this text that was refused for this fault, if it was
@@ -134,6 +135,6 @@ pub record AnswersShow (script arguments old new : List ℕ) (answer : LwktAnswe
   pub whole : List ℕ
   pub shows : IsUtf8 arguments → (options : Options) → AreOptions (words_in arguments) options → Displays options script outcome whole
   pub along : IsUtf8 arguments → (options : Options) (order : List ℕ) → AreAlong (words_in arguments) options order → DisplaysAlong order options script outcome whole
-  pub misused : AreMisused arguments → (outcome ≡ Ok Misused) ⊎ (outcome ≡ Err Memory)
+  pub misused : AreMisused arguments → (outcome ≡ Ok Misused) ⊎ (outcome ≡ Err no_memory)
   pub fills : Fills old new answer whole (result_err outcome)
   pub is_status : status ≡ status_of_show outcome

@@ -2,7 +2,8 @@
 use Rattle.std.specs.Prelude.{◌≡◌, ◌⊎◌, ◌<◌, ℕ, ◌++◌, List, length, Result, Ok, Err, if◌then◌else◌}
 use Rattle.std.specs.Result.{result_err}
 use Rattle.lwkt_base.specs.declared.faults.Fault.{Fault}
-use Rattle.lwkt_base.specs.declared.faults.Fault.TheVariants.{Script as ScriptFault, Memory, Limits, Unlawful}
+use Rattle.lwkt_base.specs.declared.faults.Fault.TheVariants.{Script as ScriptFault, Limits, Unlawful}
+use Rattle.lwkt_base.specs.Fault.{no_memory}
 use Rattle.lwkt_expected.specs.Expectations.{status_of_text as status_of_text_search}
 use Rattle.lwkt_explore.specs.Outcomes.{AreOutcomes}
 use Rattle.lwkt_explore.specs.Statuses.{status_of as status_of_search}
@@ -27,7 +28,7 @@ TellsForm script status = (status ≡ (if is_text script then 1 else 0)) ⊎ (st
 
 -- why a text isn't read: for want of memory; or something is wrong with it, and it is refused as bytes that are no JSON
 abbrev pub RefusesReading : List ℕ → Fault → Type 0
-RefusesReading text fault = (fault ≡ Memory) ⊎ ((fault ≡ ScriptFault 0) × ((wrongs : List Wrong) × ((reading_of text ≡ Err wrongs) × (0 < length wrongs))))
+RefusesReading text fault = (fault ≡ no_memory) ⊎ ((fault ≡ ScriptFault 0) × ((wrongs : List Wrong) × ((reading_of text ≡ Err wrongs) × (0 < length wrongs))))
 
 -- these bytes are the script of a text, in JSON
 abbrev pub IsJsonOf : List ℕ → List ℕ → Type 0

@@ -50,7 +50,7 @@ pub fn status_of_fault(fault: Fault) -> u32
     ensures { result ≡ status_of_fault fault }
 {
     match fault {
-        Fault::Memory => 3,
+        Fault::Memory(_) => 3,
         _ => 1,
     }
 }

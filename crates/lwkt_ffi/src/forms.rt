@@ -2,6 +2,7 @@
 ghost use Rattle.std.specs.Prelude.{◌≡◌, ◌⊎◌, [], Ok, IfOk, IfErr, string_bytes};
 ghost use Rattle.lwkt_script.specs.Format.{script_of};
 ghost use Rattle.lwkt_ffi.specs.Texts.{IsJsonOf, RefusesJson, TellsForm, TellsJson, AnswersJson, status_of_made};
+ghost use Rattle.lwkt_base.specs.Fault.{no_memory};
 
 use crate::answers::{LwktAnswer, status_of_fault};
 use crate::fronts::{blank, fill};
@@ -39,13 +40,13 @@ pub fn json_told(
     page: &mut Page,
 ) -> Result<String, Fault>
     ensures ok { IfOk result (λ json. script_of (string_bytes json) ≡ Ok script.now) }
-    ensures refused { IfErr result (λ fault. (fault ≡ Fault.Memory) ⊎ (fault ≡ Fault.Limits)) }
+    ensures refused { IfErr result (λ fault. (fault ≡ no_memory) ⊎ (fault ≡ Fault.Limits)) }
 {
     match json_of(alloc, script) {
         Ok(json) => Ok(json),
-        Err(Unsaid::Memory) => {
+        Err(Unsaid::Memory(refused)) => {
             speaker.say_memory(page);
-            Err(Fault::Memory)
+            Err(Fault::Memory(refused))
         }
         Err(Unsaid::Limits) => {
             let _ = write_whole(page, LONG.as_bytes());
@@ -75,7 +76,7 @@ fn json_onto(alloc: Global, text: &[u8], page: &mut Page) -> Result<(), Fault>
     match json_of_text(alloc, text, &mut errors) {
         Ok(json) => match page.text.extend_from_slice(json.as_bytes()) {
             Ok(()) => Ok(()),
-            Err(_) => Err(Fault::Memory),
+            Err(refused) => Err(Fault::Memory(refused)),
         },
         Err(fault) => {
             *page = errors;

@@ -1,5 +1,5 @@
 //! Texts and the buffers that they are put into.
-ghost use Rattle.std.specs.Prelude.{◌≡◌, ◌++◌, [], OnOk, vec_len, length};
+ghost use Rattle.std.specs.Prelude.{◌≡◌, ◌++◌, [], OnOk, IsTrue, is_some, vec_len, length};
 ghost use Rattle.lwkt_ffi.specs.Answers.{filled};
 
 use lwkt_report::Page;
@@ -11,8 +11,15 @@ pub fn blank(alloc: Global) -> Page
 {
     Page {
         text: Vec::new(alloc),
-        failed: false,
+        refused: None,
     }
+}
+
+/// What the allocator said of a page for which memory was refused. That it was is the caller's condition.
+pub fn refusal_of(page: &Page) -> AllocError
+    requires { IsTrue (is_some page.now.refused) }
+{
+    page.refused.unwrap()
 }
 
 /// Puts a text into a buffer, as far as this has room.

@@ -41,7 +41,7 @@ fn opening_line(alloc: Global, text: &[u8], fault: Fault) -> Result<String, Allo
 // Says why nothing was found of a script that could be read, or of one in JSON.
 fn say_why(alloc: Global, script: &[u8], is_json: bool, fault: Fault, page: &mut Page) {
     match fault {
-        Fault::Memory => Speaker::Explore.say_memory(page),
+        Fault::Memory(_) => Speaker::Explore.say_memory(page),
         Fault::Unlawful { .. } => {
             let _ = write_whole(page, UNLAWFUL.as_bytes());
         }
@@ -114,9 +114,9 @@ fn search_text(alloc: Global, text: &[u8], bounds: Bounds, page: &mut Page) -> R
             verdicts,
             status,
         }),
-        Err(_) => {
+        Err(refused) => {
             Speaker::Explore.say_memory(page);
-            Err(Fault::Memory)
+            Err(Fault::Memory(refused))
         }
     }
 }
@@ -128,9 +128,9 @@ fn search_of(alloc: Global, script: &[u8], bounds: Bounds, page: &mut Page) -> R
     match is_text(alloc, script) {
         Ok(true) => search_text(alloc, script, bounds, page),
         Ok(false) => search_json(alloc, script, bounds, page),
-        Err(_) => {
+        Err(refused) => {
             Speaker::Explore.say_memory(page);
-            Err(Fault::Memory)
+            Err(Fault::Memory(refused))
         }
     }
 }
@@ -153,14 +153,15 @@ fn search_onto(
             return Err(fault);
         }
     };
-    let Ok(text) = text_of(alloc, &search.found) else {
-        return Err(Fault::Memory);
+    let text = match text_of(alloc, &search.found) {
+        Ok(text) => text,
+        Err(refused) => return Err(Fault::Memory(refused)),
     };
     match put_both(page, text.as_bytes(), search.verdicts.as_bytes()) {
         Ok(()) => Ok(search),
-        Err(_) => {
+        Err(refused) => {
             page.text.clear();
-            Err(Fault::Memory)
+            Err(Fault::Memory(refused))
         }
     }
 }

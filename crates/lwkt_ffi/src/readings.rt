@@ -39,9 +39,9 @@ pub fn read_onto(
 {
     match read_text(alloc, text) {
         Ok(reading) => Ok(reading),
-        Err(Refusal::Memory) => {
+        Err(Refusal::Memory(refused)) => {
             speaker.say_memory(page);
-            Err(Fault::Memory)
+            Err(Fault::Memory(refused))
         }
         Err(Refusal::Wrongs(wrongs)) => {
             put_wrongs(alloc, speaker, text, wrongs, page);

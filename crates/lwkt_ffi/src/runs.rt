@@ -2,7 +2,7 @@ ghost use Rattle.std.specs.Prelude.{◌≡◌, []};
 ghost use Rattle.lwkt_ffi.specs.Answers.{TellsRun, AnswersRun, status_of_run};
 
 use crate::answers::{LwktAnswer, status_of_end, status_of_fault};
-use crate::fronts::{blank, fill};
+use crate::fronts::{blank, fill, refusal_of};
 use lwkt_base::Fault;
 use lwkt_refusals::Speaker;
 use lwkt_report::{Complaint, Page, Program, READ_LIMIT, RunFault, complain};
@@ -18,7 +18,7 @@ fn report_onto(alloc: Global, script: &[u8], page: &mut Page) -> Result<End, Fau
     match run_turns(alloc, &mut source, page) {
         Ok(end) => Ok(end),
         Err(RunFault::Fault(fault)) => Err(fault),
-        Err(RunFault::Stream) => Err(Fault::Memory),
+        Err(RunFault::Stream) => Err(Fault::Memory(refusal_of(page))),
     }
 }
 
@@ -26,7 +26,7 @@ fn report_onto(alloc: Global, script: &[u8], page: &mut Page) -> Result<End, Fau
 fn say_why(alloc: Global, script: &[u8], fault: Fault, page: &mut Page) {
     page.text.clear();
     complain(page, Program::Run, Complaint::Fault(fault));
-    if fault == Fault::Memory {
+    if matches!(fault, Fault::Memory(_)) {
         return Speaker::Run.say_memory(page);
     }
     let read = &script[..script.len().min(READ_LIMIT)];

@@ -4,9 +4,10 @@ ghost use Rattle.lwkt_show.specs.Arguments.{AreOptions};
 ghost use Rattle.lwkt_show.specs.Orders.{AreAlong};
 ghost use Rattle.lwkt_show.specs.declared.options.Options.{Options};
 ghost use Rattle.lwkt_ffi.specs.Answers.{words_in, AskNothing, AreMisused, Displays, DisplaysAlong, AnswersShow, status_of_show};
+ghost use Rattle.lwkt_base.specs.Fault.{no_memory};
 
 use crate::answers::{LwktAnswer, status_of_end, status_of_fault};
-use crate::fronts::{blank, fill};
+use crate::fronts::{blank, fill, refusal_of};
 use crate::words::words_of;
 use lwkt_base::Fault;
 use lwkt_refusals::Speaker;
@@ -15,7 +16,7 @@ use lwkt_run::End;
 use lwkt_show::{
     Along, Options, Outcome, along_of, options_of, refuse_arguments, show_along, show_stream,
 };
-use std::alloc::Global;
+use std::alloc::{AllocError, Global};
 
 // What is said where the run ended before the range that was chosen.
 const PAST: &str = "lwkt_show: the range lies behind the end of the run\n";
@@ -32,18 +33,17 @@ pub enum Showing {
 }
 
 // The words of the arguments, if they are UTF-8.
-fn words_read(alloc: Global, arguments: &[u8]) -> Result<Option<Vec<String>>, Fault>
+fn words_read(alloc: Global, arguments: &[u8]) -> Result<Option<Vec<String>>, AllocError>
     ensures some { IfOk result (λ found. IfSome found (λ words. map string_bytes words.items ≡ words_in arguments.now)) }
     ensures valid { IfOk result (λ found. IfSome found (λ words. IsUtf8 arguments.now)) }
     ensures none { IfOk result (λ found. found ≡ None → ¬ IsUtf8 arguments.now) }
-    ensures memory { IfErr result (λ fault. fault ≡ Fault.Memory) }
 {
     let Ok(text) = str::from_utf8(arguments) else {
         return Ok(None);
     };
     match words_of(alloc, text) {
         Ok(words) => Ok(Some(words)),
-        Err(_) => Err(Fault::Memory),
+        Err(refused) => Err(refused),
     }
 }
 
@@ -64,7 +64,7 @@ fn picture_onto(
         Ok(Outcome::Shown(end)) => Ok(Showing::Shown(end)),
         Ok(Outcome::Past) => Ok(Showing::Past),
         Err(RunFault::Fault(fault)) => Err(fault),
-        Err(RunFault::Stream) => Err(Fault::Memory),
+        Err(RunFault::Stream) => Err(Fault::Memory(refusal_of(page))),
     }
 }
 
@@ -75,7 +75,7 @@ fn say_why(outcome: &Result<Showing, Fault>, errors: &mut Page) {
             let _ = write_whole(errors, PAST.as_bytes());
             Speaker::Show.say_usage(errors);
         }
-        Err(Fault::Memory) => Speaker::Show.say_memory(errors),
+        Err(Fault::Memory(_)) => Speaker::Show.say_memory(errors),
         _ => {}
     }
 }
@@ -117,7 +117,7 @@ fn along_onto(
         Ok(Outcome::Shown(end)) => Ok(Showing::Shown(end)),
         Ok(Outcome::Past) => Ok(Showing::Past),
         Err(RunFault::Fault(fault)) => Err(fault),
-        Err(RunFault::Stream) => Err(Fault::Memory),
+        Err(RunFault::Stream) => Err(Fault::Memory(refusal_of(page))),
     }
 }
 
@@ -145,11 +145,11 @@ fn refused(page: &mut Page) -> Result<Showing, Fault>
 }
 
 // Says on a page that there was no memory for the arguments.
-fn unread(page: &mut Page) -> Result<Showing, Fault>
-    ensures { result ≡ Err Fault.Memory }
+fn unread(page: &mut Page, refused: AllocError) -> Result<Showing, Fault>
+    ensures { result ≡ Err no_memory }
 {
     Speaker::Show.say_memory(page);
-    Err(Fault::Memory)
+    Err(Fault::Memory(refused))
 }
 
 // Runs a script and shows the run on an empty page as the words ask for it, or says there why it isn't shown.
@@ -162,7 +162,7 @@ fn show_words(
     requires { page.old.text.items ≡ [] }
     ensures shows { (options : Options) → AreOptions (map string_bytes words.now) options → Displays options script.now result page.new.text.items }
     ensures along { (options : Options) (order : List ℕ) → AreAlong (map string_bytes words.now) options order → DisplaysAlong order options script.now result page.new.text.items }
-    ensures misused { AskNothing (map string_bytes words.now) → (result ≡ Ok Showing.Misused) ⊎ (result ≡ Err Fault.Memory) }
+    ensures misused { AskNothing (map string_bytes words.now) → (result ≡ Ok Showing.Misused) ⊎ (result ≡ Err no_memory) }
 {
     if let Some(options) = options_of(words) {
         return show_options(alloc, &options, script, page);
@@ -170,7 +170,7 @@ fn show_words(
     match along_of(alloc, words) {
         Ok(Some(along)) => show_order(alloc, along, script, page),
         Ok(None) => refused(page),
-        Err(_) => unread(page),
+        Err(refused) => unread(page, refused),
     }
 }
 
@@ -184,12 +184,12 @@ fn show_onto(
     requires { page.old.text.items ≡ [] }
     ensures shows { IsUtf8 arguments.now → (options : Options) → AreOptions (words_in arguments.now) options → Displays options script.now result page.new.text.items }
     ensures along { IsUtf8 arguments.now → (options : Options) (order : List ℕ) → AreAlong (words_in arguments.now) options order → DisplaysAlong order options script.now result page.new.text.items }
-    ensures misused { AreMisused arguments.now → (result ≡ Ok Showing.Misused) ⊎ (result ≡ Err Fault.Memory) }
+    ensures misused { AreMisused arguments.now → (result ≡ Ok Showing.Misused) ⊎ (result ≡ Err no_memory) }
 {
     match words_read(alloc, arguments) {
         Ok(Some(words)) => show_words(alloc, script, &words, page),
         Ok(None) => refused(page),
-        Err(_) => unread(page),
+        Err(refused) => unread(page, refused),
     }
 }
 

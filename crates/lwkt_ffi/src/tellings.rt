@@ -25,7 +25,7 @@ fn opening_line(alloc: Global, text: &[u8], fault: Fault) -> Result<String, Allo
 
 // Says why the run of a text is refused, whose opening has this fault.
 fn say_opening(alloc: Global, text: &[u8], fault: Fault, page: &mut Page) {
-    if fault == Fault::Memory {
+    if matches!(fault, Fault::Memory(_)) {
         return Speaker::Run.say_memory(page);
     }
     put_said(Speaker::Run, page, opening_line(alloc, text, fault));
@@ -62,9 +62,9 @@ fn account_onto(alloc: Global, text: &[u8], page: &mut Page) -> Result<Account, 
     };
     match account_of(alloc, None, text, expectations.as_slice(), &closing) {
         Ok(account) => Ok(account),
-        Err(_) => {
+        Err(refused) => {
             Speaker::Run.say_memory(page);
-            Err(Fault::Memory)
+            Err(Fault::Memory(refused))
         }
     }
 }
@@ -88,9 +88,9 @@ fn told_onto(alloc: Global, text: &[u8], page: &mut Page) -> Result<Judgement, F
     };
     match put_both(page, report.as_bytes(), verdicts.as_bytes()) {
         Ok(()) => Ok(judgement),
-        Err(_) => {
+        Err(refused) => {
             page.text.clear();
-            Err(Fault::Memory)
+            Err(Fault::Memory(refused))
         }
     }
 }

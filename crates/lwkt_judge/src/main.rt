@@ -6,10 +6,10 @@ mod tellings;
 use crate::tellings::check_told;
 use lwkt_refusals::Speaker;
 use lwkt_report::{
-    NotedReader, NotedWriter, Program, ReaderSource, WriterSink, refuse_arguments, words_of,
+    NotedReader, NotedWriter, Program, ReaderSource, WriterSink, refusal_of, refuse_arguments,
+    words_of,
 };
 use std::alloc::Global;
-use std::io;
 use std::process::ExitCode;
 
 fn main(rt: HostRuntime) -> ExitCode {
@@ -22,9 +22,9 @@ fn main(rt: HostRuntime) -> ExitCode {
             check_told(alloc, &words, &mut source, &mut sink, &mut errors)
         }
         Err(error) => {
-            let memory = error.kind() == io::ErrorKind::OutOfMemory;
-            let status = refuse_arguments(&mut errors, Program::Check, memory);
-            Speaker::Check.say_arguments(&mut errors, memory);
+            let refused = refusal_of(&error);
+            let status = refuse_arguments(&mut errors, Program::Check, refused);
+            Speaker::Check.say_arguments(&mut errors, refused.is_some());
             status
         }
     };

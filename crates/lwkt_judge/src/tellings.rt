@@ -19,7 +19,7 @@ fn say_refusal<E: Sink>(alloc: Global, errors: &mut E, given: &Option<Vec<u8>>)
     ensures { Adds (E.has_failed errors.old) (E.has_failed errors.new) (E.contents errors.old) (E.contents errors.new) }
 {
     let Some(bytes) = given else {
-        return Speaker::Check.say_refusal(alloc, errors, None, Fault::Memory);
+        return Speaker::Check.say_no_words(errors);
     };
     let fault = match read_trace(alloc, bytes.as_slice()) {
         Ok(_) => Fault::LawBroken,
@@ -39,7 +39,7 @@ fn say_why<I, O, E: Sink>(
     ensures { Adds (E.has_failed errors.old) (E.has_failed errors.new) (E.contents errors.old) (E.contents errors.new) }
 {
     match fault {
-        RunFault::Fault(Fault::Memory) => Speaker::Check.say_memory(errors),
+        RunFault::Fault(Fault::Memory(_)) => Speaker::Check.say_memory(errors),
         RunFault::Fault(_) => say_refusal(alloc, errors, &source.reader.given),
         RunFault::Stream if source.failed => {
             Speaker::Check.say_unread(alloc, errors, &source.reader.error)

@@ -1,5 +1,6 @@
 ghost use Rattle.std.specs.Prelude.{◌≡◌, ◌≤◌, [], ◌++◌, length, None, IfOk, IsOkUnless, vec_len, vec_capacity};
 ghost use Rattle.lwkt_lane.specs.Lane.{sent, in_hand, received, seen, out_lane, IsLane, lane_capacity};
+ghost use Rattle.lwkt_base.specs.Fault.{no_memory};
 
 use crate::ins::LaneIn;
 use crate::notes::Note;
@@ -19,9 +20,9 @@ pub fn lane(alloc: Global, capacity: usize) -> Result<(LaneOut, LaneIn), Fault>
     ensures sent { IfOk result (λ ends. (sent ends.0 ≡ []) × (in_hand ends.0 ≡ None)) }
     ensures received { IfOk result (λ ends. received ends.1 ≡ []) }
     ensures capacity { IfOk result (λ ends. lane_capacity (out_lane ends.0) ≡ capacity) }
-    ensures only { IsOkUnless result Fault.Memory }
+    ensures only { IsOkUnless result no_memory }
 {
-    let (sender, receiver) = RingBuffer::new(alloc, capacity - 1).map_err(|_| Fault::Memory)?;
+    let (sender, receiver) = RingBuffer::new(alloc, capacity - 1).map_err(Fault::Memory)?;
     let out = LaneOut {
         ring: sender,
         hand: None,
@@ -37,12 +38,12 @@ pub fn settle(alloc: Global, out: LaneOut, into: LaneIn) -> Result<Vec<Note>, Fa
     requires { IsLane out into }
     ensures rest { IfOk result (λ notes. received into ++ notes.items ≡ sent out) }
     ensures within { IfOk result (λ notes. vec_len notes ≤ lane_capacity (out_lane out)) }
-    ensures only { IsOkUnless result Fault.Memory }
+    ensures only { IsOkUnless result no_memory }
 {
     let mut out = out;
     let mut into = into;
     let room = out.ring.capacity() + 1;
-    let mut notes = Vec::with_capacity(alloc, room).map_err(|_| Fault::Memory)?;
+    let mut notes = Vec::with_capacity(alloc, room).map_err(Fault::Memory)?;
     let count = into.see_all(&mut out);
     receive_all(&mut into, count, &mut notes);
     if let Some(note) = out.hand {

@@ -7,7 +7,7 @@ use crate::seats::MsgSeat;
 use crate::views::{Key, View};
 use atomic_table::Shared;
 use lwkt_base::{Fault, MsgEnd, MsgSpec, Rec};
-use lwkt_clerk::Resting;
+use lwkt_clerk::{Resting, refusal_of};
 use lwkt_core::are_within;
 use std::alloc::{AllocError, Global};
 use std::marker::Model;
@@ -33,9 +33,10 @@ impl Model for MsgBook {
 }
 
 impl MsgBook {
-    ghost use Rattle.lwkt_base.specs.declared.faults.Fault.TheVariants.{Memory, Limits};
+    ghost use Rattle.lwkt_base.specs.declared.faults.Fault.TheVariants.{Limits};
     ghost use Rattle.lwkt_core.specs.Opening.{AreWithin};
     ghost use Rattle.lwkt_msg.specs.Desks.{AreOpened, AreClosed};
+    ghost use Rattle.lwkt_base.specs.Fault.{no_memory};
 
     /// Opens a book of at most 64 messages, with a seat for each of 1 to 8 processors. Each message is at rest, and its
     /// origin has its record. 39 exactly if a limit is passed, a round is past the last, or the processor of an origin
@@ -47,15 +48,15 @@ impl MsgBook {
     ) -> Result<(MsgBook, Vec<MsgSeat>), Fault>
         ensures { MatchResult result
             (λ r. AreWithin cpus [] specs.now × AreOpened cpus specs.now r.0 r.1.items)
-            (λ fault. ((fault ≡ Memory) × AreWithin cpus [] specs.now) ⊎ ((fault ≡ Limits) × ¬ AreWithin cpus [] specs.now)) }
+            (λ fault. ((fault ≡ no_memory) × AreWithin cpus [] specs.now) ⊎ ((fault ≡ Limits) × ¬ AreWithin cpus [] specs.now)) }
     {
         if !are_within(cpus, &[], specs) {
             return Err(Fault::Limits);
         }
-        let seats = Vec::with_capacity(alloc, 8).map_err(|_| Fault::Memory)?;
-        let known = known_specs(alloc, specs).map_err(|_| Fault::Memory)?;
+        let seats = Vec::with_capacity(alloc, 8).map_err(Fault::Memory)?;
+        let known = known_specs(alloc, specs).map_err(Fault::Memory)?;
         let layout = Key { specs: known, cpus };
-        MsgBook::open_within(alloc, specs, layout, seats).map_err(|_| Fault::Memory)
+        MsgBook::open_within(alloc, specs, layout, seats).map_err(Fault::Memory)
     }
 
     // Opens a book that keeps the limits.
@@ -73,8 +74,9 @@ impl MsgBook {
         let cpus = layout.cpus;
         let words = opening_words(alloc, specs, cpus)?;
         let records = blank_records(alloc, specs.len())?;
-        let Ok((table, mut clerk)) = BookTable::new(alloc, &words, records, &layout) else {
-            return Err(AllocError);
+        let (table, mut clerk) = match BookTable::new(alloc, &words, records, &layout) {
+            Ok(opened) => opened,
+            Err(refused) => return Err(refusal_of(refused)),
         };
         seat_all(&table.shared, &mut clerk, cpus, specs, &mut seats)?;
         let book = MsgBook {
@@ -91,7 +93,7 @@ impl MsgBook {
     pub fn close(self, alloc: Global, seats: Vec<MsgSeat>) -> Result<Vec<MsgEnd>, Fault>
         requires as_many { length seats.items ≡ self.cpus }
         requires of_book { All (λ d. d.table ≡ self.table) seats.items }
-        ensures { MatchResult result (λ v. AreClosed self seats.items v.items) (λ fault. fault ≡ Memory) }
+        ensures { MatchResult result (λ v. AreClosed self seats.items v.items) (λ fault. fault ≡ no_memory) }
     {
         let MsgBook {
             table,
@@ -100,13 +102,15 @@ impl MsgBook {
             messages,
         } = self;
         let mut clerk = clerk.wake();
-        let Ok(ends) = Vec::with_capacity(alloc, messages) else {
-            return Err(Fault::Memory);
+        let ends = match Vec::with_capacity(alloc, messages) {
+            Ok(ends) => ends,
+            Err(refused) => return Err(Fault::Memory(refused)),
         };
         take_all(&table.shared, &mut clerk, cpus, seats);
         let closed = table.close_with(clerk);
-        let Ok(shown) = read_and_free(closed, messages, ends) else {
-            return Err(Fault::Memory);
+        let shown = match read_and_free(closed, messages, ends) {
+            Ok(shown) => shown,
+            Err(refused) => return Err(Fault::Memory(refused)),
         };
         Ok(shown)
     }

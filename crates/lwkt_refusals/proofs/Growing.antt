@@ -1,5 +1,5 @@
 -- Texts behind texts on a page.
-use Rattle.std.proofs.Common.{◌≡◌, ◌++◌, List, ℕ, false, string_bytes, sym, ◌∙◌, ap, append_assoc, append-nil, []}
+use Rattle.std.proofs.Common.{◌≡◌, ◌++◌, List, ℕ, string_bytes, sym, ◌∙◌, ap, append_assoc, append-nil, []}
 use Rattle.lwkt_refusals.specs.declared.pages.Page.{Page}
 use Rattle.lwkt_refusals.specs.Pages.{Grows}
 

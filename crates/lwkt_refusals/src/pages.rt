@@ -1,4 +1,4 @@
-ghost use Rattle.std.specs.Prelude.{◌≡◌, ◌<◌, ◌++◌, [], ◌∷◌, false, IfOk, string_bytes};
+ghost use Rattle.std.specs.Prelude.{◌≡◌, ◌<◌, ◌++◌, [], ◌∷◌, None, IfOk, string_bytes};
 ghost use Rattle.std.specs.Fmt.{decimal};
 ghost use Rattle.lwkt_base.specs.Fault.{fault_message};
 ghost use Rattle.lwkt_refusals.specs.Pages.{Grows};
@@ -11,7 +11,8 @@ use std::alloc::{AllocError, Global};
 #[derive(Drop)]
 pub struct Page {
     text: String,
-    is_lost: bool,
+    // What the allocator said where memory for a piece was refused.
+    lost: Option<AllocError>,
 }
 
 impl Page {
@@ -21,7 +22,7 @@ impl Page {
     {
         Page {
             text: String::new(alloc),
-            is_lost: false,
+            lost: None,
         }
     }
 
@@ -29,10 +30,10 @@ impl Page {
     pub fn add(&mut self, text: &str)
         ensures { Grows self.old self.new text.now }
     {
-        if !self.is_lost {
+        if self.lost.is_none() {
             match self.text.push_str(text) {
                 Ok(()) => {}
-                Err(_) => self.is_lost = true,
+                Err(refused) => self.lost = Some(refused),
             }
         }
     }
@@ -41,10 +42,10 @@ impl Page {
     pub fn letter(&mut self, letter: char)
         ensures { letter < 128 → Grows self.old self.new (letter ∷ []) }
     {
-        if !self.is_lost {
+        if self.lost.is_none() {
             match self.text.push(letter) {
                 Ok(()) => {}
-                Err(_) => self.is_lost = true,
+                Err(refused) => self.lost = Some(refused),
             }
         }
     }
@@ -53,10 +54,10 @@ impl Page {
     fn digits(&mut self, number: u64)
         ensures { Grows self.old self.new (decimal number) }
     {
-        if !self.is_lost {
+        if self.lost.is_none() {
             match write!(self.text, "{number}") {
                 Ok(()) => {}
-                Err(_) => self.is_lost = true,
+                Err(refused) => self.lost = Some(refused),
             }
         }
     }
@@ -90,10 +91,10 @@ impl Page {
     fn message(&mut self, fault: Fault)
         ensures { Grows self.old self.new (fault_message fault) }
     {
-        if !self.is_lost {
+        if self.lost.is_none() {
             match write!(self.text, "{fault}") {
                 Ok(()) => {}
-                Err(_) => self.is_lost = true,
+                Err(refused) => self.lost = Some(refused),
             }
         }
     }
@@ -109,18 +110,20 @@ impl Page {
     /// Appends what was made on another page.
     pub fn add_page(&mut self, page: &Page)
         ensures text { Grows self.old self.new (string_bytes page.now.text) }
-        ensures kept { self.new.is_lost ≡ false → page.now.is_lost ≡ false }
+        ensures kept { self.new.lost ≡ None → page.now.lost ≡ None }
     {
         self.add(page.text.as_str());
-        if page.is_lost {
-            self.is_lost = true;
+        if page.lost.is_some() {
+            self.lost = page.lost;
         }
     }
 
     /// Appends what was made on another page, without white space at its end.
     pub fn add_line(&mut self, page: &Page) {
         self.add(page.text.as_str().trim_end());
-        self.is_lost = self.is_lost || page.is_lost;
+        if page.lost.is_some() {
+            self.lost = page.lost;
+        }
     }
 
     /// Takes all of it back.
@@ -129,20 +132,20 @@ impl Page {
     }
 
     /// Notes that memory was refused for a piece.
-    pub fn lose(&mut self) {
-        self.is_lost = true;
+    pub fn lose(&mut self, refused: AllocError) {
+        self.lost = Some(refused);
     }
 
     /// The text.
     ///
     /// Refused where memory was refused for a piece of it.
     pub fn whole(self) -> Result<String, AllocError>
-        ensures { IfOk result (λ text. (self.is_lost ≡ false) × (string_bytes text ≡ string_bytes self.text)) }
+        ensures { IfOk result (λ text. (self.lost ≡ None) × (string_bytes text ≡ string_bytes self.text)) }
     {
-        if self.is_lost {
-            return Err(AllocError);
+        match self.lost {
+            Some(refused) => Err(refused),
+            None => Ok(self.text),
         }
-        Ok(self.text)
     }
 }
 

@@ -74,7 +74,7 @@ fn show_error(alloc: Global, out: &mut Page, bytes: &[u8], error: &serde_json::E
     out.add("it is no JSON text: ");
     match error.to_string(alloc) {
         Ok(text) => out.add(text.as_str()),
-        Err(_) => out.lose(),
+        Err(refused) => out.lose(refused),
     }
 }
 

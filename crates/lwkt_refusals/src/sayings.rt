@@ -155,8 +155,15 @@ impl Speaker {
         };
         match words {
             Some(text) => self.say(errors, text.as_str()),
-            None => self.say(errors, "there is no memory to say why it is refused"),
+            None => self.say_no_words(errors),
         }
+    }
+
+    /// Says that there is no memory to say why something is refused.
+    pub fn say_no_words<E: Sink>(self, errors: &mut E)
+        ensures { Adds (E.has_failed errors.old) (E.has_failed errors.new) (E.contents errors.old) (E.contents errors.new) }
+    {
+        self.say(errors, "there is no memory to say why it is refused");
     }
 
     /// Says that there was no memory.

@@ -4,6 +4,7 @@ ghost use Rattle.lwkt_report.specs.Report.{report_text};
 ghost use Rattle.lwkt_litmus.specs.Judgements.{judgement_of};
 
 use crate::verdicts::verdicts_said;
+use lwkt_base::Fault;
 use lwkt_litmus::{Judgement, judgement_of};
 use lwkt_report::{Closing, report};
 use lwkt_text::claims::Expectation;
@@ -31,8 +32,10 @@ pub fn account_of(
     ensures report { IfOk result (λ account. string_bytes account.report ≡ report_text outcome.now) }
     ensures judgement { IfOk result (λ account. account.judgement ≡ judgement_of expectations.now outcome.now) }
 {
-    let Ok(report) = report(alloc, outcome) else {
-        return Err(AllocError);
+    let report = match report(alloc, outcome) {
+        Ok(report) => report,
+        Err(Fault::Memory(refused)) => return Err(refused),
+        Err(_) => unreachable!(),
     };
     let verdicts = verdicts_said(alloc, path, bytes, expectations, outcome)?;
     Ok(Account {

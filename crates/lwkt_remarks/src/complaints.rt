@@ -165,9 +165,7 @@ pub fn wrongs_said(
     bytes: &[u8],
     wrongs: Many<Wrong>,
 ) -> Result<String, AllocError> {
-    let Ok(names) = names_of(alloc, bytes) else {
-        return Err(AllocError);
-    };
+    let names = names_of(alloc, bytes)?;
     let mut wrongs = wrongs.into_vec();
     wrongs.sort_unstable_by_key(|wrong| wrong.at);
     let mut page = Page::new(alloc);

@@ -2,7 +2,7 @@
 use lwkt_base::blobs::length_of;
 use lwkt_base::{Fault, TokSpec};
 use lwkt_refusals::{Page, show_breach};
-use lwkt_text::{Name, Reading, read_text};
+use lwkt_text::{Name, Reading, Refusal, read_text};
 use std::alloc::{AllocError, Global};
 
 // Whether the cells of a token obey its law.
@@ -25,19 +25,28 @@ fn add_breach(page: &mut Page, tokens: &[TokSpec], names: &[Name]) -> bool {
     false
 }
 
+// The fault's own text.
+fn fault_said(alloc: Global, fault: Fault) -> Result<String, AllocError> {
+    let mut page = Page::new(alloc);
+    page.fault("", fault);
+    page.whole()
+}
+
 /// Why the opening of a text is refused with this fault: the token whose opening breaks its law, and how; or the fault's own text.
 ///
 /// Refused if memory is.
 pub fn opening_said(alloc: Global, bytes: &[u8], fault: Fault) -> Result<String, AllocError> {
-    let Ok(reading) = read_text(alloc, bytes) else {
-        return Err(AllocError);
+    let reading = match read_text(alloc, bytes) {
+        Ok(reading) => reading,
+        Err(Refusal::Memory(refused)) => return Err(refused),
+        Err(Refusal::Wrongs(_)) => return fault_said(alloc, fault),
     };
     let Reading { script, names, .. } = &reading;
     let mut page = Page::new(alloc);
-    if fault != Fault::LawBroken
-        || !add_breach(&mut page, script.tokens.as_slice(), names.tokens.as_slice())
+    if fault == Fault::LawBroken
+        && add_breach(&mut page, script.tokens.as_slice(), names.tokens.as_slice())
     {
-        page.fault("", fault);
+        return page.whole();
     }
-    page.whole()
+    fault_said(alloc, fault)
 }

@@ -13,3 +13,13 @@ pub fn words_of<R: Env + AllocGlobal>(rt: &R) -> io::Result<Vec<String>> {
     }
     Ok(words)
 }
+
+/// That the allocator refused memory, where that is why a call failed. The library tells it by a kind of its own errors, which lacks
+/// what the allocator said.
+pub fn refusal_of(error: &io::Error) -> Option<AllocError> {
+    if error.kind() == io::ErrorKind::OutOfMemory {
+        Some(AllocError)
+    } else {
+        None
+    }
+}

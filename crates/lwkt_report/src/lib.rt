@@ -17,7 +17,7 @@ pub mod sinks;
 pub mod sources;
 pub mod streams;
 
-pub use arguments::words_of;
+pub use arguments::{refusal_of, words_of};
 pub use closings::{Closing, ThreadLine, TokenLine, Verdict};
 pub use complaints::{
     Complaint, Program, complain, complaint_line, complaint_of, refuse_arguments,

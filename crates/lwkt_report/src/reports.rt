@@ -1,6 +1,7 @@
 ghost use Rattle.std.specs.Prelude.{◌≡◌, ◌++◌, OnOk, IfOk, IsOkUnless, string_bytes};
 ghost use Rattle.std.specs.List.{flat_map};
 ghost use Rattle.lwkt_report.specs.Report.{token_line, tally_line, record_line, message_line, thread_line, verdict_line, numbered, front_text, report_text};
+ghost use Rattle.lwkt_base.specs.Fault.{no_memory};
 
 use crate::closings::{Closing, ThreadLine, TokenLine, Verdict};
 use crate::listings::{show_listed, show_spaced};
@@ -129,11 +130,11 @@ fn front_shown(alloc: Global, closing: &Closing) -> Result<String, AllocError>
 /// Refused with `Memory` if an allocation is.
 pub fn report_front(alloc: Global, closing: &Closing) -> Result<String, Fault>
     ensures ok { IfOk result (λ text. string_bytes text ≡ front_text closing.now) }
-    ensures only { IsOkUnless result Fault.Memory }
+    ensures only { IsOkUnless result no_memory }
 {
     match front_shown(alloc, closing) {
         Ok(text) => Ok(text),
-        Err(_) => Err(Fault::Memory),
+        Err(refused) => Err(Fault::Memory(refused)),
     }
 }
 
@@ -142,10 +143,10 @@ pub fn report_front(alloc: Global, closing: &Closing) -> Result<String, Fault>
 /// Refused with `Memory` if an allocation is.
 pub fn report(alloc: Global, closing: &Closing) -> Result<String, Fault>
     ensures ok { IfOk result (λ text. string_bytes text ≡ report_text closing.now) }
-    ensures only { IsOkUnless result Fault.Memory }
+    ensures only { IsOkUnless result no_memory }
 {
     match shown(alloc, closing) {
         Ok(text) => Ok(text),
-        Err(_) => Err(Fault::Memory),
+        Err(refused) => Err(Fault::Memory(refused)),
     }
 }

@@ -1,4 +1,4 @@
-ghost use Rattle.std.specs.Prelude.{◌≡◌, ◌+◌, ◌≤◌, ◌<◌, ℕ, Bool, List, [], Option, Some, false, true, IfOk, IsOk, IsTrue, OnOk, OnErr, length, vec_len, vec_capacity};
+ghost use Rattle.std.specs.Prelude.{is_some, ◌≡◌, ◌+◌, ◌≤◌, ◌<◌, ℕ, Bool, List, [], Option, Some, false, true, IfOk, IsOk, IsTrue, OnOk, OnErr, length, vec_len, vec_capacity};
 ghost use Rattle.std.specs.Io.{WritesAtMost};
 ghost use Rattle.std.specs.Io.KnownBytes.{Appends, Keeps, WriteAppends};
 ghost use Rattle.lwkt_report.specs.Stream.{AppendsFront};
@@ -98,8 +98,8 @@ impl<W: Write> Sink for WriterSink<W> {
 #[derive(Debug, Drop)]
 pub struct Page {
     pub text: Vec<u8>,
-    /// Whether memory for more was refused.
-    pub failed: bool,
+    /// What the allocator said where memory for more was refused.
+    pub refused: Option<AllocError>,
 }
 
 impl Page {
@@ -109,12 +109,12 @@ impl Page {
     pub fn with_room(alloc: Global, room: usize) -> Result<Self, AllocError>
         ensures text { IfOk result (λ page. page.text.items ≡ []) }
         ensures room { IfOk result (λ page. room ≤ vec_capacity page.text) }
-        ensures failed { IfOk result (λ page. page.failed ≡ false) }
+        ensures refused { IfOk result (λ page. page.refused ≡ None) }
     {
         let text = Vec::with_capacity(alloc, room)?;
         Ok(Page {
             text,
-            failed: false,
+            refused: None,
         })
     }
 }
@@ -122,7 +122,7 @@ impl Page {
 impl Sink for Page {
     ghost contents = { λ page. Some page.text.items };
 
-    ghost has_failed = { λ page. page.failed };
+    ghost has_failed = { λ page. is_some page.refused };
 
     // memory keeps nothing back
     ghost is_flushed = { λ _. Unit {0} };
@@ -132,8 +132,8 @@ impl Sink for Page {
     fn put(&mut self, bytes: &[u8]) -> Result<usize, StreamError> {
         match self.text.extend_from_slice(bytes) {
             Ok(()) => Ok(bytes.len()),
-            Err(_) => {
-                self.failed = true;
+            Err(refused) => {
+                self.refused = Some(refused);
                 Err(StreamError)
             }
         }

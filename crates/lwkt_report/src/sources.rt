@@ -2,6 +2,7 @@ ghost use Rattle.std.specs.Prelude.{◌≡◌, ◌↔◌, ◌≤◌, ◌<◌, �
 ghost use Rattle.std.specs.Io.{ReadsAtMost};
 ghost use Rattle.std.specs.Io.KnownBytes.{Consumes, IsAtEnd, ReadConsumes};
 ghost use Rattle.lwkt_report.specs.Stream.{Gains};
+ghost use Rattle.lwkt_base.specs.Fault.{no_memory};
 
 use crate::streams::{RunFault, StreamError};
 use lwkt_base::Fault;
@@ -96,11 +97,11 @@ fn pull_into<S: Source>(
     ensures within { IfOk result (λ count. count ≤ length room.old) }
     ensures ok { OnOk result (S.has_failed source.new ≡ S.has_failed source.old) }
     ensures stream { result ≡ Err RunFault.Stream → IsTrue (S.has_failed source.new) }
-    ensures memory { result ≡ Err (RunFault.Fault Fault.Memory) → S.has_failed source.new ≡ S.has_failed source.old }
-    ensures only { OnErr result ((result ≡ Err RunFault.Stream) ⊎ (result ≡ Err (RunFault.Fault Fault.Memory))) }
+    ensures memory { result ≡ Err (RunFault.Fault no_memory) → S.has_failed source.new ≡ S.has_failed source.old }
+    ensures only { OnErr result ((result ≡ Err RunFault.Stream) ⊎ (result ≡ Err (RunFault.Fault no_memory))) }
 {
-    if bytes.reserve(room.len()).is_err() {
-        return Err(RunFault::Fault(Fault::Memory));
+    if let Err(refused) = bytes.reserve(room.len()) {
+        return Err(RunFault::Fault(Fault::Memory(refused)));
     }
     let count = source.pull(room)?;
     bytes.extend_from_slice(&room[..count]).unwrap();
@@ -121,8 +122,8 @@ pub fn read_up_to<S: Source>(
     ensures within { IfOk result (λ bytes. vec_len bytes ≤ most) }
     ensures ok { OnOk result (S.has_failed source.new ≡ S.has_failed source.old) }
     ensures stream { result ≡ Err RunFault.Stream → IsTrue (S.has_failed source.new) }
-    ensures memory { result ≡ Err (RunFault.Fault Fault.Memory) → S.has_failed source.new ≡ S.has_failed source.old }
-    ensures only { OnErr result ((result ≡ Err RunFault.Stream) ⊎ (result ≡ Err (RunFault.Fault Fault.Memory))) }
+    ensures memory { result ≡ Err (RunFault.Fault no_memory) → S.has_failed source.new ≡ S.has_failed source.old }
+    ensures only { OnErr result ((result ≡ Err RunFault.Stream) ⊎ (result ≡ Err (RunFault.Fault no_memory))) }
 {
     let mut room = [0; CHUNK];
     let mut bytes = Vec::new(alloc);
@@ -145,8 +146,8 @@ pub fn read_capped<S: Source>(alloc: Global, source: &mut S) -> Result<Vec<u8>, 
     ensures within { IfOk result (λ bytes. vec_len bytes ≤ READ_LIMIT) }
     ensures ok { OnOk result (S.has_failed source.new ≡ S.has_failed source.old) }
     ensures stream { result ≡ Err RunFault.Stream → IsTrue (S.has_failed source.new) }
-    ensures memory { result ≡ Err (RunFault.Fault Fault.Memory) → S.has_failed source.new ≡ S.has_failed source.old }
-    ensures only { OnErr result ((result ≡ Err RunFault.Stream) ⊎ (result ≡ Err (RunFault.Fault Fault.Memory))) }
+    ensures memory { result ≡ Err (RunFault.Fault no_memory) → S.has_failed source.new ≡ S.has_failed source.old }
+    ensures only { OnErr result ((result ≡ Err RunFault.Stream) ⊎ (result ≡ Err (RunFault.Fault no_memory))) }
 {
     read_up_to(alloc, source, READ_LIMIT)
 }

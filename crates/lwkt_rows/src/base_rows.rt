@@ -469,7 +469,7 @@ const FAULTS: [Told; 31] = [
     Told(Fault::SelfDo, 29, "synchronous send to itself"),
     Told(Fault::NoPort, 30, "no such port"),
     Told(Fault::NotTaken, 31, "message not taken"),
-    Told(Fault::Memory, 32, "out of memory"),
+    Told(Fault::Memory(AllocError), 32, "out of memory"),
     Told(
         Fault::Script { place: 100_002 },
         33,

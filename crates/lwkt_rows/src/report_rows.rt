@@ -291,7 +291,10 @@ const COMPLAINTS: [Complained; 6] = [
         "lwkt_run: fault 33 at 4294967295\n",
     ),
     Complained(Complaint::Fault(Fault::LawBroken), "lwkt_run: fault 40\n"),
-    Complained(Complaint::Fault(Fault::Memory), "lwkt_run: fault 32\n"),
+    Complained(
+        Complaint::Fault(Fault::Memory(AllocError)),
+        "lwkt_run: fault 32\n",
+    ),
     Complained(Complaint::Stream, "lwkt_run: stream\n"),
 ];
 
@@ -415,8 +418,9 @@ fn is_copied(alloc: Global, mut source: &[u8]) -> Result<bool, Fault> {
         Err(RunFault::Fault(fault)) => return Err(fault),
         Err(RunFault::Stream) => unreachable!(),
     };
-    let Ok(mut page) = Page::with_room(alloc, text.len()) else {
-        return Err(Fault::Memory);
+    let mut page = match Page::with_room(alloc, text.len()) {
+        Ok(page) => page,
+        Err(refused) => return Err(Fault::Memory(refused)),
     };
     write_whole(&mut page, text.as_slice()).unwrap();
     Ok(page.text.as_slice() == text.as_slice() && text.len() == 7)

@@ -2,7 +2,7 @@ use Rattle.std.proofs.Common.{inl, inr, ◌≡◌, ◌⊎◌, ℕ, List, [], tak
 use Rattle.std.specs.Prelude.{string_bytes, IfOk, IfErr}
 use Rattle.std.specs.Io.KnownBytes.{Keeps}
 use Rattle.lwkt_base.specs.declared.faults.Fault.{Fault as Refusal}
-use Rattle.lwkt_base.specs.declared.faults.Fault.TheVariants.{Memory}
+use Rattle.lwkt_base.specs.Fault.{no_memory}
 use Rattle.lwkt_report.specs.declared.streams.RunFault.{RunFault}
 use Rattle.lwkt_report.specs.declared.streams.RunFault.TheVariants.{Fault, Stream}
 use Rattle.lwkt_report.specs.declared.sources.TheConstants.{READ_LIMIT}
@@ -20,7 +20,7 @@ some_read None = ([], tt)
 some_read (Some all) = (take READ_LIMIT all, refl)
 
 -- where reading fails nothing is written
-pub tells_unread : (Run : List ℕ → End → List ℕ → Type 0) (left old : Option (List ℕ)) (fault : RunFault) → (fault ≡ Stream) ⊎ (fault ≡ Fault Memory) → TellsBy Run left old old (Err fault)
+pub tells_unread : (Run : List ℕ → End → List ℕ → Type 0) (left old : Option (List ℕ)) (fault : RunFault) → (fault ≡ Stream) ⊎ (fault ≡ Fault no_memory) → TellsBy Run left old old (Err fault)
 tells_unread Run left old fault why =
     let T : RunFault → Type 0 = λ f. TellsBy Run left old old (Err f) in
     elim why [

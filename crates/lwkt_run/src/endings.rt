@@ -7,6 +7,7 @@ ghost use Rattle.lwkt_machine.specs.Machines.{ShowsBody};
 ghost use Rattle.lwkt_run.specs.Leaving.{Leaves};
 ghost use Rattle.lwkt_run.specs.Running.{HasThreads, ShowThreads, IsLogOf, log_in};
 ghost use Rattle.lwkt_run.specs.Values.{AreValuesOf};
+ghost use Rattle.lwkt_base.specs.Fault.{no_memory};
 
 use lwkt_base::{Fault, ThreadId};
 use lwkt_core::{Event, Final};
@@ -76,7 +77,7 @@ fn close(
     requires { machine.bank.plans ≡ plans_of script.now.tokens }
     ensures values { IfOk result (λ last. AreValuesOf script.now.tokens last) }
     ensures leaves { IfOk result (λ last. Leaves machine trace.old trace.new last) }
-    ensures only { OnErr result (result ≡ Err Fault.Memory) }
+    ensures only { OnErr result (result ≡ Err no_memory) }
 {
     let mut machine = machine;
     machine.stop(trace)?;
@@ -113,10 +114,11 @@ pub fn left_by(
     ensures leaves { IfOk result (λ left. Leaves machine trace.old trace.new left.last) }
     ensures shown { IfOk result (λ left. ShowThreads left.threads.items machine) }
     ensures threads { IfOk result (λ left. map (λ line. line.id) left.threads.items ≡ ids_of script.now.cpus script.now.threads) }
-    ensures only { OnErr result (result ≡ Err Fault.Memory) }
+    ensures only { OnErr result (result ≡ Err no_memory) }
 {
-    let Ok(threads) = thread_lines(alloc, &machine) else {
-        return Err(Fault::Memory);
+    let threads = match thread_lines(alloc, &machine) {
+        Ok(threads) => threads,
+        Err(refused) => return Err(Fault::Memory(refused)),
     };
     let last = close(alloc, script, machine, trace)?;
     Ok(Left { last, threads })

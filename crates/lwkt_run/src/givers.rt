@@ -1,5 +1,6 @@
 //! Which processor ended each written section, for whoever shows them.
 ghost use Rattle.std.specs.Prelude.{◌≡◌, Err, OnErr};
+ghost use Rattle.lwkt_base.specs.Fault.{no_memory};
 
 use lwkt_base::{CpuId, Fault};
 use lwkt_core::Event;
@@ -61,11 +62,11 @@ pub fn givers_of(
     traces: &[Vec<Event>],
     stops: &[Event],
 ) -> Result<Vec<CpuId>, Fault>
-    ensures only { OnErr result (result ≡ Err Fault.Memory) }
+    ensures only { OnErr result (result ≡ Err no_memory) }
 {
     if !are_wanted {
         return Ok(Vec::new(alloc));
     }
-    let given = given_in_order(alloc, traces, stops).map_err(|_| Fault::Memory)?;
-    cpus_of(alloc, &given).map_err(|_| Fault::Memory)
+    let given = given_in_order(alloc, traces, stops).map_err(Fault::Memory)?;
+    cpus_of(alloc, &given).map_err(Fault::Memory)
 }

@@ -18,7 +18,7 @@ fn status_of(outcome: &Result<End, RunFault>) -> u8
         Ok(End::Ended) => 0,
         Ok(End::TurnsOut) => 2,
         Ok(End::Unlawful) => 4,
-        Err(RunFault::Fault(Fault::Memory)) | Err(RunFault::Stream) => 3,
+        Err(RunFault::Fault(Fault::Memory(_))) | Err(RunFault::Stream) => 3,
         Err(RunFault::Fault(_)) => 1,
     }
 }

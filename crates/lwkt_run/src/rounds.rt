@@ -4,6 +4,7 @@ ghost use Rattle.lwkt_cpu.specs.declared.answers.Turned.{Turned};
 ghost use Rattle.lwkt_verdict.specs.Threads.{slot_of};
 ghost use Rattle.lwkt_run.specs.Keeping.{polled_of};
 ghost use Rattle.lwkt_run.specs.Running.{WasPolled, HasPolled, IsPolledAt, HasAsked, MakesKeptTurn, kept_of, scene, says_over, both as both_so, RoundTold, HasMadeRounds, MakesTurns};
+ghost use Rattle.lwkt_base.specs.Fault.{no_memory};
 
 use crate::polled::Heard;
 use crate::records::Record;
@@ -68,7 +69,7 @@ fn make_turn(
     requires few { length machine.old.cpus ≤ 8 }
     ensures ok { IfOk result (λ over. (turned : Turned) × (MakesKeptTurn cpu turned (scene machine.old trace.old (kept_of kept.old)) (scene machine.new trace.new (kept_of kept.new)) × (over ≡ says_over turned))) }
     ensures as_many { length machine.new.cpus ≡ length machine.old.cpus }
-    ensures only { OnErr result (result ≡ Err Fault.Memory) }
+    ensures only { OnErr result (result ≡ Err no_memory) }
 {
     let before = trace.len();
     let turned = machine.turn(cpu, trace)?;
@@ -76,7 +77,7 @@ fn make_turn(
     let events = (trace.len() - before) as u16;
     match kept.keep(cpu as u8, events, asks) {
         Ok(()) => Ok(is_over(turned)),
-        Err(_) => Err(Fault::Memory),
+        Err(refused) => Err(Fault::Memory(refused)),
     }
 }
 
@@ -87,7 +88,7 @@ fn make_round(
     kept: &mut Record,
 ) -> Result<bool, Fault>
     ensures ok { IfOk result (λ over. RoundTold (scene machine.old trace.old (kept_of kept.old)) (scene machine.new trace.new (kept_of kept.new)) over) }
-    ensures only { OnErr result (result ≡ Err Fault.Memory) }
+    ensures only { OnErr result (result ≡ Err no_memory) }
 {
     let mut over = true;
     for cpu in 0..machine.cpus() {
@@ -108,7 +109,7 @@ pub fn make_turns(
     requires few { length machine.old.cpus ≤ 8 }
     ensures ok { OnOk result (MakesTurns order.now (scene machine.old trace.old (kept_of kept.old)) (scene machine.new trace.new (kept_of kept.new))) }
     ensures order { OnOk result (kept.new.order.items ≡ kept.old.order.items ++ order.now) }
-    ensures only { OnErr result (result ≡ Err Fault.Memory) }
+    ensures only { OnErr result (result ≡ Err no_memory) }
 {
     for at in 0..order.len() {
         make_turn(machine, usize::from(order[at]), trace, kept)?;
@@ -124,7 +125,7 @@ pub fn make_rounds(
     kept: &mut Record,
 ) -> Result<(), Fault>
     ensures ok { OnOk result (HasMadeRounds limit (scene machine.old trace.old (kept_of kept.old)) (scene machine.new trace.new (kept_of kept.new))) }
-    ensures only { OnErr result (result ≡ Err Fault.Memory) }
+    ensures only { OnErr result (result ≡ Err no_memory) }
 {
     for _round in 0..limit {
         if make_round(machine, trace, kept)? {

@@ -71,7 +71,7 @@ fn told_of<R: Threads + Sync, G: Gate + Sync>(
             sections,
             givers,
         }),
-        Err(_) => Err(Fault::Memory),
+        Err(refused) => Err(Fault::Memory(refused)),
     }
 }
 
@@ -125,7 +125,7 @@ fn record_of_script<R: Threads + Sync, G: Gate + Sync>(
     let told = told_of(rt, alloc, gate, script, with_givers)?;
     match record_of(alloc, gate, script, told) {
         Ok(kept) => Ok(kept),
-        Err(_) => Err(Fault::Memory),
+        Err(refused) => Err(Fault::Memory(refused)),
     }
 }
 

@@ -1,5 +1,5 @@
 -- Lines of turns, one behind another.
-use Rattle.std.proofs.Common.{Bool, ◌≡◌, ℕ, ◌+◌, ◌<◌, List, [], ◌∷◌, ◌++◌, length, drop, get_or, Option, refl, subst, sym, ◌∙◌, ap, false, string_bytes}
+use Rattle.std.proofs.Common.{Bool, ◌≡◌, ℕ, ◌+◌, ◌<◌, List, [], ◌∷◌, ◌++◌, length, drop, get_or, Option, refl, subst, sym, ◌∙◌, ap, None, string_bytes}
 use Rattle.std.proofs.lemmas.List.{drop_more}
 use Rattle.lwkt_refusals.specs.declared.pages.Page.{Page}
 use Rattle.lwkt_refusals.specs.Pages.{Grows}
@@ -48,7 +48,7 @@ shown_with chosen order cpus polls turns first last old mid new is_first is_last
 }
 
 -- what stands on a page that was empty before some words
-pub begins : (Holds : List ℕ → Type 0) (old mid new : Page) (behind text : List ℕ) → string_bytes old.text ≡ [] → Adds Holds old mid → Grows mid new behind → new.is_lost ≡ false → text ≡ string_bytes new.text → Begins Holds text
+pub begins : (Holds : List ℕ → Type 0) (old mid new : Page) (behind text : List ℕ) → string_bytes old.text ≡ [] → Adds Holds old mid → Grows mid new behind → new.lost ≡ None → text ≡ string_bytes new.text → Begins Holds text
 begins Holds old mid new behind text empty a more here is = record {
   front = a.words;
   rest = behind;

@@ -1,5 +1,10 @@
 -- What is shown of a run (own).
-use Rattle.std.specs.Prelude.{◌*◌, ◌≡◌, ◌++◌, ℕ, List}
+use Rattle.std.specs.Prelude.{◌*◌, ◌≡◌, ◌⊎◌, ◌++◌, ℕ, List}
+use Rattle.lwkt_base.specs.declared.faults.Fault.{Fault}
+use Rattle.lwkt_base.specs.declared.faults.Fault.TheVariants.{Limits, LawBroken}
+use Rattle.lwkt_base.specs.Fault.{no_memory}
+use Rattle.lwkt_core.specs.Opening.{AreWithin, AllOpenLawfully}
+use Rattle.lwkt_script.specs.declared.scripts.Script.{Script}
 use Rattle.lwkt_report.specs.declared.closings.Closing.{Closing}
 use Rattle.lwkt_report.specs.Report.{report_text}
 use Rattle.lwkt_scenes.specs.declared.reels.Counted.{Counted}
@@ -13,3 +18,7 @@ EndsInReport closing text = (front : List ℕ) × (text ≡ front ++ report_text
 abbrev pub first_turn : Counted → ℕ → ℕ → ℕ
 first_turn Turns first cpus = first
 first_turn Rounds first cpus = first * cpus
+
+-- why a run of a script isn't shown: for want of memory, or as the opening of a state of its tokens and messages is refused
+abbrev pub MayBeRefused : Script → Fault → Type 0
+MayBeRefused script fault = (fault ≡ no_memory) ⊎ (((fault ≡ Limits) × ¬ AreWithin script.cpus script.tokens script.messages) ⊎ ((fault ≡ LawBroken) × (AreWithin script.cpus script.tokens script.messages × ¬ AllOpenLawfully script.tokens)))

@@ -1,3 +1,6 @@
+ghost use Rattle.std.specs.Prelude.{IfErr};
+ghost use Rattle.lwkt_scenes.specs.Shown.{MayBeRefused};
+
 use crate::boxes::{draw_boxes, draw_labels};
 use crate::drawings::{draw_bars, draw_marks, draw_values, draw_ways};
 use crate::labels::Tag;
@@ -272,10 +275,14 @@ fn draw(
 }
 
 /// A picture of a run.
-pub fn picture_of(alloc: Global, run: &Reel, chosen: Chosen) -> Result<String, Fault> {
+///
+/// Refused with `Memory` if an allocation is, and as `State::open` is for an opening that it refuses.
+pub fn picture_of(alloc: Global, run: &Reel, chosen: Chosen) -> Result<String, Fault>
+    ensures refused { IfErr result (MayBeRefused run.now.script.now) }
+{
     let mut replay = Replay::open(alloc, run.script, &run.closing.threads)?;
     match draw(alloc, run, &mut replay, chosen) {
         Ok(text) => Ok(text),
-        Err(_) => Err(Fault::Memory),
+        Err(refused) => Err(Fault::Memory(refused)),
     }
 }

@@ -64,12 +64,13 @@ fn stores(turn: Option<&Scene>) -> bool {
 }
 
 impl Replay {
+    ghost use Rattle.std.specs.Prelude.{IfErr};
+    ghost use Rattle.lwkt_scenes.specs.Shown.{MayBeRefused};
+
     /// A run of a script before its first turn, whose threads end as these lines say.
-    pub(crate) fn open(
-        alloc: Global,
-        script: &Script,
-        lines: &[ThreadLine],
-    ) -> Result<Self, Fault> {
+    pub(crate) fn open(alloc: Global, script: &Script, lines: &[ThreadLine]) -> Result<Self, Fault>
+        ensures refused { IfErr result (MayBeRefused script.now) }
+    {
         let state = State::open(
             alloc,
             script.tokens.as_slice(),
@@ -79,8 +80,8 @@ impl Replay {
         let mut stories = Vec::new(alloc);
         for line in lines {
             let story = story_of(alloc, script, line);
-            if stories.push(story).is_err() {
-                return Err(Fault::Memory);
+            if let Err(refused) = stories.push(story) {
+                return Err(Fault::Memory(refused.into()));
             }
         }
         Ok(Replay {

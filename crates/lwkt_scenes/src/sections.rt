@@ -1,9 +1,9 @@
 //! What is shown of written sections: a page for each token, and how a section changed its row.
 use crate::pages::Page;
-use lwkt_base::{Fault, Section, TokId, TokSpec};
+use lwkt_base::{Section, TokId, TokSpec};
 use lwkt_report::TokenLine;
 use lwkt_trace::words::law_name;
-use std::alloc::Global;
+use std::alloc::{AllocError, Global};
 
 /// Of each token, by its number, what is shown of it so far.
 #[derive(Drop)]
@@ -40,14 +40,12 @@ pub(crate) fn show_change(out: &mut Page, section: &Section) {
 
 impl TokenPages {
     /// A page for each token, with its opening row.
-    pub(crate) fn open(alloc: Global, tokens: &[TokSpec]) -> Result<Self, Fault> {
+    pub(crate) fn open(alloc: Global, tokens: &[TokSpec]) -> Result<Self, AllocError> {
         let mut pages = Vec::new(alloc);
         for (number, spec) in tokens.iter().enumerate() {
             let mut page = Page::new(alloc);
             show_opening(&mut page, number, spec);
-            if pages.push(page).is_err() {
-                return Err(Fault::Memory);
-            }
+            pages.push(page)?;
         }
         Ok(TokenPages { pages })
     }
@@ -58,16 +56,13 @@ impl TokenPages {
     }
 
     /// What is shown of the tokens, one after another, with their closing rows.
-    pub(crate) fn whole(&self, alloc: Global, closing: &[TokenLine]) -> Result<String, Fault> {
+    pub(crate) fn whole(&self, alloc: Global, closing: &[TokenLine]) -> Result<String, AllocError> {
         let mut out = Page::new(alloc);
         for (page, line) in self.pages.iter().zip(closing.iter()) {
             out.add_page(page);
             out.add("closing: ");
             show_row(&mut out, line.generation, line.cells.as_slice());
         }
-        match out.whole() {
-            Ok(text) => Ok(text),
-            Err(_) => Err(Fault::Memory),
-        }
+        out.whole()
     }
 }

@@ -1,8 +1,8 @@
-ghost use Rattle.std.specs.Prelude.{◌≡◌, IfOk, string_bytes};
+ghost use Rattle.std.specs.Prelude.{◌≡◌, IfErr, IfOk, string_bytes};
 ghost use Rattle.std.specs.Option.{option_copied};
 ghost use Rattle.lwkt_refusals.specs.Pages.{Grows};
 ghost use Rattle.lwkt_scenes.specs.Lines.{last_shown, before_text, after_text, choice_text, is_shown, IsTextOf, AreLines, Adds, BeginsWithLines, IsTold};
-ghost use Rattle.lwkt_scenes.specs.Shown.{EndsInReport};
+ghost use Rattle.lwkt_scenes.specs.Shown.{EndsInReport, MayBeRefused};
 
 use crate::ends::show_ends;
 use crate::pages::Page;
@@ -115,7 +115,8 @@ fn show_behind(alloc: Global, out: &mut Page, run: &Reel, replay: &mut Replay, f
 
 // All that is said of a run before its report.
 fn front_of(alloc: Global, run: &Reel, chosen: Chosen) -> Result<String, Fault>
-    ensures { IfOk result (λ text. BeginsWithLines run.now chosen (string_bytes text)) }
+    ensures begins { IfOk result (λ text. BeginsWithLines run.now chosen (string_bytes text)) }
+    ensures refused { IfErr result (MayBeRefused run.now.script.now) }
 {
     let mut replay = Replay::open(alloc, run.script, &run.closing.threads)?;
     let mut out = Page::new(alloc);
@@ -127,7 +128,7 @@ fn front_of(alloc: Global, run: &Reel, chosen: Chosen) -> Result<String, Fault>
     out.add_page(&behind);
     match out.whole() {
         Ok(text) => Ok(text),
-        Err(_) => Err(Fault::Memory),
+        Err(refused) => Err(Fault::Memory(refused)),
     }
 }
 
@@ -138,11 +139,12 @@ fn front_of(alloc: Global, run: &Reel, chosen: Chosen) -> Result<String, Fault>
 pub fn lines_of(alloc: Global, run: &Reel, chosen: Chosen) -> Result<String, Fault>
     ensures report { IfOk result (λ text. EndsInReport run.now.closing.now (string_bytes text)) }
     ensures lines { IfOk result (λ text. IsTold chosen (option_copied run.now.order) run.now.script.now.cpus run.now.polls.now run.now.turns.now run.now.closing.now (string_bytes text)) }
+    ensures refused { IfErr result (MayBeRefused run.now.script.now) }
 {
     let mut out = front_of(alloc, run, chosen)?;
     let text = report(alloc, run.closing)?;
     match out.push_str(text.as_str()) {
         Ok(()) => Ok(out),
-        Err(_) => Err(Fault::Memory),
+        Err(refused) => Err(Fault::Memory(refused)),
     }
 }

@@ -7,7 +7,7 @@ use lwkt_base::{
 };
 use lwkt_core::{Event, State, Token};
 use lwkt_verdict::{Poll, entry_of};
-use std::alloc::Global;
+use std::alloc::{AllocError, Global};
 
 // The most entries of a log.
 const LOG_LIMIT: usize = 32;
@@ -68,8 +68,8 @@ pub(crate) struct Story {
     pub why: Option<Page>,
     /// Of each entry of the log the ask that it answers, by its number among the thread's asks.
     pub logged: Vec<Logged>,
-    /// Whether memory was refused for one of these.
-    pub is_lost: bool,
+    /// What the allocator said where memory for one of these was refused.
+    pub lost: Option<AllocError>,
     /// How many entries the log would have without a limit.
     pub entries: u64,
 }
@@ -186,7 +186,7 @@ impl Story {
             ended_in: None,
             why: None,
             logged: Vec::new(alloc),
-            is_lost: false,
+            lost: None,
             entries: 0,
         }
     }
@@ -205,8 +205,8 @@ impl Story {
                 ask: poll.ask,
                 number: self.polls,
             };
-            if self.logged.push(logged).is_err() {
-                self.is_lost = true;
+            if let Err(refused) = self.logged.push(logged) {
+                self.lost = Some(refused.into());
             }
         }
     }

@@ -2,16 +2,14 @@ ghost use Rattle.std.specs.Prelude.{◌≡◌, IfOk, string_bytes};
 ghost use Rattle.lwkt_trace.specs.Written.{trace_text};
 
 use crate::reels::Reel;
-use lwkt_base::Fault;
 use lwkt_trace::trace_text;
-use std::alloc::Global;
+use std::alloc::{AllocError, Global};
 
 /// The trace of a run, as `lwkt_check` reads it.
-pub fn trace_of(alloc: Global, run: &Reel) -> Result<String, Fault>
+///
+/// Refused if memory is.
+pub fn trace_of(alloc: Global, run: &Reel) -> Result<String, AllocError>
     ensures { IfOk result (λ text. string_bytes text ≡ trace_text run.now.script.now run.now.trace.now run.now.closing.now) }
 {
-    match trace_text(alloc, run.script, run.trace, run.closing) {
-        Ok(text) => Ok(text),
-        Err(_) => Err(Fault::Memory),
-    }
+    trace_text(alloc, run.script, run.trace, run.closing)
 }

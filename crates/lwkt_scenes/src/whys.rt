@@ -41,6 +41,6 @@ pub fn whys_of(alloc: Global, run: &Reel) -> Result<String, Fault> {
     show_whys(&mut out, &replay);
     match out.whole() {
         Ok(text) => Ok(text),
-        Err(_) => Err(Fault::Memory),
+        Err(refused) => Err(Fault::Memory(refused)),
     }
 }

@@ -32,7 +32,7 @@ each f before (item d ds) = f before d >>= λ x. each f (before ++ x ∷ []) ds
 -- the fault of a script's bad part; of a want of memory nothing is said, and there is no other fault
 abbrev pub Fails : {Y : Type 0} → Fault → Result Y ℕ → Type 0
 Fails (Script place) read = read ≡ Err place
-Fails Memory read = Unit {0}
+Fails (Memory refused) read = Unit {0}
 Fails _ read = ⊥
 
 -- what a reader returned, seen by view, is what reading gives

@@ -10,6 +10,7 @@ pub mod messages;
 mod parts;
 mod readers;
 pub mod records;
+mod refusals;
 mod scripts;
 pub mod steps;
 mod threads;
@@ -18,5 +19,6 @@ pub mod versions;
 
 pub use parts::Parts;
 pub use readers::read_script;
+pub use refusals::refusal_of;
 pub use scripts::{Script, ThreadSpec};
 pub use versions::Version;

@@ -3,10 +3,12 @@ ghost use Rattle.serde_json.specs.View.{view};
 ghost use Rattle.lwkt_script.specs.Outcome.{Gives};
 ghost use Rattle.lwkt_script.specs.Format.{is_whole, script, script_of};
 ghost use Rattle.lwkt_script.specs.Limits.{IsWithinLimits};
+ghost use Rattle.lwkt_base.specs.Fault.{no_memory};
 
 use crate::fields::{has, has_members, list_at, number_at};
 use crate::messages::messages_of;
 use crate::parts::Parts;
+use crate::refusals::refusal_of;
 use crate::scripts::Script;
 use crate::threads::threads_of;
 use crate::tokens::tokens_of;
@@ -87,19 +89,16 @@ pub fn read_script(alloc: Global, bytes: &[u8]) -> Result<Script, Fault>
     ensures limits { IfOk result IsWithinLimits }
 
     // No memory is taken for no bytes or for too many.
-    ensures memory { result ≡ Err Fault.Memory → (0 < length bytes.now) × (length bytes.now ≤ 1048576) }
+    ensures memory { result ≡ Err no_memory → (0 < length bytes.now) × (length bytes.now ≤ 1048576) }
 {
     if bytes.len() > LENGTH_LIMIT {
         return Err(Fault::Script { place: 0 });
     }
     match Value::from_slice(alloc, bytes) {
         Ok(value) => script(alloc, &value),
-        Err(e) => {
-            if e.is_memory() {
-                Err(Fault::Memory)
-            } else {
-                Err(Fault::Script { place: 0 })
-            }
-        }
+        Err(error) => match refusal_of(&error) {
+            Some(refused) => Err(Fault::Memory(refused)),
+            None => Err(Fault::Script { place: 0 }),
+        },
     }
 }

@@ -8,6 +8,7 @@ ghost use Rattle.lwkt_bank.specs.Gathered.{AreHandedOut};
 ghost use Rattle.lwkt_seats.specs.Seated.{AreBrief};
 ghost use Rattle.lwkt_seats.specs.Spots.{AreSpotsOf};
 ghost use Rattle.lwkt_seats.specs.Openings.{AreTokens, spec_of, specs_of};
+ghost use Rattle.lwkt_base.specs.Fault.{no_memory};
 
 use crate::desks::{Desk, Place};
 use crate::handles::hand_out;
@@ -88,7 +89,7 @@ fn place_for(alloc: Global, bank: &Arc<Bank>, seat: CpuSeat) -> Result<Place, Al
         cpu: seat.cpu(),
     };
     let bank = Arc::try_clone(bank)?;
-    let sitter = Box::new(alloc, Sitter { seat, bank }).map_err(|_| AllocError)?;
+    let sitter = Box::new(alloc, Sitter { seat, bank }).map_err(AllocError::from)?;
     Ok(Counted::new(Some(Stall::of(sitter)), &spot))
 }
 
@@ -117,9 +118,9 @@ fn desk_of(alloc: Global, bank: Bank, seats: Vec<CpuSeat>) -> Result<Box<Desk>, 
     requires few { length seats.items ≤ 8 }
     ensures { IfOk result (λ desk. length desk.value.places.items ≡ length seats.items) }
 {
-    let bank = Arc::new(alloc, bank).map_err(|_| AllocError)?;
+    let bank = Arc::new(alloc, bank).map_err(AllocError::from)?;
     let places = places_for(alloc, &bank, seats)?;
-    Box::new(alloc, Desk { places }).map_err(|_| AllocError)
+    Box::new(alloc, Desk { places }).map_err(AllocError::from)
 }
 
 // Opens a bank with its desk.
@@ -129,7 +130,7 @@ fn open(alloc: Global, tokens: &[LwktToken], seats: usize) -> Result<Box<Desk>, 
     ensures each_limit { (¬ (AreTokens tokens.now × AreWithin seats (specs_of tokens.now) [])) → result ≡ Err Fault.Limits }
     ensures broken { result ≡ Err Fault.LawBroken → AreTokens tokens.now × AreWithin seats (specs_of tokens.now) [] × ¬ AllOpenLawfully (specs_of tokens.now) }
     ensures each_law { AreTokens tokens.now → AreWithin seats (specs_of tokens.now) [] → (¬ AllOpenLawfully (specs_of tokens.now)) → result ≡ Err Fault.LawBroken }
-    ensures only { IfErr result (λ fault. (fault ≡ Fault.Memory) ⊎ (fault ≡ Fault.Limits) ⊎ (fault ≡ Fault.LawBroken)) }
+    ensures only { IfErr result (λ fault. (fault ≡ no_memory) ⊎ (fault ≡ Fault.Limits) ⊎ (fault ≡ Fault.LawBroken)) }
 {
     if !are_tokens(tokens) || !are_within(tokens, seats) {
         return Err(Fault::Limits);
@@ -137,10 +138,11 @@ fn open(alloc: Global, tokens: &[LwktToken], seats: usize) -> Result<Box<Desk>, 
     if !all_open_lawfully(tokens) {
         return Err(Fault::LawBroken);
     }
-    let specs = specs_of(alloc, tokens).map_err(|_| Fault::Memory)?;
+    let specs = specs_of(alloc, tokens).map_err(Fault::Memory)?;
     let (bank, seats) = Bank::open(alloc, &specs, seats)?;
-    let Ok(desk) = desk_of(alloc, bank, seats) else {
-        return Err(Fault::Memory);
+    let desk = match desk_of(alloc, bank, seats) {
+        Ok(desk) => desk,
+        Err(refused) => return Err(Fault::Memory(refused)),
     };
     Ok(desk)
 }
@@ -171,7 +173,7 @@ pub extern "C" fn lwkt_bank_open(
             *out = hand_out(Parts::of(desk));
             0
         }
-        Err(Fault::Memory) => 32,
+        Err(Fault::Memory(_)) => 32,
         Err(Fault::LawBroken) => 40,
         Err(_) => 39,
     }

@@ -1,7 +1,7 @@
 use Rattle.std.proofs.Common.{inl, inr, ◌≡◌, ◌⊎◌, ℕ, List, [], take, rules, refl, sym, Option, None, Some, IsNone, Result, Err, Ok, subst, ◌∙◌}
 use Rattle.std.specs.Io.KnownBytes.{Appends, Keeps}
 use Rattle.lwkt_base.specs.declared.faults.Fault.{Fault as Refusal}
-use Rattle.lwkt_base.specs.declared.faults.Fault.TheVariants.{Memory}
+use Rattle.lwkt_base.specs.Fault.{no_memory}
 use Rattle.lwkt_report.specs.declared.sources.TheConstants.{READ_LIMIT}
 use Rattle.lwkt_report.specs.declared.streams.RunFault.{RunFault}
 use Rattle.lwkt_report.specs.declared.streams.RunFault.TheVariants.{Fault, Stream}
@@ -48,7 +48,7 @@ some_read None = ([], tt)
 some_read (Some all) = (take READ_LIMIT all, refl)
 
 -- along an order, where nothing was read or memory was refused
-pub along_unread : (order : List ℕ) (options : Options) (left old : Option (List ℕ)) (fault : RunFault) → (fault ≡ Stream) ⊎ (fault ≡ Fault Memory) → TellsAlong order options left old old (Err fault)
+pub along_unread : (order : List ℕ) (options : Options) (left old : Option (List ℕ)) (fault : RunFault) → (fault ≡ Stream) ⊎ (fault ≡ Fault no_memory) → TellsAlong order options left old old (Err fault)
 along_unread order options left old fault why =
     let read = some_read left in
     elim why [
@@ -72,7 +72,7 @@ fault_of (Ok x) = Stream
 fault_of (Err fault) = fault
 
 -- a lack of memory is no failed stream
-pub no_lack : Fault Memory ≡ Stream → ⊥
+pub no_lack : Fault no_memory ≡ Stream → ⊥
 no_lack is = search rules
 
 -- a run along an order, shown along what was kept of the order

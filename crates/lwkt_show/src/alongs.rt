@@ -28,7 +28,7 @@ fn done_of_bytes(alloc: Global, along: Along, bytes: &[u8]) -> Result<Option<Don
     let end = end_told(&run.closing);
     match text_of(alloc, &options, &run, Some(run.order.as_slice())) {
         Ok(text) => Ok(Some(Done { text, end })),
-        Err(_) => Err(Fault::Memory),
+        Err(fault) => Err(fault),
     }
 }
 

@@ -4,6 +4,7 @@ ghost use Rattle.lwkt_run.specs.Run.{IsTurnsRun, Refuses};
 ghost use Rattle.lwkt_scenes.specs.Shown.{first_turn};
 ghost use Rattle.std.specs.Prelude.{ℕ, List, OnErr, false};
 ghost use Rattle.lwkt_report.specs.Complaint.{IsSaid};
+ghost use Rattle.lwkt_scenes.specs.Shown.{MayBeRefused};
 ghost use Rattle.lwkt_show.specs.Arguments.{AreOptions, AskThreads};
 ghost use Rattle.lwkt_show.specs.Orders.{AreAlong, AreMisused};
 ghost use Rattle.lwkt_show.specs.Showing.{chosen_by, ShowsAs, IsShown, IsPast, IsPastIn, TellsShown, IsShowing, IsShowingAlong, IsShowingThreads, status_shown, usage_line, SaysUsage};
@@ -61,7 +62,7 @@ pub(crate) fn is_past(options: &Options, run: &TurnsRun) -> bool
     chosen_of(options).is_past(run.script.cpus, run.turns.len())
 }
 
-// The text that shows a run, in rounds or along an order. It has no other fault than want of memory.
+// The text that shows a run, in rounds or along an order.
 pub(crate) fn text_of(
     alloc: Global,
     options: &Options,
@@ -69,6 +70,7 @@ pub(crate) fn text_of(
     order: Option<&[u8]>,
 ) -> Result<String, Fault>
     ensures shows { IfOk result (λ text. ShowsAs options.now (option_copied order.entry) run.now (string_bytes text)) }
+    ensures refused { IfErr result (MayBeRefused run.now.script) }
 {
     let reel = Reel {
         script: &run.script,
@@ -81,9 +83,9 @@ pub(crate) fn text_of(
     let chosen = chosen_of(options);
     match options.view {
         View::Lines => lines_of(alloc, &reel, chosen),
-        View::Trace => trace_of(alloc, &reel),
+        View::Trace => trace_of(alloc, &reel).map_err(Fault::Memory),
         View::Picture => picture_of(alloc, &reel, chosen),
-        View::Chains => chains_of(alloc, &reel),
+        View::Chains => chains_of(alloc, &reel).map_err(Fault::Memory),
     }
 }
 
@@ -101,13 +103,13 @@ fn done_of_bytes(alloc: Global, options: &Options, bytes: &[u8]) -> Result<Optio
     let end = end_told(&run.closing);
     match text_of(alloc, options, &run, None) {
         Ok(text) => Ok(Some(Done { text, end })),
-        Err(_) => Err(Fault::Memory),
+        Err(fault) => Err(fault),
     }
 }
 
 /// Says why a run was refused, but for want of memory.
 pub(crate) fn complain<E: Sink>(alloc: Global, errors: &mut E, bytes: &[u8], fault: Fault) {
-    if fault != Fault::Memory {
+    if !matches!(fault, Fault::Memory(_)) {
         Speaker::Show.say_refusal(alloc, errors, Some(bytes), fault);
     }
 }
@@ -159,7 +161,7 @@ fn status_of(outcome: &Result<Outcome, RunFault>) -> u8
         Ok(Outcome::Shown(End::TurnsOut)) => 2,
         Ok(Outcome::Shown(End::Unlawful)) => 4,
         Ok(Outcome::Past) => 1,
-        Err(RunFault::Fault(Fault::Memory)) | Err(RunFault::Stream) => 3,
+        Err(RunFault::Fault(Fault::Memory(_))) | Err(RunFault::Stream) => 3,
         Err(RunFault::Fault(_)) => 1,
     }
 }
@@ -212,7 +214,7 @@ fn show_turns<S: Source, K: Sink, E: Sink>(
     let outcome = show_stream(alloc, options, source, sink, errors);
     match outcome {
         Ok(Outcome::Past) => say_past(errors),
-        Err(RunFault::Fault(Fault::Memory)) => Speaker::Show.say_memory(errors),
+        Err(RunFault::Fault(Fault::Memory(_))) => Speaker::Show.say_memory(errors),
         _ => {}
     }
     status_of(&outcome)
@@ -231,7 +233,7 @@ fn show_order<S: Source, K: Sink, E: Sink>(
     let outcome = show_along(alloc, along, source, sink, errors);
     match outcome {
         Ok(Outcome::Past) => say_past(errors),
-        Err(RunFault::Fault(Fault::Memory)) => Speaker::Show.say_memory(errors),
+        Err(RunFault::Fault(Fault::Memory(_))) => Speaker::Show.say_memory(errors),
         _ => {}
     }
     status_of(&outcome)
@@ -251,7 +253,7 @@ fn show_sections<R: Threads + Sync, S: Source, K: Sink, E: Sink>(
         Ok(end) => Ok(Outcome::Shown(end)),
         Err(fault) => Err(fault),
     };
-    if shown == Err(RunFault::Fault(Fault::Memory)) {
+    if let Err(RunFault::Fault(Fault::Memory(_))) = shown {
         Speaker::Show.say_memory(errors);
     }
     status_of(&shown)

@@ -25,7 +25,7 @@ fn done_of_bytes<R: Threads + Sync>(rt: &R, alloc: Global, bytes: &[u8]) -> Resu
     let end = end_told(&closing);
     match chains_of_sections(alloc, &script, &sections, &givers, &closing) {
         Ok(text) => Ok(Done { text, end }),
-        Err(_) => Err(Fault::Memory),
+        Err(refused) => Err(Fault::Memory(refused)),
     }
 }
 

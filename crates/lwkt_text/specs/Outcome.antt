@@ -15,9 +15,13 @@ abbrev pub ◌>>◌ : {A B : Type 0} → Result A Wrong → Result B Wrong → R
 (Ok x) >> rest = rest
 (Err wrong) >> rest = Err wrong
 
+-- want of memory. Each refusal of an allocator is the same value.
+abbrev pub out_of_memory : Slip
+out_of_memory = slips.Memory (record {})
+
 -- what is wrong; of a want of memory nothing is said
 abbrev pub Fails : {A : Type 0} → Slip → Result A Wrong → Type 0
-Fails slips.Memory read = Unit {0}
+Fails (slips.Memory refused) read = Unit {0}
 Fails (slips.Wrong wrong) read = read ≡ Err wrong
 
 -- what a reader returned is what reading gives

@@ -45,7 +45,7 @@ pub fn is_text(alloc: Global, bytes: &[u8]) -> Result<bool, AllocError>
         return Ok(false);
     }
     match read_script(alloc, bytes) {
-        Err(Fault::Memory) => Err(AllocError),
+        Err(Fault::Memory(refused)) => Err(refused),
         Err(Fault::Script { place }) => Ok(place == 0),
         _ => Ok(false),
     }

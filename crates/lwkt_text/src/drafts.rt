@@ -2,6 +2,7 @@ ghost use Rattle.std.specs.Prelude.{◌≡◌, ◌<◌, OnOk, OnErr, Err, IfOk};
 ghost use Rattle.lwkt_script.specs.Format.{threads_on};
 ghost use Rattle.lwkt_text.specs.Within.{IsDraft};
 ghost use Rattle.lwkt_text.specs.Drafting.{no_draft, blamed, crowded, closed, opened, stepped, put, told, all_told};
+ghost use Rattle.lwkt_text.specs.Outcome.{out_of_memory};
 
 use crate::claims::Expectation;
 use crate::looks::wrong_at;
@@ -47,6 +48,8 @@ fn threads_on(cpu: u8, threads: &[ThreadSpec]) -> usize
 }
 
 impl Draft {
+    ghost use Rattle.lwkt_text.specs.Outcome.{out_of_memory};
+
     fn new(alloc: Global, faults: Many<Wrong>) -> Self
         ensures { result ≡ no_draft faults }
     {
@@ -66,7 +69,7 @@ impl Draft {
     // Word 0 tells something that there is no room for.
     fn crowd(&mut self, words: &[Word]) -> Result<(), Slip>
         ensures ok { OnOk result (self.new ≡ crowded words.now self.old) }
-        ensures only { OnErr result (result ≡ Err Slip.Memory) }
+        ensures only { OnErr result (result ≡ Err out_of_memory) }
     {
         self.faults.push(wrong_at(words, 0, What::Crowd))
     }
@@ -74,7 +77,7 @@ impl Draft {
     // Ends the thread whose steps were told, if there is one.
     fn close(&mut self, alloc: Global) -> Result<(), Slip>
         ensures ok { OnOk result (self.new ≡ closed self.old) }
-        ensures only { OnErr result (result ≡ Err Slip.Memory) }
+        ensures only { OnErr result (result ≡ Err out_of_memory) }
     {
         let Some(head) = self.head else {
             return Ok(());
@@ -90,7 +93,7 @@ impl Draft {
 
     fn open(&mut self, words: &[Word], head: Head) -> Result<(), Slip>
         ensures ok { OnOk result (self.new ≡ opened head words.now self.old) }
-        ensures only { OnErr result (result ≡ Err Slip.Memory) }
+        ensures only { OnErr result (result ≡ Err out_of_memory) }
     {
         if threads_on(head.cpu.0, self.threads.as_slice()) >= THREAD_LIMIT {
             return self.crowd(words);
@@ -101,7 +104,7 @@ impl Draft {
 
     fn step(&mut self, words: &[Word], ask: Ask) -> Result<(), Slip>
         ensures ok { OnOk result (self.new ≡ stepped ask words.now self.old) }
-        ensures only { OnErr result (result ≡ Err Slip.Memory) }
+        ensures only { OnErr result (result ≡ Err out_of_memory) }
     {
         if self.head.is_some() {
             if self.steps.len() >= STEP_LIMIT {
@@ -117,7 +120,7 @@ impl Draft {
 
     fn add_token(&mut self, words: &[Word], token: TokSpec) -> Result<(), Slip>
         ensures ok { OnOk result (self.new ≡ put words.now (Said.Token token) self.old) }
-        ensures only { OnErr result (result ≡ Err Slip.Memory) }
+        ensures only { OnErr result (result ≡ Err out_of_memory) }
     {
         if self.tokens.len() >= TOKEN_LIMIT {
             return self.crowd(words);
@@ -127,7 +130,7 @@ impl Draft {
 
     fn add_message(&mut self, words: &[Word], message: MsgSpec) -> Result<(), Slip>
         ensures ok { OnOk result (self.new ≡ put words.now (Said.Message message) self.old) }
-        ensures only { OnErr result (result ≡ Err Slip.Memory) }
+        ensures only { OnErr result (result ≡ Err out_of_memory) }
     {
         if self.messages.len() >= MESSAGE_LIMIT {
             return self.crowd(words);
@@ -138,7 +141,7 @@ impl Draft {
     // Puts what was told behind what was told before.
     fn put(&mut self, alloc: Global, words: &[Word], told: Said) -> Result<(), Slip>
         ensures ok { OnOk result (self.new ≡ put words.now told self.old) }
-        ensures only { OnErr result (result ≡ Err Slip.Memory) }
+        ensures only { OnErr result (result ≡ Err out_of_memory) }
     {
         match told {
             Said::Turns(turns) => self.turns = turns,
@@ -161,13 +164,13 @@ impl Draft {
     fn tell(&mut self, alloc: Global, names: &Names, words: &[Word]) -> Result<(), Slip>
         requires { 0 < names.now.cpus }
         ensures ok { OnOk result (self.new ≡ told names.now words.now self.old) }
-        ensures only { OnErr result (result ≡ Err Slip.Memory) }
+        ensures only { OnErr result (result ≡ Err out_of_memory) }
         ensures keeps { OnOk result (IsDraft names.now.cpus self.old → IsDraft names.now.cpus self.new) }
     {
         match told_by(alloc, names, words) {
             Ok(told) => self.put(alloc, words, told),
             Err(Slip::Wrong(wrong)) => self.faults.push(wrong),
-            Err(Slip::Memory) => Err(Slip::Memory),
+            Err(Slip::Memory(refused)) => Err(Slip::Memory(refused)),
         }
     }
 }
@@ -182,7 +185,7 @@ pub fn draft_of(
 ) -> Result<Draft, Slip>
     requires { 0 < names.now.cpus }
     ensures ok { IfOk result (λ draft. draft ≡ closed (all_told names.now sentences.now (no_draft faults))) }
-    ensures only { OnErr result (result ≡ Err Slip.Memory) }
+    ensures only { OnErr result (result ≡ Err out_of_memory) }
     ensures limits { IfOk result (IsDraft names.now.cpus) }
 {
     let mut draft = Draft::new(alloc, faults);

@@ -256,7 +256,7 @@ fn is_json_of(alloc: Global, text: &str, script: &Script) -> Result<bool, Unsaid
 {
     match read_script(alloc, text.as_bytes()) {
         Ok(read) => Ok(same_script(&read, script)),
-        Err(Fault::Memory) => Err(Unsaid::Memory),
+        Err(Fault::Memory(refused)) => Err(Unsaid::Memory(refused)),
         Err(_) => Ok(false),
     }
 }
@@ -271,8 +271,9 @@ pub fn json_of(alloc: Global, script: &Script) -> Result<String, Unsaid>
     // What is written keeps the limits of the format.
     ensures limits { OnOk result (IsWithinLimits script.now) }
 {
-    let Ok(text) = written(alloc, script) else {
-        return Err(Unsaid::Memory);
+    let text = match written(alloc, script) {
+        Ok(text) => text,
+        Err(refused) => return Err(Unsaid::Memory(refused)),
     };
     if is_json_of(alloc, text.as_str(), script)? {
         Ok(text)

@@ -2,6 +2,7 @@ ghost use Rattle.std.specs.Prelude.{◌≡◌, ◌≤◌, ◌<◌, OnOk, OnErr, 
 ghost use Rattle.lwkt_text.specs.Listing.{no_names, no_listing, fresh, names_read, noted, token_added, message_added, next_thread, thread_added, cpu_named, cpu_used, thread_used, HasCpus, token_listed, message_listed, thread_listed, cpus_listed, listed, all_listed, names_of};
 ghost use Rattle.lwkt_text.specs.Looking.{number_at};
 ghost use Rattle.lwkt_text.specs.Parting.{cells_in};
+ghost use Rattle.lwkt_text.specs.Outcome.{out_of_memory};
 
 use crate::looks::{demand, name_at, number_at, text_at};
 use crate::many::Many;
@@ -12,7 +13,7 @@ use crate::tables::{Names, position};
 use crate::words::{Sentence, Word};
 use crate::wrongs::{Slip, What, Wrong};
 use lwkt_base::{CpuId, ThreadId};
-use std::alloc::Global;
+use std::alloc::{AllocError, Global};
 
 /// The names of a text so far, and what is wrong with them.
 #[derive(Drop)]
@@ -35,11 +36,11 @@ fn fresh(names: &[Name], words: &[Word]) -> Result<(), Wrong>
 // The names of the cells of a token's sentence, none where they are wrong.
 fn names_read(alloc: Global, words: &[Word]) -> Result<Many<Name>, Slip>
     ensures ok { IfOk result (λ names. names ≡ names_read (cells_in words.now)) }
-    ensures only { OnErr result (result ≡ Err Slip.Memory) }
+    ensures only { OnErr result (result ≡ Err out_of_memory) }
 {
     match cells_in(alloc, words) {
         Ok(cells) => Ok(cells.names),
-        Err(Slip::Memory) => Err(Slip::Memory),
+        Err(Slip::Memory(refused)) => Err(Slip::Memory(refused)),
         Err(Slip::Wrong(_)) => Ok(Many::new(alloc)),
     }
 }
@@ -64,6 +65,8 @@ fn cpu_named(words: &[Word]) -> u8
 }
 
 impl Names {
+    ghost use Rattle.lwkt_text.specs.Outcome.{out_of_memory};
+
     fn new(alloc: Global) -> Self
         ensures { result ≡ no_names }
     {
@@ -79,7 +82,7 @@ impl Names {
 
     fn add_token(&mut self, alloc: Global, words: &[Word]) -> Result<(), Slip>
         ensures ok { OnOk result (self.new ≡ token_added words.now self.old) }
-        ensures only { OnErr result (result ≡ Err Slip.Memory) }
+        ensures only { OnErr result (result ≡ Err out_of_memory) }
     {
         let cells = names_read(alloc, words)?;
         self.tokens.push(Name::of(alloc, text_at(words, 1))?)?;
@@ -88,14 +91,14 @@ impl Names {
 
     fn add_message(&mut self, alloc: Global, words: &[Word]) -> Result<(), Slip>
         ensures ok { OnOk result (self.new ≡ message_added words.now self.old) }
-        ensures only { OnErr result (result ≡ Err Slip.Memory) }
+        ensures only { OnErr result (result ≡ Err out_of_memory) }
     {
         self.messages.push(Name::of(alloc, text_at(words, 1))?)
     }
 
     fn add_thread(&mut self, alloc: Global, words: &[Word], cpu: u8) -> Result<(), Slip>
         ensures ok { OnOk result (self.new ≡ thread_added words.now cpu self.old) }
-        ensures only { OnErr result (result ≡ Err Slip.Memory) }
+        ensures only { OnErr result (result ≡ Err out_of_memory) }
     {
         let thread = next_thread(cpu, self.ids.as_slice());
         self.threads.push(Name::of(alloc, text_at(words, 1))?)?;
@@ -107,6 +110,8 @@ impl Names {
 }
 
 impl Listing {
+    ghost use Rattle.lwkt_text.specs.Outcome.{out_of_memory};
+
     fn new(alloc: Global) -> Self
         ensures { result ≡ no_listing }
     {
@@ -119,7 +124,7 @@ impl Listing {
 
     fn list_token(&mut self, alloc: Global, words: &[Word]) -> Result<(), Slip>
         ensures ok { OnOk result (self.new ≡ token_listed (fresh self.old.names.tokens words.now) words.now self.old) }
-        ensures only { OnErr result (result ≡ Err Slip.Memory) }
+        ensures only { OnErr result (result ≡ Err out_of_memory) }
         ensures cpus { OnOk result (HasCpus self.old → HasCpus self.new) }
     {
         match fresh(self.names.tokens.as_slice(), words) {
@@ -130,7 +135,7 @@ impl Listing {
 
     fn list_message(&mut self, alloc: Global, words: &[Word]) -> Result<(), Slip>
         ensures ok { OnOk result (self.new ≡ message_listed (fresh self.old.names.messages words.now) words.now self.old) }
-        ensures only { OnErr result (result ≡ Err Slip.Memory) }
+        ensures only { OnErr result (result ≡ Err out_of_memory) }
         ensures cpus { OnOk result (HasCpus self.old → HasCpus self.new) }
     {
         match fresh(self.names.messages.as_slice(), words) {
@@ -154,7 +159,7 @@ impl Listing {
     fn use_thread(&mut self, alloc: Global, words: &[Word], cpu: u8) -> Result<(), Slip>
         requires { cpu ≤ 7 }
         ensures ok { OnOk result (self.new ≡ thread_used words.now cpu self.old) }
-        ensures only { OnErr result (result ≡ Err Slip.Memory) }
+        ensures only { OnErr result (result ≡ Err out_of_memory) }
         ensures cpus { OnOk result (HasCpus self.old → HasCpus self.new) }
     {
         self.names.add_thread(alloc, words, cpu)?;
@@ -164,7 +169,7 @@ impl Listing {
 
     fn list_thread(&mut self, alloc: Global, words: &[Word]) -> Result<(), Slip>
         ensures ok { OnOk result (self.new ≡ thread_listed (fresh self.old.names.threads words.now) words.now self.old) }
-        ensures only { OnErr result (result ≡ Err Slip.Memory) }
+        ensures only { OnErr result (result ≡ Err out_of_memory) }
         ensures cpus { OnOk result (HasCpus self.old → HasCpus self.new) }
     {
         match fresh(self.names.threads.as_slice(), words) {
@@ -187,7 +192,7 @@ impl Listing {
     #[tactic(auto, unfolding(crate::specs::Listing::listed))]
     fn list(&mut self, alloc: Global, words: &[Word]) -> Result<(), Slip>
         ensures ok { OnOk result (self.new ≡ listed words.now self.old) }
-        ensures only { OnErr result (result ≡ Err Slip.Memory) }
+        ensures only { OnErr result (result ≡ Err out_of_memory) }
         ensures cpus { OnOk result (HasCpus self.old → HasCpus self.new) }
     {
         match text_at(words, 0) {
@@ -206,7 +211,7 @@ impl Listing {
 /// The names that sentences give. Refused only with `Memory`.
 pub fn listing_of(alloc: Global, sentences: &[Sentence]) -> Result<Listing, Slip>
     ensures ok { IfOk result (λ listing. listing ≡ all_listed sentences.now no_listing) }
-    ensures only { OnErr result (result ≡ Err Slip.Memory) }
+    ensures only { OnErr result (result ≡ Err out_of_memory) }
     ensures cpus { IfOk result HasCpus }
 {
     let mut listing = Listing::new(alloc);
@@ -216,11 +221,18 @@ pub fn listing_of(alloc: Global, sentences: &[Sentence]) -> Result<Listing, Slip
     Ok(listing)
 }
 
-/// The names that a text gives, whatever else is wrong with it. Refused only with `Memory`.
-pub fn names_of(alloc: Global, bytes: &[u8]) -> Result<Names, Slip>
+/// The names that a text gives, whatever else is wrong with it.
+///
+/// Refused if memory is.
+pub fn names_of(alloc: Global, bytes: &[u8]) -> Result<Names, AllocError>
     ensures { IfOk result (λ names. names ≡ names_of bytes.now) }
 {
-    let sentences = sentences_of(alloc, bytes)?;
-    let listing = listing_of(alloc, sentences.as_slice())?;
-    Ok(listing.names)
+    let sentences = match sentences_of(alloc, bytes) {
+        Ok(sentences) => sentences,
+        Err(slip) => return Err(slip.refused()),
+    };
+    match listing_of(alloc, sentences.as_slice()) {
+        Ok(listing) => Ok(listing.names),
+        Err(slip) => Err(slip.refused()),
+    }
 }

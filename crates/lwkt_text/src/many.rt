@@ -18,6 +18,8 @@ impl<T> Model for Many<T> {
 }
 
 impl<T> Many<T> {
+    ghost use Rattle.lwkt_text.specs.Outcome.{out_of_memory};
+
     /// An empty list. Takes no memory.
     pub fn new(alloc: Global) -> Self
         ensures { result ≡ [] }
@@ -32,11 +34,11 @@ impl<T> Many<T> {
     where
         T: Drop,
         ensures ok { OnOk result (self.new ≡ self.old ++ item ∷ []) }
-        ensures only { OnErr result (result ≡ Err Slip.Memory) }
+        ensures only { OnErr result (result ≡ Err out_of_memory) }
     {
         match self.items.push(item) {
             Ok(()) => Ok(()),
-            Err(_) => Err(Slip::Memory),
+            Err(refused) => Err(Slip::Memory(refused.into())),
         }
     }
 

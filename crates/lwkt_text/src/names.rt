@@ -17,6 +17,8 @@ impl Model for Name {
 }
 
 impl Name {
+    ghost use Rattle.lwkt_text.specs.Outcome.{out_of_memory};
+
     /// No characters. Takes no memory.
     pub fn new(alloc: Global) -> Self
         ensures { result ≡ [] }
@@ -29,11 +31,11 @@ impl Name {
     /// The characters of a text.
     pub fn of(alloc: Global, text: &str) -> Result<Self, Slip>
         ensures ok { IfOk result (λ name. name ≡ text.now) }
-        ensures only { OnErr result (result ≡ Err Slip.Memory) }
+        ensures only { OnErr result (result ≡ Err out_of_memory) }
     {
         match String::from_str(alloc, text) {
             Ok(text) => Ok(Name { text }),
-            Err(_) => Err(Slip::Memory),
+            Err(refused) => Err(Slip::Memory(refused)),
         }
     }
 
@@ -41,11 +43,11 @@ impl Name {
     pub(crate) fn push(&mut self, byte: u8) -> Result<(), Slip>
         requires { byte < 128 }
         ensures ok { OnOk result (self.new ≡ self.old ++ byte ∷ []) }
-        ensures only { OnErr result (result ≡ Err Slip.Memory) }
+        ensures only { OnErr result (result ≡ Err out_of_memory) }
     {
         match self.text.push(byte as char) {
             Ok(()) => Ok(()),
-            Err(_) => Err(Slip::Memory),
+            Err(refused) => Err(Slip::Memory(refused)),
         }
     }
 

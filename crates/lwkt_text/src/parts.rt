@@ -42,6 +42,8 @@ const LAST_ROUND: u64 = 2_251_799_813_685_247;
 const MOST_REPEATS: u64 = 1_000_000;
 
 impl CellList {
+    ghost use Rattle.lwkt_text.specs.Outcome.{out_of_memory};
+
     fn new(alloc: Global) -> Self
         ensures { result ≡ no_cells }
     {
@@ -54,7 +56,7 @@ impl CellList {
 
     fn add(&mut self, alloc: Global, n: u64) -> Result<(), Slip>
         ensures ok { OnOk result (self.new ≡ cell_added n self.old) }
-        ensures only { OnErr result (result ≡ Err Slip.Memory) }
+        ensures only { OnErr result (result ≡ Err out_of_memory) }
     {
         let name = self.pending.take(alloc);
         self.names.push(name)?;

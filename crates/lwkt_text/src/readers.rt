@@ -12,7 +12,7 @@ use crate::scans::sentences_of;
 use crate::tables::Names;
 use crate::wrongs::Wrong;
 use lwkt_script::{Parts, Script};
-use std::alloc::Global;
+use std::alloc::{AllocError, Global};
 
 /// A text, read.
 #[derive(Drop)]
@@ -28,7 +28,7 @@ pub struct Reading {
 #[derive(Drop)]
 pub enum Refusal {
     /// Memory was refused.
-    Memory,
+    Memory(AllocError),
     /// All that is wrong with it: first with its names, then with its sentences, each in their order. There is some.
     Wrongs(Many<Wrong>),
 }
@@ -71,11 +71,13 @@ pub fn read_text(alloc: Global, bytes: &[u8]) -> Result<Reading, Refusal>
     // All that is wrong with them, and that is something.
     ensures err { IfErr result (λ refusal. Refuses refusal (reading_of bytes.now)) }
 {
-    let Ok(sentences) = sentences_of(alloc, bytes) else {
-        return Err(Refusal::Memory);
+    let sentences = match sentences_of(alloc, bytes) {
+        Ok(sentences) => sentences,
+        Err(slip) => return Err(Refusal::Memory(slip.refused())),
     };
-    let Ok(listing) = listing_of(alloc, sentences.as_slice()) else {
-        return Err(Refusal::Memory);
+    let listing = match listing_of(alloc, sentences.as_slice()) {
+        Ok(listing) => listing,
+        Err(slip) => return Err(Refusal::Memory(slip.refused())),
     };
     let Listing {
         names,
@@ -84,6 +86,6 @@ pub fn read_text(alloc: Global, bytes: &[u8]) -> Result<Reading, Refusal>
     } = listing;
     match draft_of(alloc, &names, sentences.as_slice(), faults) {
         Ok(draft) => sealed(names, draft),
-        Err(_) => Err(Refusal::Memory),
+        Err(slip) => Err(Refusal::Memory(slip.refused())),
     }
 }

@@ -1,5 +1,6 @@
 ghost use Rattle.std.specs.Prelude.{◌≡◌, ◌<◌, [], OnOk, OnErr, Err, IfOk};
 ghost use Rattle.lwkt_text.specs.Scanning.{kind_of, shown, joins, opening, word_ended, sentence_ended, put, fed, sentences_of, fed_all};
+ghost use Rattle.lwkt_text.specs.Outcome.{out_of_memory};
 
 use crate::many::Many;
 use crate::names::Name;
@@ -64,6 +65,8 @@ fn shown(byte: u8) -> u8
 }
 
 impl Scan {
+    ghost use Rattle.lwkt_text.specs.Outcome.{out_of_memory};
+
     fn new(alloc: Global) -> Self
         ensures { result ≡ opening }
     {
@@ -87,7 +90,7 @@ impl Scan {
     // Ends the word, if there is one, before this place.
     fn end_word(&mut self, alloc: Global, end: usize) -> Result<(), Slip>
         ensures ok { OnOk result (self.new ≡ word_ended end self.old) }
-        ensures only { OnErr result (result ≡ Err Slip.Memory) }
+        ensures only { OnErr result (result ≡ Err out_of_memory) }
     {
         self.kind = Kind::Blank;
         if self.text.as_str().is_empty() {
@@ -104,7 +107,7 @@ impl Scan {
     // Ends the sentence, if there is one, before this place.
     fn end_sentence(&mut self, alloc: Global, end: usize) -> Result<(), Slip>
         ensures ok { OnOk result (self.new ≡ sentence_ended end self.old) }
-        ensures only { OnErr result (result ≡ Err Slip.Memory) }
+        ensures only { OnErr result (result ≡ Err out_of_memory) }
     {
         self.end_word(alloc, end)?;
         if self.words.len() == 0 {
@@ -117,7 +120,7 @@ impl Scan {
     // Puts a byte into the word, or into a new one.
     fn put(&mut self, alloc: Global, at: usize, kind: Kind, byte: u8) -> Result<(), Slip>
         ensures ok { OnOk result (self.new ≡ put at kind byte self.old) }
-        ensures only { OnErr result (result ≡ Err Slip.Memory) }
+        ensures only { OnErr result (result ≡ Err out_of_memory) }
     {
         if !self.joins(kind) {
             self.end_word(alloc, at)?;
@@ -131,7 +134,7 @@ impl Scan {
     #[tactic(auto, unfolding(crate::specs::Scanning::fed))]
     fn feed(&mut self, alloc: Global, at: usize, byte: u8) -> Result<(), Slip>
         ensures ok { OnOk result (self.new ≡ fed at byte self.old) }
-        ensures only { OnErr result (result ≡ Err Slip.Memory) }
+        ensures only { OnErr result (result ≡ Err out_of_memory) }
     {
         if self.remark {
             self.remark = byte != b'\n';
@@ -153,7 +156,7 @@ impl Scan {
 // All bytes, read.
 fn scanned(alloc: Global, bytes: &[u8]) -> Result<Scan, Slip>
     ensures ok { IfOk result (λ scan. scan ≡ fed_all 0 bytes.now opening) }
-    ensures only { OnErr result (result ≡ Err Slip.Memory) }
+    ensures only { OnErr result (result ≡ Err out_of_memory) }
 {
     let mut scan = Scan::new(alloc);
     for (at, byte) in bytes.iter().enumerate() {
@@ -166,7 +169,7 @@ fn scanned(alloc: Global, bytes: &[u8]) -> Result<Scan, Slip>
 #[tactic(auto, unfolding(crate::specs::Scanning::sentences_of))]
 pub fn sentences_of(alloc: Global, bytes: &[u8]) -> Result<Many<Sentence>, Slip>
     ensures ok { IfOk result (λ sentences. sentences ≡ sentences_of bytes.now) }
-    ensures only { OnErr result (result ≡ Err Slip.Memory) }
+    ensures only { OnErr result (result ≡ Err out_of_memory) }
 {
     let mut scan = scanned(alloc, bytes)?;
     scan.end_sentence(alloc, bytes.len())?;

@@ -241,7 +241,7 @@ fn is_text_of(alloc: Global, text: &str, script: &Script) -> Result<bool, Unsaid
 {
     match read_text(alloc, text.as_bytes()) {
         Ok(reading) => Ok(same_script(&reading.script, script)),
-        Err(Refusal::Memory) => Err(Unsaid::Memory),
+        Err(Refusal::Memory(refused)) => Err(Unsaid::Memory(refused)),
         Err(Refusal::Wrongs(_)) => Ok(false),
     }
 }
@@ -253,8 +253,9 @@ fn is_text_of(alloc: Global, text: &str, script: &Script) -> Result<bool, Unsaid
 pub fn text_of(alloc: Global, script: &Script) -> Result<String, Unsaid>
     ensures { IfOk result (λ text. IsTextOf script.now (string_bytes text)) }
 {
-    let Ok(text) = written(alloc, script) else {
-        return Err(Unsaid::Memory);
+    let text = match written(alloc, script) {
+        Ok(text) => text,
+        Err(refused) => return Err(Unsaid::Memory(refused)),
     };
     if is_text_of(alloc, text.as_str(), script)? {
         Ok(text)

@@ -1,3 +1,5 @@
+use std::alloc::AllocError;
+
 /// What is wrong with a part of a text.
 #[derive(Clone, Copy, PartialEq, Eq)]
 pub enum What {
@@ -70,7 +72,22 @@ pub struct Wrong {
 #[derive(Clone, Copy, PartialEq, Eq)]
 pub enum Slip {
     /// Memory was refused.
-    Memory,
+    Memory(AllocError),
     /// The part is wrong.
     Wrong(Wrong),
+}
+
+impl Slip {
+    ghost use Rattle.std.specs.Prelude.{◌≡◌};
+    ghost use Rattle.lwkt_text.specs.Outcome.{out_of_memory};
+
+    /// What the allocator said, where that is why. That it is, is the caller's condition.
+    pub fn refused(self) -> AllocError
+        requires { self ≡ out_of_memory }
+    {
+        match self {
+            Slip::Memory(refused) => refused,
+            Slip::Wrong(_) => unreachable!(),
+        }
+    }
 }

@@ -73,7 +73,7 @@ fn outcome_of(alloc: Global, bytes: &[u8]) -> Found {
                 Found::Other
             }
         }
-        Err(Refusal::Memory) => Found::Other,
+        Err(Refusal::Memory(_)) => Found::Other,
         Err(Refusal::Wrongs(wrongs)) => {
             let are_inside = wrongs
                 .as_slice()

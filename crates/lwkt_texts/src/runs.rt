@@ -65,7 +65,7 @@ pub fn run_said<K: Sink, E: Sink>(
             sink,
             errors,
         ),
-        Err(Fault::Memory) => Status::Memory,
+        Err(Fault::Memory(_)) => Status::Memory,
         Err(fault) => say_opening(alloc, file, fault, errors),
     }
 }

@@ -54,7 +54,7 @@ fn read_json<E: Sink>(alloc: Global, bytes: &[u8], errors: &mut E) -> Result<Rea
             script,
             expectations: Many::new(alloc),
         }),
-        Err(Fault::Memory) => Err(Status::Memory),
+        Err(Fault::Memory(_)) => Err(Status::Memory),
         Err(fault) => Err(refused(errors, refusal(alloc, Document::Script, bytes, fault))),
     }
 }
@@ -92,7 +92,7 @@ pub fn read_file<E: Sink>(alloc: Global, file: File<'_>, errors: &mut E) -> Resu
                 expectations,
             })
         }
-        Err(Refusal::Memory) => Err(Status::Memory),
+        Err(Refusal::Memory(_)) => Err(Status::Memory),
         Err(Refusal::Wrongs(wrongs)) => Err(say_wrongs(alloc, file, wrongs, errors)),
     }
 }
@@ -105,7 +105,7 @@ pub fn form_said<K: Sink, E: Sink>(
 ) -> Status {
     match form {
         Ok(text) => written(sink, text.as_str(), Status::Done),
-        Err(Unsaid::Memory) => Status::Memory,
+        Err(Unsaid::Memory(_)) => Status::Memory,
         Err(Unsaid::Limits) => {
             say_line(errors, "the script doesn't keep the limits of the format");
             Status::Refused

@@ -1,5 +1,5 @@
 -- The machine of a script, driven on threads (own).
-use Rattle.std.specs.Prelude.{◌≡◌, ◌≢◌, ℕ, Bool, List, [], length, Vec, Some, slice_get}
+use Rattle.std.specs.Prelude.{◌≡◌, ℕ, Bool, List, [], length, Vec, Some, slice_get}
 use Rattle.std.specs.declared.alloc.Global.{Global}
 use Rattle.lwkt_base.specs.declared.names.CpuId.{CpuId}
 use Rattle.lwkt_core.specs.declared.events.Event.{Event}
@@ -25,7 +25,9 @@ AreNumbered cpus = (k : ℕ) (p : Processor Scripted) → slice_get cpus k ≡ S
 
 -- an end that isn't for want of memory, its own or another processor's
 abbrev pub IsAmple : Ending → Type 0
-IsAmple ending = (ending ≢ NoMemory) × (ending ≢ CalledOff)
+IsAmple (NoMemory refused) = ⊥
+IsAmple (CalledOff refused) = ⊥
+IsAmple _ = Unit {0}
 
 -- a processor was driven from its first turn on, with this trace, and not ended for want of memory
 pub record WasDriven (answers : CpuId → ℕ → Bool → Type 0) (limits : Limits) (bank : BankId) (p q : Processor Scripted) (trace : Vec Event Global) : Type 0 where

@@ -1,9 +1,10 @@
 //! A machine whose processors are driven on threads.
-ghost use Rattle.std.specs.Prelude.{◌≡◌, ◌≤◌, ◌↔◌, false, length, All, IfOk, OnErr, Err, map};
+ghost use Rattle.std.specs.Prelude.{◌≡◌, ◌≤◌, ◌↔◌, None, length, All, IfOk, OnErr, Err, map};
 ghost use Rattle.std.specs.List.{AllZip};
 ghost use Rattle.lwkt_bank.specs.Seats.{id_of};
 ghost use Rattle.lwkt_machine.specs.Machines.{IsOf};
 ghost use Rattle.lwkt_threads.specs.Driven.{IsFresh, AreNumbered, IsAmple, AreDriven, IsDrivenMachine};
+ghost use Rattle.lwkt_base.specs.Fault.{no_memory};
 
 use lwkt_bank::Bank;
 use lwkt_base::{CpuId, Fault};
@@ -12,7 +13,7 @@ use lwkt_cpu::Cpu;
 use lwkt_drive::{Driven, Ending, Gate, Limits, drive_on_threads};
 use lwkt_machine::{Machine, ScriptBody};
 use lwkt_msg::MsgBook;
-use std::alloc::Global;
+use std::alloc::{AllocError, Global};
 use std::thread::Threads;
 
 /// A machine whose processors were driven, with the events of each.
@@ -27,13 +28,14 @@ fn undriven(alloc: Global, cpus: Vec<Cpu<ScriptBody>>) -> Result<Vec<Driven<Scri
     requires few { length cpus.items ≤ 8 }
     requires numbered { AreNumbered cpus.items }
     ensures ok { IfOk result (λ all. AllZip IsFresh cpus.items all.items) }
-    ensures only { OnErr result (result ≡ Err Fault.Memory) }
+    ensures only { OnErr result (result ≡ Err no_memory) }
 {
     let mut all = Vec::new(alloc);
     let mut number = 0u8;
     for cpu in cpus {
         let driven = Driven::new(alloc, CpuId(number), cpu);
-        all.push(driven).map_err(|_| Fault::Memory)?;
+        all.push(driven)
+            .map_err(|refused| Fault::Memory(refused.into()))?;
         number = number.saturating_add(1);
     }
     Ok(all)
@@ -49,30 +51,39 @@ struct Apart {
 fn take_apart(alloc: Global, all: Vec<Driven<ScriptBody>>) -> Result<Apart, Fault>
     ensures cpus { IfOk result (λ parts. parts.cpus.items ≡ map (λ d. d.cpu) all.items) }
     ensures traces { IfOk result (λ parts. parts.traces.items ≡ map (λ d. d.trace) all.items) }
-    ensures only { OnErr result (result ≡ Err Fault.Memory) }
+    ensures only { OnErr result (result ≡ Err no_memory) }
 {
     let mut cpus = Vec::new(alloc);
     let mut traces = Vec::new(alloc);
     for driven in all {
         let Driven { cpu, trace, .. } = driven;
-        cpus.push(cpu).map_err(|_| Fault::Memory)?;
-        traces.push(trace).map_err(|_| Fault::Memory)?;
+        cpus.push(cpu)
+            .map_err(|refused| Fault::Memory(refused.into()))?;
+        traces
+            .push(trace)
+            .map_err(|refused| Fault::Memory(refused.into()))?;
     }
     Ok(Apart { cpus, traces })
 }
 
-// Whether this is an end for want of memory.
-fn is_short(ending: Ending) -> bool
-    ensures { (result ≡ false) ↔ IsAmple ending }
+// What the allocator said, where this is an end for want of memory.
+fn refusal_of(ending: Ending) -> Option<AllocError>
+    ensures { (result ≡ None) ↔ IsAmple ending }
 {
-    matches!(ending, Ending::NoMemory | Ending::CalledOff)
+    match ending {
+        Ending::NoMemory(refused) | Ending::CalledOff(refused) => Some(refused),
+        _ => None,
+    }
 }
 
-// Whether a processor's driving ended for want of memory, its own or another's.
-fn was_short(all: &[Driven<ScriptBody>]) -> bool
-    ensures { (result ≡ false) ↔ All (λ d. IsAmple d.ending) all.now }
+// What the allocator said of the first processor whose driving ended for want of memory, its own or another's.
+fn refusal_among(all: &[Driven<ScriptBody>]) -> Option<AllocError>
+    ensures { (result ≡ None) ↔ All (λ d. IsAmple d.ending) all.now }
 {
-    all.iter().any(|driven| is_short(driven.ending))
+    let driven = all
+        .iter()
+        .find(|driven| refusal_of(driven.ending).is_some())?;
+    refusal_of(driven.ending)
 }
 
 // Drives these processors on at most so many threads, and gives them back with the events of each.
@@ -91,12 +102,12 @@ fn drive_parts<R: Threads + Sync, G: Gate + Sync>(
     requires numbered { AreNumbered cpus.items }
     ensures ok { IfOk result (λ parts. AreDriven (G.answers gate.now) limits.now (id_of bank.now) cpus.items parts.cpus.items parts.traces.items) }
     ensures at { IfOk result (λ parts. All (IsOf (id_of bank.now) book.now) parts.cpus.items) }
-    ensures only { OnErr result (result ≡ Err Fault.Memory) }
+    ensures only { OnErr result (result ≡ Err no_memory) }
 {
     let mut all = undriven(alloc, cpus)?;
     drive_on_threads(rt, threads, gate, limits, bank, book, &mut all);
-    if was_short(&all) {
-        return Err(Fault::Memory);
+    if let Some(refused) = refusal_among(&all) {
+        return Err(Fault::Memory(refused));
     }
     take_apart(alloc, all)
 }
@@ -113,7 +124,7 @@ pub fn drive_machine<R: Threads + Sync, G: Gate + Sync>(
     machine: Machine,
 ) -> Result<Outcome, Fault>
     ensures ok { IfOk result (λ outcome. IsDrivenMachine (G.answers gate.now) limits.now machine outcome.machine outcome.traces.items) }
-    ensures only { OnErr result (result ≡ Err Fault.Memory) }
+    ensures only { OnErr result (result ≡ Err no_memory) }
 {
     let threads = machine.cpus();
     drive_machine_on_threads(rt, threads, alloc, gate, limits, machine)
@@ -131,7 +142,7 @@ pub fn drive_machine_on_threads<R: Threads + Sync, G: Gate + Sync>(
     machine: Machine,
 ) -> Result<Outcome, Fault>
     ensures ok { IfOk result (λ outcome. IsDrivenMachine (G.answers gate.now) limits.now machine outcome.machine outcome.traces.items) }
-    ensures only { OnErr result (result ≡ Err Fault.Memory) }
+    ensures only { OnErr result (result ≡ Err no_memory) }
 {
     let (bank, book, cpus) = machine.take_apart();
     let Apart { cpus, traces } = drive_parts(rt, threads, alloc, gate, limits, &bank, &book, cpus)?;

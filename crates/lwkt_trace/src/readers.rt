@@ -2,6 +2,7 @@ ghost use Rattle.std.specs.Prelude.{◌≡◌, ◌<◌, ◌≤◌, length, Err};
 ghost use Rattle.serde_json.specs.View.{view};
 ghost use Rattle.lwkt_script.specs.Outcome.{Gives};
 ghost use Rattle.lwkt_trace.specs.Format.{is_whole, trace, trace_of};
+ghost use Rattle.lwkt_base.specs.Fault.{no_memory};
 
 use crate::closings::closing;
 use crate::events::events_of;
@@ -9,8 +10,8 @@ use crate::guards::guarded_of;
 use crate::openings::messages_of;
 use crate::traces::Trace;
 use lwkt_base::Fault;
-use lwkt_script::Parts;
 use lwkt_script::fields::{has, has_members, list_at, number_at};
+use lwkt_script::{Parts, refusal_of};
 use serde_json::Value;
 use std::alloc::Global;
 
@@ -80,19 +81,16 @@ pub fn read_trace(alloc: Global, bytes: &[u8]) -> Result<Trace, Fault>
     ensures exact { Gives (λ t. t) result (trace_of bytes.now) }
 
     // No memory is taken for no bytes or for too many.
-    ensures memory { result ≡ Err Fault.Memory → (0 < length bytes.now) × (length bytes.now ≤ 268435456) }
+    ensures memory { result ≡ Err no_memory → (0 < length bytes.now) × (length bytes.now ≤ 268435456) }
 {
     if bytes.len() > LENGTH_LIMIT {
         return Err(Fault::Script { place: 0 });
     }
     match Value::from_slice(alloc, bytes) {
         Ok(value) => trace(alloc, &value),
-        Err(e) => {
-            if e.is_memory() {
-                Err(Fault::Memory)
-            } else {
-                Err(Fault::Script { place: 0 })
-            }
-        }
+        Err(error) => match refusal_of(&error) {
+            Some(refused) => Err(Fault::Memory(refused)),
+            None => Err(Fault::Script { place: 0 }),
+        },
     }
 }

@@ -3,7 +3,8 @@ use Rattle.std.proofs.lemmas.Bool.{false≢true}
 use Rattle.std.proofs.lemmas.List.{take_all}
 use Rattle.std.specs.Prelude.{Bool, true, false, Option, None, Some, Result, Err, Ok, IsTrue, nat_le, ◌&&◌}
 use Rattle.std.specs.Io.KnownBytes.{Keeps}
-use Rattle.lwkt_base.specs.declared.faults.Fault.TheVariants.{Memory, Script as ScriptFault}
+use Rattle.lwkt_base.specs.declared.faults.Fault.TheVariants.{Script as ScriptFault}
+use Rattle.lwkt_base.specs.Fault.{no_memory}
 use Rattle.lwkt_report.specs.declared.sources.TheConstants.{READ_LIMIT}
 use Rattle.lwkt_report.specs.declared.streams.RunFault.{RunFault}
 use Rattle.lwkt_report.specs.declared.streams.RunFault.TheVariants.{Fault, Stream}
@@ -61,13 +62,13 @@ blames_as : {A : Type 0} (source sink : Bool) (fault : RunFault) → (fault ≡ 
 blames_as source sink fault blames = λ is. blames (ap fault_of is)
 
 -- where reading failed, or memory was refused
-status_unread : (fault : RunFault) → (fault ≡ Stream) ⊎ (fault ≡ Fault Memory) → 3 ≡ status_shown (Err fault)
+status_unread : (fault : RunFault) → (fault ≡ Stream) ⊎ (fault ≡ Fault no_memory) → 3 ≡ status_shown (Err fault)
 status_unread fault why = elim why [ inl is ↦ subst (λ f. 3 ≡ status_shown (Err f)) (sym is) refl | inr is ↦ subst (λ f. 3 ≡ status_shown (Err f)) (sym is) refl ]
 
-pub shows_unread : (options : Options) (bytes : List ℕ) (source sink : Bool) (old : Option (List ℕ)) (fault : RunFault) → (fault ≡ Stream) ⊎ (fault ≡ Fault Memory) → (fault ≡ Stream → IsTrue source ⊎ IsTrue sink) → IsShowing options source sink (Some bytes) old old 3
+pub shows_unread : (options : Options) (bytes : List ℕ) (source sink : Bool) (old : Option (List ℕ)) (fault : RunFault) → (fault ≡ Stream) ⊎ (fault ≡ Fault no_memory) → (fault ≡ Stream → IsTrue source ⊎ IsTrue sink) → IsShowing options source sink (Some bytes) old old 3
 shows_unread options bytes source sink old fault why blames = (Err fault, (tells_unread (IsShown options) (Some bytes) old fault why, (blames_as source sink fault blames, status_unread fault why)))
 
-pub threads_unread : (bytes : List ℕ) (source sink : Bool) (old : Option (List ℕ)) (fault : RunFault) → (fault ≡ Stream) ⊎ (fault ≡ Fault Memory) → (fault ≡ Stream → IsTrue source ⊎ IsTrue sink) → IsShowingThreads source sink (Some bytes) old old 3
+pub threads_unread : (bytes : List ℕ) (source sink : Bool) (old : Option (List ℕ)) (fault : RunFault) → (fault ≡ Stream) ⊎ (fault ≡ Fault no_memory) → (fault ≡ Stream → IsTrue source ⊎ IsTrue sink) → IsShowingThreads source sink (Some bytes) old old 3
 threads_unread bytes source sink old fault why blames = (Err fault, (tells_unread IsShownOnThreads (Some bytes) old fault why, (blames_as source sink fault blames, status_unread fault why)))
 
 -- nothing is written
@@ -116,14 +117,14 @@ some_read None = ([], tt)
 some_read (Some all) = (take READ_LIMIT all, refl)
 
 -- a lack of memory is no failed stream
-pub no_lack : Fault Memory ≡ Stream → ⊥
+pub no_lack : Fault no_memory ≡ Stream → ⊥
 no_lack is = search rules
 
 -- the same along an order
 pub along_more : (order : List ℕ) (options : Options) (source sink : Bool) (left old new : Option (List ℕ)) (status : ℕ) → IsShowingAlong order options false sink left old new status → IsShowingAlong order options source sink left old new status
 along_more order options source sink left old new status r = (r.0, (r.1.0, (blames_more source sink r.0 r.1.1.0, r.1.1.1)))
 
-pub along_unread : (order : List ℕ) (options : Options) (bytes : List ℕ) (source sink : Bool) (old : Option (List ℕ)) (fault : RunFault) → (fault ≡ Stream) ⊎ (fault ≡ Fault Memory) → (fault ≡ Stream → IsTrue source ⊎ IsTrue sink) → IsShowingAlong order options source sink (Some bytes) old old 3
+pub along_unread : (order : List ℕ) (options : Options) (bytes : List ℕ) (source sink : Bool) (old : Option (List ℕ)) (fault : RunFault) → (fault ≡ Stream) ⊎ (fault ≡ Fault no_memory) → (fault ≡ Stream → IsTrue source ⊎ IsTrue sink) → IsShowingAlong order options source sink (Some bytes) old old 3
 along_unread order options bytes source sink old fault why blames = (Err fault, (tells_along_unread order options (Some bytes) old fault why, (blames_as source sink fault blames, status_unread fault why)))
 
 pub along_wrong : (order : List ℕ) (options : Options) (bytes : List ℕ) (source sink : Bool) (old : Option (List ℕ)) → is_text bytes ≡ true → length bytes ≤ READ_LIMIT → IsShowingAlong order options source sink (Some bytes) old old 1

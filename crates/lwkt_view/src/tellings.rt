@@ -92,7 +92,7 @@ fn show_bytes<R: Threads + Sync, K: Sink, E: Sink>(
 
 // Says that there was no memory to read; of a stream that failed it is said elsewhere.
 fn say_unread<E: Sink>(errors: &mut E, fault: RunFault) {
-    if fault == RunFault::Fault(Fault::Memory) {
+    if let RunFault::Fault(Fault::Memory(_)) = fault {
         Speaker::Show.say_memory(errors);
     }
 }

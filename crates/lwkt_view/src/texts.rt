@@ -30,7 +30,7 @@ fn say_wrongs<E: Sink>(alloc: Global, bytes: &[u8], wrongs: Many<Wrong>, errors:
         Ok(page) => {
             let _ = write_whole(errors, page.as_bytes());
         }
-        Err(_) => Speaker::Show.say_refusal(alloc, errors, None, Fault::Memory),
+        Err(_) => Speaker::Show.say_no_words(errors),
     }
 }
 
@@ -44,7 +44,7 @@ pub fn json_told<E: Sink>(alloc: Global, bytes: &[u8], errors: &mut E) -> Result
 {
     let reading = match read_text(alloc, bytes) {
         Ok(reading) => reading,
-        Err(Refusal::Memory) => {
+        Err(Refusal::Memory(_)) => {
             Speaker::Show.say_memory(errors);
             return Err(Unshown::Memory);
         }
@@ -55,7 +55,7 @@ pub fn json_told<E: Sink>(alloc: Global, bytes: &[u8], errors: &mut E) -> Result
     };
     match json_of(alloc, &reading.script) {
         Ok(json) => Ok(json),
-        Err(Unsaid::Memory) => {
+        Err(Unsaid::Memory(_)) => {
             Speaker::Show.say_memory(errors);
             Err(Unshown::Memory)
         }

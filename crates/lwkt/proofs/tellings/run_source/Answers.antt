@@ -1,6 +1,6 @@
 use Rattle.std.proofs.Common.{inl, inr, ◌≡◌, ◌⊎◌, subst, ap, Err}
 use Rattle.std.specs.Prelude.{false}
-use Rattle.lwkt_base.specs.declared.faults.Fault.TheVariants.{Memory}
+use Rattle.lwkt_base.specs.Fault.{no_memory}
 use Rattle.lwkt_report.specs.declared.streams.RunFault.TheVariants.{Fault, Stream}
 use Rattle.lwkt.specs.Text.{RunsBytesAs}
 use Rattle.lwkt.proofs.Telling.{runs_more, runs_unread, some_read}
@@ -18,7 +18,7 @@ returns-in-Ok g c = (
 
 pub returns-in-Err : goal.returns-in-Err
 returns-in-Err g c =
-    let why : (c.in-Err.fault ≡ Stream) ⊎ (c.in-Err.fault ≡ Fault Memory) =
+    let why : (c.in-Err.fault ≡ Stream) ⊎ (c.in-Err.fault ≡ Fault no_memory) =
     elim c.in-Err.ensures.only [ inl is ↦ inl cc | inr is ↦ inr cc ] in
     let read = some_read (g.S.Source.left c.args.source.now) in (
       read.0,

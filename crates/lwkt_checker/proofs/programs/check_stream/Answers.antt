@@ -1,12 +1,12 @@
 use Rattle.std.proofs.Common.{inl, inr, ◌≡◌, ◌⊎◌}
-use Rattle.lwkt_base.specs.declared.faults.Fault.TheVariants.{Memory}
+use Rattle.lwkt_base.specs.Fault.{no_memory}
 use Rattle.lwkt_report.specs.declared.streams.RunFault.TheVariants.{Fault, Stream}
 use Rattle.lwkt_checker.proofs.Tellings.{tells_unread, tells_refused, tells_done, tells_front}
 use Rattle.lwkt_checker.proofs.programs.check_stream.Goals as goal
 
 pub returns-in-Err-clause-tells : goal.returns-in-Err-clause-tells
 returns-in-Err-clause-tells g c =
-    let why : (c.in-Err.fault ≡ Stream) ⊎ (c.in-Err.fault ≡ Fault Memory) =
+    let why : (c.in-Err.fault ≡ Stream) ⊎ (c.in-Err.fault ≡ Fault no_memory) =
     elim c.in-Err.ensures.only [ inl is ↦ inl cc | inr is ↦ inr cc ] in
     tells_unread (g.S.Source.left c.args.source.now) (g.K.Sink.contents c.args.sink.now) c.in-Err.fault why
 

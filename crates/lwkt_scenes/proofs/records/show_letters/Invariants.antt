@@ -1,4 +1,4 @@
-use Rattle.std.proofs.Common.{◌≡◌, ◌++◌, true, false, string_bytes, drop}
+use Rattle.std.proofs.Common.{◌≡◌, ◌++◌, true, None, string_bytes, drop}
 use Rattle.std.specs.List.{list_all}
 use Rattle.lwkt_scenes.specs.Words.{is_shown}
 use Rattle.lwkt_scenes.proofs.records.show_letters.Given as goal
@@ -6,4 +6,4 @@ use Rattle.lwkt_scenes.proofs.records.show_letters.Given as goal
 -- what is written, with the letters to come, is the whole text; all of these are shown as they are
 abbrev pub invariant-loop-byte : goal.invariant-loop-byte
 invariant-loop-byte l =
-    (list_all is_shown (drop l.byte-index l.bytes) ≡ true) × (l.out.is_lost ≡ false → l.initial.out.is_lost ≡ false) × (l.out.is_lost ≡ false → string_bytes l.out.text ++ drop l.byte-index l.bytes ≡ string_bytes l.initial.out.text ++ l.bytes)
+    (list_all is_shown (drop l.byte-index l.bytes) ≡ true) × (l.out.lost ≡ None → l.initial.out.lost ≡ None) × (l.out.lost ≡ None → string_bytes l.out.text ++ drop l.byte-index l.bytes ≡ string_bytes l.initial.out.text ++ l.bytes)

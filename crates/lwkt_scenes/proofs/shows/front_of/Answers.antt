@@ -11,5 +11,8 @@ returns-in-Ok c =
     let told : Adds (AreShown c.args.chosen (option_copied run.order) run.script.now.cpus run.polls.now run.turns.now) c.new-out.result c.show_choice.new.out =
     shown_with c.args.chosen (option_copied run.order) run.script.now.cpus run.polls.now run.turns.now turns.first turns.last c.new-out.result c.show_turns-from.new.out c.show_choice.new.out
     c.in_turns-turns.ensures.first c.in_turns-turns.ensures.last c.show_turns-from.ensures c.show_choice.ensures in
-    begins (AreShown c.args.chosen (option_copied run.order) run.script.now.cpus run.polls.now run.turns.now) c.new-out.result c.show_choice.new.out c.add_page.new.self (string_bytes c.show_behind.new.out.text) (string_bytes c.in-Ok.text)
-    c.new-out.ensures told c.add_page.ensures.text c.in-Ok.ensures.0 c.in-Ok.ensures.1
+    record {
+      begins = begins (AreShown c.args.chosen (option_copied run.order) run.script.now.cpus run.polls.now run.turns.now) c.new-out.result c.show_choice.new.out c.add_page.new.self (string_bytes c.show_behind.new.out.text) (string_bytes c.in-Ok.text)
+          c.new-out.ensures told c.add_page.ensures.text c.in-Ok.ensures.0 c.in-Ok.ensures.1;
+      refused = tt;
+    }

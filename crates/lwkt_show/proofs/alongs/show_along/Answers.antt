@@ -1,5 +1,5 @@
 use Rattle.std.proofs.Common.{inl, inr, subst, IfSome, string_bytes, ◌≡◌, ◌⊎◌}
-use Rattle.lwkt_base.specs.declared.faults.Fault.TheVariants.{Memory}
+use Rattle.lwkt_base.specs.Fault.{no_memory}
 use Rattle.lwkt_report.specs.declared.streams.RunFault.TheVariants.{Fault, Stream}
 use Rattle.lwkt_show.specs.Showing.{IsShownAlong}
 use Rattle.lwkt_show.proofs.Telling.{along_unread, along_refused, along_past, tells_done, tells_front, is_none_of}
@@ -7,7 +7,7 @@ use Rattle.lwkt_show.proofs.alongs.show_along.Goals as goal
 
 pub returns-in-Err-clause-tells : goal.returns-in-Err-clause-tells
 returns-in-Err-clause-tells g c =
-    let why : (c.in-Err.fault ≡ Stream) ⊎ (c.in-Err.fault ≡ Fault Memory) =
+    let why : (c.in-Err.fault ≡ Stream) ⊎ (c.in-Err.fault ≡ Fault no_memory) =
     elim c.in-Err.ensures.only [ inl is ↦ inl cc | inr is ↦ inr cc ] in
     along_unread c.args.along.order.items c.args.along.options (g.S.Source.left c.args.source.now) (g.K.Sink.contents c.args.sink.now) c.in-Err.fault why
 

@@ -1,5 +1,5 @@
 use Rattle.std.proofs.Common.{rules, inr, refl, ap, ◌∙◌, ◌≡◌, IsSomeAnd, Err, sym, subst}
-use Rattle.lwkt_base.specs.declared.faults.Fault.TheVariants.{Memory}
+use Rattle.lwkt_base.specs.Fault.{no_memory}
 use Rattle.lwkt_report.specs.declared.streams.RunFault.TheVariants.{Fault}
 use Rattle.std.proofs.lemmas.Option.{same_Some}
 use Rattle.lwkt_show.specs.Showing.{IsShowing, IsShowingAlong}
@@ -40,9 +40,9 @@ returns-in-Ok-None-clause-along g c = λ options order are.
 
 pub returns-in-Err-clause-along : goal.returns-in-Err-clause-along
 returns-in-Err-clause-along g c = λ options order are. (
-  Err (Fault Memory),
+  Err (Fault no_memory),
   (
-    along_unread order options (g.S.Source.left c.args.source.now) (g.K.Sink.contents c.args.sink.now) (Fault Memory) (inr refl),
+    along_unread order options (g.S.Source.left c.args.source.now) (g.K.Sink.contents c.args.sink.now) (Fault no_memory) (inr refl),
     ((λ is. absurd (no_lack (ap fault_of is))), c.refuse_arguments-in-Err.ensures.status),
   ),
 )

@@ -1,5 +1,5 @@
 use Rattle.std.proofs.Common.{inl, inr, subst, IfSome, string_bytes, ◌≡◌, ◌⊎◌}
-use Rattle.lwkt_base.specs.declared.faults.Fault.TheVariants.{Memory}
+use Rattle.lwkt_base.specs.Fault.{no_memory}
 use Rattle.lwkt_report.specs.declared.streams.RunFault.TheVariants.{Fault, Stream}
 use Rattle.lwkt_run.proofs.RunLemmas.{tells_unread}
 use Rattle.lwkt_show.specs.Showing.{IsShown}
@@ -8,7 +8,7 @@ use Rattle.lwkt_show.proofs.programs.show_stream.Goals as goal
 
 pub returns-in-Err-clause-tells : goal.returns-in-Err-clause-tells
 returns-in-Err-clause-tells g c =
-    let why : (c.in-Err.fault ≡ Stream) ⊎ (c.in-Err.fault ≡ Fault Memory) =
+    let why : (c.in-Err.fault ≡ Stream) ⊎ (c.in-Err.fault ≡ Fault no_memory) =
     elim c.in-Err.ensures.only [ inl is ↦ inl cc | inr is ↦ inr cc ] in
     tells_unread (IsShown c.args.options.now) (g.S.Source.left c.args.source.now) (g.K.Sink.contents c.args.sink.now) c.in-Err.fault why
 

@@ -10,4 +10,4 @@ returns-in-Lines c =
     let answer = c.lines_of.result in
     let chose = subst (λ ch. IfOk answer (λ text. IsTold ch order run.script.cpus run.polls c.deref-2.result.now run.closing (string_bytes text))) c.chosen_of-chosen.ensures c.lines_of.ensures.lines in
     let turned = subst (λ ts. IfOk answer (λ text. IsTold (chosen_by c.args.options.now) order run.script.cpus run.polls ts run.closing (string_bytes text))) c.deref-2.ensures.value chose in
-    record { shows = subst (λ view. IfOk answer (λ text. ShowsBy view c.args.options.now order run (string_bytes text))) (sym c.in-Lines.is) turned }
+    record { shows = subst (λ view. IfOk answer (λ text. ShowsBy view c.args.options.now order run (string_bytes text))) (sym c.in-Lines.is) turned; refused = c.lines_of.ensures.refused }

@@ -24,7 +24,7 @@ returns-clause-ok g c =
     let same : xs ≡ news = take_at news (drop (length news) items) c.in_ok-all.all.len long in
     let F : List (Driven Scripted) → Type 0 = λ ds. AllZip IsFresh c.args.cpus.items ds in
     let A : List (Driven Scripted) → Type 0 = λ ds. All (λ (d : Driven Scripted). IsAmple d.ending) ds in
-    apart_driven (g.G.Gate.answers c.args.gate.now) c.args.limits.now (id_of c.args.bank.now) c.args.book.now c.args.cpus.items olds news (λ x. x.cpus.items) (λ x. x.traces.items) c.take_apart.result xs same c.take_apart.ensures.cpus c.take_apart.ensures.traces (subst F (sym c.deref_mut.ensures.value) c.in_ok-all.ensures.ok) c.drive_on_threads.ensures.driven (subst A (c.deref.ensures.value ∙ same) (c.was_short.ensures.0 c.if-was_short.false))
+    apart_driven (g.G.Gate.answers c.args.gate.now) c.args.limits.now (id_of c.args.bank.now) c.args.book.now c.args.cpus.items olds news (λ x. x.cpus.items) (λ x. x.traces.items) c.take_apart.result xs same c.take_apart.ensures.cpus c.take_apart.ensures.traces (subst F (sym c.deref_mut.ensures.value) c.in_ok-all.ensures.ok) c.drive_on_threads.ensures.driven (subst A (c.deref.ensures.value ∙ same) (c.refusal_among.ensures.0 c.in_default.is))
 
 pub returns-clause-at : goal.returns-clause-at
 returns-clause-at g c =

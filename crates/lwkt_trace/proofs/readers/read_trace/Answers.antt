@@ -1,4 +1,4 @@
-use Rattle.std.proofs.Common.{true≢false, sym, ◌∙◌, arith}
+use Rattle.std.proofs.Common.{true≢false, sym, arith}
 use Rattle.serde_json.specs.View.{view}
 use Rattle.lwkt_trace.proofs.TraceTexts.{text_read, text_refused, read_some}
 use Rattle.lwkt_trace.proofs.readers.read_trace.Goals as goal
@@ -10,6 +10,6 @@ returns-in-Ok-clause-exact c =
 pub returns-in-Ok-clause-memory : goal.returns-in-Ok-clause-memory
 returns-in-Ok-clause-memory c = λ _. (read_some c.args.bytes.now (view c.in-Ok.value) c.in-Ok.ensures.ok.1, omega arith)
 
-pub returns-else-is_memory-clause-exact : goal.returns-else-is_memory-clause-exact
-returns-else-is_memory-clause-exact c =
-    text_refused c.args.bytes.now (omega arith) (c.in-Err.ensures.err (λ memory. true≢false (sym (c.is_memory.ensures.1 memory) ∙ c.if-is_memory.false)))
+pub returns-in-None-clause-exact : goal.returns-in-None-clause-exact
+returns-in-None-clause-exact c =
+    text_refused c.args.bytes.now (omega arith) (c.in-Err.ensures.err (λ memory. true≢false (sym (c.in-None.ensures.1 memory))))

@@ -1,6 +1,6 @@
 use Rattle.std.proofs.Common.{inr, ◌≡◌, ◌∙◌, refl, sym, Some}
 use Rattle.std.specs.Prelude.{false, true}
-use Rattle.lwkt_base.specs.declared.faults.Fault.TheVariants.{Memory}
+use Rattle.lwkt_base.specs.Fault.{no_memory}
 use Rattle.lwkt_report.specs.declared.streams.RunFault.TheVariants.{Fault}
 use Rattle.lwkt_show.specs.Showing.{IsShowing, IsShowingAlong, IsShowingThreads}
 use Rattle.lwkt_text.specs.Beginning.{is_text}
@@ -12,19 +12,19 @@ pub returns-in-Err-clause-shows : goal.returns-in-Err-clause-shows
 returns-in-Err-clause-shows g c = λ options are.
     let sink = g.K.Sink.has_failed c.args.sink.now in
     let old = g.K.Sink.contents c.args.sink.now in
-    bytes_unread (IsShowing options) c.args.bytes.now false sink old (shows_unread options c.args.bytes.now false sink old (Fault Memory) (inr refl) (λ is. absurd (no_lack is)))
+    bytes_unread (IsShowing options) c.args.bytes.now false sink old (shows_unread options c.args.bytes.now false sink old (Fault no_memory) (inr refl) (λ is. absurd (no_lack is)))
 
 pub returns-in-Err-clause-threads : goal.returns-in-Err-clause-threads
 returns-in-Err-clause-threads g c = λ asks.
     let sink = g.K.Sink.has_failed c.args.sink.now in
     let old = g.K.Sink.contents c.args.sink.now in
-    bytes_unread IsShowingThreads c.args.bytes.now false sink old (threads_unread c.args.bytes.now false sink old (Fault Memory) (inr refl) (λ is. absurd (no_lack is)))
+    bytes_unread IsShowingThreads c.args.bytes.now false sink old (threads_unread c.args.bytes.now false sink old (Fault no_memory) (inr refl) (λ is. absurd (no_lack is)))
 
 pub returns-in-Err-clause-along : goal.returns-in-Err-clause-along
 returns-in-Err-clause-along g c = λ options order are.
     let sink = g.K.Sink.has_failed c.args.sink.now in
     let old = g.K.Sink.contents c.args.sink.now in
-    bytes_unread (IsShowingAlong order options) c.args.bytes.now false sink old (along_unread order options c.args.bytes.now false sink old (Fault Memory) (inr refl) (λ is. absurd (no_lack is)))
+    bytes_unread (IsShowingAlong order options) c.args.bytes.now false sink old (along_unread order options c.args.bytes.now false sink old (Fault no_memory) (inr refl) (λ is. absurd (no_lack is)))
 
 pub returns-in-Ok-true-clause-shows : goal.returns-in-Ok-true-clause-shows
 returns-in-Ok-true-clause-shows g c = λ options are.

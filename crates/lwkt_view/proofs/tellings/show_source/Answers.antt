@@ -1,6 +1,6 @@
 use Rattle.std.proofs.Common.{inl, inr, ◌≡◌, ◌⊎◌, subst, ap}
 use Rattle.std.specs.Prelude.{false, Err}
-use Rattle.lwkt_base.specs.declared.faults.Fault.TheVariants.{Memory}
+use Rattle.lwkt_base.specs.Fault.{no_memory}
 use Rattle.lwkt_report.specs.declared.streams.RunFault.TheVariants.{Fault, Stream}
 use Rattle.lwkt_show.specs.Showing.{IsShowing, IsShowingAlong, IsShowingThreads}
 use Rattle.lwkt_view.specs.Text.{ShowsBytes}
@@ -37,7 +37,7 @@ returns-in-Ok-clause-threads g c = λ asks.
 
 pub returns-in-Err-clause-shows : goal.returns-in-Err-clause-shows
 returns-in-Err-clause-shows g c = λ options are.
-    let why : (c.in-Err.fault ≡ Stream) ⊎ (c.in-Err.fault ≡ Fault Memory) =
+    let why : (c.in-Err.fault ≡ Stream) ⊎ (c.in-Err.fault ≡ Fault no_memory) =
     elim c.in-Err.ensures.only [ inl is ↦ inl cc | inr is ↦ inr cc ] in
     let source = g.S.Source.has_failed c.read_capped.new.source in
     let sink = g.K.Sink.has_failed c.args.sink.now in
@@ -47,7 +47,7 @@ returns-in-Err-clause-shows g c = λ options are.
 
 pub returns-in-Err-clause-threads : goal.returns-in-Err-clause-threads
 returns-in-Err-clause-threads g c = λ asks.
-    let why : (c.in-Err.fault ≡ Stream) ⊎ (c.in-Err.fault ≡ Fault Memory) =
+    let why : (c.in-Err.fault ≡ Stream) ⊎ (c.in-Err.fault ≡ Fault no_memory) =
     elim c.in-Err.ensures.only [ inl is ↦ inl cc | inr is ↦ inr cc ] in
     let source = g.S.Source.has_failed c.read_capped.new.source in
     let sink = g.K.Sink.has_failed c.args.sink.now in
@@ -71,7 +71,7 @@ returns-in-Ok-clause-along g c = λ options order are.
 
 pub returns-in-Err-clause-along : goal.returns-in-Err-clause-along
 returns-in-Err-clause-along g c = λ options order are.
-    let why : (c.in-Err.fault ≡ Stream) ⊎ (c.in-Err.fault ≡ Fault Memory) =
+    let why : (c.in-Err.fault ≡ Stream) ⊎ (c.in-Err.fault ≡ Fault no_memory) =
     elim c.in-Err.ensures.only [ inl is ↦ inl cc | inr is ↦ inr cc ] in
     let source = g.S.Source.has_failed c.read_capped.new.source in
     let sink = g.K.Sink.has_failed c.args.sink.now in

@@ -18,8 +18,8 @@ use Rattle.lwkt_cpu.proofs.ToldMoves.{quiet_items}
 use Rattle.lwkt_cpu.proofs.WakeMoves.{post_none, post_then}
 use Rattle.lwkt_cpu.proofs.cpus.Cpu.stop.Goals as goal
 
-pub returns-then-is_err-clause-ran : goal.returns-then-is_err-clause-ran
-returns-then-is_err-clause-ran g c =
+pub returns-in-Err-clause-ran : goal.returns-in-Err-clause-ran
+returns-in-Err-clause-ran g c =
     let p = c.args.self.now in
     let r = c.reserve.new.self in
     let e = c.reserve.ensures in
@@ -69,8 +69,8 @@ returns-clause-ok g c =
       empty = ap holding y.seat ∙ e.empty;
     }
 
-pub returns-then-is_err-clause-told : goal.returns-then-is_err-clause-told
-returns-then-is_err-clause-told g c = mail_none c.args.self.now.post.seat c.args.trace.now.items c.reserve.new.self.items (quiet_items c.args.trace.now.items c.reserve.new.self.items c.reserve.ensures.items)
+pub returns-in-Err-clause-told : goal.returns-in-Err-clause-told
+returns-in-Err-clause-told g c = mail_none c.args.self.now.post.seat c.args.trace.now.items c.reserve.new.self.items (quiet_items c.args.trace.now.items c.reserve.new.self.items c.reserve.ensures.items)
 
 pub returns-clause-told : goal.returns-clause-told
 returns-clause-told g c =
@@ -86,8 +86,8 @@ returns-clause-told g c =
     (subst F (sym same) (mail_none d t h.new.trace.items (quiet_then t r.items h.new.trace.items (quiet_items t r.items c.reserve.ensures.items) h.ensures.quiet)))
     (mail_told (cpu_of n.new.self.post.seat) 64 n.new.self.post.seat y.new.self.post.seat h.new.trace y.new.trace y.ensures.told y.ensures.grew)
 
-pub returns-then-is_err-clause-same : goal.returns-then-is_err-clause-same
-returns-then-is_err-clause-same g c = post_none c.args.self.now.post
+pub returns-in-Err-clause-same : goal.returns-in-Err-clause-same
+returns-in-Err-clause-same g c = post_none c.args.self.now.post
 
 pub returns-clause-same : goal.returns-clause-same
 returns-clause-same g c =

@@ -5,11 +5,11 @@ use Rattle.lwkt_cpu.proofs.TurnMoves.{turn_from_room}
 use Rattle.lwkt_cpu.proofs.WakeMoves.{post_none}
 use Rattle.lwkt_cpu.proofs.cpus.Cpu.turn.Goals as goal
 
-pub returns-then-is_err-clause-told : goal.returns-then-is_err-clause-told
-returns-then-is_err-clause-told g c = mail_none c.args.self.now.post.seat c.args.trace.now.items c.reserve.new.self.items (quiet_items c.args.trace.now.items c.reserve.new.self.items c.reserve.ensures.items)
+pub returns-in-Err-clause-told : goal.returns-in-Err-clause-told
+returns-in-Err-clause-told g c = mail_none c.args.self.now.post.seat c.args.trace.now.items c.reserve.new.self.items (quiet_items c.args.trace.now.items c.reserve.new.self.items c.reserve.ensures.items)
 
-pub returns-then-is_err-clause-same : goal.returns-then-is_err-clause-same
-returns-then-is_err-clause-same g c = post_none c.args.self.now.post
+pub returns-in-Err-clause-same : goal.returns-in-Err-clause-same
+returns-in-Err-clause-same g c = post_none c.args.self.now.post
 
 pub returns-clause-ok : goal.returns-clause-ok
 returns-clause-ok g c =
