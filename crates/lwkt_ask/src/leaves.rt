@@ -126,8 +126,9 @@ pub(crate) fn leave_ready(
     be_ready(hold, bank, list, held, last, trace)
 }
 
-/// The ask to end: a thread that runs gives up everything. That the trace has room for 256 events is the caller's condition;
-/// no more than 192 are made. No answer comes with it, so the clause holds with each.
+/// The ask to end: a thread that runs gives up its whole list. It `Exits`, or `Faults` with 19 if a section had broken its law, whose
+/// first row is then stored again. That the trace has room for 256 events is the caller's condition; no more than 192 are made. No
+/// answer comes with it, so the clause holds with each.
 pub fn exit(hold: &mut Hold, bank: &Bank, list: &TokList, trace: &mut Vec<Event>) -> Next<Kept>
     requires of { bank_of (seat_of hold.old) ≡ id_of bank.now }
     requires held { holding (seat_of hold.old) ≡ holding_of list.now }

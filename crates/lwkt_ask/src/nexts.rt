@@ -5,15 +5,15 @@ use lwkt_base::{Fault, MsgId};
 pub enum Next<A> {
     /// It goes on running, with this answer.
     Runs(A),
-    /// It has given up its tokens and is ready; once it is resumed, it has this answer.
+    /// It has given up its tokens and is ready: it goes on once its whole list is held again, and has this answer then.
     Readies(A),
     /// It has given up its tokens and waits for an item at its port.
     AwaitsItem,
     /// It has given up its tokens and waits for the reply to this message of its own.
     AwaitsReply(MsgId),
-    /// It has ended by itself.
+    /// It has ended: it asked `Exit`, or its processor stopped.
     Exits,
-    /// It was ended by this fault.
+    /// It was ended by this fault: 19 if what it gave up ended a section that had broken its law. No ask ends a thread by another one.
     Faults(Fault),
 }
 
