@@ -14,9 +14,9 @@ use lwkt_port::Notes;
 pub struct Progress {
     /// The notes that were taken in so far, modulo 2^64.
     pub taken_in: u64,
-    /// The notes that its ports have, by where they are.
+    /// The notes that its ports have, counted by where they are.
     pub notes: Notes,
-    /// The threads that have ended.
+    /// How many threads have ended, 0 to 16.
     pub ended: usize,
 }
 
@@ -39,7 +39,7 @@ impl<B> Cpu<B> {
         self.ports.cpus()
     }
 
-    /// How many messages are owed a reply, 0 to 64.
+    /// How many messages its ports owe a reply, 0 to 64.
     pub fn owed(&self) -> usize
         ensures count { result ≡ owed_count self.now.post.mails }
         ensures few { result ≤ 64 }

@@ -20,8 +20,8 @@ use std::marker::Model;
 /// The most threads of a processor.
 pub const THREAD_LIMIT: usize = 16;
 
-/// A processor with its threads. It is always at rest between two calls: at most one thread runs, every list is lawful, and
-/// the seat holds exactly the list of the running thread, in its modes, or nothing.
+/// A processor with its threads, at most 16. It is always at rest between two calls: at most one thread runs, every list is lawful,
+/// and the seat holds exactly the list of the running thread, in its modes, or nothing (token(9)).
 #[derive(Drop)]
 pub struct Cpu<B> {
     pub(crate) hold: Hold,
@@ -81,10 +81,11 @@ impl<B> Cpu<B> {
     ghost use Rattle.lwkt_cpu.specs.Shown.{IsNew, ShowsThread};
     ghost use Rattle.lwkt_base.specs.Fault.{no_memory};
 
-    /// A processor over this seat, with a ready thread for each body. That the seat is this processor's and holds nothing are
-    /// the caller's conditions.
+    /// A processor over these seats, with a thread for each body, which is ready and was never polled. That the seats at bank and book
+    /// are this processor's, and that the one at the bank holds nothing, are the caller's conditions.
     ///
-    /// Refused with `Memory`, or with `Limits` if there are more than 16 bodies.
+    /// Refused with `Limits` only if there are more than 16 bodies, or not as many as the ports have threads, and with `Memory` if
+    /// memory is refused.
     pub fn new(
         alloc: Global,
         id: CpuId,
@@ -117,7 +118,7 @@ impl<B> Cpu<B> {
         })
     }
 
-    /// How many threads there are. The processor is at rest.
+    /// How many threads there are, ended ones too, 0 to 16. The processor is at rest.
     pub fn threads(&self) -> usize
         ensures value { result ≡ length self.now.threads }
         ensures at_rest { IsAtRest self.now }
@@ -125,7 +126,7 @@ impl<B> Cpu<B> {
         self.threads.len()
     }
 
-    /// What thread `i` is doing, and its references.
+    /// What the thread of this number is doing, and its references. `None` exactly if there is no such thread.
     pub fn thread(&self, i: usize) -> Option<Status<'_>>
         ensures shows { ShowsThread self.now i result }
         ensures few { IfSome result (λ status. length status.list.now ≤ 32) }
@@ -144,7 +145,7 @@ impl<B> Cpu<B> {
         })
     }
 
-    /// The body of thread `i`, as its last poll left it.
+    /// The body of the thread of this number, as its last poll left it. `None` only if there is no such thread.
     pub fn body(&self, i: usize) -> Option<&B>
         ensures some { IfSome result (λ body. slice_get self.now.bodies i ≡ Some body.now) }
         ensures none { result ≡ None → length self.now.threads ≤ i }

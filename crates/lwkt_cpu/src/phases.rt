@@ -11,9 +11,10 @@ pub enum Phase {
     AwaitsItem,
     /// It waits for the reply to this message of its own.
     AwaitsReply(MsgId),
-    /// It has ended by itself.
+    /// It has ended: it asked `Exit`, or its processor stopped.
     Exited,
-    /// It was ended by a fault.
+    /// It was ended by this fault: 19 if a section of its had broken its law when it gave up its tokens, 20 if a token of its list was
+    /// at its last generation when the list was tried.
     Faulted(Fault),
 }
 
@@ -30,7 +31,7 @@ impl Phase {
         matches!(self, Phase::Live)
     }
 
-    /// Whether this is an end.
+    /// Whether the thread has ended, by itself or by a fault.
     #[inline]
     pub fn has_ended(self) -> bool
         ensures { result ≡ has_ended self }
@@ -38,7 +39,7 @@ impl Phase {
         matches!(self, Phase::Exited | Phase::Faulted(_))
     }
 
-    /// Whether this is the end of a thread that met a last generation.
+    /// Whether the thread was ended by fault 20: a token of its list was at its last generation, 70368744177663.
     pub fn is_worn(self) -> bool
         ensures { result ≡ is_worn self }
     {

@@ -22,7 +22,7 @@ use lwkt_base::Fault;
 use lwkt_core::Event;
 use lwkt_msg::MsgBook;
 
-/// The room that a turn makes in its trace.
+/// For how many events a turn or a stop makes room in its trace before it begins.
 pub const TURN_EVENTS: usize = 4096;
 
 /// The notes that a turn takes in.
@@ -124,11 +124,12 @@ impl<B: Body> Cpu<B> {
         }
     }
 
-    /// Makes a turn: the running thread, or the first one from the cursor on, round once, that can run and whose whole list
-    /// can be held, is polled once, and its ask is performed. That seat and bank belong together is the caller's condition.
+    /// Makes a turn: mail is taken in, and then the running thread, or the first one from the cursor on, round once, that can run and
+    /// whose whole list can be held, is polled once, and its ask is performed. The events are appended to the trace. That the seats
+    /// are of this bank and book is the caller's condition.
     ///
-    /// Refused with `Memory` where the trace lacks room for 4,096 events and can't be given it; nothing has changed then, and the
-    /// trace has no less room than before.
+    /// Refused with `Memory` if the trace lacks room for 4096 events and can't be given it; nothing has changed then, and the trace has
+    /// no less room than before.
     pub fn turn(
         &mut self,
         bank: &Bank,
@@ -152,7 +153,7 @@ impl<B: Body> Cpu<B> {
         Ok(self.turn_in_room(bank, book, trace))
     }
 
-    /// Makes a turn as `turn` does, with a trace that has room for 4,096 events. That it has is the caller's condition.
+    /// Makes a turn as `turn` does, with a trace that has room for 4096 events already. That it has is the caller's condition.
     #[inline]
     pub fn turn_in_room(&mut self, bank: &Bank, book: &MsgBook, trace: &mut Vec<Event>) -> Turned
         requires of { bank_of self.old.seat ≡ id_of bank.now }
