@@ -10,7 +10,8 @@ pub trait Body {
     /// How a poll with an answer leads from a body to an ask and the body afterwards.
     ghost polled: { Self → Answer → Ask → Self → Type 0 };
 
-    /// What the thread asks next. `last` is the answer to what it asked last: `Begin` at its first poll. After `Exit` there is no poll.
+    /// What the thread asks next. `last` is the answer to what it asked last: `Begin` at its first poll. After `Exit` there is no
+    /// poll.
     fn poll(&mut self, last: Answer) -> Ask
         ensures { polled self.old last result self.new };
 }
