@@ -81,8 +81,8 @@ impl<B> Cpu<B> {
     ghost use Rattle.lwkt_cpu.specs.Shown.{IsNew, ShowsThread};
     ghost use Rattle.lwkt_base.specs.Fault.{no_memory};
 
-    /// A processor over these seats, with a thread for each body, which is ready and was never polled. That the seats at bank and book
-    /// are this processor's, and that the one at the bank holds nothing, are the caller's conditions.
+    /// A processor over these seats, with a thread for each body, which is ready and was never polled. That the seats at bank and
+    /// book are this processor's, and that the one at the bank holds nothing, are the caller's conditions.
     ///
     /// Refused with `Limits` only if there are more than 16 bodies, or not as many as the ports have threads, and with `Memory` if
     /// memory is refused.

@@ -12,8 +12,8 @@ use lwkt_base::Fault;
 use lwkt_core::Event;
 use lwkt_msg::MsgBook;
 
-/// One turn more, counted by its answer: one that says `AllExited` counts as one that polled no thread. That both counts together stay
-/// below 2^64 is the caller's condition.
+/// One turn more, counted by its answer: one that says `AllExited` counts as one that polled no thread. That both counts together
+/// stay below 2^64 is the caller's condition.
 pub fn count(drove: Drove, turned: Turned) -> Drove
     requires { drove.ran + drove.idle + 1 < 2 ^ 64 }
     ensures { result ≡ counted drove turned }
@@ -53,8 +53,8 @@ fn is_last(turned: Turned) -> bool
 impl<B: Body> Cpu<B> {
     ghost use Rattle.lwkt_base.specs.Fault.{no_memory};
 
-    /// Makes `limit` turns, or fewer: up to the first at which every thread has ended. Their events are appended to the trace. That the
-    /// seats are of this bank and book is the caller's condition.
+    /// Makes `limit` turns, or fewer: up to the first at which every thread has ended. Their events are appended to the trace. That
+    /// the seats are of this bank and book is the caller's condition.
     ///
     /// Refused with `Memory` if the trace has no room for the next turn's 4096 events and can't be given it; the turns before stand.
     pub fn drive(

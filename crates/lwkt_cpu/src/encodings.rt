@@ -122,10 +122,10 @@ fn add_threads(words: &mut Vec<u64>, threads: &[Thread]) -> Result<(), AllocErro
 }
 
 impl<B> Cpu<B> {
-    /// Appends to `words` what tells this processor apart from what it was or will be at another time, but for its bodies: which thread
-    /// runs, where the next search begins, what each thread is doing, its references, the answer and the word that are kept for it,
-    /// and what its ports have. The notes in its lanes can't be seen without receiving them, so the processor is given up; its bodies
-    /// and its seat at the book are given back. What its seat at the bank keeps, the tokens of the model show.
+    /// Appends to `words` what tells this processor apart from what it was or will be at another time, but for its bodies: which
+    /// thread runs, where the next search begins, what each thread is doing, its references, the answer and the word that are kept
+    /// for it, and what its ports have. The notes in its lanes can't be seen without receiving them, so the processor is given up;
+    /// its bodies and its seat at the book are given back. What its seat at the bank keeps, the tokens of the model show.
     ///
     /// `AllocError` if memory is refused; some of the numbers may have been appended then, and the bodies are gone.
     pub fn encode(self, words: &mut Vec<u64>) -> Result<(Vec<B>, MsgSeat), AllocError>

@@ -5,8 +5,8 @@ ghost use Rattle.lwkt_cpu.specs.Sights.{AreJoined, Sees, SeesOwn};
 use crate::cpus::Cpu;
 
 impl<B> Cpu<B> {
-    /// Sees every note that another processor has put into the queue of its lane to this one. The next turn takes these notes in, up to
-    /// the 16 notes that a turn takes in and the room of their ports' queues.
+    /// Sees every note that another processor has put into the queue of its lane to this one. The next turn takes these notes in,
+    /// up to the 16 notes that a turn takes in and the room of their ports' queues.
     ///
     /// That the lane from that processor to this one has its ends at them is the caller's condition.
     #[inline]

@@ -117,10 +117,10 @@ impl<B> Cpu<B> {
         self.ports.send_owed(book, trace);
     }
 
-    /// Stops the processor: the running thread gives up everything, and every thread that hasn't ended ends as `Exited`, or by fault 19
-    /// if its section had broken its law; their ports are closed. Then the replies that are owed go out, as lanes have room; notes
-    /// aren't taken in any more. The events are appended to the trace. That the seats belong to bank and book is the caller's
-    /// condition.
+    /// Stops the processor: the running thread gives up everything, and every thread that hasn't ended ends as `Exited`, or by
+    /// fault 19 if its section had broken its law; their ports are closed. Then the replies that are owed go out, as lanes have
+    /// room; notes aren't taken in any more. The events are appended to the trace. That the seats belong to bank and book is the
+    /// caller's condition.
     ///
     /// Refused with `Memory` if the trace can't be given room for 4096 events; nothing has changed then.
     pub fn stop(&mut self, bank: &Bank, book: &MsgBook, trace: &mut Vec<Event>) -> Result<(), Fault>
@@ -142,8 +142,8 @@ impl<B> Cpu<B> {
         Ok(())
     }
 
-    /// Gives back the seat at the bank, which holds nothing, the seat at the book, and the bodies, by the threads' numbers, each as its
-    /// last poll left it. That every thread has ended is the caller's condition.
+    /// Gives back the seat at the bank, which holds nothing, the seat at the book, and the bodies, by the threads' numbers, each as
+    /// its last poll left it. That every thread has ended is the caller's condition.
     pub fn retire(self) -> (CpuSeat, MsgSeat, Vec<B>)
         requires { AllOver self.threads }
         ensures seat { result.0 ≡ self.seat }

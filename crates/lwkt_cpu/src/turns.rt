@@ -128,8 +128,8 @@ impl<B: Body> Cpu<B> {
     /// whose whole list can be held, is polled once, and its ask is performed. The events are appended to the trace. That the seats
     /// are of this bank and book is the caller's condition.
     ///
-    /// Refused with `Memory` if the trace lacks room for 4096 events and can't be given it; nothing has changed then, and the trace has
-    /// no less room than before.
+    /// Refused with `Memory` if the trace lacks room for 4096 events and can't be given it; nothing has changed then, and the trace
+    /// has no less room than before.
     pub fn turn(
         &mut self,
         bank: &Bank,
