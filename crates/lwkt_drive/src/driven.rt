@@ -8,34 +8,34 @@ use lwkt_core::Event;
 use lwkt_cpu::{Cpu, Drove};
 use std::alloc::{AllocError, Global};
 
-/// Why a processor made no further turn.
+/// Why a processor made no further turn. What is said of other processors no clause claims.
 #[derive(Clone, Copy, Debug, PartialEq, Eq)]
 pub enum Ending {
     /// It wasn't driven yet.
     NotDriven,
-    /// The gate said no.
+    /// The gate said no to it.
     Stopped,
-    /// As many turns ran a thread as the limit allows.
+    /// As many turns polled a thread as the limit allows.
     TurnsOut,
-    /// As many turns ran none as the limit allows.
+    /// As many turns polled none as the limit allows.
     IdleOut,
     /// A turn has said that every thread of this processor has ended, and so has one of each other processor.
     AllExited,
-    /// A turn was refused for want of memory, with what the allocator said.
+    /// Its trace had no room for the 4096 events of its next turn, and memory for them was refused: what the allocator said.
     NoMemory(AllocError),
-    /// A turn of another processor was refused for want of memory.
+    /// Another processor was refused memory so.
     CalledOff(AllocError),
-    /// No turn of any processor could change anything any more: each had stopped, or its last turn was one that polled no thread,
-    /// appended no event, moved no note and ended no thread.
+    /// No turn of any processor could change anything any more: each had stopped, or its last turn polled no thread, appended no
+    /// event, moved no note and ended no thread. Claimed is that the last turn of this one polled no thread and appended no event.
     Quiet,
 }
 
-/// How many turns a processor makes at most.
+/// How many turns a processor makes at most in a drive, each 0 to 4294967295.
 #[derive(Clone, Copy, Debug, PartialEq, Eq)]
 pub struct Limits {
-    /// Turns that run a thread.
+    /// The most turns that poll a thread.
     pub turns: u32,
-    /// Turns that run none.
+    /// The most turns that poll none.
     pub idle: u32,
 }
 
@@ -68,18 +68,24 @@ impl<'a, G> Door<'a, G> {
 /// A processor with the events of its turns, how many of these it made when it was driven last, and why it made no further one.
 #[derive(Drop)]
 pub struct Driven<B> {
+    /// The processor's number, by which the gate is asked, 0 to 7.
     pub id: CpuId,
+    /// The processor.
     pub cpu: Cpu<B>,
+    /// The events of all its turns so far, in order, those of earlier drives too.
     pub trace: Vec<Event>,
+    /// What the gate has said to it.
     pub said: Said,
+    /// How many turns the last drive made, by kind. All zero before the first drive.
     pub drove: Drove,
-    /// Whether the last turn of this drive ran no thread and appended no event.
+    /// Whether the last turn of this drive polled no thread and appended no event; false before its first turn.
     pub quiet: bool,
+    /// Why the last drive ended for this processor; `NotDriven` before the first one.
     pub ending: Ending,
 }
 
 impl<B> Driven<B> {
-    /// A processor that wasn't driven yet, without events.
+    /// A processor that wasn't driven yet, without events. Takes no memory.
     pub fn new(alloc: Global, id: CpuId, cpu: Cpu<B>) -> Driven<B>
         ensures id { result.id ≡ id }
         ensures cpu { result.cpu ≡ cpu }

@@ -126,12 +126,13 @@ fn peers<B>(all: &[Driven<B>]) -> usize {
     }
 }
 
-/// Drives processors, each on a thread of its own where one can be made. Each makes turns until the gate says no to it, until a
-/// limit is reached, until every thread of every processor has ended, or until a turn is refused for want of memory; what ended it
-/// is kept. That the processors are of this bank and book is the caller's condition.
+/// Drives processors, each on a thread of its own if one can be made. Each makes turns until the gate says no to it, a limit is
+/// reached, every thread of every processor has ended, no turn of any processor can change anything, or memory for the events of a
+/// turn is refused, which ends all. What ended it is kept in `ending`. That the processors are of this bank and book is the caller's
+/// condition.
 ///
-/// The list is halved and both halves run at once, down to one processor each; where no thread can be made, those of both halves
-/// take turns on one thread, each as long as it finds something to do.
+/// The list is halved and both halves run at once, down to one processor each; if no thread can be made, those of both halves take
+/// turns on one thread, each as long as it finds something to do.
 pub fn drive_all<R: Threads + Sync, G: Gate + Sync, B: Body + Send>(
     rt: &R,
     gate: &G,
@@ -147,7 +148,7 @@ pub fn drive_all<R: Threads + Sync, G: Gate + Sync, B: Body + Send>(
     drive_on_threads(rt, all.len(), gate, limits, bank, book, all);
 }
 
-/// Drives processors as `drive_all` does, on at most so many threads, with this one.
+/// Drives processors as `drive_all` does, on at most `threads` threads, the caller's among them; 0 counts as 1.
 pub fn drive_on_threads<R: Threads + Sync, G: Gate + Sync, B: Body + Send>(
     rt: &R,
     threads: usize,

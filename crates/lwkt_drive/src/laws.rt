@@ -5,7 +5,7 @@ ghost use Rattle.lwkt_drive.specs.Telling.{NewIsTold, StopsAreTold, DrivesAreTol
 use crate::gates::Gate;
 use lwkt_cpu::Body;
 
-/// A trace tells what its processor's seat has done at the bank: at the opening, and after it was driven or
+/// The theorem that a trace tells what its processor's seat has done at the bank: at the opening, and after it was driven or
 /// stopped if it did so before.
 pub fn traces_tell_seats<B: Body, G: Gate>()
     ensures new { NewIsTold }
@@ -13,27 +13,27 @@ pub fn traces_tell_seats<B: Body, G: Gate>()
     ensures drives { DrivesAreTold B.polled G.answers }
 {}
 
-/// At the close the traces of all processors are the parts of one run of the model, which leads from the opening to the closing
-/// values.
+/// The theorem that at the close the traces of all processors are the parts of one run of the model, which leads from the opening to
+/// the closing values.
 pub fn traces_tell_one_run()
     ensures { TracesTellOneRun }
 {}
 
-/// A trace has, of messages, what its processor's seat has done at the book: at the opening, and after it was driven, made a turn or
-/// was stopped if it did so before.
+/// The theorem that a trace has, of messages, what its processor's seat has done at the book: at the opening, and after it was
+/// driven, made a turn or was stopped if it did so before.
 pub fn traces_tell_desks<B: Body, G: Gate>()
     ensures new { NewMailIsTold }
     ensures stays { MailStaysTold }
     ensures drives { MailDrivesAreTold B.polled G.answers }
 {}
 
-/// At the close the traces of all processors are, of messages, the parts of one run of the model, which leads from the opening to the
-/// closing owner states and rounds.
+/// The theorem that at the close the traces of all processors are, of messages, the parts of one run of the model, which leads from
+/// the opening to the closing owner states and rounds.
 pub fn traces_tell_one_mail_run()
     ensures { TracesTellOneMailRun }
 {}
 
-/// Where a processor's drive ends as quiet, it made a turn, and its last turn ran no thread and appended no event.
+/// The theorem that if a processor's drive ends as quiet, it made a turn, and its last turn polled no thread and appended no event.
 pub fn quiet_ends_are_quiet<B: Body, G: Gate>()
     ensures { QuietEndsAreQuiet B.polled G.answers }
 {}
