@@ -9,7 +9,7 @@ use lwkt_verdict::entry_of;
 use std::alloc::{AllocError, Global};
 use std::marker::Model;
 
-/// The most entries of a log.
+/// The most entries of a log. Later answers make none.
 pub const LOG_LIMIT: usize = 32;
 
 /// What a body asked last. A step is told by its place, so that an ask, which has room for a record, isn't copied.
@@ -24,7 +24,7 @@ enum Asked {
 }
 
 /// The body of a script's thread: it asks its steps in order, so many times over, and then `Exit`, and `Exit` ever after. Its
-/// log has the first 32 entries that its answers make.
+/// log has the first 32 entries that its answers make; an answer `Done` makes none.
 #[derive(Drop)]
 pub struct ScriptBody {
     steps: Vec<Ask>,
@@ -79,7 +79,10 @@ fn may_log(told: &Option<Answer>) -> bool
 }
 
 impl ScriptBody {
-    /// A body that makes these steps `repeat` times. Its log has its room from the beginning.
+    /// A body that makes these steps `repeat` times, 0 to 4294967295, and was never polled. Its log has room for its 32 entries
+    /// from the beginning.
+    ///
+    /// `AllocError` if memory for the steps or the log is refused.
     pub fn new(alloc: Global, steps: &[Ask], repeat: u32) -> Result<Self, AllocError>
         ensures { IfOk result (λ body. body ≡ unpolled steps.now repeat) }
     {
@@ -96,14 +99,14 @@ impl ScriptBody {
         })
     }
 
-    /// How many polls the body has had, up to 18446744073709551615.
+    /// How many polls the body has had; it stays at 18446744073709551615.
     pub fn polls(&self) -> u64
         ensures { result ≡ self.now.polls }
     {
         self.polls
     }
 
-    /// What the body asked at its last poll.
+    /// What the body asked at its last poll. `None` before the first one.
     pub fn asked(&self) -> Option<&Ask>
         ensures { option_copied result ≡ self.now.asked }
     {
@@ -114,14 +117,15 @@ impl ScriptBody {
         }
     }
 
-    /// The answer that the body was given at its last poll: that to the ask before.
+    /// The answer that the body was given at its last poll: that to the ask before, and `Begin` at its first poll. `None` before
+    /// that.
     pub fn told(&self) -> Option<&Answer>
         ensures { option_copied result ≡ self.now.told }
     {
         self.told.as_ref()
     }
 
-    /// The log, at most 32 entries.
+    /// The log, at most 32 entries, the first one first.
     pub fn log(&self) -> &[Entry]
         ensures log { result.now ≡ self.now.log }
         ensures few { length self.now.log ≤ 32 }

@@ -15,9 +15,9 @@ use std::alloc::{AllocError, Global};
 /// What a machine leaves.
 #[derive(Drop)]
 pub struct Closed {
-    /// Each token's row, generation and tallies.
+    /// Each token's row, generation, tallies and record, by the token's number.
     pub tokens: lwkt_bank::Closed,
-    /// Each message's round, and whom it is with.
+    /// Each message's round, and whom it is with, by the message's number.
     pub messages: Vec<MsgEnd>,
     /// The bodies of all threads, each as its last poll left it: by processor, then by number.
     pub bodies: Vec<ScriptBody>,
@@ -68,10 +68,10 @@ impl Machine {
     ghost use Rattle.lwkt_machine.specs.Closing.{IsClosedMachine};
     ghost use Rattle.lwkt_base.specs.Fault.{no_memory};
 
-    /// Closes the machine, whose threads have all ended: every processor gives back its seats, and bank and book are closed with
-    /// them.
+    /// Closes the machine: every processor gives back its seats, and bank and book are closed with them. That all threads have
+    /// ended is the caller's condition.
     ///
-    /// Refused with `Memory` if an allocation is; the machine is then given up.
+    /// Refused with `Memory` if memory is refused; the machine is gone then.
     pub fn close(self, alloc: Global) -> Result<Closed, Fault>
         requires { AreOver self.cpus }
         ensures ok { IfOk result (λ closed. IsClosedMachine self closed) }

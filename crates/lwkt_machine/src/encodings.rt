@@ -9,11 +9,14 @@ use lwkt_cpu::Cpu;
 use lwkt_msg::{MsgBook, MsgSeat, Reaped};
 use std::alloc::{AllocError, Global};
 
-/// Which processors a message is of, and on its way to or with, and its round, as the model has them.
+/// Of which processor a message is, to which one it was sent, and its round, as the model has them.
 #[derive(Clone, Copy, Debug, PartialEq, Eq)]
 pub struct Sent {
+    /// The processor of the message's origin, 0 to 7.
     pub origin: usize,
+    /// The processor that it was sent to, 0 to 7; its origin's if it is at rest.
     pub target: usize,
+    /// Its round, 0 to 2251799813685247.
     pub round: u64,
 }
 
@@ -59,7 +62,10 @@ fn add_entry(words: &mut Vec<u64>, entry: &Entry) -> Result<(), AllocError> {
 }
 
 impl ScriptBody {
-    /// Writes what tells this body apart from what it was or will be at another time: how many polls it has had, and its log.
+    /// Appends to `words` what tells this body apart from what it was or will be at another time: how many polls it has had, and its
+    /// log, with a 0 at its end.
+    ///
+    /// `AllocError` if memory is refused; some of the numbers may have been appended then.
     pub fn encode(&self, words: &mut Vec<u64>) -> Result<(), AllocError> {
         add(words, self.polls())?;
         for entry in self.log() {
@@ -251,11 +257,15 @@ fn add_cpus(
 }
 
 impl Machine {
-    /// Writes what tells this machine apart from what it was or will be at another time, but for what its trace says of tokens
-    /// and messages: its processors with their threads, ports, lanes and bodies, and the records of the messages that are away.
-    /// Much of it can't be seen without a step of a processor, so the machine is given up.
+    /// Appends to `words` what tells this machine apart from what it was or will be at another time, but for what its trace says of
+    /// tokens and messages: its processors with their threads, ports, lanes and bodies, and the records of the messages that are
+    /// away. Much of it can't be seen without a step of a processor, so the machine is given up. `sent` has one for each message,
+    /// by its number.
     ///
-    /// Each processor has a part of the numbers, and behind them each message; `ends` is told where each part ends.
+    /// Each processor has a part of the numbers, and after them each message. For each part the length of `words` at its end is
+    /// appended to `ends`.
+    ///
+    /// `AllocError` if memory is refused; some of the numbers may have been appended then.
     pub fn encode(
         self,
         alloc: Global,

@@ -13,7 +13,7 @@ use lwkt_cpu::{Cpu, Status, TURN_EVENTS, Turned};
 use lwkt_msg::MsgBook;
 use std::marker::Model;
 
-/// A bank, a book and the processors at them, by number, whose threads are those of a script. All of them always belong
+/// A bank, a book and the processors at them, by number, 0 to 7, whose threads are those of a script. All of them always belong
 /// together: the processors are of the bank and the book, and joined by their lanes.
 #[derive(Drop)]
 pub struct Machine {
@@ -38,7 +38,7 @@ impl Machine {
     ghost use Rattle.lwkt_machine.specs.Turns.{TurnsAt};
     ghost use Rattle.lwkt_base.specs.Fault.{no_memory};
 
-    /// How many processors there are. All parts of the machine belong together.
+    /// How many processors there are, at most 8. All parts of the machine belong together.
     pub fn cpus(&self) -> usize
         ensures value { result ≡ length self.now.cpus }
         ensures whole { IsWhole self.now }
@@ -46,7 +46,7 @@ impl Machine {
         self.cpus.len()
     }
 
-    /// How many threads a processor has. That it is there is the caller's condition.
+    /// How many threads a processor has, ended ones too, 0 to 16. That the processor is there is the caller's condition.
     pub fn threads(&self, cpu: usize) -> usize
         requires { cpu < length self.now.cpus }
         ensures { IsSomeAnd (slice_get self.now.cpus cpu) (λ p. (result ≡ length p.threads) × IsAtRest p) }
@@ -54,14 +54,14 @@ impl Machine {
         self.cpus[cpu].threads()
     }
 
-    /// What a thread of a processor is doing, and its references.
+    /// What a thread of a processor is doing, and its references. `None` exactly if there is no such processor or thread.
     pub fn thread(&self, cpu: usize, thread: usize) -> Option<Status<'_>>
         ensures { ShowsThreadAt self.now cpu thread result }
     {
         self.cpus.get(cpu)?.thread(thread)
     }
 
-    /// The body of a thread of a processor, as its last poll left it.
+    /// The body of a thread of a processor, as its last poll left it. `None` exactly if there is no such processor or thread.
     pub fn body(&self, cpu: usize, thread: usize) -> Option<&ScriptBody>
         ensures { ShowsBody self.now cpu thread (option_map (λ body. body.now) result) }
     {
@@ -86,11 +86,11 @@ impl Machine {
     }
 
     /// Makes a turn of a processor, as `Cpu::turn` does, which first sees what each processor, also this one itself, has put into the
-    /// queue of its lane to it: all of this is taken in, up to the 16 notes of a turn and the room of their ports' queues. That the
-    /// processor is there is the caller's condition.
+    /// queue of its lane to it: all of this is taken in, up to the 16 notes of a turn and the room of their ports' queues. The events
+    /// are appended to the trace. That the processor is there is the caller's condition.
     ///
-    /// Refused with `Memory` where the trace lacks room for 4,096 events and can't be given it; nothing has changed then, and the
-    /// trace has no less room than before.
+    /// Refused with `Memory` if the trace lacks room for 4096 events and can't be given it; nothing has changed then, and the trace
+    /// has no less room than before.
     pub fn turn(&mut self, cpu: usize, trace: &mut Vec<Event>) -> Result<Turned, Fault>
         requires { cpu < length self.old.cpus }
         ensures ok { IfOk result (λ turned. TurnsAt cpu self.old self.new trace.old trace.new turned) }

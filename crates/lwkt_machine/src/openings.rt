@@ -104,9 +104,10 @@ impl Machine {
     /// Opens the machine of a script: a bank of its tokens, a book of its messages, and its processors, with lanes for 32 notes
     /// from each to each. Each thread of the script is one of its processor, in the script's order, and was never polled.
     ///
-    /// Refused with `Limits` only if a limit is passed, a bank's, a book's, or 16 threads of a processor; with `LawBroken` only if
-    /// it is within the limits and an opening row, with the length of its record, breaks its law; and else with `Memory`. Whether
-    /// a processor has too many threads is looked at first.
+    /// Refused with `Limits` only if a limit is passed: 8 processors, 64 tokens, 4 cells or 64 bytes of a token, 64 messages, 16
+    /// threads of a processor, or another one of the model's (`AreWithin`); with `LawBroken` only if it is within the limits and an
+    /// opening row, with the length of its record, breaks its law; and else with `Memory`, if memory is refused. Whether a
+    /// processor has too many threads is looked at first.
     pub fn open(alloc: Global, script: &Script) -> Result<Machine, Fault>
         ensures ok { IfOk result (λ machine. IsOpenedMachine script.now machine) }
         ensures within { OnOk result (AreWithin script.now.cpus script.now.tokens script.now.messages) }

@@ -22,9 +22,13 @@ use std::alloc::{AllocError, Global};
 /// What processors are made of that weren't made yet, by their numbers: their seats, and the ends of their lanes.
 #[derive(Drop)]
 pub(crate) struct Rest {
+    /// Their seats at the bank.
     pub seats: Vec<CpuSeat>,
+    /// Their seats at the book.
     pub mails: Vec<MsgSeat>,
+    /// The sending ends, by the processor that the lane leads to.
     pub outs: Vec<Vec<LaneOut>>,
+    /// The receiving ends, by the processor that the lane comes from.
     pub ins: Vec<Vec<LaneIn>>,
 }
 

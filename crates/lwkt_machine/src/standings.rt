@@ -12,10 +12,11 @@ use std::alloc::{AllocError, Global};
 /// How a thread stands between two turns.
 #[derive(Drop)]
 pub struct Standing {
+    /// The thread: its processor, 0 to 7, and its number there, 0 to 15.
     pub id: ThreadId,
     /// What it is doing.
     pub state: ThreadState,
-    /// Its references.
+    /// Its references, at most 32. They are held exactly if it is running.
     pub list: TokList,
 }
 
@@ -70,7 +71,9 @@ impl Standing {
 impl Machine {
     ghost use Rattle.lwkt_machine.specs.Standings.{standings_of};
 
-    /// How each thread stands, by processor, then by number.
+    /// How each thread stands, by processor, then by number: what it is doing, and its list.
+    ///
+    /// `AllocError` if memory is refused.
     pub fn standings(&self, alloc: Global) -> Result<Vec<Standing>, AllocError>
         ensures { IfOk result (λ standings. standings.items ≡ standings_of self.now.cpus) }
     {

@@ -36,9 +36,9 @@ fn stop_all(
 impl Machine {
     ghost use Rattle.lwkt_base.specs.Fault.{no_memory};
 
-    /// Stops each processor once, by rising number, as `Cpu::stop` does.
+    /// Stops each processor once, by rising number, as `Cpu::stop` does. The events are appended to the trace.
     ///
-    /// Refused with `Memory` where the trace can't be given room for a processor's events; the processors before it have stopped
+    /// Refused with `Memory` if the trace can't be given room for a processor's 4096 events; the processors before it have stopped
     /// then, and nothing else has changed.
     pub fn stop(&mut self, trace: &mut Vec<Event>) -> Result<(), Fault>
         ensures ok { OnOk result (StopsAll self.old self.new trace.old trace.new) }
