@@ -17,20 +17,20 @@ use std::alloc::{AllocError, Global};
 /// What a machine leaves.
 #[derive(Drop)]
 pub struct Closed<B> {
-    /// Each token's row, generation, tallies and record.
+    /// Each token's row, generation, tallies and record, by the token's number.
     pub tokens: lwkt_bank::Closed,
-    /// Each message's round, and whom it is with.
+    /// Each message's round, and whom it is with, by the message's number.
     pub messages: Vec<MsgEnd>,
-    /// The bodies by processor, each as its last poll left it.
+    /// The bodies by processor, then by the thread's number, each as its last poll left it.
     pub bodies: Vec<Vec<B>>,
-    /// The events by processor.
+    /// The events of all turns and of the stop, in order, by processor.
     pub traces: Vec<Vec<Event>>,
 }
 
 impl<B> Closed<B> {
     ghost use Rattle.std.specs.Prelude.{◌≡◌, [], slice_index, slice_index_or};
 
-    /// The cells of a token; none where there is no such token.
+    /// The cells of a token, 0 to 4 of them; none if there is no such token.
     pub fn row(&self, tok: TokId) -> &[u64]
         ensures { result.now ≡ slice_index_or self.now.tokens.rows.items tok.0 [] }
     {
@@ -40,14 +40,15 @@ impl<B> Closed<B> {
         }
     }
 
-    /// A cell of a token; 0 where there is no such cell.
+    /// A cell of a token; 0 if there is no such token or cell.
     pub fn cell(&self, tok: TokId, cell: usize) -> u64
         ensures { result ≡ slice_index (slice_index_or self.now.tokens.rows.items tok.0 []) cell }
     {
         self.row(tok).get(cell).copied().unwrap_or(0)
     }
 
-    /// The generation of a token: how many sections changed it, counted on from its opening; 0 where there is no such token.
+    /// The generation of a token, 0 to 70368744177663: that of its opening, and one more for each section that changed its row or
+    /// record. 0 if there is no such token.
     pub fn generation(&self, tok: TokId) -> u64
         ensures { result ≡ slice_index self.now.tokens.gens.items tok.0 }
     {
@@ -105,11 +106,11 @@ impl<B: Lasting + Drop> Machine<B> {
     ghost use Rattle.lwkt_program.specs.Ended.{IsClosedMachine};
     ghost use Rattle.lwkt_base.specs.Fault.{no_memory};
 
-    /// Closes the machine: each processor is stopped, its threads end and give up what they hold, and bank and book are closed. Each
-    /// token's row, with its record and its tallies, then meets the law that was declared for it, and what each body keeps holds of it
-    /// as it comes back.
+    /// Closes the machine: each processor is stopped, its threads end and give up what they hold, and bank and book are closed.
+    /// Each token's row, with its record and its tallies, then meets the law that was declared for it, and what each body keeps
+    /// holds of it as it comes back.
     ///
-    /// Refused with `Memory`; the machine is given up then.
+    /// Refused with `Memory` if memory is refused; the machine is gone then.
     pub fn close(self, alloc: Global) -> Result<Closed<B>, Fault>
         ensures lawful { IfOk result (λ closed. AreLawful 0 self.bank.plans closed.tokens) }
         ensures closed { IfOk result (λ closed. IsClosedMachine self closed) }

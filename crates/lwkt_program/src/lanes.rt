@@ -13,7 +13,9 @@ const LANE_NOTES: usize = 32;
 /// The ends of all lanes: by processor those of the lanes from it, and those of the lanes to it.
 #[derive(Drop)]
 pub(crate) struct Lanes {
+    /// By the sending processor, then by the receiving one.
     pub outs: Vec<Vec<LaneOut>>,
+    /// By the receiving processor, then by the sending one.
     pub ins: Vec<Vec<LaneIn>>,
 }
 

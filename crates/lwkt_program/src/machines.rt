@@ -16,13 +16,15 @@ use lwkt_msg::MsgBook;
 use std::marker::Model;
 use std::thread::Threads;
 
-/// A million turns of a processor that run a thread, and a hundred million that run none.
+/// The limits of a script that sets the highest: a million turns of a processor that poll a thread, and a hundred million that poll
+/// none.
 pub const LIMITS: Limits = Limits {
     turns: 1_000_000,
     idle: 100_000_000,
 };
 
-/// A bank, a book and the processors at them, by number. All of them always belong together, and what each body keeps holds of it.
+/// A bank, a book and the processors at them, by number, 0 to 7. All of them always belong together, and what each body keeps holds
+/// of it.
 #[derive(Drop)]
 pub struct Machine<B: Lasting> {
     pub(crate) bank: Bank,
@@ -81,10 +83,10 @@ pub(crate) fn turn_at<B: Lasting>(
 impl<B: Lasting> Machine<B> {
     ghost use Rattle.lwkt_program.specs.Turns.{Declines};
 
-    /// Makes a turn of the processor of this number, as `Cpu::turn` does.
+    /// Makes a turn of the processor of this number, as `Cpu::turn` does. Its events are kept for the close.
     ///
-    /// Refused with `Limits` exactly where there is no such processor, and with `Memory` where its trace can't be given room; nothing
-    /// has changed then.
+    /// Refused with `Limits` exactly if there is no such processor, and with `Memory` if its trace can't be given room for 4096
+    /// events; nothing has changed then.
     pub fn turn(&mut self, cpu: CpuId) -> Result<Turned, Fault>
         ensures ok { IfOk result (λ turned. TurnsAt B.polled self.old.bank cpu.0 self.old.cpus self.new.cpus turned) }
         ensures refused { IfErr result (λ fault. Declines cpu.0 self.old.cpus self.new.cpus fault) }
@@ -98,8 +100,9 @@ impl<B: Lasting> Machine<B> {
         turn_at(&self.bank, &self.book, &mut self.cpus, number)
     }
 
-    /// Drives the processors, each on a thread of its own where one can be made, until every thread has ended, no turn can change
-    /// anything any more, or a processor has made as many turns as the limits allow.
+    /// Drives the processors, each on a thread of its own if one can be made. Each makes turns until every thread has ended, no
+    /// turn can change anything any more, it has made as many as the limits allow, or memory for a turn's events is refused, which
+    /// ends all. Why a processor made no further turn `ending` says.
     pub fn drive<R: Threads + Sync>(&mut self, rt: &R, limits: &Limits)
     where
         B: Send,
@@ -117,8 +120,8 @@ impl<B: Lasting> Machine<B> {
         );
     }
 
-    /// Why the processor of this number made no further turn when it was driven last; `None` exactly where there is no such
-    /// processor.
+    /// Why the processor of this number made no further turn when it was driven last, `NotDriven` before the first drive. `None`
+    /// exactly if there is no such processor.
     pub fn ending(&self, cpu: CpuId) -> Option<Ending>
         ensures { result ≡ option_map (λ d. d.ending) (slice_get self.now.cpus cpu.0) }
     {

@@ -20,9 +20,10 @@ fn token(alloc: Global, cells: &[u64], law: Law, param: u64) -> Result<TokSpec, 
     })
 }
 
-/// A token of which nothing is asked.
+/// A token under the law Any, of whose cells nothing is asked. As of all these tokens, its generation is 0, and a machine opens
+/// with it only if it has at most 4 cells.
 ///
-/// Refused with `Memory`.
+/// Refused with `Memory` if memory is refused.
 pub fn any(alloc: Global, cells: &[u64]) -> Result<TokSpec, Fault>
     ensures ok { IfOk result (λ spec. spec ≡ record { cells = cells.now; law = Law.Any; param = 0; generation = 0; blob = None }) }
     ensures only { OnErr result (result ≡ Err no_memory) }
@@ -30,9 +31,9 @@ pub fn any(alloc: Global, cells: &[u64]) -> Result<TokSpec, Fault>
     token(alloc, cells, Law::Any, 0)
 }
 
-/// A token whose cells add up to this sum.
+/// A token under the law Sum: its cells add up to `total`, without wrapping, at the opening and at the end of each section.
 ///
-/// Refused with `Memory`.
+/// Refused with `Memory` if memory is refused.
 pub fn sum(alloc: Global, cells: &[u64], total: u64) -> Result<TokSpec, Fault>
     ensures ok { IfOk result (λ spec. spec ≡ record { cells = cells.now; law = Law.Sum; param = total; generation = 0; blob = None }) }
     ensures only { OnErr result (result ≡ Err no_memory) }
@@ -40,9 +41,9 @@ pub fn sum(alloc: Global, cells: &[u64], total: u64) -> Result<TokSpec, Fault>
     token(alloc, cells, Law::Sum, total)
 }
 
-/// A token none of whose cells is less than the one before it.
+/// A token under the law Order: no cell is less than the one before it, at the opening and at the end of each section.
 ///
-/// Refused with `Memory`.
+/// Refused with `Memory` if memory is refused.
 pub fn order(alloc: Global, cells: &[u64]) -> Result<TokSpec, Fault>
     ensures ok { IfOk result (λ spec. spec ≡ record { cells = cells.now; law = Law.Order; param = 0; generation = 0; blob = None }) }
     ensures only { OnErr result (result ≡ Err no_memory) }
@@ -50,9 +51,9 @@ pub fn order(alloc: Global, cells: &[u64]) -> Result<TokSpec, Fault>
     token(alloc, cells, Law::Order, 0)
 }
 
-/// A token each of whose cells is at most this cap.
+/// A token under the law Cap: each cell is at most `most`, at the opening and at the end of each section.
 ///
-/// Refused with `Memory`.
+/// Refused with `Memory` if memory is refused.
 pub fn cap(alloc: Global, cells: &[u64], most: u64) -> Result<TokSpec, Fault>
     ensures ok { IfOk result (λ spec. spec ≡ record { cells = cells.now; law = Law.Cap; param = most; generation = 0; blob = None }) }
     ensures only { OnErr result (result ≡ Err no_memory) }
@@ -60,9 +61,9 @@ pub fn cap(alloc: Global, cells: &[u64], most: u64) -> Result<TokSpec, Fault>
     token(alloc, cells, Law::Cap, most)
 }
 
-/// A token whose one cell is this number and all that processors add to it.
+/// A token under the law Tally: its one cell is at each moment `first` and all that processors have added.
 ///
-/// Refused with `Memory`.
+/// Refused with `Memory` if memory is refused.
 pub fn tally(alloc: Global, first: u64) -> Result<TokSpec, Fault>
     ensures ok { IfOk result (λ spec. spec ≡ record { cells = first ∷ []; law = Law.Tally; param = first; generation = 0; blob = None }) }
     ensures only { OnErr result (result ≡ Err no_memory) }
@@ -70,9 +71,10 @@ pub fn tally(alloc: Global, first: u64) -> Result<TokSpec, Fault>
     token(alloc, &[first], Law::Tally, first)
 }
 
-/// The token, guarding this record besides its cells.
+/// The token, guarding this record besides its cells, in place of one that it had. No machine opens with a Tally token that has a
+/// record.
 ///
-/// Refused with `Limits` exactly where the record has more than 64 bytes.
+/// Refused with `Limits` exactly if the record has more than 64 bytes.
 pub fn guarding(token: TokSpec, record_: &[u8]) -> Result<TokSpec, Fault>
     ensures ok { IfOk result (λ spec. spec ≡ record token { blob = Some record_.now }) }
     ensures within { OnOk result (length record_.now ≤ 64) }
@@ -97,9 +99,9 @@ pub fn guarding(token: TokSpec, record_: &[u8]) -> Result<TokSpec, Fault>
     })
 }
 
-/// A token with a record, whose length its first cell tells.
+/// A token under the law Len: it has a record, whose length in bytes is in cell 0, at the opening and at the end of each section.
 ///
-/// Refused with `Limits` only where the record has more than 64 bytes, and else with `Memory`.
+/// Refused with `Limits` only if the record has more than 64 bytes, and with `Memory` if memory is refused.
 pub fn len(alloc: Global, cells: &[u64], record_: &[u8]) -> Result<TokSpec, Fault>
     ensures ok { IfOk result (λ spec. spec ≡ record { cells = cells.now; law = Law.Len; param = 0; generation = 0; blob = Some record_.now }) }
     ensures within { OnOk result (length record_.now ≤ 64) }
@@ -109,7 +111,7 @@ pub fn len(alloc: Global, cells: &[u64], record_: &[u8]) -> Result<TokSpec, Faul
     guarding(token, record_)
 }
 
-/// The thread of this number at the processor of that.
+/// The thread of this number, 0 to 15, at the processor `cpu`, 0 to 7. Whether a machine has it isn't asked.
 pub fn thread(cpu: u8, number: u8) -> ThreadId
     ensures { result ≡ record { cpu = record { 0 = cpu }; thread = number } }
 {
@@ -119,16 +121,16 @@ pub fn thread(cpu: u8, number: u8) -> ThreadId
     }
 }
 
-/// A message that belongs to this thread.
+/// A message that belongs to this thread, at rest in round 0.
 pub fn message(origin: ThreadId) -> MsgSpec
     ensures { result ≡ record { round = 0; origin = origin } }
 {
     MsgSpec { round: 0, origin }
 }
 
-/// A list of these.
+/// A list of these, in order.
 ///
-/// Refused with `Memory`; what was handed over is then dropped.
+/// Refused with `Memory` if memory is refused; what was handed over is dropped then.
 pub fn list<T: Drop, const N: usize>(alloc: Global, items: [T; N]) -> Result<Vec<T>, Fault>
     ensures ok { IfOk result (λ list. list.items ≡ items) }
     ensures only { OnErr result (result ≡ Err no_memory) }

@@ -94,10 +94,11 @@ impl<B: Lasting + Drop> Machine<B> {
     }
 
     /// Opens a machine of these tokens and messages, with a processor for each list of bodies and a thread for each body, in order.
-    /// Each body is as it was handed in, and no thread was polled.
+    /// Each body is as it was handed in, and no thread was polled. That what a body keeps holds of each is the caller's condition.
     ///
-    /// Refused with `Limits` only if a limit is passed, a bank's, a book's, or 16 bodies of a processor; with `LawBroken` only if it is
-    /// within the limits and an opening row, with the length of its record, breaks its law; and else with `Memory`.
+    /// Refused with `Limits` only if a limit is passed: 1 to 8 processors, 64 tokens, 4 cells or 64 bytes of a token, 64 messages, 16
+    /// bodies of a processor, or another one of the model's (`AreWithin`); with `LawBroken` only if it is within the limits and an
+    /// opening row, with the length of its record, breaks its law; and else with `Memory`, if memory is refused.
     pub fn open(
         alloc: Global,
         tokens: &[TokSpec],

@@ -69,10 +69,10 @@ fn run_all<B: Lasting>(
 impl<B: Lasting> Machine<B> {
     ghost use Rattle.lwkt_base.specs.Fault.{no_memory};
 
-    /// Makes so many rounds, in each a turn of each processor by rising number, or ends after the first in which every thread had
-    /// ended.
+    /// Makes `rounds` rounds of one turn for each processor, by rising number, or fewer: up to the first in which each turn says that
+    /// every thread of its processor has ended.
     ///
-    /// Refused with `Memory` where a trace can't be given room; the turns made so far stand.
+    /// Refused with `Memory` if a processor's trace can't be given room for 4096 events; the turns before stand.
     pub fn run(&mut self, rounds: u32) -> Result<(), Fault>
         ensures ok { OnOk result (Runs B.polled self.old.bank rounds self.old.cpus self.new.cpus) }
         ensures err { OnErr result (RunsShort B.polled self.old.bank rounds self.old.cpus self.new.cpus) }

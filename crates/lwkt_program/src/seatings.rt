@@ -19,10 +19,15 @@ use std::alloc::{AllocError, Global};
 /// What processors are made of that weren't made yet, by number: their seats, the ends of their lanes, and their bodies.
 #[derive(Drop)]
 pub(crate) struct Rest<B> {
+    /// Their seats at the bank.
     pub seats: Vec<CpuSeat>,
+    /// Their seats at the book.
     pub mails: Vec<MsgSeat>,
+    /// The sending ends, by the processor that the lane leads to.
     pub outs: Vec<Vec<LaneOut>>,
+    /// The receiving ends, by the processor that the lane comes from.
     pub ins: Vec<Vec<LaneIn>>,
+    /// Their bodies, by the threads' numbers.
     pub bodies: Vec<Vec<B>>,
 }
 

@@ -29,17 +29,17 @@ pub trait Steps {
     /// How a step leads from what the thread was told to what it asks next. One that says nothing of it leaves this out.
     ghost says: { Self → Told → Ask → Self → Type 0 } = { λ b told ask d. ⊤ };
 
-    /// What it asks first.
+    /// What it asks first, at its first poll.
     fn begin(&mut self) -> Ask
         ensures kept { kept self.old → kept self.new }
         ensures says { says self.old Told.Nothing result self.new };
 
-    /// What it asks after this answer to that ask.
+    /// What it asks after this answer to that ask. The answer is no `Refused`.
     fn answered(&mut self, asked: Ask, answer: Answer) -> Ask
         ensures kept { kept self.old → kept self.new }
         ensures says { says self.old (Told.Answer asked answer) result self.new };
 
-    /// What it asks after that ask was refused.
+    /// What it asks after that ask was refused with this fault.
     fn refused(&mut self, asked: Ask, fault: Fault) -> Ask
         ensures kept { kept self.old → kept self.new }
         ensures says { says self.old (Told.Refusal asked fault) result self.new };
@@ -48,6 +48,7 @@ pub trait Steps {
 /// A body that makes these steps.
 #[derive(Drop)]
 pub struct Stepper<S> {
+    /// The steps, as the last poll left them.
     pub steps: S,
     asked: Option<Ask>,
 }

@@ -55,8 +55,8 @@ impl<B: Lasting> Machine<B> {
     /// Stops the processors, by rising number: each thread that hasn't ended gives up what it holds and ends. The bodies stay as they
     /// are.
     ///
-    /// Refused with `Memory` where a trace can't be given room; the processors of lower numbers have stopped then, and nothing else
-    /// has changed.
+    /// Refused with `Memory` if a processor's trace can't be given room for 4096 events; the processors of lower numbers have stopped
+    /// then, and nothing else has changed.
     pub fn stop(&mut self) -> Result<(), Fault>
         ensures ok { OnOk result (AreStopped self.old.cpus self.new.cpus) }
         ensures err { OnErr result (AreStoppedShort self.old.cpus self.new.cpus) }
