@@ -19,7 +19,9 @@ use std::thread::Threads;
 /// A machine whose processors were driven, with the events of each.
 #[derive(Drop)]
 pub struct Outcome {
+    /// The machine after its processors' last turns. It isn't stopped.
     pub machine: Machine,
+    /// The events of each processor's turns, in order, by processor.
     pub traces: Vec<Vec<Event>>,
 }
 
@@ -112,10 +114,10 @@ fn drive_parts<R: Threads + Sync, G: Gate + Sync>(
     take_apart(alloc, all)
 }
 
-/// Drives the processors of a machine, each on a thread of its own where one can be made, and gives the machine back with the
-/// events of each processor.
+/// Drives the processors of a machine as `drive_all` of lwkt_drive does, each on a thread of its own if one can be made, and gives
+/// the machine back with the events of each processor.
 ///
-/// Refused with `Memory`; the machine is given up then.
+/// Refused with `Memory` if memory is refused, to one processor for a turn's events too; the machine is gone then.
 pub fn drive_machine<R: Threads + Sync, G: Gate + Sync>(
     rt: &R,
     alloc: Global,
@@ -130,7 +132,7 @@ pub fn drive_machine<R: Threads + Sync, G: Gate + Sync>(
     drive_machine_on_threads(rt, threads, alloc, gate, limits, machine)
 }
 
-/// Drives the processors of a machine as `drive_machine` does, on at most so many threads, with this one.
+/// Drives the processors of a machine as `drive_machine` does, on at most `threads` threads, the caller's among them; 0 counts as 1.
 ///
 /// Refused as `drive_machine` is.
 pub fn drive_machine_on_threads<R: Threads + Sync, G: Gate + Sync>(
