@@ -19,7 +19,9 @@ use std::alloc::{AllocError, Global};
 /// What a machine leaves: its closing values, and the lines of its threads as they were before it stopped.
 #[derive(Drop)]
 pub struct Left {
+    /// The values with which bank and book closed.
     pub last: Final,
+    /// A line for each thread, by processor, then by number, as it was before the stop.
     pub threads: Vec<ThreadLine>,
 }
 
@@ -101,7 +103,10 @@ fn close(
     })
 }
 
-/// Takes the lines of the threads of a script's machine, stops it, and closes it.
+/// Takes the lines of the threads of a script's machine, stops it, and closes it. The events of the stop are appended to the trace.
+/// That the machine is of this script is the caller's condition.
+///
+/// Refused with `Memory` if memory is refused; the machine is gone then.
 pub fn left_by(
     alloc: Global,
     script: &Script,

@@ -52,10 +52,10 @@ fn cpus_of(alloc: Global, given: &[Given]) -> Result<Vec<CpuId>, AllocError> {
     Ok(cpus)
 }
 
-/// Of each written section that traces and a stop tell, by token and then by generation, the processor that ended it; of none where
-/// they aren't wanted.
+/// Of each written section in traces and in the events of a stop, by token and then by generation, the processor that ended it, 0
+/// to 7; of none if they aren't wanted.
 ///
-/// Refused with `Memory`.
+/// Refused with `Memory` if memory is refused.
 pub fn givers_of(
     alloc: Global,
     are_wanted: bool,

@@ -75,7 +75,10 @@ fn token_line(
     })
 }
 
-/// The lines of tokens that are opened so and close with these values.
+/// The lines of tokens that are opened so and close with these values, by number. That the values are of these tokens is the caller's
+/// condition.
+///
+/// `AllocError` if memory is refused.
 pub fn token_lines(
     alloc: Global,
     specs: &[TokSpec],

@@ -23,8 +23,9 @@ fn status_of(outcome: &Result<End, RunFault>) -> u8
     }
 }
 
-/// Ends the program after a run: writes the line that stands in place of a report, if the outcome asks for one, and answers the
-/// exit status. If writing it fails, a front of it stands. A sink that had failed has failed still.
+/// Ends the program after a run: if the run was refused, writes the line that stands in place of a report. The answer is the exit
+/// status: 0 `Ended`, 2 `TurnsOut`, 4 `Unlawful`, 3 fault 32 or a stream that failed, 1 any other fault. If writing the line fails,
+/// a front of it stands, and the status is the same. A sink that had failed has failed still.
 pub fn finish<K: Sink>(sink: &mut K, outcome: &Result<End, RunFault>) -> u8
     ensures line { SaysAfterRun (K.has_failed sink.new) (K.contents sink.old) (K.contents sink.new) outcome.now }
     ensures failed { IsTrue (K.has_failed sink.old) → IsTrue (K.has_failed sink.new) }
@@ -51,9 +52,10 @@ pub fn asks_threads(words: &[String]) -> bool
     words.len() == 1 && words.iter().all(|word| word.as_str() == "threads")
 }
 
-/// The whole program: its arguments without its own name, what it reads and what it writes. The answer is its exit status:
-/// 0 every thread ended; 1 wrong arguments, or a script or opening that was refused; 2 turns used up; 3 want of memory, or a
-/// stream that failed; 4 an unlawful trace. With 1 and 3 one line stands in place of the report, or after a front of it.
+/// The whole program: its arguments without its own name, what it reads and what it writes. The answer is its exit status: 0 every
+/// thread ended; 1 wrong arguments, or a script or opening that was refused; 2 a thread hadn't ended when the turns were used up,
+/// or when no turn could change anything; 3 memory was refused, or a stream failed; 4 the verdict is `unlawful`. With 1 and 3 one
+/// line stands in place of the report, or after a front of it.
 ///
 /// The arguments are checked before anything is read.
 pub fn run_program<R: Threads + Sync, S: Source, K: Sink>(

@@ -13,8 +13,11 @@ const THREAD_LIMIT: usize = 128;
 /// What is kept of a run beside its trace: the processor of each turn, the turns in order, and their polls.
 #[derive(Drop)]
 pub struct Record {
+    /// The processor of each turn, in order, 0 to 7.
     pub order: Vec<u8>,
+    /// The polls, in order, each with its answer if its thread was polled again.
     pub polls: PollList,
+    /// The turns, in order: as many as `order` has.
     pub turns: Vec<Turn>,
     // Of each thread the place of its last poll, 16 threads for each processor.
     last: [Option<usize>; THREAD_LIMIT],
@@ -33,6 +36,7 @@ impl Record {
     ghost use Rattle.lwkt_verdict.specs.Threads.{slot_of};
     ghost use Rattle.lwkt_run.specs.Keeping.{polled_of, none_kept, kept_as, answered, polls_after, Keeps};
 
+    /// Nothing kept yet. Takes no memory.
     pub fn new(alloc: Global) -> Self
         ensures { kept_as result.order.items result.turns.items result.polls ≡ none_kept }
     {
@@ -77,7 +81,10 @@ impl Record {
         Ok(())
     }
 
-    /// Keeps a turn of a processor that made so many events, and what it asked, if it polled a thread.
+    /// Keeps a turn of a processor, 0 to 7, by which the trace grew by `events`, and, if it polled a thread, the poll. The answer
+    /// that the thread was given is put to its poll before.
+    ///
+    /// `AllocError` if memory is refused. The turn may be kept in part then, so nothing follows from the record any more.
     pub fn keep(&mut self, cpu: u8, events: u16, asks: Option<Heard<'_>>) -> Result<(), AllocError>
         requires { IfSome asks (λ p. slot_of p.thread < 128) }
         ensures { OnOk result (Keeps cpu events (option_map polled_of asks.entry) (kept_as self.old.order.items self.old.turns.items self.old.polls) (kept_as self.new.order.items self.new.turns.items self.new.polls)) }

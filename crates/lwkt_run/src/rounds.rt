@@ -98,7 +98,11 @@ fn make_round(
     Ok(over)
 }
 
-/// Makes the turn of each processor that an order names, one after another.
+/// Makes the turn of each processor that an order names, one after another, and keeps each. That the processors are there is the
+/// caller's condition.
+///
+/// Refused with `Memory` if memory for a turn's events or for keeping it is refused. The turns before are made then, and nothing
+/// follows from what was kept.
 pub fn make_turns(
     machine: &mut Machine,
     order: &[u8],
@@ -117,7 +121,10 @@ pub fn make_turns(
     Ok(())
 }
 
-/// Makes so many rounds, or fewer if in one of them every processor says that all its threads have ended.
+/// Makes `limit` rounds of one turn for each processor, by rising number, or fewer: up to the first in which each turn says that
+/// every thread of its processor has ended. Keeps each turn.
+///
+/// Refused with `Memory` as `make_turns` is.
 pub fn make_rounds(
     machine: &mut Machine,
     limit: u32,

@@ -21,28 +21,32 @@ use lwkt_script::{Script, read_script};
 use lwkt_verdict::{Pace, PollList, Turn, are_processors};
 use std::alloc::{AllocError, Global};
 
-/// How a run ended.
+/// How a run ended, by its report.
 #[derive(Clone, Copy, Debug, PartialEq, Eq)]
 pub enum End {
     /// Every thread had ended, exited or faulted.
     Ended,
-    /// The script's turns were used up before that.
+    /// A thread hadn't ended when the last turn was made: the script's turns or the order were used up, or, on threads, the gate
+    /// had said no, or no turn could change anything any more.
     TurnsOut,
-    /// The trace was not lawful, or the turns were no run of the script.
+    /// The verdict is `Unlawful`: the trace was not lawful, or the turns were no run of the script; on threads, the written
+    /// sections were no chains.
     Unlawful,
 }
 
-/// A run of a script, in rounds or along an order of its processors: the script, all that was kept of the run, and what its report shows.
+/// A run of a script, in rounds or along an order of its processors: the script, all that was kept of the run, and what its report
+/// shows.
 #[derive(Drop)]
 pub struct TurnsRun {
+    /// The script, as it was read.
     pub script: Script,
-    /// The events of all turns in order, and behind them those of the stop.
+    /// The events of all turns in order, and after them those of the stop.
     pub trace: Vec<Event>,
-    /// The polls of all turns, in order.
+    /// The polls of all turns, in order, each with its answer if its thread was polled again.
     pub polls: PollList,
     /// The turns in order.
     pub turns: Vec<Turn>,
-    /// The processor of each turn.
+    /// The processor of each turn, in order, 0 to 7.
     pub order: Vec<u8>,
     /// What the report shows; its verdict is that on this trace and these turns.
     pub closing: Closing,
@@ -189,7 +193,7 @@ fn judged_run(alloc: Global, pace: Pace, script: Script, made: Made) -> Result<T
 
 /// Runs a script in rounds, on one thread, and gives out all that was kept of the run.
 ///
-/// Refused as `turns_run` is, but for its bytes.
+/// Refused with `Limits` or `LawBroken` for the script's opening, and with `Memory` if memory is refused.
 pub fn turns_run_of(alloc: Global, script: Script) -> Result<TurnsRun, Fault>
     ensures script { IfOk result (λ run. run.script ≡ script) }
     ensures closes { IfOk result (λ run. MayClose (Pace.Rounds script.turns) script run.closing) }
@@ -204,7 +208,7 @@ pub fn turns_run_of(alloc: Global, script: Script) -> Result<TurnsRun, Fault>
 /// Runs the script that the bytes are in rounds, on one thread, and gives out all that was kept of the run.
 ///
 /// Refused with `Script` and the place of the script's first bad part, with `Limits` or `LawBroken` for its opening, and with
-/// `Memory` for a refused allocation.
+/// `Memory` if memory is refused.
 pub fn turns_run(alloc: Global, bytes: &[u8]) -> Result<TurnsRun, Fault>
     ensures ok { IfOk result (λ run. IsTurnsRun bytes.now run) }
     ensures refused { IfErr result (λ fault. Refuses bytes.now fault) }
@@ -232,7 +236,7 @@ fn order_run_of(alloc: Global, script: Script, order: &[u8]) -> Result<TurnsRun,
 /// after the last one they stop. Gives out all that was kept of the run. The number of rounds in the script doesn't count.
 ///
 /// Refused with `Script` and the place of the script's first bad part, with `NoPort` if the order names a processor that isn't
-/// there, with `Limits` or `LawBroken` for the opening, and with `Memory` for a refused allocation.
+/// there, with `Limits` or `LawBroken` for the opening, and with `Memory` if memory is refused.
 pub fn order_run(alloc: Global, bytes: &[u8], order: Vec<u8>) -> Result<TurnsRun, Fault>
     ensures ok { IfOk result (λ run. IsOrderRun bytes.now order.items run) }
     ensures refused { IfErr result (λ fault. RefusesAlong bytes.now order.items fault) }
@@ -241,7 +245,7 @@ pub fn order_run(alloc: Global, bytes: &[u8], order: Vec<u8>) -> Result<TurnsRun
     order_run_of(alloc, script, order.as_slice())
 }
 
-/// How a run ended, by the contents of its report.
+/// How a run ended, by the contents of its report: `Unlawful` by its verdict, else by whether every thread had ended.
 pub fn end_told(closing: &Closing) -> End
     ensures { result ≡ end_told closing.now }
 {
@@ -280,8 +284,8 @@ fn done_of_bytes(alloc: Global, bytes: &[u8]) -> Result<Done, Fault>
 /// before its first byte is written.
 ///
 /// Refused with `Fault` and nothing written: `Script` with the place of its first bad part, `Limits` or `LawBroken` for its
-/// opening, `Memory` for a refused allocation; with `Stream` only if a call of the source or the sink failed, and then a
-/// front of the report stands.
+/// opening, `Memory` if memory is refused; with `Stream` only if a call of the source or the sink failed, and then a front of the
+/// report stands.
 pub fn run_turns<S: Source, K: Sink>(
     alloc: Global,
     source: &mut S,

@@ -36,7 +36,9 @@ fn gathered(
     Ok(sections)
 }
 
-/// The sections that traces and a stop tell, by token, and those of one token by generation.
+/// The written sections in traces and in the events of a stop, by token, and those of one token by generation.
+///
+/// `AllocError` if memory is refused.
 pub fn sections_in_order(
     alloc: Global,
     traces: Vec<Vec<Event>>,
@@ -88,7 +90,11 @@ fn verdict_on(first: &Rows, last: &Rows, sections: &[Section]) -> Verdict
     }
 }
 
-/// The verdict on the sections of a run from an opening to its closing values.
+/// The verdict on the written sections of a run: `Closed` exactly if they are, in this order, chains from the opening rows and
+/// generations to the closing ones; else `Unlawful` with the index of the first that doesn't go on with its token's chain, or the
+/// number of sections.
+///
+/// `AllocError` if memory is refused.
 pub fn judged(
     alloc: Global,
     specs: &[TokSpec],

@@ -21,15 +21,15 @@ use lwkt_threads::{Gate, Limits, OpenGate, Outcome, drive_machine};
 use std::alloc::{AllocError, Global};
 use std::thread::Threads;
 
-/// A run of a script on threads: what its report shows, and the written sections that its processors told, by token and then by
+/// A run of a script on threads: what its report shows, and the written sections that its processors reported, by token and then by
 /// generation.
 #[derive(Drop)]
 pub struct ThreadRecord {
     /// What the report shows; its verdict is that on these sections.
     pub closing: Closing,
-    /// Of each token its sections are one chain from its opening row to that of its line.
+    /// The written sections. Those of one token are a chain from its opening row to that of its line.
     pub sections: Vec<Section>,
-    /// Of each section the processor that ended it.
+    /// Of each section, in the same order, the processor that ended it, 0 to 7.
     pub givers: Vec<CpuId>,
 }
 
@@ -146,13 +146,15 @@ fn done_of_bytes<R: Threads + Sync, G: Gate + Sync>(
     Ok(Done { text, end })
 }
 
-/// Reads a script to its end, or to 1048577 bytes, drives each of its processors on a thread of its own where one can be made,
-/// and writes the report, which is whole in memory before its first byte is written. The gate is asked before each turn of a
-/// processor, and no stops that processor. A processor also stops after the script's `turns` turns that ran a thread, after its
-/// `idle` turns that ran none, once every processor has said that all its threads have ended, or once no turn of any processor
-/// can change anything.
+/// Reads a script to its end, or to 1048577 bytes, drives each of its processors on a thread of its own if one can be made, and
+/// writes the report, which is whole in memory before its first byte is written. The gate is asked before each turn of a processor,
+/// and no stops that processor. A processor also stops after the script's `turns` turns that polled a thread, after its `idle`
+/// turns that polled none, once every processor has said that all its threads have ended, or once no turn of any processor can
+/// change anything.
 ///
-/// Refused as `run_turns` is; what is refused for want of memory to one processor stops all of them.
+/// Refused with `Fault` and nothing written: `Script` with the place of the script's first bad part, `Limits` or `LawBroken` for
+/// its opening, `Memory` if memory is refused, to one processor for a turn's events too, which stops all; with `Stream` only if a
+/// call of the source or the sink failed, and then a front of the report stands.
 pub fn run_threads_gated<R: Threads + Sync, G: Gate + Sync, S: Source, K: Sink>(
     rt: &R,
     alloc: Global,
@@ -171,6 +173,8 @@ pub fn run_threads_gated<R: Threads + Sync, G: Gate + Sync, S: Source, K: Sink>(
 }
 
 /// Runs a script on threads, as `run_threads_gated` does with a gate that never says no.
+///
+/// Refused as `run_threads_gated` is.
 pub fn run_threads<R: Threads + Sync, S: Source, K: Sink>(
     rt: &R,
     alloc: Global,
@@ -183,10 +187,10 @@ pub fn run_threads<R: Threads + Sync, S: Source, K: Sink>(
     run_threads_gated(rt, alloc, source, sink, &OpenGate)
 }
 
-/// Runs a script on threads, and keeps what its report shows and the written sections that its processors told, in order, each with
-/// its processor.
+/// Runs a script on threads, and keeps what its report shows and the written sections that its processors reported, in order, each
+/// with its processor.
 ///
-/// Refused as `run_threads` is once it has read its script.
+/// Refused with `Limits` or `LawBroken` for the script's opening, and with `Memory` if memory is refused.
 pub fn record_threads<R: Threads + Sync>(
     rt: &R,
     alloc: Global,

@@ -23,7 +23,9 @@ fn plan_of(alloc: Global, spec: &ThreadSpec) -> Result<ThreadPlan, AllocError>
     })
 }
 
-/// The threads of a script as a check of a run takes them.
+/// The threads of a script as a check of a run takes them, in the script's order.
+///
+/// `AllocError` if memory is refused.
 pub fn plans_of(alloc: Global, specs: &[ThreadSpec]) -> Result<Vec<ThreadPlan>, AllocError>
     ensures { IfOk result (λ plans. ArePlansOf specs.now plans.items) }
 {
@@ -47,7 +49,9 @@ fn thread_end_of(alloc: Global, line: &ThreadLine) -> Result<ThreadEnd, AllocErr
     })
 }
 
-/// The lines of threads as a check of a run takes them.
+/// The lines of threads as a check of a run takes them, in the same order.
+///
+/// `AllocError` if memory is refused.
 pub fn ends_of(alloc: Global, lines: &[ThreadLine]) -> Result<Vec<ThreadEnd>, AllocError>
     ensures { IfOk result (λ ends. AreEndsOf lines.now ends.items) }
 {
@@ -81,10 +85,10 @@ fn close_of(state: &State, last: &Final, trace: &[Event]) -> Verdict
     }
 }
 
-/// The verdict on a run: `Lawful` if the trace leads from the opening to the closing values and the turns are a run of the
-/// script's threads along the order, at this pace, over it; else the index of the first event that can't happen, or the number of
-/// events, if the close or the run alone isn't so. The check of the turns plays the trace; only where it says no is the trace
-/// played from another opening, for the index.
+/// The verdict on a run: `Lawful` if the trace leads from the opening to the closing values and the turns are a run of the script's
+/// threads along the order, at this pace, over it; else `Unlawful` with the index of the first event that can't happen, or the
+/// number of events if only the close or the turns differ. The check of the turns plays the trace; only if it says no is the trace
+/// played from `again`, the same opening, for the index.
 pub fn verdict_of(
     opening: State,
     again: State,
