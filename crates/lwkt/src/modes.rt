@@ -9,11 +9,11 @@ use lwkt_run::{asks_threads, asks_turns};
 pub enum Mode {
     /// In rounds, on one thread.
     Turns,
-    /// Each on a thread of its own.
+    /// Each on a thread of its own, if one can be made.
     Threads,
 }
 
-/// What the arguments ask for, if they are the program's.
+/// What the arguments ask for, which are the one word `turns` or `threads`; `None` exactly if they are anything else.
 pub fn mode_of(words: &[String]) -> Option<Mode>
     ensures turns { AsksTurns words.now → result ≡ Some Mode.Turns }
     ensures threads { AsksThreads words.now → result ≡ Some Mode.Threads }

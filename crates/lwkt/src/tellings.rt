@@ -134,12 +134,12 @@ fn say_failure<I, O, E: Sink>(
     }
 }
 
-/// The whole program: as `run_program`, of what it reads, unless that is a text. A text is run as the script that it is; of each
-/// thing that it says of the outcome it says where errors go whether it is so, and the status is 5 where one isn't, 0 where all
-/// are. A text that is refused has the line of bytes that are no JSON.
+/// The whole program: as `run_program`, of what it reads, unless that is a text. A text is run as the script that it is. If it has
+/// expectations of the outcome, a line on `errors` says of each whether it holds, and the status is 0 if all hold and 5 if not, in
+/// place of 0 and 2. A text with something wrong has the line of bytes that are no JSON, and status 1.
 ///
-/// It also says where errors go why there is no report: the part of the script that is refused, with its place, or all that is
-/// wrong with a text, or how a stream failed; of wrong arguments how the program is called.
+/// `errors` also gets why there is no report: the part of the script that is refused, with its place, or all that is wrong with a
+/// text, or how a stream failed; of wrong arguments how the program is called.
 pub fn run_told<R: Threads + Sync, I: Read, O: Write, E: Sink>(
     rt: &R,
     alloc: Global,

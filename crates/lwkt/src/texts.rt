@@ -99,12 +99,12 @@ fn account_of_bytes<R: Threads + Sync, E: Sink>(
     }
 }
 
-/// Runs the text that the bytes are, writes the report, which is whole in memory before its first byte is written, and says where
-/// errors go which of its expectations hold; or why it is refused, but for want of memory.
+/// Runs the text that the bytes are, and writes the report, which is whole in memory before its first byte is written. `errors`
+/// gets a line for each of its expectations, whether it holds; or why it is refused, unless memory was.
 ///
-/// Refused with `Fault` and nothing written: `Script` with place 0 where something is wrong with the text, `Limits` or `LawBroken`
-/// for its opening, `Memory` for a refused allocation; with `Stream` only if a call of the sink failed, and then a front of the
-/// report stands.
+/// Refused with `Fault` and nothing written: `Script` with place 0 if something is wrong with the text, `Limits` or `LawBroken` for
+/// its opening, `Memory` if memory is refused; with `Stream` only if a call of the sink failed, and then a front of the report
+/// stands.
 pub fn run_text<R: Threads + Sync, K: Sink, E: Sink>(
     rt: &R,
     alloc: Global,
