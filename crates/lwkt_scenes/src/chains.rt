@@ -74,10 +74,11 @@ impl Chains {
     }
 }
 
-/// The written sections of a run in rounds: of each token its opening row, then one line for each section in order, with its
-/// generation, its thread, the turn in which it ended, and the row before and after it, and then the closing row of the report.
+/// The written sections of a run in rounds or along an order: of each token its opening row, then one line for each section in
+/// order, with its generation, its thread, the turn in which it ended, counted from 0, or that it ended with the stop, and the row
+/// before and after it, and then the closing row of the report.
 ///
-/// Refused if memory is.
+/// `AllocError` if memory is refused.
 pub fn chains_of(alloc: Global, run: &Reel) -> Result<String, AllocError> {
     let mut chains = Chains {
         polled: [None; 8],
@@ -95,10 +96,10 @@ fn show_giver(out: &mut Page, giver: Option<&CpuId>) {
 }
 
 /// The written sections of a run on threads, which are given in the order of their generations, with the processors that ended
-/// them in the same order: of each token its opening row, then one line for each section, with its generation, its processor where
+/// them in the same order: of each token its opening row, then one line for each section, with its generation, its processor if
 /// that is given, and the row before and after it, and then the closing row of the report.
 ///
-/// Refused if memory is.
+/// `AllocError` if memory is refused.
 pub fn chains_of_sections(
     alloc: Global,
     script: &Script,

@@ -23,10 +23,15 @@ pub(crate) enum Tag {
 /// A label and where it stands: above the turns of a processor in a round, on which line from below, and how far from the left.
 #[derive(Clone, Copy)]
 pub(crate) struct Label {
+    /// The round of its turn, counted from 0.
     pub round: usize,
+    /// The turn's processor, 0 to 7.
     pub cpu: usize,
+    /// Which line above the processor's turns, from the lowest, 0 to 69.
     pub line: usize,
+    /// How far from the picture's left side it begins, in pixels.
     pub x: usize,
+    /// What it says.
     pub tag: Tag,
 }
 
@@ -37,6 +42,7 @@ pub(crate) struct Labels {
     // The band of the last label, and where its lines' last labels end, so many for each processor.
     band: usize,
     ends: [usize; CPU_LIMIT * LINE_LIMIT],
+    /// The labels, in the order in which they were added.
     pub list: Vec<Label>,
     /// How many lines there are, 8 processors for each band.
     pub lines: Vec<usize>,

@@ -1,14 +1,16 @@
 use lwkt_core::Event;
 use std::alloc::{AllocError, Global};
 
-/// The most processors of a script, and the most tokens.
+/// The most processors of a script.
 pub(crate) const CPU_LIMIT: usize = 8;
 
+/// The most tokens of a script.
 pub(crate) const TOKEN_LIMIT: usize = 64;
 
-/// The width of a round, the height of a row, and that of a line of labels.
+/// The width of a round, in pixels.
 pub(crate) const COLUMN: usize = 32;
 
+/// The height of a row, in pixels.
 pub(crate) const ROW: usize = 14;
 
 const LINE: usize = 11;
@@ -34,7 +36,9 @@ const GAP: usize = 8;
 /// The rounds that a picture shows, in bands of at most 40 below each other.
 #[derive(Clone, Copy)]
 pub(crate) struct Grid {
+    /// The first round that is shown, counted from 0.
     pub first: usize,
+    /// The last one.
     pub last: usize,
 }
 
@@ -88,13 +92,14 @@ impl Grid {
 /// Where the parts of a picture stand.
 #[derive(Drop)]
 pub(crate) struct Layout {
+    /// The rounds that are shown.
     pub grid: Grid,
     // Of each band where its numbers of rounds stand, and where the turns of each of 8 processors do.
     heads: Vec<usize>,
     tops: Vec<usize>,
     // Of each processor's tokens how far below its turns they stand, 64 for each processor; 0 for one without a row.
     rows: Vec<usize>,
-    /// How high all bands are.
+    /// How high all bands are together, in pixels.
     pub height: usize,
 }
 

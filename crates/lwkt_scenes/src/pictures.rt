@@ -274,9 +274,10 @@ fn draw(
     out.whole()
 }
 
-/// A picture of a run.
+/// A picture of a run, in SVG: of the turns that are chosen, but of at most the first 2000 of them. If not all turns of the run are
+/// shown, a line below says which are.
 ///
-/// Refused with `Memory` if an allocation is, and as `State::open` is for an opening that it refuses.
+/// Refused with `Memory` if memory is refused, and with `Limits` or `LawBroken` as `State::open` is for the script's opening.
 pub fn picture_of(alloc: Global, run: &Reel, chosen: Chosen) -> Result<String, Fault>
     ensures refused { IfErr result (MayBeRefused run.now.script.now) }
 {

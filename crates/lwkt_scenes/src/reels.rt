@@ -7,15 +7,17 @@ use lwkt_verdict::{PollList, Turn};
 /// A run of a script, in rounds or along an order of its processors: what was kept of it, and what its report shows.
 #[derive(Clone, Copy)]
 pub struct Reel<'a> {
+    /// The script that was run.
     pub script: &'a Script,
-    /// The events of all turns in order, and behind them those of the stop.
+    /// The events of all turns in order, and after them those of the stop.
     pub trace: &'a [Event],
     /// The polls of all turns, in order.
     pub polls: &'a PollList,
     /// The turns in order.
     pub turns: &'a [Turn],
-    /// The processor of each turn, where the processors don't take their turns in rounds.
+    /// Of a run along an order the processor of each turn, 0 to 7; of a run in rounds nothing.
     pub order: Option<&'a [u8]>,
+    /// What the report shows.
     pub closing: &'a Closing,
 }
 
@@ -28,11 +30,14 @@ pub enum Counted {
     Rounds,
 }
 
-/// Which turns or rounds are shown: from the first to the last, counted from 0. Either may be behind the end of the run.
+/// Which turns or rounds are shown: from the first to the last. Either may be after the end of the run.
 #[derive(Clone, Copy)]
 pub struct Chosen {
+    /// Whether turns or rounds are counted.
     pub counted: Counted,
+    /// The first one that is shown, counted from 0.
     pub first: usize,
+    /// The last one that is shown, counted from 0.
     pub last: usize,
 }
 
@@ -61,7 +66,7 @@ impl Chosen {
         }
     }
 
-    /// Whether all that is chosen lies behind the end of a run of so many processors that made so many turns.
+    /// Whether all that is chosen comes after the end of a run of so many processors that made so many turns.
     pub fn is_past(&self, cpus: u8, turns: usize) -> bool
         ensures { IsTrue result ↔ (turns ≤ first_turn self.now.counted self.now.first cpus) }
     {

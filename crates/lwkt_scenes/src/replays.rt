@@ -19,9 +19,11 @@ const MESSAGE_LIMIT: usize = 64;
 /// A run that is made again event by event, and how far its threads have come.
 #[derive(Drop)]
 pub(crate) struct Replay {
+    /// The state of the model after the events so far.
     pub state: State,
     /// The threads as they end, by processor, then number.
     pub stories: Vec<Story>,
+    /// Of each processor the thread that runs, if one does.
     pub runners: Runners,
     // The thread that each message was last sent to.
     sent_to: [ThreadId; MESSAGE_LIMIT],

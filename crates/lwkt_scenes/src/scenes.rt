@@ -11,10 +11,15 @@ use lwkt_verdict::{Poll, Turn};
 /// One turn of a run: its number, its processor, what it asked, and its events.
 #[derive(Clone, Copy)]
 pub(crate) struct Scene<'a> {
+    /// Its number, counted from 0.
     pub number: usize,
+    /// Its round, counted from 0; along an order its number.
     pub round: usize,
+    /// Its processor, 0 to 7.
     pub cpu: u8,
+    /// What it asked, if it polled a thread.
     pub poll: Option<Poll>,
+    /// Its events, in order.
     pub part: &'a [Event],
 }
 

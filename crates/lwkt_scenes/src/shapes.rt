@@ -1,11 +1,12 @@
 use crate::pages::Page;
 
-/// The class of a text in bold, and of one on a full bar.
+/// The class of a text in bold.
 pub(crate) const BOLD: &str = " class=\"bold\"";
 
+/// The class of a text on a full bar.
 pub(crate) const VALUE: &str = " class=\"value\"";
 
-/// How wide so many letters are.
+/// How wide so many letters are, in pixels.
 pub(crate) fn text_width(letters: usize) -> usize {
     letters
         .saturating_mul(6)
@@ -71,10 +72,12 @@ pub(crate) fn show_path(out: &mut Page, x: usize, y: usize, path: &str, class: &
     out.add("\"");
 }
 
-/// A place in a picture.
+/// A place in a picture, in pixels.
 #[derive(Clone, Copy)]
 pub(crate) struct Point {
+    /// How far from the left.
     pub x: usize,
+    /// How far from above.
     pub y: usize,
 }
 

@@ -132,10 +132,10 @@ fn front_of(alloc: Global, run: &Reel, chosen: Chosen) -> Result<String, Fault>
     }
 }
 
-/// The lines of a run: its turns, why threads haven't ended, the logs, and behind them the report. Of each turn that is chosen
-/// there is a line, but for those behind the first 10000 of them; which turns are left out is said.
+/// The lines of a run: its turns, why threads haven't ended, the logs, and after them the report. Of each turn that is chosen
+/// there is a line, but for those after the first 10000 of them; which turns are left out is said.
 ///
-/// Refused with `Memory` if an allocation is, and as `State::open` is for an opening that it refuses.
+/// Refused with `Memory` if memory is refused, and with `Limits` or `LawBroken` as `State::open` is for the script's opening.
 pub fn lines_of(alloc: Global, run: &Reel, chosen: Chosen) -> Result<String, Fault>
     ensures report { IfOk result (λ text. EndsInReport run.now.closing.now (string_bytes text)) }
     ensures lines { IfOk result (λ text. IsTold chosen (option_copied run.now.order) run.now.script.now.cpus run.now.polls.now run.now.turns.now run.now.closing.now (string_bytes text)) }

@@ -23,8 +23,11 @@ pub(crate) enum Content {
 /// The box of a turn.
 #[derive(Drop)]
 pub(crate) struct TurnBox {
+    /// The turn's round, counted from 0.
     pub round: usize,
+    /// Its processor, 0 to 7.
     pub cpu: usize,
+    /// What stands in it.
     pub content: Content,
     /// Whether a thread ended faulted in it.
     pub crossed: bool,
@@ -35,10 +38,15 @@ pub(crate) struct TurnBox {
 /// A token that a processor held, from round to round.
 #[derive(Clone, Copy)]
 pub(crate) struct Bar {
+    /// The processor, 0 to 7.
     pub cpu: usize,
+    /// The token, 0 to 63.
     pub tok: usize,
+    /// The round in which it was taken.
     pub since: usize,
+    /// The last round in which it was held.
     pub until: usize,
+    /// How it was held.
     pub mode: Mode,
     references: usize,
     // The last value that was stored under it, by its place in the list of values.
@@ -48,10 +56,15 @@ pub(crate) struct Bar {
 /// A value that was stored in a cell.
 #[derive(Clone, Copy)]
 pub(crate) struct Stored {
+    /// The processor, 0 to 7.
     pub cpu: usize,
+    /// The token, 0 to 63.
     pub tok: usize,
+    /// The round.
     pub round: usize,
+    /// The cell, 0 to 3.
     pub cell: u8,
+    /// The value.
     pub value: u64,
     /// Whether further cells were stored in the same turn.
     pub more: bool,
@@ -62,18 +75,26 @@ pub(crate) struct Stored {
 /// A token that a processor marked.
 #[derive(Clone, Copy)]
 pub(crate) struct Marked {
+    /// The processor, 0 to 7.
     pub cpu: usize,
+    /// The token, 0 to 63.
     pub tok: usize,
+    /// The round.
     pub round: usize,
 }
 
 /// A message or a reply that left a processor in a round.
 #[derive(Clone, Copy)]
 pub(crate) struct Way {
+    /// The message.
     pub msg: MsgId,
+    /// The message's own round.
     pub round: u64,
+    /// How its line looks.
     pub look: Look,
+    /// The processor that it left, 0 to 7.
     pub cpu: usize,
+    /// The round of the run in which it left.
     pub since: usize,
     /// The processor that it came to, and when, if it did.
     pub end: Option<(usize, usize)>,
@@ -82,19 +103,28 @@ pub(crate) struct Way {
 /// How a message was sent last: in which round of its own, and whether with priority.
 #[derive(Clone, Copy)]
 pub(crate) struct Sent {
+    /// The message's own round.
     pub round: u64,
+    /// Whether it was sent with priority.
     pub is_urgent: bool,
 }
 
 /// What a picture has.
 #[derive(Drop)]
 pub(crate) struct Sketch {
+    /// The rounds that it shows.
     pub grid: Grid,
+    /// The turns.
     pub boxes: Vec<TurnBox>,
+    /// The tokens that were held.
     pub bars: Vec<Bar>,
+    /// The values that were stored.
     pub values: Vec<Stored>,
+    /// The exclusive requests that marked a token.
     pub marks: Vec<Marked>,
+    /// The messages and replies.
     pub ways: Vec<Way>,
+    /// The labels above turns.
     pub labels: Labels,
     // The tokens that are held now, and the messages that are on their way.
     held: Vec<Option<Bar>>,

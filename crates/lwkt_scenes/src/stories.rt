@@ -36,22 +36,27 @@ pub enum Came {
     Waits,
     /// It ends.
     Ends,
-    /// It ends by this fault.
+    /// It ends by this fault, 19 or 20.
     Faulted(Fault),
 }
 
-/// Which step a thread makes: how many polls it has had, how many steps it makes, and how many times over.
+/// Which step a thread makes.
 #[derive(Clone, Copy)]
 pub struct Step {
+    /// How many polls the thread has had before.
     pub polls: u64,
+    /// How many steps it makes, 0 to 256.
     pub steps: u64,
+    /// How many times it makes them, 1 to 1000000.
     pub repeat: u64,
 }
 
 /// What a thread has come to after some turns.
 #[derive(Drop)]
 pub(crate) struct Story {
+    /// The thread.
     pub id: ThreadId,
+    /// What it is doing.
     pub doing: Doing,
     /// The references that it wants or holds.
     pub list: TokList,
@@ -77,6 +82,7 @@ pub(crate) struct Story {
 /// An ask whose answer is in the log.
 #[derive(Clone, Copy)]
 pub(crate) struct Logged {
+    /// The ask.
     pub ask: Ask,
     /// How many asks the thread had made before.
     pub number: u64,

@@ -5,9 +5,9 @@ use crate::reels::Reel;
 use lwkt_trace::trace_text;
 use std::alloc::{AllocError, Global};
 
-/// The trace of a run, as `lwkt_check` reads it.
+/// The trace of a run, as `lwkt_check` reads it (docs/TRACES.md).
 ///
-/// Refused if memory is.
+/// `AllocError` if memory is refused.
 pub fn trace_of(alloc: Global, run: &Reel) -> Result<String, AllocError>
     ensures { IfOk result (λ text. string_bytes text ≡ trace_text run.now.script.now run.now.trace.now run.now.closing.now) }
 {

@@ -20,7 +20,9 @@ pub(crate) enum Want {
 /// What the box of a turn says that ran no thread: what one thread waits for, and whether others wait for anything else.
 #[derive(Clone, Copy)]
 pub(crate) struct Idle {
+    /// What one thread waits for; none if every thread has ended.
     pub want: Option<Want>,
+    /// Whether another waits for something else.
     pub more: bool,
 }
 

@@ -30,10 +30,10 @@ fn show_whys(out: &mut Page, replay: &Replay) {
     }
 }
 
-/// Of each thread of a run that hasn't ended what it waits for after the last turn, in one line without its end: `thread 0.0 waits
-/// for ..; thread 1.0 ..`.
+/// Of each thread of a run that hasn't ended what it waits for after the last turn, or that it could go on, in one line without its
+/// end: `thread 0.0 waits for ..; thread 1.0 ..`. It is empty if every thread has ended.
 ///
-/// Refused with `Memory` if an allocation is, and as `State::open` is for an opening that it refuses.
+/// Refused with `Memory` if memory is refused, and with `Limits` or `LawBroken` as `State::open` is for the script's opening.
 pub fn whys_of(alloc: Global, run: &Reel) -> Result<String, Fault> {
     let mut replay = Replay::open(alloc, run.script, &run.closing.threads)?;
     pass_all(alloc, run, &mut replay);
