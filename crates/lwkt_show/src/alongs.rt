@@ -42,9 +42,9 @@ fn complain_along<E: Sink>(alloc: Global, errors: &mut E, bytes: &[u8], fault: F
 }
 
 /// Reads a script as `show_stream` does, runs it along an order, and writes what shows the run, which is whole in memory before its
-/// first byte is written. Why a script, its opening or the order is refused goes to where errors go, in one line.
+/// first byte is written. Why a script, its opening or the order is refused goes to `errors`, in one line.
 ///
-/// Refused as `show_stream` is, and with `NoPort` where the order names a processor that isn't there.
+/// Refused as `show_stream` is, and with the fault `NoPort` if the order names a processor that isn't there.
 pub fn show_along<S: Source, K: Sink, E: Sink>(
     alloc: Global,
     along: Along,

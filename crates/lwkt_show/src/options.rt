@@ -7,11 +7,11 @@ use lwkt_scenes::Counted;
 /// How a run is shown.
 #[derive(Clone, Copy, Debug, PartialEq, Eq)]
 pub enum View {
-    /// A line for each turn, why threads haven't ended, and the report.
+    /// A line for each turn that is chosen, why threads haven't ended, and the report.
     Lines,
     /// Its trace, as `lwkt_check` reads it.
     Trace,
-    /// A picture.
+    /// A picture of the turns that are chosen, in SVG.
     Picture,
     /// The written sections of each token.
     Chains,
@@ -20,12 +20,13 @@ pub enum View {
 /// How a run is shown, and which of its turns.
 #[derive(Clone, Copy, Debug, PartialEq, Eq)]
 pub struct Options {
+    /// How the run is shown.
     pub view: View,
     /// Whether turns or rounds are counted.
     pub counted: Counted,
     /// The first turn or round that is shown, counted from 0.
     pub first: usize,
-    /// The last one.
+    /// The last one, not before the first; 18446744073709551615 if no end was named.
     pub last: usize,
 }
 
@@ -170,7 +171,8 @@ pub(crate) fn read_options(words: &[String]) -> Option<Options>
 }
 
 /// The options that the arguments are: `turns`, then any of a range and one of `--svg`, `--trace` and `--chains`. The range is
-/// `--turns A..B` or `--rounds A..B`, with A at most B. A trace and chains are always of the whole run.
+/// `--turns A..B` or `--rounds A..B`, with A at most B; either may be left out. A trace and chains are always of the whole run.
+/// `None` exactly if the arguments are no such ones.
 pub fn options_of(words: &[String]) -> Option<Options>
     ensures some { IfSome result (λ options. AreOptions (map string_bytes words.now) options) }
     ensures only { (options : Options) → AreOptions (map string_bytes words.now) options → result ≡ Some options }

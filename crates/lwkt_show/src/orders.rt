@@ -13,8 +13,9 @@ use std::alloc::{AllocError, Global};
 /// An order of turns, and how the run along it is shown.
 #[derive(Drop)]
 pub struct Along {
+    /// How the run is shown. Its range counts turns.
     pub options: Options,
-    /// The processor of each turn.
+    /// The processor of each turn, 0 to 9: whether it is there isn't asked.
     pub order: Vec<u8>,
 }
 
@@ -99,7 +100,7 @@ fn asked(words: &[String]) -> Option<(&str, Options)>
     Some((text, options))
 }
 
-/// Whether the arguments name an order of turns.
+/// Whether the arguments name an order of turns, as `along_of` reads it.
 pub fn asks_along(words: &[String]) -> bool
     ensures asked { (options : Options) (order : List ℕ) → AreAlong (map string_bytes words.now) options order → IsTrue result }
     ensures misused { AreMisused (map string_bytes words.now) → result ≡ false }
@@ -107,10 +108,11 @@ pub fn asks_along(words: &[String]) -> bool
     asked(words).is_some()
 }
 
-/// The order that the arguments name, and what they say of its turns: `turns`, `--order` and a text, and then what may stand behind
-/// `turns` alone, but no rounds. Each digit of the text is the processor of a turn; blanks, commas and dashes may part them.
+/// The order that the arguments name, and what they say of its turns: `turns`, `--order` and a text, and then what may stand after
+/// `turns` alone, but no rounds. Each digit of the text is the processor of a turn; blanks, commas and dashes may part them. `None`
+/// if the arguments name no order.
 ///
-/// Refused if memory is.
+/// `AllocError` if memory is refused.
 pub fn along_of(alloc: Global, words: &[String]) -> Result<Option<Along>, AllocError>
     ensures some { IfOk result (λ found. IfSome found (λ along. AreAlong (map string_bytes words.now) along.options along.order.items)) }
     ensures only { IfOk result (λ found. (options : Options) (order : List ℕ) → AreAlong (map string_bytes words.now) options order → IsSomeAnd found (λ along. (along.options ≡ options) × (along.order.items ≡ order))) }

@@ -31,16 +31,18 @@ const PAST: &str = "lwkt_show: the range lies behind the end of the run\n";
 /// What came of a run that was to be shown.
 #[derive(Clone, Copy, Debug, PartialEq, Eq)]
 pub enum Outcome {
-    /// It is shown, and ended so.
+    /// It is shown, and this is how it ended.
     Shown(End),
-    /// It ended before the first turn that was chosen, and nothing is shown.
+    /// It had ended before the first turn that was chosen, and nothing is shown.
     Past,
 }
 
 /// A run that is shown: the text, and how it ended.
 #[derive(Drop)]
 pub(crate) struct Done {
+    /// The text that shows it, whole.
     pub text: String,
+    /// How it ended.
     pub end: End,
 }
 
@@ -115,12 +117,12 @@ pub(crate) fn complain<E: Sink>(alloc: Global, errors: &mut E, bytes: &[u8], fau
 }
 
 /// Reads a script to its end, or to 1048577 bytes, runs it on one thread, and writes what shows the run, which is whole in
-/// memory before its first byte is written. Why a script or its opening is refused goes to where errors go, in one line. A run
-/// that ended before the first turn that was chosen is answered as `Past`, and nothing is written.
+/// memory before its first byte is written. Why a script or its opening is refused goes to `errors`, in one line. A run that ended
+/// before the first turn that was chosen is answered as `Past`, and nothing is written.
 ///
 /// Refused with `Fault` and nothing written: `Script` with the place of its first bad part, `Limits` or `LawBroken` for its
-/// opening, `Memory` for a refused allocation; with `Stream` only if a call of the source or the sink failed, and then a
-/// front of the text stands.
+/// opening, `Memory` if memory is refused; with `Stream` only if a call of the source or the sink failed, and then a front of the
+/// text stands.
 pub fn show_stream<S: Source, K: Sink, E: Sink>(
     alloc: Global,
     options: &Options,
@@ -181,7 +183,8 @@ fn say_line<E: Sink>(errors: &mut E, line: &str)
     let _ = write_whole(errors, line.as_bytes());
 }
 
-/// What is said and the status where the arguments are none of the program's, or can't be told: 3 for want of memory, else 1.
+/// Says on `errors` that the arguments are none of the program's, and how it is called; or, if `memory` is true, that memory for
+/// them was refused. The answer is the exit status: 3 if `memory` is true, else 1.
 pub fn refuse_arguments<E: Sink>(errors: &mut E, memory: bool) -> u8
     ensures status { result ≡ (if memory then 3 else 1) }
     ensures said { memory ≡ false → SaysUsage (E.has_failed errors.new) (E.contents errors.old) (E.contents errors.new) }
@@ -259,13 +262,13 @@ fn show_sections<R: Threads + Sync, S: Source, K: Sink, E: Sink>(
     status_of(&shown)
 }
 
-/// The whole program: its arguments without its own name, what it reads, what it writes, and where its errors go. The
-/// answer is its exit status, as that of `lwkt_run`: 0 every thread ended; 1 arguments, or a script or opening that was
-/// refused, or a run that ended before the first turn that was chosen; 2 turns used up; 3 want of memory, or a stream that
-/// failed; 4 an unlawful trace.
+/// The whole program: its arguments without its own name, what it reads, what it writes, and where its errors go. The answer is its
+/// exit status, as that of `lwkt_run`: 0 every thread ended; 1 wrong arguments, a script, opening or order that was refused, or a
+/// run that ended before the first turn that was chosen; 2 a thread hadn't ended when the turns were used up, or when no turn could
+/// change anything; 3 memory was refused, or a stream failed; 4 the verdict is `unlawful`.
 ///
-/// The arguments are looked at before anything is read; where they are wrong nothing is read or written but what goes to
-/// where errors go. Of a stream that failed nothing is said there: only who has the stream can say why.
+/// The arguments are looked at before anything is read; if they are wrong, nothing is read, and only `errors` gets something. Of a
+/// stream that failed nothing is said there: only who has the stream can say why.
 pub fn run_show<R: Threads + Sync, S: Source, K: Sink, E: Sink>(
     rt: &R,
     alloc: Global,

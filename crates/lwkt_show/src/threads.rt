@@ -29,9 +29,9 @@ fn done_of_bytes<R: Threads + Sync>(rt: &R, alloc: Global, bytes: &[u8]) -> Resu
     }
 }
 
-/// Reads a script as `show_stream` does, runs it as `lwkt_run`'s `run_threads` does, with a thread for each processor where one
-/// can be made, and writes the written sections of each token, which are whole in memory before their first byte is written.
-/// Why a script or its opening is refused goes to where errors go, in one line.
+/// Reads a script as `show_stream` does, runs it as `lwkt_run`'s `run_threads` does, with a thread for each processor if one can be
+/// made, and writes the written sections of each token, which are whole in memory before their first byte is written. Why a script
+/// or its opening is refused goes to `errors`, in one line. The answer is how the run ended.
 ///
 /// Refused as `show_stream` is.
 pub fn show_threads<R: Threads + Sync, S: Source, K: Sink, E: Sink>(
