@@ -119,8 +119,9 @@ fn show_source<R: Threads + Sync, S: Source, K: Sink, E: Sink>(
     }
 }
 
-/// The whole program, as `run_show`, which also takes a text: that is shown as the script in JSON that it is. Where errors go it
-/// says all that is wrong with a text, and how a stream failed.
+/// The whole program, as `run_show`, which also takes a text: that is shown as the script in JSON that it is. `errors` gets all
+/// that is wrong with a text, for which the status is 1, and how a stream failed. The status is 3 too if a text's script has more
+/// than 1048576 bytes as JSON.
 pub fn show_told<R: Threads + Sync, I: Read, O: Write, E: Sink>(
     rt: &R,
     alloc: Global,

@@ -20,7 +20,7 @@ pub enum Unshown {
     Wrong,
     /// Memory was refused.
     Memory,
-    /// Its script has too many bytes as JSON.
+    /// Its script has more than 1048576 bytes as JSON.
     Long,
 }
 
@@ -34,10 +34,10 @@ fn say_wrongs<E: Sink>(alloc: Global, bytes: &[u8], wrongs: Many<Wrong>, errors:
     }
 }
 
-/// The script that a text is, in JSON.
+/// The script that a text is, in JSON. Why there is none `errors` gets.
 ///
-/// Refused with `Wrong` where something is wrong with the text, which is said where errors go; with `Memory` where an allocation
-/// was refused, and with `Long` where there would be more bytes than a script in JSON may have, which both is said too.
+/// Refused with `Wrong` if something is wrong with the text, with `Memory` if memory is refused, and with `Long` if the JSON would
+/// have more than 1048576 bytes.
 pub fn json_told<E: Sink>(alloc: Global, bytes: &[u8], errors: &mut E) -> Result<String, Unshown>
     ensures ok { IfOk result (λ json. StandFor (reading_of bytes.now) bytes.now (string_bytes json)) }
     ensures wrong { result ≡ Err Unshown.Wrong → StandFor (reading_of bytes.now) bytes.now bytes.now }
