@@ -44,11 +44,11 @@ fn shared(tok: TokId) -> Ref
 }
 
 /// Performs the ask of a running thread and says what comes next for the thread, which has this number on its processor, 0 to 15.
-/// The answer, a refusal too, is written to `last` if the thread goes on running or is ready. At once, since one on its way takes
-/// the room of a record.
+/// If it goes on running or is ready, the answer, which may be a refusal, is written to `last`. It is written there at once, since
+/// one on its way takes the room of a record.
 ///
-/// The caller's conditions: the seats are of this bank and book and of one processor, the seat holds exactly the thread's list, and
-/// the trace has room for 512 events. No ask makes more than 320.
+/// The caller's conditions: the seats are of this bank and book and of one processor, the ports have this thread, the seat at the
+/// bank holds exactly the thread's list, and the trace has room for 512 events. No ask makes more than 320.
 #[inline(always)]
 pub fn perform(
     hold: &mut Hold,
