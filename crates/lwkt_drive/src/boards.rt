@@ -29,7 +29,7 @@ pub(crate) const AWAKE: u64 = 0;
 /// A processor that makes no further turn.
 pub(crate) const STOPPED: u64 = u64::MAX;
 
-/// What the processors tell: plain counts.
+/// What the processors report to each other: plain counts.
 #[derive(Drop)]
 pub(crate) struct Board {
     cpus: usize,
@@ -52,7 +52,7 @@ fn awake() -> AtomicU64 {
 }
 
 impl Board {
-    /// A board for so many processors out of so many of the book. None has told anything.
+    /// A board for so many processors, at most 8, out of so many of the book. None has reported anything.
     pub(crate) fn new(cpus: usize, all: usize) -> Board {
         Board {
             cpus,
@@ -86,13 +86,13 @@ impl Board {
         self.exited.load(Ordering::SeqCst) >= self.cpus as u64
     }
 
-    /// A turn was refused for want of memory: nobody goes on.
+    /// Memory for a turn was refused: nobody goes on.
     pub(crate) fn call_off(&self, _refused: AllocError) {
         self.called_off.store(1, Ordering::SeqCst);
     }
 
-    /// What the allocator said where a turn was refused. The word has no room for it, so it is made anew of a word that only who had
-    /// it could set.
+    /// What the allocator said if a turn was refused. The word has no room for it, so it is made anew of a word that only who had it
+    /// could set.
     pub(crate) fn called_off(&self) -> Option<AllocError> {
         if self.called_off.load(Ordering::SeqCst) != 0 {
             Some(AllocError)
@@ -111,7 +111,7 @@ impl Board {
         self.changes.fetch_add(1, Ordering::SeqCst);
     }
 
-    /// A processor tells where it rests.
+    /// A processor reports at which count of changes it rests.
     pub(crate) fn tell(&self, number: usize, rest: u64) {
         if let Some(place) = self.rests.get(number) {
             place.store(rest, Ordering::SeqCst);
@@ -128,7 +128,7 @@ impl Board {
             && self.changes() == count
     }
 
-    /// What a processor told last.
+    /// What a processor reported last, 0 before that.
     pub(crate) fn told(&self, number: usize) -> u64 {
         match self.rests.get(number) {
             Some(place) => place.load(Ordering::SeqCst),

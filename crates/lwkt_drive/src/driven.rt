@@ -23,7 +23,7 @@ pub enum Ending {
     AllExited,
     /// Its trace had no room for the 4096 events of its next turn, and memory for them was refused: what the allocator said.
     NoMemory(AllocError),
-    /// Another processor was refused memory so.
+    /// Another processor was refused memory for its next turn: what the allocator said.
     CalledOff(AllocError),
     /// No turn of any processor could change anything any more: each had stopped, or its last turn polled no thread, appended no
     /// event, moved no note and ended no thread. Claimed is that the last turn of this one polled no thread and appended no event.

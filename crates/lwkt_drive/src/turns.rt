@@ -104,7 +104,8 @@ impl<B> Driven<B> {
 }
 
 impl<B: Body> Driven<B> {
-    /// Makes a turn, counts it, and marks it if it was quiet. Refused where memory is, as `Cpu::turn` is; nothing has changed then.
+    /// Makes a turn, counts it, and marks it if it was quiet. `AllocError` if memory is refused, as to `Cpu::turn`; nothing has
+    /// changed then.
     pub(crate) fn advance(
         &mut self,
         watch: &Watch<'_>,

@@ -51,7 +51,7 @@ impl<'a> Watch<'a> {
         }
     }
 
-    /// What the processors tell.
+    /// The board, by which the processors report to each other.
     pub(crate) fn board(&self) -> &'a Board {
         self.board
     }
