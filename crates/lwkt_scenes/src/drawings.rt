@@ -98,7 +98,7 @@ fn show_value(out: &mut Page, stored: &Stored, room: usize) {
     }
 }
 
-/// Appends a value where it fits into so many letters.
+/// Appends a value if it fits into so many letters.
 pub(crate) fn show_stored(out: &mut Page, x: usize, y: usize, stored: &Stored, room: usize) {
     show_text_at(out, x, y, VALUE);
     out.size("<title>token ", stored.tok);

@@ -103,7 +103,7 @@ fn show_full(out: &mut Page, blob: &Blob)
     show_cut(out, blob)
 }
 
-/// Appends a record: as text where all of it is printable, else as hexadecimal digits; cut where it is long, and then with its
+/// Appends a record: as text if all of it is printable, else as hexadecimal digits; cut if it is long, and then with its
 /// length.
 pub(crate) fn show_record(out: &mut Page, blob: &Blob)
     ensures { Grows out.old out.new (record_words blob.now) }

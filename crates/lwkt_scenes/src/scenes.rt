@@ -35,7 +35,7 @@ pub(crate) fn part_of(events: &[Event], from: usize, count: usize) -> &[Event] {
     &rest[..count]
 }
 
-/// How many turns a round has; one where there is no processor.
+/// How many turns a round has; one if there is no processor.
 pub(crate) fn round_length(cpus: u8) -> usize
     ensures { result ≡ round_length cpus }
 {

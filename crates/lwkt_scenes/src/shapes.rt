@@ -90,7 +90,7 @@ pub(crate) struct Look {
     pub is_urgent: bool,
 }
 
-/// Appends a line of a message, dashed for a reply and thick where it is urgent; with an arrow head where it arrives.
+/// Appends a line of a message, dashed for a reply and thick if it is urgent; with an arrow head if it arrives.
 pub(crate) fn show_line(out: &mut Page, from: Point, to: Point, look: Look, arrives: bool) {
     out.size("<line x1=\"", from.x);
     out.size("\" y1=\"", from.y);

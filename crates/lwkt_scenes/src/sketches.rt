@@ -16,7 +16,7 @@ const MESSAGE_LIMIT: usize = 64;
 pub(crate) enum Content {
     /// The number of the thread that ran.
     Thread(usize),
-    /// What the threads wait for, where none ran.
+    /// What the threads wait for, if none ran.
     Idle(Idle),
 }
 
@@ -378,7 +378,7 @@ impl Sketch {
         Ok(())
     }
 
-    /// Adds what is still held and still on its way behind the last round.
+    /// Adds what is still held and still on its way after the last round.
     pub(crate) fn finish(&mut self) -> Result<(), AllocError> {
         for cpu in 0..CPU_LIMIT {
             for tok in 0..TOKEN_LIMIT {

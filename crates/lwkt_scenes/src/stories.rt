@@ -47,7 +47,7 @@ pub struct Step {
     pub polls: u64,
     /// How many steps it makes, 0 to 256.
     pub steps: u64,
-    /// How many times it makes them, 1 to 1000000.
+    /// How many times it makes them, 0 to 1000000.
     pub repeat: u64,
 }
 
@@ -73,7 +73,7 @@ pub(crate) struct Story {
     pub why: Option<Page>,
     /// Of each entry of the log the ask that it answers, by its number among the thread's asks.
     pub logged: Vec<Logged>,
-    /// What the allocator said where memory for one of these was refused.
+    /// What the allocator said if memory for one of these was refused.
     pub lost: Option<AllocError>,
     /// How many entries the log would have without a limit.
     pub entries: u64,

@@ -84,7 +84,7 @@ fn missed_by(replay: &Replay, scene: &Scene, part: &[Event]) -> Option<ThreadId>
     found
 }
 
-/// The thread that a processor takes tokens for, from this place of a turn's events on, where that is sure.
+/// The thread that a processor takes tokens for, from this place of a turn's events on, if that is sure.
 pub(crate) fn taker(replay: &Replay, scene: &Scene, place: usize) -> Option<ThreadId> {
     let rest = part_of(scene.part, place, scene.part.len());
     let Some(count) = given_back(rest) else {

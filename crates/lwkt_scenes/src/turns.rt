@@ -71,7 +71,7 @@ fn show_time(out: &mut Page, step: Step, time: u64)
     }
 }
 
-/// Appends which of its steps a thread makes: `step 2`, and where it makes them several times which time, from 1.
+/// Appends which of its steps a thread makes: `step 2`, counted from 0, and if it makes them several times which time, from 1.
 pub(crate) fn show_step(out: &mut Page, step: Step)
     ensures { Grows out.old out.new (step_text step) }
 {
