@@ -109,7 +109,7 @@ fn done_of_bytes(alloc: Global, options: &Options, bytes: &[u8]) -> Result<Optio
     }
 }
 
-/// Says why a run was refused, but for want of memory.
+/// Says why a run was refused, unless memory was.
 pub(crate) fn complain<E: Sink>(alloc: Global, errors: &mut E, bytes: &[u8], fault: Fault) {
     if !matches!(fault, Fault::Memory(_)) {
         Speaker::Show.say_refusal(alloc, errors, Some(bytes), fault);
