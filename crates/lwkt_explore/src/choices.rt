@@ -6,6 +6,7 @@ use crate::touches::{cpu_bit, has};
 /// disturbs the next turn of one in it. Together they have every processor but those whose turn changes nothing.
 #[derive(Clone, Copy, Debug, PartialEq, Eq)]
 pub(crate) struct Choice {
+    /// The sets, each processor as a bit.
     pub sets: [u8; 8],
     /// Of each processor those whose next turn can be exchanged with its own.
     pub commuting: [u8; 8],
@@ -108,7 +109,7 @@ fn by_size(given: &[u8; 8]) -> [u8; 8] {
 }
 
 impl Choice {
-    /// The choice at a place where the processors may touch this.
+    /// The choice at a place at which the processors may touch this.
     pub(crate) fn of(doings: &Doings, cpus: usize) -> Choice {
         let mut choice = NO_CHOICE;
         let mut disturbed = [0u8; 8];
@@ -134,7 +135,7 @@ impl Choice {
         sets
     }
 
-    /// The choice where each processor's turn is tried.
+    /// The choice by which each processor's turn is tried.
     pub(crate) fn all(cpus: usize) -> Choice {
         let mut choice = NO_CHOICE;
         for cpu in 0..cpus {

@@ -27,7 +27,7 @@ pub(crate) struct Graph {
     nodes: Vec<Node>,
     // The parts of each state.
     states: Lists,
-    /// Of each state that was gone on from the states behind it, by processor.
+    /// Of each state that was gone on from the states after it, by processor.
     next: Vec<u32>,
     cpus: usize,
 }
@@ -66,7 +66,7 @@ impl Graph {
         self.states.list(number).unwrap_or(&[])
     }
 
-    /// Adds a state that the turn of a processor leads to, and tells its number.
+    /// Adds a state that the turn of a processor leads to, and answers its number.
     pub(crate) fn add(
         &mut self,
         alloc: Global,

@@ -23,7 +23,9 @@ fn add_order(out: &mut String, order: &[u8]) -> Result<(), AllocError> {
     Ok(())
 }
 
-/// The processors of an order, each behind a blank, or a line for none.
+/// The processors of an order, each after a blank: ` 0 1 0`; ` -` for an order without turns.
+///
+/// `AllocError` if memory is refused.
 pub fn order_text(alloc: Global, order: &[u8]) -> Result<String, AllocError> {
     let mut out = String::new(alloc);
     add_order(&mut out, order)?;
@@ -115,7 +117,10 @@ fn add_sum(out: &mut String, found: &Found) -> Result<(), AllocError> {
     write!(out, ", {turns} turns; {whole}\n")
 }
 
-/// The text of what was found: each outcome once, the ended ones first, then what was searched.
+/// The text of what was found: each outcome once, numbered from 1, the ended ones first, then the stuck ones, then those that were
+/// cut; then the lost states, if there are any, and what was searched (docs/EXPLORE.md).
+///
+/// `AllocError` if memory is refused.
 pub fn text_of(alloc: Global, found: &Found) -> Result<String, AllocError> {
     let mut out = String::new(alloc);
     let ended = add_kind(&mut out, found, Kind::Ended, 0)?;

@@ -130,7 +130,7 @@ impl Lists {
         Ok(())
     }
 
-    /// Adds a list that isn't among them, and tells its place.
+    /// Adds a list that isn't among them, and answers its place.
     pub(crate) fn add(&mut self, alloc: Global, list: &[u32]) -> Result<u32, AllocError> {
         self.make_room(alloc)?;
         let start = self.numbers.len();

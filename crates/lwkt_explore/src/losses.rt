@@ -2,11 +2,14 @@
 use crate::graphs::Graph;
 use std::alloc::{AllocError, Global};
 
-/// The states from which no end can be reached.
+/// The states from which no end can be reached, an end being a state where no turn changes anything and every thread has ended.
+/// There is one at least.
 #[derive(Drop)]
 pub struct Lost {
+    /// How many of the states that were kept are such.
     pub count: usize,
-    /// A shortest order to the first one.
+    /// The processors of the turns, 0 to 7, that lead to the first of them; none if that is the opening. After a search by
+    /// `Method::Plain` no order to any of them is shorter.
     pub order: Vec<u8>,
 }
 

@@ -17,28 +17,31 @@ pub enum Kind {
     Ended,
     /// No turn changes anything, and a thread hasn't ended.
     Stuck,
-    /// A bound was met.
+    /// The bound on turns was met, and a turn may still change something.
     Cut,
 }
 
 /// A report, without its verdict, with an order that leads to it.
 #[derive(Drop)]
 pub struct Outcome {
+    /// How the run along the order stood when it stopped.
     pub kind: Kind,
+    /// The processor of each turn, 0 to 7; of a search a shortest order that leads to this outcome.
     pub order: Vec<u8>,
-    /// What the report shows.
+    /// What the report shows. The verdict is `Lawful`.
     pub closing: Closing,
-    /// The lines of the report but the last.
+    /// The lines of the report but the last, which has the verdict.
     pub text: String,
-    /// Of a stuck outcome why its threads haven't ended.
+    /// Of a stuck outcome what each thread that hasn't ended waits for, in one line; of every other nothing.
     pub why: Option<String>,
 }
 
 /// The outcomes that were found, each once.
 #[derive(Drop)]
 pub struct Outcomes {
+    /// The outcomes, in the order in which they were found: after a search those of shorter orders first.
     pub all: Vec<Outcome>,
-    /// Of each of them how many of the orders that were tried led to it.
+    /// Of each of them how many of the orders that were tried to their end led to it, 1 or more.
     pub counts: Vec<u64>,
 }
 

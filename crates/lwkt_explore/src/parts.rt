@@ -19,6 +19,7 @@ pub(crate) struct Layout {
 /// A state as it was written, part by part.
 #[derive(Drop)]
 pub(crate) struct Written {
+    /// The numbers of all parts, one part's after another's.
     pub words: Vec<u64>,
     /// Where each part ends.
     pub ends: Vec<usize>,

@@ -78,11 +78,12 @@ fn add_all<W: Watch>(
     Ok(())
 }
 
-/// Makes so many random orders of turns of the script that the bytes are, or fewer where who looks on ends it, each until no turn changes anything, or the bound on
-/// turns is met. A seed gives the same orders on every machine. Each outcome is the report of the run along its order, whose
-/// verdict is `lawful`.
+/// Makes `count` random orders of turns of the script that the bytes are, or fewer if memory is refused or who looks on ends it.
+/// Each goes on until no turn changes anything, or the bound on turns is met. A seed gives the same orders on every machine. Each
+/// outcome is the report of the run along its order, whose verdict is `lawful`. What is found is never complete.
 ///
-/// Refused as `explore` is.
+/// Refused with `Script` and the place of the script's first bad part, with `Limits` or `LawBroken` for its opening, with `Memory`
+/// if memory is refused before the first order, and with `Unlawful` if the verdict on a run isn't `lawful`.
 pub fn sample<W: Watch>(
     alloc: Global,
     bytes: &[u8],

@@ -10,12 +10,12 @@ use lwkt_base::Fault;
 use lwkt_run::read_script;
 use std::alloc::Global;
 
-/// What a search may take.
+/// What a search may take. If a bound is met, not every order is tried.
 #[derive(Clone, Copy, Debug, PartialEq, Eq)]
 pub struct Bounds {
-    /// The most states that are kept.
+    /// The most states that are kept; the opening is kept in any case. It doesn't bound random orders.
     pub states: usize,
-    /// The most turns of an order.
+    /// The most turns of an order, a random one too.
     pub turns: usize,
 }
 
@@ -24,14 +24,15 @@ pub struct Bounds {
 pub enum Method {
     /// By the turn of each processor.
     Plain,
-    /// By the turns of some, where those of the others can be exchanged with theirs.
+    /// By the turns of some processors, if those of the others can be exchanged with theirs (docs/EXPLORE.md). The outcomes are the
+    /// same.
     Reduced,
 }
 
 /// What was tried.
 #[derive(Clone, Copy, Debug, PartialEq, Eq)]
 pub enum Tried {
-    /// Every order; so many states were kept.
+    /// The orders of a search that kept so many states.
     States(usize),
     /// So many random orders.
     Orders(u64),
@@ -40,14 +41,16 @@ pub enum Tried {
 /// What was found of a script.
 #[derive(Drop)]
 pub struct Found {
+    /// The outcomes, each once.
     pub outcomes: Outcomes,
     /// What was tried.
     pub tried: Tried,
     /// How many turns were tried.
     pub turns: u64,
-    /// Whether every order was tried.
+    /// Whether every order was tried: no bound was met, no memory was refused, and nobody ended the search. Never so of random
+    /// orders.
     pub is_complete: bool,
-    /// The states from which no end can be reached, if every order was tried.
+    /// The states from which no end can be reached, if every order was tried and there are any.
     pub lost: Option<Lost>,
 }
 
@@ -101,10 +104,11 @@ fn search<W: Watch>(
 }
 
 /// Tries every order of turns of the script that the bytes are, within bounds. Each outcome is the report of the run along its
-/// order, whose verdict is `lawful`. Where memory is refused, or who looks on ends the search, what was found till then is given, and
-/// said to be a part.
+/// order, whose verdict is `lawful`. If memory is refused during the search, or who looks on ends it, what was found till then is
+/// given, and `is_complete` is false.
 ///
-/// Refused as `order_run` is for the script and its opening, and with `Unlawful` if a run isn't lawful.
+/// Refused with `Script` and the place of the script's first bad part, with `Limits` or `LawBroken` for its opening, with `Memory`
+/// if memory is refused before the search or after a complete one, and with `Unlawful` if the verdict on a run isn't `lawful`.
 pub fn explore<W: Watch>(
     alloc: Global,
     bytes: &[u8],

@@ -105,8 +105,8 @@ fn add_messages(
     Ok(())
 }
 
-/// Writes what tells this state apart from others of the same script: a part for each token, and then one for each message. `ends` is
-/// told where each part ends.
+/// Appends to `words` what tells this state apart from others of the same script: a part for each token, and then one for each
+/// message. For each part the length of `words` at its end is appended to `ends`.
 pub(crate) fn add_state(
     words: &mut Vec<u64>,
     ends: &mut Vec<usize>,

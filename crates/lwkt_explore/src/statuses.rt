@@ -20,8 +20,8 @@ fn has_stuck(outcomes: &Outcomes) -> bool
     outcomes.all.iter().any(|outcome| is_stuck(outcome))
 }
 
-/// The exit status of what was found: 5 if not every order was tried; else 2 if an outcome is stuck, or there is a state from which
-/// no end can be reached; else 0.
+/// The exit status of what was found in a script: 5 if not every order was tried; else 2 if an outcome is stuck, or there is a
+/// state from which no end can be reached; else 0.
 pub fn status_of(found: &Found) -> u8
     ensures { result ≡ status_of found.now }
 {

@@ -5,7 +5,9 @@ use lwkt_base::{Ask, Ref, ThreadId};
 /// Tokens, messages and processors, each as a bit.
 #[derive(Clone, Copy, Debug, PartialEq, Eq)]
 pub(crate) struct Touch {
+    /// The tokens, 0 to 63.
     pub tokens: u64,
+    /// The messages, 0 to 63.
     pub messages: u64,
     /// The processors that a note may be sent to.
     pub targets: u8,

@@ -27,9 +27,12 @@ pub(crate) struct Walk {
     layout: Layout,
     parts: Parts,
     memos: Memos,
+    /// The states that were found, and the turns between them.
     pub graph: Graph,
     ends: Vec<bool>,
+    /// How many turns were tried.
     pub turns: u64,
+    /// Whether no bound was met and nothing ended it so far.
     pub is_complete: bool,
     trace: Vec<Event>,
 }

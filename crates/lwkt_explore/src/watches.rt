@@ -3,21 +3,21 @@
 /// How far a search is.
 #[derive(Clone, Copy, Debug, PartialEq, Eq)]
 pub struct Seen {
-    /// The states that were found, or the random orders that were made.
+    /// How many states were kept so far, or how many random orders were made.
     pub states: usize,
-    /// The states that weren't gone on from yet.
+    /// How many of the states weren't gone on from yet; 0 with random orders.
     pub frontier: usize,
-    /// The turns that were tried.
+    /// How many turns were tried.
     pub turns: u64,
 }
 
 /// Who looks on at a search.
 pub trait Watch {
-    /// Is told how far the search is, again and again, and says whether it goes on.
+    /// Whether the search goes on. It asks before it goes on from a state, and before each random order, and ends at the first no.
     fn goes_on(&mut self, seen: Seen) -> bool;
 }
 
-/// Nobody.
+/// Nobody looks on: every search goes on.
 #[derive(Clone, Copy, Debug, PartialEq, Eq)]
 pub struct Unwatched;
 
