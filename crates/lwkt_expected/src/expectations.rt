@@ -46,8 +46,9 @@ fn is_decided(expectation: &Expectation, outcomes: &[Outcome]) -> bool
     outcomes.iter().any(|outcome| decides(expectation, outcome))
 }
 
-/// The first outcome that decides an expectation: that breaks what is said of each one or of none, or shows what is said of one.
-/// Among the outcomes of a search, which come by the length of their orders, no other such one has a shorter order.
+/// The first outcome that decides an expectation: that breaks an `always` or a `never`, or shows a `sometimes`. One that was cut
+/// decides nothing. `None` if there is no such outcome. Among the outcomes of a search, which come by the length of their orders,
+/// no other such one has a shorter order.
 pub fn deciding<'a>(expectation: &Expectation, outcomes: &'a [Outcome]) -> Option<&'a Outcome>
     ensures { option_copied result ≡ find (decides expectation.now) outcomes.now }
 {
@@ -56,7 +57,8 @@ pub fn deciding<'a>(expectation: &Expectation, outcomes: &'a [Outcome]) -> Optio
         .find(|outcome| decides(expectation, outcome))
 }
 
-/// Whether what a text says of the outcomes of its script is so of those that were found, but for those that were cut.
+/// Whether an expectation of a text holds of the outcomes that were found, but for those that were cut: an `always` or a `never` if
+/// none decides it, a `sometimes` if one does.
 pub fn is_met(expectation: &Expectation, outcomes: &[Outcome]) -> bool
     ensures { result ≡ is_met expectation.now outcomes.now }
 {
@@ -76,8 +78,8 @@ fn are_met(expectations: &[Expectation], outcomes: &[Outcome]) -> bool
         .all(|expectation| is_met(expectation, outcomes))
 }
 
-/// The exit status of what was found of a text: of one that expects nothing that of a script; else 0 if every order was tried and all
-/// that it says is so, and 5 if not.
+/// The exit status of what was found of a text: of one that expects nothing that of a script, by `status_of`; else 0 if every order
+/// was tried and all that it expects holds, and 5 if not.
 pub fn status_of_text(expectations: &[Expectation], found: &Found) -> u8
     ensures { result ≡ status_of_text expectations.now found.now }
 {

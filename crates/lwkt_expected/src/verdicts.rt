@@ -52,10 +52,11 @@ fn add_witness(alloc: Global, out: &mut String, outcome: &Outcome) -> Result<(),
     out.push_str(order.as_str())
 }
 
-/// A line for each expectation of a text, by its line there: `LINE: holds` or `LINE: doesn't hold`, and the order of the outcome that
-/// decides it; where not every order was tried and no outcome decides it, that it holds, or isn't shown, of what was found.
+/// A line for each expectation of a text, by its line there, counted from 1: `LINE: holds` or `LINE: doesn't hold`, and the order
+/// of the outcome that decides it, if one does. If not every order was tried and no outcome decides it: `LINE: holds of what was
+/// found` or `LINE: isn't shown by what was found`.
 ///
-/// Refused if memory is.
+/// `AllocError` if memory is refused.
 pub fn verdicts_of(
     alloc: Global,
     bytes: &[u8],
