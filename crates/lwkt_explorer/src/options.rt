@@ -3,14 +3,17 @@ use lwkt_explore::{Bounds, Method};
 /// What the arguments ask for.
 #[derive(Clone, Copy)]
 pub struct Options<'a> {
+    /// `--states` and `--turns`; 1000000 states and orders of 100000 turns if they aren't named.
     pub bounds: Bounds,
+    /// `Plain` with `--plain`, else `Reduced`.
     pub method: Method,
-    /// How many random orders are made in place of a search.
+    /// `--random`: how many random orders are made in place of a search.
     pub random: Option<u64>,
+    /// `--seed`: by what the random orders are chosen; 0 if it isn't named.
     pub seed: u64,
-    /// Whether it is told each second how far the search is.
+    /// `--progress`: whether a line on the errors says each second how far the search is.
     pub progress: bool,
-    /// The file that ends the search once it is there.
+    /// `--stop`: the path of the file that ends the search once it is there, which is looked for each second.
     pub stop: Option<&'a str>,
 }
 
@@ -89,7 +92,8 @@ fn with_argument<'a>(reading: Reading<'a>, word: &'a str) -> Option<Reading<'a>>
     }
 }
 
-/// The options that the arguments are, if they are the program's. Of an option that stands twice the last one counts.
+/// The options that the arguments are. `None` if one isn't the program's, or its value is missing or no number. Of an option that
+/// stands twice the last one counts.
 pub fn options_of(words: &[String]) -> Option<Options<'_>> {
     let mut reading = Reading {
         options: plain(),

@@ -19,7 +19,8 @@ use std::time::Clock;
 const USAGE: &str =
     "lwkt_explore: --plain, --states N, --turns N, --random N, --seed S, --progress and --stop FILE\n";
 
-/// What is said and the status where the arguments are none of the program's, or can't be told: 3 for want of memory, else 1.
+/// Says on `errors` that the arguments are none of the program's, and how it is called; or, if `memory` is true, that memory for
+/// them was refused. The answer is the exit status: 3 if `memory` is true, else 1.
 pub fn refuse_arguments<E: Sink>(errors: &mut E, memory: bool) -> u8 {
     if !memory {
         let _ = write_whole(errors, USAGE.as_bytes());
@@ -182,10 +183,11 @@ fn run_explore<R: Clock + Files, S: Source, K: Sink, E: Sink>(
 }
 
 /// The whole program: its arguments without its own name, what it reads, what it writes, and where its errors go. The answer is its
-/// exit status: 0 every order was tried, and from every state an end can be reached; 1 arguments, or a script or opening that was
-/// refused; 2 every order was tried, and from a state no end can be reached; 3 want of memory, or a stream that failed; 4 a run that
-/// wasn't lawful; 5 not every order was tried. Of a text that expects something it is 0 where every order was tried and all that it
-/// expects holds, and 5 where not; where errors go there is a line for each thing that it expects.
+/// exit status: 0 every order was tried, and from every state an end can be reached; 1 wrong arguments, or a script, text or
+/// opening that was refused; 2 every order was tried, and from a state no end can be reached; 3 memory was refused, a stream
+/// failed, or a text's script has more than 1048576 bytes as JSON; 4 a run wasn't lawful; 5 not every order was tried. Of a text
+/// that expects something it is, in place of 0, 2 and 5, 0 if every order was tried and all that it expects holds, and else 5;
+/// `errors` then gets a line for each thing that it expects.
 pub fn explore_told<R: Clock + Files, I: Read, O: Write, E: Sink>(
     rt: &R,
     alloc: Global,

@@ -13,8 +13,9 @@ const LONG: &str =
 /// A text that was read.
 #[derive(Drop)]
 pub struct Told {
-    /// Its script.
+    /// Its script in JSON, at most 1048576 bytes.
     pub json: String,
+    /// What it expects of the outcomes, in the order of its lines.
     pub expectations: Many<Expectation>,
 }
 
@@ -28,8 +29,10 @@ fn say_wrongs<E: Sink>(alloc: Global, bytes: &[u8], wrongs: Many<Wrong>, errors:
     }
 }
 
-/// Reads a text. Where something is wrong with it, or memory is refused, or its script is too long in JSON, that is said, and the exit
-/// status is given.
+/// Reads a text. If it is refused, `errors` gets why.
+///
+/// The exit status if it is refused: 1 if something is wrong with it, 3 if memory is refused or its script has more than 1048576
+/// bytes as JSON.
 pub fn read_told<E: Sink>(alloc: Global, bytes: &[u8], errors: &mut E) -> Result<Told, u8> {
     let Reading {
         script,

@@ -6,7 +6,7 @@ use std::fs;
 use std::fs::Files;
 use std::time::{Clock, Duration, Instant};
 
-/// Looks on at a search: tells each second how far it is, where that is asked for, and ends it once a file is there.
+/// Looks on at a search: says each second how far it is, if that is asked for, and ends it once the file of `--stop` is there.
 #[derive(Drop)]
 pub struct Ticker<'a, R, E> {
     rt: &'a R,
@@ -31,7 +31,7 @@ fn line_of(alloc: Global, seen: Seen, turns: u64) -> Result<String, AllocError> 
 }
 
 impl<'a, R: Clock + Files, E: Sink> Ticker<'a, R, E> {
-    /// One that begins to look on.
+    /// One that begins to look on now. If the clock fails, it says nothing and ends nothing.
     pub fn new(
         rt: &'a R,
         alloc: Global,
