@@ -16,8 +16,7 @@ use lwkt_msg::MsgBook;
 use std::marker::Model;
 use std::thread::Threads;
 
-/// The limits of a script that sets the highest: a million turns of a processor that poll a thread, and a hundred million that poll
-/// none.
+/// The highest limits that a script can set: a million turns of a processor that poll a thread, and a hundred million that poll none.
 pub const LIMITS: Limits = Limits {
     turns: 1_000_000,
     idle: 100_000_000,
