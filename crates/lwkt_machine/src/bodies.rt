@@ -99,7 +99,7 @@ impl ScriptBody {
         })
     }
 
-    /// How many polls the body has had; it stays at 18446744073709551615.
+    /// How many polls the body has had, 0 to 18446744073709551615, at which it stays.
     pub fn polls(&self) -> u64
         ensures { result ≡ self.now.polls }
     {
