@@ -58,6 +58,7 @@ pub(crate) struct Door<'a, G> {
 }
 
 impl<'a, G> Door<'a, G> {
+    /// The door over this gate.
     pub(crate) fn new(gate: &'a G) -> Self
         ensures { result.gate.now ≡ gate.now }
     {
