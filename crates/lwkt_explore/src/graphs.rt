@@ -33,6 +33,7 @@ pub(crate) struct Graph {
 }
 
 impl Graph {
+    /// No states yet, of a script with so many processors.
     pub(crate) fn new(alloc: Global, cpus: usize) -> Result<Graph, AllocError> {
         Ok(Graph {
             nodes: Vec::new(alloc),
