@@ -1,6 +1,7 @@
 -- What is kept of messages fits the seat after a take, a reap, a send and a reply, and how many messages are away then.
-use Rattle.std.proofs.Common.{◌≡◌, ⊎_elim, ℕ, ◌+◌, ◌<◌, ◌≤◌, Bool, true, false, true≢false, List, length, set, refl, ap, sym, ◌∙◌, subst, arith}
-use Rattle.std.specs.Prelude.{◌⊎◌, IsSome, None, Option}
+use Rattle.std.proofs.Common.{◌≡◌, ⊎_elim, ℕ, ◌+◌, ◌<◌, ◌≤◌, Bool, true, false, true≢false, List, length, set, refl, ap, sym, ◌∙◌, subst, arith, rules, length-set}
+use Rattle.std.specs.Prelude.{◌⊎◌, IsSome, None, Option, Vec, vec_len}
+use Rattle.std.specs.declared.alloc.Global.{Global}
 use Rattle.lwkt_base.specs.declared.faults.Fault.{Fault}
 use Rattle.lwkt_base.specs.declared.faults.Fault.TheVariants.{NotOwner}
 use Rattle.lwkt_base.specs.declared.names.CpuId.{CpuId}
@@ -22,7 +23,7 @@ use Rattle.lwkt_port.specs.declared.deeds.Claim.TheVariants as claim
 use Rattle.lwkt_port.specs.Mails.{mail_at, IsMail, AreMails}
 use Rattle.lwkt_port.specs.Works.{away_count}
 use Rattle.lwkt_port.specs.Deeds.{taken_mail, mails_taken, reaped_mail, mails_reaped, reap_events, sent_mail, replied_mail}
-use Rattle.lwkt_port.proofs.Keeping.{own_still, own_before, there_still, all_still, all_put, away_same, away_less}
+use Rattle.lwkt_port.proofs.Keeping.{own_still, own_before, there_still, all_still, all_put, away_less}
 
 -- a take leaves the origin and whether the message is at home
 taken_origin : (who : Claim) (aborted priority : Bool) (round : ℕ) (mail : Mail) → (taken_mail who aborted priority round mail).origin ≡ mail.origin
@@ -60,15 +61,6 @@ taken_keeps who note d d' mails mails' taken.Stale same means is there are =
 taken_keeps who note d d' mails mails' taken.Again same means is there are =
     let F : List Mail → Type 0 = AreMails d' in
     subst F (sym is) (all_still d d' note.msg.0 mails same means.does.else_same (ap (λ e. e.away) means.does.here) (ap (λ e. e.taken) means.does.here) are)
-
--- a take leaves how many are away
-pub taken_away : (who : Claim) (note : Note) (mails mails' : List Mail) (answer : Taken) → mails' ≡ mails_taken who note answer mails → note.msg.0 < length mails → away_count mails' ≡ away_count mails
-taken_away who note mails mails' (taken.Took rec aborted priority) is there =
-    let m : ℕ = note.msg.0 in
-    let mail : Mail = mail_at mails m in
-    ap away_count is ∙ away_same mails m (taken_mail who aborted priority note.round mail) there (taken_home who aborted priority note.round mail)
-taken_away who note mails mails' taken.Stale is there = ap away_count is
-taken_away who note mails mails' taken.Again is there = ap away_count is
 
 -- a message that its origin knows to be away isn't kept as at home
 not_home : (d : Desk) (m : ℕ) (mail : Mail) (home : Bool) → mail.home ≡ home → (entry d m).away ≡ true → IsMail d m mail → mail.home ≡ false
@@ -158,9 +150,6 @@ replied_keeps msg error outcome d d' mails mails' same means is there are =
       shown_taken = λ h. absurd (none_some h);
     } are)
 
-pub replied_away : (msg : MsgId) (mails mails' : List Mail) → mails' ≡ set mails msg.0 (replied_mail (mail_at mails msg.0)) → msg.0 < length mails → away_count mails' ≡ away_count mails
-replied_away msg mails mails' is there = ap away_count is ∙ away_same mails msg.0 (replied_mail (mail_at mails msg.0)) there refl
-
 -- a message that was not sent is looked at
 pub unsent_keeps : (msg : MsgId) (d d' : Desk) (mails : List Mail) (fault : Fault) → IsSameDesk d d' → IsUnsent (cpu_of d) d.view d'.view msg.0 fault → AreMails d mails → AreMails d' mails
 unsent_keeps msg d d' mails fault same why are =
@@ -172,3 +161,31 @@ refused_keeps msg d d' mails fault same why are = ⊎_elim
     (λ (s : (messages_of d ≤ msg.0) × (fault ≡ NotOwner) × (d' ≡ d)). let F : Desk → Type 0 = λ x. AreMails x mails in subst F (sym s.2) are)
     (λ (s : (msg.0 < messages_of d) × IsUnsent (cpu_of d) d.view d'.view msg.0 fault). unsent_keeps msg d d' mails fault same s.1 are)
     why
+
+-- of as many messages something is kept
+pub taken_many : (who : Claim) (note : Note) (answer : Taken) (mails mails' : Vec Mail Global) → mails'.items ≡ mails_taken who note answer mails.items → vec_len mails' ≡ vec_len mails
+taken_many who note answer mails mails' is =
+    let old : vec_len mails ≡ length mails.items = search rules in
+    let new : vec_len mails' ≡ length mails'.items = search rules in
+    new ∙ ap length is ∙ many answer ∙ sym old
+  where
+    many : (t : Taken) → length (mails_taken who note t mails.items) ≡ length mails.items
+    many (taken.Took rec aborted priority) = length-set mails.items note.msg.0 (taken_mail who aborted priority note.round (mail_at mails.items note.msg.0))
+    many taken.Stale = refl
+    many taken.Again = refl
+
+pub reaped_many : (keep : Bool) (note : Note) (answer : Reaped) (mails mails' : Vec Mail Global) → mails'.items ≡ mails_reaped keep note answer mails.items → vec_len mails' ≡ vec_len mails
+reaped_many keep note answer mails mails' is =
+    let old : vec_len mails ≡ length mails.items = search rules in
+    let new : vec_len mails' ≡ length mails'.items = search rules in
+    new ∙ ap length is ∙ many answer ∙ sym old
+  where
+    many : (t : Reaped) → length (mails_reaped keep note t mails.items) ≡ length mails.items
+    many (reaped_.Done rec) = length-set mails.items note.msg.0 (reaped_mail keep rec (mail_at mails.items note.msg.0))
+    many reaped_.Stale = refl
+
+pub put_many : (m : ℕ) (mail : Mail) (mails mails' : Vec Mail Global) → mails'.items ≡ set mails.items m mail → vec_len mails' ≡ vec_len mails
+put_many m mail mails mails' is =
+    let old : vec_len mails ≡ length mails.items = search rules in
+    let new : vec_len mails' ≡ length mails'.items = search rules in
+    new ∙ ap length is ∙ length-set mails.items m mail ∙ sym old

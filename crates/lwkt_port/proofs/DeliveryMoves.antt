@@ -13,7 +13,7 @@ use Rattle.lwkt_lane.specs.Lane.{received, seen}
 use Rattle.lwkt_port.specs.declared.handlings.Fate.{Fate}
 use Rattle.lwkt_port.specs.declared.lines.Lane.{Lane}
 use Rattle.lwkt_port.specs.Chains.{Chain}
-use Rattle.lwkt_port.specs.Intakes.{Payer, PaysOwed, Pays, Desks, desks_of, Handles, Pops, EmptiesKept, Intake, EmptiesFrom, Hall, TakesIn}
+use Rattle.lwkt_port.specs.Intakes.{Payer, PaysOwed, Pays, Desks, desks_of, Handles, Pops, EmptiesKept, Intake, EmptiesFrom}
 use Rattle.lwkt_port.specs.Laws.{TakesSeen, SeenAreTakenIn}
 use Rattle.lwkt_port.specs.Lines.{IsRoomed}
 use Rattle.lwkt_port.specs.Mails.{mail_at}

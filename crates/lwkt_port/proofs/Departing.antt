@@ -9,7 +9,6 @@ use Rattle.lwkt_port.specs.declared.mails.Mail.{Mail}
 use Rattle.lwkt_port.specs.declared.queues.Port.{Port}
 use Rattle.lwkt_port.specs.Closings.{gone, left_by, gone_mail, OwesGone, IsClosedPort}
 use Rattle.lwkt_port.specs.Mails.{no_mail, mail_at, IsMail, AreMails}
-use Rattle.lwkt_port.specs.Posts.{Post, IsPost, KeepsNamed}
 use Rattle.lwkt_port.specs.Queues.{HasNamed}
 
 none_some : IsSome {T = ℕ} None → ⊥
@@ -62,13 +61,3 @@ closed_named n ports j old new there was closed all =
     let before : HasNamed n old = subst F (sym was) (All-get_or (HasNamed n) ports j old there all) in
     let G : Port → Type 0 = λ x. HasNamed n x in
     All-set (HasNamed n) ports j new (subst G (sym closed) before) all
-
-pub post_closed : (p : Post) (thread : ℕ) (mails' : List Mail) (old new : Port) → IsPost p → OwesGone thread (length p.mails) p.mails mails' → thread < length p.ports → old ≡ slice_index_or p.ports thread old → IsClosedPort old new → IsPost (record p { mails = mails'; ports = set p.ports thread new })
-post_closed p thread mails' old new post o there was closed = record {
-  lanes_are = post.lanes_are;
-  ports_are = length-set p.ports thread new ∙ post.ports_are;
-  few = post.few;
-  mails_are = gone_are p.seat thread p.mails mails' o post.mails_are;
-  queued = let F : ℕ → Type 0 = λ n. All (HasNamed n) (set p.ports thread new) in subst F (sym o.as_many) (closed_named (length p.mails) p.ports thread old new there was closed post.queued);
-  kept = let F : ℕ → Type 0 = λ n. All (KeepsNamed n) p.lanes in subst F (sym o.as_many) post.kept;
-}

@@ -1,6 +1,6 @@
 -- One line of a processor's lanes changes, and the others stay: for sends and replies.
 use Rattle.std.proofs.Common.{◌≡◌, ℕ, ◌<◌, List, length, refl, ap, sym, subst}
-use Rattle.std.specs.Prelude.{Bool, true, All, IfSome, Option, Some, is_some, Result, Ok, Err, OnOk, IfErr, slice_index_or, slice_set}
+use Rattle.std.specs.Prelude.{Bool, true, false, All, IfSome, Option, Some, is_some, Result, Ok, Err, OnOk, IfErr, MatchResult, slice_index_or, slice_set}
 use Rattle.lwkt_base.specs.declared.faults.Fault.{Fault}
 use Rattle.lwkt_base.specs.declared.faults.Fault.TheVariants.{LaneFull, RoundsOut}
 use Rattle.lwkt_base.specs.declared.names.MsgId.{MsgId}
@@ -9,10 +9,11 @@ use Rattle.lwkt_port.specs.declared.mails.Mail.{Mail}
 use Rattle.lwkt_port.specs.Mails.{mail_at, AreMails}
 use Rattle.lwkt_port.specs.declared.deeds.Sending.{Sending}
 use Rattle.lwkt_port.specs.declared.lines.Lane.{Lane}
+use Rattle.lwkt_port.specs.declared.queues.Port.{Port}
 use Rattle.lwkt_lane.specs.declared.notes.Note.{Note}
 use Rattle.std.proofs.lemmas.List.Elements.{All-set, All-get_or}
 use Rattle.lwkt_port.specs.Posts.{Changes, KeepsNamed}
-use Rattle.lwkt_port.specs.Queues.{NamesBoth}
+use Rattle.lwkt_port.specs.Queues.{NamesBoth, HasNamed}
 use Rattle.lwkt_port.specs.Sendings.{MaySend, SendsOver, RefusesOver, HasSentNote, WhyUnsent, ReplyMeans, Answers}
 use Rattle.lwkt_port.specs.Works.{Work}
 
@@ -23,22 +24,31 @@ changed A R i j xs old new there was is does =
     subst F is record { old = old; new = new; there = there; was = sym was; now = refl; does = does }
 
 -- a thread's message was sent, or not
-pub dispatched : (r : Result (Unit {0}) Fault) (s : Sending) (lanes : List Lane) (old new : Lane) (w w' : Work) (j : ℕ) → MaySend s w.mails → j < length lanes → old ≡ slice_index_or lanes j old → j ≡ s.to.cpu.0 → OnOk r (SendsOver s old new w w') → OnOk r (HasSentNote s lanes (slice_set lanes j new) w w')
+pub dispatched : (r : Result (Unit {0}) Fault) (s : Sending) (lanes : List Lane) (old new : Lane) (w w' : Work) (j : ℕ) → MaySend s w.mails → j < length lanes → old ≡ slice_index_or lanes j old → j ≡ s.to.cpu.0 → MatchResult r (λ _. SendsOver s old new w w') (λ f. RefusesOver s old new w w' f) → OnOk r (HasSentNote s lanes (slice_set lanes j new) w w')
 dispatched (Ok x) s lanes old new w w' j may there was is does = record { may = may; over = changed Lane (λ a b. SendsOver s a b w w') s.to.cpu.0 j lanes old new there was is does }
-dispatched (Err e) s lanes old new w w' j may there was is does = does
+dispatched (Err e) s lanes old new w w' j may there was is does = tt
 
 refused : (f : Fault) (s : Sending) (lanes : List Lane) (old new : Lane) (w w' : Work) (j : ℕ) → MaySend s w.mails → j < length lanes → old ≡ slice_index_or lanes j old → j ≡ s.to.cpu.0 → RefusesOver s old new w w' f → WhyUnsent s lanes (slice_set lanes j new) w w' f
 refused LaneFull s lanes old new w w' j may there was is does = (may, changed Lane (λ a b. RefusesOver s a b w w' LaneFull) s.to.cpu.0 j lanes old new there was is does)
 refused RoundsOut s lanes old new w w' j may there was is does = (may, changed Lane (λ a b. RefusesOver s a b w w' RoundsOut) s.to.cpu.0 j lanes old new there was is does)
 refused _ s lanes old new w w' j may there was is does = absurd does
 
-pub not_dispatched : (r : Result (Unit {0}) Fault) (s : Sending) (lanes : List Lane) (old new : Lane) (w w' : Work) (j : ℕ) → MaySend s w.mails → j < length lanes → old ≡ slice_index_or lanes j old → j ≡ s.to.cpu.0 → IfErr r (λ f. RefusesOver s old new w w' f) → IfErr r (λ f. WhyUnsent s lanes (slice_set lanes j new) w w' f)
-not_dispatched (Ok x) s lanes old new w w' j may there was is does = does
+pub not_dispatched : (r : Result (Unit {0}) Fault) (s : Sending) (lanes : List Lane) (old new : Lane) (w w' : Work) (j : ℕ) → MaySend s w.mails → j < length lanes → old ≡ slice_index_or lanes j old → j ≡ s.to.cpu.0 → MatchResult r (λ _. SendsOver s old new w w') (λ f. RefusesOver s old new w w' f) → IfErr r (λ f. WhyUnsent s lanes (slice_set lanes j new) w w' f)
+not_dispatched (Ok x) s lanes old new w w' j may there was is does = tt
 not_dispatched (Err e) s lanes old new w w' j may there was is does = refused e s lanes old new w w' j may there was is does
 
 -- a reply was made over one line of the lanes, or that line is full
 pub answered_over : (b : Bool) (msg : MsgId) (error outcome : ℕ) (lanes : List Lane) (old new : Lane) (w w' : Work) (j : ℕ) → j < length lanes → old ≡ slice_index_or lanes j old → j ≡ (mail_at w.mails msg.0).origin.cpu.0 → ReplyMeans msg error outcome old new w w' b → Answers msg error outcome lanes (slice_set lanes j new) w w' b
 answered_over b msg error outcome lanes old new w w' j there was is does = changed Lane (λ x y. ReplyMeans msg error outcome x y w w' b) (mail_at w.mails msg.0).origin.cpu.0 j lanes old new there was is does
+
+-- a line keeps what it kept, whether a reply went over it or not
+pub reply_kept : (made : Bool) (msg : MsgId) (error outcome : ℕ) (line line' : Lane) (w w' : Work) → ReplyMeans msg error outcome line line' w w' made → line'.kept ≡ line.kept
+reply_kept true msg error outcome line line' w w' r = r.posted.kept_same
+reply_kept false msg error outcome line line' w w' r = r.0.roomed.kept_same
+
+-- a port of those whose notes name messages
+pub port_named : (n : ℕ) (ports : List Port) (j : ℕ) (old : Port) → j < length ports → old ≡ slice_index_or ports j old → All (HasNamed n) ports → HasNamed n old
+port_named n ports j old there was all = let F : Port → Type 0 = HasNamed n in subst F (sym was) (All-get_or (HasNamed n) ports j old there all)
 
 -- a shown message is taken
 pub shown_is_taken : (d : Desk) (mails : List Mail) (m thread : ℕ) → AreMails d mails → m < length mails → (mail_at mails m).shown ≡ Some thread → (entry d m).taken ≡ true

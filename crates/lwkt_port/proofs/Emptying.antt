@@ -1,44 +1,47 @@
 -- A lane is emptied, a note at a time.
 use Rattle.std.proofs.Common.{◌≡◌, ℕ, ◌+◌, ◌<◌, List, [], ◌∷◌, ◌++◌, length, refl, ap, sym, ◌∙◌, subst, arith, append_assoc, length-append}
 use Rattle.std.proofs.lemmas.List.{append-nil}
-use Rattle.std.specs.Prelude.{vec_len, All, Option, Some, None, MatchOption, option_to_list}
+use Rattle.std.specs.Prelude.{Vec, vec_len, Option, Some, None, MatchOption, option_to_list}
+use Rattle.std.specs.declared.alloc.Global.{Global}
 use Rattle.lwkt_base.specs.declared.names.CpuId.{CpuId}
+use Rattle.lwkt_core.specs.declared.events.Event.{Event}
 use Rattle.lwkt_lane.specs.declared.notes.Note.{Note}
 use mathlib.Core.List.{IsPrefix}
 use Rattle.lwkt_lane.specs.Lane.{received, seen, IsSeenGone, in_lane}
 use Rattle.lwkt_msg.specs.Views.{seat_cpu}
-use Rattle.lwkt_msg.specs.Desks.{cpu_of, IsSameDesk}
+use Rattle.lwkt_msg.specs.Desks.{Desk, cpu_of}
 use Rattle.lwkt_port.specs.declared.handlings.Fate.{Fate}
+use Rattle.lwkt_lane.specs.declared.ins.LaneIn.{LaneIn}
 use Rattle.lwkt_port.specs.declared.lines.Lane.{Lane}
 use Rattle.lwkt_port.specs.Intakes.{Desks, desks, Handles, HandlesAll, Pops}
-use Rattle.lwkt_port.specs.Mails.{AreMails}
-use Rattle.lwkt_port.specs.Queues.{HasNamed}
-use Rattle.lwkt_port.specs.Works.{work, Grew, away_count, Standing, Keeps}
+use Rattle.lwkt_port.specs.declared.mails.Mail.{Mail}
+use Rattle.lwkt_port.specs.Lines.{IsDrained, HasPopped}
+use Rattle.lwkt_port.specs.Works.{Grew, away_count, StandsSo, Standing, KeepsSo, Keeps}
 use Rattle.lwkt_port.proofs.Growing.{grew_none, grew_then, same_none, same_then}
 
 abbrev pub desks_at : Standing → Desks
-desks_at s = desks (work s.seat s.mails s.trace) s.ports
+desks_at s = desks s.counters s.trace
 
-pub keeps_none : (s : Standing) → AreMails s.seat s.mails.items → vec_len s.ports ≡ 16 → All (HasNamed (vec_len s.mails)) s.ports.items → Keeps s s
-keeps_none s are ports named = record { kept = are; same = same_none s.seat; len = refl; ports = ports; named = named; grown = (0, grew_none (cpu_of s.seat) s.trace); room = omega arith; away = refl }
+pub keeps_none : (s : Standing) → Keeps s s
+keeps_none s = record { same = same_none s.counters.room.seat; len = refl; grown = (0, grew_none (cpu_of s.counters.room.seat) s.trace); room = omega arith; away = refl }
 
 pub keeps_then : (s s' s'' : Standing) → Keeps s s' → Keeps s' s'' → Keeps s s''
 keeps_then s s' s'' k l =
+    let cpu : CpuId = cpu_of s.counters.room.seat in
     let F : CpuId → Type 0 = λ c. Grew c l.grown.0 s'.trace s''.trace in
-    let g : Grew (cpu_of s.seat) l.grown.0 s'.trace s''.trace = subst F (ap seat_cpu k.same.kind) l.grown.1 in record {
-      kept = l.kept;
-      same = same_then s.seat s'.seat s''.seat k.same l.same;
+    let g : Grew cpu l.grown.0 s'.trace s''.trace = subst F (ap seat_cpu k.same.kind) l.grown.1 in record {
+      same = same_then s.counters.room.seat s'.counters.room.seat s''.counters.room.seat k.same l.same;
       len = l.len ∙ k.len;
-      ports = l.ports;
-      named = l.named;
-      grown = (k.grown.0 + l.grown.0, grew_then (cpu_of s.seat) k.grown.0 l.grown.0 s.trace s'.trace s''.trace k.grown.1 g);
+      grown = (k.grown.0 + l.grown.0, grew_then cpu k.grown.0 l.grown.0 s.trace s'.trace s''.trace k.grown.1 g);
       room = omega (arith, k.room, l.room);
       away = l.away ∙ k.away;
     }
 
--- handling one note keeps things in order
-pub keeps_one : (s s' : Standing) → AreMails s'.seat s'.mails.items → IsSameDesk s.seat s'.seat → vec_len s'.mails ≡ vec_len s.mails → vec_len s'.ports ≡ 16 → All (HasNamed (vec_len s'.mails)) s'.ports.items → Grew (cpu_of s.seat) 1 s.trace s'.trace → away_count s'.mails.items + vec_len s'.trace ≡ away_count s.mails.items + vec_len s.trace → Keeps s s'
-keeps_one s s' kept same len ports named grew away = record { kept = kept; same = same; len = len; ports = ports; named = named; grown = (1, grew); room = grew.room; away = away }
+pub keeps_nothing : (seat : Desk) (mails : Vec Mail Global) (trace : Vec Event Global) → KeepsSo seat mails trace seat mails trace
+keeps_nothing seat mails trace = record { same = same_none seat; len = refl; grown = (0, grew_none (cpu_of seat) trace); room = omega arith; away = refl }
+
+pub keeps_step : (seat : Desk) (mails : Vec Mail Global) (trace : Vec Event Global) (seat' : Desk) (mails' : Vec Mail Global) (trace' : Vec Event Global) → StandsSo 1 seat mails trace seat' mails' trace' → away_count mails'.items + vec_len trace' ≡ away_count mails.items + vec_len trace → KeepsSo seat mails trace seat' mails' trace'
+keeps_step seat mails trace seat' mails' trace' stands away = record { same = stands.same; len = stands.len; grown = (1, stands.grew); room = stands.grew.room; away = away }
 
 -- one more note was handled
 pub handles_more : (notes : List Note) (note : Note) (how : Fate) (x y z : Desks) → HandlesAll notes x y → Handles note y z (Some how) → HandlesAll (notes ++ note ∷ []) x z
@@ -75,14 +78,6 @@ pub record IsPopping (turn : ℕ) (line : Lane) (s : Standing) (line' : Lane) (s
 pub popping_none : (line : Lane) (s : Standing) → line.kept ≡ None → Keeps s s → IsPopping 0 line s line s
 popping_none line s none keeps = record { popped = []; as_many = refl; received_is = sym (append-nil (received line.into)); first = front_itself (seen line.into); handles = refl; none = none; out_same = refl; lane_same = refl; keeps = keeps }
 
--- what a pop of a note leaves of a line
-pub record HasPopped (note : Note) (line line' : Lane) : Type 0 where
-  pub received_is : received line'.into ≡ received line.into ++ note ∷ []
-  pub first : IsPrefix (seen line.into) (note ∷ seen line'.into)
-  pub lane : in_lane line'.into ≡ in_lane line.into
-  pub out_same : line'.out ≡ line.out
-  pub kept_same : line'.kept ≡ line.kept
-
 pub popping_more : (turn : ℕ) (line : Lane) (s : Standing) (line1 : Lane) (s1 : Standing) (line2 : Lane) (s2 : Standing) (note : Note) (how : Fate) → IsPopping turn line s line1 s1 → HasPopped note line1 line2 → Handles note (desks_at s1) (desks_at s2) (Some how) → Keeps s1 s2 → IsPopping (turn + 1) line s line2 s2
 popping_more turn line s line1 s1 line2 s2 note how i pop handles keeps = record {
   popped = i.popped ++ note ∷ [];
@@ -92,7 +87,7 @@ popping_more turn line s line1 s1 line2 s2 note how i pop handles keeps = record
   handles = handles_more i.popped note how (desks_at s) (desks_at s1) (desks_at s2) i.handles handles;
   none = pop.kept_same ∙ i.none;
   out_same = pop.out_same ∙ i.out_same;
-  lane_same = pop.lane ∙ i.lane_same;
+  lane_same = pop.lane_same ∙ i.lane_same;
   keeps = keeps_then s s1 s2 i.keeps keeps;
 }
 
@@ -102,22 +97,27 @@ kept_nothing o x y is same = let F : Option Note → Type 0 = λ p. MatchOption 
 pub flow_nothing : (popped : List Note) (o : Option Note) → o ≡ None → popped ≡ popped ++ option_to_list o
 flow_nothing popped o is = sym (append-nil popped) ∙ ap (λ p. popped ++ option_to_list p) (sym is)
 
+-- what a pop leaves of a line
+pub popped_so : (o : Option Note) (line : Lane) (into : LaneIn) → MatchOption o (received into ≡ received line.into) (λ note. received into ≡ received line.into ++ note ∷ []) → (o ≡ None → (seen line.into ≡ []) × (seen into ≡ [])) → IsSeenGone o (seen line.into) (seen into) → in_lane into ≡ in_lane line.into → MatchOption o (IsDrained line (record line { into = into })) (λ note. HasPopped note line (record line { into = into }))
+popped_so None line into same none gone lane = record { received_same = same; seen_same = gone; empty = (none refl).1; lane_same = lane; out_same = refl; kept_same = refl }
+popped_so (Some note) line into more none gone lane = record { received_is = more; first = gone; lane_same = lane; out_same = refl; kept_same = refl }
+
 -- the lane had no more notes
-pub popped_empty : (most turn : ℕ) (line : Lane) (s : Standing) (line1 : Lane) (s1 : Standing) (line2 : Lane) → turn < most → IsPopping turn line s line1 s1 → received line2.into ≡ received line1.into → seen line2.into ≡ seen line1.into → seen line2.into ≡ [] → in_lane line2.into ≡ in_lane line1.into → line2.out ≡ line1.out → line2.kept ≡ line1.kept → Pops most turn line line2 (desks_at s) (desks_at s1)
-popped_empty most turn line s line1 s1 line2 within i received_same same empty lane out kept = record {
+pub popped_empty : (most turn : ℕ) (line : Lane) (s : Standing) (line1 : Lane) (s1 : Standing) (line2 : Lane) → turn < most → IsPopping turn line s line1 s1 → IsDrained line1 line2 → Pops most turn line line2 (desks_at s) (desks_at s1)
+popped_empty most turn line s line1 s1 line2 within i d = record {
   popped = i.popped;
   done = i.popped;
   between = desks_at s1;
-  received_is = received_same ∙ i.received_is;
-  first = first_same (seen line.into) i.popped (seen line1.into) (seen line2.into) i.first same;
+  received_is = d.received_same ∙ i.received_is;
+  first = first_same (seen line.into) i.popped (seen line1.into) (seen line2.into) i.first d.seen_same;
   as_many = i.as_many;
   within = omega arith;
-  flow = flow_nothing i.popped line2.kept (kept ∙ i.none);
+  flow = flow_nothing i.popped line2.kept (d.kept_same ∙ i.none);
   handles = i.handles;
-  last = kept_nothing line2.kept (desks_at s1) (desks_at s1) (kept ∙ i.none) refl;
-  emptied = λ _ _. empty;
-  out_same = out ∙ i.out_same;
-  lane_same = lane ∙ i.lane_same;
+  last = kept_nothing line2.kept (desks_at s1) (desks_at s1) (d.kept_same ∙ i.none) refl;
+  emptied = λ _ _. d.empty;
+  out_same = d.out_same ∙ i.out_same;
+  lane_same = d.lane_same ∙ i.lane_same;
 }
 
 -- as many were popped as are allowed
@@ -155,5 +155,5 @@ popped_full most turn line s line1 s1 line2 line3 s2 note within i pop handles i
       last = handles;
       emptied = λ _ none. absurd (let e : Some note ≡ None = none in cc);
       out_same = pop.out_same ∙ i.out_same;
-      lane_same = pop.lane ∙ i.lane_same;
+      lane_same = pop.lane_same ∙ i.lane_same;
     }

@@ -8,8 +8,7 @@ use Rattle.lwkt_base.specs.declared.names.CpuId.{CpuId}
 use Rattle.lwkt_core.specs.declared.events.Event.{Event}
 use Rattle.lwkt_msg.specs.Views.{seat_cpu}
 use Rattle.lwkt_msg.specs.Desks.{Desk, cpu_of, IsSameDesk}
-use Rattle.lwkt_port.specs.declared.mails.Mail.{Mail}
-use Rattle.lwkt_port.specs.Mails.{AreMails}
+use Rattle.lwkt_port.specs.declared.mailrooms.Mailroom.{Mailroom}
 use Rattle.lwkt_port.specs.Works.{IsOfMessages, Grew, Stands}
 
 pub grew_none : (cpu : CpuId) (t : Vec Event Global) → Grew cpu 0 t t
@@ -36,18 +35,17 @@ same_then a b c g h = record { table = h.table ∙ g.table; kind = h.kind ∙ g.
 pub same_none : (a : Desk) → IsSameDesk a a
 same_none a = record { table = refl; kind = refl; cpus = refl; specs = refl }
 
-pub stands_none : (d : Desk) (m : Vec Mail Global) (t : Vec Event Global) → AreMails d m.items → Stands 0 d m t d m t
-stands_none d m t are = record { kept = are; same = same_none d; len = refl; grew = grew_none (cpu_of d) t }
+pub stands_none : (r : Mailroom) (t : Vec Event Global) → Stands 0 r t r t
+stands_none r t = record { same = same_none r.seat; len = refl; grew = grew_none (cpu_of r.seat) t }
 
-pub stands_then : (a b : ℕ) (d d' d'' : Desk) (m m' m'' : Vec Mail Global) (t t' t'' : Vec Event Global) → Stands a d m t d' m' t' → AreMails d'' m''.items → IsSameDesk d' d'' → vec_len m'' ≡ vec_len m' → Grew (cpu_of d') b t' t'' → Stands (a + b) d m t d'' m'' t''
-stands_then a b d d' d'' m m' m'' t t' t'' s kept same len grew =
+pub stands_then : (a b : ℕ) (r r' r'' : Mailroom) (t t' t'' : Vec Event Global) → Stands a r t r' t' → Stands b r' t' r'' t'' → Stands (a + b) r t r'' t''
+stands_then a b r r' r'' t t' t'' s s' =
     let F : CpuId → Type 0 = λ c. Grew c b t' t'' in
-    let g : Grew (cpu_of d) b t' t'' = subst F (ap seat_cpu s.same.kind) grew in record {
-      kept = kept;
-      same = same_then d d' d'' s.same same;
-      len = len ∙ s.len;
-      grew = grew_then (cpu_of d) a b t t' t'' s.grew g;
+    let g : Grew (cpu_of r.seat) b t' t'' = subst F (ap seat_cpu s.same.kind) s'.grew in record {
+      same = same_then r.seat r'.seat r''.seat s.same s'.same;
+      len = s'.len ∙ s.len;
+      grew = grew_then (cpu_of r.seat) a b t t' t'' s.grew g;
     }
 
-pub stands_is : (a b : ℕ) (d d' : Desk) (m m' : Vec Mail Global) (t t' : Vec Event Global) → a ≤ b → Stands a d m t d' m' t' → Stands b d m t d' m' t'
-stands_is a b d d' m m' t t' fewer s = record { kept = s.kept; same = s.same; len = s.len; grew = grew_few (cpu_of d) a b t t' s.grew (omega (arith, s.grew.grown, s.grew.few)) }
+pub stands_is : (a b : ℕ) (r r' : Mailroom) (t t' : Vec Event Global) → a ≤ b → Stands a r t r' t' → Stands b r t r' t'
+stands_is a b r r' t t' fewer s = record { same = s.same; len = s.len; grew = grew_few (cpu_of r.seat) a b t t' s.grew (omega (arith, s.grew.grown, s.grew.few)) }

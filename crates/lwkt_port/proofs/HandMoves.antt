@@ -1,24 +1,21 @@
 -- Where notes were taken in, or what is owed was paid, a note is in hand only where no place is known to be free.
-use Rattle.std.proofs.Common.{◌≡◌, ⊎_elim, ℕ, zero, suc, ◌+◌, ◌<◌, Bool, true, false, List, length, set, get_or, refl, ap, sym, ◌∙◌, subst, arith, length-set, get_or-set_same, get_or-set_other}
+use Rattle.std.proofs.Common.{◌≡◌, ⊎_elim, ℕ, zero, suc, ◌<◌, Bool, true, false, List, length, set, get_or, ap, sym, ◌∙◌, subst, arith, length-set, get_or-set_same, get_or-set_other}
 use Rattle.std.proofs.lemmas.List.Elements.{All-set, All-get_or}
 use mathlib.Core.Logic.{dite}
 use native.Mathlib.Decide.{ℕ_discrete}
-use Rattle.std.specs.Prelude.{◌⊎◌, All, Option, Some, None, IsSome, Vec}
-use Rattle.std.specs.declared.alloc.Global.{Global}
+use Rattle.std.specs.Prelude.{All, Option, Some, None, IsSome}
 use Rattle.lwkt_base.specs.declared.names.MsgId.{MsgId}
-use Rattle.lwkt_core.specs.declared.events.Event.{Event}
 use Rattle.lwkt_lane.specs.declared.notes.Note.{Note}
 use Rattle.lwkt_lane.specs.declared.outs.LaneOut.{LaneOut}
 use Rattle.lwkt_lane.specs.Lane.{in_hand, free}
 use Rattle.lwkt_port.specs.declared.handlings.Fate.{Fate}
 use Rattle.lwkt_port.specs.declared.lines.Lane.{Lane}
 use Rattle.lwkt_port.specs.Chains.{Chain}
-use Rattle.lwkt_port.specs.Closings.{PostPays}
-use Rattle.lwkt_port.specs.Intakes.{Payer, PaysOwed, Pays, Desks, Handles, Pops, EmptiesKept, Intake, EmptiesFrom, Hall, TakesIn}
+use Rattle.lwkt_port.specs.Intakes.{Payer, PaysOwed, Pays, Desks, Handles, Pops, EmptiesKept, Intake, EmptiesFrom}
 use Rattle.lwkt_port.specs.Laws.{HandsWaitForRoom, PaidHandsWaitForRoom}
 use Rattle.lwkt_port.specs.Lines.{WaitsForRoom, IsRoomed}
 use Rattle.lwkt_port.specs.Mails.{mail_at}
-use Rattle.lwkt_port.specs.Posts.{Post, Changes, work_of}
+use Rattle.lwkt_port.specs.Posts.{Changes, work_of}
 use Rattle.lwkt_port.specs.Sendings.{ReplyMeans, Answers}
 use Rattle.lwkt_port.specs.Works.{Work}
 use Rattle.lwkt_port.proofs.Hinting.{chain_keeps}

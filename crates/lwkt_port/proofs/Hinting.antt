@@ -170,6 +170,9 @@ empties_keep P each (Some note) most count line line' x y e is = ⊎_elim
     (λ (s : (z : Desks) × (how : Fate) × Handles note x z (Some how) × Pops most count (record line { kept = None }) line' z y). pops_keep P each most count (record line { kept = None }) line' s.0 y s.3 (each note x s.0 (Some s.1) s.2 is))
     e
 
+pub line_owes : (most count : ℕ) (line line' : Lane) (x y : Desks) → EmptiesKept line.kept most count line line' x y → OwesNone x.work.mails → OwesNone y.work.mails
+line_owes most count line line' x y e none = empties_keep (λ z. OwesNone z.work.mails) handle_owes line.kept most count line line' x y e none
+
 from_owes : (limit sender : ℕ) (x y : Intake) → EmptiesFrom limit sender x y → OwesNone x.work.mails → OwesNone y.work.mails
 from_owes limit sender x y e none = empties_keep (λ z. OwesNone z.work.mails) handle_owes e.1.old.kept (limit - x.count) e.0 e.1.old e.1.new (record { work = x.work; ports = x.ports }) (record { work = y.work; ports = y.ports }) e.1.does none
 

@@ -1,17 +1,17 @@
 -- The lane between two processors' ports has its two ends there.
 use Rattle.std.proofs.Common.{◌≡◌, ℕ, zero, suc, ◌<◌, List, [], ◌∷◌, length, map, get_or, refl, ap, sym, ◌∙◌, subst, arith}
 use Rattle.std.proofs.lemmas.List.{length-map, get_or-map}
-use Rattle.std.specs.Prelude.{zip, slice_index_or}
+use Rattle.std.specs.Prelude.{zip}
 use Rattle.lwkt_base.specs.declared.names.CpuId.{CpuId}
 use Rattle.lwkt_lane.specs.declared.ins.LaneIn.{LaneIn}
 use Rattle.lwkt_lane.specs.declared.outs.LaneOut.{LaneOut}
-use Rattle.lwkt_lane.specs.Lane.{LaneId, out_lane, in_lane, IsLane}
-use Rattle.lwkt_msg.specs.Desks.{Desk, cpu_of, IsSameDesk}
+use Rattle.lwkt_lane.specs.Lane.{LaneId, out_lane, in_lane}
+use Rattle.lwkt_msg.specs.Desks.{cpu_of}
 use Rattle.lwkt_msg.specs.Views.{seat_cpu}
 use Rattle.lwkt_port.specs.declared.lines.Lane.{Lane}
-use Rattle.lwkt_port.specs.Openings.{new_line, ArePaired}
-use Rattle.lwkt_port.specs.Posts.{Post, out_lanes, in_lanes, AreSameLanes, IsSamePost}
-use Rattle.lwkt_port.specs.Sights.{AreEnds, AreJoined, StayJoined, AreWired, OpenedAreJoined}
+use Rattle.lwkt_port.specs.Openings.{new_line}
+use Rattle.lwkt_port.specs.Posts.{AreSameLanes}
+use Rattle.lwkt_port.specs.Sights.{AreEnds, StayJoined, AreWired, OpenedAreJoined}
 
 abbrev out_of : Lane → LaneId
 out_of line = out_lane line.out

@@ -58,13 +58,7 @@ all_put d d' m mails mail same others there fits are = record {
       subst F (sym (get_or-set_other mails m k mail no_mail apart)) (fits_still d d' k (mail_at mails k) same (ap (λ e. e.away) (others k apart)) (ap (λ e. e.taken) (others k apart)) old));
 }
 
--- how many messages are away, after something else is kept of one
-pub away_same : (mails : List Mail) (m : ℕ) (mail : Mail) → m < length mails → mail.home ≡ (mail_at mails m).home → away_count (set mails m mail) ≡ away_count mails
-away_same mails m mail there home =
-    let f : Mail → ℕ = λ x. cond (not x.home) 1 0 in
-    let e : f mail ≡ f (mail_at mails m) = ap (λ b. cond (not b) 1 0) home in
-    omega (arith, sum_by-set f mails m mail no_mail there)
-
+-- how many messages are away, after one has come home
 pub away_less : (mails : List Mail) (m : ℕ) (mail : Mail) → m < length mails → mail.home ≡ true → (mail_at mails m).home ≡ false → away_count (set mails m mail) + 1 ≡ away_count mails
 away_less mails m mail there home was =
     let f : Mail → ℕ = λ x. cond (not x.home) 1 0 in

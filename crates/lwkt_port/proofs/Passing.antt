@@ -4,21 +4,22 @@ use Rattle.std.proofs.Common.{◌≡◌, ℕ, zero, suc, ◌+◌, ◌-◌, ◌<�
 use Rattle.std.proofs.Math.ListN.{length-set}
 use Rattle.std.proofs.lemmas.List.{append-nil, set-get_or, get_or_default, get_or-set_same, set-set}
 use Rattle.std.proofs.lemmas.List.Elements.{All-get_or}
-use Rattle.std.specs.Prelude.{All, Option, None, slice_index_or, slice_set}
+use Rattle.std.specs.Prelude.{All, Option, Some, None, slice_index_or, slice_set}
 use Rattle.lwkt_lane.specs.declared.notes.Note.{Note}
 use Rattle.lwkt_lane.specs.Lane.{received, seen}
+use Rattle.lwkt_port.specs.declared.handlings.Fate.{Fate}
 use Rattle.lwkt_port.specs.declared.lines.Lane.{Lane}
 use Rattle.lwkt_port.specs.declared.queues.Port.{Port}
 use Rattle.lwkt_port.specs.Chains.{Chain}
 use Rattle.lwkt_port.specs.Hints.{OwesNone}
-use Rattle.lwkt_port.specs.Intakes.{Desks, desks_of, Pops, EmptiesKept, Empties, Intake, EmptiesFrom, untaken, IsFronted, Clearing, ClearsAt, Hall, TakesIn}
+use Rattle.lwkt_port.specs.Intakes.{Desks, desks_of, Handles, Pops, EmptiesKept, Empties, Intake, EmptiesFrom, untaken, IsFronted, Clearing, ClearsAt, Hall, TakesIn}
 use Rattle.lwkt_port.specs.Lines.{HasNoneInHand, IsRoomed, HasNone, IsLooked, IsFound}
 use Rattle.lwkt_port.specs.Posts.{Changes}
 use Rattle.lwkt_port.specs.Works.{Work}
 use Rattle.lwkt_port.proofs.Chaining.{chain_more}
 use Rattle.lwkt_port.proofs.Dispatching.{changed}
 use Rattle.lwkt_port.proofs.Emptying.{front_then, kept_nothing, flow_nothing}
-use Rattle.lwkt_port.proofs.Hinting.{pays_none}
+use Rattle.lwkt_port.proofs.Hinting.{chain_keeps, pays_none}
 use Rattle.lwkt_port.proofs.Posting.{room_itself}
 
 an_item : (A : Type 0) (xs : List A) → 0 < length xs → A
@@ -107,6 +108,30 @@ found_empties : (most count : ℕ) (line0 line1 line2 : Lane) (x y : Desks) → 
 found_empties most count line0 line1 line2 x y found e = ⊎_elim
     (λ (same : line1 ≡ line0). let F : Lane → Type 0 = λ l. Empties most count l line2 x y in subst F same e)
     (λ (l : IsLooked line0 line1). looked_empties most count line0 line1 line2 x y l e)
+    found
+
+-- no more notes are taken in than are allowed
+empties_within : (kept : Option Note) (most count : ℕ) (line line' : Lane) (x y : Desks) → EmptiesKept kept most count line line' x y → count ≤ most
+empties_within None most count line line' x y e = e.within
+empties_within (Some note) most count line line' x y e = ⊎_elim
+    (λ (s : Handles note x y None × (line' ≡ line) × (count ≡ 0)). omega (arith, s.2))
+    (λ (s : (z : Desks) × (how : Fate) × Handles note x z (Some how) × Pops most count (record line { kept = None }) line' z y). s.3.within)
+    e
+
+from_within : (limit sender : ℕ) (x y : Intake) → EmptiesFrom limit sender x y → x.count ≤ limit → y.count ≤ limit
+from_within limit sender x y e before =
+    let more : e.0 ≤ limit - x.count = empties_within e.1.old.kept (limit - x.count) e.0 e.1.old e.1.new (desks_of x) (desks_of y) e.1.does in omega (arith, before, more, e.2)
+
+pub takes_within : (limit count : ℕ) (x y : Hall) → TakesIn limit x y count → count ≤ limit
+takes_within limit count x y t =
+    let start : Intake = record { work = t.paid.work; lanes = t.paid.lanes; ports = x.ports; count = 0 } in
+    let within : t.emptied.count ≤ limit = chain_keeps Intake (EmptiesFrom limit) (λ z. z.count ≤ limit) (from_within limit) (length t.paid.lanes) start t.emptied t.notes (omega arith) in omega (arith, within, t.count_is)
+
+-- a line that was found with a note keeps what it kept
+pub found_kept : (line line' : Lane) → IsFound line line' → line'.kept ≡ line.kept
+found_kept line line' found = ⊎_elim
+    (λ (same : line' ≡ line). ap (λ (l : Lane). l.kept) same)
+    (λ (l : IsLooked line line'). l.kept_same)
     found
 
 -- the first lane with a note was emptied

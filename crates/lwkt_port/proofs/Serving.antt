@@ -5,15 +5,13 @@ use Rattle.std.specs.Prelude.{Vec, vec_len, All}
 use Rattle.std.specs.declared.alloc.Global.{Global}
 use Rattle.lwkt_core.specs.declared.events.Event.{Event}
 use Rattle.lwkt_lane.specs.declared.notes.Note.{Note}
-use Rattle.lwkt_msg.specs.Desks.{Desk, cpu_of, IsSameDesk}
 use Rattle.lwkt_port.specs.declared.gets.Served.TheVariants as served
-use Rattle.lwkt_port.specs.declared.mails.Mail.{Mail}
+use Rattle.lwkt_port.specs.declared.mailrooms.Mailroom.{Mailroom}
 use Rattle.lwkt_port.specs.declared.queues.Port.{Port}
-use Rattle.lwkt_port.specs.Mails.{AreMails}
 use Rattle.lwkt_port.specs.Queues.{NamesMessage, HasNamed}
 use Rattle.lwkt_port.specs.Queues.{queue_of, LeavesInOrder, HasLeft}
 use Rattle.lwkt_port.specs.Servings.{Serves, PassesAll}
-use Rattle.lwkt_port.specs.Works.{Work, work, Grew, Stands}
+use Rattle.lwkt_port.specs.Works.{Work, work, Stands}
 use Rattle.lwkt_port.proofs.Classing.{named_each, named_left, leaving_chains}
 use Rattle.lwkt_port.proofs.Growing.{stands_then}
 
@@ -33,25 +31,25 @@ named_tail n n' port port' left same named =
     subst F (sym same) (named_left n port port' left named)
 
 -- a thread was served with so many notes, and shown none of them
-pub record IsServing (thread turn : ℕ) (seat : Desk) (mails : Vec Mail Global) (trace : Vec Event Global) (port : Port) (seat' : Desk) (mails' : Vec Mail Global) (trace' : Vec Event Global) (port' : Port) : Type 0 where
+pub record IsServing (thread turn : ℕ) (r : Mailroom) (trace : Vec Event Global) (port : Port) (r' : Mailroom) (trace' : Vec Event Global) (port' : Port) : Type 0 where
   pub passed : List Note
   pub as_many : length passed ≡ turn
   pub queue_is : queue_of port ≡ passed ++ queue_of port'
-  pub passes : PassesAll thread passed (work seat mails trace) (work seat' mails' trace')
-  pub stands : Stands turn seat mails trace seat' mails' trace'
-  pub named : HasNamed (vec_len mails') port'
+  pub passes : PassesAll thread passed (work r trace) (work r' trace')
+  pub stands : Stands turn r trace r' trace'
+  pub named : HasNamed (vec_len r'.mails) port'
   pub closed : port'.closed ≡ port.closed
   pub order : LeavesInOrder port port'
 
-pub serving_more : (thread turn : ℕ) (d : Desk) (m : Vec Mail Global) (t : Vec Event Global) (p : Port) (d1 : Desk) (m1 : Vec Mail Global) (t1 : Vec Event Global) (p1 : Port) (d2 : Desk) (m2 : Vec Mail Global) (t2 : Vec Event Global) (p2 : Port) (note : Note) (rest : List Note)
-    → IsServing thread turn d m t p d1 m1 t1 p1 → queue_of p1 ≡ note ∷ rest → HasLeft rest p1 p2 → Serves thread note (work d1 m1 t1) (work d2 m2 t2) served.Passed → AreMails d2 m2.items → IsSameDesk d1 d2 → vec_len m2 ≡ vec_len m1 → Grew (cpu_of d1) 1 t1 t2 → IsServing thread (turn + 1) d m t p d2 m2 t2 p2
-serving_more thread turn d m t p d1 m1 t1 p1 d2 m2 t2 p2 note rest s is left serves kept same len grew = record {
+pub serving_more : (thread turn : ℕ) (r : Mailroom) (t : Vec Event Global) (p : Port) (r1 : Mailroom) (t1 : Vec Event Global) (p1 : Port) (r2 : Mailroom) (t2 : Vec Event Global) (p2 : Port) (note : Note) (rest : List Note)
+    → IsServing thread turn r t p r1 t1 p1 → queue_of p1 ≡ note ∷ rest → HasLeft rest p1 p2 → Serves thread note (work r1 t1) (work r2 t2) served.Passed → Stands 1 r1 t1 r2 t2 → IsServing thread (turn + 1) r t p r2 t2 p2
+serving_more thread turn r t p r1 t1 p1 r2 t2 p2 note rest s is left serves stands = record {
   passed = s.passed ++ note ∷ [];
   as_many = omega (arith, length-append s.passed (note ∷ []), s.as_many);
   queue_is = s.queue_is ∙ ap (λ q. s.passed ++ q) (is ∙ ap (λ q. note ∷ q) (sym left.0)) ∙ sym (append_assoc s.passed (note ∷ []) (queue_of p2));
-  passes = passes_more thread s.passed note (work d m t) (work d1 m1 t1) (work d2 m2 t2) s.passes serves;
-  stands = stands_then turn 1 d d1 d2 m m1 m2 t t1 t2 s.stands kept same len grew;
-  named = named_tail (vec_len m1) (vec_len m2) p1 p2 left.2 len s.named;
+  passes = passes_more thread s.passed note (work r t) (work r1 t1) (work r2 t2) s.passes serves;
+  stands = stands_then turn 1 r r1 r2 t t1 t2 s.stands stands;
+  named = named_tail (vec_len r1.mails) (vec_len r2.mails) p1 p2 left.2 stands.len s.named;
   closed = left.1 ∙ s.closed;
   order = leaving_chains p p1 p2 s.order left.2;
 }

@@ -2,13 +2,13 @@
 use Rattle.std.proofs.Common.{◌≡◌, ⊎_elim, ℕ, ◌<◌, ◌≤◌, inl, inr, List, ◌++◌, length, set, get_or, refl, ap, sym, ◌∙◌, subst, arith, append_assoc, length-set, get_or-set_same}
 use Rattle.std.proofs.lemmas.List.{get_or_default}
 use mathlib.Core.List.{IsPrefix}
-use Rattle.std.specs.Prelude.{◌⊎◌, All, IsSome, slice_index_or, Vec}
+use Rattle.std.specs.Prelude.{◌⊎◌, IsSome, slice_index_or, Vec}
 use Rattle.std.specs.declared.alloc.Global.{Global}
 use Rattle.lwkt_core.specs.declared.events.Event.{Event}
 use Rattle.lwkt_lane.specs.declared.ins.LaneIn.{LaneIn}
 use Rattle.lwkt_lane.specs.declared.notes.Note.{Note}
 use Rattle.lwkt_lane.specs.declared.outs.LaneOut.{LaneOut}
-use Rattle.lwkt_lane.specs.Lane.{queued, received, seen, out_lane, in_lane, IsLane}
+use Rattle.lwkt_lane.specs.Lane.{received, seen, out_lane, in_lane, IsLane}
 use Rattle.lwkt_msg.specs.Desks.{cpu_of}
 use Rattle.lwkt_port.specs.declared.lines.Lane.{Lane}
 use Rattle.lwkt_port.specs.Intakes.{PostTakesIn}

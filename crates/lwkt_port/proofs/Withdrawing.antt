@@ -1,6 +1,6 @@
 -- Drops and requests to abort: what is kept of messages fits the seat again, and why each refusal came.
 use Rattle.std.proofs.Common.{inl, inr, ◌≡◌, ℕ, ◌<◌, ◌≤◌, Bool, true≢false, List, length, set, refl, ap, sym, ◌∙◌, subst, arith}
-use Rattle.std.specs.Prelude.{◌⊎◌, Result, Ok, Err, IfOk, Vec}
+use Rattle.std.specs.Prelude.{◌⊎◌, Result, Ok, Err, IfOk, MatchResult, Vec}
 use Rattle.std.specs.declared.alloc.Global.{Global}
 use Rattle.lwkt_base.specs.declared.faults.Fault.{Fault}
 use Rattle.lwkt_base.specs.declared.faults.Fault.TheVariants.{NotOwner}
@@ -107,11 +107,16 @@ there_of {B} fault d d' mails m are there why = elim why [
   | inr some ↦ some.1
 ]
 
--- what was heard, over any trace
-pub hears : (answer : Result Bool Fault) (d d' : Desk) (mails : List Mail) (msg : MsgId) (events : List Event) → IfOk answer (λ aborted. (events : List Event) → IsHeard msg (record { seat = d; mails = mails; trace = events }) (record { seat = d'; mails = mails; trace = events }) aborted) → IfOk answer (λ aborted. IsHeard msg (record { seat = d; mails = mails; trace = events }) (record { seat = d'; mails = mails; trace = events }) aborted)
-hears (Ok aborted) d d' mails msg events heard = heard events
-hears (Err fault) d d' mails msg events heard = heard
+-- after a request, whatever the book answered
+pub asked_keeps : (answer : Result (Unit {0}) Fault) (d d' : Desk) (mails : List Mail) (msg : MsgId) → IsSameDesk d d' → MatchResult answer (λ _. (msg.0 < messages_of d) × HasRequested (cpu_of d) d.view d'.view msg.0) (λ fault. ((messages_of d ≤ msg.0) × (fault ≡ NotOwner) × (d' ≡ d)) ⊎ ((msg.0 < messages_of d) × IsUnrequested (cpu_of d) d.view d'.view msg.0 fault)) → msg.0 < length mails → AreMails d mails → AreMails d' mails
+asked_keeps (Ok x) d d' mails msg same means there are = requested_keeps d d' mails msg same means.1 are
+asked_keeps (Err fault) d d' mails msg same means there are = unrequested_keeps d d' mails msg fault same (there_of fault d d' mails msg.0 are there means) are
 
-pub post_hears : (answer : Result Bool Fault) (thread : ℕ) (msg : MsgId) (p : Post) (d' : Desk) → IsShownTo thread msg p.mails → IfOk answer (λ aborted. (events : List Event) → IsHeard msg (record { seat = p.seat; mails = p.mails; trace = events }) (record { seat = d'; mails = p.mails; trace = events }) aborted) → IfOk answer (λ aborted. PostHears thread msg p (record p { seat = d' }) aborted)
-post_hears (Ok aborted) thread msg p d' shown heard = record { shown = shown; heard = heard; only = record { lanes_same = refl; else_same = record { ports_same = refl; threads_same = refl } } }
-post_hears (Err fault) thread msg p d' shown heard = heard
+-- what was heard, over any trace
+pub hears : (answer : Result Bool Fault) (d d' : Desk) (mails mails' : List Mail) (msg : MsgId) (events : List Event) → IfOk answer (λ aborted. (events : List Event) → IsHeard msg (record { seat = d; mails = mails; trace = events }) (record { seat = d'; mails = mails'; trace = events }) aborted) → IfOk answer (λ aborted. IsHeard msg (record { seat = d; mails = mails; trace = events }) (record { seat = d'; mails = mails'; trace = events }) aborted)
+hears (Ok aborted) d d' mails mails' msg events heard = heard events
+hears (Err fault) d d' mails mails' msg events heard = heard
+
+pub post_hears : (answer : Result Bool Fault) (thread : ℕ) (msg : MsgId) (p : Post) (d' : Desk) (mails' : List Mail) → IsShownTo thread msg p.mails → IfOk answer (λ aborted. (events : List Event) → IsHeard msg (record { seat = p.seat; mails = p.mails; trace = events }) (record { seat = d'; mails = mails'; trace = events }) aborted) → IfOk answer (λ aborted. PostHears thread msg p (record p { seat = d'; mails = mails' }) aborted)
+post_hears (Ok aborted) thread msg p d' mails' shown heard = record { shown = shown; heard = heard; only = record { lanes_same = refl; else_same = record { ports_same = refl; threads_same = refl } } }
+post_hears (Err fault) thread msg p d' mails' shown heard = heard

@@ -1,6 +1,6 @@
 -- What a processor does with the notes that came over its lanes. The lanes stand for the inter-processor messages by which
 -- msgport(9) reaches another processor's port; owed replies, closed ports and the limits are own.
-use Rattle.std.specs.Prelude.{◌≡◌, ◌⊎◌, ℕ, ◌+◌, ◌-◌, ◌<◌, ◌≤◌, Bool, true, false, List, [], ◌∷◌, ◌++◌, length, All, Option, Some, None, MatchOption, Vec, vec_len, vec_capacity, option_to_list}
+use Rattle.std.specs.Prelude.{◌≡◌, ◌⊎◌, ℕ, ◌+◌, ◌-◌, ◌<◌, ◌≤◌, Bool, true, false, List, [], ◌∷◌, ◌++◌, length, Option, Some, None, MatchOption, Vec, option_to_list}
 use Rattle.std.specs.declared.alloc.Global.{Global}
 use mathlib.Core.List.{IsPrefix}
 use Rattle.lwkt_core.specs.declared.events.Event.{Event}
@@ -12,31 +12,31 @@ use Rattle.lwkt_msg.specs.declared.answers.Taken.{Taken}
 use Rattle.lwkt_msg.specs.declared.answers.Taken.TheVariants as taken
 use Rattle.lwkt_msg.specs.declared.answers.Reaped.{Reaped}
 use Rattle.lwkt_msg.specs.declared.answers.Reaped.TheVariants as reaped_
-use Rattle.lwkt_msg.specs.Desks.{Desk, cpus_of}
 use Rattle.lwkt_base.specs.declared.records.Rec.{Rec}
 use Rattle.lwkt_port.specs.declared.deeds.Claim.TheVariants as claim
 use Rattle.lwkt_port.specs.declared.handlings.Fate.{Fate}
 use Rattle.lwkt_port.specs.declared.handlings.Fate.TheVariants as fate
+use Rattle.lwkt_port.specs.declared.counters.Counters.{Counters}
 use Rattle.lwkt_port.specs.declared.lines.Lane.{Lane}
 use Rattle.lwkt_port.specs.declared.mails.Mail.{Mail}
+use Rattle.lwkt_port.specs.declared.offices.Office.{Office}
 use Rattle.lwkt_port.specs.declared.queues.Port.{Port}
 use Rattle.lwkt_port.specs.Chains.{Chain}
 use Rattle.lwkt_port.specs.Deeds.{Takes, Reaps}
-use Rattle.lwkt_port.specs.Hints.{OwesNone, AreClear}
 use Rattle.lwkt_port.specs.Lines.{IsRoomed, IsFound}
-use Rattle.lwkt_port.specs.Mails.{mail_at, AreMails}
-use Rattle.lwkt_port.specs.Posts.{Post, Changes, KeepsNamed, work_of}
-use Rattle.lwkt_port.specs.Queues.{NamesBoth, HasNamed, queue_of, IsQueued, LeavesInOrder}
+use Rattle.lwkt_port.specs.Mails.{mail_at}
+use Rattle.lwkt_port.specs.Posts.{Post, Changes, work_of}
+use Rattle.lwkt_port.specs.Queues.{NamesBoth, queue_of, IsQueued, LeavesInOrder}
 use Rattle.lwkt_port.specs.Sendings.{Answers}
-use Rattle.lwkt_port.specs.Works.{Work, work, away_count, Stands}
+use Rattle.lwkt_port.specs.Works.{Work, work, Stands}
 
 -- what paying an owed reply changes
 pub record Payer : Type 0 where
   pub work : Work
   pub lanes : List Lane
 
-abbrev pub payer : Work → Vec Lane Global → Payer
-payer w lanes = record { work = w; lanes = lanes.items }
+abbrev pub payer : Office → Vec Event Global → Payer
+payer o trace = record { work = work o.counters.room trace; lanes = o.lanes.items }
 
 -- the reply that is owed to a message, if one is: it is made, or its lane is full
 abbrev pub PaysOwed : Option ℕ → ℕ → Payer → Payer → Type 0
@@ -47,21 +47,19 @@ abbrev pub Pays : ℕ → Payer → Payer → Type 0
 Pays m x y = PaysOwed (mail_at x.work.mails m).owed m x y
 
 -- so many messages were gone over, by number, and the replies that are owed to them made as lanes have room, by at most so many
--- events; what that changes stays in order
-pub record PaysFirst (count most : ℕ) (seat : Desk) (lanes : Vec Lane Global) (mails : Vec Mail Global) (trace : Vec Event Global) (seat' : Desk) (lanes' : Vec Lane Global) (mails' : Vec Mail Global) (trace' : Vec Event Global) : Type 0 where
-  pub pays : Chain Payer Pays count (payer (work seat mails trace) lanes) (payer (work seat' mails' trace') lanes')
-  pub stands : Stands most seat mails trace seat' mails' trace'
-  pub as_many : vec_len lanes' ≡ vec_len lanes
-  pub named : All (KeepsNamed (vec_len mails')) lanes'.items
-  pub away : away_count mails'.items ≡ away_count mails.items
+-- events; no port changed
+pub record PaysFirst (count most : ℕ) (o : Office) (trace : Vec Event Global) (o' : Office) (trace' : Vec Event Global) : Type 0 where
+  pub pays : Chain Payer Pays count (payer o trace) (payer o' trace')
+  pub stands : Stands most o.counters.room trace o'.counters.room trace'
+  pub ports_same : o'.counters.ports ≡ o.counters.ports
 
 -- what handling a note changes
 pub record Desks : Type 0 where
   pub work : Work
   pub ports : List Port
 
-abbrev pub desks : Work → Vec Port Global → Desks
-desks w ports = record { work = w; ports = ports.items }
+abbrev pub desks : Counters → Vec Event Global → Desks
+desks c trace = record { work = work c.room trace; ports = c.ports.items }
 
 -- a note is the answer to this processor's last send of its message, which was synchronous
 abbrev pub IsSyncAnswer : Note → List Mail → Type 0
@@ -114,8 +112,8 @@ pub record Intake : Type 0 where
   pub ports : List Port
   pub count : ℕ
 
-abbrev pub intake : Work → Vec Lane Global → Vec Port Global → ℕ → Intake
-intake w lanes ports count = record { work = w; lanes = lanes.items; ports = ports.items; count = count }
+abbrev pub intake : Office → Vec Event Global → ℕ → Intake
+intake o trace count = record { work = work o.counters.room trace; lanes = o.lanes.items; ports = o.counters.ports.items; count = count }
 
 abbrev pub desks_of : Intake → Desks
 desks_of x = record { work = x.work; ports = x.ports }
@@ -178,8 +176,8 @@ pub record Clearing : Type 0 where
   pub ports : List Port
   pub left : ℕ
 
-abbrev pub clearing : Work → Vec Port Global → ℕ → Clearing
-clearing w ports left = record { work = w; ports = ports.items; left = left }
+abbrev pub clearing : Counters → Vec Event Global → ℕ → Clearing
+clearing c trace left = record { work = work c.room trace; ports = c.ports.items; left = left }
 
 abbrev pub ClearsAt : ℕ → Clearing → Clearing → Type 0
 ClearsAt port x y = (k : ℕ) × Changes (λ a b. ClearsPort x.left k a b x.work y.work) port x.ports y.ports × (y.left + k ≡ x.left)
@@ -190,8 +188,8 @@ pub record Hall : Type 0 where
   pub lanes : List Lane
   pub ports : List Port
 
-abbrev pub hall : Work → Vec Lane Global → Vec Port Global → Hall
-hall w lanes ports = record { work = w; lanes = lanes.items; ports = ports.items }
+abbrev pub hall : Office → Vec Event Global → Hall
+hall o trace = record { work = work o.counters.room trace; lanes = o.lanes.items; ports = o.counters.ports.items }
 
 abbrev pub hall_of : Post → Vec Event Global → Hall
 hall_of p trace = record { work = work_of p trace; lanes = p.lanes; ports = p.ports }
@@ -210,28 +208,6 @@ pub record TakesIn (limit : ℕ) (x y : Hall) (count : ℕ) : Type 0 where
   pub closed : Chain Clearing ClearsAt 16 (record { work = emptied.work; ports = emptied.ports; left = 16 }) (record { work = y.work; ports = y.ports; left = left })
   pub lanes_are : y.lanes ≡ emptied.lanes
   pub count_is : count ≡ emptied.count
-
--- what taking notes in needs: all that it changes is in order, where `uncleared` isn't set no closed port has a note, and the trace
--- has room for 256 events
-pub record IsReady (seat : Desk) (lanes : Vec Lane Global) (mails : Vec Mail Global) (ports : Vec Port Global) (uncleared : Bool) (trace : Vec Event Global) : Type 0 where
-  pub kept : AreMails seat mails.items
-  pub as_many_ports : vec_len ports ≡ 16
-  pub named : All (HasNamed (vec_len mails)) ports.items
-  pub hint : uncleared ≡ false → AreClear ports.items
-  pub as_many_lanes : vec_len lanes ≡ cpus_of seat
-  pub keep : All (KeepsNamed (vec_len mails)) lanes.items
-  pub room : vec_len trace + 256 ≤ vec_capacity trace
-
--- what taking notes in leaves: it took so many, which are within the limit, all that it changed is in order, and the hints are right
-pub record LeavesReady (limit count : ℕ) (seat : Desk) (lanes : Vec Lane Global) (mails : Vec Mail Global) (trace : Vec Event Global) (seat' : Desk) (lanes' : Vec Lane Global) (mails' : Vec Mail Global) (ports' : Vec Port Global) (owing' uncleared' : Bool) (trace' : Vec Event Global) : Type 0 where
-  pub within : count ≤ limit
-  pub stands : Stands 256 seat mails trace seat' mails' trace'
-  pub as_many_ports : vec_len ports' ≡ 16
-  pub named : All (HasNamed (vec_len mails')) ports'.items
-  pub as_many_lanes : vec_len lanes' ≡ vec_len lanes
-  pub keep : All (KeepsNamed (vec_len mails')) lanes'.items
-  pub owed : owing' ≡ false → OwesNone mails'.items
-  pub hint : uncleared' ≡ false → AreClear ports'.items
 
 -- a processor's call to take in did so
 pub record PostTakesIn (limit : ℕ) (p p' : Post) (trace trace' : Vec Event Global) (count : ℕ) : Type 0 where

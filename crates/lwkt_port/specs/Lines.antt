@@ -34,6 +34,23 @@ pub record HasPosted (note : Note) (line line' : Lane) : Type 0 where
   pub into_same : line'.into ≡ line.into
   pub kept_same : line'.kept ≡ line.kept
 
+-- a line's lane gave no note: it had none that was seen
+pub record IsDrained (line line' : Lane) : Type 0 where
+  pub received_same : received line'.into ≡ received line.into
+  pub seen_same : seen line'.into ≡ seen line.into
+  pub empty : seen line'.into ≡ []
+  pub lane_same : in_lane line'.into ≡ in_lane line.into
+  pub out_same : line'.out ≡ line.out
+  pub kept_same : line'.kept ≡ line.kept
+
+-- a line's lane gave a note, the first one that was seen if any was
+pub record HasPopped (note : Note) (line line' : Lane) : Type 0 where
+  pub received_is : received line'.into ≡ received line.into ++ note ∷ []
+  pub first : IsPrefix (seen line.into) (note ∷ seen line'.into)
+  pub lane_same : in_lane line'.into ≡ in_lane line.into
+  pub out_same : line'.out ≡ line.out
+  pub kept_same : line'.kept ≡ line.kept
+
 -- a line had no note: it keeps none, and its lane has no more
 pub record HasNone (line line' : Lane) : Type 0 where
   pub none : line.kept ≡ None

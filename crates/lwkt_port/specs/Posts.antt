@@ -1,5 +1,7 @@
-use Rattle.std.specs.Prelude.{◌≡◌, ℕ, ◌<◌, ◌≤◌, List, length, slice_index_or, slice_set, map, All, IfSome, Vec}
+use Rattle.std.specs.Prelude.{◌≡◌, ℕ, ◌<◌, ◌≤◌, List, length, slice_index_or, slice_set, map, All, IfSome, Option, Some, None, Vec, vec_len}
+use Rattle.std.specs.Coded.{×_prop, Unit-prop, le_prop}
 use Rattle.std.specs.declared.alloc.Global.{Global}
+use Rattle.lwkt_lane.specs.declared.notes.Note.{Note}
 use Rattle.lwkt_lane.specs.Lane.{LaneId, out_lane, in_lane}
 use Rattle.lwkt_msg.specs.Desks.{Desk, cpus_of, IsSameDesk}
 use Rattle.lwkt_port.specs.declared.lines.Lane.{Lane}
@@ -7,7 +9,7 @@ use Rattle.lwkt_port.specs.declared.mails.Mail.{Mail}
 use Rattle.lwkt_port.specs.declared.queues.Port.{Port}
 use Rattle.lwkt_core.specs.declared.events.Event.{Event}
 use Rattle.lwkt_port.specs.Mails.{AreMails}
-use Rattle.lwkt_port.specs.Queues.{NamesBoth, HasNamed}
+use Rattle.lwkt_port.specs.Queues.{NamesBoth, HasNamed, all-prop}
 use Rattle.lwkt_port.specs.Works.{Work}
 
 -- what callers see of a processor's ports: its seat, its lanes to and from each processor, the ports of its threads, and what is
@@ -26,6 +28,13 @@ work_of p trace = record { seat = p.seat; mails = p.mails; trace = trace.items }
 -- a note that was kept for its lane names a message and a port
 abbrev pub KeepsNamed : ℕ → Lane → Type 0
 KeepsNamed n line = IfSome line.kept (NamesBoth n)
+
+pub keeps_named-prop : (n : ℕ) (kept : Option Note) → IsProp (IfSome kept (NamesBoth n))
+keeps_named-prop n None = Unit-prop
+keeps_named-prop n (Some note) = ×_prop le_prop le_prop
+
+pub have_kept-prop : (n : ℕ) (lanes : List Lane) → IsProp (All (KeepsNamed n) lanes)
+have_kept-prop n lanes = all-prop (KeepsNamed n) (λ line. keeps_named-prop n line.kept) lanes
 
 -- a processor's ports are in order: lanes to and from each processor, 16 ports, and what is kept of each message fits the seat
 pub record IsPost (p : Post) : Type 0 where
@@ -56,6 +65,11 @@ in_lanes lanes = map (λ (line : Lane). in_lane line.into) lanes
 pub record AreSameLanes (lanes lanes' : List Lane) : Type 0 where
   pub outs : out_lanes lanes' ≡ out_lanes lanes
   pub ins : in_lanes lanes' ≡ in_lanes lanes
+
+-- lines are as many as they were, and the notes that they keep name messages and ports as they did
+pub record AreStillLines (lanes lanes' : Vec Lane Global) : Type 0 where
+  pub as_many : vec_len lanes' ≡ vec_len lanes
+  pub named : (n : ℕ) → All (KeepsNamed n) lanes.items → All (KeepsNamed n) lanes'.items
 
 -- the ports are still those that they were: over the same seat and the same lanes, for as many threads
 pub record IsSamePost (p p' : Post) : Type 0 where

@@ -1,6 +1,7 @@
 -- The two queues of a port: one of urgent notes, whose messages were sent with priority, and one of the others. The urgent ones are
 -- served first (MSGF_PRIORITY of msgport(9); one queue for each class is own).
-use Rattle.std.specs.Prelude.{◌≡◌, ◌⊎◌, ℕ, ◌<◌, Bool, true, false, List, [], ◌∷◌, ◌++◌, length, All}
+use Rattle.std.specs.Prelude.{◌≡◌, ◌⊎◌, ℕ, ◌<◌, Bool, true, false, List, [], ◌∷◌, ◌++◌, length, All, slice_index_or}
+use Rattle.std.specs.Coded.{Coded-set, coded_bool, ×_prop, Π_prop, →_prop, le_prop}
 use Rattle.lwkt_lane.specs.declared.notes.Note.{Note}
 use Rattle.lwkt_port.specs.declared.queues.Port.{Port}
 
@@ -56,3 +57,17 @@ Belongs n urgent note = (note.msg.0 < n) × (note.urgent ≡ urgent)
 -- each note of a port names a message, and stands in the queue of its class
 unfoldable pub HasNamed : ℕ → Port → Type 0
 HasNamed n port = All (Belongs n true) (urgent_of port) × All (Belongs n false) (ordinary_of port)
+
+-- each of these facts has one proof at most
+pub all-prop : {A : Type 0} (P : A → Type 0) → ((x : A) → IsProp (P x)) → (xs : List A) → IsProp (All P xs)
+all-prop P each xs = Π_prop (λ k. Π_prop (λ d. →_prop (each (slice_index_or xs k d))))
+
+pub belongs-prop : (n : ℕ) (urgent : Bool) (note : Note) → IsProp (Belongs n urgent note)
+belongs-prop n urgent note = ×_prop le_prop (Coded-set coded_bool note.urgent urgent)
+
+pub has_named-prop : (n : ℕ) (port : Port) → IsProp (HasNamed n port)
+unfolding HasNamed
+has_named-prop n port = ×_prop (all-prop (Belongs n true) (belongs-prop n true) (urgent_of port)) (all-prop (Belongs n false) (belongs-prop n false) (ordinary_of port))
+
+pub have_named-prop : (n : ℕ) (ports : List Port) → IsProp (All (HasNamed n) ports)
+have_named-prop n ports = all-prop (HasNamed n) (has_named-prop n) ports

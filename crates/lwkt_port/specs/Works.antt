@@ -1,11 +1,13 @@
-use Rattle.std.specs.Prelude.{◌≡◌, ℕ, ◌+◌, ◌≤◌, List, ◌++◌, length, All, Vec, vec_len, vec_capacity, count_by, not}
+use Rattle.std.specs.Prelude.{◌≡◌, ℕ, ◌+◌, ◌<◌, ◌≤◌, true, List, [], ◌∷◌, ◌++◌, length, All, Vec, vec_len, vec_capacity, count_by, not}
 use Rattle.std.specs.declared.alloc.Global.{Global}
 use Rattle.lwkt_core.specs.declared.events.Event.{Event}
 use Rattle.lwkt_core.specs.declared.events.Event.TheVariants.{Load, Take, Share, Again, Mark, GiveOne, GiveClean, GiveWritten, Read, Write, ReadBlob, WriteBlob, Send, TakeMsg, DropMsg, Reply, Reap, Abort}
 use Rattle.lwkt_base.specs.declared.names.CpuId.{CpuId}
-use Rattle.lwkt_msg.specs.Desks.{Desk, cpu_of, IsSameDesk}
-use Rattle.lwkt_port.specs.Mails.{AreMails}
-use Rattle.lwkt_port.specs.Queues.{HasNamed}
+use Rattle.lwkt_base.specs.declared.names.MsgId.{MsgId}
+use Rattle.lwkt_msg.specs.Hands.{IsOwn}
+use Rattle.lwkt_msg.specs.Desks.{Desk, Shelf, cpu_of, entry, IsSameDesk}
+use Rattle.lwkt_port.specs.declared.counters.Counters.{Counters}
+use Rattle.lwkt_port.specs.declared.mailrooms.Mailroom.{Mailroom}
 use Rattle.lwkt_port.specs.declared.mails.Mail.{Mail}
 use Rattle.lwkt_port.specs.declared.queues.Port.{Port}
 
@@ -15,8 +17,8 @@ pub record Work : Type 0 where
   pub mails : List Mail
   pub trace : List Event
 
-abbrev pub work : Desk → Vec Mail Global → Vec Event Global → Work
-work seat mails trace = record { seat = seat; mails = mails.items; trace = trace.items }
+abbrev pub work : Mailroom → Vec Event Global → Work
+work r trace = record { seat = r.seat; mails = r.mails.items; trace = trace.items }
 
 -- an event is one of a message, by this processor
 abbrev pub IsOfMessages : CpuId → Event → Type 0
@@ -48,6 +50,18 @@ pub record Grew (cpu : CpuId) (most : ℕ) (before now : Vec Event Global) : Typ
   pub grown : vec_len now ≡ vec_len before + length made
   pub room : vec_capacity before ≤ vec_capacity now
 
+-- an event was put at the end of a trace that had room
+pub record HasTold (event : Event) (before now : Vec Event Global) : Type 0 where
+  pub items : now.items ≡ before.items ++ event ∷ []
+  pub longer : vec_len now ≡ vec_len before + 1
+  pub room : vec_capacity before ≤ vec_capacity now
+
+-- these events, at most one, were put at the end of a trace that had room
+pub record HasToldThese (cpu : CpuId) (events : List Event) (before now : Vec Event Global) : Type 0 where
+  pub items : now.items ≡ before.items ++ events
+  pub longer : vec_len now ≡ vec_len before + length events
+  pub grew : Grew cpu 1 before now
+
 abbrev pub Grown : CpuId → Vec Event Global → Vec Event Global → Type 0
 Grown cpu before now = (most : ℕ) × Grew cpu most before now
 
@@ -55,30 +69,55 @@ Grown cpu before now = (most : ℕ) × Grew cpu most before now
 abbrev pub away_count : List Mail → ℕ
 away_count mails = count_by (λ (mail : Mail). not mail.home) mails
 
--- the seat is the same one, what is kept of its messages fits it, and the trace grew by at most so many events of its processor
-pub record Stands (most : ℕ) (seat : Desk) (mails : Vec Mail Global) (trace : Vec Event Global) (seat' : Desk) (mails' : Vec Mail Global) (trace' : Vec Event Global) : Type 0 where
-  pub kept : AreMails seat' mails'.items
+-- a step on messages can be made: the seat is one at this book, and the trace has room for so many events
+pub record IsReady (most : ℕ) (r : Mailroom) (book : Shelf) (trace : Vec Event Global) : Type 0 where
+  pub table : r.seat.table ≡ book.table
+  pub room : vec_len trace + most ≤ vec_capacity trace
+
+-- the message is there, and the seat has taken it
+pub record HasTaken (msg : MsgId) (r : Mailroom) : Type 0 where
+  pub there : msg.0 < vec_len r.mails
+  pub taken : (entry r.seat msg.0).taken ≡ true
+
+-- the message is there, and belongs to the seat's processor
+pub record HasOwn (msg : MsgId) (r : Mailroom) : Type 0 where
+  pub there : msg.0 < vec_len r.mails
+  pub own : IsOwn r.seat.view (cpu_of r.seat).0 msg.0
+
+-- the seat is the same one, of as many messages something is kept, and the trace grew by at most so many events of its processor
+pub record StandsSo (most : ℕ) (seat : Desk) (mails : Vec Mail Global) (trace : Vec Event Global) (seat' : Desk) (mails' : Vec Mail Global) (trace' : Vec Event Global) : Type 0 where
   pub same : IsSameDesk seat seat'
   pub len : vec_len mails' ≡ vec_len mails
   pub grew : Grew (cpu_of seat) most trace trace'
 
+-- the same of a mailroom
+abbrev pub Stands : ℕ → Mailroom → Vec Event Global → Mailroom → Vec Event Global → Type 0
+Stands most r trace r' trace' = StandsSo most r.seat r.mails trace r'.seat r'.mails trace'
+
+-- beside ports that are the same a mailroom stands
+pub record StandsBeside (most : ℕ) (ports : Vec Port Global) (seat : Desk) (mails : Vec Mail Global) (trace : Vec Event Global) (ports' : Vec Port Global) (seat' : Desk) (mails' : Vec Mail Global) (trace' : Vec Event Global) : Type 0 where
+  pub ports_same : ports' ≡ ports
+  pub stands : StandsSo most seat mails trace seat' mails' trace'
+
+-- the same of counters
+abbrev pub KeepsPorts : ℕ → Counters → Vec Event Global → Counters → Vec Event Global → Type 0
+KeepsPorts most c trace c' trace' = StandsBeside most c.ports c.room.seat c.room.mails trace c'.ports c'.room.seat c'.room.mails trace'
+
 -- where the work on notes stands
 pub record Standing : Type 0 where
-  pub seat : Desk
-  pub mails : Vec Mail Global
+  pub counters : Counters
   pub trace : Vec Event Global
-  pub ports : Vec Port Global
 
-abbrev pub standing : Desk → Vec Mail Global → Vec Event Global → Vec Port Global → Standing
-standing seat mails trace ports = record { seat = seat; mails = mails; trace = trace; ports = ports }
+abbrev pub standing : Counters → Vec Event Global → Standing
+standing counters trace = record { counters = counters; trace = trace }
 
 -- handling notes keeps things in order: each message that is reaped has its event in the trace, and there are no other events
-pub record Keeps (s s' : Standing) : Type 0 where
-  pub kept : AreMails s'.seat s'.mails.items
-  pub same : IsSameDesk s.seat s'.seat
-  pub len : vec_len s'.mails ≡ vec_len s.mails
-  pub ports : vec_len s'.ports ≡ 16
-  pub named : All (HasNamed (vec_len s'.mails)) s'.ports.items
-  pub grown : Grown (cpu_of s.seat) s.trace s'.trace
-  pub room : vec_capacity s.trace ≤ vec_capacity s'.trace
-  pub away : away_count s'.mails.items + vec_len s'.trace ≡ away_count s.mails.items + vec_len s.trace
+pub record KeepsSo (seat : Desk) (mails : Vec Mail Global) (trace : Vec Event Global) (seat' : Desk) (mails' : Vec Mail Global) (trace' : Vec Event Global) : Type 0 where
+  pub same : IsSameDesk seat seat'
+  pub len : vec_len mails' ≡ vec_len mails
+  pub grown : Grown (cpu_of seat) trace trace'
+  pub room : vec_capacity trace ≤ vec_capacity trace'
+  pub away : away_count mails'.items + vec_len trace' ≡ away_count mails.items + vec_len trace
+
+abbrev pub Keeps : Standing → Standing → Type 0
+Keeps s s' = KeepsSo s.counters.room.seat s.counters.room.mails s.trace s'.counters.room.seat s'.counters.room.mails s'.trace

@@ -55,9 +55,12 @@ impl Ports {
         ensures closed { PostCloses thread self.old self.new }
         ensures same { IsSamePost self.old self.new }
     {
-        owe_all(&mut self.mails, thread);
-        close(&mut self.ports[usize::from(thread)]);
-        self.owing = true;
-        self.uncleared = true;
+        let office = &mut self.office;
+        let counters = &mut office.counters;
+        let room = &mut counters.room;
+        owe_all(&mut room.mails, thread);
+        close(&mut counters.ports[usize::from(thread)]);
+        counters.uncleared = true;
+        office.owing = true;
     }
 }

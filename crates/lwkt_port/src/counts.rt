@@ -40,7 +40,8 @@ impl Ports {
         ensures count { result ≡ owed_count self.now.mails }
         ensures few { result ≤ 64 }
     {
-        self.mails.iter().filter(|mail| mail.owed.is_some()).count()
+        let mails = &self.office.counters.room.mails;
+        mails.iter().filter(|mail| mail.owed.is_some()).count()
     }
 
     /// How many notes there are, by where they are. It moves none.
@@ -49,10 +50,11 @@ impl Ports {
         ensures kept { result.kept ≡ kept_count self.now.lanes }
         ensures queued { result.queued ≡ queued_count self.now.ports }
     {
+        let lanes = &self.office.lanes;
         Notes {
-            in_hand: self.lanes.iter().filter(|line| has_in_hand(line)).count(),
-            kept: self.lanes.iter().filter(|line| line.kept.is_some()).count(),
-            queued: queued(&self.ports),
+            in_hand: lanes.iter().filter(|line| has_in_hand(line)).count(),
+            kept: lanes.iter().filter(|line| line.kept.is_some()).count(),
+            queued: queued(&self.office.counters.ports),
         }
     }
 }

@@ -1,17 +1,17 @@
 //! The steps on one message: each with what is kept of the message then, and its event.
-ghost use Rattle.std.specs.Prelude.{◌≡◌, ◌+◌, ◌<◌, ◌≤◌, true, vec_len, vec_capacity, ◌++◌, length, IfSome, IfNone};
-ghost use Rattle.lwkt_msg.specs.Desks.{cpu_of, cpus_of, messages_of, IsSameDesk, entry};
-ghost use Rattle.lwkt_msg.specs.Calls.{IsHome};
-ghost use Rattle.lwkt_port.specs.Mails.{mail_at, AreMails};
-ghost use Rattle.lwkt_port.specs.Works.{work, Grew, away_count};
+ghost use Rattle.std.specs.Prelude.{◌≡◌, ◌+◌, ◌<◌, ◌≤◌, true, vec_len, vec_capacity, ◌++◌, length, MatchOption};
+ghost use Rattle.lwkt_msg.specs.Desks.{cpu_of, cpus_of};
+ghost use Rattle.lwkt_port.specs.Works.{work, away_count, HasToldThese, IsReady, Stands, HasTaken};
+ghost use Rattle.lwkt_port.specs.Sendings.{MaySend};
 ghost use Rattle.lwkt_port.specs.Deeds.{taken_mail, mails_taken, take_events, Takes, reaped_mail, mails_reaped, reap_events, Reaps, replied_mail, Replies, sent_mail, Sends, IsRefused};
 
+use crate::mailrooms::Mailroom;
 use crate::mails::Mail;
 use crate::traces::note_event;
 use lwkt_base::{Call, CpuId, Flags, MsgId, Rec, ThreadId};
 use lwkt_core::Event;
 use lwkt_lane::Note;
-use lwkt_msg::{MsgBook, MsgSeat, Reaped, Taken};
+use lwkt_msg::{MsgBook, Reaped, Taken};
 
 /// For whom a request is taken.
 #[derive(Clone, Copy, Debug, PartialEq, Eq)]
@@ -47,7 +47,6 @@ fn take_up(mail: &mut Mail, who: Claim, aborted: bool, priority: bool, round: u6
 fn keep_taken(mails: &mut Vec<Mail>, who: Claim, note: Note, answer: Taken)
     requires { note.msg.0 < vec_len mails.old }
     ensures items { mails.new.items ≡ mails_taken who note answer mails.old.items }
-    ensures len { vec_len mails.new ≡ vec_len mails.old }
 {
     let m = usize::from(note.msg.0);
     match answer {
@@ -64,8 +63,7 @@ fn keep_taken(mails: &mut Vec<Mail>, who: Claim, note: Note, answer: Taken)
 #[inline(always)]
 fn tell_taken(trace: &mut Vec<Event>, cpu: CpuId, note: Note, answer: Taken)
     requires { vec_len trace.old < vec_capacity trace.old }
-    ensures items { trace.new.items ≡ trace.old.items ++ take_events cpu note answer }
-    ensures grew { Grew cpu 1 trace.old trace.new }
+    ensures { HasToldThese cpu (take_events cpu note answer) trace.old trace.new }
 {
     match answer {
         Taken::Took { .. } => {
@@ -76,32 +74,28 @@ fn tell_taken(trace: &mut Vec<Event>, cpu: CpuId, note: Note, answer: Taken)
     }
 }
 
-/// Takes the message of a note, if it is in the note's round and on its way to this processor.
-#[inline(always)]
-#[tactic(auto, using(crate::proofs::Deeding::taken_keeps, crate::proofs::Deeding::taken_away))]
-pub(crate) fn take(
-    book: &MsgBook,
-    seat: &mut MsgSeat,
-    mails: &mut Vec<Mail>,
-    who: Claim,
-    note: Note,
-    trace: &mut Vec<Event>,
-) -> Taken
-    requires table { seat.old.table ≡ book.now.table }
-    requires kept { AreMails seat.old mails.old.items }
-    requires exists { note.msg.0 < vec_len mails.old }
-    requires room { vec_len trace.old < vec_capacity trace.old }
-    ensures takes { Takes who note (work seat.old mails.old trace.old) (work seat.new mails.new trace.new) result }
-    ensures kept { AreMails seat.new mails.new.items }
-    ensures len { vec_len mails.new ≡ vec_len mails.old }
-    ensures grew { Grew (cpu_of seat.old) 1 trace.old trace.new }
-    ensures away { away_count mails.new.items ≡ away_count mails.old.items }
-{
-    let cpu = seat.cpu();
-    let answer = seat.take(book, note.msg, note.round);
-    keep_taken(mails, who, note, answer);
-    tell_taken(trace, cpu, note, answer);
-    answer
+impl Mailroom {
+    /// Takes the message of a note, if it is in the note's round and on its way to this processor.
+    #[inline(always)]
+    #[tactic(auto, using(crate::proofs::Deeding::taken_keeps))]
+    pub(crate) fn take(
+        &mut self,
+        book: &MsgBook,
+        who: Claim,
+        note: Note,
+        trace: &mut Vec<Event>,
+    ) -> Taken
+        requires ready { IsReady 1 self.old book.now trace.old }
+        requires exists { note.msg.0 < vec_len self.old.mails }
+        ensures takes { Takes who note (work self.old trace.old) (work self.new trace.new) result }
+        ensures stands { Stands 1 self.old trace.old self.new trace.new }
+    {
+        let cpu = self.seat.cpu();
+        let answer = self.seat.take(book, note.msg, note.round);
+        keep_taken(&mut self.mails, who, note, answer);
+        tell_taken(trace, cpu, note, answer);
+        answer
+    }
 }
 
 // A message was reaped.
@@ -120,7 +114,6 @@ fn come_home(mail: &mut Mail, keep: bool, rec: Rec)
 fn keep_reaped(mails: &mut Vec<Mail>, keep: bool, note: Note, answer: Reaped)
     requires { note.msg.0 < vec_len mails.old }
     ensures items { mails.new.items ≡ mails_reaped keep note answer mails.old.items }
-    ensures len { vec_len mails.new ≡ vec_len mails.old }
 {
     let m = usize::from(note.msg.0);
     match answer {
@@ -133,9 +126,7 @@ fn keep_reaped(mails: &mut Vec<Mail>, keep: bool, note: Note, answer: Reaped)
 #[inline(always)]
 fn tell_reaped(trace: &mut Vec<Event>, cpu: CpuId, note: Note, answer: Reaped)
     requires { vec_len trace.old < vec_capacity trace.old }
-    ensures items { trace.new.items ≡ trace.old.items ++ reap_events cpu note answer }
-    ensures len { vec_len trace.new ≡ vec_len trace.old + length (reap_events cpu note answer) }
-    ensures grew { Grew cpu 1 trace.old trace.new }
+    ensures { HasToldThese cpu (reap_events cpu note answer) trace.old trace.new }
 {
     match answer {
         Reaped::Done { .. } => note_event(trace, Event::Reap { cpu, msg: note.msg }),
@@ -143,33 +134,30 @@ fn tell_reaped(trace: &mut Vec<Event>, cpu: CpuId, note: Note, answer: Reaped)
     }
 }
 
-/// Takes the message of a note back, if it is in the note's round and was replied to. `keep` says that its record is kept
-/// for the thread that waits for it.
-#[inline(always)]
-#[tactic(auto, using(crate::proofs::Deeding::reaped_keeps, crate::proofs::Deeding::reaped_away))]
-pub(crate) fn reap(
-    book: &MsgBook,
-    seat: &mut MsgSeat,
-    mails: &mut Vec<Mail>,
-    keep: bool,
-    note: Note,
-    trace: &mut Vec<Event>,
-) -> Reaped
-    requires table { seat.old.table ≡ book.now.table }
-    requires kept { AreMails seat.old mails.old.items }
-    requires exists { note.msg.0 < vec_len mails.old }
-    requires room { vec_len trace.old < vec_capacity trace.old }
-    ensures reaps { Reaps keep note (work seat.old mails.old trace.old) (work seat.new mails.new trace.new) result }
-    ensures kept { AreMails seat.new mails.new.items }
-    ensures len { vec_len mails.new ≡ vec_len mails.old }
-    ensures grew { Grew (cpu_of seat.old) 1 trace.old trace.new }
-    ensures away { away_count mails.new.items + vec_len trace.new ≡ away_count mails.old.items + vec_len trace.old }
-{
-    let cpu = seat.cpu();
-    let answer = seat.reap(book, note.msg, note.round);
-    keep_reaped(mails, keep, note, answer);
-    tell_reaped(trace, cpu, note, answer);
-    answer
+impl Mailroom {
+    /// Takes the message of a note back, if it is in the note's round and was replied to. `keep` says that its record is kept
+    /// for the thread that waits for it.
+    #[inline(always)]
+    #[tactic(auto, using(crate::proofs::Deeding::reaped_keeps, crate::proofs::Deeding::reaped_away))]
+    pub(crate) fn reap(
+        &mut self,
+        book: &MsgBook,
+        keep: bool,
+        note: Note,
+        trace: &mut Vec<Event>,
+    ) -> Reaped
+        requires ready { IsReady 1 self.old book.now trace.old }
+        requires exists { note.msg.0 < vec_len self.old.mails }
+        ensures reaps { Reaps keep note (work self.old trace.old) (work self.new trace.new) result }
+        ensures stands { Stands 1 self.old trace.old self.new trace.new }
+        ensures away { away_count self.new.mails.items + vec_len trace.new ≡ away_count self.old.mails.items + vec_len trace.old }
+    {
+        let cpu = self.seat.cpu();
+        let answer = self.seat.reap(book, note.msg, note.round);
+        keep_reaped(&mut self.mails, keep, note, answer);
+        tell_reaped(trace, cpu, note, answer);
+        answer
+    }
 }
 
 // A message was replied to.
@@ -181,37 +169,32 @@ fn settle(mail: &mut Mail)
     mail.shown = None;
 }
 
-/// Replies to a message that this processor has taken.
-#[tactic(auto, using(crate::proofs::Deeding::replied_keeps, crate::proofs::Deeding::replied_away))]
-pub(crate) fn reply(
-    book: &MsgBook,
-    seat: &mut MsgSeat,
-    mails: &mut Vec<Mail>,
-    msg: MsgId,
-    error: u32,
-    outcome: u64,
-    trace: &mut Vec<Event>,
-)
-    requires table { seat.old.table ≡ book.now.table }
-    requires kept { AreMails seat.old mails.old.items }
-    requires exists { msg.0 < vec_len mails.old }
-    requires taken { (entry seat.old msg.0).taken ≡ true }
-    requires room { vec_len trace.old < vec_capacity trace.old }
-    ensures replies { Replies msg error outcome (work seat.old mails.old trace.old) (work seat.new mails.new trace.new) }
-    ensures kept { AreMails seat.new mails.new.items }
-    ensures len { vec_len mails.new ≡ vec_len mails.old }
-    ensures grew { Grew (cpu_of seat.old) 1 trace.old trace.new }
-    ensures away { away_count mails.new.items ≡ away_count mails.old.items }
-{
-    let cpu = seat.cpu();
-    let m = usize::from(msg.0);
-    match seat.reply(book, msg, error, outcome) {
-        Ok(()) => {
-            settle(&mut mails[m]);
-            note_event(trace, Event::Reply { cpu, msg });
+impl Mailroom {
+    /// Replies to a message that this processor has taken.
+    #[tactic(auto, using(crate::proofs::Deeding::replied_keeps))]
+    pub(crate) fn reply(
+        &mut self,
+        book: &MsgBook,
+        msg: MsgId,
+        error: u32,
+        outcome: u64,
+        trace: &mut Vec<Event>,
+    )
+        requires ready { IsReady 1 self.old book.now trace.old }
+        requires taken { HasTaken msg self.old }
+        ensures replies { Replies msg error outcome (work self.old trace.old) (work self.new trace.new) }
+        ensures stands { Stands 1 self.old trace.old self.new trace.new }
+    {
+        let cpu = self.seat.cpu();
+        let m = usize::from(msg.0);
+        match self.seat.reply(book, msg, error, outcome) {
+            Ok(()) => {
+                settle(&mut self.mails[m]);
+                note_event(trace, Event::Reply { cpu, msg });
+            }
+            // The seat has taken the message, so this can't be.
+            Err(_fault) => {}
         }
-        // The seat has taken the message, so this can't be.
-        Err(_fault) => {}
     }
 }
 
@@ -236,51 +219,46 @@ pub struct Sending {
     pub sync: bool,
 }
 
-/// Sends an own message that is at rest, and answers its round. None if it is at its last round.
-#[tactic(auto, using(crate::proofs::Deeding::sent_keeps))]
-pub(crate) fn send(
-    book: &MsgBook,
-    seat: &mut MsgSeat,
-    mails: &mut Vec<Mail>,
-    sending: &Sending,
-    trace: &mut Vec<Event>,
-) -> Option<u64>
-    requires table { seat.old.table ≡ book.now.table }
-    requires kept { AreMails seat.old mails.old.items }
-    requires exists { sending.now.msg.0 < vec_len mails.old }
-    requires target { sending.now.to.cpu.0 < cpus_of seat.old }
-    requires home { (mail_at mails.old.items sending.now.msg.0).home ≡ true }
-    requires room { vec_len trace.old < vec_capacity trace.old }
-    ensures sends { IfSome result (λ round. Sends sending.now.msg sending.now.to.cpu sending.now.call sending.now.flags sending.now.sync (work seat.old mails.old trace.old) (work seat.new mails.new trace.new) round) }
-    ensures refused { IfNone result (IsRefused sending.now.msg (work seat.old mails.old trace.old) (work seat.new mails.new trace.new)) }
-    ensures kept { AreMails seat.new mails.new.items }
-    ensures len { vec_len mails.new ≡ vec_len mails.old }
-    ensures grew { Grew (cpu_of seat.old) 1 trace.old trace.new }
-{
-    let cpu = seat.cpu();
-    let Sending {
-        thread: _,
-        msg,
-        to,
-        call,
-        flags,
-        sync,
-    } = *sending;
-    let m = usize::from(msg.0);
-    match seat.send(book, msg, to.cpu, call, flags, sync) {
-        Ok(round) => {
-            go_out(&mut mails[m], sync);
-            note_event(
-                trace,
-                Event::Send {
-                    cpu,
-                    msg,
-                    to: to.cpu,
-                    round,
-                },
-            );
-            Some(round)
+impl Mailroom {
+    /// Sends an own message that is at rest, and answers its round. None if it is at its last round.
+    #[tactic(auto, using(crate::proofs::Deeding::sent_keeps))]
+    pub(crate) fn send(
+        &mut self,
+        book: &MsgBook,
+        sending: &Sending,
+        trace: &mut Vec<Event>,
+    ) -> Option<u64>
+        requires ready { IsReady 1 self.old book.now trace.old }
+        requires may { MaySend sending.now self.old.mails.items }
+        requires target { sending.now.to.cpu.0 < cpus_of self.old.seat }
+        ensures sends { MatchOption result (IsRefused sending.now.msg (work self.old trace.old) (work self.new trace.new)) (λ round. Sends sending.now.msg sending.now.to.cpu sending.now.call sending.now.flags sending.now.sync (work self.old trace.old) (work self.new trace.new) round) }
+        ensures stands { Stands 1 self.old trace.old self.new trace.new }
+    {
+        let cpu = self.seat.cpu();
+        let Sending {
+            thread: _,
+            msg,
+            to,
+            call,
+            flags,
+            sync,
+        } = *sending;
+        let m = usize::from(msg.0);
+        match self.seat.send(book, msg, to.cpu, call, flags, sync) {
+            Ok(round) => {
+                go_out(&mut self.mails[m], sync);
+                note_event(
+                    trace,
+                    Event::Send {
+                        cpu,
+                        msg,
+                        to: to.cpu,
+                        round,
+                    },
+                );
+                Some(round)
+            }
+            Err(_fault) => None,
         }
-        Err(_fault) => None,
     }
 }

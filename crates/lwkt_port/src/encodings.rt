@@ -1,8 +1,11 @@
 //! What tells the ports of two processors apart, as numbers.
 ghost use Rattle.std.specs.Prelude.{◌≡◌, IfOk};
 
+use crate::counters::Counters;
 use crate::lines::Lane;
+use crate::mailrooms::Mailroom;
 use crate::mails::Mail;
+use crate::offices::Office;
 use crate::posts::Ports;
 use crate::queues::Port;
 use lwkt_base::{MsgId, Rec};
@@ -107,13 +110,14 @@ impl Ports {
     pub fn encode(self, words: &mut Vec<u64>) -> Result<MsgSeat, AllocError>
         ensures { IfOk result (λ seat. seat ≡ self.seat) }
     {
-        let Ports {
-            seat,
+        let Ports { office, .. } = self;
+        let Office {
+            counters,
             mut lanes,
-            ports,
-            mails,
             ..
-        } = self;
+        } = office;
+        let Counters { room, ports, .. } = counters;
+        let Mailroom { seat, mails } = room;
         for mail in mails.as_slice() {
             add_mail(words, mail)?;
         }

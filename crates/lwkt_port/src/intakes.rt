@@ -1,35 +1,29 @@
 //! The notes that came over the lanes are taken in.
 ghost use Rattle.std.specs.Prelude.{◌≡◌, ◌⊎◌, ℕ, ◌+◌, ◌-◌, ◌<◌, ◌≤◌, false, List, length, All, None, IsTrue, IfSome, vec_len, vec_capacity};
-ghost use Rattle.lwkt_msg.specs.Desks.{cpu_of, cpus_of, messages_of, IsSameDesk};
+ghost use Rattle.lwkt_msg.specs.Desks.{cpu_of};
 ghost use Rattle.lwkt_port.specs.declared.lines.Lane.{Lane};
 ghost use Rattle.lwkt_port.specs.declared.queues.Port.{Port};
 ghost use Rattle.lwkt_port.specs.Chains.{Chain};
-ghost use Rattle.lwkt_port.specs.Hints.{OwesNone, AreClear};
+ghost use Rattle.lwkt_port.specs.Hints.{OwesNone};
 ghost use Rattle.lwkt_port.specs.Lines.{IsRoomed, HasNoneInHand};
-ghost use Rattle.lwkt_port.specs.Mails.{mail_at, AreMails};
-ghost use Rattle.lwkt_port.specs.Posts.{Changes, KeepsNamed, IsSamePost};
-ghost use Rattle.lwkt_port.specs.Queues.{HasNamed};
-ghost use Rattle.lwkt_port.specs.Works.{Work, work, Grew, away_count, standing, Keeps};
-ghost use Rattle.lwkt_port.specs.Intakes.{payer, Pays, PaysFirst, Intake, intake, EmptiesFrom, untaken, IsFronted, hall, TakesIn, IsReady, LeavesReady, PostTakesIn};
+ghost use Rattle.lwkt_port.specs.Posts.{Changes, AreStillLines, IsSamePost};
+ghost use Rattle.lwkt_port.specs.Works.{Work, work, Grew, away_count, IsReady, Stands, KeepsPorts, standing, Keeps};
+ghost use Rattle.lwkt_port.specs.Intakes.{payer, Pays, PaysFirst, Intake, intake, EmptiesFrom, untaken, IsFronted, hall, TakesIn, PostTakesIn};
 ghost use Rattle.lwkt_port.specs.Closings.{PostPays};
 ghost use Rattle.lwkt_port.specs.Tellings.{Tells};
 
-use crate::clearings::clear_all;
-use crate::handlings::empty;
 use crate::lines::{Lane, has_none_in_hand, has_note, has_room};
 use crate::mails::{Mail, mail_of};
+use crate::offices::Office;
 use crate::posts::Ports;
-use crate::queues::Port;
-use crate::replies::answer;
 use lwkt_base::MsgId;
 use lwkt_core::Event;
-use lwkt_msg::{MsgBook, MsgSeat};
+use lwkt_msg::MsgBook;
 
 // Moves the note in hand of each sending end on.
 fn make_room(lanes: &mut Vec<Lane>)
     ensures rooms { Chain (List Lane) (λ i x y. Changes IsRoomed i x y) (vec_len lanes.old) lanes.old.items lanes.new.items }
-    ensures len { vec_len lanes.new ≡ vec_len lanes.old }
-    ensures named { (n : ℕ) → All (KeepsNamed n) lanes.old.items → All (KeepsNamed n) lanes.new.items }
+    ensures lines { AreStillLines lanes.old lanes.new }
 {
     let count = lanes.len();
     for at in 0..count {
@@ -37,85 +31,33 @@ fn make_room(lanes: &mut Vec<Lane>)
     }
 }
 
-// Makes the reply that is owed to a message, if one is and its lane has room.
-fn pay(
-    book: &MsgBook,
-    seat: &mut MsgSeat,
-    lanes: &mut Vec<Lane>,
-    mails: &mut Vec<Mail>,
-    msg: MsgId,
-    trace: &mut Vec<Event>,
-)
-    requires table { seat.old.table ≡ book.now.table }
-    requires kept { AreMails seat.old mails.old.items }
-    requires exists { msg.0 < vec_len mails.old }
-    requires lanes { vec_len lanes.old ≡ cpus_of seat.old }
-    requires named { All (KeepsNamed (vec_len mails.old)) lanes.old.items }
-    requires room { vec_len trace.old < vec_capacity trace.old }
-    ensures pays { Pays msg.0 (payer (work seat.old mails.old trace.old) lanes.old) (payer (work seat.new mails.new trace.new) lanes.new) }
-    ensures kept { AreMails seat.new mails.new.items }
-    ensures same { IsSameDesk seat.old seat.new }
-    ensures len { vec_len mails.new ≡ vec_len mails.old }
-    ensures lanes { vec_len lanes.new ≡ vec_len lanes.old }
-    ensures named { All (KeepsNamed (vec_len mails.new)) lanes.new.items }
-    ensures grew { Grew (cpu_of seat.old) 1 trace.old trace.new }
-    ensures away { away_count mails.new.items ≡ away_count mails.old.items }
-{
-    let mail = mail_of(mails, usize::from(msg.0));
-    if let Some(error) = mail.owed {
-        let _ = answer(book, seat, lanes, mails, msg, error, 0, trace);
+impl Office {
+    // Makes the reply that is owed to a message, if one is and its lane has room.
+    fn pay(&mut self, book: &MsgBook, msg: MsgId, trace: &mut Vec<Event>)
+        requires ready { IsReady 1 self.old.counters.room book.now trace.old }
+        requires exists { msg.0 < vec_len self.old.counters.room.mails }
+        ensures pays { Pays msg.0 (payer self.old trace.old) (payer self.new trace.new) }
+        ensures beside { KeepsPorts 1 self.old.counters trace.old self.new.counters trace.new }
+    {
+        let mail = mail_of(&self.counters.room.mails, usize::from(msg.0));
+        if let Some(error) = mail.owed {
+            let _ = self.answer(book, msg, error, 0, trace);
+        }
     }
 }
 
-// How many messages there are.
-fn count_messages(seat: &MsgSeat) -> u8
-    ensures count { result ≡ messages_of seat.now }
-    ensures few { result ≤ 64 }
-{
-    seat.messages() as u8
-}
-
-// Makes the replies that are owed, as lanes have room.
-fn pay_all(
-    book: &MsgBook,
-    seat: &mut MsgSeat,
-    lanes: &mut Vec<Lane>,
-    mails: &mut Vec<Mail>,
-    trace: &mut Vec<Event>,
-)
-    requires table { seat.old.table ≡ book.now.table }
-    requires kept { AreMails seat.old mails.old.items }
-    requires lanes { vec_len lanes.old ≡ cpus_of seat.old }
-    requires named { All (KeepsNamed (vec_len mails.old)) lanes.old.items }
-    requires room { vec_len trace.old + 64 ≤ vec_capacity trace.old }
-    ensures { PaysFirst (vec_len mails.old) 64 seat.old lanes.old mails.old trace.old seat.new lanes.new mails.new trace.new }
-{
-    let count = count_messages(seat);
-    for m in 0..count {
-        pay(book, seat, lanes, mails, MsgId(m), trace);
-    }
-}
-
-// Makes the replies that are owed, as lanes have room; `owing` says whether there may be one.
-fn pay_owed(
-    book: &MsgBook,
-    seat: &mut MsgSeat,
-    lanes: &mut Vec<Lane>,
-    mails: &mut Vec<Mail>,
-    owing: bool,
-    trace: &mut Vec<Event>,
-)
-    requires table { seat.old.table ≡ book.now.table }
-    requires kept { AreMails seat.old mails.old.items }
-    requires lanes { vec_len lanes.old ≡ cpus_of seat.old }
-    requires named { All (KeepsNamed (vec_len mails.old)) lanes.old.items }
-    requires hint { owing ≡ false → OwesNone mails.old.items }
-    requires room { vec_len trace.old + 64 ≤ vec_capacity trace.old }
-    ensures pays { PaysFirst (vec_len mails.old) 64 seat.old lanes.old mails.old trace.old seat.new lanes.new mails.new trace.new }
-    ensures hint { owing ≡ false → OwesNone mails.new.items }
-{
-    if owing {
-        pay_all(book, seat, lanes, mails, trace);
+impl Office {
+    // Makes the replies that are owed, as lanes have room, if there may be one.
+    fn pay_owed(&mut self, book: &MsgBook, trace: &mut Vec<Event>)
+        requires ready { IsReady 64 self.old.counters.room book.now trace.old }
+        ensures { PaysFirst (vec_len self.old.counters.room.mails) 64 self.old trace.old self.new trace.new }
+    {
+        if self.owing {
+            let count = self.counters.room.seat.messages() as u8;
+            for m in 0..count {
+                self.pay(book, MsgId(m), trace);
+            }
+        }
     }
 }
 
@@ -127,95 +69,33 @@ fn may_owe(owing: bool, cleared: bool, mails: &Vec<Mail>) -> bool
     (owing || cleared) && !mails.iter().all(|mail| mail.owed.is_none())
 }
 
-// Empties the lanes from a sender on, one after another, as far as the limit allows. `taken` notes were popped before. Answers
-// how many were popped, those too.
-fn empty_all(
-    book: &MsgBook,
-    seat: &mut MsgSeat,
-    lanes: &mut Vec<Lane>,
-    mails: &mut Vec<Mail>,
-    ports: &mut Vec<Port>,
-    uncleared: &mut bool,
-    first: usize,
-    taken: usize,
-    limit: usize,
-    trace: &mut Vec<Event>,
-) -> usize
-    requires table { seat.old.table ≡ book.now.table }
-    requires kept { AreMails seat.old mails.old.items }
-    requires ports { vec_len ports.old ≡ 16 }
-    requires named { All (HasNamed (vec_len mails.old)) ports.old.items }
-    requires lanes { All (KeepsNamed (vec_len mails.old)) lanes.old.items }
-    requires hint { uncleared.old ≡ false → AreClear ports.old.items }
-    requires room { away_count mails.old.items + vec_len trace.old < vec_capacity trace.old }
-    requires first { first ≤ vec_len lanes.old }
-    requires taken { taken ≤ limit }
-    ensures notes { (z : Intake) → Chain Intake (EmptiesFrom limit) first z (intake (work seat.old mails.old trace.old) lanes.old ports.old taken) → Chain Intake (EmptiesFrom limit) (vec_len lanes.old) z (intake (work seat.new mails.new trace.new) lanes.new ports.new result) }
-    ensures within { result ≤ limit }
-    ensures keeps { Keeps (standing seat.old mails.old trace.old ports.old) (standing seat.new mails.new trace.new ports.new) }
-    ensures len { vec_len lanes.new ≡ vec_len lanes.old }
-    ensures lanes { All (KeepsNamed (vec_len mails.new)) lanes.new.items }
-    ensures hint { uncleared.new ≡ false → AreClear ports.new.items }
-{
-    let mut count = taken;
-    let senders = lanes.len();
-    for sender in first..senders {
-        let most = limit - count;
-        count += empty(
-            book,
-            seat,
-            mails,
-            &mut lanes[sender],
-            ports,
-            uncleared,
-            most,
-            trace,
-        );
+impl Office {
+    // Empties the lanes from a sender on, one after another, as far as the limit allows. `taken` notes were popped before. Answers
+    // how many were popped, those too.
+    fn empty_all(
+        &mut self,
+        book: &MsgBook,
+        first: usize,
+        taken: usize,
+        limit: usize,
+        trace: &mut Vec<Event>,
+    ) -> usize
+        requires ready { IsReady (away_count self.old.counters.room.mails.items + 1) self.old.counters.room book.now trace.old }
+        requires first { first ≤ vec_len self.old.lanes }
+        requires taken { taken ≤ limit }
+        ensures notes { (z : Intake) → Chain Intake (EmptiesFrom limit) first z (intake self.old trace.old taken) → Chain Intake (EmptiesFrom limit) (vec_len self.old.lanes) z (intake self.new trace.new result) }
+        ensures keeps { Keeps (standing self.old.counters trace.old) (standing self.new.counters trace.new) }
+    {
+        let mut count = taken;
+        let senders = self.lanes.len();
+        for sender in first..senders {
+            let most = limit - count;
+            count += self
+                .counters
+                .empty(book, &mut self.lanes[sender], most, trace);
+        }
+        count
     }
-    count
-}
-
-// Empties the lanes from the first one with a note on. Answers how many notes were popped.
-fn empty_front(
-    book: &MsgBook,
-    seat: &mut MsgSeat,
-    lanes: &mut Vec<Lane>,
-    mails: &mut Vec<Mail>,
-    ports: &mut Vec<Port>,
-    uncleared: &mut bool,
-    first: usize,
-    limit: usize,
-    trace: &mut Vec<Event>,
-) -> usize
-    requires table { seat.old.table ≡ book.now.table }
-    requires kept { AreMails seat.old mails.old.items }
-    requires ports { vec_len ports.old ≡ 16 }
-    requires named { All (HasNamed (vec_len mails.old)) ports.old.items }
-    requires lanes { All (KeepsNamed (vec_len mails.old)) lanes.old.items }
-    requires hint { uncleared.old ≡ false → AreClear ports.old.items }
-    requires room { away_count mails.old.items + vec_len trace.old < vec_capacity trace.old }
-    requires front { (before : List Lane) × IsFronted limit first (work seat.old mails.old trace.old) ports.old.items before lanes.old.items }
-    ensures notes { (before : List Lane) → IsFronted limit first (work seat.old mails.old trace.old) ports.old.items before lanes.old.items → Chain Intake (EmptiesFrom limit) (vec_len lanes.old) (untaken (work seat.old mails.old trace.old) ports.old.items before) (intake (work seat.new mails.new trace.new) lanes.new ports.new result) }
-    ensures within { result ≤ limit }
-    ensures keeps { Keeps (standing seat.old mails.old trace.old ports.old) (standing seat.new mails.new trace.new ports.new) }
-    ensures len { vec_len lanes.new ≡ vec_len lanes.old }
-    ensures lanes { All (KeepsNamed (vec_len mails.new)) lanes.new.items }
-    ensures hint { uncleared.new ≡ false → AreClear ports.new.items }
-{
-    let taken = empty(
-        book,
-        seat,
-        mails,
-        &mut lanes[first],
-        ports,
-        uncleared,
-        limit,
-        trace,
-    );
-    let next = first + 1;
-    empty_all(
-        book, seat, lanes, mails, ports, uncleared, next, taken, limit, trace,
-    )
 }
 
 // Passes over the lanes that have no note, and gives the sender of the first that has. None if none has one.
@@ -223,8 +103,7 @@ fn empty_front(
 fn pass_empty(lanes: &mut Vec<Lane>) -> Option<usize>
     ensures none { result ≡ None → (limit : ℕ) (w : Work) (ports : List Port) → Chain Intake (EmptiesFrom limit) (vec_len lanes.old) (untaken w ports lanes.old.items) (untaken w ports lanes.new.items) }
     ensures some { IfSome result (λ first. (limit : ℕ) (w : Work) (ports : List Port) → IsFronted limit first w ports lanes.old.items lanes.new.items) }
-    ensures len { vec_len lanes.new ≡ vec_len lanes.old }
-    ensures named { (n : ℕ) → All (KeepsNamed n) lanes.old.items → All (KeepsNamed n) lanes.new.items }
+    ensures lines { AreStillLines lanes.old lanes.new }
 {
     let senders = lanes.len();
     for sender in 0..senders {
@@ -235,65 +114,50 @@ fn pass_empty(lanes: &mut Vec<Lane>) -> Option<usize>
     None
 }
 
-// Takes the notes in from the first lane with a note on, where nothing was to be done before.
-#[inline(never)]
-fn take_rest(
-    book: &MsgBook,
-    seat: &mut MsgSeat,
-    lanes: &mut Vec<Lane>,
-    mails: &mut Vec<Mail>,
-    ports: &mut Vec<Port>,
-    owing: &mut bool,
-    uncleared: &mut bool,
-    first: usize,
-    limit: usize,
-    trace: &mut Vec<Event>,
-) -> usize
-    requires table { seat.old.table ≡ book.now.table }
-    requires ready { IsReady seat.old lanes.old mails.old ports.old uncleared.old trace.old }
-    requires owing { OwesNone mails.old.items }
-    requires front { (before : List Lane) × IsFronted limit first (work seat.old mails.old trace.old) ports.old.items before lanes.old.items }
-    ensures takes { (before : List Lane) → IsFronted limit first (work seat.old mails.old trace.old) ports.old.items before lanes.old.items → All HasNoneInHand before → TakesIn limit (record { work = work seat.old mails.old trace.old; lanes = before; ports = ports.old.items }) (hall (work seat.new mails.new trace.new) lanes.new ports.new) result }
-    ensures leaves { LeavesReady limit result seat.old lanes.old mails.old trace.old seat.new lanes.new mails.new ports.new owing.new uncleared.new trace.new }
-{
-    let count = empty_front(
-        book, seat, lanes, mails, ports, uncleared, first, limit, trace,
-    );
-    let cleared = *uncleared;
-    clear_all(book, seat, mails, ports, uncleared, trace);
-    *owing = may_owe(false, cleared, mails);
-    count
+impl Office {
+    // Takes the notes in from the first lane with a note on, where nothing was to be done before.
+    #[inline(never)]
+    fn take_rest(
+        &mut self,
+        book: &MsgBook,
+        first: usize,
+        limit: usize,
+        trace: &mut Vec<Event>,
+    ) -> usize
+        requires ready { IsReady 256 self.old.counters.room book.now trace.old }
+        requires owing { OwesNone self.old.counters.room.mails.items }
+        requires front { (before : List Lane) × IsFronted limit first (work self.old.counters.room trace.old) self.old.counters.ports.items before self.old.lanes.items }
+        ensures takes { (before : List Lane) → IsFronted limit first (work self.old.counters.room trace.old) self.old.counters.ports.items before self.old.lanes.items → All HasNoneInHand before → TakesIn limit (record { work = work self.old.counters.room trace.old; lanes = before; ports = self.old.counters.ports.items }) (hall self.new trace.new) result }
+        ensures stands { Stands 256 self.old.counters.room trace.old self.new.counters.room trace.new }
+    {
+        let taken = self
+            .counters
+            .empty(book, &mut self.lanes[first], limit, trace);
+        let count = self.empty_all(book, first + 1, taken, limit, trace);
+        let cleared = self.counters.uncleared;
+        self.counters.clear_all(book, trace);
+        self.owing = may_owe(false, cleared, &self.counters.room.mails);
+        count
+    }
 }
 
-// Takes the notes in that came over the lanes, after all that comes before.
-#[cold]
-#[inline(never)]
-fn take_all(
-    book: &MsgBook,
-    seat: &mut MsgSeat,
-    lanes: &mut Vec<Lane>,
-    mails: &mut Vec<Mail>,
-    ports: &mut Vec<Port>,
-    owing: &mut bool,
-    uncleared: &mut bool,
-    limit: usize,
-    trace: &mut Vec<Event>,
-) -> usize
-    requires table { seat.old.table ≡ book.now.table }
-    requires ready { IsReady seat.old lanes.old mails.old ports.old uncleared.old trace.old }
-    requires owing { owing.old ≡ false → OwesNone mails.old.items }
-    ensures takes { TakesIn limit (hall (work seat.old mails.old trace.old) lanes.old ports.old) (hall (work seat.new mails.new trace.new) lanes.new ports.new) result }
-    ensures leaves { LeavesReady limit result seat.old lanes.old mails.old trace.old seat.new lanes.new mails.new ports.new owing.new uncleared.new trace.new }
-{
-    make_room(lanes);
-    pay_owed(book, seat, lanes, mails, *owing, trace);
-    let count = empty_all(
-        book, seat, lanes, mails, ports, uncleared, 0, 0, limit, trace,
-    );
-    let cleared = *uncleared;
-    clear_all(book, seat, mails, ports, uncleared, trace);
-    *owing = may_owe(*owing, cleared, mails);
-    count
+impl Office {
+    // Takes the notes in that came over the lanes, after all that comes before.
+    #[cold]
+    #[inline(never)]
+    fn take_all(&mut self, book: &MsgBook, limit: usize, trace: &mut Vec<Event>) -> usize
+        requires ready { IsReady 256 self.old.counters.room book.now trace.old }
+        ensures takes { TakesIn limit (hall self.old trace.old) (hall self.new trace.new) result }
+        ensures stands { Stands 256 self.old.counters.room trace.old self.new.counters.room trace.new }
+    {
+        make_room(&mut self.lanes);
+        self.pay_owed(book, trace);
+        let count = self.empty_all(book, 0, 0, limit, trace);
+        let cleared = self.counters.uncleared;
+        self.counters.clear_all(book, trace);
+        self.owing = may_owe(self.owing, cleared, &self.counters.room.mails);
+        count
+    }
 }
 
 // Whether no note is in hand at any sending end.
@@ -304,36 +168,22 @@ fn have_none_in_hand(lanes: &Vec<Lane>) -> bool
     lanes.iter().all(has_none_in_hand)
 }
 
-// Takes the notes in that came over the lanes.
-#[inline(always)]
-fn take_in(
-    book: &MsgBook,
-    seat: &mut MsgSeat,
-    lanes: &mut Vec<Lane>,
-    mails: &mut Vec<Mail>,
-    ports: &mut Vec<Port>,
-    owing: &mut bool,
-    uncleared: &mut bool,
-    limit: usize,
-    trace: &mut Vec<Event>,
-) -> usize
-    requires table { seat.old.table ≡ book.now.table }
-    requires ready { IsReady seat.old lanes.old mails.old ports.old uncleared.old trace.old }
-    requires owing { owing.old ≡ false → OwesNone mails.old.items }
-    ensures takes { TakesIn limit (hall (work seat.old mails.old trace.old) lanes.old ports.old) (hall (work seat.new mails.new trace.new) lanes.new ports.new) result }
-    ensures leaves { LeavesReady limit result seat.old lanes.old mails.old trace.old seat.new lanes.new mails.new ports.new owing.new uncleared.new trace.new }
-{
-    if *owing || *uncleared || !have_none_in_hand(lanes) {
-        return take_all(
-            book, seat, lanes, mails, ports, owing, uncleared, limit, trace,
-        );
+impl Office {
+    // Takes the notes in that came over the lanes.
+    #[inline(always)]
+    fn take_in(&mut self, book: &MsgBook, limit: usize, trace: &mut Vec<Event>) -> usize
+        requires ready { IsReady 256 self.old.counters.room book.now trace.old }
+        ensures takes { TakesIn limit (hall self.old trace.old) (hall self.new trace.new) result }
+        ensures stands { Stands 256 self.old.counters.room trace.old self.new.counters.room trace.new }
+    {
+        if self.owing || self.counters.uncleared || !have_none_in_hand(&self.lanes) {
+            return self.take_all(book, limit, trace);
+        }
+        let Some(first) = pass_empty(&mut self.lanes) else {
+            return 0;
+        };
+        self.take_rest(book, first, limit, trace)
     }
-    let Some(first) = pass_empty(lanes) else {
-        return 0;
-    };
-    take_rest(
-        book, seat, lanes, mails, ports, owing, uncleared, first, limit, trace,
-    )
 }
 
 impl Ports {
@@ -355,17 +205,7 @@ impl Ports {
         ensures grew { Grew (cpu_of self.old.seat) 256 trace.old trace.new }
         ensures told { Tells self.old.seat self.new.seat trace.old.items trace.new.items }
     {
-        take_in(
-            book,
-            &mut self.seat,
-            &mut self.lanes,
-            &mut self.mails,
-            &mut self.ports,
-            &mut self.owing,
-            &mut self.uncleared,
-            limit,
-            trace,
-        )
+        self.office.take_in(book, limit, trace)
     }
 
     /// Makes the replies that are owed, by message number, as lanes have room; the notes in hand of the sending ends move
@@ -380,15 +220,8 @@ impl Ports {
         ensures grew { Grew (cpu_of self.old.seat) 64 trace.old trace.new }
         ensures told { Tells self.old.seat self.new.seat trace.old.items trace.new.items }
     {
-        make_room(&mut self.lanes);
-        pay_owed(
-            book,
-            &mut self.seat,
-            &mut self.lanes,
-            &mut self.mails,
-            self.owing,
-            trace,
-        );
-        self.owing = may_owe(self.owing, false, &self.mails);
+        make_room(&mut self.office.lanes);
+        self.office.pay_owed(book, trace);
+        self.office.owing = may_owe(self.office.owing, false, &self.office.counters.room.mails);
     }
 }

@@ -8,6 +8,7 @@
 
 mod clearings;
 mod closings;
+mod counters;
 pub mod counts;
 pub mod deeds;
 mod encodings;
@@ -16,7 +17,9 @@ pub mod handlings;
 mod intakes;
 pub mod laws;
 pub mod lines;
+mod mailrooms;
 pub mod mails;
+mod offices;
 pub mod openings;
 pub mod posts;
 pub mod queues;

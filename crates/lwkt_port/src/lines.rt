@@ -1,7 +1,7 @@
 //! The two lanes that join a processor with another one, or with itself.
 ghost use Rattle.std.specs.Prelude.{◌≡◌, ◌++◌, ◌∷◌, [], ◌↔◌, None, IsTrue, IsSome, IfSome, Some, true, false, MatchOption};
-ghost use Rattle.lwkt_lane.specs.Lane.{sent, in_hand, received, seen, IsSeenGone, in_lane};
-ghost use Rattle.lwkt_port.specs.Lines.{IsRoomed, HasPosted, HasNone, IsFound};
+ghost use Rattle.lwkt_lane.specs.Lane.{in_hand};
+ghost use Rattle.lwkt_port.specs.Lines.{IsRoomed, HasPosted, IsDrained, HasPopped, HasNone, IsFound};
 
 use lwkt_lane::{LaneIn, LaneOut, Note};
 
@@ -42,11 +42,7 @@ pub(crate) fn post(line: &mut Lane, note: Note)
 /// Receives the next note.
 #[inline(always)]
 pub(crate) fn pop(line: &mut Lane) -> Option<Note>
-    ensures received { MatchOption result (received line.new.into ≡ received line.old.into) (λ note. received line.new.into ≡ received line.old.into ++ note ∷ []) }
-    ensures seen { IsSeenGone result (seen line.old.into) (seen line.new.into) }
-    ensures none { result ≡ None → seen line.new.into ≡ [] }
-    ensures lane { in_lane line.new.into ≡ in_lane line.old.into }
-    ensures same { (line.new.out ≡ line.old.out) × (line.new.kept ≡ line.old.kept) }
+    ensures { MatchOption result (IsDrained line.old line.new) (λ note. HasPopped note line.old line.new) }
 {
     line.into.pop()
 }
@@ -63,7 +59,6 @@ pub(crate) fn keep(line: &mut Lane, note: Option<Note>)
 pub(crate) fn has_note(line: &mut Lane) -> bool
     ensures none { result ≡ false → HasNone line.old line.new }
     ensures found { result ≡ true → IsFound line.old line.new }
-    ensures same { line.new.kept ≡ line.old.kept }
 {
     if line.kept.is_some() {
         return true;

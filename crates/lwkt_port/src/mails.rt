@@ -36,8 +36,7 @@ pub(crate) fn mail_of(mails: &Vec<Mail>, m: usize) -> Mail
 /// Keeps this of the message of this number.
 pub(crate) fn put_mail(mails: &mut Vec<Mail>, m: usize, mail: Mail)
     requires { m < vec_len mails.old }
-    ensures items { mails.new.items ≡ slice_set mails.old.items m mail }
-    ensures len { vec_len mails.new ≡ vec_len mails.old }
+    ensures { mails.new.items ≡ slice_set mails.old.items m mail }
 {
     mails[m] = mail;
 }

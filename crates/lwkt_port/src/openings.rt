@@ -5,8 +5,11 @@ ghost use Rattle.lwkt_msg.specs.Desks.{cpu_of, cpus_of, messages_of};
 ghost use Rattle.lwkt_port.specs.Mails.{mail_at, AreMails};
 ghost use Rattle.lwkt_port.specs.Openings.{new_mail, AreNewPorts, new_line, ArePaired, AreWithin, IsFresh, AreOrigins, IsOpenedPost};
 
+use crate::counters::Counters;
 use crate::lines::Lane;
+use crate::mailrooms::Mailroom;
 use crate::mails::Mail;
+use crate::offices::Office;
 use crate::posts::Ports;
 use crate::queues::{Port, empty_port};
 use lwkt_base::{CpuId, Fault, ThreadId};
@@ -138,14 +141,17 @@ impl Ports {
         if !within {
             return Err(Fault::Limits);
         }
-        Ok(Ports {
-            seat,
-            lanes,
+        let room = Mailroom { seat, mails };
+        let counters = Counters {
+            room,
             ports,
-            mails,
-            threads,
-            owing: false,
             uncleared: false,
-        })
+        };
+        let office = Office {
+            counters,
+            lanes,
+            owing: false,
+        };
+        Ok(Ports { office, threads })
     }
 }

@@ -1,35 +1,28 @@
 //! The ports of a processor's threads.
 ghost use Rattle.std.specs.Prelude.{◌≡◌, ◌≤◌};
 
-use crate::lines::Lane;
-use crate::mails::Mail;
-use crate::queues::Port;
+use crate::counters::Counters;
+use crate::mailrooms::Mailroom;
+use crate::offices::Office;
 use lwkt_msg::MsgSeat;
 use std::marker::Model;
 
 /// The message ports of a processor's threads, one for each thread, with the processor's seat at the book and its lanes.
 #[derive(Drop)]
 pub struct Ports {
-    pub(crate) seat: MsgSeat,
-    pub(crate) lanes: Vec<Lane>,
-    pub(crate) ports: Vec<Port>,
-    pub(crate) mails: Vec<Mail>,
+    pub(crate) office: Office,
     pub(crate) threads: usize,
-    /// Whether a reply may be owed: while this isn't set none is.
-    pub(crate) owing: bool,
-    /// Whether a closed port may have a note: while this isn't set none has.
-    pub(crate) uncleared: bool,
 }
 
 impl Model for Ports {
-    ghost use Rattle.lwkt_port.specs.Posts.{Post, IsPost};
-    ghost use Rattle.lwkt_port.specs.Hints.{AreHints};
+    ghost use Rattle.std.specs.Prelude.{◌≤◌};
+    ghost use Rattle.lwkt_port.specs.Posts.{Post};
 
     ghost Value = { Post };
 
-    ghost view = { λ p. record { seat = p.seat; lanes = p.lanes.items; ports = p.ports.items; mails = p.mails.items; threads = p.threads } };
+    ghost view = { λ p. record { seat = p.office.counters.room.seat; lanes = p.office.lanes.items; ports = p.office.counters.ports.items; mails = p.office.counters.room.mails.items; threads = p.threads } };
 
-    ghost invariant = { λ p. IsPost (record { seat = p.seat; lanes = p.lanes.items; ports = p.ports.items; mails = p.mails.items; threads = p.threads }) × AreHints p.owing p.uncleared p.mails.items p.ports.items };
+    ghost invariant = { λ p. p.threads ≤ 16 };
 }
 
 impl Ports {
@@ -50,22 +43,17 @@ impl Ports {
         ensures count { result ≡ cpus_of self.now.seat }
         ensures few { result ≤ 8 }
     {
-        self.seat.cpus()
+        self.office.counters.room.seat.cpus()
     }
 
     /// Gives up the ports, and gives the processor's seat at the book back.
     pub fn retire(self) -> MsgSeat
         ensures { result ≡ self.seat }
     {
-        let Ports {
-            seat,
-            lanes: _,
-            ports: _,
-            mails: _,
-            threads: _,
-            owing: _,
-            uncleared: _,
-        } = self;
+        let Ports { office, threads: _ } = self;
+        let Office { counters, .. } = office;
+        let Counters { room, .. } = counters;
+        let Mailroom { seat, mails: _ } = room;
         seat
     }
 }

@@ -1,20 +1,21 @@
 //! A thread replies to a message, and is given the reply that it waited for.
 ghost use Rattle.std.specs.Prelude.{◌≡◌, ◌↔◌, ◌+◌, ◌<◌, ◌≤◌, true, length, slice_set, All, vec_len, vec_capacity, None, IsTrue, OnOk, IfErr};
-ghost use Rattle.lwkt_msg.specs.Desks.{cpu_of, cpus_of, messages_of, entry, IsSameDesk};
-ghost use Rattle.lwkt_port.specs.Mails.{mail_at, AreMails};
-ghost use Rattle.lwkt_port.specs.Works.{work, Grew, away_count};
-ghost use Rattle.lwkt_port.specs.Posts.{KeepsNamed, IsSamePost};
+ghost use Rattle.lwkt_msg.specs.Desks.{cpu_of, messages_of};
+ghost use Rattle.lwkt_port.specs.Mails.{mail_at};
+ghost use Rattle.lwkt_port.specs.Works.{work, Grew, IsReady, Stands, KeepsPorts, HasTaken};
+ghost use Rattle.lwkt_port.specs.Posts.{IsSamePost};
 ghost use Rattle.lwkt_port.specs.Sendings.{answer_note, ReplyMeans, Answers, IsShownTo, PostReplies, PostRefusesReply};
 ghost use Rattle.lwkt_port.specs.Tellings.{Tells};
 
-use crate::deeds;
 use crate::lines::{Lane, has_room, post};
+use crate::mailrooms::Mailroom;
 use crate::mails::{Mail, mail_of};
+use crate::offices::Office;
 use crate::posts::Ports;
 use lwkt_base::{Fault, MsgId, Rec};
 use lwkt_core::Event;
 use lwkt_lane::{Note, NoteKind};
-use lwkt_msg::{MsgBook, MsgSeat};
+use lwkt_msg::MsgBook;
 
 // The note that tells of an answer.
 fn answer_of(msg: MsgId, mail: &Mail) -> Note
@@ -29,80 +30,55 @@ fn answer_of(msg: MsgId, mail: &Mail) -> Note
     }
 }
 
-// Replies to a message over a line. False if the line is full.
-#[tactic(auto, using(crate::proofs::Posting::posted_over))]
-fn reply_over(
-    book: &MsgBook,
-    seat: &mut MsgSeat,
-    line: &mut Lane,
-    mails: &mut Vec<Mail>,
-    msg: MsgId,
-    error: u32,
-    outcome: u64,
-    trace: &mut Vec<Event>,
-) -> bool
-    requires table { seat.old.table ≡ book.now.table }
-    requires kept { AreMails seat.old mails.old.items }
-    requires exists { msg.0 < vec_len mails.old }
-    requires taken { (entry seat.old msg.0).taken ≡ true }
-    requires room { vec_len trace.old < vec_capacity trace.old }
-    ensures means { ReplyMeans msg error outcome line.old line.new (work seat.old mails.old trace.old) (work seat.new mails.new trace.new) result }
-    ensures kept { AreMails seat.new mails.new.items }
-    ensures same { IsSameDesk seat.old seat.new }
-    ensures line { line.new.kept ≡ line.old.kept }
-    ensures len { vec_len mails.new ≡ vec_len mails.old }
-    ensures grew { Grew (cpu_of seat.old) 1 trace.old trace.new }
-    ensures away { away_count mails.new.items ≡ away_count mails.old.items }
-{
-    if !has_room(line) {
-        return false;
+impl Mailroom {
+    // Replies to a message over a line. False if the line is full.
+    #[tactic(auto, using(crate::proofs::Posting::posted_over))]
+    fn reply_over(
+        &mut self,
+        book: &MsgBook,
+        line: &mut Lane,
+        msg: MsgId,
+        error: u32,
+        outcome: u64,
+        trace: &mut Vec<Event>,
+    ) -> bool
+        requires ready { IsReady 1 self.old book.now trace.old }
+        requires taken { HasTaken msg self.old }
+        ensures means { ReplyMeans msg error outcome line.old line.new (work self.old trace.old) (work self.new trace.new) result }
+        ensures stands { Stands 1 self.old trace.old self.new trace.new }
+    {
+        if !has_room(line) {
+            return false;
+        }
+        let note = answer_of(msg, &mail_of(&self.mails, usize::from(msg.0)));
+        self.reply(book, msg, error, outcome, trace);
+        post(line, note);
+        true
     }
-    let note = answer_of(msg, &mail_of(mails, usize::from(msg.0)));
-    deeds::reply(book, seat, mails, msg, error, outcome, trace);
-    post(line, note);
-    true
 }
 
-/// Replies to a message that this processor has taken, over the lane to the message's origin. False if that lane is full.
-#[tactic(auto, using(crate::proofs::Dispatching::answered_over, crate::proofs::Dispatching::line_is_there))]
-pub(crate) fn answer(
-    book: &MsgBook,
-    seat: &mut MsgSeat,
-    lanes: &mut Vec<Lane>,
-    mails: &mut Vec<Mail>,
-    msg: MsgId,
-    error: u32,
-    outcome: u64,
-    trace: &mut Vec<Event>,
-) -> bool
-    requires table { seat.old.table ≡ book.now.table }
-    requires kept { AreMails seat.old mails.old.items }
-    requires exists { msg.0 < vec_len mails.old }
-    requires taken { (entry seat.old msg.0).taken ≡ true }
-    requires lanes { vec_len lanes.old ≡ cpus_of seat.old }
-    requires named { All (KeepsNamed (vec_len mails.old)) lanes.old.items }
-    requires room { vec_len trace.old < vec_capacity trace.old }
-    ensures means { Answers msg error outcome lanes.old.items lanes.new.items (work seat.old mails.old trace.old) (work seat.new mails.new trace.new) result }
-    ensures kept { AreMails seat.new mails.new.items }
-    ensures same { IsSameDesk seat.old seat.new }
-    ensures len { vec_len mails.new ≡ vec_len mails.old }
-    ensures lanes { vec_len lanes.new ≡ vec_len lanes.old }
-    ensures named { All (KeepsNamed (vec_len mails.new)) lanes.new.items }
-    ensures grew { Grew (cpu_of seat.old) 1 trace.old trace.new }
-    ensures away { away_count mails.new.items ≡ away_count mails.old.items }
-{
-    let mail = mail_of(mails, usize::from(msg.0));
-    let at = usize::from(mail.origin.cpu.0);
-    reply_over(
-        book,
-        seat,
-        &mut lanes[at],
-        mails,
-        msg,
-        error,
-        outcome,
-        trace,
-    )
+impl Office {
+    /// Replies to a message that this processor has taken, over the lane to the message's origin. False if that lane is full.
+    #[tactic(auto, using(crate::proofs::Dispatching::answered_over, crate::proofs::Dispatching::line_is_there))]
+    pub(crate) fn answer(
+        &mut self,
+        book: &MsgBook,
+        msg: MsgId,
+        error: u32,
+        outcome: u64,
+        trace: &mut Vec<Event>,
+    ) -> bool
+        requires ready { IsReady 1 self.old.counters.room book.now trace.old }
+        requires taken { HasTaken msg self.old.counters.room }
+        ensures means { Answers msg error outcome self.old.lanes.items self.new.lanes.items (work self.old.counters.room trace.old) (work self.new.counters.room trace.new) result }
+        ensures beside { KeepsPorts 1 self.old.counters trace.old self.new.counters trace.new }
+    {
+        let mail = mail_of(&self.counters.room.mails, usize::from(msg.0));
+        let at = usize::from(mail.origin.cpu.0);
+        self.counters
+            .room
+            .reply_over(book, &mut self.lanes[at], msg, error, outcome, trace)
+    }
 }
 
 // Whether the thread was shown the message as a request, and hasn't replied yet.
@@ -142,19 +118,10 @@ impl Ports {
         ensures grew { Grew (cpu_of self.old.seat) 1 trace.old trace.new }
         ensures told { Tells self.old.seat self.new.seat trace.old.items trace.new.items }
     {
-        if !is_shown_to(&self.mails, thread, msg) {
+        if !is_shown_to(&self.office.counters.room.mails, thread, msg) {
             return Err(Fault::NotTaken);
         }
-        if !answer(
-            book,
-            &mut self.seat,
-            &mut self.lanes,
-            &mut self.mails,
-            msg,
-            error,
-            outcome,
-            trace,
-        ) {
+        if !self.office.answer(book, msg, error, outcome, trace) {
             return Err(Fault::LaneFull);
         }
         Ok(())
@@ -170,8 +137,8 @@ impl Ports {
         ensures given { self.new ≡ record self.old { mails = slice_set self.old.mails msg.0 (record (mail_at self.old.mails msg.0) { done = None }) } }
     {
         let m = usize::from(msg.0);
-        let done = self.mails[m].done;
-        self.mails[m].done = None;
+        let done = self.office.counters.room.mails[m].done;
+        self.office.counters.room.mails[m].done = None;
         done
     }
 }

@@ -1,18 +1,19 @@
 //! A thread sends a message.
 ghost use Rattle.std.specs.Prelude.{◌≡◌, ◌↔◌, ◌+◌, ◌<◌, ◌≤◌, true, false, length, vec_len, vec_capacity, All, IsTrue, OnOk, IfErr, MatchResult};
-ghost use Rattle.lwkt_msg.specs.Desks.{cpu_of, cpus_of, IsSameDesk};
+ghost use Rattle.lwkt_msg.specs.Desks.{cpu_of, cpus_of};
 ghost use Rattle.lwkt_msg.specs.Views.{no_flags};
 ghost use Rattle.lwkt_port.specs.Lines.{IsRoomed};
-ghost use Rattle.lwkt_port.specs.Mails.{mail_at, AreMails};
-ghost use Rattle.lwkt_port.specs.Works.{work, Grew};
-ghost use Rattle.lwkt_port.specs.Sendings.{IsPortName, MaySend, SendsOver, RefusesOver, HasSentNote, WhyUnsent, IsSelfDo, PostSends, PostRefuses};
-ghost use Rattle.lwkt_port.specs.Posts.{KeepsNamed, IsSamePost};
+ghost use Rattle.lwkt_port.specs.Mails.{mail_at};
+ghost use Rattle.lwkt_port.specs.Works.{work, Grew, IsReady, Stands, KeepsPorts};
+ghost use Rattle.lwkt_port.specs.Sendings.{IsPortName, MaySend, SendsOver, RefusesOver, HasSentNote, WhyUnsent, PostSends, PostRefuses};
+ghost use Rattle.lwkt_port.specs.Posts.{IsSamePost};
 ghost use Rattle.lwkt_port.specs.Tellings.{Tells};
 
-use crate::deeds;
 use crate::deeds::Sending;
 use crate::lines::{Lane, has_room, post};
+use crate::mailrooms::Mailroom;
 use crate::mails::{Mail, mail_of};
+use crate::offices::Office;
 use crate::posts::Ports;
 use lwkt_base::{Call, CpuId, Fault, Flags, MsgId, ThreadId};
 use lwkt_core::Event;
@@ -38,106 +39,67 @@ fn may_send(mails: &Vec<Mail>, sending: &Sending) -> bool
     mail.home && mail.origin.thread == sending.thread
 }
 
-// Sends a message over the line to its target.
-#[tactic(auto, using(crate::proofs::Posting::posted_over))]
-fn send_over(
-    book: &MsgBook,
-    seat: &mut MsgSeat,
-    line: &mut Lane,
-    mails: &mut Vec<Mail>,
-    sending: &Sending,
-    trace: &mut Vec<Event>,
-) -> Result<(), Fault>
-    requires table { seat.old.table ≡ book.now.table }
-    requires kept { AreMails seat.old mails.old.items }
-    requires may { MaySend sending.now mails.old.items }
-    requires target { sending.now.to.cpu.0 < cpus_of seat.old }
-    requires room { vec_len trace.old < vec_capacity trace.old }
-    ensures sent { OnOk result (SendsOver sending.now line.old line.new (work seat.old mails.old trace.old) (work seat.new mails.new trace.new)) }
-    ensures refused { IfErr result (λ fault. RefusesOver sending.now line.old line.new (work seat.old mails.old trace.old) (work seat.new mails.new trace.new) fault) }
-    ensures kept { AreMails seat.new mails.new.items }
-    ensures same { IsSameDesk seat.old seat.new }
-    ensures line { line.new.kept ≡ line.old.kept }
-    ensures len { vec_len mails.new ≡ vec_len mails.old }
-    ensures grew { Grew (cpu_of seat.old) 1 trace.old trace.new }
-{
-    if !has_room(line) {
-        return Err(Fault::LaneFull);
+impl Mailroom {
+    // Sends a message over the line to its target.
+    #[tactic(auto, using(crate::proofs::Posting::posted_over))]
+    fn send_over(
+        &mut self,
+        book: &MsgBook,
+        line: &mut Lane,
+        sending: &Sending,
+        trace: &mut Vec<Event>,
+    ) -> Result<(), Fault>
+        requires ready { IsReady 1 self.old book.now trace.old }
+        requires may { MaySend sending.now self.old.mails.items }
+        requires target { sending.now.to.cpu.0 < cpus_of self.old.seat }
+        ensures means { MatchResult result (λ _. SendsOver sending.now line.old line.new (work self.old trace.old) (work self.new trace.new)) (λ fault. RefusesOver sending.now line.old line.new (work self.old trace.old) (work self.new trace.new) fault) }
+        ensures stands { Stands 1 self.old trace.old self.new trace.new }
+        ensures line { line.new.kept ≡ line.old.kept }
+    {
+        if !has_room(line) {
+            return Err(Fault::LaneFull);
+        }
+        let Some(round) = self.send(book, sending, trace) else {
+            return Err(Fault::RoundsOut);
+        };
+        let note = Note {
+            round,
+            msg: sending.msg,
+            port: sending.to.thread,
+            kind: NoteKind::Request,
+            urgent: sending.flags.priority,
+        };
+        post(line, note);
+        Ok(())
     }
-    let Some(round) = deeds::send(book, seat, mails, sending, trace) else {
-        return Err(Fault::RoundsOut);
-    };
-    let note = Note {
-        round,
-        msg: sending.msg,
-        port: sending.to.thread,
-        kind: NoteKind::Request,
-        urgent: sending.flags.priority,
-    };
-    post(line, note);
-    Ok(())
 }
 
-// Sends a message of a thread.
-#[tactic(auto, using(crate::proofs::Dispatching::dispatched, crate::proofs::Dispatching::not_dispatched))]
-fn dispatch(
-    book: &MsgBook,
-    seat: &mut MsgSeat,
-    lanes: &mut Vec<Lane>,
-    mails: &mut Vec<Mail>,
-    sending: &Sending,
-    trace: &mut Vec<Event>,
-) -> Result<(), Fault>
-    requires table { seat.old.table ≡ book.now.table }
-    requires kept { AreMails seat.old mails.old.items }
-    requires target { sending.now.to.cpu.0 < cpus_of seat.old }
-    requires lanes { vec_len lanes.old ≡ cpus_of seat.old }
-    requires named { All (KeepsNamed (vec_len mails.old)) lanes.old.items }
-    requires room { vec_len trace.old < vec_capacity trace.old }
-    ensures sent { OnOk result (HasSentNote sending.now lanes.old.items lanes.new.items (work seat.old mails.old trace.old) (work seat.new mails.new trace.new)) }
-    ensures refused { IfErr result (λ fault. WhyUnsent sending.now lanes.old.items lanes.new.items (work seat.old mails.old trace.old) (work seat.new mails.new trace.new) fault) }
-    ensures kept { AreMails seat.new mails.new.items }
-    ensures same { IsSameDesk seat.old seat.new }
-    ensures len { vec_len mails.new ≡ vec_len mails.old }
-    ensures lanes { vec_len lanes.new ≡ vec_len lanes.old }
-    ensures named { All (KeepsNamed (vec_len mails.new)) lanes.new.items }
-    ensures grew { Grew (cpu_of seat.old) 1 trace.old trace.new }
-{
-    if !may_send(mails, sending) {
-        return Err(Fault::NotOwner);
-    }
-    let at = usize::from(sending.to.cpu.0);
-    send_over(book, seat, &mut lanes[at], mails, sending, trace)
-}
-
-impl Ports {
-    // Sends a message of a thread to a port that may be there.
+impl Office {
+    // Sends a message of a thread.
+    #[tactic(auto, using(crate::proofs::Dispatching::dispatched, crate::proofs::Dispatching::not_dispatched))]
     fn dispatch(
         &mut self,
         book: &MsgBook,
         sending: &Sending,
         trace: &mut Vec<Event>,
     ) -> Result<(), Fault>
-        requires table { self.old.seat.table ≡ book.now.table }
-        requires there { IsPortName (cpus_of self.old.seat) sending.now.to }
-        requires to_other { IsSelfDo sending.now self.old → ⊥ }
-        requires room { vec_len trace.old < vec_capacity trace.old }
-        ensures sent { OnOk result (PostSends sending.now self.old self.new trace.old trace.new) }
-        ensures refused { IfErr result (λ fault. PostRefuses sending.now self.old self.new trace.old trace.new fault) }
-        ensures same { IsSamePost self.old self.new }
-        ensures grew { Grew (cpu_of self.old.seat) 1 trace.old trace.new }
-        ensures told { Tells self.old.seat self.new.seat trace.old.items trace.new.items }
+        requires ready { IsReady 1 self.old.counters.room book.now trace.old }
+        requires target { sending.now.to.cpu.0 < cpus_of self.old.counters.room.seat }
+        ensures sent { OnOk result (HasSentNote sending.now self.old.lanes.items self.new.lanes.items (work self.old.counters.room trace.old) (work self.new.counters.room trace.new)) }
+        ensures refused { IfErr result (λ fault. WhyUnsent sending.now self.old.lanes.items self.new.lanes.items (work self.old.counters.room trace.old) (work self.new.counters.room trace.new) fault) }
+        ensures beside { KeepsPorts 1 self.old.counters trace.old self.new.counters trace.new }
     {
-        dispatch(
-            book,
-            &mut self.seat,
-            &mut self.lanes,
-            &mut self.mails,
-            sending,
-            trace,
-        )
+        if !may_send(&self.counters.room.mails, sending) {
+            return Err(Fault::NotOwner);
+        }
+        let at = usize::from(sending.to.cpu.0);
+        self.counters
+            .room
+            .send_over(book, &mut self.lanes[at], sending, trace)
     }
+}
 
+impl Ports {
     /// Sends a message of a thread to a thread's port, without waiting for the reply, as lwkt_sendmsg(9) does. The reply
     /// will be an item of the sender's own port. Sent with priority, the request and its reply come before other items. What
     /// differs: the message is named by its number, its target by processor and thread; a full lane refuses the send; a
@@ -166,7 +128,7 @@ impl Ports {
         ensures grew { Grew (cpu_of self.old.seat) 1 trace.old trace.new }
         ensures told { Tells self.old.seat self.new.seat trace.old.items trace.new.items }
     {
-        if !is_port_name(&self.seat, to) {
+        if !is_port_name(&self.office.counters.room.seat, to) {
             return Err(Fault::NoPort);
         }
         let sending = Sending {
@@ -177,7 +139,7 @@ impl Ports {
             flags,
             sync: false,
         };
-        self.dispatch(book, &sending, trace)
+        self.office.dispatch(book, &sending, trace)
     }
 
     /// Sends a message of a thread to a thread's port, for the thread to wait for the reply, as lwkt_domsg(9) does. The
@@ -203,11 +165,11 @@ impl Ports {
         ensures grew { Grew (cpu_of self.old.seat) 1 trace.old trace.new }
         ensures told { Tells self.old.seat self.new.seat trace.old.items trace.new.items }
     {
-        if !is_port_name(&self.seat, to) {
+        if !is_port_name(&self.office.counters.room.seat, to) {
             return Err(Fault::NoPort);
         }
         let own = ThreadId {
-            cpu: self.seat.cpu(),
+            cpu: self.office.counters.room.seat.cpu(),
             thread,
         };
         if to == own {
@@ -226,6 +188,6 @@ impl Ports {
             flags,
             sync: true,
         };
-        self.dispatch(book, &sending, trace)
+        self.office.dispatch(book, &sending, trace)
     }
 }

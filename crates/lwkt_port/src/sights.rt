@@ -1,7 +1,7 @@
 //! Where the ports of two processors are both at hand, the one sees what the other has sent, and what it has sent to itself.
 ghost use Rattle.std.specs.Prelude.{◌≡◌, ℕ, ◌<◌, All, slice_index_or, vec_len};
 ghost use Rattle.lwkt_lane.specs.Lane.{IsLane};
-ghost use Rattle.lwkt_port.specs.Posts.{Changes, AreSameLanes, KeepsNamed, IsSamePost};
+ghost use Rattle.lwkt_port.specs.Posts.{Changes, AreSameLanes, AreStillLines, IsSamePost};
 ghost use Rattle.lwkt_port.specs.Sights.{AreEnds, SeesAll, LooksBeside, SeesOwn, Sees, AreJoined, PostSees, PostSeesOwn};
 
 use crate::lines::Lane;
@@ -20,10 +20,9 @@ fn see_line(line: &mut Lane, sender: &mut Lane)
 fn see_from(lanes: &mut Vec<Lane>, from: usize, sender: &mut Vec<Lane>, to: usize)
     requires { AreEnds from to sender.old.items lanes.old.items }
     ensures sees { Sees from to sender.old.items sender.new.items lanes.old.items lanes.new.items }
-    ensures len { (vec_len lanes.new ≡ vec_len lanes.old) × (vec_len sender.new ≡ vec_len sender.old) }
     ensures same { AreSameLanes lanes.old.items lanes.new.items × AreSameLanes sender.old.items sender.new.items }
-    ensures named { (n : ℕ) → All (KeepsNamed n) lanes.old.items → All (KeepsNamed n) lanes.new.items }
-    ensures sender { (n : ℕ) → All (KeepsNamed n) sender.old.items → All (KeepsNamed n) sender.new.items }
+    ensures lines { AreStillLines lanes.old lanes.new }
+    ensures sender { AreStillLines sender.old sender.new }
 {
     see_line(&mut lanes[from], &mut sender[to]);
 }
@@ -40,9 +39,8 @@ fn see_line_own(line: &mut Lane)
 fn see_at(lanes: &mut Vec<Lane>, at: usize)
     requires { AreEnds at at lanes.old.items lanes.old.items }
     ensures sees { Changes SeesOwn at lanes.old.items lanes.new.items }
-    ensures len { vec_len lanes.new ≡ vec_len lanes.old }
     ensures same { AreSameLanes lanes.old.items lanes.new.items }
-    ensures named { (n : ℕ) → All (KeepsNamed n) lanes.old.items → All (KeepsNamed n) lanes.new.items }
+    ensures lines { AreStillLines lanes.old lanes.new }
 {
     see_line_own(&mut lanes[at]);
 }
@@ -58,9 +56,9 @@ impl Ports {
         ensures same { IsSamePost self.old self.new }
         ensures sender { IsSamePost sender.old sender.new }
     {
-        let from = usize::from(sender.seat.cpu().0);
-        let to = usize::from(self.seat.cpu().0);
-        see_from(&mut self.lanes, from, &mut sender.lanes, to);
+        let from = usize::from(sender.office.counters.room.seat.cpu().0);
+        let to = usize::from(self.office.counters.room.seat.cpu().0);
+        see_from(&mut self.office.lanes, from, &mut sender.office.lanes, to);
     }
     /// Sees every note that these ports have put into the queue of the lane to themselves. A `take_in` that follows takes these notes
     /// in first, as after `see`.
@@ -71,7 +69,7 @@ impl Ports {
         ensures sees { PostSeesOwn self.old self.new }
         ensures same { IsSamePost self.old self.new }
     {
-        let own = usize::from(self.seat.cpu().0);
-        see_at(&mut self.lanes, own);
+        let own = usize::from(self.office.counters.room.seat.cpu().0);
+        see_at(&mut self.office.lanes, own);
     }
 }

@@ -1,64 +1,56 @@
 //! A thread drops a message of its own, asks for it to be aborted, or hears whether one that it was shown is to be aborted.
 ghost use Rattle.std.specs.Prelude.{◌≡◌, ◌↔◌, ◌+◌, ◌<◌, ◌≤◌, List, length, vec_len, vec_capacity, true, IsTrue, IsOk, OnOk, IfOk, IfErr};
 ghost use Rattle.lwkt_core.specs.declared.events.Event.{Event};
-ghost use Rattle.lwkt_msg.specs.Desks.{cpu_of, messages_of, IsSameDesk, entry};
-ghost use Rattle.lwkt_msg.specs.Hands.{IsOwn};
-ghost use Rattle.lwkt_port.specs.Mails.{mail_at, AreMails};
+ghost use Rattle.lwkt_msg.specs.Desks.{cpu_of, IsSameDesk};
 ghost use Rattle.lwkt_port.specs.Posts.{IsSamePost};
 ghost use Rattle.lwkt_port.specs.Sendings.{IsShownTo};
 ghost use Rattle.lwkt_port.specs.Tellings.{Tells};
-ghost use Rattle.lwkt_port.specs.Works.{work, Grew};
+ghost use Rattle.lwkt_port.specs.Works.{work, Grew, IsReady, Stands, HasTaken, HasOwn};
 ghost use Rattle.lwkt_port.specs.Withdrawals.{IsOwnOf, Requests, IsUnasked, dropped_mail, Drops, IsUntouched, MayAsk, MayDrop, IsHeard, PostAborts, PostRefusesAbort, PostDrops, PostRefusesDrop, PostHears, PostRefusesHearing};
 
+use crate::mailrooms::Mailroom;
 use crate::mails::{Mail, mail_of, put_mail};
 use crate::posts::Ports;
 use crate::replies::is_shown_to;
 use crate::traces::note_event;
 use lwkt_base::{Fault, MsgId, Rec, ThreadId};
 use lwkt_core::Event;
-use lwkt_msg::{MsgBook, MsgSeat};
+use lwkt_msg::MsgBook;
 
-// Whether the message is a thread's own.
-fn is_own(seat: &MsgSeat, mails: &Vec<Mail>, thread: u8, msg: MsgId) -> bool
-    ensures { IsTrue result ↔ IsOwnOf thread msg seat.now mails.now.items }
-{
-    let m = usize::from(msg.0);
-    if m >= mails.len() {
-        return false;
+impl Mailroom {
+    // Whether the message is a thread's own.
+    fn is_own(&self, thread: u8, msg: MsgId) -> bool
+        ensures { IsTrue result ↔ IsOwnOf thread msg self.now.seat self.now.mails.items }
+    {
+        let m = usize::from(msg.0);
+        if m >= self.mails.len() {
+            return false;
+        }
+        let own = ThreadId {
+            cpu: self.seat.cpu(),
+            thread,
+        };
+        mail_of(&self.mails, m).origin == own
     }
-    let own = ThreadId {
-        cpu: seat.cpu(),
-        thread,
-    };
-    mail_of(mails, m).origin == own
 }
 
-// Asks for an own message to be aborted.
-fn request(
-    book: &MsgBook,
-    seat: &mut MsgSeat,
-    mails: &Vec<Mail>,
-    msg: MsgId,
-    trace: &mut Vec<Event>,
-) -> Result<(), Fault>
-    requires table { seat.old.table ≡ book.now.table }
-    requires kept { AreMails seat.old mails.now.items }
-    requires exists { msg.0 < vec_len mails.now }
-    requires own { IsOwn seat.old.view (cpu_of seat.old).0 msg.0 }
-    requires room { vec_len trace.old < vec_capacity trace.old }
-    ensures requests { OnOk result (Requests msg (work seat.old mails.now trace.old) (work seat.new mails.now trace.new)) }
-    ensures refused { IfErr result (λ fault. MayAsk fault × IsUnasked msg (work seat.old mails.now trace.old) (work seat.new mails.now trace.new) fault) }
-    ensures kept { AreMails seat.new mails.now.items }
-    ensures same { IsSameDesk seat.old seat.new }
-    ensures grew { Grew (cpu_of seat.old) 1 trace.old trace.new }
-{
-    let cpu = seat.cpu();
-    match seat.abort(book, msg) {
-        Ok(()) => {
-            note_event(trace, Event::Abort { cpu, msg });
-            Ok(())
+impl Mailroom {
+    // Asks for an own message to be aborted.
+    fn request(&mut self, book: &MsgBook, msg: MsgId, trace: &mut Vec<Event>) -> Result<(), Fault>
+        requires ready { IsReady 1 self.old book.now trace.old }
+        requires own { HasOwn msg self.old }
+        ensures requests { OnOk result (Requests msg (work self.old trace.old) (work self.new trace.new)) }
+        ensures refused { IfErr result (λ fault. MayAsk fault × IsUnasked msg (work self.old trace.old) (work self.new trace.new) fault) }
+        ensures stands { Stands 1 self.old trace.old self.new trace.new }
+    {
+        let cpu = self.seat.cpu();
+        match self.seat.abort(book, msg) {
+            Ok(()) => {
+                note_event(trace, Event::Abort { cpu, msg });
+                Ok(())
+            }
+            Err(fault) => Err(fault),
         }
-        Err(fault) => Err(fault),
     }
 }
 
@@ -69,50 +61,41 @@ fn dropped(mail: Mail) -> Mail
     Mail { home: true, ..mail }
 }
 
-// Drops an own message.
-fn withdraw(
-    book: &MsgBook,
-    seat: &mut MsgSeat,
-    mails: &mut Vec<Mail>,
-    msg: MsgId,
-    trace: &mut Vec<Event>,
-) -> Result<Rec, Fault>
-    requires table { seat.old.table ≡ book.now.table }
-    requires kept { AreMails seat.old mails.old.items }
-    requires exists { msg.0 < vec_len mails.old }
-    requires own { IsOwn seat.old.view (cpu_of seat.old).0 msg.0 }
-    requires room { vec_len trace.old < vec_capacity trace.old }
-    ensures drops { IfOk result (λ rec. Drops msg (work seat.old mails.old trace.old) (work seat.new mails.new trace.new) rec) }
-    ensures refused { IfErr result (λ fault. MayDrop fault × IsUntouched msg (work seat.old mails.old trace.old) (work seat.new mails.new trace.new) fault) }
-    ensures kept { AreMails seat.new mails.new.items }
-    ensures same { IsSameDesk seat.old seat.new }
-    ensures len { vec_len mails.new ≡ vec_len mails.old }
-    ensures grew { Grew (cpu_of seat.old) 1 trace.old trace.new }
-{
-    let cpu = seat.cpu();
-    let m = usize::from(msg.0);
-    match seat.drop_msg(book, msg) {
-        Ok(rec) => {
-            put_mail(mails, m, dropped(mail_of(mails, m)));
-            note_event(trace, Event::DropMsg { cpu, msg });
-            Ok(rec)
+impl Mailroom {
+    // Drops an own message.
+    fn withdraw(&mut self, book: &MsgBook, msg: MsgId, trace: &mut Vec<Event>) -> Result<Rec, Fault>
+        requires ready { IsReady 1 self.old book.now trace.old }
+        requires own { HasOwn msg self.old }
+        ensures drops { IfOk result (λ rec. Drops msg (work self.old trace.old) (work self.new trace.new) rec) }
+        ensures refused { IfErr result (λ fault. MayDrop fault × IsUntouched msg (work self.old trace.old) (work self.new trace.new) fault) }
+        ensures stands { Stands 1 self.old trace.old self.new trace.new }
+    {
+        let cpu = self.seat.cpu();
+        let m = usize::from(msg.0);
+        match self.seat.drop_msg(book, msg) {
+            Ok(rec) => {
+                let mail = dropped(mail_of(&self.mails, m));
+                put_mail(&mut self.mails, m, mail);
+                note_event(trace, Event::DropMsg { cpu, msg });
+                Ok(rec)
+            }
+            Err(fault) => Err(fault),
         }
-        Err(fault) => Err(fault),
     }
 }
 
-// Hears whether a message that the seat has taken is to be aborted.
-fn hear(book: &MsgBook, seat: &mut MsgSeat, mails: &Vec<Mail>, msg: MsgId) -> Result<bool, Fault>
-    requires table { seat.old.table ≡ book.now.table }
-    requires kept { AreMails seat.old mails.now.items }
-    requires exists { msg.0 < vec_len mails.now }
-    requires taken { (entry seat.old msg.0).taken ≡ true }
-    ensures heard { IfOk result (λ aborted. (events : List Event) → IsHeard msg (record { seat = seat.old; mails = mails.now.items; trace = events }) (record { seat = seat.new; mails = mails.now.items; trace = events }) aborted) }
-    ensures always { IsOk result }
-    ensures kept { AreMails seat.new mails.now.items }
-    ensures same { IsSameDesk seat.old seat.new }
-{
-    seat.is_aborted(book, msg)
+impl Mailroom {
+    // Hears whether a message that the seat has taken is to be aborted.
+    fn hear(&mut self, book: &MsgBook, msg: MsgId) -> Result<bool, Fault>
+        requires table { self.old.seat.table ≡ book.now.table }
+        requires taken { HasTaken msg self.old }
+        ensures heard { IfOk result (λ aborted. (events : List Event) → IsHeard msg (record { seat = self.old.seat; mails = self.old.mails.items; trace = events }) (record { seat = self.new.seat; mails = self.new.mails.items; trace = events }) aborted) }
+        ensures always { IsOk result }
+        ensures same { IsSameDesk self.old.seat self.new.seat }
+        ensures mails { self.new.mails ≡ self.old.mails }
+    {
+        self.seat.is_aborted(book, msg)
+    }
 }
 
 impl Ports {
@@ -139,10 +122,10 @@ impl Ports {
         ensures grew { Grew (cpu_of self.old.seat) 1 trace.old trace.new }
         ensures told { Tells self.old.seat self.new.seat trace.old.items trace.new.items }
     {
-        if !is_own(&self.seat, &self.mails, thread, msg) {
+        if !self.office.counters.room.is_own(thread, msg) {
             return Err(Fault::NotOwner);
         }
-        request(book, &mut self.seat, &self.mails, msg, trace)
+        self.office.counters.room.request(book, msg, trace)
     }
 
     /// Whether the origin of a message that `get` has shown to the thread wishes it to be aborted, until the thread
@@ -156,10 +139,10 @@ impl Ports {
         ensures same { IsSamePost self.old self.new }
         ensures told { (events : List Event) → Tells self.old.seat self.new.seat events events }
     {
-        if !is_shown_to(&self.mails, thread, msg) {
+        if !is_shown_to(&self.office.counters.room.mails, thread, msg) {
             return Err(Fault::NotTaken);
         }
-        hear(book, &mut self.seat, &self.mails, msg)
+        self.office.counters.room.hear(book, msg)
     }
 
     /// Drops a message of the thread that nobody has taken yet, as lwkt_dropmsg(9) does, and gives its record back as it
@@ -185,9 +168,9 @@ impl Ports {
         ensures grew { Grew (cpu_of self.old.seat) 1 trace.old trace.new }
         ensures told { Tells self.old.seat self.new.seat trace.old.items trace.new.items }
     {
-        if !is_own(&self.seat, &self.mails, thread, msg) {
+        if !self.office.counters.room.is_own(thread, msg) {
             return Err(Fault::NotOwner);
         }
-        withdraw(book, &mut self.seat, &mut self.mails, msg, trace)
+        self.office.counters.room.withdraw(book, msg, trace)
     }
 }

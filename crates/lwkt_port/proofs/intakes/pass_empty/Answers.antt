@@ -2,7 +2,7 @@ use Rattle.std.proofs.Common.{◌≡◌, ◌<◌, ◌∙◌, length, refl, sym, 
 use Rattle.lwkt_port.specs.Intakes.{Intake, EmptiesFrom, untaken}
 use Rattle.lwkt_port.proofs.Chaining.{chain_none}
 use Rattle.lwkt_port.proofs.Dispatching.{line_kept}
-use Rattle.lwkt_port.proofs.Passing.{passes_more, fronted}
+use Rattle.lwkt_port.proofs.Passing.{passes_more, fronted, found_kept}
 use Rattle.lwkt_port.proofs.intakes.pass_empty.Goals as goal
 
 pub loop-sender-init : goal.loop-sender-init
@@ -14,7 +14,7 @@ loop-sender-preserved c =
     let there : l.sender < length l.lanes.items = search rules in record {
       passes = λ limit w ports. passes_more limit l.sender w ports c.args.lanes.now.items l.lanes.items c.index_mut.result.now c.has_note.new.line there c.index_mut.ensures.value (c.has_note.ensures.none c.if-has_note.false) (l.invariant.passes limit w ports);
       len = l.invariant.len;
-      named = λ n h. line_kept n l.lanes.items l.sender c.index_mut.result.now c.has_note.new.line there c.index_mut.ensures.value c.has_note.ensures.same (l.invariant.named n h);
+      named = λ n h. line_kept n l.lanes.items l.sender c.index_mut.result.now c.has_note.new.line there c.index_mut.ensures.value (c.has_note.ensures.none c.if-has_note.false).kept_same (l.invariant.named n h);
     }
 
 pub returns-then-has_note-clause-some : goal.returns-then-has_note-clause-some
@@ -25,8 +25,10 @@ returns-then-has_note-clause-some c = λ limit w ports.
     let before : vec_len c.args.lanes.now ≡ length c.args.lanes.now.items = search rules in
     fronted limit l.sender w ports c.args.lanes.now.items l.lanes.items c.index_mut.result.now c.has_note.new.line there c.index_mut.ensures.value (c.has_note.ensures.found c.if-has_note.true) (sym now ∙ l.invariant.len ∙ before) (l.invariant.passes limit w ports)
 
-pub returns-then-has_note-clause-named : goal.returns-then-has_note-clause-named
-returns-then-has_note-clause-named c = λ n h.
+pub returns-then-has_note-clause-lines : goal.returns-then-has_note-clause-lines
+returns-then-has_note-clause-lines c =
     let l = c.loop-sender in
-    let there : l.sender < length l.lanes.items = search rules in
-    line_kept n l.lanes.items l.sender c.index_mut.result.now c.has_note.new.line there c.index_mut.ensures.value c.has_note.ensures.same (l.invariant.named n h)
+    let there : l.sender < length l.lanes.items = search rules in record {
+      as_many = l.invariant.len;
+      named = λ n h. line_kept n l.lanes.items l.sender c.index_mut.result.now c.has_note.new.line there c.index_mut.ensures.value (found_kept c.index_mut.result.now c.has_note.new.line (c.has_note.ensures.found c.if-has_note.true)) (l.invariant.named n h);
+    }

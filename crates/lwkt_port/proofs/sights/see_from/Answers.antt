@@ -1,4 +1,3 @@
-use Rattle.lwkt_port.specs.Sights.{Sees}
 use Rattle.lwkt_port.proofs.SightMoves.{lines_see, sight_lanes}
 use Rattle.std.specs.Prelude.{slice_set}
 use Rattle.lwkt_port.proofs.sights.see_from.Goals as goal

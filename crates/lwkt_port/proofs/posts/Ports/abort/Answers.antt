@@ -8,7 +8,7 @@ use Rattle.lwkt_port.proofs.posts.Ports.abort.Goals as goal
 
 pub returns-clause-told : goal.returns-clause-told
 returns-clause-told c =
-    let i = c.self.inside in
-    let r = c.request in
-    let F : Desk → Type 0 = λ d. Tells d r.new.seat c.args.trace.now.items r.new.trace.items in
-    subst F (ap (λ (p : Post). p.seat) c.self.view_is) (request_told c.args.msg (work i.seat i.mails c.args.trace.now) (work r.new.seat i.mails r.new.trace) r.result r.ensures.requests r.ensures.refused)
+    let r = c.self.inside.office.counters.room in
+    let n = c.request in
+    let F : Desk → Type 0 = λ d. Tells d n.new.self.seat c.args.trace.now.items n.new.trace.items in
+    subst F (ap (λ (p : Post). p.seat) c.self.view_is) (request_told c.args.msg (work r c.args.trace.now) (work n.new.self n.new.trace) n.result n.ensures.requests n.ensures.refused)

@@ -1,0 +1,42 @@
+use Rattle.std.proofs.Common.{◌≡◌, ◌∙◌, ℕ, length, Option, ap, sym, subst, rules, vec_len}
+use Rattle.std.specs.Prelude.{IfSome}
+use Rattle.lwkt_lane.specs.declared.notes.Note.{Note}
+use Rattle.lwkt_port.specs.declared.lines.Lane.{Lane}
+use Rattle.lwkt_port.specs.Queues.{NamesBoth}
+use Rattle.lwkt_port.specs.Works.{Standing, standing}
+use Rattle.lwkt_port.proofs.Emptying.{keeps_none, popping_none, popping_more, popped_full}
+use Rattle.lwkt_port.proofs.counters.Counters.pop_all.Goals as goal
+
+pub loop-popped-init : goal.loop-popped-init
+loop-popped-init c = let s : Standing = standing c.args.self.now c.args.trace.now in popping_none c.args.line.now s c.requires.none (keeps_none s)
+
+pub returns-in_default-handle-clause-pops : goal.returns-in_default-handle-clause-pops
+returns-in_default-handle-clause-pops c =
+    let l = c.loop-popped in
+    let e = c.in-Some.ensures in
+    let h = c.in_default-handle.ensures in
+    let s : Standing = standing c.args.self.now c.args.trace.now in
+    let s1 : Standing = standing l.self l.trace in
+    let s2 : Standing = standing c.handle.new.self c.handle.new.trace in
+    popped_full c.args.most l.popped c.args.line.now s l.line s1 c.pop.new.line c.keep.new.line s2 c.in-Some.note c.loop-popped-test.true l.invariant e h.handles c.keep.ensures
+
+pub loop-popped-preserved : goal.loop-popped-preserved
+loop-popped-preserved c =
+    let l = c.loop-popped in
+    let e = c.in-Some.ensures in
+    let h = c.in-Some-handle.ensures in
+    let s : Standing = standing c.args.self.now c.args.trace.now in
+    let s1 : Standing = standing l.self l.trace in
+    let s2 : Standing = standing c.handle.new.self c.handle.new.trace in
+    popping_more l.popped c.args.line.now s l.line s1 c.pop.new.line s2 c.in-Some.note c.in-Some-handle._fate l.invariant e h.handles h.keeps
+
+pub returns-in_default-handle-clause-line : goal.returns-in_default-handle-clause-line
+returns-in_default-handle-clause-line c =
+    let l = c.loop-popped in
+    let h = c.in_default-handle.ensures in
+    let n = c.handle.new.self.room.mails in
+    let before : vec_len l.self.room.mails ≡ length l.self.room.mails.items = search rules in
+    let F : ℕ → Type 0 = λ k. NamesBoth k c.in-Some.note in
+    let named : NamesBoth (vec_len n) c.in-Some.note = subst F (sym before ∙ sym h.keeps.len) h.handles.0 in
+    let G : Option Note → Type 0 = λ o. IfSome o (NamesBoth (vec_len n)) in
+    subst G (sym (ap (λ (line : Lane). line.kept) c.keep.ensures)) named
