@@ -372,6 +372,8 @@ fn show_difference(out: &mut String, state: &State, last: &Final) -> Result<(), 
 }
 
 /// The line that says which value of the close differs: the first one that does, or how many values were given.
+///
+/// Refused if memory is.
 pub fn difference(alloc: Global, state: &State, last: &Final) -> Result<String, AllocError>
     ensures { IfOk result (λ text. IsDifference state.now last.now (string_bytes text)) }
 {

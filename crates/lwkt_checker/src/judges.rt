@@ -137,6 +137,8 @@ pub fn judge(alloc: Global, trace: Trace) -> Result<Finding, Fault>
 }
 
 /// The text of a finding: `lawful`, or `unlawful INDEX` and the line that says why.
+///
+/// Refused if memory is.
 pub fn finding_text(alloc: Global, finding: &Finding) -> Result<String, AllocError>
     ensures { IfOk result (λ text. string_bytes text ≡ finding_text finding.now) }
 {

@@ -248,6 +248,8 @@ fn line_of(
 }
 
 /// The line that says which need of the event that is told at an index isn't met in a state.
+///
+/// Refused if memory is.
 pub fn reason(alloc: Global, state: &State, index: usize, told: &Told) -> Result<String, AllocError>
     ensures { IfOk result (λ text. IsReason state.now index told.now (string_bytes text)) }
 {

@@ -13,6 +13,8 @@ mod plays;
 mod programs;
 mod words;
 
-pub use judges::{Finding, judge};
+pub use differences::difference;
+pub use judges::{Finding, finding_text, judge};
+pub use lacks::reason;
 pub use plays::{event_told, play_told, play_told_to_close, told_is_only};
 pub use programs::{check_stream, run_checker, say_outcome, status_of};

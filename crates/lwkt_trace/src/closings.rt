@@ -216,8 +216,12 @@ fn members_of(value: &Value) -> usize
     if has(value, "records") { 5 } else { 4 }
 }
 
+/// The closing values that an object is.
+///
+/// Refused with `Script` and the place of the first bad part, as `read_trace` says it (4, 3000 + n, 5, 4000 + n, 5000 + n,
+/// 6000 + n), and with `Memory` only where an allocation was refused.
 #[tactic(auto, unfolding(crate::specs::Format::closing_at))]
-fn closing_at(alloc: Global, value: &Value) -> Result<Closing, Fault>
+pub fn closing_at(alloc: Global, value: &Value) -> Result<Closing, Fault>
     ensures { Gives (λ c. c) result (closing_at (view value.now)) }
 {
     if !has_members(value, members_of(value)) {

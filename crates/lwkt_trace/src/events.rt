@@ -193,8 +193,8 @@ fn happened(word: &str, count: usize, value: &Value) -> Option<Told>
     }
 }
 
-// What a list tells.
-fn event_of(value: &Value) -> Option<Told>
+/// The event that a list tells: a word, and what goes with it. None where the value is no event.
+pub fn event_of(value: &Value) -> Option<Told>
     ensures { result ≡ event_of (view value.now) }
 {
     let count = item_count(value)?;

@@ -30,7 +30,10 @@ fn guarded(alloc: Global, before: &[TokSpec], value: &Value) -> Result<TokSpec, 
     token(alloc, version_in(value), before, value)
 }
 
-/// Tokens that may guard a record by their numbers, at most 64, or the place of the first bad one.
+/// Tokens that may guard a record by their numbers, at most 64.
+///
+/// Refused with `Script` and 1000 + n for token n, which is 64 where there are more than 64, and with `Memory` only where an
+/// allocation was refused.
 pub fn guarded_of(alloc: Global, items: &[Value]) -> Result<Vec<TokSpec>, Fault>
     ensures { Gives (λ v. v.items) result (each guarded [] (items_view items.now)) }
 {

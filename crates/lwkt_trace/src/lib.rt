@@ -17,10 +17,14 @@ mod traces;
 pub mod words;
 mod writers;
 
+pub use closings::closing_at;
+pub use events::event_of;
+pub use guards::guarded_of;
 pub use laws::{
     events_are_read_back, messages_are_read_back, traces_are_read_back,
     written_traces_are_read_back,
 };
+pub use openings::messages_of;
 pub use readers::{LENGTH_LIMIT, read_trace};
 pub use traces::{Closing, Told, Trace};
 pub use writers::trace_text;

@@ -22,7 +22,10 @@ fn message(cpus: u8, before: &[MsgSpec], value: &Value) -> Result<MsgSpec, Fault
     message_at(cpus, 2000 + before.len() as u32, value)
 }
 
-// The messages of a trace.
+/// The messages of a trace with so many processors, at most 64.
+///
+/// Refused with `Script` and 2000 + n for message n, which is 64 where there are more than 64, and with `Memory` only where
+/// an allocation was refused.
 pub fn messages_of(alloc: Global, cpus: u8, items: &[Value]) -> Result<Vec<MsgSpec>, Fault>
     requires { 0 < cpus }
     ensures { Gives (λ v. v.items) result (each (message cpus) [] (items_view items.now)) }
