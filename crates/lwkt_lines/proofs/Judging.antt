@@ -1,0 +1,239 @@
+-- What a judge knows after a line.
+use Rattle.std.proofs.Common.{◌≡◌, ◌<◌, ◌≤◌, ℕ, List, length, Bool, true, false, Option, None, Some, Result, Ok, Err, refl, ap, sym, ◌∙◌, subst, lt-ltb}
+use Rattle.std.specs.Prelude.{nat_lt, IfOk, IfErr, MatchOption, String}
+use Rattle.std.specs.Global.{Global}
+use Rattle.std.specs.Option.{is_some as has_some}
+use Rattle.std.proofs.lemmas.Bool.{le-ltb}
+use Rattle.serde_json.specs.Data.{Data}
+use Rattle.serde_json.specs.Find.{as_object}
+use Rattle.lwkt_base.specs.declared.faults.Fault.{Fault as Refusal}
+use Rattle.lwkt_base.specs.declared.faults.Fault.TheVariants.{Script as ScriptFault, Memory}
+use Rattle.lwkt_core.specs.Machine.{Machine}
+use Rattle.lwkt_script.specs.Outcome.{◌>>=◌, ◌>>◌, part, demand, Fails as IsRefused}
+use Rattle.lwkt_trace.specs.declared.traces.Closing.{Closing}
+use Rattle.lwkt_trace.specs.declared.traces.Told.{Told}
+use Rattle.lwkt_trace.specs.declared.traces.Trace.{Trace}
+use Rattle.lwkt_trace.specs.Format.{closing_at, there}
+use Rattle.lwkt_trace.specs.Words.{event_of}
+use Rattle.lwkt_checker.specs.Judgement.{Declines}
+use Rattle.lwkt_checker.specs.declared.judges.Finding.TheVariants.{Lawful, Unlawful}
+use Rattle.lwkt_lines.specs.Line.{value_of}
+use Rattle.lwkt_lines.specs.Format.{opened, event_place, with_told, with_last, with_event, with_closing, with_value, with_line, next}
+use Rattle.lwkt_lines.specs.Judged.{StandsSo, Opens, OpensSo, IsJudged, Knows, awaits, Judges}
+use Rattle.lwkt_lines.specs.declared.judges.Judge.{Judge}
+use Rattle.lwkt_lines.specs.declared.standings.Standing.{Standing}
+use Rattle.lwkt_lines.specs.declared.standings.Standing.TheVariants.{Awaits, Plays, Fails, Declined}
+use Rattle.lwkt_lines.proofs.Stops.{lawful}
+
+-- no closing values have come
+pub none_of : (o : Option Closing) → has_some o ≡ false → o ≡ None
+none_of None h = refl
+none_of (Some closing) h = absurd (cc)
+
+pub not_closed : (judge : Judge) (trace : Trace) → Knows judge trace → judge.closed ≡ false → trace.last ≡ None
+not_closed judge trace knows open_still = none_of trace.last (sym knows.closed ∙ open_still)
+
+-- an event is taken where there is room for it
+pub event_taken : (trace : Trace) (d : Data) (x : Told) → length trace.events < 1000000000000000 → event_of d ≡ Some x → with_event trace d ≡ Ok (with_told trace x)
+event_taken trace d x room is = rw (lt-ltb (length trace.events) 1000000000000000 room) (ap (λ (o : Option Told). part (event_place (length trace.events)) o >>= λ e. Ok (with_told trace e)) is)
+
+-- else it is refused at its place
+refused_or : (b : Bool) (place : ℕ) (trace : Trace) → (demand place b >> (part place None >>= λ e. Ok (with_told trace e))) ≡ Err place
+refused_or true place trace = refl
+refused_or false place trace = refl
+
+pub event_none : (trace : Trace) (d : Data) → event_of d ≡ None → with_event trace d ≡ Err (event_place (length trace.events))
+event_none trace d is =
+    ap (λ (o : Option Told). demand (event_place (length trace.events)) (nat_lt (length trace.events) 1000000000000000) >> (part (event_place (length trace.events)) o >>= λ e. Ok (with_told trace e))) is
+    ∙ refused_or (nat_lt (length trace.events) 1000000000000000) (event_place (length trace.events)) trace
+
+pub event_many : (trace : Trace) (d : Data) → 1000000000000000 ≤ length trace.events → with_event trace d ≡ Err (event_place (length trace.events))
+event_many trace d many = rw (le-ltb (length trace.events) 1000000000000000 many) refl
+
+-- closing values
+pub closing_taken : (trace : Trace) (d : Data) (closing : Closing) → closing_at d ≡ Ok closing → with_closing trace d ≡ Ok (with_last trace closing)
+closing_taken trace d closing is = ap (λ (r : Result Closing ℕ). r >>= λ c. Ok (with_last trace c)) is
+
+closing_place : (trace : Trace) (d : Data) (place : ℕ) → closing_at d ≡ Err place → with_closing trace d ≡ Err place
+closing_place trace d place is = ap (λ (r : Result Closing ℕ). r >>= λ c. Ok (with_last trace c)) is
+
+pub closing_refused : (trace : Trace) (d : Data) (fault : Refusal) → IsRefused fault (closing_at d) → IsRefused fault (with_closing trace d)
+closing_refused trace d (ScriptFault place) refused = closing_place trace d place refused
+closing_refused trace d (Memory why) refused = tt
+closing_refused trace d _ refused = absurd refused
+
+-- lines behind the opening
+pub line_closed : (trace : Trace) (line : List ℕ) → has_some trace.last ≡ true → with_line trace line ≡ Err 6
+unfolding with_line
+line_closed trace line closed = rw closed refl
+
+line_open : (trace : Trace) (line : List ℕ) → has_some trace.last ≡ false → with_line trace line ≡ part (event_place (length trace.events)) (value_of line) >>= with_value trace
+unfolding with_line
+line_open trace line open_still = rw open_still refl
+
+line_value : (trace : Trace) (line : List ℕ) (d : Data) → has_some trace.last ≡ false → part (event_place (length trace.events)) (value_of line) ≡ Ok d → with_line trace line ≡ with_value trace d
+line_value trace line d open_still is = line_open trace line open_still ∙ ap (λ (r : Result Data ℕ). r >>= with_value trace) is
+
+line_place : (trace : Trace) (line : List ℕ) (place : ℕ) → has_some trace.last ≡ false → part (event_place (length trace.events)) (value_of line) ≡ Err place → with_line trace line ≡ Err place
+line_place trace line place open_still is = line_open trace line open_still ∙ ap (λ (r : Result Data ℕ). r >>= with_value trace) is
+
+pub line_refused : (trace : Trace) (line : List ℕ) (fault : Refusal) → has_some trace.last ≡ false → IsRefused fault (part (event_place (length trace.events)) (value_of line)) → IsRefused fault (with_line trace line)
+line_refused trace line (ScriptFault place) open_still refused = line_place trace line place open_still refused
+line_refused trace line (Memory why) open_still refused = tt
+line_refused trace line _ open_still refused = absurd refused
+
+pub value_closing : (trace : Trace) (d : Data) → has_some (as_object d) ≡ true → with_value trace d ≡ with_closing trace d
+value_closing trace d is = rw is refl
+
+pub value_event : (trace : Trace) (d : Data) → has_some (as_object d) ≡ false → with_value trace d ≡ with_event trace d
+value_event trace d is = rw is refl
+
+-- the opening
+pub opening_taken : (line : List ℕ) (d : Data) (trace : Trace) → part 0 (value_of line) ≡ Ok d → opened d ≡ Ok trace → next None line ≡ Ok (Some trace)
+opening_taken line d trace is read = ap (λ (r : Result Data ℕ). (r >>= opened) >>= there) is ∙ ap (λ (r : Result Trace ℕ). r >>= there) read
+
+opening_place : (line : List ℕ) (place : ℕ) → part 0 (value_of line) ≡ Err place → next None line ≡ Err place
+opening_place line place is = ap (λ (r : Result Data ℕ). (r >>= opened) >>= there) is
+
+pub opening_unread : (line : List ℕ) (fault : Refusal) → IsRefused fault (part 0 (value_of line)) → IsRefused fault (next None line)
+opening_unread line (ScriptFault place) refused = opening_place line place refused
+opening_unread line (Memory why) refused = tt
+opening_unread line _ refused = absurd refused
+
+opening_bad : (line : List ℕ) (d : Data) (place : ℕ) → part 0 (value_of line) ≡ Ok d → opened d ≡ Err place → next None line ≡ Err place
+opening_bad line d place is read = ap (λ (r : Result Data ℕ). (r >>= opened) >>= there) is ∙ ap (λ (r : Result Trace ℕ). r >>= there) read
+
+pub opening_refused : (line : List ℕ) (d : Data) (fault : Refusal) → part 0 (value_of line) ≡ Ok d → IsRefused fault (opened d) → IsRefused fault (next None line)
+opening_refused line d (ScriptFault place) is refused = opening_bad line d place is refused
+opening_refused line d (Memory why) is refused = tt
+opening_refused line d _ is refused = absurd refused
+
+-- one that knows a trace awaits no opening
+begun_so : (trace : Trace) (standing : Standing) → StandsSo trace standing → awaits standing ≡ false
+begun_so trace Awaits so = absurd so
+begun_so trace (Plays state) so = refl
+begun_so trace (Fails index why) so = refl
+begun_so trace (Declined fault) so = refl
+
+pub begun : (judge : Judge) (trace : Trace) → Knows judge trace → awaits judge.standing ≡ false
+begun judge trace knows = begun_so trace judge.standing knows.stands
+
+true_false : (b : Bool) → b ≡ true → b ≡ false → ⊥
+true_false b one two = let e : true ≡ false = sym one ∙ two in cc
+
+-- the first line is told to one that awaits it
+pub told_first : (judge after : Judge) (line : List ℕ) → awaits judge.standing ≡ true → (trace : Trace) × ((next None line ≡ Ok (Some trace)) × Knows after trace)
+    → (before : Option Trace) → Judges judge before → (trace : Option Trace) × ((next before line ≡ Ok trace) × Judges after trace)
+told_first judge after line waits told None judged = (Some told.0, told.1)
+told_first judge after line waits told (Some trace) judged = absurd (true_false (awaits judge.standing) waits (begun judge trace judged))
+
+pub refused_first : (judge : Judge) (line : List ℕ) (fault : Refusal) → awaits judge.standing ≡ true → IsRefused fault (next None line) → (before : Option Trace) → Judges judge before → IsRefused fault (next before line)
+refused_first judge line fault waits refused None judged = refused
+refused_first judge line fault waits refused (Some trace) judged = absurd (true_false (awaits judge.standing) waits (begun judge trace judged))
+
+-- a further one
+next_taken : (trace after : Trace) (line : List ℕ) → with_line trace line ≡ Ok after → next (Some trace) line ≡ Ok (Some after)
+next_taken trace after line is = ap (λ (r : Result Trace ℕ). r >>= there) is
+
+next_place : (trace : Trace) (line : List ℕ) (place : ℕ) → with_line trace line ≡ Err place → next (Some trace) line ≡ Err place
+next_place trace line place is = ap (λ (r : Result Trace ℕ). r >>= there) is
+
+next_refused : (trace : Trace) (line : List ℕ) (fault : Refusal) → IsRefused fault (with_line trace line) → IsRefused fault (next (Some trace) line)
+next_refused trace line (ScriptFault place) refused = next_place trace line place refused
+next_refused trace line (Memory why) refused = tt
+next_refused trace line _ refused = absurd refused
+
+pub told_further : (judge after : Judge) (line : List ℕ) → awaits judge.standing ≡ false → ((trace : Trace) → Knows judge trace → (u : Trace) × ((with_line trace line ≡ Ok u) × Knows after u))
+    → (before : Option Trace) → Judges judge before → (trace : Option Trace) × ((next before line ≡ Ok trace) × Judges after trace)
+told_further judge after line going told None judged = absurd (true_false (awaits judge.standing) judged going)
+told_further judge after line going told (Some trace) judged =
+    let took = told trace judged in
+    (Some took.0, (next_taken trace took.0 line took.1.0, took.1.1))
+
+pub refused_further : (judge : Judge) (line : List ℕ) (fault : Refusal) → awaits judge.standing ≡ false → ((trace : Trace) → Knows judge trace → IsRefused fault (with_line trace line)) → (before : Option Trace) → Judges judge before → IsRefused fault (next before line)
+refused_further judge line fault going refused None judged = absurd (true_false (awaits judge.standing) judged going)
+refused_further judge line fault going refused (Some trace) judged = next_refused trace line fault (refused trace judged)
+
+-- what is found by where a judge stands
+stands_at : (judge : Judge) (trace : Trace) (standing : Standing) → Knows judge trace → judge.standing ≡ standing → StandsSo trace standing
+stands_at judge trace standing knows is = subst (λ (s : Standing). StandsSo trace s) is knows.stands
+
+opens_at : (judge : Judge) (trace : Trace) (standing : Standing) → Knows judge trace → judge.standing ≡ standing → OpensSo trace standing
+opens_at judge trace standing knows is = subst (λ (s : Standing). OpensSo trace s) is knows.opens
+
+pub finds_lawful : (judge : Judge) (mid : Machine) → judge.standing ≡ Plays mid → (told : Option Trace) → Judges judge told → MatchOption told ⊥ (λ trace. IsJudged trace Lawful)
+finds_lawful judge mid is None judged = true_false (awaits judge.standing) judged (ap awaits is)
+finds_lawful judge mid is (Some trace) judged = record { opens = opens_at judge trace (Plays mid) judged is; found = lawful trace mid (stands_at judge trace (Plays mid) judged is) }
+
+pub finds_unlawful : (judge : Judge) (index : ℕ) (why : String Global) → judge.standing ≡ Fails index why → (told : Option Trace) → Judges judge told → MatchOption told ⊥ (λ trace. IsJudged trace (Unlawful index why))
+finds_unlawful judge index why is None judged = true_false (awaits judge.standing) judged (ap awaits is)
+finds_unlawful judge index why is (Some trace) judged = record { opens = opens_at judge trace (Fails index why) judged is; found = stands_at judge trace (Fails index why) judged is }
+
+pub finds_declined : (judge : Judge) (fault : Refusal) → judge.standing ≡ Declined fault → (told : Option Trace) → Judges judge told → MatchOption told (fault ≡ ScriptFault 0) (λ trace. Declines trace fault)
+finds_declined judge fault is None judged = absurd (true_false (awaits judge.standing) judged (ap awaits is))
+finds_declined judge fault is (Some trace) judged = stands_at judge trace (Declined fault) judged is
+
+pub finds_none : (judge : Judge) → judge.standing ≡ Awaits → (told : Option Trace) → Judges judge told → MatchOption told (ScriptFault 0 ≡ ScriptFault 0) (λ trace. Declines trace (ScriptFault 0))
+finds_none judge is None judged = refl
+finds_none judge is (Some trace) judged = absurd (stands_at judge trace Awaits judged is)
+
+-- what a part of a judge's work says of a value, it says of the line that has the value
+pub told_lifts : (r : Result Judge Refusal) (judge : Judge) (read : Trace → Result Trace ℕ) (line : List ℕ) → ((trace : Trace) → Knows judge trace → (trace.last ≡ None) × (with_line trace line ≡ read trace))
+    → IfOk r (λ after. (trace : Trace) → trace.last ≡ None → Knows judge trace → (u : Trace) × ((read trace ≡ Ok u) × Knows after u)) → IfOk r (λ after. (trace : Trace) → Knows judge trace → (u : Trace) × ((with_line trace line ≡ Ok u) × Knows after u))
+told_lifts (Ok after) judge read line same told = λ (trace : Trace) (knows : Knows judge trace).
+    let took = told trace (same trace knows).0 knows in
+    (took.0, ((same trace knows).1 ∙ took.1.0, took.1.1))
+told_lifts (Err fault) judge read line same told = tt
+
+pub refused_lifts : (r : Result Judge Refusal) (judge : Judge) (read : Trace → Result Trace ℕ) (line : List ℕ) → ((trace : Trace) → Knows judge trace → (trace.last ≡ None) × (with_line trace line ≡ read trace))
+    → IfErr r (λ fault. (trace : Trace) → Knows judge trace → IsRefused fault (read trace)) → IfErr r (λ fault. (trace : Trace) → Knows judge trace → IsRefused fault (with_line trace line))
+refused_lifts (Ok after) judge read line same refused = tt
+refused_lifts (Err fault) judge read line same refused = λ (trace : Trace) (knows : Knows judge trace).
+    subst (λ (s : Result Trace ℕ). IsRefused fault s) (sym (same trace knows).1) (refused trace knows)
+
+pub each_lifts : (r : Result Judge Refusal) (judge : Judge) (read : Trace → Result Trace ℕ) → IfErr r (λ fault. (trace : Trace) → IsRefused fault (read trace)) → IfErr r (λ fault. (trace : Trace) → Knows judge trace → IsRefused fault (read trace))
+each_lifts (Ok after) judge read refused = tt
+each_lifts (Err fault) judge read refused = λ (trace : Trace) (knows : Knows judge trace). refused trace
+
+-- a line that has a value is what that is
+pub line_is : (judge : Judge) (trace : Trace) (line : List ℕ) (d : Data) (place : ℕ) → Knows judge trace → judge.closed ≡ false → place ≡ event_place judge.count → part place (value_of line) ≡ Ok d → with_line trace line ≡ with_value trace d
+line_is judge trace line d place knows open_still at is =
+    line_value trace line d (sym knows.closed ∙ open_still) (ap (λ (p : ℕ). part p (value_of line)) (sym (at ∙ ap event_place knows.counted)) ∙ is)
+
+-- what is said of the first line and of a further one
+pub first_lifts : (r : Result Judge Refusal) (judge : Judge) (line : List ℕ) → awaits judge.standing ≡ true → IfOk r (λ after. (trace : Trace) × ((next None line ≡ Ok (Some trace)) × Knows after trace))
+    → IfOk r (λ after. (before : Option Trace) → Judges judge before → (trace : Option Trace) × ((next before line ≡ Ok trace) × Judges after trace))
+first_lifts (Ok after) judge line waits told = told_first judge after line waits told
+first_lifts (Err fault) judge line waits told = tt
+
+pub first_refused_lifts : (r : Result Judge Refusal) (judge : Judge) (line : List ℕ) → awaits judge.standing ≡ true → IfErr r (λ fault. IsRefused fault (next None line)) → IfErr r (λ fault. (before : Option Trace) → Judges judge before → IsRefused fault (next before line))
+first_refused_lifts (Ok after) judge line waits refused = tt
+first_refused_lifts (Err fault) judge line waits refused = refused_first judge line fault waits refused
+
+pub further_lifts : (r : Result Judge Refusal) (judge : Judge) (line : List ℕ) → awaits judge.standing ≡ false → IfOk r (λ after. (trace : Trace) → Knows judge trace → (u : Trace) × ((with_line trace line ≡ Ok u) × Knows after u))
+    → IfOk r (λ after. (before : Option Trace) → Judges judge before → (trace : Option Trace) × ((next before line ≡ Ok trace) × Judges after trace))
+further_lifts (Ok after) judge line going told = told_further judge after line going told
+further_lifts (Err fault) judge line going told = tt
+
+pub further_refused_lifts : (r : Result Judge Refusal) (judge : Judge) (line : List ℕ) → awaits judge.standing ≡ false → IfErr r (λ fault. (trace : Trace) → Knows judge trace → IsRefused fault (with_line trace line)) → IfErr r (λ fault. (before : Option Trace) → Judges judge before → IsRefused fault (next before line))
+further_refused_lifts (Ok after) judge line going refused = tt
+further_refused_lifts (Err fault) judge line going refused = refused_further judge line fault going refused
+
+-- a trace with an event more opens as it did, and one with its closing values
+opens_still : (trace : Trace) (x : Told) → Opens trace → Opens (with_told trace x)
+opens_still trace x opens = record { within = opens.within; lawful = opens.lawful }
+
+pub opens_told : (trace : Trace) (x : Told) (standing : Standing) → OpensSo trace standing → OpensSo (with_told trace x) standing
+opens_told trace x Awaits opens = tt
+opens_told trace x (Plays state) opens = opens_still trace x opens
+opens_told trace x (Fails index why) opens = opens_still trace x opens
+opens_told trace x (Declined fault) opens = tt
+
+opens_at_last : (trace : Trace) (closing : Closing) → Opens trace → Opens (with_last trace closing)
+opens_at_last trace closing opens = record { within = opens.within; lawful = opens.lawful }
+
+pub opens_last : (trace : Trace) (closing : Closing) (standing : Standing) → OpensSo trace standing → OpensSo (with_last trace closing) standing
+opens_last trace closing Awaits opens = tt
+opens_last trace closing (Plays state) opens = opens_at_last trace closing opens
+opens_last trace closing (Fails index why) opens = opens_at_last trace closing opens
+opens_last trace closing (Declined fault) opens = tt

@@ -1,0 +1,222 @@
+-- Where a judge stands after an event more, or with the closing values.
+use Rattle.std.proofs.Common.{◌≡◌, ◌<◌, ℕ, List, [], ◌∷◌, ◌++◌, length, get_or, take, Option, None, Some, refl, ap, sym, ◌∙◌, subst, arith, length-append}
+use Rattle.std.specs.Prelude.{slice_get, MatchOption, IfSome, String, string_bytes}
+use Rattle.std.specs.Global.{Global}
+use Rattle.std.proofs.Math.Seq.{take-append_seam, get_or-append_seam}
+use Rattle.std.proofs.lemmas.List.{take-append-le, get_or_append_left}
+use Rattle.std.proofs.lemmas.Option.{slice_get-get_or, slice_get_past, MatchOption-at_some}
+use Rattle.lwkt_base.specs.declared.faults.Fault.{Fault as Refusal}
+use Rattle.lwkt_base.specs.declared.faults.Fault.TheVariants.{Memory, Limits, LawBroken}
+use Rattle.lwkt_core.specs.declared.events.Event.{Event}
+use Rattle.lwkt_core.specs.declared.finals.Final.{Final}
+use Rattle.lwkt_core.specs.Machine.{Machine, Needs, Happens, after}
+use Rattle.lwkt_core.specs.Trace.{Run, Closes, StopsAt, FailsAt}
+use Rattle.lwkt_core.proofs.TraceLemmas.{Run-push, StopsAt-event, FailsAt-stop, FailsAt-close}
+use Rattle.lwkt_trace.specs.declared.traces.Closing.{Closing}
+use Rattle.lwkt_trace.specs.declared.traces.Told.{Told}
+use Rattle.lwkt_trace.specs.declared.traces.Trace.{Trace}
+use Rattle.lwkt_checker.specs.Told.{event_told, events_told}
+use Rattle.lwkt_checker.specs.Said.{IsReason, IsDifference, IsDifferenceOf, SaysWhy}
+use Rattle.lwkt_checker.specs.Judgement.{opening_of, AreValues, AreClosing, Finds, IsFound}
+use Rattle.lwkt_checker.specs.declared.judges.Finding.TheVariants.{Lawful, Unlawful}
+use Rattle.lwkt_checker.proofs.ToldRuns.{length-events_told, ran_whole}
+use Rattle.lwkt_lines.specs.Format.{with_told, with_last}
+use Rattle.lwkt_lines.specs.Judged.{ClosesSo, StandsSo}
+use Rattle.lwkt_lines.specs.declared.standings.Standing.TheVariants.{Plays, Fails, Declined}
+
+-- the events of one that is told behind others are theirs and its own
+events_told-more : (m : Machine) (told : List Told) (x : Told) (mid : Machine) → Run m (events_told m told) mid → events_told m (told ++ x ∷ []) ≡ events_told m told ++ event_told mid x ∷ []
+events_told-more m [] x mid run = ap (λ (k : Machine). event_told k x ∷ []) (sym run)
+events_told-more m (y ∷ ys) x mid run =
+    let next = after m (event_told m y) in
+    ap (λ (es : List Event). event_told m y ∷ es) (events_told-more next ys x mid (subst (λ (k : Machine). Run k (events_told next ys) mid) run.1.0.1 run.1.1))
+
+-- the events of some that are told begin with those of their front
+events_told-front : (m : Machine) (told others : List Told) → (more : List Event) × (events_told m (told ++ others) ≡ events_told m told ++ more)
+events_told-front m [] others = (events_told m others, refl)
+events_told-front m (y ∷ ys) others =
+    let rest = events_told-front (after m (event_told m y)) ys others in
+    (rest.0, ap (λ (es : List Event). event_told m y ∷ es) rest.1)
+
+-- an event that can happen
+pub run_more : (m : Machine) (told : List Told) (x : Told) (mid n : Machine) → Run m (events_told m told) mid → Happens mid (event_told mid x) n → Run m (events_told m (told ++ x ∷ [])) n
+run_more m told x mid n run step =
+    subst (λ (es : List Event). Run m es n) (sym (events_told-more m told x mid run)) (Run-push m (events_told m told) mid (event_told mid x) n run step)
+
+-- the element at an index inside the front of a list
+get_front : {A : Type 0} (xs ys : List A) (i : ℕ) (d : A) → i < length xs → slice_get (xs ++ ys) i ≡ slice_get xs i
+get_front {A} xs ys i d inside =
+    let wide : i < length (xs ++ ys) = omega (arith, inside, length-append xs ys) in
+    slice_get-get_or (xs ++ ys) i d wide ∙ ap (λ (x : A). Some x) (get_or_append_left xs ys d i inside) ∙ sym (slice_get-get_or xs i d inside)
+
+slice_get_front : {A : Type 0} (xs ys : List A) (i : ℕ) → i < length xs → slice_get (xs ++ ys) i ≡ slice_get xs i
+slice_get_front [] ys i inside = absurd (omega arith)
+slice_get_front (x ∷ xs) ys i inside = get_front (x ∷ xs) ys i x inside
+
+some_inside : {A : Type 0} (xs : List A) (i : ℕ) → i < length xs → (x : A) × (slice_get xs i ≡ Some x)
+some_inside [] i inside = absurd (omega arith)
+some_inside (x ∷ xs) i inside = (get_or (x ∷ xs) i x, slice_get-get_or (x ∷ xs) i x inside)
+
+-- the one behind the front
+get_next : {A : Type 0} (xs : List A) (x : A) → slice_get (xs ++ x ∷ []) (length xs) ≡ Some x
+get_next {A} xs x = slice_get-get_or (xs ++ x ∷ []) (length xs) x (omega (arith, length-append xs (x ∷ []))) ∙ ap (λ (y : A). Some y) (get_or-append_seam xs x [] x)
+
+-- the events before one behind others are theirs
+taken : (m : Machine) (told : List Told) (x : Told) (mid : Machine) → Run m (events_told m told) mid → take (length told) (events_told m (told ++ x ∷ [])) ≡ events_told m told
+taken m told x mid run =
+    let es = events_told m told in
+    ap (take (length told)) (events_told-more m told x mid run) ∙ ap (λ (n : ℕ). take n (es ++ event_told mid x ∷ [])) (sym (length-events_told m told)) ∙ take-append_seam es (event_told mid x ∷ [])
+
+stops_more : (m : Machine) (told : List Told) (x : Told) (mid : Machine) → Run m (events_told m told) mid → (Needs mid (event_told mid x) → ⊥) → StopsAt m (events_told m (told ++ x ∷ [])) (length told) mid
+stops_more m told x mid run fails =
+    let es = events_told m told in
+    let e = event_told mid x in
+    let long : length (events_told m (told ++ x ∷ [])) ≡ length (told ++ x ∷ []) = length-events_told m (told ++ x ∷ []) in
+    let same : get_or (events_told m (told ++ x ∷ [])) (length told) e ≡ e =
+    ap (λ (fs : List Event). get_or fs (length told) e) (events_told-more m told x mid run) ∙ ap (λ (n : ℕ). get_or (es ++ e ∷ []) n e) (sym (length-events_told m told)) ∙ get_or-append_seam es e [] e in
+    StopsAt-event m (events_told m (told ++ x ∷ [])) (length told) mid e (omega (arith, long, length-append told (x ∷ []))) (subst (λ (fs : List Event). Run m fs mid) (sym (taken m told x mid run)) run)
+    (subst (λ (f : Event). Needs mid f → ⊥) (sym same) fails)
+
+-- where events alone stop, and what is said of it
+pub record Stopped (m : Machine) (told : List Told) (index : ℕ) (text : List ℕ) : Type 0 where
+  pub mid : Machine
+  pub stops : StopsAt m (events_told m told) index mid
+  pub at : Machine
+  pub ran : Run m (take index (events_told m told)) at
+  pub told_at : Told
+  pub is : slice_get told index ≡ Some told_at
+  pub says : IsReason at index told_at text
+
+-- where closing values aren't given, none are compared
+alone : (o : Option Closing) (last : Option Final) → o ≡ None → AreClosing o last → last ≡ None
+alone o None is are = refl
+alone o (Some last) is are = absurd (subst (λ (p : Option Closing). AreClosing p (Some last)) is are)
+
+inside_told : (m : Machine) (told : List Told) (index : ℕ) (mid : Machine) → StopsAt m (events_told m told) index mid → index < length told
+inside_told m told index mid stops =
+    let inside = stops.inside in
+    let long = length-events_told m told in
+    omega arith
+
+stopped_alone : (m : Machine) (told : List Told) (index : ℕ) (why : String Global) → Finds m (events_told m told) None (Unlawful index why) → SaysWhy m told None (Unlawful index why) → Stopped m told index (string_bytes why)
+stopped_alone m told index why finds says =
+    let some = some_inside told index (inside_told m told index finds.0 finds.1) in
+    record {
+      mid = finds.0;
+      stops = finds.1;
+      at = says.0;
+      ran = says.1.0;
+      told_at = some.0;
+      is = some.1;
+      says = MatchOption-at_some (Unit {0}) (λ (t : Told). IsReason says.0 index t (string_bytes why)) some.0 some.1 says.1.1;
+    }
+
+stopped_of : (trace : Trace) (index : ℕ) (why : String Global) → trace.last ≡ None → IsFound trace (Unlawful index why) → Stopped (opening_of trace) trace.events index (string_bytes why)
+stopped_of trace index why open_still found =
+    let m = opening_of trace in
+    let none = alone trace.last found.0 open_still found.1.0 in
+    stopped_alone m trace.events index why (subst (λ (o : Option Final). Finds m (events_told m trace.events) o (Unlawful index why)) none found.1.1.0) (subst (λ (o : Option Final). SaysWhy m trace.events o (Unlawful index why)) none found.1.1.1)
+
+-- what is said where there is an event
+said_of : (m : Machine) (told : List Told) (index : ℕ) (text : List ℕ) (last : Option Final) (s : Stopped m told index text) → MatchOption (slice_get told index) (IsDifferenceOf s.at last text) (λ t. IsReason s.at index t text)
+said_of m told index text last s =
+    subst (λ (o : Option Told). MatchOption o (IsDifferenceOf s.at last text) (λ t. IsReason s.at index t text)) (sym s.is) s.says
+
+-- so it is found of the events alone, and of them with closing values
+found_alone : (trace : Trace) (index : ℕ) (why : String Global) → trace.last ≡ None → Stopped (opening_of trace) trace.events index (string_bytes why) → IsFound trace (Unlawful index why)
+found_alone trace index why open_still s =
+    (None, (subst (λ (o : Option Closing). AreClosing o None) (sym open_still) tt, ((s.mid, s.stops), (s.at, (s.ran, said_of (opening_of trace) trace.events index (string_bytes why) None s)))))
+
+found_closed : (trace : Trace) (closing : Closing) (last : Final) (index : ℕ) (why : String Global) → AreValues closing last → Stopped (opening_of trace) trace.events index (string_bytes why) → IsFound (with_last trace closing) (Unlawful index why)
+found_closed trace closing last index why values s =
+    let m = opening_of trace in
+    (Some last, (values, (FailsAt-stop m (events_told m trace.events) last index s.mid s.stops, (s.at, (s.ran, said_of m trace.events index (string_bytes why) (Some last) s)))))
+
+-- where events stop they do so too with others behind them
+fails_front : (es more : List Event) (i : ℕ) (mid : Machine) → i < length es → IfSome (slice_get es i) (λ e. ¬ Needs mid e) → IfSome (slice_get (es ++ more) i) (λ e. ¬ Needs mid e)
+fails_front es more i mid inside fails =
+    subst (λ (o : Option Event). IfSome o (λ e. ¬ Needs mid e)) (sym (slice_get_front es more i inside)) fails
+
+stops_front : (m : Machine) (es more : List Event) (i : ℕ) (mid : Machine) → StopsAt m es i mid → StopsAt m (es ++ more) i mid
+stops_front m es more i mid stops = record {
+  inside = (let inside = stops.inside in omega (arith, inside, length-append es more));
+  before = subst (λ (fs : List Event). Run m fs mid) (sym (take-append-le i es more (let inside = stops.inside in omega arith))) stops.before;
+  fails = fails_front es more i mid stops.inside stops.fails;
+}
+
+stopped_more : (m : Machine) (told others : List Told) (index : ℕ) (text : List ℕ) → Stopped m told index text → Stopped m (told ++ others) index text
+stopped_more m told others index text s =
+    let es = events_told m told in
+    let front = events_told-front m told others in
+    let inside = s.stops.inside in
+    record {
+      mid = s.mid;
+      stops = subst (λ (fs : List Event). StopsAt m fs index s.mid) (sym front.1) (stops_front m es front.0 index s.mid s.stops);
+      at = s.at;
+      ran = subst (λ (fs : List Event). Run m fs s.at) (sym (ap (take index) front.1 ∙ take-append-le index es front.0 (omega arith))) s.ran;
+      told_at = s.told_at;
+      is = slice_get_front told others index (inside_told m told index s.mid s.stops) ∙ s.is;
+      says = s.says;
+    }
+
+-- where a judge stands with one event more: the event can happen
+pub plays_more : (trace : Trace) (x : Told) (mid n : Machine) → trace.last ≡ None → StandsSo trace (Plays mid) → Happens mid (event_told mid x) n → StandsSo (with_told trace x) (Plays n)
+plays_more trace x mid n open_still so step =
+    (run_more (opening_of trace) trace.events x mid n so.0 step, subst (λ (o : Option Closing). ClosesSo o n) (sym open_still) tt)
+
+-- it can't
+pub fails_more : (trace : Trace) (x : Told) (mid : Machine) (index : ℕ) (why : String Global) → trace.last ≡ None → index ≡ length trace.events → StandsSo trace (Plays mid) → (Needs mid (event_told mid x) → ⊥) → IsReason mid index x (string_bytes why)
+    → StandsSo (with_told trace x) (Fails index why)
+fails_more trace x mid index why open_still counted so fails reason =
+    let m = opening_of trace in
+    let all = trace.events ++ x ∷ [] in
+    let stops : StopsAt m (events_told m all) index mid = subst (λ (n : ℕ). StopsAt m (events_told m all) n mid) (sym counted) (stops_more m trace.events x mid so.0 fails) in
+    let s : Stopped m all index (string_bytes why) = record { mid = mid; stops = stops; at = mid; ran = stops.before; told_at = x; is = ap (slice_get all) counted ∙ get_next trace.events x; says = reason } in
+    found_alone (with_told trace x) index why open_still s
+
+-- one before it couldn't
+pub failed_more : (trace : Trace) (x : Told) (index : ℕ) (why : String Global) → trace.last ≡ None → StandsSo trace (Fails index why) → StandsSo (with_told trace x) (Fails index why)
+failed_more trace x index why open_still found =
+    found_alone (with_told trace x) index why open_still (stopped_more (opening_of trace) trace.events (x ∷ []) index (string_bytes why) (stopped_of trace index why open_still found))
+
+-- the opening is refused
+pub declined_more : (trace : Trace) (x : Told) (fault : Refusal) → StandsSo trace (Declined fault) → StandsSo (with_told trace x) (Declined fault)
+declined_more trace x (Memory why) declines = tt
+declined_more trace x Limits declines = declines
+declined_more trace x LawBroken declines = declines
+declined_more trace x _ declines = absurd declines
+
+-- where it stands with closing values: the machine closes so
+pub plays_last : (trace : Trace) (closing : Closing) (last : Final) (mid : Machine) → AreValues closing last → StandsSo trace (Plays mid) → Closes mid last → StandsSo (with_last trace closing) (Plays mid)
+plays_last trace closing last mid values so closes = (so.0, (last, (values, closes)))
+
+-- it doesn't
+pub fails_last : (trace : Trace) (closing : Closing) (last : Final) (mid : Machine) (count : ℕ) (why : String Global) → count ≡ length trace.events → AreValues closing last → StandsSo trace (Plays mid) → (Closes mid last → ⊥) → IsDifference mid last (string_bytes why)
+    → StandsSo (with_last trace closing) (Fails count why)
+fails_last trace closing last mid count why counted values so differs difference =
+    let m = opening_of trace in
+    let es = events_told m trace.events in
+    let same : length es ≡ count = length-events_told m trace.events ∙ sym counted in
+    let none : slice_get trace.events count ≡ None = slice_get_past trace.events count (omega (arith, counted)) in
+    let ran : Run m (take count es) mid = subst (λ (n : ℕ). Run m (take n es) mid) (sym counted) (ran_whole m trace.events mid so.0) in
+    (Some last, (values, (subst (λ (n : ℕ). FailsAt m es last n) same (FailsAt-close m es last mid so.0 differs), (mid, (ran, subst (λ (o : Option Told). MatchOption o (IsDifferenceOf mid (Some last) (string_bytes why)) (λ t. IsReason mid count t (string_bytes why))) (sym none) difference)))))
+
+-- an event before them couldn't happen
+pub failed_last : (trace : Trace) (closing : Closing) (last : Final) (index : ℕ) (why : String Global) → trace.last ≡ None → AreValues closing last → StandsSo trace (Fails index why) → StandsSo (with_last trace closing) (Fails index why)
+failed_last trace closing last index why open_still values found =
+    found_closed trace closing last index why values (stopped_of trace index why open_still found)
+
+-- the opening is refused
+pub declined_last : (trace : Trace) (closing : Closing) (fault : Refusal) → StandsSo trace (Declined fault) → StandsSo (with_last trace closing) (Declined fault)
+declined_last trace closing (Memory why) declines = tt
+declined_last trace closing Limits declines = declines
+declined_last trace closing LawBroken declines = declines
+declined_last trace closing _ declines = absurd declines
+
+-- all events could happen, and the machine closes as the closing values say, where they are given
+lawful_so : (trace : Trace) (o : Option Closing) (mid : Machine) → trace.last ≡ o → Run (opening_of trace) (events_told (opening_of trace) trace.events) mid → ClosesSo o mid → IsFound trace Lawful
+lawful_so trace None mid is run so = (None, (subst (λ (o : Option Closing). AreClosing o None) (sym is) tt, ((mid, run), tt)))
+lawful_so trace (Some closing) mid is run so = (Some so.0, (subst (λ (o : Option Closing). AreClosing o (Some so.0)) (sym is) so.1.0, ((mid, (run, so.1.1)), tt)))
+
+pub lawful : (trace : Trace) (mid : Machine) → StandsSo trace (Plays mid) → IsFound trace Lawful
+lawful trace mid so = lawful_so trace trace.last mid refl so.0 so.1

@@ -1,0 +1,57 @@
+-- What is read, written and answered (own).
+use Rattle.std.specs.Prelude.{◌≡◌, ◌⊎◌, ℕ, List, Bool, Option, IfSome, Result, Ok, Err}
+use Rattle.std.specs.Io.KnownBytes.{Appends, Keeps}
+use Rattle.lwkt_base.specs.declared.faults.Fault.{Fault as Refusal}
+use Rattle.lwkt_base.specs.declared.faults.Fault.TheVariants.{Script as ScriptFault, Memory, Limits, LawBroken}
+use Rattle.lwkt_report.specs.declared.streams.RunFault.{RunFault}
+use Rattle.lwkt_report.specs.declared.streams.RunFault.TheVariants.{Fault, Stream}
+use Rattle.lwkt_report.specs.Stream.{AppendsFront}
+use Rattle.lwkt_trace.specs.declared.traces.Trace.{Trace}
+use Rattle.lwkt_checker.specs.Judgement.{Declines, finding_text, is_lawful}
+use Rattle.lwkt_checker.specs.declared.judges.Finding.{Finding}
+use Rattle.lwkt_lines.specs.Format.{lined_trace_of}
+use Rattle.lwkt_lines.specs.Judged.{IsJudged}
+
+-- these bytes are all that was left of a source, where that is known
+abbrev pub AreAll : Option (List ℕ) → List ℕ → Type 0
+AreAll left bytes = IfSome left (λ all. bytes ≡ all)
+
+-- why bytes are refused: for their first bad part, wherever it stands; or for their opening, where they are a whole trace
+abbrev pub Refuses : List ℕ → Refusal → Type 0
+Refuses bytes (ScriptFault place) = lined_trace_of bytes ≡ Err place
+Refuses bytes (Memory refused) = Unit {0}
+Refuses bytes Limits = (trace : Trace) × ((lined_trace_of bytes ≡ Ok trace) × Declines trace Limits)
+Refuses bytes LawBroken = (trace : Trace) × ((lined_trace_of bytes ≡ Ok trace) × Declines trace LawBroken)
+Refuses bytes _ = ⊥
+
+-- these bytes are a trace whose opening isn't refused, and this is found of it
+pub record IsFoundOf (bytes : List ℕ) (finding : Finding) : Type 0 where
+  pub trace : Trace
+  pub read : lined_trace_of bytes ≡ Ok trace
+  pub judged : IsJudged trace finding
+
+-- of all that was left of a source this is found, or it is refused so
+abbrev pub Finds : Option (List ℕ) → Finding → Type 0
+Finds left finding = (bytes : List ℕ) × (AreAll left bytes × IsFoundOf bytes finding)
+
+abbrev pub Declares : Option (List ℕ) → Refusal → Type 0
+Declares left fault = (bytes : List ℕ) × (AreAll left bytes × Refuses bytes fault)
+
+-- the same of what ended a run; of a stream that failed nothing is said
+abbrev pub DeclaresIn : Option (List ℕ) → RunFault → Type 0
+DeclaresIn left (Fault fault) = Declares left fault
+DeclaresIn left Stream = Unit {0}
+
+-- a text is what is found of all that was left of a source, and whether it is lawful
+pub record HasFinding (left : Option (List ℕ)) (lawful : Bool) (text : List ℕ) : Type 0 where
+  pub finding : Finding
+  pub finds : Finds left finding
+  pub is_text : text ≡ finding_text finding
+  pub is_kind : lawful ≡ is_lawful finding
+
+-- what a check says by its answer, of all that was left to read and of what was written before and after it: what was found of
+-- the trace; or nothing written, and why; or, where a stream failed, a front of what was found
+abbrev pub Tells : Option (List ℕ) → Option (List ℕ) → Option (List ℕ) → Result Bool RunFault → Type 0
+Tells left old new (Ok lawful) = (text : List ℕ) × (HasFinding left lawful text × Appends old new text)
+Tells left old new (Err (Fault fault)) = Keeps old new × Declares left fault
+Tells left old new (Err Stream) = Keeps old new ⊎ ((lawful : Bool) × ((text : List ℕ) × (HasFinding left lawful text × AppendsFront old new text)))

@@ -1,0 +1,226 @@
+ghost use Rattle.std.specs.Prelude.{◌≡◌, ◌+◌, ◌<◌, ℕ, [], false, Option, Some, None, Result, Ok, IfOk, IfErr, MatchOption};
+ghost use Rattle.lwkt_script.specs.Outcome.{Gives, Fails as IsRefused, part};
+ghost use Rattle.lwkt_trace.specs.declared.traces.Trace.{Trace};
+ghost use Rattle.lwkt_checker.specs.Judgement.{Declines};
+ghost use Rattle.lwkt_lines.specs.Line.{value_of};
+ghost use Rattle.lwkt_lines.specs.Format.{event_place, with_event, with_closing, with_line, next};
+ghost use Rattle.lwkt_lines.specs.Judged.{StandsSo, OpensSo, IsJudged, Knows, awaits, Judges, lines_left};
+ghost use Rattle.serde_json.specs.View.{view};
+
+use crate::openings::opened;
+use crate::standings::Standing;
+use crate::values::value_of;
+use lwkt_base::Fault;
+use lwkt_checker::Finding;
+use lwkt_core::State;
+use lwkt_trace::{Trace, closing_at, event_of};
+use serde_json::Value;
+use std::alloc::Global;
+
+// The most events.
+const EVENT_LIMIT: usize = 1_000_000_000_000_000;
+
+// The most events whose places have numbers of their own.
+const PLACE_LIMIT: usize = 50_000_000;
+
+/// A judge of a trace that is told to it line by line, and of which it keeps nothing but where it stands.
+#[derive(Debug, Drop)]
+pub struct Judge {
+    /// How many events there were so far.
+    pub count: usize,
+    /// Whether the closing values have come.
+    pub closed: bool,
+    /// Where it stands with what it was told.
+    pub standing: Standing,
+}
+
+// The place of the event of an index.
+fn event_place(index: usize) -> u32
+    ensures { result ≡ event_place index }
+{
+    1_000_000 + index.min(PLACE_LIMIT) as u32
+}
+
+// Where a judge stands with a trace in which nothing has happened yet.
+fn standing_of(alloc: Global, trace: &Trace) -> Result<Standing, Fault>
+    requires events { trace.now.events ≡ [] }
+    requires last { trace.now.last ≡ None }
+    ensures stands { IfOk result (λ standing. StandsSo trace.now standing) }
+    ensures begun { IfOk result (λ standing. awaits standing ≡ false) }
+    ensures opens { IfOk result (λ standing. OpensSo trace.now standing) }
+    ensures memory { IfErr result (λ fault. (read : Result (Option Trace) ℕ) → IsRefused fault read) }
+{
+    match State::open(
+        alloc,
+        trace.tokens.as_slice(),
+        trace.messages.as_slice(),
+        usize::from(trace.cpus),
+    ) {
+        Ok(state) => Ok(Standing::Plays(state)),
+        Err(Fault::Memory(refused)) => Err(Fault::Memory(refused)),
+        Err(fault) => Ok(Standing::Declined(fault)),
+    }
+}
+
+// The value that a line is, or the fault of one that is none, at a place.
+fn value_at(alloc: Global, place: u32, line: &[u8]) -> Result<Value, Fault>
+    ensures { Gives view result (part place (value_of line.now)) }
+{
+    match value_of(alloc, line) {
+        Ok(Some(value)) => Ok(value),
+        Ok(None) => Err(Fault::Script { place }),
+        Err(refused) => Err(Fault::Memory(refused)),
+    }
+}
+
+// The judge to whom the opening was told.
+fn opened_by(alloc: Global, line: &[u8]) -> Result<Judge, Fault>
+    ensures told { IfOk result (λ judge. (trace : Trace) × ((next None line.now ≡ Ok (Some trace)) × Knows judge trace)) }
+    ensures fewer { IfOk result (λ judge. lines_left judge < 1000000000000002) }
+    ensures refused { IfErr result (λ fault. IsRefused fault (next None line.now)) }
+{
+    let value = value_at(alloc, 0, line)?;
+    let trace = opened(alloc, &value)?;
+    let standing = standing_of(alloc, &trace)?;
+    Ok(Judge {
+        count: 0,
+        closed: false,
+        standing,
+    })
+}
+
+impl Judge {
+    /// A judge that was told nothing yet.
+    pub fn new() -> Judge
+        ensures { Judges result None }
+    {
+        Judge {
+            count: 0,
+            closed: false,
+            standing: Standing::Awaits,
+        }
+    }
+
+    // Whether no line has come yet.
+    fn awaits(&self) -> bool
+        ensures { result ≡ awaits self.now.standing }
+    {
+        matches!(self.standing, Standing::Awaits)
+    }
+
+    // Takes an event.
+    fn and_event(self, alloc: Global, value: &Value) -> Result<Judge, Fault>
+        requires { awaits self.standing ≡ false }
+        ensures told { IfOk result (λ judge. (trace : Trace) → trace.last ≡ None → Knows self trace → (after : Trace) × ((with_event trace (view value.now) ≡ Ok after) × Knows judge after)) }
+        ensures fewer { IfOk result (λ judge. lines_left judge < lines_left self) }
+        ensures refused { IfErr result (λ fault. (trace : Trace) → Knows self trace → IsRefused fault (with_event trace (view value.now))) }
+    {
+        let Judge {
+            count,
+            closed,
+            standing,
+        } = self;
+        let place = event_place(count);
+        if count >= EVENT_LIMIT {
+            return Err(Fault::Script { place });
+        }
+        let Some(told) = event_of(value) else {
+            return Err(Fault::Script { place });
+        };
+        match standing.and_event(alloc, count, &told) {
+            Ok(standing) => Ok(Judge {
+                count: count + 1,
+                closed,
+                standing,
+            }),
+            Err(refused) => Err(Fault::Memory(refused)),
+        }
+    }
+
+    // Takes the closing values.
+    fn and_closing(self, alloc: Global, value: &Value) -> Result<Judge, Fault>
+        requires begun { awaits self.standing ≡ false }
+        requires open { self.closed ≡ false }
+        ensures told { IfOk result (λ judge. (trace : Trace) → trace.last ≡ None → Knows self trace → (after : Trace) × ((with_closing trace (view value.now) ≡ Ok after) × Knows judge after)) }
+        ensures fewer { IfOk result (λ judge. lines_left judge < lines_left self) }
+        ensures refused { IfErr result (λ fault. (trace : Trace) → IsRefused fault (with_closing trace (view value.now))) }
+    {
+        let Judge {
+            count,
+            standing,
+            ..
+        } = self;
+        let closing = closing_at(alloc, value)?;
+        let last = closing.into_final();
+        match standing.and_closing(alloc, count, &last) {
+            Ok(standing) => Ok(Judge {
+                count,
+                closed: true,
+                standing,
+            }),
+            Err(refused) => Err(Fault::Memory(refused)),
+        }
+    }
+
+    // Takes a line behind the opening.
+    fn and_line(self, alloc: Global, line: &[u8]) -> Result<Judge, Fault>
+        requires { awaits self.standing ≡ false }
+        ensures told { IfOk result (λ judge. (trace : Trace) → Knows self trace → (after : Trace) × ((with_line trace line.now ≡ Ok after) × Knows judge after)) }
+        ensures fewer { IfOk result (λ judge. lines_left judge < lines_left self) }
+        ensures refused { IfErr result (λ fault. (trace : Trace) → Knows self trace → IsRefused fault (with_line trace line.now)) }
+    {
+        if self.closed {
+            return Err(Fault::Script { place: 6 });
+        }
+        let value = match value_at(alloc, event_place(self.count), line) {
+            Ok(value) => value,
+            Err(fault) => return Err(fault),
+        };
+        if value.is_object() {
+            self.and_closing(alloc, &value)
+        } else {
+            self.and_event(alloc, &value)
+        }
+    }
+
+    /// Takes the next line of the trace: the opening, or behind it an event, or the closing values, which no line follows.
+    ///
+    /// Refused with `Script` and the place of the line's first bad part, and with `Memory` only where an allocation was
+    /// refused. The places, numbers counting from 0:
+    ///
+    /// - 0: the first line is too long or no JSON text.
+    /// - 1: it is no object with exactly `version`, `cpus`, `tokens` and `messages`, or one of `tokens` and `messages` is no
+    ///   list.
+    /// - 2, 3, 1000 + n, 2000 + n: the parts of the opening, as `read_trace` says.
+    /// - 1000000 + n: event n, which is 50000000 for all from there on: a line that is too long, no JSON text or no event, or
+    ///   one event more than 10^15.
+    /// - 4, 3000 + n, 5, 4000 + n, 5000 + n, 6000 + n: the parts of the closing values, as `read_trace` says.
+    /// - 6: a line behind the closing values.
+    pub fn tell(self, alloc: Global, line: &[u8]) -> Result<Judge, Fault>
+        ensures told { IfOk result (λ judge. (before : Option Trace) → Judges self before → (after : Option Trace) × ((next before line.now ≡ Ok after) × Judges judge after)) }
+        ensures fewer { IfOk result (λ judge. lines_left judge < lines_left self) }
+        ensures refused { IfErr result (λ fault. (before : Option Trace) → Judges self before → IsRefused fault (next before line.now)) }
+    {
+        if self.awaits() {
+            opened_by(alloc, line)
+        } else {
+            self.and_line(alloc, line)
+        }
+    }
+
+    /// What the trace that was told is: lawful, or the index at which it fails and why.
+    ///
+    /// Refused with `Script` and place 0 where no line has come, and with `Limits` or `LawBroken` for its opening.
+    pub fn finding(self) -> Result<Finding, Fault>
+        ensures found { IfOk result (λ finding. (told : Option Trace) → Judges self told → MatchOption told ⊥ (λ trace. IsJudged trace finding)) }
+        ensures refused { IfErr result (λ fault. (told : Option Trace) → Judges self told → MatchOption told (fault ≡ Fault.Script 0) (λ trace. Declines trace fault)) }
+    {
+        let Judge { standing, .. } = self;
+        match standing {
+            Standing::Awaits => Err(Fault::Script { place: 0 }),
+            Standing::Plays(_) => Ok(Finding::Lawful),
+            Standing::Fails { index, why } => Ok(Finding::Unlawful { index, why }),
+            Standing::Declined(fault) => Err(fault),
+        }
+    }
+}

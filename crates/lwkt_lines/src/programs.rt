@@ -1,0 +1,76 @@
+ghost use Rattle.std.specs.Prelude.{◌≡◌, ◌⊎◌, Err, IsTrue, IfOk, IfErr};
+ghost use Rattle.lwkt_lines.specs.Reading.{left_of};
+ghost use Rattle.lwkt_lines.specs.Output.{Finds, DeclaresIn, Tells};
+
+use crate::judges::Judge;
+use crate::lines::Lines;
+use lwkt_base::Fault;
+use lwkt_checker::{Finding, finding_text};
+use lwkt_report::{RunFault, Sink, Source, write_whole};
+use std::alloc::Global;
+
+/// Reads a trace in lines to its end, or to the line with its first bad part, and judges it. The line that is refused is then
+/// the one that was read last.
+///
+/// Refused with `Fault`: `Script` with the place of its first bad part, `Limits` or `LawBroken` for its opening, `Memory` for
+/// a refused allocation; with `Stream` only if a call of the source failed.
+pub fn judge_lines<S: Source>(
+    alloc: Global,
+    lines: &mut Lines,
+    source: &mut S,
+) -> Result<Finding, RunFault>
+    ensures found { IfOk result (λ finding. Finds (left_of lines.old (S.left source.old)) finding) }
+    ensures refused { IfErr result (λ why. DeclaresIn (left_of lines.old (S.left source.old)) why) }
+    ensures stream { result ≡ Err RunFault.Stream → IsTrue (S.has_failed source.new) }
+{
+    let mut judge = Judge::new();
+    loop {
+        let is_ended = match lines.read_line(source) {
+            Ok(is_ended) => is_ended,
+            Err(why) => return Err(why),
+        };
+        if !is_ended {
+            break;
+        }
+        judge = match judge.tell(alloc, lines.line.as_slice()) {
+            Ok(after) => after,
+            Err(fault) => return Err(RunFault::Fault(fault)),
+        };
+    }
+    if !lines.line.is_empty() {
+        judge = match judge.tell(alloc, lines.line.as_slice()) {
+            Ok(after) => after,
+            Err(fault) => return Err(RunFault::Fault(fault)),
+        };
+    }
+    match judge.finding() {
+        Ok(finding) => Ok(finding),
+        Err(fault) => Err(RunFault::Fault(fault)),
+    }
+}
+
+/// Reads a trace in lines to its end, or to the line with its first bad part, judges it, and writes what was found of it,
+/// which is whole in memory before its first byte is written. The answer is whether it is lawful.
+///
+/// Refused with `Fault` and nothing written: `Script` with the place of its first bad part, `Limits` or `LawBroken` for its
+/// opening, `Memory` for a refused allocation; with `Stream` only if a call of the source or the sink failed, and then a
+/// front of the text stands.
+pub fn check_lines<S: Source, K: Sink>(
+    alloc: Global,
+    lines: &mut Lines,
+    source: &mut S,
+    sink: &mut K,
+) -> Result<bool, RunFault>
+    ensures tells { Tells (left_of lines.old (S.left source.old)) (K.contents sink.old) (K.contents sink.new) result }
+    ensures stream { result ≡ Err RunFault.Stream → IsTrue (S.has_failed source.new) ⊎ IsTrue (K.has_failed sink.new) }
+{
+    let finding = judge_lines(alloc, lines, source)?;
+    let text = match finding_text(alloc, &finding) {
+        Ok(text) => text,
+        Err(refused) => return Err(RunFault::Fault(Fault::Memory(refused))),
+    };
+    match write_whole(sink, text.as_bytes()) {
+        Ok(()) => Ok(matches!(finding, Finding::Lawful)),
+        Err(_) => Err(RunFault::Stream),
+    }
+}
