@@ -20,7 +20,7 @@ program_name Check = codes "lwkt_check: "
 -- what a program says of arguments that aren't its own
 abbrev pub usage_text : Program → List ℕ
 usage_text Run = codes "turns or threads"
-usage_text Check = codes "no arguments are wanted"
+usage_text Check = codes "no arguments, or lines"
 
 -- ` at PLACE` after the number of what was refused at a place
 abbrev pub place_text : Refusal → List ℕ

@@ -45,7 +45,7 @@ fn usage_of(program: Program) -> &'static str
 {
     match program {
         Program::Run => "turns or threads",
-        Program::Check => "no arguments are wanted",
+        Program::Check => "no arguments, or lines",
     }
 }
 
