@@ -15,5 +15,5 @@ mod traces;
 mod words;
 
 pub use pages::{Page, show_breach};
-pub use refusals::{Document, refusal};
+pub use refusals::{Document, line_refusal, refusal};
 pub use sayings::{Speaker, has_no_reader};

@@ -2,7 +2,7 @@ use crate::pages::{Page, show_breach};
 use crate::parts::Part;
 use crate::scripts::{is_second, show_script_place};
 use crate::texts::{byte_at, line_of, place_of};
-use crate::traces::show_trace_place;
+use crate::traces::{show_line_place, show_trace_place};
 use crate::words::Words;
 use lwkt_base::blobs::length_of;
 use lwkt_base::{Fault, TokSpec};
@@ -167,6 +167,89 @@ pub fn refusal(
         Fault::Script { place } => show_part(alloc, &mut out, document, bytes, place),
         Fault::LawBroken => show_opening_fault(alloc, &mut out, bytes),
         _ => out.fault("", fault),
+    }
+    out.whole()
+}
+
+// The most bytes of a line.
+const LINE_LIMIT: usize = 1_048_576;
+
+// Appends the number of a line, and the column of a place in it.
+fn show_column(out: &mut Page, number: usize, place: usize) {
+    out.size("line ", number);
+    out.size(", column ", place.saturating_add(1));
+    out.add(": ");
+}
+
+// Appends which event a line is, behind the first.
+fn show_index(out: &mut Page, number: usize) {
+    if number > 1 {
+        out.size("event ", number.saturating_sub(2));
+        out.add(": ");
+    }
+}
+
+// Appends what stands before the place that the reader names.
+fn show_front(out: &mut Page, text: &str) {
+    if let Some((why, _)) = text.split_once(" at line ") {
+        out.add(why);
+    }
+}
+
+// Appends why a line is no JSON text, without the place that the reader names.
+fn show_line_error(alloc: Global, out: &mut Page, error: &serde_json::Error) {
+    out.add("it is no JSON text: ");
+    match error.to_string(alloc) {
+        Ok(text) => show_front(out, text.as_str()),
+        Err(refused) => out.lose(refused),
+    }
+}
+
+// Appends why a line of this length can't be a JSON text; says whether it can't.
+fn show_length(out: &mut Page, number: usize, length: usize) -> bool {
+    if length > 0 && length <= LINE_LIMIT {
+        return false;
+    }
+    show_column(out, number, 0);
+    show_index(out, number);
+    if length == 0 {
+        out.add("it is empty");
+    } else {
+        out.size("it has more bytes than ", LINE_LIMIT);
+    }
+    true
+}
+
+// Appends why a line has no value; says whether it has none.
+fn show_no_value(alloc: Global, out: &mut Page, number: usize, line: &[u8]) -> bool {
+    if show_length(out, number, line.len()) {
+        return true;
+    }
+    let Err(error) = Value::from_slice(alloc, line) else {
+        return false;
+    };
+    show_column(out, number, error.column().saturating_sub(1));
+    show_index(out, number);
+    show_line_error(alloc, out, &error);
+    true
+}
+
+/// Why a line of a trace in lines is refused at this place, in words and without a line end: what is bad, and the number of the
+/// line and the column at which it stands, both counted from 1; a column is a byte.
+///
+/// Refused if memory is.
+pub fn line_refusal(
+    alloc: Global,
+    number: usize,
+    line: &[u8],
+    place: u32,
+) -> Result<String, AllocError> {
+    let mut out = Page::new(alloc);
+    if place == 6 || !show_no_value(alloc, &mut out, number, line) {
+        let mut words = Words::new(alloc);
+        show_line_place(&mut words, Part::whole(line), number, place);
+        show_column(&mut out, number, words.place);
+        out.add_page(&words.page);
     }
     out.whole()
 }

@@ -3,7 +3,7 @@ ghost use Rattle.std.specs.Prelude.{◌↔◌, IsTrue};
 ghost use Rattle.lwkt_refusals.specs.Sayings.{Adds, HasNoReader};
 
 use crate::pages::Page;
-use crate::refusals::{Document, refusal};
+use crate::refusals::{Document, line_refusal, refusal};
 use lwkt_base::Fault;
 use lwkt_report::{Sink, write_whole};
 use std::alloc::{AllocError, Global};
@@ -17,8 +17,9 @@ example: ./lwkt_run turns examples/tally_add.json
 ";
 
 const CHECK_USAGE: &str = "\
-usage: lwkt_check [FILE]   say whether a trace is lawful, and else which event isn't and why
-       lwkt_check --help   say more
+usage: lwkt_check [FILE]         say whether a trace is lawful, and else which event isn't and why
+       lwkt_check lines [FILE]   the same of a trace in lines, of any length
+       lwkt_check --help         say more
 example: ./lwkt_check examples/traces/take_under_readers.json
 ";
 
@@ -156,6 +157,23 @@ impl Speaker {
         match words {
             Some(text) => self.say(errors, text.as_str()),
             None => self.say_no_words(errors),
+        }
+    }
+
+    /// Says why a line of a trace in lines, which has this number, is refused at this place.
+    pub fn say_line_refusal<E: Sink>(
+        self,
+        alloc: Global,
+        errors: &mut E,
+        number: usize,
+        line: &[u8],
+        place: u32,
+    )
+        ensures { Adds (E.has_failed errors.old) (E.has_failed errors.new) (E.contents errors.old) (E.contents errors.new) }
+    {
+        match line_refusal(alloc, number, line, place) {
+            Ok(text) => self.say(errors, text.as_str()),
+            Err(_) => self.say_no_words(errors),
         }
     }
 
