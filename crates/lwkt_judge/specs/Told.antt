@@ -1,5 +1,6 @@
 -- What the whole program says where errors go: its line, and words behind it (own).
-use Rattle.std.specs.Prelude.{◌≡◌, ◌⊎◌, ℕ, List, Bool, true, Option, Result, Ok, Err}
+use Rattle.std.specs.Prelude.{◌≡◌, ◌≢◌, ◌⊎◌, ℕ, List, [], length, All, codes, String, string_bytes, Bool, true, Option, Result, Ok, Err}
+use Rattle.std.specs.Global.{Global}
 use Rattle.std.specs.Io.KnownBytes.{Appends, Keeps}
 use Rattle.std.specs.declared.io.Error.{Error}
 use Rattle.lwkt_report.specs.Complaint.{fault_line, complaint_of, IsSaid}
@@ -8,6 +9,7 @@ use Rattle.lwkt_report.specs.declared.streams.RunFault.{RunFault}
 use Rattle.lwkt_report.specs.Stream.{BlamesFailed}
 use Rattle.lwkt_refusals.specs.Sayings.{HasNoReader}
 use Rattle.lwkt_checker.specs.Output.{Tells, status_of}
+use Rattle.lwkt_lines.specs.Output.{Tells as TellsOfLines}
 
 -- a line is written, or where the sink fails a front of it, and perhaps words behind it
 pub record IsSaidFirst (failed : Bool) (old new : Option (List ℕ)) (line : List ℕ) : Type 0 where
@@ -30,6 +32,22 @@ IsUnread failed error = (failed ≡ true) × HasNoReader error
 pub record ChecksAloud (source_failed sink_failed : Bool) (left old new : Option (List ℕ)) (unread : Type 0) (failed : Bool) (before after : Option (List ℕ)) (status : ℕ) : Type 0 where
   pub outcome : Result Bool RunFault
   pub tells : Tells left old new outcome
+  pub complains : (unread × Keeps before after) ⊎ ((unread → ⊥) × ComplainsFirst failed before after outcome)
+  pub blames : BlamesFailed source_failed sink_failed outcome
+  pub is_status : status ≡ status_of outcome
+
+-- the arguments are the one word `lines`
+abbrev pub AsksLines : List (String Global) → Type 0
+AsksLines words = (length words ≡ 1) × All (λ word. string_bytes word ≡ codes "lines") words
+
+-- the arguments are neither none nor that word
+abbrev pub IsMisused : List (String Global) → Type 0
+IsMisused words = (words ≢ []) × (¬ AsksLines words)
+
+-- what the program does where it is asked to read lines: the same, of all that was left to read
+pub record ChecksLinesAloud (source_failed sink_failed : Bool) (left old new : Option (List ℕ)) (unread : Type 0) (failed : Bool) (before after : Option (List ℕ)) (status : ℕ) : Type 0 where
+  pub outcome : Result Bool RunFault
+  pub tells : TellsOfLines left old new outcome
   pub complains : (unread × Keeps before after) ⊎ ((unread → ⊥) × ComplainsFirst failed before after outcome)
   pub blames : BlamesFailed source_failed sink_failed outcome
   pub is_status : status ≡ status_of outcome

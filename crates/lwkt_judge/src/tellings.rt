@@ -1,10 +1,13 @@
-ghost use Rattle.std.specs.Prelude.{◌≡◌, ◌≢◌, ◌↔◌, [], IsTrue};
+ghost use Rattle.std.specs.Prelude.{◌≡◌, ◌↔◌, ◌⊎◌, [], IsTrue};
+ghost use Rattle.std.specs.Io.KnownBytes.{Keeps};
+ghost use Rattle.lwkt_checker.specs.Output.{status_of};
 ghost use Rattle.lwkt_report.specs.Complaint.{fault_line};
 ghost use Rattle.lwkt_refusals.specs.Sayings.{Adds};
-ghost use Rattle.lwkt_judge.specs.Told.{IsSaidFirst, ComplainsFirst, IsUnread, ChecksAloud};
+ghost use Rattle.lwkt_judge.specs.Told.{IsSaidFirst, ComplainsFirst, IsUnread, ChecksAloud, AsksLines, IsMisused, ChecksLinesAloud};
 
 use lwkt_base::Fault;
 use lwkt_checker::{check_stream, say_outcome, status_of};
+use lwkt_lines::{Lines, check_lines};
 use lwkt_refusals::{Speaker, has_no_reader};
 use lwkt_report::{
     Complaint, NotedReader, NotedWriter, Program, ReaderSource, RunFault, Sink, WriterSink,
@@ -28,11 +31,28 @@ fn say_refusal<E: Sink>(alloc: Global, errors: &mut E, given: &Option<Vec<u8>>)
     Speaker::Check.say_refusal(alloc, errors, Some(bytes.as_slice()), fault);
 }
 
-// Says why nothing was found, behind the line.
+// Says why the trace in lines that was given is refused.
+fn say_line_refusal<E: Sink>(alloc: Global, errors: &mut E, fault: Fault, lines: &Lines)
+    ensures { Adds (E.has_failed errors.old) (E.has_failed errors.new) (E.contents errors.old) (E.contents errors.new) }
+{
+    match fault {
+        Fault::Script { place } => Speaker::Check.say_line_refusal(
+            alloc,
+            errors,
+            lines.number,
+            lines.line.as_slice(),
+            place,
+        ),
+        _ => Speaker::Check.say_refusal(alloc, errors, Some(lines.opening_line()), fault),
+    }
+}
+
+// Says why nothing was found, behind the line: of a trace in lines by those, else by what the reader kept.
 fn say_why<I, O, E: Sink>(
     alloc: Global,
     errors: &mut E,
     fault: RunFault,
+    lines: Option<&Lines>,
     source: &ReaderSource<NotedReader<I>>,
     sink: &WriterSink<NotedWriter<O>>,
 )
@@ -40,7 +60,10 @@ fn say_why<I, O, E: Sink>(
 {
     match fault {
         RunFault::Fault(Fault::Memory(_)) => Speaker::Check.say_memory(errors),
-        RunFault::Fault(_) => say_refusal(alloc, errors, &source.reader.given),
+        RunFault::Fault(fault) => match lines {
+            Some(lines) => say_line_refusal(alloc, errors, fault, lines),
+            None => say_refusal(alloc, errors, &source.reader.given),
+        },
         RunFault::Stream if source.failed => {
             Speaker::Check.say_unread(alloc, errors, &source.reader.error)
         }
@@ -48,12 +71,12 @@ fn say_why<I, O, E: Sink>(
     }
 }
 
-// Says what came of a check: nothing beside a finding, else its line and why nothing was found; nothing where nobody reads any
-// more what is written.
+// Says what came of a check: nothing beside a finding, else its line and why nothing was found.
 fn say_all<I, O, E: Sink>(
     alloc: Global,
     errors: &mut E,
     outcome: &Result<bool, RunFault>,
+    lines: Option<&Lines>,
     source: &ReaderSource<NotedReader<I>>,
     sink: &WriterSink<NotedWriter<O>>,
 )
@@ -61,7 +84,7 @@ fn say_all<I, O, E: Sink>(
 {
     say_outcome(errors, outcome);
     if let Err(fault) = *outcome {
-        say_why(alloc, errors, fault, source, sink);
+        say_why(alloc, errors, fault, lines, source, sink);
     }
 }
 
@@ -72,10 +95,64 @@ fn is_unread<O>(sink: &WriterSink<NotedWriter<O>>) -> bool
     sink.failed && has_no_reader(&sink.writer.error)
 }
 
+// Says what came of a check, but nothing where nobody reads any more what is written. The answer is the exit status.
+fn conclude<I, O, E: Sink>(
+    alloc: Global,
+    errors: &mut E,
+    outcome: &Result<bool, RunFault>,
+    lines: Option<&Lines>,
+    source: &ReaderSource<NotedReader<I>>,
+    sink: &WriterSink<NotedWriter<O>>,
+) -> u8
+    ensures complains { (IsUnread sink.now.failed sink.now.writer.error × Keeps (E.contents errors.old) (E.contents errors.new)) ⊎ ((IsUnread sink.now.failed sink.now.writer.error → ⊥) × ComplainsFirst (E.has_failed errors.new) (E.contents errors.old) (E.contents errors.new) outcome.now) }
+    ensures status { result ≡ status_of outcome.now }
+{
+    if !is_unread(sink) {
+        say_all(alloc, errors, outcome, lines, source, sink);
+    }
+    status_of(outcome)
+}
+
+// Checks a trace in lines, and says where errors go why nothing was found, where it is so.
+fn check_lines_told<I: Read, O: Write, E: Sink>(
+    alloc: Global,
+    source: &mut ReaderSource<NotedReader<I>>,
+    sink: &mut WriterSink<NotedWriter<O>>,
+    errors: &mut E,
+) -> u8
+    ensures { ChecksLinesAloud source.new.failed sink.new.failed (I.remaining source.old.reader.reader) (O.contents sink.old.writer.writer) (O.contents sink.new.writer.writer) (IsUnread sink.new.failed sink.new.writer.error) (E.has_failed errors.new) (E.contents errors.old) (E.contents errors.new) result }
+{
+    let mut lines = Lines::new(alloc);
+    let outcome = check_lines(alloc, &mut lines, source, sink);
+    conclude(alloc, errors, &outcome, Some(&lines), source, sink)
+}
+
+// Checks a trace that is one text, and says where errors go why nothing was found, where it is so.
+fn check_whole_told<I: Read, O: Write, E: Sink>(
+    alloc: Global,
+    source: &mut ReaderSource<NotedReader<I>>,
+    sink: &mut WriterSink<NotedWriter<O>>,
+    errors: &mut E,
+) -> u8
+    ensures { ChecksAloud source.new.failed sink.new.failed (I.remaining source.old.reader.reader) (O.contents sink.old.writer.writer) (O.contents sink.new.writer.writer) (IsUnread sink.new.failed sink.new.writer.error) (E.has_failed errors.new) (E.contents errors.old) (E.contents errors.new) result }
+{
+    let outcome = check_stream(alloc, source, sink);
+    conclude(alloc, errors, &outcome, None, source, sink)
+}
+
+/// Whether the arguments are the one word `lines`: a trace in lines is then read.
+pub fn asks_lines(words: &[String]) -> bool
+    ensures { IsTrue result ↔ AsksLines words.now }
+{
+    words.len() == 1 && words.iter().all(|word| word.as_str() == "lines")
+}
+
 /// The whole program, as `run_checker`, which also says where errors go, behind the line, why nothing was found: the part of
 /// the trace that is refused, with its place, or how a stream failed; of wrong arguments how the program is called. Where
 /// nobody reads any more what is written, nothing goes there. What it reads, what it writes and its status are those of
 /// `run_checker`.
+///
+/// Where the one argument is `lines` a trace in lines is read, and what is said of it is that of `check_lines`.
 pub fn check_told<I: Read, O: Write, E: Sink>(
     alloc: Global,
     words: &[String],
@@ -84,18 +161,18 @@ pub fn check_told<I: Read, O: Write, E: Sink>(
     errors: &mut E,
 ) -> u8
     ensures checks { words.now ≡ [] → ChecksAloud source.new.failed sink.new.failed (I.remaining source.old.reader.reader) (O.contents sink.old.writer.writer) (O.contents sink.new.writer.writer) (IsUnread sink.new.failed sink.new.writer.error) (E.has_failed errors.new) (E.contents errors.old) (E.contents errors.new) result }
-    ensures usage { words.now ≢ [] → (result ≡ 1) × IsSaidFirst (E.has_failed errors.new) (E.contents errors.old) (E.contents errors.new) (fault_line Program.Check Complaint.Usage) }
-    ensures unread { words.now ≢ [] → source.new ≡ source.old }
-    ensures unwritten { words.now ≢ [] → sink.new ≡ sink.old }
+    ensures lines { AsksLines words.now → ChecksLinesAloud source.new.failed sink.new.failed (I.remaining source.old.reader.reader) (O.contents sink.old.writer.writer) (O.contents sink.new.writer.writer) (IsUnread sink.new.failed sink.new.writer.error) (E.has_failed errors.new) (E.contents errors.old) (E.contents errors.new) result }
+    ensures usage { IsMisused words.now → (result ≡ 1) × IsSaidFirst (E.has_failed errors.new) (E.contents errors.old) (E.contents errors.new) (fault_line Program.Check Complaint.Usage) }
+    ensures unread { IsMisused words.now → source.new ≡ source.old }
+    ensures unwritten { IsMisused words.now → sink.new ≡ sink.old }
 {
+    if asks_lines(words) {
+        return check_lines_told(alloc, source, sink, errors);
+    }
     if !words.is_empty() {
         complain(errors, Program::Check, Complaint::Usage);
         Speaker::Check.say_usage(errors);
         return 1;
     }
-    let outcome = check_stream(alloc, source, sink);
-    if !is_unread(sink) {
-        say_all(alloc, errors, &outcome, source, sink);
-    }
-    status_of(&outcome)
+    check_whole_told(alloc, source, sink, errors)
 }
