@@ -278,7 +278,7 @@ fn arguments(rt: HostRuntime) -> Result<(), Fail> {
     let said = said(rt.alloc(), b"", 1)?;
     assert_eq!(&rt;
         said.errors.as_slice(),
-        "lwkt_check: no arguments are wanted\n".as_bytes()
+        "lwkt_check: no arguments, or lines\n".as_bytes()
     );
     assert_eq!(&rt; said.text.len(), 0);
     assert_eq!(&rt; said.status, 1);
