@@ -8,7 +8,7 @@
 //     lwkt_record_token(&recorder, 0, LWKT_RECORD_SUM, 100, 0, cells, 2);
 //     ..                                                   // the threads run, and make the calls below
 //     lwkt_record_end(&recorder);                          // nobody holds a token any more
-//     lwkt_record_to_file(&recorder, stdout);              // | ./lwkt_check
+//     lwkt_record_to_file(&recorder, stdout);              // | ./lwkt_check, or behind `lwkt_record_in_lines` | ./lwkt_check lines
 //     lwkt_record_close(&recorder);
 //
 // Processor. Who can hold a token: a processor of a kernel whose threads give up their tokens when they switch, or a thread of
@@ -187,6 +187,7 @@ typedef struct lwkt_record {
     size_t room;
     bool owns_events;
     bool has_ended;
+    bool in_lines;
     lwkt_record_token_spec token[LWKT_RECORD_TOKENS];
     lwkt_record_message_spec message[LWKT_RECORD_MESSAGES];
     lwkt_record_model model;
@@ -297,6 +298,10 @@ static inline int lwkt_record_end(lwkt_record *recorder);
 // program counts its sections. They are judged by what the events lead to. CLOSED, NO_TOKEN, NO_CELL, LIMIT.
 static inline int lwkt_record_end_cells(lwkt_record *recorder, unsigned token, const uint64_t *cells, unsigned count);
 static inline int lwkt_record_end_generation(lwkt_record *recorder, unsigned token, uint64_t generation);
+
+// Says whether the trace is to be written in lines, for `lwkt_check lines` (docs/TRACES.md, "Trace in lines, version 1"): it may
+// then be of any length. A recorder that was just opened writes one text. CLOSED.
+static inline int lwkt_record_in_lines(lwkt_record *recorder, bool in_lines);
 
 // Writes the trace to a sink, some bytes at a time. CUT where it ends before the last event; it has no closing values then.
 // STREAM where the sink didn't take it; it isn't called again then. CLOSED.
@@ -640,6 +645,7 @@ static inline int lwkt_record_open_in(lwkt_record *recorder, unsigned processors
     recorder->room = room;
     recorder->owns_events = false;
     recorder->has_ended = false;
+    recorder->in_lines = false;
     LWKT_RECORD_IN(atomic_store_explicit)(&recorder->next, 0, LWKT_RECORD_IN(memory_order_relaxed));
     LWKT_RECORD_IN(atomic_store_explicit)(&recorder->lost, 0, LWKT_RECORD_IN(memory_order_relaxed));
     for (each = 0; each < LWKT_RECORD_TOKENS; each++)
@@ -906,6 +912,7 @@ typedef struct lwkt_record_page {
     uint64_t length;
     size_t count;
     bool has_failed;
+    bool in_lines;
     char bytes[512];
 } lwkt_record_page;
 
@@ -924,6 +931,13 @@ static inline void lwkt_record_put(lwkt_record_page *page, const char *text)
         page->bytes[page->count++] = *text;
         page->length += 1;
     }
+}
+
+// What a text has between two parts that each stand on a line of their own, and lines haven't.
+static inline void lwkt_record_put_break(lwkt_record_page *page, const char *text)
+{
+    if (!page->in_lines)
+        lwkt_record_put(page, text);
 }
 
 static inline void lwkt_record_put_number(lwkt_record_page *page, const char *before, uint64_t number)
@@ -974,7 +988,8 @@ static inline void lwkt_record_put_tokens(const lwkt_record *recorder, lwkt_reco
     unsigned each;
     for (each = 0; each < recorder->tokens; each++) {
         const lwkt_record_token_spec *token = &recorder->token[each];
-        lwkt_record_put(page, each == 0 ? "" : ",\n  ");
+        lwkt_record_put(page, lwkt_record_comma(each));
+        lwkt_record_put_break(page, each == 0 ? "" : "\n  ");
         lwkt_record_put_row(page, "{\"cells\":", token->cells, token->count);
         lwkt_record_put(page, ",\"law\":\"");
         lwkt_record_put(page, lwkt_record_law_word(token->law));
@@ -989,7 +1004,8 @@ static inline void lwkt_record_put_messages(const lwkt_record *recorder, lwkt_re
     unsigned each;
     for (each = 0; each < recorder->messages; each++) {
         const lwkt_record_message_spec *message = &recorder->message[each];
-        lwkt_record_put(page, each == 0 ? "" : ",\n  ");
+        lwkt_record_put(page, lwkt_record_comma(each));
+        lwkt_record_put_break(page, each == 0 ? "" : "\n  ");
         lwkt_record_put_number(page, "{\"of\":[", message->processor);
         lwkt_record_put_number(page, ",", message->thread);
         lwkt_record_put_number(page, "],\"round\":", message->round);
@@ -1000,11 +1016,15 @@ static inline void lwkt_record_put_messages(const lwkt_record *recorder, lwkt_re
 static inline void lwkt_record_put_opening(const lwkt_record *recorder, lwkt_record_page *page)
 {
     lwkt_record_put_number(page, "{\"version\":1,\"cpus\":", recorder->processors);
-    lwkt_record_put(page, ",\n \"tokens\":[");
+    lwkt_record_put(page, ",");
+    lwkt_record_put_break(page, "\n ");
+    lwkt_record_put(page, "\"tokens\":[");
     lwkt_record_put_tokens(recorder, page);
-    lwkt_record_put(page, "],\n \"messages\":[");
+    lwkt_record_put(page, "],");
+    lwkt_record_put_break(page, "\n ");
+    lwkt_record_put(page, "\"messages\":[");
     lwkt_record_put_messages(recorder, page);
-    lwkt_record_put(page, "],\n \"events\":[");
+    lwkt_record_put(page, page->in_lines ? "]}" : "],\n \"events\":[");
 }
 
 static inline void lwkt_record_put_event(lwkt_record_page *page, unsigned processor, int kind, const lwkt_record_event *event)
@@ -1045,21 +1065,27 @@ static inline bool lwkt_record_put_stamp(lwkt_record *recorder, lwkt_record_page
     kind = event->kind;
     if (kind == LWKT_RECORD_KIND_GIVE)
         kind = lwkt_record_found(recorder, processor, event->place);
-    lwkt_record_put(page, stamp == 0 ? "\n" : ",\n");
+    lwkt_record_put_break(page, stamp == 0 ? "" : ",");
+    lwkt_record_put(page, "\n");
     lwkt_record_put_event(page, processor, kind, event);
     lwkt_record_follow(&recorder->model, processor, kind, event);
     recorder->model.heads[processor] += 1;
     return true;
 }
 
-// Writes the events by rising stamps, up to the first that isn't there, and while there is room for one and for the closing
-// values, which have fewer than 32000 bytes. Whether these are all.
+// Whether a trace has room for an event more and for the closing values, which have fewer than 32000 bytes. Lines always have.
+static inline bool lwkt_record_has_room(const lwkt_record_page *page)
+{
+    return page->in_lines || page->length + 32000 + 64 <= LWKT_RECORD_BYTES_MOST;
+}
+
+// Writes the events by rising stamps, up to the first that isn't there, and while there is room. Whether these are all.
 static inline bool lwkt_record_put_events(lwkt_record *recorder, lwkt_record_page *page)
 {
     uint64_t count = LWKT_RECORD_IN(atomic_load_explicit)(&recorder->next, LWKT_RECORD_IN(memory_order_relaxed));
     uint64_t stamp;
     for (stamp = 0; stamp < count; stamp++)
-        if (page->length + 32000 + 64 > LWKT_RECORD_BYTES_MOST || !lwkt_record_put_stamp(recorder, page, stamp))
+        if (!lwkt_record_has_room(page) || !lwkt_record_put_stamp(recorder, page, stamp))
             return false;
     return true;
 }
@@ -1109,11 +1135,13 @@ static inline void lwkt_record_put_end_messages(const lwkt_record *recorder, lwk
 
 static inline void lwkt_record_put_end(const lwkt_record *recorder, lwkt_record_page *page, bool has_values)
 {
-    lwkt_record_put(page, "],\n \"last\":");
+    lwkt_record_put_break(page, "],\n \"last\":");
     if (!has_values) {
-        lwkt_record_put(page, "null}\n");
+        lwkt_record_put_break(page, "null}");
+        lwkt_record_put(page, "\n");
         return;
     }
+    lwkt_record_put(page, page->in_lines ? "\n" : "");
     lwkt_record_put(page, "{\"rows\":[");
     lwkt_record_put_end_rows(recorder, page);
     lwkt_record_put(page, "],\"gens\":[");
@@ -1122,7 +1150,15 @@ static inline void lwkt_record_put_end(const lwkt_record *recorder, lwkt_record_
     lwkt_record_put_end_tallies(recorder, page);
     lwkt_record_put(page, "],\"messages\":[");
     lwkt_record_put_end_messages(recorder, page);
-    lwkt_record_put(page, "]}}\n");
+    lwkt_record_put(page, page->in_lines ? "]}\n" : "]}}\n");
+}
+
+static inline int lwkt_record_in_lines(lwkt_record *recorder, bool in_lines)
+{
+    if (!lwkt_record_is_open(recorder))
+        return LWKT_RECORD_CLOSED;
+    recorder->in_lines = in_lines;
+    return LWKT_RECORD_OK;
 }
 
 static inline int lwkt_record_to_sink(lwkt_record *recorder, lwkt_record_sink sink, void *context)
@@ -1138,6 +1174,7 @@ static inline int lwkt_record_to_sink(lwkt_record *recorder, lwkt_record_sink si
     page.length = 0;
     page.count = 0;
     page.has_failed = false;
+    page.in_lines = recorder->in_lines;
     lwkt_record_begin(recorder);
     lwkt_record_put_opening(recorder, &page);
     is_whole = lwkt_record_put_events(recorder, &page);

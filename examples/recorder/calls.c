@@ -35,6 +35,14 @@ static void open_sum(void)
     WANT(OK, lwkt_record_token(&recorder, 0, LWKT_RECORD_SUM, 100, 5, cells, 2));
 }
 
+static int let_go(void *context, const char *bytes, size_t count)
+{
+    (void)context;
+    (void)bytes;
+    (void)count;
+    return 0;
+}
+
 static void nothing_happens(void)
 {
     open_scene(1, 0, 0, 0);
@@ -282,6 +290,44 @@ static void unknown_things(void)
     WANT(NO_MESSAGE, lwkt_record_reap(&recorder, 0, 64));
     WANT(OK, lwkt_record_give(&recorder, 0, 0));
     want_at(__LINE__, lwkt_record_lost(&recorder), 0);
+    WANT(OK, lwkt_record_end(&recorder));
+    WANT(OK, lwkt_record_to_file(&recorder, stdout));
+}
+
+// In lines a trace may have more bytes than one text; it has the closing values on its last line.
+static void lines_past_the_limit(void)
+{
+    unsigned each;
+    WANT(CLOSED, lwkt_record_in_lines(&recorder, true));
+    open_scene(2, 2, 2, 5000);
+    for (each = 0; each < 2000; each++) {
+        WANT(OK, lwkt_record_take(&recorder, 0, 1));
+        WANT(OK, lwkt_record_give(&recorder, 0, 1));
+    }
+    WANT(OK, lwkt_record_send(&recorder, 0, 1, 1, 0));
+    WANT(OK, lwkt_record_end(&recorder));
+    WANT(CUT, lwkt_record_to_sink(&recorder, let_go, NULL));
+    WANT(OK, lwkt_record_in_lines(&recorder, true));
+    WANT(OK, lwkt_record_to_file(&recorder, stdout));
+}
+
+// Without a last event it has none.
+static void lines_cut(void)
+{
+    open_scene(1, 1, 0, 1);
+    WANT(OK, lwkt_record_in_lines(&recorder, true));
+    WANT(OK, lwkt_record_share(&recorder, 0, 0));
+    WANT(FULL, lwkt_record_give(&recorder, 0, 0));
+    WANT(OK, lwkt_record_end(&recorder));
+    WANT(CUT, lwkt_record_to_file(&recorder, stdout));
+}
+
+static void lines_other_end(void)
+{
+    static const uint64_t cells[2] = {60, 41};
+    open_sum();
+    WANT(OK, lwkt_record_in_lines(&recorder, true));
+    WANT(OK, lwkt_record_end_cells(&recorder, 0, cells, 2));
     WANT(OK, lwkt_record_end(&recorder));
     WANT(OK, lwkt_record_to_file(&recorder, stdout));
 }
@@ -556,6 +602,9 @@ static const struct scene {
     {"full", full},
     {"no_room", no_room},
     {"references", references},
+    {"lines_past_the_limit", lines_past_the_limit},
+    {"lines_cut", lines_cut},
+    {"lines_other_end", lines_other_end},
     {"unknown_things", unknown_things},
     {"unknown_processor", unknown_processor},
     {"unknown_target", unknown_target},
