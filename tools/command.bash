@@ -4,9 +4,9 @@
 # its name.
 # shellcheck disable=SC2154 # These two are set where this is read.
 
-# What a command reads, and whether it opens its file itself; the words of which one has to stand first; its options
-# without a value and with one; whether it can tell how far it is, and be ended with what it found (`tells`).
-modes=() flags=() valued=() opens_file='' tells=''
+# What a command reads, and whether it opens its file itself; the words of which one has to stand first, and those of which one
+# may; its options without a value and with one; whether it can tell how far it is, and be ended with what it found (`tells`).
+modes=() choices=() flags=() valued=() opens_file='' tells=''
 case $program_name in
     lwkt_run)
         reads=script modes=(turns threads)
@@ -15,7 +15,7 @@ case $program_name in
         reads=script modes=(turns threads) flags=(--svg --trace --chains) valued=(--turns --rounds --order)
         ;;
     lwkt_check)
-        reads=trace
+        reads=trace choices=(lines)
         ;;
     lwkt_explore)
         reads=script flags=(--plain --progress) valued=(--states --turns --random --seed --stop) tells=yes
@@ -61,13 +61,13 @@ wants_help() {
 # The words that are the program's into `words`, and into `file` what stands behind them: the last word that is no mode,
 # no option and no option's value, if there is one (`has_file`). `is_known` says whether the program will read.
 sort_words() {
-    local word behind='' value='' plain=() first=0 at
+    local word behind='' value='' plain=() first=0 at before=$#
     words=() file='' has_file='' is_known=yes
     for word in "$@"; do
         if [[ -n $value ]]; then
             value=
         elif [[ -z $behind && $word = -- ]]; then
-            behind=yes
+            behind=yes before=${#words[@]}
             continue
         elif [[ -z $behind && $word = -?* ]]; then
             if is_among "$word" "${valued[@]}"; then
@@ -81,9 +81,12 @@ sort_words() {
         words+=("$word")
     done
     ((${#modes[@]} == 0)) || first=1
+    if ((${#plain[@]} > 0 && plain[0] < before)) && is_among "${words[${plain[0]}]}" "${choices[@]}"; then
+        first=1
+    fi
     if ((${#plain[@]} < first || ${#plain[@]} > first + 1)); then
         is_known=
-    elif ((first == 1)) && ! is_among "${words[${plain[0]}]}" "${modes[@]}"; then
+    elif ((first == 1)) && ! is_among "${words[${plain[0]}]}" "${modes[@]}" "${choices[@]}"; then
         is_known=
     fi
     ((${#plain[@]} > first)) || return 0
