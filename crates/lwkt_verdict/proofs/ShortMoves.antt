@@ -16,7 +16,7 @@ use Rattle.lwkt_verdict.specs.declared.shorts.ShortAsk.{ShortAsk}
 use Rattle.lwkt_verdict.specs.declared.shorts.ShortAsk.TheVariants.{Get as ShortGet, GetShared as ShortGetShared, TryGet as ShortTryGet, Rel as ShortRel, Swap as ShortSwap, Read as ShortRead, Write as ShortWrite, Add as ShortAdd, ReadBlob as ShortReadBlob, Send as ShortSend, Do as ShortDo, Reply as ShortReply, Abort as ShortAbort, IsAborted as ShortIsAborted, DropMsg as ShortDropMsg, GetPort as ShortGetPort, WaitPort as ShortWaitPort, Yield as ShortYield, Exit as ShortExit, Long as LongAsk}
 use Rattle.lwkt_verdict.specs.declared.shorts.ShortAnswer.{ShortAnswer}
 use Rattle.lwkt_verdict.specs.declared.shorts.ShortAnswer.TheVariants.{NotYet, Begin as ShortBegin, Done as ShortDone, Value as ShortValue, Request as ShortRequest, Answered as ShortAnswered, NoMsg as ShortNoMsg, Refused as ShortRefused, Long as LongAnswer}
-use Rattle.lwkt_verdict.specs.declared.poll_lists.Row.{Row}
+use Rattle.lwkt_verdict.specs.declared.poll_lists.PollRow.{PollRow}
 use Rattle.lwkt_core.specs.Machine.{changed}
 use Rattle.lwkt_core.proofs.MachineMoves.{changed_at}
 use Rattle.lwkt_verdict.specs.Shorts.{ask_of, answer_of, IsAskIn, IsAnswerIn, IsRowIn, Grows, poll_in, polls_in}
@@ -89,15 +89,15 @@ answer_stays few many ShortNoMsg less inside = tt
 answer_stays few many (ShortRefused fault) less inside = tt
 answer_stays few many (LongAnswer place) less inside = omega arith
 
-abbrev made : Option Answer → Ask → Row → Poll
+abbrev made : Option Answer → Ask → PollRow → Poll
 made answer ask row = record { answer = answer; ask = ask; thread = row.thread }
 
 -- the poll of a row
-row_longer : (asks asks' : List Ask) (answers answers' : List Answer) (row : Row) → IsRowIn (length asks) (length answers) row → poll_in (asks ++ asks') (answers ++ answers') row ≡ poll_in asks answers row
+row_longer : (asks asks' : List Ask) (answers answers' : List Answer) (row : PollRow) → IsRowIn (length asks) (length answers) row → poll_in (asks ++ asks') (answers ++ answers') row ≡ poll_in asks answers row
 row_longer asks asks' answers answers' row is =
     ap (λ (a : Option Answer). made a (ask_of (asks ++ asks') row.ask) row) (answer_longer answers answers' row.answer is.answer) ∙ ap (λ (a : Ask). made (answer_of answers row.answer) a row) (ask_longer asks asks' row.ask is.ask)
 
-pub row_stays : (asks answers asks' answers' : ℕ) → asks ≤ asks' → answers ≤ answers' → (row : Row) → IsRowIn asks answers row → IsRowIn asks' answers' row
+pub row_stays : (asks answers asks' answers' : ℕ) → asks ≤ asks' → answers ≤ answers' → (row : PollRow) → IsRowIn asks answers row → IsRowIn asks' answers' row
 row_stays asks answers asks' answers' one other row is = record {
   ask = ask_stays asks asks' row.ask one is.ask;
   answer = answer_stays answers answers' row.answer other is.answer;
@@ -113,21 +113,21 @@ grown_long xs ys grows =
     omega arith
 
 -- the polls of rows
-polls_longer : (asks asks' : List Ask) (answers answers' : List Answer) (rows : List Row) → All (IsRowIn (length asks) (length answers)) rows → polls_in (asks ++ asks') (answers ++ answers') rows ≡ polls_in asks answers rows
+polls_longer : (asks asks' : List Ask) (answers answers' : List Answer) (rows : List PollRow) → All (IsRowIn (length asks) (length answers)) rows → polls_in (asks ++ asks') (answers ++ answers') rows ≡ polls_in asks answers rows
 polls_longer asks asks' answers answers' [] all = refl
 polls_longer asks asks' answers answers' (row ∷ rows) all =
     ap (λ (q : Poll). q ∷ polls_in (asks ++ asks') (answers ++ answers') rows) (row_longer asks asks' answers answers' row (all 0 row (omega arith))) ∙ ap (λ (qs : List Poll). poll_in asks answers row ∷ qs) (polls_longer asks asks' answers answers' rows (λ k d inside. all (suc k) d (omega arith)))
 
-pub polls_grown : (asks asks' : List Ask) (answers answers' : List Answer) (rows : List Row) → Grows asks asks' → Grows answers answers' → All (IsRowIn (length asks) (length answers)) rows → polls_in asks' answers' rows ≡ polls_in asks answers rows
+pub polls_grown : (asks asks' : List Ask) (answers answers' : List Answer) (rows : List PollRow) → Grows asks asks' → Grows answers answers' → All (IsRowIn (length asks) (length answers)) rows → polls_in asks' answers' rows ≡ polls_in asks answers rows
 polls_grown asks asks' answers answers' rows one other all =
     ap (λ (xs : List Ask). polls_in xs answers' rows) one.is ∙ ap (λ (ys : List Answer). polls_in (asks ++ one.more) ys rows) other.is ∙ polls_longer asks one.more answers other.more rows all
 
-pub rows_grown : (asks asks' : List Ask) (answers answers' : List Answer) (rows : List Row) → Grows asks asks' → Grows answers answers' → All (IsRowIn (length asks) (length answers)) rows → All (IsRowIn (length asks') (length answers')) rows
+pub rows_grown : (asks asks' : List Ask) (answers answers' : List Answer) (rows : List PollRow) → Grows asks asks' → Grows answers answers' → All (IsRowIn (length asks) (length answers)) rows → All (IsRowIn (length asks') (length answers')) rows
 rows_grown asks asks' answers answers' rows one other all =
     All-weaker (IsRowIn (length asks) (length answers)) (IsRowIn (length asks') (length answers')) (row_stays (length asks) (length answers) (length asks') (length answers') (grown_long asks asks' one) (grown_long answers answers' other)) rows all
 
 -- one poll more
-pub polls_pushed : (asks : List Ask) (answers : List Answer) (rows new : List Row) (row : Row) (qs : List Poll) (q : Poll) → new ≡ rows ++ row ∷ [] → polls_in asks answers rows ≡ qs → poll_in asks answers row ≡ q → polls_in asks answers new ≡ qs ++ q ∷ []
+pub polls_pushed : (asks : List Ask) (answers : List Answer) (rows new : List PollRow) (row : PollRow) (qs : List Poll) (q : Poll) → new ≡ rows ++ row ∷ [] → polls_in asks answers rows ≡ qs → poll_in asks answers row ≡ q → polls_in asks answers new ≡ qs ++ q ∷ []
 polls_pushed asks answers rows new row qs q is before one =
     ap (polls_in asks answers) is ∙ map-append (poll_in asks answers) rows (row ∷ []) ∙ ap (λ (xs : List Poll). xs ++ poll_in asks answers row ∷ []) before ∙ ap (λ (x : Poll). qs ++ x ∷ []) one
 

@@ -10,7 +10,7 @@ use Rattle.lwkt_verdict.specs.declared.shorts.ShortAsk.{ShortAsk}
 use Rattle.lwkt_verdict.specs.declared.shorts.ShortAsk.TheVariants.{Get as ShortGet, GetShared as ShortGetShared, TryGet as ShortTryGet, Rel as ShortRel, Swap as ShortSwap, Read as ShortRead, Write as ShortWrite, Add as ShortAdd, ReadBlob as ShortReadBlob, Send as ShortSend, Do as ShortDo, Reply as ShortReply, Abort as ShortAbort, IsAborted as ShortIsAborted, DropMsg as ShortDropMsg, GetPort as ShortGetPort, WaitPort as ShortWaitPort, Yield as ShortYield, Exit as ShortExit, Long as LongAsk}
 use Rattle.lwkt_verdict.specs.declared.shorts.ShortAnswer.{ShortAnswer}
 use Rattle.lwkt_verdict.specs.declared.shorts.ShortAnswer.TheVariants.{NotYet, Begin as ShortBegin, Done as ShortDone, Value as ShortValue, Request as ShortRequest, Answered as ShortAnswered, NoMsg as ShortNoMsg, Refused as ShortRefused, Long as LongAnswer}
-use Rattle.lwkt_verdict.specs.declared.poll_lists.Row.{Row}
+use Rattle.lwkt_verdict.specs.declared.poll_lists.PollRow.{PollRow}
 
 -- the asks that are too long for a row: those with a record
 abbrev pub is_long_ask : Ask → Bool
@@ -87,15 +87,15 @@ abbrev pub with_one : {A : Type 0} → Bool → List A → A → List A
 with_one is_long longs one = if is_long then (longs ++ one ∷ []) else longs
 
 -- the poll that a row stands for, where the long asks and answers are these
-abbrev pub poll_in : List Ask → List Answer → Row → Poll
+abbrev pub poll_in : List Ask → List Answer → PollRow → Poll
 poll_in asks answers row = record { answer = answer_of answers row.answer; ask = ask_of asks row.ask; thread = row.thread }
 
 -- the polls that rows stand for
-abbrev pub polls_in : List Ask → List Answer → List Row → List Poll
+abbrev pub polls_in : List Ask → List Answer → List PollRow → List Poll
 polls_in asks answers rows = map (poll_in asks answers) rows
 
 -- a row's ask and answer are there, where there are so many long ones
-pub record IsRowIn (asks answers : ℕ) (row : Row) : Type 0 where
+pub record IsRowIn (asks answers : ℕ) (row : PollRow) : Type 0 where
   pub ask : IsAskIn asks row.ask
   pub answer : IsAnswerIn answers row.answer
 

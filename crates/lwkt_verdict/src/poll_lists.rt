@@ -11,7 +11,7 @@ use std::marker::Model;
 
 /// A poll as it is kept.
 #[derive(Clone, Copy)]
-pub struct Row {
+pub struct PollRow {
     pub answer: ShortAnswer,
     pub ask: ShortAsk,
     pub thread: ThreadId,
@@ -22,7 +22,7 @@ pub struct Row {
 /// Few asks and answers have a record. So a poll is kept in a row of 56 bytes, and a record lies in a list of its own.
 #[derive(Drop)]
 pub struct PollList {
-    rows: Vec<Row>,
+    rows: Vec<PollRow>,
     // The asks and the answers that are too long for a row.
     asks: Vec<Ask>,
     answers: Vec<Answer>,
@@ -41,7 +41,7 @@ impl Model for PollList {
 }
 
 // The row at a place, if there is one, gets this answer.
-fn answer_row(rows: &mut Vec<Row>, place: usize, answer: ShortAnswer)
+fn answer_row(rows: &mut Vec<PollRow>, place: usize, answer: ShortAnswer)
     ensures { rows.new.items ≡ changed (λ r. record r { answer = answer }) rows.old.items place }
 {
     if place < rows.len() {
@@ -122,7 +122,7 @@ impl PollList {
         ensures err { OnErr result (self.new ≡ self.old) }
     {
         let ask = keep_ask(&mut self.asks, ask)?;
-        self.rows.push(Row {
+        self.rows.push(PollRow {
             answer: ShortAnswer::NotYet,
             ask,
             thread,
