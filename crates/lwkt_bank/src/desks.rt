@@ -17,7 +17,7 @@ use crate::seats::CpuSeat;
 use crate::views::View;
 use atomic_table::{Seat, Table};
 use lwkt_base::{Blob, CpuId, Fault, TokSpec};
-use lwkt_clerk::refusal_of;
+use lwkt_clerk::table_refusal;
 use lwkt_core::{SeatKind, all_open_lawfully};
 use std::alloc::{AllocError, Global};
 
@@ -62,7 +62,7 @@ impl ClerkDesk {
     {
         match Table::new(alloc, words, slots, &key) {
             Ok((table, clerk)) => Ok(ClerkDesk { table, clerk, key }),
-            Err(refused) => Err(refusal_of(refused)),
+            Err(refused) => Err(table_refusal(refused)),
         }
     }
 

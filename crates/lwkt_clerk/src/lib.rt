@@ -11,7 +11,7 @@ ghost use Rattle.std.specs.Prelude.{◌≡◌};
 ghost use Rattle.std.specs.Borrow.{ftrue};
 
 use atomic_table::Seat;
-pub use refusals::refusal_of;
+pub use refusals::table_refusal;
 use std::marker::Model;
 
 /// A clerk's seat at rest. A reference to it gives no seat, so threads may share what it lies in; who owns it wakes the clerk.

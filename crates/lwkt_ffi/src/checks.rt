@@ -2,7 +2,7 @@ ghost use Rattle.std.specs.Prelude.{◌≡◌, []};
 ghost use Rattle.lwkt_ffi.specs.Answers.{TellsCheck, AnswersCheck, status_of_check};
 
 use crate::answers::{LwktAnswer, status_of_fault};
-use crate::fronts::{blank, fill, refusal_of};
+use crate::fronts::{blank, fill, page_refusal};
 use lwkt_base::Fault;
 use lwkt_checker::check_stream;
 use lwkt_refusals::Speaker;
@@ -19,7 +19,7 @@ fn finding_onto(alloc: Global, trace: &[u8], page: &mut Page) -> Result<bool, Fa
     match check_stream(alloc, &mut source, page) {
         Ok(lawful) => Ok(lawful),
         Err(RunFault::Fault(fault)) => Err(fault),
-        Err(RunFault::Stream) => Err(Fault::Memory(refusal_of(page))),
+        Err(RunFault::Stream) => Err(Fault::Memory(page_refusal(page))),
     }
 }
 

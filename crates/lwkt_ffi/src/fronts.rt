@@ -16,7 +16,7 @@ pub fn blank(alloc: Global) -> Page
 }
 
 /// What the allocator said of a page for which memory was refused. That it was is the caller's condition.
-pub fn refusal_of(page: &Page) -> AllocError
+pub fn page_refusal(page: &Page) -> AllocError
     requires { IsTrue (is_some page.now.refused) }
 {
     page.refused.unwrap()

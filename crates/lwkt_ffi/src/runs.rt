@@ -2,7 +2,7 @@ ghost use Rattle.std.specs.Prelude.{◌≡◌, []};
 ghost use Rattle.lwkt_ffi.specs.Answers.{TellsRun, AnswersRun, status_of_run};
 
 use crate::answers::{LwktAnswer, status_of_end, status_of_fault};
-use crate::fronts::{blank, fill, refusal_of};
+use crate::fronts::{blank, fill, page_refusal};
 use lwkt_base::Fault;
 use lwkt_refusals::Speaker;
 use lwkt_report::{Complaint, Page, Program, READ_LIMIT, RunFault, complain};
@@ -18,7 +18,7 @@ fn report_onto(alloc: Global, script: &[u8], page: &mut Page) -> Result<End, Fau
     match run_turns(alloc, &mut source, page) {
         Ok(end) => Ok(end),
         Err(RunFault::Fault(fault)) => Err(fault),
-        Err(RunFault::Stream) => Err(Fault::Memory(refusal_of(page))),
+        Err(RunFault::Stream) => Err(Fault::Memory(page_refusal(page))),
     }
 }
 

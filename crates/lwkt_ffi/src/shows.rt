@@ -7,7 +7,7 @@ ghost use Rattle.lwkt_ffi.specs.Answers.{words_in, AskNothing, AreMisused, Displ
 ghost use Rattle.lwkt_base.specs.Fault.{no_memory};
 
 use crate::answers::{LwktAnswer, status_of_end, status_of_fault};
-use crate::fronts::{blank, fill, refusal_of};
+use crate::fronts::{blank, fill, page_refusal};
 use crate::words::words_of;
 use lwkt_base::Fault;
 use lwkt_refusals::Speaker;
@@ -64,7 +64,7 @@ fn picture_onto(
         Ok(Outcome::Shown(end)) => Ok(Showing::Shown(end)),
         Ok(Outcome::Past) => Ok(Showing::Past),
         Err(RunFault::Fault(fault)) => Err(fault),
-        Err(RunFault::Stream) => Err(Fault::Memory(refusal_of(page))),
+        Err(RunFault::Stream) => Err(Fault::Memory(page_refusal(page))),
     }
 }
 
@@ -117,7 +117,7 @@ fn along_onto(
         Ok(Outcome::Shown(end)) => Ok(Showing::Shown(end)),
         Ok(Outcome::Past) => Ok(Showing::Past),
         Err(RunFault::Fault(fault)) => Err(fault),
-        Err(RunFault::Stream) => Err(Fault::Memory(refusal_of(page))),
+        Err(RunFault::Stream) => Err(Fault::Memory(page_refusal(page))),
     }
 }
 

@@ -97,7 +97,7 @@ fn add_record(words: &mut Vec<u64>, rec: Rec) -> Result<(), AllocError> {
 }
 
 // What the number of a refusal is, or 0.
-fn refusal_of(answer: Result<(), Fault>) -> u64 {
+fn answer_number(answer: Result<(), Fault>) -> u64 {
     match answer {
         Ok(()) => 0,
         Err(fault) => u64::from(fault.number()),
@@ -117,7 +117,7 @@ fn withdraw(
 {
     let asked = seat.abort(book, msg);
     let dropped = seat.drop_msg(book, msg);
-    add(words, refusal_of(asked))?;
+    add(words, answer_number(asked))?;
     match dropped {
         Ok(rec) => add_record(words, rec),
         Err(fault) => add(words, u64::from(fault.number())),

@@ -7,7 +7,7 @@ use crate::seats::MsgSeat;
 use crate::views::{Key, View};
 use atomic_table::Shared;
 use lwkt_base::{Fault, MsgEnd, MsgSpec, Rec};
-use lwkt_clerk::{Resting, refusal_of};
+use lwkt_clerk::{Resting, table_refusal};
 use lwkt_core::are_within;
 use std::alloc::{AllocError, Global};
 use std::marker::Model;
@@ -76,7 +76,7 @@ impl MsgBook {
         let records = blank_records(alloc, specs.len())?;
         let (table, mut clerk) = match BookTable::new(alloc, &words, records, &layout) {
             Ok(opened) => opened,
-            Err(refused) => return Err(refusal_of(refused)),
+            Err(refused) => return Err(table_refusal(refused)),
         };
         seat_all(&table.shared, &mut clerk, cpus, specs, &mut seats)?;
         let book = MsgBook {

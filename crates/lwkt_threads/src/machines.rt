@@ -69,7 +69,7 @@ fn take_apart(alloc: Global, all: Vec<Driven<ScriptBody>>) -> Result<Apart, Faul
 }
 
 // What the allocator said, where this is an end for want of memory.
-fn refusal_of(ending: Ending) -> Option<AllocError>
+fn ending_refusal(ending: Ending) -> Option<AllocError>
     ensures { (result ≡ None) ↔ IsAmple ending }
 {
     match ending {
@@ -84,8 +84,8 @@ fn refusal_among(all: &[Driven<ScriptBody>]) -> Option<AllocError>
 {
     let driven = all
         .iter()
-        .find(|driven| refusal_of(driven.ending).is_some())?;
-    refusal_of(driven.ending)
+        .find(|driven| ending_refusal(driven.ending).is_some())?;
+    ending_refusal(driven.ending)
 }
 
 // Drives these processors on at most so many threads, and gives them back with the events of each.
