@@ -7,7 +7,7 @@ use Rattle.lwkt_base.specs.declared.asks.Answer.TheVariants.{Done, Value, Bytes,
 use Rattle.lwkt_base.specs.Holding.{Holding, holding_of, holds_nothing}
 use Rattle.lwkt_hold.specs.declared.answers.Blocked.{Blocked}
 use Rattle.lwkt_hold.specs.declared.answers.Blocked.TheVariants.{Clean, Restored}
-use Rattle.lwkt_ask.specs.declared.nexts.Kept.{Kept}
+use Rattle.lwkt_ask.specs.declared.nexts.AnswerKept.{AnswerKept}
 use Rattle.lwkt_ask.specs.declared.nexts.Next.{Next}
 use Rattle.lwkt_ask.specs.declared.nexts.Next.TheVariants.{Runs, Readies, AwaitsItem, AwaitsReply, Exits, Faults}
 
@@ -54,7 +54,7 @@ unless_broken next Clean = next
 unless_broken next (Restored tok) = Faults Broken
 
 -- what comes next, with the answer that is kept for the thread
-abbrev pub next_with : Next Kept → Answer → Next Answer
+abbrev pub next_with : Next AnswerKept → Answer → Next Answer
 next_with (Runs kept) answer = Runs answer
 next_with (Readies kept) answer = Readies answer
 next_with AwaitsItem answer = AwaitsItem
@@ -63,7 +63,7 @@ next_with Exits answer = Exits
 next_with (Faults fault) answer = Faults fault
 
 -- the answer that was kept before stays, where none comes now
-abbrev pub KeepsAnswer : Next Kept → Answer → Answer → Type 0
+abbrev pub KeepsAnswer : Next AnswerKept → Answer → Answer → Type 0
 KeepsAnswer (Runs kept) old new = Unit {0}
 KeepsAnswer (Readies kept) old new = Unit {0}
 KeepsAnswer AwaitsItem old new = new ≡ old

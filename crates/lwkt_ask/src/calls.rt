@@ -11,7 +11,7 @@ ghost use Rattle.lwkt_ask.specs.Calls.{Tries, Rels, Swaps, Reads, Stores, Adds, 
 ghost use Rattle.lwkt_ask.specs.Table.{Gets};
 
 use crate::leaves::be_ready;
-use crate::nexts::{Kept, Next};
+use crate::nexts::{AnswerKept, Next};
 use lwkt_bank::Bank;
 use lwkt_base::{Answer, Blob, Fault, Ref, TokId, TokList};
 use lwkt_core::Event;
@@ -19,38 +19,38 @@ use lwkt_hold::{Acquired, Hold};
 
 // Keeps the answer for a call that answers nothing.
 #[inline(always)]
-pub(crate) fn done(told: Result<(), Fault>, last: &mut Answer) -> Kept
+pub(crate) fn done(told: Result<(), Fault>, last: &mut Answer) -> AnswerKept
     ensures { last.new ≡ done_or told }
 {
     match told {
         Ok(()) => *last = Answer::Done,
         Err(fault) => *last = Answer::Refused(fault),
     }
-    Kept
+    AnswerKept
 }
 
 // Keeps the answer for a call that answers a value.
 #[inline(always)]
-fn value(told: Result<u64, Fault>, last: &mut Answer) -> Kept
+fn value(told: Result<u64, Fault>, last: &mut Answer) -> AnswerKept
     ensures { last.new ≡ value_or told }
 {
     match told {
         Ok(value) => *last = Answer::Value(value),
         Err(fault) => *last = Answer::Refused(fault),
     }
-    Kept
+    AnswerKept
 }
 
 // Keeps the answer for a call that answers a record.
 #[inline(always)]
-fn bytes(told: Result<Blob, Fault>, last: &mut Answer) -> Kept
+fn bytes(told: Result<Blob, Fault>, last: &mut Answer) -> AnswerKept
     ensures { last.new ≡ bytes_or told }
 {
     match told {
         Ok(blob) => *last = Answer::Bytes(blob),
         Err(fault) => *last = Answer::Refused(fault),
     }
-    Kept
+    AnswerKept
 }
 
 /// Asks for a reference. Where it is missed, the references before it are given up, and the thread is ready.
@@ -62,7 +62,7 @@ pub(crate) fn get(
     new: Ref,
     last: &mut Answer,
     trace: &mut Vec<Event>,
-) -> Next<Kept>
+) -> Next<AnswerKept>
     requires of { bank_of (seat_of hold.old) ≡ id_of bank.now }
     requires held { holding (seat_of hold.old) ≡ holding_of list.old }
     requires room { vec_len trace.old + 512 ≤ vec_capacity trace.old }
@@ -91,7 +91,7 @@ pub(crate) fn try_get(
     tok: TokId,
     last: &mut Answer,
     trace: &mut Vec<Event>,
-) -> Kept
+) -> AnswerKept
     requires of { bank_of (seat_of hold.old) ≡ id_of bank.now }
     requires held { holding (seat_of hold.old) ≡ holding_of list.old }
     requires room { vec_len trace.old + 512 ≤ vec_capacity trace.old }
@@ -113,7 +113,7 @@ pub(crate) fn rel(
     tok: TokId,
     last: &mut Answer,
     trace: &mut Vec<Event>,
-) -> Kept
+) -> AnswerKept
     requires of { bank_of (seat_of hold.old) ≡ id_of bank.now }
     requires held { holding (seat_of hold.old) ≡ holding_of list.old }
     requires room { vec_len trace.old + 512 ≤ vec_capacity trace.old }
@@ -128,7 +128,7 @@ pub(crate) fn rel(
 
 /// Exchanges the two last references.
 #[inline(always)]
-pub(crate) fn swap(list: &mut TokList, last: &mut Answer) -> Kept
+pub(crate) fn swap(list: &mut TokList, last: &mut Answer) -> AnswerKept
     ensures held { holding_of list.new ≡ holding_of list.old }
     ensures there { (n : ℕ) → All (λ r. r.tok.0 < n) list.old → All (λ r. r.tok.0 < n) list.new }
     ensures swaps { (told : Result (Unit {0}) Fault) × (Swaps list.old list.new told × (last.new ≡ done_or told)) }
@@ -147,7 +147,7 @@ pub(crate) fn read(
     cell: u8,
     last: &mut Answer,
     trace: &mut Vec<Event>,
-) -> Kept
+) -> AnswerKept
     requires of { bank_of (seat_of hold.old) ≡ id_of bank.now }
     requires held { holding (seat_of hold.old) ≡ holding_of list.now }
     requires room { vec_len trace.old + 512 ≤ vec_capacity trace.old }
@@ -170,7 +170,7 @@ pub(crate) fn write(
     value: u64,
     last: &mut Answer,
     trace: &mut Vec<Event>,
-) -> Kept
+) -> AnswerKept
     requires of { bank_of (seat_of hold.old) ≡ id_of bank.now }
     requires held { holding (seat_of hold.old) ≡ holding_of list.now }
     requires room { vec_len trace.old + 512 ≤ vec_capacity trace.old }
@@ -192,7 +192,7 @@ pub(crate) fn add(
     k: u64,
     last: &mut Answer,
     trace: &mut Vec<Event>,
-) -> Kept
+) -> AnswerKept
     requires of { bank_of (seat_of hold.old) ≡ id_of bank.now }
     requires held { holding (seat_of hold.old) ≡ holding_of list.now }
     requires room { vec_len trace.old + 512 ≤ vec_capacity trace.old }
@@ -212,7 +212,7 @@ pub(crate) fn read_blob(
     tok: TokId,
     last: &mut Answer,
     trace: &mut Vec<Event>,
-) -> Kept
+) -> AnswerKept
     requires of { bank_of (seat_of hold.old) ≡ id_of bank.now }
     requires held { holding (seat_of hold.old) ≡ holding_of list.now }
     requires room { vec_len trace.old + 512 ≤ vec_capacity trace.old }
@@ -233,7 +233,7 @@ pub(crate) fn write_blob(
     blob: &Blob,
     last: &mut Answer,
     trace: &mut Vec<Event>,
-) -> Kept
+) -> AnswerKept
     requires of { bank_of (seat_of hold.old) ≡ id_of bank.now }
     requires held { holding (seat_of hold.old) ≡ holding_of list.now }
     requires room { vec_len trace.old + 512 ≤ vec_capacity trace.old }

@@ -9,7 +9,7 @@ ghost use Rattle.lwkt_hold.specs.Runs.{Ran};
 ghost use Rattle.lwkt_ask.specs.Leaving.{GivesUp};
 ghost use Rattle.lwkt_ask.specs.Nexts.{next_with, unless_broken, KeepsAnswer};
 
-use crate::nexts::{Kept, Next};
+use crate::nexts::{AnswerKept, Next};
 use lwkt_bank::Bank;
 use lwkt_base::{Answer, Fault, TokList};
 use lwkt_core::Event;
@@ -17,7 +17,7 @@ use lwkt_hold::{Blocked, Hold};
 
 // What comes next once everything was given up.
 #[inline(always)]
-fn after_blocking(meant: Next<Kept>, blocked: Blocked) -> Next<Kept>
+fn after_blocking(meant: Next<AnswerKept>, blocked: Blocked) -> Next<AnswerKept>
     ensures { (answer : Answer) → next_with result answer ≡ unless_broken (next_with meant answer) blocked }
 {
     match blocked {
@@ -28,7 +28,7 @@ fn after_blocking(meant: Next<Kept>, blocked: Blocked) -> Next<Kept>
 
 // A thread that is ready now has the answer `Done` once it is resumed.
 #[inline(always)]
-fn keep_done(next: Next<Kept>, last: &mut Answer)
+fn keep_done(next: Next<AnswerKept>, last: &mut Answer)
     ensures done { next_with next last.new ≡ next_with next Answer.Done }
     ensures kept { KeepsAnswer next last.old last.new }
 {
@@ -46,9 +46,9 @@ fn give_up(
     bank: &Bank,
     list: &TokList,
     held: usize,
-    meant: Next<Kept>,
+    meant: Next<AnswerKept>,
     trace: &mut Vec<Event>,
-) -> Next<Kept>
+) -> Next<AnswerKept>
     requires of { bank_of (seat_of hold.old) ≡ id_of bank.now }
     requires within { held ≤ length list.now }
     requires held { holding (seat_of hold.old) ≡ holding_of (take held list.now) }
@@ -70,7 +70,7 @@ pub(crate) fn be_ready(
     held: usize,
     last: &mut Answer,
     trace: &mut Vec<Event>,
-) -> Next<Kept>
+) -> Next<AnswerKept>
     requires of { bank_of (seat_of hold.old) ≡ id_of bank.now }
     requires within { held ≤ length list.now }
     requires held { holding (seat_of hold.old) ≡ holding_of (take held list.now) }
@@ -80,7 +80,7 @@ pub(crate) fn be_ready(
     ensures gives_up { GivesUp (seat_of hold.old) (seat_of hold.new) list.now held trace.old trace.new (Next.Readies Answer.Done) (next_with result last.new) }
     ensures kept { KeepsAnswer result last.old last.new }
 {
-    let next = give_up(hold, bank, list, held, Next::Readies(Kept), trace);
+    let next = give_up(hold, bank, list, held, Next::Readies(AnswerKept), trace);
     keep_done(next, last);
     next
 }
@@ -91,9 +91,9 @@ pub(crate) fn leave(
     hold: &mut Hold,
     bank: &Bank,
     list: &TokList,
-    meant: Next<Kept>,
+    meant: Next<AnswerKept>,
     trace: &mut Vec<Event>,
-) -> Next<Kept>
+) -> Next<AnswerKept>
     requires of { bank_of (seat_of hold.old) ≡ id_of bank.now }
     requires held { holding (seat_of hold.old) ≡ holding_of list.now }
     requires room { vec_len trace.old + 256 ≤ vec_capacity trace.old }
@@ -113,7 +113,7 @@ pub(crate) fn leave_ready(
     list: &TokList,
     last: &mut Answer,
     trace: &mut Vec<Event>,
-) -> Next<Kept>
+) -> Next<AnswerKept>
     requires of { bank_of (seat_of hold.old) ≡ id_of bank.now }
     requires held { holding (seat_of hold.old) ≡ holding_of list.now }
     requires room { vec_len trace.old + 256 ≤ vec_capacity trace.old }
@@ -129,7 +129,12 @@ pub(crate) fn leave_ready(
 /// The ask to end: a thread that runs gives up its whole list. It `Exits`, or `Faults` with 19 if a section had broken its law, whose
 /// first row is then stored again. That the trace has room for 256 events is the caller's condition; no more than 192 are made. No
 /// answer comes with it, so the clause holds with each.
-pub fn exit(hold: &mut Hold, bank: &Bank, list: &TokList, trace: &mut Vec<Event>) -> Next<Kept>
+pub fn exit(
+    hold: &mut Hold,
+    bank: &Bank,
+    list: &TokList,
+    trace: &mut Vec<Event>,
+) -> Next<AnswerKept>
     requires of { bank_of (seat_of hold.old) ≡ id_of bank.now }
     requires held { holding (seat_of hold.old) ≡ holding_of list.now }
     requires room { vec_len trace.old + 256 ≤ vec_capacity trace.old }

@@ -14,5 +14,5 @@ pub mod performs;
 
 pub use bodies::Body;
 pub use leaves::exit;
-pub use nexts::{Kept, Next};
+pub use nexts::{AnswerKept, Next};
 pub use performs::perform;

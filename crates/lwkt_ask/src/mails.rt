@@ -20,7 +20,7 @@ ghost use Rattle.lwkt_ask.specs.Mailing.{sending, plain_flags, SendsMail, Replie
 
 use crate::calls::done;
 use crate::leaves::leave;
-use crate::nexts::{Kept, Next};
+use crate::nexts::{AnswerKept, Next};
 use lwkt_bank::Bank;
 use lwkt_base::{Answer, Call, Fault, Flags, Item, MsgId, Rec, ThreadId, TokList};
 use lwkt_core::Event;
@@ -30,7 +30,7 @@ use lwkt_port::Ports;
 
 // Keeps the answer for a look at a port.
 #[inline(always)]
-fn shown(told: Result<Option<Item>, Fault>, last: &mut Answer) -> Kept
+fn shown(told: Result<Option<Item>, Fault>, last: &mut Answer) -> AnswerKept
     ensures { last.new ≡ item_or told }
 {
     match told {
@@ -38,12 +38,12 @@ fn shown(told: Result<Option<Item>, Fault>, last: &mut Answer) -> Kept
         Ok(None) => *last = Answer::NoMsg,
         Err(fault) => *last = Answer::Refused(fault),
     }
-    Kept
+    AnswerKept
 }
 
 // Keeps the answer to a question: 1 for yes, 0 for no.
 #[inline(always)]
-fn said(told: Result<bool, Fault>, last: &mut Answer) -> Kept
+fn said(told: Result<bool, Fault>, last: &mut Answer) -> AnswerKept
     ensures { last.new ≡ bit_or told }
 {
     match told {
@@ -51,19 +51,19 @@ fn said(told: Result<bool, Fault>, last: &mut Answer) -> Kept
         Ok(false) => *last = Answer::Value(0),
         Err(fault) => *last = Answer::Refused(fault),
     }
-    Kept
+    AnswerKept
 }
 
 // Keeps the answer for a drop of a message: the message and the record that it was sent with.
 #[inline(always)]
-fn given_back(msg: MsgId, told: Result<Rec, Fault>, last: &mut Answer) -> Kept
+fn given_back(msg: MsgId, told: Result<Rec, Fault>, last: &mut Answer) -> AnswerKept
     ensures { last.new ≡ dropped_or msg told }
 {
     match told {
         Ok(rec) => *last = Answer::Dropped(msg, rec),
         Err(fault) => *last = Answer::Refused(fault),
     }
-    Kept
+    AnswerKept
 }
 
 /// Sends a message of the thread.
@@ -78,7 +78,7 @@ pub(crate) fn send(
     flags: Flags,
     last: &mut Answer,
     trace: &mut Vec<Event>,
-) -> Kept
+) -> AnswerKept
     requires table { ports.old.seat.table ≡ book.now.table }
     requires room { vec_len trace.old + 512 ≤ vec_capacity trace.old }
     ensures sends { (told : Result (Unit {0}) Fault) × (SendsMail (sending thread msg to call flags false) ports.old ports.new trace.old trace.new told × (last.new ≡ done_or told)) }
@@ -104,7 +104,7 @@ pub(crate) fn send_and_wait(
     call: Call,
     last: &mut Answer,
     trace: &mut Vec<Event>,
-) -> Next<Kept>
+) -> Next<AnswerKept>
     requires of { bank_of (seat_of hold.old) ≡ id_of bank.now }
     requires table { ports.old.seat.table ≡ book.now.table }
     requires mine { cpu_of ports.old.seat ≡ (seat_of hold.old).cpu }
@@ -136,7 +136,7 @@ pub(crate) fn reply(
     outcome: u64,
     last: &mut Answer,
     trace: &mut Vec<Event>,
-) -> Kept
+) -> AnswerKept
     requires table { ports.old.seat.table ≡ book.now.table }
     requires room { vec_len trace.old + 512 ≤ vec_capacity trace.old }
     ensures replies { (told : Result (Unit {0}) Fault) × (RepliesMail thread msg error outcome ports.old ports.new trace.old trace.new told × (last.new ≡ done_or told)) }
@@ -157,7 +157,7 @@ pub(crate) fn abort(
     msg: MsgId,
     last: &mut Answer,
     trace: &mut Vec<Event>,
-) -> Kept
+) -> AnswerKept
     requires table { ports.old.seat.table ≡ book.now.table }
     requires room { vec_len trace.old + 512 ≤ vec_capacity trace.old }
     ensures aborts { (told : Result (Unit {0}) Fault) × (AbortsMail thread msg ports.old ports.new trace.old trace.new told × (last.new ≡ done_or told)) }
@@ -177,7 +177,7 @@ pub(crate) fn is_aborted(
     thread: u8,
     msg: MsgId,
     last: &mut Answer,
-) -> Kept
+) -> AnswerKept
     requires table { ports.old.seat.table ≡ book.now.table }
     ensures hears { (told : Result Bool Fault) × (HearsMail thread msg ports.old ports.new told × (last.new ≡ bit_or told)) }
     ensures same { IsSamePost ports.old ports.new }
@@ -196,7 +196,7 @@ pub(crate) fn drop_msg(
     msg: MsgId,
     last: &mut Answer,
     trace: &mut Vec<Event>,
-) -> Kept
+) -> AnswerKept
     requires table { ports.old.seat.table ≡ book.now.table }
     requires room { vec_len trace.old + 512 ≤ vec_capacity trace.old }
     ensures drops { (told : Result Rec Fault) × (DropsMail thread msg ports.old ports.new trace.old trace.new told × (last.new ≡ dropped_or msg told)) }
@@ -216,7 +216,7 @@ pub(crate) fn get_port(
     thread: u8,
     last: &mut Answer,
     trace: &mut Vec<Event>,
-) -> Kept
+) -> AnswerKept
     requires table { ports.old.seat.table ≡ book.now.table }
     requires exists { thread < ports.old.threads }
     requires room { vec_len trace.old + 512 ≤ vec_capacity trace.old }
@@ -240,7 +240,7 @@ pub(crate) fn wait_port(
     list: &TokList,
     last: &mut Answer,
     trace: &mut Vec<Event>,
-) -> Next<Kept>
+) -> Next<AnswerKept>
     requires of { bank_of (seat_of hold.old) ≡ id_of bank.now }
     requires table { ports.old.seat.table ≡ book.now.table }
     requires exists { thread < ports.old.threads }

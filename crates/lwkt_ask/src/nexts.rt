@@ -20,4 +20,4 @@ pub enum Next<A> {
 
 /// In place of an answer: it is kept already, where the caller keeps the thread's answers.
 #[derive(Clone, Copy, Debug, PartialEq, Eq)]
-pub struct Kept;
+pub struct AnswerKept;

@@ -15,7 +15,7 @@ ghost use Rattle.lwkt_ask.specs.Telling.{TellsMail};
 use crate::calls::{add, get, read, read_blob, rel, swap, try_get, write, write_blob};
 use crate::leaves::{leave, leave_ready};
 use crate::mails::{abort, drop_msg, get_port, is_aborted, reply, send, send_and_wait, wait_port};
-use crate::nexts::{Kept, Next};
+use crate::nexts::{AnswerKept, Next};
 use lwkt_bank::Bank;
 use lwkt_base::{Answer, Ask, Mode, Ref, TokId, TokList};
 use lwkt_core::Event;
@@ -60,7 +60,7 @@ pub fn perform(
     ask: &Ask,
     last: &mut Answer,
     trace: &mut Vec<Event>,
-) -> Next<Kept>
+) -> Next<AnswerKept>
     requires of { bank_of (seat_of hold.old) ≡ id_of bank.now }
     requires table { ports.old.seat.table ≡ book.now.table }
     requires exists { thread < ports.old.threads }

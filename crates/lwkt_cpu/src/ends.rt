@@ -8,7 +8,7 @@ ghost use Rattle.lwkt_cpu.specs.Polling.{became, goes_on};
 
 use crate::phases::{Phase, ToClose};
 use crate::threads::Thread;
-use lwkt_ask::{Kept, Next};
+use lwkt_ask::{AnswerKept, Next};
 use lwkt_base::TokList;
 use lwkt_port::Ports;
 
@@ -51,7 +51,7 @@ pub(crate) fn close_all(ports: &mut Ports, threads: &[Thread], which: ToClose)
 
 /// What comes next for a thread comes, whose answer is kept already; says whether it goes on running.
 #[inline(always)]
-pub(crate) fn go_on(thread: &mut Thread, next: Next<Kept>) -> bool
+pub(crate) fn go_on(thread: &mut Thread, next: Next<AnswerKept>) -> bool
     ensures becomes { thread.new ≡ became thread.old (next_with next thread.old.last) }
     ensures runs { result ≡ goes_on (next_with next thread.old.last) }
 {
