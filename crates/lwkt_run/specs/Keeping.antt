@@ -7,10 +7,10 @@ use Rattle.lwkt_verdict.specs.declared.turns.Poll.{Poll}
 use Rattle.lwkt_verdict.specs.declared.turns.Turn.{Turn}
 use Rattle.lwkt_verdict.specs.Threads.{slot_of}
 use Rattle.lwkt_run.specs.declared.polled.Polled.{Polled}
-use Rattle.lwkt_run.specs.declared.polled.Heard.{Heard}
+use Rattle.lwkt_run.specs.declared.polled.PolledRef.{PolledRef}
 
 -- what a turn asked, by where it stands
-abbrev pub polled_of : Heard → Polled
+abbrev pub polled_of : PolledRef → Polled
 polled_of h = record { thread = h.thread; told = h.told.now; asked = h.asked.now }
 
 -- what is kept of a run: the processor of each turn, the turns in order, and their polls

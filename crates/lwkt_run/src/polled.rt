@@ -13,9 +13,9 @@ pub struct Polled {
     pub asked: Ask,
 }
 
-/// What a turn asked, where it stands in the body of the thread.
+/// A `Polled` by reference: what a turn asked, where it stands in the body of the thread.
 #[derive(Clone, Copy)]
-pub struct Heard<'a> {
+pub struct PolledRef<'a> {
     /// The thread that was polled: its processor, 0 to 7, and its number there, 0 to 15.
     pub thread: ThreadId,
     /// The answer that its body was given: that to what it had asked before, and `Begin` at its first poll.

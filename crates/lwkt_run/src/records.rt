@@ -2,7 +2,7 @@
 ghost use Rattle.std.specs.Prelude.{◌≡◌, ℕ, ◌<◌, Some, slice_get, min};
 ghost use Rattle.lwkt_run.specs.Keeping.{last_place};
 
-use crate::polled::Heard;
+use crate::polled::PolledRef;
 use lwkt_base::Answer;
 use lwkt_verdict::{PollList, Turn};
 use std::alloc::{AllocError, Global};
@@ -62,17 +62,17 @@ impl Record {
     }
 
     // Keeps a poll, and the answer to what its thread asked before, if it was polled before.
-    fn keep_poll(&mut self, heard: Heard<'_>) -> Result<(), AllocError>
-        requires { slot_of heard.thread < 128 }
-        ensures polls { OnOk result (self.new.polls ≡ polls_after (Some (polled_of heard.entry)) self.old.polls) }
+    fn keep_poll(&mut self, polled: PolledRef<'_>) -> Result<(), AllocError>
+        requires { slot_of polled.thread < 128 }
+        ensures polls { OnOk result (self.new.polls ≡ polls_after (Some (polled_of polled.entry)) self.old.polls) }
         ensures turns { self.new.turns ≡ self.old.turns }
         ensures order { self.new.order ≡ self.old.order }
     {
-        let Heard {
+        let PolledRef {
             thread,
             told,
             asked,
-        } = heard;
+        } = polled;
         let slot = 16 * usize::from(thread.cpu.0) + usize::from(thread.thread);
         let place = self.polls.len();
         self.answer(slot, told)?;
@@ -85,15 +85,20 @@ impl Record {
     /// that the thread was given is put to its poll before.
     ///
     /// `AllocError` if memory is refused. The turn may be kept in part then, so nothing follows from the record any more.
-    pub fn keep(&mut self, cpu: u8, events: u16, asks: Option<Heard<'_>>) -> Result<(), AllocError>
+    pub fn keep(
+        &mut self,
+        cpu: u8,
+        events: u16,
+        asks: Option<PolledRef<'_>>,
+    ) -> Result<(), AllocError>
         requires { IfSome asks (λ p. slot_of p.thread < 128) }
         ensures { OnOk result (Keeps cpu events (option_map polled_of asks.entry) (kept_as self.old.order.items self.old.turns.items self.old.polls) (kept_as self.new.order.items self.new.turns.items self.new.polls)) }
     {
         let before = self.polls.len();
         let poll = match asks {
             None => None,
-            Some(heard) => {
-                self.keep_poll(heard)?;
+            Some(polled) => {
+                self.keep_poll(polled)?;
                 Some(place_behind(before))
             }
         };

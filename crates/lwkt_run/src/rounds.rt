@@ -6,7 +6,7 @@ ghost use Rattle.lwkt_run.specs.Keeping.{polled_of};
 ghost use Rattle.lwkt_run.specs.Running.{WasPolled, HasPolled, IsPolledAt, HasAsked, MakesKeptTurn, kept_of, scene, says_over, both as both_so, RoundTold, HasMadeRounds, MakesTurns};
 ghost use Rattle.lwkt_base.specs.Fault.{no_memory};
 
-use crate::polled::Heard;
+use crate::polled::PolledRef;
 use crate::records::Record;
 use lwkt_base::{CpuId, Fault, ThreadId};
 use lwkt_core::Event;
@@ -14,14 +14,14 @@ use lwkt_cpu::Turned;
 use lwkt_machine::Machine;
 
 // What the last turn of a processor asked, which polled this thread.
-fn polled_at(machine: &Machine, cpu: usize, thread: usize) -> Heard<'_>
+fn polled_at(machine: &Machine, cpu: usize, thread: usize) -> PolledRef<'_>
     requires processor { cpu < 8 }
     requires numbered { thread < 16 }
     requires polled { WasPolled machine.now cpu thread }
     ensures { IsPolledAt machine.now cpu thread (polled_of result) }
 {
     let body = machine.body(cpu, thread).unwrap();
-    Heard {
+    PolledRef {
         thread: ThreadId {
             cpu: CpuId(cpu as u8),
             thread: thread as u8,
@@ -32,7 +32,7 @@ fn polled_at(machine: &Machine, cpu: usize, thread: usize) -> Heard<'_>
 }
 
 // What the last turn of a processor asked, which says this.
-fn asks_of(machine: &Machine, cpu: usize, turned: Turned) -> Option<Heard<'_>>
+fn asks_of(machine: &Machine, cpu: usize, turned: Turned) -> Option<PolledRef<'_>>
     requires processor { cpu < 8 }
     requires polled { HasPolled cpu machine.now turned }
     ensures asked { HasAsked cpu machine.now turned (option_map polled_of result) }
