@@ -25,7 +25,7 @@ use Rattle.lwkt_drive.specs.declared.driven.Driven.{Driven}
 use Rattle.lwkt_drive.specs.declared.driven.Limits.{Limits}
 use Rattle.lwkt_drive.specs.declared.driven.Said.{Said}
 use Rattle.lwkt_drive.specs.declared.driven.Ending.{Ending}
-use Rattle.lwkt_drive.specs.Course.{IsAt, IsWithin, GoesOn, EndsBy, WasQuiet, EndsQuiet, agreed, heard, noted, MakesOne, Stays, IsDriven, EndedQuietly, IsUnderWay, IsSo, ComesTo, GoesTo, DrivesOn, DrivesOut, begun, counts}
+use Rattle.lwkt_drive.specs.Course.{IsAt, IsWithin, GoesOn, EndsBy, WasSilent, EndsSilent, agreed, heard, noted, MakesOne, Stays, IsDriven, EndedSilently, IsUnderWay, IsSo, ComesTo, GoesTo, DrivesOn, DrivesOut, begun, counts}
 
 -- a turn more, after others
 pub made_more : {B : Type 0} (polled : B → Answer → Ask → B → Type 0) (bank : BankId) (old mid new : Processor B) (t v u : Vec Event Global) (turns : List Turned) (turned : Turned) → Made polled bank old mid t v turns → MakesTurn polled bank mid new v u turned → Made polled bank old new t u (turns ++ turned ∷ [])
@@ -36,18 +36,18 @@ made_more {B} polled bank old mid new t v u [] turned made last =
 made_more polled bank old mid new t v u (x ∷ turns) turned made last =
     (made.0, (made.1.0, (made.1.1.0, made_more polled bank made.0 mid new made.1.0 v u turns turned made.1.1.1 last)))
 
--- a quiet turn more, after others
-ends_quiet : {B : Type 0} (polled : B → Answer → Ask → B → Type 0) (bank : BankId) (old mid new : Processor B) (t v u : Vec Event Global) (turns : List Turned) (turned : Turned) (made : Made polled bank old mid t v turns) (last : MakesTurn polled bank mid new v u turned) → WasQuiet turned v u → EndsQuiet polled bank old new t u (turns ++ turned ∷ []) (made_more polled bank old mid new t v u turns turned made last)
+-- a silent turn more, after others
+ends_silent : {B : Type 0} (polled : B → Answer → Ask → B → Type 0) (bank : BankId) (old mid new : Processor B) (t v u : Vec Event Global) (turns : List Turned) (turned : Turned) (made : Made polled bank old mid t v turns) (last : MakesTurn polled bank mid new v u turned) → WasSilent turned v u → EndsSilent polled bank old new t u (turns ++ turned ∷ []) (made_more polled bank old mid new t v u turns turned made last)
 unfolding made_more
-ends_quiet polled bank old mid new t v u [] turned made last quiet =
-    let F : Vec Event Global → Type 0 = λ x. WasQuiet turned x u in
-    subst F made.1 quiet
-ends_quiet polled bank old mid new t v u (x ∷ []) turned made last quiet =
-    ends_quiet polled bank made.0 mid new made.1.0 v u [] turned made.1.1.1 last quiet
-ends_quiet polled bank old mid new t v u (x ∷ y ∷ turns) turned made last quiet =
-    ends_quiet polled bank made.0 mid new made.1.0 v u (y ∷ turns) turned made.1.1.1 last quiet
+ends_silent polled bank old mid new t v u [] turned made last silent =
+    let F : Vec Event Global → Type 0 = λ x. WasSilent turned x u in
+    subst F made.1 silent
+ends_silent polled bank old mid new t v u (x ∷ []) turned made last silent =
+    ends_silent polled bank made.0 mid new made.1.0 v u [] turned made.1.1.1 last silent
+ends_silent polled bank old mid new t v u (x ∷ y ∷ turns) turned made last silent =
+    ends_silent polled bank made.0 mid new made.1.0 v u (y ∷ turns) turned made.1.1.1 last silent
 
--- the last of some turns, where it was quiet
+-- the last of some turns, where it was silent
 record LastOf {B : Type 0} (polled : B → Answer → Ask → B → Type 0) (bank : BankId) (old new : Processor B) (t u : Vec Event Global) (turns : List Turned) : Type 0 where
   earlier : List Turned
   last : Turned
@@ -56,9 +56,9 @@ record LastOf {B : Type 0} (polled : B → Answer → Ask → B → Type 0) (ban
   trace : Vec Event Global
   came : Made polled bank old before t trace earlier
   makes : MakesTurn polled bank before new trace u last
-  was_quiet : WasQuiet last trace u
+  was_silent : WasSilent last trace u
 
-last_of : {B : Type 0} (polled : B → Answer → Ask → B → Type 0) (bank : BankId) (old new : Processor B) (t u : Vec Event Global) (turns : List Turned) (made : Made polled bank old new t u turns) → EndsQuiet polled bank old new t u turns made → LastOf polled bank old new t u turns
+last_of : {B : Type 0} (polled : B → Answer → Ask → B → Type 0) (bank : BankId) (old new : Processor B) (t u : Vec Event Global) (turns : List Turned) (made : Made polled bank old new t u turns) → EndsSilent polled bank old new t u turns made → LastOf polled bank old new t u turns
 last_of polled bank old new t u [] made ends = absurd ends
 last_of {B} polled bank old new t u (turned ∷ []) made ends =
     let F : Processor B → Type 0 = λ p. MakesTurn polled bank old p t u turned in
@@ -71,7 +71,7 @@ last_of {B} polled bank old new t u (turned ∷ []) made ends =
       trace = t;
       came = (refl, refl);
       makes = subst F (sym made.1.1.1.0) (subst G (sym made.1.1.1.1) made.1.1.0);
-      was_quiet = ends;
+      was_silent = ends;
     }
 last_of polled bank old new t u (turned ∷ next ∷ turns) made ends =
     let l = last_of polled bank made.0 new made.1.0 u (next ∷ turns) made.1.1.1 ends in
@@ -83,13 +83,13 @@ last_of polled bank old new t u (turned ∷ next ∷ turns) made ends =
       trace = l.trace;
       came = (made.0, (made.1.0, (made.1.1.0, l.came)));
       makes = l.makes;
-      was_quiet = l.was_quiet;
+      was_silent = l.was_silent;
     }
 
 -- a drive that ends as quiet
-pub ended_quietly : {B : Type 0} (polled : B → Answer → Ask → B → Type 0) (answers : CpuId → ℕ → Bool → Type 0) (bank : BankId) (limits : Limits) (old new : Driven B) → IsDriven polled answers bank limits old new Quiet → EndedQuietly polled bank old new
-ended_quietly polled answers bank limits old new d =
-    let l = last_of polled bank old.cpu new.cpu old.trace d.v d.turns d.made (d.quiet d.ends) in
+pub ended_silently : {B : Type 0} (polled : B → Answer → Ask → B → Type 0) (answers : CpuId → ℕ → Bool → Type 0) (bank : BankId) (limits : Limits) (old new : Driven B) → IsDriven polled answers bank limits old new Quiet → EndedSilently polled bank old new
+ended_silently polled answers bank limits old new d =
+    let l = last_of polled bank old.cpu new.cpu old.trace d.v d.turns d.made (d.silent d.ends) in
     record {
       earlier = l.earlier;
       last = l.last;
@@ -100,8 +100,8 @@ ended_quietly polled answers bank limits old new d =
       came = l.came;
       makes = l.makes;
       now = d.trace;
-      ran_none = l.was_quiet.0;
-      no_event = d.trace ∙ l.was_quiet.1;
+      ran_none = l.was_silent.0;
+      no_event = d.trace ∙ l.was_silent.1;
     }
 
 -- one yes more
@@ -118,7 +118,7 @@ under_none polled answers bank limits d = record {
   going = λ k less. absurd (omega (arith, less));
   drove = refl;
   all = refl;
-  quiet = λ is. absurd (false≢true is);
+  silent = λ is. absurd (false≢true is);
   said = refl;
   same = refl;
   seat = refl;
@@ -166,7 +166,7 @@ under_more {B} polled answers bank limits old mid new turn total u m same =
       going = going_more answers limits old.id u.turns m.turned u.going last;
       drove = m.drove ∙ (ap (λ d. counted d m.turned) u.drove ∙ sym (fold-append counted none_driven u.turns (m.turned ∷ [])));
       all = subst T (sym m.drove) (omega (arith, counted_all mid.drove m.turned, u.all, length-append u.turns (m.turned ∷ [])));
-      quiet = λ is. ends_quiet polled bank old.cpu mid.cpu new.cpu old.trace mid.trace new.trace u.turns m.turned u.made m.makes (m.quiet is);
+      silent = λ is. ends_silent polled bank old.cpu mid.cpu new.cpu old.trace mid.trace new.trace u.turns m.turned u.made m.makes (m.silent is);
       said = m.said ∙ (ap agreed u.said ∙ heard_more u.turns m.turned old.said);
       same = same ∙ u.same;
       seat = m.makes.ran.cpu ∙ u.seat;
@@ -189,11 +189,11 @@ total_more polled answers bank limits mid new turn total m =
 driven_by : {B : Type 0} (polled : B → Answer → Ask → B → Type 0) (answers : CpuId → ℕ → Bool → Type 0) (bank : BankId) (limits : Limits) (old mid new : Driven B) (ending : Ending) (turn : ℕ) → mid.drove.ran + mid.drove.idle ≡ turn → IsUnderWay polled answers bank limits old mid → Stays answers limits turn mid new ending → new.id ≡ mid.id → IsDriven polled answers bank limits old new ending
 driven_by {B} polled answers bank limits old mid new ending turn total u s same =
     let long : length u.turns ≡ turn = sym u.all ∙ total in
-    let M : Processor B → Type 0 = λ p. (made : Made polled bank old.cpu p old.trace mid.trace u.turns) × (new.quiet ≡ true → EndsQuiet polled bank old.cpu p old.trace mid.trace u.turns made) in
-    let made : M new.cpu = subst M (sym s.cpu) (u.made, λ is. u.quiet (sym s.quiet ∙ is)) in
-    let I : CpuId → Type 0 = λ id. EndsBy answers limits id turn mid.drove mid.quiet new.trace ending in
-    let N : ℕ → Type 0 = λ n. EndsBy answers limits old.id n mid.drove mid.quiet new.trace ending in
-    let D : Drove → Type 0 = λ d. EndsBy answers limits old.id (length u.turns) d mid.quiet new.trace ending in
+    let M : Processor B → Type 0 = λ p. (made : Made polled bank old.cpu p old.trace mid.trace u.turns) × (new.silent ≡ true → EndsSilent polled bank old.cpu p old.trace mid.trace u.turns made) in
+    let made : M new.cpu = subst M (sym s.cpu) (u.made, λ is. u.silent (sym s.silent ∙ is)) in
+    let I : CpuId → Type 0 = λ id. EndsBy answers limits id turn mid.drove mid.silent new.trace ending in
+    let N : ℕ → Type 0 = λ n. EndsBy answers limits old.id n mid.drove mid.silent new.trace ending in
+    let D : Drove → Type 0 = λ d. EndsBy answers limits old.id (length u.turns) d mid.silent new.trace ending in
     let Q : Bool → Type 0 = λ q. EndsBy answers limits old.id (length u.turns) new.drove q new.trace ending in
     record {
       turns = u.turns;
@@ -202,9 +202,9 @@ driven_by {B} polled answers bank limits old mid new ending turn total u s same 
       trace = s.trace;
       going = u.going;
       drove = s.drove ∙ u.drove;
-      quiet = made.1;
+      silent = made.1;
       said = s.said ∙ ap (noted ending) u.said;
-      ends = subst Q (sym s.quiet) (subst D (sym s.drove) (subst N (sym long) (subst I u.same s.ends)));
+      ends = subst Q (sym s.silent) (subst D (sym s.drove) (subst N (sym long) (subst I u.same s.ends)));
       same = same ∙ u.same;
       seat = ap (λ p. p.seat.cpu) s.cpu ∙ u.seat;
     }
@@ -218,7 +218,7 @@ driven_out polled answers bank limits old new reached within u = record {
   trace = refl;
   going = u.going;
   drove = u.drove;
-  quiet = u.quiet;
+  silent = u.silent;
   said = u.said;
   ends = omega (arith, reached, within.ran, within.idle);
   same = u.same;
@@ -262,15 +262,15 @@ going_out polled answers bank book limits first now turn reached g old u =
     let t = g.total in inr (driven_out polled answers bank limits old now (omega (arith, t, reached)) g.within (g.under old u))
 
 -- none ends as one that wasn't driven
-never : (answers : CpuId → ℕ → Bool → Type 0) (limits : Limits) (cpu : CpuId) (turns : ℕ) (drove : Drove) (quiet : Bool) (trace : Vec Event Global) (ending : Ending) → ending ≡ NotDriven → EndsBy answers limits cpu turns drove quiet trace ending → ⊥
-never answers limits cpu turns drove quiet trace ending is ends =
-    let F : Ending → Type 0 = λ e. EndsBy answers limits cpu turns drove quiet trace e in
+never : (answers : CpuId → ℕ → Bool → Type 0) (limits : Limits) (cpu : CpuId) (turns : ℕ) (drove : Drove) (silent : Bool) (trace : Vec Event Global) (ending : Ending) → ending ≡ NotDriven → EndsBy answers limits cpu turns drove silent trace ending → ⊥
+never answers limits cpu turns drove silent trace ending is ends =
+    let F : Ending → Type 0 = λ e. EndsBy answers limits cpu turns drove silent trace e in
     subst F is ends
 
 pub comes_more : {B : Type 0} (polled : B → Answer → Ask → B → Type 0) (answers : CpuId → ℕ → Bool → Type 0) (bank : BankId) (book : TableId) (limits : Limits) (first mid new : Driven B) (turn : ℕ) (ending : Ending) → IsGoing polled answers bank book limits first mid turn → ComesTo polled answers bank limits turn mid new ending → ending ≡ NotDriven → first.drove.ran + first.drove.idle < new.drove.ran + new.drove.idle
 comes_more polled answers bank book limits first mid new turn ending g comes is = elim comes [
   | inl made ↦ let t = total_more polled answers bank limits mid new turn g.total made.1 in let l = g.least in omega (arith, t, l)
-  | inr stays ↦ absurd (never answers limits mid.id turn mid.drove mid.quiet new.trace ending is stays.ends)
+  | inr stays ↦ absurd (never answers limits mid.id turn mid.drove mid.silent new.trace ending is stays.ends)
 ]
 
 pub comes_within : {B : Type 0} (polled : B → Answer → Ask → B → Type 0) (answers : CpuId → ℕ → Bool → Type 0) (bank : BankId) (book : TableId) (limits : Limits) (first mid new : Driven B) (turn : ℕ) (ending : Ending) → IsGoing polled answers bank book limits first mid turn → ComesTo polled answers bank limits turn mid new ending → IsWithin limits new.drove
@@ -281,10 +281,10 @@ comes_within polled answers bank book limits first mid new turn ending g comes =
 
 -- an end that is noted changes nothing else
 under_noted : {B : Type 0} (polled : B → Answer → Ask → B → Type 0) (answers : CpuId → ℕ → Bool → Type 0) (bank : BankId) (limits : Limits) (old new : Driven B) (by : Ending) → IsUnderWay polled answers bank limits old new → IsUnderWay polled answers bank limits old (record new { ending = by })
-under_noted polled answers bank limits old new by u = record { turns = u.turns; made = u.made; going = u.going; drove = u.drove; all = u.all; quiet = u.quiet; said = u.said; same = u.same; seat = u.seat }
+under_noted polled answers bank limits old new by u = record { turns = u.turns; made = u.made; going = u.going; drove = u.drove; all = u.all; silent = u.silent; said = u.said; same = u.same; seat = u.seat }
 
 driven_noted : {B : Type 0} (polled : B → Answer → Ask → B → Type 0) (answers : CpuId → ℕ → Bool → Type 0) (bank : BankId) (limits : Limits) (old new : Driven B) (by ending : Ending) → IsDriven polled answers bank limits old new ending → IsDriven polled answers bank limits old (record new { ending = by }) ending
-driven_noted polled answers bank limits old new by ending d = record { turns = d.turns; v = d.v; made = d.made; trace = d.trace; going = d.going; drove = d.drove; quiet = d.quiet; said = d.said; ends = d.ends; same = d.same; seat = d.seat }
+driven_noted polled answers bank limits old new by ending d = record { turns = d.turns; v = d.v; made = d.made; trace = d.trace; going = d.going; drove = d.drove; silent = d.silent; said = d.said; ends = d.ends; same = d.same; seat = d.seat }
 
 so_noted : {B : Type 0} (polled : B → Answer → Ask → B → Type 0) (answers : CpuId → ℕ → Bool → Type 0) (bank : BankId) (limits : Limits) (old new : Driven B) (by ending : Ending) → IsSo polled answers bank limits old new ending → IsSo polled answers bank limits old (record new { ending = by }) ending
 so_noted polled answers bank limits old new by ending so = elim so [
@@ -301,7 +301,7 @@ pub drives_more : {B : Type 0} (polled : B → Answer → Ask → B → Type 0) 
 drives_more polled answers bank limits mid new ending is goes more = record {
   so = λ old so. elim so [
     | inl under ↦ so_noted polled answers bank limits old new ending ending (goes old under.1)
-    | inr driven ↦ absurd (never answers limits old.id (length driven.turns) mid.drove mid.quiet mid.trace mid.ending is driven.ends)
+    | inr driven ↦ absurd (never answers limits old.id (length driven.turns) mid.drove mid.silent mid.trace mid.ending is driven.ends)
   ];
   more = λ none. (is, more none);
 }

@@ -64,16 +64,16 @@ noted Quiet said = said
 
 -- after so many turns, counted so, a processor with this trace makes no other, and why; one that ends for want of memory was to make
 -- another, for which its trace had no room. Nothing is claimed of the others: neither that their threads have ended, nor that they were
--- refused memory, nor that no turn of theirs can change anything; but the last turn of one that ends as quiet was quiet, by its mark
+-- refused memory, nor that no turn of theirs can change anything; but the last turn of one that ends as quiet was silent, by its mark
 abbrev pub EndsBy : (CpuId → ℕ → Bool → Type 0) → Limits → CpuId → ℕ → Drove → Bool → Vec Event Global → Ending → Type 0
-EndsBy answers limits cpu turns drove quiet trace NotDriven = ⊥
-EndsBy answers limits cpu turns drove quiet trace Stopped = answers cpu turns false
-EndsBy answers limits cpu turns drove quiet trace TurnsOut = drove.ran ≡ limits.turns
-EndsBy answers limits cpu turns drove quiet trace IdleOut = drove.idle ≡ limits.idle
-EndsBy answers limits cpu turns drove quiet trace AllExited = drove.all_exited ≡ true
-EndsBy answers limits cpu turns drove quiet trace (NoMemory refused) = GoesOn answers limits cpu turns drove × LacksRoom trace
-EndsBy answers limits cpu turns drove quiet trace (CalledOff refused) = Unit {0}
-EndsBy answers limits cpu turns drove quiet trace Quiet = quiet ≡ true
+EndsBy answers limits cpu turns drove silent trace NotDriven = ⊥
+EndsBy answers limits cpu turns drove silent trace Stopped = answers cpu turns false
+EndsBy answers limits cpu turns drove silent trace TurnsOut = drove.ran ≡ limits.turns
+EndsBy answers limits cpu turns drove silent trace IdleOut = drove.idle ≡ limits.idle
+EndsBy answers limits cpu turns drove silent trace AllExited = drove.all_exited ≡ true
+EndsBy answers limits cpu turns drove silent trace (NoMemory refused) = GoesOn answers limits cpu turns drove × LacksRoom trace
+EndsBy answers limits cpu turns drove silent trace (CalledOff refused) = Unit {0}
+EndsBy answers limits cpu turns drove silent trace Quiet = silent ≡ true
 
 -- a turn ran no thread
 abbrev pub RanNone : Turned → Type 0
@@ -81,23 +81,23 @@ RanNone (Ran thread) = ⊥
 RanNone Idle = Unit {0}
 RanNone TurnedAllExited = Unit {0}
 
--- a turn was quiet: it ran no thread and appended no event
-abbrev pub WasQuiet : Turned → Vec Event Global → Vec Event Global → Type 0
-WasQuiet turned t u = RanNone turned × (u.items ≡ t.items)
+-- a turn was silent: it ran no thread and appended no event
+abbrev pub WasSilent : Turned → Vec Event Global → Vec Event Global → Type 0
+WasSilent turned t u = RanNone turned × (u.items ≡ t.items)
 
--- turns were made, and the last of them was quiet
-abbrev pub EndsQuiet : {B : Type 0} (polled : B → Answer → Ask → B → Type 0) (bank : BankId) (old new : Processor B) (t u : Vec Event Global) (turns : List Turned) → Made polled bank old new t u turns → Type 0
-EndsQuiet polled bank old new t u [] made = ⊥
-EndsQuiet polled bank old new t u (turned ∷ []) made = WasQuiet turned t u
-EndsQuiet polled bank old new t u (turned ∷ next ∷ turns) made = EndsQuiet polled bank made.0 new made.1.0 u (next ∷ turns) made.1.1.1
+-- turns were made, and the last of them was silent
+abbrev pub EndsSilent : {B : Type 0} (polled : B → Answer → Ask → B → Type 0) (bank : BankId) (old new : Processor B) (t u : Vec Event Global) (turns : List Turned) → Made polled bank old new t u turns → Type 0
+EndsSilent polled bank old new t u [] made = ⊥
+EndsSilent polled bank old new t u (turned ∷ []) made = WasSilent turned t u
+EndsSilent polled bank old new t u (turned ∷ next ∷ turns) made = EndsSilent polled bank made.0 new made.1.0 u (next ∷ turns) made.1.1.1
 
--- a processor makes its turn of this number, to which the gate says yes once and which is counted; it is marked only if it was quiet
+-- a processor makes its turn of this number, to which the gate says yes once and which is counted; it is marked only if it was silent
 pub record MakesOne {B : Type 0} (polled : B → Answer → Ask → B → Type 0) (answers : CpuId → ℕ → Bool → Type 0) (bank : BankId) (limits : Limits) (turn : ℕ) (old new : Driven B) : Type 0 where
   pub turned : Turned
   pub goes : GoesOn answers limits old.id turn old.drove
   pub makes : MakesTurn polled bank old.cpu new.cpu old.trace new.trace turned
   pub drove : new.drove ≡ counted old.drove turned
-  pub quiet : new.quiet ≡ true → WasQuiet turned old.trace new.trace
+  pub silent : new.silent ≡ true → WasSilent turned old.trace new.trace
   pub said : new.said ≡ agreed old.said
 
 -- a processor stays as it is, and why
@@ -105,13 +105,13 @@ pub record Stays {B : Type 0} (answers : CpuId → ℕ → Bool → Type 0) (lim
   pub cpu : new.cpu ≡ old.cpu
   pub trace : new.trace.items ≡ old.trace.items
   pub drove : new.drove ≡ old.drove
-  pub quiet : new.quiet ≡ old.quiet
+  pub silent : new.silent ≡ old.silent
   pub said : new.said ≡ noted ending old.said
-  pub ends : EndsBy answers limits old.id turn old.drove old.quiet new.trace ending
+  pub ends : EndsBy answers limits old.id turn old.drove old.silent new.trace ending
 
 -- a processor was driven: it made these turns one after the other, each where it went on, until there was a reason to end, which is the
 -- gate's no where the gate has said no to it since this drive began; the gate said yes once to each turn, and once more only where the
--- drive ends for want of memory; the trace grew by theirs; where the last turn is marked as quiet, it was (own)
+-- drive ends for want of memory; the trace grew by theirs; where the last turn is marked as silent, it was (own)
 pub record IsDriven {B : Type 0} (polled : B → Answer → Ask → B → Type 0) (answers : CpuId → ℕ → Bool → Type 0) (bank : BankId) (limits : Limits) (old new : Driven B) (ending : Ending) : Type 0 where
   pub turns : List Turned
   pub v : Vec Event Global
@@ -119,15 +119,15 @@ pub record IsDriven {B : Type 0} (polled : B → Answer → Ask → B → Type 0
   pub trace : new.trace.items ≡ v.items
   pub going : (k : ℕ) → k < length turns → GoesOn answers limits old.id k (counts (take k turns))
   pub drove : new.drove ≡ counts turns
-  pub quiet : new.quiet ≡ true → EndsQuiet polled bank old.cpu new.cpu old.trace v turns made
+  pub silent : new.silent ≡ true → EndsSilent polled bank old.cpu new.cpu old.trace v turns made
   pub said : new.said ≡ noted ending (heard (length turns) old.said)
-  pub ends : EndsBy answers limits old.id (length turns) new.drove new.quiet new.trace ending
+  pub ends : EndsBy answers limits old.id (length turns) new.drove new.silent new.trace ending
   pub same : new.id ≡ old.id
   pub seat : new.cpu.seat.cpu ≡ old.cpu.seat.cpu
 
 -- a processor was driven, and its last turn ran no thread and appended no event: after the earlier turns it was as `before` with this
 -- trace, it made the last turn from there to what it is now, and its trace has the same events still (own)
-pub record EndedQuietly {B : Type 0} (polled : B → Answer → Ask → B → Type 0) (bank : BankId) (old new : Driven B) : Type 0 where
+pub record EndedSilently {B : Type 0} (polled : B → Answer → Ask → B → Type 0) (bank : BankId) (old new : Driven B) : Type 0 where
   pub earlier : List Turned
   pub last : Turned
   pub drove : new.drove ≡ counts (earlier ++ last ∷ [])
@@ -141,22 +141,22 @@ pub record EndedQuietly {B : Type 0} (polled : B → Answer → Ask → B → Ty
   pub no_event : new.trace.items ≡ trace.items
 
 -- a law: where a drive ends as quiet, it made a turn, and its last turn ran no thread and appended no event
-abbrev pub QuietEndsAreQuiet : {B G : Type 0} → (B → Answer → Ask → B → Type 0) → (G → CpuId → ℕ → Bool → Type 0) → Type 0
-QuietEndsAreQuiet {B} {G} polled answers = (gate : G) (bank : BankId) (limits : Limits) (old new : Driven B) → IsDriven polled (answers gate) bank limits old new Quiet → EndedQuietly polled bank old new
+abbrev pub QuietEndsAreSilent : {B G : Type 0} → (B → Answer → Ask → B → Type 0) → (G → CpuId → ℕ → Bool → Type 0) → Type 0
+QuietEndsAreSilent {B} {G} polled answers = (gate : G) (bank : BankId) (limits : Limits) (old new : Driven B) → IsDriven polled (answers gate) bank limits old new Quiet → EndedSilently polled bank old new
 
 -- a processor before its first turn of a drive
 abbrev pub begun : {B : Type 0} → Driven B → Driven B
-begun d = record d { said = opened d.said; drove = none_driven; quiet = false; ending = NotDriven }
+begun d = record d { said = opened d.said; drove = none_driven; silent = false; ending = NotDriven }
 
 -- a processor is being driven: so far it has made these turns one after the other, each where it went on, and the gate has said yes
--- once to each, and not no, since this drive began; the trace grew by theirs; where the last one is marked as quiet, it was (own)
+-- once to each, and not no, since this drive began; the trace grew by theirs; where the last one is marked as silent, it was (own)
 pub record IsUnderWay {B : Type 0} (polled : B → Answer → Ask → B → Type 0) (answers : CpuId → ℕ → Bool → Type 0) (bank : BankId) (limits : Limits) (old new : Driven B) : Type 0 where
   pub turns : List Turned
   pub made : Made polled bank old.cpu new.cpu old.trace new.trace turns
   pub going : (k : ℕ) → k < length turns → GoesOn answers limits old.id k (counts (take k turns))
   pub drove : new.drove ≡ counts turns
   pub all : new.drove.ran + new.drove.idle ≡ length turns
-  pub quiet : new.quiet ≡ true → EndsQuiet polled bank old.cpu new.cpu old.trace new.trace turns made
+  pub silent : new.silent ≡ true → EndsSilent polled bank old.cpu new.cpu old.trace new.trace turns made
   pub said : new.said ≡ heard (length turns) old.said
   pub same : new.id ≡ old.id
   pub seat : new.cpu.seat.cpu ≡ old.cpu.seat.cpu

@@ -79,8 +79,8 @@ pub struct Driven<B> {
     pub said: Said,
     /// How many turns the last drive made, by kind. All zero before the first drive.
     pub drove: Drove,
-    /// Whether the last turn of this drive polled no thread and appended no event; false before its first turn.
-    pub quiet: bool,
+    /// Whether the last turn of this drive was *silent*: it polled no thread and appended no event. False before its first turn.
+    pub silent: bool,
     /// Why the last drive ended for this processor; `NotDriven` before the first one.
     pub ending: Ending,
 }
@@ -93,7 +93,7 @@ impl<B> Driven<B> {
         ensures trace { result.trace.items ≡ [] }
         ensures said { result.said ≡ record { drives = 0; yeses = 0; no = false } }
         ensures drove { result.drove ≡ none_driven }
-        ensures quiet { result.quiet ≡ false }
+        ensures silent { result.silent ≡ false }
         ensures ending { result.ending ≡ Ending.NotDriven }
     {
         Driven {
@@ -110,7 +110,7 @@ impl<B> Driven<B> {
                 idle: 0,
                 all_exited: false,
             },
-            quiet: false,
+            silent: false,
             ending: Ending::NotDriven,
         }
     }
@@ -131,7 +131,7 @@ impl<B> Driven<B> {
             idle: 0,
             all_exited: false,
         };
-        self.quiet = false;
+        self.silent = false;
         self.ending = Ending::NotDriven;
     }
 

@@ -1,5 +1,5 @@
 //! What the traces of processors that were driven tell, and how one ends as quiet, as laws.
-ghost use Rattle.lwkt_drive.specs.Course.{QuietEndsAreQuiet};
+ghost use Rattle.lwkt_drive.specs.Course.{QuietEndsAreSilent};
 ghost use Rattle.lwkt_drive.specs.Telling.{NewIsTold, StopsAreTold, DrivesAreTold, TracesTellOneRun, NewMailIsTold, MailStaysTold, MailDrivesAreTold, TracesTellOneMailRun};
 
 use crate::gates::Gate;
@@ -34,6 +34,6 @@ pub fn traces_tell_one_mail_run()
 {}
 
 /// The theorem that if a processor's drive ends as quiet, it made a turn, and its last turn polled no thread and appended no event.
-pub fn quiet_ends_are_quiet<B: Body, G: Gate>()
-    ensures { QuietEndsAreQuiet B.polled G.answers }
+pub fn quiet_ends_are_silent<B: Body, G: Gate>()
+    ensures { QuietEndsAreSilent B.polled G.answers }
 {}

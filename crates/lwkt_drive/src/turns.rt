@@ -3,7 +3,7 @@ ghost use Rattle.std.specs.Prelude.{◌≡◌, true, ◌+◌, ◌<◌, ◌≤◌
 ghost use Rattle.lwkt_bank.specs.Seats.{id_of};
 ghost use Rattle.lwkt_cpu.specs.Driving.{counted};
 ghost use Rattle.lwkt_cpu.specs.Turning.{LacksRoom, MakesTurn};
-ghost use Rattle.lwkt_drive.specs.Course.{IsAt, IsWithin, GoesOn, EndsBy, RanNone, WasQuiet, agreed, noted};
+ghost use Rattle.lwkt_drive.specs.Course.{IsAt, IsWithin, GoesOn, EndsBy, RanNone, WasSilent, agreed, noted};
 
 use crate::driven::{Door, Driven, Ending, Limits};
 use crate::gates::Gate;
@@ -14,8 +14,8 @@ use lwkt_cpu::{Body, Turned};
 use lwkt_msg::MsgBook;
 use std::alloc::AllocError;
 
-// Whether a turn was quiet, by how many events there were before it and after.
-fn was_quiet(turned: Turned, before: usize, now: usize) -> bool
+// Whether a turn was silent, by how many events there were before it and after.
+fn was_silent(turned: Turned, before: usize, now: usize) -> bool
     ensures { result ≡ true → RanNone turned × (now ≡ before) }
 {
     match turned {
@@ -34,7 +34,7 @@ impl<B> Driven<B> {
         turn: u64,
     ) -> Option<Ending>
         requires { IsWithin limits.now self.old.drove }
-        ensures some { IfSome result (λ ending. (self.new ≡ record self.old { said = noted ending self.old.said }) × EndsBy (G.answers door.now.gate.now) limits.now self.old.id turn self.old.drove self.old.quiet self.old.trace ending) }
+        ensures some { IfSome result (λ ending. (self.new ≡ record self.old { said = noted ending self.old.said }) × EndsBy (G.answers door.now.gate.now) limits.now self.old.id turn self.old.drove self.old.silent self.old.trace ending) }
         ensures none { result ≡ None → (self.new ≡ record self.old { said = agreed self.old.said }) × GoesOn (G.answers door.now.gate.now) limits.now self.old.id turn self.old.drove }
         ensures few { result ≡ None → self.new.drove.ran + self.new.drove.idle + 1 < 2 ^ 64 }
     {
@@ -50,7 +50,7 @@ impl<B> Driven<B> {
         if let Some(refused) = watch.board().called_off() {
             return Some(Ending::CalledOff(refused));
         }
-        if self.quiet && watch.is_over() {
+        if self.silent && watch.is_over() {
             return Some(Ending::Quiet);
         }
         if self.ask(door, turn) {
@@ -104,7 +104,7 @@ impl<B> Driven<B> {
 }
 
 impl<B: Body> Driven<B> {
-    /// Makes a turn, counts it, and marks it if it was quiet. `AllocError` if memory is refused, as to `Cpu::turn`; nothing has
+    /// Makes a turn, counts it, and marks it if it was silent. `AllocError` if memory is refused, as to `Cpu::turn`; nothing has
     /// changed then.
     pub(crate) fn advance(
         &mut self,
@@ -114,8 +114,8 @@ impl<B: Body> Driven<B> {
     ) -> Result<Turned, AllocError>
         requires at { IsAt (id_of bank.now) book.now.table self.old }
         requires few { self.old.drove.ran + self.old.drove.idle + 1 < 2 ^ 64 }
-        ensures ok { IfOk result (λ turned. MakesTurn B.polled (id_of bank.now) self.old.cpu self.new.cpu self.old.trace self.new.trace turned × (self.new.drove ≡ counted self.old.drove turned) × (self.new.quiet ≡ true → WasQuiet turned self.old.trace self.new.trace)) }
-        ensures err { OnErr result ((self.new.cpu ≡ self.old.cpu) × (self.new.trace.items ≡ self.old.trace.items) × (self.new.drove ≡ self.old.drove) × (self.new.quiet ≡ self.old.quiet) × LacksRoom self.new.trace) }
+        ensures ok { IfOk result (λ turned. MakesTurn B.polled (id_of bank.now) self.old.cpu self.new.cpu self.old.trace self.new.trace turned × (self.new.drove ≡ counted self.old.drove turned) × (self.new.silent ≡ true → WasSilent turned self.old.trace self.new.trace)) }
+        ensures err { OnErr result ((self.new.cpu ≡ self.old.cpu) × (self.new.trace.items ≡ self.old.trace.items) × (self.new.drove ≡ self.old.drove) × (self.new.silent ≡ self.old.silent) × LacksRoom self.new.trace) }
         ensures said { self.new.said ≡ self.old.said }
         ensures at { IsAt (id_of bank.now) book.now.table self.new }
         ensures same { self.new.id ≡ self.old.id }
@@ -127,7 +127,7 @@ impl<B: Body> Driven<B> {
             Err(_) => unreachable!(),
         };
         self.note(watch, turned);
-        self.quiet = was_quiet(turned, events, self.trace.len());
+        self.silent = was_silent(turned, events, self.trace.len());
         Ok(turned)
     }
 }

@@ -86,7 +86,7 @@ module _ (answers : CpuId → ℕ → Bool → Type 0) (limits : Limits) (bank :
       let within : k < length cpus = slice_get_within cpus k p at in
       let olds_within : k < length olds = omega (arith, zip_long IsFresh cpus olds fresh, within) in
       let news_within : k < length news = omega (arith, driven_long fresh drove, within) in
-      let d : Driven Scripted = record { id = record { 0 = 0 }; cpu = p; trace = trace; said = record { drives = 0; yeses = 0; no = false }; drove = record { ran = 0; idle = 0; all_exited = false }; quiet = false; ending = NoMemory (record {}) } in
+      let d : Driven Scripted = record { id = record { 0 = 0 }; cpu = p; trace = trace; said = record { drives = 0; yeses = 0; no = false }; drove = record { ran = 0; idle = 0; all_exited = false }; silent = false; ending = NoMemory (record {}) } in
       let f : IsFresh (get_or cpus k p) (get_or olds k d) = zip_at IsFresh cpus olds fresh k p d within in
       let F : Processor Scripted → Type 0 = λ x. IsFresh x (get_or olds k d) in
       record {
