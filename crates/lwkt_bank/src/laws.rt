@@ -1,4 +1,4 @@
-//! What the bank's rule is for, as laws.
+//! What the bank's rule is for, as theorems.
 ghost use Rattle.lwkt_bank.specs.Laws.{RuleShowsSafety, StatesAreReached, ViewsDecide, OpeningIsDeclared, SplitIsNoDeed, JoinIsNoDeed, SpentIsNoDeed, MadeAsTold, AllMadeAsTold, NothingUntold, LookIsLoad, ExchangeIsTake, ExchangeIsShare, AddIsAgain, OrIsMark, SubIsGiveOne, SubIsGiveClean, AddIsGiveWritten, CellLoadIsRead, CellStoreIsWrite, TallyStoreIsWrite, AccessIsReadBlob, AccessIsWriteBlob, DeedsAreTold};
 ghost use Rattle.lwkt_bank.specs.Rule.{Bench};
 ghost use Rattle.lwkt_bank.specs.Told.{Told};
@@ -27,21 +27,21 @@ pub fn opening_is_declared()
     ensures { OpeningIsDeclared }
 {}
 
-/// Whatever a play of a seat notes is what it did to the words, and where it notes nothing, it has changed nothing. This is so of
-/// any play that keeps the rule, not only of those that there are.
+/// Whatever a play of a seat notes is what it did to the words, and where it notes nothing, it has changed nothing. This is so
+/// of any play that keeps the rule, not only of those that there are.
 pub fn made_as_told()
     ensures made { MadeAsTold }
     ensures nothing { NothingUntold }
 {}
 
-/// Any number of deeds that a play notes at once are done one after another between the machines shown before and after it. This
-/// too is so of any play that keeps the rule, and tells with what the history has grown: nothing else was done.
+/// Any number of deeds that a play notes at once are done one after another between the machines shown before and after it.
+/// This too is so of any play that keeps the rule, and tells with what the history has grown: nothing else was done.
 pub fn all_made_as_told()
     ensures { AllMadeAsTold }
 {}
 
-/// Each kind of step leads from a state of the rule to one of the rule, in which the history has one deed more, that of the kind:
-/// its event relates the machines shown before and after it. A seat that is made or taken back is no deed.
+/// Each kind of step leads from a state of the rule to one of the rule, in which the history has one deed more, that of the
+/// kind: its event relates the machines shown before and after it. A seat that is made or taken back is no deed.
 pub fn steps_are_deeds()
     ensures look { LookIsLoad }
     ensures take { ExchangeIsTake }
@@ -84,7 +84,7 @@ pub fn references_are_counted()
     ensures added { AddedCounts }
 {}
 
-/// The rule that the bank's table keeps, which the type of `Bank::shared` names, is that of the laws here.
+/// The rule that the bank's table keeps, which the type of `Bank::shared` names, is that of the theorems here.
 pub fn bank_keeps_that_rule()
     ensures { (key : Key) (s : Bench) → (⟦<BankRule as TableRule<Blob, View, Key>>⟧.holds key s → Told key.plans.items key.cpus s) × (Told key.plans.items key.cpus s → ⟦<BankRule as TableRule<Blob, View, Key>>⟧.holds key s) }
 {}

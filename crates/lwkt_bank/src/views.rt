@@ -12,6 +12,7 @@ pub struct Plan {
     pub first: [u64; 4],
     /// How many cells it has, 0 to 4.
     pub cells: usize,
+    /// The law that the token declares.
     pub law: Law,
     /// The opening record, if the token guards one.
     pub blob: Option<Blob>,
@@ -19,18 +20,23 @@ pub struct Plan {
 
 /// A cell of a token's first row that a seat knows. Only proofs have values of it.
 pub struct KnownCell {
+    /// The cell's number, 0 to 3.
     pub at: u64,
+    /// What the cell has in that row.
     pub value: u64,
 }
 
 /// What a processor has added to the cell of a Tally token. Only proofs have values of it.
 pub struct Added {
+    /// Who has added it.
     pub cpu: CpuId,
+    /// The sum of what it has added.
     pub amount: u64,
 }
 
 /// What a seat knows of one token. Only proofs have values of it. A clause reads an array as a list, of any length.
 pub struct TokenEntry {
+    /// The token's number, 0 to 63.
     pub tok: u64,
     /// What the seat holds of it.
     pub held: Held,
@@ -58,7 +64,9 @@ pub struct TokenEntry {
 
 /// What a seat at the bank knows. Only proofs have values of it.
 pub struct View {
+    /// Whose seat it is: a processor's, the clerk's, or one that is spent.
     pub kind: SeatKind,
+    /// What is declared of the tokens, by number.
     pub plans: [Plan; 0],
     /// Of each token the first entry counts.
     pub tokens: [TokenEntry; 0],

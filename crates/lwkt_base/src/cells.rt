@@ -16,18 +16,21 @@ impl Model for Cells {
 }
 
 impl Cells {
+    /// The cells of the vector, in its order.
     pub fn from_vec(items: Vec<u64>) -> Self
         ensures { result ≡ items.items }
     {
         Cells { items }
     }
 
+    /// The vector that the cells were made from, as it is now.
     pub fn into_vec(self) -> Vec<u64>
         ensures { result.items ≡ self }
     {
         self.items
     }
 
+    /// The cells, by number.
     pub fn as_slice(&self) -> &[u64]
         ensures { result.now ≡ self.now }
     {

@@ -23,12 +23,14 @@ impl Held {
         }
     }
 
+    /// Whether it is held by one processor alone.
     pub fn is_exclusive(self) -> bool
         ensures { result ≡ is_exclusive self }
     {
         matches!(self, Held::Holds(Mode::Exclusive, _))
     }
 
+    /// Whether it is held at all, in either mode.
     pub fn is_held(self) -> bool
         ensures { result ≡ is_held self }
     {

@@ -63,6 +63,7 @@ impl TokList {
         self.refs().len()
     }
 
+    /// Whether there is no reference.
     pub fn is_empty(&self) -> bool
         ensures { IsTrue result ↔ (self.now ≡ []) }
     {

@@ -21,6 +21,7 @@ pub enum MsgState {
 pub struct MsgWord {
     /// The opening round plus the sends: 0 to 2251799813685247.
     pub round: u64,
+    /// Where the message is.
     pub state: MsgState,
     /// The processor that the message belongs to: 0 to 7.
     pub origin: CpuId,

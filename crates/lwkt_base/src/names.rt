@@ -13,7 +13,9 @@ pub struct MsgId(pub u8);
 /// A thread: its processor and its number there, 0 to 15 where the thread exists.
 #[derive(Clone, Copy, Debug, Default, PartialEq, Eq)]
 pub struct ThreadId {
+    /// The processor that the thread runs on.
     pub cpu: CpuId,
+    /// Its number there.
     pub thread: u8,
 }
 
@@ -27,6 +29,7 @@ pub enum Mode {
 /// One reference of a thread to a token.
 #[derive(Clone, Copy, Debug, PartialEq, Eq)]
 pub struct Ref {
+    /// The token that is referred to.
     pub tok: TokId,
     pub mode: Mode,
 }

@@ -8,6 +8,7 @@ use crate::names::ThreadId;
 pub struct TokSpec {
     /// The cells: 0 to 4, exactly 1 under `Law::Tally`, and at least 1 under `Law::Len`.
     pub cells: Cells,
+    /// The law that row and record obey while no exclusive holder is writing.
     pub law: Law,
     /// The law's parameter.
     pub param: u64,

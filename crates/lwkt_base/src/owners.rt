@@ -19,5 +19,6 @@ pub enum Owner {
 pub struct MsgEnd {
     /// The opening round plus the sends, 0 to 2251799813685247.
     pub round: u64,
+    /// Who has the message then.
     pub state: Owner,
 }

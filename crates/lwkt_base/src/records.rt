@@ -1,16 +1,23 @@
 /// What a message asks for.
 #[derive(Clone, Copy, Debug, Default, PartialEq, Eq)]
 pub struct Call {
+    /// An argument, which the layer passes on and doesn't read.
     pub arg: u64,
+    /// What is to be done, by a number that sender and target agree on.
     pub op: u32,
 }
 
 /// A message's record: the call that was sent, and the error and result of its reply.
 #[derive(Clone, Copy, Debug, Default, PartialEq, Eq)]
 pub struct Rec {
+    /// The argument of the call.
     pub arg: u64,
+    /// The result of the reply, 0 before it.
     pub result: u64,
+    /// What the call asks for.
     pub op: u32,
+    /// The error of the reply, 0 without one. The layer itself answers 4 (aborted), 30 (closed port) and 41 (its thread has
+    /// ended).
     pub error: u32,
 }
 

@@ -64,12 +64,14 @@ impl Model for Rows {
 }
 
 impl Rows {
+    /// The pairs of the vector, in its order.
     pub fn from_vec(items: Vec<(Row, u64)>) -> Self
         ensures { result ≡ items.items }
     {
         Rows { items }
     }
 
+    /// The vector that the list was made from.
     pub fn into_vec(self) -> Vec<(Row, u64)>
         ensures { result.items ≡ self }
     {

@@ -10,5 +10,6 @@ pub struct Section {
     pub after: Row,
     /// The generation at which it began.
     pub generation: u64,
+    /// The token that it is a section of.
     pub tok: TokId,
 }

@@ -13,15 +13,20 @@ pub const ROUNDS: u64 = 20;
 /// Reads the value where its version isn't that of the copy, or writes a new one; again and again.
 #[derive(Drop)]
 pub struct Party {
+    /// Whether it reads the value; else it writes a new one.
     pub reads: bool,
+    /// How many rounds are left.
     pub left: u64,
+    /// In how many rounds its copy was still good.
     pub hits: u64,
+    /// In how many it wasn't.
     pub misses: u64,
     version: u64,
     copy: u64,
 }
 
 impl Party {
+    /// One that reads or writes, before its first round.
     pub fn new(reads: bool) -> Party
         ensures { result.hits + result.misses + result.left ≡ 20 }
     {

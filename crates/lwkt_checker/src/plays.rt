@@ -90,8 +90,8 @@ pub fn play_told_to_close(state: &mut State, told: &[Told], last: &Final) -> Res
     Ok(())
 }
 
-/// The law that of all events that are told, whatever the sections that aren't, only those with the tokens' own sections can
-/// happen.
+/// The theorem that of all events that are told, whatever the sections that aren't, only those with the tokens' own sections
+/// can happen.
 pub fn told_is_only()
     ensures { ToldIsOnly }
 {}

@@ -72,17 +72,17 @@ pub fn check_events(opening: State, events: &[Event]) -> Result<(), Fault>
     }
 }
 
-/// The law that an index at which a trace fails shows that it is not lawful.
+/// The theorem that an index at which a trace fails shows that it is not lawful.
 pub fn failure_refutes()
     ensures { FailureRefutes }
 {}
 
-/// The law that a trace fails at one index only.
+/// The theorem that a trace fails at one index only.
 pub fn failure_is_only()
     ensures { FailureIsOnly }
 {}
 
-/// The law that an index at which events stop shows that they can't all happen.
+/// The theorem that an index at which events stop shows that they can't all happen.
 pub fn stop_refutes()
     ensures { StopRefutes }
 {}

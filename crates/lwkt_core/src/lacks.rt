@@ -345,7 +345,7 @@ pub fn message_lack(cpus: usize, messages: &[Message], place: usize, event: &Eve
     }
 }
 
-/// The law that an event that lacks something can't happen.
+/// The theorem that an event that lacks something can't happen.
 pub fn lack_refutes()
     ensures { LackRefutes }
 {}

@@ -11,16 +11,23 @@ pub const LAST_ROUND: u64 = 2251799813685247;
 pub struct Message {
     /// The thread that owns the message while it is at rest.
     pub origin: ThreadId,
+    /// The opening round.
     pub opening: u64,
     /// The opening round plus the sends: 0 to `LAST_ROUND`.
     pub round: u64,
+    /// Who has the message.
     pub owner: Owner,
     /// Whether the origin has asked for the message to be aborted in this round.
     pub asked: bool,
+    /// How often it was sent.
     pub sends: u64,
+    /// How often its target took it.
     pub takes: u64,
+    /// How often its origin dropped it before it was taken.
     pub drops: u64,
+    /// How often its target replied.
     pub replies: u64,
+    /// How often its origin took it back.
     pub reaps: u64,
 }
 

@@ -21,7 +21,9 @@ pub enum Operation {
     Store(u64),
     /// Stores the second word if the word is the first.
     Exchange(u64, u64),
+    /// Adds this number.
     Add(u64),
+    /// Takes this number away.
     Sub(u64),
     /// Sets these bits.
     Or(u64),
@@ -32,6 +34,7 @@ pub enum Operation {
 pub struct WordStep {
     /// The number of the token or message.
     pub at: u64,
+    /// What kind of step it is.
     pub operation: Operation,
     /// The word that the step found; of a store, the word stored.
     pub found: u64,
@@ -40,6 +43,7 @@ pub struct WordStep {
 /// One atomic step of a seat, as the history of its table has it. Only proofs have values of it. A clause reads an array as a
 /// list, of any length.
 pub struct Deed {
+    /// The processor whose seat made it.
     pub cpu: CpuId,
     /// Its event of the model. A look at the word of a message has none.
     pub events: [Event; 0],
@@ -51,6 +55,8 @@ pub struct Deed {
 
 /// What a seat that was taken back had seen of its table's history, up to its last step. Only proofs have values of it.
 pub struct Chapter {
+    /// The processor whose seat it was.
     pub cpu: CpuId,
+    /// The deeds of all seats, in order, up to that step.
     pub past: [Deed; 0],
 }

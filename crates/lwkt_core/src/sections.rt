@@ -106,12 +106,12 @@ pub fn check_sections(first: &Rows, last: &Rows, sections: &[Section]) -> Result
     }
 }
 
-/// The law that an index at which sections fail shows that they are not chains in order.
+/// The theorem that an index at which sections fail shows that they are not chains in order.
 pub fn section_failure_refutes()
     ensures { SectionFailureRefutes }
 {}
 
-/// The law that sections fail at one index only.
+/// The theorem that sections fail at one index only.
 pub fn section_failure_is_only()
     ensures { SectionFailureIsOnly }
 {}

@@ -10,6 +10,7 @@ pub const CPU_LIMIT: usize = 8;
 /// One token of the model: what is declared of it, and its state.
 #[derive(Debug, Drop)]
 pub struct Token {
+    /// The law that the token declares.
     pub law: Law,
     /// The law's parameter.
     pub param: u64,

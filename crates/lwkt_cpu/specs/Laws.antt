@@ -42,14 +42,14 @@ pub record IsPartOfRun (plans : List Plan) (cpus : ℕ) (s : Bench) (old new : C
   pub trace : u.items ≡ t.items ++ done
   pub tells : Tells (events_in deeds) (filter is_of_token done)
 
--- a law: whatever the other seats do before, during and after a turn, what it did at the bank is a part of one run; this is so of
--- each state of the bank's table that meets its rule and in which the seat stands as the turn left it
+-- a theorem: whatever the other seats do before, during and after a turn, what it did at the bank is a part of one run; this is so
+-- of each state of the bank's table that meets its rule and in which the seat stands as the turn left it
 abbrev pub TurnsArePartsOfRuns : {B : Type 0} → (B → Answer → Ask → B → Type 0) → Type 0
 TurnsArePartsOfRuns {B} polled = (bank : BankId) (old new : Processor B) (t u : Vec Event Global) (turned : Turned) → MakesTurn polled bank old new t u turned
     → (plans : List Plan) (cpus : ℕ) (s : Bench) (j : ℕ) → Told plans cpus s → get_elem? s.views j ≡ some new.seat.seat.me.0 → new.seat.seat.me.0.kind ≡ Of new.seat.cpu
     → IsPartOfRun plans cpus s old.seat new.seat t u
 
--- a law: whatever the other seats do, each state of the book's table that meets its rule and in which the ports' seat of a
+-- a theorem: whatever the other seats do, each state of the book's table that meets its rule and in which the ports' seat of a
 -- processor stands shows a safe machine, which one history of the deeds of all seats leads to, its events a run of the model; what
 -- the processor has in it is what its seat has seen of itself
 abbrev pub MailsArePartsOfRuns : Type 0 → Type 0

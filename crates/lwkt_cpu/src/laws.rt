@@ -1,4 +1,4 @@
-//! What threads that drive processors of their own may rest on, as laws.
+//! What threads that drive processors of their own may rest on, as theorems.
 ghost use Rattle.lwkt_cpu.specs.Laws.{TurnsArePartsOfRuns, MailsArePartsOfRuns};
 
 use crate::cpus::Cpu;
@@ -6,10 +6,10 @@ use lwkt_ask::Body;
 use lwkt_bank::{Bank, laws as bank_laws};
 use lwkt_msg::{MsgBook, laws as book_laws};
 
-/// The theorem that, whatever other seats do before, during and after it, what a turn did is a part of one run of the model, at the
-/// bank and at the book. Nothing is asked of those who drive the other processors: the kit keeps both rules between any two steps
-/// of any number of seats, `bank_keeps_that_rule` and `book_keeps_that_rule` say which rules, and a turn itself asks no more than
-/// that its processor's seats are of that bank and of that book.
+/// The theorem that, whatever other seats do before, during and after it, what a turn did is a part of one run of the model, at
+/// the bank and at the book. Nothing is asked of those who drive the other processors: the kit keeps both rules between any two
+/// steps of any number of seats, `bank_keeps_that_rule` and `book_keeps_that_rule` say which rules, and a turn itself asks no
+/// more than that its processor's seats are of that bank and of that book.
 pub fn turns_are_parts_of_runs<B: Body>()
     ensures tokens { TurnsArePartsOfRuns B.polled }
     ensures messages { MailsArePartsOfRuns B }

@@ -140,7 +140,7 @@ pub record EndedSilently {B : Type 0} (polled : B → Answer → Ask → B → T
   pub ran_none : RanNone last
   pub no_event : new.trace.items ≡ trace.items
 
--- a law: where a drive ends as quiet, it made a turn, and its last turn ran no thread and appended no event
+-- a theorem: where a drive ends as quiet, it made a turn, and its last turn ran no thread and appended no event
 abbrev pub QuietEndsAreSilent : {B G : Type 0} → (B → Answer → Ask → B → Type 0) → (G → CpuId → ℕ → Bool → Type 0) → Type 0
 QuietEndsAreSilent {B} {G} polled answers = (gate : G) (bank : BankId) (limits : Limits) (old new : Driven B) → IsDriven polled (answers gate) bank limits old new Quiet → EndedSilently polled bank old new
 

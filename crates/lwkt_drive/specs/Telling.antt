@@ -35,15 +35,15 @@ pub record IsTold (s : CpuSeat) (trace : List Event) : Type 0 where
   pub tells : Tells (events_of s) (filter is_of_token trace)
   pub own : All (λ e. cpu_of e ≡ s.cpu.0) trace
 
--- a law: a seat that has done nothing is told by no trace
+-- a theorem: a seat that has done nothing is told by no trace
 abbrev pub NewIsTold : Type 0
 NewIsTold = (s : CpuSeat) → IsNew s → IsTold s []
 
--- a law: where a processor's trace told its seat before it was stopped, it tells it afterwards
+-- a theorem: where a processor's trace told its seat before it was stopped, it tells it afterwards
 abbrev pub StopsAreTold : Type 0
 StopsAreTold = (threads : List Thread) (most : ℕ) (a b : CpuSeat) (t u : Vec Event Global) → Ran (IsMailed threads) most a b t u → IsTold a t.items → IsTold b u.items
 
--- a law: where a processor's trace told its seat before it was driven, it tells it afterwards
+-- a theorem: where a processor's trace told its seat before it was driven, it tells it afterwards
 abbrev pub DrivesAreTold : {B G : Type 0} → (B → Answer → Ask → B → Type 0) → (G → CpuId → ℕ → Bool → Type 0) → Type 0
 DrivesAreTold {B} {G} polled answers = (gate : G) (bank : BankId) (limits : Limits) (old new : Driven B) (ending : Ending) → IsDriven polled (answers gate) bank limits old new ending → IsTold old.cpu.seat old.trace.items → IsTold new.cpu.seat new.trace.items
 
@@ -59,7 +59,7 @@ pub record TellOneRun (bank : BankId) (cpus : ℕ) (closed : Closed) (traces : L
   pub told : (cpu : ℕ) (trace : List Event) → slice_get traces cpu ≡ Some trace → Tells (events_by cpu history) (filter is_of_token trace) × All (λ e. cpu_of e ≡ cpu) trace
   pub others : (cpu : ℕ) → cpus ≤ cpu → AreOthers cpu history
 
--- a law: where each seat that a bank took back is told by its processor's trace, the traces are the parts of one run to the
+-- a theorem: where each seat that a bank took back is told by its processor's trace, the traces are the parts of one run to the
 -- closing values
 abbrev pub TracesTellOneRun : Type 0
 TracesTellOneRun = (bank : BankId) (cpus : ℕ) (seats : List CpuSeat) (closed : Closed) (traces : List (List Event)) → IsClosed bank cpus seats closed
@@ -70,15 +70,15 @@ TracesTellOneRun = (bank : BankId) (cpus : ℕ) (seats : List CpuSeat) (closed :
 abbrev pub IsMailTold : Desk → List Event → Type 0
 IsMailTold d trace = filter is_of_message trace ≡ mail_of d
 
--- a law: a seat at a book that was just opened is told by no trace
+-- a theorem: a seat at a book that was just opened is told by no trace
 abbrev pub NewMailIsTold : Type 0
 NewMailIsTold = (cpu : ℕ) (book : Shelf) (d : Desk) → IsOpenedDesk cpu book d → IsMailTold d []
 
--- a law: where a trace told a seat at the book before the processor made a turn or was stopped, it tells it afterwards
+-- a theorem: where a trace told a seat at the book before the processor made a turn or was stopped, it tells it afterwards
 abbrev pub MailStaysTold : Type 0
 MailStaysTold = (a b : Desk) (t u : List Event) → TellsMail a b t u → IsMailTold a t → IsMailTold b u
 
--- a law: where a processor's trace told its seat at the book before it was driven, it tells it afterwards
+-- a theorem: where a processor's trace told its seat at the book before it was driven, it tells it afterwards
 abbrev pub MailDrivesAreTold : {B G : Type 0} → (B → Answer → Ask → B → Type 0) → (G → CpuId → ℕ → Bool → Type 0) → Type 0
 MailDrivesAreTold {B} {G} polled answers = (gate : G) (bank : BankId) (limits : Limits) (old new : Driven B) (ending : Ending) → IsDriven polled (answers gate) bank limits old new ending → IsMailTold old.cpu.post.seat old.trace.items → IsMailTold new.cpu.post.seat new.trace.items
 
@@ -95,7 +95,7 @@ pub record TellOneMailRun (book : Shelf) (ends : List MsgEnd) (traces : List (Li
   pub told : (cpu : ℕ) (trace : List Event) → slice_get traces cpu ≡ Some trace → filter is_of_message trace ≡ events_by cpu history
   pub others : (cpu : ℕ) → book.cpus ≤ cpu → AreOthers cpu history
 
--- a law: where each seat that a book took back is told by its processor's trace, the traces are of messages the parts of one run to
+-- a theorem: where each seat that a book took back is told by its processor's trace, the traces are of messages the parts of one run to
 -- the closing owner states and rounds
 abbrev pub TracesTellOneMailRun : Type 0
 TracesTellOneMailRun = (book : Shelf) (seats : List Desk) (ends : List MsgEnd) (traces : List (List Event)) → AreClosed book seats ends

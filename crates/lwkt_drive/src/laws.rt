@@ -1,4 +1,4 @@
-//! What the traces of processors that were driven tell, and how one ends as quiet, as laws.
+//! What the traces of processors that were driven tell, and how one ends as quiet, as theorems.
 ghost use Rattle.lwkt_drive.specs.Course.{QuietEndsAreSilent};
 ghost use Rattle.lwkt_drive.specs.Telling.{NewIsTold, StopsAreTold, DrivesAreTold, TracesTellOneRun, NewMailIsTold, MailStaysTold, MailDrivesAreTold, TracesTellOneMailRun};
 
@@ -13,8 +13,8 @@ pub fn traces_tell_seats<B: Body, G: Gate>()
     ensures drives { DrivesAreTold B.polled G.answers }
 {}
 
-/// The theorem that at the close the traces of all processors are the parts of one run of the model, which leads from the opening to
-/// the closing values.
+/// The theorem that at the close the traces of all processors are the parts of one run of the model, which leads from the
+/// opening to the closing values.
 pub fn traces_tell_one_run()
     ensures { TracesTellOneRun }
 {}
@@ -27,13 +27,14 @@ pub fn traces_tell_desks<B: Body, G: Gate>()
     ensures drives { MailDrivesAreTold B.polled G.answers }
 {}
 
-/// The theorem that at the close the traces of all processors are, of messages, the parts of one run of the model, which leads from
-/// the opening to the closing owner states and rounds.
+/// The theorem that at the close the traces of all processors are, of messages, the parts of one run of the model, which leads
+/// from the opening to the closing owner states and rounds.
 pub fn traces_tell_one_mail_run()
     ensures { TracesTellOneMailRun }
 {}
 
-/// The theorem that if a processor's drive ends as quiet, it made a turn, and its last turn polled no thread and appended no event.
+/// The theorem that if a processor's drive ends as quiet, it made a turn, and its last turn polled no thread and appended no
+/// event.
 pub fn quiet_ends_are_silent<B: Body, G: Gate>()
     ensures { QuietEndsAreSilent B.polled G.answers }
 {}

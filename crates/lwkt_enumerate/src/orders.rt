@@ -6,7 +6,9 @@ use std::alloc::{AllocError, Global};
 /// How long the orders are: so many turns in every order, and then so many rounds.
 #[derive(Clone, Copy)]
 pub struct Lengths {
+    /// The turns that every order of processors is tried for.
     pub turns: u32,
+    /// The most rounds that follow.
     pub rounds: u32,
 }
 

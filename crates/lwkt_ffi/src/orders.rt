@@ -25,6 +25,7 @@ const UNLAWFUL: &str = "lwkt_explore: a run along an order was not lawful\n";
 /// What came of a script whose orders were tried.
 #[derive(Drop)]
 pub struct Search {
+    /// What was found.
     pub found: Found,
     /// Of a text a line for each of its expectations, which says whether it holds.
     pub verdicts: String,
@@ -178,15 +179,15 @@ fn status_of(outcome: &Result<Search, Fault>) -> (u32, Option<Fault>)
     }
 }
 
-/// Tries every order of turns of a script in either form, as `explore` of lwkt_explore does with `Reduced`, and puts what was found
-/// into the buffer, and of a text behind it a line for each thing that it says of the outcomes; or in words why nothing was found. At
-/// most so many states are kept, but one at least, and no order has more turns than that.
+/// Tries every order of turns of a script in either form, as `explore` of lwkt_explore does with `Reduced`, and puts what was
+/// found into the buffer, and of a text behind it a line for each thing that it says of the outcomes; or in words why nothing
+/// was found. At most so many states are kept, but one at least, and no order has more turns than that.
 ///
-/// The status, of a script in JSON and of a text that expects nothing: 0 where every order was tried, and from every state an end can
-/// be reached; 2 where every order was tried, and from a state no end can be reached; 5 where not every order was tried. Of a text
-/// that expects something: 0 where every order was tried and all that it expects holds, and 5 where not. Of all: 4 with the fault 35
-/// where a run wasn't lawful; 1 with the fault 33, 39 or 40 for a script or an opening that was refused; 3 with the fault 32 for want
-/// of memory.
+/// The status, of a script in JSON and of a text that expects nothing: 0 where every order was tried, and from every state an
+/// end can be reached; 2 where every order was tried, and from a state no end can be reached; 5 where not every order was
+/// tried. Of a text that expects something: 0 where every order was tried and all that it expects holds, and 5 where not. Of
+/// all: 4 with the fault 35 where a run wasn't lawful; 1 with the fault 33, 39 or 40 for a script or an opening that was
+/// refused; 3 with the fault 32 for want of memory.
 #[unsafe(no_mangle)]
 pub extern "C" fn lwkt_explore_orders(
     alloc: Global,

@@ -1,4 +1,4 @@
-//! How the runs of calls on a hold go together, as laws: a layer above puts its own calls' runs together by them.
+//! How the runs of calls on a hold go together, as theorems: a layer above puts its own calls' runs together by them.
 ghost use Rattle.lwkt_hold.specs.Laws.{NothingRuns, RunsChain, RunsWiden, RoomIsNothing, FrontsAreHeld};
 
 /// Runs go together: where nothing is done, one after another, within more fronts and a wider bound, and over a trace that

@@ -32,6 +32,6 @@ pub record StepsByEvents (tok : Token) (cpu : CpuId) (t : TokId) : Type 0 where
   pub gives_clean : TokenNeeds tok (GiveClean cpu t) → clean_given (picture_of tok) ≡ Ok (word_after tok (GiveClean cpu t))
   pub gives_written : (section : Section) → TokenNeeds tok (GiveWritten cpu t section) → written_given (picture_of tok) ≡ Ok (word_after tok (GiveWritten cpu t section))
 
--- a law: the steps of a processor on the word of a token of a safe machine are its events there
+-- a theorem: the steps of a processor on the word of a token of a safe machine are its events there
 abbrev pub StepsAreEvents : Type 0
 StepsAreEvents = (m : Machine) (i : ℕ) (tok : Token) (cpu : CpuId) (t : TokId) → IsSafe m → slice_get m.tokens i ≡ Some tok → cpu.0 < m.cpus → StepsByEvents tok cpu t

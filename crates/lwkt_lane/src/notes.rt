@@ -15,9 +15,11 @@ pub enum NoteKind {
 pub struct Note {
     /// The round of the message when the note was made, 0 to 2251799813685247.
     pub round: u64,
+    /// The message.
     pub msg: MsgId,
     /// The thread of the receiving processor whose port the note is for, 0 to 15.
     pub port: u8,
+    /// What has been done with it, or is to be done.
     pub kind: NoteKind,
     /// Whether the message was sent with priority: its port serves the note before those that aren't urgent.
     pub urgent: bool,

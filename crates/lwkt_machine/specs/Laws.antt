@@ -17,10 +17,10 @@ abbrev pub entries_of : Option Ask → List (Answer × Ask) → List Entry
 entries_of asked [] = []
 entries_of asked (q ∷ qs) = option_to_list (entry_for asked q.0) ++ entries_of (Some q.1) qs
 
--- a law: the asks of a body are those of its script, each by the number of polls before it
+-- a theorem: the asks of a body are those of its script, each by the number of polls before it
 abbrev pub AsksAreTheScripts : Type 0
 AsksAreTheScripts = (steps : List Ask) (repeat : ℕ) (polls : List (Answer × Ask)) (b : Scripted) → length polls ≤ 18446744073709551615 → ArePolls (unpolled steps repeat) polls b → (k : ℕ) (q : Answer × Ask) → slice_get polls k ≡ Some q → q.1 ≡ unwrap_or (ask_in repeat steps k) Exit
 
--- a law: the log of a body is the first 32 entries that the answers to its asks make
+-- a theorem: the log of a body is the first 32 entries that the answers to its asks make
 abbrev pub LogsAreFirstEntries : Type 0
 LogsAreFirstEntries = (steps : List Ask) (repeat : ℕ) (polls : List (Answer × Ask)) (b : Scripted) → ArePolls (unpolled steps repeat) polls b → b.log ≡ take 32 (entries_of None polls)

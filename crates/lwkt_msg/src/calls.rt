@@ -16,8 +16,11 @@ use lwkt_core::messages::LAST_ROUND;
 /// What a sender asks for.
 #[derive(Clone, Copy)]
 pub(crate) struct Sending {
+    /// The processor that the message is for.
     pub target: CpuId,
+    /// What the message asks for.
     pub call: Call,
+    /// What the sender may still do with it.
     pub flags: Flags,
     /// Whether the sender waits for the reply.
     pub sync: bool,

@@ -1,4 +1,4 @@
-//! What the book's rule is for, as laws. The functions do nothing: their contracts are the laws.
+//! What the book's rule is for, as theorems. The functions do nothing: their contracts are the theorems.
 ghost use Rattle.atomic_table.specs.Table.{State};
 ghost use Rattle.lwkt_base.specs.declared.records.Rec.{Rec};
 ghost use Rattle.lwkt_msg.specs.declared.views.Key.{Key};
@@ -21,8 +21,8 @@ pub fn rule_shows_safety()
 {}
 
 /// Every state that meets the rule is reached from the opening by a run of the model: there is one history of the deeds of all
-/// seats, of which each seat has seen the front up to its own last deed, and words and views decide it. How often each thing was
-/// done with a message is how many of its events did it.
+/// seats, of which each seat has seen the front up to its own last deed, and words and views decide it. How often each thing
+/// was done with a message is how many of its events did it.
 pub fn states_are_reached()
     ensures reached { StatesAreReached }
     ensures counted { HistoryTellsCounts }
@@ -41,14 +41,14 @@ pub fn made_as_told()
     ensures nothing { NothingUntold }
 {}
 
-/// Any number of deeds that a play notes at once are done one after another between the messages before and after it. This too is
-/// so of any play that keeps the rule, and tells with what the history has grown: nothing else was done.
+/// Any number of deeds that a play notes at once are done one after another between the messages before and after it. This too
+/// is so of any play that keeps the rule, and tells with what the history has grown: nothing else was done.
 pub fn all_made_as_told()
     ensures { AllMadeAsTold }
 {}
 
-/// Each kind of step leads from a state of the rule to one of the rule, in which the history has one deed more, that of the kind:
-/// a look, or its event. A seat that is made, cut off or taken back is no deed.
+/// Each kind of step leads from a state of the rule to one of the rule, in which the history has one deed more, that of the
+/// kind: a look, or its event. A seat that is made, cut off or taken back is no deed.
 pub fn steps_are_deeds()
     ensures loads { LoadIsLook }
     ensures lost { LostExchangeIsLook }
@@ -67,8 +67,8 @@ pub fn looks_from_outside_are_no_deeds()
     ensures { SpentIsNoDeed }
 {}
 
-/// What a take or a drop found is what the last send put there, and what a reap found is that with what the one reply since
-/// put there. A message that is away has a request to abort exactly if its origin has made one since the last send, and one at rest
+/// What a take or a drop found is what the last send put there, and what a reap found is that with what the one reply since put
+/// there. A message that is away has a request to abort exactly if its origin has made one since the last send, and one at rest
 /// has none.
 pub fn history_tells_records()
     ensures found { FoundIsWhatWasPut }
@@ -81,7 +81,7 @@ pub fn deeds_are_told()
     ensures { DeedsAreTold }
 {}
 
-/// The rule that the book's table keeps, which the type of `MsgBook::shared` names, is that of the laws here.
+/// The rule that the book's table keeps, which the type of `MsgBook::shared` names, is that of the theorems here.
 pub fn book_keeps_that_rule()
     ensures { (key : Key) (s : State Rec View) → (⟦<BookRule as TableRule<Rec, View, Key>>⟧.holds key s → Told key s) × (Told key s → ⟦<BookRule as TableRule<Rec, View, Key>>⟧.holds key s) }
 {}

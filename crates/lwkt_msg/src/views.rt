@@ -5,13 +5,17 @@ use lwkt_core::{Chapter, Deed, SeatKind};
 /// What the table is told when it is made.
 #[derive(Drop)]
 pub struct Key {
+    /// What is declared of the messages, by number.
     pub specs: Vec<MsgSpec>,
+    /// How many processors there are, 1 to 8.
     pub cpus: usize,
 }
 
 /// The error and result of a reply.
 pub struct Returned {
+    /// The result.
     pub result: u64,
+    /// The error, 0 without one.
     pub error: u32,
 }
 
@@ -45,21 +49,29 @@ pub struct MessageEntry {
 
 /// What is known of the message of this number.
 pub struct Noted {
+    /// The message's number, 0 to 63.
     pub msg: u64,
+    /// What is known of it.
     pub entry: MessageEntry,
 }
 
 /// What a seat knew that was taken back.
 pub struct Recalled {
+    /// Whose seat it was.
     pub cpu: CpuId,
+    /// What the seat knew to be declared.
     pub specs: [MsgSpec; 0],
+    /// What it knew of messages; the first entry of a message counts.
     pub entries: [Noted; 0],
 }
 
 /// What a seat at the book's table knows. A clause reads an array as a list, of any length.
 pub struct View {
+    /// Whose seat it is: a processor's, the clerk's, or one that is spent.
     pub kind: SeatKind,
+    /// How many processors there are, 1 to 8.
     pub cpus: u64,
+    /// What is declared of the messages, by number.
     pub specs: [MsgSpec; 0],
     /// The first entry of a message counts; without one it is as at the opening.
     pub entries: [Noted; 0],

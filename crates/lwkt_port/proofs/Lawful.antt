@@ -1,4 +1,4 @@
--- The laws of ports.
+-- The theorems on ports.
 use Rattle.std.proofs.Common.{◌≡◌, ◌≢◌, ⊎_elim, ℕ, ◌<◌, true, false, true≢false, Bool, List, [], ◌∷◌, ◌++◌, length, set, refl, ap, sym, ◌∙◌, subst, append_assoc, inl, inr, get_or-set_same}
 use Rattle.std.proofs.lemmas.List.{append-nil}
 use Rattle.std.specs.Prelude.{◌⊎◌, Option, Some, None, Ok, Err, IsSome, MatchOption, option_to_list}

@@ -1,4 +1,4 @@
--- What the ports are for, as laws above the relations of the calls.
+-- What the ports are for, as theorems above the relations of the calls.
 use Rattle.std.specs.Prelude.{◌≡◌, ◌≢◌, ◌⊎◌, ℕ, ◌<◌, ◌≤◌, Bool, true, false, if◌then◌else◌, List, [], ◌∷◌, ◌++◌, length, All, Option, Some, None, Result, IsSome, MatchOption, option_to_list, slice_index_or, Vec}
 use Rattle.std.specs.declared.alloc.Global.{Global}
 use mathlib.Core.List.{IsPrefix}

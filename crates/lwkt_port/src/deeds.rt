@@ -211,11 +211,17 @@ fn go_out(mail: &mut Mail, sync: bool)
 /// What a thread sends, and to which thread.
 #[derive(Clone, Copy)]
 pub struct Sending {
+    /// The sending thread, by its number on this processor.
     pub thread: u8,
+    /// The message that is sent.
     pub msg: MsgId,
+    /// The thread whose port it is sent to.
     pub to: ThreadId,
+    /// What the message asks for.
     pub call: Call,
+    /// What the sender may still do with it.
     pub flags: Flags,
+    /// Whether the sender waits for the reply.
     pub sync: bool,
 }
 

@@ -1,4 +1,4 @@
-//! What the ports are for. The functions do nothing: their contracts are the laws.
+//! What the ports are for. The functions do nothing: their contracts are the theorems.
 ghost use Rattle.lwkt_port.specs.Sights.{SentAreDelivered, OwnAreDelivered, StayJoined, OpenedAreJoined};
 ghost use Rattle.lwkt_port.specs.Laws.{LanesLoseNone, NotesLeaveServed, UrgentLeaveFirst, LeavingChains, NotesComeLast, RequestsAreShownOnce, OwedIsMadeOnce, UnowedIsNotMade, EintrIfAborted, NothingIsTold, TellsChain, HandsWaitForRoom, PaidHandsWaitForRoom, SeenAreTakenIn};
 
@@ -44,28 +44,29 @@ pub fn aborted_requests_are_owed()
     ensures { EintrIfAborted }
 {}
 
-/// Where notes were taken in, or the replies that are owed went out alone, a note is in hand at a sending end only if no place of
-/// its queue is known to be free.
+/// Where notes were taken in, or the replies that are owed went out alone, a note is in hand at a sending end only if no place
+/// of its queue is known to be free.
 pub fn hands_wait_for_room()
     ensures taken { HandsWaitForRoom }
     ensures paid { PaidHandsWaitForRoom }
 {}
 
-/// Where notes are taken in, those that a lane's receiving end had seen are received, in order, unless its line keeps a note that
-/// found its port's queue full, or as many notes were taken in as are allowed.
+/// Where notes are taken in, those that a lane's receiving end had seen are received, in order, unless its line keeps a note
+/// that found its port's queue full, or as many notes were taken in as are allowed.
 pub fn seen_notes_are_taken_in()
     ensures { SeenAreTakenIn }
 {}
 
 /// What a processor's ports have put into the queue of the lane to another one's is received by a `take_in` of that one that
-/// follows a `see`, in order, unless a note is kept that found its port's queue full, or as many were taken in as are allowed. So
-/// it is with what they have put into the queue of the lane to themselves, after a `see_own`.
+/// follows a `see`, in order, unless a note is kept that found its port's queue full, or as many were taken in as are allowed.
+/// So it is with what they have put into the queue of the lane to themselves, after a `see_own`.
 pub fn sent_notes_are_delivered()
     ensures others { SentAreDelivered }
     ensures own { OwnAreDelivered }
 {}
 
-/// Two processors' ports that are opened over the two ends of a lane have it between them, and keep it whatever calls they make.
+/// Two processors' ports that are opened over the two ends of a lane have it between them, and keep it whatever calls they
+/// make.
 pub fn lanes_stay_joined()
     ensures opened { OpenedAreJoined }
     ensures stay { StayJoined }

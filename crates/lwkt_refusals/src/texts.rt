@@ -3,7 +3,9 @@
 /// Where a part of a text begins, and where what is behind it does.
 #[derive(Clone, Copy, Debug, PartialEq, Eq)]
 pub struct Span {
+    /// The place of its first byte.
     pub from: usize,
+    /// The place behind its last byte.
     pub to: usize,
 }
 

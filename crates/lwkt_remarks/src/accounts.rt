@@ -13,9 +13,11 @@ use std::alloc::{AllocError, Global};
 /// What is told of a run of a text.
 #[derive(Drop)]
 pub struct Account {
+    /// The report of the run.
     pub report: String,
     /// A line for each thing that the text says of the outcome, which says whether it is so.
     pub verdicts: String,
+    /// What the run came to.
     pub judgement: Judgement,
 }
 

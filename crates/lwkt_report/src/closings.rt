@@ -17,7 +17,9 @@ pub struct TokenLine {
 /// What a thread is when a run stops.
 #[derive(Debug, Drop)]
 pub struct ThreadLine {
+    /// The thread.
     pub id: ThreadId,
+    /// Whether it could go on, waited, or had ended, and by what.
     pub state: ThreadState,
     /// The references that it then has.
     pub list: TokList,
@@ -45,5 +47,6 @@ pub struct Closing {
     pub messages: Vec<MsgEnd>,
     /// The threads, by processor, then number.
     pub threads: Vec<ThreadLine>,
+    /// What the run says of its trace.
     pub verdict: Verdict,
 }

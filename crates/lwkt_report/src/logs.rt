@@ -19,18 +19,21 @@ impl Model for Log {
 }
 
 impl Log {
+    /// The entries of the vector, in its order.
     pub fn from_vec(entries: Vec<Entry>) -> Self
         ensures { result ≡ entries.items }
     {
         Log { entries }
     }
 
+    /// The vector that the log was made from.
     pub fn into_vec(self) -> Vec<Entry>
         ensures { result.items ≡ self }
     {
         self.entries
     }
 
+    /// The entries, the first answer first.
     pub fn as_slice(&self) -> &[Entry]
         ensures { result.now ≡ self.now }
     {

@@ -8,9 +8,11 @@ use std::io::{Read, Write};
 /// Any reader, with a copy of what it gave and the error of its last call that failed. It gives what the reader gives.
 #[derive(Debug, Drop)]
 pub struct NotedReader<R> {
+    /// The reader.
     pub reader: R,
     /// What was given so far; nothing once memory for it was refused.
     pub given: Option<Vec<u8>>,
+    /// The error of the last call that failed, if one has.
     pub error: Option<io::Error>,
 }
 
@@ -58,7 +60,9 @@ impl<R: Read> Read for NotedReader<R> {
 /// Any writer, with the error of its last call that failed. It takes what the writer takes.
 #[derive(Debug, Drop)]
 pub struct NotedWriter<W> {
+    /// The writer.
     pub writer: W,
+    /// The error of the last call that failed, if one has.
     pub error: Option<io::Error>,
 }
 

@@ -47,6 +47,7 @@ pub trait Sink {
 /// Any writer. A write that was interrupted, or that takes no byte of some, has failed; it is not made again.
 #[derive(Debug, Drop)]
 pub struct WriterSink<W> {
+    /// The writer.
     pub writer: W,
     /// Whether a call of the writer has failed.
     pub failed: bool,
@@ -55,6 +56,7 @@ pub struct WriterSink<W> {
 }
 
 impl<W: Write> WriterSink<W> {
+    /// A sink that writes to the writer, and has made no call of it yet.
     pub fn new(writer: W) -> Self
         ensures { result ≡ record { writer = writer; failed = false; flushed = false } }
     {
@@ -97,6 +99,7 @@ impl<W: Write> Sink for WriterSink<W> {
 /// Text in memory. It takes all that fits the room that it has, and more where memory is there.
 #[derive(Debug, Drop)]
 pub struct Page {
+    /// The bytes that were put, in order.
     pub text: Vec<u8>,
     /// What the allocator said where memory for more was refused.
     pub refused: Option<AllocError>,

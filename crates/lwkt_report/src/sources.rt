@@ -45,12 +45,14 @@ impl Source for &[u8] {
 /// Any reader, which is not called again once a call of it has failed. A call that was interrupted has failed.
 #[derive(Debug, Drop)]
 pub struct ReaderSource<R> {
+    /// The reader.
     pub reader: R,
     /// Whether a call of the reader has failed.
     pub failed: bool,
 }
 
 impl<R: Read> ReaderSource<R> {
+    /// A source that reads from the reader, and has made no call of it yet.
     pub fn new(reader: R) -> Self
         ensures { result ≡ record { reader = reader; failed = false } }
     {

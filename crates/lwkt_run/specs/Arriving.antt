@@ -6,7 +6,7 @@ use Rattle.lwkt_cpu.specs.Processors.{Processor}
 use Rattle.lwkt_machine.specs.Bodies.{Scripted}
 use Rattle.lwkt_run.specs.Running.{Scene, MakesTurns, MakesTurnAt}
 
--- a law: what a processor has put into the queue of its lane to one, another or itself, is received by that one as it takes mail in, in each
+-- a theorem: what a processor has put into the queue of its lane to one, another or itself, is received by that one as it takes mail in, in each
 -- turn that it makes before the sender has made one again, whatever turns others make meanwhile; in order, unless its line keeps a note that
 -- found its port's queue full, or the turn took in its 16 notes
 abbrev pub NotesArrive : Type 0

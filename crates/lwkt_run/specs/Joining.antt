@@ -22,7 +22,7 @@ pub record AreOneRun (cpus : ℕ) (tokens : List TokSpec) (messages : List MsgSp
   pub on_tokens : (cpu : ℕ) (part : List Event) → slice_get parts cpu ≡ Some part → Tells (filter is_of_token (of_cpu cpu events)) (filter is_of_token part)
   pub on_messages : (cpu : ℕ) (part : List Event) → slice_get parts cpu ≡ Some part → filter is_of_message part ≡ filter is_of_message (of_cpu cpu events)
 
--- a law: events on tokens change only tokens, and those on messages only messages; so where some events on tokens are a run of the
+-- a theorem: events on tokens change only tokens, and those on messages only messages; so where some events on tokens are a run of the
 -- tokens alone, and some on messages one of the messages alone, they are, in whatever order between the two, one run of both
 abbrev pub RunsJoin : Type 0
 RunsJoin = (cpus : ℕ) (tokens tokens' : List Token) (messages messages' : List Message) (events : List Event) → Run (machine cpus tokens []) (filter is_of_token events) (machine cpus tokens' []) → Run (machine cpus [] messages) (filter is_of_message events) (machine cpus [] messages')

@@ -8,6 +8,6 @@ use Rattle.lwkt_verdict.specs.Run.{GoesRound}
 use Rattle.lwkt_run.specs.Keeping.{Kept}
 use Rattle.lwkt_run.specs.Run.{RunsInRounds, RunsAlong}
 
--- a law: a run in rounds is the run along an order that goes round the processors, 0 1 .. n-1 0 1 ..
+-- a theorem: a run in rounds is the run along an order that goes round the processors, 0 1 .. n-1 0 1 ..
 abbrev pub RoundsAreAnOrder : Type 0
 RoundsAreAnOrder = (script : Script) (lines : List ThreadLine) (kept : Kept) (trace : List Event) (last : Final) → RunsInRounds script lines kept trace last → (order : List ℕ) × (GoesRound script.cpus 0 order × RunsAlong script order lines kept trace last)

@@ -1,4 +1,4 @@
-//! What the lines are for. The functions do nothing: their contracts are the laws.
+//! What the lines are for. The functions do nothing: their contracts are the theorems.
 ghost use Rattle.lwkt_scenes.specs.Apart.{LinesTellTurns, TextsTellAsks};
 
 /// The theorem that two turns that have the same line have the same number, round and processor, and no poll, or polls of one

@@ -235,7 +235,7 @@ fn ask_of(version: Version, value: &Value) -> Option<Ask>
     asked(version, value.get(0usize)?.as_str()?, count, value)
 }
 
-// The asks of the steps of thread n of a script.
+/// The asks of the steps of thread n of a script.
 pub fn steps_of(alloc: Global, version: Version, n: u32, items: &[Value]) -> Result<Vec<Ask>, Fault>
     requires thread { n ≤ 128 }
     requires steps { length items.now ≤ 256 }

@@ -66,6 +66,8 @@ fn thread(
     })
 }
 
+/// The threads of a script with so many processors, each within the limits of the format; 33 with the place of the first bad
+/// part, or 32.
 pub fn threads_of(
     alloc: Global,
     version: Version,

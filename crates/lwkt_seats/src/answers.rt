@@ -20,6 +20,7 @@ pub enum Asked {
 }
 
 impl Asked {
+    /// Its number, as C is given it.
     pub fn number(self) -> u32
         ensures { result ≡ asked_number self }
     {
@@ -45,6 +46,7 @@ pub enum Furthered {
 }
 
 impl Furthered {
+    /// Its number, as C is given it.
     pub fn number(self) -> u32
         ensures { result ≡ furthered_number self }
     {
@@ -65,6 +67,7 @@ pub enum Marked {
 }
 
 impl Marked {
+    /// Its number, as C is given it.
     pub fn number(self) -> u32
         ensures { result ≡ marked_number self }
     {
@@ -85,6 +88,7 @@ pub enum GaveBack {
 }
 
 impl GaveBack {
+    /// Its number, as C is given it.
     pub fn number(self) -> u32
         ensures { result ≡ gave_number self }
     {
@@ -107,6 +111,7 @@ pub enum Loaded {
 }
 
 impl Loaded {
+    /// Its number, as C is given it.
     pub fn number(self) -> u32
         ensures { result ≡ loaded_number self }
     {
@@ -131,6 +136,7 @@ pub enum Stored {
 }
 
 impl Stored {
+    /// Its number, as C is given it.
     pub fn number(self) -> u32
         ensures { result ≡ stored_number self }
     {
@@ -157,6 +163,7 @@ pub enum Added {
 }
 
 impl Added {
+    /// Its number, as C is given it.
     pub fn number(self) -> u32
         ensures { result ≡ added_number self }
     {
@@ -182,6 +189,7 @@ pub enum Judged {
 }
 
 impl Judged {
+    /// Its number, as C is given it.
     pub fn number(self) -> u32
         ensures { result ≡ judged_number self }
     {
@@ -205,6 +213,7 @@ pub enum RowRestored {
 }
 
 impl RowRestored {
+    /// Its number, as C is given it.
     pub fn number(self) -> u32
         ensures { result ≡ restored_number self }
     {
@@ -228,6 +237,7 @@ pub enum RecordRead {
 }
 
 impl RecordRead {
+    /// Its number, as C is given it.
     pub fn number(self) -> u32
         ensures { result ≡ record_read_number self }
     {
@@ -253,6 +263,7 @@ pub enum RecordWritten {
 }
 
 impl RecordWritten {
+    /// Its number, as C is given it.
     pub fn number(self) -> u32
         ensures { result ≡ record_written_number self }
     {

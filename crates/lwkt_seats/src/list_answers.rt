@@ -12,6 +12,7 @@ pub enum Unlisted {
 }
 
 impl Unlisted {
+    /// Its number, as C is given it.
     pub fn number(self) -> u32
         ensures { result ≡ unlisted_number self }
     {
@@ -33,6 +34,7 @@ pub enum Missed {
 }
 
 impl Missed {
+    /// Its number, as C is given it.
     pub fn number(self) -> u32
         ensures { result ≡ missed_number self }
     {
@@ -58,6 +60,7 @@ pub enum Resumed {
 }
 
 impl Resumed {
+    /// Its number, as C is given it.
     pub fn number(self) -> u32
         ensures { result ≡ resumed_number self }
     {

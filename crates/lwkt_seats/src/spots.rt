@@ -12,14 +12,18 @@ use std::sync::Arc;
 /// Whose seat a place is for.
 #[derive(Drop)]
 pub struct Spot {
+    /// The bank that the seat has to be of.
     pub bank: Arc<Bank>,
+    /// The processor whose seat it has to be.
     pub cpu: CpuId,
 }
 
 /// A seat, and the bank that it is of.
 #[derive(Drop)]
 pub struct Sitter {
+    /// The seat.
     pub seat: CpuSeat,
+    /// Its bank.
     pub bank: Arc<Bank>,
 }
 
@@ -35,6 +39,7 @@ impl Fits for Stall {
 }
 
 impl Stall {
+    /// The box, closed: a pointer to it can be handed out.
     pub fn of(sitter: Box<Sitter>) -> Stall
         ensures { result.parts.value ≡ sitter.value }
     {
@@ -43,6 +48,7 @@ impl Stall {
         }
     }
 
+    /// The box again, with the seat and its bank.
     pub fn into_sitter(self) -> Box<Sitter>
         ensures { result.value ≡ self.parts.value }
     {

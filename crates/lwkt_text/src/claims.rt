@@ -40,8 +40,11 @@ pub enum Standing {
 /// Sums that are compared.
 #[derive(Drop)]
 pub struct Comparison {
+    /// What is added up on the left.
     pub left: Many<Quantity>,
+    /// How the sums have to compare.
     pub relation: Relation,
+    /// What is added up on the right.
     pub right: Many<Quantity>,
 }
 
@@ -78,7 +81,9 @@ pub enum When {
 /// What a text says of the outcomes of its script.
 #[derive(Drop)]
 pub struct Expectation {
+    /// Of which outcomes it is said.
     pub when: When,
+    /// What is said of them.
     pub claim: Claim,
     /// How many bytes stand before it in the text.
     pub at: usize,

@@ -19,16 +19,23 @@ use std::alloc::Global;
 /// What a text told so far.
 #[derive(Drop)]
 pub struct Draft {
+    /// The most turns of each processor.
     pub turns: u32,
+    /// The most turns in a row without a thread that can run.
     pub idle: u32,
+    /// The tokens that were told.
     pub tokens: Many<TokSpec>,
+    /// The messages that were told.
     pub messages: Many<MsgSpec>,
     /// The threads whose steps were told.
     pub threads: Many<ThreadSpec>,
     /// The head of the thread whose steps are being told.
     pub head: Option<Head>,
+    /// The steps of that thread so far.
     pub steps: Many<Ask>,
+    /// What was said of outcomes.
     pub expectations: Many<Expectation>,
+    /// What is wrong so far.
     pub faults: Many<Wrong>,
 }
 

@@ -16,14 +16,18 @@ use std::alloc::Global;
 /// A quantity, and the place of the first word behind it.
 #[derive(Clone, Copy)]
 pub struct Term {
+    /// The quantity.
     pub quantity: Quantity,
+    /// The place of the first word behind it.
     pub end: usize,
 }
 
 /// Quantities that are added, and the place of the first word behind them.
 #[derive(Drop)]
 pub struct Sum {
+    /// The quantities, at least one.
     pub terms: Many<Quantity>,
+    /// The place of the first word behind them.
     pub end: usize,
 }
 

@@ -18,9 +18,11 @@ use std::alloc::{AllocError, Global};
 /// The names of a text so far, and what is wrong with them.
 #[derive(Drop)]
 pub struct Listing {
+    /// The names so far.
     pub names: Names,
     /// Whether a sentence says how many processors there are.
     pub is_said: bool,
+    /// What is wrong with them.
     pub faults: Many<Wrong>,
 }
 

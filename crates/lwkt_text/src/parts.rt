@@ -22,6 +22,7 @@ use std::alloc::Global;
 pub struct CellList {
     /// Of each cell its name; a cell without one has the empty name.
     pub names: Many<Name>,
+    /// The value of each cell at the opening.
     pub values: Many<u64>,
     /// The name of the next cell, if it was told.
     pub pending: Name,
@@ -30,6 +31,7 @@ pub struct CellList {
 /// What stands at the head of a thread.
 #[derive(Clone, Copy)]
 pub struct Head {
+    /// The processor that the thread runs on.
     pub cpu: CpuId,
     /// How many times the thread makes its steps, 1 to 1000000.
     pub repeat: u32,

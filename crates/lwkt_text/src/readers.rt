@@ -17,6 +17,7 @@ use std::alloc::{AllocError, Global};
 /// A text, read.
 #[derive(Drop)]
 pub struct Reading {
+    /// The script that the text means.
     pub script: Script,
     /// The names that the text gives.
     pub names: Names,

@@ -11,10 +11,13 @@ use lwkt_base::{CpuId, MsgId, ThreadId, TokId};
 /// The names of a text, each by the number of what it names.
 #[derive(Drop)]
 pub struct Names {
+    /// The names of the tokens.
     pub tokens: Many<Name>,
     /// Of each token the names of its cells; a cell without one has the empty name.
     pub cells: Many<Many<Name>>,
+    /// The names of the messages.
     pub messages: Many<Name>,
+    /// The names of the threads, in the order in which the text gives them.
     pub threads: Many<Name>,
     /// Of each thread's name the thread.
     pub ids: Many<ThreadId>,
@@ -25,7 +28,9 @@ pub struct Names {
 /// A cell of a token.
 #[derive(Clone, Copy)]
 pub struct CellPlace {
+    /// The token.
     pub tok: TokId,
+    /// The cell's number there, 0 to 3.
     pub cell: u8,
 }
 

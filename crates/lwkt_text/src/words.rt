@@ -8,11 +8,13 @@ pub struct Word {
     pub at: usize,
     /// How many bytes stand before what comes after it.
     pub end: usize,
+    /// The word as it is written.
     pub text: Name,
 }
 
 /// What stands on a line, or between two semicolons: some words.
 #[derive(Drop)]
 pub struct Sentence {
+    /// The words, at least one.
     pub words: Many<Word>,
 }

@@ -65,6 +65,7 @@ pub enum Wanted {
 pub struct Wrong {
     /// How many bytes stand before the place.
     pub at: usize,
+    /// What is wrong there.
     pub what: What,
 }
 

@@ -22,6 +22,7 @@ pub enum Mode {
 /// What the arguments say.
 #[derive(Debug, Drop)]
 pub struct Options {
+    /// The path of the file.
     pub path: String,
     pub mode: Mode,
 }

@@ -12,13 +12,16 @@ use std::alloc::{AllocError, Global};
 /// A file, and what it holds.
 #[derive(Clone, Copy)]
 pub struct File<'f> {
+    /// Its path, as it was given.
     pub path: &'f str,
+    /// Its bytes.
     pub bytes: &'f [u8],
 }
 
 /// What a file is.
 #[derive(Drop)]
 pub struct Read {
+    /// The script.
     pub script: Script,
     /// What it says of the outcomes of its script; a script in JSON says nothing.
     pub expectations: Many<Expectation>,

@@ -29,7 +29,7 @@ pub record TellTheRuns (m : Rig) (closed : Closed) (parts : List (List Event)) :
   pub tokens : TellOneRun m.bank (length m.cpus) closed.tokens parts
   pub messages : TellOneMailRun m.book closed.messages.items parts
 
--- a law: what the processors of a machine did, from its opening by a script on, while they were driven and then as they stopped, are
+-- a theorem: what the processors of a machine did, from its opening by a script on, while they were driven and then as they stopped, are
 -- the parts of such runs, to the values at the close
 abbrev pub ThreadsTellTheRuns : {G : Type 0} → (G → CpuId → ℕ → Bool → Type 0) → Type 0
 ThreadsTellTheRuns {G} answers = (gate : G) (limits : Limits) (script : Script) (opened driven stopped : Rig) (traces : List (Vec Event Global)) (before after : Vec Event Global) (closed : Closed)

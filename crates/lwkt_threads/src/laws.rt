@@ -1,4 +1,4 @@
-//! What the processors of a machine did, as a law.
+//! What the processors of a machine did, as a theorem.
 ghost use Rattle.lwkt_threads.specs.Parts.{ThreadsTellTheRuns};
 
 use lwkt_drive::Gate;

@@ -245,7 +245,7 @@ pub fn closing_at(alloc: Global, value: &Value) -> Result<Closing, Fault>
     })
 }
 
-// The closing values, or none where there is null.
+/// The closing values, or none where there is null.
 pub fn closing(alloc: Global, value: &Value) -> Result<Option<Closing>, Fault>
     ensures { Gives (λ c. c) result (closing (view value.now)) }
 {

@@ -216,7 +216,7 @@ fn event(before: &[Told], value: &Value) -> Result<Told, Fault>
     }
 }
 
-// The events of a trace.
+/// The events of a trace.
 pub fn events_of(alloc: Global, items: &[Value]) -> Result<Vec<Told>, Fault>
     ensures { Gives (λ v. v.items) result (each event [] (items_view items.now)) }
 {

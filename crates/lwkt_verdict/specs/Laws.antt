@@ -31,26 +31,26 @@ OfRuns P = (plans : List ThreadPlan) (pace : Pace) (order : List ℕ) (opening :
 abbrev pub OfThreads : (ℕ → ℕ → Type 0) → Type 0
 OfThreads P = (cpu n : ℕ) → cpu < 8 → n < 16 → P cpu n
 
--- a law: no turn at all is no run in rounds
+-- a theorem: no turn at all is no run in rounds
 abbrev pub NoTurnsAreNoRun : Type 0
 NoTurnsAreNoRun = (plans : List ThreadPlan) (limit : ℕ) (order : List ℕ) (opening : Machine) (polls : List Poll) (trace : List Event) (lines : List ThreadEnd) → ¬ IsScriptRun plans (Rounds limit) order opening polls [] trace lines
 
--- a law: no run begins with a turn without an ask, where the processor of that turn has a thread
+-- a theorem: no run begins with a turn without an ask, where the processor of that turn has a thread
 abbrev pub RunsBeginWithAnAsk : Type 0
 RunsBeginWithAnAsk = (plans : List ThreadPlan) (pace : Pace) (order : List ℕ) (opening : Machine) (polls : List Poll) (turn : Turn) (turns : List Turn) (trace : List Event) (lines : List ThreadEnd) → is_some (thread_of (whose order 0) 0 plans) ≡ true → poll_of polls turn ≡ None → ¬ IsScriptRun plans pace order opening polls (turn ∷ turns) trace lines
 
--- a law: the events of a run's trace can happen one after another, from the opening on
+-- a theorem: the events of a run's trace can happen one after another, from the opening on
 abbrev pub TracesOfRunsHappen : Type 0
 TracesOfRunsHappen = OfRuns (λ plans opening polls turns trace lines. (end : Machine) × Run opening trace end)
 
--- a law: what a thread asks is a front of its steps, so many times over, and then Exit
+-- a theorem: what a thread asks is a front of its steps, so many times over, and then Exit
 abbrev pub AsksAreThoseOfTheScript : Type 0
 AsksAreThoseOfTheScript = OfRuns (λ plans opening polls turns trace lines. OfThreads (λ cpu n. (k : ℕ) (a : Asked) → slice_get (asks_of polls turns trace cpu n) k ≡ Some a → MatchOption (thread_of cpu n plans) ⊥ (λ plan. ask_at plan k ≡ Some a.ask)))
 
--- a law: each ask of a thread but its last has its answer, and the last has none
+-- a theorem: each ask of a thread but its last has its answer, and the last has none
 abbrev pub AllButTheLastAreAnswered : Type 0
 AllButTheLastAreAnswered = OfRuns (λ plans opening polls turns trace lines. OfThreads (λ cpu n. (k : ℕ) (a : Asked) → slice_get (asks_of polls turns trace cpu n) k ≡ Some a → (k + 1 < length (asks_of polls turns trace cpu n) → is_some a.answer ≡ true) × (k + 1 ≡ length (asks_of polls turns trace cpu n) → is_some a.answer ≡ false)))
 
--- a law: a thread's printed log is the first 32 entries of the answers to its asks
+-- a theorem: a thread's printed log is the first 32 entries of the answers to its asks
 abbrev pub LogsAreTheFirstEntries : Type 0
 LogsAreTheFirstEntries = OfRuns (λ plans opening polls turns trace lines. OfThreads (λ cpu n. IfSome (line_of (16 * cpu + n) lines) (λ line. line.log.items ≡ take 32 (entries_of (asks_of polls turns trace cpu n)))))

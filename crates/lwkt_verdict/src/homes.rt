@@ -11,7 +11,9 @@ pub const THREAD_LIMIT: usize = 128;
 /// Where a thread stands in a script, and its line in a report.
 #[derive(Clone, Copy, Debug, PartialEq, Eq)]
 pub struct Home {
+    /// Its place among the threads of the script.
     pub plan: usize,
+    /// The place of its line among those of the report.
     pub line: usize,
 }
 

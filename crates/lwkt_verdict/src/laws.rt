@@ -1,31 +1,31 @@
 ghost use Rattle.lwkt_verdict.specs.Laws.{NoTurnsAreNoRun, RunsBeginWithAnAsk, TracesOfRunsHappen, AsksAreThoseOfTheScript, AllButTheLastAreAnswered, LogsAreTheFirstEntries};
 
-/// The law that no turn at all is no run in rounds.
+/// The theorem that no turn at all is no run in rounds.
 pub fn no_turns_are_no_run()
     ensures { NoTurnsAreNoRun }
 {}
 
-/// The law that no run begins with a turn without an ask, where the processor of that turn has a thread.
+/// The theorem that no run begins with a turn without an ask, where the processor of that turn has a thread.
 pub fn runs_begin_with_an_ask()
     ensures { RunsBeginWithAnAsk }
 {}
 
-/// The law that the events of a run's trace can happen one after another, from the opening on.
+/// The theorem that the events of a run's trace can happen one after another, from the opening on.
 pub fn traces_of_runs_happen()
     ensures { TracesOfRunsHappen }
 {}
 
-/// The law that what a thread asks is a front of its steps, so many times over, and then `Exit`.
+/// The theorem that what a thread asks is a front of its steps, so many times over, and then `Exit`.
 pub fn asks_are_those_of_the_script()
     ensures { AsksAreThoseOfTheScript }
 {}
 
-/// The law that each ask of a thread but its last has its answer, and the last has none.
+/// The theorem that each ask of a thread but its last has its answer, and the last has none.
 pub fn all_but_the_last_are_answered()
     ensures { AllButTheLastAreAnswered }
 {}
 
-/// The law that a thread's printed log is the first 32 entries of the answers to its asks.
+/// The theorem that a thread's printed log is the first 32 entries of the answers to its asks.
 pub fn logs_are_the_first_entries()
     ensures { LogsAreTheFirstEntries }
 {}

@@ -10,7 +10,9 @@ use crate::turns::{Turn, poll_of};
 /// Where the poll of a turn lies, if the turn has one: the polls of the run, and the turn.
 #[derive(Clone, Copy)]
 pub struct PollPlace<'a> {
+    /// The polls of the run.
     pub polls: &'a PollList,
+    /// The turn.
     pub turn: Turn,
 }
 

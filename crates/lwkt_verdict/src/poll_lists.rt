@@ -12,8 +12,11 @@ use std::marker::Model;
 /// A poll as it is kept.
 #[derive(Clone, Copy)]
 pub struct PollRow {
+    /// Its answer, or where its record lies.
     pub answer: ShortAnswer,
+    /// Its ask, or where its record lies.
     pub ask: ShortAsk,
+    /// The thread that was polled.
     pub thread: ThreadId,
 }
 

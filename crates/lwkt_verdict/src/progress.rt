@@ -18,8 +18,11 @@ pub const LOG_LIMIT: usize = 32;
 /// An ask of a thread, its answer, if it has one, and whether its part of the trace shows that it blocked the thread.
 #[derive(Clone, Copy, Debug, PartialEq, Eq)]
 pub struct Asked {
+    /// What the thread asked.
     pub ask: Ask,
+    /// What this was answered, if the thread was polled again.
     pub answer: Option<Answer>,
+    /// Whether the part shows a block.
     pub blocked: bool,
 }
 
@@ -70,7 +73,9 @@ impl<'a> Default for Standing<'a> {
 /// What a turn was. Only proofs have values of it.
 #[derive(Clone, Copy, Debug, PartialEq, Eq)]
 pub struct Piece {
+    /// The poll that was made in it, if one was.
     pub poll: Option<Poll>,
+    /// Whether its part of the trace shows that the thread blocked.
     pub blocked: bool,
 }
 

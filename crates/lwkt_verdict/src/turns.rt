@@ -8,25 +8,33 @@ use lwkt_base::{Answer, Ask, CpuId, Entry, ThreadId, ThreadState};
 /// of its processor.
 #[derive(Debug, Drop)]
 pub struct ThreadPlan {
+    /// The processor that the thread runs on.
     pub cpu: CpuId,
     /// How many times the thread makes its steps.
     pub repeat: u32,
+    /// The steps, in order.
     pub steps: Vec<Ask>,
 }
 
 /// What a report says of one thread.
 #[derive(Debug, Drop)]
 pub struct ThreadEnd {
+    /// The thread.
     pub id: ThreadId,
+    /// What it is when the run stops.
     pub state: ThreadState,
+    /// The first 32 entries of its log.
     pub log: Vec<Entry>,
 }
 
 /// One poll of a thread: what it asked, and what this was answered, if the thread was polled again.
 #[derive(Clone, Copy, Debug, PartialEq, Eq)]
 pub struct Poll {
+    /// The answer, which the thread is given when it is polled again.
     pub answer: Option<Answer>,
+    /// The ask.
     pub ask: Ask,
+    /// The thread that was polled.
     pub thread: ThreadId,
 }
 
