@@ -1,12 +1,11 @@
 //! The port of a thread that has ended is closed.
 ghost use Rattle.std.specs.Prelude.{◌≡◌, ℕ, ◌+◌, ◌<◌, ◌≤◌, true, vec_len, slice_set};
-ghost use Rattle.lwkt_port.specs.Closings.{gone_mail, OwesGone, IsClosedPort, PostCloses};
+ghost use Rattle.lwkt_port.specs.Closings.{gone_mail, OwesGone, PostCloses};
 ghost use Rattle.lwkt_port.specs.Mails.{mail_at};
 ghost use Rattle.lwkt_port.specs.Posts.{IsSamePost};
 
-use crate::mails::{Mail, mail_of, put_mail};
+use crate::mails::Mail;
 use crate::posts::Ports;
-use crate::queues::Port;
 
 /// The error of a reply to a request whose thread has ended.
 pub const GONE: u32 = 41;
@@ -31,16 +30,8 @@ fn owe_all(mails: &mut Vec<Mail>, thread: u8)
 {
     let count = mails.len();
     for m in 0..count {
-        let mail = mail_of(mails, m);
-        put_mail(mails, m, left(mail, thread));
+        mails[m] = left(mails[m], thread);
     }
-}
-
-// Closes a port.
-fn close(port: &mut Port)
-    ensures { IsClosedPort port.old port.new }
-{
-    port.closed = true;
 }
 
 impl Ports {
@@ -59,7 +50,7 @@ impl Ports {
         let counters = &mut office.counters;
         let room = &mut counters.room;
         owe_all(&mut room.mails, thread);
-        close(&mut counters.ports[usize::from(thread)]);
+        counters.ports[usize::from(thread)].closed = true;
         counters.uncleared = true;
         office.owing = true;
     }

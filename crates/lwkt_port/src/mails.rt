@@ -1,5 +1,5 @@
 //! What the ports of a processor keep of each message.
-ghost use Rattle.std.specs.Prelude.{◌≡◌, ◌<◌, vec_len, vec_capacity, slice_set};
+ghost use Rattle.std.specs.Prelude.{◌≡◌, ◌<◌, vec_len, vec_capacity};
 ghost use Rattle.lwkt_port.specs.Mails.{mail_at};
 
 use lwkt_base::{Rec, ThreadId};
@@ -31,12 +31,4 @@ pub(crate) fn mail_of(mails: &Vec<Mail>, m: usize) -> Mail
     ensures { result ≡ mail_at mails.now.items m }
 {
     mails[m]
-}
-
-/// Keeps this of the message of this number.
-pub(crate) fn put_mail(mails: &mut Vec<Mail>, m: usize, mail: Mail)
-    requires { m < vec_len mails.old }
-    ensures { mails.new.items ≡ slice_set mails.old.items m mail }
-{
-    mails[m] = mail;
 }

@@ -6,10 +6,10 @@ ghost use Rattle.lwkt_port.specs.Posts.{IsSamePost};
 ghost use Rattle.lwkt_port.specs.Sendings.{IsShownTo};
 ghost use Rattle.lwkt_port.specs.Tellings.{Tells};
 ghost use Rattle.lwkt_port.specs.Works.{work, Grew, IsReady, Stands, HasTaken, HasOwn};
-ghost use Rattle.lwkt_port.specs.Withdrawals.{IsOwnOf, Requests, IsUnasked, dropped_mail, Drops, IsUntouched, MayAsk, MayDrop, IsHeard, PostAborts, PostRefusesAbort, PostDrops, PostRefusesDrop, PostHears, PostRefusesHearing};
+ghost use Rattle.lwkt_port.specs.Withdrawals.{IsOwnOf, Requests, IsUnasked, Drops, IsUntouched, MayAsk, MayDrop, IsHeard, PostAborts, PostRefusesAbort, PostDrops, PostRefusesDrop, PostHears, PostRefusesHearing};
 
 use crate::mailrooms::Mailroom;
-use crate::mails::{Mail, mail_of, put_mail};
+use crate::mails::mail_of;
 use crate::posts::Ports;
 use crate::replies::is_shown_to;
 use crate::traces::note_event;
@@ -54,13 +54,6 @@ impl Mailroom {
     }
 }
 
-// What is kept of a message that was dropped.
-fn dropped(mail: Mail) -> Mail
-    ensures { result ≡ dropped_mail mail }
-{
-    Mail { home: true, ..mail }
-}
-
 impl Mailroom {
     // Drops an own message.
     fn withdraw(&mut self, book: &MsgBook, msg: MsgId, trace: &mut Vec<Event>) -> Result<Rec, Fault>
@@ -74,8 +67,7 @@ impl Mailroom {
         let m = usize::from(msg.0);
         match self.seat.drop_msg(book, msg) {
             Ok(rec) => {
-                let mail = dropped(mail_of(&self.mails, m));
-                put_mail(&mut self.mails, m, mail);
+                self.mails[m].home = true;
                 note_event(trace, Event::DropMsg { cpu, msg });
                 Ok(rec)
             }

@@ -1,7 +1,7 @@
-use Rattle.std.proofs.Common.{◌≡◌, ◌<◌, true≢false, length, rules, sym, subst, ℕ, vec_len}
+use Rattle.std.proofs.Common.{◌≡◌, ◌<◌, true, true≢false, length, refl, rules, sym, subst, ℕ, vec_len}
 use Rattle.std.specs.Prelude.{All, slice_index_or, slice_set}
 use Rattle.lwkt_port.specs.declared.queues.Port.{Port}
-use Rattle.lwkt_port.specs.Closings.{OwesGone, IsClosedPort}
+use Rattle.lwkt_port.specs.Closings.{OwesGone}
 use Rattle.lwkt_port.specs.Queues.{HasNamed}
 use Rattle.lwkt_port.proofs.Departing.{gone_are, closed_named}
 use Rattle.lwkt_port.proofs.posts.Ports.close_port.Goals as goal
@@ -18,10 +18,10 @@ invariant_of-counters c =
     let old : Port = c.index_mut.result.now in
     let there : c.from.result < length i.ports.items = search rules in
     let was : old ≡ slice_index_or i.ports.items c.from.result old = search rules in
-    let closed : IsClosedPort old c.close.new.port = c.close.ensures in
+    let new : Port = record old { closed = true } in
     let many : vec_len c.owe_all.new.mails ≡ vec_len i.room.mails = search rules in
-    let F : ℕ → Type 0 = λ n. All (HasNamed n) (slice_set i.ports.items c.from.result c.close.new.port) in record {
+    let F : ℕ → Type 0 = λ n. All (HasNamed n) (slice_set i.ports.items c.from.result new) in record {
       as_many = i.as_many;
-      named = subst F (sym many) (closed_named (vec_len i.room.mails) i.ports.items c.from.result old c.close.new.port there was closed i.named);
+      named = subst F (sym many) (closed_named (vec_len i.room.mails) i.ports.items c.from.result old new there was refl i.named);
       hint = λ e. absurd (true≢false e);
     }
