@@ -1,6 +1,6 @@
 -- What the ports remember, so that a call passes over work that isn't there (own): whether a reply may be owed, and whether a closed
 -- port may have a note.
-use Rattle.std.specs.Prelude.{◌≡◌, Bool, true, false, List, [], None, Some, All, ℕ, slice_get}
+use Rattle.std.specs.Prelude.{◌≡◌, Bool, true, false, List, [], None, All}
 use Rattle.std.specs.Coded.{Coded-set, coded_option, coded_ℕ, →_prop}
 use Rattle.lwkt_port.specs.declared.mails.Mail.{Mail}
 use Rattle.lwkt_port.specs.declared.queues.Port.{Port}
@@ -22,7 +22,3 @@ IsClear port = port.closed ≡ true → queue_of port ≡ []
 
 abbrev pub AreClear : List Port → Type 0
 AreClear ports = All IsClear ports
-
--- whether the port of this number is closed
-abbrev pub IsPortClosed : ℕ → List Port → Bool → Type 0
-IsPortClosed number ports closed = (port : Port) → slice_get ports number ≡ Some port → port.closed ≡ closed

@@ -5,13 +5,12 @@ ghost use Rattle.lwkt_port.specs.Mails.{mail_at};
 ghost use Rattle.lwkt_port.specs.Works.{away_count, IsReady, standing, Keeps};
 ghost use Rattle.lwkt_port.specs.Posts.{KeepsNamed};
 ghost use Rattle.lwkt_port.specs.Queues.{NamesBoth};
-ghost use Rattle.lwkt_port.specs.Hints.{IsPortClosed};
 ghost use Rattle.lwkt_port.specs.Intakes.{desks, IsSyncAnswer, Handles, Pops, Empties};
 
 use crate::counters::Counters;
-use crate::lines::{Lane, keep, pop};
+use crate::lines::{Lane, pop};
 use crate::mails::{Mail, mail_of};
-use crate::queues::{Port, enqueue};
+use crate::queues::enqueue;
 use lwkt_core::Event;
 use lwkt_lane::{Note, NoteKind};
 use lwkt_msg::{MsgBook, Reaped};
@@ -46,15 +45,6 @@ fn is_sync_answer(mails: &Vec<Mail>, note: Note) -> bool
     note.kind == NoteKind::Answer && mail_of(mails, usize::from(note.msg.0)).sync
 }
 
-// Whether a port is closed.
-#[inline(always)]
-fn is_closed(ports: &Vec<Port>, port: u8) -> bool
-    requires { port < vec_len ports.now }
-    ensures { IsPortClosed port ports.now.items result }
-{
-    ports[usize::from(port)].closed
-}
-
 impl Counters {
     // Handles a note that came over a lane. None if its port's queue is full.
     #[inline(always)]
@@ -75,7 +65,7 @@ impl Counters {
         if !enqueue(&mut self.ports[usize::from(note.port)], note) {
             return None;
         }
-        self.uncleared = self.uncleared || is_closed(&self.ports, note.port);
+        self.uncleared = self.uncleared || self.ports[usize::from(note.port)].closed;
         Some(Fate::Queued)
     }
 }
@@ -102,7 +92,7 @@ impl Counters {
                 return popped;
             };
             let Some(_fate) = self.handle(book, note, trace) else {
-                keep(line, Some(note));
+                line.kept = Some(note);
                 return popped + 1;
             };
         }
@@ -134,7 +124,7 @@ impl Counters {
         let Some(_fate) = self.handle(book, note, trace) else {
             return 0;
         };
-        keep(line, None);
+        line.kept = None;
         self.pop_all(book, line, most, trace)
     }
 }

@@ -47,13 +47,6 @@ pub(crate) fn pop(line: &mut Lane) -> Option<Note>
     line.into.pop()
 }
 
-/// Keeps a note whose port's queue is full, or none.
-pub(crate) fn keep(line: &mut Lane, note: Option<Note>)
-    ensures { line.new ≡ record line.old { kept = note } }
-{
-    line.kept = note;
-}
-
 /// Whether a line has a note that isn't handled yet: one that it keeps, or one in the queue of its lane.
 #[inline(always)]
 pub(crate) fn has_note(line: &mut Lane) -> bool

@@ -1,6 +1,5 @@
-use Rattle.std.proofs.Common.{◌≡◌, ◌∙◌, ℕ, length, Option, ap, sym, subst, rules, vec_len}
-use Rattle.std.specs.Prelude.{IfSome}
-use Rattle.lwkt_lane.specs.declared.notes.Note.{Note}
+use Rattle.std.proofs.Common.{◌≡◌, ◌∙◌, ℕ, length, refl, sym, subst, rules, vec_len}
+use Rattle.std.specs.Prelude.{Some}
 use Rattle.lwkt_port.specs.declared.lines.Lane.{Lane}
 use Rattle.lwkt_port.specs.Queues.{NamesBoth}
 use Rattle.lwkt_port.specs.Works.{Standing, standing}
@@ -18,7 +17,8 @@ returns-in_default-handle-clause-pops c =
     let s : Standing = standing c.args.self.now c.args.trace.now in
     let s1 : Standing = standing l.self l.trace in
     let s2 : Standing = standing c.handle.new.self c.handle.new.trace in
-    popped_full c.args.most l.popped c.args.line.now s l.line s1 c.pop.new.line c.keep.new.line s2 c.in-Some.note c.loop-popped-test.true l.invariant e h.handles c.keep.ensures
+    let kept : Lane = record c.pop.new.line { kept = Some c.in-Some.note } in
+    popped_full c.args.most l.popped c.args.line.now s l.line s1 c.pop.new.line kept s2 c.in-Some.note c.loop-popped-test.true l.invariant e h.handles refl
 
 pub loop-popped-preserved : goal.loop-popped-preserved
 loop-popped-preserved c =
@@ -37,6 +37,4 @@ returns-in_default-handle-clause-line c =
     let n = c.handle.new.self.room.mails in
     let before : vec_len l.self.room.mails ≡ length l.self.room.mails.items = search rules in
     let F : ℕ → Type 0 = λ k. NamesBoth k c.in-Some.note in
-    let named : NamesBoth (vec_len n) c.in-Some.note = subst F (sym before ∙ sym h.keeps.len) h.handles.0 in
-    let G : Option Note → Type 0 = λ o. IfSome o (NamesBoth (vec_len n)) in
-    subst G (sym (ap (λ (line : Lane). line.kept) c.keep.ensures)) named
+    subst F (sym before ∙ sym h.keeps.len) h.handles.0
