@@ -7,8 +7,8 @@ ghost use Rattle.lwkt_port.specs.Chains.{Chain};
 ghost use Rattle.lwkt_port.specs.Hints.{OwesNone};
 ghost use Rattle.lwkt_port.specs.Lines.{IsRoomed, HasNoneInHand};
 ghost use Rattle.lwkt_port.specs.Posts.{Changes, AreStillLines, IsSamePost};
-ghost use Rattle.lwkt_port.specs.Works.{Work, work, Grew, away_count, IsReady, Stands, KeepsPorts, standing, Keeps};
-ghost use Rattle.lwkt_port.specs.Intakes.{payer, Pays, PaysFirst, Intake, intake, EmptiesFrom, untaken, IsFronted, hall, TakesIn, PostTakesIn};
+ghost use Rattle.lwkt_port.specs.Works.{Work, work, Grew, away_count, IsReady, Stands, standing, Keeps};
+ghost use Rattle.lwkt_port.specs.Intakes.{PaysFirst, Intake, intake, EmptiesFrom, untaken, IsFronted, hall, TakesIn, PostTakesIn};
 ghost use Rattle.lwkt_port.specs.Closings.{PostPays};
 ghost use Rattle.lwkt_port.specs.Tellings.{Tells};
 
@@ -32,31 +32,21 @@ fn make_room(lanes: &mut Vec<Lane>)
 }
 
 impl Office {
-    // Makes the reply that is owed to a message, if one is and its lane has room.
-    fn pay(&mut self, book: &MsgBook, msg: MsgId, trace: &mut Vec<Event>)
-        requires ready { IsReady 1 self.old.counters.room book.now trace.old }
-        requires exists { msg.0 < vec_len self.old.counters.room.mails }
-        ensures pays { Pays msg.0 (payer self.old trace.old) (payer self.new trace.new) }
-        ensures beside { KeepsPorts 1 self.old.counters trace.old self.new.counters trace.new }
-    {
-        let mail = mail_of(&self.counters.room.mails, usize::from(msg.0));
-        if let Some(error) = mail.owed {
-            let _ = self.answer(book, msg, error, 0, trace);
-        }
-    }
-}
-
-impl Office {
     // Makes the replies that are owed, as lanes have room, if there may be one.
     fn pay_owed(&mut self, book: &MsgBook, trace: &mut Vec<Event>)
         requires ready { IsReady 64 self.old.counters.room book.now trace.old }
         ensures { PaysFirst (vec_len self.old.counters.room.mails) 64 self.old trace.old self.new trace.new }
     {
-        if self.owing {
-            let count = self.counters.room.seat.messages() as u8;
-            for m in 0..count {
-                self.pay(book, MsgId(m), trace);
-            }
+        if !self.owing {
+            return;
+        }
+        let count = self.counters.room.seat.messages() as u8;
+        for m in 0..count {
+            let mail = mail_of(&self.counters.room.mails, usize::from(m));
+            let Some(error) = mail.owed else {
+                continue;
+            };
+            let _ = self.answer(book, MsgId(m), error, 0, trace);
         }
     }
 }
