@@ -1,7 +1,7 @@
 //! Where the ports of two processors are both at hand, the one sees what the other has sent, and what it has sent to itself.
 ghost use Rattle.std.specs.Prelude.{◌≡◌, ℕ, ◌<◌, All, slice_index_or, vec_len};
 ghost use Rattle.lwkt_lane.specs.Lane.{IsLane};
-ghost use Rattle.lwkt_port.specs.Posts.{Changes, AreSameLanes, AreStillLines, IsSamePost};
+ghost use Rattle.lwkt_port.specs.Posts.{Changes, AreStillLines, IsSamePost};
 ghost use Rattle.lwkt_port.specs.Sights.{AreEnds, SeesAll, LooksBeside, SeesOwn, Sees, AreJoined, PostSees, PostSeesOwn};
 
 use crate::lines::Lane;
@@ -20,7 +20,6 @@ fn see_line(line: &mut Lane, sender: &mut Lane)
 fn see_from(lanes: &mut Vec<Lane>, from: usize, sender: &mut Vec<Lane>, to: usize)
     requires { AreEnds from to sender.old.items lanes.old.items }
     ensures sees { Sees from to sender.old.items sender.new.items lanes.old.items lanes.new.items }
-    ensures same { AreSameLanes lanes.old.items lanes.new.items × AreSameLanes sender.old.items sender.new.items }
     ensures lines { AreStillLines lanes.old lanes.new }
     ensures sender { AreStillLines sender.old sender.new }
 {
@@ -39,7 +38,6 @@ fn see_line_own(line: &mut Lane)
 fn see_at(lanes: &mut Vec<Lane>, at: usize)
     requires { AreEnds at at lanes.old.items lanes.old.items }
     ensures sees { Changes SeesOwn at lanes.old.items lanes.new.items }
-    ensures same { AreSameLanes lanes.old.items lanes.new.items }
     ensures lines { AreStillLines lanes.old lanes.new }
 {
     see_line_own(&mut lanes[at]);

@@ -1,5 +1,4 @@
-use Rattle.lwkt_port.proofs.SightMoves.{line_sees, own_lanes, own_ends}
-use Rattle.std.specs.Prelude.{slice_set}
+use Rattle.lwkt_port.proofs.SightMoves.{line_sees, own_ends}
 use Rattle.lwkt_port.proofs.sights.see_at.Goals as goal
 
 pub see_line_own-requires : goal.see_line_own-requires
@@ -7,6 +6,3 @@ see_line_own-requires c = own_ends c.args.at c.args.lanes.now.items c.index_mut.
 
 pub returns-clause-sees : goal.returns-clause-sees
 returns-clause-sees c = line_sees c.args.at c.args.lanes.now.items c.index_mut.result.now c.see_line_own.new.line c.requires.there c.index_mut.ensures.value c.see_line_own.ensures
-
-pub returns-clause-same : goal.returns-clause-same
-returns-clause-same c = own_lanes c.args.at c.args.lanes.now.items (slice_set c.args.lanes.now.items c.args.at c.see_line_own.new.line) (line_sees c.args.at c.args.lanes.now.items c.index_mut.result.now c.see_line_own.new.line c.requires.there c.index_mut.ensures.value c.see_line_own.ensures)

@@ -1,9 +1,5 @@
-use Rattle.lwkt_port.proofs.SightMoves.{lines_see, sight_lanes}
-use Rattle.std.specs.Prelude.{slice_set}
+use Rattle.lwkt_port.proofs.SightMoves.{lines_see}
 use Rattle.lwkt_port.proofs.sights.see_from.Goals as goal
 
 pub returns-clause-sees : goal.returns-clause-sees
 returns-clause-sees c = lines_see c.args.from c.args.to c.args.sender.now.items c.args.lanes.now.items c.index_mut-2.result.now c.see_line.new.sender c.index_mut.result.now c.see_line.new.line c.requires.there c.index_mut-2.ensures.value c.requires.back c.index_mut.ensures.value c.see_line.ensures.beside c.see_line.ensures.sees
-
-pub returns-clause-same : goal.returns-clause-same
-returns-clause-same c = sight_lanes c.args.from c.args.to c.args.sender.now.items (slice_set c.args.sender.now.items c.args.to c.see_line.new.sender) c.args.lanes.now.items (slice_set c.args.lanes.now.items c.args.from c.see_line.new.line) (lines_see c.args.from c.args.to c.args.sender.now.items c.args.lanes.now.items c.index_mut-2.result.now c.see_line.new.sender c.index_mut.result.now c.see_line.new.line c.requires.there c.index_mut-2.ensures.value c.requires.back c.index_mut.ensures.value c.see_line.ensures.beside c.see_line.ensures.sees)
