@@ -1,4 +1,3 @@
-pub mod PlaceMoves
 pub mod PollMoves
 pub mod SearchMoves
 pub mod RestMoves

@@ -27,7 +27,7 @@ use Rattle.lwkt_cpu.specs.Processors.{IsSettled, HoldsFor, IsAtRest, Awaits, All
 use Rattle.lwkt_cpu.specs.Searches.{Point, point, Finds, IsOfOne}
 use Rattle.lwkt_cpu.specs.Turning.{cursor_after, Chooses, IsMailed, IsOfThread}
 use Rattle.lwkt_cpu.specs.Waking.{AreWoken}
-use Rattle.lwkt_cpu.proofs.PlaceMoves.{get_set_same, get_set_other, some_same}
+use Rattle.lwkt_lane.proofs.PlaceMoves.{get_set_same, get_set_other, some_same}
 use Rattle.lwkt_cpu.proofs.SearchMoves.{Keeps, finds_keeps, finds_long, kept_one, front_of_one, up_at}
 
 -- a vector whose elements were lent as a slice

@@ -32,7 +32,7 @@ use Rattle.lwkt_cpu.specs.declared.phases.Phase.TheVariants.{Live, Faulted}
 use Rattle.lwkt_cpu.specs.declared.threads.Thread.{Thread}
 use Rattle.lwkt_cpu.specs.Processors.{KeepsBusyWord, HoldsFor, AreThere, AllKeepBusyWords}
 use Rattle.lwkt_cpu.specs.Searches.{missed_by, Tries, TriesList, Skips, Point, point, SkipsAt, IsIn, SkipsFrom, SkipsTo, FindsIn, SkipsNth, Searches, Finds, IsOfOne}
-use Rattle.lwkt_cpu.proofs.PlaceMoves.{get_set_same, get_set_other, some_same}
+use Rattle.lwkt_lane.proofs.PlaceMoves.{get_set_same, get_set_other, some_same}
 
 -- a front of a list that some thread has
 pub front_of_one : (threads : List Thread) (k : ℕ) (t : Thread) (h : Holding) → slice_get threads k ≡ Some t → IsFront t.list h → IsOfOne threads h

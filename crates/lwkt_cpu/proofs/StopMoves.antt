@@ -27,7 +27,7 @@ use Rattle.lwkt_cpu.specs.Processors.{has_ended, IsSettled, HoldsFor, IsAtRest, 
 use Rattle.lwkt_cpu.specs.Searches.{IsOfOne, ended_by}
 use Rattle.lwkt_cpu.specs.Polling.{became}
 use Rattle.lwkt_cpu.specs.Stopping.{stopped, AreStopped}
-use Rattle.lwkt_cpu.proofs.PlaceMoves.{get_set_same, get_set_other, some_same}
+use Rattle.lwkt_lane.proofs.PlaceMoves.{get_set_same, get_set_other, some_same}
 use Rattle.lwkt_cpu.proofs.SearchMoves.{front_of_one}
 use Rattle.lwkt_cpu.proofs.RestMoves.{settled_none, set_settled, ended_awaits, set_awaits}
 

@@ -25,7 +25,7 @@ use Rattle.lwkt_cpu.specs.declared.threads.Thread.{Thread}
 use Rattle.lwkt_cpu.specs.Processors.{has_ended, Awaits, AllAwait, IsSettled, HoldsFor, IsAtRest, processor_of}
 use Rattle.lwkt_cpu.specs.Turning.{IsMailed}
 use Rattle.lwkt_cpu.specs.Waking.{IsWoken, AreWoken}
-use Rattle.lwkt_cpu.proofs.PlaceMoves.{get_set_same, get_set_other, get_there, some_same}
+use Rattle.lwkt_lane.proofs.PlaceMoves.{get_set_same, get_set_other, get_there, some_same}
 use Rattle.lwkt_cpu.proofs.SearchMoves.{front_of_one}
 use Rattle.lwkt_cpu.proofs.RestMoves.{live_awaits, settled_none}
 

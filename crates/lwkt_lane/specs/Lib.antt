@@ -1,1 +1,2 @@
+pub mod Crossed
 pub mod Lane

@@ -10,7 +10,7 @@ use Rattle.lwkt_base.specs.declared.asks.Answer.TheVariants.{Begin, Done}
 use Rattle.lwkt_base.specs.declared.entries.Entry.{Entry}
 use Rattle.lwkt_verdict.specs.Threads.{ask_in}
 use Rattle.lwkt_machine.specs.Bodies.{Scripted, unpolled, entry_for, entry_told, logged, after_poll}
-use Rattle.lwkt_machine.proofs.ListMoves.{refilled_front}
+use Rattle.lwkt_lane.proofs.PlaceMoves.{refilled_front}
 use Rattle.lwkt_machine.specs.Laws.{ArePolls, entries_of, AsksAreTheScripts, LogsAreFirstEntries}
 
 asks_from : (steps : List Ask) (repeat : ℕ) (polls : List (Answer × Ask)) (old b : Scripted) → old.steps ≡ steps → old.repeat ≡ repeat → old.polls + length polls ≤ 18446744073709551615 → ArePolls old polls b → (k : ℕ) (q : Answer × Ask) → slice_get polls k ≡ Some q → q.1 ≡ unwrap_or (ask_in repeat steps (old.polls + k)) Exit

@@ -19,7 +19,7 @@ use Rattle.lwkt_script.specs.Format.{threads_on}
 use Rattle.lwkt_port.specs.Sights.{AreEnds}
 use Rattle.lwkt_cpu.specs.Processors.{Processor}
 use Rattle.lwkt_machine.specs.Bodies.{Scripted}
-use Rattle.lwkt_machine.specs.Lanes.{AreLanes}
+use Rattle.lwkt_lane.specs.Crossed.{AreLanes}
 use Rattle.lwkt_machine.specs.Machines.{IsOf, AreAllJoined, AreParts}
 use Rattle.lwkt_machine.specs.Opened.{IsSeat, AreFew, DeclinesTables, Declines, AreOpenedCpus, AreWired}
 use Rattle.lwkt_machine.specs.Seating.{SeatsFrom, DesksFrom, IsRest}

@@ -14,7 +14,7 @@ use Rattle.lwkt_machine.specs.Ended.{AreSameCpus}
 use Rattle.lwkt_machine.specs.Machines.{rig_of, AreParts}
 use Rattle.lwkt_machine.specs.Sights.{SeesSent}
 use Rattle.lwkt_machine.specs.Turns.{TurnsAt}
-use Rattle.lwkt_machine.proofs.ListMoves.{refilled}
+use Rattle.lwkt_lane.proofs.PlaceMoves.{refilled}
 use Rattle.lwkt_machine.proofs.SightMoves.{sent_looked, looked_same, sent_seen, seen_delivered}
 use Rattle.lwkt_machine.proofs.StopMoves.{same_set}
 

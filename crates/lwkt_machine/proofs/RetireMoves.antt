@@ -13,7 +13,8 @@ use Rattle.lwkt_machine.specs.Bodies.{Scripted}
 use Rattle.lwkt_machine.specs.Ended.{AreOver}
 use Rattle.lwkt_machine.specs.Retiring.{AreRetired}
 use Rattle.lwkt_machine.specs.declared.closings.Retired.{Retired}
-use Rattle.lwkt_machine.proofs.ListMoves.{get_removed, map_push, flat_push}
+use Rattle.lwkt_lane.proofs.PlaceMoves.{get_removed}
+use Rattle.lwkt_machine.proofs.ListMoves.{map_push, flat_push}
 
 -- some of the processors have given back what they have, and the rest are over
 pub record IsRetiring (all rest : List (Processor Scripted)) (r : Retired) : Type 0 where

@@ -12,17 +12,17 @@ use Rattle.lwkt_bank.specs.declared.seats.CpuSeat.{CpuSeat}
 use Rattle.lwkt_bank.specs.Seats.{BankId}
 use Rattle.lwkt_lane.specs.declared.ins.LaneIn.{LaneIn}
 use Rattle.lwkt_lane.specs.declared.outs.LaneOut.{LaneOut}
+use Rattle.lwkt_lane.proofs.CrossedMoves.{first_long, rest_long}
 use Rattle.lwkt_msg.specs.Desks.{Desk, Shelf, IsOpened}
 use Rattle.lwkt_port.specs.Openings.{AreWithin}
 use Rattle.lwkt_script.specs.declared.scripts.ThreadSpec.{ThreadSpec}
 use Rattle.lwkt_script.specs.Format.{threads_on}
 use Rattle.lwkt_cpu.specs.Processors.{Processor}
 use Rattle.lwkt_machine.specs.Bodies.{Scripted}
-use Rattle.lwkt_machine.specs.Lanes.{AreLong}
 use Rattle.lwkt_machine.specs.Opened.{body_of, bodies_on, IsSeat, IsOpenedCpu, AreOpenedCpus}
 use Rattle.lwkt_machine.specs.Seating.{SeatsFrom, DesksFrom, IsRest}
 use Rattle.lwkt_machine.specs.declared.seatings.Rest.{Rest}
-use Rattle.lwkt_machine.proofs.ListMoves.{get_removed, length_removed, get_pushed}
+use Rattle.lwkt_lane.proofs.PlaceMoves.{get_removed, length_removed, get_pushed}
 
 -- what holds of each place of a list, counted from a number on
 from_first : {A : Type 0} (P : ℕ → A → Type 0) (first : ℕ) (xs : List A) (x : A) → 0 < length xs → x ≡ get_or xs 0 x → ((j : ℕ) (y : A) → slice_get xs j ≡ Some y → P (first + j) y) → P first x
@@ -46,13 +46,6 @@ first_desk book first desks d some is from = from_first (λ n x. IsOpened n book
 -- a processor has a body for each of its threads
 pub length_bodies : (cpu : ℕ) (threads : List ThreadSpec) → length (bodies_on cpu threads) ≡ threads_on cpu threads
 length_bodies cpu threads = length-map (filter (λ (t : ThreadSpec). t.cpu.0 == cpu) threads) body_of ∙ length-filter (λ (t : ThreadSpec). t.cpu.0 == cpu) threads
-
--- of lists that are each so long, the first one is, and so are those behind it
-first_long : {A : Type 0} (n : ℕ) (lists : List (Vec A Global)) (v : Vec A Global) → 0 < length lists → v ≡ get_or lists 0 v → AreLong {A = A} n lists → length v.items ≡ n
-first_long {A} n lists v some is each = each 0 v (slice_get_read lists (length lists) 0 v refl some is)
-
-rest_long : {A : Type 0} (n : ℕ) (xs ys : List (Vec A Global)) → ys ≡ remove xs 0 → AreLong {A = A} n xs → AreLong {A = A} n ys
-rest_long {A} n xs ys is each = λ j v at. each (suc j) v (sym (get_removed xs j) ∙ ap (λ zs. slice_get zs j) (sym is) ∙ at)
 
 -- the next processor keeps the limits of its ports
 pub first_within : (bank : BankId) (book : Shelf) (first : ℕ) (rest : Rest) (mail : Desk) (outs : Vec LaneOut Global) (ins : Vec LaneIn Global) (origins : List ThreadId) (threads : ℕ) → 0 < length rest.seats.items → IsOpened first book mail → outs ≡ get_or rest.outs.items 0 outs → ins ≡ get_or rest.ins.items 0 ins → origins ≡ map (λ (spec : MsgSpec). spec.origin) book.specs → threads ≤ 16 → IsRest bank book first rest → AreWithin mail outs.items ins.items origins threads

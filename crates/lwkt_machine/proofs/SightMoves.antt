@@ -24,7 +24,7 @@ use Rattle.lwkt_port.proofs.DeliveryMoves.{seen_taken}
 use Rattle.lwkt_port.proofs.JoinMoves.{same_many}
 use Rattle.lwkt_cpu.specs.Processors.{Processor}
 use Rattle.lwkt_cpu.specs.Sights.{AreJoined, Sees, SeesOwn}
-use Rattle.lwkt_cpu.proofs.PlaceMoves.{get_there, some_same}
+use Rattle.lwkt_lane.proofs.PlaceMoves.{get_there, some_same}
 use Rattle.lwkt_cpu.proofs.SightMoves.{IsLooked, looked_none, looked_then, looked_seat, looked_post, beside_looked, sees_looked, sees_own_looked, joined_stay}
 use Rattle.lwkt_cpu.proofs.WakeMoves.{post_none}
 use Rattle.lwkt_machine.specs.Bodies.{Scripted}

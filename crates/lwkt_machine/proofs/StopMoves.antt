@@ -8,7 +8,7 @@ use Rattle.std.proofs.lemmas.Option.{slice_get_within, get_or_from_slice_get}
 use Rattle.lwkt_bank.specs.Seats.{BankId}
 use Rattle.lwkt_msg.specs.Desks.{Shelf}
 use Rattle.lwkt_cpu.specs.Processors.{Processor, AllOver}
-use Rattle.lwkt_cpu.proofs.PlaceMoves.{get_set_same, get_set_other, some_same}
+use Rattle.lwkt_lane.proofs.PlaceMoves.{get_set_same, get_set_other, some_same}
 use Rattle.lwkt_cpu.proofs.SightMoves.{joined_stay}
 use Rattle.lwkt_cpu.proofs.WakeMoves.{post_none, post_then}
 use Rattle.lwkt_machine.specs.Bodies.{Scripted}

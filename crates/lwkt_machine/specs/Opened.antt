@@ -18,7 +18,7 @@ use Rattle.lwkt_port.specs.Openings.{new_mail, AreNewPorts}
 use Rattle.lwkt_cpu.specs.Fresh.{fresh}
 use Rattle.lwkt_cpu.specs.Processors.{Processor}
 use Rattle.lwkt_machine.specs.Bodies.{Scripted, unpolled}
-use Rattle.lwkt_machine.specs.Lanes.{IsNewLane}
+use Rattle.lwkt_lane.specs.Crossed.{IsNewLane}
 use Rattle.lwkt_machine.specs.Machines.{Rig}
 
 -- the body of a thread of a script

@@ -3,7 +3,7 @@ use Rattle.std.specs.Prelude.{◌≡◌, ℕ, ◌+◌, List, length, Some, slice
 use Rattle.lwkt_bank.specs.declared.seats.CpuSeat.{CpuSeat}
 use Rattle.lwkt_bank.specs.Seats.{BankId}
 use Rattle.lwkt_msg.specs.Desks.{Desk, Shelf, IsOpened}
-use Rattle.lwkt_machine.specs.Lanes.{AreLong}
+use Rattle.lwkt_lane.specs.Crossed.{AreLong}
 use Rattle.lwkt_machine.specs.Opened.{IsSeat}
 use Rattle.lwkt_machine.specs.declared.seatings.Rest.{Rest}
 

@@ -8,7 +8,6 @@
 pub mod bodies;
 pub mod closings;
 mod encodings;
-mod lanes;
 pub mod laws;
 pub mod machines;
 pub mod openings;

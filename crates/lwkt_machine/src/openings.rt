@@ -7,12 +7,12 @@ ghost use Rattle.lwkt_script.specs.Format.{threads_on};
 ghost use Rattle.lwkt_machine.specs.Opened.{IsOpenedMachine, AreFew, DeclinesTables, Declines};
 ghost use Rattle.lwkt_base.specs.Fault.{no_memory};
 
-use crate::lanes::{Lanes, open_lanes};
 use crate::machines::Machine;
 use crate::seatings::{Rest, origins_of};
 use lwkt_bank::{Bank, CpuSeat};
 use lwkt_base::{Fault, MsgSpec, TokSpec};
 use lwkt_cpu::cpus::THREAD_LIMIT;
+use lwkt_lane::{Lanes, open_lanes};
 use lwkt_msg::{MsgBook, MsgSeat};
 use lwkt_script::{Script, ThreadSpec};
 use std::alloc::Global;

@@ -1,5 +1,4 @@
 mod KeptMoves
-mod LaneMoves
 mod ListMoves
 mod OpenMoves
 mod RetireMoves

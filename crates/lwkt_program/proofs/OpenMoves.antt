@@ -17,16 +17,16 @@ use Rattle.lwkt_msg.specs.Desks.{Desk, Shelf, IsOpened, AreOpened}
 use Rattle.lwkt_lane.specs.declared.ins.LaneIn.{LaneIn}
 use Rattle.lwkt_lane.specs.declared.outs.LaneOut.{LaneOut}
 use Rattle.lwkt_port.specs.Openings.{AreWithin}
-use Rattle.lwkt_cpu.proofs.PlaceMoves.{get_there}
+use Rattle.lwkt_lane.proofs.PlaceMoves.{get_there, get_removed, length_removed, get_pushed}
 use Rattle.lwkt_drive.specs.declared.driven.Driven.{Driven}
 use Rattle.lwkt_drive.specs.Course.{IsAt}
-use Rattle.lwkt_program.specs.Lanes.{AreLanes}
+use Rattle.lwkt_lane.specs.Crossed.{AreLanes, IsLeft}
 use Rattle.lwkt_program.specs.Machines.{AreKept, Lasts, IsWhole}
 use Rattle.lwkt_program.specs.Opened.{IsSeat, IsOpenedCpu, AreOpenedCpus}
-use Rattle.lwkt_program.specs.Seating.{SeatsFrom, DesksFrom, IsRest, IsLeft}
+use Rattle.lwkt_program.specs.Seating.{SeatsFrom, DesksFrom, IsRest}
 use Rattle.lwkt_program.specs.declared.seatings.Rest.{Rest}
-use Rattle.lwkt_program.proofs.LaneMoves.{first_long, rest_long}
-use Rattle.lwkt_program.proofs.ListMoves.{get_removed, length_removed, get_pushed, all_from_get}
+use Rattle.lwkt_lane.proofs.CrossedMoves.{first_long, rest_long}
+use Rattle.lwkt_program.proofs.ListMoves.{all_from_get}
 
 -- what holds of each place of a list, counted from a number on
 from_first : {A : Type 0} (P : ℕ → A → Type 0) (first : ℕ) (xs : List A) (x : A) → 0 < length xs → x ≡ get_or xs 0 x → ((j : ℕ) (y : A) → slice_get xs j ≡ Some y → P (first + j) y) → P first x
@@ -96,23 +96,6 @@ rest_fewer xs ys some is =
     let l = length_removed xs some in
     let a = ap length is in
     omega (arith, l, a)
-
--- the first list is gone
-pub left_one : {A : Type 0} (xs ys : List A) → ys ≡ remove xs 0 → IsLeft 1 xs ys
-left_one xs ys is j =
-    let F : ℕ → Type 0 = λ n. slice_get ys j ≡ slice_get xs n in
-    let e : suc j ≡ 1 + j = omega arith in
-    subst F e (ap (λ zs. slice_get zs j) is ∙ get_removed xs j)
-
-pub left_none : {A : Type 0} (xs : List A) → IsLeft 0 xs xs
-left_none xs j =
-    let e : j ≡ 0 + j = omega arith in
-    ap (λ n. slice_get xs n) e
-
-pub left_more : {A : Type 0} (count : ℕ) (xs ys zs : List A) → IsLeft count xs ys → IsLeft 1 ys zs → IsLeft (count + 1) xs zs
-left_more count xs ys zs left one j =
-    let e : count + (1 + j) ≡ count + 1 + j = omega arith in
-    one j ∙ left (1 + j) ∙ ap (λ n. slice_get xs n) e
 
 -- one processor more
 pub opened_more : {B : Type 0} (bank : BankId) (book : Shelf) (lists left : List (Vec B Global)) (cpus : List (Driven B)) (d : Driven B) → IsLeft (length cpus) lists left → ((v : Vec B Global) → slice_get left 0 ≡ Some v → IsOpenedCpu bank book (length cpus) v.items d) → AreOpenedCpus bank book lists cpus → AreOpenedCpus bank book lists (cpus ++ d ∷ [])

@@ -15,7 +15,8 @@ use Rattle.lwkt_drive.specs.Course.{IsAt}
 use Rattle.lwkt_program.specs.Ended.{AreOver, AreRetired}
 use Rattle.lwkt_program.specs.Machines.{AreKept, Lasts}
 use Rattle.lwkt_program.specs.declared.closings.Gathered.{Gathered}
-use Rattle.lwkt_program.proofs.ListMoves.{get_removed, map_push}
+use Rattle.lwkt_lane.proofs.PlaceMoves.{get_removed}
+use Rattle.lwkt_program.proofs.ListMoves.{map_push}
 
 -- some of the processors have given back what they have, and the rest are over
 pub record IsRetiring {B : Type 0} (all rest : List (Driven B)) (r : Gathered B) : Type 0 where

@@ -4,7 +4,7 @@ use Rattle.std.specs.Prelude.{slice_get}
 use Rattle.std.proofs.lemmas.Bool.{cases_eq}
 use Rattle.std.proofs.lemmas.List.{length-set}
 use Rattle.std.proofs.lemmas.Option.{slice_get_within}
-use Rattle.lwkt_cpu.proofs.PlaceMoves.{get_set_same, get_set_other, get_there, some_same}
+use Rattle.lwkt_lane.proofs.PlaceMoves.{get_set_same, get_set_other, get_there, some_same}
 use Rattle.lwkt_drive.specs.declared.driven.Driven.{Driven}
 use Rattle.lwkt_program.specs.Ended.{IsStopped, HaveStopped, AreStopped, AreOver}
 

@@ -1,5 +1,4 @@
 pub mod Ended
-pub mod Lanes
 pub mod Machines
 pub mod Opened
 pub mod Seating

@@ -3,7 +3,7 @@ use Rattle.std.specs.Prelude.{◌≡◌, ℕ, ◌+◌, ◌≤◌, All, List, len
 use Rattle.lwkt_bank.specs.declared.seats.CpuSeat.{CpuSeat}
 use Rattle.lwkt_bank.specs.Seats.{BankId}
 use Rattle.lwkt_msg.specs.Desks.{Desk, Shelf, IsOpened}
-use Rattle.lwkt_program.specs.Lanes.{AreLong}
+use Rattle.lwkt_lane.specs.Crossed.{AreLong}
 use Rattle.lwkt_program.specs.Opened.{IsSeat}
 use Rattle.lwkt_program.specs.declared.seatings.Rest.{Rest}
 
@@ -27,7 +27,3 @@ pub record IsRest {B : Type 0} (bank : BankId) (book : Shelf) (first : ℕ) (res
   pub outs_long : AreLong book.cpus rest.outs.items
   pub ins_long : AreLong book.cpus rest.ins.items
   pub few : All (λ v. length v.items ≤ 16) rest.bodies.items
-
--- a list is left when the first so many are gone
-abbrev pub IsLeft : {A : Type 0} → ℕ → List A → List A → Type 0
-IsLeft count all left = (j : ℕ) → slice_get left j ≡ slice_get all (count + j)

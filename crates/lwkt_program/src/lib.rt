@@ -6,7 +6,6 @@
 #![tactic(auto)]
 
 pub mod closings;
-mod lanes;
 pub mod lasting;
 pub mod machines;
 pub mod makers;

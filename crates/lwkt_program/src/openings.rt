@@ -6,13 +6,13 @@ ghost use Rattle.lwkt_msg.specs.Desks.{AreOpened};
 ghost use Rattle.lwkt_program.specs.Machines.{AreKept};
 ghost use Rattle.lwkt_program.specs.Opened.{DeclinesTables, Declines, IsOpenedMachine, IsWithin};
 
-use crate::lanes::{Lanes, open_lanes};
 use crate::lasting::Lasting;
 use crate::machines::Machine;
 use crate::seatings::{Rest, origins_of};
 use lwkt_bank::{Bank, CpuSeat};
 use lwkt_base::{Fault, MsgSpec, TokSpec};
 use lwkt_cpu::cpus::THREAD_LIMIT;
+use lwkt_lane::{Lanes, open_lanes};
 use lwkt_msg::{MsgBook, MsgSeat};
 use std::alloc::Global;
 

@@ -89,7 +89,8 @@ fn seat_one<B: Drop>(
 impl<B: Drop> Rest<B> {
     ghost use Rattle.std.specs.declared.alloc.Global.{Global as Heap};
     ghost use Rattle.std.specs.Prelude.{Vec as Items};
-    ghost use Rattle.lwkt_program.specs.Seating.{IsLeft, IsRest};
+    ghost use Rattle.lwkt_lane.specs.Crossed.{IsLeft};
+    ghost use Rattle.lwkt_program.specs.Seating.{IsRest};
     ghost use Rattle.lwkt_base.specs.Fault.{no_memory};
 
     // The next processor.

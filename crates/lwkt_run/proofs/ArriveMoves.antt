@@ -8,7 +8,7 @@ use Rattle.lwkt_lane.specs.Lane.{queued, received}
 use Rattle.lwkt_port.specs.declared.lines.Lane.{Lane}
 use Rattle.lwkt_port.specs.Chains.{Chain}
 use Rattle.lwkt_cpu.specs.Processors.{Processor}
-use Rattle.lwkt_cpu.proofs.PlaceMoves.{some_same, get_there, get_set_other}
+use Rattle.lwkt_lane.proofs.PlaceMoves.{some_same, get_there, get_set_other}
 use Rattle.lwkt_cpu.proofs.SightMoves.{IsLooked}
 use Rattle.lwkt_machine.specs.Bodies.{Scripted}
 use Rattle.lwkt_machine.proofs.SightMoves.{zip_long, zip_get, sent_looked}

@@ -10,7 +10,7 @@ use Rattle.lwkt_base.specs.declared.asks.Answer.{Answer}
 use Rattle.lwkt_base.specs.declared.names.ThreadId.{ThreadId}
 use Rattle.lwkt_core.specs.Machine.{changed}
 use Rattle.lwkt_core.proofs.MachineMoves.{changed_at}
-use Rattle.lwkt_cpu.proofs.PlaceMoves.{get_set_same, get_set_other}
+use Rattle.lwkt_lane.proofs.PlaceMoves.{get_set_same, get_set_other}
 use Rattle.lwkt_verdict.specs.declared.turns.Poll.{Poll}
 use Rattle.lwkt_verdict.specs.Threads.{slot_of}
 use Rattle.lwkt_run.specs.Keeping.{last_place, with_answer, answered}

@@ -10,7 +10,7 @@ use Rattle.lwkt_core.specs.declared.events.Event.{Event}
 use Rattle.lwkt_cpu.specs.declared.answers.Turned.{Turned}
 use Rattle.lwkt_cpu.specs.declared.answers.Turned.TheVariants.{Ran, Idle, AllExited}
 use Rattle.lwkt_cpu.specs.Processors.{Processor}
-use Rattle.lwkt_cpu.proofs.PlaceMoves.{get_set_same}
+use Rattle.lwkt_lane.proofs.PlaceMoves.{get_set_same}
 use Rattle.lwkt_machine.specs.Bodies.{Scripted}
 use Rattle.lwkt_machine.specs.Machines.{Rig, ShowsBody}
 use Rattle.lwkt_machine.specs.Turns.{TurnsAt}

@@ -21,7 +21,7 @@ use Rattle.lwkt_cpu.specs.Turning.{Chooses, Turns, MakesTurn}
 use Rattle.lwkt_cpu.specs.Waking.{Ward, ward, WakesAt}
 use Rattle.lwkt_cpu.proofs.SearchMoves.{finds_long}
 use Rattle.lwkt_cpu.proofs.SightMoves.{IsLooked}
-use Rattle.lwkt_cpu.proofs.PlaceMoves.{some_same, get_there, get_set_same, get_set_other}
+use Rattle.lwkt_lane.proofs.PlaceMoves.{some_same, get_there, get_set_same, get_set_other}
 use Rattle.lwkt_drive.specs.declared.driven.Limits.{Limits}
 use Rattle.lwkt_machine.specs.Bodies.{Scripted, IsPolled}
 use Rattle.lwkt_machine.specs.Ended.{AreOver}

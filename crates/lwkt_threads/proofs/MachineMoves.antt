@@ -13,7 +13,7 @@ use Rattle.lwkt_msg.specs.Desks.{Shelf}
 use Rattle.lwkt_hold.proofs.RunMoves.{AllZip-append}
 use Rattle.lwkt_port.specs.Posts.{IsSamePost}
 use Rattle.lwkt_cpu.specs.Processors.{Processor}
-use Rattle.lwkt_cpu.proofs.PlaceMoves.{some_same, get_there}
+use Rattle.lwkt_lane.proofs.PlaceMoves.{some_same, get_there}
 use Rattle.lwkt_cpu.proofs.SightMoves.{joined_stay}
 use Rattle.lwkt_cpu.proofs.TurnMoves.{made_ports}
 use Rattle.lwkt_drive.specs.declared.driven.Driven.{Driven}

@@ -19,7 +19,7 @@ use Rattle.lwkt_msg.specs.Views.{seat_cpu}
 use Rattle.lwkt_port.specs.Chains.{Chain}
 use Rattle.lwkt_cpu.specs.Processors.{Processor}
 use Rattle.lwkt_cpu.specs.Turning.{IsMailed}
-use Rattle.lwkt_cpu.proofs.PlaceMoves.{some_same, get_there, get_set_same, get_set_other}
+use Rattle.lwkt_lane.proofs.PlaceMoves.{some_same, get_there, get_set_same, get_set_other}
 use Rattle.lwkt_drive.specs.declared.driven.Limits.{Limits}
 use Rattle.lwkt_drive.specs.Telling.{IsTold, IsMailTold, TellOneRun, TellOneMailRun}
 use Rattle.lwkt_drive.proofs.TellingMoves.{told_new, told_made, told_more, one_run, mail_new, mail_made, mail_more, mail_same, one_mail_run}

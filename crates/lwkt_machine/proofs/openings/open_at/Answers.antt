@@ -3,7 +3,7 @@ use Rattle.lwkt_bank.specs.Seats.{id_of, cpus_of}
 use Rattle.lwkt_machine.proofs.LaneMoves.{wired}
 use Rattle.lwkt_machine.proofs.OpenMoves.{rest_first, opened_parts}
 use Rattle.lwkt_script.specs.declared.scripts.ThreadSpec.{ThreadSpec}
-use Rattle.lwkt_machine.specs.Lanes.{AreLanes}
+use Rattle.lwkt_lane.specs.Crossed.{AreLanes}
 use Rattle.lwkt_machine.specs.Opened.{AreFew, AreOpenedCpus}
 use Rattle.lwkt_machine.proofs.openings.open_at.Goals as goal
 

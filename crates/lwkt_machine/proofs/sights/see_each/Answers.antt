@@ -3,7 +3,7 @@ use Rattle.std.specs.Prelude.{slice_get}
 use Rattle.std.proofs.lemmas.List.{take_all}
 use Rattle.std.proofs.lemmas.Option.{slice_get-get_or}
 use Rattle.lwkt_cpu.specs.Processors.{Processor}
-use Rattle.lwkt_cpu.proofs.PlaceMoves.{get_set_other}
+use Rattle.lwkt_lane.proofs.PlaceMoves.{get_set_other}
 use Rattle.lwkt_machine.specs.Bodies.{Scripted}
 use Rattle.lwkt_machine.specs.Sights.{SeesEach}
 use Rattle.lwkt_machine.proofs.SightMoves.{each_next, still_joined}

@@ -2,7 +2,7 @@ use Rattle.std.proofs.Common.{◌≡◌, ◌<◌, length, set, refl, ap, sym, �
 use Rattle.lwkt_bank.specs.Seats.{id_of}
 use Rattle.lwkt_cpu.specs.Processors.{Processor, HoldsFor, processor_of}
 use Rattle.lwkt_cpu.specs.Turning.{RunsOne}
-use Rattle.lwkt_cpu.proofs.PlaceMoves.{get_set_same}
+use Rattle.lwkt_lane.proofs.PlaceMoves.{get_set_same}
 use Rattle.lwkt_cpu.proofs.SearchMoves.{up_at}
 use Rattle.lwkt_cpu.proofs.RestMoves.{thread_at, placed, up_there, rest_polled, ran_polled, ran_over}
 use Rattle.lwkt_cpu.proofs.cpus.Cpu.run_on.Goals as goal

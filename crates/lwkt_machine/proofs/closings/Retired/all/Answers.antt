@@ -1,5 +1,5 @@
 use Rattle.std.proofs.Common.{◌<◌, length, ap, arith}
-use Rattle.lwkt_machine.proofs.ListMoves.{length_removed}
+use Rattle.lwkt_lane.proofs.PlaceMoves.{length_removed}
 use Rattle.lwkt_machine.proofs.RetireMoves.{retiring_more}
 use Rattle.lwkt_machine.proofs.closings.Retired.all.Goals as goal
 

@@ -6,7 +6,7 @@ use Rattle.lwkt_cpu.specs.Processors.{Processor}
 use Rattle.lwkt_machine.specs.Bodies.{Scripted}
 use Rattle.lwkt_machine.specs.Machines.{Rig, rig_of, AreParts}
 use Rattle.lwkt_machine.specs.Ended.{AreSameCpus, AreStopped, AreStoppedShort, StopsAll, StopsShort}
-use Rattle.lwkt_machine.proofs.ListMoves.{refilled}
+use Rattle.lwkt_lane.proofs.PlaceMoves.{refilled}
 use Rattle.lwkt_machine.proofs.StopMoves.{parts_same}
 use Rattle.lwkt_machine.proofs.machines.Machine.stop.Goals as goal
 

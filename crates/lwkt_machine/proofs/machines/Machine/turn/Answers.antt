@@ -7,7 +7,7 @@ use Rattle.lwkt_machine.specs.Bodies.{Scripted, IsPolled}
 use Rattle.lwkt_machine.specs.Machines.{Rig, rig_of, AreAllJoined, AreNumbered, AreParts}
 use Rattle.lwkt_machine.specs.Sights.{SeesSent}
 use Rattle.lwkt_machine.specs.Turns.{TurnsAt}
-use Rattle.lwkt_machine.proofs.ListMoves.{refilled}
+use Rattle.lwkt_lane.proofs.PlaceMoves.{refilled}
 use Rattle.lwkt_machine.proofs.PartMoves.{read_back, turned_same, turned_at}
 use Rattle.lwkt_machine.proofs.SightMoves.{sent_looked, looked_same}
 use Rattle.lwkt_machine.proofs.StopMoves.{same_of, parts_same}

@@ -1,5 +1,5 @@
 use Rattle.std.proofs.Common.{◌<◌, length, ap, arith}
-use Rattle.lwkt_program.proofs.ListMoves.{length_removed}
+use Rattle.lwkt_lane.proofs.PlaceMoves.{length_removed}
 use Rattle.lwkt_program.proofs.RetireMoves.{over_first, retiring_more}
 use Rattle.lwkt_program.proofs.closings.Gathered.all.Goals as goal
 

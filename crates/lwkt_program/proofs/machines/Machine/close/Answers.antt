@@ -6,7 +6,7 @@ use Rattle.lwkt_msg.specs.Desks.{Desk, AreClosed}
 use Rattle.lwkt_drive.specs.declared.driven.Driven.{Driven}
 use Rattle.lwkt_program.specs.Ended.{AreStopped, AreOver, AreRetired, IsClosedMachine}
 use Rattle.lwkt_program.specs.Machines.{Rig, AreLawful}
-use Rattle.lwkt_program.proofs.ListMoves.{refilled}
+use Rattle.lwkt_lane.proofs.PlaceMoves.{refilled}
 use Rattle.lwkt_program.proofs.RetireMoves.{seats_ready, desks_of, kept_back}
 use Rattle.lwkt_program.proofs.RowMoves.{lawful_closed}
 use Rattle.lwkt_program.proofs.StopMoves.{stopped_over}

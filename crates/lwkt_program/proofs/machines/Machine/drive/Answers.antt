@@ -6,7 +6,7 @@ use Rattle.lwkt_drive.specs.declared.driven.Driven.{Driven}
 use Rattle.lwkt_drive.specs.Course.{IsDriven}
 use Rattle.lwkt_program.specs.Machines.{Rig, IsWhole, Lasts}
 use Rattle.lwkt_program.proofs.KeptMoves.{kept_driven}
-use Rattle.lwkt_program.proofs.ListMoves.{refilled}
+use Rattle.lwkt_lane.proofs.PlaceMoves.{refilled}
 use Rattle.lwkt_program.proofs.machines.Machine.drive.Goals as goal
 
 pub invariant_of-self : goal.invariant_of-self

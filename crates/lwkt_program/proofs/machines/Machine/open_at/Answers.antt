@@ -1,6 +1,6 @@
 use Rattle.std.proofs.Common.{◌≡◌, ◌∙◌, ℕ, length, subst, sym, arith}
 use Rattle.lwkt_bank.specs.Seats.{id_of, cpus_of}
-use Rattle.lwkt_program.specs.Lanes.{AreLanes}
+use Rattle.lwkt_lane.specs.Crossed.{AreLanes}
 use Rattle.lwkt_program.proofs.OpenMoves.{rest_first, opened_whole}
 use Rattle.lwkt_program.proofs.machines.Machine.open_at.Goals as goal
 

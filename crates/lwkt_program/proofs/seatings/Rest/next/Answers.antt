@@ -1,6 +1,7 @@
 use Rattle.std.proofs.Common.{◌<◌, length, arith}
 use Rattle.lwkt_bank.specs.Seats.{id_of}
-use Rattle.lwkt_program.proofs.OpenMoves.{first_seat, first_desk, first_few, first_within, rest_more, left_one}
+use Rattle.lwkt_lane.proofs.CrossedMoves.{first_gone}
+use Rattle.lwkt_program.proofs.OpenMoves.{first_seat, first_desk, first_few, first_within, rest_more}
 use Rattle.lwkt_program.proofs.seatings.Rest.next.Goals as goal
 
 pub open_ports-requires-clause-mail : goal.open_ports-requires-clause-mail
@@ -27,7 +28,7 @@ pub seat_one-requires-clause-seat : goal.seat_one-requires-clause-seat
 seat_one-requires-clause-seat g c = first_seat (id_of c.args.bank.now) c.args.number c.args.self.now.seats.items c.remove-seat.result c.requires.some c.remove-seat.ensures.value c.requires.rest.seats
 
 pub returns-clause-left : goal.returns-clause-left
-returns-clause-left g c = left_one c.args.self.now.bodies.items c.remove-bodies.new.self.items c.remove-bodies.ensures.items
+returns-clause-left g c = first_gone c.args.self.now.bodies.items c.remove-bodies.new.self.items c.remove-bodies.ensures.items
 
 pub returns-clause-rest : goal.returns-clause-rest
 returns-clause-rest g c = rest_more {B = g.row.B.Denot} (id_of c.args.bank.now) c.args.book.now c.args.number c.args.self.now (record { seats = c.remove-seat.new.self; mails = c.remove-mail.new.self; outs = c.remove-outs.new.self; ins = c.remove-ins.new.self; bodies = c.remove-bodies.new.self }) c.requires.some c.remove-seat.ensures.items c.remove-mail.ensures.items c.remove-outs.ensures.items c.remove-ins.ensures.items c.remove-bodies.ensures.items c.requires.rest

@@ -6,8 +6,9 @@ use Rattle.std.proofs.lemmas.Grind.{common_steps}
 use Rattle.lwkt_bank.specs.Seats.{id_of}
 use Rattle.lwkt_drive.specs.declared.driven.Driven.{Driven}
 use Rattle.lwkt_program.specs.Opened.{IsOpenedCpu, AreOpenedCpus}
-use Rattle.lwkt_program.specs.Seating.{IsLeft}
-use Rattle.lwkt_program.proofs.OpenMoves.{left_none, left_more, opened_more}
+use Rattle.lwkt_lane.specs.Crossed.{IsLeft}
+use Rattle.lwkt_lane.proofs.CrossedMoves.{none_gone, more_gone}
+use Rattle.lwkt_program.proofs.OpenMoves.{opened_more}
 use Rattle.lwkt_program.proofs.seatings.Rest.seat_all.Goals as goal
 
 pub loop-number-preserved : goal.loop-number-preserved
@@ -25,7 +26,7 @@ loop-number-preserved g c =
       rest = c.next.ensures.rest;
       left = omega (arith, l.invariant.left, c.next.ensures.fewer);
       made = omega (arith, long, more, l.invariant.made);
-      gone = left_more l.number lists l.self.bodies.items c.next.new.self.bodies.items l.invariant.gone c.next.ensures.left;
+      gone = more_gone l.number lists l.self.bodies.items c.next.new.self.bodies.items l.invariant.gone c.next.ensures.left;
       each = subst G (sym grown) (opened_more {B = g.row.B.Denot} (id_of c.args.bank.now) c.args.book.now lists l.self.bodies.items l.cpus.items d (subst H (sym l.invariant.made) l.invariant.gone) (subst F (sym l.invariant.made) c.in_ok-driven.ensures.ok) l.invariant.each);
     }
 
@@ -36,6 +37,6 @@ loop-number-init g c =
       rest = c.requires.rest;
       left = omega arith;
       made = none;
-      gone = left_none c.args.self.now.bodies.items;
+      gone = none_gone c.args.self.now.bodies.items;
       each = λ k v d of at. absurd (omega (arith, none, slice_get_within c.new-cpus.result.items k d at));
     }

@@ -1,7 +1,8 @@
 use Rattle.std.proofs.Common.{◌≡◌, ◌+◌, length}
 use Rattle.lwkt_bank.specs.Seats.{id_of}
 use Rattle.lwkt_program.specs.Opened.{AreOpenedCpus}
-use Rattle.lwkt_program.specs.Seating.{IsRest, IsLeft}
+use Rattle.lwkt_lane.specs.Crossed.{IsLeft}
+use Rattle.lwkt_program.specs.Seating.{IsRest}
 use Rattle.lwkt_program.proofs.seatings.Rest.seat_all.Given as goal
 
 abbrev pub invariant-loop-number : goal.invariant-loop-number

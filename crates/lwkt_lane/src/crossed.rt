@@ -1,10 +1,12 @@
-//! The lanes of a machine, one from each processor to each one.
-ghost use Rattle.std.specs.Prelude.{◌≡◌, ◌+◌, Err, IfOk, OnErr, length};
-ghost use Rattle.lwkt_program.specs.Lanes.{AreLanes, AreLong, HasEnds};
+//! The lanes of many processors, one from each to each one.
+ghost use Rattle.std.specs.Prelude.{◌≡◌, length, OnErr, IfOk, Err};
+ghost use Rattle.lwkt_lane.specs.Crossed.{HasEnd, HasEnds, AreLong, AreLanes};
 ghost use Rattle.lwkt_base.specs.Fault.{no_memory};
 
+use crate::ins::LaneIn;
+use crate::lanes::lane;
+use crate::outs::LaneOut;
 use lwkt_base::Fault;
-use lwkt_lane::{LaneIn, LaneOut, lane};
 use std::alloc::{AllocError, Global};
 
 // The notes that a lane has room for.
@@ -12,7 +14,7 @@ const LANE_NOTES: usize = 32;
 
 /// The ends of all lanes: by processor those of the lanes from it, and those of the lanes to it.
 #[derive(Drop)]
-pub(crate) struct Lanes {
+pub struct Lanes {
     /// By the sending processor, then by the receiving one.
     pub outs: Vec<Vec<LaneOut>>,
     /// By the receiving processor, then by the sending one.
@@ -33,7 +35,7 @@ fn no_ends(alloc: Global, cpus: usize) -> Result<Vec<Vec<LaneIn>>, AllocError>
 
 // A lane, whose receiving end goes to this list.
 fn lane_to(alloc: Global, ends: &mut Vec<LaneIn>) -> Result<LaneOut, Fault>
-    ensures ok { IfOk result (λ _. length ends.new.items ≡ length ends.old.items + 1) }
+    ensures ok { IfOk result (λ out. HasEnd ends.old.items ends.new.items out) }
     ensures only { OnErr result (result ≡ Err no_memory) }
 {
     let (out, into) = lane(alloc, LANE_NOTES)?;
@@ -45,7 +47,6 @@ fn lane_to(alloc: Global, ends: &mut Vec<LaneIn>) -> Result<LaneOut, Fault>
 // The lanes from a processor to each one.
 fn lanes_to_all(alloc: Global, ins: &mut [Vec<LaneIn>]) -> Result<Vec<LaneOut>, Fault>
     ensures ok { IfOk result (λ outs. HasEnds ins.old ins.new outs.items) }
-    ensures as_many { length ins.new ≡ length ins.old }
     ensures only { OnErr result (result ≡ Err no_memory) }
 {
     let mut outs = Vec::new(alloc);
@@ -61,7 +62,6 @@ fn lanes_to_all(alloc: Global, ins: &mut [Vec<LaneIn>]) -> Result<Vec<LaneOut>, 
 fn lanes_from_all(alloc: Global, ins: &mut [Vec<LaneIn>]) -> Result<Vec<Vec<LaneOut>>, Fault>
     requires { AreLong 0 ins.old }
     ensures ok { IfOk result (λ outs. AreLanes (length ins.old) (length ins.old) outs.items ins.new) }
-    ensures as_many { length ins.new ≡ length ins.old }
     ensures only { OnErr result (result ≡ Err no_memory) }
 {
     let mut outs = Vec::new(alloc);
@@ -73,8 +73,10 @@ fn lanes_from_all(alloc: Global, ins: &mut [Vec<LaneIn>]) -> Result<Vec<Vec<Lane
     Ok(outs)
 }
 
-/// The lanes of so many processors.
-pub(crate) fn open_lanes(alloc: Global, cpus: usize) -> Result<Lanes, Fault>
+/// Makes the lanes of so many processors, one from each to each one, its own too, each for 32 notes. Nothing was sent yet.
+///
+/// `Memory` if an allocation was refused.
+pub fn open_lanes(alloc: Global, cpus: usize) -> Result<Lanes, Fault>
     ensures ok { IfOk result (λ lanes. AreLanes cpus cpus lanes.outs.items lanes.ins.items) }
     ensures only { OnErr result (result ≡ Err no_memory) }
 {

@@ -1,6 +1,6 @@
 use Rattle.std.proofs.Common.{◌≡◌, length}
-use Rattle.lwkt_machine.specs.Lanes.{AreLong}
-use Rattle.lwkt_machine.proofs.lanes.no_ends.Given as goal
+use Rattle.lwkt_lane.specs.Crossed.{AreLong}
+use Rattle.lwkt_lane.proofs.crossed.no_ends.Given as goal
 
 abbrev pub invariant-loop-made : goal.invariant-loop-made
 invariant-loop-made l = record {

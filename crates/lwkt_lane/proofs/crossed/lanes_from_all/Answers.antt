@@ -1,11 +1,11 @@
-use Rattle.std.specs.declared.alloc.Global.{Global}
+use Rattle.std.specs.Global.{Global}
 use Rattle.std.proofs.Common.{◌≡◌, ◌∷◌, [], ◌++◌, ℕ, ◌+◌, List, length, sym, subst, arith}
 use Rattle.std.specs.Prelude.{Vec}
 use Rattle.std.proofs.lemmas.Grind.{common_steps}
 use Rattle.lwkt_lane.specs.declared.outs.LaneOut.{LaneOut}
-use Rattle.lwkt_program.specs.Lanes.{AreLanes}
-use Rattle.lwkt_program.proofs.LaneMoves.{lanes_none, lanes_more}
-use Rattle.lwkt_program.proofs.lanes.lanes_from_all.Goals as goal
+use Rattle.lwkt_lane.specs.Crossed.{AreLanes}
+use Rattle.lwkt_lane.proofs.CrossedMoves.{lanes_none, lanes_more}
+use Rattle.lwkt_lane.proofs.crossed.lanes_from_all.Goals as goal
 
 pub loop-from-init : goal.loop-from-init
 loop-from-init c =

@@ -1,12 +1,13 @@
-use Rattle.std.specs.declared.alloc.Global.{Global}
+use Rattle.std.specs.Global.{Global}
 use Rattle.std.proofs.Common.{◌≡◌, ◌+◌, ◌∷◌, [], ◌++◌, List, length, set, refl, sym, subst, arith}
 use Rattle.std.specs.Prelude.{Vec}
 use Rattle.std.proofs.lemmas.Grind.{common_steps}
 use Rattle.std.proofs.lemmas.Option.{slice_get_read}
 use Rattle.lwkt_lane.specs.declared.ins.LaneIn.{LaneIn}
 use Rattle.lwkt_lane.specs.declared.outs.LaneOut.{LaneOut}
-use Rattle.lwkt_program.proofs.LaneMoves.{HasEndsBelow, ends_none, ends_more, ends_all}
-use Rattle.lwkt_program.proofs.lanes.lanes_to_all.Goals as goal
+use Rattle.lwkt_lane.specs.Crossed.{HasEnd}
+use Rattle.lwkt_lane.proofs.CrossedMoves.{HasEndsBelow, ends_none, ends_more, ends_all}
+use Rattle.lwkt_lane.proofs.crossed.lanes_to_all.Goals as goal
 
 pub loop-to-init : goal.loop-to-init
 loop-to-init c =
@@ -20,7 +21,7 @@ loop-to-preserved c =
     let grown : c.push.new.self.items ≡ l.outs.items ++ out ∷ [] = grind (arith, common_steps) in
     let at = slice_get_read l.ins (length l.ins) l.to c.index-ins-to.result refl (omega (arith, c.loop-to-test.true, l.auto.ins)) c.index-ins-to.is in
     let F : List LaneOut → Type 0 = λ xs. HasEndsBelow (l.to + 1) c.args.ins.now (set l.ins l.to c.lane_to.new.ends) xs in
-    let G : Vec LaneIn Global → Type 0 = λ v. length c.lane_to.new.ends.items ≡ length v.items + 1 in
+    let G : Vec LaneIn Global → Type 0 = λ v. HasEnd v.items c.lane_to.new.ends.items out in
     subst F (sym grown) (ends_more l.to c.args.ins.now l.ins l.outs.items c.index-ins-to.result c.lane_to.new.ends out at (subst G (sym c.index-ins-to.is) c.in_ok-out.ensures.ok) l.invariant)
 
 pub returns-clause-ok : goal.returns-clause-ok

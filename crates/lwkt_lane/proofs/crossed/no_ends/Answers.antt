@@ -2,9 +2,9 @@ use Rattle.std.specs.Global.{Global}
 use Rattle.std.proofs.Common.{◌≡◌, ◌∷◌, [], ◌++◌, ◌+◌, List, length, length-append, ap, sym, ◌∙◌, subst}
 use Rattle.std.specs.Prelude.{Vec}
 use Rattle.lwkt_lane.specs.declared.ins.LaneIn.{LaneIn}
-use Rattle.lwkt_machine.specs.Lanes.{AreLong}
-use Rattle.lwkt_machine.proofs.LaneMoves.{long_none, long_more}
-use Rattle.lwkt_machine.proofs.lanes.no_ends.Goals as goal
+use Rattle.lwkt_lane.specs.Crossed.{AreLong}
+use Rattle.lwkt_lane.proofs.CrossedMoves.{long_none, long_more}
+use Rattle.lwkt_lane.proofs.crossed.no_ends.Goals as goal
 
 pub loop-made-init : goal.loop-made-init
 loop-made-init c =

@@ -1,10 +1,10 @@
-use Rattle.std.specs.declared.alloc.Global.{Global}
+use Rattle.std.specs.Global.{Global}
 use Rattle.std.proofs.Common.{rules, ◌≡◌, ◌++◌, List, ℕ, length, take, drop, sym, ◌∙◌, subst}
 use Rattle.std.specs.Prelude.{Vec}
 use Rattle.lwkt_lane.specs.declared.ins.LaneIn.{LaneIn}
-use Rattle.lwkt_program.specs.Lanes.{AreLanes}
-use Rattle.lwkt_program.proofs.ListMoves.{refilled}
-use Rattle.lwkt_program.proofs.lanes.open_lanes.Goals as goal
+use Rattle.lwkt_lane.specs.Crossed.{AreLanes}
+use Rattle.lwkt_lane.proofs.PlaceMoves.{refilled}
+use Rattle.lwkt_lane.proofs.crossed.open_lanes.Goals as goal
 
 pub returns-clause-ok : goal.returns-clause-ok
 returns-clause-ok c =

@@ -1,0 +1,2 @@
+pub mod CrossedMoves
+pub mod PlaceMoves

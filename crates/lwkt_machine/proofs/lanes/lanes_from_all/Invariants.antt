@@ -1,6 +1,0 @@
-use Rattle.std.proofs.Common.{length}
-use Rattle.lwkt_machine.specs.Lanes.{AreLanes}
-use Rattle.lwkt_machine.proofs.lanes.lanes_from_all.Given as goal
-
-abbrev pub invariant-loop-from : goal.invariant-loop-from
-invariant-loop-from l = AreLanes l.from (length l.initial.ins) l.outs.items l.ins
