@@ -9,3 +9,4 @@ pub mod ToldMoves
 pub mod TurnMoves
 pub mod ShutMoves
 pub mod SightMoves
+pub mod WiringMoves

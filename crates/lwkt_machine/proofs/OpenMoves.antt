@@ -21,7 +21,8 @@ use Rattle.lwkt_cpu.specs.Processors.{Processor}
 use Rattle.lwkt_machine.specs.Bodies.{Scripted}
 use Rattle.lwkt_lane.specs.Crossed.{AreLanes}
 use Rattle.lwkt_machine.specs.Machines.{IsOf, AreAllJoined, AreParts}
-use Rattle.lwkt_machine.specs.Opened.{IsSeat, AreFew, DeclinesTables, Declines, AreOpenedCpus, AreWired}
+use Rattle.lwkt_machine.specs.Opened.{IsSeat, AreFew, DeclinesTables, Declines, AreOpenedCpus}
+use Rattle.lwkt_cpu.specs.Wiring.{AreWired}
 use Rattle.lwkt_machine.specs.Seating.{SeatsFrom, DesksFrom, IsRest}
 use Rattle.lwkt_machine.specs.declared.seatings.Rest.{Rest}
 use Rattle.lwkt_machine.proofs.ListMoves.{all_from_get}

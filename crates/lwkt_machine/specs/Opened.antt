@@ -13,12 +13,11 @@ use Rattle.lwkt_bank.specs.Opened.{plans_of}
 use Rattle.lwkt_bank.specs.Seats.{BankId, bank_of}
 use Rattle.lwkt_bank.specs.Gathered.{IsNew}
 use Rattle.lwkt_msg.specs.Desks.{Shelf, cpu_of, IsOpened}
-use Rattle.lwkt_port.specs.declared.lines.Lane.{Lane}
 use Rattle.lwkt_port.specs.Openings.{new_mail, AreNewPorts}
 use Rattle.lwkt_cpu.specs.Fresh.{fresh}
 use Rattle.lwkt_cpu.specs.Processors.{Processor}
+use Rattle.lwkt_cpu.specs.Wiring.{AreWired}
 use Rattle.lwkt_machine.specs.Bodies.{Scripted, unpolled}
-use Rattle.lwkt_lane.specs.Crossed.{IsNewLane}
 use Rattle.lwkt_machine.specs.Machines.{Rig}
 
 -- the body of a thread of a script
@@ -51,13 +50,6 @@ pub record IsOpenedCpu (bank : BankId) (book : Shelf) (threads : List ThreadSpec
 -- each processor of a list is as it is opened, and at its number
 abbrev pub AreOpenedCpus : BankId → Shelf → List ThreadSpec → List (Processor Scripted) → Type 0
 AreOpenedCpus bank book threads cpus = (k : ℕ) (p : Processor Scripted) → slice_get cpus k ≡ Some p → IsOpenedCpu bank book threads k p
-
--- the lines of processors as they are opened: each processor has one for each; what the one sends to the other over its line, the
--- other receives over its own, by a lane of their own that is new; and no line keeps a note
-pub record AreWired (cpus : List (Processor Scripted)) : Type 0 where
-  pub lines_are : (k : ℕ) (p : Processor Scripted) → slice_get cpus k ≡ Some p → length p.post.lanes ≡ length cpus
-  pub lanes : (i j : ℕ) (p q : Processor Scripted) (there back : Lane) → slice_get cpus i ≡ Some p → slice_get cpus j ≡ Some q → slice_get p.post.lanes j ≡ Some there → slice_get q.post.lanes i ≡ Some back → IsNewLane there.out back.into
-  pub none_kept : (k j : ℕ) (p : Processor Scripted) (line : Lane) → slice_get cpus k ≡ Some p → slice_get p.post.lanes j ≡ Some line → line.kept ≡ None
 
 -- a machine as a script opens it: a bank of its tokens, a book of its messages, and its processors, each as it is opened, with new
 -- lanes from each to each

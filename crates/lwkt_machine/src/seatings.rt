@@ -5,7 +5,8 @@ ghost use Rattle.lwkt_bank.specs.Seats.{id_of};
 ghost use Rattle.lwkt_msg.specs.Desks.{cpu_of, IsOpened};
 ghost use Rattle.lwkt_port.specs.Openings.{new_mail, AreNewPorts, ArePaired, AreWithin};
 ghost use Rattle.lwkt_script.specs.Format.{threads_on};
-ghost use Rattle.lwkt_machine.specs.Lanes.{HasLines, HaveLines, AreLeft};
+ghost use Rattle.lwkt_cpu.specs.Wiring.{HasLines, HaveLines};
+ghost use Rattle.lwkt_machine.specs.Lanes.{AreLeft};
 ghost use Rattle.lwkt_machine.specs.Opened.{bodies_on, IsSeat, IsOpenedCpu, AreOpenedCpus, AreFew};
 ghost use Rattle.lwkt_base.specs.Fault.{no_memory};
 

@@ -23,10 +23,13 @@ use Rattle.lwkt_drive.specs.Course.{IsAt}
 use Rattle.lwkt_lane.specs.Crossed.{AreLanes, IsLeft}
 use Rattle.lwkt_program.specs.Machines.{AreKept, Lasts, IsWhole}
 use Rattle.lwkt_program.specs.Opened.{IsSeat, IsOpenedCpu, AreOpenedCpus}
-use Rattle.lwkt_program.specs.Seating.{SeatsFrom, DesksFrom, IsRest}
+use Rattle.lwkt_program.specs.Seating.{SeatsFrom, DesksFrom, IsRest, AreLeft}
 use Rattle.lwkt_program.specs.declared.seatings.Rest.{Rest}
-use Rattle.lwkt_lane.proofs.CrossedMoves.{first_long, rest_long}
-use Rattle.lwkt_program.proofs.ListMoves.{all_from_get}
+use Rattle.lwkt_lane.proofs.CrossedMoves.{first_long, rest_long, none_gone, first_gone, more_gone}
+use Rattle.lwkt_cpu.specs.Processors.{Processor}
+use Rattle.lwkt_cpu.specs.Wiring.{HasLines, HaveLines}
+use Rattle.lwkt_cpu.proofs.WiringMoves.{lines_more}
+use Rattle.lwkt_program.proofs.ListMoves.{all_from_get, map_push}
 
 -- what holds of each place of a list, counted from a number on
 from_first : {A : Type 0} (P : ℕ → A → Type 0) (first : ℕ) (xs : List A) (x : A) → 0 < length xs → x ≡ get_or xs 0 x → ((j : ℕ) (y : A) → slice_get xs j ≡ Some y → P (first + j) y) → P first x
@@ -96,6 +99,32 @@ rest_fewer xs ys some is =
     let l = length_removed xs some in
     let a = ap length is in
     omega (arith, l, a)
+
+-- what is left when none is gone, the first, or one more
+pub left_none : {B : Type 0} (rest : Rest B) → AreLeft 0 rest rest
+left_none {B} rest = record { outs = none_gone rest.outs.items; ins = none_gone rest.ins.items; bodies = none_gone rest.bodies.items }
+
+pub left_first : {B : Type 0} (old new : Rest B) → new.outs.items ≡ remove old.outs.items 0 → new.ins.items ≡ remove old.ins.items 0 → new.bodies.items ≡ remove old.bodies.items 0 → AreLeft 1 old new
+left_first {B} old new outs ins bodies = record {
+  outs = first_gone old.outs.items new.outs.items outs;
+  ins = first_gone old.ins.items new.ins.items ins;
+  bodies = first_gone old.bodies.items new.bodies.items bodies;
+}
+
+pub left_more : {B : Type 0} (count : ℕ) (all mid left : Rest B) → AreLeft count all mid → AreLeft 1 mid left → AreLeft (count + 1) all left
+left_more {B} count all mid left a b = record {
+  outs = more_gone count all.outs.items mid.outs.items left.outs.items a.outs b.outs;
+  ins = more_gone count all.ins.items mid.ins.items left.ins.items a.ins b.ins;
+  bodies = more_gone count all.bodies.items mid.bodies.items left.bodies.items a.bodies b.bodies;
+}
+
+-- the lines of one processor more
+pub lines_driven : {B : Type 0} (outs : List (Vec LaneOut Global)) (ins : List (Vec LaneIn Global)) (cpus : List (Driven B)) (d : Driven B) → HasLines outs ins (length cpus) d.cpu → HaveLines outs ins (map (λ (x : Driven B). x.cpu) cpus) → HaveLines outs ins (map (λ (x : Driven B). x.cpu) (cpus ++ d ∷ []))
+lines_driven {B} outs ins cpus d new each =
+    let f : Driven B → Processor B = λ x. x.cpu in
+    let F : ℕ → Type 0 = λ n. HasLines outs ins n d.cpu in
+    let G : List (Processor B) → Type 0 = λ xs. HaveLines outs ins xs in
+    subst G (sym (map_push f cpus d)) (lines_more outs ins (map f cpus) d.cpu (subst F (sym (length-map cpus f)) new) each)
 
 -- one processor more
 pub opened_more : {B : Type 0} (bank : BankId) (book : Shelf) (lists left : List (Vec B Global)) (cpus : List (Driven B)) (d : Driven B) → IsLeft (length cpus) lists left → ((v : Vec B Global) → slice_get left 0 ≡ Some v → IsOpenedCpu bank book (length cpus) v.items d) → AreOpenedCpus bank book lists cpus → AreOpenedCpus bank book lists (cpus ++ d ∷ [])

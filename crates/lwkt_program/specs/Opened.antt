@@ -14,6 +14,7 @@ use Rattle.lwkt_msg.specs.Desks.{Shelf, cpu_of, IsOpened}
 use Rattle.lwkt_port.specs.Openings.{new_mail, AreNewPorts}
 use Rattle.lwkt_cpu.specs.Driving.{none_driven}
 use Rattle.lwkt_cpu.specs.Fresh.{fresh}
+use Rattle.lwkt_cpu.specs.Wiring.{AreWired}
 use Rattle.lwkt_drive.specs.declared.driven.Driven.{Driven}
 use Rattle.lwkt_drive.specs.declared.driven.Ending.TheVariants.{NotDriven}
 use Rattle.lwkt_program.specs.Machines.{Rig}
@@ -45,13 +46,15 @@ pub record IsOpenedCpu {B : Type 0} (bank : BankId) (book : Shelf) (cpu : ℕ) (
 abbrev pub AreOpenedCpus : {B : Type 0} → BankId → Shelf → List (Vec B Global) → List (Driven B) → Type 0
 AreOpenedCpus {B} bank book lists cpus = (k : ℕ) (v : Vec B Global) (d : Driven B) → slice_get lists k ≡ Some v → slice_get cpus k ≡ Some d → IsOpenedCpu bank book k v.items d
 
--- a machine as it is opened: a bank of these tokens, a book of these messages, and a processor for each list of bodies, as it is opened
+-- a machine as it is opened: a bank of these tokens, a book of these messages, and a processor for each list of bodies, as it is
+-- opened, with new lanes from each to each
 pub record IsOpenedMachine {B : Type 0} (tokens : List TokSpec) (messages : List MsgSpec) (lists : List (Vec B Global)) (m : Rig B) : Type 0 where
   pub plans : m.bank.plans ≡ plans_of tokens
   pub specs : m.book.specs ≡ messages
   pub desks_are : m.book.cpus ≡ length lists
   pub as_many : length m.cpus ≡ length lists
   pub each : AreOpenedCpus m.bank m.book lists m.cpus
+  pub wired : AreWired (map (λ (d : Driven B). d.cpu) m.cpus)
 
 -- an opening keeps the limits, those of bank and book, and at most 16 bodies for each processor
 pub record IsWithin {B : Type 0} (tokens : List TokSpec) (messages : List MsgSpec) (lists : List (Vec B Global)) : Type 0 where

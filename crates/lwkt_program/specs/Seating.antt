@@ -3,7 +3,7 @@ use Rattle.std.specs.Prelude.{◌≡◌, ℕ, ◌+◌, ◌≤◌, All, List, len
 use Rattle.lwkt_bank.specs.declared.seats.CpuSeat.{CpuSeat}
 use Rattle.lwkt_bank.specs.Seats.{BankId}
 use Rattle.lwkt_msg.specs.Desks.{Desk, Shelf, IsOpened}
-use Rattle.lwkt_lane.specs.Crossed.{AreLong}
+use Rattle.lwkt_lane.specs.Crossed.{AreLong, IsLeft}
 use Rattle.lwkt_program.specs.Opened.{IsSeat}
 use Rattle.lwkt_program.specs.declared.seatings.Rest.{Rest}
 
@@ -27,3 +27,9 @@ pub record IsRest {B : Type 0} (bank : BankId) (book : Shelf) (first : ℕ) (res
   pub outs_long : AreLong book.cpus rest.outs.items
   pub ins_long : AreLong book.cpus rest.ins.items
   pub few : All (λ v. length v.items ≤ 16) rest.bodies.items
+
+-- what is left when the bodies and the ends of lanes of the first so many processors are gone
+pub record AreLeft {B : Type 0} (count : ℕ) (all left : Rest B) : Type 0 where
+  pub outs : IsLeft count all.outs.items left.outs.items
+  pub ins : IsLeft count all.ins.items left.ins.items
+  pub bodies : IsLeft count all.bodies.items left.bodies.items

@@ -3,7 +3,8 @@ ghost use Rattle.std.specs.Prelude.{◌≡◌, ◌+◌, ◌<◌, ◌≤◌, Err,
 ghost use Rattle.lwkt_base.specs.declared.openings.MsgSpec.{MsgSpec};
 ghost use Rattle.lwkt_bank.specs.Seats.{id_of};
 ghost use Rattle.lwkt_msg.specs.Desks.{cpu_of, IsOpened};
-ghost use Rattle.lwkt_port.specs.Openings.{new_mail, AreNewPorts, AreWithin};
+ghost use Rattle.lwkt_port.specs.Openings.{new_mail, AreNewPorts, ArePaired, AreWithin};
+ghost use Rattle.lwkt_cpu.specs.Wiring.{HasLines, HaveLines};
 ghost use Rattle.lwkt_program.specs.Opened.{IsSeat, IsOpenedCpu, AreOpenedCpus};
 ghost use Rattle.lwkt_base.specs.Fault.{no_memory};
 
@@ -55,6 +56,7 @@ fn open_ports(
     ensures desk { IfOk result (λ ports. IsOpened number book.now ports.seat) }
     ensures new { IfOk result (λ ports. AreNewPorts threads ports.ports) }
     ensures mails { IfOk result (λ ports. ports.mails ≡ map (new_mail (cpu_of ports.seat)) (map (λ (spec : MsgSpec). spec.origin) book.now.specs)) }
+    ensures lines { IfOk result (λ ports. ArePaired outs.items ins.items ports.lanes) }
     ensures threads { IfOk result (λ ports. ports.threads ≡ threads) }
     ensures only { OnErr result (result ≡ Err no_memory) }
 {
@@ -79,6 +81,7 @@ fn seat_one<B: Drop>(
     requires few { length bodies.items ≤ 16 }
     requires threads { ports.threads ≡ length bodies.items }
     ensures ok { IfOk result (λ d. IsOpenedCpu (id_of bank.now) book.now number bodies.items d) }
+    ensures lines { IfOk result (λ d. d.cpu.post.lanes ≡ ports.lanes) }
     ensures only { OnErr result (result ≡ Err no_memory) }
 {
     let id = seat.cpu();
@@ -89,8 +92,8 @@ fn seat_one<B: Drop>(
 impl<B: Drop> Rest<B> {
     ghost use Rattle.std.specs.declared.alloc.Global.{Global as Heap};
     ghost use Rattle.std.specs.Prelude.{Vec as Items};
-    ghost use Rattle.lwkt_lane.specs.Crossed.{IsLeft};
-    ghost use Rattle.lwkt_program.specs.Seating.{IsRest};
+    ghost use Rattle.lwkt_drive.specs.declared.driven.Driven.{Driven as Driver};
+    ghost use Rattle.lwkt_program.specs.Seating.{AreLeft, IsRest};
     ghost use Rattle.lwkt_base.specs.Fault.{no_memory};
 
     // The next processor.
@@ -106,7 +109,8 @@ impl<B: Drop> Rest<B> {
         requires rest { IsRest (id_of bank.now) book.now number self.old }
         requires origins { origins.now ≡ map (λ (spec : MsgSpec). spec.origin) book.now.specs }
         ensures ok { IfOk result (λ d. (v : Items B Heap) → slice_get self.old.bodies.items 0 ≡ Some v → IsOpenedCpu (id_of bank.now) book.now number v.items d) }
-        ensures left { IsLeft 1 self.old.bodies.items self.new.bodies.items }
+        ensures lines { IfOk result (λ d. HasLines self.old.outs.items self.old.ins.items 0 d.cpu) }
+        ensures left { AreLeft 1 self.old self.new }
         ensures only { OnErr result (result ≡ Err no_memory) }
         ensures rest { IsRest (id_of bank.now) book.now (number + 1) self.new }
         ensures fewer { length self.new.seats.items + 1 ≡ length self.old.seats.items }
@@ -132,6 +136,7 @@ impl<B: Drop> Rest<B> {
         requires origins { origins.now ≡ map (λ (spec : MsgSpec). spec.origin) book.now.specs }
         ensures as_many { IfOk result (λ cpus. length cpus.items ≡ length self.old.seats.items) }
         ensures each { IfOk result (λ cpus. AreOpenedCpus (id_of bank.now) book.now self.old.bodies.items cpus.items) }
+        ensures lines { IfOk result (λ cpus. HaveLines self.old.outs.items self.old.ins.items (map (λ (d : Driver B). d.cpu) cpus.items)) }
         ensures only { OnErr result (result ≡ Err no_memory) }
     {
         let mut cpus = Vec::new(alloc);

@@ -1,6 +1,6 @@
 use Rattle.std.proofs.Common.{◌∙◌, ℕ, List, length, arith, sym, subst}
 use Rattle.lwkt_bank.specs.Seats.{id_of, cpus_of}
-use Rattle.lwkt_machine.proofs.LaneMoves.{wired}
+use Rattle.lwkt_cpu.proofs.WiringMoves.{wired}
 use Rattle.lwkt_machine.proofs.OpenMoves.{rest_first, opened_parts}
 use Rattle.lwkt_script.specs.declared.scripts.ThreadSpec.{ThreadSpec}
 use Rattle.lwkt_lane.specs.Crossed.{AreLanes}

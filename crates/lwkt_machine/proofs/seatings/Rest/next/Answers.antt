@@ -2,7 +2,7 @@ use Rattle.std.proofs.Common.{rules, ◌≡◌, ◌<◌, length, ap, refl, ◌�
 use Rattle.std.proofs.lemmas.Option.{slice_get_read}
 use Rattle.std.proofs.lemmas.Result.{IfOk-weaker}
 use Rattle.lwkt_bank.specs.Seats.{id_of}
-use Rattle.lwkt_machine.specs.Lanes.{HasLines}
+use Rattle.lwkt_cpu.specs.Wiring.{HasLines}
 use Rattle.lwkt_machine.specs.Opened.{bodies_on}
 use Rattle.lwkt_machine.proofs.LaneMoves.{left_first}
 use Rattle.lwkt_machine.proofs.SeatMoves.{first_seat, first_desk, first_within, length_bodies, rest_more}

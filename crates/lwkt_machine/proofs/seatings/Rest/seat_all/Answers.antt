@@ -4,9 +4,10 @@ use Rattle.std.proofs.lemmas.Grind.{common_steps}
 use Rattle.lwkt_bank.specs.Seats.{id_of}
 use Rattle.lwkt_cpu.specs.Processors.{Processor}
 use Rattle.lwkt_machine.specs.Bodies.{Scripted}
-use Rattle.lwkt_machine.specs.Lanes.{HasLines, HaveLines}
+use Rattle.lwkt_cpu.specs.Wiring.{HasLines, HaveLines}
 use Rattle.lwkt_machine.specs.Opened.{IsOpenedCpu, AreOpenedCpus}
-use Rattle.lwkt_machine.proofs.LaneMoves.{left_none, left_more, lines_later, lines_more}
+use Rattle.lwkt_cpu.proofs.WiringMoves.{lines_later, lines_more}
+use Rattle.lwkt_machine.proofs.LaneMoves.{left_none, left_more}
 use Rattle.lwkt_machine.proofs.SeatMoves.{opened_more}
 use Rattle.lwkt_machine.proofs.seatings.Rest.seat_all.Goals as goal
 
@@ -26,7 +27,7 @@ loop-number-preserved c =
       left = omega (arith, l.invariant.left, c.next.ensures.fewer);
       made = omega (arith, long, more, l.invariant.made);
       gone = left_more l.number c.args.self.now l.self c.next.new.self l.invariant.gone c.next.ensures.left;
-      lines = subst H (sym grown) (lines_more c.args.self.now.outs.items c.args.self.now.ins.items l.cpus.items cpu (subst K (sym l.invariant.made) (lines_later l.number c.args.self.now l.self cpu l.invariant.gone c.in_ok-cpu.ensures.lines)) l.invariant.lines);
+      lines = subst H (sym grown) (lines_more c.args.self.now.outs.items c.args.self.now.ins.items l.cpus.items cpu (subst K (sym l.invariant.made) (lines_later l.number c.args.self.now.outs.items l.self.outs.items c.args.self.now.ins.items l.self.ins.items cpu l.invariant.gone.outs l.invariant.gone.ins c.in_ok-cpu.ensures.lines)) l.invariant.lines);
       each = subst G (sym grown) (opened_more (id_of c.args.bank.now) c.args.book.now c.args.threads.now l.cpus.items cpu (subst F (sym l.invariant.made) c.in_ok-cpu.ensures.ok) l.invariant.each);
     }
 

@@ -1,6 +1,7 @@
 use Rattle.std.proofs.Common.{◌≡◌, ◌+◌, length}
 use Rattle.lwkt_bank.specs.Seats.{id_of}
-use Rattle.lwkt_machine.specs.Lanes.{HaveLines, AreLeft}
+use Rattle.lwkt_cpu.specs.Wiring.{HaveLines}
+use Rattle.lwkt_machine.specs.Lanes.{AreLeft}
 use Rattle.lwkt_machine.specs.Opened.{AreOpenedCpus}
 use Rattle.lwkt_machine.specs.Seating.{IsRest}
 use Rattle.lwkt_machine.proofs.seatings.Rest.seat_all.Given as goal

@@ -1,6 +1,10 @@
-use Rattle.std.proofs.Common.{◌≡◌, ◌∙◌, ℕ, length, subst, sym, arith}
+use Rattle.std.proofs.Common.{◌≡◌, ◌∙◌, ℕ, length, map, subst, sym, arith}
+use Rattle.std.proofs.lemmas.List.{length-map}
 use Rattle.lwkt_bank.specs.Seats.{id_of, cpus_of}
 use Rattle.lwkt_lane.specs.Crossed.{AreLanes}
+use Rattle.lwkt_cpu.specs.Processors.{Processor}
+use Rattle.lwkt_cpu.proofs.WiringMoves.{wired}
+use Rattle.lwkt_drive.specs.declared.driven.Driven.{Driven}
 use Rattle.lwkt_program.proofs.OpenMoves.{rest_first, opened_whole}
 use Rattle.lwkt_program.proofs.machines.Machine.open_at.Goals as goal
 
@@ -18,3 +22,19 @@ invariant_of-result g c =
     let made = c.in_ok-cpus in
     let long = made.ensures.as_many ∙ c.requires.bank.as_many in
     opened_whole {B = g.row.B.Denot} g.B.Lasting.kept (cpus_of t.bank) (id_of t.bank) t.book c.args.bodies.items made.cpus.items (c.requires.bank.processors ∙ sym long) (c.requires.book.cpus_is ∙ sym long) long made.ensures.each c.requires.kept
+
+pub returns-clause-ok : goal.returns-clause-ok
+returns-clause-ok g c =
+    let made = c.in_ok-cpus in
+    let lanes = c.in_ok-outs in
+    let f : Driven g.row.B.Denot → Processor g.row.B.Denot = λ d. d.cpu in
+    let many : c.len.result ≡ length c.args.bodies.items = omega (arith, c.len.ensures, c.args.bodies.ok) in
+    let long = made.ensures.as_many ∙ c.requires.bank.as_many in
+    record {
+      plans = c.requires.bank.plans;
+      specs = c.requires.book.specs_is;
+      desks_are = c.requires.book.cpus_is;
+      as_many = long;
+      each = made.ensures.each;
+      wired = wired {B = g.row.B.Denot} c.len.result lanes.field-0.outs.items lanes.field-0.ins.items (map f made.cpus.items) lanes.ensures.ok made.ensures.lines (length-map made.cpus.items f ∙ long ∙ sym many);
+    }

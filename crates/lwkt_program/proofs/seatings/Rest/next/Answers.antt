@@ -1,7 +1,9 @@
-use Rattle.std.proofs.Common.{◌<◌, length, arith}
+use Rattle.std.proofs.Common.{◌≡◌, ◌<◌, ◌∙◌, length, refl, arith}
+use Rattle.std.proofs.lemmas.Option.{slice_get_read}
+use Rattle.std.proofs.lemmas.Result.{IfOk-weaker}
 use Rattle.lwkt_bank.specs.Seats.{id_of}
-use Rattle.lwkt_lane.proofs.CrossedMoves.{first_gone}
-use Rattle.lwkt_program.proofs.OpenMoves.{first_seat, first_desk, first_few, first_within, rest_more}
+use Rattle.lwkt_cpu.specs.Wiring.{HasLines}
+use Rattle.lwkt_program.proofs.OpenMoves.{first_seat, first_desk, first_few, first_within, left_first, rest_more}
 use Rattle.lwkt_program.proofs.seatings.Rest.next.Goals as goal
 
 pub open_ports-requires-clause-mail : goal.open_ports-requires-clause-mail
@@ -28,7 +30,24 @@ pub seat_one-requires-clause-seat : goal.seat_one-requires-clause-seat
 seat_one-requires-clause-seat g c = first_seat (id_of c.args.bank.now) c.args.number c.args.self.now.seats.items c.remove-seat.result c.requires.some c.remove-seat.ensures.value c.requires.rest.seats
 
 pub returns-clause-left : goal.returns-clause-left
-returns-clause-left g c = first_gone c.args.self.now.bodies.items c.remove-bodies.new.self.items c.remove-bodies.ensures.items
+returns-clause-left g c = left_first {B = g.row.B.Denot} c.args.self.now (record { seats = c.remove-seat.new.self; mails = c.remove-mail.new.self; outs = c.remove-outs.new.self; ins = c.remove-ins.new.self; bodies = c.remove-bodies.new.self }) c.remove-outs.ensures.items c.remove-ins.ensures.items c.remove-bodies.ensures.items
+
+pub returns-in_err-ports-clause-left : goal.returns-in_err-ports-clause-left
+returns-in_err-ports-clause-left g c = left_first {B = g.row.B.Denot} c.args.self.now (record { seats = c.remove-seat.new.self; mails = c.remove-mail.new.self; outs = c.remove-outs.new.self; ins = c.remove-ins.new.self; bodies = c.remove-bodies.new.self }) c.remove-outs.ensures.items c.remove-ins.ensures.items c.remove-bodies.ensures.items
+
+pub returns-clause-lines : goal.returns-clause-lines
+returns-clause-lines g c =
+    let outs = c.args.self.now.outs.items in
+    let ins = c.args.self.now.ins.items in
+    let some_out : 0 < length outs = omega (arith, c.requires.some, c.requires.rest.outs_are) in
+    let some_in : 0 < length ins = omega (arith, c.requires.some, c.requires.rest.ins_are) in
+    IfOk-weaker c.seat_one.result (λ d. d.cpu.post.lanes ≡ c.in_ok-ports.ports.lanes) (λ d. HasLines outs ins 0 d.cpu) (λ d same. record {
+      out = c.remove-outs.result;
+      into = c.remove-ins.result;
+      out_at = slice_get_read outs (length outs) 0 c.remove-outs.result refl some_out c.remove-outs.ensures.value;
+      in_at = slice_get_read ins (length ins) 0 c.remove-ins.result refl some_in c.remove-ins.ensures.value;
+      lines = same ∙ c.in_ok-ports.ensures.lines;
+    }) c.seat_one.ensures.lines
 
 pub returns-clause-rest : goal.returns-clause-rest
 returns-clause-rest g c = rest_more {B = g.row.B.Denot} (id_of c.args.bank.now) c.args.book.now c.args.number c.args.self.now (record { seats = c.remove-seat.new.self; mails = c.remove-mail.new.self; outs = c.remove-outs.new.self; ins = c.remove-ins.new.self; bodies = c.remove-bodies.new.self }) c.requires.some c.remove-seat.ensures.items c.remove-mail.ensures.items c.remove-outs.ensures.items c.remove-ins.ensures.items c.remove-bodies.ensures.items c.requires.rest
