@@ -11,7 +11,7 @@ use crate::answers::Status;
 use crate::phases::Phase;
 use crate::threads::Thread;
 use lwkt_bank::CpuSeat;
-use lwkt_base::{Answer, CpuId, Fault, ThreadState, TokList};
+use lwkt_base::{Answer, Fault, ThreadState, TokList};
 use lwkt_hold::Hold;
 use lwkt_port::Ports;
 use std::alloc::Global;
@@ -82,26 +82,18 @@ impl<B> Cpu<B> {
     ghost use Rattle.lwkt_base.specs.Fault.{no_memory};
 
     /// A processor over these seats, with a thread for each body, which is ready and was never polled. That the seats at bank and
-    /// book are this processor's, and that the one at the bank holds nothing, are the caller's conditions.
+    /// book are of one processor, and that the one at the bank holds nothing, are the caller's conditions.
     ///
     /// Refused with `Limits` only if there are more than 16 bodies, or not as many as the ports have threads, and with `Memory` if
     /// memory is refused.
-    pub fn new(
-        alloc: Global,
-        id: CpuId,
-        seat: CpuSeat,
-        ports: Ports,
-        bodies: Vec<B>,
-    ) -> Result<Self, Fault>
+    pub fn new(alloc: Global, seat: CpuSeat, ports: Ports, bodies: Vec<B>) -> Result<Self, Fault>
     where
         B: Drop,
-        requires mine { seat.cpu ≡ id }
-        requires ports { cpu_of ports.seat ≡ id }
+        requires mine { cpu_of ports.seat ≡ seat.cpu }
         requires empty { holding seat ≡ holds_nothing }
         ensures ok { IfOk result (λ cpu. IsNew seat ports bodies.items cpu) }
         ensures only { OnErr result ((result ≡ Err no_memory) ⊎ ((result ≡ Err Fault.Limits) × ((16 < vec_len bodies) ⊎ (ports.threads ≢ vec_len bodies)))) }
     {
-        let _ = id;
         let count = bodies.len();
         let threads = fresh_threads(alloc, count)?;
         if !fits(&ports, count) {

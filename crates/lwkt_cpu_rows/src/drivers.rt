@@ -270,7 +270,7 @@ pub fn next_cpu_of<B: Drop>(
     };
     let id = seat.cpu();
     let ports = next_ports(alloc, board, seats, id, threads)?;
-    Cpu::new(alloc, id, seat, ports, bodies)
+    Cpu::new(alloc, seat, ports, bodies)
 }
 
 /// The last processor that is left, with these bodies.

@@ -104,8 +104,7 @@ fn seat_one(
     ensures lines { IfOk result (λ cpu. cpu.post.lanes ≡ ports.lanes) }
     ensures only { OnErr result (result ≡ Err no_memory) }
 {
-    let id = seat.cpu();
-    Cpu::new(alloc, id, seat, ports, bodies)
+    Cpu::new(alloc, seat, ports, bodies)
 }
 
 impl Rest {

@@ -85,7 +85,7 @@ fn seat_one<B: Drop>(
     ensures only { OnErr result (result ≡ Err no_memory) }
 {
     let id = seat.cpu();
-    let cpu = Cpu::new(alloc, id, seat, ports, bodies)?;
+    let cpu = Cpu::new(alloc, seat, ports, bodies)?;
     Ok(Driven::new(alloc, id, cpu))
 }
 
